@@ -1,0 +1,5 @@
+//! Tokens, and reading them from a program text.
+#![tactic(auto)]
+
+pub mod refusal;
+pub mod token;

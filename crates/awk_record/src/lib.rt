@@ -1,0 +1,2 @@
+//! Cutting an input into records, and the record at hand.
+#![tactic(auto)]

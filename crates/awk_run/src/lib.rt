@@ -1,0 +1,2 @@
+//! The run of a program.
+#![tactic(auto)]

@@ -1,0 +1,2 @@
+//! The world that a run reads and writes, and the streams over it.
+#![tactic(auto)]

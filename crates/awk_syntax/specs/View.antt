@@ -1,0 +1,44 @@
+-- The tree that the code keeps, as a tree of the definitions.
+use Rattle.std.specs.Prelude.{List, [], ◌∷◌}
+use Rattle.awk_syntax.specs.Tree as t
+use Rattle.awk_syntax.specs.declared.tree.Expr.{Expr}
+use Rattle.awk_syntax.specs.declared.tree.Expr.TheVariants.{Number, Field', Binary'}
+use Rattle.awk_syntax.specs.declared.tree.Statement.{Statement, Row_of-Statement, end_of-Statement, more_of-Statement}
+use Rattle.awk_syntax.specs.declared.tree.Statement.TheVariants.{Block', Print}
+use Rattle.awk_syntax.specs.declared.tree.Item.{Item}
+use Rattle.awk_syntax.specs.declared.tree.Item.TheVariants.{Always, Rule}
+use Rattle.awk_syntax.specs.declared.tree.Tree.{Tree}
+
+abbrev pub expr_of : Expr → t.Expr
+expr_of (Number n) = t.Number n
+expr_of (Field' p e) = t.Field (expr_of e)
+expr_of (Binary' o p a q b) = t.Binary o (expr_of a) (expr_of b)
+
+abbrev pub exprs_of : List Expr → t.Exprs
+exprs_of [] = t.Nil
+exprs_of (e ∷ es) = t.Cons (expr_of e) (exprs_of es)
+
+abbrev mutual
+  pub statement_of : Statement → t.Statement
+  statement_of (Block' s all) = t.Block (statements_of_row all)
+  statement_of (Print es) = t.Print (exprs_of es.items)
+
+  pub statements_of_row : {m : _} → Row_of-Statement m → t.Statements
+  statements_of_row end_of-Statement = t.NoMore
+  statements_of_row (more_of-Statement s rest) = t.Then (statement_of s) (statements_of_row rest)
+
+abbrev pub statements_of : List Statement → t.Statements
+statements_of [] = t.NoMore
+statements_of (s ∷ ss) = t.Then (statement_of s) (statements_of ss)
+
+abbrev pub item_of : Item → t.Item
+item_of (Always block) = t.Always (statements_of block.items)
+item_of (Rule e block) = t.Rule (expr_of e) (statements_of block.items)
+
+abbrev pub items_of : List Item → List t.Item
+items_of [] = []
+items_of (x ∷ xs) = item_of x ∷ items_of xs
+
+-- a program is its items
+abbrev pub tree_of : Tree → List t.Item
+tree_of t = items_of t.items.items

@@ -1,0 +1,4 @@
+//! Syntax trees, and reading them from tokens.
+#![tactic(auto)]
+
+pub mod tree;

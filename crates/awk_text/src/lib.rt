@@ -1,0 +1,2 @@
+//! What the language makes of texts: the pieces between blanks.
+#![tactic(auto)]

@@ -1,0 +1,2 @@
+//! Byte texts, values and arithmetic.
+#![tactic(auto)]
