@@ -1,6 +1,6 @@
 -- The record at hand: a text and its complete fields.
 -- POSIX awk, "Expressions in awk" (fields) and "Variables and Special Variables" (NF).
-use Rattle.std.specs.Prelude.{ℕ, zero, suc, ℤ, pos, negsuc, List, map, slice_index_or, Result, Ok, Err}
+use Rattle.std.specs.Prelude.{ℕ, zero, suc, ℤ, pos, negsuc, List, map, slice_get, unwrap_or, Result, Ok, Err}
 use Rattle.awk_text.specs.Pieces.{pieces_of}
 use Rattle.awk_text.specs.Span.{stretches_at}
 use Rattle.awk_text.specs.declared.span.Span.{Span}
@@ -28,5 +28,5 @@ spanned text spans = record { text = text; fields = inputs_of (stretches_at text
 -- field 0 is the whole text; past the last field is what was never assigned
 abbrev pub field_of : RecordPair → ℤ → Result Value RecordFault
 field_of r (pos zero) = Ok (Input r.text)
-field_of r (pos (suc i)) = Ok (slice_index_or r.fields i Nothing)
+field_of r (pos (suc i)) = Ok (unwrap_or (slice_get r.fields i) Nothing)
 field_of r (negsuc n) = Err FieldNumber

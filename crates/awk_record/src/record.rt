@@ -1,5 +1,5 @@
 // The record at hand, with its fields.
-ghost use Rattle.std.specs.Prelude.{◌≡◌, ◌≢◌, ◌++◌, [], length, OnOk, OnErr, IfOk, IfErr, Err};
+ghost use Rattle.std.specs.Prelude.{◌≡◌, ◌≢◌, ℕ, suc, pos, ◌<ℤ◌, ◌++◌, [], length, slice_get, OnOk, OnErr, IfOk, IfErr, Err};
 
 use crate::fault::RecordFault;
 use awk_text::{Span, split_blanks};
@@ -7,6 +7,15 @@ use awk_value::{Bytes, Value};
 use std::alloc::Global;
 use std::marker::Model;
 use std::mem;
+
+// The span of a field from 1 on, if there is one.
+fn span_of(spans: &[Span], number: i128) -> Option<Span>
+    requires { pos 0 <ℤ number }
+    ensures { (i : ℕ) → number ≡ pos (suc i) → result ≡ slice_get spans.now i }
+{
+    let index = usize::try_from(number - 1).ok()?;
+    spans.get(index).copied()
+}
 
 /// The record at hand: a text, and the fields that it was split into. A field
 /// shares the text's memory.
@@ -102,8 +111,7 @@ impl Record {
         if number == 0 {
             return Ok(Value::Input(self.text.clone()?));
         }
-        let place = usize::try_from(number - 1);
-        match place.ok().and_then(|i| self.spans.get(i)) {
+        match span_of(self.spans.as_slice(), number) {
             Some(span) => Ok(Value::Input(self.text.cut(span.start, span.end)?)),
             None => Ok(Value::Nothing),
         }
