@@ -8,6 +8,7 @@ mod buffer;
 mod fault;
 mod place;
 mod record;
+mod search;
 
 pub use buffer::{RecordBuffer, Step};
 pub use fault::RecordFault;
