@@ -32,8 +32,18 @@ const LEAST: i128 = i128::MIN;
 
 const LARGEST: i128 = i128::MAX;
 
+const LARGEST_TEXT: &str = "170141183460469231731687303715884105727";
+
+const PAST_LARGEST_TEXT: &str = "170141183460469231731687303715884105728";
+
+const FAR_PAST_LARGEST_TEXT: &str = "4444444444444444444444444444444444444444444444";
+
+const LEAST_TEXT: &str = "-170141183460469231731687303715884105728";
+
+const PAST_LEAST_TEXT: &str = "-170141183460469231731687303715884105729";
+
 /// Texts with their number, and whether they are true as texts and as input texts.
-const CONVERSIONS: [(&str, Result<i128, ValueFault>, bool, bool); 16] = [
+const CONVERSIONS: [(&str, Result<i128, ValueFault>, bool, bool); 17] = [
     ("", Ok(0), false, false),
     ("0", Ok(0), true, false),
     (" -0\n", Ok(0), true, false),
@@ -45,36 +55,12 @@ const CONVERSIONS: [(&str, Result<i128, ValueFault>, bool, bool); 16] = [
     ("x1", Ok(0), true, true),
     ("+-3", Ok(0), true, true),
     ("- 3", Ok(0), true, true),
-    (
-        "00000000000000000000000000000000000000000000000000005",
-        Ok(5),
-        true,
-        true,
-    ),
-    (
-        "170141183460469231731687303715884105727",
-        Ok(LARGEST),
-        true,
-        true,
-    ),
-    (
-        "-170141183460469231731687303715884105728",
-        Ok(LEAST),
-        true,
-        true,
-    ),
-    (
-        "170141183460469231731687303715884105728",
-        Err(ValueFault::Range),
-        true,
-        true,
-    ),
-    (
-        "-170141183460469231731687303715884105729",
-        Err(ValueFault::Range),
-        true,
-        true,
-    ),
+    ("00000000000000000000000005", Ok(5), true, true),
+    (LARGEST_TEXT, Ok(LARGEST), true, true),
+    (LEAST_TEXT, Ok(LEAST), true, true),
+    (PAST_LARGEST_TEXT, Err(ValueFault::Range), true, true),
+    (PAST_LEAST_TEXT, Err(ValueFault::Range), true, true),
+    (FAR_PAST_LARGEST_TEXT, Err(ValueFault::Range), true, true),
 ];
 
 const ORDERS: [(Given, Given, Ordering); 16] = [
@@ -87,11 +73,7 @@ const ORDERS: [(Given, Given, Ordering); 16] = [
     (Text(" +12 "), Input("12"), Less),
     (Input("1x"), Number(2), Less),
     (Input("10x"), Number(9), Less),
-    (
-        Input("170141183460469231731687303715884105728"),
-        Number(2),
-        Less,
-    ),
+    (Input(PAST_LARGEST_TEXT), Number(2), Less),
     (Number(LEAST), Input("-1"), Less),
     (Nothing, Number(0), Equal),
     (Nothing, Text(""), Equal),
@@ -100,28 +82,20 @@ const ORDERS: [(Given, Given, Ordering); 16] = [
     (Text("é"), Text("z"), Greater),
 ];
 
+const POWER_63: i128 = 9_223_372_036_854_775_808;
+
+const POWER_64: i128 = 18_446_744_073_709_551_616;
+
 const PRODUCTS: [(Given, Given, Result<i128, ValueFault>); 9] = [
     (Number(6), Number(-7), Ok(-42)),
     (Text("-3x"), Input(" 4 "), Ok(-12)),
     (Nothing, Number(LEAST), Ok(0)),
     (Number(1), Number(LEAST), Ok(LEAST)),
-    (
-        Number(18446744073709551616),
-        Number(-9223372036854775808),
-        Ok(LEAST),
-    ),
-    (
-        Number(18446744073709551616),
-        Number(9223372036854775808),
-        Err(ValueFault::Range),
-    ),
+    (Number(POWER_63), Number(-POWER_64), Ok(LEAST)),
+    (Number(POWER_63), Number(POWER_64), Err(ValueFault::Range)),
     (Number(-1), Number(LEAST), Err(ValueFault::Range)),
     (Number(LARGEST), Number(2), Err(ValueFault::Range)),
-    (
-        Number(0),
-        Text("170141183460469231731687303715884105728"),
-        Err(ValueFault::Range),
-    ),
+    (Number(0), Text(PAST_LARGEST_TEXT), Err(ValueFault::Range)),
 ];
 
 #[test]
@@ -139,10 +113,8 @@ fn numbers_orders_and_products(rt: HostRuntime) -> Result<(), Fail> {
         assert_eq!(rt; compared, Ok(order), "{left:?} {right:?}");
     }
     for (left, right, product) in PRODUCTS {
-        let number = match multiply(&left.value(rt.alloc())?, &right.value(rt.alloc())?) {
-            Ok(value) => number_of(&value),
-            Err(fault) => Err(fault),
-        };
+        let value = multiply(&left.value(rt.alloc())?, &right.value(rt.alloc())?);
+        let number = value.and_then(|value| number_of(&value));
         assert_eq!(rt; number, product, "{left:?} {right:?}");
     }
     Ok(())
@@ -154,7 +126,7 @@ fn texts(rt: HostRuntime) -> Result<(), Fail> {
     for (given, text) in [
         (Nothing, ""),
         (Number(0), "0"),
-        (Number(LEAST), "-170141183460469231731687303715884105728"),
+        (Number(LEAST), LEAST_TEXT),
         (Text("a b"), "a b"),
         (Input(" 7 "), " 7 "),
     ] {
