@@ -52,14 +52,10 @@ returns-in_ok-record-in-Stretch-clause-steps c = λ _.
     c.in-Stretch.ensures.value c.at_end.ensures c.deref.ensures.value c.self.view_is (found_unbroken _ _)
     (ap (λ (t : List ℕ). Ok (Record t)) c.in_ok-record-in-Stretch.ensures, drop_behind b.bytes.items c.deref.result.now b.start c.in-Stretch.next c.deref.ensures.value, refl)
 
-pub returns-in-Ended : goal.returns-in-Ended
-returns-in-Ended c = record {
-  steps = λ _.
-      let b = c.self.inside in
-      Steps-breaks c.args.separator.now c.deref.result.now b.bytes.items b.start b.supply _ c.args.self.now _
-      c.in-Unfinished.ensures.value c.at_end.ensures c.deref.ensures.value c.self.view_is
-      (something_met b.supply c.in-Ended.is) c.take_all-in-Ended.ensures.bytes
-      (c.take_all-in-Ended.ensures.ending ∙ sym (ap (λ (p : Pending). p.ending) c.self.view_is));
-  memory = λ e. cc;
-  short = λ e. cc;
-}
+pub returns-in-Ended-clause-steps : goal.returns-in-Ended-clause-steps
+returns-in-Ended-clause-steps c = λ _.
+    let b = c.self.inside in
+    Steps-breaks c.args.separator.now c.deref.result.now b.bytes.items b.start b.supply _ c.args.self.now _
+    c.in-Unfinished.ensures.value c.at_end.ensures c.deref.ensures.value c.self.view_is
+    (something_met b.supply c.in-Ended.is) c.take_all-in-Ended.ensures.bytes
+    (c.take_all-in-Ended.ensures.ending ∙ sym (ap (λ (p : Pending). p.ending) c.self.view_is))
