@@ -19,3 +19,6 @@ pub use record::Record;
 pub fn decided_law()
     ensures { (separator bytes : List ℕ) → IsDecided separator bytes ↔ (cut_of separator bytes AtBreak ≢ BrokenOff) }
 {}
+
+#[cfg(test)]
+mod tests;
