@@ -1,0 +1,4 @@
+pub mod AgreesLemmas
+pub mod Exist
+pub mod KeptLemmas
+pub mod RestLemmas

@@ -1,6 +1,10 @@
 //! The world that a run reads and writes, and the streams over it.
 #![tactic(auto)]
 
+mod fault;
+mod laws;
 mod world;
 
+pub use fault::StreamFault;
+pub use laws::{agrees_with_less, some_answers_agree};
 pub use world::{InputKind, Mode, OutputKind, World, WorldFault};
