@@ -1,10 +1,11 @@
 -- What reading an input adds to the log, and what the buffer holds of it.
-use Rattle.std.specs.Prelude.{◌≡◌, ◌⊎◌, ℕ, List, [], ◌∷◌, ◌++◌, Option, Some, None, Result, ◌+◌, ◌-◌}
+use Rattle.std.specs.Prelude.{◌≡◌, ◌≢◌, ◌⊎◌, ℕ, List, [], ◌∷◌, ◌++◌, Option, Some, None, Result, Err, ◌+◌, ◌-◌}
 use Rattle.awk_streams.specs.Log.{Event, Read, Ended, Broke}
 use Rattle.awk_record.specs.Cut.{Ending, AtEnd, AtBreak, IsDecided, longest}
 use Rattle.awk_record.specs.Buffer.{Pending, Steps}
 use Rattle.awk_record.specs.declared.buffer.Step.{Step}
 use Rattle.awk_record.specs.declared.fault.RecordFault.{RecordFault}
+use Rattle.awk_record.specs.declared.fault.RecordFault.TheVariants.{Memory as BufferMemory}
 use Rattle.awk_streams.specs.Writes.{GoesOn}
 
 -- these events, the oldest first, each read the input while the bytes at hand don't decide its record;
@@ -25,11 +26,13 @@ Reaches id separator old log new log' =
 abbrev pub ReadsAsNeeded : ℕ → List ℕ → Pending → List Event → List Event → Type 0
 ReadsAsNeeded id separator old log log' = (seen : Pending) × Reaches id separator old log seen log'
 
--- one asking for a record: needed readings, and then what the buffer answers of the bytes at hand
+-- one asking for a record: needed readings, and then what the buffer answers of the bytes at hand;
+-- where memory is refused the buffer may lack the bytes of the last reading
 pub record Pulls (id : ℕ) (separator : List ℕ) (old : Pending) (log : List Event) (result : Result Step RecordFault) (new : Pending) (log' : List Event) : Type 0 where
   pub seen : Pending
   pub reads : Reaches id separator old log seen log'
-  pub steps : Steps separator seen result new
+  pub ending : new.ending ≡ None → seen.ending ≡ None
+  pub steps : result ≢ Err BufferMemory → Steps separator seen result new
 
 -- what one reading brings to the buffer
 abbrev pub Brings : ℕ → Event → Pending → Pending → Type 0

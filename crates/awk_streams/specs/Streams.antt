@@ -1,17 +1,19 @@
 -- The streams of a run as one value, and what each call tells of a world's log.
 -- (POSIX awk, INPUT FILES and STDOUT; Variables and Special Variables: RS)
-use Rattle.std.specs.Prelude.{◌≡◌, ◌≢◌, ◌≤◌, ℕ, ℤ, ◌+◌, Bool, true, false, ◌&&◌, if◌then◌else◌, List, [], ◌∷◌, ◌++◌, length, take, Option, Some, None, is_some, Result, Ok, Err, OnOk, OnErr, bytes_eq}
+use Rattle.std.specs.Prelude.{◌≡◌, ◌≢◌, ◌≤◌, ℕ, ℤ, ◌+◌, Bool, true, false, ◌&&◌, List, [], ◌∷◌, ◌++◌, length, take, Option, Some, None, is_some, Result, Ok, Err, OnOk, OnErr, bytes_eq}
 use Rattle.awk_streams.specs.declared.world.InputKind.{InputKind}
 use Rattle.awk_streams.specs.declared.world.InputKind.TheVariants.{Command}
 use Rattle.awk_streams.specs.declared.world.OutputKind.{OutputKind}
+use Rattle.awk_streams.specs.declared.input.Input.{Input}
 use Rattle.awk_streams.specs.declared.fault.StreamFault.{StreamFault}
 use Rattle.awk_streams.specs.declared.fault.StreamFault.TheVariants.{Memory, InputNotReadable}
-use Rattle.awk_streams.specs.Log.{Event, OpenedInput, Flushed, Closed, logged}
+use Rattle.awk_streams.specs.Ids.{Closes, SameOpen}
+use Rattle.awk_streams.specs.Log.{Event, OpenedInput, Closed, logged}
 use Rattle.awk_record.specs.Cut.{cut_of}
 use Rattle.awk_record.specs.Buffer.{Pending}
 use Rattle.awk_streams.specs.Answers.{Answers, Source, Agrees, one_if, how_many, opens_input, opens_output, closes_command, runs, same_input, AnInput, standing}
 use Rattle.awk_streams.specs.Orderly.{IsReadable, IsInOrder}
-use Rattle.awk_streams.specs.Writes.{OnlyWritesTo, received}
+use Rattle.awk_streams.specs.Writes.{OnlyWritesTo, received, flushed_if}
 use Rattle.awk_streams.specs.Inputs.{ReadsAsNeeded}
 use Rattle.awk_streams.specs.Rest.{Rest}
 pub use Rattle.awk_streams.specs.Kept.{SameCounts}
@@ -24,6 +26,14 @@ pub record InputView : Type 0 where
 
 pub record StreamsView : Type 0 where
   pub main : Option InputView
+
+abbrev pub main_of : Option Input → Option InputView
+main_of None = None
+main_of (Some input) = Some record { id = input.id; pending = input.buffer }
+
+-- an input of which nothing was read
+abbrev pub IsFreshMain : Option InputView → Type 0
+IsFreshMain main = (id : ℕ) × (main ≡ Some record { id = id; pending = record { bytes = []; ending = None } })
 
 -- What is known of every world.
 
@@ -40,6 +50,11 @@ abbrev pub IsSameMain : Option InputView → Option InputView → Type 0
 IsSameMain None None = Unit {0}
 IsSameMain (Some v) (Some w) = w.id ≡ v.id
 IsSameMain v w = ⊥
+
+-- which streams are open after the main input, if there was one, was closed
+abbrev pub ClosesMain : (ℕ → Bool) → (ℕ → Bool) → Option InputView → Type 0
+ClosesMain old new None = SameOpen old new
+ClosesMain old new (Some v) = Closes old new v.id
 
 -- What is known of a world that tells its log.
 
@@ -127,9 +142,6 @@ pub record Prints (bytes : List ℕ) (is_open : ℕ → Bool) (log : List Event)
   pub rest : (a : Answers) (r : Option Source) → IsMainRest a log old.main r → IsMainRest a log' new.main r
   pub unmarked : OnOk result (mark' ≡ mark)
   pub marked : OnErr result (is_some mark' ≡ true)
-
-abbrev pub flushed_if : Bool → ℕ → List Event → List Event
-flushed_if done id log = if done then Flushed id ∷ log else log
 
 abbrev pub closed_main : Option InputView → ℤ → List Event → List Event
 closed_main None answer log = log

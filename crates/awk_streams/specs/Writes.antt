@@ -1,6 +1,6 @@
 -- How a log goes on, and what an output has received.
-use Rattle.std.specs.Prelude.{◌≡◌, ℕ, List, [], ◌∷◌, ◌++◌, Some, ◌==◌, if◌then◌else◌}
-use Rattle.awk_streams.specs.Log.{Event, OpenedOutput, Wrote}
+use Rattle.std.specs.Prelude.{◌≡◌, ℕ, Bool, List, [], ◌∷◌, ◌++◌, Some, ◌==◌, if◌then◌else◌}
+use Rattle.awk_streams.specs.Log.{Event, OpenedOutput, Wrote, Flushed}
 
 -- the log after these events, the oldest of them first
 abbrev pub with_events : List Event → List Event → List Event
@@ -22,6 +22,9 @@ Writes id bytes (e ∷ es) = ⊥
 -- nothing was done but writing to this output
 abbrev pub OnlyWritesTo : ℕ → List Event → List Event → Type 0
 OnlyWritesTo id old new = (bytes : List ℕ) × GoesOn (Writes id bytes) old new
+
+abbrev pub flushed_if : Bool → ℕ → List Event → List Event
+flushed_if done id log = if done then Flushed id ∷ log else log
 
 -- what an output has received since it was opened
 abbrev pub received : ℕ → List Event → List ℕ
