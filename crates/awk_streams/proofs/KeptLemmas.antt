@@ -7,7 +7,7 @@ use Rattle.awk_streams.specs.Answers.{Answers, Agrees, reading_of, read_on}
 use Rattle.awk_streams.specs.Orderly.{IsReadable, IsOrderly, IsInOrder}
 use Rattle.std.specs.Prelude.{is_some}
 use Rattle.awk_streams.specs.Ids.{SameOpen}
-use Rattle.awk_streams.specs.Writes.{with_events, Writes, OnlyWritesTo}
+use Rattle.awk_streams.specs.Writes.{with_events, Writes, OnlyWritesTo, received}
 use Rattle.awk_streams.specs.Inputs.{NeededReads}
 use Rattle.awk_streams.specs.Kept.{IsOutput, IsQuiet, SameCounts, SameStreams}
 
@@ -148,3 +148,16 @@ only_writes id old new log log' same (bytes, goes) order =
       λ j. ap (reading_of j) goes.log ∙ output_reading j goes.events log out,
       λ a agrees. subst (λ (l : List Event). Agrees a l) (sym goes.log) (output_agrees a goes.events log out agrees),
     )
+
+pub reads_received : (id j : ℕ) (separator b b' : List ℕ) (ending : Option Ending) (es log : List Event) → NeededReads id separator b b' ending es → received j (with_events es log) ≡ received j log
+reads_received id j separator b b' ending [] log h = refl
+reads_received id j separator b b' ending (Read i bs ∷ es) log (same, undecided, later) = reads_received id j separator (b ++ bs) b' ending es (Read i bs ∷ log) later
+reads_received id j separator b b' ending (Ended i ∷ es) log (same, undecided, last, bytes, met) = ap (λ (x : List Event). received j (with_events x (Ended i ∷ log))) last
+reads_received id j separator b b' ending (Broke i ∷ es) log (same, undecided, last, bytes, met) = ap (λ (x : List Event). received j (with_events x (Broke i ∷ log))) last
+reads_received id j separator b b' ending (e ∷ es) log h = absurd h
+
+pub writes_received : (id j : ℕ) (bytes : List ℕ) (es log : List Event) → j ≢ id → Writes id bytes es → received j (with_events es log) ≡ received j log
+writes_received id j bytes [] log apart h = refl
+writes_received id j bytes (Wrote i bs ∷ es) log apart (same, (rest, is, later)) =
+    writes_received id j rest es (Wrote i bs ∷ log) apart later ∙ cond-false _ _ _ (ne_eqb i j (λ (e : i ≡ j). apart (sym e ∙ same)))
+writes_received id j bytes (e ∷ es) log apart h = absurd h

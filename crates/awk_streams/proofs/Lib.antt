@@ -5,3 +5,5 @@ pub mod RestLemmas
 pub mod InputLemmas
 pub mod ToldLemmas
 pub mod WritesLemmas
+pub mod MarkLemmas
+pub mod MainLemmas
