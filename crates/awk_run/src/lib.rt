@@ -1,2 +1,5 @@
 //! The run of a program.
 #![tactic(auto)]
+
+pub mod laws;
+pub mod outcome;
