@@ -1,2 +1,18 @@
-//! Byte texts, values and arithmetic.
+//! The values of the language: byte texts, whole numbers, their conversions, their order and
+//! their arithmetic.
 #![tactic(auto)]
+
+mod arithmetic;
+mod bytes;
+mod convert;
+mod fault;
+mod number;
+mod order;
+mod value;
+
+pub use crate::arithmetic::{mul, multiply};
+pub use crate::bytes::Bytes;
+pub use crate::convert::{append_text, is_true, number_of, text_of};
+pub use crate::fault::ValueFault;
+pub use crate::order::compare;
+pub use crate::value::Value;

@@ -1,0 +1,21 @@
+-- Arithmetic on whole numbers without bounds, of which only the end is tested for range
+-- (POSIX awk, Expressions in awk: the arithmetic operators).
+use Rattle.std.specs.Prelude.{◌^◌, Bool, false, ℤ, pos, negsuc, ◌*ℤ◌, nat_lt, ◌==◌, if◌then◌else◌, Result, Ok, Err}
+use Rattle.awk_value.specs.declared.fault.ValueFault.{ValueFault}
+use Rattle.awk_value.specs.declared.fault.ValueFault.TheVariants.{Range}
+
+-- from -2^127 to 2^127 - 1
+abbrev pub is_in_range : ℤ → Bool
+is_in_range (pos n) = nat_lt n (2 ^ 127)
+is_in_range (negsuc n) = nat_lt n (2 ^ 127)
+
+-- the number, or the fault where it is out of range
+abbrev pub range_checked : ℤ → Result ℤ ValueFault
+range_checked z = if is_in_range z then Ok z else Err Range
+
+abbrev pub is_zero : ℤ → Bool
+is_zero (pos n) = n == 0
+is_zero (negsuc n) = false
+
+abbrev pub product_of : ℤ → ℤ → Result ℤ ValueFault
+product_of m n = range_checked (m *ℤ n)

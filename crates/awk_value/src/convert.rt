@@ -1,0 +1,90 @@
+// A value as a number, as a text and as a truth.
+
+ghost use Rattle.std.specs.Prelude.{◌≡◌, ◌++◌, IfOk, IfErr, OnOk, OnErr};
+ghost use Rattle.awk_value.specs.Values.{num_of, str_of, numeric_of, truth_of};
+ghost use Rattle.awk_value.specs.declared.fault.ValueFault.TheVariants.{Memory};
+
+use crate::bytes::Bytes;
+use crate::fault::ValueFault;
+use crate::number::{number_of_text, numeric_of_text};
+use crate::value::Value;
+use itoa::Buffer;
+use std::alloc::Global;
+
+/// The number of a value: of a text the number that it begins with, or 0. The fault is `Range`.
+pub fn number_of(value: &Value) -> Result<i128, ValueFault>
+    ensures { result ≡ num_of value.now }
+{
+    match value {
+        Value::Nothing => Ok(0),
+        Value::Number(n) => Ok(*n),
+        Value::Text(text) => number_of_text(text.as_slice()),
+        Value::Input(text) => number_of_text(text.as_slice()),
+    }
+}
+
+/// The number as which a value is tested and compared, if it counts as a number there.
+pub(crate) fn numeric(value: &Value) -> Option<i128>
+    ensures { result ≡ numeric_of value.now }
+{
+    match value {
+        Value::Nothing => Some(0),
+        Value::Number(n) => Some(*n),
+        Value::Text(_) => None,
+        Value::Input(text) => numeric_of_text(text.as_slice()),
+    }
+}
+
+/// The bytes of a value's text. A number is written into the buffer, so no memory is taken.
+pub(crate) fn text_in<'a>(value: &'a Value, buffer: &'a mut Buffer) -> &'a [u8]
+    ensures { result.now ≡ str_of value.now }
+{
+    match value {
+        Value::Nothing => b"",
+        Value::Number(n) => buffer.format(*n).as_bytes(),
+        Value::Text(text) => text.as_slice(),
+        Value::Input(text) => text.as_slice(),
+    }
+}
+
+/// The text of a value, which shares the memory of a value that is a text. The fault is
+/// `Memory`.
+pub fn text_of(alloc: Global, value: &Value) -> Result<Bytes, ValueFault>
+    ensures text { IfOk result (λ text. text ≡ str_of value.now) }
+    ensures fault { IfErr result (λ fault. fault ≡ Memory) }
+{
+    Ok(match value {
+        Value::Nothing => Bytes::from_slice(alloc, b"")?,
+        Value::Number(n) => Bytes::from_slice(alloc, Buffer::new().format(*n).as_bytes())?,
+        Value::Text(text) => text.clone()?,
+        Value::Input(text) => text.clone()?,
+    })
+}
+
+/// Appends the text of a value to the buffer. The fault is `Memory`, and leaves the buffer as it
+/// was.
+pub fn append_text(value: &Value, buffer: &mut Vec<u8>) -> Result<(), ValueFault>
+    ensures text { OnOk result (buffer.new.items ≡ buffer.old.items ++ str_of value.now) }
+    ensures unchanged { OnErr result (buffer.new.items ≡ buffer.old.items) }
+    ensures fault { IfErr result (λ fault. fault ≡ Memory) }
+{
+    let mut digits = Buffer::new();
+    buffer.extend_from_slice(text_in(value, &mut digits))?;
+    Ok(())
+}
+
+/// Whether a value is true: a number and a numeric text from outside where it is not 0, any
+/// other text where it is not empty.
+pub fn is_true(value: &Value) -> bool
+    ensures { result ≡ truth_of value.now }
+{
+    match value {
+        Value::Nothing => false,
+        Value::Number(n) => *n != 0,
+        Value::Text(text) => !text.is_empty(),
+        Value::Input(text) => match numeric_of_text(text.as_slice()) {
+            Some(n) => n != 0,
+            None => !text.is_empty(),
+        },
+    }
+}

@@ -1,0 +1,25 @@
+// The order of two values.
+
+ghost use Rattle.std.specs.Prelude.{◌≡◌, Ok};
+ghost use Rattle.awk_value.specs.Values.{order_of};
+
+use crate::convert::{numeric, text_in};
+use crate::fault::ValueFault;
+use crate::value::Value;
+use itoa::Buffer;
+use std::cmp::Ordering;
+
+/// The order of two values: by their numbers where each is uninitialized, a number or a numeric
+/// text from outside, and else byte by byte. It takes no memory and has no fault.
+pub fn compare(left: &Value, right: &Value) -> Result<Ordering, ValueFault>
+    ensures { result ≡ Ok (order_of left.now right.now) }
+{
+    if let Some(m) = numeric(left)
+        && let Some(n) = numeric(right)
+    {
+        return Ok(m.cmp(&n));
+    }
+    let mut left_digits = Buffer::new();
+    let mut right_digits = Buffer::new();
+    Ok(text_in(left, &mut left_digits).cmp(&text_in(right, &mut right_digits)))
+}
