@@ -1,0 +1,3 @@
+pub mod Cut
+pub mod Buffer
+pub mod Place

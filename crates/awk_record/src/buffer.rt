@@ -1,0 +1,139 @@
+// The bytes of an input that were read and not yet taken, cut into records.
+ghost use Rattle.std.specs.Prelude.{◌≡◌, ◌≢◌, ◌++◌, ◌≤◌, [], length, drop, vec_len, Some, None, OnOk, OnErr, IfErr, Err, Ok};
+ghost use Rattle.awk_record.specs.Cut.{AtEnd, AtBreak, longest};
+ghost use Rattle.awk_record.specs.Place.{end_if, ending_or_break};
+
+use crate::fault::RecordFault;
+use crate::place::{Place, place_cut};
+use awk_value::Bytes;
+use std::alloc::Global;
+use std::marker::Model;
+
+/// What an asking for the next record answers.
+#[derive(Drop)]
+pub enum Step {
+    Record(Bytes),
+    /// The bytes at hand don't decide the record, and no ending was met.
+    NeedMore,
+    /// The input has ended, and no record is left.
+    End,
+    /// The input broke, and no whole record is left.
+    Broken,
+}
+
+// What is known of the bytes that follow those at hand.
+#[derive(Clone, Copy, Debug, PartialEq, Eq)]
+enum Supply {
+    Open,
+    Ended,
+    Broke,
+}
+
+fn at_end(supply: Supply) -> bool
+    ensures { end_if result ≡ ending_or_break supply }
+{
+    match supply {
+        Supply::Ended => true,
+        Supply::Open | Supply::Broke => false,
+    }
+}
+
+/// The bytes of an input that were read and not yet taken.
+#[derive(Drop)]
+pub struct RecordBuffer {
+    alloc: Global,
+    bytes: Vec<u8>,
+    start: usize,
+    supply: Supply,
+}
+
+impl Model for RecordBuffer {
+    ghost use Rattle.std.specs.Prelude.{◌≤◌, drop, vec_len};
+    ghost use Rattle.awk_record.specs.Buffer.{Pending};
+    ghost use Rattle.awk_record.specs.Place.{ending_of};
+
+    ghost Value = { Pending };
+
+    ghost view = { λ b. record { bytes = drop b.start b.bytes.items; ending = ending_of b.supply } };
+
+    ghost invariant = { λ b. b.start ≤ vec_len b.bytes };
+}
+
+impl RecordBuffer {
+    ghost use Rattle.awk_record.specs.Buffer.{Steps};
+
+    /// An empty buffer of an input that is still open.
+    pub fn new(alloc: Global) -> Self
+        ensures bytes { result.bytes ≡ [] }
+        ensures ending { result.ending ≡ None }
+    {
+        RecordBuffer {
+            alloc,
+            bytes: Vec::new(alloc),
+            start: 0,
+            supply: Supply::Open,
+        }
+    }
+
+    /// Adds the next bytes of the input. The only error is `Memory`, and it
+    /// changes nothing.
+    pub fn feed(&mut self, piece: &[u8]) -> Result<(), RecordFault>
+        requires { self.old.ending ≡ None }
+        ensures ok { OnOk result (self.new.bytes ≡ self.old.bytes ++ piece.now) }
+        ensures ending { self.new.ending ≡ None }
+        ensures err { OnErr result (self.new ≡ self.old) }
+        ensures memory { IfErr result (λ e. e ≡ RecordFault.Memory) }
+    {
+        self.bytes.extend_from_slice(piece)?;
+        Ok(())
+    }
+
+    /// The input has ended.
+    pub fn end(&mut self)
+        requires { self.old.ending ≡ None }
+        ensures bytes { self.new.bytes ≡ self.old.bytes }
+        ensures ending { self.new.ending ≡ Some AtEnd }
+    {
+        self.supply = Supply::Ended;
+    }
+
+    /// The input broke.
+    pub fn broken(&mut self)
+        requires { self.old.ending ≡ None }
+        ensures bytes { self.new.bytes ≡ self.old.bytes }
+        ensures ending { self.new.ending ≡ Some AtBreak }
+    {
+        self.supply = Supply::Broke;
+    }
+
+    /// The next record by this separator: one byte, or none, where blank lines
+    /// separate. After `End` or `Broken` no bytes are left. An `Err` changes
+    /// nothing.
+    pub fn next(&mut self, separator: &[u8]) -> Result<Step, RecordFault>
+        ensures steps { (result ≡ Err RecordFault.Memory → ⊥) → Steps separator.now self.old result self.new }
+        ensures memory { result ≡ Err RecordFault.Memory → self.new ≡ self.old }
+        ensures short { result ≡ Ok Step.NeedMore → length self.old.bytes ≤ longest }
+    {
+        let held = &self.bytes[self.start..];
+        match place_cut(separator, held, at_end(self.supply)) {
+            Place::Stretch { from, to, next } => {
+                let record = Bytes::from_slice(self.alloc, &held[from..to])?;
+                self.start += next;
+                Ok(Step::Record(record))
+            }
+            Place::Empty => {
+                self.start = self.bytes.len();
+                Ok(Step::End)
+            }
+            Place::Unfinished => match self.supply {
+                Supply::Open => Ok(Step::NeedMore),
+                Supply::Ended | Supply::Broke => {
+                    self.start = self.bytes.len();
+                    Ok(Step::Broken)
+                }
+            },
+            Place::Over => Err(RecordFault::RecordTooLong),
+            Place::NoSeparator => Err(RecordFault::SeparatorTooLong),
+        }
+    }
+}
