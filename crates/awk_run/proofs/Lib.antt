@@ -1,1 +1,3 @@
+pub mod Calculus
+pub mod Forms
 pub mod Limits

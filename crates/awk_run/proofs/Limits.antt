@@ -2,7 +2,7 @@
 use Rattle.std.proofs.Common.{◌≡◌, ◌≢◌, ℕ, zero, suc, ◌+◌, ◌≤◌, Bool, true, false, List, [], ◌∷◌, ◌++◌, Option, Some, None, Result, Ok, Err, refl, sym, ap, ◌∙◌, subst, append_assoc, append-nil, arith}
 use Rattle.awk_value.specs.declared.value.Value.{Value}
 use Rattle.awk_value.specs.declared.value.Value.TheVariants as value
-use Rattle.awk_value.specs.Values.{is_true}
+use Rattle.awk_value.specs.Values.{truth_of}
 use Rattle.awk_record.specs.Cut.{Cut, Found, NoMore, BrokenOff, TooLong, BadSeparator, cut_of}
 use Rattle.awk_streams.specs.declared.world.InputKind.{InputKind}
 use Rattle.awk_streams.specs.declared.world.InputKind.TheVariants.{Standard}
@@ -164,7 +164,7 @@ if_larger false m h = lift_larger (Ok tt)
 item_larger : (x : Item) → Larger (try_item x) (try_item x)
 unfolding try_item
 item_larger (Always block) = all_larger block
-item_larger (Rule e block) = then_larger _ _ (E_larger e) (λ v. if_larger (is_true v) _ (all_larger block))
+item_larger (Rule e block) = then_larger _ _ (E_larger e) (λ v. if_larger (truth_of v) _ (all_larger block))
 
 items_larger : (xs : List Item) → Larger (try_items xs) (try_items xs)
 unfolding try_items

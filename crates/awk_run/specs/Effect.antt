@@ -2,7 +2,7 @@
 use Rattle.std.specs.Prelude.{ℕ, zero, suc, Bool, true, false, List, [], ◌∷◌, ◌++◌, Option, Some, None, Result, Ok, Err, if◌then◌else◌, map}
 use Rattle.awk_value.specs.declared.value.Value.{Value}
 use Rattle.awk_value.specs.declared.value.Value.TheVariants as value
-use Rattle.awk_value.specs.Values.{str_of, is_true}
+use Rattle.awk_value.specs.Values.{str_of, truth_of}
 use Rattle.awk_syntax.specs.Tree.{Expr, Number, Field, Binary, Exprs, Nil, Cons, Statement, Block, Print, Statements, NoMore, Then, Item, Always, Rule}
 use Rattle.awk_run.specs.State.{Stop, OutOfSteps, State, Out, Run, ◌>>=◌, ◌>>◌, lift, ret}
 use Rattle.awk_run.specs.Words.{output_field_separator, output_record_separator, spend, field_at, current_text, show, take_record, open_standard, set_record}
@@ -53,7 +53,7 @@ run_if false action = ret tt
 -- an item on a record
 unfoldable pub try_item : Item → Run (Unit {0})
 try_item (Always block) = S_all block
-try_item (Rule e block) = E e >>= λ v. run_if (is_true v) (S_all block)
+try_item (Rule e block) = E e >>= λ v. run_if (truth_of v) (S_all block)
 
 unfoldable pub try_items : List Item → Run (Unit {0})
 try_items [] = ret tt

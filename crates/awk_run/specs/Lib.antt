@@ -5,3 +5,4 @@ pub mod Words
 pub mod Effect
 pub mod Meaning
 pub mod Limits
+pub mod Does

@@ -7,8 +7,8 @@ use Rattle.awk_value.specs.declared.value.Value.TheVariants.{Number}
 use Rattle.awk_value.specs.declared.fault.ValueFault.{ValueFault}
 use Rattle.awk_value.specs.declared.fault.ValueFault.TheVariants as value
 use Rattle.awk_value.specs.Values.{num_of, str_of, order_of, multiplied}
-use Rattle.awk_record.specs.declared.buffer.RecordFault.{RecordFault}
-use Rattle.awk_record.specs.declared.buffer.RecordFault.TheVariants as fields
+use Rattle.awk_record.specs.declared.fault.RecordFault.{RecordFault}
+use Rattle.awk_record.specs.declared.fault.RecordFault.TheVariants as fields
 use Rattle.awk_record.specs.Record.{RecordPair, field_of}
 use Rattle.awk_syntax.specs.declared.tree.BinaryOperator.{BinaryOperator}
 use Rattle.awk_syntax.specs.declared.tree.BinaryOperator.TheVariants.{Times, Less, LessEqual, Equal, NotEqual, Greater, GreaterEqual}

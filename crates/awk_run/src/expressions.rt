@@ -1,0 +1,97 @@
+// The values of expressions.
+
+ghost use Rattle.std.specs.Prelude.{◌≡◌, [], Ok, Err, pos, if◌then◌else◌};
+ghost use Rattle.std.specs.declared.cmp.Ordering.{Ordering as Order};
+ghost use Rattle.awk_syntax.specs.View.{expr_of, exprs_of};
+ghost use Rattle.awk_run.specs.Operators.{applied, field_value, relates as related};
+ghost use Rattle.awk_run.specs.Does.{Matches, Evaluates, EvaluatesAll, Lists, Tests, viewed};
+
+use crate::halt::Halt;
+use crate::machine::Machine;
+use awk_record::Record;
+use awk_syntax::tree::{BinaryOperator, Expr};
+use awk_value::{Value, compare, is_true, multiply, number_of};
+use std::alloc::Global;
+use std::cmp::Ordering;
+
+/// The field of the record whose number is the value's.
+pub fn field_at(record: &Record, at: &Value) -> Result<Value, Halt>
+    ensures { Matches result (field_value record.now at.now) }
+{
+    let number = number_of(at)?;
+    Ok(record.field(number)?)
+}
+
+/// Whether two values in this order are so related.
+fn relates(operator: BinaryOperator, order: Ordering) -> bool
+    ensures { result ≡ related operator order }
+{
+    match operator {
+        BinaryOperator::Times => false,
+        BinaryOperator::Less => order == Ordering::Less,
+        BinaryOperator::LessEqual => order != Ordering::Greater,
+        BinaryOperator::Equal => order == Ordering::Equal,
+        BinaryOperator::NotEqual => order != Ordering::Equal,
+        BinaryOperator::Greater => order == Ordering::Greater,
+        BinaryOperator::GreaterEqual => order != Ordering::Less,
+    }
+}
+
+/// What an operator makes of two values.
+pub fn apply(operator: BinaryOperator, x: &Value, y: &Value) -> Result<Value, Halt>
+    ensures { Matches result (applied operator x.now y.now) }
+{
+    if operator == BinaryOperator::Times {
+        return Ok(multiply(x, y)?);
+    }
+    let order = compare(x, y)?;
+    Ok(Value::Number(i128::from(relates(operator, order))))
+}
+
+/// The value of an expression (POSIX awk, Expressions in awk).
+pub fn eval(e: &Expr, machine: &Machine) -> Result<Value, Halt>
+    ensures { Evaluates (expr_of e.now) machine.now result }
+{
+    match e {
+        Expr::Number(n) => Ok(Value::Number(*n)),
+        Expr::Field(e) => {
+            let at = eval(e, machine)?;
+            machine.field_at(&at)
+        }
+        Expr::Binary(operator, a, b) => {
+            let x = eval(a, machine)?;
+            let y = eval(b, machine)?;
+            apply(*operator, &x, &y)
+        }
+    }
+}
+
+/// Whether an expression is true.
+pub fn holds(e: &Expr, machine: &Machine) -> Result<bool, Halt>
+    ensures { Tests (expr_of e.now) machine.now result }
+{
+    let value = eval(e, machine)?;
+    Ok(is_true(&value))
+}
+
+fn eval_all(alloc: Global, list: &[Expr], machine: &Machine) -> Result<Vec<Value>, Halt>
+    ensures { EvaluatesAll [] (exprs_of list.now) machine.now (viewed (λ v. v.items) result) }
+{
+    let mut values = Vec::new(alloc);
+    for e in list {
+        let value = eval(e, machine)?;
+        values.push(value)?;
+    }
+    Ok(values)
+}
+
+/// The values that a print prints: those of its list, or without one the record's text.
+pub fn listed(alloc: Global, list: &[Expr], machine: &Machine) -> Result<Vec<Value>, Halt>
+    ensures { Lists (exprs_of list.now) machine.now (viewed (λ v. v.items) result) }
+{
+    if !list.is_empty() {
+        return eval_all(alloc, list, machine);
+    }
+    let text = machine.text()?;
+    Ok(vec![in alloc; text]?)
+}
