@@ -7,9 +7,11 @@ ghost use Rattle.awk_record.specs.Cut.{cut_of, IsDecided, BrokenOff, AtBreak};
 mod buffer;
 mod fault;
 mod place;
+mod record;
 
 pub use buffer::{RecordBuffer, Step};
 pub use fault::RecordFault;
+pub use record::Record;
 
 /// Bytes decide the first record exactly where their cut would find one, or
 /// refuse it, even if the input broke behind them.

@@ -1,0 +1,43 @@
+use Rattle.std.proofs.Common.{◌≡◌, ◌++◌, get_or, true, false, sym, ap, subst, ◌∙◌, arith}
+use Rattle.std.specs.Prelude.{slice_range}
+use Rattle.std.specs.List.{filter, slice_split}
+use Rattle.std.proofs.lemmas.List.Elements.{All-nil}
+use Rattle.awk_text.specs.Span.{stretches_at, IsSpanOf, AreSpansOf}
+use Rattle.awk_text.specs.Pieces.{is_blank, is_full, pieces_of}
+use Rattle.awk_text.proofs.SplitLemmas.{onto_front, split_start, split_inside, split_separator, split_end, stretches_added, spans_added}
+use Rattle.awk_text.proofs.split.split_blanks.Goals as goal
+
+pub loop-i-init : goal.loop-i-init
+loop-i-init c =
+    let text = c.args.text.now in
+    record {
+      begun = omega arith;
+      within = subst (AreSpansOf text) (sym c.clear.ensures.items) (All-nil (IsSpanOf text));
+      pieces = ap (λ spans. stretches_at text spans ++ filter is_full (onto_front (slice_range text 0 0) (slice_split is_blank text))) c.clear.ensures.items
+          ∙ split_start is_full is_blank text;
+    }
+
+pub loop-i-preserved-then-not-is_blank_byte : goal.loop-i-preserved-then-not-is_blank_byte
+loop-i-preserved-then-not-is_blank_byte c =
+    let text = c.args.text.now in
+    let loop = c.loop-i in
+    let fails : is_blank (get_or text loop.i 0) ≡ false = sym c.is_blank_byte.ensures ∙ c.if-not-is_blank_byte.true in
+    record {
+      begun = omega arith;
+      within = loop.invariant.within;
+      pieces = split_inside is_full is_blank text (stretches_at text loop.spans.items) (pieces_of text) loop.start loop.i loop.invariant.begun c.loop-i-test.true fails loop.invariant.pieces;
+    }
+
+pub loop-i-preserved : goal.loop-i-preserved
+loop-i-preserved c =
+    let text = c.args.text.now in
+    let loop = c.loop-i in
+    let old = loop.spans.items in
+    let new = c.add_full.new.spans.items in
+    let holds : is_blank (get_or text loop.i 0) ≡ true = sym c.is_blank_byte.ensures ∙ c.if-not-is_blank_byte.false in
+    let added = stretches_added text old new loop.start loop.i loop.invariant.begun (omega arith) c.in_ok-add_full.ensures in
+    record {
+      begun = omega arith;
+      within = spans_added text old new loop.start loop.i loop.invariant.within loop.invariant.begun (omega arith) c.in_ok-add_full.ensures;
+      pieces = split_separator is_full is_blank text (stretches_at text old) (stretches_at text new) (pieces_of text) loop.start loop.i c.loop-i-test.true holds added loop.invariant.pieces;
+    }

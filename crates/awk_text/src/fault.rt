@@ -1,0 +1,34 @@
+// Why a text can't be had.
+
+use std::alloc::{AllocError, AllocFailed};
+use thiserror::Error;
+
+/// Why work on a text was refused.
+#[derive(Clone, Copy, Debug, PartialEq, Eq, Error)]
+pub enum TextFault {
+    /// F1.
+    #[error("out of memory")]
+    Memory,
+}
+
+impl From<AllocError> for TextFault {
+    ghost use Rattle.std.specs.Prelude.{◌≡◌};
+    ghost use Rattle.awk_text.specs.declared.fault.TextFault.TheVariants.{Memory};
+
+    ghost from_gives = { λ _ e. e ≡ Memory };
+
+    fn from(_: AllocError) -> Self {
+        TextFault::Memory
+    }
+}
+
+impl<T: Drop> From<AllocFailed<T>> for TextFault {
+    ghost use Rattle.std.specs.Prelude.{◌≡◌};
+    ghost use Rattle.awk_text.specs.declared.fault.TextFault.TheVariants.{Memory};
+
+    ghost from_gives = { λ _ e. e ≡ Memory };
+
+    fn from(_: AllocFailed<T>) -> Self {
+        TextFault::Memory
+    }
+}
