@@ -1,0 +1,7 @@
+pub mod AgreesLemmas
+pub mod Exist
+pub mod KeptLemmas
+pub mod RestLemmas
+pub mod InputLemmas
+pub mod ToldLemmas
+pub mod WritesLemmas

@@ -1,6 +1,14 @@
 //! The world that a run reads and writes, and the streams over it.
 #![tactic(auto)]
 
+mod fault;
+mod input;
+mod laws;
+mod output;
+mod streams;
 mod world;
 
+pub use fault::StreamFault;
+pub use laws::{agrees_with_less, some_answers_agree};
+pub use streams::Streams;
 pub use world::{InputKind, Mode, OutputKind, World, WorldFault};

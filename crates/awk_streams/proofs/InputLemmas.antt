@@ -1,0 +1,80 @@
+use Rattle.std.proofs.Common.{◌≡◌, inl, inr, ℕ, List, [], ◌∷◌, ◌++◌, Option, Some, None, Result, Ok, Err, refl, sym, ◌∙◌, ap, subst}
+use Rattle.awk_streams.specs.Log.{Event, Read, Ended, Broke}
+use Rattle.awk_record.specs.Cut.{Ending, AtEnd, AtBreak, IsDecided}
+use Rattle.awk_record.specs.Buffer.{Pending}
+use Rattle.awk_streams.specs.Writes.{with_events}
+use Rattle.awk_streams.specs.Inputs.{NeededReads, Reaches, Brings}
+use Rattle.awk_record.specs.Cut.{Cut, Found, NoMore, BrokenOff, TooLong, BadSeparator, cut_of}
+use Rattle.awk_record.specs.Buffer.{Steps, IsAnswerOf}
+use Rattle.awk_record.specs.declared.buffer.Step.{Step}
+use Rattle.awk_record.specs.declared.fault.RecordFault.{RecordFault}
+use Rattle.std.proofs.lemmas.Bool.{cond-true, eq-eqb}
+use Rattle.awk_streams.specs.Answers.{read_on}
+use Rattle.awk_streams.specs.Orderly.{IsReadable}
+
+with_events-push : (es : List Event) (e : Event) (log : List Event) → with_events (es ++ e ∷ []) log ≡ e ∷ with_events es log
+with_events-push [] e log = refl
+with_events-push (x ∷ es) e log = with_events-push es e (x ∷ log)
+
+one_read : (id : ℕ) (separator : List ℕ) (e : Event) (mid new : Pending) → (IsDecided separator mid.bytes → ⊥) → Brings id e mid new → NeededReads id separator mid.bytes new.bytes new.ending (e ∷ [])
+one_read id separator (Read i bs) mid new open' (same, bytes, ending) = (same, open', (bytes, ending))
+one_read id separator (Ended i) mid new open' (same, bytes, ending) = (same, open', refl, bytes, ending)
+one_read id separator (Broke i) mid new open' (same, bytes, ending) = (same, open', refl, bytes, ending)
+one_read id separator e mid new open' h = absurd h
+
+reads_more : (id : ℕ) (separator b : List ℕ) (es : List Event) (e : Event) (mid new : Pending) → NeededReads id separator b mid.bytes None es → (IsDecided separator mid.bytes → ⊥) → Brings id e mid new →
+    NeededReads id separator b new.bytes new.ending (es ++ e ∷ [])
+reads_more id separator b [] e mid new (same, none) open' brings = subst (λ (x : List ℕ). NeededReads id separator x new.bytes new.ending (e ∷ [])) same (one_read id separator e mid new open' brings)
+reads_more id separator b (Read i bs ∷ es) e mid new (same, needed, later) open' brings = (same, needed, reads_more id separator (b ++ bs) es e mid new later open' brings)
+reads_more id separator b (Ended i ∷ es) e mid new (same, needed, last, bytes, ending) open' brings = cc
+reads_more id separator b (Broke i ∷ es) e mid new (same, needed, last, bytes, ending) open' brings = cc
+reads_more id separator b (x ∷ es) e mid new h open' brings = absurd h
+
+pub Reaches-more : (id : ℕ) (separator : List ℕ) (old mid new : Pending) (log log1 log2 : List Event) (e : Event) → Reaches id separator old log mid log1 → mid.ending ≡ None →
+    (IsDecided separator mid.bytes → ⊥) → log2 ≡ e ∷ log1 → Brings id e mid new → Reaches id separator old log new log2
+Reaches-more id separator old mid new log log1 log2 e (inl (same, same_log)) none open' is brings =
+    inr (
+      ap (λ (p : Pending). p.ending) (sym same) ∙ none,
+      record { events = e ∷ []; log = is ∙ ap (λ l. e ∷ l) same_log; each = subst (λ (x : List ℕ). NeededReads id separator x new.bytes new.ending (e ∷ [])) (ap (λ (p : Pending). p.bytes) same) (one_read id separator e mid new open' brings) },
+    )
+Reaches-more id separator old mid new log log1 log2 e (inr (began, goes)) none open' is brings =
+    inr (
+      began,
+      record {
+        events = goes.events ++ e ∷ [];
+        log = is ∙ (ap (λ l. e ∷ l) goes.log ∙ sym (with_events-push goes.events e log));
+        each = reads_more id separator old.bytes goes.events e mid new (subst (λ (x : Option Ending). NeededReads id separator old.bytes mid.bytes x goes.events) none goes.each) open' brings;
+      },
+    )
+
+pub ok_err : {T E : Type 0} (x : T) (e : E) → Ok x ≡ Err e → ⊥
+ok_err x e is = cc
+
+some_none : {T : Type 0} {P : Type 0} (x : T) → Some x ≡ None → P
+some_none x e = cc
+
+-- an input stays readable by what it gives, unless that was its ending
+pub readable_brings : (id : ℕ) (e : Event) (old new : Pending) (log : List Event) → Brings id e old new → new.ending ≡ None → IsReadable id log → IsReadable id (e ∷ log)
+readable_brings id (Read i bs) old new log (same, bytes, ending) none r = record {
+  reading = record r.reading { bytes = r.reading.bytes ++ bs };
+  stands = cond-true _ _ _ (eq-eqb i id same) ∙ ap (read_on bs) r.stands;
+  unended = r.unended;
+}
+readable_brings id (Ended i) old new log (same, bytes, ending) none r = some_none AtEnd (sym ending ∙ none)
+readable_brings id (Broke i) old new log (same, bytes, ending) none r = some_none AtBreak (sym ending ∙ none)
+readable_brings id e old new log h none r = absurd h
+
+kept_ending : (c : Cut) (e : Ending) (result : Result Step RecordFault) (old new : Pending) → old.ending ≡ Some e → IsAnswerOf c (Some e) result old new → new.ending ≡ Some e
+kept_ending (Found first rest) e result old new is h = h.2
+kept_ending NoMore e result old new is h = h.2
+kept_ending BrokenOff e result old new is h = h.2
+kept_ending TooLong e result old new is h = ap (λ (p : Pending). p.ending) h.1 ∙ is
+kept_ending BadSeparator e result old new is h = ap (λ (p : Pending). p.ending) h.1 ∙ is
+
+steps_at : (o : Option Ending) (separator : List ℕ) (result : Result Step RecordFault) (old new : Pending) → old.ending ≡ o → Steps separator old result new → new.ending ≡ None → old.ending ≡ None
+steps_at None separator result old new is steps none = is
+steps_at (Some e) separator result old new is steps none = some_none e (sym (kept_ending (cut_of separator old.bytes e) e result old new is (steps.ended e is)) ∙ none)
+
+-- an ending that was met stays
+pub steps_ending : (separator : List ℕ) (result : Result Step RecordFault) (old new : Pending) → Steps separator old result new → new.ending ≡ None → old.ending ≡ None
+steps_ending separator result old new steps none = steps_at old.ending separator result old new refl steps none

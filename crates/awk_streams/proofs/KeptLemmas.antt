@@ -1,0 +1,150 @@
+-- Stretches of a log that keep it in order, and what they leave as it was.
+use Rattle.std.proofs.Common.{◌≡◌, ◌≢◌, ℕ, ◌+◌, List, [], ◌∷◌, ◌++◌, Bool, true, false, Option, None, refl, sym, ◌∙◌, ap, subst, arith}
+use Rattle.std.proofs.lemmas.Bool.{cond-true, cond-false, ne_eqb, eq-eqb}
+use Rattle.awk_streams.specs.Log.{Event, Read, Ended, Broke, Wrote, Flushed}
+use Rattle.awk_record.specs.Cut.{Ending}
+use Rattle.awk_streams.specs.Answers.{Answers, Agrees, reading_of, read_on}
+use Rattle.awk_streams.specs.Orderly.{IsReadable, IsOrderly, IsInOrder}
+use Rattle.std.specs.Prelude.{is_some}
+use Rattle.awk_streams.specs.Ids.{SameOpen}
+use Rattle.awk_streams.specs.Writes.{with_events, Writes, OnlyWritesTo}
+use Rattle.awk_streams.specs.Inputs.{NeededReads}
+use Rattle.awk_streams.specs.Kept.{IsOutput, IsQuiet, SameCounts, SameStreams}
+
+none_more : (n : ℕ) → 0 + n ≡ n
+none_more n = omega arith
+
+-- events of outputs
+pub output_orderly : (es log : List Event) → IsOutput es → IsOrderly log → IsOrderly (with_events es log)
+output_orderly [] log h orderly = orderly
+output_orderly (Wrote id bytes ∷ es) log h orderly = output_orderly es (Wrote id bytes ∷ log) h (tt, orderly)
+output_orderly (Flushed id ∷ es) log h orderly = output_orderly es (Flushed id ∷ log) h (tt, orderly)
+output_orderly (e ∷ es) log h orderly = absurd h
+
+pub output_agrees : (a : Answers) (es log : List Event) → IsOutput es → Agrees a log → Agrees a (with_events es log)
+output_agrees a [] log h agrees = agrees
+output_agrees a (Wrote id bytes ∷ es) log h agrees = output_agrees a es (Wrote id bytes ∷ log) h (tt, agrees)
+output_agrees a (Flushed id ∷ es) log h agrees = output_agrees a es (Flushed id ∷ log) h (tt, agrees)
+output_agrees a (e ∷ es) log h agrees = absurd h
+
+pub output_reading : (id : ℕ) (es log : List Event) → IsOutput es → reading_of id (with_events es log) ≡ reading_of id log
+output_reading id [] log h = refl
+output_reading id (Wrote i bytes ∷ es) log h = output_reading id es (Wrote i bytes ∷ log) h
+output_reading id (Flushed i ∷ es) log h = output_reading id es (Flushed i ∷ log) h
+output_reading id (e ∷ es) log h = absurd h
+
+pub output_quiet : (es : List Event) → IsOutput es → IsQuiet es
+output_quiet [] h = tt
+output_quiet (Wrote id bytes ∷ es) h = output_quiet es h
+output_quiet (Flushed id ∷ es) h = output_quiet es h
+output_quiet (e ∷ es) h = absurd h
+
+pub writes_output : (id : ℕ) (bytes : List ℕ) (es : List Event) → Writes id bytes es → IsOutput es
+writes_output id bytes [] h = tt
+writes_output id bytes (Wrote i bs ∷ es) (same, (rest, is, later)) = writes_output id rest es later
+writes_output id bytes (e ∷ es) h = absurd h
+
+-- events that open, close and run nothing
+pub same_counts-self : (log : List Event) → SameCounts log log
+same_counts-self log = record { inputs = λ kind name. refl; outputs = λ kind name. refl; closings = refl; runs = refl }
+
+pub same_counts-then : {x y z : List Event} → SameCounts x y → SameCounts y z → SameCounts x z
+same_counts-then p q = record {
+  inputs = λ kind name. q.inputs kind name ∙ p.inputs kind name;
+  outputs = λ kind name. q.outputs kind name ∙ p.outputs kind name;
+  closings = q.closings ∙ p.closings;
+  runs = q.runs ∙ p.runs;
+}
+
+same_streams-then : {x y z : List Event} → SameStreams x y → SameStreams y z → SameStreams x z
+same_streams-then p q = record {
+  stands = λ id. q.stands id ∙ p.stands id;
+  counts = same_counts-then p.counts q.counts;
+}
+
+quiet_counts : (e : Event) (log : List Event) → IsQuiet (e ∷ []) → SameCounts log (e ∷ log)
+quiet_counts (Read id bytes) log h = record { inputs = λ kind name. none_more _; outputs = λ kind name. none_more _; closings = none_more _; runs = none_more _ }
+quiet_counts (Ended id) log h = record { inputs = λ kind name. none_more _; outputs = λ kind name. none_more _; closings = none_more _; runs = none_more _ }
+quiet_counts (Broke id) log h = record { inputs = λ kind name. none_more _; outputs = λ kind name. none_more _; closings = none_more _; runs = none_more _ }
+quiet_counts (Wrote id bytes) log h = record { inputs = λ kind name. none_more _; outputs = λ kind name. none_more _; closings = none_more _; runs = none_more _ }
+quiet_counts (Flushed id) log h = record { inputs = λ kind name. none_more _; outputs = λ kind name. none_more _; closings = none_more _; runs = none_more _ }
+quiet_counts e log h = absurd h
+
+quiet_step : (e : Event) (log : List Event) → IsQuiet (e ∷ []) → SameStreams log (e ∷ log)
+quiet_step (Read id bytes) log h = record { stands = λ j. refl; counts = quiet_counts (Read id bytes) log h }
+quiet_step (Ended id) log h = record { stands = λ j. refl; counts = quiet_counts (Ended id) log h }
+quiet_step (Broke id) log h = record { stands = λ j. refl; counts = quiet_counts (Broke id) log h }
+quiet_step (Wrote id bytes) log h = record { stands = λ j. refl; counts = quiet_counts (Wrote id bytes) log h }
+quiet_step (Flushed id) log h = record { stands = λ j. refl; counts = quiet_counts (Flushed id) log h }
+quiet_step e log h = absurd h
+
+pub quiet_streams : (es log : List Event) → IsQuiet es → SameStreams log (with_events es log)
+quiet_streams [] log h = record { stands = λ j. refl; counts = same_counts-self log }
+quiet_streams (Read id bytes ∷ es) log h = same_streams-then (quiet_step (Read id bytes) log tt) (quiet_streams es (Read id bytes ∷ log) h)
+quiet_streams (Ended id ∷ es) log h = same_streams-then (quiet_step (Ended id) log tt) (quiet_streams es (Ended id ∷ log) h)
+quiet_streams (Broke id ∷ es) log h = same_streams-then (quiet_step (Broke id) log tt) (quiet_streams es (Broke id ∷ log) h)
+quiet_streams (Wrote id bytes ∷ es) log h = same_streams-then (quiet_step (Wrote id bytes) log tt) (quiet_streams es (Wrote id bytes ∷ log) h)
+quiet_streams (Flushed id ∷ es) log h = same_streams-then (quiet_step (Flushed id) log tt) (quiet_streams es (Flushed id ∷ log) h)
+quiet_streams (e ∷ es) log h = absurd h
+
+-- needed reads
+readable_at : (id i : ℕ) (log : List Event) → i ≡ id → IsReadable id log → IsReadable i log
+readable_at id i log same r = subst (λ (j : ℕ). IsReadable j log) (sym same) r
+
+readable_on : (id i : ℕ) (bs : List ℕ) (log : List Event) → i ≡ id → IsReadable id log → IsReadable id (Read i bs ∷ log)
+readable_on id i bs log same r = record {
+  reading = record r.reading { bytes = r.reading.bytes ++ bs };
+  stands = cond-true _ _ _ (eq-eqb i id same) ∙ ap (read_on bs) r.stands;
+  unended = r.unended;
+}
+
+pub reads_orderly : (id : ℕ) (separator b b' : List ℕ) (ending : Option Ending) (es log : List Event) → NeededReads id separator b b' ending es → IsReadable id log → IsOrderly log →
+    IsOrderly (with_events es log) × (ending ≡ None → IsReadable id (with_events es log))
+reads_orderly id separator b b' ending [] log h r orderly = (orderly, λ none. r)
+reads_orderly id separator b b' ending (Read i bs ∷ es) log (same, undecided, later) r orderly =
+    reads_orderly id separator (b ++ bs) b' ending es (Read i bs ∷ log) later (readable_on id i bs log same r) (readable_at id i log same r, orderly)
+reads_orderly id separator b b' ending (Ended i ∷ []) log (same, undecided, last, bytes, met) r orderly = ((readable_at id i log same r, orderly), λ none. cc)
+reads_orderly id separator b b' ending (Broke i ∷ []) log (same, undecided, last, bytes, met) r orderly = ((readable_at id i log same r, orderly), λ none. cc)
+reads_orderly id separator b b' ending (Ended i ∷ e ∷ es) log (same, undecided, last, bytes, met) r orderly = cc
+reads_orderly id separator b b' ending (Broke i ∷ e ∷ es) log (same, undecided, last, bytes, met) r orderly = cc
+reads_orderly id separator b b' ending (e ∷ es) log h r orderly = absurd h
+
+pub reads_quiet : (id : ℕ) (separator b b' : List ℕ) (ending : Option Ending) (es : List Event) → NeededReads id separator b b' ending es → IsQuiet es
+reads_quiet id separator b b' ending [] h = tt
+reads_quiet id separator b b' ending (Read i bs ∷ es) (same, undecided, later) = reads_quiet id separator (b ++ bs) b' ending es later
+reads_quiet id separator b b' ending (Ended i ∷ es) (same, undecided, last, bytes, met) = subst (λ (x : List Event). IsQuiet x) (sym last) tt
+reads_quiet id separator b b' ending (Broke i ∷ es) (same, undecided, last, bytes, met) = subst (λ (x : List Event). IsQuiet x) (sym last) tt
+reads_quiet id separator b b' ending (e ∷ es) h = absurd h
+
+-- the readings of other inputs stay
+pub reads_other : (id j : ℕ) (separator b b' : List ℕ) (ending : Option Ending) (es log : List Event) → j ≢ id → NeededReads id separator b b' ending es → reading_of j (with_events es log) ≡ reading_of j log
+reads_other id j separator b b' ending [] log apart h = refl
+reads_other id j separator b b' ending (Read i bs ∷ es) log apart (same, undecided, later) =
+    reads_other id j separator (b ++ bs) b' ending es (Read i bs ∷ log) apart later ∙ cond-false _ _ _ (ne_eqb i j (λ (e : i ≡ j). apart (sym e ∙ same)))
+reads_other id j separator b b' ending (Ended i ∷ es) log apart (same, undecided, last, bytes, met) =
+    ap (λ (x : List Event). reading_of j (with_events x (Ended i ∷ log))) last ∙ cond-false _ _ _ (ne_eqb i j (λ (e : i ≡ j). apart (sym e ∙ same)))
+reads_other id j separator b b' ending (Broke i ∷ es) log apart (same, undecided, last, bytes, met) =
+    ap (λ (x : List Event). reading_of j (with_events x (Broke i ∷ log))) last ∙ cond-false _ _ _ (ne_eqb i j (λ (e : i ≡ j). apart (sym e ∙ same)))
+reads_other id j separator b b' ending (e ∷ es) log apart h = absurd h
+
+pub output_in_order : (old new : ℕ → Bool) (es log : List Event) → SameOpen old new → IsOutput es → IsInOrder old log → IsInOrder new (with_events es log)
+output_in_order old new es log same h order = record {
+  orderly = output_orderly es log h order.orderly;
+  known = λ id some. same id ∙ order.known id (ap is_some (sym ((quiet_streams es log (output_quiet es h)).stands id)) ∙ some);
+}
+
+pub in_order-start : (is_open : ℕ → Bool) → IsInOrder is_open []
+in_order-start is_open = record {
+  orderly = tt;
+  known = λ id some. let bad : false ≡ true = some in cc;
+}
+
+pub only_writes : (id : ℕ) (old new : ℕ → Bool) (log log' : List Event) → SameOpen old new → OnlyWritesTo id log log' → IsInOrder old log →
+    IsInOrder new log' × SameStreams log log' × ((j : ℕ) → reading_of j log' ≡ reading_of j log) × ((a : Answers) → Agrees a log → Agrees a log')
+only_writes id old new log log' same (bytes, goes) order =
+    let out = writes_output id bytes goes.events goes.each in (
+      subst (λ (l : List Event). IsInOrder new l) (sym goes.log) (output_in_order old new goes.events log same out order),
+      subst (λ (l : List Event). SameStreams log l) (sym goes.log) (quiet_streams goes.events log (output_quiet goes.events out)),
+      λ j. ap (reading_of j) goes.log ∙ output_reading j goes.events log out,
+      λ a agrees. subst (λ (l : List Event). Agrees a l) (sym goes.log) (output_agrees a goes.events log out agrees),
+    )

@@ -1,0 +1,63 @@
+use Rattle.std.proofs.Common.{◌≡◌, ℕ, ◌+◌, ◌<◌, ◌≤◌, ◌-◌, List, [], ◌∷◌, ◌++◌, length, take, drop, Some, refl, sym, ◌∙◌, ap, subst, arith, append_assoc, append-nil}
+use Rattle.std.proofs.lemmas.Bool.{cond-true, cond-false, ne_eqb, eq-eqb}
+use Rattle.std.proofs.lemmas.List.{take_rest, take-take, drop-take, take-append-drop}
+use Rattle.awk_streams.specs.Log.{Event, Wrote, taken_or_none}
+use Rattle.awk_streams.specs.Writes.{with_events, GoesOn, Writes, received}
+
+pub with_events-push : (es : List Event) (e : Event) (log : List Event) → with_events (es ++ e ∷ []) log ≡ e ∷ with_events es log
+with_events-push [] e log = refl
+with_events-push (x ∷ es) e log = with_events-push es e (x ∷ log)
+
+pub Writes-push : (id : ℕ) (bytes bs : List ℕ) (es : List Event) → Writes id bytes es → Writes id (bytes ++ bs) (es ++ Wrote id bs ∷ [])
+Writes-push id bytes bs [] none = (refl, ([], ap (λ b. b ++ bs) none ∙ sym (append-nil bs), refl))
+Writes-push id bytes bs (Wrote i b ∷ es) (same, (rest, is, later)) =
+    (same, (rest ++ bs, ap (λ x. x ++ bs) is ∙ append_assoc b rest bs, Writes-push id rest bs es later))
+Writes-push id bytes bs (e ∷ es) h = absurd h
+
+pub taken-some : (id n : ℕ) (bs : List ℕ) → 0 < n → 0 < length bs → taken_or_none id n bs ≡ Some (Wrote id (take n bs))
+taken-some id n [] some room = absurd (omega arith)
+taken-some id n (b ∷ bs) some room = cond-false _ _ _ (ne_eqb n 0 (λ (e : n ≡ 0). omega arith))
+
+pub GoesOn-start : (id : ℕ) (log : List Event) → GoesOn (Writes id []) log log
+GoesOn-start id log = record { events = []; log = refl; each = refl }
+
+pub GoesOn-write : (id : ℕ) (bytes bs : List ℕ) (old mid new : List Event) → GoesOn (Writes id bytes) old mid → new ≡ Wrote id bs ∷ mid → GoesOn (Writes id (bytes ++ bs)) old new
+GoesOn-write id bytes bs old mid new so_far is = record {
+  events = so_far.events ++ Wrote id bs ∷ [];
+  log = is ∙ (ap (λ l. Wrote id bs ∷ l) so_far.log ∙ sym (with_events-push so_far.events (Wrote id bs) old));
+  each = Writes-push id bytes bs so_far.events so_far.each;
+}
+
+-- a part more of what is written
+pub take_on : (bytes : List ℕ) (done n : ℕ) → take done bytes ++ take n (take (length bytes - done) (drop done bytes)) ≡ take (done + n) bytes
+take_on bytes done n =
+    let front : take done (take (done + n) bytes) ≡ take done bytes = take-take done (done + n) bytes (omega arith) in
+    let back : drop done (take (done + n) bytes) ≡ take n (drop done bytes) = drop-take done n bytes in
+    ap (λ b. take done bytes ++ take n b) (take_rest bytes done) ∙ (ap (λ b. b ++ take n (drop done bytes)) (sym front) ∙ (ap (λ b. take done (take (done + n) bytes) ++ b) (sym back) ∙ take-append-drop done (take (done + n) bytes)))
+
+pub received-with : (id : ℕ) (es : List Event) (bytes : List ℕ) (log : List Event) → Writes id bytes es → received id (with_events es log) ≡ received id log ++ bytes
+received-with id [] bytes log none = sym (append-nil (received id log)) ∙ ap (λ b. received id log ++ b) (sym none)
+received-with id (Wrote i bs ∷ es) bytes log (same, (rest, is, later)) =
+    let here : received id (Wrote i bs ∷ log) ≡ received id log ++ bs = cond-true _ _ _ (eq-eqb i id same) in
+    received-with id es rest (Wrote i bs ∷ log) later ∙ (ap (λ b. b ++ rest) here ∙ (append_assoc (received id log) bs rest ∙ ap (λ b. received id log ++ b) (sym is)))
+received-with id (e ∷ es) bytes log h = absurd h
+
+pub received-writes : (id : ℕ) (bytes : List ℕ) (old new : List Event) → GoesOn (Writes id bytes) old new → received id new ≡ received id old ++ bytes
+received-writes id bytes old new h = ap (received id) h.log ∙ received-with id h.events bytes old h.each
+
+pub with_events-append : (xs ys : List Event) (log : List Event) → with_events (xs ++ ys) log ≡ with_events ys (with_events xs log)
+with_events-append [] ys log = refl
+with_events-append (x ∷ xs) ys log = with_events-append xs ys (x ∷ log)
+
+pub Writes-append : (id : ℕ) (a b : List ℕ) (xs ys : List Event) → Writes id a xs → Writes id b ys → Writes id (a ++ b) (xs ++ ys)
+Writes-append id a b [] ys none h = subst (λ (c : List ℕ). Writes id c ys) (ap (λ x. x ++ b) (sym none)) h
+Writes-append id a b (Wrote i bs ∷ xs) ys (same, (rest, is, later)) h =
+    (same, (rest ++ b, ap (λ x. x ++ b) is ∙ append_assoc bs rest b, Writes-append id rest b xs ys later h))
+Writes-append id a b (e ∷ es) ys h k = absurd h
+
+pub GoesOn-writes : (id : ℕ) (a b : List ℕ) (x y z : List Event) → GoesOn (Writes id a) x y → GoesOn (Writes id b) y z → GoesOn (Writes id (a ++ b)) x z
+GoesOn-writes id a b x y z first then = record {
+  events = first.events ++ then.events;
+  log = then.log ∙ (ap (with_events then.events) first.log ∙ sym (with_events-append first.events then.events x));
+  each = Writes-append id a b first.events then.events first.each then.each;
+}

@@ -1,0 +1,167 @@
+-- The streams of a run as one value, and what each call tells of a world's log.
+-- (POSIX awk, INPUT FILES and STDOUT; Variables and Special Variables: RS)
+use Rattle.std.specs.Prelude.{◌≡◌, ◌≢◌, ◌≤◌, ℕ, ℤ, ◌+◌, Bool, true, false, ◌&&◌, List, [], ◌∷◌, ◌++◌, length, take, Option, Some, None, is_some, Result, Ok, Err, OnOk, OnErr, bytes_eq}
+use Rattle.awk_streams.specs.declared.world.InputKind.{InputKind}
+use Rattle.awk_streams.specs.declared.world.InputKind.TheVariants.{Command}
+use Rattle.awk_streams.specs.declared.world.OutputKind.{OutputKind}
+use Rattle.awk_streams.specs.declared.input.Input.{Input}
+use Rattle.awk_streams.specs.declared.fault.StreamFault.{StreamFault}
+use Rattle.awk_streams.specs.declared.fault.StreamFault.TheVariants.{Memory, InputNotReadable}
+use Rattle.awk_streams.specs.Ids.{Closes, SameOpen}
+use Rattle.awk_streams.specs.Log.{Event, OpenedInput, Closed, logged}
+use Rattle.awk_record.specs.Cut.{cut_of}
+use Rattle.awk_record.specs.Buffer.{Pending}
+use Rattle.awk_streams.specs.Answers.{Answers, Source, Agrees, one_if, how_many, opens_input, opens_output, closes_command, runs, same_input, AnInput, standing}
+use Rattle.awk_streams.specs.Orderly.{IsReadable, IsInOrder}
+use Rattle.awk_streams.specs.Writes.{OnlyWritesTo, received, flushed_if}
+use Rattle.awk_streams.specs.Inputs.{ReadsAsNeeded}
+use Rattle.awk_streams.specs.Rest.{Rest}
+pub use Rattle.awk_streams.specs.Kept.{SameCounts}
+pub use Rattle.awk_streams.specs.Told.{NextTold}
+
+-- an input that is open: its number in the world, and what was read of it and not yet taken
+pub record InputView : Type 0 where
+  pub id : ℕ
+  pub pending : Pending
+
+pub record StreamsView : Type 0 where
+  pub main : Option InputView
+
+abbrev pub main_of : Option Input → Option InputView
+main_of None = None
+main_of (Some input) = Some record { id = input.id; pending = input.buffer }
+
+-- an input of which nothing was read
+abbrev pub IsFreshMain : Option InputView → Type 0
+IsFreshMain main = (id : ℕ) × (main ≡ Some record { id = id; pending = record { bytes = []; ending = None } })
+
+-- What is known of every world.
+
+abbrev pub IsOpenMain : (ℕ → Bool) → Option InputView → Type 0
+IsOpenMain is_open None = Unit {0}
+IsOpenMain is_open (Some v) = (is_open v.id ≡ true) × (2 ≤ v.id)
+
+-- the main input, if there is one, is open in the world
+abbrev pub AreOpen : (ℕ → Bool) → StreamsView → Type 0
+AreOpen is_open streams = IsOpenMain is_open streams.main
+
+-- the same main input, or none as before
+abbrev pub IsSameMain : Option InputView → Option InputView → Type 0
+IsSameMain None None = Unit {0}
+IsSameMain (Some v) (Some w) = w.id ≡ v.id
+IsSameMain v w = ⊥
+
+-- which streams are open after the main input, if there was one, was closed
+abbrev pub ClosesMain : (ℕ → Bool) → (ℕ → Bool) → Option InputView → Type 0
+ClosesMain old new None = SameOpen old new
+ClosesMain old new (Some v) = Closes old new v.id
+
+-- What is known of a world that tells its log.
+
+-- in the log the main input stands open, is no command, and can be read on unless its ending was met
+pub record StandsAsMain (log : List Event) (v : InputView) : Type 0 where
+  pub kind : InputKind
+  pub plain : kind ≢ Command
+  pub stands : standing v.id log ≡ Some (AnInput kind)
+  pub readable : v.pending.ending ≡ None → IsReadable v.id log
+
+abbrev pub IsSoundMain : List Event → Option InputView → Type 0
+IsSoundMain log None = Unit {0}
+IsSoundMain log (Some v) = StandsAsMain log v
+
+pub record AreSound (is_open : ℕ → Bool) (log : List Event) (streams : StreamsView) : Type 0 where
+  pub order : IsInOrder is_open log
+  pub main : IsSoundMain log streams.main
+
+-- the log goes on: answers that agree with what it became agree with what it was; and a mark once set stays
+pub record Grows (log : List Event) (mark : Option ℕ) (log' : List Event) (mark' : Option ℕ) : Type 0 where
+  pub agrees : (a : Answers) → Agrees a log' → Agrees a log
+  pub clear : mark' ≡ None → mark ≡ None
+
+-- what is left of the main input, as the answers give it: all bytes not yet taken, and the ending behind them
+abbrev pub IsMainRest : Answers → List Event → Option InputView → Option Source → Type 0
+IsMainRest a log None None = Unit {0}
+IsMainRest a log (Some v) (Some whole) = (s : Source) × (s.ending ≡ whole.ending) × Rest a v.id log s whole.bytes v.pending.bytes v.pending.ending
+IsMainRest a log None (Some whole) = ⊥
+IsMainRest a log (Some v) None = ⊥
+
+-- one more opening of this input was answered, and no other opening, no closing of a command and no run
+pub record CountsInput (kind : InputKind) (name : List ℕ) (old new : List Event) : Type 0 where
+  pub one_more : how_many (opens_input kind name) new ≡ how_many (opens_input kind name) old + 1
+  pub inputs : (k : InputKind) (n : List ℕ) → how_many (opens_input k n) new ≡ one_if (same_input k kind && bytes_eq n name) + how_many (opens_input k n) old
+  pub outputs : (k : OutputKind) (n : List ℕ) → how_many (opens_output k n) new ≡ how_many (opens_output k n) old
+  pub closings : how_many closes_command new ≡ how_many closes_command old
+  pub runs : how_many runs new ≡ how_many runs old
+
+-- what an opening of the main input logs; nothing where memory is refused
+abbrev pub main_opening : InputKind → List ℕ → Result (Unit {0}) StreamFault → Option InputView → Option Event
+main_opening kind name (Ok u) (Some v) = Some (OpenedInput kind name (Some v.id))
+main_opening kind name (Err InputNotReadable) main = Some (OpenedInput kind name None)
+main_opening kind name result main = None
+
+-- an opening of the main input
+pub record OpensMain (kind : InputKind) (name : List ℕ) (is_open : ℕ → Bool) (log : List Event) (mark : Option ℕ) (old : StreamsView) (result : Result (Unit {0}) StreamFault)
+    (is_open' : ℕ → Bool) (log' : List Event) (mark' : Option ℕ) (new : StreamsView) : Type 0 where
+  pub sound : AreSound is_open log old → AreSound is_open' log' new
+  pub grows : Grows log mark log' mark'
+  pub adds : log' ≡ logged (main_opening kind name result new.main) log
+  pub outputs : (j : ℕ) → received j log' ≡ received j log
+  pub counts : result ≢ Err Memory → CountsInput kind name log log'
+  pub granted : OnOk result ((a : Answers) → Agrees a log' → (s : Source) × (a.input kind name (how_many (opens_input kind name) log) ≡ Some s) × IsMainRest a log' new.main (Some s))
+  pub refused : result ≡ Err InputNotReadable → (a : Answers) → Agrees a log' → a.input kind name (how_many (opens_input kind name) log) ≡ None
+  pub unmarked : result ≢ Err Memory → mark' ≡ mark
+  pub marked : result ≡ Err Memory → is_some mark' ≡ true
+
+-- the main input is read only while what is at hand doesn't decide its next record, and never behind its ending
+abbrev pub ReadsMain : List ℕ → Option InputView → List Event → List Event → Type 0
+ReadsMain separator None log log' = log' ≡ log
+ReadsMain separator (Some v) log log' = ReadsAsNeeded v.id separator v.pending log log'
+
+-- an asking for the next record of the main input
+pub record AsksMain (separator : List ℕ) (is_open : ℕ → Bool) (log : List Event) (mark : Option ℕ) (old : StreamsView) (result : Result (Option (List ℕ)) StreamFault)
+    (is_open' : ℕ → Bool) (log' : List Event) (mark' : Option ℕ) (new : StreamsView) : Type 0 where
+  pub sound : AreSound is_open' log' new
+  pub grows : Grows log mark log' mark'
+  pub demand : ReadsMain separator old.main log log'
+  pub outputs : (j : ℕ) → received j log' ≡ received j log
+  pub counts : SameCounts log log'
+  pub answered : result ≢ Err Memory → (a : Answers) (whole : Source) → Agrees a log' → IsMainRest a log old.main (Some whole) →
+      (left : List ℕ) × NextTold (cut_of separator whole.bytes whole.ending) result whole.bytes left × IsMainRest a log' new.main (Some record { bytes = left; ending = whole.ending })
+  pub unmarked : result ≢ Err Memory → mark' ≡ mark
+
+-- a print of bytes to standard output
+pub record Prints (bytes : List ℕ) (is_open : ℕ → Bool) (log : List Event) (mark : Option ℕ) (old : StreamsView) (result : Result (Unit {0}) StreamFault)
+    (is_open' : ℕ → Bool) (log' : List Event) (mark' : Option ℕ) (new : StreamsView) : Type 0 where
+  pub sound : AreSound is_open log old → AreSound is_open' log' new
+  pub grows : Grows log mark log' mark'
+  pub only : OnlyWritesTo 0 log log'
+  pub printed : OnOk result (received 0 log' ≡ received 0 log ++ bytes)
+  pub partly : OnErr result ((n : ℕ) × (n ≤ length bytes) × (received 0 log' ≡ received 0 log ++ take n bytes))
+  pub others : (j : ℕ) → j ≢ 0 → received j log' ≡ received j log
+  pub counts : SameCounts log log'
+  pub rest : (a : Answers) (r : Option Source) → IsMainRest a log old.main r → IsMainRest a log' new.main r
+  pub unmarked : OnOk result (mark' ≡ mark)
+  pub marked : OnErr result (is_some mark' ≡ true)
+
+abbrev pub closed_main : Option InputView → ℤ → List Event → List Event
+closed_main None answer log = log
+closed_main (Some v) answer log = Closed v.id answer ∷ log
+
+-- both standard outputs are flushed, the second also where the first flush fails; then the main input is closed
+pub record EndsLog (main : Option InputView) (result : Result (Unit {0}) StreamFault) (log log' : List Event) : Type 0 where
+  pub first : Bool
+  pub second : Bool
+  pub answer : ℤ
+  pub adds : log' ≡ closed_main main answer (flushed_if second 1 (flushed_if first 0 log))
+  pub flushed : OnOk result ((first && second) ≡ true)
+  pub failed : OnErr result ((first && second) ≡ false)
+
+-- the end of a run
+pub record Finishes (is_open : ℕ → Bool) (log : List Event) (mark : Option ℕ) (old : StreamsView) (result : Result (Unit {0}) StreamFault)
+    (is_open' : ℕ → Bool) (log' : List Event) (mark' : Option ℕ) (new : StreamsView) : Type 0 where
+  pub sound : AreSound is_open log old → AreSound is_open' log' new
+  pub grows : Grows log mark log' mark'
+  pub ends : EndsLog old.main result log log'
+  pub outputs : (j : ℕ) → received j log' ≡ received j log
+  pub unmarked : OnOk result (mark' ≡ mark)
+  pub marked : OnErr result (is_some mark' ≡ true)

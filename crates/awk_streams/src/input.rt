@@ -1,0 +1,81 @@
+// Inputs: records out of the bytes that a world hands over.
+ghost use Rattle.std.specs.Prelude.{◌≡◌, ◌≢◌, ◌≤◌, ◌<◌, ◌⊎◌, ℕ, List, ◌∷◌, length, IsTrue, ◌↔◌, OnOk, OnErr, IfErr, None, Err, Ok};
+ghost use Rattle.awk_record.specs.Cut.{longest};
+ghost use Rattle.awk_streams.specs.Ids.{SameOpen};
+ghost use Rattle.awk_streams.specs.Log.{Event, Read};
+ghost use Rattle.awk_streams.specs.Inputs.{Brings, Pulls, room_of};
+
+use crate::world::{World, WorldFault};
+use awk_record::{RecordBuffer, RecordFault, Step};
+
+/// An input that is open: its number in the world, and what was read of it and not yet taken.
+#[derive(Drop)]
+pub struct Input {
+    pub id: u64,
+    pub buffer: RecordBuffer,
+}
+
+// One reading, into the buffer. `Memory` is the only error; it leaves the buffer as it was, and may
+// lose what was read.
+fn read_more<W: World>(
+    world: &mut W,
+    id: u64,
+    buffer: &mut RecordBuffer,
+    chunk: &mut [u8],
+) -> Result<(), RecordFault>
+    requires open { IsTrue (W.is_open world.old id) }
+    requires room { 0 < length chunk.old }
+    requires unended { buffer.old.ending ≡ None }
+    requires short { length buffer.old.bytes ≤ longest }
+    ensures open { SameOpen (W.is_open world.old) (W.is_open world.new) }
+    ensures read { OnOk result (W.tells → ((e : Event) × (W.log world.new ≡ e ∷ W.log world.old) × Brings id e buffer.old buffer.new)) }
+    ensures lost { OnErr result (W.tells → (W.log world.new ≡ W.log world.old) ⊎ ((bytes : List ℕ) × (W.log world.new ≡ Read id bytes ∷ W.log world.old))) }
+    ensures err { OnErr result (buffer.new ≡ buffer.old) }
+    ensures memory { IfErr result (λ e. e ≡ RecordFault.Memory) }
+    ensures less { OnOk result (room_of buffer.new.ending (length buffer.new.bytes) < room_of buffer.old.ending (length buffer.old.bytes)) }
+    ensures unmarked { OnOk result (W.tells → W.mark world.new ≡ W.mark world.old) }
+    ensures clear { W.tells → W.mark world.new ≡ None → W.mark world.old ≡ None }
+{
+    match world.read(id, chunk) {
+        Ok(0) => buffer.end(),
+        Ok(n) => buffer.feed(&chunk[..n])?,
+        Err(WorldFault::Failed) => buffer.broken(),
+        Err(WorldFault::Memory) => return Err(RecordFault::Memory),
+    }
+    Ok(())
+}
+
+fn is_need_more(step: &Step) -> bool
+    ensures { IsTrue result ↔ (step.now ≡ Step.NeedMore) }
+{
+    match step {
+        Step::NeedMore => true,
+        Step::Record(_) | Step::End | Step::Broken => false,
+    }
+}
+
+// The next record of an input, read only as far as it is needed.
+pub fn next_from<W: World>(
+    world: &mut W,
+    id: u64,
+    buffer: &mut RecordBuffer,
+    separator: &[u8],
+    chunk: &mut [u8],
+) -> Result<Step, RecordFault>
+    requires open { IsTrue (W.is_open world.old id) }
+    requires room { 0 < length chunk.old }
+    ensures open { SameOpen (W.is_open world.old) (W.is_open world.new) }
+    ensures step { result ≢ Ok Step.NeedMore }
+    ensures fault { result ≢ Err RecordFault.FieldNumber }
+    ensures pulls { W.tells → Pulls id separator.now buffer.old (W.log world.old) result buffer.new (W.log world.new) }
+    ensures unmarked { W.tells → result ≢ Err RecordFault.Memory → W.mark world.new ≡ W.mark world.old }
+    ensures clear { W.tells → W.mark world.new ≡ None → W.mark world.old ≡ None }
+{
+    loop {
+        let step = buffer.next(separator)?;
+        if !is_need_more(&step) {
+            return Ok(step);
+        }
+        read_more(world, id, buffer, chunk)?;
+    }
+}

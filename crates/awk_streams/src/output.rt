@@ -1,0 +1,48 @@
+// Outputs: bytes reach the world in order, all of them or a beginning.
+ghost use Rattle.std.specs.Prelude.{◌≡◌, IsTrue, IfErr};
+ghost use Rattle.awk_streams.specs.Ids.{SameOpen};
+ghost use Rattle.awk_streams.specs.Outputs.{output_fault_of, IsOutputFault, WritesAll, Flushes};
+
+use crate::fault::StreamFault;
+use crate::world::{World, WorldFault};
+
+// The fault of a write or a flush.
+fn output_fault(fault: WorldFault) -> StreamFault
+    ensures { result ≡ output_fault_of fault }
+{
+    match fault {
+        WorldFault::Memory => StreamFault::Memory,
+        WorldFault::Failed => StreamFault::WriteFailed,
+    }
+}
+
+// Writes all the bytes. After an `Err` a beginning of them is written.
+pub fn write_all<W: World>(world: &mut W, id: u64, bytes: &[u8]) -> Result<(), StreamFault>
+    requires { IsTrue (W.is_open world.old id) }
+    ensures open { SameOpen (W.is_open world.old) (W.is_open world.new) }
+    ensures fault { IfErr result IsOutputFault }
+    ensures told { W.tells → WritesAll id bytes.now (W.log world.old) (W.mark world.old) result (W.log world.new) (W.mark world.new) }
+{
+    let mut done = 0;
+    while done < bytes.len() {
+        match world.write(id, &bytes[done..]) {
+            Ok(0) => return Err(StreamFault::WriteFailed),
+            Ok(n) => done += n,
+            Err(fault) => return Err(output_fault(fault)),
+        }
+    }
+    Ok(())
+}
+
+// Flushes an output.
+pub fn flush<W: World>(world: &mut W, id: u64) -> Result<(), StreamFault>
+    requires { IsTrue (W.is_open world.old id) }
+    ensures open { SameOpen (W.is_open world.old) (W.is_open world.new) }
+    ensures fault { IfErr result IsOutputFault }
+    ensures told { W.tells → Flushes id (W.log world.old) (W.mark world.old) result (W.log world.new) (W.mark world.new) }
+{
+    match world.flush(id) {
+        Ok(()) => Ok(()),
+        Err(fault) => Err(output_fault(fault)),
+    }
+}

@@ -1,0 +1,156 @@
+// The streams of a run: its main input and its standard outputs.
+ghost use Rattle.std.specs.Prelude.{◌≡◌, ◌≢◌, ◌⊎◌, ℕ, ℤ, [], Some, None, is_some, IsTrue, OnOk, OnErr, IfErr, Ok, Err};
+ghost use Rattle.awk_streams.specs.Outputs.{IsOutputFault};
+ghost use Rattle.awk_streams.specs.Streams.{AreOpen, AreSound, IsOpenMain, main_of, IsFreshMain, IsSameMain, ClosesMain, closed_main, OpensMain, AsksMain, Prints, Finishes};
+ghost use Rattle.awk_streams.specs.Told.{IsToldAs};
+
+use crate::fault::StreamFault;
+use crate::input::{Input, next_from};
+use crate::output::{flush, write_all};
+use crate::world::{InputKind, World, WorldFault};
+use awk_record::{RecordBuffer, RecordFault, Step};
+use awk_value::Bytes;
+use std::alloc::Global;
+use std::marker::Model;
+
+// The numbers of the standard outputs, which are always open.
+const STANDARD_OUTPUT: u64 = 0;
+
+const STANDARD_ERROR: u64 = 1;
+
+// What the buffer answers, in the words of the streams.
+fn told(step: Result<Step, RecordFault>) -> Result<Option<Bytes>, StreamFault>
+    requires step { step ≢ Ok Step.NeedMore }
+    requires fault { step ≢ Err RecordFault.FieldNumber }
+    ensures { IsToldAs step result }
+{
+    match step {
+        Ok(Step::Record(record)) => Ok(Some(record)),
+        Ok(Step::End) => Ok(None),
+        Ok(Step::Broken) => Err(StreamFault::InputNotReadable),
+        Ok(Step::NeedMore) => unreachable!(),
+        Err(RecordFault::Memory) => Err(StreamFault::Memory),
+        Err(RecordFault::SeparatorTooLong) => Err(StreamFault::SeparatorTooLong),
+        Err(RecordFault::RecordTooLong) => Err(StreamFault::RecordTooLong),
+        Err(RecordFault::FieldNumber) => unreachable!(),
+    }
+}
+
+// Closes the input, if there is one.
+fn close<W: World>(world: &mut W, input: Option<Input>)
+    requires { IsOpenMain (W.is_open world.old) (main_of input) }
+    ensures open { ClosesMain (W.is_open world.old) (W.is_open world.new) (main_of input) }
+    ensures log { W.tells → (answer : ℤ) × (W.log world.new ≡ closed_main (main_of input) answer (W.log world.old)) }
+    ensures mark { W.tells → W.mark world.new ≡ W.mark world.old }
+{
+    if let Some(input) = input {
+        world.close(input.id);
+    }
+}
+
+/// The streams of a run: its main input, of which there is one at a time, and its standard
+/// outputs. Each call is given the world that the streams lie in.
+#[derive(Drop)]
+pub struct Streams {
+    alloc: Global,
+    main: Option<Input>,
+}
+
+impl Model for Streams {
+    ghost use Rattle.awk_streams.specs.Streams.{StreamsView, main_of};
+
+    ghost Value = { StreamsView };
+
+    ghost view = { λ s. record { main = main_of s.main } };
+}
+
+impl Streams {
+    /// No main input. Takes no memory.
+    pub fn new(alloc: Global) -> Self
+        ensures { result.main ≡ None }
+    {
+        Streams { alloc, main: None }
+    }
+
+    /// Opens the main input: standard input, or the file of a name. Fails with `Memory` (F1), or
+    /// with `InputNotReadable` (F9) where the world refuses; an `Err` changes nothing here.
+    /// (POSIX awk, INPUT FILES)
+    pub fn open_main<W: World>(
+        &mut self,
+        world: &mut W,
+        kind: InputKind,
+        name: &[u8],
+    ) -> Result<(), StreamFault>
+        requires none { self.old.main ≡ None }
+        requires plain { kind ≢ InputKind.Command }
+        requires named { kind ≡ InputKind.Standard → name.now ≡ [] }
+        ensures opened { OnOk result (IsFreshMain self.new.main) }
+        ensures err { OnErr result (self.new ≡ self.old) }
+        ensures fault { IfErr result (λ e. (e ≡ StreamFault.Memory) ⊎ (e ≡ StreamFault.InputNotReadable)) }
+        ensures open { AreOpen (W.is_open world.new) self.new }
+        ensures told { W.tells → OpensMain kind name.now (W.is_open world.old) (W.log world.old) (W.mark world.old) self.old result (W.is_open world.new) (W.log world.new) (W.mark world.new) self.new }
+    {
+        match world.open_input(kind, name) {
+            Ok(id) => {
+                let buffer = RecordBuffer::new(self.alloc);
+                self.main = Some(Input { id, buffer });
+                Ok(())
+            }
+            Err(WorldFault::Failed) => Err(StreamFault::InputNotReadable),
+            Err(WorldFault::Memory) => Err(StreamFault::Memory),
+        }
+    }
+
+    /// The next record of the main input by this separator, read only as far as it is needed;
+    /// `None` at the input's end. Fails with `Memory` (F1), `InputNotReadable` (F9) where the input
+    /// broke before the record was whole, `SeparatorTooLong` (F15) or `RecordTooLong` (F16).
+    /// (POSIX awk, INPUT FILES; RS)
+    pub fn next_main<W: World>(
+        &mut self,
+        world: &mut W,
+        separator: &[u8],
+    ) -> Result<Option<Bytes>, StreamFault>
+        requires main { IsTrue (is_some self.old.main) }
+        requires open { AreOpen (W.is_open world.old) self.old }
+        requires sound { W.tells → AreSound (W.is_open world.old) (W.log world.old) self.old }
+        ensures main { IsTrue (is_some self.new.main) }
+        ensures same { IsSameMain self.old.main self.new.main }
+        ensures open { AreOpen (W.is_open world.new) self.new }
+        ensures fault { result ≢ Err StreamFault.WriteFailed }
+        ensures told { W.tells → AsksMain separator.now (W.is_open world.old) (W.log world.old) (W.mark world.old) self.old result (W.is_open world.new) (W.log world.new) (W.mark world.new) self.new }
+    {
+        let Some(input) = &mut self.main else {
+            unreachable!()
+        };
+        let mut chunk = [0u8; 1];
+        told(next_from(world, input.id, &mut input.buffer, separator, &mut chunk))
+    }
+
+    /// Prints the bytes to standard output. Fails with `Memory` (F1) or `WriteFailed` (F2); then a
+    /// beginning of them was written. (POSIX awk, STDOUT)
+    pub fn print<W: World>(&mut self, world: &mut W, bytes: &[u8]) -> Result<(), StreamFault>
+        requires { AreOpen (W.is_open world.old) self.old }
+        ensures same { self.new ≡ self.old }
+        ensures open { AreOpen (W.is_open world.new) self.new }
+        ensures fault { IfErr result IsOutputFault }
+        ensures told { W.tells → Prints bytes.now (W.is_open world.old) (W.log world.old) (W.mark world.old) self.old result (W.is_open world.new) (W.log world.new) (W.mark world.new) self.new }
+    {
+        write_all(world, STANDARD_OUTPUT, bytes)
+    }
+
+    /// Ends a run: flushes the standard outputs, the second also where the first flush fails, and
+    /// closes the main input. The first failure is answered, `Memory` (F1) or `WriteFailed` (F2).
+    /// Takes no memory of its own.
+    pub fn finish<W: World>(&mut self, world: &mut W) -> Result<(), StreamFault>
+        requires { AreOpen (W.is_open world.old) self.old }
+        ensures none { self.new.main ≡ None }
+        ensures open { AreOpen (W.is_open world.new) self.new }
+        ensures fault { IfErr result IsOutputFault }
+        ensures told { W.tells → Finishes (W.is_open world.old) (W.log world.old) (W.mark world.old) self.old result (W.is_open world.new) (W.log world.new) (W.mark world.new) self.new }
+    {
+        let output = flush(world, STANDARD_OUTPUT);
+        let error = flush(world, STANDARD_ERROR);
+        close(world, self.main.take());
+        output.and(error)
+    }
+}
