@@ -24,8 +24,9 @@ high m n a h = test_false _ _ _ (lt-leb n m h)
 -- i, j and h are the heights of the children and of the node
 one_limited : {A B : Type 0} (m i : ℕ) (h : B → ℕ) (f : A → B) (a : A) → i ≤ h (f a) → over_one m h f (limited m i a) ≡ limited m (h (f a)) (f a)
 one_limited m i h f a p = elim (cases_lt m i) [
-  inl x ↦ ap (over_one m h f) (high m i a x) ∙ sym (high m (h (f a)) (f a) (omega arith))
-  | inr x ↦ ap (over_one m h f) (low m i a x) ]
+  | inl x ↦ ap (over_one m h f) (high m i a x) ∙ sym (high m (h (f a)) (f a) (omega arith))
+  | inr x ↦ ap (over_one m h f) (low m i a x)
+]
 
 two_none : {A B C : Type 0} (m : ℕ) (h : C → ℕ) (f : A → B → C) (o : Option A) → over_two m h f o None ≡ None
 two_none m h f None = refl
@@ -33,10 +34,12 @@ two_none m h f (Some a) = refl
 
 two_limited : {A B C : Type 0} (m i j : ℕ) (h : C → ℕ) (f : A → B → C) (a : A) (b : B) → i ≤ h (f a b) → j ≤ h (f a b) → over_two m h f (limited m i a) (limited m j b) ≡ limited m (h (f a b)) (f a b)
 two_limited m i j h f a b p q = elim (cases_lt m i) [
-  inl x ↦ ap (λ o. over_two m h f o (limited m j b)) (high m i a x) ∙ sym (high m (h (f a b)) (f a b) (omega arith))
+  | inl x ↦ ap (λ o. over_two m h f o (limited m j b)) (high m i a x) ∙ sym (high m (h (f a b)) (f a b) (omega arith))
   | inr x ↦ elim (cases_lt m j) [
-    inl y ↦ ap (λ o. over_two m h f (limited m i a) o) (high m j b y) ∙ two_none m h f (limited m i a) ∙ sym (high m (h (f a b)) (f a b) (omega arith))
-    | inr y ↦ ap (λ o. over_two m h f o (limited m j b)) (low m i a x) ∙ ap (λ o. over_two m h f (Some a) o) (low m j b y) ] ]
+    | inl y ↦ ap (λ o. over_two m h f (limited m i a) o) (high m j b y) ∙ two_none m h f (limited m i a) ∙ sym (high m (h (f a b)) (f a b) (omega arith))
+    | inr y ↦ ap (λ o. over_two m h f o (limited m j b)) (low m i a x) ∙ ap (λ o. over_two m h f (Some a) o) (low m j b y)
+  ]
+]
 
 abbrev pub pruned : ℕ → Expr → Part
 pruned m e = record { rank = level e; tree = limited m (height_of e) e }
