@@ -1,0 +1,4 @@
+pub mod Limits
+pub mod Complete
+pub mod Program
+pub mod Sound
