@@ -2,7 +2,7 @@
 use Rattle.std.proofs.Common.{◌≡◌, ℕ, ◌≤◌, Bool, true, List, [], ◌∷◌, ◌++◌, Option, None, Result, Ok, Err, refl, sym, ap, ◌∙◌, subst, append_assoc, append-nil, arith}
 use Rattle.awk_streams.specs.Log as log
 use Rattle.awk_streams.specs.Answers.{Answers, Agrees}
-use Rattle.awk_streams.specs.Streams.{AreOpen, AreSound, Grows, IsMainRest}
+use Rattle.awk_streams.specs.Streams.{StreamsView, AreOpen, AreSound, Grows, IsMainRest}
 use Rattle.awk_run.specs.declared.machine.Machine.{Machine}
 use Rattle.awk_run.specs.declared.halt.Halt.{Halt}
 use Rattle.awk_run.specs.declared.halt.Halt.TheVariants as halt
@@ -11,7 +11,7 @@ use Rattle.awk_run.specs.Meaning.{printed_to}
 use Rattle.awk_record.specs.Record.{split_at_blanks}
 use Rattle.awk_run.specs.State.{Event, Stop, State, Out, Run, go_on, ◌>>=◌, lift}
 use Rattle.awk_run.specs.Words.{set_record}
-use Rattle.awk_run.specs.Does.{Seen, Stands, Sort, WantOfMemory, FailedWrite, OfLanguage, sort_of, MatchesBy, Matches, ComesBy, Comes, Means, Does, Changes, Follows}
+use Rattle.awk_run.specs.Does.{Seen, Stands, Sort, WantOfMemory, FailedWrite, OfLanguage, sort_of, MatchesBy, Matches, ComesBy, Comes, Means, Does, Changes, SameState}
 
 pub grows_refl : (l : List log.Event) (m : Option ℕ) → Grows l m l m
 grows_refl l m = record { agrees = λ a h. h; clear = λ e. e }
@@ -91,14 +91,6 @@ lift_means {c = c} r m k e = record {
   means = λ answers s past agrees stands. lifted answers m k c r s past e stands;
 }
 
--- a result that the state determines
-pub reads_means : {A : Type 0} {c : Result A Halt} (m : Machine) (k : Seen) (run : Run A) (r : State → Result A Stop) → ((s : State) → run s ≡ record { result = r s; state = s; events = [] }) → ((answers : Answers) (s : State) (past : List Event) → Stands answers m k s past → Matches c (r s)) → Means m k m k c run
-reads_means {c = c} m k run r is e = record {
-  grows = grows_refl k.log k.mark;
-  keeps = λ sound. sound;
-  means = λ answers s past agrees stands. subst (λ (o : Out _). Comes answers m k c o past) (sym (is s)) (lifted answers m k c (r s) s past (e answers s past stands) stands);
-}
-
 pub then_does : {A B : Type 0} {tells : Type 0} {old mid new : Machine} {before between after : Seen} {a : A} {r : Result B Halt} {run : Run A} (f : A → Run B) → Does tells old before mid between (Ok a) run → Does tells mid between new after r (f a) → Does tells old before new after r (run >>= f)
 then_does f x y = record {
   steps = omega (arith, x.steps, y.steps);
@@ -115,10 +107,6 @@ memory_does m k run = record { steps = omega arith; kept_open = λ h. h; told = 
 pub lift_does : {A : Type 0} {tells : Type 0} {c : Result A Halt} (r : Result A Stop) (m : Machine) (k : Seen) → Matches c r → Does tells m k m k c (lift r)
 lift_does r m k e = record { steps = omega arith; kept_open = λ h. h; told = λ t. lift_means r m k e }
 
--- what looks at the state alone, beside any world
-pub still_does : {A : Type 0} {tells : Type 0} {m : Machine} {k : Seen} {r : Result A Halt} {run : Run A} → Means m k m k r run → Does tells m k m k r run
-still_does h = record { steps = omega arith; kept_open = λ h. h; told = λ t. h }
-
 pub change_does : {A : Type 0} {tells : Type 0} {old new : Machine} {k : Seen} {r : Result A Halt} {run : Run A} → Changes run old new r → Does tells old k new k r run
 change_does {k = k} h = record {
   steps = h.steps;
@@ -126,15 +114,52 @@ change_does {k = k} h = record {
   told = λ t. h.means k;
 }
 
--- nothing of the state was changed that the definitions know
+-- changes of the code's state alone
+
+pub then_changes : {A B : Type 0} {old mid new : Machine} {a : A} {r : Result B Halt} {run : Run A} (f : A → Run B) → Changes run old mid (Ok a) → Changes (f a) mid new r → Changes (run >>= f) old new r
+then_changes f x y = record {
+  steps = omega (arith, x.steps, y.steps);
+  streams = y.streams ∙ x.streams;
+  means = λ k. then_means f (x.means k) (y.means k);
+}
+
+pub ends_changes : {A B : Type 0} {old new : Machine} {h : Halt} {run : Run A} (f : A → Run B) → Changes run old new (Err h) → Changes (run >>= f) old new (Err h)
+ends_changes f x = record { steps = x.steps; streams = x.streams; means = λ k. ends_means f (x.means k) }
+
+pub lift_changes : {A : Type 0} {c : Result A Halt} (r : Result A Stop) (m : Machine) → Matches c r → Changes (lift r) m m c
+lift_changes r m e = record { steps = omega arith; streams = refl; means = λ k. lift_means r m k e }
+
+sound_same : (k : Seen) (old new : StreamsView) → new ≡ old → AreSound k.is_open k.log old → AreSound k.is_open k.log new
+sound_same k old new same sound = subst (λ s. AreSound k.is_open k.log s) (sym same) sound
+
 pub memory_changes : {A : Type 0} (run : Run A) {old new : Machine} → new.streams ≡ old.streams → new.steps ≤ old.steps → Changes run old new (Err (halt.Fault OutOfMemory))
-memory_changes run {old = old} {new = new} same low = record {
+memory_changes run same low = record {
   steps = low;
   streams = same;
+  means = λ k. record { grows = grows_refl k.log k.mark; keeps = sound_same k _ _ same; means = λ answers s past agrees stands. tt };
+}
+
+stands_same : {answers : Answers} {old new : Machine} {k : Seen} {s : State} {past : List Event} → SameState old new → Stands answers old k s past → Stands answers new k s past
+stands_same {answers = answers} {k = k} {s = s} same stands = record {
+  clear = stands.clear;
+  outside = stands.outside;
+  openings = stands.openings;
+  main = subst (λ x. IsMainRest answers k.log x.main s.main) (sym same.streams) stands.main;
+  current = stands.current ∙ sym same.current;
+  steps = stands.steps ∙ sym same.steps;
+  output = stands.output;
+  error = stands.error;
+}
+
+-- a result that the state determines
+pub reads_changes : {A : Type 0} {c : Result A Halt} {old new : Machine} (run : Run A) (r : State → Result A Stop) → ((s : State) → run s ≡ record { result = r s; state = s; events = [] }) → SameState old new → ((s : State) → s.current ≡ old.current → Matches c (r s)) → Changes run old new c
+reads_changes {c = c} {old = old} {new = new} run r is same e = record {
+  steps = omega (arith, same.steps);
+  streams = same.streams;
   means = λ k. record {
     grows = grows_refl k.log k.mark;
-    keeps = λ sound. subst (λ s. AreSound k.is_open k.log s) (sym same) sound;
-    means = λ answers s past agrees stands. tt;
+    keeps = sound_same k _ _ same.streams;
+    means = λ answers s past agrees stands. subst (λ (o : Out _). Comes answers new k c o past) (sym (is s)) (lifted answers new k c (r s) s past (e s stands.current) (stands_same same stands));
   };
 }
 
@@ -145,7 +170,7 @@ record_changes text {old = old} {new = new} is same still = record {
   streams = same;
   means = λ k. record {
     grows = grows_refl k.log k.mark;
-    keeps = λ sound. subst (λ s. AreSound k.is_open k.log s) (sym same) sound;
+    keeps = sound_same k _ _ same;
     means = λ answers s past agrees stands. (refl, record {
       clear = stands.clear;
       outside = stands.outside;

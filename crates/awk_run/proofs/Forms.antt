@@ -19,72 +19,86 @@ use Rattle.awk_run.specs.State.{Run, ◌>>=◌, lift, ret}
 use Rattle.awk_run.specs.Operators.{applied, field_value}
 use Rattle.awk_run.specs.Words.{spend, field_at, current_text, show, set_record}
 use Rattle.awk_run.specs.Effect.{E, values_of, printed_values, line_of, S, S_all, run_if, try_item, try_items, next_record, on_record, each_record, all_records, run_items}
-use Rattle.awk_run.specs.Does.{Seen, Matches, Means, Does, Changes, Spends, Looks, Evaluates, Tests, EvaluatesAll, Lists, Follows, Executes, ExecutesAll, Tries, TriesAll, ReadsOn, ReadsAll, RunsItems}
-use Rattle.awk_run.proofs.Calculus.{then_means, ends_means, lift_means, memory_means, reads_means, then_does, ends_does, lift_does, memory_does, still_does, change_does}
+use Rattle.awk_run.specs.Does.{Seen, Matches, Does, Changes, Spends, SameState, Evaluates, Tests, EvaluatesAll, Lists, Follows, Executes, ExecutesAll, Tries, TriesAll, ReadsOn, ReadsAll, RunsItems}
+use Rattle.awk_run.proofs.Calculus.{then_changes, ends_changes, lift_changes, memory_changes, reads_changes, then_does, ends_does, lift_does, change_does}
 
 -- expressions
 
-pub number_evaluates : {n : ℤ} {m : Machine} → Evaluates (Number n) m (Ok (value.Number n))
+pub number_evaluates : {n : ℤ} {m : Machine} → Evaluates (Number n) m m (Ok (value.Number n))
 unfolding E
-number_evaluates {m = m} = record { means = λ k. lift_means _ m k refl }
+number_evaluates {m = m} = record { does = lift_changes _ m refl }
 
-pub field_looks : (v : Value) {m : Machine} {c : Result Value Halt} → Matches c (field_value m.current v) → Looks (field_at v) m c
+pub field_changes : (v : Value) {old new : Machine} {c : Result Value Halt} → SameState old new → Matches c (field_value old.current v) → Changes (field_at v) old new c
 unfolding field_at
-field_looks v {m = m} {c = c} e = record { means = λ k.
-  reads_means m k _ (λ s. field_value s.current v) (λ s. refl) (λ answers s past stands. subst (λ r. Matches c (field_value r v)) (sym stands.current) e) }
+field_changes v {c = c} same e =
+  reads_changes _ (λ s. field_value s.current v) (λ s. refl) same (λ s is. subst (λ r. Matches c (field_value r v)) (sym is) e)
 
-pub text_looks : {m : Machine} {v : Value} → v ≡ value.Input m.current.text → Looks current_text m (Ok v)
+pub text_changes : {old new : Machine} {v : Value} → SameState old new → v ≡ value.Input old.current.text → Changes current_text old new (Ok v)
 unfolding current_text
-text_looks {m = m} {v = v} e = record { means = λ k.
-  reads_means m k _ (λ s. Ok (value.Input s.current.text)) (λ s. refl) (λ answers s past stands. ap (λ r. Ok (value.Input r.text)) stands.current ∙ ap (λ w. Ok w) (sym e)) }
+text_changes {v = v} same e =
+  reads_changes _ (λ s. Ok (value.Input s.current.text)) (λ s. refl) same (λ s is. ap (λ r. Ok (value.Input r.text)) is ∙ ap (λ w. Ok w) (sym e))
 
-pub field_ends : {e : Expr} {m : Machine} {h : Halt} → Evaluates e m (Err h) → Evaluates (Field e) m (Err h)
+pub field_ends : {e : Expr} {old new : Machine} {h : Halt} → Evaluates e old new (Err h) → Evaluates (Field e) old new (Err h)
 unfolding E
-field_ends p = record { means = λ k. ends_means _ (p.means k) }
+field_ends p = record { does = ends_changes _ p.does }
 
-pub field_gives : {e : Expr} {m : Machine} {v : Value} {r : Result Value Halt} → Evaluates e m (Ok v) → Looks (field_at v) m r → Evaluates (Field e) m r
+pub field_gives : {e : Expr} {old mid new : Machine} {v : Value} {r : Result Value Halt} → Evaluates e old mid (Ok v) → Changes (field_at v) mid new r → Evaluates (Field e) old new r
 unfolding E
-field_gives p q = record { means = λ k. then_means _ (p.means k) (q.means k) }
+field_gives p q = record { does = then_changes _ p.does q }
 
-pub binary_ends : {o : BinaryOperator} {a b : Expr} {m : Machine} {h : Halt} → Evaluates a m (Err h) → Evaluates (Binary o a b) m (Err h)
+pub binary_ends : {o : BinaryOperator} {a b : Expr} {old new : Machine} {h : Halt} → Evaluates a old new (Err h) → Evaluates (Binary o a b) old new (Err h)
 unfolding E
-binary_ends p = record { means = λ k. ends_means _ (p.means k) }
+binary_ends p = record { does = ends_changes _ p.does }
 
-pub binary_ends_right : {o : BinaryOperator} {a b : Expr} {m : Machine} {x : Value} {h : Halt} → Evaluates a m (Ok x) → Evaluates b m (Err h) → Evaluates (Binary o a b) m (Err h)
+pub binary_ends_right : {o : BinaryOperator} {a b : Expr} {old mid new : Machine} {x : Value} {h : Halt} → Evaluates a old mid (Ok x) → Evaluates b mid new (Err h) → Evaluates (Binary o a b) old new (Err h)
 unfolding E
-binary_ends_right p q = record { means = λ k. then_means _ (p.means k) (ends_means _ (q.means k)) }
+binary_ends_right p q = record { does = then_changes _ p.does (ends_changes _ q.does) }
 
-pub binary_gives : {o : BinaryOperator} {a b : Expr} {m : Machine} {x y : Value} {r : Result Value Halt} → Evaluates a m (Ok x) → Evaluates b m (Ok y) → Matches r (applied o x y) → Evaluates (Binary o a b) m r
+pub binary_gives : {o : BinaryOperator} {a b : Expr} {old mid new : Machine} {x y : Value} {r : Result Value Halt} → Evaluates a old mid (Ok x) → Evaluates b mid new (Ok y) → Matches r (applied o x y) → Evaluates (Binary o a b) old new r
 unfolding E
-binary_gives {m = m} p q e = record { means = λ k. then_means _ (p.means k) (then_means _ (q.means k) (lift_means _ m k e)) }
+binary_gives {new = new} p q e = record { does = then_changes _ p.does (then_changes _ q.does (lift_changes _ new e)) }
 
 -- lists of values
 
-pub values_end : {front : List Value} {m : Machine} → EvaluatesAll front Nil m (Ok front)
+pub values_end : {front : List Value} {m : Machine} → EvaluatesAll front Nil m m (Ok front)
 unfolding values_of
-values_end {m = m} = record { means = λ k. lift_means _ m k refl }
+values_end {m = m} = record { does = lift_changes _ m refl }
 
-pub values_step : {front : List Value} {e : Expr} {es : Exprs} {m : Machine} {v : Value} {r : Result (List Value) Halt} → Evaluates e m (Ok v) → EvaluatesAll (front ++ v ∷ []) es m r → EvaluatesAll front (Cons e es) m r
+pub values_step : {front : List Value} {e : Expr} {es : Exprs} {old mid new : Machine} {v : Value} {r : Result (List Value) Halt} → Evaluates e old mid (Ok v) → EvaluatesAll (front ++ v ∷ []) es mid new r → EvaluatesAll front (Cons e es) old new r
 unfolding values_of
-values_step p q = record { means = λ k. then_means _ (p.means k) (q.means k) }
+values_step p q = record { does = then_changes _ p.does q.does }
 
-pub values_halt : {front : List Value} {e : Expr} {es : Exprs} {m : Machine} {h : Halt} → Evaluates e m (Err h) → EvaluatesAll front (Cons e es) m (Err h)
+pub values_halt : {front : List Value} {e : Expr} {es : Exprs} {old new : Machine} {h : Halt} → Evaluates e old new (Err h) → EvaluatesAll front (Cons e es) old new (Err h)
 unfolding values_of
-values_halt p = record { means = λ k. ends_means _ (p.means k) }
+values_halt p = record { does = ends_changes _ p.does }
 
-pub values_memory : {front : List Value} {es : Exprs} {m : Machine} → EvaluatesAll front es m (Err (halt.Fault OutOfMemory))
-values_memory {m = m} = record { means = λ k. memory_means m k _ }
+pub values_full : {front : List Value} {e : Expr} {es : Exprs} {old new : Machine} {v : Value} → Evaluates e old new (Ok v) → EvaluatesAll front (Cons e es) old new (Err (halt.Fault OutOfMemory))
+unfolding values_of
+values_full p = record { does = then_changes _ p.does (memory_changes _ refl (omega arith)) }
 
-pub list_of_values : {e : Expr} {es : Exprs} {m : Machine} {r : Result (List Value) Halt} → EvaluatesAll [] (Cons e es) m r → Lists (Cons e es) m r
+pub list_of_values : {e : Expr} {es : Exprs} {old new : Machine} {r : Result (List Value) Halt} → EvaluatesAll [] (Cons e es) old new r → Lists (Cons e es) old new r
 unfolding printed_values
-list_of_values p = record { means = λ k. p.means k }
+list_of_values p = record { does = p.does }
 
-pub list_of_text : {m : Machine} {v : Value} → Looks current_text m (Ok v) → Lists Nil m (Ok (v ∷ []))
+pub list_of_text : {old new : Machine} {v : Value} → Changes current_text old new (Ok v) → Lists Nil old new (Ok (v ∷ []))
 unfolding printed_values
-list_of_text {m = m} p = record { means = λ k. then_means _ (p.means k) (lift_means _ m k refl) }
+list_of_text {new = new} p = record { does = then_changes _ p (lift_changes _ new refl) }
 
-pub list_memory : {es : Exprs} {m : Machine} → Lists es m (Err (halt.Fault OutOfMemory))
-list_memory {m = m} = record { means = λ k. memory_means m k _ }
+pub list_text_full : {old new : Machine} {v : Value} → Changes current_text old new (Ok v) → Lists Nil old new (Err (halt.Fault OutOfMemory))
+unfolding printed_values
+list_text_full p = record { does = then_changes _ p (memory_changes _ refl (omega arith)) }
+
+pub list_text_ends : {old new : Machine} {h : Halt} → Changes current_text old new (Err h) → Lists Nil old new (Err h)
+unfolding printed_values
+list_text_ends p = record { does = ends_changes _ p }
+
+pub list_of_some : (es : List Code) {old new : Machine} {r : Result (List Value) Halt} → (length es == 0) ≡ false → EvaluatesAll [] (exprs_of es) old new r → Lists (exprs_of es) old new r
+list_of_some [] e p = absurd (cc)
+list_of_some (x ∷ es) e p = list_of_values p
+
+pub exprs_of_none : (es : List Code) → (length es == 0) ≡ true → exprs_of es ≡ Nil
+exprs_of_none [] e = refl
+exprs_of_none (x ∷ es) e = absurd (grind (arith, nat_tests))
 
 -- statements
 
@@ -92,13 +106,13 @@ pub print_stops : {tells : Type 0} {es : Exprs} {m m1 : Machine} {k : Seen} {h :
 unfolding S
 print_stops p = record { does = ends_does _ (change_does p.does) }
 
-pub print_ends : {tells : Type 0} {es : Exprs} {m m1 : Machine} {k : Seen} {h : Halt} → Spends m m1 (Ok tt) → Lists es m1 (Err h) → Executes tells (Print es) m k m1 k (Err h)
+pub print_ends : {tells : Type 0} {es : Exprs} {m m1 m2 : Machine} {k : Seen} {h : Halt} → Spends m m1 (Ok tt) → Lists es m1 m2 (Err h) → Executes tells (Print es) m k m2 k (Err h)
 unfolding S
-print_ends {k = k} p q = record { does = then_does _ (change_does p.does) (ends_does _ (still_does (q.means k))) }
+print_ends p q = record { does = then_does _ (change_does p.does) (ends_does _ (change_does q.does)) }
 
-pub print_shows : {tells : Type 0} {es : Exprs} {m m1 m2 : Machine} {k k2 : Seen} {vs : List Value} {r : Result (Unit {0}) Halt} → Spends m m1 (Ok tt) → Lists es m1 (Ok vs) → Follows tells (show (line_of vs)) m1 k m2 k2 r → Executes tells (Print es) m k m2 k2 r
+pub print_shows : {tells : Type 0} {es : Exprs} {m m1 m2 m3 : Machine} {k k3 : Seen} {vs : List Value} {r : Result (Unit {0}) Halt} → Spends m m1 (Ok tt) → Lists es m1 m2 (Ok vs) → Follows tells (show (line_of vs)) m2 k m3 k3 r → Executes tells (Print es) m k m3 k3 r
 unfolding S
-print_shows {k = k} p q s = record { does = then_does _ (change_does p.does) (then_does _ (still_does (q.means k)) s.does) }
+print_shows p q s = record { does = then_does _ (change_does p.does) (then_does _ (change_does q.does) s.does) }
 
 pub block_executes : {tells : Type 0} {all : Statements} {m m1 : Machine} {k k1 : Seen} {r : Result (Unit {0}) Halt} → ExecutesAll tells all m k m1 k1 r → Executes tells (Block all) m k m1 k1 r
 unfolding S
@@ -122,17 +136,17 @@ pub always_tries : {tells : Type 0} {all : Statements} {m m1 : Machine} {k k1 : 
 unfolding try_item
 always_tries p = record { does = p.does }
 
-pub rule_halts : {tells : Type 0} {e : Expr} {all : Statements} {m : Machine} {k : Seen} {h : Halt} → Tests e m (Err h) → Tries tells (Rule e all) m k m k (Err h)
+pub rule_halts : {tells : Type 0} {e : Expr} {all : Statements} {m m1 : Machine} {k : Seen} {h : Halt} → Tests e m m1 (Err h) → Tries tells (Rule e all) m k m1 k (Err h)
 unfolding try_item
-rule_halts {k = k} p = record { does = ends_does _ (still_does (p.tests.means k)) }
+rule_halts p = record { does = ends_does _ (change_does p.tests.does) }
 
-pub rule_holds : {tells : Type 0} {e : Expr} {all : Statements} {m m1 : Machine} {k k1 : Seen} {r : Result (Unit {0}) Halt} → Tests e m (Ok true) → ExecutesAll tells all m k m1 k1 r → Tries tells (Rule e all) m k m1 k1 r
+pub rule_holds : {tells : Type 0} {e : Expr} {all : Statements} {m m1 m2 : Machine} {k k2 : Seen} {r : Result (Unit {0}) Halt} → Tests e m m1 (Ok true) → ExecutesAll tells all m1 k m2 k2 r → Tries tells (Rule e all) m k m2 k2 r
 unfolding try_item
-rule_holds {tells = tells} {all = all} {m = m} {m1 = m1} {k = k} {k1 = k1} {r = r} p q = record { does = then_does _ (still_does (p.tests.1.means k)) (subst (λ (b : Bool). Does tells m k m1 k1 r (run_if b (S_all all))) p.tests.2 q.does) }
+rule_holds {tells = tells} {all = all} {m1 = m1} {m2 = m2} {k = k} {k2 = k2} {r = r} p q = record { does = then_does _ (change_does p.tests.1.does) (subst (λ (b : Bool). Does tells m1 k m2 k2 r (run_if b (S_all all))) p.tests.2 q.does) }
 
-pub rule_fails : {tells : Type 0} {e : Expr} {all : Statements} {m : Machine} {k : Seen} → Tests e m (Ok false) → Tries tells (Rule e all) m k m k (Ok tt)
+pub rule_fails : {tells : Type 0} {e : Expr} {all : Statements} {m m1 : Machine} {k : Seen} → Tests e m m1 (Ok false) → Tries tells (Rule e all) m k m1 k (Ok tt)
 unfolding try_item
-rule_fails {tells = tells} {all = all} {m = m} {k = k} p = record { does = then_does _ (still_does (p.tests.1.means k)) (subst (λ (b : Bool). Does tells m k m k (Ok tt) (run_if b (S_all all))) p.tests.2 (lift_does _ m k refl)) }
+rule_fails {tells = tells} {all = all} {m1 = m1} {k = k} p = record { does = then_does _ (change_does p.tests.1.does) (subst (λ (b : Bool). Does tells m1 k m1 k (Ok tt) (run_if b (S_all all))) p.tests.2 (lift_does _ m1 k refl)) }
 
 pub items_end : {tells : Type 0} {m : Machine} {k : Seen} → TriesAll tells [] m k m k (Ok tt)
 unfolding try_items
@@ -218,15 +232,3 @@ item_at es i e low is = rw (add-one, drop-cons es i e) (ap (λ x. item_of x ∷ 
 
 pub items_over : (es : List CodeItem) (i : ℕ) → length es ≤ i → items_of (drop i es) ≡ []
 items_over es i low = ap items_of (drop_all i es low)
-
-pub list_text_ends : {m : Machine} {h : Halt} → Looks current_text m (Err h) → Lists Nil m (Err h)
-unfolding printed_values
-list_text_ends p = record { means = λ k. ends_means _ (p.means k) }
-
-pub list_of_some : (es : List Code) {m : Machine} {r : Result (List Value) Halt} → (length es == 0) ≡ false → EvaluatesAll [] (exprs_of es) m r → Lists (exprs_of es) m r
-list_of_some [] e p = absurd (cc)
-list_of_some (x ∷ es) e p = list_of_values p
-
-pub exprs_of_none : (es : List Code) → (length es == 0) ≡ true → exprs_of es ≡ Nil
-exprs_of_none [] e = refl
-exprs_of_none (x ∷ es) e = absurd (grind (arith, nat_tests))

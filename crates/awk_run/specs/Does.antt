@@ -93,32 +93,34 @@ pub record Spends (old new : Machine) (r : Result (Unit {0}) Halt) : Type 0 wher
   pub does : Changes spend old new r
   pub falls : OnOk r (new.steps < old.steps)
 
--- what looks at the state and changes nothing
-pub record Looks {A : Type 0} (run : Run A) (m : Machine) (r : Result A Halt) : Type 0 where
-  pub means : (k : Seen) → Means m k m k r run
-
--- an expression is evaluated; nothing else changes
-pub record Evaluates (e : Expr) (m : Machine) (r : Result Value Halt) : Type 0 where
-  pub means : (k : Seen) → Means m k m k r (E e)
+-- an expression is evaluated, without a call of the world
+pub record Evaluates (e : Expr) (old new : Machine) (r : Result Value Halt) : Type 0 where
+  pub does : Changes (E e) old new r
 
 -- an expression is tested
-abbrev pub TestsTo : Expr → Machine → Result Bool Halt → Type 0
-TestsTo e m (Ok b) = (v : Value) × Evaluates e m (Ok v) × (b ≡ truth_of v)
-TestsTo e m (Err h) = Evaluates e m (Err h)
+abbrev pub TestsTo : Expr → Machine → Machine → Result Bool Halt → Type 0
+TestsTo e old new (Ok b) = (v : Value) × Evaluates e old new (Ok v) × (b ≡ truth_of v)
+TestsTo e old new (Err h) = Evaluates e old new (Err h)
 
-pub record Tests (e : Expr) (m : Machine) (r : Result Bool Halt) : Type 0 where
-  pub tests : TestsTo e m r
+pub record Tests (e : Expr) (old new : Machine) (r : Result Bool Halt) : Type 0 where
+  pub tests : TestsTo e old new r
 
 abbrev pub viewed : {X Y : Type 0} → (X → Y) → Result X Halt → Result Y Halt
 viewed view (Ok x) = Ok (view x)
 viewed view (Err h) = Err h
 
-pub record EvaluatesAll (front : List Value) (es : Exprs) (m : Machine) (r : Result (List Value) Halt) : Type 0 where
-  pub means : (k : Seen) → Means m k m k r (values_of front es)
+pub record EvaluatesAll (front : List Value) (es : Exprs) (old new : Machine) (r : Result (List Value) Halt) : Type 0 where
+  pub does : Changes (values_of front es) old new r
 
 -- the values that a print prints
-pub record Lists (es : Exprs) (m : Machine) (r : Result (List Value) Halt) : Type 0 where
-  pub means : (k : Seen) → Means m k m k r (printed_values es)
+pub record Lists (es : Exprs) (old new : Machine) (r : Result (List Value) Halt) : Type 0 where
+  pub does : Changes (printed_values es) old new r
+
+-- nothing is changed that the definitions know
+pub record SameState (old new : Machine) : Type 0 where
+  pub current : new.current ≡ old.current
+  pub streams : new.streams ≡ old.streams
+  pub steps : new.steps ≡ old.steps
 
 pub record Follows {A : Type 0} (tells : Type 0) (run : Run A) (old : Machine) (before : Seen) (new : Machine) (after : Seen) (r : Result A Halt) : Type 0 where
   pub does : Does tells old before new after r run

@@ -1,8 +1,8 @@
 -- The state of a run, and what a part of a run does: a result, the state after it, and what it shows.
-use Rattle.std.specs.Prelude.{◌≡◌, ℕ, zero, suc, ◌+◌, Bool, ◌&&◌, List, [], ◌∷◌, ◌++◌, Option, None, Result, Ok, Err, if◌then◌else◌}
+use Rattle.std.specs.Prelude.{ℕ, List, [], ◌++◌, Option, Result, Ok, Err}
 use Rattle.awk_record.specs.Record.{RecordPair}
 use Rattle.awk_streams.specs.declared.world.InputKind.{InputKind}
-use Rattle.awk_streams.specs.Answers.{Source, Answers, same_input, same_bytes}
+use Rattle.awk_streams.specs.Answers.{Source, Answers}
 use Rattle.awk_run.specs.declared.outcome.Fault.{Fault}
 
 -- what is printed to: standard output and standard error are one opening each

@@ -1,5 +1,5 @@
 -- The words of a run: all that looks into its state.
-use Rattle.std.specs.Prelude.{◌≡◌, ℕ, zero, suc, ◌+◌, Bool, ◌&&◌, List, [], ◌∷◌, ◌++◌, Option, Some, None, Result, Ok, Err, if◌then◌else◌}
+use Rattle.std.specs.Prelude.{◌≡◌, ℕ, zero, suc, ◌+◌, Bool, ◌&&◌, List, [], ◌∷◌, ◌++◌, Option, Some, None, Result, Ok, Err, bytes_eq}
 use Rattle.awk_value.specs.declared.value.Value.{Value}
 use Rattle.awk_value.specs.declared.value.Value.TheVariants.{Input}
 use Rattle.awk_value.specs.Values.{num_of}
@@ -7,7 +7,7 @@ use Rattle.awk_record.specs.Cut.{Ending, Cut, Found, NoMore, BrokenOff, TooLong,
 use Rattle.awk_record.specs.Record.{RecordPair, field_of, split_at_blanks}
 use Rattle.awk_streams.specs.declared.world.InputKind.{InputKind}
 use Rattle.awk_streams.specs.declared.world.InputKind.TheVariants.{Standard}
-use Rattle.awk_streams.specs.Answers.{Source, same_input, same_bytes}
+use Rattle.awk_streams.specs.Answers.{Source, same_input, one_if}
 use Rattle.awk_run.specs.declared.outcome.Fault.TheVariants.{InputNotReadable, RecordTooLong, RecordSeparatorTooLong}
 use Rattle.awk_run.specs.State.{Output, StandardOutput, Demand, AnOpening, ARecord, Event, Printed, Demanded, Stop, Faulted, OutOfSteps, State, Out, Run, ◌>>=◌, lift, ret}
 use Rattle.awk_run.specs.Operators.{field_value}
@@ -44,7 +44,7 @@ show bytes s = record { result = Ok tt; state = s; events = Printed StandardOutp
 
 -- one opening more of this kind and name
 abbrev pub one_more : InputKind → List ℕ → (InputKind → List ℕ → ℕ) → InputKind → List ℕ → ℕ
-one_more kind name openings k n = (if same_input kind k && same_bytes name n then 1 else 0) + openings k n
+one_more kind name openings k n = one_if (same_input k kind && bytes_eq n name) + openings k n
 
 abbrev pub counted : InputKind → List ℕ → State → State
 counted kind name s = record s { openings = one_more kind name s.openings }

@@ -15,8 +15,9 @@ use std::alloc::Global;
 use std::cmp::Ordering;
 
 /// The field of the record whose number is the value's.
-pub fn field_at(record: &Record, at: &Value) -> Result<Value, Halt>
-    ensures { Matches result (field_value record.now at.now) }
+pub fn field_at(record: &mut Record, at: &Value) -> Result<Value, Halt>
+    ensures value { Matches result (field_value record.old at.now) }
+    ensures same { record.new ≡ record.old }
 {
     let number = number_of(at)?;
     Ok(record.field(number)?)
@@ -49,8 +50,8 @@ pub fn apply(operator: BinaryOperator, x: &Value, y: &Value) -> Result<Value, Ha
 }
 
 /// The value of an expression (POSIX awk, Expressions in awk).
-pub fn eval(e: &Expr, machine: &Machine) -> Result<Value, Halt>
-    ensures { Evaluates (expr_of e.now) machine.now result }
+pub fn eval(e: &Expr, machine: &mut Machine) -> Result<Value, Halt>
+    ensures { Evaluates (expr_of e.now) machine.old machine.new result }
 {
     match e {
         Expr::Number(n) => Ok(Value::Number(*n)),
@@ -67,15 +68,15 @@ pub fn eval(e: &Expr, machine: &Machine) -> Result<Value, Halt>
 }
 
 /// Whether an expression is true.
-pub fn holds(e: &Expr, machine: &Machine) -> Result<bool, Halt>
-    ensures { Tests (expr_of e.now) machine.now result }
+pub fn holds(e: &Expr, machine: &mut Machine) -> Result<bool, Halt>
+    ensures { Tests (expr_of e.now) machine.old machine.new result }
 {
     let value = eval(e, machine)?;
     Ok(is_true(&value))
 }
 
-fn eval_all(alloc: Global, list: &[Expr], machine: &Machine) -> Result<Vec<Value>, Halt>
-    ensures { EvaluatesAll [] (exprs_of list.now) machine.now (viewed (λ v. v.items) result) }
+fn eval_all(alloc: Global, list: &[Expr], machine: &mut Machine) -> Result<Vec<Value>, Halt>
+    ensures { EvaluatesAll [] (exprs_of list.now) machine.old machine.new (viewed (λ v. v.items) result) }
 {
     let mut values = Vec::new(alloc);
     for e in list {
@@ -86,8 +87,8 @@ fn eval_all(alloc: Global, list: &[Expr], machine: &Machine) -> Result<Vec<Value
 }
 
 /// The values that a print prints: those of its list, or without one the record's text.
-pub fn listed(alloc: Global, list: &[Expr], machine: &Machine) -> Result<Vec<Value>, Halt>
-    ensures { Lists (exprs_of list.now) machine.now (viewed (λ v. v.items) result) }
+pub fn listed(alloc: Global, list: &[Expr], machine: &mut Machine) -> Result<Vec<Value>, Halt>
+    ensures { Lists (exprs_of list.now) machine.old machine.new (viewed (λ v. v.items) result) }
 {
     if !list.is_empty() {
         return eval_all(alloc, list, machine);

@@ -5,7 +5,7 @@ ghost use Rattle.awk_value.specs.Values.{str_of};
 ghost use Rattle.awk_value.specs.declared.value.Value.TheVariants.{Input};
 ghost use Rattle.awk_run.specs.Words.{field_at, current_text, set_record, output_field_separator};
 ghost use Rattle.awk_run.specs.Effect.{line_of, joined, led};
-ghost use Rattle.awk_run.specs.Does.{Spends, Looks, Changes, IsWantOfMemory};
+ghost use Rattle.awk_run.specs.Does.{Spends, Changes, IsWantOfMemory};
 
 use crate::expressions;
 use crate::halt::Halt;
@@ -40,15 +40,15 @@ impl Machine {
     }
 
     /// The field whose number is the value's.
-    pub fn field_at(&self, at: &Value) -> Result<Value, Halt>
-        ensures { Looks (field_at at.now) self.now result }
+    pub fn field_at(&mut self, at: &Value) -> Result<Value, Halt>
+        ensures { Changes (field_at at.now) self.old self.new result }
     {
-        expressions::field_at(&self.current, at)
+        expressions::field_at(&mut self.current, at)
     }
 
     /// The record's text, as a value.
-    pub fn text(&self) -> Result<Value, Halt>
-        ensures { Looks current_text self.now result }
+    pub fn text(&mut self) -> Result<Value, Halt>
+        ensures { Changes current_text self.old self.new result }
     {
         Ok(Value::Input(self.current.text()?))
     }

@@ -5,7 +5,7 @@ use Rattle.awk_run.proofs.Forms.{number_evaluates, field_ends, field_gives, bina
 use Rattle.awk_run.proofs.expressions.+eval.Goals as goal
 
 pub returns-in-Number : goal.returns-in-Number
-returns-in-Number t c = search (rules, number_evaluates)
+returns-in-Number t c = rw (ap expr_of c.in-Number.is) (search (rules, number_evaluates))
 
 pub returns-in_err-at-in-Field : goal.returns-in_err-at-in-Field
 returns-in_err-at-in-Field t c =
