@@ -3,6 +3,7 @@ use Rattle.std.specs.Prelude.{◌≡◌, ℕ, ◌≤◌, ◌<◌, Bool, true, Li
 use Rattle.awk_value.specs.declared.value.Value.{Value}
 use Rattle.awk_value.specs.Values.{truth_of}
 use Rattle.awk_streams.specs.declared.world.InputKind.{InputKind}
+use Rattle.awk_streams.specs.declared.fault.StreamFault.{StreamFault}
 use Rattle.awk_streams.specs.Log as log
 use Rattle.awk_streams.specs.Answers.{Answers, Agrees, how_many, opens_input}
 use Rattle.awk_streams.specs.Writes.{received}
@@ -13,7 +14,8 @@ use Rattle.awk_run.specs.declared.halt.Halt.{Halt}
 use Rattle.awk_run.specs.declared.halt.Halt.TheVariants as halt
 use Rattle.awk_run.specs.declared.outcome.Fault.TheVariants.{OutOfMemory, WriteFailed}
 use Rattle.awk_run.specs.State.{StandardOutput, StandardError, Event, Stop, Faulted, OutOfSteps, State, Out, Run}
-use Rattle.awk_run.specs.Words.{spend}
+use Rattle.awk_run.specs.Words.{spend, open_standard}
+use Rattle.awk_run.specs.Operators.{stream_fault}
 use Rattle.awk_run.specs.Effect.{E, values_of, printed_values, S, S_all, try_item, try_items, each_record, all_records, run_items}
 use Rattle.awk_run.specs.Meaning.{printed_to}
 
@@ -149,3 +151,13 @@ pub record RunsItems (tells : Type 0) (xs : List Item) (old : Machine) (before :
 
 abbrev pub IsWantOfMemory : Halt → Type 0
 IsWantOfMemory h = h ≡ halt.Fault OutOfMemory
+
+-- a fault of the streams, as a halt
+abbrev pub halted : {A : Type 0} → Result A StreamFault → Result A Halt
+halted (Ok a) = Ok a
+halted (Err f) = Err (halt.Fault (stream_fault f))
+
+-- a main input is opened where none is, and then there is one
+pub record Opens (tells : Type 0) (old : Machine) (before : Seen) (new : Machine) (after : Seen) (r : Result (Unit {0}) Halt) : Type 0 where
+  pub does : Does tells old before new after r open_standard
+  pub main : OnOk r (is_some new.streams.main ≡ true)

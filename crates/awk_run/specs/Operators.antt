@@ -10,6 +10,8 @@ use Rattle.awk_value.specs.Values.{num_of, str_of, order_of, multiplied}
 use Rattle.awk_record.specs.declared.fault.RecordFault.{RecordFault}
 use Rattle.awk_record.specs.declared.fault.RecordFault.TheVariants as fields
 use Rattle.awk_record.specs.Record.{RecordPair, field_of}
+use Rattle.awk_streams.specs.declared.fault.StreamFault.{StreamFault}
+use Rattle.awk_streams.specs.declared.fault.StreamFault.TheVariants as streams
 use Rattle.awk_syntax.specs.declared.tree.BinaryOperator.{BinaryOperator}
 use Rattle.awk_syntax.specs.declared.tree.BinaryOperator.TheVariants.{Times, Less, LessEqual, Equal, NotEqual, Greater, GreaterEqual}
 use Rattle.awk_run.specs.declared.outcome.Fault.{Fault}
@@ -26,6 +28,13 @@ record_fault fields.Memory = fault.OutOfMemory
 record_fault fields.FieldNumber = fault.FieldNumberOutOfRange
 record_fault fields.SeparatorTooLong = fault.RecordSeparatorTooLong
 record_fault fields.RecordTooLong = fault.RecordTooLong
+
+abbrev pub stream_fault : StreamFault → Fault
+stream_fault streams.Memory = fault.OutOfMemory
+stream_fault streams.WriteFailed = fault.WriteFailed
+stream_fault streams.InputNotReadable = fault.InputNotReadable
+stream_fault streams.SeparatorTooLong = fault.RecordSeparatorTooLong
+stream_fault streams.RecordTooLong = fault.RecordTooLong
 
 abbrev pub of_values : {A : Type 0} → Result A ValueFault → Result A Stop
 of_values (Ok a) = Ok a

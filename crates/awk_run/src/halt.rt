@@ -1,12 +1,13 @@
 // Why a run ends before its end.
 
 ghost use Rattle.std.specs.Prelude.{◌≡◌};
-ghost use Rattle.awk_run.specs.Operators.{value_fault, record_fault};
+ghost use Rattle.awk_run.specs.Operators.{value_fault, record_fault, stream_fault};
 ghost use Rattle.awk_run.specs.declared.halt.Halt.TheVariants.{Fault as FaultHalt};
 ghost use Rattle.awk_run.specs.declared.outcome.Fault.TheVariants.{OutOfMemory};
 
 use crate::outcome::Fault;
 use awk_record::RecordFault;
+use awk_streams::StreamFault;
 use awk_value::ValueFault;
 use std::alloc::{AllocError, AllocFailed};
 
@@ -53,6 +54,20 @@ impl From<RecordFault> for Halt {
             RecordFault::FieldNumber => Fault::FieldNumberOutOfRange,
             RecordFault::SeparatorTooLong => Fault::RecordSeparatorTooLong,
             RecordFault::RecordTooLong => Fault::RecordTooLong,
+        })
+    }
+}
+
+impl From<StreamFault> for Halt {
+    ghost from_gives = { λ fault h. h ≡ FaultHalt (stream_fault fault) };
+
+    fn from(fault: StreamFault) -> Halt {
+        Halt::Fault(match fault {
+            StreamFault::Memory => Fault::OutOfMemory,
+            StreamFault::WriteFailed => Fault::WriteFailed,
+            StreamFault::InputNotReadable => Fault::InputNotReadable,
+            StreamFault::SeparatorTooLong => Fault::RecordSeparatorTooLong,
+            StreamFault::RecordTooLong => Fault::RecordTooLong,
         })
     }
 }
