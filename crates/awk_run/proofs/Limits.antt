@@ -13,7 +13,7 @@ use Rattle.awk_run.specs.State.{Output, Demand, TheEnd, Event, Printed, Demanded
 use Rattle.awk_run.specs.Words.{record_separator, spend, spend_of, field_at, current_text, show, opened, open_main, taken, taken_of, take_record, open_of, open_standard, set_record}
 use Rattle.awk_run.specs.Operators.{applied}
 use Rattle.awk_run.specs.Effect.{E, values_of, printed_values, line_of, S, S_all, run_if, try_item, try_items, next_record, on_record, each_record, all_records, run_items}
-use Rattle.awk_run.specs.Meaning.{Meaning, start_state, whole, outcome_of, printed_to, demands_after, meaning_of, same_output}
+use Rattle.awk_run.specs.Meaning.{StartValues, Meaning, start_state, whole, outcome_of, printed_to, demands_after, meaning_of, same_output}
 use Rattle.awk_run.specs.Limits.{IsBeginning, Begins, KeepsToLimits, LawOfLimits}
 
 abbrev richer_state : ℕ → State → State
@@ -196,9 +196,9 @@ unfolding run_items
 run_larger [] = lift_larger (Ok tt)
 run_larger (x ∷ xs) = records_larger _ (items_larger (x ∷ xs))
 
-whole_covers : (items : List Item) (answers : Answers) (limit d : ℕ) → Covers (whole items answers limit).result d (whole items answers limit) (whole items answers (limit + d))
+whole_covers : (items : List Item) (start : StartValues) (answers : Answers) (limit d : ℕ) → Covers (whole items start answers limit).result d (whole items start answers limit) (whole items start answers (limit + d))
 unfolding whole
-whole_covers items answers limit d = (run_larger items).covers (start_state answers limit) d
+whole_covers items start answers limit d = (run_larger items).covers (start_state start answers limit) d
 
 -- from runs to what they print
 
@@ -224,7 +224,7 @@ stopped_of (Err (Faulted f)) d x y e c stops = let never : Fault f ≡ Stopped =
 stopped_of (Err OutOfSteps) d x y e c stops = λ output. shows_begins output x.events y.events c.more c.is
 
 pub law_of_limits : LawOfLimits
-law_of_limits items answers limit more = record {
-  settled = settled_of (whole items answers limit).result more _ _ refl (whole_covers items answers limit more);
-  stopped = stopped_of (whole items answers limit).result more _ _ refl (whole_covers items answers limit more);
+law_of_limits items start answers limit more = record {
+  settled = settled_of (whole items start answers limit).result more _ _ refl (whole_covers items start answers limit more);
+  stopped = stopped_of (whole items start answers limit).result more _ _ refl (whole_covers items start answers limit more);
 }

@@ -1,5 +1,5 @@
 -- How the code's state and world stand for the state of the definitions, and what a part of the code does.
-use Rattle.std.specs.Prelude.{◌≡◌, ℕ, ◌≤◌, ◌<◌, Bool, true, List, ◌++◌, Option, None, is_some, suc, Result, Ok, Err, OnOk}
+use Rattle.std.specs.Prelude.{◌≡◌, ℕ, ◌≤◌, ◌<◌, Bool, true, List, [], ◌++◌, Option, None, is_some, suc, Result, Ok, Err, OnOk}
 use Rattle.awk_value.specs.declared.value.Value.{Value}
 use Rattle.awk_value.specs.Values.{truth_of}
 use Rattle.awk_streams.specs.declared.world.InputKind.{InputKind}
@@ -161,3 +161,10 @@ halted (Err f) = Err (halt.Fault (stream_fault f))
 pub record Opens (tells : Type 0) (old : Machine) (before : Seen) (new : Machine) (after : Seen) (r : Result (Unit {0}) Halt) : Type 0 where
   pub does : Does tells old before new after r open_standard
   pub main : OnOk r (is_some new.streams.main ≡ true)
+
+-- the code's state before a run
+pub record IsStart (limit : ℕ) (m : Machine) : Type 0 where
+  pub text : m.current.text ≡ []
+  pub fields : m.current.fields ≡ []
+  pub main : m.streams.main ≡ None
+  pub steps : m.steps ≡ limit

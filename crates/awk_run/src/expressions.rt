@@ -11,7 +11,6 @@ use crate::machine::Machine;
 use awk_record::Record;
 use awk_syntax::tree::{BinaryOperator, Expr};
 use awk_value::{Value, compare, is_true, multiply, number_of};
-use std::alloc::Global;
 use std::cmp::Ordering;
 
 /// The field of the record whose number is the value's.
@@ -75,10 +74,10 @@ pub fn holds(e: &Expr, machine: &mut Machine) -> Result<bool, Halt>
     Ok(is_true(&value))
 }
 
-fn eval_all(alloc: Global, list: &[Expr], machine: &mut Machine) -> Result<Vec<Value>, Halt>
+fn eval_all(list: &[Expr], machine: &mut Machine) -> Result<Vec<Value>, Halt>
     ensures { EvaluatesAll [] (exprs_of list.now) machine.old machine.new (viewed (λ v. v.items) result) }
 {
-    let mut values = Vec::new(alloc);
+    let mut values = Vec::new(machine.allocator());
     for e in list {
         let value = eval(e, machine)?;
         values.push(value)?;
@@ -87,12 +86,12 @@ fn eval_all(alloc: Global, list: &[Expr], machine: &mut Machine) -> Result<Vec<V
 }
 
 /// The values that a print prints: those of its list, or without one the record's text.
-pub fn listed(alloc: Global, list: &[Expr], machine: &mut Machine) -> Result<Vec<Value>, Halt>
+pub fn listed(list: &[Expr], machine: &mut Machine) -> Result<Vec<Value>, Halt>
     ensures { Lists (exprs_of list.now) machine.old machine.new (viewed (λ v. v.items) result) }
 {
     if !list.is_empty() {
-        return eval_all(alloc, list, machine);
+        return eval_all(list, machine);
     }
     let text = machine.text()?;
-    Ok(vec![in alloc; text]?)
+    Ok(vec![in machine.allocator(); text]?)
 }

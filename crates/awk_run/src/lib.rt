@@ -7,6 +7,7 @@ mod halt;
 pub mod laws;
 mod machine;
 pub mod outcome;
+mod statements;
 
 pub use expressions::{apply, eval, holds, listed};
 pub use halt::Halt;
