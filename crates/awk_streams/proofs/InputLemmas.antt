@@ -1,13 +1,14 @@
-use Rattle.std.proofs.Common.{◌≡◌, inl, inr, ℕ, List, [], ◌∷◌, ◌++◌, Option, Some, None, Result, Ok, Err, refl, sym, ◌∙◌, ap, subst}
+use Rattle.std.proofs.Common.{◌≡◌, ◌⊎◌, inl, inr, ℕ, List, [], ◌∷◌, ◌++◌, Option, Some, None, Result, Ok, Err, refl, sym, ◌∙◌, ap, subst}
 use Rattle.awk_streams.specs.Log.{Event, Read, Ended, Broke}
 use Rattle.awk_record.specs.Cut.{Ending, AtEnd, AtBreak, IsDecided}
 use Rattle.awk_record.specs.Buffer.{Pending}
 use Rattle.awk_streams.specs.Writes.{with_events}
-use Rattle.awk_streams.specs.Inputs.{NeededReads, Reaches, Brings}
+use Rattle.awk_streams.specs.Inputs.{NeededReads, Reaches, Brings, Pulls}
 use Rattle.awk_record.specs.Cut.{Cut, Found, NoMore, BrokenOff, TooLong, BadSeparator, cut_of}
 use Rattle.awk_record.specs.Buffer.{Steps, IsAnswerOf}
 use Rattle.awk_record.specs.declared.buffer.Step.{Step}
 use Rattle.awk_record.specs.declared.fault.RecordFault.{RecordFault}
+use Rattle.awk_record.specs.declared.fault.RecordFault.TheVariants.{Memory, FieldNumber, SeparatorTooLong, RecordTooLong}
 use Rattle.std.proofs.lemmas.Bool.{cond-true, eq-eqb}
 use Rattle.awk_streams.specs.Answers.{read_on}
 use Rattle.awk_streams.specs.Orderly.{IsReadable}
@@ -50,6 +51,9 @@ Reaches-more id separator old mid new log log1 log2 e (inr (began, goes)) none o
 pub ok_err : {T E : Type 0} (x : T) (e : E) → Ok x ≡ Err e → ⊥
 ok_err x e is = cc
 
+pub memory_no_field : (result : Result Step RecordFault) → result ≡ Err Memory → result ≡ Err FieldNumber → ⊥
+memory_no_field result memory field = let bad = sym memory ∙ field in cc
+
 some_none : {T : Type 0} {P : Type 0} (x : T) → Some x ≡ None → P
 some_none x e = cc
 
@@ -78,3 +82,25 @@ steps_at (Some e) separator result old new is steps none = some_none e (sym (kep
 -- an ending that was met stays
 pub steps_ending : (separator : List ℕ) (result : Result Step RecordFault) (old new : Pending) → Steps separator old result new → new.ending ≡ None → old.ending ≡ None
 steps_ending separator result old new steps none = steps_at old.ending separator result old new refl steps none
+
+-- whatever the buffer answers, an ending that was met stays
+pub step_ending : (separator : List ℕ) (result : Result Step RecordFault) (old new : Pending) → ((result ≡ Err Memory → ⊥) → Steps separator old result new) → (result ≡ Err Memory → new ≡ old) → new.ending ≡ None → old.ending ≡ None
+step_ending separator (Err Memory) old new steps memory none = ap (λ (p : Pending). p.ending) (sym (memory refl)) ∙ none
+step_ending separator (Ok s) old new steps memory none = steps_ending separator (Ok s) old new (steps (λ (e : Ok s ≡ Err Memory). cc)) none
+step_ending separator (Err FieldNumber) old new steps memory none = steps_ending separator (Err FieldNumber) old new (steps (λ (e : Err FieldNumber ≡ Err Memory). cc)) none
+step_ending separator (Err SeparatorTooLong) old new steps memory none = steps_ending separator (Err SeparatorTooLong) old new (steps (λ (e : Err SeparatorTooLong ≡ Err Memory). cc)) none
+step_ending separator (Err RecordTooLong) old new steps memory none = steps_ending separator (Err RecordTooLong) old new (steps (λ (e : Err RecordTooLong ≡ Err Memory). cc)) none
+
+-- a reading that found no memory: nothing was done, or its bytes are lost
+pub Reaches-lost : (id : ℕ) (separator : List ℕ) (old mid : Pending) (log log1 log2 : List Event) → Reaches id separator old log mid log1 → mid.ending ≡ None → (IsDecided separator mid.bytes → ⊥) →
+    (log2 ≡ log1) ⊎ ((bytes : List ℕ) × (log2 ≡ Read id bytes ∷ log1)) → (seen : Pending) × Reaches id separator old log seen log2 × (seen.ending ≡ None)
+Reaches-lost id separator old mid log log1 log2 reaches none undecided (inl same) = (mid, subst (λ (l : List Event). Reaches id separator old log mid l) (sym same) reaches, none)
+Reaches-lost id separator old mid log log1 log2 reaches none undecided (inr (bytes, is)) =
+    let seen : Pending = record { bytes = mid.bytes ++ bytes; ending = None } in
+    (seen, Reaches-more id separator old mid seen log log1 log2 (Read id bytes) reaches none undecided is (refl, refl, refl), refl)
+
+pub pulls_lost : (id : ℕ) (separator : List ℕ) (old mid new : Pending) (log log1 log2 : List Event) (result : Result Step RecordFault) → Reaches id separator old log mid log1 → mid.ending ≡ None → (IsDecided separator mid.bytes → ⊥) →
+    (log2 ≡ log1) ⊎ ((bytes : List ℕ) × (log2 ≡ Read id bytes ∷ log1)) → result ≡ Err Memory → Pulls id separator old log result new log2
+pulls_lost id separator old mid new log log1 log2 result reaches none undecided lost is =
+    let found = Reaches-lost id separator old mid log log1 log2 reaches none undecided lost in
+    record { seen = found.0; reads = found.1; ending = λ e. found.2; steps = λ differs. absurd (differs is) }

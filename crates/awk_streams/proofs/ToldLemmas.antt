@@ -1,11 +1,12 @@
 -- The record that an asking answers is what the cut of the whole rest gives.
-use Rattle.std.proofs.Common.{◌≡◌, ◌≢◌, ◌⊎◌, inl, inr, ◌↔◌, ℕ, List, [], ◌++◌, Option, Some, None, Result, Ok, refl, sym, ◌∙◌, ap, subst, append-nil}
+use Rattle.std.proofs.Common.{◌≡◌, ◌≢◌, ◌⊎◌, inl, inr, ◌↔◌, ℕ, List, [], ◌++◌, Option, Some, None, Result, Ok, Err, refl, sym, ◌∙◌, ap, subst, append-nil}
 use Rattle.awk_streams.specs.Log.{Event}
-use Rattle.awk_record.specs.Cut.{Ending, AtBreak, Cut, Found, NoMore, BrokenOff, TooLong, BadSeparator, cut_of, IsDecided}
+use Rattle.awk_record.specs.Cut.{Ending, AtEnd, AtBreak, Cut, Found, NoMore, BrokenOff, TooLong, BadSeparator, cut_of, IsDecided}
 use Rattle.awk_record.specs.Buffer.{Pending, Steps, IsAnswerOf}
 use Rattle.awk_record.specs.declared.buffer.Step.{Step}
 use Rattle.awk_record.specs.declared.buffer.Step.TheVariants.{NeedMore}
 use Rattle.awk_record.specs.declared.fault.RecordFault.{RecordFault}
+use Rattle.awk_record.specs.declared.fault.RecordFault.TheVariants.{Memory, FieldNumber}
 use Rattle.awk_record.proofs.CutLemmas.{IsDecided_law}
 use Rattle.awk_streams.specs.Answers.{Answers, Source, Agrees}
 use Rattle.awk_streams.specs.Inputs.{Reaches, Pulls}
@@ -108,12 +109,31 @@ rest_reaches id separator old seen log log' a s whole (inr (began, goes)) agrees
     subst (λ (l : List Event). Rest a id l s whole seen.bytes seen.ending) (sym goes.log)
     (reads_rest id separator old.bytes seen.bytes seen.ending goes.events a log r.reading s r.more whole goes.each (subst (λ (l : List Event). Agrees a l) goes.log agrees) r.stands r.answer r.begins r.same)
 
-pub told_pulls : DecidedLaw → (id : ℕ) (separator : List ℕ) (old new : Pending) (log log' : List Event) (result : Result Step RecordFault) →
-    Pulls id separator old log result new log' → result ≢ Ok NeedMore → TellsNext id separator old log result new log'
-told_pulls law id separator old new log log' result pulls told a s whole agrees r =
-    told_steps law separator a id log' s whole pulls.seen new result (rest_reaches id separator old pulls.seen log log' a s whole pulls.reads agrees r) pulls.steps told
+told_pulls : DecidedLaw → (id : ℕ) (separator : List ℕ) (old new : Pending) (log log' : List Event) (result : Result Step RecordFault) →
+    Pulls id separator old log result new log' → result ≢ Ok NeedMore → result ≢ Err Memory → TellsNext id separator old log result new log'
+told_pulls law id separator old new log log' result pulls told differs a s whole agrees r =
+    told_steps law separator a id log' s whole pulls.seen new result (rest_reaches id separator old pulls.seen log log' a s whole pulls.reads agrees r) (pulls.steps differs) told
 
--- without the promise of the law, by its lemma
 pub told_next : (id : ℕ) (separator : List ℕ) (old new : Pending) (log log' : List Event) (result : Result Step RecordFault) →
-    Pulls id separator old log result new log' → result ≢ Ok NeedMore → TellsNext id separator old log result new log'
+    Pulls id separator old log result new log' → result ≢ Ok NeedMore → result ≢ Err Memory → TellsNext id separator old log result new log'
 told_next = told_pulls IsDecided_law
+
+-- the buffer never speaks of a field's number
+answer_no_field : (c : Cut) (ending : Option Ending) (result : Result Step RecordFault) (old new : Pending) → IsAnswerOf c ending result old new → result ≡ Err FieldNumber → ⊥
+answer_no_field (Found first rest) ending result old new h is = let bad = sym h.0 ∙ is in cc
+answer_no_field NoMore ending result old new h is = let bad = sym h.0 ∙ is in cc
+answer_no_field BrokenOff ending result old new h is = let bad = sym h.0 ∙ is in cc
+answer_no_field TooLong ending result old new h is = let bad = sym h.0 ∙ is in cc
+answer_no_field BadSeparator ending result old new h is = let bad = sym h.0 ∙ is in cc
+
+more_no_field : (result : Result Step RecordFault) → result ≡ Ok NeedMore → result ≡ Err FieldNumber → ⊥
+more_no_field result more is = let bad = sym more ∙ is in cc
+
+pub steps_no_field : (separator : List ℕ) (old new : Pending) (result : Result Step RecordFault) → Steps separator old result new → result ≡ Err FieldNumber → ⊥
+steps_no_field separator old new result steps is = elim (ending_is old.ending) [
+  | inl none ↦ elim (is_broken_off (cut_of separator old.bytes AtBreak)) [
+    | inl broken ↦ more_no_field result (steps.needs_more none (λ decided. (IsDecided_law separator old.bytes).0 decided broken)).0 is
+    | inr other ↦ answer_no_field (cut_of separator old.bytes AtEnd) None result old new (steps.decided none ((IsDecided_law separator old.bytes).1 other) AtEnd) is
+  ]
+  | inr (e, met) ↦ answer_no_field (cut_of separator old.bytes e) (Some e) result old new (steps.ended e met) is
+]

@@ -27,9 +27,12 @@ pub record InputView : Type 0 where
 pub record StreamsView : Type 0 where
   pub main : Option InputView
 
+abbrev pub view_of : Input → InputView
+view_of input = record { id = input.id; pending = input.buffer }
+
 abbrev pub main_of : Option Input → Option InputView
 main_of None = None
-main_of (Some input) = Some record { id = input.id; pending = input.buffer }
+main_of (Some input) = Some (view_of input)
 
 -- an input of which nothing was read
 abbrev pub IsFreshMain : Option InputView → Type 0

@@ -1,7 +1,9 @@
 // The streams of a run: its main input and its standard outputs.
 ghost use Rattle.std.specs.Prelude.{◌≡◌, ◌≢◌, ◌⊎◌, ℕ, ℤ, [], Some, None, is_some, IsTrue, OnOk, OnErr, IfErr, Ok, Err};
+ghost use Rattle.awk_streams.specs.Ids.{SameOpen};
+ghost use Rattle.awk_streams.specs.Orderly.{IsInOrder};
 ghost use Rattle.awk_streams.specs.Outputs.{IsOutputFault};
-ghost use Rattle.awk_streams.specs.Streams.{AreOpen, AreSound, IsOpenMain, main_of, IsFreshMain, IsSameMain, ClosesMain, closed_main, OpensMain, AsksMain, Prints, Finishes};
+ghost use Rattle.awk_streams.specs.Streams.{AreOpen, AreSound, StandsAsMain, IsOpenMain, view_of, main_of, IsFreshMain, IsSameMain, ClosesMain, closed_main, OpensMain, AsksMain, Prints, Finishes};
 ghost use Rattle.awk_streams.specs.Told.{IsToldAs};
 
 use crate::fault::StreamFault;
@@ -34,6 +36,23 @@ fn told(step: Result<Step, RecordFault>) -> Result<Option<Bytes>, StreamFault>
         Err(RecordFault::RecordTooLong) => Err(StreamFault::RecordTooLong),
         Err(RecordFault::FieldNumber) => unreachable!(),
     }
+}
+
+// The next record of the main input.
+fn next_of<W: World>(
+    input: &mut Input,
+    world: &mut W,
+    separator: &[u8],
+) -> Result<Option<Bytes>, StreamFault>
+    requires { IsTrue (W.is_open world.old input.old.id) }
+    ensures same { input.new.id ≡ input.old.id }
+    ensures open { SameOpen (W.is_open world.old) (W.is_open world.new) }
+    ensures fault { result ≢ Err StreamFault.WriteFailed }
+    ensures told { W.tells → IsInOrder (W.is_open world.old) (W.log world.old) → StandsAsMain (W.log world.old) (view_of input.old) →
+        AsksMain separator.now (W.is_open world.old) (W.log world.old) (W.mark world.old) (record { main = Some (view_of input.old) }) result (W.is_open world.new) (W.log world.new) (W.mark world.new) (record { main = Some (view_of input.new) }) }
+{
+    let mut chunk = [0u8; 1];
+    told(next_from(world, input.id, &mut input.buffer, separator, &mut chunk))
 }
 
 // Closes the input, if there is one.
@@ -119,11 +138,10 @@ impl Streams {
         ensures fault { result ≢ Err StreamFault.WriteFailed }
         ensures told { W.tells → AsksMain separator.now (W.is_open world.old) (W.log world.old) (W.mark world.old) self.old result (W.is_open world.new) (W.log world.new) (W.mark world.new) self.new }
     {
-        let Some(input) = &mut self.main else {
-            unreachable!()
-        };
-        let mut chunk = [0u8; 1];
-        told(next_from(world, input.id, &mut input.buffer, separator, &mut chunk))
+        match &mut self.main {
+            Some(input) => next_of(input, world, separator),
+            None => unreachable!(),
+        }
     }
 
     /// Prints the bytes to standard output. Fails with `Memory` (F1) or `WriteFailed` (F2); then a

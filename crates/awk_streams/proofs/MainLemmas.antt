@@ -1,0 +1,175 @@
+-- What opening the main input and asking for its records come to.
+use Rattle.std.proofs.Common.{◌≡◌, ◌≢◌, ◌⊎◌, inl, inr, ℕ, ◌+◌, Bool, true, false, ◌==◌, if◌then◌else◌, List, [], ◌∷◌, ◌++◌, Option, Some, None, Result, Ok, Err, refl, sym, ◌∙◌, ap, subst, arith}
+use Rattle.std.specs.Prelude.{is_some}
+use Rattle.std.proofs.lemmas.Bool.{cond-true, cond-false, ne_eqb, eq-eqb, cases_eq}
+use Rattle.awk_record.specs.Cut.{Ending, Cut, Found, NoMore, BrokenOff, TooLong, BadSeparator, cut_of}
+use Rattle.awk_record.specs.Buffer.{Pending}
+use Rattle.awk_record.specs.declared.buffer.Step.{Step}
+use Rattle.awk_record.specs.declared.buffer.Step.TheVariants.{Record, NeedMore, End, Broken}
+use Rattle.awk_record.specs.declared.fault.RecordFault.{RecordFault}
+use Rattle.awk_record.specs.declared.fault.RecordFault.TheVariants.{Memory as BufferMemory, FieldNumber, SeparatorTooLong as BufferSeparatorTooLong, RecordTooLong as BufferRecordTooLong}
+use Rattle.awk_streams.specs.declared.world.InputKind.{InputKind}
+use Rattle.awk_streams.specs.declared.world.InputKind.TheVariants.{Command}
+use Rattle.awk_streams.specs.declared.fault.StreamFault.{StreamFault}
+use Rattle.awk_streams.specs.declared.fault.StreamFault.TheVariants.{Memory, InputNotReadable}
+use Rattle.awk_streams.specs.Ids.{IsFresh, Opens, SameOpen}
+use Rattle.awk_streams.specs.Log.{Event, OpenedInput}
+use Rattle.awk_streams.specs.Answers.{Answers, Source, Agrees, AnInput, Standing, new_reading, how_many, opens_input, standing}
+use Rattle.awk_streams.specs.Orderly.{IsReadable, IsOrderly, IsInOrder}
+use Rattle.awk_streams.specs.Writes.{with_events, received}
+use Rattle.awk_streams.specs.Inputs.{Reaches, Pulls}
+use Rattle.awk_streams.specs.Rest.{Rest}
+use Rattle.awk_streams.specs.Kept.{SameCounts, SameStreams}
+use Rattle.awk_streams.specs.Told.{Tells, IsToldAs, NextTold}
+use Rattle.awk_streams.specs.Streams.{InputView, StreamsView, AreSound, StandsAsMain, Grows, IsMainRest, CountsInput, OpensMain, AsksMain}
+use Rattle.awk_streams.proofs.AgreesLemmas.{agrees-before}
+use Rattle.awk_streams.proofs.Exist.{opens_input-self}
+use Rattle.awk_streams.proofs.KeptLemmas.{same_counts-self, quiet_streams, reads_orderly, reads_quiet, reads_received}
+use Rattle.awk_streams.proofs.ToldLemmas.{told_next}
+
+none_more : (n : ℕ) → 0 + n ≡ n
+none_more n = omega arith
+
+no_ending : {P : Type 0} (e : Ending) → None ≡ Some e → P
+no_ending e is = cc
+
+-- nothing stands under a number that is not open
+standing_none : (o : Option Standing) → (is_some o ≡ true → ⊥) → o ≡ None
+standing_none None closed = refl
+standing_none (Some s) closed = absurd (closed refl)
+
+false_true : false ≡ true → ⊥
+false_true e = cc
+
+free_of_fresh : (is_open : ℕ → Bool) (log : List Event) (id : ℕ) → IsInOrder is_open log → IsFresh is_open id → standing id log ≡ None
+free_of_fresh is_open log id order fresh = standing_none (standing id log) (λ some. false_true (sym fresh.not_open ∙ order.known id some))
+
+opened_known : (is_open is_open' : ℕ → Bool) (kind : InputKind) (name : List ℕ) (log : List Event) (id j : ℕ) → IsInOrder is_open log → Opens is_open is_open' id →
+    is_some (standing j (OpenedInput kind name (Some id) ∷ log)) ≡ true → is_open' j ≡ true
+opened_known is_open is_open' kind name log id j order opens some = elim (cases_eq j id) [
+  | inl same ↦ opens j ∙ cond-true _ _ _ (eq-eqb j id same)
+  | inr differs ↦
+      let still : standing j (OpenedInput kind name (Some id) ∷ log) ≡ standing j log = cond-false _ _ _ (ne_eqb id j (λ (e : id ≡ j). differs (sym e))) in
+      opens j ∙ (cond-false _ _ _ (ne_eqb j id differs) ∙ order.known j (ap is_some (sym still) ∙ some))
+]
+
+opened_order : (is_open is_open' : ℕ → Bool) (kind : InputKind) (name : List ℕ) (log : List Event) (id : ℕ) → IsInOrder is_open log → IsFresh is_open id → Opens is_open is_open' id →
+    IsInOrder is_open' (OpenedInput kind name (Some id) ∷ log)
+opened_order is_open is_open' kind name log id order fresh opens = record {
+  orderly = (record { none = free_of_fresh is_open log id order fresh; named = fresh.named }, order.orderly);
+  known = λ j some. opened_known is_open is_open' kind name log id j order opens some;
+}
+
+opened_counts : (kind : InputKind) (name : List ℕ) (id : Option ℕ) (log : List Event) → CountsInput kind name log (OpenedInput kind name id ∷ log)
+opened_counts kind name id log = record {
+  one_more =
+      let one = opens_input-self kind name in
+      let is : how_many (opens_input kind name) (OpenedInput kind name id ∷ log) ≡ 1 + how_many (opens_input kind name) log = ap (λ (b : Bool). (if b then 1 else 0) + how_many (opens_input kind name) log) one in
+      omega (arith, is);
+  inputs = λ k n. refl;
+  outputs = λ k n. none_more _;
+  closings = none_more _;
+  runs = none_more _;
+}
+
+-- a granted opening
+pub opens_granted : (kind : InputKind) (name : List ℕ) (is_open is_open' : ℕ → Bool) (log log' : List Event) (mark mark' : Option ℕ) (old : StreamsView) (id : ℕ) (p : Pending) (u : Unit {0}) → kind ≢ Command → p.bytes ≡ [] → p.ending ≡ None →
+    IsFresh is_open id → Opens is_open is_open' id → log' ≡ OpenedInput kind name (Some id) ∷ log → mark' ≡ mark →
+    OpensMain kind name is_open log mark old (Ok u) is_open' log' mark' record { main = Some record { id = id; pending = p } }
+opens_granted kind name is_open is_open' log log' mark mark' old id p u plain empty unended fresh opens is same_mark =
+    let view : StreamsView = record { main = Some record { id = id; pending = p } } in
+    subst (λ (l : List Event). OpensMain kind name is_open log mark old (Ok u) is_open' l mark' view) (sym is) record {
+      sound = λ s. record {
+        order = opened_order is_open is_open' kind name log id s.order fresh opens;
+        main = record {
+          kind = kind;
+          plain = plain;
+          stands = cond-true _ _ _ (eq-eqb id id refl);
+          readable = λ none. record { reading = new_reading kind name log; stands = cond-true _ _ _ (eq-eqb id id refl); unended = refl };
+        };
+      };
+      grows = record { agrees = λ a h. h.1; clear = λ none. sym same_mark ∙ none };
+      adds = refl;
+      outputs = λ j. refl;
+      counts = λ differs. opened_counts kind name (Some id) log;
+      granted = λ a agrees.
+          let source = agrees.0 in (
+            source.0,
+            source.1,
+            (
+              source.0,
+              refl,
+              record {
+                reading = new_reading kind name log;
+                stands = cond-true _ _ _ (eq-eqb id id refl);
+                answer = source.1;
+                more = source.0.bytes;
+                begins = refl;
+                same = ap (λ b. b ++ source.0.bytes) (sym empty);
+                over = λ e some. no_ending e (sym unended ∙ some);
+              },
+            ),
+          );
+      refused = λ e. let bad : Ok u ≡ Err InputNotReadable = e in absurd cc;
+      unmarked = λ differs. same_mark;
+      marked = λ e. let bad : Ok u ≡ Err Memory = e in absurd cc;
+    }
+
+-- from one asking of the buffer to what the streams tell
+next_told : (c : Cut) (step : Result Step RecordFault) (result : Result (Option (List ℕ)) StreamFault) (whole left : List ℕ) → IsToldAs step result → Tells c step whole left → NextTold c result whole left
+next_told (Found first rest) step result whole left says tells = (subst (λ (r : Result Step RecordFault). IsToldAs r result) tells.0 says, tells.1)
+next_told NoMore step result whole left says tells = (subst (λ (r : Result Step RecordFault). IsToldAs r result) tells.0 says, tells.1)
+next_told BrokenOff step result whole left says tells = (subst (λ (r : Result Step RecordFault). IsToldAs r result) tells.0 says, tells.1)
+next_told TooLong step result whole left says tells = (subst (λ (r : Result Step RecordFault). IsToldAs r result) tells.0 says, tells.1)
+next_told BadSeparator step result whole left says tells = (subst (λ (r : Result Step RecordFault). IsToldAs r result) tells.0 says, tells.1)
+
+-- a want of memory is told as such
+memory_told : (step : Result Step RecordFault) (result : Result (Option (List ℕ)) StreamFault) → IsToldAs step result → step ≡ Err BufferMemory → result ≡ Err Memory
+memory_told step result says is = subst (λ (r : Result Step RecordFault). IsToldAs r result) is says
+
+reaches_agrees : (id : ℕ) (separator : List ℕ) (old seen : Pending) (log log' : List Event) (a : Answers) → Reaches id separator old log seen log' → Agrees a log' → Agrees a log
+reaches_agrees id separator old seen log log' a (inl (same, still)) agrees = subst (λ (l : List Event). Agrees a l) still agrees
+reaches_agrees id separator old seen log log' a (inr (began, goes)) agrees = agrees-before a goes.events log (subst (λ (l : List Event). Agrees a l) goes.log agrees)
+
+reaches_received : (id j : ℕ) (separator : List ℕ) (old seen : Pending) (log log' : List Event) → Reaches id separator old log seen log' → received j log' ≡ received j log
+reaches_received id j separator old seen log log' (inl (same, still)) = ap (received j) still
+reaches_received id j separator old seen log log' (inr (began, goes)) = ap (received j) goes.log ∙ reads_received id j separator old.bytes seen.bytes seen.ending goes.events log goes.each
+
+reaches_streams : (id : ℕ) (separator : List ℕ) (old seen : Pending) (log log' : List Event) → Reaches id separator old log seen log' → SameStreams log log'
+reaches_streams id separator old seen log log' (inl (same, still)) = subst (λ (l : List Event). SameStreams log l) (sym still) record { stands = λ j. refl; counts = same_counts-self log }
+reaches_streams id separator old seen log log' (inr (began, goes)) =
+    subst (λ (l : List Event). SameStreams log l) (sym goes.log) (quiet_streams goes.events log (reads_quiet id separator old.bytes seen.bytes seen.ending goes.events goes.each))
+
+-- needed readings keep the log orderly, and the input readable unless its ending was met
+abbrev IsKeptBy : ℕ → Pending → List Event → Type 0
+IsKeptBy id seen log = IsOrderly log × (seen.ending ≡ None → IsReadable id log)
+
+reaches_order : (id : ℕ) (separator : List ℕ) (old seen : Pending) (log log' : List Event) → Reaches id separator old log seen log' → IsOrderly log → (old.ending ≡ None → IsReadable id log) → IsKeptBy id seen log'
+reaches_order id separator old seen log log' (inl (same, still)) orderly readable =
+    subst (λ (l : List Event). IsKeptBy id seen l) (sym still) (orderly, λ none. readable (ap (λ (p : Pending). p.ending) (sym same) ∙ none))
+reaches_order id separator old seen log log' (inr (began, goes)) orderly readable =
+    subst (λ (l : List Event). IsKeptBy id seen l) (sym goes.log) (reads_orderly id separator old.bytes seen.bytes seen.ending goes.events log goes.each (readable began) orderly)
+
+-- one asking for a record of the main input
+pub asks_main : (separator : List ℕ) (is_open is_open' : ℕ → Bool) (log log' : List Event) (mark mark' : Option ℕ) (v : InputView) (new : Pending) (step : Result Step RecordFault) (result : Result (Option (List ℕ)) StreamFault) →
+    SameOpen is_open is_open' → IsInOrder is_open log → StandsAsMain log v → Pulls v.id separator v.pending log step new log' → step ≢ Ok NeedMore → IsToldAs step result →
+    (step ≢ Err BufferMemory → mark' ≡ mark) → (mark' ≡ None → mark ≡ None) →
+    AsksMain separator is_open log mark record { main = Some v } result is_open' log' mark' record { main = Some record { id = v.id; pending = new } }
+asks_main separator is_open is_open' log log' mark mark' v new step result same order main pulls told says unmarked clear =
+    let streams : SameStreams log log' = reaches_streams v.id separator v.pending pulls.seen log log' pulls.reads in
+    let kept : IsKeptBy v.id pulls.seen log' = reaches_order v.id separator v.pending pulls.seen log log' pulls.reads order.orderly main.readable in
+    record {
+      sound = record {
+        order = record { orderly = kept.0; known = λ j some. same j ∙ order.known j (ap is_some (sym (streams.stands j)) ∙ some) };
+        main = record { kind = main.kind; plain = main.plain; stands = streams.stands v.id ∙ main.stands; readable = λ none. kept.1 (pulls.ending none) };
+      };
+      grows = record { agrees = λ a agrees. reaches_agrees v.id separator v.pending pulls.seen log log' a pulls.reads agrees; clear = clear };
+      demand = (pulls.seen, pulls.reads);
+      outputs = λ j. reaches_received v.id j separator v.pending pulls.seen log log' pulls.reads;
+      counts = streams.counts;
+      answered = λ differs a whole agrees rest.
+          let tells = told_next v.id separator v.pending new log log' step pulls told (λ is. differs (memory_told step result says is)) a rest.0 whole.bytes agrees rest.2 in
+          let here : Tells (cut_of separator whole.bytes whole.ending) step whole.bytes tells.0 = subst (λ (e : Ending). Tells (cut_of separator whole.bytes e) step whole.bytes tells.0) rest.1 tells.1 in
+          (tells.0, next_told (cut_of separator whole.bytes whole.ending) step result whole.bytes tells.0 says here, (rest.0, rest.1, tells.2));
+      unmarked = λ differs. unmarked (λ is. differs (memory_told step result says is));
+    }
