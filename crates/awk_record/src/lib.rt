@@ -8,6 +8,7 @@ mod buffer;
 mod fault;
 mod place;
 mod record;
+mod search;
 
 pub use buffer::{RecordBuffer, Step};
 pub use fault::RecordFault;
@@ -18,3 +19,6 @@ pub use record::Record;
 pub fn decided_law()
     ensures { (separator bytes : List ℕ) → IsDecided separator bytes ↔ (cut_of separator bytes AtBreak ≢ BrokenOff) }
 {}
+
+#[cfg(test)]
+mod tests;

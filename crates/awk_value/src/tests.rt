@@ -32,8 +32,18 @@ const LEAST: i128 = i128::MIN;
 
 const LARGEST: i128 = i128::MAX;
 
+const LARGEST_TEXT: &str = "170141183460469231731687303715884105727";
+
+const PAST_LARGEST_TEXT: &str = "170141183460469231731687303715884105728";
+
+const FAR_PAST_LARGEST_TEXT: &str = "4444444444444444444444444444444444444444444444";
+
+const LEAST_TEXT: &str = "-170141183460469231731687303715884105728";
+
+const PAST_LEAST_TEXT: &str = "-170141183460469231731687303715884105729";
+
 /// Texts with their number, and whether they are true as texts and as input texts.
-const CONVERSIONS: [(&str, Result<i128, ValueFault>, bool, bool); 16] = [
+const CONVERSIONS: [(&str, Result<i128, ValueFault>, bool, bool); 17] = [
     ("", Ok(0), false, false),
     ("0", Ok(0), true, false),
     (" -0\n", Ok(0), true, false),
@@ -45,36 +55,12 @@ const CONVERSIONS: [(&str, Result<i128, ValueFault>, bool, bool); 16] = [
     ("x1", Ok(0), true, true),
     ("+-3", Ok(0), true, true),
     ("- 3", Ok(0), true, true),
-    (
-        "00000000000000000000000000000000000000000000000000005",
-        Ok(5),
-        true,
-        true,
-    ),
-    (
-        "170141183460469231731687303715884105727",
-        Ok(LARGEST),
-        true,
-        true,
-    ),
-    (
-        "-170141183460469231731687303715884105728",
-        Ok(LEAST),
-        true,
-        true,
-    ),
-    (
-        "170141183460469231731687303715884105728",
-        Err(ValueFault::Range),
-        true,
-        true,
-    ),
-    (
-        "-170141183460469231731687303715884105729",
-        Err(ValueFault::Range),
-        true,
-        true,
-    ),
+    ("00000000000000000000000005", Ok(5), true, true),
+    (LARGEST_TEXT, Ok(LARGEST), true, true),
+    (LEAST_TEXT, Ok(LEAST), true, true),
+    (PAST_LARGEST_TEXT, Err(ValueFault::Range), true, true),
+    (PAST_LEAST_TEXT, Err(ValueFault::Range), true, true),
+    (FAR_PAST_LARGEST_TEXT, Err(ValueFault::Range), true, true),
 ];
 
 const ORDERS: [(Given, Given, Ordering); 16] = [
@@ -87,11 +73,7 @@ const ORDERS: [(Given, Given, Ordering); 16] = [
     (Text(" +12 "), Input("12"), Less),
     (Input("1x"), Number(2), Less),
     (Input("10x"), Number(9), Less),
-    (
-        Input("170141183460469231731687303715884105728"),
-        Number(2),
-        Less,
-    ),
+    (Input(PAST_LARGEST_TEXT), Number(2), Less),
     (Number(LEAST), Input("-1"), Less),
     (Nothing, Number(0), Equal),
     (Nothing, Text(""), Equal),
@@ -100,49 +82,60 @@ const ORDERS: [(Given, Given, Ordering); 16] = [
     (Text("é"), Text("z"), Greater),
 ];
 
+const POWER_63: i128 = 9_223_372_036_854_775_808;
+
+const POWER_64: i128 = 18_446_744_073_709_551_616;
+
 const PRODUCTS: [(Given, Given, Result<i128, ValueFault>); 9] = [
     (Number(6), Number(-7), Ok(-42)),
     (Text("-3x"), Input(" 4 "), Ok(-12)),
     (Nothing, Number(LEAST), Ok(0)),
     (Number(1), Number(LEAST), Ok(LEAST)),
-    (
-        Number(18446744073709551616),
-        Number(-9223372036854775808),
-        Ok(LEAST),
-    ),
-    (
-        Number(18446744073709551616),
-        Number(9223372036854775808),
-        Err(ValueFault::Range),
-    ),
+    (Number(POWER_63), Number(-POWER_64), Ok(LEAST)),
+    (Number(POWER_63), Number(POWER_64), Err(ValueFault::Range)),
     (Number(-1), Number(LEAST), Err(ValueFault::Range)),
     (Number(LARGEST), Number(2), Err(ValueFault::Range)),
-    (
-        Number(0),
-        Text("170141183460469231731687303715884105728"),
-        Err(ValueFault::Range),
-    ),
+    (Number(0), Text(PAST_LARGEST_TEXT), Err(ValueFault::Range)),
+];
+
+const TEXTS: [(Given, &str); 5] = [
+    (Nothing, ""),
+    (Number(0), "0"),
+    (Number(LEAST), LEAST_TEXT),
+    (Text("a b"), "a b"),
+    (Input(" 7 "), " 7 "),
 ];
 
 #[test]
-fn numbers_orders_and_products(rt: HostRuntime) -> Result<(), Fail> {
+fn conversions(rt: HostRuntime) -> Result<(), Fail> {
     for (text, number, text_true, input_true) in CONVERSIONS {
         let made = Text(text).value(rt.alloc())?;
         let given = Input(text).value(rt.alloc())?;
-        assert_eq!(rt; number_of(&made), number, "{text:?}");
-        assert_eq!(rt; number_of(&given), number, "{text:?}");
-        assert_eq!(rt; is_true(&made), text_true, "{text:?}");
-        assert_eq!(rt; is_true(&given), input_true, "{text:?}");
+        let numbers = (number_of(&made), number_of(&given));
+        assert_eq!(rt; numbers, (number, number), "{text:?}");
+        assert_eq!(rt;
+            (is_true(&made), is_true(&given)),
+            (text_true, input_true),
+            "{text:?}"
+        );
     }
+    Ok(())
+}
+
+#[test]
+fn orders(rt: HostRuntime) -> Result<(), Fail> {
     for (left, right, order) in ORDERS {
         let compared = compare(&left.value(rt.alloc())?, &right.value(rt.alloc())?);
         assert_eq!(rt; compared, Ok(order), "{left:?} {right:?}");
     }
+    Ok(())
+}
+
+#[test]
+fn products(rt: HostRuntime) -> Result<(), Fail> {
     for (left, right, product) in PRODUCTS {
-        let number = match multiply(&left.value(rt.alloc())?, &right.value(rt.alloc())?) {
-            Ok(value) => number_of(&value),
-            Err(fault) => Err(fault),
-        };
+        let value = multiply(&left.value(rt.alloc())?, &right.value(rt.alloc())?);
+        let number = value.and_then(|value| number_of(&value));
         assert_eq!(rt; number, product, "{left:?} {right:?}");
     }
     Ok(())
@@ -151,13 +144,7 @@ fn numbers_orders_and_products(rt: HostRuntime) -> Result<(), Fail> {
 #[test]
 fn texts(rt: HostRuntime) -> Result<(), Fail> {
     let mut line = Vec::new(rt.alloc());
-    for (given, text) in [
-        (Nothing, ""),
-        (Number(0), "0"),
-        (Number(LEAST), "-170141183460469231731687303715884105728"),
-        (Text("a b"), "a b"),
-        (Input(" 7 "), " 7 "),
-    ] {
+    for (given, text) in TEXTS {
         let value = given.value(rt.alloc())?.clone()?;
         assert_eq!(rt; text_of(rt.alloc(), &value)?.as_slice(), text.as_bytes());
         append_text(&value, &mut line)?;
@@ -166,25 +153,28 @@ fn texts(rt: HostRuntime) -> Result<(), Fail> {
         line.as_slice(),
         b"0-170141183460469231731687303715884105728a b 7 ".as_slice()
     );
+    Ok(())
+}
 
-    let whole = Bytes::from_vec(rt.alloc(), line)?;
-    assert!(rt; 44 <= whole.len());
-    let cut = whole.cut(41, 44)?;
+#[test]
+fn cuts(rt: HostRuntime) -> Result<(), Fail> {
+    let whole = Bytes::from_slice(rt.alloc(), b"one two three")?;
+    let two = whole.cut(4, 7)?;
     drop(whole);
-    assert_eq!(rt; cut.as_slice(), b"a b".as_slice());
-    assert_eq!(rt; (cut.len(), cut.is_empty()), (3, false));
-    assert!(rt; cut.cut(1, 1)?.is_empty());
+    assert_eq!(rt; two.as_slice(), b"two".as_slice());
+    assert_eq!(rt; two.cut(1, 3)?.clone()?.as_slice(), b"wo".as_slice());
+    assert!(rt; two.cut(3, 3)?.is_empty());
+    Ok(())
+}
 
-    let faults = format!(in rt.alloc();
-        "{}, {}",
-        ValueFault::Memory,
-        ValueFault::from(AllocError)
-    )?;
-    assert_eq!(rt; faults.as_str(), "out of memory, out of memory");
-    let range = ValueFault::Range;
-    assert_eq!(rt;
-        format!(in rt.alloc(); "{range}")?.as_str(),
-        "number out of range"
-    );
+#[test]
+fn fault_texts(rt: HostRuntime) -> Result<(), Fail> {
+    let faults = [ValueFault::from(AllocError), ValueFault::Range];
+    for (fault, text) in faults
+        .into_iter()
+        .zip(["out of memory", "number out of range"])
+    {
+        assert_eq!(rt; format!(in rt.alloc(); "{fault}")?.as_str(), text);
+    }
     Ok(())
 }

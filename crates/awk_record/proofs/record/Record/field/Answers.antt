@@ -16,7 +16,7 @@ span_is_within c =
     let spans = c.self.inside.spans.items in
     let low : pos 0 <ℤ number = omega (arith, ints) in
     let at : IsSpanAt spans number c.span_of.result =
-      λ i is. c.span_of.ensures i (to_z-of_z w128 number c.ranges.number ∙ is) ∙ ap (λ (items : List Span). slice_get items i) c.as_slice.ensures.value in
+    λ i is. c.span_of.ensures i (to_z-of_z w128 number c.ranges.number ∙ is) ∙ ap (λ (items : List Span). slice_get items i) c.as_slice.ensures.value in
     found_within c.self.inside.text spans number c.span_of.result c.in-Some.span low at c.in-Some.is c.self.invariant
 
 pub cut-requires-clause-ordered : goal.cut-requires-clause-ordered
@@ -32,7 +32,7 @@ returns-clause-field c = λ _.
     let spans = c.self.inside.spans.items in
     let low : pos 0 <ℤ number = omega (arith, ints) in
     let at : IsSpanAt spans number c.span_of.result =
-      λ i is. c.span_of.ensures i (to_z-of_z w128 number c.ranges.number ∙ is) ∙ ap (λ (items : List Span). slice_get items i) c.as_slice.ensures.value in
+    λ i is. c.span_of.ensures i (to_z-of_z w128 number c.ranges.number ∙ is) ∙ ap (λ (items : List Span). slice_get items i) c.as_slice.ensures.value in
     let whole : field_of (spanned text spans) number ≡ field_of c.args.self.now number = ap (λ (r : RecordPair). field_of r number) c.self.view_is in
     elim c.match-span_of.branch [
       | in-Some+in_ok-cut-in-Some w ↦
