@@ -2,6 +2,7 @@
 #![tactic(auto)]
 
 pub mod build;
+pub mod frame;
 pub mod kept;
 pub mod level;
 pub mod role;
