@@ -51,7 +51,10 @@ pub fn binary(
 }
 
 /// A list with one expression more.
-pub fn one_more_expr(list: Option<LowExprs>, expr: Option<LowExpr>) -> Result<Option<LowExprs>, AllocError>
+pub fn one_more_expr(
+    list: Option<LowExprs>,
+    expr: Option<LowExpr>,
+) -> Result<Option<LowExprs>, AllocError>
     ensures { IfOk result (λ xs. kept_exprs xs ≡ over_two 200 tallest append (kept_exprs list) (kept_expr expr)) }
 {
     let Some(kept) = list else {
@@ -137,7 +140,10 @@ pub fn rule(expr: Option<LowExpr>, action: Option<LowStatements>) -> Option<LowI
 }
 
 /// A program with one item more.
-pub fn one_more_item(items: Option<LowItems>, item: Option<LowItem>) -> Result<Option<LowItems>, AllocError>
+pub fn one_more_item(
+    items: Option<LowItems>,
+    item: Option<LowItem>,
+) -> Result<Option<LowItems>, AllocError>
     ensures { IfOk result (λ xs. kept_items xs ≡ over_two 200 height_of_program add (kept_items items) (kept_item item)) }
 {
     let Some(kept) = items else {

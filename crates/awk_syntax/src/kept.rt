@@ -1,10 +1,11 @@
 // Trees that are not too high, each with its height.
 
-ghost use Rattle.std.specs.Prelude.{◌≡◌, ◌≤◌};
+ghost use Rattle.std.specs.Prelude.{◌≡◌, ◌≤◌, []};
 ghost use Rattle.awk_syntax.specs.Height.{height_of, tallest, height_of_statement, tallest_of, height_of_item, height_of_program};
 ghost use Rattle.awk_syntax.specs.View.{expr_of, exprs_of, statement_of, statements_of, item_of, items_of};
 
 use crate::tree::{Expr, Item, Statement};
+use std::alloc::Global;
 
 /// No program is higher.
 pub const MOST_HEIGHT: u32 = 200;
@@ -27,6 +28,18 @@ pub struct LowExprs {
     ghost low: { height ≤ 200 },
 }
 
+impl LowExprs {
+    /// None so far.
+    pub fn new(alloc: Global) -> LowExprs
+        ensures { result.exprs.items ≡ [] }
+    {
+        LowExprs {
+            exprs: Vec::new(alloc),
+            height: 0,
+        }
+    }
+}
+
 /// A statement that is not too high.
 #[derive(Drop)]
 pub struct LowStatement {
@@ -45,6 +58,18 @@ pub struct LowStatements {
     ghost low: { height ≤ 200 },
 }
 
+impl LowStatements {
+    /// None so far.
+    pub fn new(alloc: Global) -> LowStatements
+        ensures { result.statements.items ≡ [] }
+    {
+        LowStatements {
+            statements: Vec::new(alloc),
+            height: 0,
+        }
+    }
+}
+
 /// An item that is not too high.
 #[derive(Drop)]
 pub struct LowItem {
@@ -57,4 +82,15 @@ pub struct LowItem {
 pub struct LowItems {
     pub items: Vec<Item>,
     ghost low: { height_of_program (items_of items.items) ≤ 200 },
+}
+
+impl LowItems {
+    /// None so far.
+    pub fn new(alloc: Global) -> LowItems
+        ensures { result.items.items ≡ [] }
+    {
+        LowItems {
+            items: Vec::new(alloc),
+        }
+    }
 }
