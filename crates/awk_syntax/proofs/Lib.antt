@@ -3,3 +3,4 @@ pub mod Complete
 pub mod Program
 pub mod Sound
 pub mod Rows
+pub mod Verdicts

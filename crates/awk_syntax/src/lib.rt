@@ -7,6 +7,7 @@ pub mod kept;
 pub mod level;
 pub mod machine;
 pub mod operands;
+pub mod parse;
 pub mod role;
 pub mod state;
 pub mod statements;
