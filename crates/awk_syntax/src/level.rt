@@ -7,7 +7,7 @@ use crate::tree::BinaryOperator;
 
 impl BinaryOperator {
     /// The row of the node, the tightest first.
-    pub fn level(self) -> u8
+    pub(crate) fn level(self) -> u8
         ensures { result ≡ level_of self }
     {
         match self {
@@ -22,7 +22,7 @@ impl BinaryOperator {
     }
 
     /// The loosest row that may stand left of the operator.
-    pub fn left(self) -> u8
+    pub(crate) fn left(self) -> u8
         ensures { result ≡ left self }
     {
         match self {
@@ -37,7 +37,7 @@ impl BinaryOperator {
     }
 
     /// The loosest row that may stand right of it.
-    pub fn right(self) -> u8
+    pub(crate) fn right(self) -> u8
         ensures { result ≡ right self }
     {
         match self {

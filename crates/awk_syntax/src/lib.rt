@@ -1,14 +1,16 @@
 //! Syntax trees, and reading them from tokens.
 #![tactic(auto)]
 
-pub mod build;
-pub mod frame;
-pub mod kept;
-pub mod level;
-pub mod machine;
-pub mod operands;
+mod build;
+mod frame;
+mod kept;
+mod level;
+mod machine;
+mod operands;
 pub mod parse;
-pub mod role;
-pub mod state;
-pub mod statements;
+mod role;
+mod state;
+mod statements;
+#[cfg(test)]
+mod tests;
 pub mod tree;
