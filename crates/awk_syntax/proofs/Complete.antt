@@ -134,21 +134,21 @@ list_closed m e xs k y r AtNewline = refl
 list_closed m e xs k y r AtBrace = refl
 
 abbrev join : Exprs → Exprs → Exprs
-join done Nil = done
-join done (Cons e xs) = join (append done e) xs
+join made Nil = made
+join made (Cons e xs) = join (append made e) xs
 
-list_read : (m : ℕ) (e : Expr) (xs done : Exprs) (s : Bool) (ts : List Kind) (y : Kind) (r : List Kind) (k : List Frame) → Leveled true e → AllLeveled true xs → SpellsList (Cons e xs) ts (y ∷ r) → Stopper y → answer m (Expect s true (InPrint (pruned_list m done) ∷ k)) ts ≡ answer m (end_with m y (pruned_statement m (Print (join done (Cons e xs)))) k) r
-list_read m e Nil done s ts y r k l n p h =
-    complete m e ts (y ∷ r) s true (InPrint (pruned_list m done) ∷ k) l (subst (Spells e ts) p.2 p.1) (level_most e) (stops_there m e y h)
-    ∙ list_closed m (pruned m e) (pruned_list m done) k y r h
-    ∙ ap (λ z. answer m (end_with m y (printed m z) k) r) (one_more-pruned m done e)
-    ∙ ap (λ z. answer m (end_with m y z k) r) (printed-pruned m (append done e))
-list_read m e (Cons d xs) done s ts y r k l n p h =
+list_read : (m : ℕ) (e : Expr) (xs made : Exprs) (s : Bool) (ts : List Kind) (y : Kind) (r : List Kind) (k : List Frame) → Leveled true e → AllLeveled true xs → SpellsList (Cons e xs) ts (y ∷ r) → Stopper y → answer m (Expect s true (InPrint (pruned_list m made) ∷ k)) ts ≡ answer m (end_with m y (pruned_statement m (Print (join made (Cons e xs)))) k) r
+list_read m e Nil made s ts y r k l n p h =
+    complete m e ts (y ∷ r) s true (InPrint (pruned_list m made) ∷ k) l (subst (Spells e ts) p.2 p.1) (level_most e) (stops_there m e y h)
+    ∙ list_closed m (pruned m e) (pruned_list m made) k y r h
+    ∙ ap (λ z. answer m (end_with m y (printed m z) k) r) (one_more-pruned m made e)
+    ∙ ap (λ z. answer m (end_with m y z k) r) (printed-pruned m (append made e))
+list_read m e (Cons d xs) made s ts y r k l n p h =
     let q = p.2 in
-    complete m e ts (t.Comma ∷ newlines q.0 q.1) s true (InPrint (pruned_list m done) ∷ k) l (subst (Spells e ts) q.3 p.1) (level_most e) (stops_end m e)
-    ∙ over_newlines m q.0 true (InPrint (one_more m (pruned_list m done) (pruned m e)) ∷ k) q.1
-    ∙ ap (λ z. answer m (Expect true true (InPrint z ∷ k)) q.1) (one_more-pruned m done e)
-    ∙ list_read m d xs (append done e) true q.1 y r k n.0 n.1 (q.2, q.4, q.5) h
+    complete m e ts (t.Comma ∷ newlines q.0 q.1) s true (InPrint (pruned_list m made) ∷ k) l (subst (Spells e ts) q.3 p.1) (level_most e) (stops_end m e)
+    ∙ over_newlines m q.0 true (InPrint (one_more m (pruned_list m made) (pruned m e)) ∷ k) q.1
+    ∙ ap (λ z. answer m (Expect true true (InPrint z ∷ k)) q.1) (one_more-pruned m made e)
+    ∙ list_read m d xs (append made e) true q.1 y r k n.0 n.1 (q.2, q.4, q.5) h
 
 plus : Exprs → Exprs → Exprs
 plus Nil ys = ys
@@ -159,14 +159,14 @@ unfolding plus
 plus_nil Nil = refl
 plus_nil (Cons d xs) = ap (Cons d) (plus_nil xs)
 
-plus_append : (done : Exprs) (e : Expr) (ys : Exprs) → plus (append done e) ys ≡ plus done (Cons e ys)
+plus_append : (made : Exprs) (e : Expr) (ys : Exprs) → plus (append made e) ys ≡ plus made (Cons e ys)
 unfolding plus
 plus_append Nil e ys = refl
 plus_append (Cons d xs) e ys = ap (Cons d) (plus_append xs e ys)
 
-join_plus : (xs done : Exprs) → join done xs ≡ plus done xs
-join_plus Nil done = sym (plus_nil done)
-join_plus (Cons e xs) done = join_plus xs (append done e) ∙ plus_append done e xs
+join_plus : (xs made : Exprs) → join made xs ≡ plus made xs
+join_plus Nil made = sym (plus_nil made)
+join_plus (Cons e xs) made = join_plus xs (append made e) ∙ plus_append made e xs
 
 join_all : (xs : Exprs) → join Nil xs ≡ xs
 unfolding plus

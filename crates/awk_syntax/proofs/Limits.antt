@@ -59,15 +59,15 @@ pruned_item m x = limited m (height_of_item x) x
 abbrev pub pruned_items : ℕ → List Item → Option (List Item)
 pruned_items m xs = limited m (height_of_program xs) xs
 
-tallest-append : (xs : Exprs) (e : Expr) → tallest (append xs e) ≡ max (tallest xs) (height_of e)
+pub tallest-append : (xs : Exprs) (e : Expr) → tallest (append xs e) ≡ max (tallest xs) (height_of e)
 tallest-append Nil e = omega arith
 tallest-append (Cons d xs) e = omega (arith, tallest-append xs e)
 
-tallest_of-push : (all : Statements) (x : Statement) → tallest_of (push all x) ≡ max (tallest_of all) (height_of_statement x)
+pub tallest_of-push : (all : Statements) (x : Statement) → tallest_of (push all x) ≡ max (tallest_of all) (height_of_statement x)
 tallest_of-push NoMore x = omega arith
 tallest_of-push (Then y all) x = omega (arith, tallest_of-push all x)
 
-height_of_program-add : (xs : List Item) (x : Item) → height_of_program (add xs x) ≡ max (height_of_program xs) (height_of_item x)
+pub height_of_program-add : (xs : List Item) (x : Item) → height_of_program (add xs x) ≡ max (height_of_program xs) (height_of_item x)
 height_of_program-add [] x = omega arith
 height_of_program-add (y ∷ xs) x = omega (arith, height_of_program-add xs x)
 

@@ -32,33 +32,33 @@ abbrev body : Body → Option Statements → Frame
 body OfBlock all = InBlock all
 body (OfAction head) all = InAction head all
 
-next_in : (m : ℕ) (b : Body) (done : Option Statements) (x : Option Statement) (k : List Frame) (ts : List Kind) → answer m (Done x (body b done ∷ k)) ts ≡ answer m (Begins (body b (one_more_statement m done x) ∷ k)) ts
-next_in m OfBlock done x k [] = refl
-next_in m OfBlock done x k (t.Newline ∷ ts) = next_in m OfBlock done x k ts
-next_in m OfBlock done x k (y ∷ ts) = refl
-next_in m (OfAction head) done x k [] = refl
-next_in m (OfAction head) done x k (t.Newline ∷ ts) = next_in m (OfAction head) done x k ts
-next_in m (OfAction head) done x k (y ∷ ts) = refl
+next_in : (m : ℕ) (b : Body) (made : Option Statements) (x : Option Statement) (k : List Frame) (ts : List Kind) → answer m (Done x (body b made ∷ k)) ts ≡ answer m (Begins (body b (one_more_statement m made x) ∷ k)) ts
+next_in m OfBlock made x k [] = refl
+next_in m OfBlock made x k (t.Newline ∷ ts) = next_in m OfBlock made x k ts
+next_in m OfBlock made x k (y ∷ ts) = refl
+next_in m (OfAction head) made x k [] = refl
+next_in m (OfAction head) made x k (t.Newline ∷ ts) = next_in m (OfAction head) made x k ts
+next_in m (OfAction head) made x k (y ∷ ts) = refl
 
 abbrev join : Statements → Statements → Statements
-join done NoMore = done
-join done (Then x all) = join (push done x) all
+join made NoMore = made
+join made (Then x all) = join (push made x) all
 
 abbrev plus : Statements → Statements → Statements
 plus NoMore ys = ys
 plus (Then x xs) ys = Then x (plus xs ys)
 
-push_plus : (done : Statements) (x : Statement) (ys : Statements) → plus (push done x) ys ≡ plus done (Then x ys)
+push_plus : (made : Statements) (x : Statement) (ys : Statements) → plus (push made x) ys ≡ plus made (Then x ys)
 push_plus NoMore x ys = refl
 push_plus (Then y all) x ys = ap (Then y) (push_plus all x ys)
 
-plus_none : (done : Statements) → plus done NoMore ≡ done
+plus_none : (made : Statements) → plus made NoMore ≡ made
 plus_none NoMore = refl
 plus_none (Then x all) = ap (Then x) (plus_none all)
 
-join_plus : (all done : Statements) → join done all ≡ plus done all
-join_plus NoMore done = sym (plus_none done)
-join_plus (Then x all) done = join_plus all (push done x) ∙ push_plus done x all
+join_plus : (all made : Statements) → join made all ≡ plus made all
+join_plus NoMore made = sym (plus_none made)
+join_plus (Then x all) made = join_plus all (push made x) ∙ push_plus made x all
 
 join_all : (all : Statements) → join NoMore all ≡ all
 join_all all = join_plus all NoMore
@@ -73,17 +73,17 @@ mutual
       ∙ ap (λ z. answer m (Done z k) rest) (block-pruned m all)
   complete_statement m (Print xs) ts rest k l p = ap (answer m (Begins k)) p.2 ∙ print_ended m xs p.0 p.1 rest k l p.3 p.4
 
-  complete_all : (m : ℕ) (all : Statements) (b : Body) (done : Statements) (ts rest : List Kind) (k : List Frame) → StatementsLeveled all → SpellsAll all ts rest → answer m (Begins (body b (pruned_all m done) ∷ k)) ts ≡ answer m (Begins (body b (pruned_all m (join done all)) ∷ k)) rest
-  complete_all m NoMore b done ts rest k l p = ap (answer m (Begins (body b (pruned_all m done) ∷ k))) p
-  complete_all m (Then x all) b done ts rest k l p =
-      complete_statement m x ts p.0 (body b (pruned_all m done) ∷ k) l.0 p.1
-      ∙ next_in m b (pruned_all m done) (pruned_statement m x) k p.0
-      ∙ ap (λ z. answer m (Begins (body b z ∷ k)) p.0) (one_more_statement-pruned m done x)
-      ∙ complete_all m all b (push done x) p.0 rest k l.1 p.2
+  complete_all : (m : ℕ) (all : Statements) (b : Body) (made : Statements) (ts rest : List Kind) (k : List Frame) → StatementsLeveled all → SpellsAll all ts rest → answer m (Begins (body b (pruned_all m made) ∷ k)) ts ≡ answer m (Begins (body b (pruned_all m (join made all)) ∷ k)) rest
+  complete_all m NoMore b made ts rest k l p = ap (answer m (Begins (body b (pruned_all m made) ∷ k))) p
+  complete_all m (Then x all) b made ts rest k l p =
+      complete_statement m x ts p.0 (body b (pruned_all m made) ∷ k) l.0 p.1
+      ∙ next_in m b (pruned_all m made) (pruned_statement m x) k p.0
+      ∙ ap (λ z. answer m (Begins (body b z ∷ k)) p.0) (one_more_statement-pruned m made x)
+      ∙ complete_all m all b (push made x) p.0 rest k l.1 p.2
 
 -- the program so far
 abbrev at : ℕ → List Item → List Frame
-at m done = InProgram (pruned_items m done) ∷ []
+at m made = InProgram (pruned_items m made) ∷ []
 
 over_separators : (m : ℕ) (bs : List Bool) (k : List Frame) (ts : List Kind) → answer m (Between k) (separators bs ts) ≡ answer m (Between k) ts
 over_separators m [] k ts = refl
@@ -91,13 +91,13 @@ over_separators m (true ∷ bs) k ts = over_separators m bs k ts
 over_separators m (false ∷ bs) k ts = over_separators m bs k ts
 
 -- an action, behind its `{`
-action : (m : ℕ) (head : Head) (all : Statements) (x : Item) (done : List Item) (n : ℕ) (u rest : List Kind) → StatementsLeveled all → SpellsAll all u (t.CloseBrace ∷ rest) → item_of m head (pruned_all m all) ≡ pruned_item m x → answer m (Begins (InAction head (no_statements m) ∷ at m done)) (newlines n u) ≡ answer m (Between (at m (add done x))) rest
-action m head all x done n u rest l p h =
-    begin_newlines m n (InAction head (no_statements m) ∷ at m done) u
-    ∙ complete_all m all (OfAction head) NoMore u (t.CloseBrace ∷ rest) (at m done) l p
-    ∙ ap (λ z. answer m (Between (InProgram (one_more_item m (pruned_items m done) (item_of m head (pruned_all m z))) ∷ [])) rest) (join_all all)
-    ∙ ap (λ z. answer m (Between (InProgram (one_more_item m (pruned_items m done) z) ∷ [])) rest) h
-    ∙ ap (λ z. answer m (Between (InProgram z ∷ [])) rest) (one_more_item-pruned m done x)
+action : (m : ℕ) (head : Head) (all : Statements) (x : Item) (made : List Item) (n : ℕ) (u rest : List Kind) → StatementsLeveled all → SpellsAll all u (t.CloseBrace ∷ rest) → item_of m head (pruned_all m all) ≡ pruned_item m x → answer m (Begins (InAction head (no_statements m) ∷ at m made)) (newlines n u) ≡ answer m (Between (at m (add made x))) rest
+action m head all x made n u rest l p h =
+    begin_newlines m n (InAction head (no_statements m) ∷ at m made) u
+    ∙ complete_all m all (OfAction head) NoMore u (t.CloseBrace ∷ rest) (at m made) l p
+    ∙ ap (λ z. answer m (Between (InProgram (one_more_item m (pruned_items m made) (item_of m head (pruned_all m z))) ∷ [])) rest) (join_all all)
+    ∙ ap (λ z. answer m (Between (InProgram (one_more_item m (pruned_items m made) z) ∷ [])) rest) h
+    ∙ ap (λ z. answer m (Between (InProgram z ∷ [])) rest) (one_more_item-pruned m made x)
 
 item_enters : (m : ℕ) (k : List Frame) (ts : List Kind) → started ts ≡ true → answer m (Between k) ts ≡ answer m (Expect false false (InPattern ∷ k)) ts
 item_enters m k [] h = absurd (cc)
@@ -105,29 +105,29 @@ item_enters m k (t.Number n ∷ ts) h = refl
 item_enters m k (t.Dollar ∷ ts) h = refl
 item_enters m k (y ∷ ts) h = absurd (cc)
 
-item_read : (m : ℕ) (x : Item) (ts rest : List Kind) (done : List Item) → ItemLeveled x → SpellsItem x ts rest → answer m (Between (at m done)) ts ≡ answer m (Between (at m (add done x))) rest
-item_read m (Always all) ts rest done l p =
-    ap (answer m (Between (at m done))) p.2 ∙ action m OfAll all (Always all) done p.0 p.1 rest l p.3 (always-pruned m all)
-item_read m (Rule e all) ts rest done l p =
+item_read : (m : ℕ) (x : Item) (ts rest : List Kind) (made : List Item) → ItemLeveled x → SpellsItem x ts rest → answer m (Between (at m made)) ts ≡ answer m (Between (at m (add made x))) rest
+item_read m (Always all) ts rest made l p =
+    ap (answer m (Between (at m made))) p.2 ∙ action m OfAll all (Always all) made p.0 p.1 rest l p.3 (always-pruned m all)
+item_read m (Rule e all) ts rest made l p =
     let b = p.2 in
-    item_enters m (at m done) ts (starts_so e ts p.0 p.1)
-    ∙ complete m e ts (t.OpenBrace ∷ newlines b.0 b.1) false false (InPattern ∷ at m done) l.0 (subst (Spells e ts) b.2 p.1) (level_most e) (stops_end m e)
-    ∙ action m (OfRule (pruned m e)) all (Rule e all) done b.0 b.1 rest l.1 b.3 (rule-pruned m e all)
+    item_enters m (at m made) ts (starts_so e ts p.0 p.1)
+    ∙ complete m e ts (t.OpenBrace ∷ newlines b.0 b.1) false false (InPattern ∷ at m made) l.0 (subst (Spells e ts) b.2 p.1) (level_most e) (stops_end m e)
+    ∙ action m (OfRule (pruned m e)) all (Rule e all) made b.0 b.1 rest l.1 b.3 (rule-pruned m e all)
 
 none : (xs : List Item) → xs ++ [] ≡ xs
 none [] = refl
 none (x ∷ xs) = ap (λ z. x ∷ z) (none xs)
 
-snoc : (done : List Item) (x : Item) (xs : List Item) → add done x ++ xs ≡ done ++ (x ∷ xs)
+snoc : (made : List Item) (x : Item) (xs : List Item) → add made x ++ xs ≡ made ++ (x ∷ xs)
 snoc [] x xs = refl
-snoc (y ∷ done) x xs = ap (λ z. y ∷ z) (snoc done x xs)
+snoc (y ∷ made) x xs = ap (λ z. y ∷ z) (snoc made x xs)
 
-items_read : (m : ℕ) (xs done : List Item) (ts : List Kind) → ProgramLeveled xs → SpellsProgram xs ts [] → answer m (Between (at m done)) ts ≡ Some (pruned_items m (done ++ xs))
-items_read m [] done ts l p =
-    ap (answer m (Between (at m done))) p.1 ∙ over_separators m p.0 (at m done) [] ∙ ap (λ z. Some (pruned_items m z)) (sym (none done))
-items_read m (x ∷ xs) done ts l p =
-    ap (answer m (Between (at m done))) p.3 ∙ over_separators m p.0 (at m done) p.1 ∙ item_read m x p.1 p.2 done l.0 p.4
-    ∙ items_read m xs (add done x) p.2 l.1 p.5 ∙ ap (λ z. Some (pruned_items m z)) (snoc done x xs)
+items_read : (m : ℕ) (xs made : List Item) (ts : List Kind) → ProgramLeveled xs → SpellsProgram xs ts [] → answer m (Between (at m made)) ts ≡ Some (pruned_items m (made ++ xs))
+items_read m [] made ts l p =
+    ap (answer m (Between (at m made))) p.1 ∙ over_separators m p.0 (at m made) [] ∙ ap (λ z. Some (pruned_items m z)) (sym (none made))
+items_read m (x ∷ xs) made ts l p =
+    ap (answer m (Between (at m made))) p.3 ∙ over_separators m p.0 (at m made) p.1 ∙ item_read m x p.1 p.2 made l.0 p.4
+    ∙ items_read m xs (add made x) p.2 l.1 p.5 ∙ ap (λ z. Some (pruned_items m z)) (snoc made x xs)
 
 -- what is spelled and leveled is read
 pub reads : (m : ℕ) (ts : List Kind) (xs : List Item) → IsProgram ts xs → read m ts ≡ Some (pruned_items m xs)

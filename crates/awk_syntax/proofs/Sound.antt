@@ -33,11 +33,11 @@ outer g f = false
 abbrev Begun : ℕ → Bool → Frame → ℕ → List Kind → List Kind → Type 0
 Begun m g InField h u here = u ≡ t.Dollar ∷ here
 Begun m g (InBinary o a) h u here = (x : Expr) × (v : List Kind) × Spells x u v × Leveled g x × (level x ≤ left o) × (level_of o ≤ h) × Joined o v here × ((g && is_greater o) ≡ false) × (a ≡ pruned m x)
-Begun m g (InPrint done) h u here = (xs : Exprs) × (w : List Kind) × (g ≡ true) × (u ≡ t.Print ∷ w) × SpellsBefore xs w here × AllLeveled true xs × (done ≡ pruned_list m xs)
-Begun m g (InBlock done) h u here = (all : Statements) × (n : ℕ) × (w : List Kind) × (u ≡ t.OpenBrace ∷ newlines n w) × SpellsAll all w here × StatementsLeveled all × (done ≡ pruned_all m all)
+Begun m g (InPrint made) h u here = (xs : Exprs) × (w : List Kind) × (g ≡ true) × (u ≡ t.Print ∷ w) × SpellsBefore xs w here × AllLeveled true xs × (made ≡ pruned_list m xs)
+Begun m g (InBlock made) h u here = (all : Statements) × (n : ℕ) × (w : List Kind) × (u ≡ t.OpenBrace ∷ newlines n w) × SpellsAll all w here × StatementsLeveled all × (made ≡ pruned_all m all)
 Begun m g InPattern h u here = (g ≡ false) × (u ≡ here)
-Begun m g (InAction head done) h u here = (all : Statements) × (n : ℕ) × (v w : List Kind) × SpellsHead m head u v × (v ≡ t.OpenBrace ∷ newlines n w) × SpellsAll all w here × StatementsLeveled all × (done ≡ pruned_all m all)
-Begun m g (InProgram done) h u here = (xs : List Item) × SpellsProgram xs u here × ProgramLeveled xs × (done ≡ pruned_items m xs)
+Begun m g (InAction head made) h u here = (all : Statements) × (n : ℕ) × (v w : List Kind) × SpellsHead m head u v × (v ≡ t.OpenBrace ∷ newlines n w) × SpellsAll all w here × StatementsLeveled all × (made ≡ pruned_all m all)
+Begun m g (InProgram made) h u here = (xs : List Item) × SpellsProgram xs u here × ProgramLeveled xs × (made ≡ pruned_items m xs)
 
 -- the tokens from all to here are those of the stack
 abbrev Stacked : ℕ → Bool → List Frame → List Kind → List Kind → Type 0
@@ -166,16 +166,16 @@ goes_on m (Infix j) y g e k all rest q h p =
     (p.from, p.below, (p.expr, y ∷ rest, p.spelled, p.leveled, leb-true _ _ b.0, leb-true _ _ b.1, ap (λ z. z ∷ rest) i.0, i.1, p.is))
 goes_on m Ends y g e k all rest q h p = tt
 
-all_snoc : (done : Statements) (x : Statement) (w u rest : List Kind) → SpellsAll done w u → SpellsStatement x u rest → SpellsAll (push done x) w rest
+all_snoc : (made : Statements) (x : Statement) (w u rest : List Kind) → SpellsAll made w u → SpellsStatement x u rest → SpellsAll (push made x) w rest
 all_snoc NoMore x w u rest p q = (rest, subst (λ z. SpellsStatement x z rest) (sym p) q, refl)
-all_snoc (Then y done) x w u rest p q = (p.0, p.1, all_snoc done x p.0 u rest p.2 q)
+all_snoc (Then y made) x w u rest p q = (p.0, p.1, all_snoc made x p.0 u rest p.2 q)
 
-all_leveled : (done : Statements) (x : Statement) → StatementsLeveled done → StatementLeveled x → StatementsLeveled (push done x)
+all_leveled : (made : Statements) (x : Statement) → StatementsLeveled made → StatementLeveled x → StatementsLeveled (push made x)
 all_leveled NoMore x l n = (n, tt)
-all_leveled (Then y done) x l n = (l.0, all_leveled done x l.1 n)
+all_leveled (Then y made) x l n = (l.0, all_leveled made x l.1 n)
 
-one_more_statement_is : (m : ℕ) (done : Option Statements) (x : Option Statement) (all : Statements) (y : Statement) → done ≡ pruned_all m all → x ≡ pruned_statement m y → one_more_statement m done x ≡ pruned_all m (push all y)
-one_more_statement_is m done x all y d e = ap (λ z. one_more_statement m z x) d ∙ ap (one_more_statement m (pruned_all m all)) e ∙ one_more_statement-pruned m all y
+one_more_statement_is : (m : ℕ) (made : Option Statements) (x : Option Statement) (all : Statements) (y : Statement) → made ≡ pruned_all m all → x ≡ pruned_statement m y → one_more_statement m made x ≡ pruned_all m (push all y)
+one_more_statement_is m made x all y d e = ap (λ z. one_more_statement m z x) d ∙ ap (one_more_statement m (pruned_all m all)) e ∙ one_more_statement-pruned m all y
 
 program_snoc : (xs : List Item) (x : Item) (ts u v rest : List Kind) (bs : List Bool) → SpellsProgram xs ts u → SpellsItem x u v → v ≡ separators bs rest → SpellsProgram (add xs x) ts rest
 program_snoc [] x ts u v rest bs p q e = (p.0, u, v, p.1, q, (bs, e))
@@ -185,30 +185,30 @@ program_leveled : (xs : List Item) (x : Item) → ProgramLeveled xs → ItemLeve
 program_leveled [] x l n = (n, tt)
 program_leveled (y ∷ xs) x l n = (l.0, program_leveled xs x l.1 n)
 
-one_more_item_is : (m : ℕ) (done : Option (List Item)) (x : Option Item) (xs : List Item) (y : Item) → done ≡ pruned_items m xs → x ≡ pruned_item m y → one_more_item m done x ≡ pruned_items m (add xs y)
-one_more_item_is m done x xs y d e = ap (λ z. one_more_item m z x) d ∙ ap (one_more_item m (pruned_items m xs)) e ∙ one_more_item-pruned m xs y
+one_more_item_is : (m : ℕ) (made : Option (List Item)) (x : Option Item) (xs : List Item) (y : Item) → made ≡ pruned_items m xs → x ≡ pruned_item m y → one_more_item m made x ≡ pruned_items m (add xs y)
+one_more_item_is m made x xs y d e = ap (λ z. one_more_item m z x) d ∙ ap (one_more_item m (pruned_items m xs)) e ∙ one_more_item-pruned m xs y
 
 betweens : (m : ℕ) (x : Option Item) (k : List Frame) (all rest : List Kind) → MadeItem m x k all rest → Holds m (between m x k) all rest
-betweens m x (InProgram done ∷ k) all rest p =
+betweens m x (InProgram made ∷ k) all rest p =
     let b = p.below.2 in
-    λ bs r e. (p.below.0, p.below.1, (add b.0 p.it, program_snoc b.0 p.it p.below.0 p.from rest r bs b.1 p.spelled e, program_leveled b.0 p.it b.2 p.leveled, one_more_item_is m done x b.0 p.it b.3 p.is))
+    λ bs r e. (p.below.0, p.below.1, (add b.0 p.it, program_snoc b.0 p.it p.below.0 p.from rest r bs b.1 p.spelled e, program_leveled b.0 p.it b.2 p.leveled, one_more_item_is m made x b.0 p.it b.3 p.is))
 betweens m x [] all rest p = tt
 betweens m x (f ∷ k) all rest p = tt
 
-closes_action : (m : ℕ) (head : Head) (done : Option Statements) (k : List Frame) (all rest : List Kind) → Stacked m false (InAction head done ∷ k) all (t.CloseBrace ∷ rest) → MadeItem m (item_of m head done) k all rest
-closes_action m OfAll done k all rest p =
+closes_action : (m : ℕ) (head : Head) (made : Option Statements) (k : List Frame) (all rest : List Kind) → Stacked m false (InAction head made ∷ k) all (t.CloseBrace ∷ rest) → MadeItem m (item_of m head made) k all rest
+closes_action m OfAll made k all rest p =
     let b = p.2 in
     record { it = Always b.0; is = ap (item_of m OfAll) b.8 ∙ always-pruned m b.0; from = p.0; below = p.1; spelled = (b.1, b.3, b.4 ∙ b.5, b.6); leveled = b.7 }
-closes_action m (OfRule e) done k all rest p =
+closes_action m (OfRule e) made k all rest p =
     let b = p.2 in
     let h = b.4 in
     record { it = Rule h.0 b.0; is = ap (item_of m (OfRule e)) b.8 ∙ ap (λ z. item_of m (OfRule z) (pruned_all m b.0)) h.3 ∙ rule-pruned m h.0 b.0; from = p.0; below = p.1; spelled = (b.2, h.1, (b.1, b.3, b.5, b.6)); leveled = (h.2, b.7) }
 
 closes_block : (m : ℕ) (k : List Frame) (all rest : List Kind) → Stacked m false k all (t.CloseBrace ∷ rest) → Holds m (close_block m k) all rest
-closes_block m (InBlock done ∷ k) all rest p =
+closes_block m (InBlock made ∷ k) all rest p =
     let b = p.2 in
     record { statement = Block b.0; is = ap (block m) b.6 ∙ block-pruned m b.0; from = p.0; below = p.1; spelled = λ n r e. (b.1, n, b.2, b.3, subst (λ z. SpellsAll b.0 b.2 (t.CloseBrace ∷ z)) e b.4); leveled = b.5 }
-closes_block m (InAction head done ∷ k) all rest p = betweens m (item_of m head done) k all rest (closes_action m head done k all rest p)
+closes_block m (InAction head made ∷ k) all rest p = betweens m (item_of m head made) k all rest (closes_action m head made k all rest p)
 closes_block m [] all rest p = tt
 closes_block m (f ∷ k) all rest p = tt
 
@@ -220,14 +220,14 @@ begins m t.Print k all rest h = (t.Print ∷ rest, h 0 (t.Print ∷ rest) refl, 
 begins m y k all rest h = tt
 
 passes : (m : ℕ) (y : Kind) (x : Option Statement) (k : List Frame) (all rest : List Kind) → Made m x k all (y ∷ rest) → Holds m (pass m y x k) all rest
-passes m y x (InBlock done ∷ k) all rest p =
+passes m y x (InBlock made ∷ k) all rest p =
     let b = p.below.2 in
-    begins m y (InBlock (one_more_statement m done x) ∷ k) all rest
-    (λ n r e. (p.below.0, p.below.1, (push b.0 p.statement, b.1, b.2, b.3, all_snoc b.0 p.statement b.2 p.from r b.4 (p.spelled n r e), all_leveled b.0 p.statement b.5 p.leveled, one_more_statement_is m done x b.0 p.statement b.6 p.is)))
-passes m y x (InAction head done ∷ k) all rest p =
+    begins m y (InBlock (one_more_statement m made x) ∷ k) all rest
+    (λ n r e. (p.below.0, p.below.1, (push b.0 p.statement, b.1, b.2, b.3, all_snoc b.0 p.statement b.2 p.from r b.4 (p.spelled n r e), all_leveled b.0 p.statement b.5 p.leveled, one_more_statement_is m made x b.0 p.statement b.6 p.is)))
+passes m y x (InAction head made ∷ k) all rest p =
     let b = p.below.2 in
-    begins m y (InAction head (one_more_statement m done x) ∷ k) all rest
-    (λ n r e. (p.below.0, p.below.1, (push b.0 p.statement, b.1, b.2, b.3, b.4, b.5, all_snoc b.0 p.statement b.3 p.from r b.6 (p.spelled n r e), all_leveled b.0 p.statement b.7 p.leveled, one_more_statement_is m done x b.0 p.statement b.8 p.is)))
+    begins m y (InAction head (one_more_statement m made x) ∷ k) all rest
+    (λ n r e. (p.below.0, p.below.1, (push b.0 p.statement, b.1, b.2, b.3, b.4, b.5, all_snoc b.0 p.statement b.3 p.from r b.6 (p.spelled n r e), all_leveled b.0 p.statement b.7 p.leveled, one_more_statement_is m made x b.0 p.statement b.8 p.is)))
 passes m y x [] all rest p = tt
 passes m y x (f ∷ k) all rest p = tt
 
@@ -288,9 +288,9 @@ closes_pattern m t.OpenBrace e k all rest p =
 closes_pattern m y e k all rest p = tt
 
 closes : (m : ℕ) (y : Kind) (g : Bool) (e : Part) (k : List Frame) (all rest : List Kind) → Operand m g e k all (y ∷ rest) → Holds m (close m y e k) all rest
-closes m y g e (InPrint done ∷ k) all rest p =
+closes m y g e (InPrint made ∷ k) all rest p =
     let b = p.below.2 in
-    closes_print m y (one_more m done e) k all rest
+    closes_print m y (one_more m made e) k all rest
     (record { front = b.0; last = p.expr; is = ap (λ z. one_more m z e) b.6 ∙ ap (one_more m (pruned_list m b.0)) p.is ∙ one_more-pruned m b.0 p.expr; from = p.below.0; below = p.below.1; inside = b.1; begun = b.3; spelled = list_snoc b.0 p.expr b.1 p.from (y ∷ rest) b.4 p.spelled; leveled = list_leveled b.0 p.expr b.5 (subst (λ z. Leveled z p.expr) b.2 p.leveled) })
 closes m y g e (InPattern ∷ k) all rest p =
     closes_pattern m y e k all rest (subst (λ z. Operand m z e (InPattern ∷ k) all (y ∷ rest)) p.below.2.0 p)

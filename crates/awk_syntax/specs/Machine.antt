@@ -109,11 +109,11 @@ item_of m (OfRule e) all = over_two m height_of_item Rule e.tree all
 pub data Frame : Type 0 where
   InField : Frame
   InBinary : (o : BinaryOperator) (a : Part) → Frame
-  InPrint : (done : Option Exprs) → Frame
-  InBlock : (done : Option Statements) → Frame
+  InPrint : (made : Option Exprs) → Frame
+  InBlock : (made : Option Statements) → Frame
   InPattern : Frame
-  InAction : (head : Head) (done : Option Statements) → Frame
-  InProgram : (done : Option (List Item)) → Frame
+  InAction : (head : Head) (made : Option Statements) → Frame
+  InProgram : (made : Option (List Item)) → Frame
 
 -- the loosest child that fits
 abbrev pub hole : Frame → ℕ
@@ -177,12 +177,12 @@ enter m t.Newline s g k = when s (Expect s g k)
 enter m y s g k = Failed
 
 abbrev pub between : ℕ → Option Item → List Frame → State
-between m x (InProgram done ∷ k) = Between (InProgram (one_more_item m done x) ∷ k)
+between m x (InProgram made ∷ k) = Between (InProgram (one_more_item m made x) ∷ k)
 between m x k = Failed
 
 abbrev pub close_block : ℕ → List Frame → State
-close_block m (InBlock done ∷ k) = Done (block m done) k
-close_block m (InAction head done ∷ k) = between m (item_of m head done) k
+close_block m (InBlock made ∷ k) = Done (block m made) k
+close_block m (InAction head made ∷ k) = between m (item_of m head made) k
 close_block m k = Failed
 
 abbrev pub begin : ℕ → Kind → List Frame → State
@@ -194,8 +194,8 @@ begin m y k = Failed
 
 -- a statement is done, and the next token isn't a newline
 abbrev pub pass : ℕ → Kind → Option Statement → List Frame → State
-pass m y x (InBlock done ∷ k) = begin m y (InBlock (one_more_statement m done x) ∷ k)
-pass m y x (InAction head done ∷ k) = begin m y (InAction head (one_more_statement m done x) ∷ k)
+pass m y x (InBlock made ∷ k) = begin m y (InBlock (one_more_statement m made x) ∷ k)
+pass m y x (InAction head made ∷ k) = begin m y (InAction head (one_more_statement m made x) ∷ k)
 pass m y x k = Failed
 
 -- the end of a simple statement
@@ -215,7 +215,7 @@ close_pattern m y e k = Failed
 
 -- at a token that ends an operand
 abbrev pub close : ℕ → Kind → Part → List Frame → State
-close m y e (InPrint done ∷ k) = close_print m y (one_more m done e) k
+close m y e (InPrint made ∷ k) = close_print m y (one_more m made e) k
 close m y e (InPattern ∷ k) = close_pattern m y e k
 close m y e k = Failed
 
@@ -257,7 +257,7 @@ step m Failed y = Failed
 
 -- the text ends: a program, and its items unless it is too high
 abbrev pub items : List Frame → Option (Option (List Item))
-items (InProgram done ∷ []) = Some done
+items (InProgram made ∷ []) = Some made
 items k = None
 
 abbrev pub finish : State → Option (Option (List Item))
