@@ -1,0 +1,4 @@
+pub mod Calculus
+pub mod Forms
+pub mod Limits
+pub mod Outside

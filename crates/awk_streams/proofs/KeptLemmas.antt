@@ -3,7 +3,7 @@ use Rattle.std.proofs.Common.{◌≡◌, ◌≢◌, ℕ, ◌+◌, List, [], ◌�
 use Rattle.std.proofs.lemmas.Bool.{cond-true, cond-false, ne_eqb, eq-eqb}
 use Rattle.awk_streams.specs.Log.{Event, Read, Ended, Broke, Wrote, Flushed}
 use Rattle.awk_record.specs.Cut.{Ending}
-use Rattle.awk_streams.specs.Answers.{Answers, Agrees, reading_of, read_on}
+use Rattle.awk_streams.specs.Answers.{reading_of, read_on}
 use Rattle.awk_streams.specs.Orderly.{IsReadable, IsOrderly, IsInOrder}
 use Rattle.std.specs.Prelude.{is_some}
 use Rattle.awk_streams.specs.Ids.{SameOpen}
@@ -20,12 +20,6 @@ output_orderly [] log h orderly = orderly
 output_orderly (Wrote id bytes ∷ es) log h orderly = output_orderly es (Wrote id bytes ∷ log) h (tt, orderly)
 output_orderly (Flushed id ∷ es) log h orderly = output_orderly es (Flushed id ∷ log) h (tt, orderly)
 output_orderly (e ∷ es) log h orderly = absurd h
-
-pub output_agrees : (a : Answers) (es log : List Event) → IsOutput es → Agrees a log → Agrees a (with_events es log)
-output_agrees a [] log h agrees = agrees
-output_agrees a (Wrote id bytes ∷ es) log h agrees = output_agrees a es (Wrote id bytes ∷ log) h (tt, agrees)
-output_agrees a (Flushed id ∷ es) log h agrees = output_agrees a es (Flushed id ∷ log) h (tt, agrees)
-output_agrees a (e ∷ es) log h agrees = absurd h
 
 pub output_reading : (id : ℕ) (es log : List Event) → IsOutput es → reading_of id (with_events es log) ≡ reading_of id log
 output_reading id [] log h = refl
@@ -139,15 +133,17 @@ in_order-start is_open = record {
   known = λ id some. let bad : false ≡ true = some in cc;
 }
 
-pub only_writes : (id : ℕ) (old new : ℕ → Bool) (log log' : List Event) → SameOpen old new → OnlyWritesTo id log log' → IsInOrder old log →
-    IsInOrder new log' × SameStreams log log' × ((j : ℕ) → reading_of j log' ≡ reading_of j log) × ((a : Answers) → Agrees a log → Agrees a log')
-only_writes id old new log log' same (bytes, goes) order =
-    let out = writes_output id bytes goes.events goes.each in (
-      subst (λ (l : List Event). IsInOrder new l) (sym goes.log) (output_in_order old new goes.events log same out order),
-      subst (λ (l : List Event). SameStreams log l) (sym goes.log) (quiet_streams goes.events log (output_quiet goes.events out)),
-      λ j. ap (reading_of j) goes.log ∙ output_reading j goes.events log out,
-      λ a agrees. subst (λ (l : List Event). Agrees a l) (sym goes.log) (output_agrees a goes.events log out agrees),
-    )
+-- a log that goes on by writes to one output alone
+pub writes_order : (id : ℕ) (old new : ℕ → Bool) (log log' : List Event) → SameOpen old new → OnlyWritesTo id log log' → IsInOrder old log → IsInOrder new log'
+writes_order id old new log log' same (bytes, goes) order =
+    subst (λ (l : List Event). IsInOrder new l) (sym goes.log) (output_in_order old new goes.events log same (writes_output id bytes goes.events goes.each) order)
+
+pub writes_streams : (id : ℕ) (log log' : List Event) → OnlyWritesTo id log log' → SameStreams log log'
+writes_streams id log log' (bytes, goes) =
+    subst (λ (l : List Event). SameStreams log l) (sym goes.log) (quiet_streams goes.events log (output_quiet goes.events (writes_output id bytes goes.events goes.each)))
+
+pub writes_reading : (id : ℕ) (log log' : List Event) → OnlyWritesTo id log log' → (j : ℕ) → reading_of j log' ≡ reading_of j log
+writes_reading id log log' (bytes, goes) j = ap (reading_of j) goes.log ∙ output_reading j goes.events log (writes_output id bytes goes.events goes.each)
 
 pub reads_received : (id j : ℕ) (separator b b' : List ℕ) (ending : Option Ending) (es log : List Event) → NeededReads id separator b b' ending es → received j (with_events es log) ≡ received j log
 reads_received id j separator b b' ending [] log h = refl

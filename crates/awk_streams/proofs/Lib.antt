@@ -7,3 +7,4 @@ pub mod ToldLemmas
 pub mod WritesLemmas
 pub mod MarkLemmas
 pub mod MainLemmas
+pub mod OutputLemmas

@@ -91,6 +91,13 @@ impl Streams {
         Streams { alloc, main: None }
     }
 
+    /// Whether a main input is open.
+    pub fn has_main(&self) -> bool
+        ensures { result ≡ is_some self.now.main }
+    {
+        self.main.is_some()
+    }
+
     /// Opens the main input: standard input, or the file of a name. Fails with `Memory` (F1), or
     /// with `InputNotReadable` (F9) where the world refuses; an `Err` changes nothing here.
     /// (POSIX awk, INPUT FILES)
@@ -147,9 +154,8 @@ impl Streams {
     /// Prints the bytes to standard output. Fails with `Memory` (F1) or `WriteFailed` (F2); then a
     /// beginning of them was written. (POSIX awk, STDOUT)
     pub fn print<W: World>(&mut self, world: &mut W, bytes: &[u8]) -> Result<(), StreamFault>
-        requires { AreOpen (W.is_open world.old) self.old }
         ensures same { self.new ≡ self.old }
-        ensures open { AreOpen (W.is_open world.new) self.new }
+        ensures open { AreOpen (W.is_open world.old) self.old → AreOpen (W.is_open world.new) self.new }
         ensures fault { IfErr result IsOutputFault }
         ensures told { W.tells → Prints bytes.now (W.is_open world.old) (W.log world.old) (W.mark world.old) self.old result (W.is_open world.new) (W.log world.new) (W.mark world.new) self.new }
     {

@@ -1,0 +1,185 @@
+-- How what the parts of the code do is put together.
+use Rattle.std.proofs.Common.{◌≡◌, ℕ, ◌≤◌, Bool, true, List, [], ◌∷◌, ◌++◌, Option, None, Result, Ok, Err, refl, sym, ap, ◌∙◌, subst, append_assoc, append-nil, arith}
+use Rattle.awk_streams.specs.Log as log
+use Rattle.awk_streams.specs.Answers.{Answers, Agrees}
+use Rattle.awk_streams.specs.Streams.{StreamsView, AreOpen, AreSound, Grows, IsMainRest}
+use Rattle.awk_run.specs.declared.machine.Machine.{Machine}
+use Rattle.awk_run.specs.declared.halt.Halt.{Halt}
+use Rattle.awk_run.specs.declared.halt.Halt.TheVariants as halt
+use Rattle.awk_run.specs.declared.outcome.Fault.TheVariants.{OutOfMemory}
+use Rattle.awk_run.specs.Meaning.{printed_to}
+use Rattle.awk_record.specs.Record.{split_at_blanks}
+use Rattle.awk_run.specs.State.{Event, Stop, State, Out, Run, go_on, ◌>>=◌, lift}
+use Rattle.awk_run.specs.Words.{set_record}
+use Rattle.awk_run.specs.Does.{Seen, Stands, Sort, WantOfMemory, FailedWrite, OfLanguage, sort_of, MatchesBy, Matches, ComesBy, Comes, Means, Does, Changes, SameState}
+
+pub grows_refl : (l : List log.Event) (m : Option ℕ) → Grows l m l m
+grows_refl l m = record { agrees = λ a h. h; clear = λ e. e }
+
+pub grows_trans : {a b c : List log.Event} {l m n : Option ℕ} → Grows a l b m → Grows b m c n → Grows a l c n
+grows_trans x y = record { agrees = λ a h. x.agrees a (y.agrees a h); clear = λ e. x.clear (y.clear e) }
+
+-- events that came before
+shift_by : {A : Type 0} (answers : Answers) (m : Machine) (k : Seen) (h : Sort) (o : Out A) (past first : List Event) → ComesBy answers m k h o (past ++ first) → ComesBy answers m k h (record { result = o.result; state = o.state; events = first ++ o.events }) past
+shift_by answers m k WantOfMemory o past first c = tt
+shift_by answers m k FailedWrite o past first c = c
+shift_by answers m k (OfLanguage stop) o past first c = rw (← append_assoc past first o.events) c
+
+shift : {A : Type 0} (answers : Answers) (m : Machine) (k : Seen) (r : Result A Halt) (o : Out A) (past first : List Event) → Comes answers m k r o (past ++ first) → Comes answers m k r (record { result = o.result; state = o.state; events = first ++ o.events }) past
+shift answers m k (Ok a) o past first c = rw (← append_assoc past first o.events) c
+shift answers m k (Err h) o past first c = shift_by answers m k (sort_of h) o past first c
+
+bound_ok : {A B : Type 0} (answers : Answers) (m : Machine) (k : Seen) (r : Result B Halt) (past : List Event) (f : A → Run B) (a : A) (o : Result A Stop) (t : State) (events : List Event) → o ≡ Ok a → Comes answers m k r (f a t) (past ++ events) → Comes answers m k r (go_on o t events f) past
+unfolding go_on
+bound_ok answers m k r past f a o t events e c = rw e (shift answers m k r (f a t) past events c)
+
+err_on : {A B : Type 0} (answers : Answers) (m : Machine) (k : Seen) (h : Sort) (past : List Event) (f : A → Run B) (o : Result A Stop) (t : State) (events : List Event) → ComesBy answers m k h (record { result = o; state = t; events = events }) past → ComesBy answers m k h (go_on o t events f) past
+unfolding go_on
+err_on answers m k WantOfMemory past f o t events c = tt
+err_on answers m k FailedWrite past f o t events c = c
+err_on answers m k (OfLanguage stop) past f (Ok a) t events c = let e : Ok a ≡ Err stop = c.0 in absurd (cc)
+err_on answers m k (OfLanguage stop) past f (Err e) t events c = let q : Err e ≡ Err stop = c.0 in ((cc), c.1)
+
+-- what was done first and went well, and then the rest
+pub then_means : {A B : Type 0} {old mid new : Machine} {before between after : Seen} {a : A} {r : Result B Halt} {run : Run A} (f : A → Run B) → Means old before mid between (Ok a) run → Means mid between new after r (f a) → Means old before new after r (run >>= f)
+unfolding ◌>>=◌
+then_means {new = new} {after = after} {a = a} {r = r} {run = run} f x y = record {
+  grows = grows_trans x.grows y.grows;
+  keeps = λ sound. y.keeps (x.keeps sound);
+  means = λ answers s past agrees stands.
+    let c = x.means answers s past (y.grows.agrees answers agrees) stands in
+    bound_ok answers new after r past f a (run s).result (run s).state (run s).events c.0
+      (y.means answers (run s).state (past ++ (run s).events) agrees c.1);
+}
+
+-- what was done first and ended
+pub ends_means : {A B : Type 0} {old new : Machine} {before after : Seen} {h : Halt} {run : Run A} (f : A → Run B) → Means old before new after (Err h) run → Means old before new after (Err h) (run >>= f)
+unfolding ◌>>=◌
+ends_means {new = new} {after = after} {h = h} {run = run} f x = record {
+  grows = x.grows;
+  keeps = x.keeps;
+  means = λ answers s past agrees stands.
+    err_on answers new after (sort_of h) past f (run s).result (run s).state (run s).events (x.means answers s past agrees stands);
+}
+
+-- want of memory may be met anywhere
+pub memory_means : {A : Type 0} (m : Machine) (k : Seen) (run : Run A) → Means m k m k (Err (halt.Fault OutOfMemory)) run
+memory_means m k run = record {
+  grows = grows_refl k.log k.mark;
+  keeps = λ sound. sound;
+  means = λ answers s past agrees stands. tt;
+}
+
+stands_still : {answers : Answers} {m : Machine} {k : Seen} {s : State} {past : List Event} → Stands answers m k s past → Stands answers m k s (past ++ [])
+stands_still {answers = answers} {m = m} {k = k} {s = s} {past = past} h = subst (λ (l : List Event). Stands answers m k s l) (sym (append-nil past)) h
+
+lifted_by : {A : Type 0} (answers : Answers) (m : Machine) (k : Seen) (h : Sort) (r : Result A Stop) (s : State) (past : List Event) → MatchesBy h r → Stands answers m k s past → ComesBy answers m k h (record { result = r; state = s; events = [] }) past
+lifted_by answers m k WantOfMemory r s past e stands = tt
+lifted_by answers m k FailedWrite r s past e stands = absurd e
+lifted_by answers m k (OfLanguage stop) r s past e stands = (e, stands_still stands)
+
+lifted : {A : Type 0} (answers : Answers) (m : Machine) (k : Seen) (c : Result A Halt) (r : Result A Stop) (s : State) (past : List Event) → Matches c r → Stands answers m k s past → Comes answers m k c (record { result = r; state = s; events = [] }) past
+lifted answers m k (Ok a) r s past e stands = (e, stands_still stands)
+lifted answers m k (Err h) r s past e stands = lifted_by answers m k (sort_of h) r s past e stands
+
+-- a result that is had without a change
+pub lift_means : {A : Type 0} {c : Result A Halt} (r : Result A Stop) (m : Machine) (k : Seen) → Matches c r → Means m k m k c (lift r)
+unfolding lift
+lift_means {c = c} r m k e = record {
+  grows = grows_refl k.log k.mark;
+  keeps = λ sound. sound;
+  means = λ answers s past agrees stands. lifted answers m k c r s past e stands;
+}
+
+pub then_does : {A B : Type 0} {tells : Type 0} {old mid new : Machine} {before between after : Seen} {a : A} {r : Result B Halt} {run : Run A} (f : A → Run B) → Does tells old before mid between (Ok a) run → Does tells mid between new after r (f a) → Does tells old before new after r (run >>= f)
+then_does f x y = record {
+  steps = omega (arith, x.steps, y.steps);
+  kept_open = λ h. y.kept_open (x.kept_open h);
+  told = λ t. then_means f (x.told t) (y.told t);
+}
+
+pub ends_does : {A B : Type 0} {tells : Type 0} {old new : Machine} {before after : Seen} {h : Halt} {run : Run A} (f : A → Run B) → Does tells old before new after (Err h) run → Does tells old before new after (Err h) (run >>= f)
+ends_does f x = record { steps = x.steps; kept_open = x.kept_open; told = λ t. ends_means f (x.told t) }
+
+pub memory_does : {A : Type 0} {tells : Type 0} (m : Machine) (k : Seen) (run : Run A) → Does tells m k m k (Err (halt.Fault OutOfMemory)) run
+memory_does m k run = record { steps = omega arith; kept_open = λ h. h; told = λ t. memory_means m k run }
+
+pub lift_does : {A : Type 0} {tells : Type 0} {c : Result A Halt} (r : Result A Stop) (m : Machine) (k : Seen) → Matches c r → Does tells m k m k c (lift r)
+lift_does r m k e = record { steps = omega arith; kept_open = λ h. h; told = λ t. lift_means r m k e }
+
+pub change_does : {A : Type 0} {tells : Type 0} {old new : Machine} {k : Seen} {r : Result A Halt} {run : Run A} → Changes run old new r → Does tells old k new k r run
+change_does {k = k} h = record {
+  steps = h.steps;
+  kept_open = λ open_before. subst (λ s. AreOpen k.is_open s) (sym h.streams) open_before;
+  told = λ t. h.means k;
+}
+
+-- changes of the code's state alone
+
+pub then_changes : {A B : Type 0} {old mid new : Machine} {a : A} {r : Result B Halt} {run : Run A} (f : A → Run B) → Changes run old mid (Ok a) → Changes (f a) mid new r → Changes (run >>= f) old new r
+then_changes f x y = record {
+  steps = omega (arith, x.steps, y.steps);
+  streams = y.streams ∙ x.streams;
+  means = λ k. then_means f (x.means k) (y.means k);
+}
+
+pub ends_changes : {A B : Type 0} {old new : Machine} {h : Halt} {run : Run A} (f : A → Run B) → Changes run old new (Err h) → Changes (run >>= f) old new (Err h)
+ends_changes f x = record { steps = x.steps; streams = x.streams; means = λ k. ends_means f (x.means k) }
+
+pub lift_changes : {A : Type 0} {c : Result A Halt} (r : Result A Stop) (m : Machine) → Matches c r → Changes (lift r) m m c
+lift_changes r m e = record { steps = omega arith; streams = refl; means = λ k. lift_means r m k e }
+
+sound_same : (k : Seen) (old new : StreamsView) → new ≡ old → AreSound k.is_open k.log old → AreSound k.is_open k.log new
+sound_same k old new same sound = subst (λ s. AreSound k.is_open k.log s) (sym same) sound
+
+pub memory_changes : {A : Type 0} (run : Run A) {old new : Machine} → new.streams ≡ old.streams → new.steps ≤ old.steps → Changes run old new (Err (halt.Fault OutOfMemory))
+memory_changes run same low = record {
+  steps = low;
+  streams = same;
+  means = λ k. record { grows = grows_refl k.log k.mark; keeps = sound_same k _ _ same; means = λ answers s past agrees stands. tt };
+}
+
+stands_same : {answers : Answers} {old new : Machine} {k : Seen} {s : State} {past : List Event} → SameState old new → Stands answers old k s past → Stands answers new k s past
+stands_same {answers = answers} {k = k} {s = s} same stands = record {
+  clear = stands.clear;
+  outside = stands.outside;
+  openings = stands.openings;
+  main = subst (λ x. IsMainRest answers k.log x.main s.main) (sym same.streams) stands.main;
+  current = stands.current ∙ sym same.current;
+  steps = stands.steps ∙ sym same.steps;
+  output = stands.output;
+  error = stands.error;
+}
+
+-- a result that the state determines
+pub reads_changes : {A : Type 0} {c : Result A Halt} {old new : Machine} (run : Run A) (r : State → Result A Stop) → ((s : State) → run s ≡ record { result = r s; state = s; events = [] }) → SameState old new → ((s : State) → s.current ≡ old.current → Matches c (r s)) → Changes run old new c
+reads_changes {c = c} {old = old} {new = new} run r is same e = record {
+  steps = omega (arith, same.steps);
+  streams = same.streams;
+  means = λ k. record {
+    grows = grows_refl k.log k.mark;
+    keeps = sound_same k _ _ same.streams;
+    means = λ answers s past agrees stands. subst (λ (o : Out _). Comes answers new k c o past) (sym (is s)) (lifted answers new k c (r s) s past (e s stands.current) (stands_same same stands));
+  };
+}
+
+pub record_changes : (text : List ℕ) {old new : Machine} → new.current ≡ split_at_blanks text → new.streams ≡ old.streams → new.steps ≡ old.steps → Changes (set_record text) old new (Ok tt)
+unfolding set_record
+record_changes text {old = old} {new = new} is same still = record {
+  steps = omega (arith, still);
+  streams = same;
+  means = λ k. record {
+    grows = grows_refl k.log k.mark;
+    keeps = sound_same k _ _ same;
+    means = λ answers s past agrees stands. (refl, record {
+      clear = stands.clear;
+      outside = stands.outside;
+      openings = stands.openings;
+      main = subst (λ x. IsMainRest answers k.log x.main s.main) (sym same) stands.main;
+      current = sym is;
+      steps = stands.steps ∙ sym still;
+      output = stands.output ∙ ap (printed_to _) (sym (append-nil past));
+      error = stands.error ∙ ap (printed_to _) (sym (append-nil past));
+    });
+  };
+}

@@ -1,0 +1,230 @@
+-- A larger limit changes nothing but where a run stops.
+use Rattle.std.proofs.Common.{◌≡◌, ◌≢◌, ℕ, zero, suc, ◌+◌, ◌≤◌, Bool, true, false, List, [], ◌∷◌, ◌++◌, Option, Some, None, Result, Ok, Err, refl, sym, ap, ◌∙◌, subst, append_assoc, append-nil, arith}
+use Rattle.awk_value.specs.declared.value.Value.{Value}
+use Rattle.awk_value.specs.declared.value.Value.TheVariants as value
+use Rattle.awk_value.specs.Values.{truth_of}
+use Rattle.awk_record.specs.Cut.{Cut, Found, NoMore, BrokenOff, TooLong, BadSeparator, cut_of}
+use Rattle.awk_streams.specs.declared.world.InputKind.{InputKind}
+use Rattle.awk_streams.specs.declared.world.InputKind.TheVariants.{Standard}
+use Rattle.awk_streams.specs.Answers.{Source, Answers}
+use Rattle.awk_syntax.specs.Tree.{Expr, Number, Field, Binary, Exprs, Nil, Cons, Statement, Block, Print, Statements, NoMore as NoStatement, Then, Item, Always, Rule}
+use Rattle.awk_run.specs.declared.outcome.Outcome.TheVariants.{Ended, Fault, Stopped}
+use Rattle.awk_run.specs.State.{Output, Demand, TheEnd, Event, Printed, Demanded, Stop, Faulted, OutOfSteps, State, Out, Run, go_on, ◌>>=◌, lift, ret}
+use Rattle.awk_run.specs.Words.{record_separator, spend, spend_of, field_at, current_text, show, opened, open_main, taken, taken_of, take_record, open_of, open_standard, set_record}
+use Rattle.awk_run.specs.Operators.{applied}
+use Rattle.awk_run.specs.Effect.{E, values_of, printed_values, line_of, S, S_all, run_if, try_item, try_items, next_record, on_record, each_record, all_records, run_items}
+use Rattle.awk_run.specs.Meaning.{StartValues, Meaning, start_state, whole, outcome_of, printed_to, demands_after, meaning_of, same_output}
+use Rattle.awk_run.specs.Limits.{IsBeginning, Begins, KeepsToLimits, LawOfLimits}
+
+abbrev richer_state : ℕ → State → State
+richer_state d s = record s { steps = s.steps + d }
+
+abbrev richer : {A : Type 0} → ℕ → Out A → Out A
+richer d o = record { result = o.result; state = richer_state d o.state; events = o.events }
+
+-- y shows what x shows, and perhaps more
+record Shows {A : Type 0} (x y : Out A) : Type 0 where
+  more : List Event
+  is : y.events ≡ x.events ++ more
+
+-- what stopped for want of steps is shown with d more; anything else is the same
+abbrev Covers : {A : Type 0} → Result A Stop → ℕ → Out A → Out A → Type 0
+Covers (Ok a) d x y = y ≡ richer d x
+Covers (Err (Faulted f)) d x y = y ≡ richer d x
+Covers (Err OutOfSteps) d x y = Shows x y
+
+record Larger {A : Type 0} (m n : Run A) : Type 0 where
+  covers : (s : State) (d : ℕ) → Covers (m s).result d (m s) (n (richer_state d s))
+
+goes_shows : {A B : Type 0} (r : Result A Stop) (t : State) (events more : List Event) (g : A → Run B) (x : Out B) → x.events ≡ events → Shows x (go_on r t (events ++ more) g)
+unfolding go_on
+goes_shows (Ok a) t events more g x e = record { more = more ++ (g a t).events; is = append_assoc events more (g a t).events ∙ ap (λ l. l ++ (more ++ (g a t).events)) (sym e) }
+goes_shows (Err h) t events more g x e = record { more = more; is = ap (λ l. l ++ more) (sym e) }
+
+shift_covers : {B : Type 0} (r : Result B Stop) (d : ℕ) (events : List Event) (x y : Out B) → Covers r d x y → Covers r d (record { result = x.result; state = x.state; events = events ++ x.events }) (record { result = y.result; state = y.state; events = events ++ y.events })
+shift_covers (Ok a) d events x y c = ap (λ (o : Out _). record { result = o.result; state = o.state; events = events ++ o.events }) c
+shift_covers (Err (Faulted f)) d events x y c = ap (λ (o : Out _). record { result = o.result; state = o.state; events = events ++ o.events }) c
+shift_covers (Err OutOfSteps) d events x y c = record { more = c.more; is = ap (λ l. events ++ l) c.is ∙ sym (append_assoc events x.events c.more) }
+
+go_covers : {A B : Type 0} (f g : A → Run B) → ((a : A) → Larger (f a) (g a)) → (d : ℕ) (r : Result A Stop) (t : State) (events : List Event) (y : Out A) → Covers r d (record { result = r; state = t; events = events }) y → Covers (go_on r t events f).result d (go_on r t events f) (go_on y.result y.state y.events g)
+unfolding go_on
+go_covers f g h d (Ok a) t events y c = rw c (shift_covers (f a t).result d events (f a t) (g a (richer_state d t)) ((h a).covers t d))
+go_covers f g h d (Err (Faulted n)) t events y c = rw c refl
+go_covers f g h d (Err OutOfSteps) t events y c = rw c.is (goes_shows y.result y.state events c.more g (record { result = Err OutOfSteps; state = t; events = events }) refl)
+
+then_larger : {A B : Type 0} {m n : Run A} (f g : A → Run B) → Larger m n → ((a : A) → Larger (f a) (g a)) → Larger (m >>= f) (n >>= g)
+unfolding ◌>>=◌
+then_larger {m = m} {n = n} f g x h = record { covers = λ s d. go_covers f g h d (m s).result (m s).state (m s).events (n (richer_state d s)) (x.covers s d) }
+
+steps_larger : {A : Type 0} (n : Run A) → Larger (lift (Err OutOfSteps)) n
+unfolding lift
+steps_larger n = record { covers = λ s d. record { more = (n (richer_state d s)).events; is = refl } }
+
+lift_larger : {A : Type 0} (r : Result A Stop) → Larger (lift r) (lift r)
+unfolding lift
+lift_larger (Ok a) = record { covers = λ s d. refl }
+lift_larger (Err (Faulted f)) = record { covers = λ s d. refl }
+lift_larger (Err OutOfSteps) = steps_larger (lift (Err OutOfSteps))
+
+-- the words
+
+-- a result that a state has, whatever its steps
+same_covers : {A : Type 0} (r : Result A Stop) (t : State) (events : List Event) (d : ℕ) → Covers r d (record { result = r; state = t; events = events }) (record { result = r; state = richer_state d t; events = events })
+same_covers (Ok a) t events d = refl
+same_covers (Err (Faulted f)) t events d = refl
+same_covers (Err OutOfSteps) t events d = record { more = []; is = sym (append-nil events) }
+
+field_larger : (v : Value) → Larger (field_at v) (field_at v)
+unfolding field_at
+field_larger v = record { covers = λ s d. same_covers _ s [] d }
+
+text_larger : Larger current_text current_text
+unfolding current_text
+text_larger = record { covers = λ s d. refl }
+
+show_larger : (bytes : List ℕ) → Larger (show bytes) (show bytes)
+unfolding show
+show_larger bytes = record { covers = λ s d. refl }
+
+set_larger : (text : List ℕ) → Larger (set_record text) (set_record text)
+unfolding set_record
+set_larger text = record { covers = λ s d. refl }
+
+opened_covers : (kind : InputKind) (name : List ℕ) (o : Option Source) (s : State) (d : ℕ) → Covers (opened kind name o s).result d (opened kind name o s) (opened kind name o (richer_state d s))
+opened_covers kind name None s d = refl
+opened_covers kind name (Some source) s d = refl
+
+open_main_larger : (kind : InputKind) (name : List ℕ) → Larger (open_main kind name) (open_main kind name)
+unfolding open_main
+open_main_larger kind name = record { covers = λ s d. opened_covers kind name _ s d }
+
+open_covers : (o : Option Source) (s : State) (d : ℕ) → Covers (open_of o s).result d (open_of o s) (open_of o (richer_state d s))
+open_covers None s d = (open_main_larger Standard []).covers s d
+open_covers (Some source) s d = (lift_larger (Ok tt)).covers s d
+
+open_larger : Larger open_standard open_standard
+unfolding open_standard
+open_larger = record { covers = λ s d. open_covers s.main s d }
+
+taken_covers : (c : Cut) (source : Source) (s : State) (d : ℕ) → Covers (taken c source s).result d (taken c source s) (taken c source (richer_state d s))
+taken_covers (Found first left) source s d = refl
+taken_covers NoMore source s d = refl
+taken_covers BrokenOff source s d = refl
+taken_covers TooLong source s d = refl
+taken_covers BadSeparator source s d = refl
+
+taken_of_covers : (o : Option Source) (s : State) (d : ℕ) → Covers (taken_of o s).result d (taken_of o s) (taken_of o (richer_state d s))
+taken_of_covers None s d = (lift_larger (Ok None)).covers s d
+taken_of_covers (Some source) s d = taken_covers _ source s d
+
+take_larger : Larger take_record take_record
+unfolding take_record
+take_larger = record { covers = λ s d. taken_of_covers s.main s d }
+
+spend_covers : (n : ℕ) (s : State) (d : ℕ) → Covers (spend_of n s).result d (spend_of n s) (spend_of (n + d) (richer_state d s))
+spend_covers zero s d = record { more = (spend_of (0 + d) (richer_state d s)).events; is = refl }
+spend_covers (suc n) s d = let e : suc n + d ≡ suc (n + d) = omega arith in rw e refl
+
+spend_larger : Larger spend spend
+unfolding spend
+spend_larger = record { covers = λ s d. spend_covers s.steps s d }
+
+-- the forms
+
+E_larger : (e : Expr) → Larger (E e) (E e)
+unfolding E
+E_larger (Number n) = lift_larger (Ok (value.Number n))
+E_larger (Field e) = then_larger _ _ (E_larger e) field_larger
+E_larger (Binary o a b) = then_larger _ _ (E_larger a) (λ x. then_larger _ _ (E_larger b) (λ y. lift_larger (applied o x y)))
+
+values_larger : (front : List Value) (es : Exprs) → Larger (values_of front es) (values_of front es)
+unfolding values_of
+values_larger front Nil = lift_larger (Ok front)
+values_larger front (Cons e es) = then_larger _ _ (E_larger e) (λ v. values_larger (front ++ v ∷ []) es)
+
+printed_larger : (es : Exprs) → Larger (printed_values es) (printed_values es)
+unfolding printed_values
+printed_larger Nil = then_larger _ _ text_larger (λ v. lift_larger (Ok (v ∷ [])))
+printed_larger (Cons e es) = values_larger [] (Cons e es)
+
+mutual
+  unfolding S
+  S_larger : (s : Statement) → Larger (S s) (S s)
+  S_larger (Block all) = all_larger all
+  S_larger (Print list) = then_larger _ _ spend_larger (λ _. then_larger _ _ (printed_larger list) (λ vs. show_larger (line_of vs)))
+
+  all_larger : (all : Statements) → Larger (S_all all) (S_all all)
+  all_larger NoStatement = lift_larger (Ok tt)
+  all_larger (Then s all) = then_larger _ _ (S_larger s) (λ _. all_larger all)
+
+if_larger : (b : Bool) (m : Run (Unit {0})) → Larger m m → Larger (run_if b m) (run_if b m)
+if_larger true m h = h
+if_larger false m h = lift_larger (Ok tt)
+
+item_larger : (x : Item) → Larger (try_item x) (try_item x)
+unfolding try_item
+item_larger (Always block) = all_larger block
+item_larger (Rule e block) = then_larger _ _ (E_larger e) (λ v. if_larger (truth_of v) _ (all_larger block))
+
+items_larger : (xs : List Item) → Larger (try_items xs) (try_items xs)
+unfolding try_items
+items_larger [] = lift_larger (Ok tt)
+items_larger (x ∷ xs) = then_larger _ _ (item_larger x) (λ _. items_larger xs)
+
+next_larger : Larger next_record next_record
+unfolding next_record
+next_larger = then_larger _ _ open_larger (λ _. take_larger)
+
+on_larger : (found : Option (List ℕ)) (f g : List ℕ → Run (Unit {0})) → ((text : List ℕ) → Larger (f text) (g text)) → Larger (on_record found f) (on_record found g)
+on_larger None f g h = lift_larger (Ok tt)
+on_larger (Some text) f g h = h text
+
+each_larger : (n n' : ℕ) (action : Run (Unit {0})) → n ≤ n' → Larger action action → Larger (each_record n action) (each_record n' action)
+unfolding each_record
+each_larger zero n' action h y = steps_larger _
+each_larger (suc n) zero action h y = absurd (omega arith)
+each_larger (suc n) (suc n') action h y =
+    let t = each_larger n n' action (omega arith) y in
+    then_larger _ _ next_larger (λ found. on_larger found _ _ (λ text. then_larger _ _ spend_larger (λ _. then_larger _ _ (set_larger text) (λ _. then_larger _ _ y (λ _. t)))))
+
+records_larger : (action : Run (Unit {0})) → Larger action action → Larger (all_records action) (all_records action)
+unfolding all_records
+records_larger action y = record { covers = λ s d. (each_larger (suc s.steps) (suc (s.steps + d)) action (omega arith) y).covers s d }
+
+run_larger : (items : List Item) → Larger (run_items items) (run_items items)
+unfolding run_items
+run_larger [] = lift_larger (Ok tt)
+run_larger (x ∷ xs) = records_larger _ (items_larger (x ∷ xs))
+
+whole_covers : (items : List Item) (start : StartValues) (answers : Answers) (limit d : ℕ) → Covers (whole items start answers limit).result d (whole items start answers limit) (whole items start answers (limit + d))
+unfolding whole
+whole_covers items start answers limit d = (run_larger items).covers (start_state start answers limit) d
+
+-- from runs to what they print
+
+pub printed_to-append : (output : Output) (xs ys : List Event) → printed_to output (xs ++ ys) ≡ printed_to output xs ++ printed_to output ys
+printed_to-append output [] ys = refl
+printed_to-append output (Printed to bytes ∷ xs) ys = rw (printed_to-append output xs ys) (sym (append_assoc (Rattle.std.proofs.Common.cond (same_output to output) bytes []) (printed_to output xs) (printed_to output ys)))
+printed_to-append output (Demanded what ∷ xs) ys = printed_to-append output xs ys
+
+shows_begins : (output : Output) (xs ys more : List Event) → ys ≡ xs ++ more → IsBeginning (printed_to output xs) (printed_to output ys)
+shows_begins output xs ys more e = record { more = printed_to output more; is = ap (printed_to output) e ∙ printed_to-append output xs more }
+
+abbrev read_off : Out (Unit {0}) → Meaning
+read_off o = record { outcome = outcome_of o.result; printed = λ output. printed_to output o.events; demands = demands_after [] (o.events ++ Demanded TheEnd ∷ []) }
+
+settled_of : (r : Result (Unit {0}) Stop) (d : ℕ) (x y : Out (Unit {0})) → x.result ≡ r → Covers r d x y → outcome_of x.result ≢ Stopped → read_off y ≡ read_off x
+settled_of (Ok a) d x y e c other = ap read_off c
+settled_of (Err (Faulted f)) d x y e c other = ap read_off c
+settled_of (Err OutOfSteps) d x y e c other = absurd (other (ap outcome_of e))
+
+stopped_of : (r : Result (Unit {0}) Stop) (d : ℕ) (x y : Out (Unit {0})) → x.result ≡ r → Covers r d x y → outcome_of x.result ≡ Stopped → Begins (read_off x) (read_off y)
+stopped_of (Ok a) d x y e c stops = let never : Ended 0 ≡ Stopped = sym (ap outcome_of e) ∙ stops in absurd (cc)
+stopped_of (Err (Faulted f)) d x y e c stops = let never : Fault f ≡ Stopped = sym (ap outcome_of e) ∙ stops in absurd (cc)
+stopped_of (Err OutOfSteps) d x y e c stops = λ output. shows_begins output x.events y.events c.more c.is
+
+pub law_of_limits : LawOfLimits
+law_of_limits items start answers limit more = record {
+  settled = settled_of (whole items start answers limit).result more _ _ refl (whole_covers items start answers limit more);
+  stopped = stopped_of (whole items start answers limit).result more _ _ refl (whole_covers items start answers limit more);
+}

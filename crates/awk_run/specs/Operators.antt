@@ -1,0 +1,77 @@
+-- What operators make of values (POSIX awk, Expressions in awk).
+use Rattle.std.specs.Prelude.{ℕ, ℤ, pos, Bool, true, false, List, [], ◌∷◌, ◌++◌, Result, Ok, Err, if◌then◌else◌}
+use Rattle.std.specs.declared.cmp.Ordering.{Ordering}
+use Rattle.std.specs.declared.cmp.Ordering.TheVariants as ordering
+use Rattle.awk_value.specs.declared.value.Value.{Value}
+use Rattle.awk_value.specs.declared.value.Value.TheVariants.{Number}
+use Rattle.awk_value.specs.declared.fault.ValueFault.{ValueFault}
+use Rattle.awk_value.specs.declared.fault.ValueFault.TheVariants as value
+use Rattle.awk_value.specs.Values.{num_of, str_of, order_of, multiplied}
+use Rattle.awk_record.specs.declared.fault.RecordFault.{RecordFault}
+use Rattle.awk_record.specs.declared.fault.RecordFault.TheVariants as fields
+use Rattle.awk_record.specs.Record.{RecordPair, field_of}
+use Rattle.awk_streams.specs.declared.fault.StreamFault.{StreamFault}
+use Rattle.awk_streams.specs.declared.fault.StreamFault.TheVariants as streams
+use Rattle.awk_syntax.specs.declared.tree.BinaryOperator.{BinaryOperator}
+use Rattle.awk_syntax.specs.declared.tree.BinaryOperator.TheVariants.{Times, Less, LessEqual, Equal, NotEqual, Greater, GreaterEqual}
+use Rattle.awk_run.specs.declared.outcome.Fault.{Fault}
+use Rattle.awk_run.specs.declared.outcome.Fault.TheVariants as fault
+use Rattle.awk_run.specs.State.{Stop, Faulted}
+
+-- the faults of the crates below, by their numbers
+abbrev pub value_fault : ValueFault → Fault
+value_fault value.Memory = fault.OutOfMemory
+value_fault value.Range = fault.NumberOutOfRange
+
+abbrev pub record_fault : RecordFault → Fault
+record_fault fields.Memory = fault.OutOfMemory
+record_fault fields.FieldNumber = fault.FieldNumberOutOfRange
+record_fault fields.SeparatorTooLong = fault.RecordSeparatorTooLong
+record_fault fields.RecordTooLong = fault.RecordTooLong
+
+abbrev pub stream_fault : StreamFault → Fault
+stream_fault streams.Memory = fault.OutOfMemory
+stream_fault streams.WriteFailed = fault.WriteFailed
+stream_fault streams.InputNotReadable = fault.InputNotReadable
+stream_fault streams.SeparatorTooLong = fault.RecordSeparatorTooLong
+stream_fault streams.RecordTooLong = fault.RecordTooLong
+
+abbrev pub of_values : {A : Type 0} → Result A ValueFault → Result A Stop
+of_values (Ok a) = Ok a
+of_values (Err f) = Err (Faulted (value_fault f))
+
+abbrev pub of_record : {A : Type 0} → Result A RecordFault → Result A Stop
+of_record (Ok a) = Ok a
+of_record (Err f) = Err (Faulted (record_fault f))
+
+-- whether two values in this order are so related
+abbrev pub relates : BinaryOperator → Ordering → Bool
+relates Times o = false
+relates Less ordering.Less = true
+relates Less o = false
+relates LessEqual ordering.Greater = false
+relates LessEqual o = true
+relates Equal ordering.Equal = true
+relates Equal o = false
+relates NotEqual ordering.Equal = false
+relates NotEqual o = true
+relates Greater ordering.Greater = true
+relates Greater o = false
+relates GreaterEqual ordering.Less = false
+relates GreaterEqual o = true
+
+abbrev pub truth_value : Bool → Value
+truth_value b = Number (if b then pos 1 else pos 0)
+
+-- an operator takes two values and gives one: a product, or 1 or 0 for a comparison
+abbrev pub applied : BinaryOperator → Value → Value → Result Value Stop
+applied Times x y = of_values (multiplied x y)
+applied o x y = Ok (truth_value (relates o (order_of x y)))
+
+-- the field of a record whose number is a value's
+abbrev pub field_by : RecordPair → Result ℤ ValueFault → Result Value Stop
+field_by r (Ok i) = of_record (field_of r i)
+field_by r (Err f) = Err (Faulted (value_fault f))
+
+abbrev pub field_value : RecordPair → Value → Result Value Stop
+field_value r v = field_by r (num_of v)

@@ -1,0 +1,97 @@
+// The values of expressions.
+
+ghost use Rattle.std.specs.Prelude.{◌≡◌, [], Ok, Err, pos, if◌then◌else◌};
+ghost use Rattle.std.specs.declared.cmp.Ordering.{Ordering as Order};
+ghost use Rattle.awk_syntax.specs.View.{expr_of, exprs_of};
+ghost use Rattle.awk_run.specs.Operators.{applied, field_value, relates as related};
+ghost use Rattle.awk_run.specs.Does.{Matches, Evaluates, EvaluatesAll, Lists, Tests, viewed};
+
+use crate::halt::Halt;
+use crate::machine::Machine;
+use awk_record::Record;
+use awk_syntax::tree::{BinaryOperator, Expr};
+use awk_value::{Value, compare, is_true, multiply, number_of};
+use std::cmp::Ordering;
+
+/// The field of the record whose number is the value's.
+pub fn field_at(record: &mut Record, at: &Value) -> Result<Value, Halt>
+    ensures value { Matches result (field_value record.old at.now) }
+    ensures same { record.new ≡ record.old }
+{
+    let number = number_of(at)?;
+    Ok(record.field(number)?)
+}
+
+/// Whether two values in this order are so related.
+fn relates(operator: BinaryOperator, order: Ordering) -> bool
+    ensures { result ≡ related operator order }
+{
+    match operator {
+        BinaryOperator::Times => false,
+        BinaryOperator::Less => order == Ordering::Less,
+        BinaryOperator::LessEqual => order != Ordering::Greater,
+        BinaryOperator::Equal => order == Ordering::Equal,
+        BinaryOperator::NotEqual => order != Ordering::Equal,
+        BinaryOperator::Greater => order == Ordering::Greater,
+        BinaryOperator::GreaterEqual => order != Ordering::Less,
+    }
+}
+
+/// What an operator makes of two values.
+pub fn apply(operator: BinaryOperator, x: &Value, y: &Value) -> Result<Value, Halt>
+    ensures { Matches result (applied operator x.now y.now) }
+{
+    if operator == BinaryOperator::Times {
+        return Ok(multiply(x, y)?);
+    }
+    let order = compare(x, y)?;
+    Ok(Value::Number(i128::from(relates(operator, order))))
+}
+
+/// The value of an expression (POSIX awk, Expressions in awk).
+pub fn eval(e: &Expr, machine: &mut Machine) -> Result<Value, Halt>
+    ensures { Evaluates (expr_of e.now) machine.old machine.new result }
+{
+    match e {
+        Expr::Number(n) => Ok(Value::Number(*n)),
+        Expr::Field(e) => {
+            let at = eval(e, machine)?;
+            machine.field_at(&at)
+        }
+        Expr::Binary(operator, a, b) => {
+            let x = eval(a, machine)?;
+            let y = eval(b, machine)?;
+            apply(*operator, &x, &y)
+        }
+    }
+}
+
+/// Whether an expression is true.
+pub fn holds(e: &Expr, machine: &mut Machine) -> Result<bool, Halt>
+    ensures { Tests (expr_of e.now) machine.old machine.new result }
+{
+    let value = eval(e, machine)?;
+    Ok(is_true(&value))
+}
+
+fn eval_all(list: &[Expr], machine: &mut Machine) -> Result<Vec<Value>, Halt>
+    ensures { EvaluatesAll [] (exprs_of list.now) machine.old machine.new (viewed (λ v. v.items) result) }
+{
+    let mut values = Vec::new(machine.allocator());
+    for e in list {
+        let value = eval(e, machine)?;
+        values.push(value)?;
+    }
+    Ok(values)
+}
+
+/// The values that a print prints: those of its list, or without one the record's text.
+pub fn listed(list: &[Expr], machine: &mut Machine) -> Result<Vec<Value>, Halt>
+    ensures { Lists (exprs_of list.now) machine.old machine.new (viewed (λ v. v.items) result) }
+{
+    if !list.is_empty() {
+        return eval_all(list, machine);
+    }
+    let text = machine.text()?;
+    Ok(vec![in machine.allocator(); text]?)
+}

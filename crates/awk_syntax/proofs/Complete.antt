@@ -1,0 +1,208 @@
+-- A leveled expression that is spelled is the one that is read.
+use Rattle.std.proofs.Common.{◌≡◌, ℕ, zero, suc, ◌≤◌, ◌<◌, Bool, true, false, cond, leb, ◌&&◌, ◌||◌, List, [], ◌∷◌, Option, refl, sym, ap, ◌∙◌, subst, arith}
+use Rattle.std.proofs.lemmas.Bool.{and_from, le-leb, lt-leb, and_right}
+use Rattle.awk_lex.specs.declared.token.Kind.{Kind}
+use Rattle.awk_lex.specs.declared.token.Kind.TheVariants as t
+use Rattle.awk_syntax.specs.declared.tree.BinaryOperator.{BinaryOperator}
+use Rattle.awk_syntax.specs.declared.tree.BinaryOperator.TheVariants as o
+use Rattle.awk_syntax.specs.Tree.{Expr, Number, Field, Binary, Exprs, Nil, Cons, Print}
+use Rattle.awk_syntax.specs.Level.{level_of, left, right, is_greater, level, Leveled, AllLeveled}
+use Rattle.awk_syntax.specs.Spelling.{newlines, operator_of, Joined, Spells, SpellsMore, SpellsList}
+use Rattle.awk_syntax.specs.Machine.{Part, append, no_exprs, one_more, printed, Role, Infix, Ends, role, Frame, InField, InBinary, InPrint, hole, hole_of, keeps, fill, takes, Held, settle, State, Expect, Ready, Prints, end_with, go_on, close, follow, step, answer}
+use Rattle.awk_syntax.proofs.Limits.{test_true, test_false, pruned, pruned_list, pruned_statement, field-pruned, joined-pruned, one_more-pruned, printed-pruned}
+
+-- what the next token does
+abbrev pub next : Bool → List Kind → Role
+next g [] = Ends
+next g (y ∷ ts) = role g y
+
+-- no node at the right edge goes on with what follows
+abbrev pub Stops : ℕ → Role → Expr → Type 0
+Stops m r (Number n) = Unit {0}
+Stops m r (Field e) = (takes r (pruned m e) 2 ≡ false) × Stops m r e
+Stops m r (Binary o a b) = (takes r (pruned m b) (right o) ≡ false) × Stops m r b
+
+-- what is known of the table
+record Plain (o : BinaryOperator) : Type 0 where
+  level_least : 6 ≤ level_of o
+  left_most : left o ≤ level_of o
+  right_most : right o < level_of o
+  level_most : level_of o ≤ 14
+
+plain : (o : BinaryOperator) → Plain o
+plain o.Times = record { level_least = omega arith; left_most = omega arith; right_most = omega arith; level_most = omega arith }
+plain o = record { level_least = omega arith; left_most = omega arith; right_most = omega arith; level_most = omega arith }
+
+pub bounds : (o : BinaryOperator) → (6 ≤ level_of o) × (left o ≤ level_of o) × (level_of o ≤ 14) × (right o < level_of o)
+bounds o = let p = plain o in (p.level_least, p.left_most, p.level_most, p.right_most)
+
+pub level_most : (e : Expr) → level e ≤ 16
+level_most (Number n) = omega arith
+level_most (Field e) = omega arith
+level_most (Binary o a b) = omega (arith, bounds o)
+
+pub stops_end : (m : ℕ) (e : Expr) → Stops m Ends e
+stops_end m (Number n) = tt
+stops_end m (Field e) = (refl, stops_end m e)
+stops_end m (Binary o a b) = (refl, stops_end m b)
+
+takes_not : (o : BinaryOperator) (e : Part) (h : ℕ) → h < level_of o → takes (Infix o) e h ≡ false
+takes_not o e h l = and_right _ _ (lt-leb (level_of o) h l)
+
+-- an operator that takes a tree as its left operand doesn't go on with the tree's right edge
+stops : (m : ℕ) (o : BinaryOperator) (g : Bool) (e : Expr) → Leveled g e → level e ≤ left o → Stops m (Infix o) e
+stops m o g (Number n) l h = tt
+stops m o g (Field e) l h = (takes_not o (pruned m e) 2 (omega (arith, bounds o)), tight e l.1 l.0)
+  where
+    tight : (d : Expr) → Leveled g d → level d ≤ 2 → Stops m (Infix o) d
+    tight (Number n) l h = tt
+    tight (Field d) l h = (takes_not o (pruned m d) 2 (omega (arith, bounds o)), tight d l.1 l.0)
+    tight (Binary j a b) l h = absurd (omega (arith, bounds j))
+stops m o g (Binary j a b) l h =
+    (takes_not o (pruned m b) (right j) (omega (arith, bounds o, bounds j)), stops m o g b l.3 (omega (arith, bounds o, bounds j)))
+
+neither : (x y : Bool) → x ≡ false → y ≡ false → (x || y) ≡ false
+neither true y h i = absurd (cc)
+neither false y h i = i
+
+or_left : (x y : Bool) → x ≡ true → (x || y) ≡ true
+or_left true y h = refl
+or_left false y h = absurd (cc)
+
+settle_on : (m : ℕ) (r : Role) (f : Frame) (e : Part) (k : List Frame) → keeps f ≡ false → takes r e (hole f) ≡ false → settle m r e (f ∷ k) ≡ settle m r (fill m f e) k
+settle_on m r f e k c h = test_false _ _ _ (neither (takes r e (hole f)) (keeps f) h c)
+
+reduced : (m : ℕ) (g : Bool) (f : Frame) (k : List Frame) (e : Part) (ts : List Kind) → keeps f ≡ false → takes (next g ts) e (hole f) ≡ false → answer m (Ready g e (f ∷ k)) ts ≡ answer m (Ready g (fill m f e) k) ts
+reduced m g f k e [] c h = refl
+reduced m g f k e (x ∷ ts) c h = ap (λ s. answer m (follow m (role g x) x g s) ts) (settle_on m (role g x) f e k c h)
+
+settled : (m : ℕ) (r : Role) (e : Part) (k : List Frame) → takes r e (hole_of k) ≡ true → settle m r e k ≡ record { part = e; stack = k }
+settled m r e [] h = refl
+settled m r e (f ∷ k) h = test_true _ _ _ (or_left (takes r e (hole f)) (keeps f) h)
+
+extends : (m : ℕ) (x : Kind) (r : Role) (g : Bool) (e : Part) (k : List Frame) → role g x ≡ r → takes r e (hole_of k) ≡ true → step m (Ready g e k) x ≡ go_on r g e k
+extends m x r g e k q h =
+    ap (λ z. follow m z x g (settle m z e k)) q ∙ ap (follow m r x g) (settled m r e k h) ∙ test_true _ _ _ h
+
+pub over_newlines : (m n : ℕ) (g : Bool) (k : List Frame) (ts : List Kind) → answer m (Expect true g k) (newlines n ts) ≡ answer m (Expect true g k) ts
+over_newlines m zero g k ts = refl
+over_newlines m (suc n) g k ts = over_newlines m n g k ts
+
+-- the flag matters at `>` alone
+role_by : (g : Bool) (o : BinaryOperator) → (g && is_greater o) ≡ false → role g (t.Operator (operator_of o)) ≡ Infix o
+role_by true o.Greater h = absurd (cc)
+role_by false o.Greater h = refl
+role_by g o h = refl
+
+-- from a left operand to the right one
+joins : (m : ℕ) (o : BinaryOperator) (g : Bool) (a : Part) (k : List Frame) (u v : List Kind) → Joined o u v → (g && is_greater o) ≡ false → a.rank ≤ left o → level_of o ≤ hole_of k → answer m (Ready g a k) u ≡ answer m (Expect false g (InBinary o a ∷ k)) v
+joins m o g a k u v j n la lo =
+    ap (answer m (Ready g a k)) j
+    ∙ ap (λ s. answer m s v) (extends m (t.Operator (operator_of o)) (Infix o) g a k (role_by g o n) (and_from _ _ (le-leb a.rank (left o) la) (le-leb (level_of o) (hole_of k) lo)))
+
+-- the left operand ends where the operator stands
+left_stops : (m : ℕ) (o : BinaryOperator) (g : Bool) (a : Expr) (u v : List Kind) → Joined o u v → (g && is_greater o) ≡ false → Leveled g a → level a ≤ left o → Stops m (next g u) a
+left_stops m o g a u v j n l h = subst (λ r. Stops m r a) (sym (ap (next g) j ∙ role_by g o n)) (stops m o g a l h)
+
+pub complete : (m : ℕ) (e : Expr) (ts rest : List Kind) (s g : Bool) (k : List Frame) → Leveled g e → Spells e ts rest → level e ≤ hole_of k → Stops m (next g rest) e → answer m (Expect s g k) ts ≡ answer m (Ready g (pruned m e) k) rest
+complete m (Number n) ts rest s g k l p h z = ap (answer m (Expect s g k)) p
+complete m (Field e) ts rest s g k l p h z =
+    ap (answer m (Expect s g k)) p.1 ∙ complete m e p.0 rest false g (InField ∷ k) l.1 p.2 l.0 z.1
+    ∙ reduced m g InField k (pruned m e) rest refl z.0 ∙ ap (λ x. answer m (Ready g x k) rest) (field-pruned m e)
+complete m (Binary o a b) ts rest s g k l p h z =
+    let low : level a ≤ hole_of k = omega (arith, bounds o, l.0) in
+    complete m a ts p.0 s g k l.2 p.2 low (left_stops m o g a p.0 p.1 p.3 l.4 l.2 l.0)
+    ∙ joins m o g (pruned m a) k p.0 p.1 p.3 l.4 l.0 h
+    ∙ complete m b p.1 rest false g (InBinary o (pruned m a) ∷ k) l.3 p.4 l.1 z.1
+    ∙ reduced m g (InBinary o (pruned m a)) k (pruned m b) rest refl z.0
+    ∙ ap (λ x. answer m (Ready g x k) rest) (joined-pruned m o a b)
+
+-- the tokens that end a simple statement
+pub data Stopper : Kind → Type 0 where
+  AtSemicolon : Stopper t.Semicolon
+  AtNewline : Stopper t.Newline
+  AtBrace : Stopper t.CloseBrace
+
+stops_there : (m : ℕ) (e : Expr) (y : Kind) → Stopper y → Stops m (role true y) e
+stops_there m e y AtSemicolon = stops_end m e
+stops_there m e y AtNewline = stops_end m e
+stops_there m e y AtBrace = stops_end m e
+
+list_closed : (m : ℕ) (e : Part) (xs : Option Exprs) (k : List Frame) (y : Kind) (r : List Kind) → Stopper y → answer m (Ready true e (InPrint xs ∷ k)) (y ∷ r) ≡ answer m (end_with m y (printed m (one_more m xs e)) k) r
+list_closed m e xs k y r AtSemicolon = refl
+list_closed m e xs k y r AtNewline = refl
+list_closed m e xs k y r AtBrace = refl
+
+abbrev join : Exprs → Exprs → Exprs
+join made Nil = made
+join made (Cons e xs) = join (append made e) xs
+
+list_read : (m : ℕ) (e : Expr) (xs made : Exprs) (s : Bool) (ts : List Kind) (y : Kind) (r : List Kind) (k : List Frame) → Leveled true e → AllLeveled true xs → SpellsList (Cons e xs) ts (y ∷ r) → Stopper y → answer m (Expect s true (InPrint (pruned_list m made) ∷ k)) ts ≡ answer m (end_with m y (pruned_statement m (Print (join made (Cons e xs)))) k) r
+list_read m e Nil made s ts y r k l n p h =
+    complete m e ts (y ∷ r) s true (InPrint (pruned_list m made) ∷ k) l (subst (Spells e ts) p.2 p.1) (level_most e) (stops_there m e y h)
+    ∙ list_closed m (pruned m e) (pruned_list m made) k y r h
+    ∙ ap (λ z. answer m (end_with m y (printed m z) k) r) (one_more-pruned m made e)
+    ∙ ap (λ z. answer m (end_with m y z k) r) (printed-pruned m (append made e))
+list_read m e (Cons d xs) made s ts y r k l n p h =
+    let q = p.2 in
+    complete m e ts (t.Comma ∷ newlines q.0 q.1) s true (InPrint (pruned_list m made) ∷ k) l (subst (Spells e ts) q.3 p.1) (level_most e) (stops_end m e)
+    ∙ over_newlines m q.0 true (InPrint (one_more m (pruned_list m made) (pruned m e)) ∷ k) q.1
+    ∙ ap (λ z. answer m (Expect true true (InPrint z ∷ k)) q.1) (one_more-pruned m made e)
+    ∙ list_read m d xs (append made e) true q.1 y r k n.0 n.1 (q.2, q.4, q.5) h
+
+plus : Exprs → Exprs → Exprs
+plus Nil ys = ys
+plus (Cons d xs) ys = Cons d (plus xs ys)
+
+plus_nil : (xs : Exprs) → plus xs Nil ≡ xs
+unfolding plus
+plus_nil Nil = refl
+plus_nil (Cons d xs) = ap (Cons d) (plus_nil xs)
+
+plus_append : (made : Exprs) (e : Expr) (ys : Exprs) → plus (append made e) ys ≡ plus made (Cons e ys)
+unfolding plus
+plus_append Nil e ys = refl
+plus_append (Cons d xs) e ys = ap (Cons d) (plus_append xs e ys)
+
+join_plus : (xs made : Exprs) → join made xs ≡ plus made xs
+join_plus Nil made = sym (plus_nil made)
+join_plus (Cons e xs) made = join_plus xs (append made e) ∙ plus_append made e xs
+
+join_all : (xs : Exprs) → join Nil xs ≡ xs
+unfolding plus
+join_all xs = join_plus xs Nil
+
+-- an operand begins
+abbrev pub starter : Kind → Bool
+starter (t.Number n) = true
+starter t.Dollar = true
+starter y = false
+
+abbrev pub started : List Kind → Bool
+started [] = false
+started (y ∷ ts) = starter y
+
+pub starts_so : (e : Expr) (ts rest : List Kind) → Spells e ts rest → started ts ≡ true
+starts_so (Number n) ts rest p = ap started p
+starts_so (Field e) ts rest p = ap started p.1
+starts_so (Binary o a b) ts rest p = starts_so a ts p.0 p.2
+
+list_enters : (m : ℕ) (k : List Frame) (ts : List Kind) → started ts ≡ true → answer m (Prints k) ts ≡ answer m (Expect false true (InPrint (no_exprs m) ∷ k)) ts
+list_enters m k [] h = absurd (cc)
+list_enters m k (t.Number n ∷ ts) h = refl
+list_enters m k (t.Dollar ∷ ts) h = refl
+list_enters m k (y ∷ ts) h = absurd (cc)
+
+none_read : (m : ℕ) (k : List Frame) (y : Kind) (r : List Kind) → Stopper y → answer m (Prints k) (y ∷ r) ≡ answer m (end_with m y (printed m (no_exprs m)) k) r
+none_read m k y r AtSemicolon = refl
+none_read m k y r AtNewline = refl
+none_read m k y r AtBrace = refl
+
+-- a print's list, up to the token that ends the statement
+pub print_read : (m : ℕ) (xs : Exprs) (ts : List Kind) (y : Kind) (r : List Kind) (k : List Frame) → AllLeveled true xs → SpellsList xs ts (y ∷ r) → Stopper y → answer m (Prints k) ts ≡ answer m (end_with m y (pruned_statement m (Print xs)) k) r
+print_read m Nil ts y r k l p h =
+    ap (answer m (Prints k)) p ∙ none_read m k y r h ∙ ap (λ z. answer m (end_with m y z k) r) (printed-pruned m Nil)
+print_read m (Cons e xs) ts y r k l p h =
+    list_enters m k ts (starts_so e ts p.0 p.1)
+    ∙ list_read m e xs Nil false ts y r k l.0 l.1 p h
+    ∙ ap (λ z. answer m (end_with m y (pruned_statement m (Print z)) k) r) (join_all (Cons e xs))

@@ -1,0 +1,144 @@
+-- A program that is spelled is the one that is read.
+use Rattle.std.proofs.Common.{◌≡◌, ℕ, zero, suc, ◌+◌, ◌≤◌, Bool, true, false, List, [], ◌∷◌, ◌++◌, Option, Some, refl, sym, ap, ◌∙◌, subst, arith}
+use Rattle.awk_lex.specs.declared.token.Kind.{Kind}
+use Rattle.awk_lex.specs.declared.token.Kind.TheVariants as t
+use Rattle.awk_syntax.specs.Tree.{Expr, Exprs, Statement, Block, Print, Statements, NoMore, Then, Item, Always, Rule}
+use Rattle.awk_syntax.specs.Height.{height_of_program}
+use Rattle.awk_syntax.specs.Level.{Leveled, AllLeveled, StatementLeveled, StatementsLeveled, ItemLeveled, ProgramLeveled}
+use Rattle.awk_syntax.specs.Spelling.{newlines, SpellsList, SpellsStatement, SpellsAll, Ended, BySemicolon, ByNewline, ByBrace, SpellsBlock, SpellsItem, separators, SpellsProgram, Spells, IsProgram}
+use Rattle.awk_syntax.specs.Machine.{Head, OfAll, OfRule, push, add, item_of, no_statements, one_more_statement, one_more_item, Frame, InBlock, InPattern, InAction, InProgram, Expect, Begins, Done, Between, block, answer, read}
+use Rattle.awk_syntax.proofs.Limits.{low, pruned, pruned_statement, pruned_all, pruned_item, pruned_items, one_more_statement-pruned, one_more_item-pruned, block-pruned, always-pruned, rule-pruned}
+use Rattle.awk_syntax.proofs.Complete.{next, stops_end, level_most, complete, AtSemicolon, AtNewline, AtBrace, print_read, starter, started, starts_so}
+
+begin_newlines : (m n : ℕ) (k : List Frame) (ts : List Kind) → answer m (Begins k) (newlines n ts) ≡ answer m (Begins k) ts
+begin_newlines m zero k ts = refl
+begin_newlines m (suc n) k ts = begin_newlines m n k ts
+
+done_newlines : (m n : ℕ) (x : Option Statement) (k : List Frame) (ts : List Kind) → answer m (Done x k) (newlines n ts) ≡ answer m (Done x k) ts
+done_newlines m zero x k ts = refl
+done_newlines m (suc n) x k ts = done_newlines m n x k ts
+
+print_ended : (m : ℕ) (xs : Exprs) (ts u rest : List Kind) (k : List Frame) → AllLeveled true xs → SpellsList xs ts u → Ended u rest → answer m (Begins k) (t.Print ∷ ts) ≡ answer m (Done (pruned_statement m (Print xs)) k) rest
+print_ended m xs ts u rest k l p (BySemicolon n r) = print_read m xs ts t.Semicolon (newlines n r) k l p AtSemicolon ∙ done_newlines m n (pruned_statement m (Print xs)) k r
+print_ended m xs ts u rest k l p (ByNewline n r) = print_read m xs ts t.Newline (newlines n r) k l p AtNewline ∙ done_newlines m n (pruned_statement m (Print xs)) k r
+print_ended m xs ts u rest k l p (ByBrace r) = print_read m xs ts t.CloseBrace r k l p AtBrace
+
+-- what holds statements
+data Body : Type 0 where
+  OfBlock : Body
+  OfAction : (head : Head) → Body
+
+abbrev body : Body → Option Statements → Frame
+body OfBlock all = InBlock all
+body (OfAction head) all = InAction head all
+
+next_in : (m : ℕ) (b : Body) (made : Option Statements) (x : Option Statement) (k : List Frame) (ts : List Kind) → answer m (Done x (body b made ∷ k)) ts ≡ answer m (Begins (body b (one_more_statement m made x) ∷ k)) ts
+next_in m OfBlock made x k [] = refl
+next_in m OfBlock made x k (t.Newline ∷ ts) = next_in m OfBlock made x k ts
+next_in m OfBlock made x k (y ∷ ts) = refl
+next_in m (OfAction head) made x k [] = refl
+next_in m (OfAction head) made x k (t.Newline ∷ ts) = next_in m (OfAction head) made x k ts
+next_in m (OfAction head) made x k (y ∷ ts) = refl
+
+abbrev join : Statements → Statements → Statements
+join made NoMore = made
+join made (Then x all) = join (push made x) all
+
+abbrev plus : Statements → Statements → Statements
+plus NoMore ys = ys
+plus (Then x xs) ys = Then x (plus xs ys)
+
+push_plus : (made : Statements) (x : Statement) (ys : Statements) → plus (push made x) ys ≡ plus made (Then x ys)
+push_plus NoMore x ys = refl
+push_plus (Then y all) x ys = ap (Then y) (push_plus all x ys)
+
+plus_none : (made : Statements) → plus made NoMore ≡ made
+plus_none NoMore = refl
+plus_none (Then x all) = ap (Then x) (plus_none all)
+
+join_plus : (all made : Statements) → join made all ≡ plus made all
+join_plus NoMore made = sym (plus_none made)
+join_plus (Then x all) made = join_plus all (push made x) ∙ push_plus made x all
+
+join_all : (all : Statements) → join NoMore all ≡ all
+join_all all = join_plus all NoMore
+
+mutual
+  complete_statement : (m : ℕ) (x : Statement) (ts rest : List Kind) (k : List Frame) → StatementLeveled x → SpellsStatement x ts rest → answer m (Begins k) ts ≡ answer m (Done (pruned_statement m x) k) rest
+  complete_statement m (Block all) ts rest k l p =
+      ap (answer m (Begins k)) p.3 ∙ begin_newlines m p.0 (InBlock (no_statements m) ∷ k) p.2
+      ∙ complete_all m all OfBlock NoMore p.2 (t.CloseBrace ∷ newlines p.1 rest) k l p.4
+      ∙ done_newlines m p.1 (block m (pruned_all m (join NoMore all))) k rest
+      ∙ ap (λ z. answer m (Done (block m (pruned_all m z)) k) rest) (join_all all)
+      ∙ ap (λ z. answer m (Done z k) rest) (block-pruned m all)
+  complete_statement m (Print xs) ts rest k l p = ap (answer m (Begins k)) p.2 ∙ print_ended m xs p.0 p.1 rest k l p.3 p.4
+
+  complete_all : (m : ℕ) (all : Statements) (b : Body) (made : Statements) (ts rest : List Kind) (k : List Frame) → StatementsLeveled all → SpellsAll all ts rest → answer m (Begins (body b (pruned_all m made) ∷ k)) ts ≡ answer m (Begins (body b (pruned_all m (join made all)) ∷ k)) rest
+  complete_all m NoMore b made ts rest k l p = ap (answer m (Begins (body b (pruned_all m made) ∷ k))) p
+  complete_all m (Then x all) b made ts rest k l p =
+      complete_statement m x ts p.0 (body b (pruned_all m made) ∷ k) l.0 p.1
+      ∙ next_in m b (pruned_all m made) (pruned_statement m x) k p.0
+      ∙ ap (λ z. answer m (Begins (body b z ∷ k)) p.0) (one_more_statement-pruned m made x)
+      ∙ complete_all m all b (push made x) p.0 rest k l.1 p.2
+
+-- the program so far
+abbrev at : ℕ → List Item → List Frame
+at m made = InProgram (pruned_items m made) ∷ []
+
+over_separators : (m : ℕ) (bs : List Bool) (k : List Frame) (ts : List Kind) → answer m (Between k) (separators bs ts) ≡ answer m (Between k) ts
+over_separators m [] k ts = refl
+over_separators m (true ∷ bs) k ts = over_separators m bs k ts
+over_separators m (false ∷ bs) k ts = over_separators m bs k ts
+
+-- an action, behind its `{`
+action : (m : ℕ) (head : Head) (all : Statements) (x : Item) (made : List Item) (n : ℕ) (u rest : List Kind) → StatementsLeveled all → SpellsAll all u (t.CloseBrace ∷ rest) → item_of m head (pruned_all m all) ≡ pruned_item m x → answer m (Begins (InAction head (no_statements m) ∷ at m made)) (newlines n u) ≡ answer m (Between (at m (add made x))) rest
+action m head all x made n u rest l p h =
+    begin_newlines m n (InAction head (no_statements m) ∷ at m made) u
+    ∙ complete_all m all (OfAction head) NoMore u (t.CloseBrace ∷ rest) (at m made) l p
+    ∙ ap (λ z. answer m (Between (InProgram (one_more_item m (pruned_items m made) (item_of m head (pruned_all m z))) ∷ [])) rest) (join_all all)
+    ∙ ap (λ z. answer m (Between (InProgram (one_more_item m (pruned_items m made) z) ∷ [])) rest) h
+    ∙ ap (λ z. answer m (Between (InProgram z ∷ [])) rest) (one_more_item-pruned m made x)
+
+item_enters : (m : ℕ) (k : List Frame) (ts : List Kind) → started ts ≡ true → answer m (Between k) ts ≡ answer m (Expect false false (InPattern ∷ k)) ts
+item_enters m k [] h = absurd (cc)
+item_enters m k (t.Number n ∷ ts) h = refl
+item_enters m k (t.Dollar ∷ ts) h = refl
+item_enters m k (y ∷ ts) h = absurd (cc)
+
+item_read : (m : ℕ) (x : Item) (ts rest : List Kind) (made : List Item) → ItemLeveled x → SpellsItem x ts rest → answer m (Between (at m made)) ts ≡ answer m (Between (at m (add made x))) rest
+item_read m (Always all) ts rest made l p =
+    ap (answer m (Between (at m made))) p.2 ∙ action m OfAll all (Always all) made p.0 p.1 rest l p.3 (always-pruned m all)
+item_read m (Rule e all) ts rest made l p =
+    let b = p.2 in
+    item_enters m (at m made) ts (starts_so e ts p.0 p.1)
+    ∙ complete m e ts (t.OpenBrace ∷ newlines b.0 b.1) false false (InPattern ∷ at m made) l.0 (subst (Spells e ts) b.2 p.1) (level_most e) (stops_end m e)
+    ∙ action m (OfRule (pruned m e)) all (Rule e all) made b.0 b.1 rest l.1 b.3 (rule-pruned m e all)
+
+none : (xs : List Item) → xs ++ [] ≡ xs
+none [] = refl
+none (x ∷ xs) = ap (λ z. x ∷ z) (none xs)
+
+snoc : (made : List Item) (x : Item) (xs : List Item) → add made x ++ xs ≡ made ++ (x ∷ xs)
+snoc [] x xs = refl
+snoc (y ∷ made) x xs = ap (λ z. y ∷ z) (snoc made x xs)
+
+items_read : (m : ℕ) (xs made : List Item) (ts : List Kind) → ProgramLeveled xs → SpellsProgram xs ts [] → answer m (Between (at m made)) ts ≡ Some (pruned_items m (made ++ xs))
+items_read m [] made ts l p =
+    ap (answer m (Between (at m made))) p.1 ∙ over_separators m p.0 (at m made) [] ∙ ap (λ z. Some (pruned_items m z)) (sym (none made))
+items_read m (x ∷ xs) made ts l p =
+    ap (answer m (Between (at m made))) p.3 ∙ over_separators m p.0 (at m made) p.1 ∙ item_read m x p.1 p.2 made l.0 p.4
+    ∙ items_read m xs (add made x) p.2 l.1 p.5 ∙ ap (λ z. Some (pruned_items m z)) (snoc made x xs)
+
+-- what is spelled and leveled is read
+pub reads : (m : ℕ) (ts : List Kind) (xs : List Item) → IsProgram ts xs → read m ts ≡ Some (pruned_items m xs)
+reads m ts xs p = items_read m xs [] ts p.1 p.0
+
+-- tokens have at most one tree: neither is above a limit that is high enough
+pub one_tree : (ts : List Kind) (xs ys : List Item) → IsProgram ts xs → IsProgram ts ys → xs ≡ ys
+one_tree ts xs ys p q =
+    let m = height_of_program xs + height_of_program ys in
+    let x = reads m ts xs p in
+    let y = reads m ts ys q in
+    let u = low m (height_of_program xs) xs (omega arith) in
+    let v = low m (height_of_program ys) ys (omega arith) in
+    cc

@@ -1,0 +1,5 @@
+use Rattle.awk_syntax.proofs.Program.{one_tree}
+use Rattle.awk_syntax.proofs.parse.one_tree.Goals as goal
+
+pub returns : goal.returns
+returns c = one_tree

@@ -1,0 +1,85 @@
+-- How a program is written (POSIX awk, Grammar).
+use Rattle.std.specs.Prelude.{ℕ, zero, suc, ◌≡◌, Bool, true, false, List, [], ◌∷◌, map}
+use Rattle.awk_lex.specs.declared.token.Operator.{Operator}
+use Rattle.awk_lex.specs.declared.token.Operator.TheVariants as s
+use Rattle.awk_lex.specs.declared.token.Kind.{Kind}
+use Rattle.awk_lex.specs.declared.token.Kind.TheVariants as t
+use Rattle.awk_lex.specs.declared.token.Token.{Token}
+use Rattle.awk_syntax.specs.declared.tree.BinaryOperator.{BinaryOperator}
+use Rattle.awk_syntax.specs.declared.tree.BinaryOperator.TheVariants as o
+use Rattle.awk_syntax.specs.Tree.{Expr, Number, Field, Binary, Exprs, Nil, Cons, Statement, Block, Print, Statements, NoMore, Then, Item, Always, Rule}
+use Rattle.awk_syntax.specs.Level.{ProgramLeveled}
+
+-- what the tokens are, without their places in the text
+abbrev pub kinds : List Token → List Kind
+kinds tokens = map (λ (token : Token). token.kind) tokens
+
+abbrev pub newlines : ℕ → List Kind → List Kind
+newlines zero ts = ts
+newlines (suc n) ts = t.Newline ∷ newlines n ts
+
+abbrev pub operator_of : BinaryOperator → Operator
+operator_of o.Times = s.Times
+operator_of o.Less = s.Less
+operator_of o.LessEqual = s.LessEqual
+operator_of o.Equal = s.Equal
+operator_of o.NotEqual = s.NotEqual
+operator_of o.Greater = s.Greater
+operator_of o.GreaterEqual = s.GreaterEqual
+
+-- from u to v the operator is written
+abbrev pub Joined : BinaryOperator → List Kind → List Kind → Type 0
+Joined o u v = u ≡ t.Operator (operator_of o) ∷ v
+
+-- the tokens begin with the tree, written out from left to right, and then comes the rest
+abbrev pub Spells : Expr → List Kind → List Kind → Type 0
+Spells (Number n) ts rest = ts ≡ t.Number n ∷ rest
+Spells (Field e) ts rest = (u : List Kind) × (ts ≡ t.Dollar ∷ u) × Spells e u rest
+Spells (Binary o a b) ts rest = (u v : List Kind) × Spells a ts u × Joined o u v × Spells b v rest
+
+-- newlines may follow each comma
+abbrev pub SpellsMore : Exprs → List Kind → List Kind → Type 0
+SpellsMore Nil ts rest = ts ≡ rest
+SpellsMore (Cons e xs) ts rest = (n : ℕ) × (u v : List Kind) × (ts ≡ t.Comma ∷ newlines n u) × Spells e u v × SpellsMore xs v rest
+
+abbrev pub SpellsList : Exprs → List Kind → List Kind → Type 0
+SpellsList Nil ts rest = ts ≡ rest
+SpellsList (Cons e xs) ts rest = (u : List Kind) × Spells e ts u × SpellsMore xs u rest
+
+-- the end of a simple statement, and newlines
+pub data Ended : List Kind → List Kind → Type 0 where
+  BySemicolon : (n : ℕ) (rest : List Kind) → Ended (t.Semicolon ∷ newlines n rest) rest
+  ByNewline : (n : ℕ) (rest : List Kind) → Ended (t.Newline ∷ newlines n rest) rest
+  ByBrace : (rest : List Kind) → Ended (t.CloseBrace ∷ rest) (t.CloseBrace ∷ rest)
+
+-- newlines may follow each `{`, and the `}` of a block that is a statement
+abbrev mutual
+  pub SpellsStatement : Statement → List Kind → List Kind → Type 0
+  SpellsStatement (Block all) ts rest = (n m : ℕ) × (u : List Kind) × (ts ≡ t.OpenBrace ∷ newlines n u) × SpellsAll all u (t.CloseBrace ∷ newlines m rest)
+  SpellsStatement (Print xs) ts rest = (u v : List Kind) × (ts ≡ t.Print ∷ u) × SpellsList xs u v × Ended v rest
+
+  pub SpellsAll : Statements → List Kind → List Kind → Type 0
+  SpellsAll NoMore ts rest = ts ≡ rest
+  SpellsAll (Then x all) ts rest = (u : List Kind) × SpellsStatement x ts u × SpellsAll all u rest
+
+abbrev pub SpellsBlock : Statements → List Kind → List Kind → Type 0
+SpellsBlock all ts rest = (n : ℕ) × (u : List Kind) × (ts ≡ t.OpenBrace ∷ newlines n u) × SpellsAll all u (t.CloseBrace ∷ rest)
+
+abbrev pub SpellsItem : Item → List Kind → List Kind → Type 0
+SpellsItem (Always all) ts rest = SpellsBlock all ts rest
+SpellsItem (Rule e all) ts rest = (u : List Kind) × Spells e ts u × SpellsBlock all u rest
+
+-- `;` and newlines
+abbrev pub separators : List Bool → List Kind → List Kind
+separators [] ts = ts
+separators (true ∷ bs) ts = t.Semicolon ∷ separators bs ts
+separators (false ∷ bs) ts = t.Newline ∷ separators bs ts
+
+-- separators may stand before, between and after the items
+abbrev pub SpellsProgram : List Item → List Kind → List Kind → Type 0
+SpellsProgram [] ts rest = (bs : List Bool) × (ts ≡ separators bs rest)
+SpellsProgram (x ∷ xs) ts rest = (bs : List Bool) × (u v : List Kind) × (ts ≡ separators bs u) × SpellsItem x u v × SpellsProgram xs v rest
+
+-- the items are a tree of the grammar that these tokens spell
+abbrev pub IsProgram : List Kind → List Item → Type 0
+IsProgram ts items = SpellsProgram items ts [] × ProgramLeveled items

@@ -1,0 +1,53 @@
+// The table of precedence.
+
+ghost use Rattle.std.specs.Prelude.{◌≡◌};
+ghost use Rattle.awk_syntax.specs.Level.{level_of, left, right};
+
+use crate::tree::BinaryOperator;
+
+impl BinaryOperator {
+    /// The row of the node, the tightest first.
+    pub(crate) fn level(self) -> u8
+        ensures { result ≡ level_of self }
+    {
+        match self {
+            BinaryOperator::Times => 6,
+            BinaryOperator::Less
+            | BinaryOperator::LessEqual
+            | BinaryOperator::Equal
+            | BinaryOperator::NotEqual
+            | BinaryOperator::Greater
+            | BinaryOperator::GreaterEqual => 10,
+        }
+    }
+
+    /// The loosest row that may stand left of the operator.
+    pub(crate) fn left(self) -> u8
+        ensures { result ≡ left self }
+    {
+        match self {
+            BinaryOperator::Times => 6,
+            BinaryOperator::Less
+            | BinaryOperator::LessEqual
+            | BinaryOperator::Equal
+            | BinaryOperator::NotEqual
+            | BinaryOperator::Greater
+            | BinaryOperator::GreaterEqual => 9,
+        }
+    }
+
+    /// The loosest row that may stand right of it.
+    pub(crate) fn right(self) -> u8
+        ensures { result ≡ right self }
+    {
+        match self {
+            BinaryOperator::Times => 5,
+            BinaryOperator::Less
+            | BinaryOperator::LessEqual
+            | BinaryOperator::Equal
+            | BinaryOperator::NotEqual
+            | BinaryOperator::Greater
+            | BinaryOperator::GreaterEqual => 9,
+        }
+    }
+}

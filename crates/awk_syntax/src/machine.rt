@@ -1,0 +1,99 @@
+// The reader: one token at a time, above a stack of what it has begun.
+
+ghost use Rattle.std.specs.Prelude.{◌≡◌, IfOk};
+ghost use Rattle.awk_syntax.specs.Machine as machine;
+ghost use Rattle.awk_syntax.specs.Roles.{role_of};
+ghost use Rattle.awk_syntax.specs.Frames.{part_of, stack_of, held};
+ghost use Rattle.awk_syntax.specs.States.{state_of, next_of, found_of};
+
+use crate::build::one_more_expr;
+use crate::frame::{Frame, Part};
+use crate::kept::LowItems;
+use crate::operands::{enter, go_on, hole_of, settle};
+use crate::role::Role;
+use crate::state::Now;
+use crate::statements::{begin, close_pattern, close_print, item, next_statement, prints};
+use awk_lex::token::Kind;
+use std::alloc::{AllocError, Global};
+
+/// The token that ends an operand.
+fn close(
+    alloc: Global,
+    kind: Kind,
+    part: Part,
+    stack: &mut Vec<Frame>,
+) -> Result<Option<Now>, AllocError>
+    ensures { IfOk result (λ now. next_of now stack.new.items ≡ machine.close 200 kind (part_of part) (stack_of stack.old.items)) }
+{
+    match stack.pop() {
+        Some(Frame::Print(list)) => {
+            close_print(alloc, kind, one_more_expr(list, part.tree)?, stack)
+        }
+        Some(Frame::Pattern) => close_pattern(alloc, kind, part, stack),
+        _ => Ok(None),
+    }
+}
+
+/// The token behind an operand that is settled.
+fn follow(
+    alloc: Global,
+    role: Role,
+    kind: Kind,
+    bare: bool,
+    part: Part,
+    stack: &mut Vec<Frame>,
+) -> Result<Option<Now>, AllocError>
+    ensures { IfOk result (λ now. next_of now stack.new.items ≡ machine.follow 200 (role_of role) kind bare (held part stack.old.items)) }
+{
+    if part.takes(role, hole_of(stack)) {
+        return go_on(role, bare, part, stack);
+    }
+    close(alloc, kind, part, stack)
+}
+
+/// The token behind an operand.
+fn after(
+    alloc: Global,
+    kind: Kind,
+    bare: bool,
+    part: Part,
+    stack: &mut Vec<Frame>,
+) -> Result<Option<Now>, AllocError>
+    ensures { IfOk result (λ now. next_of now stack.new.items ≡ machine.after 200 bare (part_of part) (stack_of stack.old.items) kind) }
+{
+    let role = Role::of(kind, bare);
+    let part = settle(alloc, role, part, stack)?;
+    follow(alloc, role, kind, bare, part, stack)
+}
+
+/// Takes a token: where the reader stands then, or none if it can't take it.
+pub fn step(
+    alloc: Global,
+    now: Now,
+    kind: Kind,
+    stack: &mut Vec<Frame>,
+) -> Result<Option<Now>, AllocError>
+    ensures { IfOk result (λ next. next_of next stack.new.items ≡ machine.step 200 (state_of now stack.old.items) kind) }
+{
+    match now {
+        Now::Expect { skips, bare } => enter(kind, skips, bare, stack),
+        Now::Ready { bare, part } => after(alloc, kind, bare, part, stack),
+        Now::Prints => prints(alloc, kind, stack),
+        Now::Begins => begin(alloc, kind, stack),
+        Now::Done(statement) => next_statement(alloc, kind, statement, stack),
+        Now::Between => item(alloc, kind, stack),
+    }
+}
+
+/// The text ends: none where it is no program, and else its items unless it is too high.
+pub fn finish(now: Now, stack: &mut Vec<Frame>) -> Option<Option<LowItems>>
+    ensures { found_of result ≡ machine.finish (state_of now stack.old.items) }
+{
+    let Now::Between = now else {
+        return None;
+    };
+    let Some(Frame::Program(items)) = stack.pop() else {
+        return None;
+    };
+    if stack.is_empty() { Some(items) } else { None }
+}

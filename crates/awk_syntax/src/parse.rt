@@ -1,0 +1,75 @@
+// Reading a whole text.
+
+ghost use Rattle.std.specs.Prelude.{◌≡◌, ◌≤◌, List, IfOk, IfErr};
+ghost use Rattle.awk_syntax.specs.Tree as t;
+ghost use Rattle.awk_syntax.specs.Height.{most_height, height_of_program};
+ghost use Rattle.awk_syntax.specs.Spelling.{kinds, IsProgram};
+ghost use Rattle.awk_syntax.specs.View.{tree_of};
+ghost use Rattle.awk_syntax.specs.Outcome.{Reads, Justifies};
+ghost use Rattle.awk_syntax.specs.Machine as machine;
+ghost use Rattle.awk_syntax.specs.Verdict.{Gives};
+
+use crate::frame::Frame;
+use crate::kept::LowItems;
+use crate::machine::{finish, step};
+use crate::state::Now;
+use crate::tree::Tree;
+use awk_lex::refusal::{Code, Refusal};
+use awk_lex::token::Token;
+use std::alloc::Global;
+
+fn read(alloc: Global, tokens: &[Token]) -> Result<Tree, Refusal>
+    ensures { Gives result (machine.read 200 (kinds tokens.now)) }
+{
+    let mut stack = Vec::new(alloc);
+    stack.push(Frame::Program(Some(LowItems::new(alloc))))?;
+    let mut now = Now::Between;
+    for token in tokens {
+        let Some(next) = step(alloc, now, token.kind, &mut stack)? else {
+            return Err(Refusal {
+                code: Code::NotAProgram,
+                line: token.line,
+            });
+        };
+        now = next;
+    }
+    match finish(now, &mut stack) {
+        Some(Some(kept)) => Ok(Tree { items: kept.items }),
+        Some(None) => Err(Refusal {
+            code: Code::NestedTooDeep,
+            line: 1,
+        }),
+        None => Err(Refusal {
+            code: Code::NotAProgram,
+            line: last_line(tokens),
+        }),
+    }
+}
+
+/// The line of the last token, or 1 if there is none.
+fn last_line(tokens: &[Token]) -> u64 {
+    match tokens.last() {
+        Some(token) => token.line,
+        None => 1,
+    }
+}
+
+/// The tree that the tokens spell (POSIX awk, Grammar).
+///
+/// An S1 names the line of the first token that can't stand where it stands, or of the last token where the text
+/// ended too early; an S2 names line 1. It takes time linear in the number of tokens, whatever is nested in what.
+pub fn parse(alloc: Global, tokens: &[Token]) -> Result<Tree, Refusal>
+    // What is read is spelled so and leveled, and not too high.
+    ensures found { IfOk result (λ tree. IsProgram (kinds tokens.now) (tree_of tree) × (height_of_program (tree_of tree) ≤ most_height)) }
+    // Every such program is read, unless memory is refused.
+    ensures only { (items : List t.Item) → IsProgram (kinds tokens.now) items → height_of_program items ≤ most_height → Reads result items }
+    // S1 only where no tree spells the tokens at all, S2 only where one does that is too high.
+    ensures refused { IfErr result (λ refusal. Justifies refusal.code (kinds tokens.now)) }
+{
+    read(alloc, tokens)
+}
+
+/// Tokens have one tree at most, however high it is.
+pub fn one_tree()
+    ensures { (tokens : List _) (xs ys : List t.Item) → IsProgram tokens xs → IsProgram tokens ys → xs ≡ ys }
+{}

@@ -1,0 +1,44 @@
+// What a token does after an operand.
+
+ghost use Rattle.std.specs.Prelude.{◌≡◌};
+ghost use Rattle.awk_syntax.specs.Machine as machine;
+ghost use Rattle.awk_syntax.specs.Roles.{role_of};
+
+use crate::tree::BinaryOperator;
+use awk_lex::token::{Kind, Operator};
+
+/// What a token does after an operand.
+#[derive(Clone, Copy, Debug, PartialEq, Eq)]
+pub enum Role {
+    /// It goes on with it as its left operand.
+    Infix(BinaryOperator),
+    /// It ends it.
+    Ends,
+}
+
+impl Role {
+    /// What the token does; `bare` says that it stands in a bare print list, where `>` is no comparison.
+    pub fn of(kind: Kind, bare: bool) -> Role
+        ensures { role_of result ≡ machine.role bare kind }
+    {
+        match kind {
+            Kind::Operator(operator) => Role::of_operator(operator, bare),
+            _ => Role::Ends,
+        }
+    }
+
+    fn of_operator(operator: Operator, bare: bool) -> Role
+        ensures { role_of result ≡ machine.operate operator bare }
+    {
+        match operator {
+            Operator::Times => Role::Infix(BinaryOperator::Times),
+            Operator::Less => Role::Infix(BinaryOperator::Less),
+            Operator::LessEqual => Role::Infix(BinaryOperator::LessEqual),
+            Operator::Equal => Role::Infix(BinaryOperator::Equal),
+            Operator::NotEqual => Role::Infix(BinaryOperator::NotEqual),
+            Operator::Greater if bare => Role::Ends,
+            Operator::Greater => Role::Infix(BinaryOperator::Greater),
+            Operator::GreaterEqual => Role::Infix(BinaryOperator::GreaterEqual),
+        }
+    }
+}
