@@ -1,0 +1,4 @@
+pub mod Digits
+pub mod Fronts
+pub mod Tables
+pub mod Munch

@@ -2,4 +2,5 @@
 #![tactic(auto)]
 
 pub mod refusal;
+mod scan;
 pub mod token;
