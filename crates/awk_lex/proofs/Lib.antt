@@ -2,3 +2,5 @@ pub mod Digits
 pub mod Fronts
 pub mod Tables
 pub mod Munch
+pub mod Gaps
+pub mod Read

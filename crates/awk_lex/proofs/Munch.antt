@@ -22,11 +22,11 @@ letter_in_word : (b : ℕ) → is_letter b ≡ true → is_word_byte b ≡ true
 letter_in_word b h = ap (λ l. l || is_ascii_digit b) h
 
 -- what is spelled in front of a text is no longer than the token there, and the same if it is as long
-record Munched (t : Kind) (w : List ℕ) (o : Option Found) : Type 0 where
-  token : Found
-  is : o ≡ Some token
-  longest : length w ≤ token.len
-  same : length w ≡ token.len → token.kind ≡ t
+pub record Munched (t : Kind) (w : List ℕ) (o : Option Found) : Type 0 where
+  pub token : Found
+  pub is : o ≡ Some token
+  pub longest : length w ≤ token.len
+  pub same : length w ≡ token.len → token.kind ≡ t
 
 munch_number : (w y : List ℕ) → is_digits w ≡ true → Munched (Number (pos (digits_value 10 w))) w (token_at (w ++ y))
 munch_number [] y h = absurd (cc)
@@ -78,7 +78,7 @@ munch_sign (a ∷ b ∷ []) y k h =
     }
 munch_sign (a ∷ b ∷ c ∷ w) y k h = let n = sign_length (a ∷ b ∷ c ∷ w) k h in absurd (omega arith)
 
-munch : (t : Kind) (w y : List ℕ) → Writes t w → Munched t w (token_at (w ++ y))
+pub munch : (t : Kind) (w y : List ℕ) → Writes t w → Munched t w (token_at (w ++ y))
 munch t w y (number h) = munch_number w y h
 munch t w y (word h) = munch_word w y h
 munch t w y (sign h) = munch_sign w y t h
