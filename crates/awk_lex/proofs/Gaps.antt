@@ -3,6 +3,7 @@ use Rattle.std.proofs.Common.{◌≡◌, ℕ, zero, suc, ◌+◌, ◌≤◌, ◌
 use Rattle.std.specs.List.{list_all, prefix_len}
 use Rattle.std.proofs.Math.Seq.{drop-append_seam}
 use Rattle.std.proofs.lemmas.Bool.{cases_Bool, and_parts, and_from, eqb-true}
+use Rattle.std.proofs.lemmas.List.Folds.{length-prefix_len}
 use Rattle.awk_lex.specs.Words.{is_letter, kind_in, signs}
 use Rattle.awk_lex.specs.Lexes.{is_blank, is_no_newline, EndsLine, Gap, none, blank, hidden, comment, Skips}
 use Rattle.awk_lex.specs.Steps.{Found, hidden_len, gap_len, sign_at, token_at}
@@ -42,12 +43,12 @@ pub record Part (text : List ℕ) (n : ℕ) : Type 0 where
   pub gap : List ℕ
   pub is : text ≡ gap ++ drop (suc n) text
   pub is_gap : Gap (drop (suc n) text) gap
-  pub some : 1 ≤ length gap
+  pub len : length gap ≡ suc n
 
 blank_part : (b : ℕ) (bs : List ℕ) (n : ℕ) → is_blank b ≡ true → 1 ≡ suc n → Part (b ∷ bs) n
 blank_part b bs n h e =
     let zero_is : 0 ≡ n = omega arith in
-    subst (Part (b ∷ bs)) zero_is (record { gap = b ∷ []; is = refl; is_gap = blank h none; some = omega arith })
+    subst (Part (b ∷ bs)) zero_is (record { gap = b ∷ []; is = refl; is_gap = blank h none; len = refl })
 
 hidden_part : (bs : List ℕ) (n : ℕ) → hidden_len bs ≡ suc n → Part (92 ∷ bs) n
 hidden_part [] n h = absurd (cc)
@@ -56,7 +57,7 @@ hidden_part (c ∷ bs) n h = elim (cases_Bool (eqb c 10)) [
     let two : 2 ≡ suc n = sym (if_true (eqb c 10) _ _ newline) ∙ h in
     let one_is : 1 ≡ n = omega arith in
     subst (λ x. Part (92 ∷ x ∷ bs) n) (sym (eqb-true c 10 newline))
-        (subst (Part (92 ∷ 10 ∷ bs)) one_is (record { gap = 92 ∷ 10 ∷ []; is = refl; is_gap = hidden none; some = omega arith }))
+        (subst (Part (92 ∷ 10 ∷ bs)) one_is (record { gap = 92 ∷ 10 ∷ []; is = refl; is_gap = hidden none; len = refl }))
   | inr other ↦ let no : 0 ≡ suc n = sym (if_false (eqb c 10) _ _ other) ∙ h in absurd (omega arith) ]
 
 comment_part : (bs : List ℕ) (n : ℕ) → prefix_len is_no_newline (35 ∷ bs) ≡ suc n → Part (35 ∷ bs) n
@@ -66,7 +67,7 @@ comment_part bs n h =
       gap = 35 ∷ take (prefix_len is_no_newline bs) bs;
       is = ap (λ x. 35 ∷ x) (front_split is_no_newline bs);
       is_gap = comment (front_passes is_no_newline bs) (line_ends bs);
-      some = omega arith })
+      len = ap suc (length-prefix_len is_no_newline bs) })
 
 pub part_of : (text : List ℕ) (n : ℕ) → gap_len text ≡ suc n → Part text n
 part_of [] n h = absurd (cc)
@@ -109,7 +110,7 @@ skip_more text place n s h =
     record {
       gap = s.gap ++ p.gap;
       is = s.is ∙ ap (λ x. s.gap ++ x) p.is ∙ sym (append_assoc s.gap p.gap (drop (suc n) place));
-      is_gap = joined place (drop (suc n) place) s.gap p.gap s.is_gap p.is p.is_gap p.some;
+      is_gap = joined place (drop (suc n) place) s.gap p.gap s.is_gap p.is p.is_gap (omega (arith, p.len));
     }
 
 pub skip_none : (text : List ℕ) → Skips text text
@@ -174,4 +175,4 @@ gap_no_token rest _ (comment {bytes} all ends) some = token_at_hash (bytes ++ re
 pub no_token_in_gap : (text : List ℕ) (n : ℕ) → gap_len text ≡ suc n → token_at text ≡ None
 no_token_in_gap text n h =
     let p = part_of text n h in
-    ap token_at p.is ∙ gap_no_token (drop (suc n) text) p.gap p.is_gap p.some
+    ap token_at p.is ∙ gap_no_token (drop (suc n) text) p.gap p.is_gap (omega (arith, p.len))

@@ -4,3 +4,5 @@ pub mod Tables
 pub mod Munch
 pub mod Gaps
 pub mod Read
+pub mod Unique
+pub mod Progress

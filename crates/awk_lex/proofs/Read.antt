@@ -5,9 +5,9 @@ use Rattle.awk_lex.specs.Words.{Writes, Longest, is_allowed, behind}
 use Rattle.awk_lex.specs.Lexes.{Gap, none, Skips, Stands, Reads, Lexes, BeginsNothing, IsBadNumber, Fault, Breaks}
 use Rattle.awk_lex.specs.Steps.{Found, found, gap_len, token_at, token_step, gap_step, first_step}
 use Rattle.awk_lex.specs.declared.token.Kind.{Kind}
-use Rattle.awk_lex.specs.declared.token.Kind.TheVariants.{Number, Operator, Dollar, Comma, Semicolon, Newline, OpenBrace, CloseBrace, Print, Unbuilt}
+use Rattle.awk_lex.specs.declared.token.Kind.TheVariants.{Number}
 use Rattle.awk_lex.specs.declared.refusal.Code.{Code}
-use Rattle.awk_lex.specs.declared.refusal.Code.TheVariants.{UnexpectedByte, NumberRefused, ProgramTooLong, NotAProgram, NestedTooDeep, OutOfMemory}
+use Rattle.awk_lex.specs.declared.refusal.Code.TheVariants.{UnexpectedByte, NumberRefused}
 use Rattle.awk_lex.specs.declared.scan.Step.{Step}
 use Rattle.awk_lex.specs.declared.scan.Step.TheVariants as step
 use Rattle.awk_lex.proofs.Fronts.{if_true, if_false}
@@ -49,17 +49,23 @@ token_here text k n (suc m) g h = absurd (cc)
 pub token_is : (text : List ℕ) (k : Kind) (n : ℕ) → first_step text ≡ step.Token k n → IsToken text k n
 token_is text k n h = token_here text k n (gap_len text) refl h
 
-gap_here : (text : List ℕ) (n m : ℕ) → gap_len text ≡ m → gap_step text m ≡ step.Gap n → gap_len text ≡ n
-gap_here text n zero g h = absurd (no_gap_step text n (token_at text) h)
-  where
-    no_gap_step : (text : List ℕ) (n : ℕ) (o : Option Found) → token_step text o ≡ step.Gap n → ⊥
-    no_gap_step text n None h = cc
-    no_gap_step text n (Some f) h = elim (cases_Bool (is_allowed f.kind (drop f.len text))) [
-      inl allowed ↦ let e : step.Token f.kind f.len ≡ step.Gap n = sym (if_true (is_allowed f.kind (drop f.len text)) _ _ allowed) ∙ h in cc
-      | inr refused ↦ let e : step.Fault NumberRefused ≡ step.Gap n = sym (if_false (is_allowed f.kind (drop f.len text)) _ _ refused) ∙ h in cc ]
-gap_here text n (suc m) g h = let e : suc m ≡ n = cc in g ∙ e
+-- the step over a part of a gap, taken apart
+pub record IsGap (text : List ℕ) (n : ℕ) : Type 0 where
+  pub before : ℕ
+  pub len : n ≡ suc before
+  pub is : gap_len text ≡ suc before
 
-pub gap_is : (text : List ℕ) (n : ℕ) → first_step text ≡ step.Gap n → gap_len text ≡ n
+no_gap_step : (text : List ℕ) (n : ℕ) (o : Option Found) → token_step text o ≡ step.Gap n → ⊥
+no_gap_step text n None h = cc
+no_gap_step text n (Some f) h = elim (cases_Bool (is_allowed f.kind (drop f.len text))) [
+  inl allowed ↦ let e : step.Token f.kind f.len ≡ step.Gap n = sym (if_true (is_allowed f.kind (drop f.len text)) _ _ allowed) ∙ h in cc
+  | inr refused ↦ let e : step.Fault NumberRefused ≡ step.Gap n = sym (if_false (is_allowed f.kind (drop f.len text)) _ _ refused) ∙ h in cc ]
+
+gap_here : (text : List ℕ) (n m : ℕ) → gap_len text ≡ m → gap_step text m ≡ step.Gap n → IsGap text n
+gap_here text n zero g h = absurd (no_gap_step text n (token_at text) h)
+gap_here text n (suc m) g h = record { before = m; len = cc; is = g }
+
+pub gap_is : (text : List ℕ) (n : ℕ) → first_step text ≡ step.Gap n → IsGap text n
 gap_is text n h = gap_here text n (gap_len text) refl h
 
 -- the step to a fault, taken apart
@@ -75,14 +81,14 @@ fault_step : (text : List ℕ) (c : Code) → first_step text ≡ step.Fault c �
 fault_step text c h = fault_here text c (gap_len text) refl h
 
 -- a token in front is found, with no gap before it
-token_gap : (text : List ℕ) (f : Found) → token_at text ≡ Some f → gap_len text ≡ 0
+pub token_gap : (text : List ℕ) (f : Found) → token_at text ≡ Some f → gap_len text ≡ 0
 token_gap text f h = by_len (gap_len text) refl
   where
     by_len : (n : ℕ) → gap_len text ≡ n → gap_len text ≡ 0
     by_len zero e = e
     by_len (suc n) e = let no : None ≡ Some f = sym (no_token_in_gap text n e) ∙ h in absurd (cc)
 
-step_without_gap : (text : List ℕ) → gap_len text ≡ 0 → first_step text ≡ token_step text (token_at text)
+pub step_without_gap : (text : List ℕ) → gap_len text ≡ 0 → first_step text ≡ token_step text (token_at text)
 step_without_gap text h = ap (gap_step text) h
 
 -- the text is read up to the place: a part of a gap more, a token more
@@ -98,15 +104,7 @@ reads_token (t ∷ ts) text place k n r s = (r.0, r.1, r.2, r.3, r.4, reads_toke
 
 only_numbers : (k : Kind) (text : List ℕ) (n : ℕ) → Stands k text (drop n text) → is_allowed k (drop n text) ≡ false → IsBadNumber text
 only_numbers (Number value) text n s h = record { value = value; after = drop n text; stands = s; refused = h }
-only_numbers (Operator o) text n s h = absurd (cc)
-only_numbers Dollar text n s h = absurd (cc)
-only_numbers Comma text n s h = absurd (cc)
-only_numbers Semicolon text n s h = absurd (cc)
-only_numbers Newline text n s h = absurd (cc)
-only_numbers OpenBrace text n s h = absurd (cc)
-only_numbers CloseBrace text n s h = absurd (cc)
-only_numbers Print text n s h = absurd (cc)
-only_numbers Unbuilt text n s h = absurd (cc)
+only_numbers _ text n s h = absurd (cc)
 
 nothing_begins : (text : List ℕ) → text ≢ [] → gap_len text ≡ 0 → token_at text ≡ None → BeginsNothing text
 nothing_begins text some g h = record {

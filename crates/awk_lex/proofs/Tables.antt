@@ -7,7 +7,7 @@ use Rattle.std.specs.Cmp.Lexicographic.{same_text}
 use Rattle.std.proofs.lemmas.Bool.{cases_Bool, and_parts, not-true, leb-true}
 use Rattle.awk_lex.specs.Words.{is_letter, signs, kind_in, is_allowed}
 use Rattle.awk_lex.specs.declared.token.Kind.{Kind}
-use Rattle.awk_lex.specs.declared.token.Kind.TheVariants.{Number, Operator, Dollar, Comma, Semicolon, Newline, OpenBrace, CloseBrace, Print, Unbuilt}
+use Rattle.awk_lex.specs.declared.token.Kind.TheVariants.{Number}
 use Rattle.awk_lex.proofs.Fronts.{if_true, if_false}
 
 pub some_is : {A : Type 0} (x y : A) → Some x ≡ Some y → x ≡ y
@@ -51,15 +51,7 @@ is_plain w _ = true
 plain_allowed : (k : Kind) (w rest : List ℕ) → is_plain w k ≡ true → is_allowed k rest ≡ true
 unfolding is_plain
 plain_allowed (Number value) w rest h = absurd (cc)
-plain_allowed (Operator o) w rest h = refl
-plain_allowed Dollar w rest h = refl
-plain_allowed Comma w rest h = refl
-plain_allowed Semicolon w rest h = refl
-plain_allowed Newline w rest h = refl
-plain_allowed OpenBrace w rest h = refl
-plain_allowed CloseBrace w rest h = refl
-plain_allowed Print w rest h = refl
-plain_allowed Unbuilt w rest h = refl
+plain_allowed _ w rest h = refl
 
 pub sign_allowed : (w rest : List ℕ) (k : Kind) → kind_in signs w ≡ Some k → is_allowed k rest ≡ true
 unfolding is_plain

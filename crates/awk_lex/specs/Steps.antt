@@ -1,5 +1,5 @@
 -- What stands at the front of a text, as the scanner finds it.
-use Rattle.std.specs.Prelude.{ℕ, zero, suc, Bool, true, false, ◌==◌, if◌then◌else◌, List, [], ◌∷◌, length, drop, pos, Option, Some, None, take_while, unwrap_or, slice_index}
+use Rattle.std.specs.Prelude.{ℕ, ◌≤◌, zero, suc, Bool, true, false, ◌==◌, if◌then◌else◌, List, [], ◌∷◌, length, drop, pos, Option, Some, None, take_while, unwrap_or, slice_index}
 use Rattle.std.specs.List.{prefix_len}
 use Rattle.std.specs.Char.{is_ascii_digit}
 use Rattle.std.specs.Str.Parse.{digits_value}
@@ -66,3 +66,9 @@ gap_step text (suc n) = Gap (suc n)
 
 abbrev pub first_step : List ℕ → Step
 first_step text = gap_step text (gap_len text)
+
+-- a step takes a byte or more, and none behind the text
+abbrev pub TakesOf : ℕ → Step → Type 0
+TakesOf size (Gap n) = (1 ≤ n) × (n ≤ size)
+TakesOf size (Token k n) = (1 ≤ n) × (n ≤ size)
+TakesOf size (Fault c) = Unit {0}

@@ -20,3 +20,8 @@ limit = 1048576
 abbrev pub GivesOnly : Result (Vec Token) Refusal → List Kind → Type 0
 GivesOnly (Ok tokens) ts = kinds_of tokens.items ≡ ts
 GivesOnly (Err refusal) ts = IsOutOfMemory refusal
+
+-- The code that a text is refused with: it is too long, or breaks at its leftmost fault.
+abbrev pub Refuses : Code → List ℕ → Type 0
+Refuses ProgramTooLong text = limit < length text
+Refuses code text = (length text ≤ limit) × Breaks code text

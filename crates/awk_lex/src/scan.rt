@@ -6,7 +6,7 @@ ghost use Rattle.std.specs.Char.{is_ascii_digit};
 ghost use Rattle.std.specs.Str.Parse.{digits_value};
 ghost use Rattle.awk_lex.specs.Words.{is_letter, is_word_byte, goes_on, keywords, signs, kind_in};
 ghost use Rattle.awk_lex.specs.Lexes.{is_no_newline};
-ghost use Rattle.awk_lex.specs.Steps.{gap_len, word_of, number_of, sign_at, token_step, first_step};
+ghost use Rattle.awk_lex.specs.Steps.{gap_len, word_of, number_of, sign_at, token_step, first_step, TakesOf};
 
 use crate::refusal::Code;
 use crate::token::{Kind, Operator};
@@ -167,7 +167,8 @@ fn sign_step(text: &[u8]) -> Step
 /// What stands at the front of a text that isn't empty.
 pub fn first_step(text: &[u8]) -> Step
     requires { 0 < length text.now }
-    ensures { result ≡ first_step text.now }
+    ensures step { result ≡ first_step text.now }
+    ensures takes { TakesOf (length text.now) result }
 {
     let gap = gap_len(text);
     if gap > 0 {
