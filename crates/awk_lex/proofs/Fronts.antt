@@ -1,5 +1,5 @@
 -- The bytes in front of a text that pass a test.
-use Rattle.std.proofs.Common.{◌≡◌, ℕ, suc, ◌+◌, ◌≤◌, ◌<◌, Bool, true, false, cond, inl, inr, List, [], ◌∷◌, ◌++◌, length, take, drop, refl, sym, ap, ◌∙◌, arith}
+use Rattle.std.proofs.Common.{◌≡◌, ℕ, suc, ◌+◌, ◌≤◌, Bool, true, false, cond, inl, inr, List, [], ◌∷◌, ◌++◌, length, take, drop, refl, sym, ap, ◌∙◌, arith}
 use Rattle.std.specs.List.{list_all, prefix_len, take_while}
 use Rattle.std.proofs.Math.Seq.{take-append_seam}
 use Rattle.std.proofs.lemmas.Bool.{cases_Bool, and_parts, and_from}
@@ -26,10 +26,11 @@ prefix_over p (b ∷ w) y h =
 pub front_passes : (p : ℕ → Bool) (bs : List ℕ) → list_all p (take (prefix_len p bs) bs) ≡ true
 front_passes p [] = refl
 front_passes p (b ∷ bs) = elim (cases_Bool (p b)) [
-  inl passes ↦
-    let n : prefix_len p (b ∷ bs) ≡ suc (prefix_len p bs) = if_true (p b) _ _ passes ∙ omega arith in
-    ap (λ k. list_all p (take k (b ∷ bs))) n ∙ and_from _ _ passes (front_passes p bs)
-  | inr fails ↦ ap (λ k. list_all p (take k (b ∷ bs))) (if_false (p b) _ _ fails) ]
+  | inl passes ↦
+      let n : prefix_len p (b ∷ bs) ≡ suc (prefix_len p bs) = if_true (p b) _ _ passes ∙ omega arith in
+      ap (λ k. list_all p (take k (b ∷ bs))) n ∙ and_from _ _ passes (front_passes p bs)
+  | inr fails ↦ ap (λ k. list_all p (take k (b ∷ bs))) (if_false (p b) _ _ fails)
+]
 
 -- where the first byte passes, the front is that byte and the front of the others
 pub front_cons : (p : ℕ → Bool) (b : ℕ) (bs : List ℕ) → p b ≡ true → take (prefix_len p (b ∷ bs)) (b ∷ bs) ≡ b ∷ take (prefix_len p bs) bs

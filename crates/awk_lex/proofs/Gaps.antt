@@ -1,18 +1,18 @@
 -- Gaps, part by part.
-use Rattle.std.proofs.Common.{◌≡◌, ℕ, zero, suc, ◌+◌, ◌≤◌, ◌<◌, Bool, true, false, cond, eqb, not, ◌&&◌, ◌||◌, ◌⊎◌, inl, inr, List, [], ◌∷◌, ◌++◌, length, get_or, take, drop, Option, Some, None, refl, sym, ap, ◌∙◌, subst, arith, rules, append_assoc, append-nil}
+use Rattle.std.proofs.Common.{◌≡◌, ℕ, suc, ◌+◌, ◌≤◌, true, false, cond, eqb, not, ◌||◌, ◌⊎◌, inl, inr, List, [], ◌∷◌, ◌++◌, length, take, drop, None, refl, sym, ap, ◌∙◌, subst, arith, append_assoc}
 use Rattle.std.specs.List.{list_all, prefix_len}
 use Rattle.std.proofs.Math.Seq.{drop-append_seam}
-use Rattle.std.proofs.lemmas.Bool.{cases_Bool, and_parts, and_from, eqb-true}
+use Rattle.std.proofs.lemmas.Bool.{cases_Bool, eqb-true}
 use Rattle.std.proofs.lemmas.List.Folds.{length-prefix_len}
-use Rattle.awk_lex.specs.Words.{is_letter, kind_in, signs}
 use Rattle.awk_lex.specs.Lexes.{is_blank, is_no_newline, EndsLine, Gap, none, blank, hidden, comment, Skips}
-use Rattle.awk_lex.specs.Steps.{Found, hidden_len, gap_len, sign_at, token_at}
-use Rattle.awk_lex.proofs.Fronts.{if_true, if_false, prefix_over, front_passes, front_cons, front_split}
+use Rattle.awk_lex.specs.Steps.{hidden_len, gap_len, token_at}
+use Rattle.awk_lex.proofs.Fronts.{if_true, if_false, prefix_over, front_passes, front_split}
 
 pub blank_is : (b : ℕ) → is_blank b ≡ true → (b ≡ 32) ⊎ (b ≡ 9)
 blank_is b h = elim (cases_Bool (eqb b 32)) [
-  inl space ↦ inl (eqb-true b 32 space)
-  | inr other ↦ inr (eqb-true b 9 (sym (ap (λ x. x || eqb b 9) other) ∙ h)) ]
+  | inl space ↦ inl (eqb-true b 32 space)
+  | inr other ↦ inr (eqb-true b 9 (sym (ap (λ x. x || eqb b 9) other) ∙ h))
+]
 
 -- a line that ends has no byte of a comment in front
 line_over : (rest : List ℕ) → EndsLine rest → prefix_len is_no_newline rest ≡ 0
@@ -23,13 +23,14 @@ line_over (b ∷ rest) h = ap (λ x. prefix_len is_no_newline (x ∷ rest)) h
 line_ends : (bs : List ℕ) → EndsLine (drop (prefix_len is_no_newline bs) bs)
 line_ends [] = tt
 line_ends (b ∷ bs) = elim (cases_Bool (eqb b 10)) [
-  inl newline ↦
-    let n : prefix_len is_no_newline (b ∷ bs) ≡ 0 = ap (λ x. cond (not x) (1 + prefix_len is_no_newline bs) 0) newline in
-    subst (λ k. EndsLine (drop k (b ∷ bs))) (sym n) (eqb-true b 10 newline)
+  | inl newline ↦
+      let n : prefix_len is_no_newline (b ∷ bs) ≡ 0 = ap (λ x. cond (not x) (1 + prefix_len is_no_newline bs) 0) newline in
+      subst (λ k. EndsLine (drop k (b ∷ bs))) (sym n) (eqb-true b 10 newline)
   | inr other ↦
-    let n : prefix_len is_no_newline (b ∷ bs) ≡ suc (prefix_len is_no_newline bs) =
-        ap (λ x. cond (not x) (1 + prefix_len is_no_newline bs) 0) other ∙ omega arith in
-    subst (λ k. EndsLine (drop k (b ∷ bs))) (sym n) (line_ends bs) ]
+      let n : prefix_len is_no_newline (b ∷ bs) ≡ suc (prefix_len is_no_newline bs) =
+      ap (λ x. cond (not x) (1 + prefix_len is_no_newline bs) 0) other ∙ omega arith in
+      subst (λ k. EndsLine (drop k (b ∷ bs))) (sym n) (line_ends bs)
+]
 
 blank_len : (b : ℕ) (bs : List ℕ) → is_blank b ≡ true → gap_len (b ∷ bs) ≡ 1
 blank_len b bs h = if_true (is_blank b) _ _ h
@@ -53,12 +54,13 @@ blank_part b bs n h e =
 hidden_part : (bs : List ℕ) (n : ℕ) → hidden_len bs ≡ suc n → Part (92 ∷ bs) n
 hidden_part [] n h = absurd (cc)
 hidden_part (c ∷ bs) n h = elim (cases_Bool (eqb c 10)) [
-  inl newline ↦
-    let two : 2 ≡ suc n = sym (if_true (eqb c 10) _ _ newline) ∙ h in
-    let one_is : 1 ≡ n = omega arith in
-    subst (λ x. Part (92 ∷ x ∷ bs) n) (sym (eqb-true c 10 newline))
-        (subst (Part (92 ∷ 10 ∷ bs)) one_is (record { gap = 92 ∷ 10 ∷ []; is = refl; is_gap = hidden none; len = refl }))
-  | inr other ↦ let no : 0 ≡ suc n = sym (if_false (eqb c 10) _ _ other) ∙ h in absurd (omega arith) ]
+  | inl newline ↦
+      let two : 2 ≡ suc n = sym (if_true (eqb c 10) _ _ newline) ∙ h in
+      let one_is : 1 ≡ n = omega arith in
+      subst (λ x. Part (92 ∷ x ∷ bs) n) (sym (eqb-true c 10 newline))
+      (subst (Part (92 ∷ 10 ∷ bs)) one_is (record { gap = 92 ∷ 10 ∷ []; is = refl; is_gap = hidden none; len = refl }))
+  | inr other ↦ let no : 0 ≡ suc n = sym (if_false (eqb c 10) _ _ other) ∙ h in absurd (omega arith)
+]
 
 comment_part : (bs : List ℕ) (n : ℕ) → prefix_len is_no_newline (35 ∷ bs) ≡ suc n → Part (35 ∷ bs) n
 comment_part bs n h =
@@ -67,24 +69,28 @@ comment_part bs n h =
       gap = 35 ∷ take (prefix_len is_no_newline bs) bs;
       is = ap (λ x. 35 ∷ x) (front_split is_no_newline bs);
       is_gap = comment (front_passes is_no_newline bs) (line_ends bs);
-      len = ap suc (length-prefix_len is_no_newline bs) })
+      len = ap suc (length-prefix_len is_no_newline bs);
+    })
 
 pub part_of : (text : List ℕ) (n : ℕ) → gap_len text ≡ suc n → Part text n
 part_of [] n h = absurd (cc)
 part_of (b ∷ bs) n h = elim (cases_Bool (is_blank b)) [
-  inl blanks ↦ blank_part b bs n blanks (sym (if_true (is_blank b) _ _ blanks) ∙ h)
+  | inl blanks ↦ blank_part b bs n blanks (sym (if_true (is_blank b) _ _ blanks) ∙ h)
   | inr other ↦
-    let k = sym (if_false (is_blank b) _ _ other) ∙ h in
-    elim (cases_Bool (eqb b 92)) [
-      inl backslash ↦ subst (λ x. Part (x ∷ bs) n) (sym (eqb-true b 92 backslash)) (hidden_part bs n (sym (if_true (eqb b 92) _ _ backslash) ∙ k))
-      | inr neither ↦
-        let l = sym (if_false (eqb b 92) _ _ neither) ∙ k in
-        elim (cases_Bool (eqb b 35)) [
-          inl hash ↦
-            let e = eqb-true b 35 hash in
-            let m : prefix_len is_no_newline (35 ∷ bs) ≡ suc n = ap (λ x. prefix_len is_no_newline (x ∷ bs)) (sym e) ∙ sym (if_true (eqb b 35) _ _ hash) ∙ l in
-            subst (λ x. Part (x ∷ bs) n) (sym e) (comment_part bs n m)
-          | inr nothing ↦ let no : 0 ≡ suc n = sym (if_false (eqb b 35) _ _ nothing) ∙ l in absurd (omega arith) ] ] ]
+      let k = sym (if_false (is_blank b) _ _ other) ∙ h in
+      elim (cases_Bool (eqb b 92)) [
+        | inl backslash ↦ subst (λ x. Part (x ∷ bs) n) (sym (eqb-true b 92 backslash)) (hidden_part bs n (sym (if_true (eqb b 92) _ _ backslash) ∙ k))
+        | inr neither ↦
+            let l = sym (if_false (eqb b 92) _ _ neither) ∙ k in
+            elim (cases_Bool (eqb b 35)) [
+              | inl hash ↦
+                  let e = eqb-true b 35 hash in
+                  let m : prefix_len is_no_newline (35 ∷ bs) ≡ suc n = ap (λ x. prefix_len is_no_newline (x ∷ bs)) (sym e) ∙ sym (if_true (eqb b 35) _ _ hash) ∙ l in
+                  subst (λ x. Part (x ∷ bs) n) (sym e) (comment_part bs n m)
+              | inr nothing ↦ let no : 0 ≡ suc n = sym (if_false (eqb b 35) _ _ nothing) ∙ l in absurd (omega arith)
+            ]
+      ]
+]
 
 blank_is_no_newline : (b : ℕ) → is_blank b ≡ true → b ≡ 10 → ⊥
 blank_is_no_newline b h e = let no : false ≡ true = ap is_blank (sym e) ∙ h in cc
@@ -166,8 +172,9 @@ token_at_hash (c ∷ bs) = refl
 gap_no_token : (rest gap : List ℕ) → Gap rest gap → 1 ≤ length gap → token_at (gap ++ rest) ≡ None
 gap_no_token rest _ none some = absurd (omega arith)
 gap_no_token rest _ (blank {b} {gap} h g) some = elim (blank_is b h) [
-  inl e ↦ ap (λ x. token_at (x ∷ gap ++ rest)) e ∙ token_at_blank (gap ++ rest)
-  | inr e ↦ ap (λ x. token_at (x ∷ gap ++ rest)) e ∙ token_at_tab (gap ++ rest) ]
+  | inl e ↦ ap (λ x. token_at (x ∷ gap ++ rest)) e ∙ token_at_blank (gap ++ rest)
+  | inr e ↦ ap (λ x. token_at (x ∷ gap ++ rest)) e ∙ token_at_tab (gap ++ rest)
+]
 gap_no_token rest _ (hidden {gap} g) some = token_at_backslash (10 ∷ gap ++ rest)
 gap_no_token rest _ (comment {bytes} all ends) some = token_at_hash (bytes ++ rest)
 

@@ -1,12 +1,11 @@
 -- The token at a place is the longest that is spelled there.
-use Rattle.std.proofs.Common.{◌≡◌, ℕ, zero, suc, ◌+◌, ◌≤◌, ◌<◌, Bool, true, false, cond, ◌&&◌, ◌||◌, ◌⊎◌, inl, inr, List, [], ◌∷◌, ◌++◌, length, get_or, take, drop, Option, Some, None, refl, sym, ap, ◌∙◌, subst, arith, rules, append_assoc, length-append}
+use Rattle.std.proofs.Common.{◌≡◌, ℕ, ◌≤◌, Bool, true, false, ◌||◌, inl, inr, List, [], ◌∷◌, ◌++◌, length, drop, Option, Some, None, refl, sym, ap, ◌∙◌, subst, arith, rules, append_assoc, length-append}
 use Rattle.std.specs.Prelude.{pos, unwrap_or, take_while}
 use Rattle.std.specs.List.{list_all, prefix_len}
 use Rattle.std.specs.Char.{is_ascii_digit}
 use Rattle.std.specs.Str.Parse.{digits_value}
-use Rattle.std.proofs.Math.Seq.{take-append_seam, drop-append_seam}
+use Rattle.std.proofs.Math.Seq.{drop-append_seam}
 use Rattle.std.proofs.lemmas.Bool.{cases_Bool, and_parts, and_from}
-use Rattle.std.proofs.lemmas.List.Folds.{length-prefix_len}
 use Rattle.awk_lex.specs.Words.{is_letter, is_word_byte, is_word, is_digits, keywords, signs, kind_in, Writes, number, word, sign, Longest}
 use Rattle.awk_lex.specs.Lexes.{Stands}
 use Rattle.awk_lex.specs.Steps.{Found, found, number_of, word_of, short_sign, long_sign, sign_at, token_at}
@@ -101,30 +100,30 @@ spelled_word : (b : ℕ) (bs : List ℕ) (f : Found) → is_letter b ≡ true �
 spelled_word b bs f letter h =
     let front = front_cons is_word_byte b bs (letter_in_word b letter) in
     let is_a_word : is_word (take_while is_word_byte (b ∷ bs)) ≡ true =
-        ap is_word front ∙ and_from _ _ letter (front_passes is_word_byte bs) in
+    ap is_word front ∙ and_from _ _ letter (front_passes is_word_byte bs) in
     subst (λ g. Spelled g (b ∷ bs)) (some_is _ _ h)
-        (front_spelled is_word_byte (b ∷ bs) _ (word is_a_word) (omega (arith, ap length front)))
+    (front_spelled is_word_byte (b ∷ bs) _ (word is_a_word) (omega (arith, ap length front)))
 
 spelled_number : (b : ℕ) (bs : List ℕ) (f : Found) → is_ascii_digit b ≡ true → number_of (take_while is_ascii_digit (b ∷ bs)) ≡ Some f → Spelled f (b ∷ bs)
 spelled_number b bs f digit h =
     let front = front_cons is_ascii_digit b bs digit in
     let are_digits : is_digits (take_while is_ascii_digit (b ∷ bs)) ≡ true =
-        ap is_digits front ∙ and_from _ _ digit (front_passes is_ascii_digit bs) in
+    ap is_digits front ∙ and_from _ _ digit (front_passes is_ascii_digit bs) in
     subst (λ g. Spelled g (b ∷ bs)) (some_is _ _ h)
-        (front_spelled is_ascii_digit (b ∷ bs) _ (number are_digits) (omega (arith, ap length front)))
+    (front_spelled is_ascii_digit (b ∷ bs) _ (number are_digits) (omega (arith, ap length front)))
 
 spelled_short : (a : ℕ) (bs : List ℕ) (f : Found) (o : Option Kind) → kind_in signs (a ∷ []) ≡ o → short_sign o ≡ Some f → Spelled f (a ∷ bs)
 spelled_short a bs f None e h = absurd (cc)
 spelled_short a bs f (Some k) e h =
     subst (λ g. Spelled g (a ∷ bs)) (some_is _ _ h)
-        (record { word = a ∷ []; rest = bs; is = refl; writes = sign e; len = refl; some = omega arith })
+    (record { word = a ∷ []; rest = bs; is = refl; writes = sign e; len = refl; some = omega arith })
 
 spelled_long : (a b : ℕ) (bs : List ℕ) (f : Found) (o : Option Kind) → kind_in signs (a ∷ b ∷ []) ≡ o
     → long_sign o (kind_in signs (a ∷ [])) ≡ Some f → Spelled f (a ∷ b ∷ bs)
 spelled_long a b bs f None e h = spelled_short a (b ∷ bs) f (kind_in signs (a ∷ [])) refl h
 spelled_long a b bs f (Some k) e h =
     subst (λ g. Spelled g (a ∷ b ∷ bs)) (some_is _ _ h)
-        (record { word = a ∷ b ∷ []; rest = bs; is = refl; writes = sign e; len = refl; some = omega arith })
+    (record { word = a ∷ b ∷ []; rest = bs; is = refl; writes = sign e; len = refl; some = omega arith })
 
 spelled_sign : (text : List ℕ) (f : Found) → sign_at text ≡ Some f → Spelled f text
 spelled_sign [] f h = absurd (cc)
@@ -134,12 +133,14 @@ spelled_sign (a ∷ b ∷ bs) f h = spelled_long a b bs f (kind_in signs (a ∷ 
 pub spelled : (text : List ℕ) (f : Found) → token_at text ≡ Some f → Spelled f text
 spelled [] f h = absurd (cc)
 spelled (b ∷ bs) f h = elim (cases_Bool (is_letter b)) [
-  inl letter ↦ spelled_word b bs f letter (sym (if_true (is_letter b) _ _ letter) ∙ h)
+  | inl letter ↦ spelled_word b bs f letter (sym (if_true (is_letter b) _ _ letter) ∙ h)
   | inr other ↦
-    let k = sym (if_false (is_letter b) _ _ other) ∙ h in
-    elim (cases_Bool (is_ascii_digit b)) [
-      inl digit ↦ spelled_number b bs f digit (sym (if_true (is_ascii_digit b) _ _ digit) ∙ k)
-      | inr neither ↦ spelled_sign (b ∷ bs) f (sym (if_false (is_ascii_digit b) _ _ neither) ∙ k) ] ]
+      let k = sym (if_false (is_letter b) _ _ other) ∙ h in
+      elim (cases_Bool (is_ascii_digit b)) [
+        | inl digit ↦ spelled_number b bs f digit (sym (if_true (is_ascii_digit b) _ _ digit) ∙ k)
+        | inr neither ↦ spelled_sign (b ∷ bs) f (sym (if_false (is_ascii_digit b) _ _ neither) ∙ k)
+      ]
+]
 
 none_left : (x : List ℕ) → length x ≤ 0 → x ≡ []
 none_left [] h = refl
@@ -180,4 +181,4 @@ stands text f h =
     let s = spelled text f h in
     let rest : drop f.len text ≡ s.rest = ap (λ n. drop n text) (sym s.len) ∙ ap (drop (length s.word)) s.is ∙ drop-append_seam s.word s.rest in
     subst (Stands f.kind text) (sym rest)
-        (record { word = s.word; is = s.is; writes = s.writes; longest = is_longest s.word s.rest f (ap token_at (sym s.is) ∙ h) s.len })
+    (record { word = s.word; is = s.is; writes = s.writes; longest = is_longest s.word s.rest f (ap token_at (sym s.is) ∙ h) s.len })

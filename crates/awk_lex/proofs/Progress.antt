@@ -1,22 +1,23 @@
 -- How far a text is read.
-use Rattle.std.proofs.Common.{◌≡◌, ℕ, zero, suc, ◌+◌, ◌-◌, ◌≤◌, ◌<◌, Bool, true, false, List, [], ◌∷◌, ◌++◌, length, take, drop, refl, sym, ap, ◌∙◌, subst, arith, drop-drop, length-drop, length-append}
+use Rattle.std.proofs.Common.{◌≡◌, ℕ, zero, suc, ◌+◌, ◌-◌, ◌≤◌, ◌<◌, false, List, [], ◌∷◌, ◌++◌, length, take, drop, refl, sym, ap, ◌∙◌, subst, arith, drop-drop, length-drop, length-append}
 use Rattle.std.specs.Prelude.{slice_index}
 use Rattle.std.proofs.lemmas.List.{take_all}
 use Rattle.std.specs.Char.{is_ascii_digit}
 use Rattle.awk_lex.specs.Words.{is_letter, behind}
-use Rattle.awk_lex.specs.Lexes.{Reads, Lexes, Fault, Breaks}
-use Rattle.awk_lex.specs.Steps.{Found, gap_len, token_at, sign_at, token_step, gap_step, first_step, TakesOf}
-use Rattle.awk_lex.specs.Told.{Refuses, limit}
+use Rattle.awk_lex.specs.Lexes.{Reads, Lexes, Breaks}
+use Rattle.awk_lex.specs.Steps.{gap_len, sign_at, token_step, gap_step, first_step, TakesOf}
+use Rattle.awk_lex.specs.Told.{Refuses}
 use Rattle.awk_lex.specs.declared.token.Kind.{Kind}
 use Rattle.awk_lex.specs.declared.refusal.Code.{Code}
-use Rattle.awk_lex.specs.declared.refusal.Code.TheVariants.{UnexpectedByte, NumberRefused}
+use Rattle.awk_lex.specs.declared.refusal.Code.TheVariants.{UnexpectedByte, NumberRefused, ProgramTooLong, NotAProgram, NestedTooDeep, OutOfMemory}
+use Rattle.awk_lex.specs.declared.lexer.TheConstants.{LIMIT}
 use Rattle.awk_lex.specs.declared.scan.Step.{Step}
 use Rattle.awk_lex.specs.declared.scan.Step.TheVariants as step
 use Rattle.awk_lex.proofs.Fronts.{if_false}
 use Rattle.awk_lex.proofs.Munch.{spelled}
 use Rattle.awk_lex.proofs.Gaps.{part_of}
 use Rattle.awk_lex.proofs.Read.{token_is, gap_is, fault_is, reads_gap, reads_token}
-use Rattle.awk_lex.proofs.Unique.{no_break}
+use Rattle.awk_lex.proofs.Unique.{no_break, one_break}
 
 takes : (text : List ℕ) (s : Step) → first_step text ≡ s → TakesOf (length text) s
 takes text (step.Gap n) h =
@@ -43,7 +44,7 @@ after_gap ts text at n r h =
     let g = gap_is (drop at text) n h in
     let further = reads_gap ts text (drop at text) g.before r g.is in
     let place : drop (suc g.before) (drop at text) ≡ drop (at + n) text =
-        ap (λ m. drop m (drop at text)) (sym g.len) ∙ drop-drop n at text in
+    ap (λ m. drop m (drop at text)) (sym g.len) ∙ drop-drop n at text in
     subst (Reads ts text) place further
 
 pub after_token : (ts : List Kind) (text : List ℕ) (at n end : ℕ) (k : Kind) → Reads ts text (drop at text) → first_step (drop at text) ≡ step.Token k n
@@ -56,7 +57,7 @@ after_token ts text at n end k r h e =
 not_at_end : (text : List ℕ) (at : ℕ) → at < length text → drop at text ≡ [] → ⊥
 not_at_end text at inside e = omega (arith, length-drop at text, ap length e)
 
-refuses : (c : Code) (text : List ℕ) → length text ≤ limit → (b : Breaks c text) → Refuses c text
+refuses : (c : Code) (text : List ℕ) → length text ≤ LIMIT → (b : Breaks c text) → Refuses c text
 refuses UnexpectedByte text short b = (short, b)
 refuses NumberRefused text short b = (short, b)
 refuses _ text short b = absurd b.fault
@@ -65,7 +66,7 @@ broken : (ts : List Kind) (text : List ℕ) (at : ℕ) (c : Code) → at < lengt
 broken ts text at c inside r h =
     record { tokens = ts; place = drop at text; reads = r; fault = fault_is (drop at text) c (not_at_end text at inside) h }
 
-pub refused : (ts : List Kind) (text : List ℕ) (at : ℕ) (c : Code) → length text ≤ limit → at < length text → Reads ts text (drop at text)
+pub refused : (ts : List Kind) (text : List ℕ) (at : ℕ) (c : Code) → length text ≤ LIMIT → at < length text → Reads ts text (drop at text)
     → first_step (drop at text) ≡ step.Fault c → Refuses c text
 refused ts text at c short inside r h = refuses c text short (broken ts text at c inside r h)
 
@@ -97,6 +98,30 @@ pub sign_takes : (text : List ℕ) (s : Step) → gap_len text ≡ 0 → is_lett
     → s ≡ token_step text (sign_at text) → TakesOf (length text) s
 sign_takes text s g letter digit e =
     let is : s ≡ first_step text =
-        e ∙ ap (token_step text) (sym (if_false (is_letter (slice_index text 0)) _ _ letter ∙ if_false (is_ascii_digit (slice_index text 0)) _ _ digit))
-        ∙ sym (ap (gap_step text) g) in
+    e ∙ ap (token_step text) (sym (if_false (is_letter (slice_index text 0)) _ _ letter ∙ if_false (is_ascii_digit (slice_index text 0)) _ _ digit))
+    ∙ sym (ap (gap_step text) g) in
     subst (TakesOf (length text)) (sym is) (step_takes text)
+
+-- a text that is not too long breaks where it is refused
+breaks : (c : Code) (text : List ℕ) → length text ≤ LIMIT → Refuses c text → Breaks c text
+breaks ProgramTooLong text short r = absurd (omega arith)
+breaks UnexpectedByte text short r = r.1
+breaks NumberRefused text short r = r.1
+breaks NotAProgram text short r = r.1
+breaks NestedTooDeep text short r = r.1
+breaks OutOfMemory text short r = r.1
+
+pub too_long_only : (c : Code) (text : List ℕ) → LIMIT < length text → Refuses c text → ProgramTooLong ≡ c
+too_long_only ProgramTooLong text long r = refl
+too_long_only UnexpectedByte text long r = absurd (omega arith)
+too_long_only NumberRefused text long r = absurd (omega arith)
+too_long_only NotAProgram text long r = absurd (omega arith)
+too_long_only NestedTooDeep text long r = absurd (omega arith)
+too_long_only OutOfMemory text long r = absurd (omega arith)
+
+pub fault_only : (ts : List Kind) (text : List ℕ) (at : ℕ) (c d : Code) → length text ≤ LIMIT → at < length text → Reads ts text (drop at text)
+    → first_step (drop at text) ≡ step.Fault c → Refuses d text → c ≡ d
+fault_only ts text at c d short inside r h refused = one_break c d text (broken ts text at c inside r h) (breaks d text short refused)
+
+pub none_refused : (ts : List Kind) (text : List ℕ) (c : Code) → length text ≤ LIMIT → Lexes ts text → Refuses c text → ⊥
+none_refused ts text c short lexes refused = no_break ts c text lexes (breaks c text short refused)

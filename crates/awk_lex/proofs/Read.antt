@@ -1,19 +1,17 @@
 -- Reading a text step by step.
-use Rattle.std.proofs.Common.{◌≡◌, ◌≢◌, ℕ, zero, suc, ◌+◌, ◌≤◌, ◌<◌, Bool, true, false, cond, ◌&&◌, ◌⊎◌, inl, inr, List, [], ◌∷◌, ◌++◌, length, drop, Option, Some, None, refl, sym, ap, ◌∙◌, subst, arith}
+use Rattle.std.proofs.Common.{◌≡◌, ◌≢◌, ℕ, zero, suc, true, false, inl, inr, List, [], ◌∷◌, ◌++◌, drop, Option, Some, None, refl, sym, ap, ◌∙◌, subst}
 use Rattle.std.proofs.lemmas.Bool.{cases_Bool}
-use Rattle.awk_lex.specs.Words.{Writes, Longest, is_allowed, behind}
-use Rattle.awk_lex.specs.Lexes.{Gap, none, Skips, Stands, Reads, Lexes, BeginsNothing, IsBadNumber, Fault, Breaks}
+use Rattle.awk_lex.specs.Words.{is_allowed, behind}
+use Rattle.awk_lex.specs.Lexes.{Stands, Reads, BeginsNothing, IsBadNumber, Fault}
 use Rattle.awk_lex.specs.Steps.{Found, found, gap_len, token_at, token_step, gap_step, first_step}
 use Rattle.awk_lex.specs.declared.token.Kind.{Kind}
 use Rattle.awk_lex.specs.declared.token.Kind.TheVariants.{Number}
 use Rattle.awk_lex.specs.declared.refusal.Code.{Code}
 use Rattle.awk_lex.specs.declared.refusal.Code.TheVariants.{UnexpectedByte, NumberRefused}
-use Rattle.awk_lex.specs.declared.scan.Step.{Step}
 use Rattle.awk_lex.specs.declared.scan.Step.TheVariants as step
 use Rattle.awk_lex.proofs.Fronts.{if_true, if_false}
-use Rattle.awk_lex.proofs.Tables.{some_is}
-use Rattle.awk_lex.proofs.Munch.{munch, spelled, is_found, stands}
-use Rattle.awk_lex.proofs.Gaps.{part_of, skip_more, skip_none, no_gap, no_skip, skip_less, no_token_in_gap}
+use Rattle.awk_lex.proofs.Munch.{munch, stands}
+use Rattle.awk_lex.proofs.Gaps.{skip_more, skip_none, no_gap, no_token_in_gap}
 
 -- the step over a token, taken apart
 pub record IsToken (text : List ℕ) (k : Kind) (n : ℕ) : Type 0 where
@@ -28,17 +26,18 @@ record IsAllowed (text : List ℕ) (o : Option Found) (k : Kind) (n : ℕ) : Typ
 token_allowed : (text : List ℕ) (o : Option Found) (k : Kind) (n : ℕ) → token_step text o ≡ step.Token k n → IsAllowed text o k n
 token_allowed text None k n h = absurd (cc)
 token_allowed text (Some f) k n h = elim (cases_Bool (is_allowed f.kind (drop f.len text))) [
-  inl allowed ↦
-    let e : step.Token f.kind f.len ≡ step.Token k n = sym (if_true (is_allowed f.kind (drop f.len text)) _ _ allowed) ∙ h in
-    let k_is : f.kind ≡ k = cc in
-    let n_is : f.len ≡ n = cc in
-    record {
-      is = ap (λ x. found x f.len) k_is ∙ ap (found k) n_is;
-      allowed = ap (λ x. is_allowed x (drop n text)) (sym k_is) ∙ ap (λ x. is_allowed f.kind (drop x text)) (sym n_is) ∙ allowed;
-    }
+  | inl allowed ↦
+      let e : step.Token f.kind f.len ≡ step.Token k n = sym (if_true (is_allowed f.kind (drop f.len text)) _ _ allowed) ∙ h in
+      let k_is : f.kind ≡ k = cc in
+      let n_is : f.len ≡ n = cc in
+      record {
+        is = ap (λ x. found x f.len) k_is ∙ ap (found k) n_is;
+        allowed = ap (λ x. is_allowed x (drop n text)) (sym k_is) ∙ ap (λ x. is_allowed f.kind (drop x text)) (sym n_is) ∙ allowed;
+      }
   | inr refused ↦
-    let e : step.Fault NumberRefused ≡ step.Token k n = sym (if_false (is_allowed f.kind (drop f.len text)) _ _ refused) ∙ h in
-    absurd (cc) ]
+      let e : step.Fault NumberRefused ≡ step.Token k n = sym (if_false (is_allowed f.kind (drop f.len text)) _ _ refused) ∙ h in
+      absurd (cc)
+]
 
 token_here : (text : List ℕ) (k : Kind) (n m : ℕ) → gap_len text ≡ m → gap_step text m ≡ step.Token k n → IsToken text k n
 token_here text k n zero g h =
@@ -58,8 +57,9 @@ pub record IsGap (text : List ℕ) (n : ℕ) : Type 0 where
 no_gap_step : (text : List ℕ) (n : ℕ) (o : Option Found) → token_step text o ≡ step.Gap n → ⊥
 no_gap_step text n None h = cc
 no_gap_step text n (Some f) h = elim (cases_Bool (is_allowed f.kind (drop f.len text))) [
-  inl allowed ↦ let e : step.Token f.kind f.len ≡ step.Gap n = sym (if_true (is_allowed f.kind (drop f.len text)) _ _ allowed) ∙ h in cc
-  | inr refused ↦ let e : step.Fault NumberRefused ≡ step.Gap n = sym (if_false (is_allowed f.kind (drop f.len text)) _ _ refused) ∙ h in cc ]
+  | inl allowed ↦ let e : step.Token f.kind f.len ≡ step.Gap n = sym (if_true (is_allowed f.kind (drop f.len text)) _ _ allowed) ∙ h in cc
+  | inr refused ↦ let e : step.Fault NumberRefused ≡ step.Gap n = sym (if_false (is_allowed f.kind (drop f.len text)) _ _ refused) ∙ h in cc
+]
 
 gap_here : (text : List ℕ) (n m : ℕ) → gap_len text ≡ m → gap_step text m ≡ step.Gap n → IsGap text n
 gap_here text n zero g h = absurd (no_gap_step text n (token_at text) h)
@@ -111,9 +111,9 @@ nothing_begins text some g h = record {
   some = some;
   no_gap = λ gap rest e p. no_gap rest gap p (ap gap_len (sym e) ∙ g);
   no_token = λ t w rest e p.
-    let m = munch t w rest p in
-    let no : None ≡ Some m.token = sym h ∙ ap token_at e ∙ m.is in
-    cc;
+      let m = munch t w rest p in
+      let no : None ≡ Some m.token = sym h ∙ ap token_at e ∙ m.is in
+      cc;
 }
 
 faulty : (text : List ℕ) (c : Code) (o : Option Found) → text ≢ [] → gap_len text ≡ 0 → token_at text ≡ o → token_step text o ≡ step.Fault c → Fault c text
@@ -121,11 +121,12 @@ faulty text c None some g e h =
     let c_is : UnexpectedByte ≡ c = cc in
     subst (λ x. Fault x text) c_is (nothing_begins text some g e)
 faulty text c (Some f) some g e h = elim (cases_Bool (is_allowed f.kind (drop f.len text))) [
-  inl allowed ↦ let no : step.Token f.kind f.len ≡ step.Fault c = sym (if_true (is_allowed f.kind (drop f.len text)) _ _ allowed) ∙ h in absurd (cc)
+  | inl allowed ↦ let no : step.Token f.kind f.len ≡ step.Fault c = sym (if_true (is_allowed f.kind (drop f.len text)) _ _ allowed) ∙ h in absurd (cc)
   | inr refused ↦
-    let is : step.Fault NumberRefused ≡ step.Fault c = sym (if_false (is_allowed f.kind (drop f.len text)) _ _ refused) ∙ h in
-    let c_is : NumberRefused ≡ c = cc in
-    subst (λ x. Fault x text) c_is (only_numbers f.kind text f.len (stands text f e) refused) ]
+      let is : step.Fault NumberRefused ≡ step.Fault c = sym (if_false (is_allowed f.kind (drop f.len text)) _ _ refused) ∙ h in
+      let c_is : NumberRefused ≡ c = cc in
+      subst (λ x. Fault x text) c_is (only_numbers f.kind text f.len (stands text f e) refused)
+]
 
 -- where the step is to a fault, it is the fault there
 pub fault_is : (text : List ℕ) (c : Code) → text ≢ [] → first_step text ≡ step.Fault c → Fault c text

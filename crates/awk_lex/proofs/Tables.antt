@@ -1,5 +1,5 @@
 -- What holds of each row of the table of signs.
-use Rattle.std.proofs.Common.{◌≡◌, ℕ, ◌≤◌, Bool, true, false, cond, not, ◌&&◌, inl, inr, List, [], ◌∷◌, length, get_or, Option, Some, None, refl, sym, ap, ◌∙◌, subst, arith}
+use Rattle.std.proofs.Common.{◌≡◌, ℕ, ◌≤◌, Bool, true, false, not, ◌&&◌, inl, inr, List, [], ◌∷◌, length, get_or, Some, refl, sym, ap, ◌∙◌}
 use Rattle.std.specs.Prelude.{bytes_eq, nat_le}
 use Rattle.std.specs.List.{list_all}
 use Rattle.std.specs.Char.{is_ascii_digit}
@@ -18,11 +18,12 @@ pub found_row : (test : List ℕ → Kind → Bool) (rows : List (List ℕ × Ki
     → list_all (λ row. test row.0 row.1) rows ≡ true → kind_in rows w ≡ Some k → test w k ≡ true
 found_row test [] w k all h = absurd (cc)
 found_row test (row ∷ rows) w k all h = elim (cases_Bool (bytes_eq w row.0)) [
-  inl same ↦
-    let w_is : w ≡ row.0 = same_text w row.0 (sym same) in
-    let k_is : row.1 ≡ k = some_is _ _ (sym (if_true (bytes_eq w row.0) _ _ same) ∙ h) in
-    ap (λ v. test v k) w_is ∙ ap (test row.0) (sym k_is) ∙ (and_parts _ _ all).0
-  | inr other ↦ found_row test rows w k (and_parts _ _ all).1 (sym (if_false (bytes_eq w row.0) _ _ other) ∙ h) ]
+  | inl same ↦
+      let w_is : w ≡ row.0 = same_text w row.0 (sym same) in
+      let k_is : row.1 ≡ k = some_is _ _ (sym (if_true (bytes_eq w row.0) _ _ same) ∙ h) in
+      ap (λ v. test v k) w_is ∙ ap (test row.0) (sym k_is) ∙ (and_parts _ _ all).0
+  | inr other ↦ found_row test rows w k (and_parts _ _ all).1 (sym (if_false (bytes_eq w row.0) _ _ other) ∙ h)
+]
 
 -- a sign begins with no letter and no digit
 starts_no_word : List ℕ → Kind → Bool

@@ -1,20 +1,19 @@
 -- A text is read in one way.
-use Rattle.std.proofs.Common.{◌≡◌, ◌≢◌, ℕ, zero, suc, ◌+◌, ◌≤◌, ◌<◌, Bool, true, false, cond, List, [], ◌∷◌, ◌++◌, length, drop, Option, Some, None, refl, sym, ap, ◌∙◌, subst, arith, length-drop, length-append}
+use Rattle.std.proofs.Common.{◌≡◌, ℕ, zero, suc, ◌≤◌, true, List, [], ◌∷◌, length, drop, Option, Some, None, refl, sym, ap, ◌∙◌, subst, arith, length-drop, length-append}
 use Rattle.std.proofs.Math.Seq.{drop-append_seam}
 use Rattle.awk_lex.specs.Words.{is_allowed, behind}
-use Rattle.awk_lex.specs.Lexes.{Skips, Stands, Reads, Lexes, BeginsNothing, IsBadNumber, Fault, Breaks}
-use Rattle.awk_lex.specs.Steps.{Found, found, gap_len, token_at, token_step, gap_step, first_step}
+use Rattle.awk_lex.specs.Lexes.{Stands, Reads, Lexes, BeginsNothing, IsBadNumber, Fault, Breaks}
+use Rattle.awk_lex.specs.Steps.{Found, gap_len, token_at, token_step, gap_step, first_step}
 use Rattle.awk_lex.specs.declared.token.Kind.{Kind}
-use Rattle.awk_lex.specs.declared.token.Kind.TheVariants.{Number, Operator, Dollar, Comma, Semicolon, Newline, OpenBrace, CloseBrace, Print, Unbuilt}
+use Rattle.awk_lex.specs.declared.token.Kind.TheVariants.{Number, Unbuilt}
 use Rattle.awk_lex.specs.declared.refusal.Code.{Code}
-use Rattle.awk_lex.specs.declared.refusal.Code.TheVariants.{UnexpectedByte, NumberRefused, ProgramTooLong, NotAProgram, NestedTooDeep, OutOfMemory}
+use Rattle.awk_lex.specs.declared.refusal.Code.TheVariants.{UnexpectedByte, NumberRefused}
 use Rattle.awk_lex.specs.declared.scan.Step.{Step}
 use Rattle.awk_lex.specs.declared.scan.Step.TheVariants as step
 use Rattle.awk_lex.proofs.Fronts.{if_true, if_false}
-use Rattle.awk_lex.proofs.Tables.{some_is}
 use Rattle.awk_lex.proofs.Munch.{spelled, is_found}
 use Rattle.awk_lex.proofs.Gaps.{part_of, no_skip, skip_less}
-use Rattle.awk_lex.proofs.Read.{IsToken, token_is, gap_is, token_gap, step_without_gap, fault_is}
+use Rattle.awk_lex.proofs.Read.{token_is, gap_is, token_gap, step_without_gap}
 
 -- no step leads on from here: a fault, or the end
 pub record IsStuck (text : List ℕ) : Type 0 where
@@ -52,6 +51,7 @@ unexpected_found text b = step_without_gap text (by_gap (gap_len text) refl) ∙
         let p = part_of text n e in
         let empty = ap length (b.no_gap p.gap (drop (suc n) text) p.is p.is_gap) in
         absurd (omega (arith, p.len, empty))
+
     by_token : (o : Option Found) → token_at text ≡ o → token_step text (token_at text) ≡ step.Fault UnexpectedByte
     by_token None e = ap (token_step text) e
     by_token (Some f) e = let s = spelled text f e in absurd (b.no_token f.kind s.word s.rest s.is s.writes)
@@ -124,13 +124,13 @@ alike_by_step m shorter text short (step.Fault c) h ts us e f se sf r q = same_a
 alike_by_step m shorter text short (step.Gap n) h ts us e f se sf r q =
     let g = gap_is text n h in
     shorter (drop (suc g.before) text) (omega (arith, length-drop (suc g.before) text)) ts us e f se sf
-        (past_gap ts text e g.before g.is se r) (past_gap us text f g.before g.is sf q)
+    (past_gap ts text e g.before g.is se r) (past_gap us text f g.before g.is sf q)
 alike_by_step m shorter text short (step.Token k n) h ts us e f se sf r q =
     let a = past_token ts text e k n h se r in
     let b = past_token us text f k n h sf q in
     let some = (spelled text (record { kind = k; len = n }) (token_is text k n h).is).some in
     let same = shorter (behind k (drop n text)) (omega (arith, behind_short k (drop n text), length-drop n text))
-        a.more b.more e f se sf a.reads b.reads in
+    a.more b.more e f se sf a.reads b.reads in
     record { tokens = a.is ∙ ap (λ x. k ∷ x) same.tokens ∙ sym b.is; ends = same.ends }
 
 alike : (m : ℕ) (text : List ℕ) → length text ≤ m → ReadsAlike text
@@ -165,6 +165,6 @@ no_break ts c text r b =
 pub one_break : (c d : Code) (text : List ℕ) → Breaks c text → Breaks d text → c ≡ d
 one_break c d text b a =
     let same = one_reading text b.tokens a.tokens b.place a.place
-        (fault_is_stuck c b.place b.fault) (fault_is_stuck d a.place a.fault) b.reads a.reads in
+    (fault_is_stuck c b.place b.fault) (fault_is_stuck d a.place a.fault) b.reads a.reads in
     let codes : step.Fault c ≡ step.Fault d = sym (fault_found b.place c b.fault) ∙ ap first_step same.ends ∙ fault_found a.place d a.fault in
     cc

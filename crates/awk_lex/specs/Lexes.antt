@@ -1,5 +1,5 @@
 -- What a program text is as tokens, and where it breaks (POSIX awk, Lexical Conventions).
-use Rattle.std.specs.Prelude.{◌≡◌, ◌≢◌, ◌⊎◌, ℕ, Bool, true, false, not, ◌||◌, ◌==◌, List, [], ◌∷◌, ◌++◌}
+use Rattle.std.specs.Prelude.{◌≡◌, ◌≢◌, ℕ, Bool, true, false, not, ◌||◌, ◌==◌, List, [], ◌∷◌, ◌++◌}
 use Rattle.std.specs.List.{list_all}
 use Rattle.awk_lex.specs.Words.{Writes, Longest, is_allowed, behind}
 use Rattle.awk_lex.specs.declared.token.Kind.{Kind}

@@ -1,5 +1,5 @@
 -- What stands at the front of a text, as the scanner finds it.
-use Rattle.std.specs.Prelude.{ℕ, ◌≤◌, zero, suc, Bool, true, false, ◌==◌, if◌then◌else◌, List, [], ◌∷◌, length, drop, pos, Option, Some, None, take_while, unwrap_or, slice_index}
+use Rattle.std.specs.Prelude.{ℕ, ◌≤◌, zero, suc, ◌==◌, if◌then◌else◌, List, [], ◌∷◌, length, drop, pos, Option, Some, None, take_while, unwrap_or, slice_index}
 use Rattle.std.specs.List.{prefix_len}
 use Rattle.std.specs.Char.{is_ascii_digit}
 use Rattle.std.specs.Str.Parse.{digits_value}

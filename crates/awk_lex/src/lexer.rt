@@ -4,7 +4,7 @@ ghost use Rattle.std.specs.Prelude.{◌≡◌, ◌≤◌, ◌⊎◌, ◌+◌, �
 ghost use Rattle.awk_lex.specs.Words.{behind};
 ghost use Rattle.awk_lex.specs.Lexes.{Lexes};
 ghost use Rattle.awk_lex.specs.Refused.{IsOutOfMemory};
-ghost use Rattle.awk_lex.specs.Told.{kinds_of, GivesOnly, Refuses, limit};
+ghost use Rattle.awk_lex.specs.Told.{kinds_of, GivesOnly, Refuses, RefusesOnly};
 
 use crate::refusal::{Code, Refusal};
 use crate::scan::{Step, first_step};
@@ -34,16 +34,17 @@ fn next_place(kind: Kind, end: usize, text: &[u8]) -> usize
 /// no gap and no token, with its line; or `OutOfMemory` at any time.
 pub fn tokens(alloc: Global, text: &[u8]) -> Result<Vec<Token>, Refusal>
     ensures found { IfOk result (λ tokens. Lexes (kinds_of tokens.items) text.now) }
-    ensures short { OnOk result (length text.now ≤ limit) }
+    ensures short { OnOk result (length text.now ≤ LIMIT) }
 
     // Each token is a stretch of the text.
     ensures within { IfOk result (λ tokens. All (λ token. (token.start ≤ token.end) × (token.end ≤ length text.now)) tokens.items) }
 
     // Tokens that the text has are found, unless memory runs out.
-    ensures only { (ts : _) → Lexes ts text.now → length text.now ≤ limit → GivesOnly result ts }
+    ensures only { (ts : _) → Lexes ts text.now → length text.now ≤ LIMIT → GivesOnly result ts }
 
-    // What is refused is too long or breaks at its leftmost fault, unless memory runs out.
+    // What is refused is too long or breaks at its leftmost fault, unless memory runs out, and the other way round.
     ensures refused { IfErr result (λ refusal. IsOutOfMemory refusal ⊎ Refuses refusal.code text.now) }
+    ensures broken { (code : _) → Refuses code text.now → RefusesOnly result code }
 {
     if text.len() > LIMIT {
         return Err(Refusal {
@@ -80,5 +81,4 @@ pub fn tokens(alloc: Global, text: &[u8]) -> Result<Vec<Token>, Refusal>
 /// A text has at most one list of tokens.
 pub fn one_lexing()
     ensures { (ts us : _) (text : List ℕ) → Lexes ts text → Lexes us text → ts ≡ us }
-{
-}
+{}

@@ -4,4 +4,6 @@
 pub mod lexer;
 pub mod refusal;
 mod scan;
+#[cfg(test)]
+mod tests;
 pub mod token;

@@ -146,7 +146,9 @@ fn long_sign(first: u8, second: u8) -> Option<Kind>
         (b'!', b'=') => Some(Kind::Operator(Operator::NotEqual)),
         (b'>', b'=') => Some(Kind::Operator(Operator::GreaterEqual)),
         (b'+' | b'-' | b'*' | b'%' | b'^', b'=') => Some(Kind::Unbuilt),
-        (b'+', b'+') | (b'-', b'-') | (b'>', b'>') | (b'|', b'|') | (b'&', b'&') => Some(Kind::Unbuilt),
+        (b'+', b'+') | (b'-', b'-') | (b'>', b'>') | (b'|', b'|') | (b'&', b'&') => Some(
+            Kind::Unbuilt,
+        ),
         (b'!', b'~') => Some(Kind::Unbuilt),
         _ => None,
     }
@@ -155,10 +157,14 @@ fn long_sign(first: u8, second: u8) -> Option<Kind>
 fn sign_step(text: &[u8]) -> Step
     ensures { result ≡ token_step text.now (sign_at text.now) }
 {
-    if let [first, second, ..] = text && let Some(kind) = long_sign(*first, *second) {
+    if let [first, second, ..] = text
+        && let Some(kind) = long_sign(*first, *second)
+    {
         return Step::Token(kind, 2);
     }
-    if let [first, ..] = text && let Some(kind) = short_sign(*first) {
+    if let [first, ..] = text
+        && let Some(kind) = short_sign(*first)
+    {
         return Step::Token(kind, 1);
     }
     Step::Fault(Code::UnexpectedByte)

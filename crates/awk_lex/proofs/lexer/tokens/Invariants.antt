@@ -9,7 +9,7 @@ invariant-loop-at l = record {
   within : l.at ≤ length l.text;
   line : l.line ≤ l.at + 1;
   reads : Reads (kinds_of l.tokens.items) l.text (drop l.at l.text);
-  stretches : All (λ token. (token.start ≤ token.end) × (token.end ≤ length l.text)) l.tokens.items
+  stretches : All (λ token. (token.start ≤ token.end) × (token.end ≤ length l.text)) l.tokens.items;
 }
 
 abbrev pub decreases-loop-at : goal.decreases-loop-at

@@ -8,4 +8,4 @@ returns-then-gap-gt0-clause-takes c = gap_takes c.args.text.now c.gap_len-gap.re
 pub returns-else-is_ascii_digit-clause-takes : goal.returns-else-is_ascii_digit-clause-takes
 returns-else-is_ascii_digit-clause-takes c =
     sign_takes c.args.text.now c.sign_step.result (omega (arith, c.gap_len-gap.ensures, c.if-gap-gt0.false))
-        (sym c.is_letter.ensures ∙ c.if-is_letter.false) (sym c.is_ascii_digit.ensures.value ∙ c.if-is_ascii_digit.false) c.sign_step.ensures
+    (sym c.is_letter.ensures ∙ c.if-is_letter.false) (sym c.is_ascii_digit.ensures.value ∙ c.if-is_ascii_digit.false) c.sign_step.ensures

@@ -1,4 +1,4 @@
-use Rattle.std.proofs.Common.{subst, sym, ap, ◌≡◌, ◌∙◌, take, true}
+use Rattle.std.proofs.Common.{ap, ◌∙◌, take}
 use Rattle.std.specs.List.{list_all}
 use Rattle.std.specs.Char.{is_ascii_digit}
 use Rattle.awk_lex.proofs.Fronts.{front_passes}

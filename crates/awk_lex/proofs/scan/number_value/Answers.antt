@@ -1,4 +1,4 @@
-use Rattle.std.proofs.Common.{arith, rules}
+use Rattle.std.proofs.Common.{rules}
 use Rattle.awk_lex.proofs.Digits.{read_more, too_large}
 use Rattle.awk_lex.proofs.scan.number_value.Goals as goal
 
