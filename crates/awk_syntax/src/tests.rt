@@ -177,7 +177,14 @@ fn deep(rt: HostRuntime) {
         // An item, its block, 196 blocks more, a print and its number: 200 nodes.
         ("{", 197, "print 1", "}", 197, None),
         ("{", 198, "print 1", "}", 198, Some(Code::NestedTooDeep)),
-        ("{", 500_000, "print", "}", 500_000, Some(Code::NestedTooDeep)),
+        (
+            "{",
+            500_000,
+            "print",
+            "}",
+            500_000,
+            Some(Code::NestedTooDeep),
+        ),
         ("{", 500_000, "", "}", 0, Some(Code::NotAProgram)),
         ("{", 500_000, "print", "}", 499_999, Some(Code::NotAProgram)),
         ("", 0, "1 { print", "$", 300, Some(Code::NotAProgram)),
