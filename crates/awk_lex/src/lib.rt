@@ -1,5 +1,7 @@
 //! Tokens, and reading them from a program text.
 #![tactic(auto)]
 
+pub mod lexer;
 pub mod refusal;
+mod scan;
 pub mod token;
