@@ -8,6 +8,8 @@ mod output;
 mod script;
 mod stream;
 mod streams;
+#[cfg(test)]
+mod tests;
 mod world;
 
 pub use fault::StreamFault;

@@ -11,7 +11,7 @@ use std::alloc::{AllocError, Global};
 
 /// What was done, and what came of it. Numbers are those of the streams; a refused opening has
 /// none.
-#[derive(Drop)]
+#[derive(Debug, Drop, PartialEq, Eq)]
 pub enum Entry {
     OpenedInput(InputKind, Vec<u8>, Option<u64>),
     OpenedOutput(OutputKind, Vec<u8>, Mode, Option<u64>),
