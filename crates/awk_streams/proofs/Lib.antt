@@ -8,3 +8,4 @@ pub mod WritesLemmas
 pub mod MarkLemmas
 pub mod MainLemmas
 pub mod OutputLemmas
+pub mod ScriptLemmas
