@@ -118,7 +118,7 @@ impl ScriptWorld {
     pub fn entries(&self) -> &[Entry]
         ensures { ⟦<ScriptWorld as World>⟧.log self.now ≡ events result.now }
     {
-        &self.log
+        self.log.as_slice()
     }
 
     /// The bytes that an output has received since it was opened. Fails only where memory is

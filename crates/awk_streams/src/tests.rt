@@ -1,5 +1,6 @@
 // What runs over a world in memory read, print and log.
-ghost use Rattle.std.specs.Prelude.{is_some, IsTrue, IfOk, [], ◌≡◌};
+ghost use Rattle.std.specs.Prelude.{is_some, IsTrue, IfOk, None, [], ◌≡◌, nat_lt};
+ghost use Rattle.std.proofs.lemmas.Bool.{lt-ltb};
 ghost use Rattle.awk_streams.specs.Streams.{AreOpen, AreSound};
 
 use crate::{
@@ -63,6 +64,113 @@ fn standard_input(
         breaks,
     })?;
     Ok(ScriptWorld::new(alloc, answers))
+}
+
+// A world with no inputs that takes so many more bytes, one at each write, and whose flushes answer
+// what is listed for their outputs.
+#[derive(Drop)]
+struct Outputs {
+    taken: Vec<u8>,
+    room: usize,
+    flushes: [Result<(), WorldFault>; 2],
+}
+
+impl World for Outputs {
+    ghost tells = { ⊥ };
+
+    ghost log = { λ _. [] };
+
+    ghost mark = { λ _. None };
+
+    ghost is_open = { λ _ id. nat_lt id 2 };
+
+    ghost standard_open = { λ _ id below. lt-ltb id 2 below };
+
+    fn open_input(&mut self, _kind: InputKind, _name: &[u8]) -> Result<u64, WorldFault> {
+        Err(WorldFault::Failed)
+    }
+
+    fn read(&mut self, _id: u64, _into: &mut [u8]) -> Result<usize, WorldFault> {
+        Err(WorldFault::Failed)
+    }
+
+    fn open_output(
+        &mut self,
+        _kind: OutputKind,
+        _name: &[u8],
+        _mode: Mode,
+    ) -> Result<u64, WorldFault> {
+        Err(WorldFault::Failed)
+    }
+
+    fn write(&mut self, _id: u64, bytes: &[u8]) -> Result<usize, WorldFault> {
+        let [first, ..] = bytes else {
+            return Ok(0);
+        };
+        if self.room == 0 {
+            return Err(WorldFault::Failed);
+        }
+        self.room -= 1;
+        self.taken.push(*first).map_err(|_| WorldFault::Memory)?;
+        Ok(1)
+    }
+
+    fn flush(&mut self, id: u64) -> Result<(), WorldFault> {
+        if id == 0 {
+            self.flushes[0]
+        } else {
+            self.flushes[1]
+        }
+    }
+
+    fn close(&mut self, _id: u64) -> i128 {
+        0
+    }
+
+    fn run(&mut self, _command: &[u8]) -> Result<i128, WorldFault> {
+        Err(WorldFault::Memory)
+    }
+}
+
+#[test]
+fn the_first_failure_is_answered(rt: HostRuntime) -> Result<(), Fail> {
+    let alloc = rt.alloc();
+    let (memory, failed) = (Err(WorldFault::Memory), Err(WorldFault::Failed));
+    for (room, flushes, printed, taken, ended) in [
+        (3, [Ok(()), Ok(())], Ok(()), b"abc".as_slice(), Ok(())),
+        (
+            2,
+            [Ok(()), failed],
+            Err(StreamFault::WriteFailed),
+            b"ab",
+            Err(StreamFault::WriteFailed),
+        ),
+        (
+            0,
+            [memory, failed],
+            Err(StreamFault::WriteFailed),
+            b"",
+            Err(StreamFault::Memory),
+        ),
+        (
+            3,
+            [failed, memory],
+            Ok(()),
+            b"abc",
+            Err(StreamFault::WriteFailed),
+        ),
+    ] {
+        let mut world = Outputs {
+            taken: Vec::new(alloc),
+            room,
+            flushes,
+        };
+        let mut streams = Streams::new(alloc);
+        assert_eq!(rt; streams.print(&mut world, b"abc"), printed);
+        assert_eq!(rt; world.taken.as_slice(), taken);
+        assert_eq!(rt; streams.finish(&mut world), ended);
+    }
+    Ok(())
 }
 
 #[test]
