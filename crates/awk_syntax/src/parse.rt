@@ -57,13 +57,16 @@ fn last_line(tokens: &[Token]) -> u64 {
 
 /// The tree that the tokens spell (POSIX awk, Grammar).
 ///
-/// An S1 names the line of the first token that can't stand where it stands, or of the last token where the text
-/// ended too early; an S2 names line 1. It takes time linear in the number of tokens, whatever is nested in what.
+/// An S1 names the line of the first token that can't stand where it stands, or of the last token
+/// where the text ended too early; an S2 names line 1. The time is linear in the number of tokens,
+/// and no nesting of the text is a nesting of calls.
 pub fn parse(alloc: Global, tokens: &[Token]) -> Result<Tree, Refusal>
     // What is read is spelled so and leveled, and not too high.
-    ensures found { IfOk result (λ tree. IsProgram (kinds_of tokens.now) (tree_of tree) × (height_of_program (tree_of tree) ≤ most_height)) }
+    ensures found { IfOk result (λ tree. IsProgram (kinds_of tokens.now) (tree_of tree)
+        × (height_of_program (tree_of tree) ≤ most_height)) }
     // Every such program is read, unless memory is refused.
-    ensures only { (items : List t.Item) → IsProgram (kinds_of tokens.now) items → height_of_program items ≤ most_height → Reads result items }
+    ensures only { (items : List t.Item) → IsProgram (kinds_of tokens.now) items
+        → height_of_program items ≤ most_height → Reads result items }
     // S1 only where no tree spells the tokens at all, S2 only where one does that is too high.
     ensures refused { IfErr result (λ refusal. Justifies refusal.code (kinds_of tokens.now)) }
 {
@@ -72,5 +75,6 @@ pub fn parse(alloc: Global, tokens: &[Token]) -> Result<Tree, Refusal>
 
 /// Tokens have one tree at most, however high it is.
 pub fn one_tree()
-    ensures { (tokens : List _) (xs ys : List t.Item) → IsProgram tokens xs → IsProgram tokens ys → xs ≡ ys }
+    ensures { (tokens : List _) (xs ys : List t.Item) → IsProgram tokens xs
+        → IsProgram tokens ys → xs ≡ ys }
 {}
