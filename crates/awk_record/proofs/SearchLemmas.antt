@@ -28,10 +28,10 @@ first_at_some word (b ∷ bytes) (suc i) lt fails holds =
 one_byte : (c : ℕ) (bytes : List ℕ) (k : ℕ) → k < length bytes → begins_with (c ∷ []) (drop k bytes) ≡ ((get_or bytes k 0 == c) && true)
 one_byte c bytes k lt = at_drop_more (begins_with (c ∷ [])) bytes k 0 lt
 
-byte_fails : (c : ℕ) (bytes : List ℕ) (k : ℕ) → k < length bytes → get_or bytes k 0 ≢ c → begins_with (c ∷ []) (drop k bytes) ≡ false
+pub byte_fails : (c : ℕ) (bytes : List ℕ) (k : ℕ) → k < length bytes → get_or bytes k 0 ≢ c → begins_with (c ∷ []) (drop k bytes) ≡ false
 byte_fails c bytes k lt other = one_byte c bytes k lt ∙ grind (arith, nat_tests)
 
-byte_holds : (c : ℕ) (bytes : List ℕ) (k : ℕ) → k < length bytes → get_or bytes k 0 ≡ c → begins_with (c ∷ []) (drop k bytes) ≡ true
+pub byte_holds : (c : ℕ) (bytes : List ℕ) (k : ℕ) → k < length bytes → get_or bytes k 0 ≡ c → begins_with (c ∷ []) (drop k bytes) ≡ true
 byte_holds c bytes k lt same = one_byte c bytes k lt ∙ grind (arith, nat_tests)
 
 -- a search from the n-th byte on reaches each byte
