@@ -16,6 +16,9 @@ pub use split::split_blanks;
 /// piece goes up to the next blank or to the end.
 pub fn pieces_law()
     ensures none { (gap : List ℕ) → AreBlank gap → pieces_of gap ≡ [] }
-    ensures last { (gap piece : List ℕ) → AreBlank gap → IsPiece piece → pieces_of (gap ++ piece) ≡ piece ∷ [] }
-    ensures next { (gap piece : List ℕ) (blank : ℕ) (rest : List ℕ) → AreBlank gap → IsPiece piece → is_blank blank ≡ true → pieces_of (gap ++ (piece ++ blank ∷ rest)) ≡ piece ∷ pieces_of rest }
+    ensures last { (gap piece : List ℕ) → AreBlank gap → IsPiece piece →
+        pieces_of (gap ++ piece) ≡ piece ∷ [] }
+    ensures next { (gap piece : List ℕ) (blank : ℕ) (rest : List ℕ) →
+        AreBlank gap → IsPiece piece → is_blank blank ≡ true →
+        pieces_of (gap ++ (piece ++ blank ∷ rest)) ≡ piece ∷ pieces_of rest }
 {}
