@@ -1,5 +1,5 @@
 -- What a program text is as tokens, and where it breaks (POSIX awk, Lexical Conventions).
-use Rattle.std.specs.Prelude.{◌≡◌, ◌≢◌, ℕ, Bool, true, false, not, ◌||◌, ◌==◌, List, [], ◌∷◌, ◌++◌}
+use Rattle.std.specs.Prelude.{◌≡◌, ◌≢◌, ℕ, Bool, true, false, not, ◌||◌, ◌==◌, List, [], ◌∷◌, ◌++◌, ℤ}
 use Rattle.std.specs.List.{list_all}
 use Rattle.awk_lex.specs.Words.{Writes, Longest, is_allowed, behind}
 use Rattle.awk_lex.specs.declared.token.Kind.{Kind}
@@ -7,6 +7,7 @@ use Rattle.awk_lex.specs.declared.token.Kind.TheVariants.{Number}
 use Rattle.awk_lex.specs.declared.refusal.Code.{Code}
 use Rattle.awk_lex.specs.declared.refusal.Code.TheVariants.{UnexpectedByte, NumberRefused}
 
+-- a space or a tab
 abbrev pub is_blank : ℕ → Bool
 is_blank b = b == 32 || b == 9
 
@@ -39,8 +40,9 @@ pub record Stands (t : Kind) (text rest : List ℕ) : Type 0 where
   pub writes : Writes t word
   pub longest : Longest word rest
 
--- The text, up to the rest, is gaps and tokens in turn. A spelling that the token before it decides, as that
--- of a slash, is read by a further argument that each token hands on, as the place is here.
+-- The text up to the rest is gaps and tokens in turn, each token the longest spelling at its place. What a
+-- spelling takes from the token before it, as a slash takes whether it divides, can be one argument more of
+-- `Reads`, which each token hands on as it does its place, and of `Stands` and `Writes`.
 abbrev pub Reads : List Kind → List ℕ → List ℕ → Type 0
 Reads [] text rest = Skips text rest
 Reads (t ∷ ts) text rest =
@@ -59,7 +61,7 @@ pub record BeginsNothing (text : List ℕ) : Type 0 where
 
 -- a number stands here that is too large or that goes on with a letter, an underscore or a point
 pub record IsBadNumber (text : List ℕ) : Type 0 where
-  pub value : _
+  pub value : ℤ
   pub after : List ℕ
   pub stands : Stands (Number value) text after
   pub refused : is_allowed (Number value) after ≡ false
@@ -70,7 +72,8 @@ Fault UnexpectedByte text = BeginsNothing text
 Fault NumberRefused text = IsBadNumber text
 Fault _ text = ⊥
 
--- the text is tokens up to a place, a gap, and then a fault
+-- The text is gaps and tokens up to a place, and there stands a fault: the leftmost, since each token before it
+-- stands whole.
 pub record Breaks (code : Code) (text : List ℕ) : Type 0 where
   pub tokens : List Kind
   pub place : List ℕ

@@ -10,6 +10,7 @@ use Rattle.awk_lex.specs.declared.refusal.Code.TheVariants.{ProgramTooLong}
 use Rattle.awk_lex.specs.declared.refusal.Refusal.{Refusal}
 use Rattle.awk_lex.specs.declared.lexer.TheConstants.{LIMIT}
 
+-- what the tokens are, without their lines and places
 abbrev pub kinds_of : List Token → List Kind
 kinds_of = map (λ token. token.kind)
 
@@ -18,7 +19,7 @@ abbrev pub GivesOnly : Result (Vec Token) Refusal → List Kind → Type 0
 GivesOnly (Ok tokens) ts = kinds_of tokens.items ≡ ts
 GivesOnly (Err refusal) ts = IsOutOfMemory refusal
 
--- The code that a text is refused with: it is too long, or breaks at its leftmost fault.
+-- the code that a text is refused with: it is too long, or else breaks at its leftmost fault
 abbrev pub Refuses : Code → List ℕ → Type 0
 Refuses ProgramTooLong text = LIMIT < length text
 Refuses code text = (length text ≤ LIMIT) × Breaks code text

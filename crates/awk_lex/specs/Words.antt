@@ -11,6 +11,7 @@ use Rattle.awk_lex.specs.declared.token.Kind.TheVariants.{Number, Operator, Doll
 abbrev pub is_letter : ℕ → Bool
 is_letter b = is_ascii_alphabetic b || b == 95
 
+-- a letter, an underscore or a digit
 abbrev pub is_word_byte : ℕ → Bool
 is_word_byte b = is_letter b || is_ascii_digit b
 
@@ -19,6 +20,7 @@ abbrev pub is_word : List ℕ → Bool
 is_word [] = false
 is_word (b ∷ bs) = is_letter b && list_all is_word_byte bs
 
+-- one digit or more
 abbrev pub is_digits : List ℕ → Bool
 is_digits [] = false
 is_digits (b ∷ bs) = list_all is_ascii_digit (b ∷ bs)
@@ -27,8 +29,8 @@ is_digits (b ∷ bs) = list_all is_ascii_digit (b ∷ bs)
 abbrev pub keywords : List (List ℕ × Kind)
 keywords = (codes "print", Print) ∷ []
 
--- The signs of the language. A quotation mark opens a string, and a slash divides or opens a pattern: none
--- of these is built, so the one byte stands for them.
+-- The signs of the language, newline included. A quotation mark opens a string, and a slash divides or opens
+-- a pattern: none of these is built, so the one byte stands for the whole token.
 abbrev pub signs : List (List ℕ × Kind)
 signs =
     (codes "\n", Newline)
@@ -78,13 +80,13 @@ abbrev pub kind_in : List (List ℕ × Kind) → List ℕ → Option Kind
 kind_in [] w = None
 kind_in (row ∷ rows) w = if bytes_eq w row.0 then Some row.1 else kind_in rows w
 
--- The bytes spell the token. A word that is no keyword so far is a name, a keyword or a built-in that isn't built.
+-- The bytes spell the token. A word without a row is a name, a keyword or a built-in that isn't built.
 pub data Writes : Kind → List ℕ → Type 0 where
   number : {w : List ℕ} → is_digits w ≡ true → Writes (Number (pos (digits_value 10 w))) w
   word : {w : List ℕ} → is_word w ≡ true → Writes (unwrap_or (kind_in keywords w) Unbuilt) w
   sign : {k : Kind} {w : List ℕ} → kind_in signs w ≡ Some k → Writes k w
 
--- no longer spelling stands at the place where these bytes stand before the rest
+-- where these bytes stand before the rest, no longer spelling of any token stands
 abbrev pub Longest : List ℕ → List ℕ → Type 0
 Longest w rest = (t : Kind) (x y : List ℕ) → rest ≡ x ++ y → Writes t (w ++ x) → x ≡ []
 
