@@ -64,6 +64,10 @@ Steps-at separator Open old new result c ending is other answers = Steps-open se
 Steps-at separator Ended old new result c ending is other answers = Steps-ended separator old new result AtEnd c ending is answers
 Steps-at separator Broke old new result c ending is other answers = Steps-ended separator old new result AtBreak c ending is answers
 
+-- what is left, as a slice of what is held
+pub held_is : (xs items : List ℕ) (start : ℕ) → xs ≡ items → take (length xs - start) (drop start xs) ≡ drop start items
+held_is xs items start same = take_rest xs start ∙ ap (drop start) same
+
 -- from what a look at the bytes behind `start` showed
 pub Steps-seen : (separator xs items : List ℕ) (start : ℕ) (supply : Supply) (e : Ending) (old new : Pending) (result : Result Step RecordFault) (c : Cut) →
     c ≡ cut_of separator (take (length xs - start) (drop start xs)) e → e ≡ ending_or_break supply → xs ≡ items → record { bytes = drop start items; ending = ending_of supply } ≡ old →
@@ -71,7 +75,7 @@ pub Steps-seen : (separator xs items : List ℕ) (start : ℕ) (supply : Supply)
 Steps-seen separator xs items start supply e old new result c is same_e same view other answers =
     let bytes_are : drop start items ≡ old.bytes = ap (λ (p : Pending). p.bytes) view in
     let ending_is : ending_of supply ≡ old.ending = ap (λ (p : Pending). p.ending) view in
-    let held : take (length xs - start) (drop start xs) ≡ old.bytes = take_rest xs start ∙ (ap (drop start) same ∙ bytes_are) in
+    let held : take (length xs - start) (drop start xs) ≡ old.bytes = held_is xs items start same ∙ bytes_are in
     let cuts : cut_of separator old.bytes (ending_or_break supply) ≡ c = sym (is ∙ (ap (λ b. cut_of separator b e) held ∙ ap (cut_of separator old.bytes) same_e)) in
     Steps-at separator supply old new result c (sym ending_is) cuts other answers
 
@@ -81,7 +85,7 @@ pub Steps-waits : (separator xs items : List ℕ) (start : ℕ) (supply : Supply
 Steps-waits separator xs items start supply e old is same_e same view nothing =
     let bytes_are : drop start items ≡ old.bytes = ap (λ (p : Pending). p.bytes) view in
     let ending_is : ending_of supply ≡ old.ending = ap (λ (p : Pending). p.ending) view in
-    let held : take (length xs - start) (drop start xs) ≡ old.bytes = take_rest xs start ∙ (ap (drop start) same ∙ bytes_are) in
+    let held : take (length xs - start) (drop start xs) ≡ old.bytes = held_is xs items start same ∙ bytes_are in
     let cuts : cut_of separator old.bytes AtBreak ≡ BrokenOff = sym (is ∙ (ap (λ b. cut_of separator b e) held ∙ ap (cut_of separator old.bytes) (same_e ∙ ap ending_or_break nothing))) in
     Steps-more separator old (sym ending_is ∙ ap ending_of nothing) cuts
 
@@ -92,13 +96,13 @@ Steps-breaks separator xs items start Open e old new is same_e same view some em
 Steps-breaks separator xs items start Ended e old new is same_e same view some empty kept =
     let bytes_are : drop start items ≡ old.bytes = ap (λ (p : Pending). p.bytes) view in
     let ending_is : Some AtEnd ≡ old.ending = ap (λ (p : Pending). p.ending) view in
-    let held : take (length xs - start) (drop start xs) ≡ old.bytes = take_rest xs start ∙ (ap (drop start) same ∙ bytes_are) in
+    let held : take (length xs - start) (drop start xs) ≡ old.bytes = held_is xs items start same ∙ bytes_are in
     let cuts : cut_of separator old.bytes AtEnd ≡ BrokenOff = sym (is ∙ (ap (λ b. cut_of separator b e) held ∙ ap (cut_of separator old.bytes) same_e)) in
     Steps-ended separator old new (Ok Broken) AtEnd BrokenOff (sym ending_is) cuts (refl, empty, kept)
 Steps-breaks separator xs items start Broke e old new is same_e same view some empty kept =
     let bytes_are : drop start items ≡ old.bytes = ap (λ (p : Pending). p.bytes) view in
     let ending_is : Some AtBreak ≡ old.ending = ap (λ (p : Pending). p.ending) view in
-    let held : take (length xs - start) (drop start xs) ≡ old.bytes = take_rest xs start ∙ (ap (drop start) same ∙ bytes_are) in
+    let held : take (length xs - start) (drop start xs) ≡ old.bytes = held_is xs items start same ∙ bytes_are in
     let cuts : cut_of separator old.bytes AtBreak ≡ BrokenOff = sym (is ∙ (ap (λ b. cut_of separator b e) held ∙ ap (cut_of separator old.bytes) same_e)) in
     Steps-ended separator old new (Ok Broken) AtBreak BrokenOff (sym ending_is) cuts (refl, empty, kept)
 
@@ -106,7 +110,7 @@ pub found_unbroken : (first rest : List ℕ) → Found first rest ≡ BrokenOff 
 found_unbroken first rest bad = cc
 
 pub drop_behind : (items xs : List ℕ) (start next : ℕ) → xs ≡ items → drop (start + next) items ≡ drop next (take (length xs - start) (drop start xs))
-drop_behind items xs start next same = sym (ap (drop next) (take_rest xs start ∙ ap (drop start) same) ∙ drop-drop next start items)
+drop_behind items xs start next same = sym (ap (drop next) (held_is xs items start same) ∙ drop-drop next start items)
 
 pub something_met : (supply : Supply) → (supply ≡ Ended) ⊎ (supply ≡ Broke) → supply ≢ Open
 something_met supply (inl e) n = let bad : Open ≡ Ended = sym n ∙ e in cc

@@ -50,7 +50,7 @@ first_at-append w (x ∷ xs) t i e = elim (cases_Bool (begins_with w (x ∷ xs))
       cond-false _ _ _ still ∙ (ap one_later (first_at-append w xs t later.0 later.1) ∙ ap Some (sym later.2))
 ]
 
-one_later-none : (o : Option ℕ) → one_later o ≡ None → o ≡ None
+pub one_later-none : (o : Option ℕ) → one_later o ≡ None → o ≡ None
 one_later-none None e = refl
 one_later-none (Some j) e = cc
 

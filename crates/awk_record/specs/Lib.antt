@@ -1,3 +1,4 @@
 pub mod Cut
 pub mod Buffer
 pub mod Place
+pub mod Record

@@ -1,8 +1,9 @@
 -- What the parts of the buffer's code stand for.
-use Rattle.std.specs.Prelude.{◌≤◌, ℕ, List, Option, Some, None, Bool, take, drop, ◌-◌, if◌then◌else◌}
+use Rattle.std.specs.Prelude.{◌≢◌, ◌<◌, ◌≤◌, ℕ, ◌+◌, slice_index, length, List, Option, Some, None, Bool, take, drop, ◌-◌, if◌then◌else◌}
 use Rattle.awk_record.specs.Cut.{Ending, AtEnd, AtBreak, Cut, Found, NoMore, BrokenOff, TooLong, BadSeparator, without_newline}
 use Rattle.awk_record.specs.declared.place.Place.{Place}
 use Rattle.awk_record.specs.declared.place.Place.TheVariants.{Stretch, Empty, Unfinished, Over, NoSeparator}
+use Rattle.awk_record.specs.declared.search.Search.{Search}
 use Rattle.awk_record.specs.declared.buffer.Supply.{Supply}
 use Rattle.awk_record.specs.declared.buffer.Supply.TheVariants.{Open, Ended, Broke}
 
@@ -22,6 +23,15 @@ end_if at_end = if at_end then AtEnd else AtBreak
 
 abbrev pub trim_if : Bool → List ℕ → List ℕ
 trim_if trims bytes = if trims then without_newline bytes else bytes
+
+-- the byte doesn't stand among the first n bytes
+abbrev pub IsNotAmong : (byte n : ℕ) → (bytes : List ℕ) → Type 0
+IsNotAmong byte n bytes = (k : ℕ) → k < n → slice_index bytes k ≢ byte
+
+-- so many bytes were taken, and those behind them were searched as is kept
+pub record IsSearched (items : List ℕ) (start : ℕ) (search : Search) : Type 0 where
+  pub within : start + search.searched ≤ length items
+  pub none : IsNotAmong search.byte search.searched (drop start items)
 
 -- the cut that lies at a place in the bytes
 abbrev pub cut_placed : Place → List ℕ → Cut

@@ -5,6 +5,7 @@ ghost use Rattle.awk_record.specs.Place.{end_if, ending_or_break};
 
 use crate::fault::RecordFault;
 use crate::place::{Place, place_cut};
+use crate::search::Search;
 use awk_value::Bytes;
 use std::alloc::Global;
 use std::marker::Model;
@@ -38,25 +39,37 @@ fn at_end(supply: Supply) -> bool
     }
 }
 
+// Drops the first n bytes.
+fn drop_front(bytes: &mut Vec<u8>, n: usize)
+    requires { n ≤ vec_len bytes.old }
+    ensures { bytes.new.items ≡ drop n bytes.old.items }
+{
+    let len = bytes.len();
+    bytes.copy_within(n..len, 0);
+    bytes.truncate(len - n);
+}
+
 /// The bytes of an input that were read and not yet taken.
 #[derive(Drop)]
 pub struct RecordBuffer {
     alloc: Global,
     bytes: Vec<u8>,
+    // how many of the bytes were taken
     start: usize,
     supply: Supply,
+    search: Search,
 }
 
 impl Model for RecordBuffer {
-    ghost use Rattle.std.specs.Prelude.{◌≤◌, drop, vec_len};
+    ghost use Rattle.std.specs.Prelude.{drop};
     ghost use Rattle.awk_record.specs.Buffer.{Pending};
-    ghost use Rattle.awk_record.specs.Place.{ending_of};
+    ghost use Rattle.awk_record.specs.Place.{ending_of, IsSearched};
 
     ghost Value = { Pending };
 
     ghost view = { λ b. record { bytes = drop b.start b.bytes.items; ending = ending_of b.supply } };
 
-    ghost invariant = { λ b. b.start ≤ vec_len b.bytes };
+    ghost invariant = { λ b. IsSearched b.bytes.items b.start b.search };
 }
 
 impl RecordBuffer {
@@ -72,7 +85,29 @@ impl RecordBuffer {
             bytes: Vec::new(alloc),
             start: 0,
             supply: Supply::Open,
+            search: Search::NONE,
         }
+    }
+
+    // Drops what was taken, once it is more than what is left: so a byte is
+    // moved no oftener than bytes are taken.
+    fn drop_taken(&mut self)
+        ensures { self.new ≡ self.old }
+    {
+        let left = self.bytes.len() - self.start;
+        if left < self.start {
+            drop_front(&mut self.bytes, self.start);
+            self.start = 0;
+        }
+    }
+
+    // Takes all bytes.
+    fn take_all(&mut self)
+        ensures bytes { self.new.bytes ≡ [] }
+        ensures ending { self.new.ending ≡ self.old.ending }
+    {
+        self.start = self.bytes.len();
+        self.search = Search::NONE;
     }
 
     /// Adds the next bytes of the input. The only error is `Memory`, and it
@@ -84,6 +119,7 @@ impl RecordBuffer {
         ensures err { OnErr result (self.new ≡ self.old) }
         ensures memory { IfErr result (λ e. e ≡ RecordFault.Memory) }
     {
+        self.drop_taken();
         self.bytes.extend_from_slice(piece)?;
         Ok(())
     }
@@ -110,25 +146,31 @@ impl RecordBuffer {
     /// separate. After `End` or `Broken` no bytes are left. An `Err` changes
     /// nothing.
     pub fn next(&mut self, separator: &[u8]) -> Result<Step, RecordFault>
-        ensures steps { (result ≡ Err RecordFault.Memory → ⊥) → Steps separator.now self.old result self.new }
+        ensures steps { result ≢ Err RecordFault.Memory → Steps separator.now self.old result self.new }
         ensures memory { result ≡ Err RecordFault.Memory → self.new ≡ self.old }
+        ensures ending { self.new.ending ≡ self.old.ending }
         ensures short { result ≡ Ok Step.NeedMore → length self.old.bytes ≤ longest }
     {
         let held = &self.bytes[self.start..];
-        match place_cut(separator, held, at_end(self.supply)) {
+        let searched = self.search.searched_for(separator);
+        match place_cut(separator, held, searched, at_end(self.supply)) {
             Place::Stretch { from, to, next } => {
                 let record = Bytes::from_slice(self.alloc, &held[from..to])?;
                 self.start += next;
+                self.search = Search::NONE;
                 Ok(Step::Record(record))
             }
             Place::Empty => {
-                self.start = self.bytes.len();
+                self.take_all();
                 Ok(Step::End)
             }
             Place::Unfinished => match self.supply {
-                Supply::Open => Ok(Step::NeedMore),
+                Supply::Open => {
+                    self.search = Search::of(separator, held.len());
+                    Ok(Step::NeedMore)
+                }
                 Supply::Ended | Supply::Broke => {
-                    self.start = self.bytes.len();
+                    self.take_all();
                     Ok(Step::Broken)
                 }
             },

@@ -1,7 +1,9 @@
 // Where in the bytes at hand their cut lies.
-ghost use Rattle.std.specs.Prelude.{◌≡◌, ◌+◌, ◌≤◌, length, take, drop, IfSome};
-ghost use Rattle.awk_record.specs.Cut.{first_at, begins_with, newlines, without_newline, cut_of, cut_behind, limited, unfinished, longest};
-ghost use Rattle.awk_record.specs.Place.{cut_placed, trim_if, end_if, IsWithin};
+ghost use Rattle.std.specs.Prelude.{◌≡◌, ℕ, ◌≤◌, ◌∷◌, [], length, take, drop};
+ghost use Rattle.awk_record.specs.Cut.{without_newline, cut_of, cut_behind, limited, unfinished, longest, Found};
+ghost use Rattle.awk_record.specs.Place.{cut_placed, trim_if, end_if, IsWithin, IsNotAmong};
+
+use crate::search::{first_blank_line, first_byte, leading_newlines};
 
 /// Where a cut of the bytes at hand lies.
 #[derive(Clone, Copy, Debug, PartialEq, Eq)]
@@ -21,49 +23,6 @@ pub enum Place {
 /// The most bytes of a record with what is skipped before it and its separator.
 const LONGEST: usize = 1_073_741_824;
 
-fn begins(word: &[u8], bytes: &[u8]) -> bool
-    ensures { result ≡ begins_with word.now bytes.now }
-{
-    let mut left = bytes;
-    for w in word {
-        match left {
-            [] => return false,
-            [b, rest @ ..] => {
-                if b != w {
-                    return false;
-                }
-                left = rest;
-            }
-        }
-    }
-    true
-}
-
-// The first place at which the word stands.
-fn first(word: &[u8], bytes: &[u8]) -> Option<usize>
-    ensures place { result ≡ first_at word.now bytes.now }
-    ensures fits { IfSome result (λ i. i + length word.now ≤ length bytes.now) }
-{
-    for i in 0..bytes.len() {
-        if begins(word, &bytes[i..]) {
-            return Some(i);
-        }
-    }
-    None
-}
-
-fn leading_newlines(bytes: &[u8]) -> usize
-    ensures value { result ≡ newlines bytes.now }
-    ensures within { result ≤ length bytes.now }
-{
-    for i in 0..bytes.len() {
-        if bytes[i] != b'\n' {
-            return i;
-        }
-    }
-    bytes.len()
-}
-
 // How many of the bytes are left without one newline at their end.
 fn trimmed_len(bytes: &[u8]) -> usize
     ensures value { take result bytes.now ≡ without_newline bytes.now }
@@ -77,9 +36,11 @@ fn trimmed_len(bytes: &[u8]) -> usize
     }
 }
 
+// Where the cut lies that found no separator behind the skipped bytes.
 fn place_unfinished(skipped: usize, trims: bool, held: &[u8], at_end: bool) -> Place
     requires { skipped ≤ length held.now }
-    ensures value { cut_placed result held.now ≡ limited (length held.now) (unfinished (trim_if trims) (drop skipped held.now) (end_if at_end)) }
+    ensures value { cut_placed result held.now
+        ≡ limited (length held.now) (unfinished (trim_if trims) (drop skipped held.now) (end_if at_end)) }
     ensures within { IsWithin (length held.now) result }
     ensures short { result ≡ Place.Unfinished → length held.now ≤ longest }
 {
@@ -105,40 +66,59 @@ fn place_unfinished(skipped: usize, trims: bool, held: &[u8], at_end: bool) -> P
     }
 }
 
-fn place_behind(skipped: usize, word: &[u8], trims: bool, held: &[u8], at_end: bool) -> Place
-    requires { skipped ≤ length held.now }
-    ensures value { cut_placed result held.now ≡ cut_behind skipped word.now (trim_if trims) (drop skipped held.now) (end_if at_end) }
+// Where the cut lies that ends at a byte, which isn't among the first
+// `searched` bytes.
+fn place_line(byte: u8, held: &[u8], searched: usize, at_end: bool) -> Place
+    requires within { searched ≤ length held.now }
+    requires none { IsNotAmong byte searched held.now }
+    ensures value { cut_placed result held.now ≡ cut_behind 0 (byte ∷ []) (λ b. b) held.now (end_if at_end) }
     ensures within { IsWithin (length held.now) result }
     ensures short { result ≡ Place.Unfinished → length held.now ≤ longest }
 {
-    let bytes = &held[skipped..];
-    let Some(place) = first(word, bytes) else {
-        return place_unfinished(skipped, trims, held, at_end);
+    let Some(to) = first_byte(byte, held, searched) else {
+        return place_unfinished(0, false, held, at_end);
     };
-    let next = skipped + (place + word.len());
+    let next = to + 1;
+    if next > LONGEST {
+        return Place::Over;
+    }
+    Place::Stretch { from: 0, to, next }
+}
+
+// Where the cut lies that ends at a blank line.
+fn place_paragraph(held: &[u8], at_end: bool) -> Place
+    ensures value { cut_placed result held.now ≡ cut_of [] held.now (end_if at_end) }
+    ensures within { IsWithin (length held.now) result }
+    ensures short { result ≡ Place.Unfinished → length held.now ≤ longest }
+{
+    let from = leading_newlines(held);
+    let Some(len) = first_blank_line(&held[from..]) else {
+        return place_unfinished(from, true, held, at_end);
+    };
+    let next = from + (len + 2);
     if next > LONGEST {
         return Place::Over;
     }
     Place::Stretch {
-        from: skipped,
-        to: skipped + place,
+        from,
+        to: from + len,
         next,
     }
 }
 
 /// Where the cut of the bytes at hand lies, if the input has ended behind
-/// them, or else if it broke.
-pub fn place_cut(separator: &[u8], held: &[u8], at_end: bool) -> Place
+/// them, or else if it broke. A separator of one byte isn't among the first
+/// `searched` bytes.
+pub fn place_cut(separator: &[u8], held: &[u8], searched: usize, at_end: bool) -> Place
+    requires within { searched ≤ length held.now }
+    requires none { (c : ℕ) → separator.now ≡ c ∷ [] → IsNotAmong c searched held.now }
     ensures value { cut_placed result held.now ≡ cut_of separator.now held.now (end_if at_end) }
     ensures within { IsWithin (length held.now) result }
     ensures short { result ≡ Place.Unfinished → length held.now ≤ longest }
 {
     match separator {
-        [] => {
-            let skipped = leading_newlines(held);
-            place_behind(skipped, b"\n\n", true, held, at_end)
-        }
-        [_] => place_behind(0, separator, false, held, at_end),
+        [] => place_paragraph(held, at_end),
+        [byte] => place_line(*byte, held, searched, at_end),
         _ => Place::NoSeparator,
     }
 }

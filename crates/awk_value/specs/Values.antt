@@ -25,8 +25,8 @@ str_of (Number n) = signed_decimal n
 str_of (Text t) = t
 str_of (Input t) = t
 
--- the number as which a value is tested and compared, if it counts as a number there: an
--- uninitialized value, a number or a numeric text that came from outside
+-- the number as which a value is tested and compared, if it counts as one: an uninitialized
+-- value, a number, or a numeric text that came from outside (the standard's numeric string)
 abbrev pub numeric_of : Value → Option ℤ
 numeric_of Nothing = Some (pos 0)
 numeric_of (Number n) = Some n
@@ -41,7 +41,8 @@ truth_by None text = not (is_empty text)
 abbrev pub truth_of : Value → Bool
 truth_of v = truth_by (numeric_of v) (str_of v)
 
--- by the numbers where both sides have one, else byte by byte
+-- by the numbers where both sides have one, as two numeric texts from outside do too; else by
+-- the bytes of the texts
 abbrev pub order_by : Option ℤ → Option ℤ → List ℕ → List ℕ → Ordering
 order_by (Some m) (Some n) s t = int_cmp m n
 order_by (Some m) None s t = slice_cmp nat_cmp s t

@@ -8,7 +8,7 @@ use crate::convert::number_of;
 use crate::fault::ValueFault;
 use crate::value::Value;
 
-/// The product of two numbers. The fault is `Range`.
+/// The product of two numbers. The fault is `Range`. (POSIX awk, Expressions in awk.)
 #[tactic(auto, using(crate::proofs::Ranges::in_range, crate::proofs::Ranges::out_of_range))]
 pub fn mul(m: i128, n: i128) -> Result<i128, ValueFault>
     ensures { result ≡ product_of m n }
@@ -16,8 +16,8 @@ pub fn mul(m: i128, n: i128) -> Result<i128, ValueFault>
     m.checked_mul(n).ok_or(ValueFault::Range)
 }
 
-/// The product of two values' numbers, of which the left one's is taken first. The fault is
-/// `Range`.
+/// The product of the numbers of two values, of which the left one's is taken first. The fault is
+/// `Range`: of an operand's number, or of the product. Takes no memory.
 pub fn multiply(left: &Value, right: &Value) -> Result<Value, ValueFault>
     ensures { result ≡ multiplied left.now right.now }
 {

@@ -11,7 +11,9 @@ use crate::value::Value;
 use itoa::Buffer;
 use std::alloc::Global;
 
-/// The number of a value: of a text the number that it begins with, or 0. The fault is `Range`.
+/// The number of a value: 0 of an uninitialized one, and of a text the number that it begins
+/// with behind blanks, or 0 where it begins with none. The fault is `Range`. Takes no memory.
+/// (POSIX awk, Expressions in awk.)
 pub fn number_of(value: &Value) -> Result<i128, ValueFault>
     ensures { result ≡ num_of value.now }
 {
@@ -47,8 +49,8 @@ pub(crate) fn text_in<'a>(value: &'a Value, buffer: &'a mut Buffer) -> &'a [u8]
     }
 }
 
-/// The text of a value, which shares the memory of a value that is a text. The fault is
-/// `Memory`.
+/// The text of a value: the empty text of an uninitialized one, the decimal form of a number. Of
+/// a text it shares the memory. The fault is `Memory`. (POSIX awk, Expressions in awk.)
 pub fn text_of(alloc: Global, value: &Value) -> Result<Bytes, ValueFault>
     ensures text { IfOk result (λ text. text ≡ str_of value.now) }
     ensures fault { IfErr result (λ fault. fault ≡ Memory) }
@@ -61,8 +63,8 @@ pub fn text_of(alloc: Global, value: &Value) -> Result<Bytes, ValueFault>
     })
 }
 
-/// Appends the text of a value to the buffer. The fault is `Memory`, and leaves the buffer as it
-/// was.
+/// Appends the text of a value, as `text_of` gives it, to the buffer. The fault is `Memory`, and
+/// leaves the buffer's bytes as they were.
 pub fn append_text(value: &Value, buffer: &mut Vec<u8>) -> Result<(), ValueFault>
     ensures text { OnOk result (buffer.new.items ≡ buffer.old.items ++ str_of value.now) }
     ensures unchanged { OnErr result (buffer.new.items ≡ buffer.old.items) }
@@ -74,7 +76,8 @@ pub fn append_text(value: &Value, buffer: &mut Vec<u8>) -> Result<(), ValueFault
 }
 
 /// Whether a value is true: a number and a numeric text from outside where it is not 0, any
-/// other text where it is not empty.
+/// other text where it is not empty. Takes no memory. (POSIX awk, Expressions in awk and
+/// Patterns.)
 pub fn is_true(value: &Value) -> bool
     ensures { result ≡ truth_of value.now }
 {

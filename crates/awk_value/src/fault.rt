@@ -28,7 +28,7 @@ impl From<AllocError> for ValueFault {
 impl<T: Drop> From<AllocFailed<T>> for ValueFault {
     ghost from_gives = { λ _ e. e ≡ Memory };
 
-    fn from(_error: AllocFailed<T>) -> ValueFault {
-        ValueFault::Memory
+    fn from(error: AllocFailed<T>) -> ValueFault {
+        ValueFault::from(AllocError::from(error))
     }
 }

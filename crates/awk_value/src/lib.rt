@@ -16,3 +16,6 @@ pub use crate::convert::{append_text, is_true, number_of, text_of};
 pub use crate::fault::ValueFault;
 pub use crate::order::compare;
 pub use crate::value::Value;
+
+#[cfg(test)]
+mod tests;

@@ -10,7 +10,8 @@ use itoa::Buffer;
 use std::cmp::Ordering;
 
 /// The order of two values: by their numbers where each is uninitialized, a number or a numeric
-/// text from outside, and else byte by byte. It takes no memory and has no fault.
+/// text from outside, and else by the bytes of their texts. Takes no memory and has no fault.
+/// (POSIX awk, Expressions in awk.)
 pub fn compare(left: &Value, right: &Value) -> Result<Ordering, ValueFault>
     ensures { result ≡ Ok (order_of left.now right.now) }
 {

@@ -1,39 +1,61 @@
-use Rattle.std.proofs.Common.{◌≡◌, Ok, refl, ap, List, ℕ, rules}
-use Rattle.std.proofs.lemmas.List.{drop_all}
+use Rattle.std.proofs.Common.{◌≡◌, ◌∙◌, Ok, refl, sym, ap, subst, List, ℕ, drop, length, arith}
+use Rattle.std.proofs.lemmas.List.{length-drop}
+use Rattle.awk_record.specs.Buffer.{Pending, Steps}
 use Rattle.awk_record.specs.Cut.{BrokenOff, NoMore, TooLong}
-use Rattle.awk_record.specs.declared.buffer.Step.TheVariants.{Record}
-use Rattle.awk_record.proofs.BufferLemmas.{Steps-seen, Steps-waits, Steps-breaks, found_unbroken, drop_behind, something_met}
+use Rattle.awk_record.specs.Place.{IsNotAmong}
+use Rattle.awk_record.specs.declared.buffer.Step.TheVariants.{Record, NeedMore}
+use Rattle.awk_record.proofs.BufferLemmas.{Steps-seen, Steps-waits, Steps-breaks, found_unbroken, held_is, drop_behind, something_met}
+use Rattle.awk_record.proofs.SearchLemmas.{unfinished_searched}
 use Rattle.awk_record.proofs.buffer.RecordBuffer.next.Goals as goal
+
+pub place_cut-requires-clause-none : goal.place_cut-requires-clause-none
+place_cut-requires-clause-none c = λ byte is.
+    let b = c.self.inside in
+    let held = held_is c.deref.result.now b.bytes.items b.start c.deref.ensures.value in
+    subst (λ (bytes : List ℕ). IsNotAmong byte c.searched_for-searched.result bytes) (sym held) (c.searched_for-searched.ensures.none (drop b.start b.bytes.items) byte c.self.invariant.none is)
+
+pub invariant_of-self-in-Open : goal.invariant_of-self-in-Open
+invariant_of-self-in-Open c =
+    let b = c.self.inside in
+    let held = held_is c.deref.result.now b.bytes.items b.start c.deref.ensures.value in
+    let none = unfinished_searched c.args.separator.now _ _ c.in-Unfinished.ensures.value in
+    let fits = ap (λ (bytes : List ℕ). length bytes) held in
+    record {
+      within = omega (arith, fits, length-drop b.start b.bytes.items, c.of-self-inside.ensures.within, c.self.invariant.within);
+      none = subst (λ (bytes : List ℕ). IsNotAmong c.of-self-inside.result.byte c.of-self-inside.result.searched bytes) held (c.of-self-inside.ensures.none _ none);
+    }
 
 pub returns-in-Empty-clause-steps : goal.returns-in-Empty-clause-steps
 returns-in-Empty-clause-steps c = λ _.
-    Steps-seen c.args.separator.now c.deref.result.now c.self.inside.bytes.items c.self.inside.start c.self.inside.supply _ c.args.self.now _ _ NoMore
+    let b = c.self.inside in
+    Steps-seen c.args.separator.now c.deref.result.now b.bytes.items b.start b.supply _ c.args.self.now _ _ NoMore
     c.in-Empty.ensures.value c.at_end.ensures c.deref.ensures.value c.self.view_is (λ (bad : NoMore ≡ BrokenOff). cc)
-    (refl, drop_all c.len-self-inside.result c.self.inside.bytes.items (search rules), refl)
+    (refl, c.take_all.ensures.bytes, c.take_all.ensures.ending ∙ sym (ap (λ (p : Pending). p.ending) c.self.view_is))
 
 pub returns-in-Over-clause-steps : goal.returns-in-Over-clause-steps
 returns-in-Over-clause-steps c = λ _.
-    Steps-seen c.args.separator.now c.deref.result.now c.self.inside.bytes.items c.self.inside.start c.self.inside.supply _ c.args.self.now _ _ TooLong
+    let b = c.self.inside in
+    Steps-seen c.args.separator.now c.deref.result.now b.bytes.items b.start b.supply _ c.args.self.now _ _ TooLong
     c.in-Over.ensures.value c.at_end.ensures c.deref.ensures.value c.self.view_is (λ (bad : TooLong ≡ BrokenOff). cc) (refl, refl)
 
 pub returns-in-Open-clause-steps : goal.returns-in-Open-clause-steps
 returns-in-Open-clause-steps c = λ _.
-    Steps-waits c.args.separator.now c.deref.result.now c.self.inside.bytes.items c.self.inside.start c.self.inside.supply _ c.args.self.now
-    c.in-Unfinished.ensures.value c.at_end.ensures c.deref.ensures.value c.self.view_is c.in-Open.is
+    let b = c.self.inside in
+    subst (λ (new : Pending). Steps c.args.separator.now c.args.self.now (Ok NeedMore) new) (sym c.self.view_is)
+    (Steps-waits c.args.separator.now c.deref.result.now b.bytes.items b.start b.supply _ c.args.self.now
+    c.in-Unfinished.ensures.value c.at_end.ensures c.deref.ensures.value c.self.view_is c.in-Open.is)
 
 pub returns-in_ok-record-in-Stretch-clause-steps : goal.returns-in_ok-record-in-Stretch-clause-steps
 returns-in_ok-record-in-Stretch-clause-steps c = λ _.
-    Steps-seen c.args.separator.now c.deref.result.now c.self.inside.bytes.items c.self.inside.start c.self.inside.supply _ c.args.self.now _ _ _
+    let b = c.self.inside in
+    Steps-seen c.args.separator.now c.deref.result.now b.bytes.items b.start b.supply _ c.args.self.now _ _ _
     c.in-Stretch.ensures.value c.at_end.ensures c.deref.ensures.value c.self.view_is (found_unbroken _ _)
-    (ap (λ (b : List ℕ). Ok (Record b)) c.in_ok-record-in-Stretch.ensures, drop_behind c.self.inside.bytes.items c.deref.result.now c.self.inside.start c.in-Stretch.next c.deref.ensures.value, refl)
+    (ap (λ (t : List ℕ). Ok (Record t)) c.in_ok-record-in-Stretch.ensures, drop_behind b.bytes.items c.deref.result.now b.start c.in-Stretch.next c.deref.ensures.value, refl)
 
-pub returns-in-Ended : goal.returns-in-Ended
-returns-in-Ended c = record {
-  steps = λ _.
-      Steps-breaks c.args.separator.now c.deref.result.now c.self.inside.bytes.items c.self.inside.start c.self.inside.supply _ c.args.self.now _
-      c.in-Unfinished.ensures.value c.at_end.ensures c.deref.ensures.value c.self.view_is
-      (something_met c.self.inside.supply c.in-Ended.is)
-      (drop_all c.len-self-inside-in-Ended.result c.self.inside.bytes.items (search rules)) refl;
-  memory = λ e. cc;
-  short = λ e. cc;
-}
+pub returns-in-Ended-clause-steps : goal.returns-in-Ended-clause-steps
+returns-in-Ended-clause-steps c = λ _.
+    let b = c.self.inside in
+    Steps-breaks c.args.separator.now c.deref.result.now b.bytes.items b.start b.supply _ c.args.self.now _
+    c.in-Unfinished.ensures.value c.at_end.ensures c.deref.ensures.value c.self.view_is
+    (something_met b.supply c.in-Ended.is) c.take_all-in-Ended.ensures.bytes
+    (c.take_all-in-Ended.ensures.ending ∙ sym (ap (λ (p : Pending). p.ending) c.self.view_is))

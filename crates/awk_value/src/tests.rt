@@ -1,0 +1,180 @@
+// Values and results by hand, from the rules of the language.
+
+use super::*;
+use std::alloc::{AllocError, Global};
+use std::cmp::Ordering;
+use std::cmp::Ordering::{Equal, Greater, Less};
+use std::test::Fail;
+
+/// A value before its text is in memory.
+#[derive(Clone, Copy, Debug)]
+enum Given {
+    Nothing,
+    Number(i128),
+    Text(&'static str),
+    Input(&'static str),
+}
+
+use Given::{Input, Nothing, Number, Text};
+
+impl Given {
+    fn value(self, alloc: Global) -> Result<Value, AllocError> {
+        Ok(match self {
+            Nothing => Value::Nothing,
+            Number(n) => Value::Number(n),
+            Text(text) => Value::Text(Bytes::from_slice(alloc, text.as_bytes())?),
+            Input(text) => Value::Input(Bytes::from_slice(alloc, text.as_bytes())?),
+        })
+    }
+}
+
+const LEAST: i128 = i128::MIN;
+
+const LARGEST: i128 = i128::MAX;
+
+const LARGEST_TEXT: &str = "170141183460469231731687303715884105727";
+
+const PAST_LARGEST_TEXT: &str = "170141183460469231731687303715884105728";
+
+const FAR_PAST_LARGEST_TEXT: &str = "4444444444444444444444444444444444444444444444";
+
+const LEAST_TEXT: &str = "-170141183460469231731687303715884105728";
+
+const PAST_LEAST_TEXT: &str = "-170141183460469231731687303715884105729";
+
+/// Texts with their number, and whether they are true as texts and as input texts.
+const CONVERSIONS: [(&str, Result<i128, ValueFault>, bool, bool); 17] = [
+    ("", Ok(0), false, false),
+    ("0", Ok(0), true, false),
+    (" -0\n", Ok(0), true, false),
+    (" ", Ok(0), true, true),
+    (" +12 ", Ok(12), true, true),
+    ("\t\n-7", Ok(-7), true, true),
+    ("1x", Ok(1), true, true),
+    ("0x", Ok(0), true, true),
+    ("x1", Ok(0), true, true),
+    ("+-3", Ok(0), true, true),
+    ("- 3", Ok(0), true, true),
+    ("00000000000000000000000005", Ok(5), true, true),
+    (LARGEST_TEXT, Ok(LARGEST), true, true),
+    (LEAST_TEXT, Ok(LEAST), true, true),
+    (PAST_LARGEST_TEXT, Err(ValueFault::Range), true, true),
+    (PAST_LEAST_TEXT, Err(ValueFault::Range), true, true),
+    (FAR_PAST_LARGEST_TEXT, Err(ValueFault::Range), true, true),
+];
+
+const ORDERS: [(Given, Given, Ordering); 16] = [
+    (Input("10"), Input("9"), Greater),
+    (Text("10"), Text("9"), Less),
+    (Input("10"), Text("9"), Less),
+    (Input("10"), Number(9), Greater),
+    (Number(10), Text("9"), Less),
+    (Input(" +12 "), Input("12"), Equal),
+    (Text(" +12 "), Input("12"), Less),
+    (Input("1x"), Number(2), Less),
+    (Input("10x"), Number(9), Less),
+    (Input(PAST_LARGEST_TEXT), Number(2), Less),
+    (Number(LEAST), Input("-1"), Less),
+    (Nothing, Number(0), Equal),
+    (Nothing, Text(""), Equal),
+    (Nothing, Input("-1"), Greater),
+    (Text("ab"), Text("abc"), Less),
+    (Text("é"), Text("z"), Greater),
+];
+
+const POWER_63: i128 = 9_223_372_036_854_775_808;
+
+const POWER_64: i128 = 18_446_744_073_709_551_616;
+
+const PRODUCTS: [(Given, Given, Result<i128, ValueFault>); 9] = [
+    (Number(6), Number(-7), Ok(-42)),
+    (Text("-3x"), Input(" 4 "), Ok(-12)),
+    (Nothing, Number(LEAST), Ok(0)),
+    (Number(1), Number(LEAST), Ok(LEAST)),
+    (Number(POWER_63), Number(-POWER_64), Ok(LEAST)),
+    (Number(POWER_63), Number(POWER_64), Err(ValueFault::Range)),
+    (Number(-1), Number(LEAST), Err(ValueFault::Range)),
+    (Number(LARGEST), Number(2), Err(ValueFault::Range)),
+    (Number(0), Text(PAST_LARGEST_TEXT), Err(ValueFault::Range)),
+];
+
+const TEXTS: [(Given, &str); 5] = [
+    (Nothing, ""),
+    (Number(0), "0"),
+    (Number(LEAST), LEAST_TEXT),
+    (Text("a b"), "a b"),
+    (Input(" 7 "), " 7 "),
+];
+
+#[test]
+fn conversions(rt: HostRuntime) -> Result<(), Fail> {
+    for (text, number, text_true, input_true) in CONVERSIONS {
+        let made = Text(text).value(rt.alloc())?;
+        let given = Input(text).value(rt.alloc())?;
+        let numbers = (number_of(&made), number_of(&given));
+        assert_eq!(rt; numbers, (number, number), "{text:?}");
+        assert_eq!(rt;
+            (is_true(&made), is_true(&given)),
+            (text_true, input_true),
+            "{text:?}"
+        );
+    }
+    Ok(())
+}
+
+#[test]
+fn orders(rt: HostRuntime) -> Result<(), Fail> {
+    for (left, right, order) in ORDERS {
+        let compared = compare(&left.value(rt.alloc())?, &right.value(rt.alloc())?);
+        assert_eq!(rt; compared, Ok(order), "{left:?} {right:?}");
+    }
+    Ok(())
+}
+
+#[test]
+fn products(rt: HostRuntime) -> Result<(), Fail> {
+    for (left, right, product) in PRODUCTS {
+        let value = multiply(&left.value(rt.alloc())?, &right.value(rt.alloc())?);
+        let number = value.and_then(|value| number_of(&value));
+        assert_eq!(rt; number, product, "{left:?} {right:?}");
+    }
+    Ok(())
+}
+
+#[test]
+fn texts(rt: HostRuntime) -> Result<(), Fail> {
+    let mut line = Vec::new(rt.alloc());
+    for (given, text) in TEXTS {
+        let value = given.value(rt.alloc())?.clone()?;
+        assert_eq!(rt; text_of(rt.alloc(), &value)?.as_slice(), text.as_bytes());
+        append_text(&value, &mut line)?;
+    }
+    assert_eq!(rt;
+        line.as_slice(),
+        b"0-170141183460469231731687303715884105728a b 7 ".as_slice()
+    );
+    Ok(())
+}
+
+#[test]
+fn cuts(rt: HostRuntime) -> Result<(), Fail> {
+    let whole = Bytes::from_slice(rt.alloc(), b"one two three")?;
+    let two = whole.cut(4, 7)?;
+    drop(whole);
+    assert_eq!(rt; two.as_slice(), b"two".as_slice());
+    assert_eq!(rt; two.cut(1, 3)?.clone()?.as_slice(), b"wo".as_slice());
+    assert!(rt; two.cut(3, 3)?.is_empty());
+    Ok(())
+}
+
+#[test]
+fn fault_texts(rt: HostRuntime) -> Result<(), Fail> {
+    let faults = [ValueFault::from(AllocError), ValueFault::Range];
+    for (fault, text) in faults
+        .into_iter()
+        .zip(["out of memory", "number out of range"])
+    {
+        assert_eq!(rt; format!(in rt.alloc(); "{fault}")?.as_str(), text);
+    }
+    Ok(())
+}
