@@ -1,6 +1,7 @@
 // The streams of a world in memory. A stream's number is its place plus two, behind the standard
 // outputs; a closed one keeps its place, so that no number is granted twice.
-ghost use Rattle.std.specs.Prelude.{◌≡◌, ◌≤◌, ◌<◌, ◌+◌, vec_len, vec_capacity, OnOk, OnErr, IsTrue, IsOk, IfSome, length, slice_get};
+ghost use Rattle.std.specs.Prelude.{◌≡◌, ◌≤◌, ◌<◌, ◌+◌, ◌-◌, ◌^◌, ◌⊎◌, min, take, drop, slice_index_or, IsNone, vec_len, vec_capacity, OnOk, OnErr, IsTrue, IsOk, IfSome, length, slice_get};
+ghost use Rattle.awk_streams.specs.declared.stream.Stream.{Stream as StreamValue};
 ghost use Rattle.awk_streams.specs.Ids.{IsFresh, Opens, Closes, SameOpen};
 ghost use Rattle.awk_streams.specs.Script.{is_open_in, open_at, open_count};
 
@@ -18,7 +19,8 @@ pub struct Stream {
 
 // Fills the slice with the next bytes of the stream, and answers how many.
 pub fn give(stream: &Stream, into: &mut [u8]) -> usize
-    ensures { result ≤ length into.old }
+    ensures count { result ≡ min (vec_len stream.now.bytes - stream.now.at) (length into.old) }
+    ensures bytes { take result into.new ≡ take result (drop stream.now.at stream.now.bytes.items) }
 {
     let left = stream.bytes.get(stream.at..).unwrap_or(&[]);
     let count = left.len().min(into.len());
@@ -28,7 +30,8 @@ pub fn give(stream: &Stream, into: &mut [u8]) -> usize
 
 // The place of the stream of this number, if it is one.
 pub fn place_of(streams: &Vec<Stream>, id: u64) -> Option<usize>
-    ensures { IfSome result (λ place. (place < vec_len streams.now) × (place + 2 ≡ id)) }
+    ensures place { IfSome result (λ place. (place < vec_len streams.now) × (place + 2 ≡ id)) }
+    ensures none { IsNone result → (id < 2) ⊎ (vec_len streams.now + 2 ≤ id) }
 {
     let place = id.checked_sub(2)? as usize;
     if place < streams.len() {
@@ -41,6 +44,7 @@ pub fn place_of(streams: &Vec<Stream>, id: u64) -> Option<usize>
 // The stream has given so many more of its bytes.
 pub fn advance(streams: &mut Vec<Stream>, place: usize, count: usize)
     requires { place < vec_len streams.old }
+    ensures at { (d : StreamValue) → let at = (slice_index_or streams.old.items place d).at in at + count < 2 ^ 64 → (slice_index_or streams.new.items place d).at ≡ at + count }
     ensures open { SameOpen (is_open_in streams.old.items) (is_open_in streams.new.items) }
     ensures count { open_count streams.new.items ≡ open_count streams.old.items }
 {

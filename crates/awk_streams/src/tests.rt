@@ -32,7 +32,7 @@ fn copy_records<W: World>(
     Ok(())
 }
 
-// Copies standard input, and ends the run whatever comes of it.
+// Copies standard input, and then ends the run.
 fn copy_standard_input(
     world: &mut ScriptWorld,
     alloc: Global,
@@ -43,8 +43,7 @@ fn copy_standard_input(
     let mut streams = Streams::new(alloc);
     streams.open_main(world, InputKind::Standard, b"")?;
     let copied = copy_records(world, &mut streams, separator, 100);
-    streams.finish(world)?;
-    copied
+    copied.and(streams.finish(world))
 }
 
 fn standard_input(
@@ -66,12 +65,13 @@ fn standard_input(
     Ok(ScriptWorld::new(alloc, answers))
 }
 
-// A world with no inputs that takes so many more bytes, one at each write, and whose flushes answer
-// what is listed for their outputs.
+// A world with no inputs that takes so many more bytes, one at each write, and then fails; its
+// flushes answer what is listed for their outputs.
 #[derive(Drop)]
 struct Outputs {
     taken: Vec<u8>,
     room: usize,
+    full: WorldFault,
     flushes: [Result<(), WorldFault>; 2],
 }
 
@@ -108,7 +108,7 @@ impl World for Outputs {
             return Ok(0);
         };
         if self.room == 0 {
-            return Err(WorldFault::Failed);
+            return Err(self.full);
         }
         self.room -= 1;
         self.taken.push(*first).map_err(|_| WorldFault::Memory)?;
@@ -136,38 +136,22 @@ impl World for Outputs {
 fn the_first_failure_is_answered(rt: HostRuntime) -> Result<(), Fail> {
     let alloc = rt.alloc();
     let (memory, failed) = (Err(WorldFault::Memory), Err(WorldFault::Failed));
-    for (room, flushes, printed, taken, ended) in [
-        (3, [Ok(()), Ok(())], Ok(()), b"abc".as_slice(), Ok(())),
-        (
-            2,
-            [Ok(()), failed],
-            Err(StreamFault::WriteFailed),
-            b"ab",
-            Err(StreamFault::WriteFailed),
-        ),
-        (
-            0,
-            [memory, failed],
-            Err(StreamFault::WriteFailed),
-            b"",
-            Err(StreamFault::Memory),
-        ),
-        (
-            3,
-            [failed, memory],
-            Ok(()),
-            b"abc",
-            Err(StreamFault::WriteFailed),
-        ),
+    let (f1, f2) = (Err(StreamFault::Memory), Err(StreamFault::WriteFailed));
+    for (room, full, flushes, printed, ended) in [
+        (3, WorldFault::Failed, [Ok(()), Ok(())], Ok(()), Ok(())),
+        (2, WorldFault::Failed, [Ok(()), failed], f2, f2),
+        (0, WorldFault::Memory, [memory, failed], f1, f1),
+        (3, WorldFault::Failed, [failed, memory], Ok(()), f2),
     ] {
         let mut world = Outputs {
             taken: Vec::new(alloc),
             room,
+            full,
             flushes,
         };
         let mut streams = Streams::new(alloc);
         assert_eq!(rt; streams.print(&mut world, b"abc"), printed);
-        assert_eq!(rt; world.taken.as_slice(), taken);
+        assert_eq!(rt; world.taken.as_slice(), &b"abc"[..room]);
         assert_eq!(rt; streams.finish(&mut world), ended);
     }
     Ok(())
