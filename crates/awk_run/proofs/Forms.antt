@@ -5,7 +5,7 @@ use Rattle.std.proofs.lemmas.Bool.Decides.{nat_tests}
 use Rattle.awk_value.specs.declared.value.Value.{Value}
 use Rattle.awk_value.specs.declared.value.Value.TheVariants as value
 use Rattle.awk_value.specs.Values.{truth_of}
-use Rattle.awk_streams.specs.Streams.{AreOpen, AreSound}
+use Rattle.awk_streams.specs.Streams.{AreOpen, IsSoundMain}
 use Rattle.awk_syntax.specs.declared.tree.BinaryOperator.{BinaryOperator}
 use Rattle.awk_syntax.specs.declared.tree.Expr.{Expr as Code}
 use Rattle.awk_syntax.specs.declared.tree.Statement.{Statement as CodeStatement, Row_of-Statement, end_of-Statement, more_of-Statement, items-the_row-Statement}
@@ -197,8 +197,8 @@ reading_falls p q r s = omega (arith, p.does.steps, q.falls, r.steps, s.does.ste
 pub reading_open : {tells : Type 0} {xs : List Item} {text : List ℕ} {m m1 m2 m3 m4 : Machine} {k k1 k4 : Seen} → Follows tells next_record m k m1 k1 (Ok (Some text)) → Spends m1 m2 (Ok tt) → Changes (set_record text) m2 m3 (Ok tt) → TriesAll tells xs m3 k1 m4 k4 (Ok tt) → AreOpen k.is_open m.streams → AreOpen k4.is_open m4.streams
 reading_open {k1 = k1} p q r s stays = s.does.kept_open (subst (λ x. AreOpen k1.is_open x) (sym (r.streams ∙ q.does.streams)) (p.does.kept_open stays))
 
-pub reading_sound : {tells : Type 0} {xs : List Item} {text : List ℕ} {m m1 m2 m3 m4 : Machine} {k k1 k4 : Seen} → Follows tells next_record m k m1 k1 (Ok (Some text)) → Spends m1 m2 (Ok tt) → Changes (set_record text) m2 m3 (Ok tt) → TriesAll tells xs m3 k1 m4 k4 (Ok tt) → tells → AreSound k.is_open k.log m.streams → AreSound k4.is_open k4.log m4.streams
-reading_sound {k1 = k1} p q r s t sound = (s.does.told t).keeps (subst (λ x. AreSound k1.is_open k1.log x) (sym (r.streams ∙ q.does.streams)) ((p.does.told t).keeps sound))
+pub reading_sound : {tells : Type 0} {xs : List Item} {text : List ℕ} {m m1 m2 m3 m4 : Machine} {k k1 k4 : Seen} → Follows tells next_record m k m1 k1 (Ok (Some text)) → Spends m1 m2 (Ok tt) → Changes (set_record text) m2 m3 (Ok tt) → TriesAll tells xs m3 k1 m4 k4 (Ok tt) → tells → IsSoundMain k.log m.streams.main → IsSoundMain k4.log m4.streams.main
+reading_sound {k1 = k1} p q r s t sound = (s.does.told t).keeps_main (subst (λ x. IsSoundMain k1.log x.main) (sym (r.streams ∙ q.does.streams)) ((p.does.told t).keeps_main sound))
 
 pub reads_all : {tells : Type 0} {xs : List Item} {m new : Machine} {k after : Seen} {r : Result (Unit {0}) Halt} → ReadsOn tells xs m k new after r → ReadsAll tells xs m k new after r
 unfolding all_records
@@ -208,6 +208,7 @@ reads_all {m = m} p = record { does = record {
   told = λ t. record {
     grows = ((p.does m.steps (omega arith)).told t).grows;
     keeps = ((p.does m.steps (omega arith)).told t).keeps;
+    keeps_main = ((p.does m.steps (omega arith)).told t).keeps_main;
     means = λ answers s past agrees stands. ((p.does s.steps (omega (arith, stands.steps))).told t).means answers s past agrees stands;
   };
 } }

@@ -50,10 +50,10 @@ show_means : (r : Result (Unit {0}) StreamFault) (bytes : List ℕ) {old new : M
   → IfErr r IsOutputFault → Means old before new after (halted r) (show bytes)
 unfolding show
 show_means (Ok tt) bytes {old = old} {new = new} {before = before} {after = after} beside told fault = record {
-  grows = told.grows; keeps = told.sound;
+  grows = told.grows; keeps = told.sound; keeps_main = told.main;
   means = λ answers s past agrees stands. (refl, shown answers old new before after s past bytes beside told stands) }
-show_means (Err Memory) bytes beside told fault = record { grows = told.grows; keeps = told.sound; means = λ answers s past agrees stands. tt }
-show_means (Err WriteFailed) bytes beside told fault = record { grows = told.grows; keeps = told.sound; means = λ answers s past agrees stands. told.marked }
+show_means (Err Memory) bytes beside told fault = record { grows = told.grows; keeps = told.sound; keeps_main = told.main; means = λ answers s past agrees stands. tt }
+show_means (Err WriteFailed) bytes beside told fault = record { grows = told.grows; keeps = told.sound; keeps_main = told.main; means = λ answers s past agrees stands. told.marked }
 show_means (Err InputNotReadable) bytes beside told fault = absurd (elim fault [ inl e ↦ (cc) | inr e ↦ (cc) ])
 show_means (Err SeparatorTooLong) bytes beside told fault = absurd (elim fault [ inl e ↦ (cc) | inr e ↦ (cc) ])
 show_means (Err RecordTooLong) bytes beside told fault = absurd (elim fault [ inl e ↦ (cc) | inr e ↦ (cc) ])
@@ -92,6 +92,7 @@ unfolding open_standard
 stays_means {m = m} {k = k} is = record {
   grows = grows_refl k.log k.mark;
   keeps = λ sound. sound;
+  keeps_main = λ sound. sound;
   means = λ answers s past agrees stands.
     subst (λ (o : Out (Unit {0})). Comes answers m k (Ok tt) o past) (sym (open_stays answers k.log m.streams.main s.main s is stands.main))
       (refl, subst (λ l. Stands answers m k s l) (sym (append-nil past)) stands);
@@ -133,7 +134,7 @@ opens_means : (r : Result (Unit {0}) StreamFault) {old new : Machine} {before af
   → IfErr r IsOpeningFault → Means old before new after (halted r) open_standard
 unfolding open_standard
 opens_means (Ok tt) {old = old} {new = new} {before = before} {after = after} beside none same told fault = record {
-  grows = told.grows; keeps = told.sound;
+  grows = told.grows; keeps = told.sound; keeps_main = told.main;
   means = λ answers s past agrees stands.
     let given = told.granted answers agrees in
     let no_main = no_rest answers before.log s.main (subst (λ m. IsMainRest answers before.log m s.main) none stands.main) in
@@ -141,7 +142,7 @@ opens_means (Ok tt) {old = old} {new = new} {before = before} {after = after} be
       (refl, opens_stands answers old new before after s (Some given.0) past beside (told.unmarked (λ (e : Ok tt ≡ Err Memory). absurd (cc))) (told.counts (λ (e : Ok tt ≡ Err Memory). absurd (cc))).inputs told.outputs given.2 stands);
 }
 opens_means (Err InputNotReadable) {old = old} {new = new} {before = before} {after = after} beside none same told fault = record {
-  grows = told.grows; keeps = told.sound;
+  grows = told.grows; keeps = told.sound; keeps_main = told.main;
   means = λ answers s past agrees stands.
     let no_main = no_rest answers before.log s.main (subst (λ m. IsMainRest answers before.log m s.main) none stands.main) in
     let still : new.streams.main ≡ None = ap (λ v. v.main) (same refl) ∙ none in
@@ -150,7 +151,7 @@ opens_means (Err InputNotReadable) {old = old} {new = new} {before = before} {af
     subst (λ (o : Out (Unit {0})). Comes answers new after (Err (halt.Fault faults.InputNotReadable)) o past) (sym (opens_as s answers before.log None stands.outside (stands.openings Standard []) no_main (told.refused refl answers agrees)))
       (refl, subst (λ rest. Stands answers new after (record (counted Standard [] s) { main = rest }) (past ++ Demanded (AnOpening Standard []) ∷ [])) (sym no_main) unopened);
 }
-opens_means (Err Memory) beside none same told fault = record { grows = told.grows; keeps = told.sound; means = λ answers s past agrees stands. tt }
+opens_means (Err Memory) beside none same told fault = record { grows = told.grows; keeps = told.sound; keeps_main = told.main; means = λ answers s past agrees stands. tt }
 opens_means (Err WriteFailed) beside none same told fault = absurd (elim fault [ inl e ↦ (cc) | inr e ↦ (cc) ])
 opens_means (Err SeparatorTooLong) beside none same told fault = absurd (elim fault [ inl e ↦ (cc) | inr e ↦ (cc) ])
 opens_means (Err RecordTooLong) beside none same told fault = absurd (elim fault [ inl e ↦ (cc) | inr e ↦ (cc) ])
@@ -222,7 +223,7 @@ asks_means : (r : Result (Option (List ℕ)) StreamFault) {old new : Machine} {b
   → Means old before new after (halted r) take_record
 unfolding take_record
 asks_means r {old = old} {new = new} {before = before} {after = after} beside there kept told = record {
-  grows = told.grows; keeps = λ sound. told.sound;
+  grows = told.grows; keeps = told.sound; keeps_main = λ sound. told.main;
   means = λ answers s past agrees stands. taken_comes s.main old.streams.main answers old new before after r s past beside refl there refl kept told agrees stands stands.main;
 }
 
@@ -230,7 +231,7 @@ asks_by : (r : Result (Option (List ℕ)) StreamFault) {old new : Machine} {befo
   → AsksMain record_separator before.is_open before.log before.mark old.streams r after.is_open after.log after.mark new.streams
   → Means old before new after (halted r) take_record
 asks_by (Ok found) beside there told = asks_means (Ok found) beside there (λ (e : Ok found ≡ Err Memory). absurd (cc)) told
-asks_by (Err Memory) beside there told = record { grows = told.grows; keeps = λ sound. told.sound; means = λ answers s past agrees stands. tt }
+asks_by (Err Memory) beside there told = record { grows = told.grows; keeps = told.sound; keeps_main = λ sound. told.main; means = λ answers s past agrees stands. tt }
 asks_by (Err WriteFailed) beside there told = asks_means (Err WriteFailed) beside there (λ (e : Err WriteFailed ≡ Err Memory). absurd (cc)) told
 asks_by (Err InputNotReadable) beside there told = asks_means (Err InputNotReadable) beside there (λ (e : Err InputNotReadable ≡ Err Memory). absurd (cc)) told
 asks_by (Err SeparatorTooLong) beside there told = asks_means (Err SeparatorTooLong) beside there (λ (e : Err SeparatorTooLong ≡ Err Memory). absurd (cc)) told

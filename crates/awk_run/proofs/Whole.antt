@@ -28,6 +28,9 @@ use Rattle.awk_run.specs.Verdict.{outcome_after, RunsFrom}
 pub start_open : {limit : ℕ} {m : Machine} (is_open : ℕ → Bool) → IsStart limit m → AreOpen is_open m.streams
 start_open is_open start = subst (λ x. IsOpenMain is_open x) (sym start.main) tt
 
+pub start_main : {limit : ℕ} {m : Machine} (l : List log.Event) → IsStart limit m → IsSoundMain l m.streams.main
+start_main l start = subst (λ x. IsSoundMain l x) (sym start.main) tt
+
 -- the log is empty, and in order
 pub start_sound : {limit : ℕ} {m : Machine} (is_open : ℕ → Bool) (l : List log.Event) → IsStart limit m → l ≡ [] → IsInOrder is_open [] → AreSound is_open l m.streams
 start_sound is_open l start empty order = record {
