@@ -1,1 +1,5 @@
 pub mod Refused
+pub mod Words
+pub mod Lexes
+pub mod Steps
+pub mod Told

@@ -1,8 +1,21 @@
 -- Why a text is no program.
-use Rattle.std.specs.Prelude.{◌≡◌}
+use Rattle.std.specs.Prelude.{◌≡◌, ℕ, List, ◌++◌, codes, decimal}
 use Rattle.awk_lex.specs.declared.refusal.Refusal.{Refusal}
-use Rattle.awk_lex.specs.declared.refusal.Code.TheVariants.{OutOfMemory}
+use Rattle.awk_lex.specs.declared.refusal.Code.{Code}
+use Rattle.awk_lex.specs.declared.refusal.Code.TheVariants.{UnexpectedByte, NumberRefused, ProgramTooLong, NotAProgram, NestedTooDeep, OutOfMemory}
 
 -- a refused request for memory
 abbrev pub IsOutOfMemory : Refusal → Type 0
 IsOutOfMemory r = r.code ≡ OutOfMemory
+
+-- how a code is shown
+abbrev pub code_text : Code → List ℕ
+code_text UnexpectedByte = codes "L1: unexpected byte"
+code_text NumberRefused = codes "L5: number refused"
+code_text ProgramTooLong = codes "L6: program too long"
+code_text NotAProgram = codes "S1: not a program"
+code_text NestedTooDeep = codes "S2: nested too deep"
+code_text OutOfMemory = codes "M0: out of memory"
+
+abbrev pub refusal_text : Refusal → List ℕ
+refusal_text r = codes "line " ++ (decimal r.line ++ (codes ": refusal " ++ code_text r.code))

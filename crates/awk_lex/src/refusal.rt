@@ -1,8 +1,10 @@
 // Why a text is no program.
 
-ghost use Rattle.awk_lex.specs.Refused.{IsOutOfMemory};
+ghost use Rattle.std.specs.Prelude.{Some};
+ghost use Rattle.awk_lex.specs.Refused.{IsOutOfMemory, code_text, refusal_text};
 
 use std::alloc::{AllocError, AllocFailed};
+use std::fmt;
 
 /// Why a text is no program.
 #[derive(Clone, Copy, Debug, PartialEq, Eq)]
@@ -21,6 +23,22 @@ pub enum Code {
     OutOfMemory,
 }
 
+impl fmt::Display for Code {
+    ghost output = { λ code. Some (code_text code) };
+
+    /// The code and its text, such as `L1: unexpected byte`.
+    fn fmt<W: fmt::Write>(&self, f: &mut fmt::Formatter<W>) -> fmt::Result {
+        match self {
+            Code::UnexpectedByte => write!(f, "L1: unexpected byte"),
+            Code::NumberRefused => write!(f, "L5: number refused"),
+            Code::ProgramTooLong => write!(f, "L6: program too long"),
+            Code::NotAProgram => write!(f, "S1: not a program"),
+            Code::NestedTooDeep => write!(f, "S2: nested too deep"),
+            Code::OutOfMemory => write!(f, "M0: out of memory"),
+        }
+    }
+}
+
 /// A refused text: why, and on which line (from 1).
 #[derive(Clone, Copy, Debug, PartialEq, Eq)]
 pub struct Refusal {
@@ -28,14 +46,27 @@ pub struct Refusal {
     pub line: u64,
 }
 
+const OUT_OF_MEMORY: Refusal = Refusal {
+    code: Code::OutOfMemory,
+    line: 1,
+};
+
+impl fmt::Display for Refusal {
+    ghost output = { λ refusal. Some (refusal_text refusal) };
+
+    /// The line, the code and its text, such as `line 3: refusal L1: unexpected byte`.
+    fn fmt<W: fmt::Write>(&self, f: &mut fmt::Formatter<W>) -> fmt::Result {
+        let line = self.line;
+        let code = self.code;
+        write!(f, "line {line}: refusal {code}")
+    }
+}
+
 impl From<AllocError> for Refusal {
     ghost from_gives = { λ _ r. IsOutOfMemory r };
 
     fn from(_error: AllocError) -> Refusal {
-        Refusal {
-            code: Code::OutOfMemory,
-            line: 1,
-        }
+        OUT_OF_MEMORY
     }
 }
 
@@ -43,9 +74,6 @@ impl<T: Drop> From<AllocFailed<T>> for Refusal {
     ghost from_gives = { λ _ r. IsOutOfMemory r };
 
     fn from(_error: AllocFailed<T>) -> Refusal {
-        Refusal {
-            code: Code::OutOfMemory,
-            line: 1,
-        }
+        OUT_OF_MEMORY
     }
 }

@@ -1,8 +1,8 @@
 -- The first place of a word, by the searches that look for it.
-use Rattle.std.proofs.Common.{◌≡◌, ◌≢◌, inl, inr, ℕ, zero, suc, ◌+◌, ◌-◌, ◌<◌, ◌≤◌, true, false, ◌==◌, ◌&&◌, List, [], ◌∷◌, length, take, drop, get_or, Option, Some, None, refl, sym, ◌∙◌, ap, subst, arith, nat_lt}
-use Rattle.std.proofs.lemmas.Bool.{cases_Bool, cases_lt, cases_eq, cond-true, cond-false, eqb-true, eq-eqb, false≢true}
+use Rattle.std.proofs.Common.{◌≡◌, ◌≢◌, inl, inr, ℕ, zero, suc, ◌+◌, ◌-◌, ◌<◌, ◌≤◌, true, false, ◌==◌, ◌&&◌, List, [], ◌∷◌, length, take, drop, get_or, Option, Some, None, refl, sym, ◌∙◌, ap, arith, nat_lt}
+use Rattle.std.proofs.lemmas.Bool.{cases_Bool, cases_lt, cond-true, cond-false, eqb-true, eq-eqb, false≢true}
 use Rattle.std.proofs.lemmas.Bool.Decides.{nat_tests}
-use Rattle.std.proofs.lemmas.List.{at_drop_more, get_or-drop, length-drop, drop-drop}
+use Rattle.std.proofs.lemmas.List.{at_drop_more, get_or-drop, length-drop}
 use Rattle.memchr.specs.Find.{IsFirstByte, FindsNeedle, OccursAt, is_byte}
 use Rattle.awk_record.specs.Cut.{Ending, Found, BrokenOff, TooLong, longest, begins_with, one_later, first_at, cut_at, cut_of}
 use Rattle.awk_record.specs.Place.{IsNotAmong}
@@ -28,10 +28,10 @@ first_at_some word (b ∷ bytes) (suc i) lt fails holds =
 one_byte : (c : ℕ) (bytes : List ℕ) (k : ℕ) → k < length bytes → begins_with (c ∷ []) (drop k bytes) ≡ ((get_or bytes k 0 == c) && true)
 one_byte c bytes k lt = at_drop_more (begins_with (c ∷ [])) bytes k 0 lt
 
-byte_fails : (c : ℕ) (bytes : List ℕ) (k : ℕ) → k < length bytes → get_or bytes k 0 ≢ c → begins_with (c ∷ []) (drop k bytes) ≡ false
+pub byte_fails : (c : ℕ) (bytes : List ℕ) (k : ℕ) → k < length bytes → get_or bytes k 0 ≢ c → begins_with (c ∷ []) (drop k bytes) ≡ false
 byte_fails c bytes k lt other = one_byte c bytes k lt ∙ grind (arith, nat_tests)
 
-byte_holds : (c : ℕ) (bytes : List ℕ) (k : ℕ) → k < length bytes → get_or bytes k 0 ≡ c → begins_with (c ∷ []) (drop k bytes) ≡ true
+pub byte_holds : (c : ℕ) (bytes : List ℕ) (k : ℕ) → k < length bytes → get_or bytes k 0 ≡ c → begins_with (c ∷ []) (drop k bytes) ≡ true
 byte_holds c bytes k lt same = one_byte c bytes k lt ∙ grind (arith, nat_tests)
 
 -- a search from the n-th byte on reaches each byte

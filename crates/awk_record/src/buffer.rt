@@ -146,7 +146,7 @@ impl RecordBuffer {
     /// separate. After `End` or `Broken` no bytes are left. An `Err` changes
     /// nothing.
     pub fn next(&mut self, separator: &[u8]) -> Result<Step, RecordFault>
-        ensures steps { (result ≡ Err RecordFault.Memory → ⊥) → Steps separator.now self.old result self.new }
+        ensures steps { result ≢ Err RecordFault.Memory → Steps separator.now self.old result self.new }
         ensures memory { result ≡ Err RecordFault.Memory → self.new ≡ self.old }
         ensures ending { self.new.ending ≡ self.old.ending }
         ensures short { result ≡ Ok Step.NeedMore → length self.old.bytes ≤ longest }

@@ -39,7 +39,8 @@ fn trimmed_len(bytes: &[u8]) -> usize
 // Where the cut lies that found no separator behind the skipped bytes.
 fn place_unfinished(skipped: usize, trims: bool, held: &[u8], at_end: bool) -> Place
     requires { skipped ≤ length held.now }
-    ensures value { cut_placed result held.now ≡ limited (length held.now) (unfinished (trim_if trims) (drop skipped held.now) (end_if at_end)) }
+    ensures value { cut_placed result held.now
+        ≡ limited (length held.now) (unfinished (trim_if trims) (drop skipped held.now) (end_if at_end)) }
     ensures within { IsWithin (length held.now) result }
     ensures short { result ≡ Place.Unfinished → length held.now ≤ longest }
 {

@@ -21,7 +21,9 @@ impl Search {
 
     /// A search for this separator that found none among so many bytes.
     pub fn of(separator: &[u8], searched: usize) -> Search
-        ensures none { (bytes : List ℕ) → ((c : ℕ) → separator.now ≡ c ∷ [] → IsNotAmong c searched bytes) → IsNotAmong result.byte result.searched bytes }
+        ensures none { (bytes : List ℕ) →
+            ((c : ℕ) → separator.now ≡ c ∷ [] → IsNotAmong c searched bytes) →
+            IsNotAmong result.byte result.searched bytes }
         ensures within { result.searched ≤ searched }
     {
         match separator {
@@ -35,7 +37,9 @@ impl Search {
 
     /// How many bytes need no further search for this separator.
     pub fn searched_for(self, separator: &[u8]) -> usize
-        ensures none { (bytes : List ℕ) (c : ℕ) → IsNotAmong self.byte self.searched bytes → separator.now ≡ c ∷ [] → IsNotAmong c result bytes }
+        ensures none { (bytes : List ℕ) (c : ℕ) →
+            IsNotAmong self.byte self.searched bytes → separator.now ≡ c ∷ [] →
+            IsNotAmong c result bytes }
         ensures within { result ≤ self.searched }
     {
         match separator {

@@ -2,7 +2,7 @@
 use Rattle.std.proofs.Common.{◌≡◌, ℕ, ◌≤◌, Bool, true, List, [], ◌∷◌, ◌++◌, Option, None, Result, Ok, Err, refl, sym, ap, ◌∙◌, subst, append_assoc, append-nil, arith}
 use Rattle.awk_streams.specs.Log as log
 use Rattle.awk_streams.specs.Answers.{Answers, Agrees}
-use Rattle.awk_streams.specs.Streams.{StreamsView, AreOpen, AreSound, Grows, IsMainRest}
+use Rattle.awk_streams.specs.Streams.{StreamsView, AreOpen, AreSound, IsSoundMain, Grows, IsMainRest}
 use Rattle.awk_run.specs.declared.machine.Machine.{Machine}
 use Rattle.awk_run.specs.declared.halt.Halt.{Halt}
 use Rattle.awk_run.specs.declared.halt.Halt.TheVariants as halt
@@ -46,6 +46,7 @@ unfolding ◌>>=◌
 then_means {new = new} {after = after} {a = a} {r = r} {run = run} f x y = record {
   grows = grows_trans x.grows y.grows;
   keeps = λ sound. y.keeps (x.keeps sound);
+  keeps_main = λ sound. y.keeps_main (x.keeps_main sound);
   means = λ answers s past agrees stands.
     let c = x.means answers s past (y.grows.agrees answers agrees) stands in
     bound_ok answers new after r past f a (run s).result (run s).state (run s).events c.0
@@ -58,6 +59,7 @@ unfolding ◌>>=◌
 ends_means {new = new} {after = after} {h = h} {run = run} f x = record {
   grows = x.grows;
   keeps = x.keeps;
+  keeps_main = x.keeps_main;
   means = λ answers s past agrees stands.
     err_on answers new after (sort_of h) past f (run s).result (run s).state (run s).events (x.means answers s past agrees stands);
 }
@@ -67,6 +69,7 @@ pub memory_means : {A : Type 0} (m : Machine) (k : Seen) (run : Run A) → Means
 memory_means m k run = record {
   grows = grows_refl k.log k.mark;
   keeps = λ sound. sound;
+  keeps_main = λ sound. sound;
   means = λ answers s past agrees stands. tt;
 }
 
@@ -88,6 +91,7 @@ unfolding lift
 lift_means {c = c} r m k e = record {
   grows = grows_refl k.log k.mark;
   keeps = λ sound. sound;
+  keeps_main = λ sound. sound;
   means = λ answers s past agrees stands. lifted answers m k c r s past e stands;
 }
 
@@ -132,11 +136,14 @@ lift_changes r m e = record { steps = omega arith; streams = refl; means = λ k.
 sound_same : (k : Seen) (old new : StreamsView) → new ≡ old → AreSound k.is_open k.log old → AreSound k.is_open k.log new
 sound_same k old new same sound = subst (λ s. AreSound k.is_open k.log s) (sym same) sound
 
+main_same : (k : Seen) (old new : StreamsView) → new ≡ old → IsSoundMain k.log old.main → IsSoundMain k.log new.main
+main_same k old new same sound = subst (λ s. IsSoundMain k.log s.main) (sym same) sound
+
 pub memory_changes : {A : Type 0} (run : Run A) {old new : Machine} → new.streams ≡ old.streams → new.steps ≤ old.steps → Changes run old new (Err (halt.Fault OutOfMemory))
 memory_changes run same low = record {
   steps = low;
   streams = same;
-  means = λ k. record { grows = grows_refl k.log k.mark; keeps = sound_same k _ _ same; means = λ answers s past agrees stands. tt };
+  means = λ k. record { grows = grows_refl k.log k.mark; keeps = sound_same k _ _ same; keeps_main = main_same k _ _ same; means = λ answers s past agrees stands. tt };
 }
 
 stands_same : {answers : Answers} {old new : Machine} {k : Seen} {s : State} {past : List Event} → SameState old new → Stands answers old k s past → Stands answers new k s past
@@ -159,6 +166,7 @@ reads_changes {c = c} {old = old} {new = new} run r is same e = record {
   means = λ k. record {
     grows = grows_refl k.log k.mark;
     keeps = sound_same k _ _ same.streams;
+    keeps_main = main_same k _ _ same.streams;
     means = λ answers s past agrees stands. subst (λ (o : Out _). Comes answers new k c o past) (sym (is s)) (lifted answers new k c (r s) s past (e s stands.current) (stands_same same stands));
   };
 }
@@ -171,6 +179,7 @@ record_changes text {old = old} {new = new} is same still = record {
   means = λ k. record {
     grows = grows_refl k.log k.mark;
     keeps = sound_same k _ _ same;
+    keeps_main = main_same k _ _ same;
     means = λ answers s past agrees stands. (refl, record {
       clear = stands.clear;
       outside = stands.outside;

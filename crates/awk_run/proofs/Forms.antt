@@ -5,12 +5,13 @@ use Rattle.std.proofs.lemmas.Bool.Decides.{nat_tests}
 use Rattle.awk_value.specs.declared.value.Value.{Value}
 use Rattle.awk_value.specs.declared.value.Value.TheVariants as value
 use Rattle.awk_value.specs.Values.{truth_of}
+use Rattle.awk_streams.specs.Streams.{AreOpen, IsSoundMain}
 use Rattle.awk_syntax.specs.declared.tree.BinaryOperator.{BinaryOperator}
 use Rattle.awk_syntax.specs.declared.tree.Expr.{Expr as Code}
-use Rattle.awk_syntax.specs.declared.tree.Statement.{Statement as CodeStatement}
+use Rattle.awk_syntax.specs.declared.tree.Statement.{Statement as CodeStatement, Row_of-Statement, end_of-Statement, more_of-Statement, items-the_row-Statement}
 use Rattle.awk_syntax.specs.declared.tree.Item.{Item as CodeItem}
 use Rattle.awk_syntax.specs.Tree.{Expr, Number, Field, Binary, Exprs, Nil, Cons, Statement, Block, Print, Statements, NoMore, Then, Item, Always, Rule}
-use Rattle.awk_syntax.specs.View.{expr_of, exprs_of, statement_of, statements_of, item_of, items_of}
+use Rattle.awk_syntax.specs.View.{expr_of, exprs_of, statement_of, statements_of, statements_of_row, item_of, items_of}
 use Rattle.awk_run.specs.declared.machine.Machine.{Machine}
 use Rattle.awk_run.specs.declared.halt.Halt.{Halt}
 use Rattle.awk_run.specs.declared.halt.Halt.TheVariants as halt
@@ -193,6 +194,12 @@ reading_goes p q r s t = record { does = λ n low. goes_at n p q r s t low }
 pub reading_falls : {tells : Type 0} {xs : List Item} {text : List ℕ} {m m1 m2 m3 m4 : Machine} {k k1 k4 : Seen} → Follows tells next_record m k m1 k1 (Ok (Some text)) → Spends m1 m2 (Ok tt) → Changes (set_record text) m2 m3 (Ok tt) → TriesAll tells xs m3 k1 m4 k4 (Ok tt) → m4.steps < m.steps
 reading_falls p q r s = omega (arith, p.does.steps, q.falls, r.steps, s.does.steps)
 
+pub reading_open : {tells : Type 0} {xs : List Item} {text : List ℕ} {m m1 m2 m3 m4 : Machine} {k k1 k4 : Seen} → Follows tells next_record m k m1 k1 (Ok (Some text)) → Spends m1 m2 (Ok tt) → Changes (set_record text) m2 m3 (Ok tt) → TriesAll tells xs m3 k1 m4 k4 (Ok tt) → AreOpen k.is_open m.streams → AreOpen k4.is_open m4.streams
+reading_open {k1 = k1} p q r s stays = s.does.kept_open (subst (λ x. AreOpen k1.is_open x) (sym (r.streams ∙ q.does.streams)) (p.does.kept_open stays))
+
+pub reading_sound : {tells : Type 0} {xs : List Item} {text : List ℕ} {m m1 m2 m3 m4 : Machine} {k k1 k4 : Seen} → Follows tells next_record m k m1 k1 (Ok (Some text)) → Spends m1 m2 (Ok tt) → Changes (set_record text) m2 m3 (Ok tt) → TriesAll tells xs m3 k1 m4 k4 (Ok tt) → tells → IsSoundMain k.log m.streams.main → IsSoundMain k4.log m4.streams.main
+reading_sound {k1 = k1} p q r s t sound = (s.does.told t).keeps_main (subst (λ x. IsSoundMain k1.log x.main) (sym (r.streams ∙ q.does.streams)) ((p.does.told t).keeps_main sound))
+
 pub reads_all : {tells : Type 0} {xs : List Item} {m new : Machine} {k after : Seen} {r : Result (Unit {0}) Halt} → ReadsOn tells xs m k new after r → ReadsAll tells xs m k new after r
 unfolding all_records
 reads_all {m = m} p = record { does = record {
@@ -201,6 +208,7 @@ reads_all {m = m} p = record { does = record {
   told = λ t. record {
     grows = ((p.does m.steps (omega arith)).told t).grows;
     keeps = ((p.does m.steps (omega arith)).told t).keeps;
+    keeps_main = ((p.does m.steps (omega arith)).told t).keeps_main;
     means = λ answers s past agrees stands. ((p.does s.steps (omega (arith, stands.steps))).told t).means answers s past agrees stands;
   };
 } }
@@ -212,6 +220,14 @@ runs_none {m = m} {k = k} = record { does = lift_does _ m k refl }
 pub runs_some : {tells : Type 0} {x : Item} {xs : List Item} {m new : Machine} {k after : Seen} {r : Result (Unit {0}) Halt} → ReadsAll tells (x ∷ xs) m k new after r → RunsItems tells (x ∷ xs) m k new after r
 unfolding run_items
 runs_some p = record { does = p.does }
+
+pub runs_any : (items : List CodeItem) {tells : Type 0} {m new : Machine} {k after : Seen} {r : Result (Unit {0}) Halt} → (length items == 0) ≡ false → ReadsAll tells (items_of items) m k new after r → RunsItems tells (items_of items) m k new after r
+runs_any [] e p = absurd (cc)
+runs_any (x ∷ items) e p = runs_some p
+
+pub items_of_none : (items : List CodeItem) → (length items == 0) ≡ true → items_of items ≡ []
+items_of_none [] e = refl
+items_of_none (x ∷ items) e = absurd (grind (arith, nat_tests))
 
 -- lists of code, from a place on
 
@@ -232,3 +248,9 @@ item_at es i e low is = rw (add-one, drop-cons es i e) (ap (λ x. item_of x ∷ 
 
 pub items_over : (es : List CodeItem) (i : ℕ) → length es ≤ i → items_of (drop i es) ≡ []
 items_over es i low = ap items_of (drop_all i es low)
+
+-- a block of code, as a block of the definitions
+
+pub row_of_statements : (n : _) (all : Row_of-Statement n) → statements_of_row all ≡ statements_of (items-the_row-Statement n all)
+row_of_statements n end_of-Statement = refl
+row_of_statements n (more_of-Statement s rest) = ap (λ x. Then (statement_of s) x) (row_of_statements _ rest)

@@ -1,5 +1,5 @@
 -- What the calls of the streams do to the state of a run.
-use Rattle.std.proofs.Common.{◌≡◌, ◌≢◌, ℕ, ◌+◌, ◌≤◌, Bool, true, false, ◌&&◌, List, [], ◌∷◌, ◌++◌, Option, Some, None, is_some, Result, Ok, Err, refl, sym, ap, ◌∙◌, subst, append-nil, arith}
+use Rattle.std.proofs.Common.{◌≡◌, ◌≢◌, ℕ, ◌+◌, ◌≤◌, Bool, true, false, ◌&&◌, List, [], ◌∷◌, ◌++◌, Option, Some, None, is_some, Result, Ok, Err, IfErr, ◌⊎◌, inl, inr, refl, sym, ap, ◌∙◌, subst, append-nil, arith}
 use Rattle.std.specs.Prelude.{bytes_eq}
 use Rattle.awk_record.specs.Cut.{Ending, Cut, Found, NoMore, BrokenOff, TooLong, BadSeparator, cut_of}
 use Rattle.awk_streams.specs.declared.world.InputKind.{InputKind}
@@ -10,11 +10,12 @@ use Rattle.awk_streams.specs.Log as log
 use Rattle.awk_streams.specs.Answers.{Answers, Source, Agrees, one_if, same_input, how_many, opens_input}
 use Rattle.awk_streams.specs.Writes.{received}
 use Rattle.awk_streams.specs.Told.{NextTold}
-use Rattle.awk_streams.specs.Streams.{StreamsView, InputView, AreOpen, AreSound, Grows, IsMainRest, OpensMain, AsksMain, Prints}
+use Rattle.awk_streams.specs.Streams.{StreamsView, InputView, AreOpen, AreSound, Grows, IsMainRest, IsFreshMain, OpensMain, AsksMain, Prints}
+use Rattle.awk_streams.specs.Outputs.{IsOutputFault}
 use Rattle.awk_run.specs.declared.machine.Machine.{Machine}
 use Rattle.awk_run.specs.declared.halt.Halt.{Halt}
 use Rattle.awk_run.specs.declared.halt.Halt.TheVariants as halt
-use Rattle.awk_run.specs.declared.outcome.Fault.TheVariants as fault
+use Rattle.awk_run.specs.declared.outcome.Fault.TheVariants as faults
 use Rattle.awk_run.specs.State.{Output, StandardOutput, StandardError, Demand, AnOpening, ARecord, Event, Printed, Demanded, Stop, Faulted, OutOfSteps, State, Out, Run, ◌>>=◌, lift}
 use Rattle.awk_run.specs.Words.{record_separator, show, one_more, counted, opened, open_main, with_rest, taken, taken_of, take_record, open_of, open_standard}
 use Rattle.awk_run.specs.Effect.{next_record}
@@ -46,30 +47,38 @@ shown answers old new before after s past bytes beside told stands = record {
 
 show_means : (r : Result (Unit {0}) StreamFault) (bytes : List ℕ) {old new : Machine} {before after : Seen} → Beside old new
   → Prints bytes before.is_open before.log before.mark old.streams r after.is_open after.log after.mark new.streams
-  → r ≢ Err InputNotReadable → r ≢ Err SeparatorTooLong → r ≢ Err RecordTooLong
-  → Means old before new after (halted r) (show bytes)
+  → IfErr r IsOutputFault → Means old before new after (halted r) (show bytes)
 unfolding show
-show_means (Ok tt) bytes {old = old} {new = new} {before = before} {after = after} beside told x y z = record {
-  grows = told.grows; keeps = told.sound;
+show_means (Ok tt) bytes {old = old} {new = new} {before = before} {after = after} beside told fault = record {
+  grows = told.grows; keeps = told.sound; keeps_main = told.main;
   means = λ answers s past agrees stands. (refl, shown answers old new before after s past bytes beside told stands) }
-show_means (Err Memory) bytes beside told x y z = record { grows = told.grows; keeps = told.sound; means = λ answers s past agrees stands. tt }
-show_means (Err WriteFailed) bytes beside told x y z = record { grows = told.grows; keeps = told.sound; means = λ answers s past agrees stands. told.marked }
-show_means (Err InputNotReadable) bytes beside told x y z = absurd (x refl)
-show_means (Err SeparatorTooLong) bytes beside told x y z = absurd (y refl)
-show_means (Err RecordTooLong) bytes beside told x y z = absurd (z refl)
+show_means (Err Memory) bytes beside told fault = record { grows = told.grows; keeps = told.sound; keeps_main = told.main; means = λ answers s past agrees stands. tt }
+show_means (Err WriteFailed) bytes beside told fault = record { grows = told.grows; keeps = told.sound; keeps_main = told.main; means = λ answers s past agrees stands. told.marked }
+show_means (Err InputNotReadable) bytes beside told fault = absurd (elim fault [ inl e ↦ (cc) | inr e ↦ (cc) ])
+show_means (Err SeparatorTooLong) bytes beside told fault = absurd (elim fault [ inl e ↦ (cc) | inr e ↦ (cc) ])
+show_means (Err RecordTooLong) bytes beside told fault = absurd (elim fault [ inl e ↦ (cc) | inr e ↦ (cc) ])
 
 pub show_follows : {tells : Type 0} (r : Result (Unit {0}) StreamFault) (bytes : List ℕ) {old new : Machine} {before after : Seen} → Beside old new
   → (AreOpen before.is_open old.streams → AreOpen after.is_open new.streams)
   → (tells → Prints bytes before.is_open before.log before.mark old.streams r after.is_open after.log after.mark new.streams)
-  → r ≢ Err InputNotReadable → r ≢ Err SeparatorTooLong → r ≢ Err RecordTooLong
-  → Follows tells (show bytes) old before new after (halted r)
-show_follows r bytes beside stays told x y z = record { does = record {
+  → IfErr r IsOutputFault → Follows tells (show bytes) old before new after (halted r)
+show_follows r bytes beside stays told fault = record { does = record {
   steps = omega (arith, beside.steps);
   kept_open = stays;
-  told = λ t. show_means r bytes beside (told t) x y z;
+  told = λ t. show_means r bytes beside (told t) fault;
 } }
 
 -- opening the main input
+
+abbrev pub IsOpeningFault : StreamFault → Type 0
+IsOpeningFault e = (e ≡ Memory) ⊎ (e ≡ InputNotReadable)
+
+pub none_of : (o : Option InputView) → is_some o ≡ false → o ≡ None
+none_of None e = refl
+none_of (Some v) e = absurd (cc)
+
+pub fresh_some : (o : Option InputView) → IsFreshMain o → is_some o ≡ true
+fresh_some o fresh = ap is_some fresh.1
 
 -- the model has a main input exactly where the code has one
 open_stays : (a : Answers) (l : List log.Event) (main : Option InputView) (rest : Option Source) (s : State) → is_some main ≡ true → IsMainRest a l main rest → open_of rest s ≡ record { result = Ok tt; state = s; events = [] }
@@ -83,6 +92,7 @@ unfolding open_standard
 stays_means {m = m} {k = k} is = record {
   grows = grows_refl k.log k.mark;
   keeps = λ sound. sound;
+  keeps_main = λ sound. sound;
   means = λ answers s past agrees stands.
     subst (λ (o : Out (Unit {0})). Comes answers m k (Ok tt) o past) (sym (open_stays answers k.log m.streams.main s.main s is stands.main))
       (refl, subst (λ l. Stands answers m k s l) (sym (append-nil past)) stands);
@@ -121,42 +131,40 @@ opens_as s answers l given outside count none is =
 opens_means : (r : Result (Unit {0}) StreamFault) {old new : Machine} {before after : Seen} → Beside old new → old.streams.main ≡ None
   → (r ≡ Err InputNotReadable → new.streams ≡ old.streams)
   → OpensMain Standard [] before.is_open before.log before.mark old.streams r after.is_open after.log after.mark new.streams
-  → r ≢ Err WriteFailed → r ≢ Err SeparatorTooLong → r ≢ Err RecordTooLong
-  → Means old before new after (halted r) open_standard
+  → IfErr r IsOpeningFault → Means old before new after (halted r) open_standard
 unfolding open_standard
-opens_means (Ok tt) {old = old} {new = new} {before = before} {after = after} beside none same told x y z = record {
-  grows = told.grows; keeps = told.sound;
+opens_means (Ok tt) {old = old} {new = new} {before = before} {after = after} beside none same told fault = record {
+  grows = told.grows; keeps = told.sound; keeps_main = told.main;
   means = λ answers s past agrees stands.
     let given = told.granted answers agrees in
     let no_main = no_rest answers before.log s.main (subst (λ m. IsMainRest answers before.log m s.main) none stands.main) in
     subst (λ (o : Out (Unit {0})). Comes answers new after (Ok tt) o past) (sym (opens_as s answers before.log (Some given.0) stands.outside (stands.openings Standard []) no_main given.1))
       (refl, opens_stands answers old new before after s (Some given.0) past beside (told.unmarked (λ (e : Ok tt ≡ Err Memory). absurd (cc))) (told.counts (λ (e : Ok tt ≡ Err Memory). absurd (cc))).inputs told.outputs given.2 stands);
 }
-opens_means (Err InputNotReadable) {old = old} {new = new} {before = before} {after = after} beside none same told x y z = record {
-  grows = told.grows; keeps = told.sound;
+opens_means (Err InputNotReadable) {old = old} {new = new} {before = before} {after = after} beside none same told fault = record {
+  grows = told.grows; keeps = told.sound; keeps_main = told.main;
   means = λ answers s past agrees stands.
     let no_main = no_rest answers before.log s.main (subst (λ m. IsMainRest answers before.log m s.main) none stands.main) in
     let still : new.streams.main ≡ None = ap (λ v. v.main) (same refl) ∙ none in
     let closed : IsMainRest answers after.log new.streams.main None = subst (λ m. IsMainRest answers after.log m None) (sym still) tt in
     let unopened = opens_stands answers old new before after s None past beside (told.unmarked (λ (e : Err InputNotReadable ≡ Err Memory). absurd (cc))) (told.counts (λ (e : Err InputNotReadable ≡ Err Memory). absurd (cc))).inputs told.outputs closed stands in
-    subst (λ (o : Out (Unit {0})). Comes answers new after (Err (halt.Fault fault.InputNotReadable)) o past) (sym (opens_as s answers before.log None stands.outside (stands.openings Standard []) no_main (told.refused refl answers agrees)))
+    subst (λ (o : Out (Unit {0})). Comes answers new after (Err (halt.Fault faults.InputNotReadable)) o past) (sym (opens_as s answers before.log None stands.outside (stands.openings Standard []) no_main (told.refused refl answers agrees)))
       (refl, subst (λ rest. Stands answers new after (record (counted Standard [] s) { main = rest }) (past ++ Demanded (AnOpening Standard []) ∷ [])) (sym no_main) unopened);
 }
-opens_means (Err Memory) beside none same told x y z = record { grows = told.grows; keeps = told.sound; means = λ answers s past agrees stands. tt }
-opens_means (Err WriteFailed) beside none same told x y z = absurd (x refl)
-opens_means (Err SeparatorTooLong) beside none same told x y z = absurd (y refl)
-opens_means (Err RecordTooLong) beside none same told x y z = absurd (z refl)
+opens_means (Err Memory) beside none same told fault = record { grows = told.grows; keeps = told.sound; keeps_main = told.main; means = λ answers s past agrees stands. tt }
+opens_means (Err WriteFailed) beside none same told fault = absurd (elim fault [ inl e ↦ (cc) | inr e ↦ (cc) ])
+opens_means (Err SeparatorTooLong) beside none same told fault = absurd (elim fault [ inl e ↦ (cc) | inr e ↦ (cc) ])
+opens_means (Err RecordTooLong) beside none same told fault = absurd (elim fault [ inl e ↦ (cc) | inr e ↦ (cc) ])
 
 pub opens_does : {tells : Type 0} (r : Result (Unit {0}) StreamFault) {old new : Machine} {before after : Seen} → Beside old new → old.streams.main ≡ None
   → (r ≡ Err InputNotReadable → new.streams ≡ old.streams)
   → (AreOpen before.is_open old.streams → AreOpen after.is_open new.streams)
   → (tells → OpensMain Standard [] before.is_open before.log before.mark old.streams r after.is_open after.log after.mark new.streams)
-  → r ≢ Err WriteFailed → r ≢ Err SeparatorTooLong → r ≢ Err RecordTooLong
-  → Does tells old before new after (halted r) open_standard
-opens_does r beside none same stays told x y z = record {
+  → IfErr r IsOpeningFault → Does tells old before new after (halted r) open_standard
+opens_does r beside none same stays told fault = record {
   steps = omega (arith, beside.steps);
   kept_open = stays;
-  told = λ t. opens_means r beside none same (told t) x y z;
+  told = λ t. opens_means r beside none same (told t) fault;
 }
 
 -- asking for a record
@@ -215,7 +223,7 @@ asks_means : (r : Result (Option (List ℕ)) StreamFault) {old new : Machine} {b
   → Means old before new after (halted r) take_record
 unfolding take_record
 asks_means r {old = old} {new = new} {before = before} {after = after} beside there kept told = record {
-  grows = told.grows; keeps = λ sound. told.sound;
+  grows = told.grows; keeps = told.sound; keeps_main = λ sound. told.main;
   means = λ answers s past agrees stands. taken_comes s.main old.streams.main answers old new before after r s past beside refl there refl kept told agrees stands stands.main;
 }
 
@@ -223,7 +231,7 @@ asks_by : (r : Result (Option (List ℕ)) StreamFault) {old new : Machine} {befo
   → AsksMain record_separator before.is_open before.log before.mark old.streams r after.is_open after.log after.mark new.streams
   → Means old before new after (halted r) take_record
 asks_by (Ok found) beside there told = asks_means (Ok found) beside there (λ (e : Ok found ≡ Err Memory). absurd (cc)) told
-asks_by (Err Memory) beside there told = record { grows = told.grows; keeps = λ sound. told.sound; means = λ answers s past agrees stands. tt }
+asks_by (Err Memory) beside there told = record { grows = told.grows; keeps = told.sound; keeps_main = λ sound. told.main; means = λ answers s past agrees stands. tt }
 asks_by (Err WriteFailed) beside there told = asks_means (Err WriteFailed) beside there (λ (e : Err WriteFailed ≡ Err Memory). absurd (cc)) told
 asks_by (Err InputNotReadable) beside there told = asks_means (Err InputNotReadable) beside there (λ (e : Err InputNotReadable ≡ Err Memory). absurd (cc)) told
 asks_by (Err SeparatorTooLong) beside there told = asks_means (Err SeparatorTooLong) beside there (λ (e : Err SeparatorTooLong ≡ Err Memory). absurd (cc)) told

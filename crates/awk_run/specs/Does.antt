@@ -7,7 +7,7 @@ use Rattle.awk_streams.specs.declared.fault.StreamFault.{StreamFault}
 use Rattle.awk_streams.specs.Log as log
 use Rattle.awk_streams.specs.Answers.{Answers, Agrees, how_many, opens_input}
 use Rattle.awk_streams.specs.Writes.{received}
-use Rattle.awk_streams.specs.Streams.{AreOpen, AreSound, Grows, IsMainRest}
+use Rattle.awk_streams.specs.Streams.{AreOpen, AreSound, IsSoundMain, Grows, IsMainRest}
 use Rattle.awk_syntax.specs.Tree.{Expr, Exprs, Statement, Statements, Item}
 use Rattle.awk_run.specs.declared.machine.Machine.{Machine}
 use Rattle.awk_run.specs.declared.halt.Halt.{Halt}
@@ -76,6 +76,7 @@ Comes answers m k (Err h) o past = ComesBy answers m k (sort_of h) o past
 pub record Means {A : Type 0} (old : Machine) (before : Seen) (new : Machine) (after : Seen) (r : Result A Halt) (run : Run A) : Type 0 where
   pub grows : Grows before.log before.mark after.log after.mark
   pub keeps : AreSound before.is_open before.log old.streams → AreSound after.is_open after.log new.streams
+  pub keeps_main : IsSoundMain before.log old.streams.main → IsSoundMain after.log new.streams.main
   pub means : (answers : Answers) (s : State) (past : List Event) → Agrees answers after.log → Stands answers old before s past → Comes answers new after r (run s) past
 
 -- the same of any world, of which it holds where the world tells

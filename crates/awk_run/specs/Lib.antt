@@ -1,4 +1,7 @@
 pub mod Outcome
+pub mod Start
+pub mod Kinds
+pub mod Accepted
 pub mod State
 pub mod Operators
 pub mod Words
@@ -6,3 +9,5 @@ pub mod Effect
 pub mod Meaning
 pub mod Limits
 pub mod Does
+pub mod Headline
+pub mod Verdict

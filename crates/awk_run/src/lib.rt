@@ -1,14 +1,16 @@
-//! The run of a program.
+//! The run of a program: from a text and a world to the bytes on the outputs and an outcome.
 #![tactic(auto)]
-
 
 mod expressions;
 mod halt;
 pub mod laws;
 mod machine;
-pub mod outcome;
+mod outcome;
+mod run;
+mod start;
 mod statements;
 
-pub use expressions::{apply, eval, holds, listed};
-pub use halt::Halt;
-pub use machine::Machine;
+pub use laws::law_of_limits;
+pub use outcome::{Fault, Outcome, fault_line, status};
+pub use run::{execute, one_program};
+pub use start::{Assignment, Start};

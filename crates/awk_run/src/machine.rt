@@ -2,7 +2,7 @@
 
 ghost use Rattle.std.specs.Prelude.{◌≡◌, ◌++◌, map, true, is_some, OnOk, IfOk, IfErr};
 ghost use Rattle.awk_value.specs.Values.{str_of};
-ghost use Rattle.awk_streams.specs.Streams.{AreOpen, AreSound};
+ghost use Rattle.awk_streams.specs.Streams.{AreOpen, IsSoundMain};
 ghost use Rattle.awk_run.specs.Words.{field_at, current_text, set_record, show, take_record, output_field_separator};
 ghost use Rattle.awk_run.specs.Effect.{line_of, joined, led, next_record};
 ghost use Rattle.awk_run.specs.Does.{seen, Spends, Changes, Follows, Opens, IsWantOfMemory, IsStart};
@@ -94,7 +94,7 @@ impl Machine {
     fn take_record<W: World>(&mut self, world: &mut W) -> Result<Option<Bytes>, Halt>
         requires main { is_some self.old.streams.main ≡ true }
         requires open { AreOpen (W.is_open world.old) self.old.streams }
-        requires sound { W.tells → AreSound (W.is_open world.old) (W.log world.old) self.old.streams }
+        requires sound { W.tells → IsSoundMain (W.log world.old) self.old.streams.main }
         ensures { Follows W.tells take_record self.old (seen (W.is_open world.old) (W.log world.old) (W.mark world.old)) self.new (seen (W.is_open world.new) (W.log world.new) (W.mark world.new)) result }
     {
         Ok(self.streams.next_main(world, b"\n")?)
@@ -103,7 +103,7 @@ impl Machine {
     /// The next main record: standard input is opened for the first one. `None` at its end.
     pub fn next_record<W: World>(&mut self, world: &mut W) -> Result<Option<Bytes>, Halt>
         requires open { AreOpen (W.is_open world.old) self.old.streams }
-        requires sound { W.tells → AreSound (W.is_open world.old) (W.log world.old) self.old.streams }
+        requires sound { W.tells → IsSoundMain (W.log world.old) self.old.streams.main }
         ensures { Follows W.tells next_record self.old (seen (W.is_open world.old) (W.log world.old) (W.mark world.old)) self.new (seen (W.is_open world.new) (W.log world.new) (W.mark world.new)) result }
     {
         self.open_standard(world)?;

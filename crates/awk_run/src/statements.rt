@@ -1,6 +1,6 @@
 // Statements, items and records.
 
-ghost use Rattle.awk_streams.specs.Streams.{AreOpen, AreSound};
+ghost use Rattle.awk_streams.specs.Streams.{AreOpen, IsSoundMain};
 ghost use Rattle.awk_syntax.specs.Tree.{Print};
 ghost use Rattle.awk_syntax.specs.View.{exprs_of, statement_of, statements_of, item_of, items_of};
 ghost use Rattle.awk_run.specs.Does.{seen, Executes, ExecutesAll, Tries, TriesAll, ReadsAll, RunsItems};
@@ -76,7 +76,7 @@ fn try_items<W: World>(items: &[Item], machine: &mut Machine, world: &mut W) -> 
 /// Structure).
 fn run_records<W: World>(items: &[Item], machine: &mut Machine, world: &mut W) -> Result<(), Halt>
     requires open { AreOpen (W.is_open world.old) machine.old.streams }
-    requires sound { W.tells → AreSound (W.is_open world.old) (W.log world.old) machine.old.streams }
+    requires sound { W.tells → IsSoundMain (W.log world.old) machine.old.streams.main }
     ensures { ReadsAll W.tells (items_of items.now) machine.old (seen (W.is_open world.old) (W.log world.old) (W.mark world.old)) machine.new (seen (W.is_open world.new) (W.log world.new) (W.mark world.new)) result }
 {
     while let Some(text) = machine.next_record(world)? {
@@ -94,7 +94,7 @@ pub fn run_items<W: World>(
     world: &mut W,
 ) -> Result<(), Halt>
     requires open { AreOpen (W.is_open world.old) machine.old.streams }
-    requires sound { W.tells → AreSound (W.is_open world.old) (W.log world.old) machine.old.streams }
+    requires sound { W.tells → IsSoundMain (W.log world.old) machine.old.streams.main }
     ensures { RunsItems W.tells (items_of items.now) machine.old (seen (W.is_open world.old) (W.log world.old) (W.mark world.old)) machine.new (seen (W.is_open world.new) (W.log world.new) (W.mark world.new)) result }
 {
     if items.is_empty() {

@@ -92,16 +92,24 @@ readable_on id i bs log same r = record {
   unended = r.unended;
 }
 
-pub reads_orderly : (id : ℕ) (separator b b' : List ℕ) (ending : Option Ending) (es log : List Event) → NeededReads id separator b b' ending es → IsReadable id log → IsOrderly log →
-    IsOrderly (with_events es log) × (ending ≡ None → IsReadable id (with_events es log))
-reads_orderly id separator b b' ending [] log h r orderly = (orderly, λ none. r)
+pub reads_orderly : (id : ℕ) (separator b b' : List ℕ) (ending : Option Ending) (es log : List Event) → NeededReads id separator b b' ending es → IsReadable id log → IsOrderly log → IsOrderly (with_events es log)
+reads_orderly id separator b b' ending [] log h r orderly = orderly
 reads_orderly id separator b b' ending (Read i bs ∷ es) log (same, undecided, later) r orderly =
     reads_orderly id separator (b ++ bs) b' ending es (Read i bs ∷ log) later (readable_on id i bs log same r) (readable_at id i log same r, orderly)
-reads_orderly id separator b b' ending (Ended i ∷ []) log (same, undecided, last, bytes, met) r orderly = ((readable_at id i log same r, orderly), λ none. cc)
-reads_orderly id separator b b' ending (Broke i ∷ []) log (same, undecided, last, bytes, met) r orderly = ((readable_at id i log same r, orderly), λ none. cc)
+reads_orderly id separator b b' ending (Ended i ∷ []) log (same, undecided, last, bytes, met) r orderly = (readable_at id i log same r, orderly)
+reads_orderly id separator b b' ending (Broke i ∷ []) log (same, undecided, last, bytes, met) r orderly = (readable_at id i log same r, orderly)
 reads_orderly id separator b b' ending (Ended i ∷ e ∷ es) log (same, undecided, last, bytes, met) r orderly = cc
 reads_orderly id separator b b' ending (Broke i ∷ e ∷ es) log (same, undecided, last, bytes, met) r orderly = cc
 reads_orderly id separator b b' ending (e ∷ es) log h r orderly = absurd h
+
+-- and the input readable, unless its ending was met, in whatever order the log was
+pub reads_readable : (id : ℕ) (separator b b' : List ℕ) (ending : Option Ending) (es log : List Event) → NeededReads id separator b b' ending es → IsReadable id log → ending ≡ None → IsReadable id (with_events es log)
+reads_readable id separator b b' ending [] log h r none = r
+reads_readable id separator b b' ending (Read i bs ∷ es) log (same, undecided, later) r none =
+    reads_readable id separator (b ++ bs) b' ending es (Read i bs ∷ log) later (readable_on id i bs log same r) none
+reads_readable id separator b b' ending (Ended i ∷ es) log (same, undecided, last, bytes, met) r none = cc
+reads_readable id separator b b' ending (Broke i ∷ es) log (same, undecided, last, bytes, met) r none = cc
+reads_readable id separator b b' ending (e ∷ es) log h r none = absurd h
 
 pub reads_quiet : (id : ℕ) (separator b b' : List ℕ) (ending : Option Ending) (es : List Event) → NeededReads id separator b b' ending es → IsQuiet es
 reads_quiet id separator b b' ending [] h = tt

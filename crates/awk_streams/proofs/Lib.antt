@@ -6,5 +6,7 @@ pub mod InputLemmas
 pub mod ToldLemmas
 pub mod WritesLemmas
 pub mod MarkLemmas
+pub mod GrowsLemmas
 pub mod MainLemmas
 pub mod OutputLemmas
+pub mod ScriptLemmas

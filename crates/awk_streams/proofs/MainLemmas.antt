@@ -24,7 +24,7 @@ use Rattle.awk_streams.specs.Told.{Tells, IsToldAs, NextTold}
 use Rattle.awk_streams.specs.Streams.{InputView, StreamsView, AreSound, StandsAsMain, Grows, IsMainRest, CountsInput, OpensMain, AsksMain}
 use Rattle.awk_streams.proofs.AgreesLemmas.{agrees-before}
 use Rattle.awk_streams.proofs.Exist.{opens_input-self}
-use Rattle.awk_streams.proofs.KeptLemmas.{same_counts-self, quiet_streams, reads_orderly, reads_quiet, reads_received}
+use Rattle.awk_streams.proofs.KeptLemmas.{same_counts-self, quiet_streams, reads_orderly, reads_readable, reads_quiet, reads_received}
 use Rattle.awk_streams.proofs.ToldLemmas.{told_next}
 
 none_more : (n : ℕ) → 0 + n ≡ n
@@ -78,16 +78,18 @@ pub opens_granted : (kind : InputKind) (name : List ℕ) (is_open is_open' : ℕ
     OpensMain kind name is_open log mark old (Ok u) is_open' log' mark' record { main = Some record { id = id; pending = p } }
 opens_granted kind name is_open is_open' log log' mark mark' old id p u plain empty unended fresh opens is same_mark =
     let view : StreamsView = record { main = Some record { id = id; pending = p } } in
+    let stands : StandsAsMain (OpenedInput kind name (Some id) ∷ log) record { id = id; pending = p } = record {
+      kind = kind;
+      plain = plain;
+      stands = cond-true _ _ _ (eq-eqb id id refl);
+      readable = λ none. record { reading = new_reading kind name log; stands = cond-true _ _ _ (eq-eqb id id refl); unended = refl };
+    } in
     subst (λ (l : List Event). OpensMain kind name is_open log mark old (Ok u) is_open' l mark' view) (sym is) record {
       sound = λ s. record {
         order = opened_order is_open is_open' kind name log id s.order fresh opens;
-        main = record {
-          kind = kind;
-          plain = plain;
-          stands = cond-true _ _ _ (eq-eqb id id refl);
-          readable = λ none. record { reading = new_reading kind name log; stands = cond-true _ _ _ (eq-eqb id id refl); unended = refl };
-        };
+        main = stands;
       };
+      main = λ s. stands;
       grows = record { agrees = λ a h. h.1; clear = λ none. sym same_mark ∙ none };
       adds = refl;
       outputs = λ j. refl;
@@ -140,29 +142,36 @@ reaches_streams id separator old seen log log' (inl (same, still)) = subst (λ (
 reaches_streams id separator old seen log log' (inr (began, goes)) =
     subst (λ (l : List Event). SameStreams log l) (sym goes.log) (quiet_streams goes.events log (reads_quiet id separator old.bytes seen.bytes seen.ending goes.events goes.each))
 
--- needed readings keep the log orderly, and the input readable unless its ending was met
-abbrev IsKeptBy : ℕ → Pending → List Event → Type 0
-IsKeptBy id seen log = IsOrderly log × (seen.ending ≡ None → IsReadable id log)
-
-reaches_order : (id : ℕ) (separator : List ℕ) (old seen : Pending) (log log' : List Event) → Reaches id separator old log seen log' → IsOrderly log → (old.ending ≡ None → IsReadable id log) → IsKeptBy id seen log'
-reaches_order id separator old seen log log' (inl (same, still)) orderly readable =
-    subst (λ (l : List Event). IsKeptBy id seen l) (sym still) (orderly, λ none. readable (ap (λ (p : Pending). p.ending) (sym same) ∙ none))
+-- needed readings keep the log orderly
+reaches_order : (id : ℕ) (separator : List ℕ) (old seen : Pending) (log log' : List Event) → Reaches id separator old log seen log' → IsOrderly log → (old.ending ≡ None → IsReadable id log) → IsOrderly log'
+reaches_order id separator old seen log log' (inl (same, still)) orderly readable = subst (λ (l : List Event). IsOrderly l) (sym still) orderly
 reaches_order id separator old seen log log' (inr (began, goes)) orderly readable =
-    subst (λ (l : List Event). IsKeptBy id seen l) (sym goes.log) (reads_orderly id separator old.bytes seen.bytes seen.ending goes.events log goes.each (readable began) orderly)
+    subst (λ (l : List Event). IsOrderly l) (sym goes.log) (reads_orderly id separator old.bytes seen.bytes seen.ending goes.events log goes.each (readable began) orderly)
+
+-- and the input readable unless its ending was met
+reaches_readable : (id : ℕ) (separator : List ℕ) (old seen : Pending) (log log' : List Event) → Reaches id separator old log seen log' → (old.ending ≡ None → IsReadable id log) → seen.ending ≡ None → IsReadable id log'
+reaches_readable id separator old seen log log' (inl (same, still)) readable none =
+    subst (λ (l : List Event). IsReadable id l) (sym still) (readable (ap (λ (p : Pending). p.ending) (sym same) ∙ none))
+reaches_readable id separator old seen log log' (inr (began, goes)) readable none =
+    subst (λ (l : List Event). IsReadable id l) (sym goes.log) (reads_readable id separator old.bytes seen.bytes seen.ending goes.events log goes.each (readable began) none)
 
 -- one asking for a record of the main input
 pub asks_main : (separator : List ℕ) (is_open is_open' : ℕ → Bool) (log log' : List Event) (mark mark' : Option ℕ) (v : InputView) (new : Pending) (step : Result Step RecordFault) (result : Result (Option (List ℕ)) StreamFault) →
-    SameOpen is_open is_open' → IsInOrder is_open log → StandsAsMain log v → Pulls v.id separator v.pending log step new log' → step ≢ Ok NeedMore → IsToldAs step result →
+    SameOpen is_open is_open' → StandsAsMain log v → Pulls v.id separator v.pending log step new log' → step ≢ Ok NeedMore → IsToldAs step result →
     (step ≢ Err BufferMemory → mark' ≡ mark) → (mark' ≡ None → mark ≡ None) →
     AsksMain separator is_open log mark record { main = Some v } result is_open' log' mark' record { main = Some record { id = v.id; pending = new } }
-asks_main separator is_open is_open' log log' mark mark' v new step result same order main pulls told says unmarked clear =
+asks_main separator is_open is_open' log log' mark mark' v new step result same main pulls told says unmarked clear =
     let streams : SameStreams log log' = reaches_streams v.id separator v.pending pulls.seen log log' pulls.reads in
-    let kept : IsKeptBy v.id pulls.seen log' = reaches_order v.id separator v.pending pulls.seen log log' pulls.reads order.orderly main.readable in
+    let stands : StandsAsMain log' record { id = v.id; pending = new } = record { kind = main.kind; plain = main.plain; stands = streams.stands v.id ∙ main.stands; readable = λ none. reaches_readable v.id separator v.pending pulls.seen log log' pulls.reads main.readable (pulls.ending none) } in
     record {
-      sound = record {
-        order = record { orderly = kept.0; known = λ j some. same j ∙ order.known j (ap is_some (sym (streams.stands j)) ∙ some) };
-        main = record { kind = main.kind; plain = main.plain; stands = streams.stands v.id ∙ main.stands; readable = λ none. kept.1 (pulls.ending none) };
+      sound = λ s. record {
+        order = record {
+          orderly = reaches_order v.id separator v.pending pulls.seen log log' pulls.reads s.order.orderly main.readable;
+          known = λ j some. same j ∙ s.order.known j (ap is_some (sym (streams.stands j)) ∙ some);
+        };
+        main = stands;
       };
+      main = stands;
       grows = record { agrees = λ a agrees. reaches_agrees v.id separator v.pending pulls.seen log log' a pulls.reads agrees; clear = clear };
       demand = (pulls.seen, pulls.reads);
       outputs = λ j. reaches_received v.id j separator v.pending pulls.seen log log' pulls.reads;

@@ -67,6 +67,7 @@ prints bytes is_open is_open' log log' mark mark' streams result same writes =
     let gains : received 0 log' ≡ received 0 log ++ take writes.count bytes = received-writes 0 (take writes.count bytes) log log' writes.writes in
     record {
       sound = λ s. record { order = writes_order 0 is_open is_open' log log' same only s.order; main = main_same log log' streams.main kept.stands (writes_reading 0 log log' only) s.main };
+      main = main_same log log' streams.main kept.stands (writes_reading 0 log log' only);
       grows = record { agrees = λ a agrees. agrees-before a writes.writes.events log (subst (λ (l : List Event). Agrees a l) writes.writes.log agrees); clear = writes.clear };
       only = only;
       printed = all_received result (received 0 log) (received 0 log') bytes writes.count writes.all gains;

@@ -106,6 +106,7 @@ main_opening kind name result main = None
 pub record OpensMain (kind : InputKind) (name : List ℕ) (is_open : ℕ → Bool) (log : List Event) (mark : Option ℕ) (old : StreamsView) (result : Result (Unit {0}) StreamFault)
     (is_open' : ℕ → Bool) (log' : List Event) (mark' : Option ℕ) (new : StreamsView) : Type 0 where
   pub sound : AreSound is_open log old → AreSound is_open' log' new
+  pub main : IsSoundMain log old.main → IsSoundMain log' new.main
   pub grows : Grows log mark log' mark'
   pub adds : log' ≡ logged (main_opening kind name result new.main) log
   pub outputs : (j : ℕ) → received j log' ≡ received j log
@@ -123,7 +124,8 @@ ReadsMain separator (Some v) log log' = ReadsAsNeeded v.id separator v.pending l
 -- an asking for the next record of the main input
 pub record AsksMain (separator : List ℕ) (is_open : ℕ → Bool) (log : List Event) (mark : Option ℕ) (old : StreamsView) (result : Result (Option (List ℕ)) StreamFault)
     (is_open' : ℕ → Bool) (log' : List Event) (mark' : Option ℕ) (new : StreamsView) : Type 0 where
-  pub sound : AreSound is_open' log' new
+  pub sound : AreSound is_open log old → AreSound is_open' log' new
+  pub main : IsSoundMain log' new.main
   pub grows : Grows log mark log' mark'
   pub demand : ReadsMain separator old.main log log'
   pub outputs : (j : ℕ) → received j log' ≡ received j log
@@ -136,6 +138,7 @@ pub record AsksMain (separator : List ℕ) (is_open : ℕ → Bool) (log : List 
 pub record Prints (bytes : List ℕ) (is_open : ℕ → Bool) (log : List Event) (mark : Option ℕ) (old : StreamsView) (result : Result (Unit {0}) StreamFault)
     (is_open' : ℕ → Bool) (log' : List Event) (mark' : Option ℕ) (new : StreamsView) : Type 0 where
   pub sound : AreSound is_open log old → AreSound is_open' log' new
+  pub main : IsSoundMain log old.main → IsSoundMain log' new.main
   pub grows : Grows log mark log' mark'
   pub only : OnlyWritesTo 0 log log'
   pub printed : OnOk result (received 0 log' ≡ received 0 log ++ bytes)

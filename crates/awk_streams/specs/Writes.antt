@@ -26,9 +26,13 @@ OnlyWritesTo id old new = (bytes : List ℕ) × GoesOn (Writes id bytes) old new
 abbrev pub flushed_if : Bool → ℕ → List Event → List Event
 flushed_if done id log = if done then Flushed id ∷ log else log
 
+-- what an output has received after one more event: an opening of it starts anew
+abbrev pub received_after : ℕ → Event → List ℕ → List ℕ
+received_after id (Wrote i bs) bytes = if i == id then bytes ++ bs else bytes
+received_after id (OpenedOutput kind name mode (Some i)) bytes = if i == id then [] else bytes
+received_after id e bytes = bytes
+
 -- what an output has received since it was opened
 abbrev pub received : ℕ → List Event → List ℕ
 received id [] = []
-received id (Wrote i bs ∷ older) = if i == id then received id older ++ bs else received id older
-received id (OpenedOutput kind name mode (Some i) ∷ older) = if i == id then [] else received id older
-received id (e ∷ older) = received id older
+received id (e ∷ older) = received_after id e (received id older)

@@ -5,10 +5,15 @@ mod fault;
 mod input;
 mod laws;
 mod output;
+mod script;
+mod stream;
 mod streams;
+#[cfg(test)]
+mod tests;
 mod world;
 
 pub use fault::StreamFault;
 pub use laws::{agrees_with_less, some_answers_agree};
+pub use script::{Answer, Entry, ScriptWorld};
 pub use streams::Streams;
 pub use world::{InputKind, Mode, OutputKind, World, WorldFault};

@@ -1,9 +1,8 @@
 // The streams of a run: its main input and its standard outputs.
 ghost use Rattle.std.specs.Prelude.{◌≡◌, ◌≢◌, ◌⊎◌, ℕ, ℤ, [], Some, None, is_some, IsTrue, OnOk, OnErr, IfErr, Ok, Err};
 ghost use Rattle.awk_streams.specs.Ids.{SameOpen};
-ghost use Rattle.awk_streams.specs.Orderly.{IsInOrder};
 ghost use Rattle.awk_streams.specs.Outputs.{IsOutputFault};
-ghost use Rattle.awk_streams.specs.Streams.{AreOpen, AreSound, StandsAsMain, IsOpenMain, view_of, main_of, IsFreshMain, IsSameMain, ClosesMain, closed_main, OpensMain, AsksMain, Prints, Finishes};
+ghost use Rattle.awk_streams.specs.Streams.{AreOpen, IsSoundMain, StandsAsMain, IsOpenMain, view_of, main_of, IsFreshMain, IsSameMain, ClosesMain, closed_main, OpensMain, AsksMain, Prints, Finishes};
 ghost use Rattle.awk_streams.specs.Told.{IsToldAs};
 
 use crate::fault::StreamFault;
@@ -48,7 +47,7 @@ fn next_of<W: World>(
     ensures same { input.new.id ≡ input.old.id }
     ensures open { SameOpen (W.is_open world.old) (W.is_open world.new) }
     ensures fault { result ≢ Err StreamFault.WriteFailed }
-    ensures told { W.tells → IsInOrder (W.is_open world.old) (W.log world.old) → StandsAsMain (W.log world.old) (view_of input.old) →
+    ensures told { W.tells → StandsAsMain (W.log world.old) (view_of input.old) →
         AsksMain separator.now (W.is_open world.old) (W.log world.old) (W.mark world.old) (record { main = Some (view_of input.old) }) result (W.is_open world.new) (W.log world.new) (W.mark world.new) (record { main = Some (view_of input.new) }) }
 {
     let mut chunk = [0u8; 1];
@@ -138,7 +137,7 @@ impl Streams {
     ) -> Result<Option<Bytes>, StreamFault>
         requires main { IsTrue (is_some self.old.main) }
         requires open { AreOpen (W.is_open world.old) self.old }
-        requires sound { W.tells → AreSound (W.is_open world.old) (W.log world.old) self.old }
+        requires sound { W.tells → IsSoundMain (W.log world.old) self.old.main }
         ensures main { IsTrue (is_some self.new.main) }
         ensures same { IsSameMain self.old.main self.new.main }
         ensures open { AreOpen (W.is_open world.new) self.new }

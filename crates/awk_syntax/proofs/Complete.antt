@@ -1,5 +1,5 @@
 -- A leveled expression that is spelled is the one that is read.
-use Rattle.std.proofs.Common.{◌≡◌, ℕ, zero, suc, ◌≤◌, ◌<◌, Bool, true, false, cond, leb, ◌&&◌, ◌||◌, List, [], ◌∷◌, Option, refl, sym, ap, ◌∙◌, subst, arith}
+use Rattle.std.proofs.Common.{◌≡◌, ℕ, zero, suc, ◌≤◌, ◌<◌, Bool, true, false, ◌&&◌, ◌||◌, List, [], ◌∷◌, Option, refl, sym, ap, ◌∙◌, subst, arith}
 use Rattle.std.proofs.lemmas.Bool.{and_from, le-leb, lt-leb, and_right}
 use Rattle.awk_lex.specs.declared.token.Kind.{Kind}
 use Rattle.awk_lex.specs.declared.token.Kind.TheVariants as t
@@ -7,8 +7,8 @@ use Rattle.awk_syntax.specs.declared.tree.BinaryOperator.{BinaryOperator}
 use Rattle.awk_syntax.specs.declared.tree.BinaryOperator.TheVariants as o
 use Rattle.awk_syntax.specs.Tree.{Expr, Number, Field, Binary, Exprs, Nil, Cons, Print}
 use Rattle.awk_syntax.specs.Level.{level_of, left, right, is_greater, level, Leveled, AllLeveled}
-use Rattle.awk_syntax.specs.Spelling.{newlines, operator_of, Joined, Spells, SpellsMore, SpellsList}
-use Rattle.awk_syntax.specs.Machine.{Part, append, no_exprs, one_more, printed, Role, Infix, Ends, role, Frame, InField, InBinary, InPrint, hole, hole_of, keeps, fill, takes, Held, settle, State, Expect, Ready, Prints, end_with, go_on, close, follow, step, answer}
+use Rattle.awk_syntax.specs.Spelling.{newlines, operator_of, Joined, Spells, SpellsList}
+use Rattle.awk_syntax.specs.Machine.{Part, append, no_exprs, one_more, printed, Role, Infix, Ends, role, Frame, InField, InBinary, InPrint, hole, hole_of, keeps, fill, takes, settle, Expect, Ready, Prints, end_with, go_on, follow, step, answer}
 use Rattle.awk_syntax.proofs.Limits.{test_true, test_false, pruned, pruned_list, pruned_statement, field-pruned, joined-pruned, one_more-pruned, printed-pruned}
 
 -- what the next token does

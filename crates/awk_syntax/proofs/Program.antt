@@ -1,14 +1,14 @@
 -- A program that is spelled is the one that is read.
-use Rattle.std.proofs.Common.{◌≡◌, ℕ, zero, suc, ◌+◌, ◌≤◌, Bool, true, false, List, [], ◌∷◌, ◌++◌, Option, Some, refl, sym, ap, ◌∙◌, subst, arith}
+use Rattle.std.proofs.Common.{◌≡◌, ℕ, zero, suc, ◌+◌, Bool, true, false, List, [], ◌∷◌, ◌++◌, Option, Some, refl, sym, ap, ◌∙◌, subst, arith}
 use Rattle.awk_lex.specs.declared.token.Kind.{Kind}
 use Rattle.awk_lex.specs.declared.token.Kind.TheVariants as t
-use Rattle.awk_syntax.specs.Tree.{Expr, Exprs, Statement, Block, Print, Statements, NoMore, Then, Item, Always, Rule}
+use Rattle.awk_syntax.specs.Tree.{Exprs, Statement, Block, Print, Statements, NoMore, Then, Item, Always, Rule}
 use Rattle.awk_syntax.specs.Height.{height_of_program}
-use Rattle.awk_syntax.specs.Level.{Leveled, AllLeveled, StatementLeveled, StatementsLeveled, ItemLeveled, ProgramLeveled}
-use Rattle.awk_syntax.specs.Spelling.{newlines, SpellsList, SpellsStatement, SpellsAll, Ended, BySemicolon, ByNewline, ByBrace, SpellsBlock, SpellsItem, separators, SpellsProgram, Spells, IsProgram}
+use Rattle.awk_syntax.specs.Level.{AllLeveled, StatementLeveled, StatementsLeveled, ItemLeveled, ProgramLeveled}
+use Rattle.awk_syntax.specs.Spelling.{newlines, SpellsList, SpellsStatement, SpellsAll, Ended, BySemicolon, ByNewline, ByBrace, SpellsItem, separators, SpellsProgram, Spells, IsProgram}
 use Rattle.awk_syntax.specs.Machine.{Head, OfAll, OfRule, push, add, item_of, no_statements, one_more_statement, one_more_item, Frame, InBlock, InPattern, InAction, InProgram, Expect, Begins, Done, Between, block, answer, read}
 use Rattle.awk_syntax.proofs.Limits.{low, pruned, pruned_statement, pruned_all, pruned_item, pruned_items, one_more_statement-pruned, one_more_item-pruned, block-pruned, always-pruned, rule-pruned}
-use Rattle.awk_syntax.proofs.Complete.{next, stops_end, level_most, complete, AtSemicolon, AtNewline, AtBrace, print_read, starter, started, starts_so}
+use Rattle.awk_syntax.proofs.Complete.{stops_end, level_most, complete, AtSemicolon, AtNewline, AtBrace, print_read, started, starts_so}
 
 begin_newlines : (m n : ℕ) (k : List Frame) (ts : List Kind) → answer m (Begins k) (newlines n ts) ≡ answer m (Begins k) ts
 begin_newlines m zero k ts = refl

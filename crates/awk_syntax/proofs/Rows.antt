@@ -1,9 +1,9 @@
 -- The code's lists, as lists of the definitions.
-use Rattle.std.proofs.Common.{◌≡◌, ℕ, ◌≤◌, max, List, [], ◌∷◌, ◌++◌, Option, Some, refl, sym, ap, ◌∙◌, subst, arith}
+use Rattle.std.proofs.Common.{◌≡◌, ℕ, ◌≤◌, max, List, [], ◌∷◌, ◌++◌, Some, refl, sym, ap, ◌∙◌, arith}
 use Rattle.awk_syntax.specs.Tree as t
 use Rattle.awk_syntax.specs.Height.{height_of, tallest, height_of_statement, tallest_of, height_of_item, height_of_program}
 use Rattle.awk_syntax.specs.View.{expr_of, exprs_of, statement_of, statements_of, statements_of_row, item_of, items_of}
-use Rattle.awk_syntax.specs.Machine.{over_two, limited, append, push, add}
+use Rattle.awk_syntax.specs.Machine.{over_two, append, push, add}
 use Rattle.awk_syntax.specs.declared.tree.Expr.{Expr}
 use Rattle.awk_syntax.specs.declared.tree.Statement.{Statement, Row_of-Statement, end_of-Statement, more_of-Statement, items-the_row-Statement}
 use Rattle.awk_syntax.specs.declared.tree.Item.{Item}

@@ -1,5 +1,5 @@
 -- What the reader reads is spelled and leveled.
-use Rattle.std.proofs.Common.{◌≡◌, ℕ, zero, suc, ◌≤◌, ◌<◌, Bool, true, false, cond, leb, ◌&&◌, ◌||◌, List, [], ◌∷◌, ◌++◌, Option, Some, None, refl, sym, ap, ◌∙◌, subst, arith}
+use Rattle.std.proofs.Common.{◌≡◌, ℕ, zero, suc, ◌≤◌, Bool, true, false, cond, leb, ◌&&◌, ◌||◌, List, [], ◌∷◌, Option, Some, refl, sym, ap, ◌∙◌, subst, arith}
 use Rattle.std.proofs.lemmas.Bool.{and_parts, leb-true, and_right}
 use Rattle.awk_lex.specs.declared.token.Operator.{Operator}
 use Rattle.awk_lex.specs.declared.token.Operator.TheVariants as s
@@ -10,9 +10,8 @@ use Rattle.awk_syntax.specs.declared.tree.BinaryOperator.TheVariants as o
 use Rattle.awk_syntax.specs.Tree.{Expr, Number, Field, Binary, Exprs, Nil, Cons, Statement, Block, Print, Statements, NoMore, Then, Item, Always, Rule}
 use Rattle.awk_syntax.specs.Level.{level_of, left, right, is_greater, level, Leveled, AllLeveled, StatementLeveled, StatementsLeveled, ItemLeveled, ProgramLeveled}
 use Rattle.awk_syntax.specs.Spelling.{newlines, operator_of, Joined, Spells, SpellsMore, SpellsList, Ended, BySemicolon, ByNewline, ByBrace, SpellsStatement, SpellsAll, SpellsItem, separators, SpellsProgram, IsProgram}
-use Rattle.awk_syntax.specs.Machine.{Part, field, joined, append, push, add, no_exprs, no_statements, no_items, one_more, one_more_statement, one_more_item, printed, block, Role, Infix, Ends, operate, role, Head, OfAll, OfRule, item_of, Frame, InField, InBinary, InPrint, InBlock, InPattern, InAction, InProgram, hole, hole_of, keeps, fill, takes, Held, settle, State, Expect, Ready, Prints, Begins, Done, Between, Failed, enter, between, close_block, begin, pass, end_with, close_print, close_pattern, close, go_on, follow, prints, next_statement, item, step, items, finish, answer, start, read}
+use Rattle.awk_syntax.specs.Machine.{Part, field, joined, append, push, add, no_exprs, one_more, one_more_statement, one_more_item, printed, block, Role, Infix, Ends, operate, role, Head, OfAll, OfRule, item_of, Frame, InField, InBinary, InPrint, InBlock, InPattern, InAction, InProgram, hole, hole_of, keeps, fill, takes, Held, settle, State, Expect, Ready, Prints, Begins, Done, Between, Failed, enter, between, close_block, begin, pass, end_with, close_print, close_pattern, close, go_on, follow, prints, next_statement, item, step, items, finish, answer, start, read}
 use Rattle.awk_syntax.proofs.Limits.{pruned, pruned_list, pruned_statement, pruned_all, pruned_item, pruned_items, field-pruned, joined-pruned, one_more-pruned, one_more_statement-pruned, one_more_item-pruned, printed-pruned, block-pruned, always-pruned, rule-pruned}
-use Rattle.awk_syntax.proofs.Complete.{next, bounds}
 
 -- a list, and a comma with newlines behind it unless the list is empty
 abbrev SpellsBefore : Exprs → List Kind → List Kind → Type 0

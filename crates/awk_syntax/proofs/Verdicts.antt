@@ -1,5 +1,5 @@
 -- What the laws of reading say of an answer.
-use Rattle.std.proofs.Common.{◌≡◌, ℕ, ◌≤◌, ◌<◌, ◌⊎◌, inl, inr, List, [], ◌∷◌, Option, Some, None, Result, Ok, Err, refl, sym, ap, ◌∙◌, subst}
+use Rattle.std.proofs.Common.{◌≡◌, ℕ, ◌≤◌, ◌<◌, inl, inr, List, [], ◌∷◌, Some, None, Result, Ok, Err, refl, sym, ap, ◌∙◌, subst}
 use Rattle.std.specs.Prelude.{IfOk, IfErr}
 use Rattle.std.proofs.lemmas.Bool.{cases_lt}
 use Rattle.awk_lex.specs.declared.token.Kind.{Kind}
@@ -14,9 +14,9 @@ use Rattle.awk_syntax.specs.declared.tree.Tree.{Tree}
 use Rattle.awk_syntax.specs.Machine.{limited, Failed, answer, read}
 use Rattle.awk_syntax.specs.Outcome.{Reads, Justifies}
 use Rattle.awk_syntax.specs.Verdict.{Gives, Fails}
-use Rattle.awk_syntax.proofs.Limits.{low, high, pruned_items}
+use Rattle.awk_syntax.proofs.Limits.{low, high}
 use Rattle.awk_syntax.proofs.Program.{reads}
-use Rattle.awk_syntax.proofs.Sound.{sound, Found}
+use Rattle.awk_syntax.proofs.Sound.{sound}
 
 -- a reader that has failed reads nothing
 pub failed : (m : ℕ) (ts : List Kind) → answer m Failed ts ≡ None

@@ -10,7 +10,7 @@ use Rattle.awk_syntax.specs.declared.tree.BinaryOperator.{BinaryOperator}
 use Rattle.awk_syntax.specs.declared.tree.BinaryOperator.TheVariants as o
 use Rattle.awk_syntax.specs.Tree.{Expr, Number, Field, Binary, Exprs, Nil, Cons, Statement, Block, Print, Statements, NoMore, Then, Item, Always, Rule}
 use Rattle.awk_syntax.specs.Height.{height_of, tallest, height_of_statement, tallest_of, height_of_item, height_of_program}
-use Rattle.awk_syntax.specs.Level.{level_of, left, right, level}
+use Rattle.awk_syntax.specs.Level.{level_of, left, right}
 
 -- a tree of height n, or none above the limit
 abbrev pub limited : {A : Type 0} → (m n : ℕ) → A → Option A

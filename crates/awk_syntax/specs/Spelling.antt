@@ -1,18 +1,13 @@
 -- How a program is written (POSIX awk, Grammar).
-use Rattle.std.specs.Prelude.{ℕ, zero, suc, ◌≡◌, Bool, true, false, List, [], ◌∷◌, map}
+use Rattle.std.specs.Prelude.{ℕ, zero, suc, ◌≡◌, Bool, true, false, List, [], ◌∷◌}
 use Rattle.awk_lex.specs.declared.token.Operator.{Operator}
 use Rattle.awk_lex.specs.declared.token.Operator.TheVariants as s
 use Rattle.awk_lex.specs.declared.token.Kind.{Kind}
 use Rattle.awk_lex.specs.declared.token.Kind.TheVariants as t
-use Rattle.awk_lex.specs.declared.token.Token.{Token}
 use Rattle.awk_syntax.specs.declared.tree.BinaryOperator.{BinaryOperator}
 use Rattle.awk_syntax.specs.declared.tree.BinaryOperator.TheVariants as o
 use Rattle.awk_syntax.specs.Tree.{Expr, Number, Field, Binary, Exprs, Nil, Cons, Statement, Block, Print, Statements, NoMore, Then, Item, Always, Rule}
 use Rattle.awk_syntax.specs.Level.{ProgramLeveled}
-
--- what the tokens are, without their places in the text
-abbrev pub kinds : List Token → List Kind
-kinds tokens = map (λ (token : Token). token.kind) tokens
 
 abbrev pub newlines : ℕ → List Kind → List Kind
 newlines zero ts = ts

@@ -32,7 +32,8 @@ pub fn binary(
     left: Option<LowExpr>,
     right: Option<LowExpr>,
 ) -> Result<Option<LowExpr>, AllocError>
-    ensures { IfOk result (λ e. kept_expr e ≡ over_two 200 height_of (t.Binary operator) (kept_expr left) (kept_expr right)) }
+    ensures { IfOk result (λ e. kept_expr e
+        ≡ over_two 200 height_of (t.Binary operator) (kept_expr left) (kept_expr right)) }
 {
     let Some(left) = left else {
         return Ok(None);
@@ -55,7 +56,8 @@ pub fn one_more_expr(
     list: Option<LowExprs>,
     expr: Option<LowExpr>,
 ) -> Result<Option<LowExprs>, AllocError>
-    ensures { IfOk result (λ xs. kept_exprs xs ≡ over_two 200 tallest append (kept_exprs list) (kept_expr expr)) }
+    ensures { IfOk result (λ xs. kept_exprs xs
+        ≡ over_two 200 tallest append (kept_exprs list) (kept_expr expr)) }
 {
     let Some(kept) = list else {
         return Ok(None);
@@ -84,7 +86,8 @@ pub fn print(list: Option<LowExprs>) -> Option<LowStatement>
 
 /// A block as a statement.
 pub fn block(statements: Option<LowStatements>) -> Option<LowStatement>
-    ensures { kept_statement result ≡ over_one 200 height_of_statement t.Block (kept_statements statements) }
+    ensures { kept_statement result
+        ≡ over_one 200 height_of_statement t.Block (kept_statements statements) }
 {
     let statements = statements?;
     if statements.height >= MOST_HEIGHT {
@@ -100,7 +103,8 @@ pub fn one_more_statement(
     statements: Option<LowStatements>,
     statement: Option<LowStatement>,
 ) -> Result<Option<LowStatements>, AllocError>
-    ensures { IfOk result (λ all. kept_statements all ≡ over_two 200 tallest_of push (kept_statements statements) (kept_statement statement)) }
+    ensures { IfOk result (λ all. kept_statements all
+        ≡ over_two 200 tallest_of push (kept_statements statements) (kept_statement statement)) }
 {
     let Some(kept) = statements else {
         return Ok(None);
@@ -128,7 +132,8 @@ pub fn always(action: Option<LowStatements>) -> Option<LowItem>
 
 /// An action for the records on which the expression is true.
 pub fn rule(expr: Option<LowExpr>, action: Option<LowStatements>) -> Option<LowItem>
-    ensures { kept_item result ≡ over_two 200 height_of_item t.Rule (kept_expr expr) (kept_statements action) }
+    ensures { kept_item result
+        ≡ over_two 200 height_of_item t.Rule (kept_expr expr) (kept_statements action) }
 {
     let expr = expr?;
     let action = action?;
@@ -144,7 +149,8 @@ pub fn one_more_item(
     items: Option<LowItems>,
     item: Option<LowItem>,
 ) -> Result<Option<LowItems>, AllocError>
-    ensures { IfOk result (λ xs. kept_items xs ≡ over_two 200 height_of_program add (kept_items items) (kept_item item)) }
+    ensures { IfOk result (λ xs. kept_items xs
+        ≡ over_two 200 height_of_program add (kept_items items) (kept_item item)) }
 {
     let Some(kept) = items else {
         return Ok(None);

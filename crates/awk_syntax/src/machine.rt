@@ -23,7 +23,8 @@ fn close(
     part: Part,
     stack: &mut Vec<Frame>,
 ) -> Result<Option<Now>, AllocError>
-    ensures { IfOk result (λ now. next_of now stack.new.items ≡ machine.close 200 kind (part_of part) (stack_of stack.old.items)) }
+    ensures { IfOk result (λ now. next_of now stack.new.items
+        ≡ machine.close 200 kind (part_of part) (stack_of stack.old.items)) }
 {
     match stack.pop() {
         Some(Frame::Print(list)) => {
@@ -43,7 +44,8 @@ fn follow(
     part: Part,
     stack: &mut Vec<Frame>,
 ) -> Result<Option<Now>, AllocError>
-    ensures { IfOk result (λ now. next_of now stack.new.items ≡ machine.follow 200 (role_of role) kind bare (held part stack.old.items)) }
+    ensures { IfOk result (λ now. next_of now stack.new.items
+        ≡ machine.follow 200 (role_of role) kind bare (held part stack.old.items)) }
 {
     if part.takes(role, hole_of(stack)) {
         return go_on(role, bare, part, stack);
@@ -59,7 +61,8 @@ fn after(
     part: Part,
     stack: &mut Vec<Frame>,
 ) -> Result<Option<Now>, AllocError>
-    ensures { IfOk result (λ now. next_of now stack.new.items ≡ machine.after 200 bare (part_of part) (stack_of stack.old.items) kind) }
+    ensures { IfOk result (λ now. next_of now stack.new.items
+        ≡ machine.after 200 bare (part_of part) (stack_of stack.old.items) kind) }
 {
     let role = Role::of(kind, bare);
     let part = settle(alloc, role, part, stack)?;
@@ -73,7 +76,8 @@ pub fn step(
     kind: Kind,
     stack: &mut Vec<Frame>,
 ) -> Result<Option<Now>, AllocError>
-    ensures { IfOk result (λ next. next_of next stack.new.items ≡ machine.step 200 (state_of now stack.old.items) kind) }
+    ensures { IfOk result (λ next. next_of next stack.new.items
+        ≡ machine.step 200 (state_of now stack.old.items) kind) }
 {
     match now {
         Now::Expect { skips, bare } => enter(kind, skips, bare, stack),

@@ -29,7 +29,8 @@ pub fn enter(
     bare: bool,
     stack: &mut Vec<Frame>,
 ) -> Result<Option<Now>, AllocError>
-    ensures { IfOk result (λ now. next_of now stack.new.items ≡ machine.enter 200 kind skips bare (stack_of stack.old.items)) }
+    ensures { IfOk result (λ now. next_of now stack.new.items
+        ≡ machine.enter 200 kind skips bare (stack_of stack.old.items)) }
 {
     match kind {
         Kind::Number(n) => Ok(Some(Now::Ready {
@@ -52,7 +53,8 @@ pub fn settle(
     part: Part,
     stack: &mut Vec<Frame>,
 ) -> Result<Part, AllocError>
-    ensures { IfOk result (λ p. held p stack.new.items ≡ machine.settle 200 (role_of role) (part_of part) (stack_of stack.old.items)) }
+    ensures { IfOk result (λ p. held p stack.new.items
+        ≡ machine.settle 200 (role_of role) (part_of part) (stack_of stack.old.items)) }
 {
     let mut part = part;
     while let Some(top) = stack.last() {
@@ -74,7 +76,8 @@ pub fn go_on(
     part: Part,
     stack: &mut Vec<Frame>,
 ) -> Result<Option<Now>, AllocError>
-    ensures { IfOk result (λ now. next_of now stack.new.items ≡ machine.go_on (role_of role) bare (part_of part) (stack_of stack.old.items)) }
+    ensures { IfOk result (λ now. next_of now stack.new.items
+        ≡ machine.go_on (role_of role) bare (part_of part) (stack_of stack.old.items)) }
 {
     match role {
         Role::Infix(operator) => {

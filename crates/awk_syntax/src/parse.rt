@@ -3,7 +3,8 @@
 ghost use Rattle.std.specs.Prelude.{◌≡◌, ◌≤◌, List, IfOk, IfErr};
 ghost use Rattle.awk_syntax.specs.Tree as t;
 ghost use Rattle.awk_syntax.specs.Height.{most_height, height_of_program};
-ghost use Rattle.awk_syntax.specs.Spelling.{kinds, IsProgram};
+ghost use Rattle.awk_lex.specs.Told.{kinds_of};
+ghost use Rattle.awk_syntax.specs.Spelling.{IsProgram};
 ghost use Rattle.awk_syntax.specs.View.{tree_of};
 ghost use Rattle.awk_syntax.specs.Outcome.{Reads, Justifies};
 ghost use Rattle.awk_syntax.specs.Machine as machine;
@@ -19,7 +20,7 @@ use awk_lex::token::Token;
 use std::alloc::Global;
 
 fn read(alloc: Global, tokens: &[Token]) -> Result<Tree, Refusal>
-    ensures { Gives result (machine.read 200 (kinds tokens.now)) }
+    ensures { Gives result (machine.read 200 (kinds_of tokens.now)) }
 {
     let mut stack = Vec::new(alloc);
     stack.push(Frame::Program(Some(LowItems::new(alloc))))?;
@@ -56,20 +57,24 @@ fn last_line(tokens: &[Token]) -> u64 {
 
 /// The tree that the tokens spell (POSIX awk, Grammar).
 ///
-/// An S1 names the line of the first token that can't stand where it stands, or of the last token where the text
-/// ended too early; an S2 names line 1. It takes time linear in the number of tokens, whatever is nested in what.
+/// An S1 names the line of the first token that can't stand where it stands, or of the last token
+/// where the text ended too early; an S2 names line 1. The time is linear in the number of tokens,
+/// and no nesting of the text is a nesting of calls.
 pub fn parse(alloc: Global, tokens: &[Token]) -> Result<Tree, Refusal>
     // What is read is spelled so and leveled, and not too high.
-    ensures found { IfOk result (λ tree. IsProgram (kinds tokens.now) (tree_of tree) × (height_of_program (tree_of tree) ≤ most_height)) }
+    ensures found { IfOk result (λ tree. IsProgram (kinds_of tokens.now) (tree_of tree)
+        × (height_of_program (tree_of tree) ≤ most_height)) }
     // Every such program is read, unless memory is refused.
-    ensures only { (items : List t.Item) → IsProgram (kinds tokens.now) items → height_of_program items ≤ most_height → Reads result items }
+    ensures only { (items : List t.Item) → IsProgram (kinds_of tokens.now) items
+        → height_of_program items ≤ most_height → Reads result items }
     // S1 only where no tree spells the tokens at all, S2 only where one does that is too high.
-    ensures refused { IfErr result (λ refusal. Justifies refusal.code (kinds tokens.now)) }
+    ensures refused { IfErr result (λ refusal. Justifies refusal.code (kinds_of tokens.now)) }
 {
     read(alloc, tokens)
 }
 
 /// Tokens have one tree at most, however high it is.
 pub fn one_tree()
-    ensures { (tokens : List _) (xs ys : List t.Item) → IsProgram tokens xs → IsProgram tokens ys → xs ≡ ys }
+    ensures { (tokens : List _) (xs ys : List t.Item) → IsProgram tokens xs
+        → IsProgram tokens ys → xs ≡ ys }
 {}

@@ -26,7 +26,8 @@ pub fn item_of(head: Head, action: Option<LowStatements>) -> Option<LowItem>
 
 /// An item is read.
 pub fn between(item: Option<LowItem>, stack: &mut Vec<Frame>) -> Result<Option<Now>, AllocError>
-    ensures { IfOk result (λ now. next_of now stack.new.items ≡ machine.between 200 (kept_item item) (stack_of stack.old.items)) }
+    ensures { IfOk result (λ now. next_of now stack.new.items
+        ≡ machine.between 200 (kept_item item) (stack_of stack.old.items)) }
 {
     let Some(Frame::Program(items)) = stack.pop() else {
         return Ok(None);
@@ -37,7 +38,8 @@ pub fn between(item: Option<LowItem>, stack: &mut Vec<Frame>) -> Result<Option<N
 
 /// The `}` of a block or an action.
 pub fn close_block(stack: &mut Vec<Frame>) -> Result<Option<Now>, AllocError>
-    ensures { IfOk result (λ now. next_of now stack.new.items ≡ machine.close_block 200 (stack_of stack.old.items)) }
+    ensures { IfOk result (λ now. next_of now stack.new.items
+        ≡ machine.close_block 200 (stack_of stack.old.items)) }
 {
     match stack.pop() {
         Some(Frame::Block(all)) => Ok(Some(Now::Done(block(all)))),
@@ -48,7 +50,8 @@ pub fn close_block(stack: &mut Vec<Frame>) -> Result<Option<Now>, AllocError>
 
 /// The token where a statement or the end of a block stands.
 pub fn begin(alloc: Global, kind: Kind, stack: &mut Vec<Frame>) -> Result<Option<Now>, AllocError>
-    ensures { IfOk result (λ now. next_of now stack.new.items ≡ machine.begin 200 kind (stack_of stack.old.items)) }
+    ensures { IfOk result (λ now. next_of now stack.new.items
+        ≡ machine.begin 200 kind (stack_of stack.old.items)) }
 {
     match kind {
         Kind::Newline => Ok(Some(Now::Begins)),
@@ -69,7 +72,8 @@ pub fn pass(
     statement: Option<LowStatement>,
     stack: &mut Vec<Frame>,
 ) -> Result<Option<Now>, AllocError>
-    ensures { IfOk result (λ now. next_of now stack.new.items ≡ machine.pass 200 kind (kept_statement statement) (stack_of stack.old.items)) }
+    ensures { IfOk result (λ now. next_of now stack.new.items
+        ≡ machine.pass 200 kind (kept_statement statement) (stack_of stack.old.items)) }
 {
     let frame = match stack.pop() {
         Some(Frame::Block(all)) => Frame::Block(one_more_statement(all, statement)?),
@@ -87,7 +91,8 @@ pub fn end_with(
     statement: Option<LowStatement>,
     stack: &mut Vec<Frame>,
 ) -> Result<Option<Now>, AllocError>
-    ensures { IfOk result (λ now. next_of now stack.new.items ≡ machine.end_with 200 kind (kept_statement statement) (stack_of stack.old.items)) }
+    ensures { IfOk result (λ now. next_of now stack.new.items
+        ≡ machine.end_with 200 kind (kept_statement statement) (stack_of stack.old.items)) }
 {
     match kind {
         Kind::Semicolon | Kind::Newline => Ok(Some(Now::Done(statement))),
@@ -103,7 +108,8 @@ pub fn close_print(
     list: Option<LowExprs>,
     stack: &mut Vec<Frame>,
 ) -> Result<Option<Now>, AllocError>
-    ensures { IfOk result (λ now. next_of now stack.new.items ≡ machine.close_print 200 kind (kept_exprs list) (stack_of stack.old.items)) }
+    ensures { IfOk result (λ now. next_of now stack.new.items
+        ≡ machine.close_print 200 kind (kept_exprs list) (stack_of stack.old.items)) }
 {
     if kind == Kind::Comma {
         stack.push(Frame::Print(list))?;
@@ -122,7 +128,8 @@ pub fn close_pattern(
     part: Part,
     stack: &mut Vec<Frame>,
 ) -> Result<Option<Now>, AllocError>
-    ensures { IfOk result (λ now. next_of now stack.new.items ≡ machine.close_pattern 200 kind (part_of part) (stack_of stack.old.items)) }
+    ensures { IfOk result (λ now. next_of now stack.new.items
+        ≡ machine.close_pattern 200 kind (part_of part) (stack_of stack.old.items)) }
 {
     if kind != Kind::OpenBrace {
         return Ok(None);
@@ -133,7 +140,8 @@ pub fn close_pattern(
 
 /// The token behind the word `print`.
 pub fn prints(alloc: Global, kind: Kind, stack: &mut Vec<Frame>) -> Result<Option<Now>, AllocError>
-    ensures { IfOk result (λ now. next_of now stack.new.items ≡ machine.prints 200 (stack_of stack.old.items) kind) }
+    ensures { IfOk result (λ now. next_of now stack.new.items
+        ≡ machine.prints 200 (stack_of stack.old.items) kind) }
 {
     let none = Some(LowExprs::new(alloc));
     match kind {
@@ -154,7 +162,8 @@ pub fn next_statement(
     statement: Option<LowStatement>,
     stack: &mut Vec<Frame>,
 ) -> Result<Option<Now>, AllocError>
-    ensures { IfOk result (λ now. next_of now stack.new.items ≡ machine.next_statement 200 (kept_statement statement) (stack_of stack.old.items) kind) }
+    ensures { IfOk result (λ now. next_of now stack.new.items
+        ≡ machine.next_statement 200 (kept_statement statement) (stack_of stack.old.items) kind) }
 {
     if kind == Kind::Newline {
         return Ok(Some(Now::Done(statement)));
@@ -164,7 +173,8 @@ pub fn next_statement(
 
 /// The token between items.
 pub fn item(alloc: Global, kind: Kind, stack: &mut Vec<Frame>) -> Result<Option<Now>, AllocError>
-    ensures { IfOk result (λ now. next_of now stack.new.items ≡ machine.item 200 (stack_of stack.old.items) kind) }
+    ensures { IfOk result (λ now. next_of now stack.new.items
+        ≡ machine.item 200 (stack_of stack.old.items) kind) }
 {
     match kind {
         Kind::Semicolon | Kind::Newline => Ok(Some(Now::Between)),

@@ -1,4 +1,4 @@
-use Rattle.std.proofs.Common.{List, ℕ, Option, None, Some, sym, ◌∙◌, ap, subst}
+use Rattle.std.proofs.Common.{List, ℕ, None, Some, sym, ◌∙◌, subst}
 use Rattle.std.proofs.lemmas.List.{take_rest}
 use Rattle.memchr.specs.Find.{IsFirstByte, is_byte}
 use Rattle.awk_record.proofs.SearchLemmas.{byte_nowhere, first_byte_none, first_byte_some}

@@ -4,7 +4,7 @@ use Rattle.std.specs.List.{filter, slice_split}
 use Rattle.std.proofs.lemmas.List.Elements.{All-nil}
 use Rattle.awk_text.specs.Span.{stretches_at, IsSpanOf, AreSpansOf}
 use Rattle.awk_text.specs.Pieces.{is_blank, is_full, pieces_of}
-use Rattle.awk_text.proofs.SplitLemmas.{onto_front, split_start, split_inside, split_separator, split_end, stretches_added, spans_added}
+use Rattle.awk_text.proofs.SplitLemmas.{onto_front, split_start, split_inside, split_separator, stretches_added, spans_added}
 use Rattle.awk_text.proofs.split.split_blanks.Goals as goal
 
 pub loop-i-init : goal.loop-i-init

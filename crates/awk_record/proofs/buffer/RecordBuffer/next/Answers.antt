@@ -1,4 +1,4 @@
-use Rattle.std.proofs.Common.{◌≡◌, ◌∙◌, Ok, refl, sym, ap, subst, List, ℕ, drop, length, rules, arith}
+use Rattle.std.proofs.Common.{◌≡◌, ◌∙◌, Ok, refl, sym, ap, subst, List, ℕ, drop, length, arith}
 use Rattle.std.proofs.lemmas.List.{length-drop}
 use Rattle.awk_record.specs.Buffer.{Pending, Steps}
 use Rattle.awk_record.specs.Cut.{BrokenOff, NoMore, TooLong}

@@ -1,0 +1,104 @@
+// A whole run, of a tree and of a text.
+
+ghost use Rattle.std.specs.Prelude.{◌≡◌, ◌⊎◌, List, ℕ, IfOk, IfErr, OnErr};
+ghost use Rattle.awk_lex.specs.Refused.{IsOutOfMemory};
+ghost use Rattle.awk_syntax.specs.Tree.{Item as ItemTree};
+ghost use Rattle.awk_syntax.specs.View.{tree_of, items_of};
+ghost use Rattle.awk_run.specs.Accepted.{Accepted, RefusedFor};
+ghost use Rattle.awk_run.specs.Start.{start_values, IsPlain};
+ghost use Rattle.awk_run.specs.Does.{seen};
+ghost use Rattle.awk_run.specs.Verdict.{outcome_after as outcome_at, ReadsOnly, RunsFrom};
+ghost use Rattle.awk_run.specs.Headline.{Executed};
+
+use crate::halt::Halt;
+use crate::machine::Machine;
+use crate::outcome::{Fault, Outcome};
+use crate::start::Start;
+use crate::statements::run_items;
+use awk_lex::lexer::tokens;
+use awk_lex::refusal::Refusal;
+use awk_streams::{StreamFault, World, some_answers_agree};
+use awk_syntax::parse::parse;
+use awk_syntax::tree::{Item, Tree};
+use std::alloc::Global;
+
+/// The fault of a run that a fault of the streams is.
+fn stream_fault(fault: StreamFault) -> Fault
+    ensures { result ≡ fault_of fault }
+{
+    match fault {
+        StreamFault::Memory => Fault::OutOfMemory,
+        StreamFault::WriteFailed => Fault::WriteFailed,
+        StreamFault::InputNotReadable => Fault::InputNotReadable,
+        StreamFault::SeparatorTooLong => Fault::RecordSeparatorTooLong,
+        StreamFault::RecordTooLong => Fault::RecordTooLong,
+    }
+}
+
+/// How a run ended: a failure of its end counts unless a fault came before it.
+fn outcome_after(ended: Result<(), Halt>, finished: Result<(), StreamFault>) -> Outcome
+    ensures { result ≡ outcome_at ended finished }
+{
+    let outcome = match ended {
+        Ok(()) => Outcome::Ended(0),
+        Err(Halt::OutOfSteps) => Outcome::Stopped,
+        Err(Halt::Fault(fault)) => return Outcome::Fault(fault),
+    };
+    match finished {
+        Ok(()) => outcome,
+        Err(fault) => Outcome::Fault(stream_fault(fault)),
+    }
+}
+
+/// Runs the items on standard input, with at most so many steps (POSIX awk, Overall Program
+/// Structure).
+fn run<W: World>(alloc: Global, items: &[Item], limit: u64, world: &mut W) -> Outcome
+    ensures { RunsFrom W.tells (items_of items.now) limit (seen (W.is_open world.old) (W.log world.old) (W.mark world.old)) (seen (W.is_open world.new) (W.log world.new) (W.mark world.new)) result }
+{
+    some_answers_agree();
+    let Ok(mut machine) = Machine::new(alloc, limit) else {
+        return Outcome::Fault(Fault::OutOfMemory);
+    };
+    let ended = run_items(items, &mut machine, world);
+    let finished = machine.streams.finish(world);
+    outcome_after(ended, finished)
+}
+
+/// The program of a text.
+fn program(alloc: Global, text: &[u8]) -> Result<Tree, Refusal>
+    ensures accepted { IfOk result (λ tree. Accepted text.now (tree_of tree)) }
+    ensures only { (items : List ItemTree) → Accepted text.now items → ReadsOnly result items }
+    ensures cause { IfErr result (λ refusal. RefusedFor refusal.code text.now) }
+{
+    let tokens = tokens(alloc, text)?;
+    parse(alloc, &tokens)
+}
+
+/// Reads a program text and runs it on standard input, with at most `limit` steps.
+///
+/// A text that is no program is refused, with the first cause that holds and its line, and nothing
+/// is done in the world. (POSIX awk, the awk utility)
+pub fn execute<W: World>(
+    alloc: Global,
+    text: &[u8],
+    start: &Start,
+    limit: u64,
+    world: &mut W,
+) -> Result<Outcome, Refusal>
+    requires plain { IsPlain start.now }
+    ensures executed { Executed W.tells text.now (start_values start.now) limit (seen (W.is_open world.old) (W.log world.old) (W.mark world.old)) (seen (W.is_open world.new) (W.log world.new) (W.mark world.new)) result }
+    ensures untouched { OnErr result (world.new ≡ world.old) }
+{
+    let tree = program(alloc, text)?;
+    Ok(run(alloc, &tree.items, limit, world))
+}
+
+/// A text is at most one program.
+pub fn one_program()
+    ensures { (text : List ℕ) (xs ys : List ItemTree) → Accepted text xs → Accepted text ys → xs ≡ ys }
+{
+    awk_lex::lexer::one_lexing();
+    awk_syntax::parse::one_tree();
+}
+
+ghost use Rattle.awk_run.specs.Operators.{stream_fault as fault_of};

@@ -1,0 +1,74 @@
+// The streams of a world in memory. A stream's number is its place plus two, behind the standard
+// outputs; a closed one keeps its place, so that no number is granted twice.
+ghost use Rattle.std.specs.Prelude.{◌≡◌, ◌≤◌, ◌<◌, ◌+◌, ◌-◌, ◌^◌, ◌⊎◌, min, take, drop, slice_index_or, IsNone, vec_len, vec_capacity, OnOk, OnErr, IsTrue, IsOk, IfSome, length, slice_get};
+ghost use Rattle.awk_streams.specs.declared.stream.Stream.{Stream as StreamValue};
+ghost use Rattle.awk_streams.specs.Ids.{IsFresh, Opens, Closes, SameOpen};
+ghost use Rattle.awk_streams.specs.Script.{is_open_in, open_at, open_count};
+
+use std::alloc::AllocError;
+
+// An input that was granted: its bytes, how many of them were read, and whether it breaks behind
+// them.
+#[derive(Drop)]
+pub struct Stream {
+    pub open: bool,
+    pub bytes: Vec<u8>,
+    pub at: usize,
+    pub breaks: bool,
+}
+
+// Fills the slice with the next bytes of the stream, and answers how many.
+pub fn give(stream: &Stream, into: &mut [u8]) -> usize
+    ensures count { result ≡ min (vec_len stream.now.bytes - stream.now.at) (length into.old) }
+    ensures bytes { take result into.new ≡ take result (drop stream.now.at stream.now.bytes.items) }
+{
+    let left = stream.bytes.get(stream.at..).unwrap_or(&[]);
+    let count = left.len().min(into.len());
+    into[..count].copy_from_slice(&left[..count]);
+    count
+}
+
+// The place of the stream of this number, if it is one.
+pub fn place_of(streams: &Vec<Stream>, id: u64) -> Option<usize>
+    ensures place { IfSome result (λ place. (place < vec_len streams.now) × (place + 2 ≡ id)) }
+    ensures none { IsNone result → (id < 2) ⊎ (vec_len streams.now + 2 ≤ id) }
+{
+    let place = id.checked_sub(2)? as usize;
+    if place < streams.len() {
+        Some(place)
+    } else {
+        None
+    }
+}
+
+// The stream has given so many more of its bytes.
+pub fn advance(streams: &mut Vec<Stream>, place: usize, count: usize)
+    requires { place < vec_len streams.old }
+    ensures at { (d : StreamValue) → let at = (slice_index_or streams.old.items place d).at in at + count < 2 ^ 64 → (slice_index_or streams.new.items place d).at ≡ at + count }
+    ensures open { SameOpen (is_open_in streams.old.items) (is_open_in streams.new.items) }
+    ensures count { open_count streams.new.items ≡ open_count streams.old.items }
+{
+    let stream = &mut streams[place];
+    stream.at = stream.at.saturating_add(count);
+}
+
+pub fn shut(streams: &mut Vec<Stream>, place: usize)
+    requires { IsTrue (open_at (slice_get streams.old.items place)) }
+    ensures closes { Closes (is_open_in streams.old.items) (is_open_in streams.new.items) (place + 2) }
+    ensures count { open_count streams.new.items + 1 ≡ open_count streams.old.items }
+{
+    let stream = &mut streams[place];
+    stream.open = false;
+}
+
+pub fn add(streams: &mut Vec<Stream>, stream: Stream) -> Result<(), AllocError>
+    requires { IsTrue stream.open }
+    ensures ok { OnOk result (Opens (is_open_in streams.old.items) (is_open_in streams.new.items) (vec_len streams.old + 2)) }
+    ensures err { OnErr result (streams.new.items ≡ streams.old.items) }
+    ensures fresh { IsFresh (is_open_in streams.old.items) (vec_len streams.old + 2) }
+    ensures count { OnOk result (open_count streams.new.items ≡ open_count streams.old.items + 1) }
+    ensures succeeds { vec_len streams.old < vec_capacity streams.old → IsOk result }
+{
+    streams.push(stream)?;
+    Ok(())
+}

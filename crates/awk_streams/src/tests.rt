@@ -1,0 +1,273 @@
+// What runs over a world in memory read, print and log.
+ghost use Rattle.std.specs.Prelude.{is_some, IsTrue, IfOk, None, [], ◌≡◌, nat_lt};
+ghost use Rattle.std.proofs.lemmas.Bool.{lt-ltb};
+ghost use Rattle.awk_streams.specs.Streams.{AreOpen, AreSound};
+
+use crate::{
+    Answer, Entry, InputKind, Mode, OutputKind, ScriptWorld, StreamFault, Streams, World,
+    WorldFault, agrees_with_less, some_answers_agree,
+};
+use std::alloc::Global;
+use std::test::Fail;
+
+// Prints the records of the main input, at most so many, with a bar behind each.
+fn copy_records<W: World>(
+    world: &mut W,
+    streams: &mut Streams,
+    separator: &[u8],
+    most: u64,
+) -> Result<(), StreamFault>
+    requires main { IsTrue (is_some streams.old.main) }
+    requires open { AreOpen (W.is_open world.old) streams.old }
+    requires sound { W.tells → AreSound (W.is_open world.old) (W.log world.old) streams.old }
+    ensures open { AreOpen (W.is_open world.new) streams.new }
+{
+    for _ in 0..most {
+        let Some(record) = streams.next_main(world, separator)? else {
+            break;
+        };
+        streams.print(world, record.as_slice())?;
+        streams.print(world, b"|")?;
+    }
+    Ok(())
+}
+
+// Copies standard input, and then ends the run.
+fn copy_standard_input(
+    world: &mut ScriptWorld,
+    alloc: Global,
+    separator: &[u8],
+) -> Result<(), StreamFault>
+    requires { ⟦<ScriptWorld as World>⟧.log world.old ≡ [] }
+{
+    let mut streams = Streams::new(alloc);
+    streams.open_main(world, InputKind::Standard, b"")?;
+    let copied = copy_records(world, &mut streams, separator, 100);
+    copied.and(streams.finish(world))
+}
+
+fn standard_input(
+    alloc: Global,
+    bytes: &[u8],
+    refused: bool,
+    breaks: bool,
+) -> Result<ScriptWorld, Fail>
+    ensures { IfOk result (λ world. ⟦<ScriptWorld as World>⟧.log world ≡ []) }
+{
+    let mut answers = Vec::new(alloc);
+    answers.push(Answer {
+        kind: InputKind::Standard,
+        name: Vec::new(alloc),
+        refused,
+        bytes: bytes.to_vec(alloc)?,
+        breaks,
+    })?;
+    Ok(ScriptWorld::new(alloc, answers))
+}
+
+// A world with no inputs that takes so many more bytes, one at each write, and then fails; its
+// flushes answer what is listed for their outputs.
+#[derive(Drop)]
+struct Outputs {
+    taken: Vec<u8>,
+    room: usize,
+    full: WorldFault,
+    flushes: [Result<(), WorldFault>; 2],
+}
+
+impl World for Outputs {
+    ghost tells = { ⊥ };
+
+    ghost log = { λ _. [] };
+
+    ghost mark = { λ _. None };
+
+    ghost is_open = { λ _ id. nat_lt id 2 };
+
+    ghost standard_open = { λ _ id below. lt-ltb id 2 below };
+
+    fn open_input(&mut self, _kind: InputKind, _name: &[u8]) -> Result<u64, WorldFault> {
+        Err(WorldFault::Failed)
+    }
+
+    fn read(&mut self, _id: u64, _into: &mut [u8]) -> Result<usize, WorldFault> {
+        Err(WorldFault::Failed)
+    }
+
+    fn open_output(
+        &mut self,
+        _kind: OutputKind,
+        _name: &[u8],
+        _mode: Mode,
+    ) -> Result<u64, WorldFault> {
+        Err(WorldFault::Failed)
+    }
+
+    fn write(&mut self, _id: u64, bytes: &[u8]) -> Result<usize, WorldFault> {
+        let [first, ..] = bytes else {
+            return Ok(0);
+        };
+        if self.room == 0 {
+            return Err(self.full);
+        }
+        self.room -= 1;
+        self.taken.push(*first).map_err(|_| WorldFault::Memory)?;
+        Ok(1)
+    }
+
+    fn flush(&mut self, id: u64) -> Result<(), WorldFault> {
+        if id == 0 {
+            self.flushes[0]
+        } else {
+            self.flushes[1]
+        }
+    }
+
+    fn close(&mut self, _id: u64) -> i128 {
+        0
+    }
+
+    fn run(&mut self, _command: &[u8]) -> Result<i128, WorldFault> {
+        Err(WorldFault::Memory)
+    }
+}
+
+#[test]
+fn the_first_failure_is_answered(rt: HostRuntime) -> Result<(), Fail> {
+    let alloc = rt.alloc();
+    let (memory, failed) = (Err(WorldFault::Memory), Err(WorldFault::Failed));
+    let (f1, f2) = (Err(StreamFault::Memory), Err(StreamFault::WriteFailed));
+    for (room, full, flushes, printed, ended) in [
+        (3, WorldFault::Failed, [Ok(()), Ok(())], Ok(()), Ok(())),
+        (2, WorldFault::Failed, [Ok(()), failed], f2, f2),
+        (0, WorldFault::Memory, [memory, failed], f1, f1),
+        (3, WorldFault::Failed, [failed, memory], Ok(()), f2),
+    ] {
+        let mut world = Outputs {
+            taken: Vec::new(alloc),
+            room,
+            full,
+            flushes,
+        };
+        let mut streams = Streams::new(alloc);
+        assert_eq!(rt; streams.print(&mut world, b"abc"), printed);
+        assert_eq!(rt; world.taken.as_slice(), &b"abc"[..room]);
+        assert_eq!(rt; streams.finish(&mut world), ended);
+    }
+    Ok(())
+}
+
+#[test]
+fn the_log_has_each_call_in_order(rt: HostRuntime) -> Result<(), Fail> {
+    let alloc = rt.alloc();
+    let mut world = standard_input(alloc, b"ab\nc", false, false)?;
+    copy_standard_input(&mut world, alloc, b"\n")?;
+    let expected = vec![in alloc;
+        Entry::OpenedInput(InputKind::Standard, Vec::new(alloc), Some(2)),
+        Entry::Read(2, b"a".to_vec(alloc)?),
+        Entry::Read(2, b"b".to_vec(alloc)?),
+        Entry::Read(2, b"\n".to_vec(alloc)?),
+        Entry::Wrote(0, b"ab".to_vec(alloc)?),
+        Entry::Wrote(0, b"|".to_vec(alloc)?),
+        Entry::Read(2, b"c".to_vec(alloc)?),
+        Entry::Ended(2),
+        Entry::Wrote(0, b"c".to_vec(alloc)?),
+        Entry::Wrote(0, b"|".to_vec(alloc)?),
+        Entry::Flushed(0),
+        Entry::Flushed(1),
+        Entry::Closed(2, 0),
+    ]?;
+    assert_eq!(rt; world.entries(), expected.as_slice());
+    Ok(())
+}
+
+#[test]
+fn a_run_ends_as_its_input_does(rt: HostRuntime) -> Result<(), Fail> {
+    let alloc = rt.alloc();
+    for (bytes, refused, breaks, separator, outcome, printed) in [
+        (
+            b"".as_slice(),
+            false,
+            false,
+            b"\n".as_slice(),
+            Ok(()),
+            b"".as_slice(),
+        ),
+        (b"a\n\nb", false, false, b"\n", Ok(()), b"a||b|"),
+        (b"\n\na\nb\n\n\nc\n", false, false, b"", Ok(()), b"a\nb|c|"),
+        (
+            b"a\nb",
+            false,
+            true,
+            b"\n",
+            Err(StreamFault::InputNotReadable),
+            b"a|",
+        ),
+        (
+            b"a\n",
+            false,
+            true,
+            b"\n",
+            Err(StreamFault::InputNotReadable),
+            b"a|",
+        ),
+        (
+            b"a\n",
+            true,
+            false,
+            b"\n",
+            Err(StreamFault::InputNotReadable),
+            b"",
+        ),
+        (
+            b"a\n",
+            false,
+            false,
+            b"ab",
+            Err(StreamFault::SeparatorTooLong),
+            b"",
+        ),
+    ] {
+        let mut world = standard_input(alloc, bytes, refused, breaks)?;
+        assert_eq!(rt; copy_standard_input(&mut world, alloc, separator), outcome);
+        assert_eq!(rt; world.received(0)?.as_slice(), printed);
+        assert_eq!(rt; world.received(1)?.len(), 0);
+    }
+    Ok(())
+}
+
+#[test]
+fn a_world_answers_what_no_answer_is_listed_for(rt: HostRuntime) -> Result<(), Fail> {
+    let alloc = rt.alloc();
+    some_answers_agree();
+    agrees_with_less();
+    let mut world = ScriptWorld::new(alloc, Vec::new(alloc));
+    assert_eq!(rt;
+        world.open_input(InputKind::File, b"f"),
+        Err(WorldFault::Failed)
+    );
+    assert_eq!(rt;
+        world.open_output(OutputKind::File, b"f", Mode::Append),
+        Err(WorldFault::Failed)
+    );
+    assert_eq!(rt; world.run(b"true"), Ok(0));
+    let id = world.open_input(InputKind::Standard, b"")?;
+    assert_eq!(rt; world.read(id, &mut [0; 4]), Ok(0));
+    assert_eq!(rt; world.write(1, b"ab"), Ok(2));
+    assert_eq!(rt; world.flush(1), Ok(()));
+    assert_eq!(rt; world.close(id), 0);
+    assert_eq!(rt; world.received(1)?.as_slice(), b"ab".as_slice());
+    let texts = format!(in alloc;
+        "{}, {}, {}, {}, {}",
+        StreamFault::Memory,
+        StreamFault::WriteFailed,
+        StreamFault::InputNotReadable,
+        StreamFault::SeparatorTooLong,
+        StreamFault::RecordTooLong
+    )?;
+    assert_eq!(rt;
+        texts.as_str(),
+        "out of memory, write failed, input not readable, record separator too long, record too long"
+    );
+    Ok(())
+}
