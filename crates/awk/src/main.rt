@@ -3,6 +3,10 @@
 
 mod system;
 
+ghost use Rattle.std.specs.Prelude.{◌≡◌};
+ghost use Rattle.std.specs.Option.{option_map};
+ghost use Rattle.awk.specs.Report.{line_of};
+
 use awk_run::{Fault, Outcome, Start, execute, fault_line, status};
 use std::env::{self, Env};
 use std::io::ErrorKind;
@@ -32,7 +36,9 @@ fn program_text<R: Env + AllocGlobal>(rt: &R) -> Result<String, &'static str> {
 }
 
 /// The line that tells of an outcome on standard error, if one does.
-fn outcome_line(outcome: &Outcome) -> Option<&'static str> {
+fn outcome_line(outcome: &Outcome) -> Option<&'static str>
+    ensures { option_map (λ line. line.now) result ≡ line_of outcome.now }
+{
     match outcome {
         Outcome::Ended(_) => None,
         Outcome::Fault(fault) => Some(fault_line(*fault)),

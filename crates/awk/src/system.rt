@@ -1,9 +1,10 @@
 // The outside of a run, over the system's standard streams.
 
-ghost use Rattle.std.specs.Prelude.{◌≡◌, ◌≢◌, ◌≤◌, ◌↔◌, ℕ, List, [], Option, None, Some, ◌||◌, is_some, IfOk, OnErr, length, nat_lt};
+ghost use Rattle.std.specs.Prelude.{◌≡◌, ◌≢◌, ◌≤◌, ◌↔◌, ℕ, Err, List, [], Option, None, Some, ◌||◌, is_some, IfOk, OnErr, length, nat_lt};
 ghost use Rattle.std.specs.Ordering.{nat_cmp};
 ghost use Rattle.std.specs.IoError.{error_kind};
 ghost use Rattle.std.specs.BTreeMap.{get};
+ghost use Rattle.std.specs.Io.KnownBytes.{ReadConsumes, WriteAppends};
 ghost use Rattle.awk_streams.specs.Ids.{IsFresh, Opens, SameOpen};
 ghost use Rattle.awk_streams.specs.Log.{Event};
 ghost use Rattle.awk.specs.Open.{is_open_in, standard_outputs_open};
@@ -56,11 +57,12 @@ impl SysWorld {
         }
     }
 
-    /// Keeps what was opened, and answers its number.
+    /// Keeps what was opened, and answers its number. `Failed`: no number is left.
     fn keep(&mut self, stream: Stream) -> Result<u64, WorldFault>
         ensures fresh { IfOk result (IsFresh (is_open_in self.old.opened)) }
         ensures opens { IfOk result (Opens (is_open_in self.old.opened) (is_open_in self.new.opened)) }
         ensures err { OnErr result (SameOpen (is_open_in self.old.opened) (is_open_in self.new.opened)) }
+        ensures failed { result ≡ Err WorldFault.Failed → self.old.next ≡ u64.MAX }
     {
         let id = self.next;
         let next = id.checked_add(1).ok_or(WorldFault::Failed)?;
@@ -84,7 +86,8 @@ fn fault_of(error: io::Error) -> WorldFault
 
 /// One read, begun again where a signal interrupts it.
 fn read_from<R: Read>(reader: &mut R, into: &mut [u8]) -> Result<usize, WorldFault>
-    ensures { IfOk result (λ n. n ≤ length into.old) }
+    ensures count { IfOk result (λ n. n ≤ length into.old) }
+    ensures bytes { ReadConsumes (R.remaining reader.old) (R.remaining reader.new) result into.new }
 {
     for _ in 0..u64::MAX {
         match reader.read(into) {
@@ -101,7 +104,8 @@ fn read_from<R: Read>(reader: &mut R, into: &mut [u8]) -> Result<usize, WorldFau
 
 /// One write, begun again where a signal interrupts it.
 fn write_to<W: Write>(writer: &mut W, bytes: &[u8]) -> Result<usize, WorldFault>
-    ensures { IfOk result (λ n. n ≤ length bytes.now) }
+    ensures count { IfOk result (λ n. n ≤ length bytes.now) }
+    ensures bytes { WriteAppends (W.contents writer.old) (W.contents writer.new) result bytes.now }
 {
     for _ in 0..u64::MAX {
         match writer.write(bytes) {
