@@ -149,6 +149,7 @@ printed_larger (Cons e es) = values_larger [] (Cons e es)
 
 mutual
   unfolding S
+
   S_larger : (s : Statement) → Larger (S s) (S s)
   S_larger (Block all) = all_larger all
   S_larger (Print list) = then_larger _ _ spend_larger (λ _. then_larger _ _ (printed_larger list) (λ vs. show_larger (line_of vs)))

@@ -57,4 +57,5 @@ abbrev pub meaning_of : List Item → StartValues → Answers → ℕ → Meanin
 meaning_of items start answers limit = record {
   outcome = outcome_of (whole items start answers limit).result;
   printed = λ output. printed_to output (whole items start answers limit).events;
-  demands = demands_after [] ((whole items start answers limit).events ++ Demanded TheEnd ∷ []); }
+  demands = demands_after [] ((whole items start answers limit).events ++ Demanded TheEnd ∷ []);
+}
