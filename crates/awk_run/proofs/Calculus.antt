@@ -1,7 +1,7 @@
 -- How what the parts of the code do is put together.
-use Rattle.std.proofs.Common.{◌≡◌, ℕ, ◌≤◌, Bool, true, List, [], ◌∷◌, ◌++◌, Option, None, Result, Ok, Err, refl, sym, ap, ◌∙◌, subst, append_assoc, append-nil, arith}
+use Rattle.std.proofs.Common.{◌≡◌, ℕ, ◌≤◌, List, [], ◌++◌, Option, Result, Ok, Err, refl, sym, ap, ◌∙◌, subst, append_assoc, append-nil, arith}
 use Rattle.awk_streams.specs.Log as log
-use Rattle.awk_streams.specs.Answers.{Answers, Agrees}
+use Rattle.awk_streams.specs.Answers.{Answers}
 use Rattle.awk_streams.specs.Streams.{StreamsView, AreOpen, AreSound, IsSoundMain, Grows, IsMainRest}
 use Rattle.awk_run.specs.declared.machine.Machine.{Machine}
 use Rattle.awk_run.specs.declared.halt.Halt.{Halt}

@@ -1,10 +1,9 @@
 -- Each form of the language by what its parts do.
-use Rattle.std.proofs.Common.{◌≡◌, ℕ, ◌≤◌, ◌<◌, ◌+◌, zero, suc, Bool, true, false, List, [], ◌∷◌, ◌++◌, ℤ, Option, Some, None, Result, Ok, Err, ◌==◌, length, drop, get_or, add-one, drop-cons, refl, arith, sym, ap, ◌∙◌, subst}
+use Rattle.std.proofs.Common.{◌≡◌, ℕ, ◌≤◌, ◌<◌, ◌+◌, zero, suc, Bool, true, false, List, [], ◌∷◌, ◌++◌, ℤ, Some, None, Result, Ok, Err, ◌==◌, length, drop, get_or, add-one, drop-cons, refl, arith, sym, ap, ◌∙◌, subst}
 use Rattle.std.proofs.lemmas.List.{drop_all}
 use Rattle.std.proofs.lemmas.Bool.Decides.{nat_tests}
 use Rattle.awk_value.specs.declared.value.Value.{Value}
 use Rattle.awk_value.specs.declared.value.Value.TheVariants as value
-use Rattle.awk_value.specs.Values.{truth_of}
 use Rattle.awk_streams.specs.Streams.{AreOpen, IsSoundMain}
 use Rattle.awk_syntax.specs.declared.tree.BinaryOperator.{BinaryOperator}
 use Rattle.awk_syntax.specs.declared.tree.Expr.{Expr as Code}
@@ -16,10 +15,9 @@ use Rattle.awk_run.specs.declared.machine.Machine.{Machine}
 use Rattle.awk_run.specs.declared.halt.Halt.{Halt}
 use Rattle.awk_run.specs.declared.halt.Halt.TheVariants as halt
 use Rattle.awk_run.specs.declared.outcome.Fault.TheVariants.{OutOfMemory}
-use Rattle.awk_run.specs.State.{Run, ◌>>=◌, lift, ret}
 use Rattle.awk_run.specs.Operators.{applied, field_value}
-use Rattle.awk_run.specs.Words.{spend, field_at, current_text, show, set_record}
-use Rattle.awk_run.specs.Effect.{E, values_of, printed_values, line_of, S, S_all, run_if, try_item, try_items, next_record, on_record, each_record, all_records, run_items}
+use Rattle.awk_run.specs.Words.{field_at, current_text, show, set_record}
+use Rattle.awk_run.specs.Effect.{E, values_of, printed_values, line_of, S, S_all, run_if, try_item, try_items, next_record, each_record, all_records, run_items}
 use Rattle.awk_run.specs.Does.{Seen, Matches, Does, Changes, Spends, SameState, Evaluates, Tests, EvaluatesAll, Lists, Follows, Executes, ExecutesAll, Tries, TriesAll, ReadsOn, ReadsAll, RunsItems}
 use Rattle.awk_run.proofs.Calculus.{then_changes, ends_changes, lift_changes, memory_changes, reads_changes, then_does, ends_does, lift_does, change_does}
 

@@ -1,7 +1,7 @@
 -- What the calls of the streams do to the state of a run.
-use Rattle.std.proofs.Common.{◌≡◌, ◌≢◌, ℕ, ◌+◌, ◌≤◌, Bool, true, false, ◌&&◌, List, [], ◌∷◌, ◌++◌, Option, Some, None, is_some, Result, Ok, Err, IfErr, ◌⊎◌, inl, inr, refl, sym, ap, ◌∙◌, subst, append-nil, arith}
+use Rattle.std.proofs.Common.{◌≡◌, ◌≢◌, ℕ, ◌+◌, true, false, ◌&&◌, List, [], ◌∷◌, ◌++◌, Option, Some, None, is_some, Result, Ok, Err, IfErr, ◌⊎◌, inl, inr, refl, sym, ap, ◌∙◌, subst, append-nil, arith}
 use Rattle.std.specs.Prelude.{bytes_eq}
-use Rattle.awk_record.specs.Cut.{Ending, Cut, Found, NoMore, BrokenOff, TooLong, BadSeparator, cut_of}
+use Rattle.awk_record.specs.Cut.{Cut, Found, NoMore, BrokenOff, TooLong, BadSeparator, cut_of}
 use Rattle.awk_streams.specs.declared.world.InputKind.{InputKind}
 use Rattle.awk_streams.specs.declared.world.InputKind.TheVariants.{Standard}
 use Rattle.awk_streams.specs.declared.fault.StreamFault.{StreamFault}
@@ -10,14 +10,14 @@ use Rattle.awk_streams.specs.Log as log
 use Rattle.awk_streams.specs.Answers.{Answers, Source, Agrees, one_if, same_input, how_many, opens_input}
 use Rattle.awk_streams.specs.Writes.{received}
 use Rattle.awk_streams.specs.Told.{NextTold}
-use Rattle.awk_streams.specs.Streams.{StreamsView, InputView, AreOpen, AreSound, Grows, IsMainRest, IsFreshMain, OpensMain, AsksMain, Prints}
+use Rattle.awk_streams.specs.Streams.{InputView, AreOpen, IsMainRest, IsFreshMain, OpensMain, AsksMain, Prints}
 use Rattle.awk_streams.specs.Outputs.{IsOutputFault}
 use Rattle.awk_run.specs.declared.machine.Machine.{Machine}
 use Rattle.awk_run.specs.declared.halt.Halt.{Halt}
 use Rattle.awk_run.specs.declared.halt.Halt.TheVariants as halt
 use Rattle.awk_run.specs.declared.outcome.Fault.TheVariants as faults
-use Rattle.awk_run.specs.State.{Output, StandardOutput, StandardError, Demand, AnOpening, ARecord, Event, Printed, Demanded, Stop, Faulted, OutOfSteps, State, Out, Run, ◌>>=◌, lift}
-use Rattle.awk_run.specs.Words.{record_separator, show, one_more, counted, opened, open_main, with_rest, taken, taken_of, take_record, open_of, open_standard}
+use Rattle.awk_run.specs.State.{StandardOutput, StandardError, AnOpening, ARecord, Event, Printed, Demanded, State, Out, lift}
+use Rattle.awk_run.specs.Words.{record_separator, show, counted, opened, open_main, with_rest, taken, taken_of, take_record, open_of, open_standard}
 use Rattle.awk_run.specs.Effect.{next_record}
 use Rattle.awk_run.specs.Meaning.{printed_to}
 use Rattle.awk_run.specs.Does.{Seen, Stands, Comes, Means, Does, Follows, Opens, halted}

@@ -1,27 +1,23 @@
 -- From the parts of a run to the whole.
-use Rattle.std.proofs.Common.{◌≡◌, ◌≢◌, ℕ, ◌≤◌, Bool, true, false, List, [], ◌∷◌, ◌++◌, Option, None, Some, is_some, Result, Ok, Err, refl, sym, ap, ◌∙◌, subst, append-nil, arith}
+use Rattle.std.proofs.Common.{◌≡◌, ◌≢◌, ℕ, Bool, true, List, [], Option, None, Some, is_some, Result, Ok, Err, refl, sym, ap, ◌∙◌, subst}
 use Rattle.awk_streams.specs.declared.fault.StreamFault.{StreamFault}
-use Rattle.awk_streams.specs.declared.fault.StreamFault.TheVariants as streams
 use Rattle.awk_streams.specs.Log as log
 use Rattle.awk_streams.specs.Answers.{Answers, Agrees, how_many, opens_input}
 use Rattle.awk_streams.specs.Orderly.{IsOrderly, IsInOrder}
 use Rattle.awk_streams.specs.Writes.{received}
-use Rattle.awk_streams.specs.Streams.{StreamsView, InputView, AreOpen, AreSound, Grows, IsMainRest, IsSoundMain, IsOpenMain, Finishes}
+use Rattle.awk_streams.specs.Streams.{StreamsView, AreOpen, AreSound, IsMainRest, IsSoundMain, IsOpenMain, Finishes}
 use Rattle.awk_syntax.specs.Tree.{Item}
-use Rattle.awk_record.specs.Record.{RecordPair}
 use Rattle.awk_run.specs.declared.machine.Machine.{Machine}
 use Rattle.awk_run.specs.declared.halt.Halt.{Halt}
 use Rattle.awk_run.specs.declared.halt.Halt.TheVariants as halt
 use Rattle.awk_run.specs.declared.outcome.Outcome.{Outcome}
-use Rattle.awk_run.specs.declared.outcome.Outcome.TheVariants.{Ended, Fault, Stopped}
-use Rattle.awk_run.specs.declared.outcome.Fault.{Fault as AFault}
+use Rattle.awk_run.specs.declared.outcome.Outcome.TheVariants.{Fault}
 use Rattle.awk_run.specs.declared.outcome.Fault.TheVariants as faults
-use Rattle.awk_run.specs.State.{Output, StandardOutput, StandardError, Event, Stop, Faulted, OutOfSteps, State, Out}
+use Rattle.awk_run.specs.State.{StandardOutput, StandardError, Stop, Faulted, OutOfSteps, Out}
 use Rattle.awk_run.specs.Effect.{run_items}
-use Rattle.awk_run.specs.Meaning.{StartValues, start_state, whole, outcome_of, printed_to, meaning_of}
-use Rattle.awk_run.specs.Operators.{stream_fault}
-use Rattle.awk_run.specs.Does.{Seen, Stands, Sort, WantOfMemory, FailedWrite, OfLanguage, sort_of, Comes, ComesBy, Means, Does, RunsItems, IsStart}
-use Rattle.awk_run.specs.Headline.{IsFresh, IsUndisturbed, Runs}
+use Rattle.awk_run.specs.Meaning.{StartValues, start_state, whole, outcome_of, printed_to}
+use Rattle.awk_run.specs.Does.{Seen, Stands, Sort, WantOfMemory, FailedWrite, OfLanguage, sort_of, Comes, ComesBy, RunsItems, IsStart}
+use Rattle.awk_run.specs.Headline.{IsFresh, IsUndisturbed}
 use Rattle.awk_run.specs.Verdict.{outcome_after, RunsFrom}
 
 -- nothing is open before a run

@@ -4,7 +4,7 @@ use Rattle.awk_streams.specs.Answers.{Answers}
 use Rattle.awk_syntax.specs.Tree.{Item}
 use Rattle.awk_run.specs.declared.outcome.Outcome.{Outcome}
 use Rattle.awk_run.specs.declared.outcome.Outcome.TheVariants.{Ended, Fault, Stopped}
-use Rattle.awk_run.specs.State.{Output, StandardOutput, StandardError, Demand, TheEnd, Event, Printed, Demanded, Stop, Faulted, OutOfSteps, State, Out, Run}
+use Rattle.awk_run.specs.State.{Output, StandardOutput, StandardError, Demand, TheEnd, Event, Printed, Demanded, Stop, Faulted, OutOfSteps, State, Out}
 use Rattle.awk_run.specs.Effect.{run_items}
 
 -- what a run is started with: assignments made before it, operands, and the environment; names and

@@ -167,7 +167,8 @@ fn faults(rt: HostRuntime) -> Result<(), Fail> {
 fn refusals(rt: HostRuntime) -> Result<(), Fail> {
     let alloc = rt.alloc();
     let long = vec![in alloc; b' '; 1_048_577]?;
-    let braces = vec![in alloc; b'{'; 300]?;
+    let braces = vec![in alloc; b'{'; 500_000]?;
+    let parentheses = vec![in alloc; b'('; 500_000]?;
     for (text, code, line) in [
         (b"{print}\n\0".as_slice(), Code::UnexpectedByte, 2),
         (b"{print 1.5}".as_slice(), Code::NumberRefused, 1),
@@ -177,6 +178,7 @@ fn refusals(rt: HostRuntime) -> Result<(), Fail> {
         (b"{print 1 > 2}".as_slice(), Code::NotAProgram, 1),
         (b"BEGIN {print}".as_slice(), Code::NotAProgram, 1),
         (braces.as_slice(), Code::NotAProgram, 1),
+        (parentheses.as_slice(), Code::NotAProgram, 1),
     ] {
         let mut world = world_of(alloc, b"a\n", false, false)?;
         let refused = run_on(alloc, text, 9, &mut world);
