@@ -1,7 +1,7 @@
 -- How what the parts of the code do is put together.
-use Rattle.std.proofs.Common.{◌≡◌, ℕ, ◌≤◌, Bool, true, List, [], ◌∷◌, ◌++◌, Option, None, Result, Ok, Err, refl, sym, ap, ◌∙◌, subst, append_assoc, append-nil, arith}
+use Rattle.std.proofs.Common.{◌≡◌, ℕ, ◌≤◌, List, [], ◌++◌, Option, Result, Ok, Err, refl, sym, ap, ◌∙◌, subst, append_assoc, append-nil, arith}
 use Rattle.awk_streams.specs.Log as log
-use Rattle.awk_streams.specs.Answers.{Answers, Agrees}
+use Rattle.awk_streams.specs.Answers.{Answers}
 use Rattle.awk_streams.specs.Streams.{StreamsView, AreOpen, AreSound, IsSoundMain, Grows, IsMainRest}
 use Rattle.awk_run.specs.declared.machine.Machine.{Machine}
 use Rattle.awk_run.specs.declared.halt.Halt.{Halt}
@@ -48,8 +48,8 @@ then_means {new = new} {after = after} {a = a} {r = r} {run = run} f x y = recor
   keeps = λ sound. y.keeps (x.keeps sound);
   keeps_main = λ sound. y.keeps_main (x.keeps_main sound);
   means = λ answers s past agrees stands.
-    let c = x.means answers s past (y.grows.agrees answers agrees) stands in
-    bound_ok answers new after r past f a (run s).result (run s).state (run s).events c.0
+      let c = x.means answers s past (y.grows.agrees answers agrees) stands in
+      bound_ok answers new after r past f a (run s).result (run s).state (run s).events c.0
       (y.means answers (run s).state (past ++ (run s).events) agrees c.1);
 }
 
@@ -61,7 +61,7 @@ ends_means {new = new} {after = after} {h = h} {run = run} f x = record {
   keeps = x.keeps;
   keeps_main = x.keeps_main;
   means = λ answers s past agrees stands.
-    err_on answers new after (sort_of h) past f (run s).result (run s).state (run s).events (x.means answers s past agrees stands);
+      err_on answers new after (sort_of h) past f (run s).result (run s).state (run s).events (x.means answers s past agrees stands);
 }
 
 -- want of memory may be met anywhere
@@ -180,15 +180,18 @@ record_changes text {old = old} {new = new} is same still = record {
     grows = grows_refl k.log k.mark;
     keeps = sound_same k _ _ same;
     keeps_main = main_same k _ _ same;
-    means = λ answers s past agrees stands. (refl, record {
-      clear = stands.clear;
-      outside = stands.outside;
-      openings = stands.openings;
-      main = subst (λ x. IsMainRest answers k.log x.main s.main) (sym same) stands.main;
-      current = sym is;
-      steps = stands.steps ∙ sym still;
-      output = stands.output ∙ ap (printed_to _) (sym (append-nil past));
-      error = stands.error ∙ ap (printed_to _) (sym (append-nil past));
-    });
+    means = λ answers s past agrees stands. (
+      refl,
+      record {
+        clear = stands.clear;
+        outside = stands.outside;
+        openings = stands.openings;
+        main = subst (λ x. IsMainRest answers k.log x.main s.main) (sym same) stands.main;
+        current = sym is;
+        steps = stands.steps ∙ sym still;
+        output = stands.output ∙ ap (printed_to _) (sym (append-nil past));
+        error = stands.error ∙ ap (printed_to _) (sym (append-nil past));
+      },
+    );
   };
 }

@@ -1,10 +1,9 @@
 -- Each form of the language by what its parts do.
-use Rattle.std.proofs.Common.{◌≡◌, ℕ, ◌≤◌, ◌<◌, ◌+◌, zero, suc, Bool, true, false, List, [], ◌∷◌, ◌++◌, ℤ, Option, Some, None, Result, Ok, Err, ◌==◌, length, drop, get_or, add-one, drop-cons, refl, arith, sym, ap, ◌∙◌, subst}
+use Rattle.std.proofs.Common.{◌≡◌, ℕ, ◌≤◌, ◌<◌, ◌+◌, zero, suc, Bool, true, false, List, [], ◌∷◌, ◌++◌, ℤ, Some, None, Result, Ok, Err, ◌==◌, length, drop, get_or, add-one, drop-cons, refl, arith, sym, ap, ◌∙◌, subst}
 use Rattle.std.proofs.lemmas.List.{drop_all}
 use Rattle.std.proofs.lemmas.Bool.Decides.{nat_tests}
 use Rattle.awk_value.specs.declared.value.Value.{Value}
 use Rattle.awk_value.specs.declared.value.Value.TheVariants as value
-use Rattle.awk_value.specs.Values.{truth_of}
 use Rattle.awk_streams.specs.Streams.{AreOpen, IsSoundMain}
 use Rattle.awk_syntax.specs.declared.tree.BinaryOperator.{BinaryOperator}
 use Rattle.awk_syntax.specs.declared.tree.Expr.{Expr as Code}
@@ -16,10 +15,9 @@ use Rattle.awk_run.specs.declared.machine.Machine.{Machine}
 use Rattle.awk_run.specs.declared.halt.Halt.{Halt}
 use Rattle.awk_run.specs.declared.halt.Halt.TheVariants as halt
 use Rattle.awk_run.specs.declared.outcome.Fault.TheVariants.{OutOfMemory}
-use Rattle.awk_run.specs.State.{Run, ◌>>=◌, lift, ret}
 use Rattle.awk_run.specs.Operators.{applied, field_value}
-use Rattle.awk_run.specs.Words.{spend, field_at, current_text, show, set_record}
-use Rattle.awk_run.specs.Effect.{E, values_of, printed_values, line_of, S, S_all, run_if, try_item, try_items, next_record, on_record, each_record, all_records, run_items}
+use Rattle.awk_run.specs.Words.{field_at, current_text, show, set_record}
+use Rattle.awk_run.specs.Effect.{E, values_of, printed_values, line_of, S, S_all, run_if, try_item, try_items, next_record, each_record, all_records, run_items}
 use Rattle.awk_run.specs.Does.{Seen, Matches, Does, Changes, Spends, SameState, Evaluates, Tests, EvaluatesAll, Lists, Follows, Executes, ExecutesAll, Tries, TriesAll, ReadsOn, ReadsAll, RunsItems}
 use Rattle.awk_run.proofs.Calculus.{then_changes, ends_changes, lift_changes, memory_changes, reads_changes, then_does, ends_does, lift_does, change_does}
 
@@ -32,12 +30,12 @@ number_evaluates {m = m} = record { does = lift_changes _ m refl }
 pub field_changes : (v : Value) {old new : Machine} {c : Result Value Halt} → SameState old new → Matches c (field_value old.current v) → Changes (field_at v) old new c
 unfolding field_at
 field_changes v {c = c} same e =
-  reads_changes _ (λ s. field_value s.current v) (λ s. refl) same (λ s is. subst (λ r. Matches c (field_value r v)) (sym is) e)
+    reads_changes _ (λ s. field_value s.current v) (λ s. refl) same (λ s is. subst (λ r. Matches c (field_value r v)) (sym is) e)
 
 pub text_changes : {old new : Machine} {v : Value} → SameState old new → v ≡ value.Input old.current.text → Changes current_text old new (Ok v)
 unfolding current_text
 text_changes {v = v} same e =
-  reads_changes _ (λ s. Ok (value.Input s.current.text)) (λ s. refl) same (λ s is. ap (λ r. Ok (value.Input r.text)) is ∙ ap (λ w. Ok w) (sym e))
+    reads_changes _ (λ s. Ok (value.Input s.current.text)) (λ s. refl) same (λ s is. ap (λ r. Ok (value.Input r.text)) is ∙ ap (λ w. Ok w) (sym e))
 
 pub field_ends : {e : Expr} {old new : Machine} {h : Halt} → Evaluates e old new (Err h) → Evaluates (Field e) old new (Err h)
 unfolding E
@@ -202,16 +200,18 @@ reading_sound {k1 = k1} p q r s t sound = (s.does.told t).keeps_main (subst (λ 
 
 pub reads_all : {tells : Type 0} {xs : List Item} {m new : Machine} {k after : Seen} {r : Result (Unit {0}) Halt} → ReadsOn tells xs m k new after r → ReadsAll tells xs m k new after r
 unfolding all_records
-reads_all {m = m} p = record { does = record {
-  steps = (p.does m.steps (omega arith)).steps;
-  kept_open = (p.does m.steps (omega arith)).kept_open;
-  told = λ t. record {
-    grows = ((p.does m.steps (omega arith)).told t).grows;
-    keeps = ((p.does m.steps (omega arith)).told t).keeps;
-    keeps_main = ((p.does m.steps (omega arith)).told t).keeps_main;
-    means = λ answers s past agrees stands. ((p.does s.steps (omega (arith, stands.steps))).told t).means answers s past agrees stands;
+reads_all {m = m} p = record {
+  does = record {
+    steps = (p.does m.steps (omega arith)).steps;
+    kept_open = (p.does m.steps (omega arith)).kept_open;
+    told = λ t. record {
+      grows = ((p.does m.steps (omega arith)).told t).grows;
+      keeps = ((p.does m.steps (omega arith)).told t).keeps;
+      keeps_main = ((p.does m.steps (omega arith)).told t).keeps_main;
+      means = λ answers s past agrees stands. ((p.does s.steps (omega (arith, stands.steps))).told t).means answers s past agrees stands;
+    };
   };
-} }
+}
 
 pub runs_none : {tells : Type 0} {m : Machine} {k : Seen} → RunsItems tells [] m k m k (Ok tt)
 unfolding run_items

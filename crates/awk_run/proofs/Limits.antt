@@ -3,18 +3,18 @@ use Rattle.std.proofs.Common.{◌≡◌, ◌≢◌, ℕ, zero, suc, ◌+◌, ◌
 use Rattle.awk_value.specs.declared.value.Value.{Value}
 use Rattle.awk_value.specs.declared.value.Value.TheVariants as value
 use Rattle.awk_value.specs.Values.{truth_of}
-use Rattle.awk_record.specs.Cut.{Cut, Found, NoMore, BrokenOff, TooLong, BadSeparator, cut_of}
+use Rattle.awk_record.specs.Cut.{Cut, Found, NoMore, BrokenOff, TooLong, BadSeparator}
 use Rattle.awk_streams.specs.declared.world.InputKind.{InputKind}
 use Rattle.awk_streams.specs.declared.world.InputKind.TheVariants.{Standard}
 use Rattle.awk_streams.specs.Answers.{Source, Answers}
 use Rattle.awk_syntax.specs.Tree.{Expr, Number, Field, Binary, Exprs, Nil, Cons, Statement, Block, Print, Statements, NoMore as NoStatement, Then, Item, Always, Rule}
 use Rattle.awk_run.specs.declared.outcome.Outcome.TheVariants.{Ended, Fault, Stopped}
-use Rattle.awk_run.specs.State.{Output, Demand, TheEnd, Event, Printed, Demanded, Stop, Faulted, OutOfSteps, State, Out, Run, go_on, ◌>>=◌, lift, ret}
-use Rattle.awk_run.specs.Words.{record_separator, spend, spend_of, field_at, current_text, show, opened, open_main, taken, taken_of, take_record, open_of, open_standard, set_record}
+use Rattle.awk_run.specs.State.{Output, TheEnd, Event, Printed, Demanded, Stop, Faulted, OutOfSteps, State, Out, Run, go_on, ◌>>=◌, lift}
+use Rattle.awk_run.specs.Words.{spend, spend_of, field_at, current_text, show, opened, open_main, taken, taken_of, take_record, open_of, open_standard, set_record}
 use Rattle.awk_run.specs.Operators.{applied}
 use Rattle.awk_run.specs.Effect.{E, values_of, printed_values, line_of, S, S_all, run_if, try_item, try_items, next_record, on_record, each_record, all_records, run_items}
-use Rattle.awk_run.specs.Meaning.{StartValues, Meaning, start_state, whole, outcome_of, printed_to, demands_after, meaning_of, same_output}
-use Rattle.awk_run.specs.Limits.{IsBeginning, Begins, KeepsToLimits, LawOfLimits}
+use Rattle.awk_run.specs.Meaning.{StartValues, Meaning, start_state, whole, outcome_of, printed_to, demands_after, same_output}
+use Rattle.awk_run.specs.Limits.{IsBeginning, Begins, LawOfLimits}
 
 abbrev richer_state : ℕ → State → State
 richer_state d s = record s { steps = s.steps + d }
@@ -149,6 +149,7 @@ printed_larger (Cons e es) = values_larger [] (Cons e es)
 
 mutual
   unfolding S
+
   S_larger : (s : Statement) → Larger (S s) (S s)
   S_larger (Block all) = all_larger all
   S_larger (Print list) = then_larger _ _ spend_larger (λ _. then_larger _ _ (printed_larger list) (λ vs. show_larger (line_of vs)))

@@ -1,7 +1,6 @@
 -- From a text's tokens and their tree to its program.
-use Rattle.std.proofs.Common.{◌≡◌, ◌⊎◌, inl, inr, ℕ, ◌≤◌, ◌<◌, Bool, true, false, List, [], ◌∷◌, ◌++◌, length, map, filter, not, Result, Ok, Err, IfOk, refl, sym, ap, ◌∙◌, subst, arith}
+use Rattle.std.proofs.Common.{◌≡◌, ◌⊎◌, inl, inr, ℕ, ◌≤◌, Bool, true, List, [], ◌∷◌, ◌++◌, length, map, filter, not, Result, Ok, Err, IfOk, refl, sym, ap, ◌∙◌, subst}
 use Rattle.awk_lex.specs.declared.token.Kind.{Kind}
-use Rattle.awk_lex.specs.declared.token.Token.{Token}
 use Rattle.awk_lex.specs.declared.refusal.Refusal.{Refusal}
 use Rattle.awk_lex.specs.declared.refusal.Code.{Code}
 use Rattle.awk_lex.specs.declared.refusal.Code.TheVariants.{UnexpectedByte, NumberRefused, ProgramTooLong, NotAProgram, NestedTooDeep, OutOfMemory}
@@ -15,7 +14,7 @@ use Rattle.awk_syntax.specs.Outcome.{Justifies}
 use Rattle.awk_syntax.specs.View.{tree_of}
 use Rattle.awk_syntax.specs.declared.tree.Tree.{Tree}
 use Rattle.awk_run.specs.Kinds.{Use, uses_in_expr, uses_in_list, uses_in_statement, uses_in_block, uses_in_item, uses_in, special_scalars, special_arrays, are_apart, Fits}
-use Rattle.awk_run.specs.Accepted.{longest_text, HasTokens, Accepted, RefusedFor}
+use Rattle.awk_run.specs.Accepted.{longest_text, Accepted, RefusedFor}
 
 -- no form has a name so far
 

@@ -1,27 +1,23 @@
 -- From the parts of a run to the whole.
-use Rattle.std.proofs.Common.{◌≡◌, ◌≢◌, ℕ, ◌≤◌, Bool, true, false, List, [], ◌∷◌, ◌++◌, Option, None, Some, is_some, Result, Ok, Err, refl, sym, ap, ◌∙◌, subst, append-nil, arith}
+use Rattle.std.proofs.Common.{◌≡◌, ◌≢◌, ℕ, Bool, true, List, [], Option, None, Some, is_some, Result, Ok, Err, refl, sym, ap, ◌∙◌, subst}
 use Rattle.awk_streams.specs.declared.fault.StreamFault.{StreamFault}
-use Rattle.awk_streams.specs.declared.fault.StreamFault.TheVariants as streams
 use Rattle.awk_streams.specs.Log as log
 use Rattle.awk_streams.specs.Answers.{Answers, Agrees, how_many, opens_input}
 use Rattle.awk_streams.specs.Orderly.{IsOrderly, IsInOrder}
 use Rattle.awk_streams.specs.Writes.{received}
-use Rattle.awk_streams.specs.Streams.{StreamsView, InputView, AreOpen, AreSound, Grows, IsMainRest, IsSoundMain, IsOpenMain, Finishes}
+use Rattle.awk_streams.specs.Streams.{StreamsView, AreOpen, AreSound, IsMainRest, IsSoundMain, IsOpenMain, Finishes}
 use Rattle.awk_syntax.specs.Tree.{Item}
-use Rattle.awk_record.specs.Record.{RecordPair}
 use Rattle.awk_run.specs.declared.machine.Machine.{Machine}
 use Rattle.awk_run.specs.declared.halt.Halt.{Halt}
 use Rattle.awk_run.specs.declared.halt.Halt.TheVariants as halt
 use Rattle.awk_run.specs.declared.outcome.Outcome.{Outcome}
-use Rattle.awk_run.specs.declared.outcome.Outcome.TheVariants.{Ended, Fault, Stopped}
-use Rattle.awk_run.specs.declared.outcome.Fault.{Fault as AFault}
+use Rattle.awk_run.specs.declared.outcome.Outcome.TheVariants.{Fault}
 use Rattle.awk_run.specs.declared.outcome.Fault.TheVariants as faults
-use Rattle.awk_run.specs.State.{Output, StandardOutput, StandardError, Event, Stop, Faulted, OutOfSteps, State, Out}
+use Rattle.awk_run.specs.State.{StandardOutput, StandardError, Stop, Faulted, OutOfSteps, Out}
 use Rattle.awk_run.specs.Effect.{run_items}
-use Rattle.awk_run.specs.Meaning.{StartValues, start_state, whole, outcome_of, printed_to, meaning_of}
-use Rattle.awk_run.specs.Operators.{stream_fault}
-use Rattle.awk_run.specs.Does.{Seen, Stands, Sort, WantOfMemory, FailedWrite, OfLanguage, sort_of, Comes, ComesBy, Means, Does, RunsItems, IsStart}
-use Rattle.awk_run.specs.Headline.{IsFresh, IsUndisturbed, Runs}
+use Rattle.awk_run.specs.Meaning.{StartValues, start_state, whole, outcome_of, printed_to}
+use Rattle.awk_run.specs.Does.{Seen, Stands, Sort, WantOfMemory, FailedWrite, OfLanguage, sort_of, Comes, ComesBy, RunsItems, IsStart}
+use Rattle.awk_run.specs.Headline.{IsFresh, IsUndisturbed}
 use Rattle.awk_run.specs.Verdict.{outcome_after, RunsFrom}
 
 -- nothing is open before a run
@@ -70,11 +66,11 @@ not_some (Some n) e s = absurd (cc)
 meant_by : (answers : Answers) (m : Machine) (k : Seen) (h : Halt) (s : Sort) (o : Out (Unit {0})) → sort_of h ≡ s → h ≢ halt.Fault faults.OutOfMemory → k.mark ≡ None → ComesBy answers m k s o [] → IsMeant answers k o (outcome_after (Err h) (Ok tt))
 meant_by answers m k h WantOfMemory o e memory clear comes = absurd (memory (memory_sort h e))
   where
-  memory_sort : (h : Halt) → sort_of h ≡ WantOfMemory → h ≡ halt.Fault faults.OutOfMemory
-  memory_sort (halt.Fault faults.OutOfMemory) e = refl
-  memory_sort (halt.Fault faults.WriteFailed) e = absurd (cc)
-  memory_sort (halt.Fault f) e = absurd (cc)
-  memory_sort halt.OutOfSteps e = absurd (cc)
+    memory_sort : (h : Halt) → sort_of h ≡ WantOfMemory → h ≡ halt.Fault faults.OutOfMemory
+    memory_sort (halt.Fault faults.OutOfMemory) e = refl
+    memory_sort (halt.Fault faults.WriteFailed) e = absurd (cc)
+    memory_sort (halt.Fault f) e = absurd (cc)
+    memory_sort halt.OutOfSteps e = absurd (cc)
 meant_by answers m k h FailedWrite o e memory clear comes = absurd (not_some k.mark clear comes)
 meant_by answers m k h (OfLanguage stop) o e memory clear comes = record {
   outcome = ap outcome_of comes.0 ∙ outcome_by h stop e;
@@ -98,8 +94,8 @@ halted_by_memory : (r : Result (Unit {0}) Halt) (f : Result (Unit {0}) StreamFau
 halted_by_memory r f e = ap (λ x. outcome_after x f) e
 
 ends_as_meant : (items : List Item) (start : StartValues) (answers : Answers) (limit : ℕ) {tells : Type 0} {m m1 : Machine} {k k1 k2 : Seen} {r : Result (Unit {0}) Halt} {f : Result (Unit {0}) StreamFault} {last : StreamsView} {result : Outcome} → IsStart limit m → IsFresh k → tells
-  → RunsItems tells items m k m1 k1 r → Finishes k1.is_open k1.log k1.mark m1.streams f k2.is_open k2.log k2.mark last → result ≡ outcome_after r f
-  → IsUndisturbed k2 result → Agrees answers k2.log → IsMeant answers k2 (whole items start answers limit) result
+    → RunsItems tells items m k m1 k1 r → Finishes k1.is_open k1.log k1.mark m1.streams f k2.is_open k2.log k2.mark last → result ≡ outcome_after r f
+    → IsUndisturbed k2 result → Agrees answers k2.log → IsMeant answers k2 (whole items start answers limit) result
 unfolding whole
 ends_as_meant items start answers limit {m = m} {m1 = m1} {k = k} {k1 = k1} {k2 = k2} {r = r} {f = f} {result = result} began fresh t ran told is calm agrees =
     let clear = still_unmarked f told calm.mark in
@@ -114,20 +110,24 @@ ends_as_meant items start answers limit {m = m} {m1 = m1} {k = k} {k1 = k1} {k2 
     }
 
 pub runs_from : (items : List Item) (limit : ℕ) {tells : Type 0} {m m1 : Machine} {k k1 k2 : Seen} {r : Result (Unit {0}) Halt} {f : Result (Unit {0}) StreamFault} {last : StreamsView} {result : Outcome} → SomeAgree → IsInOrder k.is_open [] → IsStart limit m
-  → RunsItems tells items m k m1 k1 r → (tells → Finishes k1.is_open k1.log k1.mark m1.streams f k2.is_open k2.log k2.mark last) → result ≡ outcome_after r f
-  → RunsFrom tells items limit k k2 result
-runs_from items limit {k = k} {k2 = k2} law order began ran told is = record { runs = λ t fresh start. record {
-  some = law k2.log ((told t).sound ((ran.does.told t).keeps (start_sound k.is_open k.log began fresh.log order))).order.orderly;
-  outcome = λ calm answers agrees. (ends_as_meant items start answers limit began fresh t ran (told t) is calm agrees).outcome;
-  standard_output = λ calm answers agrees. (ends_as_meant items start answers limit began fresh t ran (told t) is calm agrees).output;
-  standard_error = λ calm answers agrees. (ends_as_meant items start answers limit began fresh t ran (told t) is calm agrees).error;
-} }
+    → RunsItems tells items m k m1 k1 r → (tells → Finishes k1.is_open k1.log k1.mark m1.streams f k2.is_open k2.log k2.mark last) → result ≡ outcome_after r f
+    → RunsFrom tells items limit k k2 result
+runs_from items limit {k = k} {k2 = k2} law order began ran told is = record {
+  runs = λ t fresh start. record {
+    some = law k2.log ((told t).sound ((ran.does.told t).keeps (start_sound k.is_open k.log began fresh.log order))).order.orderly;
+    outcome = λ calm answers agrees. (ends_as_meant items start answers limit began fresh t ran (told t) is calm agrees).outcome;
+    standard_output = λ calm answers agrees. (ends_as_meant items start answers limit began fresh t ran (told t) is calm agrees).output;
+    standard_error = λ calm answers agrees. (ends_as_meant items start answers limit began fresh t ran (told t) is calm agrees).error;
+  };
+}
 
 -- a run that found no memory before it began
 pub runs_not : (items : List Item) (limit : ℕ) {tells : Type 0} {k : Seen} → SomeAgree → RunsFrom tells items limit k k (Fault faults.OutOfMemory)
-runs_not items limit {k = k} law = record { runs = λ t fresh start. record {
-  some = law k.log (subst (λ (l : List log.Event). IsOrderly l) (sym fresh.log) tt);
-  outcome = λ calm answers agrees. absurd (calm.memory refl);
-  standard_output = λ calm answers agrees. absurd (calm.memory refl);
-  standard_error = λ calm answers agrees. absurd (calm.memory refl);
-} }
+runs_not items limit {k = k} law = record {
+  runs = λ t fresh start. record {
+    some = law k.log (subst (λ (l : List log.Event). IsOrderly l) (sym fresh.log) tt);
+    outcome = λ calm answers agrees. absurd (calm.memory refl);
+    standard_output = λ calm answers agrees. absurd (calm.memory refl);
+    standard_error = λ calm answers agrees. absurd (calm.memory refl);
+  };
+}

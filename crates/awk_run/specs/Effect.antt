@@ -1,10 +1,10 @@
 -- The effect of an expression, of a statement and of a rule (POSIX awk, Expressions in awk; Actions; Output Statements).
-use Rattle.std.specs.Prelude.{ℕ, zero, suc, Bool, true, false, List, [], ◌∷◌, ◌++◌, Option, Some, None, Result, Ok, Err, if◌then◌else◌, map}
+use Rattle.std.specs.Prelude.{ℕ, zero, suc, Bool, true, false, List, [], ◌∷◌, ◌++◌, Option, Some, None, Err, map}
 use Rattle.awk_value.specs.declared.value.Value.{Value}
 use Rattle.awk_value.specs.declared.value.Value.TheVariants as value
 use Rattle.awk_value.specs.Values.{str_of, truth_of}
 use Rattle.awk_syntax.specs.Tree.{Expr, Number, Field, Binary, Exprs, Nil, Cons, Statement, Block, Print, Statements, NoMore, Then, Item, Always, Rule}
-use Rattle.awk_run.specs.State.{Stop, OutOfSteps, State, Out, Run, ◌>>=◌, ◌>>◌, lift, ret}
+use Rattle.awk_run.specs.State.{OutOfSteps, Run, ◌>>=◌, lift, ret}
 use Rattle.awk_run.specs.Words.{output_field_separator, output_record_separator, spend, field_at, current_text, show, take_record, open_standard, set_record}
 use Rattle.awk_run.specs.Operators.{applied}
 

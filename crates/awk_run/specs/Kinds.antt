@@ -1,6 +1,6 @@
 -- The kinds of names: over the whole program each name is an array or a scalar
 -- (POSIX awk, Variables and Special Variables).
-use Rattle.std.specs.Prelude.{ℕ, Bool, true, false, ◌&&◌, not, ◌≡◌, List, [], ◌∷◌, ◌++◌, map, filter, codes, bytes_eq}
+use Rattle.std.specs.Prelude.{ℕ, Bool, true, ◌&&◌, not, ◌≡◌, List, [], ◌∷◌, ◌++◌, map, filter, codes, bytes_eq}
 use Rattle.awk_syntax.specs.Tree.{Expr, Number, Field, Binary, Exprs, Nil, Cons, Statement, Block, Print, Statements, NoMore, Then, Item, Always, Rule}
 
 -- a name, and whether it is used as an array there or as a scalar

@@ -4,7 +4,7 @@ use Rattle.awk_streams.specs.Answers.{Answers}
 use Rattle.awk_syntax.specs.Tree.{Item}
 use Rattle.awk_run.specs.declared.outcome.Outcome.{Outcome}
 use Rattle.awk_run.specs.declared.outcome.Outcome.TheVariants.{Ended, Fault, Stopped}
-use Rattle.awk_run.specs.State.{Output, StandardOutput, StandardError, Demand, TheEnd, Event, Printed, Demanded, Stop, Faulted, OutOfSteps, State, Out, Run}
+use Rattle.awk_run.specs.State.{Output, StandardOutput, StandardError, Demand, TheEnd, Event, Printed, Demanded, Stop, Faulted, OutOfSteps, State, Out}
 use Rattle.awk_run.specs.Effect.{run_items}
 
 -- what a run is started with: assignments made before it, operands, and the environment; names and
@@ -57,4 +57,5 @@ abbrev pub meaning_of : List Item → StartValues → Answers → ℕ → Meanin
 meaning_of items start answers limit = record {
   outcome = outcome_of (whole items start answers limit).result;
   printed = λ output. printed_to output (whole items start answers limit).events;
-  demands = demands_after [] ((whole items start answers limit).events ++ Demanded TheEnd ∷ []); }
+  demands = demands_after [] ((whole items start answers limit).events ++ Demanded TheEnd ∷ []);
+}

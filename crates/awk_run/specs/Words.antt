@@ -1,15 +1,14 @@
 -- The words of a run: all that looks into its state.
-use Rattle.std.specs.Prelude.{◌≡◌, ℕ, zero, suc, ◌+◌, Bool, ◌&&◌, List, [], ◌∷◌, ◌++◌, Option, Some, None, Result, Ok, Err, bytes_eq}
+use Rattle.std.specs.Prelude.{ℕ, zero, suc, ◌+◌, ◌&&◌, List, [], ◌∷◌, Option, Some, None, Ok, Err, bytes_eq}
 use Rattle.awk_value.specs.declared.value.Value.{Value}
 use Rattle.awk_value.specs.declared.value.Value.TheVariants.{Input}
-use Rattle.awk_value.specs.Values.{num_of}
 use Rattle.awk_record.specs.Cut.{Ending, Cut, Found, NoMore, BrokenOff, TooLong, BadSeparator, cut_of}
-use Rattle.awk_record.specs.Record.{RecordPair, field_of, split_at_blanks}
+use Rattle.awk_record.specs.Record.{split_at_blanks}
 use Rattle.awk_streams.specs.declared.world.InputKind.{InputKind}
 use Rattle.awk_streams.specs.declared.world.InputKind.TheVariants.{Standard}
 use Rattle.awk_streams.specs.Answers.{Source, same_input, one_if}
 use Rattle.awk_run.specs.declared.outcome.Fault.TheVariants.{InputNotReadable, RecordTooLong, RecordSeparatorTooLong}
-use Rattle.awk_run.specs.State.{Output, StandardOutput, Demand, AnOpening, ARecord, Event, Printed, Demanded, Stop, Faulted, OutOfSteps, State, Out, Run, ◌>>=◌, lift, ret}
+use Rattle.awk_run.specs.State.{StandardOutput, AnOpening, ARecord, Printed, Demanded, Faulted, OutOfSteps, State, Run, ret}
 use Rattle.awk_run.specs.Operators.{field_value}
 
 -- the separators that a run starts with: RS a newline, OFS a space, ORS a newline (POSIX awk, Variables and Special Variables)

@@ -14,12 +14,12 @@ use awk_value::{Value, compare, is_true, multiply, number_of};
 use std::cmp::Ordering;
 
 /// The field of the record whose number is the value's.
-pub fn field_at(record: &mut Record, at: &Value) -> Result<Value, Halt>
-    ensures value { Matches result (field_value record.old at.now) }
-    ensures same { record.new ≡ record.old }
+pub fn field_at(current: &mut Record, at: &Value) -> Result<Value, Halt>
+    ensures value { Matches result (field_value current.old at.now) }
+    ensures same { current.new ≡ current.old }
 {
     let number = number_of(at)?;
-    Ok(record.field(number)?)
+    Ok(current.field(number)?)
 }
 
 /// Whether two values in this order are so related.
@@ -77,7 +77,7 @@ pub fn holds(e: &Expr, machine: &mut Machine) -> Result<bool, Halt>
 fn eval_all(list: &[Expr], machine: &mut Machine) -> Result<Vec<Value>, Halt>
     ensures { EvaluatesAll [] (exprs_of list.now) machine.old machine.new (viewed (λ v. v.items) result) }
 {
-    let mut values = Vec::new(machine.allocator());
+    let mut values = Vec::new(machine.alloc);
     for e in list {
         let value = eval(e, machine)?;
         values.push(value)?;
@@ -93,5 +93,5 @@ pub fn listed(list: &[Expr], machine: &mut Machine) -> Result<Vec<Value>, Halt>
         return eval_all(list, machine);
     }
     let text = machine.text()?;
-    Ok(vec![in machine.allocator(); text]?)
+    Ok(vec![in machine.alloc; text]?)
 }

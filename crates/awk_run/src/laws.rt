@@ -7,5 +7,4 @@ ghost use Rattle.awk_run.specs.Limits.{LawOfLimits};
 #[tactic(auto, using(crate::proofs::Limits::law_of_limits))]
 pub fn law_of_limits()
     ensures { LawOfLimits }
-{
-}
+{}

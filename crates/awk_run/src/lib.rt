@@ -9,6 +9,8 @@ mod outcome;
 mod run;
 mod start;
 mod statements;
+#[cfg(test)]
+mod tests;
 
 pub use laws::law_of_limits;
 pub use outcome::{Fault, Outcome, fault_line, status};

@@ -9,7 +9,7 @@ ghost use Rattle.awk_run.specs.Does.{seen, Spends, Changes, Follows, Opens, IsWa
 
 use crate::expressions;
 use crate::halt::Halt;
-use awk_record::Record;
+use awk_record::{Record, RecordFault};
 use awk_streams::{InputKind, Streams, World};
 use awk_value::{Bytes, Value, append_text};
 use std::alloc::Global;
@@ -29,8 +29,9 @@ pub struct Machine {
 
 impl Machine {
     /// The state before a run, with so many steps. The only fault is want of memory.
-    pub fn new(alloc: Global, limit: u64) -> Result<Machine, Halt>
-        ensures { IfOk result (λ m. IsStart limit m) }
+    pub fn new(alloc: Global, limit: u64) -> Result<Machine, RecordFault>
+        ensures start { IfOk result (λ m. IsStart limit m) }
+        ensures memory { IfErr result (λ fault. fault ≡ RecordFault.Memory) }
     {
         Ok(Machine {
             alloc,
@@ -39,10 +40,6 @@ impl Machine {
             steps: limit,
             line: Vec::new(alloc),
         })
-    }
-
-    pub fn allocator(&self) -> Global {
-        self.alloc
     }
 
     /// Spends a step, or says that none is left.

@@ -88,11 +88,7 @@ fn run_records<W: World>(items: &[Item], machine: &mut Machine, world: &mut W) -
 }
 
 /// Runs the items on all main records; without items nothing is read.
-pub fn run_items<W: World>(
-    items: &[Item],
-    machine: &mut Machine,
-    world: &mut W,
-) -> Result<(), Halt>
+pub fn run_items<W: World>(items: &[Item], machine: &mut Machine, world: &mut W) -> Result<(), Halt>
     requires open { AreOpen (W.is_open world.old) machine.old.streams }
     requires sound { W.tells → IsSoundMain (W.log world.old) machine.old.streams.main }
     ensures { RunsItems W.tells (items_of items.now) machine.old (seen (W.is_open world.old) (W.log world.old) (W.mark world.old)) machine.new (seen (W.is_open world.new) (W.log world.new) (W.mark world.new)) result }

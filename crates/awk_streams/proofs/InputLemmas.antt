@@ -1,6 +1,6 @@
 use Rattle.std.proofs.Common.{◌≡◌, ◌⊎◌, inl, inr, ℕ, List, [], ◌∷◌, ◌++◌, Option, Some, None, Result, Ok, Err, refl, sym, ◌∙◌, ap, subst}
 use Rattle.awk_streams.specs.Log.{Event, Read, Ended, Broke}
-use Rattle.awk_record.specs.Cut.{Ending, AtEnd, AtBreak, IsDecided}
+use Rattle.awk_record.specs.Cut.{Ending, IsDecided}
 use Rattle.awk_record.specs.Buffer.{Pending}
 use Rattle.awk_streams.specs.Writes.{with_events}
 use Rattle.awk_streams.specs.Inputs.{NeededReads, Reaches, Brings, Pulls}
@@ -9,9 +9,6 @@ use Rattle.awk_record.specs.Buffer.{Steps, IsAnswerOf}
 use Rattle.awk_record.specs.declared.buffer.Step.{Step}
 use Rattle.awk_record.specs.declared.fault.RecordFault.{RecordFault}
 use Rattle.awk_record.specs.declared.fault.RecordFault.TheVariants.{Memory, FieldNumber, SeparatorTooLong, RecordTooLong}
-use Rattle.std.proofs.lemmas.Bool.{cond-true, eq-eqb}
-use Rattle.awk_streams.specs.Answers.{read_on}
-use Rattle.awk_streams.specs.Orderly.{IsReadable}
 
 with_events-push : (es : List Event) (e : Event) (log : List Event) → with_events (es ++ e ∷ []) log ≡ e ∷ with_events es log
 with_events-push [] e log = refl
@@ -54,26 +51,15 @@ ok_err x e is = cc
 pub memory_no_field : (result : Result Step RecordFault) → result ≡ Err Memory → result ≡ Err FieldNumber → ⊥
 memory_no_field result memory field = let bad = sym memory ∙ field in cc
 
-some_none : {T : Type 0} {P : Type 0} (x : T) → Some x ≡ None → P
-some_none x e = cc
-
--- an input stays readable by what it gives, unless that was its ending
-pub readable_brings : (id : ℕ) (e : Event) (old new : Pending) (log : List Event) → Brings id e old new → new.ending ≡ None → IsReadable id log → IsReadable id (e ∷ log)
-readable_brings id (Read i bs) old new log (same, bytes, ending) none r = record {
-  reading = record r.reading { bytes = r.reading.bytes ++ bs };
-  stands = cond-true _ _ _ (eq-eqb i id same) ∙ ap (read_on bs) r.stands;
-  unended = r.unended;
-}
-readable_brings id (Ended i) old new log (same, bytes, ending) none r = some_none AtEnd (sym ending ∙ none)
-readable_brings id (Broke i) old new log (same, bytes, ending) none r = some_none AtBreak (sym ending ∙ none)
-readable_brings id e old new log h none r = absurd h
-
 kept_ending : (c : Cut) (e : Ending) (result : Result Step RecordFault) (old new : Pending) → old.ending ≡ Some e → IsAnswerOf c (Some e) result old new → new.ending ≡ Some e
 kept_ending (Found first rest) e result old new is h = h.2
 kept_ending NoMore e result old new is h = h.2
 kept_ending BrokenOff e result old new is h = h.2
 kept_ending TooLong e result old new is h = ap (λ (p : Pending). p.ending) h.1 ∙ is
 kept_ending BadSeparator e result old new is h = ap (λ (p : Pending). p.ending) h.1 ∙ is
+
+some_none : {T : Type 0} {P : Type 0} (x : T) → Some x ≡ None → P
+some_none x e = cc
 
 steps_at : (o : Option Ending) (separator : List ℕ) (result : Result Step RecordFault) (old new : Pending) → old.ending ≡ o → Steps separator old result new → new.ending ≡ None → old.ending ≡ None
 steps_at None separator result old new is steps none = is

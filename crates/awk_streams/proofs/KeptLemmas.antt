@@ -118,17 +118,6 @@ reads_quiet id separator b b' ending (Ended i ∷ es) (same, undecided, last, by
 reads_quiet id separator b b' ending (Broke i ∷ es) (same, undecided, last, bytes, met) = subst (λ (x : List Event). IsQuiet x) (sym last) tt
 reads_quiet id separator b b' ending (e ∷ es) h = absurd h
 
--- the readings of other inputs stay
-pub reads_other : (id j : ℕ) (separator b b' : List ℕ) (ending : Option Ending) (es log : List Event) → j ≢ id → NeededReads id separator b b' ending es → reading_of j (with_events es log) ≡ reading_of j log
-reads_other id j separator b b' ending [] log apart h = refl
-reads_other id j separator b b' ending (Read i bs ∷ es) log apart (same, undecided, later) =
-    reads_other id j separator (b ++ bs) b' ending es (Read i bs ∷ log) apart later ∙ cond-false _ _ _ (ne_eqb i j (λ (e : i ≡ j). apart (sym e ∙ same)))
-reads_other id j separator b b' ending (Ended i ∷ es) log apart (same, undecided, last, bytes, met) =
-    ap (λ (x : List Event). reading_of j (with_events x (Ended i ∷ log))) last ∙ cond-false _ _ _ (ne_eqb i j (λ (e : i ≡ j). apart (sym e ∙ same)))
-reads_other id j separator b b' ending (Broke i ∷ es) log apart (same, undecided, last, bytes, met) =
-    ap (λ (x : List Event). reading_of j (with_events x (Broke i ∷ log))) last ∙ cond-false _ _ _ (ne_eqb i j (λ (e : i ≡ j). apart (sym e ∙ same)))
-reads_other id j separator b b' ending (e ∷ es) log apart h = absurd h
-
 pub output_in_order : (old new : ℕ → Bool) (es log : List Event) → SameOpen old new → IsOutput es → IsInOrder old log → IsInOrder new (with_events es log)
 output_in_order old new es log same h order = record {
   orderly = output_orderly es log h order.orderly;

@@ -5,7 +5,6 @@ pub mod RestLemmas
 pub mod InputLemmas
 pub mod ToldLemmas
 pub mod WritesLemmas
-pub mod MarkLemmas
 pub mod GrowsLemmas
 pub mod MainLemmas
 pub mod OutputLemmas

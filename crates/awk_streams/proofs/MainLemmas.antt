@@ -1,27 +1,26 @@
 -- What opening the main input and asking for its records come to.
-use Rattle.std.proofs.Common.{◌≡◌, ◌≢◌, ◌⊎◌, inl, inr, ℕ, ◌+◌, Bool, true, false, ◌==◌, if◌then◌else◌, List, [], ◌∷◌, ◌++◌, Option, Some, None, Result, Ok, Err, refl, sym, ◌∙◌, ap, subst, arith}
+use Rattle.std.proofs.Common.{◌≡◌, ◌≢◌, inl, inr, ℕ, ◌+◌, Bool, true, false, if◌then◌else◌, List, [], ◌∷◌, ◌++◌, Option, Some, None, Result, Ok, Err, refl, sym, ◌∙◌, ap, subst, arith}
 use Rattle.std.specs.Prelude.{is_some}
 use Rattle.std.proofs.lemmas.Bool.{cond-true, cond-false, ne_eqb, eq-eqb, cases_eq}
 use Rattle.awk_record.specs.Cut.{Ending, Cut, Found, NoMore, BrokenOff, TooLong, BadSeparator, cut_of}
 use Rattle.awk_record.specs.Buffer.{Pending}
 use Rattle.awk_record.specs.declared.buffer.Step.{Step}
-use Rattle.awk_record.specs.declared.buffer.Step.TheVariants.{Record, NeedMore, End, Broken}
+use Rattle.awk_record.specs.declared.buffer.Step.TheVariants.{NeedMore}
 use Rattle.awk_record.specs.declared.fault.RecordFault.{RecordFault}
-use Rattle.awk_record.specs.declared.fault.RecordFault.TheVariants.{Memory as BufferMemory, FieldNumber, SeparatorTooLong as BufferSeparatorTooLong, RecordTooLong as BufferRecordTooLong}
+use Rattle.awk_record.specs.declared.fault.RecordFault.TheVariants.{Memory as BufferMemory}
 use Rattle.awk_streams.specs.declared.world.InputKind.{InputKind}
 use Rattle.awk_streams.specs.declared.world.InputKind.TheVariants.{Command}
 use Rattle.awk_streams.specs.declared.fault.StreamFault.{StreamFault}
 use Rattle.awk_streams.specs.declared.fault.StreamFault.TheVariants.{Memory, InputNotReadable}
 use Rattle.awk_streams.specs.Ids.{IsFresh, Opens, SameOpen}
 use Rattle.awk_streams.specs.Log.{Event, OpenedInput}
-use Rattle.awk_streams.specs.Answers.{Answers, Source, Agrees, AnInput, Standing, new_reading, how_many, opens_input, standing}
+use Rattle.awk_streams.specs.Answers.{Answers, Agrees, Standing, new_reading, how_many, opens_input, standing}
 use Rattle.awk_streams.specs.Orderly.{IsReadable, IsOrderly, IsInOrder}
-use Rattle.awk_streams.specs.Writes.{with_events, received}
+use Rattle.awk_streams.specs.Writes.{received}
 use Rattle.awk_streams.specs.Inputs.{Reaches, Pulls}
-use Rattle.awk_streams.specs.Rest.{Rest}
-use Rattle.awk_streams.specs.Kept.{SameCounts, SameStreams}
+use Rattle.awk_streams.specs.Kept.{SameStreams}
 use Rattle.awk_streams.specs.Told.{Tells, IsToldAs, NextTold}
-use Rattle.awk_streams.specs.Streams.{InputView, StreamsView, AreSound, StandsAsMain, Grows, IsMainRest, CountsInput, OpensMain, AsksMain}
+use Rattle.awk_streams.specs.Streams.{InputView, StreamsView, StandsAsMain, CountsInput, OpensMain, AsksMain}
 use Rattle.awk_streams.proofs.AgreesLemmas.{agrees-before}
 use Rattle.awk_streams.proofs.Exist.{opens_input-self}
 use Rattle.awk_streams.proofs.KeptLemmas.{same_counts-self, quiet_streams, reads_orderly, reads_readable, reads_quiet, reads_received}

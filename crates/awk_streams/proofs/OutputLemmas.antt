@@ -1,20 +1,18 @@
 -- What printing and the end of a run come to.
-use Rattle.std.proofs.Common.{◌≡◌, ◌≢◌, ◌≤◌, inl, inr, ℕ, ℤ, Bool, true, false, ◌&&◌, ◌==◌, if◌then◌else◌, List, [], ◌∷◌, ◌++◌, length, take, Option, Some, None, Result, Ok, Err, refl, sym, ◌∙◌, ap, subst}
+use Rattle.std.proofs.Common.{◌≡◌, ◌≤◌, inl, inr, ℕ, ℤ, Bool, true, false, ◌&&◌, List, ◌∷◌, ◌++◌, length, take, Option, Some, None, Result, Ok, Err, refl, sym, ◌∙◌, ap, subst}
 use Rattle.std.specs.Prelude.{is_some, OnOk, OnErr}
 use Rattle.std.specs.Result.{is_ok, result_and}
 use Rattle.std.proofs.lemmas.Bool.{cond-true, cond-false, ne_eqb, eq-eqb, cases_eq}
 use Rattle.std.proofs.Math.Seq.{take-length}
-use Rattle.awk_record.specs.Buffer.{Pending}
 use Rattle.awk_streams.specs.declared.fault.StreamFault.{StreamFault}
-use Rattle.awk_streams.specs.Ids.{SameOpen, Closes}
+use Rattle.awk_streams.specs.Ids.{SameOpen}
 use Rattle.awk_streams.specs.Log.{Event, Flushed, Closed}
-use Rattle.awk_streams.specs.Answers.{Answers, Source, Agrees, AnInput, Reading, reading_of, standing}
-use Rattle.awk_streams.specs.Orderly.{IsReadable, IsOrderly, IsInOrder}
-use Rattle.awk_streams.specs.Writes.{with_events, GoesOn, Writes, OnlyWritesTo, received, flushed_if}
+use Rattle.awk_streams.specs.Answers.{Answers, Source, Agrees, reading_of, standing}
+use Rattle.awk_streams.specs.Orderly.{IsReadable, IsInOrder}
+use Rattle.awk_streams.specs.Writes.{OnlyWritesTo, received, flushed_if}
 use Rattle.awk_streams.specs.Outputs.{WritesAll, Flushes}
-use Rattle.awk_streams.specs.Rest.{Rest}
-use Rattle.awk_streams.specs.Kept.{SameCounts, SameStreams}
-use Rattle.awk_streams.specs.Streams.{InputView, StreamsView, AreSound, StandsAsMain, IsSoundMain, Grows, IsMainRest, ClosesMain, Prints, closed_main, EndsLog, Finishes}
+use Rattle.awk_streams.specs.Kept.{SameStreams}
+use Rattle.awk_streams.specs.Streams.{InputView, StreamsView, IsSoundMain, IsMainRest, ClosesMain, Prints, closed_main, Finishes}
 use Rattle.awk_streams.proofs.AgreesLemmas.{agrees-before}
 use Rattle.awk_streams.proofs.KeptLemmas.{writes_order, writes_streams, writes_reading, writes_received}
 use Rattle.awk_streams.proofs.WritesLemmas.{received-writes}

@@ -1,4 +1,4 @@
-use Rattle.std.proofs.Common.{◌≡◌, ℕ, ◌+◌, ◌<◌, ◌≤◌, ◌-◌, List, [], ◌∷◌, ◌++◌, length, take, drop, Some, refl, sym, ◌∙◌, ap, subst, arith, append_assoc, append-nil}
+use Rattle.std.proofs.Common.{◌≡◌, ℕ, ◌+◌, ◌<◌, ◌-◌, List, [], ◌∷◌, ◌++◌, length, take, drop, Some, refl, sym, ◌∙◌, ap, arith, append_assoc, append-nil}
 use Rattle.std.proofs.lemmas.Bool.{cond-true, cond-false, ne_eqb, eq-eqb}
 use Rattle.std.proofs.lemmas.List.{take_rest, take-take, drop-take, take-append-drop}
 use Rattle.awk_streams.specs.Log.{Event, Wrote, taken_or_none}
@@ -17,9 +17,6 @@ Writes-push id bytes bs (e ∷ es) h = absurd h
 pub taken-some : (id n : ℕ) (bs : List ℕ) → 0 < n → 0 < length bs → taken_or_none id n bs ≡ Some (Wrote id (take n bs))
 taken-some id n [] some room = absurd (omega arith)
 taken-some id n (b ∷ bs) some room = cond-false _ _ _ (ne_eqb n 0 (λ (e : n ≡ 0). omega arith))
-
-pub GoesOn-start : (id : ℕ) (log : List Event) → GoesOn (Writes id []) log log
-GoesOn-start id log = record { events = []; log = refl; each = refl }
 
 pub GoesOn-write : (id : ℕ) (bytes bs : List ℕ) (old mid new : List Event) → GoesOn (Writes id bytes) old mid → new ≡ Wrote id bs ∷ mid → GoesOn (Writes id (bytes ++ bs)) old new
 GoesOn-write id bytes bs old mid new so_far is = record {
@@ -44,20 +41,3 @@ received-with id (e ∷ es) bytes log h = absurd h
 
 pub received-writes : (id : ℕ) (bytes : List ℕ) (old new : List Event) → GoesOn (Writes id bytes) old new → received id new ≡ received id old ++ bytes
 received-writes id bytes old new h = ap (received id) h.log ∙ received-with id h.events bytes old h.each
-
-pub with_events-append : (xs ys : List Event) (log : List Event) → with_events (xs ++ ys) log ≡ with_events ys (with_events xs log)
-with_events-append [] ys log = refl
-with_events-append (x ∷ xs) ys log = with_events-append xs ys (x ∷ log)
-
-pub Writes-append : (id : ℕ) (a b : List ℕ) (xs ys : List Event) → Writes id a xs → Writes id b ys → Writes id (a ++ b) (xs ++ ys)
-Writes-append id a b [] ys none h = subst (λ (c : List ℕ). Writes id c ys) (ap (λ x. x ++ b) (sym none)) h
-Writes-append id a b (Wrote i bs ∷ xs) ys (same, (rest, is, later)) h =
-    (same, (rest ++ b, ap (λ x. x ++ b) is ∙ append_assoc bs rest b, Writes-append id rest b xs ys later h))
-Writes-append id a b (e ∷ es) ys h k = absurd h
-
-pub GoesOn-writes : (id : ℕ) (a b : List ℕ) (x y z : List Event) → GoesOn (Writes id a) x y → GoesOn (Writes id b) y z → GoesOn (Writes id (a ++ b)) x z
-GoesOn-writes id a b x y z first then = record {
-  events = first.events ++ then.events;
-  log = then.log ∙ (ap (with_events then.events) first.log ∙ sym (with_events-append first.events then.events x));
-  each = Writes-append id a b first.events then.events first.each then.each;
-}

@@ -3,10 +3,9 @@ use Rattle.std.specs.Prelude.{◌≡◌, ◌⊎◌, ◌≤◌, ℕ, true, List, 
 use Rattle.std.specs.Result.{is_ok}
 use Rattle.awk_streams.specs.declared.fault.StreamFault.{StreamFault}
 use Rattle.awk_streams.specs.declared.fault.StreamFault.TheVariants.{Memory, WriteFailed}
-use Rattle.awk_streams.specs.declared.world.WorldFault as world
 use Rattle.awk_streams.specs.declared.world.WorldFault.{WorldFault}
 use Rattle.awk_streams.specs.declared.world.WorldFault.TheVariants.{Memory as WorldMemory, Failed}
-use Rattle.awk_streams.specs.Log.{Event, Flushed}
+use Rattle.awk_streams.specs.Log.{Event}
 use Rattle.awk_streams.specs.Writes.{GoesOn, Writes, flushed_if}
 
 abbrev pub output_fault_of : WorldFault → StreamFault

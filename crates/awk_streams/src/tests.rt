@@ -1,5 +1,6 @@
 // What runs over a world in memory read, print and log.
-ghost use Rattle.std.specs.Prelude.{is_some, IsTrue, IfOk, None, [], ◌≡◌, nat_lt};
+ghost use Rattle.std.specs.Prelude.{is_some, IsTrue, IfOk, None, [], ◌≡◌, ◌==◌, ◌&&◌, ◌||◌, nat_lt};
+ghost use Rattle.std.proofs.Common.{ap};
 ghost use Rattle.std.proofs.lemmas.Bool.{lt-ltb};
 ghost use Rattle.awk_streams.specs.Streams.{AreOpen, AreSound};
 
@@ -65,29 +66,34 @@ fn standard_input(
     Ok(ScriptWorld::new(alloc, answers))
 }
 
-// A world with no inputs that takes so many more bytes, one at each write, and then fails; its
-// flushes answer what is listed for their outputs.
+// A world with one input at a time, which breaks at once. Its outputs take so many more bytes, one
+// at each write, and then fail; a flush answers what is listed for its output.
 #[derive(Drop)]
-struct Outputs {
+struct Failing {
+    input: bool,
     taken: Vec<u8>,
     room: usize,
     full: WorldFault,
     flushes: [Result<(), WorldFault>; 2],
 }
 
-impl World for Outputs {
+impl World for Failing {
     ghost tells = { ⊥ };
 
     ghost log = { λ _. [] };
 
     ghost mark = { λ _. None };
 
-    ghost is_open = { λ _ id. nat_lt id 2 };
+    ghost is_open = { λ w id. nat_lt id 2 || (w.input && (id == 2)) };
 
-    ghost standard_open = { λ _ id below. lt-ltb id 2 below };
+    ghost standard_open = { λ w id below. ap (λ b. b || (w.input && (id == 2))) (lt-ltb id 2 below) };
 
     fn open_input(&mut self, _kind: InputKind, _name: &[u8]) -> Result<u64, WorldFault> {
-        Err(WorldFault::Failed)
+        if self.input {
+            return Err(WorldFault::Failed);
+        }
+        self.input = true;
+        Ok(2)
     }
 
     fn read(&mut self, _id: u64, _into: &mut [u8]) -> Result<usize, WorldFault> {
@@ -124,6 +130,7 @@ impl World for Outputs {
     }
 
     fn close(&mut self, _id: u64) -> i128 {
+        self.input = false;
         0
     }
 
@@ -143,7 +150,8 @@ fn the_first_failure_is_answered(rt: HostRuntime) -> Result<(), Fail> {
         (0, WorldFault::Memory, [memory, failed], f1, f1),
         (3, WorldFault::Failed, [failed, memory], Ok(()), f2),
     ] {
-        let mut world = Outputs {
+        let mut world = Failing {
+            input: false,
             taken: Vec::new(alloc),
             room,
             full,
@@ -152,7 +160,9 @@ fn the_first_failure_is_answered(rt: HostRuntime) -> Result<(), Fail> {
         let mut streams = Streams::new(alloc);
         assert_eq!(rt; streams.print(&mut world, b"abc"), printed);
         assert_eq!(rt; world.taken.as_slice(), &b"abc"[..room]);
+        streams.open_main(&mut world, InputKind::File, b"f")?;
         assert_eq!(rt; streams.finish(&mut world), ended);
+        assert!(rt; !world.input);
     }
     Ok(())
 }

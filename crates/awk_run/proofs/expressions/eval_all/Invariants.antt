@@ -9,5 +9,5 @@ use Rattle.awk_run.proofs.expressions.eval_all.Given as goal
 abbrev pub invariant-loop-e : goal.invariant-loop-e
 invariant-loop-e l =
     (new : Machine) (r : Result (List Value) Halt) →
-      EvaluatesAll l.values.items (exprs_of (drop l.e-index l.list)) l.machine new r →
-      EvaluatesAll [] (exprs_of l.list) l.fn.machine new r
+    EvaluatesAll l.values.items (exprs_of (drop l.e-index l.list)) l.machine new r →
+    EvaluatesAll [] (exprs_of l.list) l.fn.machine new r

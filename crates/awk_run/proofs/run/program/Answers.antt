@@ -1,5 +1,3 @@
-use Rattle.std.proofs.Common.{ap}
-use Rattle.awk_lex.specs.Told.{kinds_of}
 use Rattle.awk_run.proofs.Programs.{accepts}
 use Rattle.awk_run.proofs.run.program.Goals as goal
 

@@ -1,4 +1,4 @@
-use Rattle.std.proofs.Common.{◌≡◌, ◌∙◌, rules, refl, sym, ap, arith, length, ◌<◌, ◌≤◌}
+use Rattle.std.proofs.Common.{◌≡◌, rules, sym, arith}
 use Rattle.std.proofs.lemmas.Result.{err_from_is_err_and}
 use Rattle.awk_syntax.specs.declared.tree.Statement.TheViews.{the_lemmas}
 use Rattle.awk_syntax.specs.View.{statement_of, statements_of}

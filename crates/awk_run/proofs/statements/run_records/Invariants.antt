@@ -9,8 +9,8 @@ use Rattle.awk_run.proofs.statements.run_records.Given as goal
 abbrev pub invariant-loop-text : goal.invariant-loop-text
 invariant-loop-text g l = record {
   on : (new : Machine) (after : Seen) (r : Result (Unit {0}) Halt) →
-    ReadsOn g.W.World.tells (items_of l.items) l.machine (seen (g.W.World.is_open l.world) (g.W.World.log l.world) (g.W.World.mark l.world)) new after r →
-    ReadsOn g.W.World.tells (items_of l.items) l.fn.machine (seen (g.W.World.is_open l.fn.world) (g.W.World.log l.fn.world) (g.W.World.mark l.fn.world)) new after r;
+      ReadsOn g.W.World.tells (items_of l.items) l.machine (seen (g.W.World.is_open l.world) (g.W.World.log l.world) (g.W.World.mark l.world)) new after r →
+      ReadsOn g.W.World.tells (items_of l.items) l.fn.machine (seen (g.W.World.is_open l.fn.world) (g.W.World.log l.fn.world) (g.W.World.mark l.fn.world)) new after r;
   stays : AreOpen (g.W.World.is_open l.world) l.machine.streams;
   sound : g.W.World.tells → IsSoundMain (g.W.World.log l.world) l.machine.streams.main;
 }

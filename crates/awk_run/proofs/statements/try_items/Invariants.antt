@@ -9,5 +9,5 @@ abbrev pub invariant-loop-item : goal.invariant-loop-item
 invariant-loop-item g l =
     let w = g.W.World in
     (new : Machine) (after : Seen) (r : Result (Unit {0}) Halt) →
-      TriesAll w.tells (items_of (drop l.item-index l.items)) l.machine (seen (w.is_open l.world) (w.log l.world) (w.mark l.world)) new after r →
-      TriesAll w.tells (items_of l.items) l.fn.machine (seen (w.is_open l.fn.world) (w.log l.fn.world) (w.mark l.fn.world)) new after r
+    TriesAll w.tells (items_of (drop l.item-index l.items)) l.machine (seen (w.is_open l.world) (w.log l.world) (w.mark l.world)) new after r →
+    TriesAll w.tells (items_of l.items) l.fn.machine (seen (w.is_open l.fn.world) (w.log l.fn.world) (w.mark l.fn.world)) new after r

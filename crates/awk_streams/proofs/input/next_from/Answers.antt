@@ -1,5 +1,5 @@
 use Rattle.std.proofs.Common.{◌≡◌, sym, ap, subst, Result, ◌∙◌, rules, Ok, Err}
-use Rattle.awk_record.specs.Buffer.{Pending, Steps}
+use Rattle.awk_record.specs.Buffer.{Pending}
 use Rattle.awk_record.specs.declared.buffer.Step.{Step}
 use Rattle.awk_record.specs.declared.buffer.Step.TheVariants.{NeedMore}
 use Rattle.awk_record.specs.declared.fault.RecordFault.{RecordFault}

@@ -1,4 +1,3 @@
-use Rattle.std.proofs.Common.{refl}
 use Rattle.awk_streams.proofs.MainLemmas.{opens_granted}
 use Rattle.awk_streams.proofs.streams.Streams.open_main.Goals as goal
 
