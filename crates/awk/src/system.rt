@@ -1,12 +1,11 @@
 // The outside of a run, over the system's standard streams.
 
-ghost use Rattle.std.specs.Prelude.{◌≡◌, ◌≢◌, ◌≤◌, ◌↔◌, ℕ, Err, List, [], Option, None, Some, ◌||◌, is_some, IfOk, OnErr, length, nat_lt};
+ghost use Rattle.std.specs.Prelude.{◌≡◌, ◌≤◌, ◌↔◌, ℕ, Err, [], None, IfOk, OnErr, length, nat_lt};
 ghost use Rattle.std.specs.Ordering.{nat_cmp};
 ghost use Rattle.std.specs.IoError.{error_kind};
 ghost use Rattle.std.specs.BTreeMap.{get};
 ghost use Rattle.std.specs.Io.KnownBytes.{ReadConsumes, WriteAppends};
 ghost use Rattle.awk_streams.specs.Ids.{IsFresh, Opens, SameOpen};
-ghost use Rattle.awk_streams.specs.Log.{Event};
 ghost use Rattle.awk.specs.Open.{is_open_in, standard_outputs_open};
 
 use awk_streams::{InputKind, Mode, OutputKind, World, WorldFault};
