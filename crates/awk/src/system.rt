@@ -44,6 +44,7 @@ pub struct SysWorld {
 }
 
 impl SysWorld {
+    /// The system as it stands before a run: of its streams the two standard outputs are open.
     pub fn new(alloc: Global, stdin: Stdin, stdout: Stdout, stderr: Stderr) -> SysWorld
         ensures { (id : ℕ) → ⟦<SysWorld as World>⟧.is_open result id ≡ nat_lt id 2 }
     {
