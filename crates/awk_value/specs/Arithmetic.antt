@@ -1,8 +1,8 @@
 -- Arithmetic on whole numbers without bounds, of which only the end is tested for range
 -- (POSIX awk, Expressions in awk: the arithmetic operators).
-use Rattle.std.specs.Prelude.{◌^◌, Bool, false, ℤ, pos, negsuc, ◌*ℤ◌, nat_lt, ◌==◌, if◌then◌else◌, Result, Ok, Err}
+use Rattle.std.specs.Prelude.{◌^◌, Bool, false, ℤ, pos, negsuc, neg_ℤ, ◌+ℤ◌, ◌-ℤ◌, ◌*ℤ◌, int_rem, nat_lt, ◌==◌, if◌then◌else◌, Result, Ok, Err}
 use Rattle.awk_value.specs.declared.fault.ValueFault.{ValueFault}
-use Rattle.awk_value.specs.declared.fault.ValueFault.TheVariants.{Range}
+use Rattle.awk_value.specs.declared.fault.ValueFault.TheVariants.{Range, ZeroDivisor}
 
 -- from -2^127 to 2^127 - 1
 abbrev pub is_in_range : ℤ → Bool
@@ -19,3 +19,16 @@ is_zero (negsuc n) = false
 
 abbrev pub product_of : ℤ → ℤ → Result ℤ ValueFault
 product_of m n = range_checked (m *ℤ n)
+
+abbrev pub sum_of : ℤ → ℤ → Result ℤ ValueFault
+sum_of m n = range_checked (m +ℤ n)
+
+abbrev pub difference_of : ℤ → ℤ → Result ℤ ValueFault
+difference_of m n = range_checked (m -ℤ n)
+
+abbrev pub negative_of : ℤ → Result ℤ ValueFault
+negative_of n = range_checked (neg_ℤ n)
+
+-- what division leaves of the dividend, whose sign it takes
+abbrev pub remainder_of : ℤ → ℤ → Result ℤ ValueFault
+remainder_of m n = if is_zero n then Err ZeroDivisor else Ok (int_rem m n)

@@ -1,7 +1,7 @@
 // Arithmetic on numbers and on values.
 
 ghost use Rattle.std.specs.Prelude.{◌≡◌};
-ghost use Rattle.awk_value.specs.Arithmetic.{product_of};
+ghost use Rattle.awk_value.specs.Arithmetic.{product_of, sum_of, difference_of, negative_of, remainder_of};
 ghost use Rattle.awk_value.specs.Values.{multiplied};
 
 use crate::convert::number_of;
@@ -14,6 +14,42 @@ pub fn mul(m: i128, n: i128) -> Result<i128, ValueFault>
     ensures { result ≡ product_of m n }
 {
     m.checked_mul(n).ok_or(ValueFault::Range)
+}
+
+/// The sum of two numbers. The fault is `Range`. (POSIX awk, Expressions in awk.)
+#[tactic(auto, using(crate::proofs::Ranges::in_range, crate::proofs::Ranges::out_of_range))]
+pub fn add(m: i128, n: i128) -> Result<i128, ValueFault>
+    ensures { result ≡ sum_of m n }
+{
+    m.checked_add(n).ok_or(ValueFault::Range)
+}
+
+/// The difference of two numbers. The fault is `Range`. (POSIX awk, Expressions in awk.)
+#[tactic(auto, using(crate::proofs::Ranges::in_range, crate::proofs::Ranges::out_of_range))]
+pub fn sub(m: i128, n: i128) -> Result<i128, ValueFault>
+    ensures { result ≡ difference_of m n }
+{
+    m.checked_sub(n).ok_or(ValueFault::Range)
+}
+
+/// The number with the other sign. The fault is `Range`, of -2^127 alone. (POSIX awk, Expressions
+/// in awk.)
+#[tactic(auto, using(crate::proofs::Ranges::in_range, crate::proofs::Ranges::out_of_range))]
+pub fn neg(n: i128) -> Result<i128, ValueFault>
+    ensures { result ≡ negative_of n }
+{
+    n.checked_neg().ok_or(ValueFault::Range)
+}
+
+/// What division leaves of `m`, with the sign of `m`; what -1 leaves is 0, of the least number too.
+/// The fault is `ZeroDivisor`. (POSIX awk, Expressions in awk.)
+pub fn rem(m: i128, n: i128) -> Result<i128, ValueFault>
+    ensures { result ≡ remainder_of m n }
+{
+    if n == 0 {
+        return Err(ValueFault::ZeroDivisor);
+    }
+    Ok(m.wrapping_rem(n))
 }
 
 /// The product of the numbers of two values, of which the left one's is taken first. The fault is

@@ -15,6 +15,9 @@ pub enum ValueFault {
     /// F3: the number is below -2^127 or above 2^127 - 1.
     #[error("number out of range")]
     Range,
+    /// F4: the divisor is 0.
+    #[error("division by zero")]
+    ZeroDivisor,
 }
 
 impl From<AllocError> for ValueFault {

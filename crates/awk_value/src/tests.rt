@@ -98,6 +98,31 @@ const PRODUCTS: [(Given, Given, Result<i128, ValueFault>); 9] = [
     (Number(0), Text(PAST_LARGEST_TEXT), Err(ValueFault::Range)),
 ];
 
+// Two numbers, their sum, their difference, and what division of the first by the second leaves.
+const SUMS: [(
+    i128,
+    i128,
+    Result<i128, ValueFault>,
+    Result<i128, ValueFault>,
+    Result<i128, ValueFault>,
+); 8] = [
+    (7, 2, Ok(9), Ok(5), Ok(1)),
+    (-7, 2, Ok(-5), Ok(-9), Ok(-1)),
+    (7, -2, Ok(5), Ok(9), Ok(1)),
+    (-7, -2, Ok(-9), Ok(-5), Ok(-1)),
+    (5, 0, Ok(5), Ok(5), Err(ValueFault::ZeroDivisor)),
+    (LARGEST, 1, Err(ValueFault::Range), Ok(LARGEST - 1), Ok(0)),
+    (LEAST, 1, Ok(LEAST + 1), Err(ValueFault::Range), Ok(0)),
+    (LEAST, -1, Err(ValueFault::Range), Ok(LEAST + 1), Ok(0)),
+];
+
+const NEGATIVES: [(i128, Result<i128, ValueFault>); 4] = [
+    (0, Ok(0)),
+    (5, Ok(-5)),
+    (LARGEST, Ok(LEAST + 1)),
+    (LEAST, Err(ValueFault::Range)),
+];
+
 const TEXTS: [(Given, &str); 5] = [
     (Nothing, ""),
     (Number(0), "0"),
@@ -142,6 +167,18 @@ fn products(rt: HostRuntime) -> Result<(), Fail> {
 }
 
 #[test]
+fn sums(rt: HostRuntime) {
+    for (m, n, sum, difference, remainder) in SUMS {
+        assert_eq!(rt; add(m, n), sum, "{m} {n}");
+        assert_eq!(rt; sub(m, n), difference, "{m} {n}");
+        assert_eq!(rt; rem(m, n), remainder, "{m} {n}");
+    }
+    for (n, negative) in NEGATIVES {
+        assert_eq!(rt; neg(n), negative, "{n}");
+    }
+}
+
+#[test]
 fn texts(rt: HostRuntime) -> Result<(), Fail> {
     let mut line = Vec::new(rt.alloc());
     for (given, text) in TEXTS {
@@ -169,11 +206,11 @@ fn cuts(rt: HostRuntime) -> Result<(), Fail> {
 
 #[test]
 fn fault_texts(rt: HostRuntime) -> Result<(), Fail> {
-    let faults = [ValueFault::from(AllocError), ValueFault::Range];
-    for (fault, text) in faults
-        .into_iter()
-        .zip(["out of memory", "number out of range"])
-    {
+    for (fault, text) in [
+        (ValueFault::from(AllocError), "out of memory"),
+        (ValueFault::Range, "number out of range"),
+        (ValueFault::ZeroDivisor, "division by zero"),
+    ] {
         assert_eq!(rt; format!(in rt.alloc(); "{fault}")?.as_str(), text);
     }
     Ok(())
