@@ -22,6 +22,7 @@ use Rattle.awk_run.specs.State.{Stop, Faulted}
 abbrev pub value_fault : ValueFault → Fault
 value_fault value.Memory = fault.OutOfMemory
 value_fault value.Range = fault.NumberOutOfRange
+value_fault value.ZeroDivisor = fault.DivisionByZero
 
 abbrev pub record_fault : RecordFault → Fault
 record_fault fields.Memory = fault.OutOfMemory

@@ -41,6 +41,7 @@ impl From<ValueFault> for Halt {
         Halt::Fault(match fault {
             ValueFault::Memory => Fault::OutOfMemory,
             ValueFault::Range => Fault::NumberOutOfRange,
+            ValueFault::ZeroDivisor => Fault::DivisionByZero,
         })
     }
 }
