@@ -1,14 +1,19 @@
-//! What the language makes of texts: the pieces between blanks.
+//! What the language makes of texts: the pieces between blanks, and the bytes
+//! that escapes stand for.
 #![tactic(auto)]
 
 ghost use Rattle.std.specs.Prelude.{◌≡◌, ℕ, List, [], ◌∷◌, ◌++◌, true};
 ghost use Rattle.awk_text.specs.Pieces.{AreBlank, IsPiece, is_blank, pieces_of};
 
+mod escapes;
 mod fault;
 mod span;
 mod split;
+#[cfg(test)]
+mod tests;
 
-pub use fault::TextFault;
+pub use escapes::unescape;
+pub use fault::{EscapeFault, TextFault};
 pub use span::Span;
 pub use split::split_blanks;
 
