@@ -37,6 +37,9 @@ fn told(step: Result<Step, RecordFault>) -> Result<Option<Bytes>, StreamFault>
     }
 }
 
+/// The most bytes of one reading.
+const CHUNK: usize = 1_024;
+
 // The next record of the main input.
 fn next_of<W: World>(
     input: &mut Input,
@@ -50,7 +53,7 @@ fn next_of<W: World>(
     ensures told { W.tells → StandsAsMain (W.log world.old) (view_of input.old) →
         AsksMain separator.now (W.is_open world.old) (W.log world.old) (W.mark world.old) (record { main = Some (view_of input.old) }) result (W.is_open world.new) (W.log world.new) (W.mark world.new) (record { main = Some (view_of input.new) }) }
 {
-    let mut chunk = [0u8; 1];
+    let mut chunk = [0u8; CHUNK];
     told(next_from(world, input.id, &mut input.buffer, separator, &mut chunk))
 }
 

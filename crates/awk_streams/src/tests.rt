@@ -174,12 +174,9 @@ fn the_log_has_each_call_in_order(rt: HostRuntime) -> Result<(), Fail> {
     copy_standard_input(&mut world, alloc, b"\n")?;
     let expected = vec![in alloc;
         Entry::OpenedInput(InputKind::Standard, Vec::new(alloc), Some(2)),
-        Entry::Read(2, b"a".to_vec(alloc)?),
-        Entry::Read(2, b"b".to_vec(alloc)?),
-        Entry::Read(2, b"\n".to_vec(alloc)?),
+        Entry::Read(2, b"ab\nc".to_vec(alloc)?),
         Entry::Wrote(0, b"ab".to_vec(alloc)?),
         Entry::Wrote(0, b"|".to_vec(alloc)?),
-        Entry::Read(2, b"c".to_vec(alloc)?),
         Entry::Ended(2),
         Entry::Wrote(0, b"c".to_vec(alloc)?),
         Entry::Wrote(0, b"|".to_vec(alloc)?),
@@ -188,6 +185,19 @@ fn the_log_has_each_call_in_order(rt: HostRuntime) -> Result<(), Fail> {
         Entry::Closed(2, 0),
     ]?;
     assert_eq!(rt; world.entries(), expected.as_slice());
+    Ok(())
+}
+
+#[test]
+fn a_record_may_be_longer_than_a_reading(rt: HostRuntime) -> Result<(), Fail> {
+    let alloc = rt.alloc();
+    let mut bytes = vec![in alloc; b'x'; 2_500]?;
+    bytes.extend_from_slice(b"\ny")?;
+    let mut world = standard_input(alloc, &bytes, false, false)?;
+    assert_eq!(rt; copy_standard_input(&mut world, alloc, b"\n"), Ok(()));
+    let printed = world.received(0)?;
+    assert_eq!(rt; printed.len(), 2_503);
+    assert!(rt; printed.ends_with(b"x|y|"));
     Ok(())
 }
 
