@@ -61,6 +61,7 @@ from_numbers operation (Ok m) (Ok n) = number_value (operation m n)
 from_numbers operation (Ok m) (Err fault) = Err fault
 from_numbers operation (Err fault) right = Err fault
 
--- the product of two values
-abbrev pub multiplied : Value → Value → Result Value ValueFault
-multiplied a b = from_numbers product_of (num_of a) (num_of b)
+-- and of the number of one
+abbrev pub from_number : (ℤ → Result ℤ ValueFault) → Result ℤ ValueFault → Result Value ValueFault
+from_number operation (Ok n) = number_value (operation n)
+from_number operation (Err fault) = Err fault

@@ -2,7 +2,7 @@
 
 ghost use Rattle.std.specs.Prelude.{◌≡◌};
 ghost use Rattle.awk_value.specs.Arithmetic.{product_of, sum_of, difference_of, negative_of, remainder_of};
-ghost use Rattle.awk_value.specs.Values.{multiplied};
+ghost use Rattle.awk_value.specs.Values.{num_of, number_value, from_numbers, from_number};
 
 use crate::convert::number_of;
 use crate::fault::ValueFault;
@@ -53,11 +53,62 @@ pub fn rem(m: i128, n: i128) -> Result<i128, ValueFault>
 }
 
 /// The product of the numbers of two values, of which the left one's is taken first. The fault is
-/// `Range`: of an operand's number, or of the product. Takes no memory.
+/// `Range`: of an operand's number, or of the product.
+/// Takes no memory. (POSIX awk, Expressions in awk.)
 pub fn multiply(left: &Value, right: &Value) -> Result<Value, ValueFault>
-    ensures { result ≡ multiplied left.now right.now }
+    ensures { result ≡ from_numbers product_of (num_of left.now) (num_of right.now) }
 {
     let m = number_of(left)?;
     let n = number_of(right)?;
     Ok(Value::Number(mul(m, n)?))
+}
+
+/// The sum of the numbers of two values, of which the left one's is taken first. The fault is
+/// `Range`: of an operand's number, or of the sum.
+/// Takes no memory. (POSIX awk, Expressions in awk.)
+pub fn plus(left: &Value, right: &Value) -> Result<Value, ValueFault>
+    ensures { result ≡ from_numbers sum_of (num_of left.now) (num_of right.now) }
+{
+    let m = number_of(left)?;
+    let n = number_of(right)?;
+    Ok(Value::Number(add(m, n)?))
+}
+
+/// The difference of the numbers of two values, of which the left one's is taken first. The fault
+/// is `Range`: of an operand's number, or of the difference.
+/// Takes no memory. (POSIX awk, Expressions in awk.)
+pub fn minus(left: &Value, right: &Value) -> Result<Value, ValueFault>
+    ensures { result ≡ from_numbers difference_of (num_of left.now) (num_of right.now) }
+{
+    let m = number_of(left)?;
+    let n = number_of(right)?;
+    Ok(Value::Number(sub(m, n)?))
+}
+
+/// What division of the left value's number by the right one's leaves. The faults are `Range`, of an
+/// operand's number, and `ZeroDivisor`.
+/// Takes no memory. (POSIX awk, Expressions in awk.)
+pub fn remainder(left: &Value, right: &Value) -> Result<Value, ValueFault>
+    ensures { result ≡ from_numbers remainder_of (num_of left.now) (num_of right.now) }
+{
+    let m = number_of(left)?;
+    let n = number_of(right)?;
+    Ok(Value::Number(rem(m, n)?))
+}
+
+/// The number of a value, with the other sign. The fault is `Range`. Takes no memory. (POSIX awk,
+/// Expressions in awk.)
+pub fn negate(value: &Value) -> Result<Value, ValueFault>
+    ensures { result ≡ from_number negative_of (num_of value.now) }
+{
+    let n = number_of(value)?;
+    Ok(Value::Number(neg(n)?))
+}
+
+/// The number of a value, as a value. The fault is `Range`. Takes no memory. (POSIX awk, Expressions
+/// in awk.)
+pub fn to_number(value: &Value) -> Result<Value, ValueFault>
+    ensures { result ≡ number_value (num_of value.now) }
+{
+    Ok(Value::Number(number_of(value)?))
 }

@@ -10,7 +10,9 @@ mod number;
 mod order;
 mod value;
 
-pub use crate::arithmetic::{add, mul, multiply, neg, rem, sub};
+pub use crate::arithmetic::{
+    add, minus, mul, multiply, neg, negate, plus, rem, remainder, sub, to_number,
+};
 pub use crate::bytes::Bytes;
 pub use crate::convert::{append_text, is_true, number_of, text_of};
 pub use crate::fault::ValueFault;

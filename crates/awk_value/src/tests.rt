@@ -178,6 +178,32 @@ fn sums(rt: HostRuntime) {
     }
 }
 
+/// What the operations make of the numbers of a text from outside and of a number.
+#[test]
+fn operations(rt: HostRuntime) -> Result<(), Fail> {
+    let seven = Input(" 7x").value(rt.alloc())?;
+    let three = Number(-3).value(rt.alloc())?;
+    let least = Number(LEAST).value(rt.alloc())?;
+    let rows = [
+        (plus(&seven, &three), Ok(4)),
+        (minus(&seven, &three), Ok(10)),
+        (remainder(&seven, &three), Ok(1)),
+        (
+            remainder(&seven, &Value::Nothing),
+            Err(ValueFault::ZeroDivisor),
+        ),
+        (negate(&seven), Ok(-7)),
+        (negate(&least), Err(ValueFault::Range)),
+        (to_number(&seven), Ok(7)),
+        (to_number(&Value::Nothing), Ok(0)),
+        (minus(&least, &seven), Err(ValueFault::Range)),
+    ];
+    for (value, number) in rows {
+        assert_eq!(rt; value.and_then(|value| number_of(&value)), number);
+    }
+    Ok(())
+}
+
 #[test]
 fn texts(rt: HostRuntime) -> Result<(), Fail> {
     let mut line = Vec::new(rt.alloc());
