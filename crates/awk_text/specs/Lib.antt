@@ -1,3 +1,2 @@
 pub mod Span
 pub mod Pieces
-pub mod Escapes

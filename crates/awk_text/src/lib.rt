@@ -1,19 +1,14 @@
-//! What the language makes of texts: the pieces between blanks, and the bytes
-//! that escapes stand for.
+//! What the language makes of texts: the pieces between blanks.
 #![tactic(auto)]
 
 ghost use Rattle.std.specs.Prelude.{◌≡◌, ℕ, List, [], ◌∷◌, ◌++◌, true};
 ghost use Rattle.awk_text.specs.Pieces.{AreBlank, IsPiece, is_blank, pieces_of};
 
-mod escapes;
 mod fault;
 mod span;
 mod split;
-#[cfg(test)]
-mod tests;
 
-pub use escapes::unescape;
-pub use fault::{EscapeFault, TextFault};
+pub use fault::TextFault;
 pub use span::Span;
 pub use split::split_blanks;
 
