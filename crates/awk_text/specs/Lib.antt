@@ -1,2 +1,3 @@
 pub mod Span
 pub mod Pieces
+pub mod Separator

@@ -9,6 +9,9 @@ pub enum TextFault {
     /// F1.
     #[error("out of memory")]
     Memory,
+    /// F6: a separator that isn't a single byte would be a pattern, which isn't built.
+    #[error("bad pattern")]
+    Pattern,
 }
 
 impl From<AllocError> for TextFault {
