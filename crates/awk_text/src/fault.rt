@@ -9,8 +9,8 @@ pub enum TextFault {
     /// F1.
     #[error("out of memory")]
     Memory,
-    /// F6: a separator that isn't a single byte would be a pattern, which isn't built.
-    #[error("bad pattern")]
+    /// F6: a separator that isn't a single byte. Longer ones are patterns, which aren't built.
+    #[error("pattern refused")]
     Pattern,
 }
 

@@ -117,3 +117,10 @@ fn reads_the_value_of_fs(rt: HostRuntime) {
     assert_eq!(rt; Separator::of(b"  "), Err(TextFault::Pattern));
     assert_eq!(rt; Separator::of(b"ab"), Err(TextFault::Pattern));
 }
+
+#[test]
+fn faults_have_texts(rt: HostRuntime) -> Result<(), Fail> {
+    let texts = format!(in rt.alloc(); "{}, {}", TextFault::Memory, TextFault::Pattern)?;
+    assert_eq!(rt; texts.as_str(), "out of memory, pattern refused");
+    Ok(())
+}
