@@ -3,6 +3,7 @@
 use Rattle.std.specs.Prelude.{ℕ, zero, suc, ℤ, pos, negsuc, List, map, slice_get, unwrap_or, Result, Ok, Err}
 use Rattle.awk_text.specs.Pieces.{pieces_of}
 use Rattle.awk_text.specs.Span.{stretches_at}
+use Rattle.awk_text.specs.declared.separator.Separator.{Separator}
 use Rattle.awk_text.specs.declared.span.Span.{Span}
 use Rattle.awk_value.specs.declared.value.Value.{Value}
 use Rattle.awk_value.specs.declared.value.Value.TheVariants.{Nothing, Input}
@@ -17,9 +18,9 @@ pub record RecordPair : Type 0 where
 abbrev pub inputs_of : List (List ℕ) → List Value
 inputs_of texts = map (λ text. Input text) texts
 
--- the record of a text whose blanks separate its fields
-abbrev pub split_at_blanks : (text : List ℕ) → RecordPair
-split_at_blanks text = record { text = text; fields = inputs_of (pieces_of text) }
+-- the record of a text whose fields a separator leaves
+abbrev pub split_by : Separator → (text : List ℕ) → RecordPair
+split_by separator text = record { text = text; fields = inputs_of (pieces_of separator text) }
 
 -- the record of a text whose fields are these stretches
 abbrev pub spanned : (text : List ℕ) → List Span → RecordPair

@@ -1,6 +1,5 @@
 // Why a record can't be had.
 
-use awk_text::TextFault;
 use std::alloc::{AllocError, AllocFailed};
 use thiserror::Error;
 
@@ -40,18 +39,5 @@ impl<T: Drop> From<AllocFailed<T>> for RecordFault {
 
     fn from(_: AllocFailed<T>) -> Self {
         RecordFault::Memory
-    }
-}
-
-impl From<TextFault> for RecordFault {
-    ghost use Rattle.std.specs.Prelude.{◌≡◌};
-    ghost use Rattle.awk_record.specs.declared.fault.RecordFault.TheVariants.{Memory};
-
-    ghost from_gives = { λ _ e. e ≡ Memory };
-
-    fn from(fault: TextFault) -> Self {
-        match fault {
-            TextFault::Memory => RecordFault::Memory,
-        }
     }
 }

@@ -2,7 +2,7 @@
 ghost use Rattle.std.specs.Prelude.{◌≡◌, ◌≢◌, ℕ, suc, pos, ◌<ℤ◌, ◌++◌, [], length, slice_get, OnOk, OnErr, IfOk, IfErr, Err};
 
 use crate::fault::RecordFault;
-use awk_text::{Span, split_blanks};
+use awk_text::{Separator, Span, TextFault, split_text};
 use awk_value::{Bytes, Value};
 use std::alloc::Global;
 use std::marker::Model;
@@ -15,6 +15,17 @@ fn span_of(spans: &[Span], number: i128) -> Option<Span>
 {
     let index = usize::try_from(number - 1).ok()?;
     spans.get(index).copied()
+}
+
+// The fault of a split, which refuses nothing for a cause other than memory.
+fn split_fault(fault: TextFault) -> RecordFault
+    requires { fault ≡ TextFault.Memory }
+    ensures { result ≡ RecordFault.Memory }
+{
+    match fault {
+        TextFault::Memory => RecordFault::Memory,
+        TextFault::Pattern => unreachable!(),
+    }
 }
 
 /// The record at hand: a text, and the fields that it was split into. A field
@@ -39,7 +50,7 @@ impl Model for Record {
 }
 
 impl Record {
-    ghost use Rattle.awk_record.specs.Record.{split_at_blanks, field_of};
+    ghost use Rattle.awk_record.specs.Record.{split_by, field_of};
 
     /// The record before any was read: an empty text with no fields. The only
     /// error is `Memory`.
@@ -55,14 +66,14 @@ impl Record {
         })
     }
 
-    /// Makes this text the record, and splits it at its blanks. The only error
-    /// is `Memory`, and it changes nothing.
-    pub fn set_text(&mut self, text: Bytes) -> Result<(), RecordFault>
-        ensures ok { OnOk result (self.new ≡ split_at_blanks text) }
+    /// Makes this text the record, and splits it into fields by the separator.
+    /// The only error is `Memory`, and it changes nothing.
+    pub fn set_text(&mut self, text: Bytes, separator: Separator) -> Result<(), RecordFault>
+        ensures ok { OnOk result (self.new ≡ split_by separator text) }
         ensures err { OnErr result (self.new ≡ self.old) }
         ensures memory { IfErr result (λ e. e ≡ RecordFault.Memory) }
     {
-        split_blanks(text.as_slice(), &mut self.spare)?;
+        split_text(text.as_slice(), separator, &mut self.spare).map_err(split_fault)?;
         self.text = text;
         mem::swap(&mut self.spans, &mut self.spare);
         Ok(())

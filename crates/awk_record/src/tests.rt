@@ -1,6 +1,7 @@
 // Records and fields by hand, from the rules of the language.
 
 use super::*;
+use awk_text::Separator;
 use awk_value::{Bytes, Value};
 use std::alloc::Global;
 use std::test::Fail;
@@ -137,7 +138,8 @@ fn splits_a_record_into_fields(rt: HostRuntime) -> Result<(), Fail> {
     assert!(rt; is_input(&record.field(0)?, ""));
 
     let text = " \tone two\n\nthree ";
-    record.set_text(Bytes::from_slice(rt.alloc(), text.as_bytes())?)?;
+    let bytes = Bytes::from_slice(rt.alloc(), text.as_bytes())?;
+    record.set_text(bytes, Separator::Blanks)?;
     assert_eq!(rt; record.count()?, 3);
     assert!(rt; is_input(&record.field(0)?, text));
     assert!(rt; is_input(&record.field(1)?, "one"));
@@ -150,5 +152,22 @@ fn splits_a_record_into_fields(rt: HostRuntime) -> Result<(), Fail> {
     record.append_text(&mut buffer)?;
     assert_eq!(rt; buffer.len(), text.len() + 2);
     assert_eq!(rt; record.text()?.as_slice(), text.as_bytes());
+    Ok(())
+}
+
+#[test]
+fn splits_a_record_at_a_byte(rt: HostRuntime) -> Result<(), Fail> {
+    let mut record = Record::new(rt.alloc())?;
+    let bytes = Bytes::from_slice(rt.alloc(), b"root: x::")?;
+    record.set_text(bytes, Separator::Byte(b':'))?;
+    assert_eq!(rt; record.count()?, 4);
+    assert!(rt; is_input(&record.field(0)?, "root: x::"));
+    assert!(rt; is_input(&record.field(1)?, "root"));
+    assert!(rt; is_input(&record.field(2)?, " x"));
+    assert!(rt; is_input(&record.field(4)?, ""));
+    assert!(rt; matches!(record.field(5)?, Value::Nothing));
+
+    record.set_text(Bytes::from_slice(rt.alloc(), b"")?, Separator::Byte(b':'))?;
+    assert_eq!(rt; record.count()?, 0);
     Ok(())
 }

@@ -1,20 +1,22 @@
 -- What printing and the end of a run come to.
-use Rattle.std.proofs.Common.{◌≡◌, ◌≤◌, inl, inr, ℕ, ℤ, Bool, true, false, ◌&&◌, List, ◌∷◌, ◌++◌, length, take, Option, Some, None, Result, Ok, Err, refl, sym, ◌∙◌, ap, subst}
+use Rattle.std.proofs.Common.{◌≡◌, ◌≢◌, ◌≤◌, ◌+◌, arith, inl, inr, ℕ, ℤ, Bool, true, false, ◌&&◌, List, ◌∷◌, ◌++◌, length, take, Option, Some, None, Result, Ok, Err, refl, sym, ◌∙◌, ap, subst}
 use Rattle.std.specs.Prelude.{is_some, OnOk, OnErr}
 use Rattle.std.specs.Result.{is_ok, result_and}
 use Rattle.std.proofs.lemmas.Bool.{cond-true, cond-false, ne_eqb, eq-eqb, cases_eq}
 use Rattle.std.proofs.Math.Seq.{take-length}
 use Rattle.awk_streams.specs.declared.fault.StreamFault.{StreamFault}
+use Rattle.awk_streams.specs.declared.world.InputKind.{InputKind}
+use Rattle.awk_streams.specs.declared.world.InputKind.TheVariants.{Standard, File, Command}
 use Rattle.awk_streams.specs.Ids.{SameOpen}
 use Rattle.awk_streams.specs.Log.{Event, Flushed, Closed}
-use Rattle.awk_streams.specs.Answers.{Answers, Source, Agrees, reading_of, standing}
+use Rattle.awk_streams.specs.Answers.{Answers, Source, Agrees, AnInput, one_if, how_many, closes_command, is_command, reading_of, standing}
 use Rattle.awk_streams.specs.Orderly.{IsReadable, IsInOrder}
 use Rattle.awk_streams.specs.Writes.{OnlyWritesTo, received, flushed_if}
 use Rattle.awk_streams.specs.Outputs.{WritesAll, Flushes}
-use Rattle.awk_streams.specs.Kept.{SameStreams}
-use Rattle.awk_streams.specs.Streams.{InputView, StreamsView, IsSoundMain, IsMainRest, ClosesMain, Prints, closed_main, Finishes}
+use Rattle.awk_streams.specs.Kept.{SameCounts, SameStreams}
+use Rattle.awk_streams.specs.Streams.{InputView, StreamsView, StandsAsMain, IsSoundMain, IsMainRest, ClosesMain, Prints, closed_main, EndsMain, Finishes}
 use Rattle.awk_streams.proofs.AgreesLemmas.{agrees-before}
-use Rattle.awk_streams.proofs.KeptLemmas.{writes_order, writes_streams, writes_reading, writes_received}
+use Rattle.awk_streams.proofs.KeptLemmas.{same_counts-self, writes_order, writes_streams, writes_reading, writes_received}
 use Rattle.awk_streams.proofs.WritesLemmas.{received-writes}
 
 readable_same : (id : ℕ) (log log' : List Event) → reading_of id log' ≡ reading_of id log → IsReadable id log → IsReadable id log'
@@ -119,6 +121,46 @@ close_agrees (Some v) n log a h = h.1
 close_received : (main : Option InputView) (n : ℤ) (j : ℕ) (log : List Event) → received j (closed_main main n log) ≡ received j log
 close_received None n j log = refl
 close_received (Some v) n j log = refl
+
+plain_input : (kind : InputKind) → kind ≢ Command → is_command (Some (AnInput kind)) ≡ false
+plain_input Standard plain = refl
+plain_input File plain = refl
+plain_input Command plain = absurd (plain refl)
+
+none_more : (n : ℕ) → 0 + n ≡ n
+none_more n = omega arith
+
+no_command : (log : List Event) (v : InputView) → StandsAsMain log v → is_command (standing v.id log) ≡ false
+no_command log v h = ap is_command h.stands ∙ plain_input h.kind h.plain
+
+close_counts : (main : Option InputView) (n : ℤ) (log : List Event) → IsSoundMain log main → SameCounts log (closed_main main n log)
+close_counts None n log h = same_counts-self log
+close_counts (Some v) n log h = record {
+  inputs = λ kind name. none_more _;
+  outputs = λ kind name. none_more _;
+  closings = ap (λ (b : Bool). one_if b + how_many closes_command log) (no_command log v h) ∙ none_more _;
+  runs = none_more _;
+}
+
+closed_agrees : (main : Option InputView) (n : ℤ) (log : List Event) (a : Answers) → IsSoundMain log main → Agrees a log → Agrees a (closed_main main n log)
+closed_agrees None n log a h agrees = agrees
+closed_agrees (Some v) n log a h agrees = (λ command. absurd (false_true (sym (no_command log v h) ∙ command)), agrees)
+
+pub ends_main : (is_open is_open' : ℕ → Bool) (log log' : List Event) (mark mark' : Option ℕ) (old new : StreamsView) (answer : ℤ) →
+    new.main ≡ None → IsSoundMain log old.main → ClosesMain is_open is_open' old.main → log' ≡ closed_main old.main answer log → mark' ≡ mark → EndsMain is_open log mark old is_open' log' mark' new
+ends_main is_open is_open' log log' mark mark' old new answer none sound closes adds same_mark =
+    let closed : List Event = closed_main old.main answer log in
+    let main : IsSoundMain closed new.main = subst (λ (m : Option InputView). IsSoundMain closed m) (sym none) tt in
+    subst (λ (l : List Event). EndsMain is_open log mark old is_open' l mark' new) (sym adds) record {
+      sound = λ s. record { order = close_order old.main answer is_open is_open' log closes s.order s.main; main = main };
+      main = main;
+      grows = record { agrees = λ a. close_agrees old.main answer log a; clear = λ unmarked. sym same_mark ∙ unmarked };
+      agrees = λ a. closed_agrees old.main answer log a sound;
+      adds = (answer, refl);
+      outputs = λ j. close_received old.main answer j log;
+      counts = close_counts old.main answer log sound;
+      unmarked = same_mark;
+    }
 
 -- the first failure of two flushes is the answer
 both_ok : (first second : Result (Unit {0}) StreamFault) → OnOk (result_and first second) ((is_ok first && is_ok second) ≡ true)

@@ -153,6 +153,17 @@ abbrev pub closed_main : Option InputView → ℤ → List Event → List Event
 closed_main None answer log = log
 closed_main (Some v) answer log = Closed v.id answer ∷ log
 
+-- the end of the main input: it is closed, if there was one. It is no command, so its closing gives no answer of the outside
+pub record EndsMain (is_open : ℕ → Bool) (log : List Event) (mark : Option ℕ) (old : StreamsView) (is_open' : ℕ → Bool) (log' : List Event) (mark' : Option ℕ) (new : StreamsView) : Type 0 where
+  pub sound : AreSound is_open log old → AreSound is_open' log' new
+  pub main : IsSoundMain log' new.main
+  pub grows : Grows log mark log' mark'
+  pub agrees : (a : Answers) → Agrees a log → Agrees a log'
+  pub adds : (answer : ℤ) × (log' ≡ closed_main old.main answer log)
+  pub outputs : (j : ℕ) → received j log' ≡ received j log
+  pub counts : SameCounts log log'
+  pub unmarked : mark' ≡ mark
+
 -- both standard outputs are flushed, the second also where the first flush fails; then the main input is closed
 pub record EndsLog (main : Option InputView) (result : Result (Unit {0}) StreamFault) (log log' : List Event) : Type 0 where
   pub first : Bool

@@ -14,6 +14,7 @@ mod world;
 
 pub use fault::StreamFault;
 pub use laws::{agrees_with_less, some_answers_agree};
+pub use output::print_error;
 pub use script::{Answer, Entry, ScriptWorld};
 pub use streams::Streams;
 pub use world::{InputKind, Mode, OutputKind, World, WorldFault};

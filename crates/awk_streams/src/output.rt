@@ -6,6 +6,12 @@ ghost use Rattle.awk_streams.specs.Outputs.{output_fault_of, IsOutputFault, Writ
 use crate::fault::StreamFault;
 use crate::world::{World, WorldFault};
 
+/// The number of standard output, which is always open.
+pub const STANDARD_OUTPUT: u64 = 0;
+
+/// The number of standard error, which is always open.
+pub const STANDARD_ERROR: u64 = 1;
+
 // The fault of a write or a flush.
 fn output_fault(fault: WorldFault) -> StreamFault
     ensures { result ≡ output_fault_of fault }
@@ -32,6 +38,17 @@ pub fn write_all<W: World>(world: &mut W, id: u64, bytes: &[u8]) -> Result<(), S
         }
     }
     Ok(())
+}
+
+/// Writes all the bytes to standard error, where a run's own messages go, and
+/// flushes nothing. Fails with `Memory` (F1) or `WriteFailed` (F2); then a
+/// beginning of them was written. (POSIX awk, STDERR)
+pub fn print_error<W: World>(world: &mut W, bytes: &[u8]) -> Result<(), StreamFault>
+    ensures open { SameOpen (W.is_open world.old) (W.is_open world.new) }
+    ensures fault { IfErr result IsOutputFault }
+    ensures told { W.tells → WritesAll 1 bytes.now (W.log world.old) (W.mark world.old) result (W.log world.new) (W.mark world.new) }
+{
+    write_all(world, STANDARD_ERROR, bytes)
 }
 
 // Flushes an output.

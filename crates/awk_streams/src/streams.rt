@@ -2,22 +2,17 @@
 ghost use Rattle.std.specs.Prelude.{◌≡◌, ◌≢◌, ◌⊎◌, ℕ, ℤ, [], Some, None, is_some, IsTrue, OnOk, OnErr, IfErr, Ok, Err};
 ghost use Rattle.awk_streams.specs.Ids.{SameOpen};
 ghost use Rattle.awk_streams.specs.Outputs.{IsOutputFault};
-ghost use Rattle.awk_streams.specs.Streams.{AreOpen, IsSoundMain, StandsAsMain, IsOpenMain, view_of, main_of, IsFreshMain, IsSameMain, ClosesMain, closed_main, OpensMain, AsksMain, Prints, Finishes};
+ghost use Rattle.awk_streams.specs.Streams.{AreOpen, IsSoundMain, StandsAsMain, IsOpenMain, view_of, main_of, IsFreshMain, IsSameMain, ClosesMain, closed_main, OpensMain, AsksMain, Prints, EndsMain, Finishes};
 ghost use Rattle.awk_streams.specs.Told.{IsToldAs};
 
 use crate::fault::StreamFault;
 use crate::input::{Input, next_from};
-use crate::output::{flush, write_all};
+use crate::output::{STANDARD_ERROR, STANDARD_OUTPUT, flush, write_all};
 use crate::world::{InputKind, World, WorldFault};
 use awk_record::{RecordBuffer, RecordFault, Step};
 use awk_value::Bytes;
 use std::alloc::Global;
 use std::marker::Model;
-
-// The numbers of the standard outputs, which are always open.
-const STANDARD_OUTPUT: u64 = 0;
-
-const STANDARD_ERROR: u64 = 1;
 
 // What the buffer answers, in the words of the streams.
 fn told(step: Result<Step, RecordFault>) -> Result<Option<Bytes>, StreamFault>
@@ -151,6 +146,19 @@ impl Streams {
             Some(input) => next_of(input, world, separator),
             None => unreachable!(),
         }
+    }
+
+    /// Ends the main input: closes it, if one is open. Takes no memory. (POSIX awk, INPUT FILES)
+    pub fn close_main<W: World>(&mut self, world: &mut W)
+        requires open { AreOpen (W.is_open world.old) self.old }
+        requires sound { W.tells → IsSoundMain (W.log world.old) self.old.main }
+        ensures none { self.new.main ≡ None }
+        ensures open { AreOpen (W.is_open world.new) self.new }
+        ensures closes { ClosesMain (W.is_open world.old) (W.is_open world.new) self.old.main }
+        ensures told { W.tells → EndsMain (W.is_open world.old) (W.log world.old) (W.mark world.old) self.old (W.is_open world.new) (W.log world.new) (W.mark world.new) self.new }
+    {
+        let input = self.main.take();
+        close(world, input);
     }
 
     /// Prints the bytes to standard output. Fails with `Memory` (F1) or `WriteFailed` (F2); then a

@@ -6,7 +6,7 @@ ghost use Rattle.awk_streams.specs.Streams.{AreOpen, AreSound};
 
 use crate::{
     Answer, Entry, InputKind, Mode, OutputKind, ScriptWorld, StreamFault, Streams, World,
-    WorldFault, agrees_with_less, some_answers_agree,
+    WorldFault, agrees_with_less, print_error, some_answers_agree,
 };
 use std::alloc::Global;
 use std::test::Fail;
@@ -185,6 +185,50 @@ fn the_log_has_each_call_in_order(rt: HostRuntime) -> Result<(), Fail> {
         Entry::Closed(2, 0),
     ]?;
     assert_eq!(rt; world.entries(), expected.as_slice());
+    Ok(())
+}
+
+#[test]
+fn one_main_input_after_the_other(rt: HostRuntime) -> Result<(), Fail> {
+    let alloc = rt.alloc();
+    let mut world = standard_input(alloc, b"ab", false, false)?;
+    let mut streams = Streams::new(alloc);
+    streams.open_main(&mut world, InputKind::Standard, b"")?;
+    streams.close_main(&mut world);
+    assert!(rt; !streams.has_main());
+    assert_eq!(rt;
+        streams.open_main(&mut world, InputKind::File, b"f"),
+        Err(StreamFault::InputNotReadable)
+    );
+    streams.close_main(&mut world);
+    let expected = vec![in alloc;
+        Entry::OpenedInput(InputKind::Standard, Vec::new(alloc), Some(2)),
+        Entry::Closed(2, 0),
+        Entry::OpenedInput(InputKind::File, b"f".to_vec(alloc)?, None),
+    ]?;
+    assert_eq!(rt; world.entries(), expected.as_slice());
+    Ok(())
+}
+
+#[test]
+fn messages_go_to_standard_error(rt: HostRuntime) -> Result<(), Fail> {
+    let alloc = rt.alloc();
+    let mut world = ScriptWorld::new(alloc, Vec::new(alloc));
+    print_error(&mut world, b"awk: fault 2\n")?;
+    let expected = vec![in alloc; Entry::Wrote(1, b"awk: fault 2\n".to_vec(alloc)?)]?;
+    assert_eq!(rt; world.entries(), expected.as_slice());
+    let mut failing = Failing {
+        input: false,
+        taken: Vec::new(alloc),
+        room: 2,
+        full: WorldFault::Failed,
+        flushes: [Ok(()), Ok(())],
+    };
+    assert_eq!(rt;
+        print_error(&mut failing, b"awk"),
+        Err(StreamFault::WriteFailed)
+    );
+    assert_eq!(rt; failing.taken.as_slice(), b"aw".as_slice());
     Ok(())
 }
 

@@ -1,9 +1,10 @@
 -- A loop that splits a text: the pieces so far, the stretch that has begun and what is left make up the whole.
-use Rattle.std.proofs.Common.{◌≡◌, ℕ, ◌+◌, ◌-◌, ◌<◌, ◌≤◌, ◌==◌, Bool, true, false, List, [], ◌∷◌, ◌++◌, length, take, drop, get_or, refl, sym, ◌∙◌, ap, subst, arith, append_assoc, append-nil, inl, inr}
+use Rattle.std.proofs.Common.{◌≡◌, ℕ, zero, suc, Some, None, ◌+◌, ◌-◌, ◌<◌, ◌≤◌, ◌==◌, Bool, true, false, List, [], ◌∷◌, ◌++◌, length, take, drop, get_or, refl, sym, ◌∙◌, ap, subst, arith, append_assoc, append-nil, inl, inr}
 use Rattle.std.specs.Prelude.{slice_range}
 use Rattle.std.specs.List.{filter, slice_split, onto_first}
 use Rattle.std.proofs.lemmas.Bool.{cases_Bool, cases_eq, cond-true, cond-false, eqb-true, eq-eqb, false≢true}
-use Rattle.std.proofs.lemmas.List.{at_drop_more, at_drop_all, take_more, get_or-drop, length-drop, length-take-le, map-append}
+use Rattle.std.proofs.lemmas.List.{at_drop_more, at_drop_all, take_more, get_or-drop, length-drop, length-take-le, map-append, drop-drop, take_rest}
+use Rattle.memchr.specs.Find.{IsFirstByte, is_byte}
 use Rattle.std.proofs.lemmas.List.Elements.{filter-append, All-nil, All-cons, All-append}
 use Rattle.std.proofs.lemmas.List.Splits.{slice_split-cons_yes, slice_split-cons_no}
 use Rattle.awk_text.specs.Span.{stretch_at, stretches_at, IsSpanOf, AreSpansOf, full_span}
@@ -118,3 +119,55 @@ spans_added text old new start end all le within is =
       | inr apart ↦ subst (AreSpansOf text) (sym (cond-false _ _ _ apart)) (All-cons (IsSpanOf text) (record { start = start; end = end }) [] (le, within) (All-nil (IsSpanOf text)))
     ] in
     subst (AreSpansOf text) (sym is) (All-append (IsSpanOf text) old (full_span start end) all one)
+
+-- up to the first element that passes, and behind it
+slice_split-first : (test : ℕ → Bool) (text : List ℕ) (i : ℕ) → i < length text → ((k : ℕ) → k < i → test (get_or text k 0) ≡ false) → test (get_or text i 0) ≡ true →
+    slice_split test text ≡ take i text ∷ slice_split test (drop (suc i) text)
+slice_split-first test [] i lt fails holds = absurd (omega arith)
+slice_split-first test (x ∷ text) zero lt fails holds = slice_split-cons_yes test x text holds
+slice_split-first test (x ∷ text) (suc i) lt fails holds =
+    slice_split-cons_no test x text (fails 0 (omega arith))
+    ∙ ap (onto_first x) (slice_split-first test text i (omega arith) (λ k less. fails (suc k) (omega arith)) holds)
+
+slice_split-none : (test : ℕ → Bool) (text : List ℕ) → ((k : ℕ) → k < length text → test (get_or text k 0) ≡ false) → slice_split test text ≡ text ∷ []
+slice_split-none test [] fails = refl
+slice_split-none test (x ∷ text) fails =
+    slice_split-cons_no test x text (fails 0 (omega arith))
+    ∙ ap (onto_first x) (slice_split-none test text (λ k less. fails (suc k) (omega arith)))
+
+not_true : (b : Bool) → (b ≡ true → ⊥) → b ≡ false
+not_true true bad = absurd (bad refl)
+not_true false bad = refl
+
+-- a separator that was found ends the stretch in front of it
+pub byte_separator : (byte : ℕ) (text : List ℕ) (done more whole : List (List ℕ)) (start i : ℕ) → start ≤ length text → IsFirstByte (is_byte byte) (drop start text) (Some i) →
+    more ≡ done ++ slice_range text start (start + i) ∷ [] →
+    done ++ slice_split (is_byte byte) (drop start text) ≡ whole →
+    more ++ slice_split (is_byte byte) (drop (start + i + 1) text) ≡ whole
+byte_separator byte text done more whole start i le (first, holds) added h =
+    let rest = drop start text in
+    let lt : i < length rest = first.high in
+    let fails : (k : ℕ) → k < i → is_byte byte (get_or rest k 0) ≡ false = λ k less. not_true (is_byte byte (get_or rest k 0)) (first.before k (omega arith) less) in
+    let split : slice_split (is_byte byte) rest ≡ take i rest ∷ slice_split (is_byte byte) (drop (suc i) rest) = slice_split-first (is_byte byte) rest i lt fails holds in
+    let behind : drop (suc i) rest ≡ drop (start + i + 1) text = drop-drop (suc i) start text ∙ (let place : start + suc i ≡ start + i + 1 = omega arith in ap (λ k. drop k text) place) in
+    let piece : take i rest ≡ slice_range text start (start + i) = let count : i ≡ start + i - start = omega arith in ap (λ k. take k rest) count in
+    let parts : slice_split (is_byte byte) rest ≡ slice_range text start (start + i) ∷ slice_split (is_byte byte) (drop (start + i + 1) text) =
+    split ∙ (ap (λ p. p ∷ slice_split (is_byte byte) (drop (suc i) rest)) piece ∙ ap (λ r. slice_range text start (start + i) ∷ slice_split (is_byte byte) r) behind) in
+    ap (λ ps. ps ++ slice_split (is_byte byte) (drop (start + i + 1) text)) added
+    ∙ (append_assoc done (slice_range text start (start + i) ∷ []) (slice_split (is_byte byte) (drop (start + i + 1) text))
+    ∙ (ap (λ ps. done ++ ps) (sym parts) ∙ h))
+
+-- where none is left, the rest is the last stretch
+pub byte_end : (byte : ℕ) (text : List ℕ) (done more whole : List (List ℕ)) (start : ℕ) → start ≤ length text → IsFirstByte (is_byte byte) (drop start text) None →
+    more ≡ done ++ slice_range text start (length text) ∷ [] →
+    done ++ slice_split (is_byte byte) (drop start text) ≡ whole → more ≡ whole
+byte_end byte text done more whole start le none added h =
+    let rest = drop start text in
+    let fails : (k : ℕ) → k < length rest → is_byte byte (get_or rest k 0) ≡ false = λ k less. not_true (is_byte byte (get_or rest k 0)) (none k (omega arith) less) in
+    let parts : slice_split (is_byte byte) rest ≡ rest ∷ [] = slice_split-none (is_byte byte) rest fails in
+    added ∙ (ap (λ p. done ++ p ∷ []) (take_rest text start) ∙ (ap (λ ps. done ++ ps) (sym parts) ∙ h))
+
+-- one span more
+pub stretches_pushed : (text : List ℕ) (old new : List Span) (start end : ℕ) → new ≡ old ++ record { start = start; end = end } ∷ [] →
+    stretches_at text new ≡ stretches_at text old ++ slice_range text start end ∷ []
+stretches_pushed text old new start end is = ap (stretches_at text) is ∙ map-append (stretch_at text) old (record { start = start; end = end } ∷ [])

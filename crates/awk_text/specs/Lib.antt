@@ -1,3 +1,3 @@
 pub mod Span
 pub mod Pieces
-pub mod Escapes
+pub mod Separator

@@ -1,7 +1,10 @@
--- The pieces that a text is split into. POSIX awk, "Regular Expressions", on the default field separator:
--- fields are separated by runs of blanks and newlines, and those in front and behind are ignored.
+-- The pieces that a text is split into. POSIX awk, "Regular Expressions", the rules on FS: by default fields are
+-- separated by runs of blanks and newlines, and those in front and behind are ignored; any other single character
+-- separates fields by each single place of it.
 use Rattle.std.specs.Prelude.{◌≡◌, ◌≢◌, ℕ, Bool, true, false, ◌||◌, ◌==◌, List, [], ◌∷◌}
 use Rattle.std.specs.List.{filter, slice_split, All, AllPass}
+use Rattle.awk_text.specs.declared.separator.Separator.{Separator}
+use Rattle.awk_text.specs.declared.separator.Separator.TheVariants.{Blanks, Byte}
 
 -- a space, a tab or a newline
 abbrev pub is_blank : ℕ → Bool
@@ -12,8 +15,17 @@ is_full [] = false
 is_full (byte ∷ bytes) = true
 
 -- the longest stretches without a blank, in their order: what stands between the blanks, if there is a byte in it
-abbrev pub pieces_of : (text : List ℕ) → List (List ℕ)
-pieces_of text = filter is_full (slice_split is_blank text)
+abbrev pub blank_pieces : (text : List ℕ) → List (List ℕ)
+blank_pieces text = filter is_full (slice_split is_blank text)
+
+-- what stands in front of, between and behind the places of the byte; an empty text has no piece
+abbrev pub byte_pieces : (byte : ℕ) (text : List ℕ) → List (List ℕ)
+byte_pieces byte [] = []
+byte_pieces byte (first ∷ text) = slice_split (λ other. other == byte) (first ∷ text)
+
+abbrev pub pieces_of : Separator → (text : List ℕ) → List (List ℕ)
+pieces_of Blanks text = blank_pieces text
+pieces_of (Byte byte) text = byte_pieces byte text
 
 abbrev pub AreBlank : List ℕ → Type 0
 AreBlank bytes = AllPass is_blank bytes
@@ -21,3 +33,7 @@ AreBlank bytes = AllPass is_blank bytes
 -- some bytes, and no blank
 abbrev pub IsPiece : List ℕ → Type 0
 IsPiece bytes = (bytes ≢ []) × All (λ byte. is_blank byte ≡ false) bytes
+
+-- the byte is none of these
+abbrev pub IsNotIn : (byte : ℕ) → List ℕ → Type 0
+IsNotIn byte bytes = All (λ other. other ≢ byte) bytes

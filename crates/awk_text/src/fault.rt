@@ -9,6 +9,9 @@ pub enum TextFault {
     /// F1.
     #[error("out of memory")]
     Memory,
+    /// F6: a separator that isn't a single byte. Longer ones are patterns, which aren't built.
+    #[error("pattern refused")]
+    Pattern,
 }
 
 impl From<AllocError> for TextFault {
@@ -30,38 +33,5 @@ impl<T: Drop> From<AllocFailed<T>> for TextFault {
 
     fn from(_: AllocFailed<T>) -> Self {
         TextFault::Memory
-    }
-}
-
-/// Why the escapes of a text were not replaced.
-#[derive(Clone, Copy, Debug, PartialEq, Eq, Error)]
-pub enum EscapeFault {
-    /// F1.
-    #[error("out of memory")]
-    Memory,
-    /// An escape that isn't one of the table: L3 in a program, F14 in an assignment before a file.
-    #[error("bad escape")]
-    BadEscape,
-}
-
-impl From<AllocError> for EscapeFault {
-    ghost use Rattle.std.specs.Prelude.{◌≡◌};
-    ghost use Rattle.awk_text.specs.declared.fault.EscapeFault.TheVariants.{Memory};
-
-    ghost from_gives = { λ _ e. e ≡ Memory };
-
-    fn from(_: AllocError) -> Self {
-        EscapeFault::Memory
-    }
-}
-
-impl<T: Drop> From<AllocFailed<T>> for EscapeFault {
-    ghost use Rattle.std.specs.Prelude.{◌≡◌};
-    ghost use Rattle.awk_text.specs.declared.fault.EscapeFault.TheVariants.{Memory};
-
-    ghost from_gives = { λ _ e. e ≡ Memory };
-
-    fn from(_: AllocFailed<T>) -> Self {
-        EscapeFault::Memory
     }
 }

@@ -1,29 +1,43 @@
-//! What the language makes of texts: the pieces between blanks, and the bytes
-//! that escapes stand for.
+//! What the language makes of texts: the fields that separators leave.
 #![tactic(auto)]
 
-ghost use Rattle.std.specs.Prelude.{◌≡◌, ℕ, List, [], ◌∷◌, ◌++◌, true};
-ghost use Rattle.awk_text.specs.Pieces.{AreBlank, IsPiece, is_blank, pieces_of};
+ghost use Rattle.std.specs.Prelude.{◌≡◌, ◌≢◌, ℕ, List, [], ◌∷◌, ◌++◌, true};
+ghost use Rattle.awk_text.specs.Pieces.{AreBlank, IsPiece, IsNotIn, is_blank, pieces_of};
 
-mod escapes;
 mod fault;
+mod separator;
 mod span;
 mod split;
 #[cfg(test)]
 mod tests;
 
-pub use escapes::unescape;
-pub use fault::{EscapeFault, TextFault};
+pub use fault::TextFault;
+pub use separator::Separator;
 pub use span::Span;
-pub use split::split_blanks;
+pub use split::split_text;
 
-/// The pieces of a text, read off from its front: blanks are skipped, and a
-/// piece goes up to the next blank or to the end.
+/// The pieces of a text between blanks, read off from its front: blanks are
+/// skipped, and a piece goes up to the next blank or to the end.
 pub fn pieces_law()
-    ensures none { (gap : List ℕ) → AreBlank gap → pieces_of gap ≡ [] }
+    ensures none { (gap : List ℕ) → AreBlank gap → pieces_of Separator.Blanks gap ≡ [] }
     ensures last { (gap piece : List ℕ) → AreBlank gap → IsPiece piece →
-        pieces_of (gap ++ piece) ≡ piece ∷ [] }
+        pieces_of Separator.Blanks (gap ++ piece) ≡ piece ∷ [] }
     ensures next { (gap piece : List ℕ) (blank : ℕ) (rest : List ℕ) →
         AreBlank gap → IsPiece piece → is_blank blank ≡ true →
-        pieces_of (gap ++ (piece ++ blank ∷ rest)) ≡ piece ∷ pieces_of rest }
+        pieces_of Separator.Blanks (gap ++ (piece ++ blank ∷ rest))
+        ≡ piece ∷ pieces_of Separator.Blanks rest }
+{}
+
+/// The pieces of a text between the places of a byte, read off from its front:
+/// a piece goes up to the next place of the byte or to the end. An empty text
+/// has none, and behind a byte at the end stands an empty one.
+pub fn byte_pieces_law()
+    ensures none { (byte : ℕ) → pieces_of (Separator.Byte byte) [] ≡ [] }
+    ensures last { (byte : ℕ) (piece : List ℕ) → IsNotIn byte piece → piece ≢ [] →
+        pieces_of (Separator.Byte byte) piece ≡ piece ∷ [] }
+    ensures next { (byte : ℕ) (piece rest : List ℕ) → IsNotIn byte piece → rest ≢ [] →
+        pieces_of (Separator.Byte byte) (piece ++ byte ∷ rest)
+        ≡ piece ∷ pieces_of (Separator.Byte byte) rest }
+    ensures end { (byte : ℕ) (piece : List ℕ) → IsNotIn byte piece →
+        pieces_of (Separator.Byte byte) (piece ++ byte ∷ []) ≡ piece ∷ [] ∷ [] }
 {}

@@ -1,10 +1,12 @@
-// Splitting a text by its blanks.
+// Splitting a text at its separators.
 ghost use Rattle.std.specs.Prelude.{◌≡◌, ◌≤◌, ◌++◌, OnOk, IfErr};
 ghost use Rattle.awk_text.specs.Span.{stretches_at, AreSpansOf, full_span};
-ghost use Rattle.awk_text.specs.Pieces.{is_blank, pieces_of};
+ghost use Rattle.awk_text.specs.Pieces.{is_blank, blank_pieces, byte_pieces, pieces_of};
 
 use crate::fault::TextFault;
+use crate::separator::Separator;
 use crate::span::Span;
+use memchr::memchr;
 
 fn is_blank_byte(byte: u8) -> bool
     ensures { result ≡ is_blank byte }
@@ -14,7 +16,8 @@ fn is_blank_byte(byte: u8) -> bool
 
 // Adds the stretch, unless it is empty.
 fn add_full(spans: &mut Vec<Span>, start: usize, end: usize) -> Result<(), TextFault>
-    ensures { OnOk result (spans.new.items ≡ spans.old.items ++ full_span start end) }
+    ensures added { OnOk result (spans.new.items ≡ spans.old.items ++ full_span start end) }
+    ensures memory { IfErr result (λ e. e ≡ TextFault.Memory) }
 {
     if start != end {
         spans.push(Span { start, end })?;
@@ -22,11 +25,9 @@ fn add_full(spans: &mut Vec<Span>, start: usize, end: usize) -> Result<(), TextF
     Ok(())
 }
 
-/// Fills `spans` with the stretches of the text that hold no blank and are as
-/// long as can be, in their order. What `spans` held before is gone, also on
-/// an `Err`.
-pub fn split_blanks(text: &[u8], spans: &mut Vec<Span>) -> Result<(), TextFault>
-    ensures pieces { OnOk result (stretches_at text.now spans.new.items ≡ pieces_of text.now) }
+// Fills `spans` with the stretches that hold no blank and are as long as can be.
+fn split_blanks(text: &[u8], spans: &mut Vec<Span>) -> Result<(), TextFault>
+    ensures pieces { OnOk result (stretches_at text.now spans.new.items ≡ blank_pieces text.now) }
     ensures within { OnOk result (AreSpansOf text.now spans.new.items) }
     ensures memory { IfErr result (λ e. e ≡ TextFault.Memory) }
 {
@@ -41,4 +42,43 @@ pub fn split_blanks(text: &[u8], spans: &mut Vec<Span>) -> Result<(), TextFault>
     }
     add_full(spans, start, text.len())?;
     Ok(())
+}
+
+// Fills `spans` with the stretches between the places of a byte.
+fn split_byte(text: &[u8], byte: u8, spans: &mut Vec<Span>) -> Result<(), TextFault>
+    ensures pieces { OnOk result (
+        stretches_at text.now spans.new.items ≡ byte_pieces byte text.now) }
+    ensures within { OnOk result (AreSpansOf text.now spans.new.items) }
+    ensures memory { IfErr result (λ e. e ≡ TextFault.Memory) }
+{
+    spans.clear();
+    if text.is_empty() {
+        return Ok(());
+    }
+    let mut start = 0;
+    while let Some(len) = memchr(byte, &text[start..]) {
+        let end = start + len;
+        spans.push(Span { start, end })?;
+        start = end + 1;
+    }
+    let end = text.len();
+    spans.push(Span { start, end })?;
+    Ok(())
+}
+
+/// Fills `spans` with the fields of the text, in their order: between blanks
+/// the stretches that hold none and are as long as can be, and between the
+/// places of a byte also the empty ones; an empty text has no field. What
+/// `spans` held before is gone, also on an `Err`. The only error is `Memory`.
+/// (POSIX awk, Regular Expressions)
+pub fn split_text(text: &[u8], separator: Separator, spans: &mut Vec<Span>) -> Result<(), TextFault>
+    ensures pieces { OnOk result (
+        stretches_at text.now spans.new.items ≡ pieces_of separator text.now) }
+    ensures within { OnOk result (AreSpansOf text.now spans.new.items) }
+    ensures memory { IfErr result (λ e. e ≡ TextFault.Memory) }
+{
+    match separator {
+        Separator::Blanks => split_blanks(text, spans),
+        Separator::Byte(byte) => split_byte(text, byte, spans),
+    }
 }

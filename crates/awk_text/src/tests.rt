@@ -1,61 +1,126 @@
-// Texts with escapes, and the bytes that they stand for.
+// Texts, and the fields that separators leave, by hand from the rules of the language.
 
-use crate::{EscapeFault, unescape};
+use crate::{Separator, TextFault, split_text};
 use std::alloc::Global;
-use std::process::Abort;
 use std::test::Fail;
 
-fn expect_bytes(rt: &impl Abort, alloc: Global, text: &[u8], expected: &[u8]) {
-    let mut bytes = Vec::new(alloc);
-    assert_eq!(rt; unescape(text, &mut bytes), Ok(()), "{text:?}");
-    assert_eq!(rt; bytes.as_slice(), expected, "{text:?}");
+/// A text, the value of FS, and its fields with a `|` behind each.
+#[derive(Clone, Copy, Debug)]
+struct Splitting {
+    separator: &'static str,
+    text: &'static str,
+    fields: &'static str,
 }
 
-fn expect_bad(rt: &impl Abort, alloc: Global, text: &[u8]) {
-    let mut bytes = Vec::new(alloc);
-    assert_eq!(rt;
-        unescape(text, &mut bytes),
-        Err(EscapeFault::BadEscape),
-        "{text:?}"
-    );
+const SPLITTINGS: [Splitting; 11] = [
+    Splitting {
+        separator: " ",
+        text: " \tone two\n\nthree ",
+        fields: "one|two|three|",
+    },
+    Splitting {
+        separator: " ",
+        text: "",
+        fields: "",
+    },
+    Splitting {
+        separator: " ",
+        text: " \n\t",
+        fields: "",
+    },
+    Splitting {
+        separator: ":",
+        text: "root:x:0:0",
+        fields: "root|x|0|0|",
+    },
+    Splitting {
+        separator: ":",
+        text: "",
+        fields: "",
+    },
+    Splitting {
+        separator: ":",
+        text: ":",
+        fields: "||",
+    },
+    Splitting {
+        separator: ":",
+        text: "a::b:",
+        fields: "a||b||",
+    },
+    Splitting {
+        separator: ":",
+        text: " a b ",
+        fields: " a b |",
+    },
+    Splitting {
+        separator: "\t",
+        text: "a b\tc",
+        fields: "a b|c|",
+    },
+    Splitting {
+        separator: "a",
+        text: "banana",
+        fields: "b|n|n||",
+    },
+    Splitting {
+        separator: "\n",
+        text: "a\nb c",
+        fields: "a|b c|",
+    },
+];
+
+fn fields_of(alloc: Global, splitting: &Splitting) -> Result<Vec<u8>, TextFault> {
+    let text = splitting.text.as_bytes();
+    let mut spans = Vec::new(alloc);
+    let mut fields = Vec::new(alloc);
+    let separator = Separator::of(splitting.separator.as_bytes())?;
+    split_text(text, separator, &mut spans)?;
+    for span in &spans {
+        if let Some(field) = text.get(span.start..span.end) {
+            fields.extend_from_slice(field)?;
+        }
+        fields.push(b'|')?;
+    }
+    Ok(fields)
 }
 
 #[test]
-fn each_escape_of_the_table(rt: HostRuntime) {
-    let alloc = rt.alloc();
-    expect_bytes(&rt, alloc, br"\a\b\f\n\r\t\v", &[7, 8, 12, 10, 13, 9, 11]);
-    expect_bytes(&rt, alloc, b"\\\"\\/\\\\", b"\"/\\");
-    expect_bytes(&rt, alloc, br"\7", &[7]);
-    expect_bytes(&rt, alloc, br"\12", &[10]);
-    expect_bytes(&rt, alloc, br"\1018", b"A8");
-    expect_bytes(&rt, alloc, br"\18", &[1, 56]);
-    expect_bytes(&rt, alloc, br"\0\377", &[0, 255]);
-    expect_bytes(&rt, alloc, br"a\\nb", br"a\nb");
+fn splits_texts_into_fields(rt: HostRuntime) -> Result<(), Fail> {
+    for splitting in &SPLITTINGS {
+        let fields = fields_of(rt.alloc(), splitting)?;
+        assert_eq!(rt;
+            fields.as_slice(),
+            splitting.fields.as_bytes(),
+            "{splitting:?}"
+        );
+    }
+    Ok(())
 }
 
 #[test]
-fn what_stands_for_itself(rt: HostRuntime) {
-    let alloc = rt.alloc();
-    expect_bytes(&rt, alloc, b"", b"");
-    expect_bytes(&rt, alloc, b"\\", b"\\");
-    expect_bytes(&rt, alloc, b"a\\", b"a\\");
-    expect_bytes(&rt, alloc, b"a \"b\"\n\xFF", b"a \"b\"\n\xFF");
+fn a_split_begins_anew(rt: HostRuntime) -> Result<(), Fail> {
+    let mut spans = Vec::new(rt.alloc());
+    split_text(b"a:b:c", Separator::Byte(b':'), &mut spans)?;
+    assert_eq!(rt; spans.len(), 3);
+    split_text(b"", Separator::Byte(b':'), &mut spans)?;
+    assert_eq!(rt; spans.len(), 0);
+    Ok(())
 }
 
 #[test]
-fn bad_escapes(rt: HostRuntime) {
-    let alloc = rt.alloc();
-    expect_bad(&rt, alloc, br"\400");
-    expect_bad(&rt, alloc, br"a\777");
-    expect_bad(&rt, alloc, br"\q");
-    expect_bad(&rt, alloc, br"\8");
-    expect_bad(&rt, alloc, b"a\\\nb");
+fn reads_the_value_of_fs(rt: HostRuntime) {
+    assert_eq!(rt; Separator::of(b" "), Ok(Separator::Blanks));
+    assert_eq!(rt; Separator::of(b"\t"), Ok(Separator::Byte(b'\t')));
+    assert_eq!(rt; Separator::of(b"|"), Ok(Separator::Byte(b'|')));
+    assert_eq!(rt; Separator::of(b""), Err(TextFault::Pattern));
+    assert_eq!(rt; Separator::of(b"  "), Err(TextFault::Pattern));
+    assert_eq!(rt; Separator::of(b"ab"), Err(TextFault::Pattern));
 }
 
 #[test]
-fn bytes_go_behind_those_before(rt: HostRuntime) {
-    let mut bytes = Vec::new(rt.alloc());
-    assert_eq!(&rt; unescape(b"a", &mut bytes), Ok(()));
-    assert_eq!(&rt; unescape(br"\tb", &mut bytes), Ok(()));
-    assert_eq!(&rt; bytes.as_slice(), b"a\tb".as_slice());
+fn faults_have_texts(rt: HostRuntime) -> Result<(), Fail> {
+    let texts = format!(in rt.alloc(); "{}, {}", TextFault::Memory, TextFault::Pattern)?;
+    assert_eq!(rt; texts.as_str(), "out of memory, pattern refused");
+    Ok(())
 }

@@ -1,9 +1,9 @@
-use Rattle.awk_text.proofs.PiecesLemmas.{pieces_of-none, pieces_of-last, pieces_of-next}
+use Rattle.awk_text.proofs.PiecesLemmas.{blank_pieces-none, blank_pieces-last, blank_pieces-next}
 use Rattle.awk_text.proofs.pieces_law.Goals as goal
 
 pub returns : goal.returns
 returns c = record {
-  none = pieces_of-none;
-  last = pieces_of-last;
-  next = pieces_of-next;
+  none = blank_pieces-none;
+  last = blank_pieces-last;
+  next = blank_pieces-next;
 }

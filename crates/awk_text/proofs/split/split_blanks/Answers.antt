@@ -1,9 +1,9 @@
-use Rattle.std.proofs.Common.{◌≡◌, ◌++◌, get_or, true, false, sym, ap, subst, ◌∙◌, arith}
+use Rattle.std.proofs.Common.{◌≡◌, ◌++◌, get_or, length, true, false, sym, ap, subst, ◌∙◌, arith}
 use Rattle.std.specs.Prelude.{slice_range}
 use Rattle.std.specs.List.{filter, slice_split}
 use Rattle.std.proofs.lemmas.List.Elements.{All-nil}
 use Rattle.awk_text.specs.Span.{stretches_at, IsSpanOf, AreSpansOf}
-use Rattle.awk_text.specs.Pieces.{is_blank, is_full, pieces_of}
+use Rattle.awk_text.specs.Pieces.{is_blank, is_full, blank_pieces}
 use Rattle.awk_text.proofs.SplitLemmas.{onto_front, split_start, split_inside, split_separator, stretches_added, spans_added}
 use Rattle.awk_text.proofs.split.split_blanks.Goals as goal
 
@@ -25,7 +25,7 @@ loop-i-preserved-then-not-is_blank_byte c =
     record {
       begun = omega arith;
       within = loop.invariant.within;
-      pieces = split_inside is_full is_blank text (stretches_at text loop.spans.items) (pieces_of text) loop.start loop.i loop.invariant.begun c.loop-i-test.true fails loop.invariant.pieces;
+      pieces = split_inside is_full is_blank text (stretches_at text loop.spans.items) (blank_pieces text) loop.start loop.i loop.invariant.begun c.loop-i-test.true fails loop.invariant.pieces;
     }
 
 pub loop-i-preserved : goal.loop-i-preserved
@@ -35,9 +35,15 @@ loop-i-preserved c =
     let old = loop.spans.items in
     let new = c.add_full.new.spans.items in
     let holds : is_blank (get_or text loop.i 0) ≡ true = sym c.is_blank_byte.ensures ∙ c.if-not-is_blank_byte.false in
-    let added = stretches_added text old new loop.start loop.i loop.invariant.begun (omega arith) c.in_ok-add_full.ensures in
+    let added = stretches_added text old new loop.start loop.i loop.invariant.begun (omega arith) c.in_ok-add_full.ensures.added in
     record {
       begun = omega arith;
-      within = spans_added text old new loop.start loop.i loop.invariant.within loop.invariant.begun (omega arith) c.in_ok-add_full.ensures;
-      pieces = split_separator is_full is_blank text (stretches_at text old) (stretches_at text new) (pieces_of text) loop.start loop.i c.loop-i-test.true holds added loop.invariant.pieces;
+      within = spans_added text old new loop.start loop.i loop.invariant.within loop.invariant.begun (omega arith) c.in_ok-add_full.ensures.added;
+      pieces = split_separator is_full is_blank text (stretches_at text old) (stretches_at text new) (blank_pieces text) loop.start loop.i c.loop-i-test.true holds added loop.invariant.pieces;
     }
+
+pub returns-clause-within : goal.returns-clause-within
+returns-clause-within c =
+    let text = c.args.text.now in
+    let loop = c.loop-i in
+    spans_added text loop.spans.items c.add_full-2.new.spans.items loop.start (length text) loop.invariant.within (omega arith) (omega arith) c.in_ok-add_full-2.ensures.added
