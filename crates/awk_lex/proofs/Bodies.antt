@@ -1,5 +1,5 @@
 -- What stands between the quotes of a string.
-use Rattle.std.proofs.Common.{◌≡◌, ℕ, suc, ◌+◌, Bool, true, false, eqb, cond, not, ◌&&◌, ◌||◌, inl, inr, List, [], ◌∷◌, ◌++◌, length, take, drop, Option, Some, None, refl, sym, ap, ◌∙◌, subst, arith}
+use Rattle.std.proofs.Common.{◌≡◌, ℕ, suc, ◌+◌, Bool, true, false, eqb, not, ◌&&◌, ◌||◌, inl, inr, List, [], ◌∷◌, ◌++◌, length, take, drop, Option, Some, None, refl, sym, ap, ◌∙◌, subst, arith}
 use Rattle.std.specs.Option.{option_map}
 use Rattle.std.proofs.lemmas.Bool.{cases_Bool, and_parts, not-true, eqb-true}
 use Rattle.awk_lex.specs.Words.{is_plain, Body, none, plain, escaped}
@@ -184,16 +184,15 @@ none_before : (o : Option ℕ) → option_map suc o ≡ None → o ≡ None
 none_before None h = refl
 none_before (Some n) h = absurd (cc)
 
+not_none : (n : ℕ) → None ≡ Some n → ⊥
+not_none n h = cc
+
 is_open : (behind : Bool) (bs : List ℕ) → body_len behind bs ≡ None → IsOpen behind bs
 is_open behind [] h = open_end behind [] tt
 is_open behind (b ∷ bs) h = elim (cases_Bool (eqb b 10)) [
   | inl newline ↦ open_end behind (b ∷ bs) (eqb-true b 10 newline)
   | inr line ↦ elim (cases_Bool (eqb b 34 && not behind)) [
-    | inl quote ↦
-        let no : Some 0 ≡ None =
-        sym (if_false (eqb b 10) None (cond (eqb b 34 && not behind) (Some 0) (option_map suc (body_len (eqb b 92 && not behind) bs))) line
-        ∙ if_true (eqb b 34 && not behind) (Some 0) (option_map suc (body_len (eqb b 92 && not behind) bs)) quote) ∙ h in
-        absurd (cc)
+    | inl quote ↦ absurd (not_none 0 (sym h ∙ if_false (eqb b 10) _ _ line ∙ if_true (eqb b 34 && not behind) _ _ quote))
     | inr other ↦
         open_more behind b bs line other
         (is_open (eqb b 92 && not behind) bs (none_before _ (sym (step_over behind b bs line other) ∙ h)))

@@ -1,5 +1,5 @@
 -- The token at a place is the longest that is spelled there.
-use Rattle.std.proofs.Common.{◌≡◌, ℕ, suc, ◌+◌, ◌≤◌, Bool, true, false, not, eqb, ◌||◌, inl, inr, List, [], ◌∷◌, ◌++◌, length, take, drop, Option, Some, None, Result, Ok, Err, refl, sym, ap, ◌∙◌, subst, arith, rules, append_assoc, length-append}
+use Rattle.std.proofs.Common.{◌≡◌, ℕ, suc, ◌+◌, ◌≤◌, Bool, true, false, not, eqb, ◌||◌, inl, inr, List, [], ◌∷◌, ◌++◌, length, take, drop, Option, Some, None, Result, Ok, refl, sym, ap, ◌∙◌, subst, arith, rules, append_assoc, length-append}
 use Rattle.std.specs.Prelude.{pos, take_while}
 use Rattle.std.specs.List.{list_all, prefix_len}
 use Rattle.std.specs.Char.{is_ascii_digit}
@@ -15,7 +15,7 @@ use Rattle.awk_lex.specs.declared.token.Kind.{Kind}
 use Rattle.awk_lex.specs.declared.token.Kind.TheVariants.{Number, String, Name, Called}
 use Rattle.awk_lex.specs.declared.refusal.Code.{Code}
 use Rattle.awk_lex.proofs.Fronts.{if_true, if_false, front_passes, front_cons, front_longest, front_same, front_rest, front_split}
-use Rattle.awk_lex.proofs.Tables.{some_is, reserved_is_word, sign_starts, sign_length, sign_suits, word_suits}
+use Rattle.awk_lex.proofs.Tables.{reserved_is_word, sign_starts, sign_length, sign_suits, word_suits}
 use Rattle.awk_lex.proofs.Bodies.{closed_len, closed_body}
 
 ok_is : (f g : Found) (o : Result Found Code) → o ≡ Ok f → o ≡ Ok g → f ≡ g

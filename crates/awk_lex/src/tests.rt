@@ -15,6 +15,57 @@ const ONE: Kind = Kind::Number(1);
 
 const TIMES: Kind = Kind::Operator(Operator::Times);
 
+const UNBUILT: &[&[u8]] = &[
+    b"[ @",
+    b"] @",
+    b"/@/",
+    b"++ @",
+    b"+= @",
+    b"-- @",
+    b"-= @",
+    b"*=1.5",
+    b"%= @",
+    b"^ @",
+    b"^= @",
+    b"!~ @",
+    b"~ @",
+    b">>1.5",
+    b"| @",
+    b"|| @",
+    b"&& @",
+    b"? @",
+    b": @",
+    b"END @",
+    b"function @",
+    b"if @",
+    b"else @",
+    b"while @",
+    b"for @",
+    b"do @",
+    b"break @",
+    b"continue @",
+    b"next @",
+    b"exit @",
+    b"return @",
+    b"delete @",
+    b"in @",
+    b"getline @",
+    b"printf 1.5",
+    b"length(\"",
+    b"substr @",
+    b"index @",
+    b"split @",
+    b"sub @",
+    b"gsub @",
+    b"match @",
+    b"sprintf @",
+    b"tolower @",
+    b"toupper @",
+    b"int @",
+    b"system @",
+    b"close @",
+];
+
 fn name(alloc: Global, text: &[u8]) -> Result<Kind, AllocError> {
     Ok(Kind::Name(Bytes::from_slice(alloc, text)?))
 }
@@ -146,57 +197,8 @@ fn signs(rt: HostRuntime) {
 #[test]
 fn tokens_that_are_not_built(rt: HostRuntime) {
     let alloc = rt.alloc();
-    for text in [
-        b"[ @".as_slice(),
-        b"] @",
-        b"/@/",
-        b"++ @",
-        b"+= @",
-        b"-- @",
-        b"-= @",
-        b"*=1.5",
-        b"%= @",
-        b"^ @",
-        b"^= @",
-        b"!~ @",
-        b"~ @",
-        b">>1.5",
-        b"| @",
-        b"|| @",
-        b"&& @",
-        b"? @",
-        b": @",
-        b"END @",
-        b"function @",
-        b"if @",
-        b"else @",
-        b"while @",
-        b"for @",
-        b"do @",
-        b"break @",
-        b"continue @",
-        b"next @",
-        b"exit @",
-        b"return @",
-        b"delete @",
-        b"in @",
-        b"getline @",
-        b"printf 1.5",
-        b"length(\"",
-        b"substr @",
-        b"index @",
-        b"split @",
-        b"sub @",
-        b"gsub @",
-        b"match @",
-        b"sprintf @",
-        b"tolower @",
-        b"toupper @",
-        b"int @",
-        b"system @",
-        b"close @",
-    ] {
-        expect_kinds(&rt, alloc, text, &[Kind::Unbuilt]);
+    for text in UNBUILT {
+        expect_kinds(&rt, alloc, *text, &[Kind::Unbuilt]);
     }
 }
 
@@ -403,7 +405,12 @@ fn long_texts(rt: HostRuntime) -> Result<(), Fail> {
     for _ in 0..LIMIT / 4 {
         words.extend_from_slice(b"ab \"")?;
     }
-    expect_refusal(&rt, alloc, &words[..LIMIT - 1], Code::UnexpectedByte, 1);
+    let Ok(found) = tokens(alloc, &words) else {
+        panic!(rt; "a long text is refused");
+    };
+    assert_eq!(rt; found.len(), LIMIT / 4);
+    let _ = words.pop();
+    expect_refusal(&rt, alloc, &words, Code::OpenString, 1);
     Ok(())
 }
 

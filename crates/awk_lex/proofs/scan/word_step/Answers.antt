@@ -1,4 +1,4 @@
-use Rattle.std.proofs.Common.{sym, ap, ◌∙◌, take, drop}
+use Rattle.std.proofs.Common.{sym, ap, ◌∙◌, take}
 use Rattle.std.proofs.lemmas.List.{take_rest, drop-take}
 use Rattle.awk_lex.specs.Steps.{named}
 use Rattle.awk_lex.proofs.First.{reserved_token, name_token, not_some_is}

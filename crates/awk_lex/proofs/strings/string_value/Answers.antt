@@ -1,4 +1,4 @@
-use Rattle.std.proofs.Common.{◌≡◌, eqb, false, List, ℕ, sym, ap, ◌∙◌}
+use Rattle.std.proofs.Common.{◌≡◌, eqb, sym, ap, ◌∙◌}
 use Rattle.std.specs.List.{list_any}
 use Rattle.awk_lex.proofs.EscapesLemmas.{unescaped_plain}
 use Rattle.awk_lex.proofs.strings.string_value.Goals as goal

@@ -1,4 +1,4 @@
-use Rattle.std.proofs.Common.{◌≡◌, List, ℕ, Option, Some, None, sym, ap, ◌∙◌, arith, rules}
+use Rattle.std.proofs.Common.{◌≡◌, List, ℕ, Option, Some, None, sym, ap, arith, rules}
 use Rattle.std.specs.Prelude.{codes, if◌then◌else◌}
 use Rattle.std.proofs.lemmas.Slice.Eq.{text_from_reads}
 use Rattle.awk_lex.specs.Words.{is_reserved, word_kind}
