@@ -38,6 +38,9 @@ plain_is b h = by_tests (eqb b 34) (eqb b 92) (eqb b 10) refl refl refl h
 is_plain_from : (b : ℕ) → eqb b 34 ≡ false → eqb b 92 ≡ false → eqb b 10 ≡ false → is_plain b ≡ true
 is_plain_from b q k n = ap (λ x. not (x || (eqb b 92 || eqb b 10))) q ∙ ap (λ x. not (x || eqb b 10)) k ∙ ap not n
 
+pub plain_no_newline : (b : ℕ) → is_plain b ≡ true → eqb b 10 ≡ false
+plain_no_newline b h = (plain_is b h).no_newline
+
 map_more : (k : ℕ) (o : Option ℕ) → option_map suc (option_map (λ n. k + n) o) ≡ option_map (λ n. suc k + n) o
 map_more k None = refl
 map_more k (Some n) = let e : suc (k + n) ≡ suc k + n = omega arith in ap Some e

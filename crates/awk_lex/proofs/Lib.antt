@@ -9,3 +9,4 @@ pub mod Read
 pub mod Unique
 pub mod Progress
 pub mod First
+pub mod Lines

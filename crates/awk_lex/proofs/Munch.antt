@@ -24,7 +24,7 @@ ok_is f g o d e = let h = sym d ∙ e in cc
 digit_is_no_letter : (b : ℕ) → is_ascii_digit b ≡ true → is_letter b ≡ false
 digit_is_no_letter b h = search rules
 
-letter_in_word : (b : ℕ) → is_letter b ≡ true → is_word_byte b ≡ true
+pub letter_in_word : (b : ℕ) → is_letter b ≡ true → is_word_byte b ≡ true
 letter_in_word b h = ap (λ l. l || is_ascii_digit b) h
 
 -- what is spelled in front of a text is no longer than the token there, and the same if it is as long and suits

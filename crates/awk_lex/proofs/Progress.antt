@@ -64,7 +64,7 @@ after_token ts text at n end k r h e =
     let place : behind k (drop n (drop at text)) ≡ drop end text = ap (behind k) (drop-drop n at text) ∙ sym e in
     subst (Reads (ts ++ k ∷ []) text) place further
 
-not_at_end : (text : List ℕ) (at : ℕ) → at < length text → drop at text ≡ [] → ⊥
+pub not_at_end : (text : List ℕ) (at : ℕ) → at < length text → drop at text ≡ [] → ⊥
 not_at_end text at inside e = omega (arith, length-drop at text, ap length e)
 
 refuses : (c : Code) (text : List ℕ) → length text ≤ LIMIT → (b : Breaks c text) → Refuses c text

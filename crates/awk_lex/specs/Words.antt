@@ -201,3 +201,8 @@ is_allowed _ rest = true
 abbrev pub behind : Kind → List ℕ → List ℕ
 behind Unbuilt rest = []
 behind _ rest = rest
+
+-- the token is a newline
+abbrev pub is_newline : Kind → Bool
+is_newline Newline = true
+is_newline _ = false

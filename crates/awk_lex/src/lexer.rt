@@ -1,10 +1,10 @@
 // The tokens of a program text.
 
 ghost use Rattle.std.specs.Prelude.{◌≡◌, ◌≤◌, ◌⊎◌, ◌+◌, ◌<◌, List, ℕ, length, drop, All, IfOk, IfErr, OnOk};
-ghost use Rattle.awk_lex.specs.Words.{behind};
+ghost use Rattle.awk_lex.specs.Words.{behind, is_newline};
 ghost use Rattle.awk_lex.specs.Lexes.{Lexes};
 ghost use Rattle.awk_lex.specs.Refused.{IsOutOfMemory};
-ghost use Rattle.awk_lex.specs.Told.{kinds_of, GivesOnly, Refuses, RefusesOnly};
+ghost use Rattle.awk_lex.specs.Told.{kinds_of, StandsAt, FaultStands, GivesOnly, Refuses, RefusesOnly};
 
 use crate::refusal::{Code, Refusal};
 use crate::scan::{Step, first_step};
@@ -28,6 +28,13 @@ fn next_place(kind: &Kind, end: usize, text: &[u8]) -> usize
     }
 }
 
+/// Whether a token is a newline.
+fn is_newline(kind: &Kind) -> bool
+    ensures { result ≡ is_newline kind.now }
+{
+    matches!(kind, Kind::Newline)
+}
+
 /// The tokens of a program text, each the longest at its place, with gaps between them.
 ///
 /// A token of the language that isn't built yet takes all of the text from its first byte on. The refusals
@@ -37,8 +44,9 @@ pub fn tokens(alloc: Global, text: &[u8]) -> Result<Vec<Token>, Refusal>
     ensures found { IfOk result (λ tokens. Lexes (kinds_of tokens.items) text.now) }
     ensures short { OnOk result (length text.now ≤ LIMIT) }
 
-    // Each token is a stretch of the text.
+    // Each token is a stretch of the text, and stands there on its line.
     ensures within { IfOk result (λ tokens. All (λ token. (token.start ≤ token.end) × (token.end ≤ length text.now)) tokens.items) }
+    ensures placed { IfOk result (λ tokens. All (StandsAt text.now) tokens.items) }
 
     // Tokens that the text has are found, unless memory runs out.
     ensures only { (ts : _) → Lexes ts text.now → length text.now ≤ LIMIT → GivesOnly result ts }
@@ -46,6 +54,10 @@ pub fn tokens(alloc: Global, text: &[u8]) -> Result<Vec<Token>, Refusal>
     // What is refused is too long or breaks at its leftmost fault, unless memory runs out, and the other way round.
     ensures refused { IfErr result (λ refusal. IsOutOfMemory refusal ⊎ Refuses refusal.code text.now) }
     ensures broken { (code : _) → Refuses code text.now → RefusesOnly result code }
+
+    // A refusal's line is that of the fault, and the first one where the text is too long.
+    ensures fault_line { length text.now ≤ LIMIT → IfErr result (λ refusal. IsOutOfMemory refusal ⊎ FaultStands text.now refusal) }
+    ensures first_line { LIMIT < length text.now → IfErr result (λ refusal. refusal.line ≡ 1) }
 {
     if text.len() > LIMIT {
         return Err(Refusal {
@@ -65,14 +77,14 @@ pub fn tokens(alloc: Global, text: &[u8]) -> Result<Vec<Token>, Refusal>
             }
             Step::Token(kind, len) => {
                 let end = next_place(&kind, at + len, text);
-                let is_newline = matches!(kind, Kind::Newline);
+                let newlines = u64::from(is_newline(&kind));
                 tokens.push(Token {
                     kind,
                     line,
                     start: at,
                     end,
                 })?;
-                line += u64::from(is_newline);
+                line += newlines;
                 at = end;
             }
             Step::Fault(code) => return Err(Refusal { code, line }),

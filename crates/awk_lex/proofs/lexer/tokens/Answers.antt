@@ -1,21 +1,25 @@
-use Rattle.std.proofs.Common.{◌≤◌, sym, ap, ◌∙◌, subst, inr, arith, rules, length, drop}
+use Rattle.std.proofs.Common.{◌≤◌, sym, ap, ◌∙◌, subst, refl, inr, arith, rules, length, drop}
+use mir.Val.{bool_byte}
 use Rattle.std.specs.Prelude.{All}
 use Rattle.std.proofs.lemmas.List.{map_push}
 use Rattle.std.proofs.lemmas.List.Elements.{All-push}
 use Rattle.awk_lex.specs.Lexes.{Reads}
-use Rattle.awk_lex.specs.Told.{kinds_of}
+use Rattle.awk_lex.specs.Told.{kinds_of, StandsAt}
 use Rattle.awk_lex.specs.declared.token.Token.{Token}
 use Rattle.awk_lex.proofs.Gaps.{skip_none}
 use Rattle.awk_lex.proofs.Unique.{one_lexing}
 use Rattle.awk_lex.proofs.Progress.{step_at, gap_takes, token_takes, after_gap, after_token, all_read, refused, no_other, too_long_only, fault_only, none_refused}
+use Rattle.awk_lex.proofs.Lines.{gap_line, token_line, stands_at, fault_stands}
 use Rattle.awk_lex.proofs.lexer.tokens.Goals as goal
 
 pub loop-at-init : goal.loop-at-init
 loop-at-init c =
     record {
       within = omega arith;
-      line = omega arith;
+      few = omega arith;
+      line = λ inside. refl;
       reads = subst (λ items. Reads (kinds_of items) c.args.text.now c.args.text.now) (sym c.new-tokens.ensures.items) (skip_none c.args.text.now);
+      placed = subst (All (StandsAt c.args.text.now)) (sym c.new-tokens.ensures.items) (search rules);
       stretches = search rules;
     }
 
@@ -25,8 +29,13 @@ loop-at-preserved-in-Gap c =
     (step_at c.in_ok-shared.shared c.args.text.now c.loop-at.at c.in_ok-len.field-0 _ c.in_ok-shared.ensures c.in_ok-len.ensures c.in-Gap.is) in
     record {
       within = t.1;
-      line = search rules;
+      few = search rules;
+      line = λ inside.
+          gap_line c.args.text.now c.loop-at.at c.in-Gap.len c.loop-at.line c.from-line.result
+          (step_at c.in_ok-shared.shared c.args.text.now c.loop-at.at c.in_ok-len.field-0 _ c.in_ok-shared.ensures c.in_ok-len.ensures c.in-Gap.is)
+          (c.loop-at.invariant.line c.loop-at-test.true) c.from-line.ensures;
       reads = after_gap (kinds_of c.loop-at.tokens.items) c.args.text.now c.loop-at.at c.in-Gap.len c.loop-at.invariant.reads (step_at c.in_ok-shared.shared c.args.text.now c.loop-at.at c.in_ok-len.field-0 _ c.in_ok-shared.ensures c.in_ok-len.ensures c.in-Gap.is);
+      placed = c.loop-at.invariant.placed;
       stretches = c.loop-at.invariant.stretches;
     }
 
@@ -66,12 +75,20 @@ loop-at-preserved c =
     (step_at c.in_ok-shared.shared c.args.text.now c.loop-at.at c.in_ok-len.field-0 _ c.in_ok-shared.ensures c.in_ok-len.ensures c.in-Token.is) in
     record {
       within = c.next_place-end.ensures.within;
-      line = search rules;
+      few = search rules;
+      line = λ inside.
+          token_line c.args.text.now c.loop-at.at c.in-Token.len c.next_place-end.result c.loop-at.line c.from-newlines.result c.in-Token.kind t.1
+          (step_at c.in_ok-shared.shared c.args.text.now c.loop-at.at c.in_ok-len.field-0 _ c.in_ok-shared.ensures c.in_ok-len.ensures c.in-Token.is)
+          (c.loop-at.invariant.line c.loop-at-test.true) (c.from-newlines.ensures ∙ ap bool_byte c.is_newline.ensures) c.next_place-end.ensures.place inside;
       reads =
           let kinds = ap kinds_of pushed ∙ map_push (λ token. token.kind) c.loop-at.tokens.items _ in
           subst (λ kinds. Reads kinds c.args.text.now (drop c.next_place-end.result c.args.text.now)) (sym kinds)
           (after_token (kinds_of c.loop-at.tokens.items) c.args.text.now c.loop-at.at c.in-Token.len c.next_place-end.result c.in-Token.kind
           c.loop-at.invariant.reads (step_at c.in_ok-shared.shared c.args.text.now c.loop-at.at c.in_ok-len.field-0 _ c.in_ok-shared.ensures c.in_ok-len.ensures c.in-Token.is) c.next_place-end.ensures.place);
+      placed =
+          subst (All (StandsAt c.args.text.now)) (sym pushed) (All-push (StandsAt c.args.text.now) c.loop-at.tokens.items _ c.loop-at.invariant.placed
+          (stands_at c.args.text.now _ c.loop-at.at c.in-Token.len c.in-Token.kind refl refl (c.loop-at.invariant.line c.loop-at-test.true)
+          (step_at c.in_ok-shared.shared c.args.text.now c.loop-at.at c.in_ok-len.field-0 _ c.in_ok-shared.ensures c.in_ok-len.ensures c.in-Token.is) c.next_place-end.ensures.place));
       stretches =
           let Inside : Token → Type 0 = λ token. (token.start ≤ token.end) × (token.end ≤ length c.args.text.now) in
           subst (All Inside) (sym pushed) (All-push Inside c.loop-at.tokens.items _ c.loop-at.invariant.stretches (omega (arith, c.next_place-end.ensures.forward), c.next_place-end.ensures.within));
@@ -101,3 +118,8 @@ pub returns-clause-broken : goal.returns-clause-broken
 returns-clause-broken c = λ code refused.
     none_refused (kinds_of c.loop-at.tokens.items) c.args.text.now code c.if-text-gt-LIMIT.false
     (all_read (kinds_of c.loop-at.tokens.items) c.args.text.now c.loop-at.at c.loop-at-test.false c.loop-at.invariant.reads) refused
+
+pub returns-in-Fault-clause-fault_line : goal.returns-in-Fault-clause-fault_line
+returns-in-Fault-clause-fault_line c = λ short.
+    inr (fault_stands (kinds_of c.loop-at.tokens.items) c.args.text.now c.loop-at.at _ c.in-Fault.code c.loop-at-test.true c.loop-at.invariant.reads
+    (step_at c.in_ok-shared.shared c.args.text.now c.loop-at.at c.in_ok-len.field-0 _ c.in_ok-shared.ensures c.in_ok-len.ensures c.in-Fault.is) refl (c.loop-at.invariant.line c.loop-at-test.true))
