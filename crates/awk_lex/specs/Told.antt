@@ -1,7 +1,8 @@
 -- What reading the tokens of a text answers.
-use Rattle.std.specs.Prelude.{◌≡◌, ◌⊎◌, ℕ, ◌<◌, ◌≤◌, List, map, length, Result, Ok, Err}
+use Rattle.std.specs.Prelude.{◌≡◌, ◌⊎◌, ℕ, ◌<◌, ◌≤◌, ◌+◌, ◌==◌, List, map, count_by, length, take, drop, Result, Ok, Err}
 use Rattle.std.specs.Global.{Vec}
-use Rattle.awk_lex.specs.Lexes.{Breaks}
+use Rattle.awk_lex.specs.Words.{behind}
+use Rattle.awk_lex.specs.Lexes.{Stands, Reads, Fault, Breaks}
 use Rattle.awk_lex.specs.Refused.{IsOutOfMemory}
 use Rattle.awk_lex.specs.declared.token.Kind.{Kind}
 use Rattle.awk_lex.specs.declared.token.Token.{Token}
@@ -13,6 +14,25 @@ use Rattle.awk_lex.specs.declared.lexer.TheConstants.{LIMIT}
 -- what the tokens are, without their lines and places
 abbrev pub kinds_of : List Token → List Kind
 kinds_of = map (λ token. token.kind)
+
+-- the line of a place, from 1: one more than the newlines before it
+abbrev pub line_at : List ℕ → ℕ → ℕ
+line_at text place = 1 + count_by (λ b. b == 10) (take place text)
+
+-- The token stands where its stretch begins, on its line. Its stretch ends where the text is read on.
+pub record StandsAt (text : List ℕ) (token : Token) : Type 0 where
+  pub after : List ℕ
+  pub stands : Stands token.kind (drop token.start text) after
+  pub ends : drop token.end text ≡ behind token.kind after
+  pub line : token.line ≡ line_at text token.start
+
+-- the text is gaps and tokens up to a place on the refusal's line, and there stands its fault
+pub record FaultStands (text : List ℕ) (refusal : Refusal) : Type 0 where
+  pub tokens : List Kind
+  pub place : ℕ
+  pub reads : Reads tokens text (drop place text)
+  pub fault : Fault refusal.code (drop place text)
+  pub line : refusal.line ≡ line_at text place
 
 -- these tokens are answered, or memory was refused
 abbrev pub GivesOnly : Result (Vec Token) Refusal → List Kind → Type 0

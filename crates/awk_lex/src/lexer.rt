@@ -1,23 +1,24 @@
 // The tokens of a program text.
 
 ghost use Rattle.std.specs.Prelude.{◌≡◌, ◌≤◌, ◌⊎◌, ◌+◌, ◌<◌, List, ℕ, length, drop, All, IfOk, IfErr, OnOk};
-ghost use Rattle.awk_lex.specs.Words.{behind};
+ghost use Rattle.awk_lex.specs.Words.{behind, is_newline};
 ghost use Rattle.awk_lex.specs.Lexes.{Lexes};
 ghost use Rattle.awk_lex.specs.Refused.{IsOutOfMemory};
-ghost use Rattle.awk_lex.specs.Told.{kinds_of, GivesOnly, Refuses, RefusesOnly};
+ghost use Rattle.awk_lex.specs.Told.{kinds_of, StandsAt, FaultStands, GivesOnly, Refuses, RefusesOnly};
 
 use crate::refusal::{Code, Refusal};
 use crate::scan::{Step, first_step};
 use crate::token::{Kind, Token};
+use awk_value::Bytes;
 use std::alloc::Global;
 
 /// The most bytes of a program text.
 pub const LIMIT: usize = 1_048_576;
 
 /// Where the text goes on behind a token that ends at `end`: nowhere behind one that isn't built.
-fn next_place(kind: Kind, end: usize, text: &[u8]) -> usize
+fn next_place(kind: &Kind, end: usize, text: &[u8]) -> usize
     requires { end ≤ length text.now }
-    ensures place { drop result text.now ≡ behind kind (drop end text.now) }
+    ensures place { drop result text.now ≡ behind kind.now (drop end text.now) }
     ensures forward { end ≤ result }
     ensures within { result ≤ length text.now }
 {
@@ -25,6 +26,13 @@ fn next_place(kind: Kind, end: usize, text: &[u8]) -> usize
         Kind::Unbuilt => text.len(),
         _ => end,
     }
+}
+
+/// Whether a token is a newline.
+fn is_newline(kind: &Kind) -> bool
+    ensures { result ≡ is_newline kind.now }
+{
+    matches!(kind, Kind::Newline)
 }
 
 /// The tokens of a program text, each the longest at its place, with gaps between them.
@@ -36,8 +44,9 @@ pub fn tokens(alloc: Global, text: &[u8]) -> Result<Vec<Token>, Refusal>
     ensures found { IfOk result (λ tokens. Lexes (kinds_of tokens.items) text.now) }
     ensures short { OnOk result (length text.now ≤ LIMIT) }
 
-    // Each token is a stretch of the text.
+    // Each token is a stretch of the text, and stands there on its line.
     ensures within { IfOk result (λ tokens. All (λ token. (token.start ≤ token.end) × (token.end ≤ length text.now)) tokens.items) }
+    ensures placed { IfOk result (λ tokens. All (StandsAt text.now) tokens.items) }
 
     // Tokens that the text has are found, unless memory runs out.
     ensures only { (ts : _) → Lexes ts text.now → length text.now ≤ LIMIT → GivesOnly result ts }
@@ -45,6 +54,10 @@ pub fn tokens(alloc: Global, text: &[u8]) -> Result<Vec<Token>, Refusal>
     // What is refused is too long or breaks at its leftmost fault, unless memory runs out, and the other way round.
     ensures refused { IfErr result (λ refusal. IsOutOfMemory refusal ⊎ Refuses refusal.code text.now) }
     ensures broken { (code : _) → Refuses code text.now → RefusesOnly result code }
+
+    // A refusal's line is that of the fault, and the first one where the text is too long.
+    ensures fault_line { length text.now ≤ LIMIT → IfErr result (λ refusal. IsOutOfMemory refusal ⊎ FaultStands text.now refusal) }
+    ensures first_line { LIMIT < length text.now → IfErr result (λ refusal. refusal.line ≡ 1) }
 {
     if text.len() > LIMIT {
         return Err(Refusal {
@@ -52,24 +65,26 @@ pub fn tokens(alloc: Global, text: &[u8]) -> Result<Vec<Token>, Refusal>
             line: 1,
         });
     }
+    let shared = Bytes::from_slice(alloc, text)?;
     let mut tokens = Vec::new(alloc);
     let mut at = 0;
     let mut line = 1;
     while at < text.len() {
-        match first_step(&text[at..]) {
+        match first_step(alloc, &shared, at)? {
             Step::Gap(len) => {
                 line += u64::from(text[at] == b'\\');
                 at += len;
             }
             Step::Token(kind, len) => {
-                let end = next_place(kind, at + len, text);
+                let end = next_place(&kind, at + len, text);
+                let newlines = u64::from(is_newline(&kind));
                 tokens.push(Token {
                     kind,
                     line,
                     start: at,
                     end,
                 })?;
-                line += u64::from(kind == Kind::Newline);
+                line += newlines;
                 at = end;
             }
             Step::Fault(code) => return Err(Refusal { code, line }),

@@ -1,0 +1,227 @@
+-- How many newlines stand before a place.
+use Rattle.std.proofs.Common.{◌≡◌, ℕ, zero, suc, ◌+◌, ◌<◌, ◌≤◌, Bool, true, false, eqb, cond, inl, inr, List, [], ◌∷◌, ◌++◌, length, get_or, take, drop, Option, Some, None, refl, sym, ap, ◌∙◌, subst, arith, length-drop, drop-drop}
+use Rattle.std.specs.Prelude.{count_by, unwrap_or}
+use Rattle.std.specs.List.{list_all, prefix_len}
+use mir.Val.{bool_byte}
+use Rattle.std.specs.Char.{is_ascii_digit}
+use Rattle.std.proofs.Math.Seq.{take-append_seam, take-add}
+use Rattle.std.proofs.lemmas.Bool.{cases_Bool, and_parts, and_from, not-true, eqb-true}
+use Rattle.std.proofs.lemmas.List.Sums.{sum_by-append, sum_by-cons}
+use Rattle.awk_lex.specs.Words.{is_letter, is_word_byte, is_word, is_digits, kinds, word_kind, signs, kind_in, Body, none, plain, escaped, Writes, number, string, word, name, called, sign, behind, is_newline}
+use Rattle.awk_lex.specs.Lexes.{is_blank, is_no_newline, Stands, Reads, Fault}
+use Rattle.awk_lex.specs.Steps.{hidden_len, gap_len, first_step}
+use Rattle.awk_lex.specs.Told.{line_at, StandsAt, FaultStands}
+use Rattle.awk_lex.specs.declared.token.Kind.{Kind}
+use Rattle.awk_lex.specs.declared.token.Kind.TheVariants.{Unbuilt}
+use Rattle.awk_lex.specs.declared.token.Token.{Token}
+use Rattle.awk_lex.specs.declared.refusal.Code.{Code}
+use Rattle.awk_lex.specs.declared.refusal.Refusal.{Refusal}
+use Rattle.awk_lex.specs.declared.scan.Step.TheVariants as step
+use Rattle.awk_lex.proofs.Fronts.{if_true, if_false, front_passes}
+use Rattle.awk_lex.proofs.Tables.{found_row, reserved_is_word}
+use Rattle.awk_lex.proofs.Bodies.{plain_no_newline}
+use Rattle.awk_lex.proofs.Gaps.{blank_is}
+use Rattle.awk_lex.proofs.Progress.{not_at_end}
+use Rattle.awk_lex.proofs.Munch.{spelled, stands, letter_in_word}
+use Rattle.awk_lex.proofs.Read.{token_is, gap_is, fault_is}
+
+byte_is : (b : Bool) → bool_byte b ≡ cond b 1 0
+byte_is true = refl
+byte_is false = refl
+
+get_or-drop_first : (text : List ℕ) (at : ℕ) → get_or (drop at text) 0 0 ≡ get_or text at 0
+get_or-drop_first [] zero = refl
+get_or-drop_first [] (suc at) = refl
+get_or-drop_first (b ∷ text) zero = refl
+get_or-drop_first (b ∷ text) (suc at) = get_or-drop_first text at
+
+newlines : List ℕ → ℕ
+newlines bs = count_by (λ b. eqb b 10) bs
+
+newlines-append : (xs ys : List ℕ) → newlines (xs ++ ys) ≡ newlines xs + newlines ys
+unfolding newlines
+newlines-append xs ys = sum_by-append (λ b. cond (eqb b 10) 1 0) xs ys
+
+other_byte : (b : ℕ) (bs : List ℕ) → eqb b 10 ≡ false → newlines (b ∷ bs) ≡ newlines bs
+unfolding newlines
+other_byte b bs h =
+    let none_here : cond (eqb b 10) 1 0 ≡ 0 = ap (λ x. cond x 1 0) h in
+    sum_by-cons (λ x. cond (eqb x 10) 1 0) b bs ∙ ap (λ n. n + newlines bs) none_here ∙ omega arith
+
+-- bytes that are no newlines
+no_newlines : (p : ℕ → Bool) → ((b : ℕ) → p b ≡ true → eqb b 10 ≡ false) → (bs : List ℕ) → list_all p bs ≡ true → newlines bs ≡ 0
+unfolding newlines
+no_newlines p other [] h = refl
+no_newlines p other (b ∷ bs) h =
+    let a = and_parts (p b) (list_all p bs) h in
+    other_byte b bs (other b a.0) ∙ no_newlines p other bs a.1
+
+body_newlines : (body : List ℕ) → Body body → newlines body ≡ 0
+unfolding newlines
+body_newlines _ none = refl
+body_newlines _ (plain {b} {body} h g) = other_byte b body (plain_no_newline b h) ∙ body_newlines body g
+body_newlines _ (escaped {b} {body} h g) =
+    other_byte 92 (b ∷ body) refl ∙ other_byte b body (not-true (eqb b 10) h) ∙ body_newlines body g
+
+word_byte_is : (b : ℕ) → is_word_byte b ≡ true → eqb b 10 ≡ false
+word_byte_is b h = elim (cases_Bool (eqb b 10)) [
+  | inl newline ↦ let no : false ≡ true = ap is_word_byte (sym (eqb-true b 10 newline)) ∙ h in absurd (cc)
+  | inr other ↦ other
+]
+
+digit_is : (b : ℕ) → is_ascii_digit b ≡ true → eqb b 10 ≡ false
+digit_is b h = elim (cases_Bool (eqb b 10)) [
+  | inl newline ↦ let no : false ≡ true = ap is_ascii_digit (sym (eqb-true b 10 newline)) ∙ h in absurd (cc)
+  | inr other ↦ other
+]
+
+word_newlines : (w : List ℕ) → is_word w ≡ true → newlines w ≡ 0
+word_newlines [] h = absurd (cc)
+word_newlines (b ∷ w) h =
+    let a = and_parts (is_letter b) (list_all is_word_byte w) h in
+    no_newlines is_word_byte word_byte_is (b ∷ w) (and_from _ _ (letter_in_word b a.0) a.1)
+
+digits_newlines : (w : List ℕ) → is_digits w ≡ true → newlines w ≡ 0
+digits_newlines [] h = absurd (cc)
+digits_newlines (b ∷ w) h = no_newlines is_ascii_digit digit_is (b ∷ w) h
+
+-- how many newlines a token has
+count_of : Kind → ℕ
+count_of k = cond (is_newline k) 1 0
+
+word_kind_count : (w : List ℕ) → count_of (word_kind w) ≡ 0
+unfolding count_of
+word_kind_count w = by_row (kind_in kinds w) refl
+  where
+    by_row : (o : Option Kind) → kind_in kinds w ≡ o → count_of (unwrap_or o Unbuilt) ≡ 0
+    by_row None e = refl
+    by_row (Some k) e = eqb-true _ _ (found_row (λ _ j. eqb (count_of j) 0) kinds w k refl e)
+
+string_newlines : (body : List ℕ) → Body body → newlines (34 ∷ body ++ 34 ∷ []) ≡ 0
+unfolding newlines
+string_newlines body h =
+    other_byte 34 (body ++ 34 ∷ []) refl ∙ newlines-append body (34 ∷ []) ∙ ap (λ n. n + 0) (body_newlines body h)
+
+writes_newlines : (k : Kind) (w : List ℕ) → Writes k w → newlines w ≡ count_of k
+unfolding count_of newlines
+writes_newlines _ w (number h) = digits_newlines w h
+writes_newlines _ _ (string {body} h value) = string_newlines body h
+writes_newlines _ w (word h) = word_newlines w (reserved_is_word w h) ∙ sym (word_kind_count w)
+writes_newlines _ w (name h free) = word_newlines w h
+writes_newlines _ w (called h free) = word_newlines w h
+writes_newlines k w (sign h) = eqb-true _ _ (found_row (λ v j. eqb (newlines v) (count_of j)) signs w k refl h)
+
+token_newlines : (text : List ℕ) (k : Kind) (n : ℕ) → first_step text ≡ step.Token k n → newlines (take n text) ≡ count_of k
+token_newlines text k n h =
+    let s = spelled text (record { kind = k; len = n }) (token_is text k n h).is in
+    let front : take n text ≡ s.word = ap (λ m. take m text) (sym s.len) ∙ ap (take (length s.word)) s.is ∙ take-append_seam s.word s.rest in
+    ap newlines front ∙ writes_newlines k s.word s.writes
+
+no_newline_is : (b : ℕ) → is_no_newline b ≡ true → eqb b 10 ≡ false
+no_newline_is b h = not-true (eqb b 10) h
+
+-- how many newlines a part of a gap has
+hides : ℕ → ℕ
+hides b = cond (eqb b 92) 1 0
+
+blank_newlines : (b : ℕ) (bs : List ℕ) (n : ℕ) → is_blank b ≡ true → 1 ≡ suc n → newlines (take (suc n) (b ∷ bs)) ≡ hides b
+unfolding newlines hides
+blank_newlines b bs n h e = elim (blank_is b h) [
+  | inl space ↦ subst (λ m. newlines (take m (b ∷ bs)) ≡ hides b) e (ap (λ x. newlines (x ∷ [])) space ∙ sym (ap hides space))
+  | inr tab ↦ subst (λ m. newlines (take m (b ∷ bs)) ≡ hides b) e (ap (λ x. newlines (x ∷ [])) tab ∙ sym (ap hides tab))
+]
+
+hidden_newlines : (bs : List ℕ) (n : ℕ) → hidden_len bs ≡ suc n → newlines (take (suc n) (92 ∷ bs)) ≡ 1
+unfolding newlines
+hidden_newlines [] n h = absurd (cc)
+hidden_newlines (c ∷ bs) n h = elim (cases_Bool (eqb c 10)) [
+  | inl newline ↦
+      let two : 2 ≡ suc n = sym (if_true (eqb c 10) _ _ newline) ∙ h in
+      subst (λ m. newlines (take m (92 ∷ c ∷ bs)) ≡ 1) two (ap (λ x. newlines (92 ∷ x ∷ [])) (eqb-true c 10 newline))
+  | inr other ↦ let no : 0 ≡ suc n = sym (if_false (eqb c 10) _ _ other) ∙ h in absurd (omega arith)
+]
+
+comment_newlines : (b : ℕ) (bs : List ℕ) (n : ℕ) → prefix_len is_no_newline (b ∷ bs) ≡ suc n → newlines (take (suc n) (b ∷ bs)) ≡ 0
+comment_newlines b bs n h =
+    ap (λ m. newlines (take m (b ∷ bs))) (sym h) ∙ no_newlines is_no_newline no_newline_is _ (front_passes is_no_newline (b ∷ bs))
+
+part_newlines : (b : ℕ) (bs : List ℕ) (n : ℕ) → gap_len (b ∷ bs) ≡ suc n → newlines (take (suc n) (b ∷ bs)) ≡ hides b
+unfolding hides
+part_newlines b bs n h = elim (cases_Bool (is_blank b)) [
+  | inl blanks ↦ blank_newlines b bs n blanks (sym (if_true (is_blank b) _ _ blanks) ∙ h)
+  | inr other ↦
+      let k = sym (if_false (is_blank b) _ _ other) ∙ h in
+      elim (cases_Bool (eqb b 92)) [
+        | inl backslash ↦
+            let e = eqb-true b 92 backslash in
+            ap (λ x. newlines (take (suc n) (x ∷ bs))) e ∙ hidden_newlines bs n (sym (if_true (eqb b 92) _ _ backslash) ∙ k) ∙ sym (ap hides e)
+        | inr neither ↦
+            let l = sym (if_false (eqb b 92) _ _ neither) ∙ k in
+            elim (cases_Bool (eqb b 35)) [
+              | inl hash ↦ comment_newlines b bs n (sym (if_true (eqb b 35) _ _ hash) ∙ l) ∙ sym (if_false (eqb b 92) 1 0 neither)
+              | inr nothing ↦ let no : 0 ≡ suc n = sym (if_false (eqb b 35) _ _ nothing) ∙ l in absurd (omega arith)
+            ]
+      ]
+]
+
+gap_newlines : (text : List ℕ) (n : ℕ) → first_step text ≡ step.Gap n → newlines (take n text) ≡ hides (get_or text 0 0)
+gap_newlines [] n h = let g = gap_is [] n h in absurd (omega (arith, g.is))
+gap_newlines (b ∷ bs) n h =
+    let g = gap_is (b ∷ bs) n h in
+    ap (λ m. newlines (take m (b ∷ bs))) g.len ∙ part_newlines b bs g.before g.is
+
+line_more : (text : List ℕ) (at n : ℕ) → line_at text (at + n) ≡ line_at text at + newlines (take n (drop at text))
+unfolding newlines
+line_more text at n =
+    let parts = ap newlines (take-add at n text) ∙ newlines-append (take at text) (take n (drop at text)) in
+    omega (arith, parts)
+
+-- the line behind a part of a gap
+pub gap_line : (text : List ℕ) (at n line more : ℕ) → first_step (drop at text) ≡ step.Gap n → line ≡ line_at text at
+    → more ≡ bool_byte (eqb (get_or text at 0) 92) → line + more ≡ line_at text (at + n)
+unfolding hides
+gap_line text at n line more h here counted =
+    let first : get_or (drop at text) 0 0 ≡ get_or text at 0 = get_or-drop_first text at in
+    let part : newlines (take n (drop at text)) ≡ cond (eqb (get_or text at 0) 92) 1 0 = gap_newlines (drop at text) n h ∙ ap hides first in
+    let both = byte_is (eqb (get_or text at 0) 92) in
+    omega (arith, line_more text at n)
+
+same_place : (k : Kind) (text : List ℕ) (place end : ℕ) → place ≤ length text → end < length text → drop end text ≡ behind k (drop place text) → end ≡ place
+same_place Unbuilt text place end inside short e = absurd (omega (arith, length-drop end text, ap length e))
+same_place _ text place end inside short e = omega (arith, length-drop end text, length-drop place text, ap length e)
+
+-- the line behind a token, unless nothing is read on there
+pub token_line : (text : List ℕ) (at n end line more : ℕ) (k : Kind) → at + n ≤ length text → first_step (drop at text) ≡ step.Token k n
+    → line ≡ line_at text at → more ≡ bool_byte (is_newline k) → drop end text ≡ behind k (drop (at + n) text) → end < length text
+    → line + more ≡ line_at text end
+unfolding count_of
+token_line text at n end line more k inside h here counted place short =
+    let token = token_newlines (drop at text) k n h in
+    let both = byte_is (is_newline k) in
+    let e = same_place k text (at + n) end inside short place in
+    let there : line + more ≡ line_at text (at + n) = omega (arith, line_more text at n) in
+    there ∙ ap (line_at text) (sym e)
+
+-- a token and a fault, where they stand
+pub stands_at : (text : List ℕ) (token : Token) (at n : ℕ) (k : Kind) → token.kind ≡ k → token.start ≡ at → token.line ≡ line_at text at
+    → first_step (drop at text) ≡ step.Token k n → drop token.end text ≡ behind k (drop (at + n) text) → StandsAt text token
+stands_at text token at n k kind_is start_is line_is h place =
+    let found = stands (drop at text) (record { kind = k; len = n }) (token_is (drop at text) k n h).is in
+    record {
+      after = drop n (drop at text);
+      stands = subst (λ x. Stands x (drop token.start text) (drop n (drop at text))) (sym kind_is)
+          (subst (λ x. Stands k (drop x text) (drop n (drop at text))) (sym start_is) found);
+      ends = place ∙ ap (behind k) (sym (drop-drop n at text)) ∙ ap (λ x. behind x (drop n (drop at text))) (sym kind_is);
+      line = line_is ∙ ap (line_at text) (sym start_is);
+    }
+
+pub fault_stands : (ts : List Kind) (text : List ℕ) (at : ℕ) (refusal : Refusal) (c : Code) → at < length text → Reads ts text (drop at text)
+    → first_step (drop at text) ≡ step.Fault c → refusal.code ≡ c → refusal.line ≡ line_at text at → FaultStands text refusal
+fault_stands ts text at refusal c inside r h code_is line_is =
+    record {
+      tokens = ts;
+      place = at;
+      reads = r;
+      fault = subst (λ x. Fault x (drop at text)) (sym code_is) (fault_is (drop at text) c (not_at_end text at inside) h);
+      line = line_is;
+    }
