@@ -1,19 +1,19 @@
 -- How far a text is read.
-use Rattle.std.proofs.Common.{◌≡◌, ℕ, zero, suc, ◌+◌, ◌-◌, ◌≤◌, ◌<◌, false, List, [], ◌∷◌, ◌++◌, length, take, drop, refl, sym, ap, ◌∙◌, subst, arith, drop-drop, length-drop, length-append}
-use Rattle.std.specs.Prelude.{slice_index}
+use Rattle.std.proofs.Common.{◌≡◌, ℕ, zero, suc, ◌+◌, ◌-◌, ◌≤◌, ◌<◌, true, false, List, [], ◌∷◌, ◌++◌, length, take, drop, refl, sym, ap, ◌∙◌, subst, arith, drop-drop, length-drop, length-append}
+use Rattle.std.specs.Prelude.{slice_index, take_while}
 use Rattle.std.proofs.lemmas.List.{take_all}
 use Rattle.std.specs.Char.{is_ascii_digit}
-use Rattle.awk_lex.specs.Words.{is_letter, behind}
+use Rattle.awk_lex.specs.Words.{is_letter, is_word_byte, behind}
 use Rattle.awk_lex.specs.Lexes.{Reads, Lexes, Breaks}
-use Rattle.awk_lex.specs.Steps.{gap_len, sign_at, token_step, gap_step, first_step, TakesOf}
+use Rattle.awk_lex.specs.Steps.{gap_len, word_of, sign_at, token_step, gap_step, first_step, TakesOf}
 use Rattle.awk_lex.specs.Told.{Refuses}
 use Rattle.awk_lex.specs.declared.token.Kind.{Kind}
 use Rattle.awk_lex.specs.declared.refusal.Code.{Code}
-use Rattle.awk_lex.specs.declared.refusal.Code.TheVariants.{UnexpectedByte, NumberRefused, ProgramTooLong, NotAProgram, NestedTooDeep, OutOfMemory}
+use Rattle.awk_lex.specs.declared.refusal.Code.TheVariants.{UnexpectedByte, OpenString, EscapeRefused, NumberRefused, ProgramTooLong, NotAProgram, NestedTooDeep, ArrayAndScalar, NameLeftOut, OutOfMemory}
 use Rattle.awk_lex.specs.declared.lexer.TheConstants.{LIMIT}
 use Rattle.awk_lex.specs.declared.scan.Step.{Step}
 use Rattle.awk_lex.specs.declared.scan.Step.TheVariants as step
-use Rattle.awk_lex.proofs.Fronts.{if_false}
+use Rattle.awk_lex.proofs.Fronts.{if_true, if_false}
 use Rattle.awk_lex.proofs.Munch.{spelled}
 use Rattle.awk_lex.proofs.Gaps.{part_of}
 use Rattle.awk_lex.proofs.Read.{token_is, gap_is, fault_is, reads_gap, reads_token}
@@ -94,6 +94,13 @@ gap_takes text n e some = by_len (gap_len text) refl
         let t = subst (TakesOf (length text)) (sym is) (step_takes text) in
         (omega arith, omega (arith, t.1, g))
 
+pub word_takes : (text : List ℕ) (s : Step) → gap_len text ≡ 0 → is_letter (slice_index text 0) ≡ true
+    → s ≡ token_step text (word_of (take_while is_word_byte text)) → TakesOf (length text) s
+word_takes text s g letter e =
+    let is : s ≡ first_step text =
+    e ∙ ap (token_step text) (sym (if_true (is_letter (slice_index text 0)) _ _ letter)) ∙ sym (ap (gap_step text) g) in
+    subst (TakesOf (length text)) (sym is) (step_takes text)
+
 pub sign_takes : (text : List ℕ) (s : Step) → gap_len text ≡ 0 → is_letter (slice_index text 0) ≡ false → is_ascii_digit (slice_index text 0) ≡ false
     → s ≡ token_step text (sign_at text) → TakesOf (length text) s
 sign_takes text s g letter digit e =
@@ -106,17 +113,25 @@ sign_takes text s g letter digit e =
 breaks : (c : Code) (text : List ℕ) → length text ≤ LIMIT → Refuses c text → Breaks c text
 breaks ProgramTooLong text short r = absurd (omega arith)
 breaks UnexpectedByte text short r = r.1
+breaks OpenString text short r = r.1
+breaks EscapeRefused text short r = r.1
 breaks NumberRefused text short r = r.1
 breaks NotAProgram text short r = r.1
 breaks NestedTooDeep text short r = r.1
+breaks ArrayAndScalar text short r = r.1
+breaks NameLeftOut text short r = r.1
 breaks OutOfMemory text short r = r.1
 
 pub too_long_only : (c : Code) (text : List ℕ) → LIMIT < length text → Refuses c text → ProgramTooLong ≡ c
 too_long_only ProgramTooLong text long r = refl
 too_long_only UnexpectedByte text long r = absurd (omega arith)
+too_long_only OpenString text long r = absurd (omega arith)
+too_long_only EscapeRefused text long r = absurd (omega arith)
 too_long_only NumberRefused text long r = absurd (omega arith)
 too_long_only NotAProgram text long r = absurd (omega arith)
 too_long_only NestedTooDeep text long r = absurd (omega arith)
+too_long_only ArrayAndScalar text long r = absurd (omega arith)
+too_long_only NameLeftOut text long r = absurd (omega arith)
 too_long_only OutOfMemory text long r = absurd (omega arith)
 
 pub fault_only : (ts : List Kind) (text : List ℕ) (at : ℕ) (c d : Code) → length text ≤ LIMIT → at < length text → Reads ts text (drop at text)

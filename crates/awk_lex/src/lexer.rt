@@ -15,9 +15,9 @@ use std::alloc::Global;
 pub const LIMIT: usize = 1_048_576;
 
 /// Where the text goes on behind a token that ends at `end`: nowhere behind one that isn't built.
-fn next_place(kind: Kind, end: usize, text: &[u8]) -> usize
+fn next_place(kind: &Kind, end: usize, text: &[u8]) -> usize
     requires { end ≤ length text.now }
-    ensures place { drop result text.now ≡ behind kind (drop end text.now) }
+    ensures place { drop result text.now ≡ behind kind.now (drop end text.now) }
     ensures forward { end ≤ result }
     ensures within { result ≤ length text.now }
 {
@@ -62,14 +62,15 @@ pub fn tokens(alloc: Global, text: &[u8]) -> Result<Vec<Token>, Refusal>
                 at += len;
             }
             Step::Token(kind, len) => {
-                let end = next_place(kind, at + len, text);
+                let end = next_place(&kind, at + len, text);
+                let is_newline = matches!(kind, Kind::Newline);
                 tokens.push(Token {
                     kind,
                     line,
                     start: at,
                     end,
                 })?;
-                line += u64::from(kind == Kind::Newline);
+                line += u64::from(is_newline);
                 at = end;
             }
             Step::Fault(code) => return Err(Refusal { code, line }),

@@ -11,6 +11,10 @@ use std::fmt;
 pub enum Code {
     /// L1: a byte that begins no token.
     UnexpectedByte,
+    /// L2: a string that its line or the text ends.
+    OpenString,
+    /// L3: a string with an escape that isn't one of the table.
+    EscapeRefused,
     /// L5: a number that goes on with a letter, an underscore or a point, or is above 2^127 - 1.
     NumberRefused,
     /// L6: more than 1,048,576 bytes.
@@ -19,6 +23,10 @@ pub enum Code {
     NotAProgram,
     /// S2: the tree is higher than 200.
     NestedTooDeep,
+    /// K1: a name that is both an array and a scalar.
+    ArrayAndScalar,
+    /// K7: a name that other awks give a meaning which this one leaves out.
+    NameLeftOut,
     /// M0: memory was refused.
     OutOfMemory,
 }
@@ -30,10 +38,14 @@ impl fmt::Display for Code {
     fn fmt<W: fmt::Write>(&self, f: &mut fmt::Formatter<W>) -> fmt::Result {
         match self {
             Code::UnexpectedByte => write!(f, "L1: unexpected byte"),
+            Code::OpenString => write!(f, "L2: open string"),
+            Code::EscapeRefused => write!(f, "L3: escape refused"),
             Code::NumberRefused => write!(f, "L5: number refused"),
             Code::ProgramTooLong => write!(f, "L6: program too long"),
             Code::NotAProgram => write!(f, "S1: not a program"),
             Code::NestedTooDeep => write!(f, "S2: nested too deep"),
+            Code::ArrayAndScalar => write!(f, "K1: array and scalar"),
+            Code::NameLeftOut => write!(f, "K7: name left out"),
             Code::OutOfMemory => write!(f, "M0: out of memory"),
         }
     }

@@ -15,7 +15,7 @@ use crate::token::{Kind, Operator};
 const TENTH: u128 = 17_014_118_346_046_923_173_168_730_371_588_410_572;
 
 /// What stands at the front of a text, and how many bytes it has.
-#[derive(Clone, Copy)]
+#[derive(Drop)]
 pub enum Step {
     /// One part of a gap.
     Gap(usize),

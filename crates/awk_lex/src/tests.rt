@@ -9,13 +9,34 @@ use std::test::Fail;
 
 const ONE: Kind = Kind::Number(1);
 
+const TIMES: Kind = Kind::Operator(Operator::Times);
+
+fn is_same(a: &Kind, b: &Kind) -> bool {
+    match (a, b) {
+        (Kind::Number(a), Kind::Number(b)) => a == b,
+        (Kind::Operator(a), Kind::Operator(b)) => a == b,
+        (Kind::Dollar, Kind::Dollar)
+        | (Kind::Comma, Kind::Comma)
+        | (Kind::Semicolon, Kind::Semicolon)
+        | (Kind::Newline, Kind::Newline)
+        | (Kind::OpenBrace, Kind::OpenBrace)
+        | (Kind::CloseBrace, Kind::CloseBrace)
+        | (Kind::Print, Kind::Print)
+        | (Kind::Unbuilt, Kind::Unbuilt) => true,
+        _ => false,
+    }
+}
+
 fn expect_tokens(rt: &impl Abort, alloc: Global, text: &[u8], expected: &[(Kind, u64)]) {
     let Ok(found) = tokens(alloc, text) else {
         panic!(rt; "{text:?} is refused");
     };
     assert_eq!(rt; found.len(), expected.len(), "{text:?}");
     for (token, (kind, line)) in found.iter().zip(expected) {
-        assert!(rt; token.kind == *kind && token.line == *line, "{text:?}");
+        assert!(rt;
+            is_same(&token.kind, kind) && token.line == *line,
+            "{text:?}"
+        );
     }
 }
 
@@ -56,7 +77,6 @@ fn texts_and_their_tokens(rt: HostRuntime) {
         (Kind::CloseBrace, 1),
     ];
     let largest = Kind::Number(170_141_183_460_469_231_731_687_303_715_884_105_727);
-    let times = (Kind::Operator(Operator::Times), 1);
     expect_tokens(&rt, alloc, b"", &[]);
     expect_tokens(&rt, alloc, b" \t# print @", &[]);
     expect_tokens(&rt, alloc, b"{print 01,$2}# }", &rule);
@@ -69,7 +89,7 @@ fn texts_and_their_tokens(rt: HostRuntime) {
         b"170141183460469231731687303715884105727",
         &[(largest, 1)],
     );
-    expect_tokens(&rt, alloc, b"**1", &[times, times, (ONE, 1)]);
+    expect_tokens(&rt, alloc, b"**1", &[(TIMES, 1), (TIMES, 1), (ONE, 1)]);
     expect_tokens(
         &rt,
         alloc,
