@@ -6,15 +6,14 @@ ghost use Rattle.awk_syntax.specs.Roles.{role_of};
 ghost use Rattle.awk_syntax.specs.Frames.{part_of, stack_of, held};
 ghost use Rattle.awk_syntax.specs.States.{state_of, next_of, found_of};
 
-use crate::build::one_more_expr;
+use crate::build::{evaluate, one_more_expr};
 use crate::frame::{Frame, Part};
 use crate::kept::LowItems;
-use crate::operands::{assign, enter, go_on, hole_of, select, settle};
+use crate::operands::{assign, close_group, enter, go_on, hole_of, select, settle};
 use crate::role::Role;
 use crate::state::Now;
 use crate::statements::{
-    begin, close_group, close_pattern, close_print, close_statement, item, next_statement, open,
-    prints,
+    begin, close_pattern, close_print, end_with, item, next_statement, open, prints,
 };
 use awk_lex::token::Kind;
 use awk_value::Bytes;
@@ -32,7 +31,7 @@ fn close(
 {
     match stack.pop() {
         Some(Frame::Group(outer)) => close_group(alloc, kind, outer, part, stack),
-        Some(Frame::Statement) => close_statement(alloc, kind, part, stack),
+        Some(Frame::Statement) => end_with(alloc, kind, evaluate(part.tree), stack),
         Some(Frame::Print(list)) => {
             close_print(alloc, kind, one_more_expr(list, part.tree)?, stack)
         }

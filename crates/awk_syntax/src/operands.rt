@@ -26,8 +26,8 @@ pub fn hole_of(stack: &Vec<Frame>) -> u8
     }
 }
 
-/// A node begins, and its operand with it.
-fn within(frame: Frame, bare: bool, stack: &mut Vec<Frame>) -> Result<Option<Now>, AllocError>
+/// A node begins, and an operand in it.
+fn descend(frame: Frame, bare: bool, stack: &mut Vec<Frame>) -> Result<Option<Now>, AllocError>
     ensures { IfOk result (λ now. next_of now stack.new.items
         ≡ machine.Expect false bare (frame_of frame ∷ stack_of stack.old.items)) }
 {
@@ -58,10 +58,10 @@ pub fn enter(
             bare,
             name: name.clone()?,
         })),
-        Kind::OpenParenthesis => within(Frame::Group(bare), false, stack),
-        Kind::Not => within(Frame::Unary(UnaryOperator::Not), bare, stack),
-        Kind::Operator(Operator::Plus) => within(Frame::Unary(UnaryOperator::Plus), bare, stack),
-        Kind::Operator(Operator::Minus) => within(Frame::Unary(UnaryOperator::Minus), bare, stack),
+        Kind::OpenParenthesis => descend(Frame::Group(bare), false, stack),
+        Kind::Not => descend(Frame::Unary(UnaryOperator::Not), bare, stack),
+        Kind::Operator(Operator::Plus) => descend(Frame::Unary(UnaryOperator::Plus), bare, stack),
+        Kind::Operator(Operator::Minus) => descend(Frame::Unary(UnaryOperator::Minus), bare, stack),
         Kind::Dollar => Ok(Some(Now::Selects { bare })),
         Kind::Newline if skips => Ok(Some(Now::Expect { skips, bare })),
         _ => Ok(None),
@@ -93,18 +93,32 @@ fn is_assignable(name: &Bytes) -> bool
 }
 
 /// A name and the `=` behind it.
-pub fn assign(
-    bare: bool,
-    name: Bytes,
-    stack: &mut Vec<Frame>,
-) -> Result<Option<Now>, AllocError>
+pub fn assign(bare: bool, name: Bytes, stack: &mut Vec<Frame>) -> Result<Option<Now>, AllocError>
     ensures { IfOk result (λ now. next_of now stack.new.items
         ≡ machine.named 200 name bare (stack_of stack.old.items) Assign) }
 {
     if is_assignable(&name) && hole_of(stack) >= 16 {
-        return within(Frame::Assign(name), bare, stack);
+        return descend(Frame::Assign(name), bare, stack);
     }
     Ok(None)
+}
+
+/// The token behind an expression in parentheses.
+pub fn close_group(
+    alloc: Global,
+    kind: &Kind,
+    outer: bool,
+    part: Part,
+    stack: &Vec<Frame>,
+) -> Result<Option<Now>, AllocError>
+    ensures { IfOk result (λ now. next_of now stack.now.items
+        ≡ machine.close_group 200 kind.now outer (part_of part) (stack_of stack.now.items)) }
+{
+    let Kind::CloseParenthesis = kind else {
+        return Ok(None);
+    };
+    let part = part.into_group(alloc)?;
+    Ok(Some(Now::Ready { bare: outer, part }))
 }
 
 /// Makes the nodes that the next token ends.
@@ -141,7 +155,7 @@ pub fn go_on(
         ≡ machine.go_on (role_of role) bare (part_of part) (stack_of stack.old.items)) }
 {
     match role {
-        Role::Infix(operator) => within(Frame::Binary(operator, part), bare, stack),
+        Role::Infix(operator) => descend(Frame::Binary(operator, part), bare, stack),
         Role::Ends => Ok(None),
     }
 }

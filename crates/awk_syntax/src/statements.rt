@@ -7,7 +7,7 @@ ghost use Rattle.awk_syntax.specs.Kept.{kept_exprs, kept_statement, kept_stateme
 ghost use Rattle.awk_syntax.specs.States.{next_of};
 
 use crate::build::{
-    always, begin_item, block, evaluate, one_more_item, one_more_statement, pattern, print, rule,
+    always, begin_item, block, one_more_item, one_more_statement, pattern, print, rule,
 };
 use crate::frame::{Frame, Head, Part};
 use crate::kept::{LowExprs, LowItem, LowStatement, LowStatements};
@@ -155,37 +155,6 @@ pub fn close_pattern(
         Kind::Semicolon | Kind::Newline => between(pattern(part.tree), stack),
         _ => Ok(None),
     }
-}
-
-/// The token behind an expression in parentheses.
-pub fn close_group(
-    alloc: Global,
-    kind: &Kind,
-    outer: bool,
-    part: Part,
-    stack: &Vec<Frame>,
-) -> Result<Option<Now>, AllocError>
-    ensures { IfOk result (λ now. next_of now stack.now.items
-        ≡ machine.close_group 200 kind.now outer (part_of part) (stack_of stack.now.items)) }
-{
-    let Kind::CloseParenthesis = kind else {
-        return Ok(None);
-    };
-    let part = part.into_group(alloc)?;
-    Ok(Some(Now::Ready { bare: outer, part }))
-}
-
-/// The token behind an expression that is a statement.
-pub fn close_statement(
-    alloc: Global,
-    kind: &Kind,
-    part: Part,
-    stack: &mut Vec<Frame>,
-) -> Result<Option<Now>, AllocError>
-    ensures { IfOk result (λ now. next_of now stack.new.items
-        ≡ machine.end_with 200 kind.now (machine.evaluated 200 (part_of part)) (stack_of stack.old.items)) }
-{
-    end_with(alloc, kind, evaluate(part.tree), stack)
 }
 
 /// The token behind the word `print`.
