@@ -8,7 +8,7 @@ use Rattle.awk_syntax.specs.Level.{Leveled, AllLeveled, StatementLeveled, Statem
 use Rattle.awk_syntax.specs.Spelling.{newlines, SpellsList, SpellsStatement, SpellsAll, Ended, BySemicolon, ByNewline, ByBrace, is_closed, SpellsItem, separators, SpellsProgram, Spells, IsProgram}
 use Rattle.awk_syntax.specs.Machine.{Head, OfBegin, OfAll, OfRule, push, add, item_of, short, no_statements, one_more_statement, one_more_item, Frame, InStatement, InBlock, InPattern, InAction, InProgram, Expect, Ready, Begins, Done, Opens, Between, evaluated, block, answer, read}
 use Rattle.awk_syntax.proofs.Limits.{low, pruned, pruned_statement, pruned_all, pruned_item, pruned_items, one_more_statement-pruned, one_more_item-pruned, evaluated-pruned, block-pruned, begin-pruned, always-pruned, short-pruned, rule-pruned}
-use Rattle.awk_syntax.proofs.Complete.{next, Stops, stops_end, assigns, level_most, complete, AtSemicolon, AtNewline, AtBrace, print_read, started, starts_so}
+use Rattle.awk_syntax.proofs.Complete.{stops_end, level_most, complete, AtSemicolon, AtNewline, AtBrace, print_read, started, starts_so}
 
 begin_newlines : (m n : ℕ) (k : List Frame) (ts : List Kind) → answer m (Begins k) (newlines n ts) ≡ answer m (Begins k) ts
 begin_newlines m zero k ts = refl

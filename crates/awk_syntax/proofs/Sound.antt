@@ -12,7 +12,7 @@ use Rattle.awk_syntax.specs.declared.tree.BinaryOperator.TheVariants as o
 use Rattle.awk_syntax.specs.Tree.{Expr, Number, String, Name, Group, Field, Unary, Binary, Assign, Exprs, Nil, Cons, Statement, Block, Evaluate, Print, Statements, NoMore, Then, Item, Begin, Always, Short, Rule}
 use Rattle.awk_syntax.specs.Level.{level_of, left, right, is_greater, level, is_assignable, Leveled, AllLeveled, StatementLeveled, StatementsLeveled, ItemLeveled, ProgramLeveled}
 use Rattle.awk_syntax.specs.Spelling.{newlines, operator_of, prefix_of, Joined, Spells, SpellsMore, SpellsList, Ended, BySemicolon, ByNewline, ByBrace, SpellsStatement, SpellsAll, is_closed, SpellsItem, separators, SpellsProgram, IsProgram}
-use Rattle.awk_syntax.specs.Machine.{Part, name, group, field, prefixed, joined, assigned, append, push, add, no_exprs, one_more, one_more_statement, one_more_item, evaluated, printed, block, Role, Infix, Ends, operate, role, Head, OfBegin, OfAll, OfRule, item_of, short, Frame, InGroup, InUnary, InBinary, InAssign, InStatement, InPrint, InBlock, InPattern, InAction, InProgram, hole, hole_of, keeps, fill, takes, Held, settle, State, Expect, Ready, Named, Selects, Prints, Begins, Done, Opens, Between, Failed, when, enter, select, between, close_block, begin, pass, end_with, close_print, close_pattern, close_group, close, go_on, follow, after, named, opens, prints, next_statement, item, step, items, whole, finish, answer, start, read}
+use Rattle.awk_syntax.specs.Machine.{Part, name, group, prefixed, joined, assigned, append, push, add, no_exprs, one_more, one_more_statement, one_more_item, evaluated, printed, block, Role, Infix, Ends, operate, role, Head, OfBegin, OfAll, OfRule, item_of, short, Frame, InGroup, InUnary, InBinary, InAssign, InStatement, InPrint, InBlock, InPattern, InAction, InProgram, hole, hole_of, keeps, fill, takes, Held, settle, State, Expect, Ready, Named, Selects, Prints, Begins, Done, Opens, Between, Failed, when, enter, select, between, close_block, begin, pass, end_with, close_print, close_pattern, close_group, close, go_on, follow, after, named, opens, prints, next_statement, item, step, items, whole, finish, answer, start, read}
 use Rattle.awk_syntax.proofs.Limits.{pruned, pruned_list, pruned_statement, pruned_all, pruned_item, pruned_items, group-pruned, field-pruned, prefixed-pruned, joined-pruned, assigned-pruned, one_more-pruned, one_more_statement-pruned, one_more_item-pruned, evaluated-pruned, printed-pruned, block-pruned, begin-pruned, always-pruned, short-pruned, rule-pruned}
 
 -- a list, and a comma with newlines behind it unless the list is empty
