@@ -1,7 +1,7 @@
 -- The bytes in front of a text that pass a test.
 use Rattle.std.proofs.Common.{◌≡◌, ℕ, suc, ◌+◌, ◌≤◌, Bool, true, false, cond, inl, inr, List, [], ◌∷◌, ◌++◌, length, take, drop, refl, sym, ap, ◌∙◌, arith}
 use Rattle.std.specs.List.{list_all, prefix_len, take_while}
-use Rattle.std.proofs.Math.Seq.{take-append_seam}
+use Rattle.std.proofs.Math.Seq.{take-append_seam, drop-append_seam}
 use Rattle.std.proofs.lemmas.Bool.{cases_Bool, and_parts, and_from}
 use Rattle.std.proofs.lemmas.List.{take-append-drop}
 use Rattle.std.proofs.lemmas.List.Folds.{length-prefix_len}
@@ -46,6 +46,11 @@ pub front_same : (p : ℕ → Bool) (w y : List ℕ) → length w ≡ length (ta
 front_same p w y h =
     let n : prefix_len p (w ++ y) ≡ length w = sym (h ∙ length-prefix_len p (w ++ y)) in
     ap (λ k. take k (w ++ y)) n ∙ take-append_seam w y
+
+pub front_rest : (p : ℕ → Bool) (w y : List ℕ) → length w ≡ length (take_while p (w ++ y)) → drop (prefix_len p (w ++ y)) (w ++ y) ≡ y
+front_rest p w y h =
+    let n : prefix_len p (w ++ y) ≡ length w = sym (h ∙ length-prefix_len p (w ++ y)) in
+    ap (λ k. drop k (w ++ y)) n ∙ drop-append_seam w y
 
 pub front_split : (p : ℕ → Bool) (bs : List ℕ) → bs ≡ take_while p bs ++ drop (prefix_len p bs) bs
 front_split p bs = sym (take-append-drop (prefix_len p bs) bs)

@@ -1,8 +1,11 @@
+pub mod EscapesLemmas
 pub mod Digits
 pub mod Fronts
+pub mod Bodies
 pub mod Tables
 pub mod Munch
 pub mod Gaps
 pub mod Read
 pub mod Unique
 pub mod Progress
+pub mod First

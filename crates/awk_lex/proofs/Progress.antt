@@ -1,11 +1,8 @@
 -- How far a text is read.
-use Rattle.std.proofs.Common.{◌≡◌, ℕ, zero, suc, ◌+◌, ◌-◌, ◌≤◌, ◌<◌, true, false, List, [], ◌∷◌, ◌++◌, length, take, drop, refl, sym, ap, ◌∙◌, subst, arith, drop-drop, length-drop, length-append}
-use Rattle.std.specs.Prelude.{slice_index, take_while}
-use Rattle.std.proofs.lemmas.List.{take_all}
-use Rattle.std.specs.Char.{is_ascii_digit}
-use Rattle.awk_lex.specs.Words.{is_letter, is_word_byte, behind}
+use Rattle.std.proofs.Common.{◌≡◌, ℕ, zero, suc, ◌+◌, ◌≤◌, ◌<◌, List, [], ◌∷◌, ◌++◌, length, drop, refl, sym, ap, ◌∙◌, subst, arith, drop-drop, length-drop, length-append}
+use Rattle.awk_lex.specs.Words.{behind}
 use Rattle.awk_lex.specs.Lexes.{Reads, Lexes, Breaks}
-use Rattle.awk_lex.specs.Steps.{gap_len, word_of, sign_at, token_step, gap_step, first_step, TakesOf}
+use Rattle.awk_lex.specs.Steps.{first_step}
 use Rattle.awk_lex.specs.Told.{Refuses}
 use Rattle.awk_lex.specs.declared.token.Kind.{Kind}
 use Rattle.awk_lex.specs.declared.refusal.Code.{Code}
@@ -13,11 +10,16 @@ use Rattle.awk_lex.specs.declared.refusal.Code.TheVariants.{UnexpectedByte, Open
 use Rattle.awk_lex.specs.declared.lexer.TheConstants.{LIMIT}
 use Rattle.awk_lex.specs.declared.scan.Step.{Step}
 use Rattle.awk_lex.specs.declared.scan.Step.TheVariants as step
-use Rattle.awk_lex.proofs.Fronts.{if_true, if_false}
 use Rattle.awk_lex.proofs.Munch.{spelled}
 use Rattle.awk_lex.proofs.Gaps.{part_of}
 use Rattle.awk_lex.proofs.Read.{token_is, gap_is, fault_is, reads_gap, reads_token}
 use Rattle.awk_lex.proofs.Unique.{no_break, one_break}
+
+-- a step takes a byte or more, and none behind the text
+abbrev TakesOf : ℕ → Step → Type 0
+TakesOf size (step.Gap n) = (1 ≤ n) × (n ≤ size)
+TakesOf size (step.Token k n) = (1 ≤ n) × (n ≤ size)
+TakesOf size (step.Fault c) = Unit {0}
 
 takes : (text : List ℕ) (s : Step) → first_step text ≡ s → TakesOf (length text) s
 takes text (step.Gap n) h =
@@ -30,13 +32,21 @@ takes text (step.Token k n) h =
     (s.some, omega (arith, s.len, ap length s.is, length-append s.word s.rest))
 takes text (step.Fault c) h = tt
 
-pub step_takes : (text : List ℕ) → TakesOf (length text) (first_step text)
-step_takes text = takes text (first_step text) refl
-
 -- the step that is answered for the text from a place on
-pub step_at : (text : List ℕ) (at : ℕ) (s : Step) → s ≡ first_step (take (length text - at) (drop at text)) → first_step (drop at text) ≡ s
-step_at text at s h =
-    sym (h ∙ ap first_step (take_all (length text - at) (drop at text) (omega (arith, length-drop at text))))
+pub step_at : (shared text : List ℕ) (at : ℕ) (found s : Step) → shared ≡ text → found ≡ first_step (drop at shared) → found ≡ s
+    → first_step (drop at text) ≡ s
+step_at shared text at found s same is_first is = ap (λ x. first_step (drop at x)) (sym same) ∙ sym is_first ∙ is
+
+pub gap_takes : (text : List ℕ) (at n : ℕ) → at < length text → first_step (drop at text) ≡ step.Gap n → (1 ≤ n) × (at + n ≤ length text)
+gap_takes text at n inside h =
+    let t = takes (drop at text) (step.Gap n) h in
+    (t.0, omega (arith, t.1, length-drop at text))
+
+pub token_takes : (text : List ℕ) (at : ℕ) (k : Kind) (n : ℕ) → at < length text → first_step (drop at text) ≡ step.Token k n
+    → (1 ≤ n) × (at + n ≤ length text)
+token_takes text at k n inside h =
+    let t = takes (drop at text) (step.Token k n) h in
+    (t.0, omega (arith, t.1, length-drop at text))
 
 pub after_gap : (ts : List Kind) (text : List ℕ) (at n : ℕ) → Reads ts text (drop at text) → first_step (drop at text) ≡ step.Gap n
     → Reads ts text (drop (at + n) text)
@@ -59,6 +69,8 @@ not_at_end text at inside e = omega (arith, length-drop at text, ap length e)
 
 refuses : (c : Code) (text : List ℕ) → length text ≤ LIMIT → (b : Breaks c text) → Refuses c text
 refuses UnexpectedByte text short b = (short, b)
+refuses OpenString text short b = (short, b)
+refuses EscapeRefused text short b = (short, b)
 refuses NumberRefused text short b = (short, b)
 refuses _ text short b = absurd b.fault
 
@@ -82,32 +94,6 @@ at_end (x ∷ xs) (suc n) h = at_end xs n (omega arith)
 
 pub all_read : (ts : List Kind) (text : List ℕ) (at : ℕ) → length text ≤ at → Reads ts text (drop at text) → Lexes ts text
 all_read ts text at h r = subst (Reads ts text) (at_end text at h) r
-
--- what the scanner answers by the first byte
-pub gap_takes : (text : List ℕ) (n : ℕ) → n ≡ gap_len text → 0 < n → (1 ≤ n) × (n ≤ length text)
-gap_takes text n e some = by_len (gap_len text) refl
-  where
-    by_len : (m : ℕ) → gap_len text ≡ m → (1 ≤ n) × (n ≤ length text)
-    by_len zero g = absurd (omega (arith, g))
-    by_len (suc m) g =
-        let is : step.Gap (suc m) ≡ first_step text = sym (ap (gap_step text) g) in
-        let t = subst (TakesOf (length text)) (sym is) (step_takes text) in
-        (omega arith, omega (arith, t.1, g))
-
-pub word_takes : (text : List ℕ) (s : Step) → gap_len text ≡ 0 → is_letter (slice_index text 0) ≡ true
-    → s ≡ token_step text (word_of (take_while is_word_byte text)) → TakesOf (length text) s
-word_takes text s g letter e =
-    let is : s ≡ first_step text =
-    e ∙ ap (token_step text) (sym (if_true (is_letter (slice_index text 0)) _ _ letter)) ∙ sym (ap (gap_step text) g) in
-    subst (TakesOf (length text)) (sym is) (step_takes text)
-
-pub sign_takes : (text : List ℕ) (s : Step) → gap_len text ≡ 0 → is_letter (slice_index text 0) ≡ false → is_ascii_digit (slice_index text 0) ≡ false
-    → s ≡ token_step text (sign_at text) → TakesOf (length text) s
-sign_takes text s g letter digit e =
-    let is : s ≡ first_step text =
-    e ∙ ap (token_step text) (sym (if_false (is_letter (slice_index text 0)) _ _ letter ∙ if_false (is_ascii_digit (slice_index text 0)) _ _ digit))
-    ∙ sym (ap (gap_step text) g) in
-    subst (TakesOf (length text)) (sym is) (step_takes text)
 
 -- a text that is not too long breaks where it is refused
 breaks : (c : Code) (text : List ℕ) → length text ≤ LIMIT → Refuses c text → Breaks c text

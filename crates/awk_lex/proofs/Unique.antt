@@ -1,19 +1,21 @@
 -- A text is read in one way.
-use Rattle.std.proofs.Common.{◌≡◌, ℕ, zero, suc, ◌≤◌, true, List, [], ◌∷◌, length, drop, Option, Some, None, refl, sym, ap, ◌∙◌, subst, arith, length-drop, length-append}
-use Rattle.std.proofs.Math.Seq.{drop-append_seam}
+use Rattle.std.proofs.Common.{◌≡◌, ℕ, zero, suc, ◌≤◌, true, List, [], ◌∷◌, ◌++◌, length, take, drop, None, Result, Ok, Err, refl, sym, ap, ◌∙◌, subst, arith, length-drop, length-append}
+use Rattle.std.proofs.Math.Seq.{take-append_seam, drop-append_seam}
+use Rattle.awk_lex.specs.Escapes.{unescaped}
 use Rattle.awk_lex.specs.Words.{is_allowed, behind}
-use Rattle.awk_lex.specs.Lexes.{Stands, Reads, Lexes, BeginsNothing, IsBadNumber, Fault, Breaks}
-use Rattle.awk_lex.specs.Steps.{Found, gap_len, token_at, token_step, gap_step, first_step}
+use Rattle.awk_lex.specs.Lexes.{Stands, Reads, Lexes, BeginsNothing, IsOpenString, IsBadString, IsBadNumber, Fault, Breaks}
+use Rattle.awk_lex.specs.Steps.{Found, gap_len, closed_string, string_of, token_at, token_step, gap_step, first_step}
 use Rattle.awk_lex.specs.declared.token.Kind.{Kind}
 use Rattle.awk_lex.specs.declared.token.Kind.TheVariants.{Number, Unbuilt}
 use Rattle.awk_lex.specs.declared.refusal.Code.{Code}
-use Rattle.awk_lex.specs.declared.refusal.Code.TheVariants.{UnexpectedByte, NumberRefused}
+use Rattle.awk_lex.specs.declared.refusal.Code.TheVariants.{UnexpectedByte, OpenString, EscapeRefused, NumberRefused}
 use Rattle.awk_lex.specs.declared.scan.Step.{Step}
 use Rattle.awk_lex.specs.declared.scan.Step.TheVariants as step
 use Rattle.awk_lex.proofs.Fronts.{if_true, if_false}
+use Rattle.awk_lex.proofs.Bodies.{closed_len, open_len}
 use Rattle.awk_lex.proofs.Munch.{spelled, is_found}
 use Rattle.awk_lex.proofs.Gaps.{part_of, no_skip, skip_less}
-use Rattle.awk_lex.proofs.Read.{token_is, gap_is, token_gap, step_without_gap}
+use Rattle.awk_lex.proofs.Read.{token_is, gap_is, token_gap, step_without_gap, unexpected_only}
 
 -- no step leads on from here: a fault, or the end
 pub record IsStuck (text : List ℕ) : Type 0 where
@@ -52,9 +54,9 @@ unexpected_found text b = step_without_gap text (by_gap (gap_len text) refl) ∙
         let empty = ap length (b.no_gap p.gap (drop (suc n) text) p.is p.is_gap) in
         absurd (omega (arith, p.len, empty))
 
-    by_token : (o : Option Found) → token_at text ≡ o → token_step text (token_at text) ≡ step.Fault UnexpectedByte
-    by_token None e = ap (token_step text) e
-    by_token (Some f) e = let s = spelled text f e in absurd (b.no_token f.kind s.word s.rest s.is s.writes)
+    by_token : (o : Result Found Code) → token_at text ≡ o → token_step text (token_at text) ≡ step.Fault UnexpectedByte
+    by_token (Err c) e = ap (token_step text) (e ∙ ap (λ x. Err x) (sym (unexpected_only text c b.no_string e)))
+    by_token (Ok f) e = let s = spelled text f e in absurd (b.no_token f.kind s.word s.rest s.is s.writes)
 
 number_found : (text : List ℕ) → IsBadNumber text → first_step text ≡ step.Fault NumberRefused
 number_found text b =
@@ -63,8 +65,23 @@ number_found text b =
     step_without_gap text (token_gap text _ f) ∙ ap (token_step text) f
     ∙ if_false (is_allowed t (drop (length b.stands.word) text)) _ _ (ap (is_allowed t) (after_is t text b.after b.stands) ∙ b.refused)
 
+open_found : (text : List ℕ) → IsOpenString text → first_step text ≡ step.Fault OpenString
+open_found text s =
+    let token : token_at text ≡ Err OpenString = ap token_at s.is ∙ ap (string_of (s.body ++ s.rest)) (open_len s.body s.rest s.is_body s.breaks_off) in
+    step_without_gap text (ap gap_len s.is) ∙ ap (token_step text) token
+
+escape_found : (text : List ℕ) → IsBadString text → first_step text ≡ step.Fault EscapeRefused
+escape_found text s =
+    let behind = s.body ++ 34 ∷ s.rest in
+    let value : unescaped (take (length s.body) behind) ≡ None = ap unescaped (take-append_seam s.body (34 ∷ s.rest)) ∙ s.refused in
+    let token : token_at text ≡ Err EscapeRefused =
+    ap token_at s.is ∙ ap (string_of behind) (closed_len s.body s.rest s.is_body) ∙ ap (closed_string (length s.body)) value in
+    step_without_gap text (ap gap_len s.is) ∙ ap (token_step text) token
+
 pub fault_found : (text : List ℕ) (c : Code) → Fault c text → first_step text ≡ step.Fault c
 fault_found text UnexpectedByte f = unexpected_found text f
+fault_found text OpenString f = open_found text f
+fault_found text EscapeRefused f = escape_found text f
 fault_found text NumberRefused f = number_found text f
 fault_found text _ f = absurd f
 
@@ -149,6 +166,8 @@ fault_is_stuck c text f = record { code = c; is = fault_found text c f }
 
 no_fault_at_end : (c : Code) → Fault c [] → ⊥
 no_fault_at_end UnexpectedByte f = f.some refl
+no_fault_at_end OpenString f = let no = f.is in cc
+no_fault_at_end EscapeRefused f = let no = f.is in cc
 no_fault_at_end NumberRefused f =
     let some = (spelled [] _ (is_found (Number f.value) [] f.after f.stands)).some in
     let n = ap length f.stands.is in

@@ -1,11 +1,12 @@
 -- What a program text is as tokens, and where it breaks (POSIX awk, Lexical Conventions).
-use Rattle.std.specs.Prelude.{◌≡◌, ◌≢◌, ℕ, Bool, true, false, not, ◌||◌, ◌==◌, List, [], ◌∷◌, ◌++◌, ℤ}
+use Rattle.std.specs.Prelude.{◌≡◌, ◌≢◌, ℕ, Bool, true, false, not, ◌||◌, ◌==◌, List, [], ◌∷◌, ◌++◌, ℤ, None, ◌⊎◌}
 use Rattle.std.specs.List.{list_all}
-use Rattle.awk_lex.specs.Words.{Writes, Longest, is_allowed, behind}
+use Rattle.awk_lex.specs.Escapes.{unescaped}
+use Rattle.awk_lex.specs.Words.{Body, Writes, Longest, suits, is_allowed, behind}
 use Rattle.awk_lex.specs.declared.token.Kind.{Kind}
 use Rattle.awk_lex.specs.declared.token.Kind.TheVariants.{Number}
 use Rattle.awk_lex.specs.declared.refusal.Code.{Code}
-use Rattle.awk_lex.specs.declared.refusal.Code.TheVariants.{UnexpectedByte, NumberRefused}
+use Rattle.awk_lex.specs.declared.refusal.Code.TheVariants.{UnexpectedByte, OpenString, EscapeRefused, NumberRefused}
 
 -- a space or a tab
 abbrev pub is_blank : ℕ → Bool
@@ -33,12 +34,13 @@ pub record Skips (text rest : List ℕ) : Type 0 where
   pub is : text ≡ gap ++ rest
   pub is_gap : Gap rest gap
 
--- the token stands in front of the rest: the longest spelling at its place
+-- the token stands in front of the rest: the longest spelling at its place, and what stands behind suits it
 pub record Stands (t : Kind) (text rest : List ℕ) : Type 0 where
   pub word : List ℕ
   pub is : text ≡ word ++ rest
   pub writes : Writes t word
   pub longest : Longest word rest
+  pub suited : suits t rest ≡ true
 
 -- The text up to the rest is gaps and tokens in turn, each token the longest spelling at its place. What a
 -- spelling takes from the token before it, as a slash takes whether it divides, can be one argument more of
@@ -53,11 +55,32 @@ Reads (t ∷ ts) text rest =
 abbrev pub Lexes : List Kind → List ℕ → Type 0
 Lexes ts text = Reads ts text []
 
--- no gap and no token begins here
+-- no gap, no token and no string begins here
 pub record BeginsNothing (text : List ℕ) : Type 0 where
   pub some : text ≢ []
   pub no_gap : (gap rest : List ℕ) → text ≡ gap ++ rest → Gap rest gap → gap ≡ []
   pub no_token : (t : Kind) (word rest : List ℕ) → text ≡ word ++ rest → Writes t word → ⊥
+  pub no_string : (rest : List ℕ) → text ≡ 34 ∷ rest → ⊥
+
+-- the line ends in front, or directly behind a backslash
+abbrev pub BreaksOff : List ℕ → Type 0
+BreaksOff rest = EndsLine rest ⊎ ((end : List ℕ) × (rest ≡ 92 ∷ end) × EndsLine end)
+
+-- a string begins here that its line or the text ends
+pub record IsOpenString (text : List ℕ) : Type 0 where
+  pub body : List ℕ
+  pub rest : List ℕ
+  pub is : text ≡ 34 ∷ (body ++ rest)
+  pub is_body : Body body
+  pub breaks_off : BreaksOff rest
+
+-- a string stands here whose escapes stand for no bytes
+pub record IsBadString (text : List ℕ) : Type 0 where
+  pub body : List ℕ
+  pub rest : List ℕ
+  pub is : text ≡ 34 ∷ (body ++ 34 ∷ rest)
+  pub is_body : Body body
+  pub refused : unescaped body ≡ None
 
 -- a number stands here that is too large or that goes on with a letter, an underscore or a point
 pub record IsBadNumber (text : List ℕ) : Type 0 where
@@ -69,6 +92,8 @@ pub record IsBadNumber (text : List ℕ) : Type 0 where
 -- the fault at a place
 abbrev pub Fault : Code → List ℕ → Type 0
 Fault UnexpectedByte text = BeginsNothing text
+Fault OpenString text = IsOpenString text
+Fault EscapeRefused text = IsBadString text
 Fault NumberRefused text = IsBadNumber text
 Fault _ text = ⊥
 

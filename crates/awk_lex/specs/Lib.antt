@@ -1,4 +1,5 @@
 pub mod Refused
+pub mod Escapes
 pub mod Words
 pub mod Lexes
 pub mod Steps

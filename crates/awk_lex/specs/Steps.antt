@@ -1,13 +1,16 @@
 -- What stands at the front of a text, as the scanner finds it.
-use Rattle.std.specs.Prelude.{ℕ, ◌≤◌, zero, suc, ◌==◌, if◌then◌else◌, List, [], ◌∷◌, length, drop, pos, Option, Some, None, take_while, unwrap_or, slice_index}
+use Rattle.std.specs.Prelude.{ℕ, zero, suc, ◌+◌, Bool, false, not, ◌&&◌, ◌==◌, if◌then◌else◌, List, [], ◌∷◌, length, take, drop, pos, Option, Some, None, Result, Ok, Err, take_while, slice_index}
 use Rattle.std.specs.List.{prefix_len}
 use Rattle.std.specs.Char.{is_ascii_digit}
 use Rattle.std.specs.Str.Parse.{digits_value}
-use Rattle.awk_lex.specs.Words.{is_letter, is_word_byte, keywords, signs, kind_in, is_allowed}
+use Rattle.std.specs.Option.{option_map}
+use Rattle.awk_lex.specs.Escapes.{unescaped}
+use Rattle.awk_lex.specs.Words.{is_letter, is_word_byte, is_reserved, word_kind, signs, kind_in, opens, is_allowed}
 use Rattle.awk_lex.specs.Lexes.{is_blank, is_no_newline}
 use Rattle.awk_lex.specs.declared.token.Kind.{Kind}
-use Rattle.awk_lex.specs.declared.token.Kind.TheVariants.{Number, Unbuilt}
-use Rattle.awk_lex.specs.declared.refusal.Code.TheVariants.{UnexpectedByte, NumberRefused}
+use Rattle.awk_lex.specs.declared.token.Kind.TheVariants.{Number, String, Name, Called}
+use Rattle.awk_lex.specs.declared.refusal.Code.{Code}
+use Rattle.awk_lex.specs.declared.refusal.Code.TheVariants.{UnexpectedByte, OpenString, EscapeRefused, NumberRefused}
 use Rattle.awk_lex.specs.declared.scan.Step.{Step}
 use Rattle.awk_lex.specs.declared.scan.Step.TheVariants.{Gap, Token, Fault}
 
@@ -24,41 +27,64 @@ gap_len (b ∷ bs) =
     else (if b == 92 then hidden_len bs
     else (if b == 35 then prefix_len is_no_newline (b ∷ bs) else 0))
 
+-- how many bytes stand before the quote that closes a string, by whether a backslash stands directly before them
+abbrev pub body_len : Bool → List ℕ → Option ℕ
+body_len behind [] = None
+body_len behind (b ∷ bs) =
+    if b == 10 then None
+    else (if b == 34 && not behind then Some 0 else option_map suc (body_len (b == 92 && not behind) bs))
+
 pub record Found : Type 0 where
   pub kind : Kind
   pub len : ℕ
 
-abbrev pub found : Kind → ℕ → Option Found
-found k n = Some (record { kind = k; len = n })
+abbrev pub found : Kind → ℕ → Result Found Code
+found k n = Ok (record { kind = k; len = n })
 
-abbrev pub number_of : List ℕ → Option Found
+abbrev pub number_of : List ℕ → Result Found Code
 number_of w = found (Number (pos (digits_value 10 w))) (length w)
 
-abbrev pub word_of : List ℕ → Option Found
-word_of w = found (unwrap_or (kind_in keywords w) Unbuilt) (length w)
+abbrev pub named : List ℕ → List ℕ → Kind
+named w rest = if opens rest then Called w else Name w
 
-abbrev pub short_sign : Option Kind → Option Found
-short_sign None = None
+abbrev pub kind_of : List ℕ → List ℕ → Kind
+kind_of w rest = if is_reserved w then word_kind w else named w rest
+
+abbrev pub word_of : List ℕ → List ℕ → Result Found Code
+word_of w rest = found (kind_of w rest) (length w)
+
+abbrev pub closed_string : ℕ → Option (List ℕ) → Result Found Code
+closed_string len None = Err EscapeRefused
+closed_string len (Some bytes) = found (String bytes) (len + 2)
+
+-- the string whose body begins here
+abbrev pub string_of : List ℕ → Option ℕ → Result Found Code
+string_of text None = Err OpenString
+string_of text (Some len) = closed_string len (unescaped (take len text))
+
+abbrev pub short_sign : Option Kind → Result Found Code
+short_sign None = Err UnexpectedByte
 short_sign (Some k) = found k 1
 
-abbrev pub long_sign : Option Kind → Option Kind → Option Found
+abbrev pub long_sign : Option Kind → Option Kind → Result Found Code
 long_sign None short = short_sign short
 long_sign (Some k) short = found k 2
 
-abbrev pub sign_at : List ℕ → Option Found
-sign_at [] = None
+abbrev pub sign_at : List ℕ → Result Found Code
+sign_at [] = Err UnexpectedByte
 sign_at (a ∷ []) = short_sign (kind_in signs (a ∷ []))
 sign_at (a ∷ b ∷ bs) = long_sign (kind_in signs (a ∷ b ∷ [])) (kind_in signs (a ∷ []))
 
--- the longest spelling in front, and its kind
-abbrev pub token_at : List ℕ → Option Found
+-- the longest spelling in front and its kind, or why there is none
+abbrev pub token_at : List ℕ → Result Found Code
 token_at text =
-    if is_letter (slice_index text 0) then word_of (take_while is_word_byte text)
-    else (if is_ascii_digit (slice_index text 0) then number_of (take_while is_ascii_digit text) else sign_at text)
+    if is_letter (slice_index text 0) then word_of (take_while is_word_byte text) (drop (prefix_len is_word_byte text) text)
+    else (if is_ascii_digit (slice_index text 0) then number_of (take_while is_ascii_digit text)
+    else (if slice_index text 0 == 34 then string_of (drop 1 text) (body_len false (drop 1 text)) else sign_at text))
 
-abbrev pub token_step : List ℕ → Option Found → Step
-token_step text None = Fault UnexpectedByte
-token_step text (Some f) = if is_allowed f.kind (drop f.len text) then Token f.kind f.len else Fault NumberRefused
+abbrev pub token_step : List ℕ → Result Found Code → Step
+token_step text (Err code) = Fault code
+token_step text (Ok f) = if is_allowed f.kind (drop f.len text) then Token f.kind f.len else Fault NumberRefused
 
 abbrev pub gap_step : List ℕ → ℕ → Step
 gap_step text zero = token_step text (token_at text)
@@ -66,9 +92,3 @@ gap_step text (suc n) = Gap (suc n)
 
 abbrev pub first_step : List ℕ → Step
 first_step text = gap_step text (gap_len text)
-
--- a step takes a byte or more, and none behind the text
-abbrev pub TakesOf : ℕ → Step → Type 0
-TakesOf size (Gap n) = (1 ≤ n) × (n ≤ size)
-TakesOf size (Token k n) = (1 ≤ n) × (n ≤ size)
-TakesOf size (Fault c) = Unit {0}

@@ -9,6 +9,7 @@ ghost use Rattle.awk_lex.specs.Told.{kinds_of, GivesOnly, Refuses, RefusesOnly};
 use crate::refusal::{Code, Refusal};
 use crate::scan::{Step, first_step};
 use crate::token::{Kind, Token};
+use awk_value::Bytes;
 use std::alloc::Global;
 
 /// The most bytes of a program text.
@@ -52,11 +53,12 @@ pub fn tokens(alloc: Global, text: &[u8]) -> Result<Vec<Token>, Refusal>
             line: 1,
         });
     }
+    let shared = Bytes::from_slice(alloc, text)?;
     let mut tokens = Vec::new(alloc);
     let mut at = 0;
     let mut line = 1;
     while at < text.len() {
-        match first_step(&text[at..]) {
+        match first_step(alloc, &shared, at)? {
             Step::Gap(len) => {
                 line += u64::from(text[at] == b'\\');
                 at += len;

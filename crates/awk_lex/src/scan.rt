@@ -1,15 +1,19 @@
 // What stands at the front of a text.
 
-ghost use Rattle.std.specs.Prelude.{◌≡◌, ◌<◌, ◌≤◌, ◌^◌, true, ◌∷◌, [], length, pos, take_while, slice_index, MatchOption, unwrap_or};
+ghost use Rattle.std.specs.Prelude.{◌≡◌, ◌+◌, ◌<◌, ◌≤◌, ◌^◌, true, false, ◌∷◌, [], length, pos, take, drop, take_while, slice_index, MatchOption, IfOk};
 ghost use Rattle.std.specs.List.{list_all, prefix_len};
 ghost use Rattle.std.specs.Char.{is_ascii_digit};
 ghost use Rattle.std.specs.Str.Parse.{digits_value};
-ghost use Rattle.awk_lex.specs.Words.{is_letter, is_word_byte, goes_on, keywords, signs, kind_in};
+ghost use Rattle.awk_lex.specs.Words.{is_word_byte, goes_on, opens, signs, kind_in};
 ghost use Rattle.awk_lex.specs.Lexes.{is_no_newline};
-ghost use Rattle.awk_lex.specs.Steps.{gap_len, word_of, number_of, sign_at, token_step, first_step, TakesOf};
+ghost use Rattle.awk_lex.specs.Steps.{gap_len, body_len, word_of, number_of, string_of, sign_at, named, token_step, first_step};
 
 use crate::refusal::Code;
+use crate::strings::{body_len, string_value};
 use crate::token::{Kind, Operator};
+use crate::words::{is_letter, is_word_byte, reserved_kind};
+use awk_value::Bytes;
+use std::alloc::{AllocError, Global};
 
 /// The largest number that may be followed by one more digit.
 const TENTH: u128 = 17_014_118_346_046_923_173_168_730_371_588_410_572;
@@ -23,20 +27,18 @@ pub enum Step {
     Fault(Code),
 }
 
-fn is_letter(byte: u8) -> bool
-    ensures { result ≡ is_letter byte }
+/// The text from a place on.
+fn rest(text: &Bytes, at: usize) -> &[u8]
+    requires { at ≤ length text.now }
+    ensures is { result.now ≡ drop at text.now }
+    ensures fits { at + length result.now < 2 ^ 64 }
 {
-    byte.is_ascii_alphabetic() || byte == b'_'
-}
-
-fn is_word_byte(byte: u8) -> bool
-    ensures { result ≡ is_word_byte byte }
-{
-    is_letter(byte) || byte.is_ascii_digit()
+    &text.as_slice()[at..]
 }
 
 fn word_len(text: &[u8]) -> usize
-    ensures { result ≡ prefix_len is_word_byte text.now }
+    ensures is { result ≡ prefix_len is_word_byte text.now }
+    ensures within { result ≤ length text.now }
 {
     text.iter().take_while(|byte| is_word_byte(**byte)).count()
 }
@@ -65,21 +67,28 @@ fn gap_len(text: &[u8]) -> usize
     }
 }
 
-/// The kind of a word.
-fn word_kind(word: &[u8]) -> Kind
-    ensures { result ≡ unwrap_or (kind_in keywords word.now) Kind.Unbuilt }
+/// What a name is, by what stands directly behind it.
+fn named(name: Bytes, behind: &[u8]) -> Kind
+    ensures { result ≡ named name behind.now }
 {
-    match word {
-        b"print" => Kind::Print,
-        _ => Kind::Unbuilt,
+    match behind {
+        [b'(', ..] => Kind::Called(name),
+        _ => Kind::Name(name),
     }
 }
 
-fn word_step(text: &[u8]) -> Step
-    ensures { result ≡ token_step text.now (word_of (take_while is_word_byte text.now)) }
+fn word_step(text: &Bytes, at: usize) -> Result<Step, AllocError>
+    requires { at ≤ length text.now }
+    ensures { IfOk result (λ step. let rest = drop at text.now in
+        step ≡ token_step rest (word_of (take_while is_word_byte rest) (drop (prefix_len is_word_byte rest) rest))) }
 {
-    let len = word_len(text);
-    Step::Token(word_kind(&text[..len]), len)
+    let rest = rest(text, at);
+    let len = word_len(rest);
+    if let Some(kind) = reserved_kind(&rest[..len]) {
+        return Ok(Step::Token(kind, len));
+    }
+    let name = text.cut(at, at + len)?;
+    Ok(Step::Token(named(name, &rest[len..]), len))
 }
 
 /// The number that digits spell, where it is at most 2^127 - 1.
@@ -116,6 +125,22 @@ fn number_step(text: &[u8]) -> Step
     }
 }
 
+/// The string whose first quote stands at a place.
+fn string_step(alloc: Global, text: &Bytes, at: usize) -> Result<Step, AllocError>
+    requires { at < length text.now }
+    ensures { IfOk result (λ step. let rest = drop at text.now in
+        step ≡ token_step rest (string_of (drop 1 rest) (body_len false (drop 1 rest)))) }
+{
+    let Some(len) = body_len(&rest(text, at)[1..]) else {
+        return Ok(Step::Fault(Code::OpenString));
+    };
+    let start = at + 1;
+    match string_value(alloc, text.cut(start, start + len)?)? {
+        Some(bytes) => Ok(Step::Token(Kind::String(bytes), len + 2)),
+        None => Ok(Step::Fault(Code::EscapeRefused)),
+    }
+}
+
 /// The token that one byte spells.
 fn short_sign(byte: u8) -> Option<Kind>
     ensures { result ≡ kind_in signs (byte ∷ []) }
@@ -124,14 +149,20 @@ fn short_sign(byte: u8) -> Option<Kind>
         b'\n' => Some(Kind::Newline),
         b'{' => Some(Kind::OpenBrace),
         b'}' => Some(Kind::CloseBrace),
+        b'(' => Some(Kind::OpenParenthesis),
+        b')' => Some(Kind::CloseParenthesis),
         b',' => Some(Kind::Comma),
         b';' => Some(Kind::Semicolon),
         b'$' => Some(Kind::Dollar),
+        b'!' => Some(Kind::Not),
+        b'=' => Some(Kind::Assign),
         b'*' => Some(Kind::Operator(Operator::Times)),
+        b'%' => Some(Kind::Operator(Operator::Remainder)),
+        b'+' => Some(Kind::Operator(Operator::Plus)),
+        b'-' => Some(Kind::Operator(Operator::Minus)),
         b'<' => Some(Kind::Operator(Operator::Less)),
         b'>' => Some(Kind::Operator(Operator::Greater)),
-        b'(' | b')' | b'[' | b']' | b'"' | b'/' | b'+' | b'-' | b'%' | b'^' => Some(Kind::Unbuilt),
-        b'!' | b'~' | b'=' | b'|' | b'?' | b':' => Some(Kind::Unbuilt),
+        b'[' | b']' | b'/' | b'^' | b'~' | b'|' | b'?' | b':' => Some(Kind::Unbuilt),
         _ => None,
     }
 }
@@ -170,20 +201,23 @@ fn sign_step(text: &[u8]) -> Step
     Step::Fault(Code::UnexpectedByte)
 }
 
-/// What stands at the front of a text that isn't empty.
-pub fn first_step(text: &[u8]) -> Step
-    requires { 0 < length text.now }
-    ensures step { result ≡ first_step text.now }
-    ensures takes { TakesOf (length text.now) result }
+/// What stands at a place in a text, which isn't its end.
+pub fn first_step(alloc: Global, text: &Bytes, at: usize) -> Result<Step, AllocError>
+    requires { at < length text.now }
+    ensures { IfOk result (λ step. step ≡ first_step (drop at text.now)) }
 {
-    let gap = gap_len(text);
+    let rest = rest(text, at);
+    let gap = gap_len(rest);
     if gap > 0 {
-        Step::Gap(gap)
-    } else if is_letter(text[0]) {
-        word_step(text)
-    } else if text[0].is_ascii_digit() {
-        number_step(text)
+        return Ok(Step::Gap(gap));
+    }
+    if is_letter(rest[0]) {
+        word_step(text, at)
+    } else if rest[0].is_ascii_digit() {
+        Ok(number_step(rest))
+    } else if rest[0] == b'"' {
+        string_step(alloc, text, at)
     } else {
-        sign_step(text)
+        Ok(sign_step(rest))
     }
 }
