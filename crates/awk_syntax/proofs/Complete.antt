@@ -1,15 +1,18 @@
 -- A leveled expression that is spelled is the one that is read.
 use Rattle.std.proofs.Common.{◌≡◌, ℕ, zero, suc, ◌≤◌, ◌<◌, Bool, true, false, ◌&&◌, ◌||◌, List, [], ◌∷◌, Option, refl, sym, ap, ◌∙◌, subst, arith}
 use Rattle.std.proofs.lemmas.Bool.{and_from, le-leb, lt-leb, and_right}
+use Rattle.awk_lex.specs.declared.token.Operator.TheVariants as s
 use Rattle.awk_lex.specs.declared.token.Kind.{Kind}
 use Rattle.awk_lex.specs.declared.token.Kind.TheVariants as t
+use Rattle.awk_syntax.specs.declared.tree.UnaryOperator.{UnaryOperator}
+use Rattle.awk_syntax.specs.declared.tree.UnaryOperator.TheVariants as p
 use Rattle.awk_syntax.specs.declared.tree.BinaryOperator.{BinaryOperator}
 use Rattle.awk_syntax.specs.declared.tree.BinaryOperator.TheVariants as o
-use Rattle.awk_syntax.specs.Tree.{Expr, Number, Field, Binary, Exprs, Nil, Cons, Print}
-use Rattle.awk_syntax.specs.Level.{level_of, left, right, is_greater, level, Leveled, AllLeveled}
-use Rattle.awk_syntax.specs.Spelling.{newlines, operator_of, Joined, Spells, SpellsList}
-use Rattle.awk_syntax.specs.Machine.{Part, append, no_exprs, one_more, printed, Role, Infix, Ends, role, Frame, InField, InBinary, InPrint, hole, hole_of, keeps, fill, takes, settle, Expect, Ready, Prints, end_with, go_on, follow, step, answer}
-use Rattle.awk_syntax.proofs.Limits.{test_true, test_false, pruned, pruned_list, pruned_statement, field-pruned, joined-pruned, one_more-pruned, printed-pruned}
+use Rattle.awk_syntax.specs.Tree.{Expr, Number, String, Name, Group, Field, Unary, Binary, Assign, Exprs, Nil, Cons, Print}
+use Rattle.awk_syntax.specs.Level.{level_of, left, right, is_greater, level, is_assignable, Leveled, AllLeveled}
+use Rattle.awk_syntax.specs.Spelling.{newlines, operator_of, prefix_of, Joined, Spells, SpellsList}
+use Rattle.awk_syntax.specs.Machine.{Part, name, append, no_exprs, one_more, printed, Role, Infix, Ends, role, Frame, InGroup, InUnary, InBinary, InAssign, InPrint, hole, hole_of, keeps, fill, takes, settle, when, Expect, Ready, Named, Selects, Prints, end_with, go_on, follow, step, whole, answer}
+use Rattle.awk_syntax.proofs.Limits.{test_true, test_false, pruned, pruned_list, pruned_statement, group-pruned, field-pruned, prefixed-pruned, joined-pruned, assigned-pruned, one_more-pruned, printed-pruned}
 
 -- what the next token does
 abbrev pub next : Bool → List Kind → Role
@@ -19,8 +22,19 @@ next g (y ∷ ts) = role g y
 -- no node at the right edge goes on with what follows
 abbrev pub Stops : ℕ → Role → Expr → Type 0
 Stops m r (Number n) = Unit {0}
-Stops m r (Field e) = (takes r (pruned m e) 2 ≡ false) × Stops m r e
+Stops m r (String bytes) = Unit {0}
+Stops m r (Name x) = Unit {0}
+Stops m r (Group e) = Unit {0}
+Stops m r (Field e) = Unit {0}
+Stops m r (Unary o e) = (takes r (pruned m e) 5 ≡ false) × Stops m r e
 Stops m r (Binary o a b) = (takes r (pruned m b) (right o) ≡ false) × Stops m r b
+Stops m r (Assign x e) = (takes r (pruned m e) 16 ≡ false) × Stops m r e
+
+-- `=` follows: a name may be assigned then
+abbrev pub assigns : List Kind → Bool
+assigns [] = false
+assigns (t.Assign ∷ ts) = true
+assigns (y ∷ ts) = false
 
 -- what is known of the table
 record Plain (o : BinaryOperator) : Type 0 where
@@ -37,29 +51,25 @@ pub bounds : (o : BinaryOperator) → (6 ≤ level_of o) × (left o ≤ level_of
 bounds o = let p = plain o in (p.level_least, p.left_most, p.level_most, p.right_most)
 
 pub level_most : (e : Expr) → level e ≤ 16
-level_most (Number n) = omega arith
-level_most (Field e) = omega arith
 level_most (Binary o a b) = omega (arith, bounds o)
+level_most e = omega arith
 
 pub stops_end : (m : ℕ) (e : Expr) → Stops m Ends e
-stops_end m (Number n) = tt
-stops_end m (Field e) = (refl, stops_end m e)
+stops_end m (Unary o e) = (refl, stops_end m e)
 stops_end m (Binary o a b) = (refl, stops_end m b)
+stops_end m (Assign x e) = (refl, stops_end m e)
+stops_end m e = tt
 
 takes_not : (o : BinaryOperator) (e : Part) (h : ℕ) → h < level_of o → takes (Infix o) e h ≡ false
 takes_not o e h l = and_right _ _ (lt-leb (level_of o) h l)
 
 -- an operator that takes a tree as its left operand doesn't go on with the tree's right edge
 stops : (m : ℕ) (o : BinaryOperator) (g : Bool) (e : Expr) → Leveled g e → level e ≤ left o → Stops m (Infix o) e
-stops m o g (Number n) l h = tt
-stops m o g (Field e) l h = (takes_not o (pruned m e) 2 (omega (arith, bounds o)), tight e l.1 l.0)
-  where
-    tight : (d : Expr) → Leveled g d → level d ≤ 2 → Stops m (Infix o) d
-    tight (Number n) l h = tt
-    tight (Field d) l h = (takes_not o (pruned m d) 2 (omega (arith, bounds o)), tight d l.1 l.0)
-    tight (Binary j a b) l h = absurd (omega (arith, bounds j))
+stops m o g (Unary j e) l h = (takes_not o (pruned m e) 5 (omega (arith, bounds o)), stops m o g e l.1 (omega (arith, l.0)))
 stops m o g (Binary j a b) l h =
     (takes_not o (pruned m b) (right j) (omega (arith, bounds o, bounds j)), stops m o g b l.3 (omega (arith, bounds o, bounds j)))
+stops m o g (Assign x e) l h = absurd (omega (arith, bounds o))
+stops m o g e l h = tt
 
 neither : (x y : Bool) → x ≡ false → y ≡ false → (x || y) ≡ false
 neither true y h i = absurd (cc)
@@ -73,7 +83,7 @@ settle_on : (m : ℕ) (r : Role) (f : Frame) (e : Part) (k : List Frame) → kee
 settle_on m r f e k c h = test_false _ _ _ (neither (takes r e (hole f)) (keeps f) h c)
 
 reduced : (m : ℕ) (g : Bool) (f : Frame) (k : List Frame) (e : Part) (ts : List Kind) → keeps f ≡ false → takes (next g ts) e (hole f) ≡ false → answer m (Ready g e (f ∷ k)) ts ≡ answer m (Ready g (fill m f e) k) ts
-reduced m g f k e [] c h = refl
+reduced m g f k e [] c h = ap (λ s. whole (follow m Ends t.Newline g s)) (settle_on m Ends f e k c h)
 reduced m g f k e (x ∷ ts) c h = ap (λ s. answer m (follow m (role g x) x g s) ts) (settle_on m (role g x) f e k c h)
 
 settled : (m : ℕ) (r : Role) (e : Part) (k : List Frame) → takes r e (hole_of k) ≡ true → settle m r e k ≡ record { part = e; stack = k }
@@ -104,18 +114,52 @@ joins m o g a k u v j n la lo =
 left_stops : (m : ℕ) (o : BinaryOperator) (g : Bool) (a : Expr) (u v : List Kind) → Joined o u v → (g && is_greater o) ≡ false → Leveled g a → level a ≤ left o → Stops m (next g u) a
 left_stops m o g a u v j n l h = subst (λ r. Stops m r a) (sym (ap (next g) j ∙ role_by g o n)) (stops m o g a l h)
 
-pub complete : (m : ℕ) (e : Expr) (ts rest : List Kind) (s g : Bool) (k : List Frame) → Leveled g e → Spells e ts rest → level e ≤ hole_of k → Stops m (next g rest) e → answer m (Expect s g k) ts ≡ answer m (Ready g (pruned m e) k) rest
-complete m (Number n) ts rest s g k l p h z = ap (answer m (Expect s g k)) p
-complete m (Field e) ts rest s g k l p h z =
-    ap (answer m (Expect s g k)) p.1 ∙ complete m e p.0 rest false g (InField ∷ k) l.1 p.2 l.0 z.1
-    ∙ reduced m g InField k (pruned m e) rest refl z.0 ∙ ap (λ x. answer m (Ready g x k) rest) (field-pruned m e)
-complete m (Binary o a b) ts rest s g k l p h z =
+-- a name that isn't assigned
+named_alone : (m : ℕ) (x : List ℕ) (g : Bool) (k : List Frame) (ts : List Kind) → assigns ts ≡ false → answer m (Named x g k) ts ≡ answer m (Ready g (name m x) k) ts
+named_alone m x g k [] h = refl
+named_alone m x g k (t.Assign ∷ ts) h = absurd (cc)
+named_alone m x g k (y ∷ ts) h = refl
+
+-- a name and the `=` behind it
+named_assigned : (m : ℕ) (x : List ℕ) (g : Bool) (k : List Frame) (ts : List Kind) → is_assignable x ≡ true → 16 ≤ hole_of k → answer m (Named x g k) (t.Assign ∷ ts) ≡ answer m (Expect false g (InAssign x ∷ k)) ts
+named_assigned m x g k ts a h = ap (λ b. answer m (when b (Expect false g (InAssign x ∷ k))) ts) (and_from _ _ a (le-leb 16 (hole_of k) h))
+
+-- an operator before an operand
+enters_unary : (m : ℕ) (o : UnaryOperator) (s g : Bool) (k : List Frame) (u : List Kind) → answer m (Expect s g k) (prefix_of o ∷ u) ≡ answer m (Expect false g (InUnary o ∷ k)) u
+enters_unary m p.Not s g k u = refl
+enters_unary m p.Plus s g k u = refl
+enters_unary m p.Minus s g k u = refl
+
+-- the operator is no `=`
+joined_assigns : (o : BinaryOperator) (u v : List Kind) → Joined o u v → assigns u ≡ false
+joined_assigns o u v j = ap assigns j
+
+pub complete : (m : ℕ) (e : Expr) (ts rest : List Kind) (s g : Bool) (k : List Frame) → Leveled g e → Spells e ts rest → level e ≤ hole_of k → Stops m (next g rest) e → assigns rest ≡ false → answer m (Expect s g k) ts ≡ answer m (Ready g (pruned m e) k) rest
+complete m (Number n) ts rest s g k l p h z w = ap (answer m (Expect s g k)) p
+complete m (String bytes) ts rest s g k l p h z w = ap (answer m (Expect s g k)) p
+complete m (Name x) ts rest s g k l p h z w = ap (answer m (Expect s g k)) p ∙ named_alone m x g k rest w
+complete m (Group e) ts rest s g k l p h z w =
+    ap (answer m (Expect s g k)) p.1
+    ∙ complete m e p.0 (t.CloseParenthesis ∷ rest) false false (InGroup g ∷ k) l p.2 (level_most e) (stops_end m e) refl
+    ∙ ap (λ x. answer m (Ready g x k) rest) (group-pruned m e)
+complete m (Field (Number i)) ts rest s g k l p h z w =
+    ap (answer m (Expect s g k)) p.1 ∙ ap (answer m (Selects g k)) p.2 ∙ ap (λ x. answer m (Ready g x k) rest) (field-pruned m (Number i))
+complete m (Field e) ts rest s g k l p h z w = absurd (cc)
+complete m (Unary o e) ts rest s g k l p h z w =
+    ap (answer m (Expect s g k)) p.1 ∙ enters_unary m o s g k p.0
+    ∙ complete m e p.0 rest false g (InUnary o ∷ k) l.1 p.2 l.0 z.1 w
+    ∙ reduced m g (InUnary o) k (pruned m e) rest refl z.0 ∙ ap (λ x. answer m (Ready g x k) rest) (prefixed-pruned m o e)
+complete m (Binary o a b) ts rest s g k l p h z w =
     let low : level a ≤ hole_of k = omega (arith, bounds o, l.0) in
-    complete m a ts p.0 s g k l.2 p.2 low (left_stops m o g a p.0 p.1 p.3 l.4 l.2 l.0)
+    complete m a ts p.0 s g k l.2 p.2 low (left_stops m o g a p.0 p.1 p.3 l.4 l.2 l.0) (joined_assigns o p.0 p.1 p.3)
     ∙ joins m o g (pruned m a) k p.0 p.1 p.3 l.4 l.0 h
-    ∙ complete m b p.1 rest false g (InBinary o (pruned m a) ∷ k) l.3 p.4 l.1 z.1
+    ∙ complete m b p.1 rest false g (InBinary o (pruned m a) ∷ k) l.3 p.4 l.1 z.1 w
     ∙ reduced m g (InBinary o (pruned m a)) k (pruned m b) rest refl z.0
     ∙ ap (λ x. answer m (Ready g x k) rest) (joined-pruned m o a b)
+complete m (Assign x e) ts rest s g k l p h z w =
+    ap (answer m (Expect s g k)) p.1 ∙ named_assigned m x g k p.0 l.0 h
+    ∙ complete m e p.0 rest false g (InAssign x ∷ k) l.1 p.2 (level_most e) z.1 w
+    ∙ reduced m g (InAssign x) k (pruned m e) rest refl z.0 ∙ ap (λ y. answer m (Ready g y k) rest) (assigned-pruned m x e)
 
 -- the tokens that end a simple statement
 pub data Stopper : Kind → Type 0 where
@@ -128,6 +172,11 @@ stops_there m e y AtSemicolon = stops_end m e
 stops_there m e y AtNewline = stops_end m e
 stops_there m e y AtBrace = stops_end m e
 
+no_assigns : (y : Kind) (r : List Kind) → Stopper y → assigns (y ∷ r) ≡ false
+no_assigns y r AtSemicolon = refl
+no_assigns y r AtNewline = refl
+no_assigns y r AtBrace = refl
+
 list_closed : (m : ℕ) (e : Part) (xs : Option Exprs) (k : List Frame) (y : Kind) (r : List Kind) → Stopper y → answer m (Ready true e (InPrint xs ∷ k)) (y ∷ r) ≡ answer m (end_with m y (printed m (one_more m xs e)) k) r
 list_closed m e xs k y r AtSemicolon = refl
 list_closed m e xs k y r AtNewline = refl
@@ -139,13 +188,13 @@ join made (Cons e xs) = join (append made e) xs
 
 list_read : (m : ℕ) (e : Expr) (xs made : Exprs) (s : Bool) (ts : List Kind) (y : Kind) (r : List Kind) (k : List Frame) → Leveled true e → AllLeveled true xs → SpellsList (Cons e xs) ts (y ∷ r) → Stopper y → answer m (Expect s true (InPrint (pruned_list m made) ∷ k)) ts ≡ answer m (end_with m y (pruned_statement m (Print (join made (Cons e xs)))) k) r
 list_read m e Nil made s ts y r k l n p h =
-    complete m e ts (y ∷ r) s true (InPrint (pruned_list m made) ∷ k) l (subst (Spells e ts) p.2 p.1) (level_most e) (stops_there m e y h)
+    complete m e ts (y ∷ r) s true (InPrint (pruned_list m made) ∷ k) l (subst (Spells e ts) p.2 p.1) (level_most e) (stops_there m e y h) (no_assigns y r h)
     ∙ list_closed m (pruned m e) (pruned_list m made) k y r h
     ∙ ap (λ z. answer m (end_with m y (printed m z) k) r) (one_more-pruned m made e)
     ∙ ap (λ z. answer m (end_with m y z k) r) (printed-pruned m (append made e))
 list_read m e (Cons d xs) made s ts y r k l n p h =
     let q = p.2 in
-    complete m e ts (t.Comma ∷ newlines q.0 q.1) s true (InPrint (pruned_list m made) ∷ k) l (subst (Spells e ts) q.3 p.1) (level_most e) (stops_end m e)
+    complete m e ts (t.Comma ∷ newlines q.0 q.1) s true (InPrint (pruned_list m made) ∷ k) l (subst (Spells e ts) q.3 p.1) (level_most e) (stops_end m e) refl
     ∙ over_newlines m q.0 true (InPrint (one_more m (pruned_list m made) (pruned m e)) ∷ k) q.1
     ∙ ap (λ z. answer m (Expect true true (InPrint z ∷ k)) q.1) (one_more-pruned m made e)
     ∙ list_read m d xs (append made e) true q.1 y r k n.0 n.1 (q.2, q.4, q.5) h
@@ -175,6 +224,12 @@ join_all xs = join_plus xs Nil
 -- an operand begins
 abbrev pub starter : Kind → Bool
 starter (t.Number n) = true
+starter (t.String bytes) = true
+starter (t.Name x) = true
+starter t.OpenParenthesis = true
+starter t.Not = true
+starter (t.Operator s.Plus) = true
+starter (t.Operator s.Minus) = true
 starter t.Dollar = true
 starter y = false
 
@@ -184,14 +239,22 @@ started (y ∷ ts) = starter y
 
 pub starts_so : (e : Expr) (ts rest : List Kind) → Spells e ts rest → started ts ≡ true
 starts_so (Number n) ts rest p = ap started p
+starts_so (String bytes) ts rest p = ap started p
+starts_so (Name x) ts rest p = ap started p
+starts_so (Group e) ts rest p = ap started p.1
 starts_so (Field e) ts rest p = ap started p.1
+starts_so (Unary p.Not e) ts rest q = ap started q.1
+starts_so (Unary p.Plus e) ts rest q = ap started q.1
+starts_so (Unary p.Minus e) ts rest q = ap started q.1
 starts_so (Binary o a b) ts rest p = starts_so a ts p.0 p.2
+starts_so (Assign x e) ts rest p = ap started p.1
 
 list_enters : (m : ℕ) (k : List Frame) (ts : List Kind) → started ts ≡ true → answer m (Prints k) ts ≡ answer m (Expect false true (InPrint (no_exprs m) ∷ k)) ts
 list_enters m k [] h = absurd (cc)
-list_enters m k (t.Number n ∷ ts) h = refl
-list_enters m k (t.Dollar ∷ ts) h = refl
-list_enters m k (y ∷ ts) h = absurd (cc)
+list_enters m k (t.Semicolon ∷ ts) h = absurd (cc)
+list_enters m k (t.Newline ∷ ts) h = absurd (cc)
+list_enters m k (t.CloseBrace ∷ ts) h = absurd (cc)
+list_enters m k (y ∷ ts) h = refl
 
 none_read : (m : ℕ) (k : List Frame) (y : Kind) (r : List Kind) → Stopper y → answer m (Prints k) (y ∷ r) ≡ answer m (end_with m y (printed m (no_exprs m)) k) r
 none_read m k y r AtSemicolon = refl

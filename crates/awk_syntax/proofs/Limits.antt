@@ -1,11 +1,12 @@
 -- What the reader keeps of trees: the makers of nodes make of what is kept of the children what is kept of the node.
 use Rattle.std.proofs.Common.{◌≡◌, ℕ, ◌≤◌, ◌<◌, max, Bool, true, false, cond, inl, inr, List, [], ◌∷◌, Option, Some, None, refl, sym, ap, ◌∙◌, arith}
 use Rattle.std.proofs.lemmas.Bool.{le-leb, lt-leb, cases_lt}
+use Rattle.awk_syntax.specs.declared.tree.UnaryOperator.{UnaryOperator}
 use Rattle.awk_syntax.specs.declared.tree.BinaryOperator.{BinaryOperator}
-use Rattle.awk_syntax.specs.Tree.{Expr, Field, Binary, Exprs, Nil, Cons, Statement, Block, Print, Statements, NoMore, Then, Item, Always, Rule}
+use Rattle.awk_syntax.specs.Tree.{Expr, Group, Field, Unary, Binary, Assign, Exprs, Nil, Cons, Statement, Block, Evaluate, Print, Statements, NoMore, Then, Item, Begin, Always, Short, Rule}
 use Rattle.awk_syntax.specs.Height.{height_of, tallest, height_of_statement, tallest_of, height_of_item, height_of_program}
 use Rattle.awk_syntax.specs.Level.{level, level_of}
-use Rattle.awk_syntax.specs.Machine.{limited, over_one, over_two, Part, field, joined, append, push, add, one_more, one_more_statement, one_more_item, printed, block, OfAll, OfRule, item_of}
+use Rattle.awk_syntax.specs.Machine.{limited, over_one, over_two, Part, group, field, prefixed, joined, assigned, append, push, add, one_more, one_more_statement, one_more_item, evaluated, printed, block, OfBegin, OfAll, OfRule, item_of, short}
 
 pub test_true : {A : Type 0} (b : Bool) (x y : A) → b ≡ true → cond b x y ≡ x
 test_true true x y h = refl
@@ -71,8 +72,17 @@ pub height_of_program-add : (xs : List Item) (x : Item) → height_of_program (a
 height_of_program-add [] x = omega arith
 height_of_program-add (y ∷ xs) x = omega (arith, height_of_program-add xs x)
 
+pub group-pruned : (m : ℕ) (e : Expr) → group m (pruned m e) ≡ pruned m (Group e)
+group-pruned m e = ap (λ t. record { rank = 0; tree = t }) (one_limited m (height_of e) height_of Group e (omega arith))
+
 pub field-pruned : (m : ℕ) (e : Expr) → field m (pruned m e) ≡ pruned m (Field e)
 field-pruned m e = ap (λ t. record { rank = 1; tree = t }) (one_limited m (height_of e) height_of Field e (omega arith))
+
+pub prefixed-pruned : (m : ℕ) (o : UnaryOperator) (e : Expr) → prefixed m o (pruned m e) ≡ pruned m (Unary o e)
+prefixed-pruned m o e = ap (λ t. record { rank = 5; tree = t }) (one_limited m (height_of e) height_of (Unary o) e (omega arith))
+
+pub assigned-pruned : (m : ℕ) (x : List ℕ) (e : Expr) → assigned m x (pruned m e) ≡ pruned m (Assign x e)
+assigned-pruned m x e = ap (λ t. record { rank = 16; tree = t }) (one_limited m (height_of e) height_of (Assign x) e (omega arith))
 
 pub joined-pruned : (m : ℕ) (o : BinaryOperator) (a b : Expr) → joined m o (pruned m a) (pruned m b) ≡ pruned m (Binary o a b)
 joined-pruned m o a b = ap (λ t. record { rank = level_of o; tree = t }) (two_limited m (height_of a) (height_of b) height_of (Binary o) a b (omega arith) (omega arith))
@@ -86,11 +96,20 @@ one_more_statement-pruned m all x = let h = tallest_of-push all x in two_limited
 pub one_more_item-pruned : (m : ℕ) (xs : List Item) (x : Item) → one_more_item m (pruned_items m xs) (pruned_item m x) ≡ pruned_items m (add xs x)
 one_more_item-pruned m xs x = let h = height_of_program-add xs x in two_limited m (height_of_program xs) (height_of_item x) height_of_program add xs x (omega arith) (omega arith)
 
+pub evaluated-pruned : (m : ℕ) (e : Expr) → evaluated m (pruned m e) ≡ pruned_statement m (Evaluate e)
+evaluated-pruned m e = one_limited m (height_of e) height_of_statement Evaluate e (omega arith)
+
 pub printed-pruned : (m : ℕ) (xs : Exprs) → printed m (pruned_list m xs) ≡ pruned_statement m (Print xs)
 printed-pruned m xs = one_limited m (tallest xs) height_of_statement Print xs (omega arith)
 
 pub block-pruned : (m : ℕ) (all : Statements) → block m (pruned_all m all) ≡ pruned_statement m (Block all)
 block-pruned m all = one_limited m (tallest_of all) height_of_statement Block all (omega arith)
+
+pub begin-pruned : (m : ℕ) (all : Statements) → item_of m OfBegin (pruned_all m all) ≡ pruned_item m (Begin all)
+begin-pruned m all = one_limited m (tallest_of all) height_of_item Begin all (omega arith)
+
+pub short-pruned : (m : ℕ) (e : Expr) → short m (pruned m e) ≡ pruned_item m (Short e)
+short-pruned m e = one_limited m (height_of e) height_of_item Short e (omega arith)
 
 pub always-pruned : (m : ℕ) (all : Statements) → item_of m OfAll (pruned_all m all) ≡ pruned_item m (Always all)
 always-pruned m all = one_limited m (tallest_of all) height_of_item Always all (omega arith)

@@ -2,12 +2,12 @@
 use Rattle.std.proofs.Common.{◌≡◌, ℕ, zero, suc, ◌+◌, Bool, true, false, List, [], ◌∷◌, ◌++◌, Option, Some, refl, sym, ap, ◌∙◌, subst, arith}
 use Rattle.awk_lex.specs.declared.token.Kind.{Kind}
 use Rattle.awk_lex.specs.declared.token.Kind.TheVariants as t
-use Rattle.awk_syntax.specs.Tree.{Exprs, Statement, Block, Print, Statements, NoMore, Then, Item, Always, Rule}
+use Rattle.awk_syntax.specs.Tree.{Expr, Exprs, Statement, Block, Evaluate, Print, Statements, NoMore, Then, Item, Begin, Always, Short, Rule}
 use Rattle.awk_syntax.specs.Height.{height_of_program}
-use Rattle.awk_syntax.specs.Level.{AllLeveled, StatementLeveled, StatementsLeveled, ItemLeveled, ProgramLeveled}
-use Rattle.awk_syntax.specs.Spelling.{newlines, SpellsList, SpellsStatement, SpellsAll, Ended, BySemicolon, ByNewline, ByBrace, SpellsItem, separators, SpellsProgram, Spells, IsProgram}
-use Rattle.awk_syntax.specs.Machine.{Head, OfAll, OfRule, push, add, item_of, no_statements, one_more_statement, one_more_item, Frame, InBlock, InPattern, InAction, InProgram, Expect, Begins, Done, Between, block, answer, read}
-use Rattle.awk_syntax.proofs.Limits.{low, pruned, pruned_statement, pruned_all, pruned_item, pruned_items, one_more_statement-pruned, one_more_item-pruned, block-pruned, always-pruned, rule-pruned}
+use Rattle.awk_syntax.specs.Level.{Leveled, AllLeveled, StatementLeveled, StatementsLeveled, ItemLeveled, ProgramLeveled}
+use Rattle.awk_syntax.specs.Spelling.{newlines, SpellsList, SpellsStatement, SpellsAll, Ended, BySemicolon, ByNewline, ByBrace, is_closed, SpellsItem, separators, SpellsProgram, Spells, IsProgram}
+use Rattle.awk_syntax.specs.Machine.{Head, OfBegin, OfAll, OfRule, push, add, item_of, short, no_statements, one_more_statement, one_more_item, Frame, InStatement, InBlock, InPattern, InAction, InProgram, Expect, Ready, Begins, Done, Opens, Between, evaluated, block, answer, read}
+use Rattle.awk_syntax.proofs.Limits.{low, pruned, pruned_statement, pruned_all, pruned_item, pruned_items, one_more_statement-pruned, one_more_item-pruned, evaluated-pruned, block-pruned, begin-pruned, always-pruned, short-pruned, rule-pruned}
 use Rattle.awk_syntax.proofs.Complete.{stops_end, level_most, complete, AtSemicolon, AtNewline, AtBrace, print_read, started, starts_so}
 
 begin_newlines : (m n : ℕ) (k : List Frame) (ts : List Kind) → answer m (Begins k) (newlines n ts) ≡ answer m (Begins k) ts
@@ -22,6 +22,21 @@ print_ended : (m : ℕ) (xs : Exprs) (ts u rest : List Kind) (k : List Frame) �
 print_ended m xs ts u rest k l p (BySemicolon n r) = print_read m xs ts t.Semicolon (newlines n r) k l p AtSemicolon ∙ done_newlines m n (pruned_statement m (Print xs)) k r
 print_ended m xs ts u rest k l p (ByNewline n r) = print_read m xs ts t.Newline (newlines n r) k l p AtNewline ∙ done_newlines m n (pruned_statement m (Print xs)) k r
 print_ended m xs ts u rest k l p (ByBrace r) = print_read m xs ts t.CloseBrace r k l p AtBrace
+
+statement_enters : (m : ℕ) (k : List Frame) (ts : List Kind) → started ts ≡ true → answer m (Begins k) ts ≡ answer m (Expect false false (InStatement ∷ k)) ts
+statement_enters m k [] h = absurd (cc)
+statement_enters m k (t.Newline ∷ ts) h = absurd (cc)
+statement_enters m k (t.OpenBrace ∷ ts) h = absurd (cc)
+statement_enters m k (t.CloseBrace ∷ ts) h = absurd (cc)
+statement_enters m k (t.Print ∷ ts) h = absurd (cc)
+statement_enters m k (y ∷ ts) h = refl
+
+expr_ended : (m : ℕ) (e : Expr) (ts u rest : List Kind) (k : List Frame) → Leveled false e → Spells e ts u → Ended u rest → answer m (Expect false false (InStatement ∷ k)) ts ≡ answer m (Done (evaluated m (pruned m e)) k) rest
+expr_ended m e ts u rest k l p (BySemicolon n r) =
+    complete m e ts (t.Semicolon ∷ newlines n r) false false (InStatement ∷ k) l p (level_most e) (stops_end m e) refl ∙ done_newlines m n (evaluated m (pruned m e)) k r
+expr_ended m e ts u rest k l p (ByNewline n r) =
+    complete m e ts (t.Newline ∷ newlines n r) false false (InStatement ∷ k) l p (level_most e) (stops_end m e) refl ∙ done_newlines m n (evaluated m (pruned m e)) k r
+expr_ended m e ts u rest k l p (ByBrace r) = complete m e ts (t.CloseBrace ∷ r) false false (InStatement ∷ k) l p (level_most e) (stops_end m e) refl
 
 -- what holds statements
 data Body : Type 0 where
@@ -71,6 +86,9 @@ mutual
       ∙ done_newlines m p.1 (block m (pruned_all m (join NoMore all))) k rest
       ∙ ap (λ z. answer m (Done (block m (pruned_all m z)) k) rest) (join_all all)
       ∙ ap (λ z. answer m (Done z k) rest) (block-pruned m all)
+  complete_statement m (Evaluate e) ts rest k l p =
+      statement_enters m k ts (starts_so e ts p.0 p.1) ∙ expr_ended m e ts p.0 rest k l p.1 p.2
+      ∙ ap (λ z. answer m (Done z k) rest) (evaluated-pruned m e)
   complete_statement m (Print xs) ts rest k l p = ap (answer m (Begins k)) p.2 ∙ print_ended m xs p.0 p.1 rest k l p.3 p.4
 
   complete_all : (m : ℕ) (all : Statements) (b : Body) (made : Statements) (ts rest : List Kind) (k : List Frame) → StatementsLeveled all → SpellsAll all ts rest → answer m (Begins (body b (pruned_all m made) ∷ k)) ts ≡ answer m (Begins (body b (pruned_all m (join made all)) ∷ k)) rest
@@ -101,17 +119,41 @@ action m head all x made n u rest l p h =
 
 item_enters : (m : ℕ) (k : List Frame) (ts : List Kind) → started ts ≡ true → answer m (Between k) ts ≡ answer m (Expect false false (InPattern ∷ k)) ts
 item_enters m k [] h = absurd (cc)
-item_enters m k (t.Number n ∷ ts) h = refl
-item_enters m k (t.Dollar ∷ ts) h = refl
-item_enters m k (y ∷ ts) h = absurd (cc)
+item_enters m k (t.Semicolon ∷ ts) h = absurd (cc)
+item_enters m k (t.Newline ∷ ts) h = absurd (cc)
+item_enters m k (t.Begin ∷ ts) h = absurd (cc)
+item_enters m k (t.OpenBrace ∷ ts) h = absurd (cc)
+item_enters m k (y ∷ ts) h = refl
+
+-- a pattern without an action
+short_read : (m : ℕ) (e : Expr) (ts rest : List Kind) (k : List Frame) → Leveled false e → Spells e ts rest → is_closed rest ≡ true → answer m (Expect false false (InPattern ∷ k)) ts ≡ answer m (Ready false (pruned m e) (InPattern ∷ k)) rest
+short_read m e ts [] k l p c = complete m e ts [] false false (InPattern ∷ k) l p (level_most e) (stops_end m e) refl
+short_read m e ts (t.Semicolon ∷ r) k l p c = complete m e ts (t.Semicolon ∷ r) false false (InPattern ∷ k) l p (level_most e) (stops_end m e) refl
+short_read m e ts (t.Newline ∷ r) k l p c = complete m e ts (t.Newline ∷ r) false false (InPattern ∷ k) l p (level_most e) (stops_end m e) refl
+short_read m e ts (y ∷ r) k l p c = absurd (cc)
+
+short_ended : (m : ℕ) (e : Expr) (made : List Item) (rest : List Kind) → is_closed rest ≡ true → answer m (Ready false (pruned m e) (InPattern ∷ at m made)) rest ≡ answer m (Between (InProgram (one_more_item m (pruned_items m made) (short m (pruned m e))) ∷ [])) rest
+short_ended m e made [] c = refl
+short_ended m e made (t.Semicolon ∷ r) c = refl
+short_ended m e made (t.Newline ∷ r) c = refl
+short_ended m e made (y ∷ r) c = absurd (cc)
 
 item_read : (m : ℕ) (x : Item) (ts rest : List Kind) (made : List Item) → ItemLeveled x → SpellsItem x ts rest → answer m (Between (at m made)) ts ≡ answer m (Between (at m (add made x))) rest
+item_read m (Begin all) ts rest made l p =
+    let b = p.2 in
+    ap (answer m (Between (at m made))) p.1 ∙ ap (answer m (Opens (at m made))) b.2
+    ∙ action m OfBegin all (Begin all) made b.0 b.1 rest l b.3 (begin-pruned m all)
 item_read m (Always all) ts rest made l p =
     ap (answer m (Between (at m made))) p.2 ∙ action m OfAll all (Always all) made p.0 p.1 rest l p.3 (always-pruned m all)
+item_read m (Short e) ts rest made l p =
+    item_enters m (at m made) ts (starts_so e ts rest p.0)
+    ∙ short_read m e ts rest (at m made) l p.0 p.1 ∙ short_ended m e made rest p.1
+    ∙ ap (λ z. answer m (Between (InProgram (one_more_item m (pruned_items m made) z) ∷ [])) rest) (short-pruned m e)
+    ∙ ap (λ z. answer m (Between (InProgram z ∷ [])) rest) (one_more_item-pruned m made (Short e))
 item_read m (Rule e all) ts rest made l p =
     let b = p.2 in
     item_enters m (at m made) ts (starts_so e ts p.0 p.1)
-    ∙ complete m e ts (t.OpenBrace ∷ newlines b.0 b.1) false false (InPattern ∷ at m made) l.0 (subst (Spells e ts) b.2 p.1) (level_most e) (stops_end m e)
+    ∙ complete m e ts (t.OpenBrace ∷ newlines b.0 b.1) false false (InPattern ∷ at m made) l.0 (subst (Spells e ts) b.2 p.1) (level_most e) (stops_end m e) refl
     ∙ action m (OfRule (pruned m e)) all (Rule e all) made b.0 b.1 rest l.1 b.3 (rule-pruned m e all)
 
 none : (xs : List Item) → xs ++ [] ≡ xs

@@ -1,17 +1,19 @@
 -- What the reader reads is spelled and leveled.
-use Rattle.std.proofs.Common.{◌≡◌, ℕ, zero, suc, ◌≤◌, Bool, true, false, cond, leb, ◌&&◌, ◌||◌, List, [], ◌∷◌, Option, Some, refl, sym, ap, ◌∙◌, subst, arith}
+use Rattle.std.proofs.Common.{◌≡◌, ℕ, zero, suc, ◌≤◌, Bool, true, false, cond, leb, ◌&&◌, ◌||◌, List, [], ◌∷◌, ◌++◌, Option, Some, refl, sym, ap, ◌∙◌, subst, arith}
 use Rattle.std.proofs.lemmas.Bool.{and_parts, leb-true, and_right}
 use Rattle.awk_lex.specs.declared.token.Operator.{Operator}
 use Rattle.awk_lex.specs.declared.token.Operator.TheVariants as s
 use Rattle.awk_lex.specs.declared.token.Kind.{Kind}
 use Rattle.awk_lex.specs.declared.token.Kind.TheVariants as t
+use Rattle.awk_syntax.specs.declared.tree.UnaryOperator.{UnaryOperator}
+use Rattle.awk_syntax.specs.declared.tree.UnaryOperator.TheVariants as p
 use Rattle.awk_syntax.specs.declared.tree.BinaryOperator.{BinaryOperator}
 use Rattle.awk_syntax.specs.declared.tree.BinaryOperator.TheVariants as o
-use Rattle.awk_syntax.specs.Tree.{Expr, Number, Field, Binary, Exprs, Nil, Cons, Statement, Block, Print, Statements, NoMore, Then, Item, Always, Rule}
-use Rattle.awk_syntax.specs.Level.{level_of, left, right, is_greater, level, Leveled, AllLeveled, StatementLeveled, StatementsLeveled, ItemLeveled, ProgramLeveled}
-use Rattle.awk_syntax.specs.Spelling.{newlines, operator_of, Joined, Spells, SpellsMore, SpellsList, Ended, BySemicolon, ByNewline, ByBrace, SpellsStatement, SpellsAll, SpellsItem, separators, SpellsProgram, IsProgram}
-use Rattle.awk_syntax.specs.Machine.{Part, field, joined, append, push, add, no_exprs, one_more, one_more_statement, one_more_item, printed, block, Role, Infix, Ends, operate, role, Head, OfAll, OfRule, item_of, Frame, InField, InBinary, InPrint, InBlock, InPattern, InAction, InProgram, hole, hole_of, keeps, fill, takes, Held, settle, State, Expect, Ready, Prints, Begins, Done, Between, Failed, enter, between, close_block, begin, pass, end_with, close_print, close_pattern, close, go_on, follow, prints, next_statement, item, step, items, finish, answer, start, read}
-use Rattle.awk_syntax.proofs.Limits.{pruned, pruned_list, pruned_statement, pruned_all, pruned_item, pruned_items, field-pruned, joined-pruned, one_more-pruned, one_more_statement-pruned, one_more_item-pruned, printed-pruned, block-pruned, always-pruned, rule-pruned}
+use Rattle.awk_syntax.specs.Tree.{Expr, Number, String, Name, Group, Field, Unary, Binary, Assign, Exprs, Nil, Cons, Statement, Block, Evaluate, Print, Statements, NoMore, Then, Item, Begin, Always, Short, Rule}
+use Rattle.awk_syntax.specs.Level.{level_of, left, right, is_greater, level, is_assignable, Leveled, AllLeveled, StatementLeveled, StatementsLeveled, ItemLeveled, ProgramLeveled}
+use Rattle.awk_syntax.specs.Spelling.{newlines, operator_of, prefix_of, Joined, Spells, SpellsMore, SpellsList, Ended, BySemicolon, ByNewline, ByBrace, SpellsStatement, SpellsAll, is_closed, SpellsItem, separators, SpellsProgram, IsProgram}
+use Rattle.awk_syntax.specs.Machine.{Part, name, group, prefixed, joined, assigned, append, push, add, no_exprs, one_more, one_more_statement, one_more_item, evaluated, printed, block, Role, Infix, Ends, operate, role, Head, OfBegin, OfAll, OfRule, item_of, short, Frame, InGroup, InUnary, InBinary, InAssign, InStatement, InPrint, InBlock, InPattern, InAction, InProgram, hole, hole_of, keeps, fill, takes, Held, settle, State, Expect, Ready, Named, Selects, Prints, Begins, Done, Opens, Between, Failed, when, enter, select, between, close_block, begin, pass, end_with, close_print, close_pattern, close_group, close, go_on, follow, after, named, opens, prints, next_statement, item, step, items, whole, finish, answer, start, read}
+use Rattle.awk_syntax.proofs.Limits.{pruned, pruned_list, pruned_statement, pruned_all, pruned_item, pruned_items, group-pruned, field-pruned, prefixed-pruned, joined-pruned, assigned-pruned, one_more-pruned, one_more_statement-pruned, one_more_item-pruned, evaluated-pruned, printed-pruned, block-pruned, begin-pruned, always-pruned, short-pruned, rule-pruned}
 
 -- a list, and a comma with newlines behind it unless the list is empty
 abbrev SpellsBefore : Exprs → List Kind → List Kind → Type 0
@@ -19,19 +21,25 @@ SpellsBefore Nil ts here = ts ≡ here
 SpellsBefore (Cons e xs) ts here = (n : ℕ) × SpellsList (Cons e xs) ts (t.Comma ∷ newlines n here)
 
 abbrev SpellsHead : ℕ → Head → List Kind → List Kind → Type 0
+SpellsHead m OfBegin ts rest = ts ≡ t.Begin ∷ rest
 SpellsHead m OfAll ts rest = ts ≡ rest
 SpellsHead m (OfRule p) ts rest = (e : Expr) × Spells e ts rest × Leveled false e × (p ≡ pruned m e)
 
 -- below the frame, in a bare print list
 abbrev outer : Bool → Frame → Bool
-outer g InField = g
+outer g (InGroup o) = o
+outer g (InUnary o) = g
 outer g (InBinary o a) = g
+outer g (InAssign x) = g
 outer g f = false
 
 -- a frame whose tokens go from u to here, over a hole h
 abbrev Begun : ℕ → Bool → Frame → ℕ → List Kind → List Kind → Type 0
-Begun m g InField h u here = u ≡ t.Dollar ∷ here
+Begun m g (InGroup o) h u here = (g ≡ false) × (u ≡ t.OpenParenthesis ∷ here)
+Begun m g (InUnary o) h u here = u ≡ prefix_of o ∷ here
 Begun m g (InBinary o a) h u here = (x : Expr) × (v : List Kind) × Spells x u v × Leveled g x × (level x ≤ left o) × (level_of o ≤ h) × Joined o v here × ((g && is_greater o) ≡ false) × (a ≡ pruned m x)
+Begun m g (InAssign x) h u here = (is_assignable x ≡ true) × (16 ≤ h) × (u ≡ t.Name x ∷ t.Assign ∷ here)
+Begun m g InStatement h u here = (g ≡ false) × (u ≡ here)
 Begun m g (InPrint made) h u here = (xs : Exprs) × (w : List Kind) × (g ≡ true) × (u ≡ t.Print ∷ w) × SpellsBefore xs w here × AllLeveled true xs × (made ≡ pruned_list m xs)
 Begun m g (InBlock made) h u here = (all : Statements) × (n : ℕ) × (w : List Kind) × (u ≡ t.OpenBrace ∷ newlines n w) × SpellsAll all w here × StatementsLeveled all × (made ≡ pruned_all m all)
 Begun m g InPattern h u here = (g ≡ false) × (u ≡ here)
@@ -83,9 +91,12 @@ abbrev Holds : ℕ → State → List Kind → List Kind → Type 0
 Holds m (Expect true g k) all here = (n : ℕ) (rest : List Kind) → here ≡ newlines n rest → Stacked m g k all rest
 Holds m (Expect false g k) all here = Stacked m g k all here
 Holds m (Ready g e k) all here = Operand m g e k all here
+Holds m (Named x g k) all here = (u : List Kind) × Stacked m g k all u × (u ≡ t.Name x ∷ here)
+Holds m (Selects g k) all here = (u : List Kind) × Stacked m g k all u × (u ≡ t.Dollar ∷ here)
 Holds m (Prints k) all here = (u : List Kind) × Stacked m false k all u × (u ≡ t.Print ∷ here)
 Holds m (Begins k) all here = (n : ℕ) (rest : List Kind) → here ≡ newlines n rest → Stacked m false k all rest
 Holds m (Done x k) all here = Made m x k all here
+Holds m (Opens k) all here = (u : List Kind) × Stacked m false k all u × (u ≡ t.Begin ∷ here)
 Holds m (Between k) all here = (bs : List Bool) (rest : List Kind) → here ≡ separators bs rest → Stacked m false k all rest
 Holds m Failed all here = Unit {0}
 
@@ -97,24 +108,26 @@ or_second : (x y : Bool) → (x || y) ≡ false → y ≡ false
 or_second true y h = absurd (cc)
 or_second false y h = h
 
-right_least : (o : BinaryOperator) → 1 ≤ right o
+right_least : (o : BinaryOperator) → 5 ≤ right o
 right_least o.Times = omega arith
 right_least o = omega arith
 
--- each hole takes a dollar
-hole_least : (k : List Frame) → 1 ≤ hole_of k
+-- each hole takes an operator before an operand
+hole_least : (k : List Frame) → 5 ≤ hole_of k
 hole_least [] = omega arith
 hole_least (InBinary o a ∷ k) = right_least o
-hole_least (InField ∷ k) = omega arith
 hole_least (f ∷ k) = omega arith
 
 reduce : (m : ℕ) (g : Bool) (f : Frame) (k : List Frame) (e : Part) (all here : List Kind) → keeps f ≡ false → Operand m g e (f ∷ k) all here → Operand m g (fill m f e) k all here
-reduce m g InField k e all here c p =
+reduce m g (InUnary o) k e all here c p =
     let b = p.below in
-    record { expr = Field p.expr; is = ap (field m) p.is ∙ field-pruned m p.expr; from = b.0; below = b.1; spelled = (p.from, b.2, p.spelled); leveled = (p.fits, p.leveled); fits = hole_least k }
+    record { expr = Unary o p.expr; is = ap (prefixed m o) p.is ∙ prefixed-pruned m o p.expr; from = b.0; below = b.1; spelled = (p.from, b.2, p.spelled); leveled = (p.fits, p.leveled); fits = hole_least k }
 reduce m g (InBinary o a) k e all here c p =
     let b = p.below.2 in
     record { expr = Binary o b.0 p.expr; is = ap (λ z. joined m o a z) p.is ∙ ap (λ z. joined m o z (pruned m p.expr)) b.8 ∙ joined-pruned m o b.0 p.expr; from = p.below.0; below = p.below.1; spelled = (b.1, p.from, b.2, b.6, p.spelled); leveled = (b.4, p.fits, b.3, p.leveled, b.7); fits = b.5 }
+reduce m g (InAssign x) k e all here c p =
+    let b = p.below.2 in
+    record { expr = Assign x p.expr; is = ap (assigned m x) p.is ∙ assigned-pruned m x p.expr; from = p.below.0; below = p.below.1; spelled = (p.from, b.2, p.spelled); leveled = (b.0, p.leveled); fits = b.1 }
 reduce m g f k e all here c p = absurd (cc)
 
 abbrev IsOperand : ℕ → Bool → List Kind → List Kind → Held → Type 0
@@ -131,12 +144,28 @@ stacked : (m : ℕ) (s g : Bool) (k : List Frame) (all here : List Kind) → Hol
 stacked m true g k all here h = h 0 here refl
 stacked m false g k all here h = h
 
+enters_unary : (m : ℕ) (o : UnaryOperator) (s g : Bool) (k : List Frame) (all rest : List Kind) → Holds m (Expect s g k) all (prefix_of o ∷ rest) → Holds m (Expect false g (InUnary o ∷ k)) all rest
+enters_unary m o s g k all rest h = (prefix_of o ∷ rest, stacked m s g k all (prefix_of o ∷ rest) h, refl)
+
 enters : (m : ℕ) (y : Kind) (s g : Bool) (k : List Frame) (all rest : List Kind) → Holds m (Expect s g k) all (y ∷ rest) → Holds m (enter m y s g k) all rest
 enters m (t.Number n) s g k all rest h = record { expr = Number n; is = refl; from = t.Number n ∷ rest; below = stacked m s g k all (t.Number n ∷ rest) h; spelled = refl; leveled = tt; fits = omega arith }
+enters m (t.String b) s g k all rest h = record { expr = String b; is = refl; from = t.String b ∷ rest; below = stacked m s g k all (t.String b ∷ rest) h; spelled = refl; leveled = tt; fits = omega arith }
+enters m (t.Name x) s g k all rest h = (t.Name x ∷ rest, stacked m s g k all (t.Name x ∷ rest) h, refl)
+enters m t.OpenParenthesis s g k all rest h = (t.OpenParenthesis ∷ rest, stacked m s g k all (t.OpenParenthesis ∷ rest) h, (refl, refl))
+enters m t.Not s g k all rest h = enters_unary m p.Not s g k all rest h
+enters m (t.Operator s.Plus) s g k all rest h = enters_unary m p.Plus s g k all rest h
+enters m (t.Operator s.Minus) s g k all rest h = enters_unary m p.Minus s g k all rest h
 enters m t.Dollar s g k all rest h = (t.Dollar ∷ rest, stacked m s g k all (t.Dollar ∷ rest) h, refl)
 enters m t.Newline true g k all rest h = λ n r e. h (suc n) r (ap (λ z. t.Newline ∷ z) e)
 enters m t.Newline false g k all rest h = tt
 enters m y s g k all rest h = tt
+
+-- behind `$`
+selects : (m : ℕ) (y : Kind) (g : Bool) (k : List Frame) (all rest : List Kind) → Holds m (Selects g k) all (y ∷ rest) → Holds m (select m g k y) all rest
+selects m (t.Number n) g k all rest h =
+    let low = hole_least k in
+    record { expr = Field (Number n); is = field-pruned m (Number n); from = h.0; below = h.1; spelled = (t.Number n ∷ rest, h.2, refl); leveled = refl; fits = omega arith }
+selects m y g k all rest h = tt
 
 -- the token that is an operator in the tree
 back : (i j : BinaryOperator) (g : Bool) → Infix i ≡ Infix j → (g && is_greater i) ≡ false → (t.Operator (operator_of i) ≡ t.Operator (operator_of j)) × ((g && is_greater j) ≡ false)
@@ -146,6 +175,9 @@ back i j g h n =
 
 operate_back : (x : Operator) (g : Bool) (j : BinaryOperator) → operate x g ≡ Infix j → (t.Operator x ≡ t.Operator (operator_of j)) × ((g && is_greater j) ≡ false)
 operate_back s.Times g j h = back o.Times j g h (and_right g false refl)
+operate_back s.Remainder g j h = back o.Remainder j g h (and_right g false refl)
+operate_back s.Plus g j h = back o.Plus j g h (and_right g false refl)
+operate_back s.Minus g j h = back o.Minus j g h (and_right g false refl)
 operate_back s.Less g j h = back o.Less j g h (and_right g false refl)
 operate_back s.LessEqual g j h = back o.LessEqual j g h (and_right g false refl)
 operate_back s.Equal g j h = back o.Equal j g h (and_right g false refl)
@@ -187,14 +219,23 @@ program_leveled (y ∷ xs) x l n = (l.0, program_leveled xs x l.1 n)
 one_more_item_is : (m : ℕ) (made : Option (List Item)) (x : Option Item) (xs : List Item) (y : Item) → made ≡ pruned_items m xs → x ≡ pruned_item m y → one_more_item m made x ≡ pruned_items m (add xs y)
 one_more_item_is m made x xs y d e = ap (λ z. one_more_item m z x) d ∙ ap (one_more_item m (pruned_items m xs)) e ∙ one_more_item-pruned m xs y
 
-betweens : (m : ℕ) (x : Option Item) (k : List Frame) (all rest : List Kind) → MadeItem m x k all rest → Holds m (between m x k) all rest
-betweens m x (InProgram made ∷ k) all rest p =
+separators_join : (xs bs : List Bool) (r : List Kind) → separators xs (separators bs r) ≡ separators (xs ++ bs) r
+separators_join [] bs r = refl
+separators_join (true ∷ xs) bs r = ap (λ z. t.Semicolon ∷ z) (separators_join xs bs r)
+separators_join (false ∷ xs) bs r = ap (λ z. t.Newline ∷ z) (separators_join xs bs r)
+
+-- an item is read, and separators behind it
+betweens : (m : ℕ) (x : Option Item) (k : List Frame) (all here rest : List Kind) (first : List Bool) → here ≡ separators first rest → MadeItem m x k all here → Holds m (between m x k) all rest
+betweens m x (InProgram made ∷ k) all here rest first q p =
     let b = p.below.2 in
-    λ bs r e. (p.below.0, p.below.1, (add b.0 p.it, program_snoc b.0 p.it p.below.0 p.from rest r bs b.1 p.spelled e, program_leveled b.0 p.it b.2 p.leveled, one_more_item_is m made x b.0 p.it b.3 p.is))
-betweens m x [] all rest p = tt
-betweens m x (f ∷ k) all rest p = tt
+    λ bs r e. (p.below.0, p.below.1, (add b.0 p.it, program_snoc b.0 p.it p.below.0 p.from here r (first ++ bs) b.1 p.spelled (q ∙ ap (separators first) e ∙ separators_join first bs r), program_leveled b.0 p.it b.2 p.leveled, one_more_item_is m made x b.0 p.it b.3 p.is))
+betweens m x [] all here rest first q p = tt
+betweens m x (f ∷ k) all here rest first q p = tt
 
 closes_action : (m : ℕ) (head : Head) (made : Option Statements) (k : List Frame) (all rest : List Kind) → Stacked m false (InAction head made ∷ k) all (t.CloseBrace ∷ rest) → MadeItem m (item_of m head made) k all rest
+closes_action m OfBegin made k all rest p =
+    let b = p.2 in
+    record { it = Begin b.0; is = ap (item_of m OfBegin) b.8 ∙ begin-pruned m b.0; from = p.0; below = p.1; spelled = (b.2, b.4, (b.1, b.3, b.5, b.6)); leveled = b.7 }
 closes_action m OfAll made k all rest p =
     let b = p.2 in
     record { it = Always b.0; is = ap (item_of m OfAll) b.8 ∙ always-pruned m b.0; from = p.0; below = p.1; spelled = (b.1, b.3, b.4 ∙ b.5, b.6); leveled = b.7 }
@@ -207,7 +248,7 @@ closes_block : (m : ℕ) (k : List Frame) (all rest : List Kind) → Stacked m f
 closes_block m (InBlock made ∷ k) all rest p =
     let b = p.2 in
     record { statement = Block b.0; is = ap (block m) b.6 ∙ block-pruned m b.0; from = p.0; below = p.1; spelled = λ n r e. (b.1, n, b.2, b.3, subst (λ z. SpellsAll b.0 b.2 (t.CloseBrace ∷ z)) e b.4); leveled = b.5 }
-closes_block m (InAction head made ∷ k) all rest p = betweens m (item_of m head made) k all rest (closes_action m head made k all rest p)
+closes_block m (InAction head made ∷ k) all rest p = betweens m (item_of m head made) k all rest rest [] refl (closes_action m head made k all rest p)
 closes_block m [] all rest p = tt
 closes_block m (f ∷ k) all rest p = tt
 
@@ -216,7 +257,7 @@ begins m t.Newline k all rest h = λ n r e. h (suc n) r (ap (λ z. t.Newline ∷
 begins m t.OpenBrace k all rest h = λ n r e. (t.OpenBrace ∷ rest, h 0 (t.OpenBrace ∷ rest) refl, (NoMore, n, r, ap (λ z. t.OpenBrace ∷ z) e, refl, tt, refl))
 begins m t.CloseBrace k all rest h = closes_block m k all rest (h 0 (t.CloseBrace ∷ rest) refl)
 begins m t.Print k all rest h = (t.Print ∷ rest, h 0 (t.Print ∷ rest) refl, refl)
-begins m y k all rest h = tt
+begins m y k all rest h = enters m y false false (InStatement ∷ k) all rest (y ∷ rest, h 0 (y ∷ rest) refl, (refl, refl))
 
 passes : (m : ℕ) (y : Kind) (x : Option Statement) (k : List Frame) (all rest : List Kind) → Made m x k all (y ∷ rest) → Holds m (pass m y x k) all rest
 passes m y x (InBlock made ∷ k) all rest p =
@@ -280,17 +321,41 @@ closes_print m t.Comma xs k all rest p =
     λ n r e. (p.from, p.below, (append p.front p.last, p.inside, refl, p.begun, before p.front p.last p.inside r n (subst (λ z. SpellsList (append p.front p.last) p.inside (t.Comma ∷ z)) e p.spelled), p.leveled, p.is))
 closes_print m y xs k all rest p = list_ended m y xs k all rest p
 
+-- a pattern without an action, and what ends it
+made_short : (m : ℕ) (e : Part) (k : List Frame) (all here : List Kind) → Operand m false e (InPattern ∷ k) all here → is_closed here ≡ true → MadeItem m (short m e) k all here
+made_short m e k all here p c =
+    let b = p.below in
+    record { it = Short p.expr; is = ap (short m) p.is ∙ short-pruned m p.expr; from = b.0; below = b.1; spelled = (subst (λ z. Spells p.expr z here) (sym b.2.1) p.spelled, c); leveled = p.leveled }
+
 closes_pattern : (m : ℕ) (y : Kind) (e : Part) (k : List Frame) (all rest : List Kind) → Operand m false e (InPattern ∷ k) all (y ∷ rest) → Holds m (close_pattern m y e k) all rest
 closes_pattern m t.OpenBrace e k all rest p =
     let b = p.below in
     λ n r q. (b.0, b.1, (NoMore, n, t.OpenBrace ∷ rest, r, (p.expr, subst (λ z. Spells p.expr z (t.OpenBrace ∷ rest)) (sym b.2.1) p.spelled, p.leveled, p.is), ap (λ z. t.OpenBrace ∷ z) q, refl, tt, refl))
+closes_pattern m t.Semicolon e k all rest p = betweens m (short m e) k all (t.Semicolon ∷ rest) rest (true ∷ []) refl (made_short m e k all (t.Semicolon ∷ rest) p refl)
+closes_pattern m t.Newline e k all rest p = betweens m (short m e) k all (t.Newline ∷ rest) rest (false ∷ []) refl (made_short m e k all (t.Newline ∷ rest) p refl)
 closes_pattern m y e k all rest p = tt
+
+closes_group : (m : ℕ) (y : Kind) (o : Bool) (e : Part) (k : List Frame) (all rest : List Kind) → Operand m false e (InGroup o ∷ k) all (y ∷ rest) → Holds m (close_group m y o e k) all rest
+closes_group m t.CloseParenthesis o e k all rest p =
+    let b = p.below in
+    record { expr = Group p.expr; is = ap (group m) p.is ∙ group-pruned m p.expr; from = b.0; below = b.1; spelled = (p.from, b.2.1, p.spelled); leveled = p.leveled; fits = omega arith }
+closes_group m y o e k all rest p = tt
+
+-- an expression as a statement
+closes_statement : (m : ℕ) (y : Kind) (e : Part) (k : List Frame) (all rest : List Kind) → Operand m false e (InStatement ∷ k) all (y ∷ rest) → Holds m (end_with m y (evaluated m e) k) all rest
+closes_statement m y e k all rest p =
+    let b = p.below in
+    ends_with m y (evaluated m e) k all rest (record { statement = Evaluate p.expr; is = ap (evaluated m) p.is ∙ evaluated-pruned m p.expr; from = b.0; below = b.1; spelled = λ r q. (y ∷ rest, subst (λ z. Spells p.expr z (y ∷ rest)) (sym b.2.1) p.spelled, q); leveled = p.leveled })
 
 closes : (m : ℕ) (y : Kind) (g : Bool) (e : Part) (k : List Frame) (all rest : List Kind) → Operand m g e k all (y ∷ rest) → Holds m (close m y e k) all rest
 closes m y g e (InPrint made ∷ k) all rest p =
     let b = p.below.2 in
     closes_print m y (one_more m made e) k all rest
     (record { front = b.0; last = p.expr; is = ap (λ z. one_more m z e) b.6 ∙ ap (one_more m (pruned_list m b.0)) p.is ∙ one_more-pruned m b.0 p.expr; from = p.below.0; below = p.below.1; inside = b.1; begun = b.3; spelled = list_snoc b.0 p.expr b.1 p.from (y ∷ rest) b.4 p.spelled; leveled = list_leveled b.0 p.expr b.5 (subst (λ z. Leveled z p.expr) b.2 p.leveled) })
+closes m y g e (InGroup o ∷ k) all rest p =
+    closes_group m y o e k all rest (subst (λ z. Operand m z e (InGroup o ∷ k) all (y ∷ rest)) p.below.2.0 p)
+closes m y g e (InStatement ∷ k) all rest p =
+    closes_statement m y e k all rest (subst (λ z. Operand m z e (InStatement ∷ k) all (y ∷ rest)) p.below.2.0 p)
 closes m y g e (InPattern ∷ k) all rest p =
     closes_pattern m y e k all rest (subst (λ z. Operand m z e (InPattern ∷ k) all (y ∷ rest)) p.below.2.0 p)
 closes m y g e [] all rest p = tt
@@ -301,6 +366,23 @@ follows m y g h all rest p =
     by_test (λ z. Holds m z all rest) (takes (role g y) h.part (hole_of h.stack)) (go_on (role g y) g h.part h.stack) (close m y h.part h.stack)
     (λ q. goes_on m (role g y) y g h.part h.stack all rest refl q p)
     (λ _. closes m y g h.part h.stack all rest p)
+
+afters : (m : ℕ) (y : Kind) (g : Bool) (e : Part) (k : List Frame) (all rest : List Kind) → Operand m g e k all (y ∷ rest) → Holds m (after m g e k y) all rest
+afters m y g e k all rest p = follows m y g (settle m (role g y) e k) all rest (settles m (role g y) g e k all (y ∷ rest) p)
+
+when_so : (m : ℕ) (b : Bool) (x : State) (all rest : List Kind) → (b ≡ true → Holds m x all rest) → Holds m (when b x) all rest
+when_so m true x all rest f = f refl
+when_so m false x all rest f = tt
+
+-- a name that isn't assigned
+lone : (m : ℕ) (x : List ℕ) (g : Bool) (k : List Frame) (all here : List Kind) → Holds m (Named x g k) all here → Operand m g (name m x) k all here
+lone m x g k all here h = record { expr = Name x; is = refl; from = h.0; below = h.1; spelled = h.2; leveled = tt; fits = omega arith }
+
+named_so : (m : ℕ) (y : Kind) (x : List ℕ) (g : Bool) (k : List Frame) (all rest : List Kind) → Holds m (Named x g k) all (y ∷ rest) → Holds m (named m x g k y) all rest
+named_so m t.Assign x g k all rest h =
+    when_so m (is_assignable x && leb 16 (hole_of k)) (Expect false g (InAssign x ∷ k)) all rest
+    (λ e. let b = and_parts (is_assignable x) (leb 16 (hole_of k)) e in (h.0, h.1, (b.0, leb-true _ _ b.1, h.2)))
+named_so m y x g k all rest h = afters m y g (name m x) k all rest (lone m x g k all (y ∷ rest) h)
 
 -- `print` alone
 prints_none : (m : ℕ) (y : Kind) (k : List Frame) (all rest : List Kind) → Holds m (Prints k) all (y ∷ rest) → Holds m (end_with m y (printed m (no_exprs m)) k) all rest
@@ -318,18 +400,26 @@ next_so m t.Newline x k all rest p =
     record { statement = p.statement; is = p.is; from = p.from; below = p.below; spelled = λ n r e. p.spelled (suc n) r (ap (λ z. t.Newline ∷ z) e); leveled = p.leveled }
 next_so m y x k all rest p = passes m y x k all rest p
 
+opens_so : (m : ℕ) (y : Kind) (k : List Frame) (all rest : List Kind) → Holds m (Opens k) all (y ∷ rest) → Holds m (opens m k y) all rest
+opens_so m t.OpenBrace k all rest h = λ n r e. (h.0, h.1, (NoMore, n, t.OpenBrace ∷ rest, r, h.2, ap (λ z. t.OpenBrace ∷ z) e, refl, tt, refl))
+opens_so m y k all rest h = tt
+
 item_so : (m : ℕ) (y : Kind) (k : List Frame) (all rest : List Kind) → Holds m (Between k) all (y ∷ rest) → Holds m (item m k y) all rest
 item_so m t.Semicolon k all rest h = λ bs r e. h (true ∷ bs) r (ap (λ z. t.Semicolon ∷ z) e)
 item_so m t.Newline k all rest h = λ bs r e. h (false ∷ bs) r (ap (λ z. t.Newline ∷ z) e)
+item_so m t.Begin k all rest h = (t.Begin ∷ rest, h [] (t.Begin ∷ rest) refl, refl)
 item_so m t.OpenBrace k all rest h = λ n r e. (t.OpenBrace ∷ rest, h [] (t.OpenBrace ∷ rest) refl, (NoMore, n, t.OpenBrace ∷ rest, r, refl, ap (λ z. t.OpenBrace ∷ z) e, refl, tt, refl))
 item_so m y k all rest h = enters m y false false (InPattern ∷ k) all rest (y ∷ rest, h [] (y ∷ rest) refl, (refl, refl))
 
 steps : (m : ℕ) (x : State) (y : Kind) (all rest : List Kind) → Holds m x all (y ∷ rest) → Holds m (step m x y) all rest
 steps m (Expect s g k) y all rest h = enters m y s g k all rest h
-steps m (Ready g e k) y all rest h = follows m y g (settle m (role g y) e k) all rest (settles m (role g y) g e k all (y ∷ rest) h)
+steps m (Ready g e k) y all rest h = afters m y g e k all rest h
+steps m (Named x g k) y all rest h = named_so m y x g k all rest h
+steps m (Selects g k) y all rest h = selects m y g k all rest h
 steps m (Prints k) y all rest h = prints_so m y k all rest h
 steps m (Begins k) y all rest h = begins m y k all rest h
 steps m (Done x k) y all rest h = next_so m y x k all rest h
+steps m (Opens k) y all rest h = opens_so m y k all rest h
 steps m (Between k) y all rest h = item_so m y k all rest h
 steps m Failed y all rest h = tt
 
@@ -338,17 +428,38 @@ pub record Found (m : ℕ) (p : Option (List Item)) (all : List Kind) : Type 0 w
   pub is : p ≡ pruned_items m list
   pub program : IsProgram all list
 
-whole : (m : ℕ) (k : List Frame) (all : List Kind) (p : Option (List Item)) → Stacked m false k all [] → items k ≡ Some p → Found m p all
-whole m (InProgram xs ∷ []) all p h q =
+all_read : (m : ℕ) (k : List Frame) (all : List Kind) (p : Option (List Item)) → Stacked m false k all [] → items k ≡ Some p → Found m p all
+all_read m (InProgram xs ∷ []) all p h q =
     let b = h.2 in
     let e : xs ≡ p = cc in
     record { list = b.0; is = sym e ∙ b.3; program = (subst (λ z. SpellsProgram b.0 z []) (sym h.1) b.1, b.2) }
-whole m (InProgram xs ∷ f ∷ k) all p h q = absurd (cc)
-whole m [] all p h q = absurd (cc)
-whole m (f ∷ k) all p h q = absurd (cc)
+all_read m (InProgram xs ∷ f ∷ k) all p h q = absurd (cc)
+all_read m [] all p h q = absurd (cc)
+all_read m (f ∷ k) all p h q = absurd (cc)
 
-finishes : (m : ℕ) (x : State) (all : List Kind) (p : Option (List Item)) → Holds m x all [] → finish x ≡ Some p → Found m p all
-finishes m (Between k) all p h q = whole m k all p (h [] [] refl) q
+wholly : (m : ℕ) (x : State) (all : List Kind) (p : Option (List Item)) → Holds m x all [] → whole x ≡ Some p → Found m p all
+wholly m (Between k) all p h q = all_read m k all p (h [] [] refl) q
+wholly m x all p h q = absurd (cc)
+
+-- the text ends behind an operand, which is a pattern then
+closes_last : (m : ℕ) (g : Bool) (e : Part) (k : List Frame) (all : List Kind) (p : Option (List Item)) → Operand m g e k all [] → whole (close m t.Newline e k) ≡ Some p → Found m p all
+closes_last m g e (InPattern ∷ k) all p h q =
+    let o = subst (λ z. Operand m z e (InPattern ∷ k) all []) h.below.2.0 h in
+    wholly m (between m (short m e) k) all p (betweens m (short m e) k all [] [] [] refl (made_short m e k all [] o refl)) q
+closes_last m g e [] all p h q = absurd (cc)
+closes_last m g e (f ∷ k) all p h q = absurd (cc)
+
+ready_finishes : (m : ℕ) (g : Bool) (e : Part) (k : List Frame) (all : List Kind) (p : Option (List Item)) → Operand m g e k all [] → whole (after m g e k t.Newline) ≡ Some p → Found m p all
+ready_finishes m g e k all p h q =
+    let s = settle m Ends e k in
+    closes_last m g s.part s.stack all p (settles m Ends g e k all [] h) q
+
+finishes : (m : ℕ) (x : State) (all : List Kind) (p : Option (List Item)) → Holds m x all [] → finish m x ≡ Some p → Found m p all
+finishes m (Between k) all p h q = all_read m k all p (h [] [] refl) q
+finishes m (Ready g e k) all p h q = ready_finishes m g e k all p h q
+finishes m (Named x g k) all p h q = ready_finishes m g (name m x) k all p (lone m x g k all [] h) q
+finishes m (Expect true g k) all p h q = absurd (cc)
+finishes m (Expect false g k) all p h q = absurd (cc)
 finishes m x all p h q = absurd (cc)
 
 answers : (m : ℕ) (x : State) (ts all : List Kind) (p : Option (List Item)) → Holds m x all ts → answer m x ts ≡ Some p → Found m p all

@@ -5,7 +5,7 @@ use Rattle.std.proofs.lemmas.Bool.{cases_lt}
 use Rattle.awk_lex.specs.declared.token.Kind.{Kind}
 use Rattle.awk_lex.specs.declared.refusal.Refusal.{Refusal}
 use Rattle.awk_lex.specs.declared.refusal.Code.{Code}
-use Rattle.awk_lex.specs.declared.refusal.Code.TheVariants.{UnexpectedByte, NumberRefused, ProgramTooLong, NotAProgram, NestedTooDeep, OutOfMemory}
+use Rattle.awk_lex.specs.declared.refusal.Code.TheVariants.{UnexpectedByte, OpenString, EscapeRefused, NumberRefused, ProgramTooLong, NotAProgram, NestedTooDeep, ArrayAndScalar, NameLeftOut, OutOfMemory}
 use Rattle.awk_syntax.specs.Tree.{Item}
 use Rattle.awk_syntax.specs.Height.{height_of_program}
 use Rattle.awk_syntax.specs.Spelling.{IsProgram}
@@ -50,8 +50,12 @@ only_memory NotAProgram xs f = absurd (cc)
 only_memory NestedTooDeep xs f = absurd (cc)
 only_memory OutOfMemory xs f = refl
 only_memory UnexpectedByte xs f = absurd f
+only_memory OpenString xs f = absurd f
+only_memory EscapeRefused xs f = absurd f
 only_memory NumberRefused xs f = absurd f
 only_memory ProgramTooLong xs f = absurd f
+only_memory ArrayAndScalar xs f = absurd f
+only_memory NameLeftOut xs f = absurd f
 
 pub only : (ts : List Kind) (r : Result Tree Refusal) → Gives r (read 200 ts) → (xs : List Item) → IsProgram ts xs → height_of_program xs ≤ 200 → Reads r xs
 only ts (Ok tree) g xs p h = let e = read_low ts xs p h in cc
@@ -64,8 +68,12 @@ justified NestedTooDeep ts f =
     (s.list, s.program, limited_none 200 (height_of_program s.list) s.list (sym s.is))
 justified OutOfMemory ts f = tt
 justified UnexpectedByte ts f = absurd f
+justified OpenString ts f = absurd f
+justified EscapeRefused ts f = absurd f
 justified NumberRefused ts f = absurd f
 justified ProgramTooLong ts f = absurd f
+justified ArrayAndScalar ts f = absurd f
+justified NameLeftOut ts f = absurd f
 
 pub refused : (ts : List Kind) (r : Result Tree Refusal) → Gives r (read 200 ts) → IfErr r (λ refusal. Justifies refusal.code ts)
 refused ts (Ok tree) g = tt

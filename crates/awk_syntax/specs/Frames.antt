@@ -4,20 +4,24 @@ use Rattle.awk_syntax.specs.Machine as machine
 use Rattle.awk_syntax.specs.Kept.{kept_expr, kept_exprs, kept_statements, kept_items}
 use Rattle.awk_syntax.specs.declared.frame.Part.{Part}
 use Rattle.awk_syntax.specs.declared.frame.Head.{Head}
-use Rattle.awk_syntax.specs.declared.frame.Head.TheVariants.{All, Rule}
+use Rattle.awk_syntax.specs.declared.frame.Head.TheVariants.{Begin, All, Rule}
 use Rattle.awk_syntax.specs.declared.frame.Frame.{Frame}
-use Rattle.awk_syntax.specs.declared.frame.Frame.TheVariants.{Field, Binary, Print, Block, Pattern, Action, Program}
+use Rattle.awk_syntax.specs.declared.frame.Frame.TheVariants.{Group, Unary, Binary, Assign, Statement, Print, Block, Pattern, Action, Program}
 
 abbrev pub part_of : Part → machine.Part
 part_of p = record { rank = p.rank; tree = kept_expr p.tree }
 
 abbrev pub head_of : Head → machine.Head
+head_of Begin = machine.OfBegin
 head_of All = machine.OfAll
 head_of (Rule p) = machine.OfRule (part_of p)
 
 abbrev pub frame_of : Frame → machine.Frame
-frame_of Field = machine.InField
+frame_of (Group outer) = machine.InGroup outer
+frame_of (Unary o) = machine.InUnary o
 frame_of (Binary o p) = machine.InBinary o (part_of p)
+frame_of (Assign x) = machine.InAssign x
+frame_of Statement = machine.InStatement
 frame_of (Print list) = machine.InPrint (kept_exprs list)
 frame_of (Block all) = machine.InBlock (kept_statements all)
 frame_of Pattern = machine.InPattern

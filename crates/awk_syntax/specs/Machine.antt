@@ -6,11 +6,13 @@ use Rattle.awk_lex.specs.declared.token.Operator.{Operator}
 use Rattle.awk_lex.specs.declared.token.Operator.TheVariants as s
 use Rattle.awk_lex.specs.declared.token.Kind.{Kind}
 use Rattle.awk_lex.specs.declared.token.Kind.TheVariants as t
+use Rattle.awk_syntax.specs.declared.tree.UnaryOperator.{UnaryOperator}
+use Rattle.awk_syntax.specs.declared.tree.UnaryOperator.TheVariants as p
 use Rattle.awk_syntax.specs.declared.tree.BinaryOperator.{BinaryOperator}
 use Rattle.awk_syntax.specs.declared.tree.BinaryOperator.TheVariants as o
-use Rattle.awk_syntax.specs.Tree.{Expr, Number, Field, Binary, Exprs, Nil, Cons, Statement, Block, Print, Statements, NoMore, Then, Item, Always, Rule}
+use Rattle.awk_syntax.specs.Tree.{Expr, Number, String, Name, Group, Field, Unary, Binary, Assign, Exprs, Nil, Cons, Statement, Block, Evaluate, Print, Statements, NoMore, Then, Item, Begin, Always, Short, Rule}
 use Rattle.awk_syntax.specs.Height.{height_of, tallest, height_of_statement, tallest_of, height_of_item, height_of_program}
-use Rattle.awk_syntax.specs.Level.{level_of, left, right}
+use Rattle.awk_syntax.specs.Level.{level_of, left, right, is_assignable}
 
 -- a tree of height n, or none above the limit
 abbrev pub limited : {A : Type 0} → (m n : ℕ) → A → Option A
@@ -34,11 +36,26 @@ pub record Part : Type 0 where
 abbrev pub number : ℕ → ℤ → Part
 number m n = record { rank = 0; tree = limited m 1 (Number n) }
 
+abbrev pub string : ℕ → List ℕ → Part
+string m bytes = record { rank = 0; tree = limited m 1 (String bytes) }
+
+abbrev pub name : ℕ → List ℕ → Part
+name m x = record { rank = 0; tree = limited m 1 (Name x) }
+
+abbrev pub group : ℕ → Part → Part
+group m e = record { rank = 0; tree = over_one m height_of Group e.tree }
+
 abbrev pub field : ℕ → Part → Part
 field m e = record { rank = 1; tree = over_one m height_of Field e.tree }
 
+abbrev pub prefixed : ℕ → UnaryOperator → Part → Part
+prefixed m o e = record { rank = 5; tree = over_one m height_of (Unary o) e.tree }
+
 abbrev pub joined : ℕ → BinaryOperator → Part → Part → Part
 joined m o a b = record { rank = level_of o; tree = over_two m height_of (Binary o) a.tree b.tree }
+
+abbrev pub assigned : ℕ → List ℕ → Part → Part
+assigned m x e = record { rank = 16; tree = over_one m height_of (Assign x) e.tree }
 
 -- lists grow at their ends
 abbrev pub append : Exprs → Expr → Exprs
@@ -73,6 +90,9 @@ one_more_item m xs x = over_two m height_of_program add xs x
 abbrev pub printed : ℕ → Option Exprs → Option Statement
 printed m xs = over_one m height_of_statement Print xs
 
+abbrev pub evaluated : ℕ → Part → Option Statement
+evaluated m e = over_one m height_of_statement Evaluate e.tree
+
 abbrev pub block : ℕ → Option Statements → Option Statement
 block m all = over_one m height_of_statement Block all
 
@@ -83,6 +103,9 @@ pub data Role : Type 0 where
 
 abbrev pub operate : Operator → Bool → Role
 operate s.Times g = Infix o.Times
+operate s.Remainder g = Infix o.Remainder
+operate s.Plus g = Infix o.Plus
+operate s.Minus g = Infix o.Minus
 operate s.Less g = Infix o.Less
 operate s.LessEqual g = Infix o.LessEqual
 operate s.Equal g = Infix o.Equal
@@ -98,17 +121,27 @@ role g y = Ends
 
 -- what stands before an action
 pub data Head : Type 0 where
+  OfBegin : Head
   OfAll : Head
   OfRule : (e : Part) → Head
 
 abbrev pub item_of : ℕ → Head → Option Statements → Option Item
+item_of m OfBegin all = over_one m height_of_item Begin all
 item_of m OfAll all = over_one m height_of_item Always all
 item_of m (OfRule e) all = over_two m height_of_item Rule e.tree all
 
+-- a pattern without an action
+abbrev pub short : ℕ → Part → Option Item
+short m e = over_one m height_of_item Short e.tree
+
 -- a node that has begun
 pub data Frame : Type 0 where
-  InField : Frame
+  -- in parentheses; whether they stand in a bare print list
+  InGroup : (outer : Bool) → Frame
+  InUnary : (o : UnaryOperator) → Frame
   InBinary : (o : BinaryOperator) (a : Part) → Frame
+  InAssign : (x : List ℕ) → Frame
+  InStatement : Frame
   InPrint : (made : Option Exprs) → Frame
   InBlock : (made : Option Statements) → Frame
   InPattern : Frame
@@ -117,7 +150,7 @@ pub data Frame : Type 0 where
 
 -- the loosest child that fits
 abbrev pub hole : Frame → ℕ
-hole InField = 2
+hole (InUnary o) = 5
 hole (InBinary o a) = right o
 hole f = 16
 
@@ -127,13 +160,15 @@ hole_of (f ∷ k) = hole f
 
 -- ended by a token of its own
 abbrev pub keeps : Frame → Bool
-keeps InField = false
+keeps (InUnary o) = false
 keeps (InBinary o a) = false
+keeps (InAssign x) = false
 keeps f = true
 
 abbrev pub fill : ℕ → Frame → Part → Part
-fill m InField e = field m e
+fill m (InUnary o) e = prefixed m o e
 fill m (InBinary o a) e = joined m o a e
+fill m (InAssign x) e = assigned m x e
 fill m f e = e
 
 -- an operand in a hole goes on
@@ -155,12 +190,18 @@ pub data State : Type 0 where
   Expect : (skips g : Bool) (k : List Frame) → State
   -- after an operand
   Ready : (g : Bool) (e : Part) (k : List Frame) → State
+  -- after a name: it may be assigned
+  Named : (x : List ℕ) (g : Bool) (k : List Frame) → State
+  -- after `$`
+  Selects : (g : Bool) (k : List Frame) → State
   -- after the word `print`
   Prints : (k : List Frame) → State
   -- a statement, or the end of the block
   Begins : (k : List Frame) → State
   -- after a statement
   Done : (x : Option Statement) (k : List Frame) → State
+  -- after the word `BEGIN`
+  Opens : (k : List Frame) → State
   -- between items
   Between : (k : List Frame) → State
   Failed : State
@@ -172,9 +213,19 @@ when false x = Failed
 -- at the beginning of an operand
 abbrev pub enter : ℕ → Kind → Bool → Bool → List Frame → State
 enter m (t.Number n) s g k = Ready g (number m n) k
-enter m t.Dollar s g k = Expect false g (InField ∷ k)
+enter m (t.String bytes) s g k = Ready g (string m bytes) k
+enter m (t.Name x) s g k = Named x g k
+enter m t.OpenParenthesis s g k = Expect false false (InGroup g ∷ k)
+enter m t.Not s g k = Expect false g (InUnary p.Not ∷ k)
+enter m (t.Operator s.Plus) s g k = Expect false g (InUnary p.Plus ∷ k)
+enter m (t.Operator s.Minus) s g k = Expect false g (InUnary p.Minus ∷ k)
+enter m t.Dollar s g k = Selects g k
 enter m t.Newline s g k = when s (Expect s g k)
 enter m y s g k = Failed
+
+abbrev pub select : ℕ → Bool → List Frame → Kind → State
+select m g k (t.Number n) = Ready g (field m (number m n)) k
+select m g k y = Failed
 
 abbrev pub between : ℕ → Option Item → List Frame → State
 between m x (InProgram made ∷ k) = Between (InProgram (one_more_item m made x) ∷ k)
@@ -190,7 +241,7 @@ begin m t.Newline k = Begins k
 begin m t.OpenBrace k = Begins (InBlock (no_statements m) ∷ k)
 begin m t.CloseBrace k = close_block m k
 begin m t.Print k = Prints k
-begin m y k = Failed
+begin m y k = enter m y false false (InStatement ∷ k)
 
 -- a statement is done, and the next token isn't a newline
 abbrev pub pass : ℕ → Kind → Option Statement → List Frame → State
@@ -211,10 +262,18 @@ close_print m y xs k = end_with m y (printed m xs) k
 
 abbrev pub close_pattern : ℕ → Kind → Part → List Frame → State
 close_pattern m t.OpenBrace e k = Begins (InAction (OfRule e) (no_statements m) ∷ k)
+close_pattern m t.Semicolon e k = between m (short m e) k
+close_pattern m t.Newline e k = between m (short m e) k
 close_pattern m y e k = Failed
+
+abbrev pub close_group : ℕ → Kind → Bool → Part → List Frame → State
+close_group m t.CloseParenthesis outer e k = Ready outer (group m e) k
+close_group m y outer e k = Failed
 
 -- at a token that ends an operand
 abbrev pub close : ℕ → Kind → Part → List Frame → State
+close m y e (InGroup outer ∷ k) = close_group m y outer e k
+close m y e (InStatement ∷ k) = end_with m y (evaluated m e) k
 close m y e (InPrint made ∷ k) = close_print m y (one_more m made e) k
 close m y e (InPattern ∷ k) = close_pattern m y e k
 close m y e k = Failed
@@ -230,6 +289,10 @@ follow m r y g h = if takes r h.part (hole_of h.stack) then go_on r g h.part h.s
 abbrev pub after : ℕ → Bool → Part → List Frame → Kind → State
 after m g e k y = follow m (role g y) y g (settle m (role g y) e k)
 
+abbrev pub named : ℕ → List ℕ → Bool → List Frame → Kind → State
+named m x g k t.Assign = when (is_assignable x && nat_le 16 (hole_of k)) (Expect false g (InAssign x ∷ k))
+named m x g k y = after m g (name m x) k y
+
 abbrev pub prints : ℕ → List Frame → Kind → State
 prints m k t.Semicolon = end_with m t.Semicolon (printed m (no_exprs m)) k
 prints m k t.Newline = end_with m t.Newline (printed m (no_exprs m)) k
@@ -240,18 +303,26 @@ abbrev pub next_statement : ℕ → Option Statement → List Frame → Kind →
 next_statement m x k t.Newline = Done x k
 next_statement m x k y = pass m y x k
 
+abbrev pub opens : ℕ → List Frame → Kind → State
+opens m k t.OpenBrace = Begins (InAction OfBegin (no_statements m) ∷ k)
+opens m k y = Failed
+
 abbrev pub item : ℕ → List Frame → Kind → State
 item m k t.Semicolon = Between k
 item m k t.Newline = Between k
+item m k t.Begin = Opens k
 item m k t.OpenBrace = Begins (InAction OfAll (no_statements m) ∷ k)
 item m k y = enter m y false false (InPattern ∷ k)
 
 abbrev pub step : ℕ → State → Kind → State
 step m (Expect s g k) y = enter m y s g k
 step m (Ready g e k) y = after m g e k y
+step m (Named x g k) y = named m x g k y
+step m (Selects g k) y = select m g k y
 step m (Prints k) y = prints m k y
 step m (Begins k) y = begin m y k
 step m (Done x k) y = next_statement m x k y
+step m (Opens k) y = opens m k y
 step m (Between k) y = item m k y
 step m Failed y = Failed
 
@@ -260,12 +331,16 @@ abbrev pub items : List Frame → Option (Option (List Item))
 items (InProgram made ∷ []) = Some made
 items k = None
 
-abbrev pub finish : State → Option (Option (List Item))
-finish (Between k) = items k
-finish x = None
+abbrev pub whole : State → Option (Option (List Item))
+whole (Between k) = items k
+whole x = None
+
+-- the end of the text ends a pattern as a newline does
+abbrev pub finish : ℕ → State → Option (Option (List Item))
+finish m x = whole (step m x t.Newline)
 
 abbrev pub answer : ℕ → State → List Kind → Option (Option (List Item))
-answer m x [] = finish x
+answer m x [] = finish m x
 answer m x (y ∷ ts) = answer m (step m x y) ts
 
 abbrev pub start : ℕ → State

@@ -3,7 +3,7 @@ use Rattle.std.specs.Prelude.{◌≡◌, ◌<◌, List, Result, Ok, Err}
 use Rattle.awk_lex.specs.declared.token.Kind.{Kind}
 use Rattle.awk_lex.specs.declared.refusal.Refusal.{Refusal}
 use Rattle.awk_lex.specs.declared.refusal.Code.{Code}
-use Rattle.awk_lex.specs.declared.refusal.Code.TheVariants.{UnexpectedByte, NumberRefused, ProgramTooLong, NotAProgram, NestedTooDeep, OutOfMemory}
+use Rattle.awk_lex.specs.declared.refusal.Code.TheVariants.{UnexpectedByte, OpenString, EscapeRefused, NumberRefused, ProgramTooLong, NotAProgram, NestedTooDeep, ArrayAndScalar, NameLeftOut, OutOfMemory}
 use Rattle.awk_lex.specs.Refused.{IsOutOfMemory}
 use Rattle.awk_syntax.specs.Tree.{Item}
 use Rattle.awk_syntax.specs.Height.{most_height, height_of_program}
@@ -24,5 +24,9 @@ Justifies NotAProgram ts = (items : List Item) → IsProgram ts items → ⊥
 Justifies NestedTooDeep ts = (items : List Item) × IsProgram ts items × (most_height < height_of_program items)
 Justifies OutOfMemory ts = Unit {0}
 Justifies UnexpectedByte ts = ⊥
+Justifies OpenString ts = ⊥
+Justifies EscapeRefused ts = ⊥
 Justifies NumberRefused ts = ⊥
 Justifies ProgramTooLong ts = ⊥
+Justifies ArrayAndScalar ts = ⊥
+Justifies NameLeftOut ts = ⊥

@@ -7,14 +7,17 @@ use Rattle.awk_syntax.specs.Tree as t
 use Rattle.awk_syntax.specs.declared.frame.Frame.{Frame}
 use Rattle.awk_syntax.specs.declared.kept.LowItems.{LowItems}
 use Rattle.awk_syntax.specs.declared.state.Now.{Now}
-use Rattle.awk_syntax.specs.declared.state.Now.TheVariants.{Expect, Ready, Prints, Begins, Done, Between}
+use Rattle.awk_syntax.specs.declared.state.Now.TheVariants.{Expect, Ready, Named, Selects, Prints, Begins, Done, Opens, Between}
 
 abbrev pub state_of : Now → List Frame → machine.State
 state_of (Expect skips bare) fs = machine.Expect skips bare (stack_of fs)
 state_of (Ready bare part) fs = machine.Ready bare (part_of part) (stack_of fs)
+state_of (Named bare x) fs = machine.Named x bare (stack_of fs)
+state_of (Selects bare) fs = machine.Selects bare (stack_of fs)
 state_of Prints fs = machine.Prints (stack_of fs)
 state_of Begins fs = machine.Begins (stack_of fs)
 state_of (Done x) fs = machine.Done (kept_statement x) (stack_of fs)
+state_of Opens fs = machine.Opens (stack_of fs)
 state_of Between fs = machine.Between (stack_of fs)
 
 -- the next state, or none where the token can't be taken: the stack is of no use then

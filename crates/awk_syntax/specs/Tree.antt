@@ -1,11 +1,19 @@
 -- The tree of a program, without where it lies in memory (POSIX awk, Grammar).
-use Rattle.std.specs.Prelude.{ℤ}
+use Rattle.std.specs.Prelude.{ℕ, ℤ, List}
+use Rattle.awk_syntax.specs.declared.tree.UnaryOperator.{UnaryOperator}
 use Rattle.awk_syntax.specs.declared.tree.BinaryOperator.{BinaryOperator}
 
 pub data Expr : Type 0 where
   Number : (n : ℤ) → Expr
+  -- a string, by the bytes that it stands for
+  String : (bytes : List ℕ) → Expr
+  Name : (name : List ℕ) → Expr
+  -- an expression in parentheses
+  Group : (e : Expr) → Expr
   Field : (e : Expr) → Expr
+  Unary : (o : UnaryOperator) (e : Expr) → Expr
   Binary : (o : BinaryOperator) (a b : Expr) → Expr
+  Assign : (name : List ℕ) (e : Expr) → Expr
 
 pub data Exprs : Type 0 where
   Nil : Exprs
@@ -14,6 +22,8 @@ pub data Exprs : Type 0 where
 mutual
   pub data Statement : Type 0 where
     Block : (all : Statements) → Statement
+    -- an expression as a statement
+    Evaluate : (e : Expr) → Statement
     -- `print`; an empty list is none
     Print : (list : Exprs) → Statement
 
@@ -22,5 +32,8 @@ mutual
     Then : (s : Statement) (rest : Statements) → Statements
 
 pub data Item : Type 0 where
+  Begin : (block : Statements) → Item
   Always : (block : Statements) → Item
+  -- a pattern without an action
+  Short : (e : Expr) → Item
   Rule : (e : Expr) (block : Statements) → Item

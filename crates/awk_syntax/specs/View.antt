@@ -2,17 +2,22 @@
 use Rattle.std.specs.Prelude.{List, [], ◌∷◌}
 use Rattle.awk_syntax.specs.Tree as t
 use Rattle.awk_syntax.specs.declared.tree.Expr.{Expr}
-use Rattle.awk_syntax.specs.declared.tree.Expr.TheVariants.{Number, Field', Binary'}
+use Rattle.awk_syntax.specs.declared.tree.Expr.TheVariants.{Number, String, Name, Group', Field', Unary', Binary', Assign'}
 use Rattle.awk_syntax.specs.declared.tree.Statement.{Statement, Row_of-Statement, end_of-Statement, more_of-Statement}
-use Rattle.awk_syntax.specs.declared.tree.Statement.TheVariants.{Block', Print}
+use Rattle.awk_syntax.specs.declared.tree.Statement.TheVariants.{Block', Expression, Print}
 use Rattle.awk_syntax.specs.declared.tree.Item.{Item}
-use Rattle.awk_syntax.specs.declared.tree.Item.TheVariants.{Always, Rule}
+use Rattle.awk_syntax.specs.declared.tree.Item.TheVariants.{Begin, Always, Pattern, Rule}
 use Rattle.awk_syntax.specs.declared.tree.Tree.{Tree}
 
 abbrev pub expr_of : Expr → t.Expr
 expr_of (Number n) = t.Number n
+expr_of (String bytes) = t.String bytes
+expr_of (Name x) = t.Name x
+expr_of (Group' p e) = t.Group (expr_of e)
 expr_of (Field' p e) = t.Field (expr_of e)
+expr_of (Unary' o p e) = t.Unary o (expr_of e)
 expr_of (Binary' o p a q b) = t.Binary o (expr_of a) (expr_of b)
+expr_of (Assign' x p e) = t.Assign x (expr_of e)
 
 abbrev pub exprs_of : List Expr → t.Exprs
 exprs_of [] = t.Nil
@@ -21,6 +26,7 @@ exprs_of (e ∷ es) = t.Cons (expr_of e) (exprs_of es)
 abbrev mutual
   pub statement_of : Statement → t.Statement
   statement_of (Block' s all) = t.Block (statements_of_row all)
+  statement_of (Expression e) = t.Evaluate (expr_of e)
   statement_of (Print es) = t.Print (exprs_of es.items)
 
   pub statements_of_row : {m : _} → Row_of-Statement m → t.Statements
@@ -32,7 +38,9 @@ statements_of [] = t.NoMore
 statements_of (s ∷ ss) = t.Then (statement_of s) (statements_of ss)
 
 abbrev pub item_of : Item → t.Item
+item_of (Begin block) = t.Begin (statements_of block.items)
 item_of (Always block) = t.Always (statements_of block.items)
+item_of (Pattern e) = t.Short (expr_of e)
 item_of (Rule e block) = t.Rule (expr_of e) (statements_of block.items)
 
 abbrev pub items_of : List Item → List t.Item

@@ -7,8 +7,24 @@ ghost use Rattle.awk_syntax.specs.Kept.{kept_expr, kept_exprs, kept_statement, k
 ghost use Rattle.awk_syntax.specs.Machine.{over_one, over_two, append, push, add};
 
 use crate::kept::{LowExpr, LowExprs, LowItem, LowItems, LowStatement, LowStatements, MOST_HEIGHT};
-use crate::tree::{BinaryOperator, Expr, Item, Statement};
+use crate::tree::{BinaryOperator, Expr, Item, Statement, UnaryOperator};
+use awk_value::Bytes;
 use std::alloc::{AllocError, Global};
+
+/// An expression in parentheses.
+pub fn group(alloc: Global, inside: Option<LowExpr>) -> Result<Option<LowExpr>, AllocError>
+    ensures { IfOk result (λ e. kept_expr e ≡ over_one 200 height_of t.Group (kept_expr inside)) }
+{
+    let Some(inside) = inside else {
+        return Ok(None);
+    };
+    if inside.height >= MOST_HEIGHT {
+        return Ok(None);
+    }
+    let height = inside.height + 1;
+    let expr = Expr::Group(Box::new(alloc, inside.expr)?);
+    Ok(Some(LowExpr { expr, height }))
+}
 
 /// `$` and an expression.
 pub fn field(alloc: Global, number: Option<LowExpr>) -> Result<Option<LowExpr>, AllocError>
@@ -22,6 +38,26 @@ pub fn field(alloc: Global, number: Option<LowExpr>) -> Result<Option<LowExpr>, 
     }
     let height = number.height + 1;
     let expr = Expr::Field(Box::new(alloc, number.expr)?);
+    Ok(Some(LowExpr { expr, height }))
+}
+
+/// An operator before an operand.
+pub fn unary(
+    alloc: Global,
+    operator: UnaryOperator,
+    operand: Option<LowExpr>,
+) -> Result<Option<LowExpr>, AllocError>
+    ensures { IfOk result (λ e. kept_expr e
+        ≡ over_one 200 height_of (t.Unary operator) (kept_expr operand)) }
+{
+    let Some(operand) = operand else {
+        return Ok(None);
+    };
+    if operand.height >= MOST_HEIGHT {
+        return Ok(None);
+    }
+    let height = operand.height + 1;
+    let expr = Expr::Unary(operator, Box::new(alloc, operand.expr)?);
     Ok(Some(LowExpr { expr, height }))
 }
 
@@ -51,6 +87,26 @@ pub fn binary(
     Ok(Some(LowExpr { expr, height }))
 }
 
+/// An assignment to a name.
+pub fn assign(
+    alloc: Global,
+    name: Bytes,
+    value: Option<LowExpr>,
+) -> Result<Option<LowExpr>, AllocError>
+    ensures { IfOk result (λ e. kept_expr e
+        ≡ over_one 200 height_of (t.Assign name) (kept_expr value)) }
+{
+    let Some(value) = value else {
+        return Ok(None);
+    };
+    if value.height >= MOST_HEIGHT {
+        return Ok(None);
+    }
+    let height = value.height + 1;
+    let expr = Expr::Assign(name, Box::new(alloc, value.expr)?);
+    Ok(Some(LowExpr { expr, height }))
+}
+
 /// A list with one expression more.
 pub fn one_more_expr(
     list: Option<LowExprs>,
@@ -69,6 +125,19 @@ pub fn one_more_expr(
     let mut exprs = kept.exprs;
     exprs.push(expr.expr)?;
     Ok(Some(LowExprs { exprs, height }))
+}
+
+/// An expression as a statement.
+pub fn evaluate(expr: Option<LowExpr>) -> Option<LowStatement>
+    ensures { kept_statement result ≡ over_one 200 height_of_statement t.Evaluate (kept_expr expr) }
+{
+    let expr = expr?;
+    if expr.height >= MOST_HEIGHT {
+        return None;
+    }
+    let height = expr.height + 1;
+    let statement = Statement::Expression(expr.expr);
+    Some(LowStatement { statement, height })
 }
 
 /// `print` with a list.
@@ -118,6 +187,18 @@ pub fn one_more_statement(
     Ok(Some(LowStatements { statements, height }))
 }
 
+/// An action before all records.
+pub fn begin_item(action: Option<LowStatements>) -> Option<LowItem>
+    ensures { kept_item result ≡ over_one 200 height_of_item t.Begin (kept_statements action) }
+{
+    let action = action?;
+    if action.height + 2 > MOST_HEIGHT {
+        return None;
+    }
+    let item = Item::Begin(action.statements);
+    Some(LowItem { item })
+}
+
 /// An action for every record.
 pub fn always(action: Option<LowStatements>) -> Option<LowItem>
     ensures { kept_item result ≡ over_one 200 height_of_item t.Always (kept_statements action) }
@@ -127,6 +208,18 @@ pub fn always(action: Option<LowStatements>) -> Option<LowItem>
         return None;
     }
     let item = Item::Always(action.statements);
+    Some(LowItem { item })
+}
+
+/// A pattern without an action.
+pub fn pattern(expr: Option<LowExpr>) -> Option<LowItem>
+    ensures { kept_item result ≡ over_one 200 height_of_item t.Short (kept_expr expr) }
+{
+    let expr = expr?;
+    if expr.height >= MOST_HEIGHT {
+        return None;
+    }
+    let item = Item::Pattern(expr.expr);
     Some(LowItem { item })
 }
 

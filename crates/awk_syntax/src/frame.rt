@@ -5,10 +5,11 @@ ghost use Rattle.awk_syntax.specs.Machine as machine;
 ghost use Rattle.awk_syntax.specs.Frames.{part_of, frame_of};
 ghost use Rattle.awk_syntax.specs.Roles.{role_of};
 
-use crate::build::{binary, field};
+use crate::build::{assign, binary, field, group, unary};
 use crate::kept::{LowExpr, LowExprs, LowItems, LowStatements};
 use crate::role::Role;
-use crate::tree::{BinaryOperator, Expr};
+use crate::tree::{BinaryOperator, Expr, UnaryOperator};
+use awk_value::Bytes;
 use std::alloc::{AllocError, Global};
 
 /// An expression: its level, and its tree unless that is too high.
@@ -21,6 +22,7 @@ pub struct Part {
 /// What stands before an action.
 #[derive(Drop)]
 pub enum Head {
+    Begin,
     All,
     Rule(Part),
 }
@@ -28,8 +30,12 @@ pub enum Head {
 /// A node that has begun, with what is read of it. Lists are none once they are too high.
 #[derive(Drop)]
 pub enum Frame {
-    Field,
+    /// Parentheses, and whether they stand in a bare print list.
+    Group(bool),
+    Unary(UnaryOperator),
     Binary(BinaryOperator, Part),
+    Assign(Bytes),
+    Statement,
     Print(Option<LowExprs>),
     Block(Option<LowStatements>),
     Pattern,
@@ -51,6 +57,52 @@ impl Part {
         }
     }
 
+    /// A string.
+    pub fn string(bytes: Bytes) -> Part
+        ensures { part_of result ≡ machine.string 200 bytes }
+    {
+        Part {
+            rank: 0,
+            tree: Some(LowExpr {
+                expr: Expr::String(bytes),
+                height: 1,
+            }),
+        }
+    }
+
+    /// A name.
+    pub fn name(name: Bytes) -> Part
+        ensures { part_of result ≡ machine.name 200 name }
+    {
+        Part {
+            rank: 0,
+            tree: Some(LowExpr {
+                expr: Expr::Name(name),
+                height: 1,
+            }),
+        }
+    }
+
+    /// `$` and this number.
+    pub fn into_field(self, alloc: Global) -> Result<Part, AllocError>
+        ensures { IfOk result (λ p. part_of p ≡ machine.field 200 (part_of self)) }
+    {
+        Ok(Part {
+            rank: 1,
+            tree: field(alloc, self.tree)?,
+        })
+    }
+
+    /// This expression in parentheses.
+    pub fn into_group(self, alloc: Global) -> Result<Part, AllocError>
+        ensures { IfOk result (λ p. part_of p ≡ machine.group 200 (part_of self)) }
+    {
+        Ok(Part {
+            rank: 0,
+            tree: group(alloc, self.tree)?,
+        })
+    }
+
     /// Whether this operand, standing where at most the level `hole` may stand, goes on with the next token.
     pub fn takes(&self, role: Role, hole: u8) -> bool
         ensures { result ≡ machine.takes (role_of role) (part_of self.now) hole }
@@ -68,7 +120,7 @@ impl Frame {
         ensures { result ≡ machine.hole (frame_of self.now) }
     {
         match self {
-            Frame::Field => 2,
+            Frame::Unary(_) => 5,
             Frame::Binary(operator, _) => operator.right(),
             _ => 16,
         }
@@ -78,7 +130,7 @@ impl Frame {
     pub fn keeps(&self) -> bool
         ensures { result ≡ machine.keeps (frame_of self.now) }
     {
-        !matches!(self, Frame::Field | Frame::Binary(..))
+        !matches!(self, Frame::Unary(_) | Frame::Binary(..) | Frame::Assign(_))
     }
 
     /// The node, made of its last child.
@@ -86,13 +138,17 @@ impl Frame {
         ensures { IfOk result (λ p. part_of p ≡ machine.fill 200 (frame_of self) (part_of part)) }
     {
         match self {
-            Frame::Field => Ok(Part {
-                rank: 1,
-                tree: field(alloc, part.tree)?,
+            Frame::Unary(operator) => Ok(Part {
+                rank: 5,
+                tree: unary(alloc, operator, part.tree)?,
             }),
             Frame::Binary(operator, left) => Ok(Part {
                 rank: operator.level(),
                 tree: binary(alloc, operator, left.tree, part.tree)?,
+            }),
+            Frame::Assign(name) => Ok(Part {
+                rank: 16,
+                tree: assign(alloc, name, part.tree)?,
             }),
             _ => Ok(part),
         }

@@ -11,7 +11,8 @@ impl BinaryOperator {
         ensures { result ≡ level_of self }
     {
         match self {
-            BinaryOperator::Times => 6,
+            BinaryOperator::Times | BinaryOperator::Remainder => 6,
+            BinaryOperator::Plus | BinaryOperator::Minus => 7,
             BinaryOperator::Less
             | BinaryOperator::LessEqual
             | BinaryOperator::Equal
@@ -26,7 +27,8 @@ impl BinaryOperator {
         ensures { result ≡ left self }
     {
         match self {
-            BinaryOperator::Times => 6,
+            BinaryOperator::Times | BinaryOperator::Remainder => 6,
+            BinaryOperator::Plus | BinaryOperator::Minus => 7,
             BinaryOperator::Less
             | BinaryOperator::LessEqual
             | BinaryOperator::Equal
@@ -41,7 +43,8 @@ impl BinaryOperator {
         ensures { result ≡ right self }
     {
         match self {
-            BinaryOperator::Times => 5,
+            BinaryOperator::Times | BinaryOperator::Remainder => 5,
+            BinaryOperator::Plus | BinaryOperator::Minus => 6,
             BinaryOperator::Less
             | BinaryOperator::LessEqual
             | BinaryOperator::Equal

@@ -6,27 +6,32 @@ ghost use Rattle.awk_syntax.specs.Roles.{role_of};
 ghost use Rattle.awk_syntax.specs.Frames.{part_of, stack_of, held};
 ghost use Rattle.awk_syntax.specs.States.{state_of, next_of, found_of};
 
-use crate::build::one_more_expr;
+use crate::build::{evaluate, one_more_expr};
 use crate::frame::{Frame, Part};
 use crate::kept::LowItems;
-use crate::operands::{enter, go_on, hole_of, settle};
+use crate::operands::{assign, close_group, enter, go_on, hole_of, select, settle};
 use crate::role::Role;
 use crate::state::Now;
-use crate::statements::{begin, close_pattern, close_print, item, next_statement, prints};
+use crate::statements::{
+    begin, close_pattern, close_print, end_with, item, next_statement, open, prints,
+};
 use awk_lex::token::Kind;
+use awk_value::Bytes;
 use std::alloc::{AllocError, Global};
 
 /// The token that ends an operand.
 fn close(
     alloc: Global,
-    kind: Kind,
+    kind: &Kind,
     part: Part,
     stack: &mut Vec<Frame>,
 ) -> Result<Option<Now>, AllocError>
     ensures { IfOk result (λ now. next_of now stack.new.items
-        ≡ machine.close 200 kind (part_of part) (stack_of stack.old.items)) }
+        ≡ machine.close 200 kind.now (part_of part) (stack_of stack.old.items)) }
 {
     match stack.pop() {
+        Some(Frame::Group(outer)) => close_group(alloc, kind, outer, part, stack),
+        Some(Frame::Statement) => end_with(alloc, kind, evaluate(part.tree), stack),
         Some(Frame::Print(list)) => {
             close_print(alloc, kind, one_more_expr(list, part.tree)?, stack)
         }
@@ -39,13 +44,13 @@ fn close(
 fn follow(
     alloc: Global,
     role: Role,
-    kind: Kind,
+    kind: &Kind,
     bare: bool,
     part: Part,
     stack: &mut Vec<Frame>,
 ) -> Result<Option<Now>, AllocError>
     ensures { IfOk result (λ now. next_of now stack.new.items
-        ≡ machine.follow 200 (role_of role) kind bare (held part stack.old.items)) }
+        ≡ machine.follow 200 (role_of role) kind.now bare (held part stack.old.items)) }
 {
     if part.takes(role, hole_of(stack)) {
         return go_on(role, bare, part, stack);
@@ -56,42 +61,62 @@ fn follow(
 /// The token behind an operand.
 fn after(
     alloc: Global,
-    kind: Kind,
+    kind: &Kind,
     bare: bool,
     part: Part,
     stack: &mut Vec<Frame>,
 ) -> Result<Option<Now>, AllocError>
     ensures { IfOk result (λ now. next_of now stack.new.items
-        ≡ machine.after 200 bare (part_of part) (stack_of stack.old.items) kind) }
+        ≡ machine.after 200 bare (part_of part) (stack_of stack.old.items) kind.now) }
 {
     let role = Role::of(kind, bare);
     let part = settle(alloc, role, part, stack)?;
     follow(alloc, role, kind, bare, part, stack)
 }
 
+/// The token behind a name.
+fn named(
+    alloc: Global,
+    kind: &Kind,
+    bare: bool,
+    name: Bytes,
+    stack: &mut Vec<Frame>,
+) -> Result<Option<Now>, AllocError>
+    ensures { IfOk result (λ now. next_of now stack.new.items
+        ≡ machine.named 200 name bare (stack_of stack.old.items) kind.now) }
+{
+    if matches!(kind, Kind::Assign) {
+        return assign(bare, name, stack);
+    }
+    after(alloc, kind, bare, Part::name(name), stack)
+}
+
 /// Takes a token: where the reader stands then, or none if it can't take it.
 pub fn step(
     alloc: Global,
     now: Now,
-    kind: Kind,
+    kind: &Kind,
     stack: &mut Vec<Frame>,
 ) -> Result<Option<Now>, AllocError>
     ensures { IfOk result (λ next. next_of next stack.new.items
-        ≡ machine.step 200 (state_of now stack.old.items) kind) }
+        ≡ machine.step 200 (state_of now stack.old.items) kind.now) }
 {
     match now {
         Now::Expect { skips, bare } => enter(kind, skips, bare, stack),
         Now::Ready { bare, part } => after(alloc, kind, bare, part, stack),
+        Now::Named { bare, name } => named(alloc, kind, bare, name, stack),
+        Now::Selects { bare } => select(alloc, kind, bare, stack),
         Now::Prints => prints(alloc, kind, stack),
         Now::Begins => begin(alloc, kind, stack),
         Now::Done(statement) => next_statement(alloc, kind, statement, stack),
+        Now::Opens => open(alloc, kind, stack),
         Now::Between => item(alloc, kind, stack),
     }
 }
 
-/// The text ends: none where it is no program, and else its items unless it is too high.
-pub fn finish(now: Now, stack: &mut Vec<Frame>) -> Option<Option<LowItems>>
-    ensures { found_of result ≡ machine.finish (state_of now stack.old.items) }
+/// What is read of a whole text: none where it is no program, and else its items unless it is too high.
+fn whole(now: Now, stack: &mut Vec<Frame>) -> Option<Option<LowItems>>
+    ensures { found_of result ≡ machine.whole (state_of now stack.old.items) }
 {
     let Now::Between = now else {
         return None;
@@ -100,4 +125,18 @@ pub fn finish(now: Now, stack: &mut Vec<Frame>) -> Option<Option<LowItems>>
         return None;
     };
     if stack.is_empty() { Some(items) } else { None }
+}
+
+/// The text ends, which ends a pattern as a newline does.
+pub fn finish(
+    alloc: Global,
+    now: Now,
+    stack: &mut Vec<Frame>,
+) -> Result<Option<Option<LowItems>>, AllocError>
+    ensures { IfOk result (λ found. found_of found ≡ machine.finish 200 (state_of now stack.old.items)) }
+{
+    let Some(now) = step(alloc, now, &Kind::Newline, stack)? else {
+        return Ok(None);
+    };
+    Ok(whole(now, stack))
 }

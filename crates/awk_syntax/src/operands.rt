@@ -1,15 +1,19 @@
 // Reading operands.
 
-ghost use Rattle.std.specs.Prelude.{◌≡◌, IfOk};
+ghost use Rattle.std.specs.Prelude.{◌≡◌, false, ◌∷◌, IfOk};
 ghost use Rattle.awk_syntax.specs.Machine as machine;
 ghost use Rattle.awk_syntax.specs.Roles.{role_of};
-ghost use Rattle.awk_syntax.specs.Frames.{part_of, stack_of, held};
+ghost use Rattle.awk_syntax.specs.Frames.{part_of, frame_of, stack_of, held};
+ghost use Rattle.awk_syntax.specs.Level as level;
+ghost use Rattle.awk_lex.specs.declared.token.Kind.TheVariants.{Assign};
 ghost use Rattle.awk_syntax.specs.States.{next_of};
 
 use crate::frame::{Frame, Part};
 use crate::role::Role;
 use crate::state::Now;
-use awk_lex::token::Kind;
+use crate::tree::UnaryOperator;
+use awk_lex::token::{Kind, Operator};
+use awk_value::Bytes;
 use std::alloc::{AllocError, Global};
 
 /// The loosest level that may stand next.
@@ -22,28 +26,99 @@ pub fn hole_of(stack: &Vec<Frame>) -> u8
     }
 }
 
+/// A node begins, and an operand in it.
+fn descend(frame: Frame, bare: bool, stack: &mut Vec<Frame>) -> Result<Option<Now>, AllocError>
+    ensures { IfOk result (λ now. next_of now stack.new.items
+        ≡ machine.Expect false bare (frame_of frame ∷ stack_of stack.old.items)) }
+{
+    stack.push(frame)?;
+    Ok(Some(Now::Expect { skips: false, bare }))
+}
+
 /// The token at the beginning of an operand: where the reader stands then, or none if it can't be taken.
 pub fn enter(
-    kind: Kind,
+    kind: &Kind,
     skips: bool,
     bare: bool,
     stack: &mut Vec<Frame>,
 ) -> Result<Option<Now>, AllocError>
     ensures { IfOk result (λ now. next_of now stack.new.items
-        ≡ machine.enter 200 kind skips bare (stack_of stack.old.items)) }
+        ≡ machine.enter 200 kind.now skips bare (stack_of stack.old.items)) }
 {
     match kind {
         Kind::Number(n) => Ok(Some(Now::Ready {
             bare,
-            part: Part::number(n),
+            part: Part::number(*n),
         })),
-        Kind::Dollar => {
-            stack.push(Frame::Field)?;
-            Ok(Some(Now::Expect { skips: false, bare }))
-        }
+        Kind::String(bytes) => Ok(Some(Now::Ready {
+            bare,
+            part: Part::string(bytes.clone()?),
+        })),
+        Kind::Name(name) => Ok(Some(Now::Named {
+            bare,
+            name: name.clone()?,
+        })),
+        Kind::OpenParenthesis => descend(Frame::Group(bare), false, stack),
+        Kind::Not => descend(Frame::Unary(UnaryOperator::Not), bare, stack),
+        Kind::Operator(Operator::Plus) => descend(Frame::Unary(UnaryOperator::Plus), bare, stack),
+        Kind::Operator(Operator::Minus) => descend(Frame::Unary(UnaryOperator::Minus), bare, stack),
+        Kind::Dollar => Ok(Some(Now::Selects { bare })),
         Kind::Newline if skips => Ok(Some(Now::Expect { skips, bare })),
         _ => Ok(None),
     }
+}
+
+/// The token behind `$`.
+pub fn select(
+    alloc: Global,
+    kind: &Kind,
+    bare: bool,
+    stack: &Vec<Frame>,
+) -> Result<Option<Now>, AllocError>
+    ensures { IfOk result (λ now. next_of now stack.now.items
+        ≡ machine.select 200 bare (stack_of stack.now.items) kind.now) }
+{
+    let Kind::Number(n) = kind else {
+        return Ok(None);
+    };
+    let part = Part::number(*n).into_field(alloc)?;
+    Ok(Some(Now::Ready { bare, part }))
+}
+
+/// Whether the name may be assigned.
+fn is_assignable(name: &Bytes) -> bool
+    ensures { result ≡ level.is_assignable name.now }
+{
+    name.as_slice() != b"NF".as_slice()
+}
+
+/// A name and the `=` behind it.
+pub fn assign(bare: bool, name: Bytes, stack: &mut Vec<Frame>) -> Result<Option<Now>, AllocError>
+    ensures { IfOk result (λ now. next_of now stack.new.items
+        ≡ machine.named 200 name bare (stack_of stack.old.items) Assign) }
+{
+    if is_assignable(&name) && hole_of(stack) >= 16 {
+        return descend(Frame::Assign(name), bare, stack);
+    }
+    Ok(None)
+}
+
+/// The token behind an expression in parentheses.
+pub fn close_group(
+    alloc: Global,
+    kind: &Kind,
+    outer: bool,
+    part: Part,
+    stack: &Vec<Frame>,
+) -> Result<Option<Now>, AllocError>
+    ensures { IfOk result (λ now. next_of now stack.now.items
+        ≡ machine.close_group 200 kind.now outer (part_of part) (stack_of stack.now.items)) }
+{
+    let Kind::CloseParenthesis = kind else {
+        return Ok(None);
+    };
+    let part = part.into_group(alloc)?;
+    Ok(Some(Now::Ready { bare: outer, part }))
 }
 
 /// Makes the nodes that the next token ends.
@@ -80,10 +155,7 @@ pub fn go_on(
         ≡ machine.go_on (role_of role) bare (part_of part) (stack_of stack.old.items)) }
 {
     match role {
-        Role::Infix(operator) => {
-            stack.push(Frame::Binary(operator, part))?;
-            Ok(Some(Now::Expect { skips: false, bare }))
-        }
+        Role::Infix(operator) => descend(Frame::Binary(operator, part), bare, stack),
         Role::Ends => Ok(None),
     }
 }

@@ -26,7 +26,7 @@ fn read(alloc: Global, tokens: &[Token]) -> Result<Tree, Refusal>
     stack.push(Frame::Program(Some(LowItems::new(alloc))))?;
     let mut now = Now::Between;
     for token in tokens {
-        let Some(next) = step(alloc, now, token.kind, &mut stack)? else {
+        let Some(next) = step(alloc, now, &token.kind, &mut stack)? else {
             return Err(Refusal {
                 code: Code::NotAProgram,
                 line: token.line,
@@ -34,7 +34,7 @@ fn read(alloc: Global, tokens: &[Token]) -> Result<Tree, Refusal>
         };
         now = next;
     }
-    match finish(now, &mut stack) {
+    match finish(alloc, now, &mut stack)? {
         Some(Some(kept)) => Ok(Tree { items: kept.items }),
         Some(None) => Err(Refusal {
             code: Code::NestedTooDeep,

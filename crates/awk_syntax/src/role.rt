@@ -18,11 +18,11 @@ pub enum Role {
 
 impl Role {
     /// What the token does; `bare` says that it stands in a bare print list, where `>` is no comparison.
-    pub fn of(kind: Kind, bare: bool) -> Role
-        ensures { role_of result ≡ machine.role bare kind }
+    pub fn of(kind: &Kind, bare: bool) -> Role
+        ensures { role_of result ≡ machine.role bare kind.now }
     {
         match kind {
-            Kind::Operator(operator) => Role::of_operator(operator, bare),
+            Kind::Operator(operator) => Role::of_operator(*operator, bare),
             _ => Role::Ends,
         }
     }
@@ -32,6 +32,9 @@ impl Role {
     {
         match operator {
             Operator::Times => Role::Infix(BinaryOperator::Times),
+            Operator::Remainder => Role::Infix(BinaryOperator::Remainder),
+            Operator::Plus => Role::Infix(BinaryOperator::Plus),
+            Operator::Minus => Role::Infix(BinaryOperator::Minus),
             Operator::Less => Role::Infix(BinaryOperator::Less),
             Operator::LessEqual => Role::Infix(BinaryOperator::LessEqual),
             Operator::Equal => Role::Infix(BinaryOperator::Equal),

@@ -1,12 +1,14 @@
 // Reading statements and items.
 
-ghost use Rattle.std.specs.Prelude.{◌≡◌, IfOk};
+ghost use Rattle.std.specs.Prelude.{◌≡◌, ◌∷◌, IfOk};
 ghost use Rattle.awk_syntax.specs.Machine as machine;
 ghost use Rattle.awk_syntax.specs.Frames.{part_of, head_of, stack_of};
 ghost use Rattle.awk_syntax.specs.Kept.{kept_exprs, kept_statement, kept_statements, kept_item};
 ghost use Rattle.awk_syntax.specs.States.{next_of};
 
-use crate::build::{always, block, one_more_item, one_more_statement, print, rule};
+use crate::build::{
+    always, begin_item, block, one_more_item, one_more_statement, pattern, print, rule,
+};
 use crate::frame::{Frame, Head, Part};
 use crate::kept::{LowExprs, LowItem, LowStatement, LowStatements};
 use crate::operands::enter;
@@ -19,6 +21,7 @@ pub fn item_of(head: Head, action: Option<LowStatements>) -> Option<LowItem>
     ensures { kept_item result ≡ machine.item_of 200 (head_of head) (kept_statements action) }
 {
     match head {
+        Head::Begin => begin_item(action),
         Head::All => always(action),
         Head::Rule(part) => rule(part.tree, action),
     }
@@ -36,6 +39,19 @@ pub fn between(item: Option<LowItem>, stack: &mut Vec<Frame>) -> Result<Option<N
     Ok(Some(Now::Between))
 }
 
+/// An action begins.
+fn begin_action(
+    alloc: Global,
+    head: Head,
+    stack: &mut Vec<Frame>,
+) -> Result<Option<Now>, AllocError>
+    ensures { IfOk result (λ now. next_of now stack.new.items
+        ≡ machine.Begins (machine.InAction (head_of head) (machine.no_statements 200) ∷ stack_of stack.old.items)) }
+{
+    stack.push(Frame::Action(head, Some(LowStatements::new(alloc))))?;
+    Ok(Some(Now::Begins))
+}
+
 /// The `}` of a block or an action.
 pub fn close_block(stack: &mut Vec<Frame>) -> Result<Option<Now>, AllocError>
     ensures { IfOk result (λ now. next_of now stack.new.items
@@ -49,9 +65,9 @@ pub fn close_block(stack: &mut Vec<Frame>) -> Result<Option<Now>, AllocError>
 }
 
 /// The token where a statement or the end of a block stands.
-pub fn begin(alloc: Global, kind: Kind, stack: &mut Vec<Frame>) -> Result<Option<Now>, AllocError>
+pub fn begin(alloc: Global, kind: &Kind, stack: &mut Vec<Frame>) -> Result<Option<Now>, AllocError>
     ensures { IfOk result (λ now. next_of now stack.new.items
-        ≡ machine.begin 200 kind (stack_of stack.old.items)) }
+        ≡ machine.begin 200 kind.now (stack_of stack.old.items)) }
 {
     match kind {
         Kind::Newline => Ok(Some(Now::Begins)),
@@ -61,19 +77,22 @@ pub fn begin(alloc: Global, kind: Kind, stack: &mut Vec<Frame>) -> Result<Option
         }
         Kind::CloseBrace => close_block(stack),
         Kind::Print => Ok(Some(Now::Prints)),
-        _ => Ok(None),
+        _ => {
+            stack.push(Frame::Statement)?;
+            enter(kind, false, false, stack)
+        }
     }
 }
 
 /// The token behind a statement, no newline.
 pub fn pass(
     alloc: Global,
-    kind: Kind,
+    kind: &Kind,
     statement: Option<LowStatement>,
     stack: &mut Vec<Frame>,
 ) -> Result<Option<Now>, AllocError>
     ensures { IfOk result (λ now. next_of now stack.new.items
-        ≡ machine.pass 200 kind (kept_statement statement) (stack_of stack.old.items)) }
+        ≡ machine.pass 200 kind.now (kept_statement statement) (stack_of stack.old.items)) }
 {
     let frame = match stack.pop() {
         Some(Frame::Block(all)) => Frame::Block(one_more_statement(all, statement)?),
@@ -87,12 +106,12 @@ pub fn pass(
 /// The token behind a simple statement.
 pub fn end_with(
     alloc: Global,
-    kind: Kind,
+    kind: &Kind,
     statement: Option<LowStatement>,
     stack: &mut Vec<Frame>,
 ) -> Result<Option<Now>, AllocError>
     ensures { IfOk result (λ now. next_of now stack.new.items
-        ≡ machine.end_with 200 kind (kept_statement statement) (stack_of stack.old.items)) }
+        ≡ machine.end_with 200 kind.now (kept_statement statement) (stack_of stack.old.items)) }
 {
     match kind {
         Kind::Semicolon | Kind::Newline => Ok(Some(Now::Done(statement))),
@@ -104,14 +123,14 @@ pub fn end_with(
 /// The token behind an expression of a print's list.
 pub fn close_print(
     alloc: Global,
-    kind: Kind,
+    kind: &Kind,
     list: Option<LowExprs>,
     stack: &mut Vec<Frame>,
 ) -> Result<Option<Now>, AllocError>
     ensures { IfOk result (λ now. next_of now stack.new.items
-        ≡ machine.close_print 200 kind (kept_exprs list) (stack_of stack.old.items)) }
+        ≡ machine.close_print 200 kind.now (kept_exprs list) (stack_of stack.old.items)) }
 {
-    if kind == Kind::Comma {
+    if matches!(kind, Kind::Comma) {
         stack.push(Frame::Print(list))?;
         return Ok(Some(Now::Expect {
             skips: true,
@@ -124,24 +143,24 @@ pub fn close_print(
 /// The token behind the expression of an item.
 pub fn close_pattern(
     alloc: Global,
-    kind: Kind,
+    kind: &Kind,
     part: Part,
     stack: &mut Vec<Frame>,
 ) -> Result<Option<Now>, AllocError>
     ensures { IfOk result (λ now. next_of now stack.new.items
-        ≡ machine.close_pattern 200 kind (part_of part) (stack_of stack.old.items)) }
+        ≡ machine.close_pattern 200 kind.now (part_of part) (stack_of stack.old.items)) }
 {
-    if kind != Kind::OpenBrace {
-        return Ok(None);
+    match kind {
+        Kind::OpenBrace => begin_action(alloc, Head::Rule(part), stack),
+        Kind::Semicolon | Kind::Newline => between(pattern(part.tree), stack),
+        _ => Ok(None),
     }
-    stack.push(Frame::Action(Head::Rule(part), Some(LowStatements::new(alloc))))?;
-    Ok(Some(Now::Begins))
 }
 
 /// The token behind the word `print`.
-pub fn prints(alloc: Global, kind: Kind, stack: &mut Vec<Frame>) -> Result<Option<Now>, AllocError>
+pub fn prints(alloc: Global, kind: &Kind, stack: &mut Vec<Frame>) -> Result<Option<Now>, AllocError>
     ensures { IfOk result (λ now. next_of now stack.new.items
-        ≡ machine.prints 200 (stack_of stack.old.items) kind) }
+        ≡ machine.prints 200 (stack_of stack.old.items) kind.now) }
 {
     let none = Some(LowExprs::new(alloc));
     match kind {
@@ -158,30 +177,39 @@ pub fn prints(alloc: Global, kind: Kind, stack: &mut Vec<Frame>) -> Result<Optio
 /// The token behind a statement.
 pub fn next_statement(
     alloc: Global,
-    kind: Kind,
+    kind: &Kind,
     statement: Option<LowStatement>,
     stack: &mut Vec<Frame>,
 ) -> Result<Option<Now>, AllocError>
     ensures { IfOk result (λ now. next_of now stack.new.items
-        ≡ machine.next_statement 200 (kept_statement statement) (stack_of stack.old.items) kind) }
+        ≡ machine.next_statement 200 (kept_statement statement) (stack_of stack.old.items) kind.now) }
 {
-    if kind == Kind::Newline {
+    if matches!(kind, Kind::Newline) {
         return Ok(Some(Now::Done(statement)));
     }
     pass(alloc, kind, statement, stack)
 }
 
-/// The token between items.
-pub fn item(alloc: Global, kind: Kind, stack: &mut Vec<Frame>) -> Result<Option<Now>, AllocError>
+/// The token behind the word `BEGIN`.
+pub fn open(alloc: Global, kind: &Kind, stack: &mut Vec<Frame>) -> Result<Option<Now>, AllocError>
     ensures { IfOk result (λ now. next_of now stack.new.items
-        ≡ machine.item 200 (stack_of stack.old.items) kind) }
+        ≡ machine.opens 200 (stack_of stack.old.items) kind.now) }
+{
+    match kind {
+        Kind::OpenBrace => begin_action(alloc, Head::Begin, stack),
+        _ => Ok(None),
+    }
+}
+
+/// The token between items.
+pub fn item(alloc: Global, kind: &Kind, stack: &mut Vec<Frame>) -> Result<Option<Now>, AllocError>
+    ensures { IfOk result (λ now. next_of now stack.new.items
+        ≡ machine.item 200 (stack_of stack.old.items) kind.now) }
 {
     match kind {
         Kind::Semicolon | Kind::Newline => Ok(Some(Now::Between)),
-        Kind::OpenBrace => {
-            stack.push(Frame::Action(Head::All, Some(LowStatements::new(alloc))))?;
-            Ok(Some(Now::Begins))
-        }
+        Kind::Begin => Ok(Some(Now::Opens)),
+        Kind::OpenBrace => begin_action(alloc, Head::All, stack),
         _ => {
             stack.push(Frame::Pattern)?;
             enter(kind, false, false, stack)

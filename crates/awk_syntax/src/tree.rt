@@ -1,9 +1,22 @@
 // The syntax tree.
 
+use awk_value::Bytes;
+
+/// What stands before an operand.
+#[derive(Clone, Copy, Debug, PartialEq, Eq)]
+pub enum UnaryOperator {
+    Not,
+    Plus,
+    Minus,
+}
+
 /// What joins two operands.
 #[derive(Clone, Copy, Debug, PartialEq, Eq)]
 pub enum BinaryOperator {
     Times,
+    Remainder,
+    Plus,
+    Minus,
     Less,
     LessEqual,
     Equal,
@@ -17,9 +30,17 @@ pub enum BinaryOperator {
 pub enum Expr {
     /// A number, from 0 to 2^127 - 1.
     Number(i128),
+    /// A string: the bytes that it stands for.
+    String(Bytes),
+    Name(Bytes),
+    /// An expression in parentheses.
+    Group(Box<Expr>),
     /// `$` and the field's number.
     Field(Box<Expr>),
+    Unary(UnaryOperator, Box<Expr>),
     Binary(BinaryOperator, Box<Expr>, Box<Expr>),
+    /// `name = expr`.
+    Assign(Bytes, Box<Expr>),
 }
 
 /// A statement.
@@ -27,6 +48,8 @@ pub enum Expr {
 pub enum Statement {
     /// A block in braces.
     Block(Vec<Statement>),
+    /// An expression, whose value is of no use.
+    Expression(Expr),
     /// `print` with its list, or with none.
     Print(Vec<Expr>),
 }
@@ -34,8 +57,12 @@ pub enum Statement {
 /// An item of a program, with its action.
 #[derive(Drop)]
 pub enum Item {
+    /// An action before all records.
+    Begin(Vec<Statement>),
     /// An action for every record.
     Always(Vec<Statement>),
+    /// The records on which the expression is true are printed.
+    Pattern(Expr),
     /// An action for the records on which the expression is true.
     Rule(Expr, Vec<Statement>),
 }
