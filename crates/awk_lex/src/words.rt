@@ -52,7 +52,8 @@ pub(crate) fn is_letter(byte: u8) -> bool
     byte.is_ascii_alphabetic() || byte == b'_'
 }
 
-pub(crate) fn is_word_byte(byte: u8) -> bool
+/// Whether a byte is a letter, a digit or an underscore.
+pub fn is_word_byte(byte: u8) -> bool
     ensures { result ≡ is_word_byte byte }
 {
     is_letter(byte) || byte.is_ascii_digit()
