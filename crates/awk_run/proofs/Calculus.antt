@@ -8,16 +8,22 @@ use Rattle.awk_run.specs.declared.halt.Halt.{Halt}
 use Rattle.awk_run.specs.declared.halt.Halt.TheVariants as halt
 use Rattle.awk_run.specs.declared.outcome.Fault.TheVariants.{OutOfMemory}
 use Rattle.awk_run.specs.Meaning.{printed_to}
-use Rattle.awk_record.specs.Record.{split_at_blanks}
+use Rattle.awk_streams.specs.declared.world.InputKind.{InputKind}
 use Rattle.awk_run.specs.State.{Event, Stop, State, Out, Run, go_on, ◌>>=◌, lift}
-use Rattle.awk_run.specs.Words.{set_record}
-use Rattle.awk_run.specs.Does.{Seen, Stands, Sort, WantOfMemory, FailedWrite, OfLanguage, sort_of, MatchesBy, Matches, ComesBy, Comes, Means, Does, Changes, SameState}
+use Rattle.awk_run.specs.Variables.{value_of}
+use Rattle.awk_run.specs.Does.{Seen, Holds, Stands, Sort, WantOfMemory, FailedWrite, OfLanguage, sort_of, MatchesBy, Matches, ComesBy, Comes, Means, Does, Changes, Beside, SameState}
 
 pub grows_refl : (l : List log.Event) (m : Option ℕ) → Grows l m l m
 grows_refl l m = record { agrees = λ a h. h; clear = λ e. e }
 
 pub grows_trans : {a b c : List log.Event} {l m n : Option ℕ} → Grows a l b m → Grows b m c n → Grows a l c n
 grows_trans x y = record { agrees = λ a h. x.agrees a (y.agrees a h); clear = λ e. x.clear (y.clear e) }
+
+-- what lies outside the code's own part is the same
+pub record OwnPart (s t : State) : Type 0 where
+  pub outside : t.outside ≡ s.outside
+  pub openings : t.openings ≡ s.openings
+  pub main : t.main ≡ s.main
 
 -- events that came before
 shift_by : {A : Type 0} (answers : Answers) (m : Machine) (k : Seen) (h : Sort) (o : Out A) (past first : List Event) → ComesBy answers m k h o (past ++ first) → ComesBy answers m k h (record { result = o.result; state = o.state; events = first ++ o.events }) past
@@ -146,52 +152,64 @@ memory_changes run same low = record {
   means = λ k. record { grows = grows_refl k.log k.mark; keeps = sound_same k _ _ same; keeps_main = main_same k _ _ same; means = λ answers s past agrees stands. tt };
 }
 
-stands_same : {answers : Answers} {old new : Machine} {k : Seen} {s : State} {past : List Event} → SameState old new → Stands answers old k s past → Stands answers new k s past
-stands_same {answers = answers} {k = k} {s = s} same stands = record {
+-- a state that differs in the code's own part alone stands after the same events
+stands_own : {answers : Answers} {old new : Machine} {k : Seen} {s t : State} {past : List Event} → new.streams ≡ old.streams → OwnPart s t → Holds new t → Stands answers old k s past → Stands answers new k t (past ++ [])
+stands_own {answers = answers} {old = old} {k = k} {s = s} {t = t} {past = past} same own holds stands = record {
   clear = stands.clear;
-  outside = stands.outside;
-  openings = stands.openings;
-  main = subst (λ x. IsMainRest answers k.log x.main s.main) (sym same.streams) stands.main;
-  current = stands.current ∙ sym same.current;
-  steps = stands.steps ∙ sym same.steps;
-  output = stands.output;
-  error = stands.error;
+  outside = own.outside ∙ stands.outside;
+  openings = λ kind name. ap (λ (f : InputKind → List ℕ → ℕ). f kind name) own.openings ∙ stands.openings kind name;
+  main = subst (λ x. IsMainRest answers k.log x.main t.main) (sym same) (subst (λ rest. IsMainRest answers k.log old.streams.main rest) (sym own.main) stands.main);
+  holds = holds;
+  output = stands.output ∙ ap (printed_to _) (sym (append-nil past));
+  error = stands.error ∙ ap (printed_to _) (sym (append-nil past));
 }
 
--- a result that the state determines
-pub reads_changes : {A : Type 0} {c : Result A Halt} {old new : Machine} (run : Run A) (r : State → Result A Stop) → ((s : State) → run s ≡ record { result = r s; state = s; events = [] }) → SameState old new → ((s : State) → s.current ≡ old.current → Matches c (r s)) → Changes run old new c
-reads_changes {c = c} {old = old} {new = new} run r is same e = record {
-  steps = omega (arith, same.steps);
-  streams = same.streams;
-  means = λ k. record {
-    grows = grows_refl k.log k.mark;
-    keeps = sound_same k _ _ same.streams;
-    keeps_main = main_same k _ _ same.streams;
-    means = λ answers s past agrees stands. subst (λ (o : Out _). Comes answers new k c o past) (sym (is s)) (lifted answers new k c (r s) s past (e s stands.current) (stands_same same stands));
-  };
-}
+own_by : {A : Type 0} (answers : Answers) (m : Machine) (k : Seen) (h : Sort) (r : Result A Stop) (t : State) (past : List Event) → MatchesBy h r → Stands answers m k t (past ++ []) → ComesBy answers m k h (record { result = r; state = t; events = [] }) past
+own_by answers m k WantOfMemory r t past e stands = tt
+own_by answers m k FailedWrite r t past e stands = absurd e
+own_by answers m k (OfLanguage stop) r t past e stands = (e, stands)
 
-pub record_changes : (text : List ℕ) {old new : Machine} → new.current ≡ split_at_blanks text → new.streams ≡ old.streams → new.steps ≡ old.steps → Changes (set_record text) old new (Ok tt)
-unfolding set_record
-record_changes text {old = old} {new = new} is same still = record {
-  steps = omega (arith, still);
+own_comes : {A : Type 0} (answers : Answers) (m : Machine) (k : Seen) (c : Result A Halt) (r : Result A Stop) (t : State) (past : List Event) → Matches c r → Stands answers m k t (past ++ []) → Comes answers m k c (record { result = r; state = t; events = [] }) past
+own_comes answers m k (Ok a) r t past e stands = (e, stands)
+own_comes answers m k (Err h) r t past e stands = own_by answers m k (sort_of h) r t past e stands
+
+-- a run that changes the code's own part alone, and shows nothing
+pub record Own {A : Type 0} (old new : Machine) (c : Result A Halt) (run : Run A) (s : State) : Type 0 where
+  pub result : Result A Stop
+  pub state : State
+  pub is : run s ≡ record { result = result; state = state; events = [] }
+  pub part : OwnPart s state
+  pub matches : Matches c result
+  pub holds : Holds new state
+
+pub own_changes : {A : Type 0} {c : Result A Halt} {old new : Machine} (run : Run A) → new.streams ≡ old.streams → new.steps ≤ old.steps → ((s : State) → Holds old s → Own old new c run s) → Changes run old new c
+own_changes {c = c} {old = old} {new = new} run same low own = record {
+  steps = low;
   streams = same;
   means = λ k. record {
     grows = grows_refl k.log k.mark;
     keeps = sound_same k _ _ same;
     keeps_main = main_same k _ _ same;
-    means = λ answers s past agrees stands. (
-      refl,
-      record {
-        clear = stands.clear;
-        outside = stands.outside;
-        openings = stands.openings;
-        main = subst (λ x. IsMainRest answers k.log x.main s.main) (sym same) stands.main;
-        current = sym is;
-        steps = stands.steps ∙ sym still;
-        output = stands.output ∙ ap (printed_to _) (sym (append-nil past));
-        error = stands.error ∙ ap (printed_to _) (sym (append-nil past));
-      },
-    );
+    means = λ answers s past agrees stands.
+        let o = own s stands.holds in
+        subst (λ (x : Out _). Comes answers new k c x past) (sym o.is) (own_comes answers new k c o.result o.state past o.matches (stands_own same o.part o.holds stands));
   };
 }
+
+pub same_part : (s : State) → OwnPart s s
+same_part s = record { outside = refl; openings = refl; main = refl }
+
+pub beside_holds : {old new : Machine} {s : State} → Beside old new → Holds old s → Holds new s
+beside_holds beside h = record {
+  current = h.current ∙ sym beside.current;
+  variables = λ x. h.variables x ∙ ap (λ v. value_of v x) (sym beside.variables);
+  arguments = h.arguments ∙ ap (λ a. a.words.items) (sym beside.arguments);
+  next = h.next ∙ ap (λ a. a.next) (sym beside.arguments);
+  served = h.served ∙ ap (λ a. a.served) (sym beside.arguments);
+  steps = h.steps ∙ sym beside.steps;
+}
+
+-- a result that the code's own part determines
+pub reads_changes : {A : Type 0} {c : Result A Halt} {old new : Machine} (run : Run A) (r : State → Result A Stop) → ((s : State) → run s ≡ record { result = r s; state = s; events = [] }) → SameState old new → ((s : State) → Holds old s → Matches c (r s)) → Changes run old new c
+reads_changes run r is same e =
+    own_changes run same.streams (omega (arith, same.beside.steps)) (λ s h. record { result = r s; state = s; is = is s; part = same_part s; matches = e s h; holds = beside_holds same.beside h })

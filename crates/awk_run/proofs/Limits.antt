@@ -1,19 +1,26 @@
 -- A larger limit changes nothing but where a run stops.
-use Rattle.std.proofs.Common.{◌≡◌, ◌≢◌, ℕ, zero, suc, ◌+◌, ◌≤◌, Bool, true, false, List, [], ◌∷◌, ◌++◌, Option, Some, None, Result, Ok, Err, refl, sym, ap, ◌∙◌, subst, append_assoc, append-nil, arith}
+use Rattle.std.proofs.Common.{◌≡◌, ◌≢◌, ℕ, zero, suc, ◌+◌, ◌≤◌, Bool, true, false, List, [], ◌∷◌, ◌++◌, Option, Some, None, Result, Ok, Err, pos, ℤ, refl, sym, ap, ◌∙◌, append_assoc, append-nil, arith}
+use Rattle.awk_text.specs.declared.separator.Separator.{Separator}
+use Rattle.awk_text.specs.declared.fault.TextFault.{TextFault}
 use Rattle.awk_value.specs.declared.value.Value.{Value}
 use Rattle.awk_value.specs.declared.value.Value.TheVariants as value
+use Rattle.awk_value.specs.declared.fault.ValueFault.{ValueFault}
 use Rattle.awk_value.specs.Values.{truth_of}
 use Rattle.awk_record.specs.Cut.{Cut, Found, NoMore, BrokenOff, TooLong, BadSeparator}
 use Rattle.awk_streams.specs.declared.world.InputKind.{InputKind}
-use Rattle.awk_streams.specs.declared.world.InputKind.TheVariants.{Standard}
+use Rattle.awk_streams.specs.declared.world.InputKind.TheVariants.{Standard, File}
 use Rattle.awk_streams.specs.Answers.{Source, Answers}
-use Rattle.awk_syntax.specs.Tree.{Expr, Number, Field, Binary, Exprs, Nil, Cons, Statement, Block, Print, Statements, NoMore as NoStatement, Then, Item, Always, Rule}
+use Rattle.awk_syntax.specs.Tree.{Expr, Number, String, Name, Group, Field, Unary, Binary, Assign, Exprs, Nil, Cons, Statement, Block, Evaluate, Print, Statements, NoMore as NoStatement, Then, Item, Begin, Always, Short, Rule}
 use Rattle.awk_run.specs.declared.outcome.Outcome.TheVariants.{Ended, Fault, Stopped}
 use Rattle.awk_run.specs.State.{Output, TheEnd, Event, Printed, Demanded, Stop, Faulted, OutOfSteps, State, Out, Run, go_on, ◌>>=◌, lift}
-use Rattle.awk_run.specs.Words.{spend, spend_of, field_at, current_text, show, opened, open_main, taken, taken_of, take_record, open_of, open_standard, set_record}
-use Rattle.awk_run.specs.Operators.{applied}
-use Rattle.awk_run.specs.Effect.{E, values_of, printed_values, line_of, S, S_all, run_if, try_item, try_items, next_record, on_record, each_record, all_records, run_items}
-use Rattle.awk_run.specs.Meaning.{StartValues, Meaning, start_state, whole, outcome_of, printed_to, demands_after, same_output}
+use Rattle.awk_run.specs.declared.variables.special.Special.{Special}
+use Rattle.awk_run.specs.declared.variables.special.Special.TheVariants.{Filename, Nr, Fnr}
+use Rattle.awk_run.specs.Variables.{name_of, is_refused}
+use Rattle.awk_run.specs.Words.{spend, spend_of, read_name, put_unless, put, count_in, field_at, current_text, split_as, set_record, show, show_values, opened, open_main, be_served, begin_input, taken, taken_of, take_record, close_main, argument_if, argument_below, take_argument, is_served}
+use Rattle.awk_run.specs.Operators.{changed, applied, raised}
+use Rattle.awk_run.specs.Inputs.{assigned_text, assign_text, Argument, Nothing, Assignment, StandardInput, AFile, argument_of, at_end, main_record, path_of, first_record, record_by, record_of, standard_unless, standard_record, or_else, search_by, search, search_all, next_record}
+use Rattle.awk_run.specs.Effect.{E, values_of, printed_values, S, S_all, run_if, try_item, try_items, begin_record, on_record, each_record, all_records, begin_item, begin_items, has_rule, run_items}
+use Rattle.awk_run.specs.Meaning.{StartValues, Meaning, start_state, assign_all, whole_run, whole, outcome_of, printed_to, demands_after, same_output}
 use Rattle.awk_run.specs.Limits.{IsBeginning, Begins, LawOfLimits}
 
 abbrev richer_state : ℕ → State → State
@@ -74,6 +81,22 @@ same_covers (Ok a) t events d = refl
 same_covers (Err (Faulted f)) t events d = refl
 same_covers (Err OutOfSteps) t events d = record { more = []; is = sym (append-nil events) }
 
+name_larger : (x : List ℕ) → Larger (read_name x) (read_name x)
+unfolding read_name
+name_larger x = record { covers = λ s d. refl }
+
+put_covers : (refused : Bool) (x : List ℕ) (v : Value) (s : State) (d : ℕ) → Covers (put_unless refused x v s).result d (put_unless refused x v s) (put_unless refused x v (richer_state d s))
+put_covers true x v s d = refl
+put_covers false x v s d = refl
+
+put_larger : (x : List ℕ) (v : Value) → Larger (put x v) (put x v)
+unfolding put
+put_larger x v = record { covers = λ s d. put_covers (is_refused x v) x v s d }
+
+count_larger : (x : Special) → Larger (count_in x) (count_in x)
+unfolding count_in
+count_larger x = then_larger _ _ (name_larger (name_of x)) (λ v. then_larger _ _ (lift_larger (raised v)) (λ w. put_larger (name_of x) w))
+
 field_larger : (v : Value) → Larger (field_at v) (field_at v)
 unfolding field_at
 field_larger v = record { covers = λ s d. same_covers _ s [] d }
@@ -82,29 +105,33 @@ text_larger : Larger current_text current_text
 unfolding current_text
 text_larger = record { covers = λ s d. refl }
 
-show_larger : (bytes : List ℕ) → Larger (show bytes) (show bytes)
-unfolding show
-show_larger bytes = record { covers = λ s d. refl }
+split_covers : (r : Result Separator TextFault) (text : List ℕ) (s : State) (d : ℕ) → Covers (split_as r text s).result d (split_as r text s) (split_as r text (richer_state d s))
+split_covers (Ok separator) text s d = refl
+split_covers (Err fault) text s d = refl
 
 set_larger : (text : List ℕ) → Larger (set_record text) (set_record text)
 unfolding set_record
-set_larger text = record { covers = λ s d. refl }
+set_larger text = record { covers = λ s d. split_covers _ text s d }
+
+show_larger : (vs : List Value) → Larger (show_values vs) (show_values vs)
+unfolding show_values show
+show_larger vs = record { covers = λ s d. refl }
 
 opened_covers : (kind : InputKind) (name : List ℕ) (o : Option Source) (s : State) (d : ℕ) → Covers (opened kind name o s).result d (opened kind name o s) (opened kind name o (richer_state d s))
 opened_covers kind name None s d = refl
 opened_covers kind name (Some source) s d = refl
 
-open_main_larger : (kind : InputKind) (name : List ℕ) → Larger (open_main kind name) (open_main kind name)
+open_larger : (kind : InputKind) (name : List ℕ) → Larger (open_main kind name) (open_main kind name)
 unfolding open_main
-open_main_larger kind name = record { covers = λ s d. opened_covers kind name _ s d }
+open_larger kind name = record { covers = λ s d. opened_covers kind name _ s d }
 
-open_covers : (o : Option Source) (s : State) (d : ℕ) → Covers (open_of o s).result d (open_of o s) (open_of o (richer_state d s))
-open_covers None s d = (open_main_larger Standard []).covers s d
-open_covers (Some source) s d = (lift_larger (Ok tt)).covers s d
+served_larger : Larger be_served be_served
+unfolding be_served
+served_larger = record { covers = λ s d. refl }
 
-open_larger : Larger open_standard open_standard
-unfolding open_standard
-open_larger = record { covers = λ s d. open_covers s.main s d }
+input_larger : (name : List ℕ) → Larger (begin_input name) (begin_input name)
+unfolding begin_input
+input_larger name = then_larger _ _ (put_larger (name_of Filename) (value.Input name)) (λ _. then_larger _ _ (put_larger (name_of Fnr) (value.Number (pos 0))) (λ _. served_larger))
 
 taken_covers : (c : Cut) (source : Source) (s : State) (d : ℕ) → Covers (taken c source s).result d (taken c source s) (taken c source (richer_state d s))
 taken_covers (Found first left) source s d = refl
@@ -113,13 +140,33 @@ taken_covers BrokenOff source s d = refl
 taken_covers TooLong source s d = refl
 taken_covers BadSeparator source s d = refl
 
-taken_of_covers : (o : Option Source) (s : State) (d : ℕ) → Covers (taken_of o s).result d (taken_of o s) (taken_of o (richer_state d s))
-taken_of_covers None s d = (lift_larger (Ok None)).covers s d
-taken_of_covers (Some source) s d = taken_covers _ source s d
+taken_of_covers : (o : Option Source) (separator : List ℕ) (s : State) (d : ℕ) → Covers (taken_of o separator s).result d (taken_of o separator s) (taken_of o separator (richer_state d s))
+taken_of_covers None separator s d = (lift_larger (Ok None)).covers s d
+taken_of_covers (Some source) separator s d = taken_covers _ source s d
 
 take_larger : Larger take_record take_record
 unfolding take_record
-take_larger = record { covers = λ s d. taken_of_covers s.main s d }
+take_larger = record { covers = λ s d. taken_of_covers s.main _ s d }
+
+close_larger : Larger close_main close_main
+unfolding close_main
+close_larger = record { covers = λ s d. refl }
+
+argument_if_covers : (b : Bool) (s : State) (d : ℕ) → Covers (argument_if b s).result d (argument_if b s) (argument_if b (richer_state d s))
+argument_if_covers true s d = refl
+argument_if_covers false s d = refl
+
+argument_below_covers : (r : Result ℤ ValueFault) (s : State) (d : ℕ) → Covers (argument_below r s).result d (argument_below r s) (argument_below r (richer_state d s))
+argument_below_covers (Ok n) s d = argument_if_covers _ s d
+argument_below_covers (Err fault) s d = refl
+
+argument_larger : Larger take_argument take_argument
+unfolding take_argument
+argument_larger = record { covers = λ s d. argument_below_covers _ s d }
+
+is_served_larger : Larger is_served is_served
+unfolding is_served
+is_served_larger = record { covers = λ s d. refl }
 
 spend_covers : (n : ℕ) (s : State) (d : ℕ) → Covers (spend_of n s).result d (spend_of n s) (spend_of (n + d) (richer_state d s))
 spend_covers zero s d = record { more = (spend_of (0 + d) (richer_state d s)).events; is = refl }
@@ -129,13 +176,76 @@ spend_larger : Larger spend spend
 unfolding spend
 spend_larger = record { covers = λ s d. spend_covers s.steps s d }
 
+-- the main input
+
+assign_larger : (x text : List ℕ) → Larger (assign_text x text) (assign_text x text)
+unfolding assign_text
+assign_larger x text = then_larger _ _ (lift_larger (assigned_text x text)) (λ t. put_larger x (value.Input t))
+
+at_end_larger : (found : Option (List ℕ)) → Larger (at_end found) (at_end found)
+at_end_larger None = then_larger _ _ close_larger (λ _. lift_larger (Ok None))
+at_end_larger (Some text) = lift_larger (Ok (Some text))
+
+main_larger : Larger main_record main_record
+unfolding main_record
+main_larger = then_larger _ _ take_larger (λ found. at_end_larger found)
+
+first_larger : (kind : InputKind) (name : List ℕ) → Larger (first_record kind name) (first_record kind name)
+unfolding first_record
+first_larger kind name = then_larger _ _ (open_larger kind (path_of kind name)) (λ _. then_larger _ _ (input_larger name) (λ _. main_larger))
+
+record_by_larger : (a : Argument) (word : List ℕ) → Larger (record_by a word) (record_by a word)
+record_by_larger Nothing word = lift_larger (Ok None)
+record_by_larger (Assignment x text) word = then_larger _ _ (assign_larger x text) (λ _. lift_larger (Ok None))
+record_by_larger StandardInput word = first_larger Standard word
+record_by_larger AFile word = first_larger File word
+
+record_of_larger : (word : List ℕ) → Larger (record_of word) (record_of word)
+unfolding record_of
+record_of_larger word = record_by_larger (argument_of word) word
+
+standard_unless_larger : (served : Bool) → Larger (standard_unless served) (standard_unless served)
+standard_unless_larger true = lift_larger (Ok None)
+standard_unless_larger false = first_larger Standard []
+
+standard_larger : Larger standard_record standard_record
+unfolding standard_record
+standard_larger = then_larger _ _ is_served_larger (λ served. standard_unless_larger served)
+
+or_else_larger : (found : Option (List ℕ)) (m n : Run (Option (List ℕ))) → Larger m n → Larger (or_else found m) (or_else found n)
+or_else_larger (Some text) m n h = lift_larger (Ok (Some text))
+or_else_larger None m n h = h
+
+search_by_larger : (word : Option (List ℕ)) (m n : Run (Option (List ℕ))) → Larger m n → Larger (search_by word m) (search_by word n)
+search_by_larger (Some word) m n h = then_larger _ _ spend_larger (λ _. then_larger _ _ (record_of_larger word) (λ found. or_else_larger found m n h))
+search_by_larger None m n h = standard_larger
+
+search_larger : (n n' : ℕ) → n ≤ n' → Larger (search n) (search n')
+unfolding search
+search_larger zero n' h = steps_larger _
+search_larger (suc n) zero h = absurd (omega arith)
+search_larger (suc n) (suc n') h = let t = search_larger n n' (omega arith) in then_larger _ _ argument_larger (λ word. search_by_larger word _ _ t)
+
+search_all_larger : Larger search_all search_all
+unfolding search_all
+search_all_larger = record { covers = λ s d. (search_larger (suc s.steps) (suc (s.steps + d)) (omega arith)).covers s d }
+
+next_larger : Larger next_record next_record
+unfolding next_record
+next_larger = then_larger _ _ main_larger (λ found. or_else_larger found _ _ search_all_larger)
+
 -- the forms
 
 E_larger : (e : Expr) → Larger (E e) (E e)
 unfolding E
 E_larger (Number n) = lift_larger (Ok (value.Number n))
+E_larger (String bytes) = lift_larger (Ok (value.Text bytes))
+E_larger (Name x) = name_larger x
+E_larger (Group e) = E_larger e
 E_larger (Field e) = then_larger _ _ (E_larger e) field_larger
+E_larger (Unary o e) = then_larger _ _ (E_larger e) (λ v. lift_larger (changed o v))
 E_larger (Binary o a b) = then_larger _ _ (E_larger a) (λ x. then_larger _ _ (E_larger b) (λ y. lift_larger (applied o x y)))
+E_larger (Assign x e) = then_larger _ _ (E_larger e) (λ v. then_larger _ _ (put_larger x v) (λ _. name_larger x))
 
 values_larger : (front : List Value) (es : Exprs) → Larger (values_of front es) (values_of front es)
 unfolding values_of
@@ -152,7 +262,8 @@ mutual
 
   S_larger : (s : Statement) → Larger (S s) (S s)
   S_larger (Block all) = all_larger all
-  S_larger (Print list) = then_larger _ _ spend_larger (λ _. then_larger _ _ (printed_larger list) (λ vs. show_larger (line_of vs)))
+  S_larger (Evaluate e) = then_larger _ _ spend_larger (λ _. then_larger _ _ (E_larger e) (λ v. lift_larger (Ok tt)))
+  S_larger (Print list) = then_larger _ _ spend_larger (λ _. then_larger _ _ (printed_larger list) (λ vs. show_larger vs))
 
   all_larger : (all : Statements) → Larger (S_all all) (S_all all)
   all_larger NoStatement = lift_larger (Ok tt)
@@ -164,7 +275,9 @@ if_larger false m h = lift_larger (Ok tt)
 
 item_larger : (x : Item) → Larger (try_item x) (try_item x)
 unfolding try_item
+item_larger (Begin block) = lift_larger (Ok tt)
 item_larger (Always block) = all_larger block
+item_larger (Short e) = then_larger _ _ (E_larger e) (λ v. if_larger (truth_of v) _ (S_larger (Print Nil)))
 item_larger (Rule e block) = then_larger _ _ (E_larger e) (λ v. if_larger (truth_of v) _ (all_larger block))
 
 items_larger : (xs : List Item) → Larger (try_items xs) (try_items xs)
@@ -172,9 +285,9 @@ unfolding try_items
 items_larger [] = lift_larger (Ok tt)
 items_larger (x ∷ xs) = then_larger _ _ (item_larger x) (λ _. items_larger xs)
 
-next_larger : Larger next_record next_record
-unfolding next_record
-next_larger = then_larger _ _ open_larger (λ _. take_larger)
+begin_larger : (text : List ℕ) → Larger (begin_record text) (begin_record text)
+unfolding begin_record
+begin_larger text = then_larger _ _ (set_larger text) (λ _. then_larger _ _ (count_larger Nr) (λ _. count_larger Fnr))
 
 on_larger : (found : Option (List ℕ)) (f g : List ℕ → Run (Unit {0})) → ((text : List ℕ) → Larger (f text) (g text)) → Larger (on_record found f) (on_record found g)
 on_larger None f g h = lift_larger (Ok tt)
@@ -186,20 +299,42 @@ each_larger zero n' action h y = steps_larger _
 each_larger (suc n) zero action h y = absurd (omega arith)
 each_larger (suc n) (suc n') action h y =
     let t = each_larger n n' action (omega arith) y in
-    then_larger _ _ next_larger (λ found. on_larger found _ _ (λ text. then_larger _ _ spend_larger (λ _. then_larger _ _ (set_larger text) (λ _. then_larger _ _ y (λ _. t)))))
+    then_larger _ _ next_larger (λ found. on_larger found _ _ (λ text. then_larger _ _ spend_larger (λ _. then_larger _ _ (begin_larger text) (λ _. then_larger _ _ y (λ _. t)))))
 
 records_larger : (action : Run (Unit {0})) → Larger action action → Larger (all_records action) (all_records action)
 unfolding all_records
 records_larger action y = record { covers = λ s d. (each_larger (suc s.steps) (suc (s.steps + d)) action (omega arith) y).covers s d }
 
+begin_item_larger : (x : Item) → Larger (begin_item x) (begin_item x)
+unfolding begin_item
+begin_item_larger (Begin block) = all_larger block
+begin_item_larger (Always block) = lift_larger (Ok tt)
+begin_item_larger (Short e) = lift_larger (Ok tt)
+begin_item_larger (Rule e block) = lift_larger (Ok tt)
+
+begin_items_larger : (xs : List Item) → Larger (begin_items xs) (begin_items xs)
+unfolding begin_items
+begin_items_larger [] = lift_larger (Ok tt)
+begin_items_larger (x ∷ xs) = then_larger _ _ (begin_item_larger x) (λ _. begin_items_larger xs)
+
 run_larger : (items : List Item) → Larger (run_items items) (run_items items)
 unfolding run_items
-run_larger [] = lift_larger (Ok tt)
-run_larger (x ∷ xs) = records_larger _ (items_larger (x ∷ xs))
+run_larger items = then_larger _ _ (begin_items_larger items) (λ _. if_larger (has_rule items) _ (records_larger _ (items_larger items)))
+
+-- a run
+
+assign_all_larger : (pre : List (List ℕ × List ℕ)) → Larger (assign_all pre) (assign_all pre)
+unfolding assign_all
+assign_all_larger [] = lift_larger (Ok tt)
+assign_all_larger (a ∷ all) = then_larger _ _ (assign_larger a.0 a.1) (λ _. assign_all_larger all)
+
+whole_larger : (items : List Item) (pre : List (List ℕ × List ℕ)) → Larger (whole_run items pre) (whole_run items pre)
+unfolding whole_run
+whole_larger items pre = then_larger _ _ (assign_all_larger pre) (λ _. run_larger items)
 
 whole_covers : (items : List Item) (start : StartValues) (answers : Answers) (limit d : ℕ) → Covers (whole items start answers limit).result d (whole items start answers limit) (whole items start answers (limit + d))
 unfolding whole
-whole_covers items start answers limit d = (run_larger items).covers (start_state start answers limit) d
+whole_covers items start answers limit d = (whole_larger items start.pre).covers (start_state start answers limit) d
 
 -- from runs to what they print
 

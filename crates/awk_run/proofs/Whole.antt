@@ -14,34 +14,39 @@ use Rattle.awk_run.specs.declared.outcome.Outcome.{Outcome}
 use Rattle.awk_run.specs.declared.outcome.Outcome.TheVariants.{Fault}
 use Rattle.awk_run.specs.declared.outcome.Fault.TheVariants as faults
 use Rattle.awk_run.specs.State.{StandardOutput, StandardError, Stop, Faulted, OutOfSteps, Out}
-use Rattle.awk_run.specs.Effect.{run_items}
-use Rattle.awk_run.specs.Meaning.{StartValues, start_state, whole, outcome_of, printed_to}
-use Rattle.awk_run.specs.Does.{Seen, Stands, Sort, WantOfMemory, FailedWrite, OfLanguage, sort_of, Comes, ComesBy, RunsItems, IsStart}
+use Rattle.awk_run.specs.Meaning.{StartValues, start_state, whole_run, whole, outcome_of, printed_to}
+use Rattle.awk_run.specs.Does.{Seen, Stands, Sort, WantOfMemory, FailedWrite, OfLanguage, sort_of, Comes, ComesBy, RunsWhole, IsStart}
 use Rattle.awk_run.specs.Headline.{IsFresh, IsUndisturbed}
 use Rattle.awk_run.specs.Verdict.{outcome_after, RunsFrom}
 
 -- nothing is open before a run
-pub start_open : {limit : ℕ} {m : Machine} (is_open : ℕ → Bool) → IsStart limit m → AreOpen is_open m.streams
+pub start_open : {start : StartValues} {limit : ℕ} {m : Machine} (is_open : ℕ → Bool) → IsStart start limit m → AreOpen is_open m.streams
 start_open is_open start = subst (λ x. IsOpenMain is_open x) (sym start.main) tt
 
-pub start_main : {limit : ℕ} {m : Machine} (l : List log.Event) → IsStart limit m → IsSoundMain l m.streams.main
+pub start_main : {start : StartValues} {limit : ℕ} {m : Machine} (l : List log.Event) → IsStart start limit m → IsSoundMain l m.streams.main
 start_main l start = subst (λ x. IsSoundMain l x) (sym start.main) tt
 
 -- the log is empty, and in order
-pub start_sound : {limit : ℕ} {m : Machine} (is_open : ℕ → Bool) (l : List log.Event) → IsStart limit m → l ≡ [] → IsInOrder is_open [] → AreSound is_open l m.streams
+pub start_sound : {start : StartValues} {limit : ℕ} {m : Machine} (is_open : ℕ → Bool) (l : List log.Event) → IsStart start limit m → l ≡ [] → IsInOrder is_open [] → AreSound is_open l m.streams
 start_sound is_open l start empty order = record {
   order = subst (λ (x : List log.Event). IsInOrder is_open x) (sym empty) order;
   main = subst (λ x. IsSoundMain l x) (sym start.main) tt;
 }
 
-start_stands : (start_values : StartValues) (answers : Answers) (limit : ℕ) (m : Machine) (k : Seen) → IsStart limit m → IsFresh k → Stands answers m k (start_state start_values answers limit) []
-start_stands start_values answers limit m k start fresh = record {
+start_stands : (start : StartValues) (answers : Answers) (limit : ℕ) (m : Machine) (k : Seen) → IsStart start limit m → IsFresh k → Stands answers m k (start_state start answers limit) []
+start_stands start answers limit m k is fresh = record {
   clear = fresh.mark;
   outside = refl;
   openings = λ kind name. ap (λ l. how_many (opens_input kind name) l) (sym fresh.log);
-  main = subst (λ x. IsMainRest answers k.log x None) (sym start.main) tt;
-  current = ap (λ (t : List ℕ). record { text = t; fields = [] }) (sym start.text) ∙ ap (λ fields. record { text = m.current.text; fields = fields }) (sym start.fields);
-  steps = sym start.steps;
+  main = subst (λ x. IsMainRest answers k.log x None) (sym is.main) tt;
+  holds = record {
+    current = ap (λ (t : List ℕ). record { text = t; fields = [] }) (sym is.text) ∙ ap (λ fields. record { text = m.current.text; fields = fields }) (sym is.fields);
+    variables = λ x. sym (is.variables x);
+    arguments = sym is.words;
+    next = sym is.next;
+    served = sym is.served;
+    steps = sym is.steps;
+  };
   output = ap (λ l. received 0 l) fresh.log;
   error = ap (λ l. received 1 l) fresh.log;
 }
@@ -93,8 +98,8 @@ still_unmarked (Err e) {mark' = mark'} told clear = absurd (not_some mark' clear
 halted_by_memory : (r : Result (Unit {0}) Halt) (f : Result (Unit {0}) StreamFault) → r ≡ Err (halt.Fault faults.OutOfMemory) → outcome_after r f ≡ Fault faults.OutOfMemory
 halted_by_memory r f e = ap (λ x. outcome_after x f) e
 
-ends_as_meant : (items : List Item) (start : StartValues) (answers : Answers) (limit : ℕ) {tells : Type 0} {m m1 : Machine} {k k1 k2 : Seen} {r : Result (Unit {0}) Halt} {f : Result (Unit {0}) StreamFault} {last : StreamsView} {result : Outcome} → IsStart limit m → IsFresh k → tells
-    → RunsItems tells items m k m1 k1 r → Finishes k1.is_open k1.log k1.mark m1.streams f k2.is_open k2.log k2.mark last → result ≡ outcome_after r f
+ends_as_meant : (items : List Item) (start : StartValues) (answers : Answers) (limit : ℕ) {tells : Type 0} {m m1 : Machine} {k k1 k2 : Seen} {r : Result (Unit {0}) Halt} {f : Result (Unit {0}) StreamFault} {last : StreamsView} {result : Outcome} → IsStart start limit m → IsFresh k → tells
+    → RunsWhole tells items start.pre m k m1 k1 r → Finishes k1.is_open k1.log k1.mark m1.streams f k2.is_open k2.log k2.mark last → result ≡ outcome_after r f
     → IsUndisturbed k2 result → Agrees answers k2.log → IsMeant answers k2 (whole items start answers limit) result
 unfolding whole
 ends_as_meant items start answers limit {m = m} {m1 = m1} {k = k} {k1 = k1} {k2 = k2} {r = r} {f = f} {result = result} began fresh t ran told is calm agrees =
@@ -102,18 +107,18 @@ ends_as_meant items start answers limit {m = m} {m1 = m1} {k = k} {k1 = k1} {k2 
     let part = ran.does.told t in
     let comes = part.means answers (start_state start answers limit) [] (told.grows.agrees answers agrees) (start_stands start answers limit m k began fresh) in
     let kept : r ≢ Err (halt.Fault faults.OutOfMemory) = λ e. calm.memory (is ∙ halted_by_memory r f e) in
-    let came = meant answers m1 k1 r (run_items items (start_state start answers limit)) kept clear.1 comes in
+    let came = meant answers m1 k1 r (whole_run items start.pre (start_state start answers limit)) kept clear.1 comes in
     record {
       outcome = came.outcome ∙ ap (λ x. outcome_after r x) (sym clear.0) ∙ sym is;
       output = told.outputs 0 ∙ came.output;
       error = told.outputs 1 ∙ came.error;
     }
 
-pub runs_from : (items : List Item) (limit : ℕ) {tells : Type 0} {m m1 : Machine} {k k1 k2 : Seen} {r : Result (Unit {0}) Halt} {f : Result (Unit {0}) StreamFault} {last : StreamsView} {result : Outcome} → SomeAgree → IsInOrder k.is_open [] → IsStart limit m
-    → RunsItems tells items m k m1 k1 r → (tells → Finishes k1.is_open k1.log k1.mark m1.streams f k2.is_open k2.log k2.mark last) → result ≡ outcome_after r f
-    → RunsFrom tells items limit k k2 result
-runs_from items limit {k = k} {k2 = k2} law order began ran told is = record {
-  runs = λ t fresh start. record {
+pub runs_from : (items : List Item) (start : StartValues) (limit : ℕ) {tells : Type 0} {m m1 : Machine} {k k1 k2 : Seen} {r : Result (Unit {0}) Halt} {f : Result (Unit {0}) StreamFault} {last : StreamsView} {result : Outcome} → SomeAgree → IsInOrder k.is_open [] → IsStart start limit m
+    → RunsWhole tells items start.pre m k m1 k1 r → (tells → Finishes k1.is_open k1.log k1.mark m1.streams f k2.is_open k2.log k2.mark last) → result ≡ outcome_after r f
+    → RunsFrom tells items start limit k k2 result
+runs_from items start limit {k = k} {k2 = k2} law order began ran told is = record {
+  runs = λ t fresh. record {
     some = law k2.log ((told t).sound ((ran.does.told t).keeps (start_sound k.is_open k.log began fresh.log order))).order.orderly;
     outcome = λ calm answers agrees. (ends_as_meant items start answers limit began fresh t ran (told t) is calm agrees).outcome;
     standard_output = λ calm answers agrees. (ends_as_meant items start answers limit began fresh t ran (told t) is calm agrees).output;
@@ -122,9 +127,9 @@ runs_from items limit {k = k} {k2 = k2} law order began ran told is = record {
 }
 
 -- a run that found no memory before it began
-pub runs_not : (items : List Item) (limit : ℕ) {tells : Type 0} {k : Seen} → SomeAgree → RunsFrom tells items limit k k (Fault faults.OutOfMemory)
-runs_not items limit {k = k} law = record {
-  runs = λ t fresh start. record {
+pub runs_not : (items : List Item) (start : StartValues) (limit : ℕ) {tells : Type 0} {k : Seen} → SomeAgree → RunsFrom tells items start limit k k (Fault faults.OutOfMemory)
+runs_not items start limit {k = k} law = record {
+  runs = λ t fresh. record {
     some = law k.log (subst (λ (l : List log.Event). IsOrderly l) (sym fresh.log) tt);
     outcome = λ calm answers agrees. absurd (calm.memory refl);
     standard_output = λ calm answers agrees. absurd (calm.memory refl);

@@ -1,13 +1,13 @@
 -- Which texts are programs, and why the others are refused (POSIX awk, Lexical Conventions; Grammar).
-use Rattle.std.specs.Prelude.{◌≤◌, ◌<◌, ℕ, List, length}
+use Rattle.std.specs.Prelude.{◌≡◌, ◌≤◌, ◌<◌, ℕ, true, false, List, length}
 use Rattle.awk_lex.specs.declared.token.Kind.{Kind}
 use Rattle.awk_lex.specs.declared.refusal.Code.{Code}
-use Rattle.awk_lex.specs.declared.refusal.Code.TheVariants.{UnexpectedByte, NumberRefused, ProgramTooLong, NotAProgram, NestedTooDeep, OutOfMemory}
+use Rattle.awk_lex.specs.declared.refusal.Code.TheVariants.{UnexpectedByte, OpenString, EscapeRefused, NumberRefused, ProgramTooLong, NotAProgram, NestedTooDeep, ArrayAndScalar, NameLeftOut, OutOfMemory}
 use Rattle.awk_lex.specs.Lexes.{Lexes, Breaks}
 use Rattle.awk_syntax.specs.Tree.{Item}
 use Rattle.awk_syntax.specs.Height.{height_of_program}
 use Rattle.awk_syntax.specs.Spelling.{IsProgram}
-use Rattle.awk_run.specs.Kinds.{Fits}
+use Rattle.awk_run.specs.Kinds.{uses_in, uses_left_out, scalar_names, array_names, are_apart, Fits}
 
 -- the most bytes of a program text, and the greatest height of its tree
 abbrev pub longest_text : ℕ
@@ -22,7 +22,7 @@ pub record HasTokens (text : List ℕ) (tokens : List Kind) : Type 0 where
   pub lexes : Lexes tokens text
 
 -- the text is the program of these items: it is tokens that the grammar spells them by, they are not
--- nested too deep, and each name is an array or a scalar
+-- nested too deep, no name is left out, and each is an array or a scalar
 pub record Accepted (text : List ℕ) (items : List Item) : Type 0 where
   pub tokens : List Kind
   pub has : HasTokens text tokens
@@ -30,12 +30,23 @@ pub record Accepted (text : List ℕ) (items : List Item) : Type 0 where
   pub low : height_of_program items ≤ greatest_height
   pub fits : Fits items
 
+-- the text is the program of these items but for its names
+pub record IsSpelled (text : List ℕ) (items : List Item) : Type 0 where
+  pub tokens : List Kind
+  pub has : HasTokens text tokens
+  pub spells : IsProgram tokens items
+  pub low : height_of_program items ≤ greatest_height
+
 -- why a text is refused with this code: the first of these that holds
 abbrev pub RefusedFor : Code → List ℕ → Type 0
 RefusedFor ProgramTooLong text = longest_text < length text
 RefusedFor UnexpectedByte text = (length text ≤ longest_text) × Breaks UnexpectedByte text
+RefusedFor OpenString text = (length text ≤ longest_text) × Breaks OpenString text
+RefusedFor EscapeRefused text = (length text ≤ longest_text) × Breaks EscapeRefused text
 RefusedFor NumberRefused text = (length text ≤ longest_text) × Breaks NumberRefused text
 RefusedFor NotAProgram text = (tokens : List Kind) × HasTokens text tokens × ((items : List Item) → IsProgram tokens items → ⊥)
 RefusedFor NestedTooDeep text = (tokens : List Kind) × HasTokens text tokens × ((items : List Item) × IsProgram tokens items × (greatest_height < height_of_program items))
+RefusedFor NameLeftOut text = (items : List Item) × IsSpelled text items × (uses_left_out (uses_in items) ≡ true)
+RefusedFor ArrayAndScalar text = (items : List Item) × IsSpelled text items × (uses_left_out (uses_in items) ≡ false) × (are_apart (scalar_names items) (array_names items) ≡ false)
 -- of growths that are refused nothing is said here
 RefusedFor OutOfMemory text = Unit {0}

@@ -1,5 +1,5 @@
 -- How the code's state and world stand for the state of the definitions, and what a part of the code does.
-use Rattle.std.specs.Prelude.{◌≡◌, ℕ, ◌≤◌, ◌<◌, Bool, true, List, [], ◌++◌, Option, None, is_some, suc, Result, Ok, Err, OnOk}
+use Rattle.std.specs.Prelude.{◌≡◌, ℕ, pos, ◌≤◌, ◌<◌, Bool, true, false, List, [], ◌++◌, length, Option, Some, None, is_some, suc, Result, Ok, Err, OnOk}
 use Rattle.awk_value.specs.declared.value.Value.{Value}
 use Rattle.awk_value.specs.Values.{truth_of}
 use Rattle.awk_streams.specs.declared.world.InputKind.{InputKind}
@@ -14,10 +14,12 @@ use Rattle.awk_run.specs.declared.halt.Halt.{Halt}
 use Rattle.awk_run.specs.declared.halt.Halt.TheVariants as halt
 use Rattle.awk_run.specs.declared.outcome.Fault.TheVariants.{OutOfMemory, WriteFailed}
 use Rattle.awk_run.specs.State.{StandardOutput, StandardError, Event, Stop, Faulted, OutOfSteps, State, Out, Run}
-use Rattle.awk_run.specs.Words.{spend, open_standard}
+use Rattle.awk_run.specs.Variables.{value_of, start_value}
+use Rattle.awk_run.specs.Words.{spend, open_main, close_main}
+use Rattle.awk_run.specs.Inputs.{search}
 use Rattle.awk_run.specs.Operators.{stream_fault}
-use Rattle.awk_run.specs.Effect.{E, values_of, printed_values, S, S_all, try_item, try_items, each_record, all_records, run_items}
-use Rattle.awk_run.specs.Meaning.{printed_to}
+use Rattle.awk_run.specs.Effect.{E, values_of, printed_values, S, S_all, try_item, try_items, each_record, all_records, begin_item, begin_items, run_items}
+use Rattle.awk_run.specs.Meaning.{StartValues, arguments_of, assign_all, whole_run, printed_to}
 
 -- what is known of a world: which streams are open, and what was done, if it tells
 pub record Seen : Type 0 where
@@ -28,14 +30,22 @@ pub record Seen : Type 0 where
 abbrev pub seen : (ℕ → Bool) → List log.Event → Option ℕ → Seen
 seen is_open log mark = record { is_open = is_open; log = log; mark = mark }
 
+-- the code's own state is the one of the definitions; its streams are left aside
+pub record Holds (m : Machine) (s : State) : Type 0 where
+  pub current : s.current ≡ m.current
+  pub variables : (x : List ℕ) → s.variables x ≡ value_of m.variables x
+  pub arguments : s.arguments ≡ m.arguments.words.items
+  pub next : pos s.next ≡ m.arguments.next
+  pub served : s.served ≡ m.arguments.served
+  pub steps : s.steps ≡ m.steps
+
 -- the code's state and world stand for the state s after these events
 pub record Stands (answers : Answers) (m : Machine) (k : Seen) (s : State) (past : List Event) : Type 0 where
   pub clear : k.mark ≡ None
   pub outside : s.outside ≡ answers
   pub openings : (kind : InputKind) (name : List ℕ) → s.openings kind name ≡ how_many (opens_input kind name) k.log
   pub main : IsMainRest answers k.log m.streams.main s.main
-  pub current : s.current ≡ m.current
-  pub steps : s.steps ≡ m.steps
+  pub holds : Holds m s
   pub output : received 0 k.log ≡ printed_to StandardOutput past
   pub error : received 1 k.log ≡ printed_to StandardError past
 
@@ -119,11 +129,17 @@ pub record EvaluatesAll (front : List Value) (es : Exprs) (old new : Machine) (r
 pub record Lists (es : Exprs) (old new : Machine) (r : Result (List Value) Halt) : Type 0 where
   pub does : Changes (printed_values es) old new r
 
+-- nothing is changed that the definitions know, but perhaps the streams
+pub record Beside (old new : Machine) : Type 0 where
+  pub current : new.current ≡ old.current
+  pub variables : new.variables ≡ old.variables
+  pub arguments : new.arguments ≡ old.arguments
+  pub steps : new.steps ≡ old.steps
+
 -- nothing is changed that the definitions know
 pub record SameState (old new : Machine) : Type 0 where
-  pub current : new.current ≡ old.current
+  pub beside : Beside old new
   pub streams : new.streams ≡ old.streams
-  pub steps : new.steps ≡ old.steps
 
 pub record Follows {A : Type 0} (tells : Type 0) (run : Run A) (old : Machine) (before : Seen) (new : Machine) (after : Seen) (r : Result A Halt) : Type 0 where
   pub does : Does tells old before new after r run
@@ -147,8 +163,21 @@ pub record ReadsOn (tells : Type 0) (xs : List Item) (old : Machine) (before : S
 pub record ReadsAll (tells : Type 0) (xs : List Item) (old : Machine) (before : Seen) (new : Machine) (after : Seen) (r : Result (Unit {0}) Halt) : Type 0 where
   pub does : Does tells old before new after r (all_records (try_items xs))
 
+pub record BeginsItem (tells : Type 0) (x : Item) (old : Machine) (before : Seen) (new : Machine) (after : Seen) (r : Result (Unit {0}) Halt) : Type 0 where
+  pub does : Does tells old before new after r (begin_item x)
+
+pub record BeginsAll (tells : Type 0) (xs : List Item) (old : Machine) (before : Seen) (new : Machine) (after : Seen) (r : Result (Unit {0}) Halt) : Type 0 where
+  pub does : Does tells old before new after r (begin_items xs)
+
 pub record RunsItems (tells : Type 0) (xs : List Item) (old : Machine) (before : Seen) (new : Machine) (after : Seen) (r : Result (Unit {0}) Halt) : Type 0 where
   pub does : Does tells old before new after r (run_items xs)
+
+pub record RunsWhole (tells : Type 0) (xs : List Item) (pre : List (List ℕ × List ℕ)) (old : Machine) (before : Seen) (new : Machine) (after : Seen) (r : Result (Unit {0}) Halt) : Type 0 where
+  pub does : Does tells old before new after r (whole_run xs pre)
+
+-- the assignments before a run
+pub record Assigns (all : List (List ℕ × List ℕ)) (old new : Machine) (r : Result (Unit {0}) Halt) : Type 0 where
+  pub does : Changes (assign_all all) old new r
 
 abbrev pub IsWantOfMemory : Halt → Type 0
 IsWantOfMemory h = h ≡ halt.Fault OutOfMemory
@@ -158,14 +187,38 @@ abbrev pub halted : {A : Type 0} → Result A StreamFault → Result A Halt
 halted (Ok a) = Ok a
 halted (Err f) = Err (halt.Fault (stream_fault f))
 
--- a main input is opened where none is, and then there is one
-pub record Opens (tells : Type 0) (old : Machine) (before : Seen) (new : Machine) (after : Seen) (r : Result (Unit {0}) Halt) : Type 0 where
-  pub does : Does tells old before new after r open_standard
+-- no main input is open, unless a record was found
+abbrev pub ClosedUnless : {A : Type 0} → Result (Option A) Halt → Machine → Type 0
+ClosedUnless (Ok None) m = m.streams.main ≡ None
+ClosedUnless (Ok (Some a)) m = Unit {0}
+ClosedUnless (Err h) m = Unit {0}
+
+-- a record is looked for, and where none is found no main input is left open
+pub record Seeks (tells : Type 0) (run : Run (Option (List ℕ))) (old : Machine) (before : Seen) (new : Machine) (after : Seen) (r : Result (Option (List ℕ)) Halt) : Type 0 where
+  pub does : Does tells old before new after r run
+  pub closed : ClosedUnless r new
+
+-- the elements of ARGV that are left, at any bound above the steps
+pub record SearchesOn (tells : Type 0) (old : Machine) (before : Seen) (new : Machine) (after : Seen) (r : Result (Option (List ℕ)) Halt) : Type 0 where
+  pub does : (n : ℕ) → old.steps ≤ n → Does tells old before new after r (search (suc n))
+
+-- the main input is closed, and then there is none
+pub record Closes (tells : Type 0) (old : Machine) (before : Seen) (new : Machine) (after : Seen) : Type 0 where
+  pub does : Does tells old before new after (Ok tt) close_main
+  pub main : new.streams.main ≡ None
+
+-- a main input is opened, and then there is one
+pub record Opens (tells : Type 0) (kind : InputKind) (path : List ℕ) (old : Machine) (before : Seen) (new : Machine) (after : Seen) (r : Result (Unit {0}) Halt) : Type 0 where
+  pub does : Does tells old before new after r (open_main kind path)
   pub main : OnOk r (is_some new.streams.main ≡ true)
 
 -- the code's state before a run
-pub record IsStart (limit : ℕ) (m : Machine) : Type 0 where
+pub record IsStart (start : StartValues) (limit : ℕ) (m : Machine) : Type 0 where
   pub text : m.current.text ≡ []
   pub fields : m.current.fields ≡ []
+  pub variables : (x : List ℕ) → value_of m.variables x ≡ start_value (suc (length start.operands)) x
+  pub words : m.arguments.words.items ≡ arguments_of start.operands
+  pub next : m.arguments.next ≡ pos 1
+  pub served : m.arguments.served ≡ false
   pub main : m.streams.main ≡ None
   pub steps : m.steps ≡ limit

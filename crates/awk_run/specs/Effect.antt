@@ -1,18 +1,26 @@
--- The effect of an expression, of a statement and of a rule (POSIX awk, Expressions in awk; Actions; Output Statements).
-use Rattle.std.specs.Prelude.{ℕ, zero, suc, Bool, true, false, List, [], ◌∷◌, ◌++◌, Option, Some, None, Err, map}
+-- The effect of an expression, of a statement and of an item (POSIX awk, Expressions in awk; Actions; Output Statements).
+use Rattle.std.specs.Prelude.{ℕ, zero, suc, Bool, true, false, ◌||◌, List, [], ◌∷◌, ◌++◌, Option, Some, None, Err}
 use Rattle.awk_value.specs.declared.value.Value.{Value}
 use Rattle.awk_value.specs.declared.value.Value.TheVariants as value
-use Rattle.awk_value.specs.Values.{str_of, truth_of}
-use Rattle.awk_syntax.specs.Tree.{Expr, Number, Field, Binary, Exprs, Nil, Cons, Statement, Block, Print, Statements, NoMore, Then, Item, Always, Rule}
+use Rattle.awk_value.specs.Values.{truth_of}
+use Rattle.awk_syntax.specs.Tree.{Expr, Number, String, Name, Group, Field, Unary, Binary, Assign, Exprs, Nil, Cons, Statement, Block, Evaluate, Print, Statements, NoMore, Then, Item, Begin, Always, Short, Rule}
 use Rattle.awk_run.specs.State.{OutOfSteps, Run, ◌>>=◌, lift, ret}
-use Rattle.awk_run.specs.Words.{output_field_separator, output_record_separator, spend, field_at, current_text, show, take_record, open_standard, set_record}
-use Rattle.awk_run.specs.Operators.{applied}
+use Rattle.awk_run.specs.declared.variables.special.Special.TheVariants.{Nr, Fnr}
+use Rattle.awk_run.specs.Words.{spend, read_name, put, count_in, field_at, current_text, set_record, show_values}
+use Rattle.awk_run.specs.Inputs.{next_record}
+use Rattle.awk_run.specs.Operators.{changed, applied}
 
 -- an expression gives a value; operands go from left to right
 unfoldable pub E : Expr → Run Value
 E (Number n) = ret (value.Number n)
+E (String bytes) = ret (value.Text bytes)
+E (Name x) = read_name x
+E (Group e) = E e
 E (Field e) = E e >>= λ v. field_at v
+E (Unary o e) = E e >>= λ v. lift (changed o v)
 E (Binary o a b) = E a >>= λ x. E b >>= λ y. lift (applied o x y)
+-- what an assignment gives is what its name then has
+E (Assign x e) = E e >>= λ v. put x v >>= λ _. read_name x
 
 -- the values of a list, behind those that are there
 unfoldable pub values_of : List Value → Exprs → Run (List Value)
@@ -24,23 +32,12 @@ unfoldable pub printed_values : Exprs → Run (List Value)
 printed_values Nil = current_text >>= λ v. ret (v ∷ [])
 printed_values (Cons e es) = values_of [] (Cons e es)
 
--- the texts, each but the first behind a separator
-abbrev pub led : List ℕ → List (List ℕ) → List ℕ
-led separator [] = []
-led separator (x ∷ xs) = (separator ++ x) ++ led separator xs
-
-abbrev pub joined : List ℕ → List (List ℕ) → List ℕ
-joined separator [] = []
-joined separator (x ∷ xs) = x ++ led separator xs
-
-abbrev pub line_of : List Value → List ℕ
-line_of vs = joined output_field_separator (map str_of vs) ++ output_record_separator
-
 -- a statement; one that is no block spends a step as it begins
 unfoldable mutual
   pub S : Statement → Run (Unit {0})
   S (Block all) = S_all all
-  S (Print list) = spend >>= λ _. printed_values list >>= λ vs. show (line_of vs)
+  S (Evaluate e) = spend >>= λ _. E e >>= λ v. ret tt
+  S (Print list) = spend >>= λ _. printed_values list >>= λ vs. show_values vs
 
   pub S_all : Statements → Run (Unit {0})
   S_all NoMore = ret tt
@@ -50,18 +47,20 @@ abbrev pub run_if : Bool → Run (Unit {0}) → Run (Unit {0})
 run_if true action = action
 run_if false action = ret tt
 
--- an item on a record
+-- an item on a record; a pattern without an action prints the record
 unfoldable pub try_item : Item → Run (Unit {0})
+try_item (Begin block) = ret tt
 try_item (Always block) = S_all block
+try_item (Short e) = E e >>= λ v. run_if (truth_of v) (S (Print Nil))
 try_item (Rule e block) = E e >>= λ v. run_if (truth_of v) (S_all block)
 
 unfoldable pub try_items : List Item → Run (Unit {0})
 try_items [] = ret tt
 try_items (x ∷ xs) = try_item x >>= λ _. try_items xs
 
--- the next main record, or none
-unfoldable pub next_record : Run (Option (List ℕ))
-next_record = open_standard >>= λ _. take_record
+-- a record that was found is at hand, and counted
+unfoldable pub begin_record : List ℕ → Run (Unit {0})
+begin_record text = set_record text >>= λ _. count_in Nr >>= λ _. count_in Fnr
 
 abbrev pub on_record : Option (List ℕ) → (List ℕ → Run (Unit {0})) → Run (Unit {0})
 on_record None rest = ret tt
@@ -70,13 +69,29 @@ on_record (Some text) rest = rest text
 -- at most n records, each of which spends a step
 unfoldable pub each_record : ℕ → Run (Unit {0}) → Run (Unit {0})
 each_record zero action = lift (Err OutOfSteps)
-each_record (suc n) action = next_record >>= λ found. on_record found (λ text. spend >>= λ _. set_record text >>= λ _. action >>= λ _. each_record n action)
+each_record (suc n) action = next_record >>= λ found. on_record found (λ text. spend >>= λ _. begin_record text >>= λ _. action >>= λ _. each_record n action)
 
 -- all records: no more than there are steps
 unfoldable pub all_records : Run (Unit {0}) → Run (Unit {0})
 all_records action s = each_record (suc s.steps) action s
 
--- records are read where there is an item for them
+-- the actions that come before all records, in the order of the text
+unfoldable pub begin_item : Item → Run (Unit {0})
+begin_item (Begin block) = S_all block
+begin_item x = ret tt
+
+unfoldable pub begin_items : List Item → Run (Unit {0})
+begin_items [] = ret tt
+begin_items (x ∷ xs) = begin_item x >>= λ _. begin_items xs
+
+abbrev pub is_rule : Item → Bool
+is_rule (Begin block) = false
+is_rule x = true
+
+abbrev pub has_rule : List Item → Bool
+has_rule [] = false
+has_rule (x ∷ xs) = is_rule x || has_rule xs
+
+-- records are read where there is a rule for them
 unfoldable pub run_items : List Item → Run (Unit {0})
-run_items [] = ret tt
-run_items (x ∷ xs) = all_records (try_items (x ∷ xs))
+run_items xs = begin_items xs >>= λ _. run_if (has_rule xs) (all_records (try_items xs))

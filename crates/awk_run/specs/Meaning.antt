@@ -1,25 +1,50 @@
 -- The meaning of a program: its outcome, the bytes of each output, and what it demands of the outside.
-use Rattle.std.specs.Prelude.{ℕ, List, [], ◌∷◌, ◌++◌, Bool, true, false, None, Result, Ok, Err, if◌then◌else◌}
+use Rattle.std.specs.Prelude.{ℕ, suc, List, [], ◌∷◌, ◌++◌, length, codes, Bool, true, false, None, Result, Ok, Err, if◌then◌else◌}
 use Rattle.awk_streams.specs.Answers.{Answers}
 use Rattle.awk_syntax.specs.Tree.{Item}
 use Rattle.awk_run.specs.declared.outcome.Outcome.{Outcome}
 use Rattle.awk_run.specs.declared.outcome.Outcome.TheVariants.{Ended, Fault, Stopped}
-use Rattle.awk_run.specs.State.{Output, StandardOutput, StandardError, Demand, TheEnd, Event, Printed, Demanded, Stop, Faulted, OutOfSteps, State, Out}
+use Rattle.awk_run.specs.State.{Output, StandardOutput, StandardError, Demand, TheEnd, Event, Printed, Demanded, Stop, Faulted, OutOfSteps, State, Out, Run, ◌>>=◌, ret}
+use Rattle.awk_run.specs.Variables.{start_value}
+use Rattle.awk_run.specs.Inputs.{assign_text}
 use Rattle.awk_run.specs.Effect.{run_items}
 
 -- what a run is started with: assignments made before it, operands, and the environment; names and
--- texts. All three are empty so far, so that nothing comes of them
+-- texts. The environment is to be seen in ENVIRON alone, and no form names an array so far
 pub record StartValues : Type 0 where
   pub pre : List (List ℕ × List ℕ)
   pub operands : List (List ℕ)
   pub environ : List (List ℕ × List ℕ)
 
+-- ARGV: the name of the program, and the operands
+abbrev pub arguments_of : List (List ℕ) → List (List ℕ)
+arguments_of operands = codes "awk" ∷ operands
+
 -- before a record is read, `$0` is empty
 abbrev pub start_state : StartValues → Answers → ℕ → State
-start_state start answers limit = record { outside = answers; openings = λ kind name. 0; main = None; current = record { text = []; fields = [] }; steps = limit }
+start_state start answers limit = record {
+  outside = answers;
+  openings = λ kind name. 0;
+  main = None;
+  current = record { text = []; fields = [] };
+  variables = start_value (suc (length start.operands));
+  arguments = arguments_of start.operands;
+  next = 1;
+  served = false;
+  steps = limit;
+}
+
+-- the assignments before a run, in their order
+unfoldable pub assign_all : List (List ℕ × List ℕ) → Run (Unit {0})
+assign_all [] = ret tt
+assign_all (a ∷ all) = assign_text a.0 a.1 >>= λ _. assign_all all
+
+-- a run: the assignments, and then the items
+unfoldable pub whole_run : List Item → List (List ℕ × List ℕ) → Run (Unit {0})
+whole_run items pre = assign_all pre >>= λ _. run_items items
 
 unfoldable pub whole : List Item → StartValues → Answers → ℕ → Out (Unit {0})
-whole items start answers limit = run_items items (start_state start answers limit)
+whole items start answers limit = whole_run items start.pre (start_state start answers limit)
 
 abbrev pub outcome_of : Result (Unit {0}) Stop → Outcome
 outcome_of (Ok u) = Ended 0

@@ -1,19 +1,24 @@
 -- What operators make of values (POSIX awk, Expressions in awk).
-use Rattle.std.specs.Prelude.{ℤ, pos, Bool, true, false, Result, Ok, Err, if◌then◌else◌}
+use Rattle.std.specs.Prelude.{ℕ, ℤ, pos, Bool, true, false, not, List, [], ◌∷◌, ◌++◌, map, Result, Ok, Err, if◌then◌else◌}
 use Rattle.std.specs.declared.cmp.Ordering.{Ordering}
 use Rattle.std.specs.declared.cmp.Ordering.TheVariants as ordering
 use Rattle.awk_value.specs.declared.value.Value.{Value}
 use Rattle.awk_value.specs.declared.value.Value.TheVariants.{Number}
 use Rattle.awk_value.specs.declared.fault.ValueFault.{ValueFault}
 use Rattle.awk_value.specs.declared.fault.ValueFault.TheVariants as value
-use Rattle.awk_value.specs.Values.{num_of, order_of, multiplied}
+use Rattle.awk_value.specs.Arithmetic.{product_of, sum_of, difference_of, remainder_of, negative_of}
+use Rattle.awk_value.specs.Values.{num_of, str_of, truth_of, order_of, number_value, from_numbers, from_number}
 use Rattle.awk_record.specs.declared.fault.RecordFault.{RecordFault}
 use Rattle.awk_record.specs.declared.fault.RecordFault.TheVariants as fields
 use Rattle.awk_record.specs.Record.{RecordPair, field_of}
 use Rattle.awk_streams.specs.declared.fault.StreamFault.{StreamFault}
 use Rattle.awk_streams.specs.declared.fault.StreamFault.TheVariants as streams
+use Rattle.awk_syntax.specs.declared.tree.UnaryOperator.{UnaryOperator}
+use Rattle.awk_syntax.specs.declared.tree.UnaryOperator.TheVariants as unary
 use Rattle.awk_syntax.specs.declared.tree.BinaryOperator.{BinaryOperator}
-use Rattle.awk_syntax.specs.declared.tree.BinaryOperator.TheVariants.{Times, Less, LessEqual, Equal, NotEqual, Greater, GreaterEqual}
+use Rattle.awk_syntax.specs.declared.tree.BinaryOperator.TheVariants.{Times, Remainder, Plus, Minus, Less, LessEqual, Equal, NotEqual, Greater, GreaterEqual}
+use Rattle.awk_run.specs.declared.variables.fault.VariableFault.{VariableFault}
+use Rattle.awk_run.specs.declared.variables.fault.VariableFault.TheVariants as variables
 use Rattle.awk_run.specs.declared.outcome.Fault.{Fault}
 use Rattle.awk_run.specs.declared.outcome.Fault.TheVariants as fault
 use Rattle.awk_run.specs.State.{Stop, Faulted}
@@ -37,6 +42,10 @@ stream_fault streams.InputNotReadable = fault.InputNotReadable
 stream_fault streams.SeparatorTooLong = fault.RecordSeparatorTooLong
 stream_fault streams.RecordTooLong = fault.RecordTooLong
 
+abbrev pub variable_fault : VariableFault → Fault
+variable_fault variables.Memory = fault.OutOfMemory
+variable_fault variables.Pattern = fault.PatternRefused
+
 abbrev pub of_values : {A : Type 0} → Result A ValueFault → Result A Stop
 of_values (Ok a) = Ok a
 of_values (Err f) = Err (Faulted (value_fault f))
@@ -48,6 +57,9 @@ of_record (Err f) = Err (Faulted (record_fault f))
 -- whether two values in this order are so related
 abbrev pub relates : BinaryOperator → Ordering → Bool
 relates Times o = false
+relates Remainder o = false
+relates Plus o = false
+relates Minus o = false
 relates Less ordering.Less = true
 relates Less o = false
 relates LessEqual ordering.Greater = false
@@ -64,9 +76,18 @@ relates GreaterEqual o = true
 abbrev pub truth_value : Bool → Value
 truth_value b = Number (if b then pos 1 else pos 0)
 
--- an operator takes two values and gives one: a product, or 1 or 0 for a comparison
+-- an operator before a value
+abbrev pub changed : UnaryOperator → Value → Result Value Stop
+changed unary.Not v = Ok (truth_value (not (truth_of v)))
+changed unary.Plus v = of_values (number_value (num_of v))
+changed unary.Minus v = of_values (from_number negative_of (num_of v))
+
+-- an operator between two values: a number, or 1 or 0 for a comparison
 abbrev pub applied : BinaryOperator → Value → Value → Result Value Stop
-applied Times x y = of_values (multiplied x y)
+applied Times x y = of_values (from_numbers product_of (num_of x) (num_of y))
+applied Remainder x y = of_values (from_numbers remainder_of (num_of x) (num_of y))
+applied Plus x y = of_values (from_numbers sum_of (num_of x) (num_of y))
+applied Minus x y = of_values (from_numbers difference_of (num_of x) (num_of y))
 applied o x y = Ok (truth_value (relates o (order_of x y)))
 
 -- the field of a record whose number is a value's
@@ -76,3 +97,20 @@ field_by r (Err f) = Err (Faulted (value_fault f))
 
 abbrev pub field_value : RecordPair → Value → Result Value Stop
 field_value r v = field_by r (num_of v)
+
+-- a count, raised by 1
+abbrev pub raised : Value → Result Value Stop
+raised v = of_values (from_numbers sum_of (num_of v) (Ok (pos 1)))
+
+-- the texts, each but the first behind a separator
+abbrev pub led : List ℕ → List (List ℕ) → List ℕ
+led separator [] = []
+led separator (x ∷ xs) = (separator ++ x) ++ led separator xs
+
+abbrev pub joined : List ℕ → List (List ℕ) → List ℕ
+joined separator [] = []
+joined separator (x ∷ xs) = x ++ led separator xs
+
+-- the line of a print: the values' texts between their separators, and the line's own end (POSIX awk, Output Statements)
+abbrev pub line_of : (between behind : List ℕ) → List Value → List ℕ
+line_of between behind vs = joined between (map str_of vs) ++ behind

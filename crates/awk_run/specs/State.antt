@@ -1,5 +1,6 @@
 -- The state of a run, and what a part of a run does: a result, the state after it, and what it shows.
-use Rattle.std.specs.Prelude.{ℕ, List, [], ◌++◌, Option, Result, Ok, Err}
+use Rattle.std.specs.Prelude.{ℕ, Bool, List, [], ◌++◌, Option, Result, Ok, Err}
+use Rattle.awk_value.specs.declared.value.Value.{Value}
 use Rattle.awk_record.specs.Record.{RecordPair}
 use Rattle.awk_streams.specs.declared.world.InputKind.{InputKind}
 use Rattle.awk_streams.specs.Answers.{Source, Answers}
@@ -35,6 +36,14 @@ pub record State : Type 0 where
   pub main : Option Source
   -- the record at hand
   pub current : RecordPair
+  -- the values of the names; that of NF is counted in the record
+  pub variables : List ℕ → Value
+  -- the elements of ARGV
+  pub arguments : List (List ℕ)
+  -- which of them is looked at next
+  pub next : ℕ
+  -- whether a main input was found: a file operand, or standard input for want of one
+  pub served : Bool
   -- the steps left
   pub steps : ℕ
 

@@ -29,5 +29,5 @@ ReadsOnly (Ok tree) items = tree_of tree ≡ items
 ReadsOnly (Err refusal) items = IsOutOfMemory refusal
 
 -- from a world in which nothing was done, a run leaves what the items mean
-pub record RunsFrom (tells : Type 0) (items : List Item) (limit : ℕ) (before after : Seen) (result : Outcome) : Type 0 where
-  pub runs : tells → IsFresh before → (start : StartValues) → Runs items start limit after result
+pub record RunsFrom (tells : Type 0) (items : List Item) (start : StartValues) (limit : ℕ) (before after : Seen) (result : Outcome) : Type 0 where
+  pub runs : tells → IsFresh before → Runs items start limit after result

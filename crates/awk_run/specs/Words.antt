@@ -1,25 +1,22 @@
 -- The words of a run: all that looks into its state.
-use Rattle.std.specs.Prelude.{ℕ, zero, suc, ◌+◌, ◌&&◌, List, [], ◌∷◌, Option, Some, None, Ok, Err, bytes_eq}
+use Rattle.std.specs.Prelude.{ℕ, zero, suc, ◌+◌, pos, ℤ, int_lt, Bool, true, false, ◌&&◌, List, [], ◌∷◌, length, slice_get, Option, Some, None, unwrap_or, Result, Ok, Err, codes, bytes_eq, if◌then◌else◌}
+use Rattle.awk_text.specs.declared.separator.Separator.{Separator}
+use Rattle.awk_text.specs.declared.fault.TextFault.{TextFault}
+use Rattle.awk_text.specs.Separator.{separator_of}
 use Rattle.awk_value.specs.declared.value.Value.{Value}
-use Rattle.awk_value.specs.declared.value.Value.TheVariants.{Input}
+use Rattle.awk_value.specs.declared.value.Value.TheVariants.{Number, Input}
+use Rattle.awk_value.specs.declared.fault.ValueFault.{ValueFault}
+use Rattle.awk_value.specs.Values.{num_of, str_of}
 use Rattle.awk_record.specs.Cut.{Ending, Cut, Found, NoMore, BrokenOff, TooLong, BadSeparator, cut_of}
-use Rattle.awk_record.specs.Record.{split_at_blanks}
+use Rattle.awk_record.specs.Record.{split_by}
 use Rattle.awk_streams.specs.declared.world.InputKind.{InputKind}
-use Rattle.awk_streams.specs.declared.world.InputKind.TheVariants.{Standard}
 use Rattle.awk_streams.specs.Answers.{Source, same_input, one_if}
-use Rattle.awk_run.specs.declared.outcome.Fault.TheVariants.{InputNotReadable, RecordTooLong, RecordSeparatorTooLong}
-use Rattle.awk_run.specs.State.{StandardOutput, AnOpening, ARecord, Printed, Demanded, Faulted, OutOfSteps, State, Run, ret}
-use Rattle.awk_run.specs.Operators.{field_value}
-
--- the separators that a run starts with: RS a newline, OFS a space, ORS a newline (POSIX awk, Variables and Special Variables)
-abbrev pub record_separator : List ℕ
-record_separator = 10 ∷ []
-
-abbrev pub output_field_separator : List ℕ
-output_field_separator = 32 ∷ []
-
-abbrev pub output_record_separator : List ℕ
-output_record_separator = 10 ∷ []
+use Rattle.awk_run.specs.declared.outcome.Fault.TheVariants.{InputNotReadable, RecordTooLong, RecordSeparatorTooLong, PatternRefused}
+use Rattle.awk_run.specs.State.{StandardOutput, AnOpening, ARecord, Printed, Demanded, Faulted, OutOfSteps, State, Run, ◌>>=◌, lift, ret}
+use Rattle.awk_run.specs.declared.variables.special.Special.{Special}
+use Rattle.awk_run.specs.declared.variables.special.Special.TheVariants.{Argc, Filename, Fnr, Fs, Ofs, Ors, Rs}
+use Rattle.awk_run.specs.Variables.{name_of, with_value, is_refused}
+use Rattle.awk_run.specs.Operators.{field_value, value_fault, raised, line_of}
 
 -- a step is spent, or there is none left
 abbrev pub spend_of : ℕ → Run (Unit {0})
@@ -29,6 +26,34 @@ spend_of (suc n) s = record { result = Ok tt; state = record s { steps = n }; ev
 unfoldable pub spend : Run (Unit {0})
 spend s = spend_of s.steps s
 
+-- variables
+
+abbrev pub text_in : State → Special → List ℕ
+text_in s x = str_of (s.variables (name_of x))
+
+-- the value of a name; NF is the number of fields
+abbrev pub value_in : State → List ℕ → Value
+value_in s x = if bytes_eq x (codes "NF") then Number (pos (length s.current.fields)) else s.variables x
+
+unfoldable pub read_name : List ℕ → Run Value
+read_name x s = record { result = Ok (value_in s x); state = s; events = [] }
+
+abbrev pub with_variable : List ℕ → Value → State → State
+with_variable x v s = record s { variables = with_value s.variables x v }
+
+abbrev pub put_unless : Bool → List ℕ → Value → Run (Unit {0})
+put_unless refused x v s = if refused then record { result = Err (Faulted PatternRefused); state = s; events = [] } else record { result = Ok tt; state = with_variable x v s; events = [] }
+
+-- a name gets a value
+unfoldable pub put : List ℕ → Value → Run (Unit {0})
+put x v s = put_unless (is_refused x v) x v s
+
+-- a count becomes its number and 1
+unfoldable pub count_in : Special → Run (Unit {0})
+count_in x = read_name (name_of x) >>= λ v. lift (raised v) >>= λ w. put (name_of x) w
+
+-- the record
+
 -- the field of the record whose number is the value's; `$0` is the text (POSIX awk, Variables and Special Variables)
 unfoldable pub field_at : Value → Run Value
 field_at v s = record { result = field_value s.current v; state = s; events = [] }
@@ -37,9 +62,25 @@ field_at v s = record { result = field_value s.current v; state = s; events = []
 unfoldable pub current_text : Run Value
 current_text s = record { result = Ok (Input s.current.text); state = s; events = [] }
 
+abbrev pub split_as : Result Separator TextFault → List ℕ → Run (Unit {0})
+split_as (Ok separator) text s = record { result = Ok tt; state = record s { current = split_by separator text }; events = [] }
+split_as (Err fault) text s = record { result = Err (Faulted PatternRefused); state = s; events = [] }
+
+-- the record at hand is this text, with the fields that FS separates now
+unfoldable pub set_record : List ℕ → Run (Unit {0})
+set_record text s = split_as (separator_of (text_in s Fs)) text s
+
+-- output
+
 -- bytes are printed to standard output
 unfoldable pub show : List ℕ → Run (Unit {0})
 show bytes s = record { result = Ok tt; state = s; events = Printed StandardOutput bytes ∷ [] }
+
+-- the values are printed as a line, by the OFS and ORS of this moment
+unfoldable pub show_values : List Value → Run (Unit {0})
+show_values vs s = show (line_of (text_in s Ofs) (text_in s Ors) vs) s
+
+-- the main input
 
 -- one opening more of this kind and name
 abbrev pub one_more : InputKind → List ℕ → (InputKind → List ℕ → ℕ) → InputKind → List ℕ → ℕ
@@ -56,6 +97,14 @@ opened kind name (Some source) s = record { result = Ok tt; state = record (coun
 unfoldable pub open_main : InputKind → List ℕ → Run (Unit {0})
 open_main kind name s = opened kind name (s.outside.input kind name (s.openings kind name)) s
 
+-- a main input was found
+unfoldable pub be_served : Run (Unit {0})
+be_served s = record { result = Ok tt; state = record s { served = true }; events = [] }
+
+-- an input begins: FILENAME is its name, and FNR 0
+unfoldable pub begin_input : List ℕ → Run (Unit {0})
+begin_input name = put (name_of Filename) (Input name) >>= λ _. put (name_of Fnr) (Number (pos 0)) >>= λ _. be_served
+
 -- a main input's rest, cut
 abbrev pub with_rest : State → List ℕ → Ending → State
 with_rest s left ending = record s { main = Some (record { bytes = left; ending = ending }) }
@@ -67,22 +116,36 @@ taken BrokenOff source s = record { result = Err (Faulted InputNotReadable); sta
 taken TooLong source s = record { result = Err (Faulted RecordTooLong); state = with_rest s source.bytes source.ending; events = Demanded ARecord ∷ [] }
 taken BadSeparator source s = record { result = Err (Faulted RecordSeparatorTooLong); state = with_rest s source.bytes source.ending; events = Demanded ARecord ∷ [] }
 
-abbrev pub taken_of : Option Source → Run (Option (List ℕ))
-taken_of None = ret None
-taken_of (Some source) = taken (cut_of record_separator source.bytes source.ending) source
+-- a rest cut by a record separator; an empty one isn't built
+abbrev pub cut_by : List ℕ → Source → Cut
+cut_by [] source = BadSeparator
+cut_by (c ∷ separator) source = cut_of (c ∷ separator) source.bytes source.ending
 
--- the next record of the open main input, or none at its end
+abbrev pub taken_of : Option Source → List ℕ → Run (Option (List ℕ))
+taken_of None separator = ret None
+taken_of (Some source) separator = taken (cut_by separator source) source
+
+-- the next record of the open main input, by the RS of this moment; none at its end, and where none is open
 unfoldable pub take_record : Run (Option (List ℕ))
-take_record s = taken_of s.main s
+take_record s = taken_of s.main (text_in s Rs) s
 
--- standard input is opened where no main input is
-abbrev pub open_of : Option Source → Run (Unit {0})
-open_of None = open_main Standard []
-open_of (Some source) = ret tt
+unfoldable pub close_main : Run (Unit {0})
+close_main s = record { result = Ok tt; state = record s { main = None }; events = [] }
 
-unfoldable pub open_standard : Run (Unit {0})
-open_standard s = open_of s.main s
+-- the elements of ARGV
 
--- the record at hand is this text, with its fields
-unfoldable pub set_record : List ℕ → Run (Unit {0})
-set_record text s = record { result = Ok tt; state = record s { current = split_at_blanks text }; events = [] }
+abbrev pub argument_if : Bool → Run (Option (List ℕ))
+argument_if true s = record { result = Ok (Some (unwrap_or (slice_get s.arguments s.next) [])); state = record s { next = suc s.next }; events = [] }
+argument_if false s = record { result = Ok None; state = s; events = [] }
+
+abbrev pub argument_below : Result ℤ ValueFault → Run (Option (List ℕ))
+argument_below (Ok n) s = argument_if (int_lt (pos s.next) n) s
+argument_below (Err fault) s = record { result = Err (Faulted (value_fault fault)); state = s; events = [] }
+
+-- the next element, if it is below the number of ARGC; one that is absent is empty
+unfoldable pub take_argument : Run (Option (List ℕ))
+take_argument s = argument_below (num_of (s.variables (name_of Argc))) s
+
+-- whether a main input was found
+unfoldable pub is_served : Run Bool
+is_served s = record { result = Ok s.served; state = s; events = [] }

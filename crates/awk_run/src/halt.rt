@@ -1,11 +1,12 @@
 // Why a run ends before its end.
 
 ghost use Rattle.std.specs.Prelude.{◌≡◌};
-ghost use Rattle.awk_run.specs.Operators.{value_fault, record_fault, stream_fault};
+ghost use Rattle.awk_run.specs.Operators.{value_fault, record_fault, stream_fault, variable_fault};
 ghost use Rattle.awk_run.specs.declared.halt.Halt.TheVariants.{Fault as FaultHalt};
 ghost use Rattle.awk_run.specs.declared.outcome.Fault.TheVariants.{OutOfMemory};
 
 use crate::outcome::Fault;
+use crate::variables::VariableFault;
 use awk_record::RecordFault;
 use awk_streams::StreamFault;
 use awk_value::ValueFault;
@@ -55,6 +56,17 @@ impl From<RecordFault> for Halt {
             RecordFault::FieldNumber => Fault::FieldNumberOutOfRange,
             RecordFault::SeparatorTooLong => Fault::RecordSeparatorTooLong,
             RecordFault::RecordTooLong => Fault::RecordTooLong,
+        })
+    }
+}
+
+impl From<VariableFault> for Halt {
+    ghost from_gives = { λ fault h. h ≡ FaultHalt (variable_fault fault) };
+
+    fn from(fault: VariableFault) -> Halt {
+        Halt::Fault(match fault {
+            VariableFault::Memory => Fault::OutOfMemory,
+            VariableFault::Pattern => Fault::PatternRefused,
         })
     }
 }

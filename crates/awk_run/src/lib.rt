@@ -1,9 +1,13 @@
 //! The run of a program: from a text and a world to the bytes on the outputs and an outcome.
 #![tactic(auto)]
 
+mod arguments;
 mod expressions;
 mod halt;
+mod inputs;
+mod kinds;
 pub mod laws;
+mod line;
 mod machine;
 mod outcome;
 mod run;
@@ -11,6 +15,7 @@ mod start;
 mod statements;
 #[cfg(test)]
 mod tests;
+mod variables;
 
 pub use laws::law_of_limits;
 pub use outcome::{Fault, Outcome, fault_line, status};

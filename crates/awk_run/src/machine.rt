@@ -1,17 +1,22 @@
 // The state of a run, and what it can do by itself.
 
-ghost use Rattle.std.specs.Prelude.{◌≡◌, ◌++◌, map, true, is_some, OnOk, IfOk, IfErr};
-ghost use Rattle.awk_value.specs.Values.{str_of};
-ghost use Rattle.awk_streams.specs.Streams.{AreOpen, IsSoundMain};
-ghost use Rattle.awk_run.specs.Words.{field_at, current_text, set_record, show, take_record, output_field_separator};
-ghost use Rattle.awk_run.specs.Effect.{line_of, joined, led, next_record};
-ghost use Rattle.awk_run.specs.Does.{seen, Spends, Changes, Follows, Opens, IsWantOfMemory, IsStart};
+ghost use Rattle.std.specs.Prelude.{◌≡◌, pos, codes, bytes_eq, IfOk, IfErr};
+ghost use Rattle.awk_run.specs.Operators.{raised};
+ghost use Rattle.awk_run.specs.Variables.{name_of};
+ghost use Rattle.awk_run.specs.Words.{read_name, put, count_in, field_at, current_text, set_record, show_values, be_served, begin_input};
+ghost use Rattle.awk_run.specs.Effect.{begin_record};
+ghost use Rattle.awk_run.specs.Start.{start_values};
+ghost use Rattle.awk_run.specs.Does.{seen, Matches, Spends, Changes, Follows, IsWantOfMemory, IsStart};
 
+use crate::arguments::Arguments;
 use crate::expressions;
 use crate::halt::Halt;
-use awk_record::{Record, RecordFault};
-use awk_streams::{InputKind, Streams, World};
-use awk_value::{Bytes, Value, append_text};
+use crate::line::make_line;
+use crate::start::Start;
+use crate::variables::{Special, Variables};
+use awk_record::Record;
+use awk_streams::{Streams, World};
+use awk_value::{Bytes, Value, add, number_of};
 use std::alloc::Global;
 
 /// The state of a run.
@@ -20,6 +25,8 @@ pub struct Machine {
     pub alloc: Global,
     /// The record at hand.
     pub current: Record,
+    pub variables: Variables,
+    pub arguments: Arguments,
     pub streams: Streams,
     /// The steps left.
     pub steps: u64,
@@ -27,15 +34,40 @@ pub struct Machine {
     pub line: Vec<u8>,
 }
 
+/// A count, raised by 1.
+fn raise(count: &Value) -> Result<Value, Halt>
+    ensures { Matches result (raised count.now) }
+{
+    Ok(Value::Number(add(number_of(count)?, 1)?))
+}
+
+/// Whether a name is NF, which is counted in the record.
+fn is_field_count(name: &[u8]) -> bool
+    ensures { result ≡ bytes_eq name.now (codes "NF") }
+{
+    matches!(name, b"NF")
+}
+
+/// A count, as a value.
+fn count_value(count: usize) -> Value
+    ensures { result ≡ Value.Number (pos count) }
+{
+    Value::Number(count as i128)
+}
+
 impl Machine {
     /// The state before a run, with so many steps. The only fault is want of memory.
-    pub fn new(alloc: Global, limit: u64) -> Result<Machine, RecordFault>
-        ensures start { IfOk result (λ m. IsStart limit m) }
-        ensures memory { IfErr result (λ fault. fault ≡ RecordFault.Memory) }
+    pub fn new(alloc: Global, start: &Start, limit: u64) -> Result<Machine, Halt>
+        ensures start { IfOk result (λ m. IsStart (start_values start.now) limit m) }
+        ensures memory { IfErr result IsWantOfMemory }
     {
+        let arguments = Arguments::new(alloc, &start.operands)?;
+        let variables = Variables::new(alloc, arguments.words.len())?;
         Ok(Machine {
             alloc,
             current: Record::new(alloc)?,
+            variables,
+            arguments,
             streams: Streams::new(alloc),
             steps: limit,
             line: Vec::new(alloc),
@@ -54,6 +86,56 @@ impl Machine {
         Ok(())
     }
 
+    /// The value of a name. (POSIX awk, Variables and Special Variables)
+    pub fn read_name(&mut self, name: &[u8]) -> Result<Value, Halt>
+        ensures { Changes (read_name name.now) self.old self.new result }
+    {
+        if is_field_count(name) {
+            return Ok(count_value(self.current.count()?));
+        }
+        Ok(self.variables.get(name)?)
+    }
+
+    /// Gives a name a value.
+    pub fn put(&mut self, name: &[u8], value: Value) -> Result<(), Halt>
+        ensures { Changes (put name.now value) self.old self.new result }
+    {
+        Ok(self.variables.set(name, value)?)
+    }
+
+    /// Gives a special variable a value.
+    fn put_special(&mut self, special: Special, value: Value) -> Result<(), Halt>
+        ensures { Changes (put (name_of special) value) self.old self.new result }
+    {
+        Ok(self.variables.set_special(special, value)?)
+    }
+
+    /// Raises a special variable's number by 1.
+    fn count_in(&mut self, special: Special) -> Result<(), Halt>
+        ensures { Changes (count_in special) self.old self.new result }
+    {
+        let count = raise(self.variables.special(special))?;
+        self.put_special(special, count)
+    }
+
+    /// Begins an input: FILENAME is its name, and FNR 0.
+    pub fn begin_input(&mut self, name: Bytes) -> Result<(), Halt>
+        ensures { Changes (begin_input name) self.old self.new result }
+    {
+        self.put_special(Special::Filename, Value::Input(name))?;
+        self.put_special(Special::Fnr, Value::Number(0))?;
+        self.be_served()
+    }
+
+    /// Notes that a main input was found.
+    #[tactic(auto, unfolding(crate::specs::Words::be_served))]
+    fn be_served(&mut self) -> Result<(), Halt>
+        ensures { Changes be_served self.old self.new result }
+    {
+        self.arguments.served = true;
+        Ok(())
+    }
+
     /// The field whose number is the value's.
     pub fn field_at(&mut self, at: &Value) -> Result<Value, Halt>
         ensures { Changes (field_at at.now) self.old self.new result }
@@ -68,86 +150,31 @@ impl Machine {
         Ok(Value::Input(self.current.text()?))
     }
 
-    /// Prints the line of the values to standard output (POSIX awk, Output Statements).
-    pub fn show_line<W: World>(&mut self, world: &mut W, values: &[Value]) -> Result<(), Halt>
-        ensures { Follows W.tells (show (line_of values.now)) self.old (seen (W.is_open world.old) (W.log world.old) (W.mark world.old)) self.new (seen (W.is_open world.new) (W.log world.new) (W.mark world.new)) result }
-    {
-        make_line(&mut self.line, values)?;
-        Ok(self.streams.print(world, &self.line)?)
-    }
-
-    /// Opens standard input, unless a main input is open.
-    fn open_standard<W: World>(&mut self, world: &mut W) -> Result<(), Halt>
-        requires { AreOpen (W.is_open world.old) self.old.streams }
-        ensures { Opens W.tells self.old (seen (W.is_open world.old) (W.log world.old) (W.mark world.old)) self.new (seen (W.is_open world.new) (W.log world.new) (W.mark world.new)) result }
-    {
-        if self.streams.has_main() {
-            return Ok(());
-        }
-        Ok(self.streams.open_main(world, InputKind::Standard, b"")?)
-    }
-
-    /// The next record of the main input.
-    fn take_record<W: World>(&mut self, world: &mut W) -> Result<Option<Bytes>, Halt>
-        requires main { is_some self.old.streams.main ≡ true }
-        requires open { AreOpen (W.is_open world.old) self.old.streams }
-        requires sound { W.tells → IsSoundMain (W.log world.old) self.old.streams.main }
-        ensures { Follows W.tells take_record self.old (seen (W.is_open world.old) (W.log world.old) (W.mark world.old)) self.new (seen (W.is_open world.new) (W.log world.new) (W.mark world.new)) result }
-    {
-        Ok(self.streams.next_main(world, b"\n")?)
-    }
-
-    /// The next main record: standard input is opened for the first one. `None` at its end.
-    pub fn next_record<W: World>(&mut self, world: &mut W) -> Result<Option<Bytes>, Halt>
-        requires open { AreOpen (W.is_open world.old) self.old.streams }
-        requires sound { W.tells → IsSoundMain (W.log world.old) self.old.streams.main }
-        ensures { Follows W.tells next_record self.old (seen (W.is_open world.old) (W.log world.old) (W.mark world.old)) self.new (seen (W.is_open world.new) (W.log world.new) (W.mark world.new)) result }
-    {
-        self.open_standard(world)?;
-        self.take_record(world)
-    }
-
     /// Makes the text the record at hand.
-    pub fn set_record(&mut self, text: Bytes) -> Result<(), Halt>
+    fn set_record(&mut self, text: Bytes) -> Result<(), Halt>
         ensures { Changes (set_record text) self.old self.new result }
     {
-        Ok(self.current.set_text(text)?)
+        let separator = self.variables.separator();
+        Ok(self.current.set_text(text, separator)?)
     }
-}
 
-/// Appends the text of each value behind a space.
-fn append_led(line: &mut Vec<u8>, values: &[Value]) -> Result<(), Halt>
-    ensures text { OnOk result (line.new.items ≡ line.old.items ++ led output_field_separator (map str_of values.now)) }
-    ensures fault { IfErr result IsWantOfMemory }
-{
-    for value in values {
-        line.push(b' ')?;
-        append_text(value, line)?;
+    /// Makes the text the record at hand, and counts it in NR and FNR.
+    pub fn begin_record(&mut self, text: Bytes) -> Result<(), Halt>
+        ensures { Changes (begin_record text) self.old self.new result }
+    {
+        self.set_record(text)?;
+        self.count_in(Special::Nr)?;
+        self.count_in(Special::Fnr)
     }
-    Ok(())
-}
 
-/// Appends the texts of the values, each but the first behind a space.
-fn append_joined(line: &mut Vec<u8>, values: &[Value]) -> Result<(), Halt>
-    ensures text { OnOk result (line.new.items ≡ line.old.items ++ joined output_field_separator (map str_of values.now)) }
-    ensures fault { IfErr result IsWantOfMemory }
-{
-    match values {
-        [] => Ok(()),
-        [first, others @ ..] => {
-            append_text(first, line)?;
-            append_led(line, others)
-        }
+    /// Prints the values as a line to standard output, by OFS and ORS. (POSIX awk, Output
+    /// Statements)
+    pub fn show_values<W: World>(&mut self, world: &mut W, values: &[Value]) -> Result<(), Halt>
+        ensures { Follows W.tells (show_values values.now) self.old (seen (W.is_open world.old) (W.log world.old) (W.mark world.old)) self.new (seen (W.is_open world.new) (W.log world.new) (W.mark world.new)) result }
+    {
+        let between = self.variables.special(Special::Ofs);
+        let behind = self.variables.special(Special::Ors);
+        make_line(&mut self.line, values, between, behind)?;
+        Ok(self.streams.print(world, &self.line)?)
     }
-}
-
-/// Makes the line that a print of the values prints, in place of what was there.
-fn make_line(line: &mut Vec<u8>, values: &[Value]) -> Result<(), Halt>
-    ensures text { OnOk result (line.new.items ≡ line_of values.now) }
-    ensures fault { IfErr result IsWantOfMemory }
-{
-    line.clear();
-    append_joined(line, values)?;
-    line.push(b'\n')?;
-    Ok(())
 }

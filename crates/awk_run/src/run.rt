@@ -1,19 +1,21 @@
 // A whole run, of a tree and of a text.
 
-ghost use Rattle.std.specs.Prelude.{◌≡◌, ◌⊎◌, List, ℕ, IfOk, IfErr, OnErr};
+ghost use Rattle.std.specs.Prelude.{◌≡◌, ◌⊎◌, List, ℕ, map, IfOk, IfErr, OnErr};
 ghost use Rattle.awk_lex.specs.Refused.{IsOutOfMemory};
 ghost use Rattle.awk_syntax.specs.Tree.{Item as ItemTree};
 ghost use Rattle.awk_syntax.specs.View.{tree_of, items_of};
-ghost use Rattle.awk_run.specs.Accepted.{Accepted, RefusedFor};
-ghost use Rattle.awk_run.specs.Start.{start_values, IsPlain};
-ghost use Rattle.awk_run.specs.Does.{seen};
+ghost use Rattle.awk_run.specs.Accepted.{IsSpelled, Accepted, RefusedFor};
+ghost use Rattle.awk_run.specs.Start.{start_values, pair_of};
+ghost use Rattle.awk_streams.specs.Streams.{AreOpen, IsSoundMain};
+ghost use Rattle.awk_run.specs.Does.{seen, Assigns, RunsWhole};
 ghost use Rattle.awk_run.specs.Verdict.{outcome_after as outcome_at, ReadsOnly, RunsFrom};
 ghost use Rattle.awk_run.specs.Headline.{Executed};
 
 use crate::halt::Halt;
+use crate::kinds::name_refusal;
 use crate::machine::Machine;
 use crate::outcome::{Fault, Outcome};
-use crate::start::Start;
+use crate::start::{Assignment, Start};
 use crate::statements::run_items;
 use awk_lex::lexer::tokens;
 use awk_lex::refusal::Refusal;
@@ -50,31 +52,69 @@ fn outcome_after(ended: Result<(), Halt>, finished: Result<(), StreamFault>) -> 
     }
 }
 
-/// Runs the items on standard input, with at most so many steps (POSIX awk, Overall Program
+/// Makes the assignments in turn.
+fn assign_all(assignments: &[Assignment], machine: &mut Machine) -> Result<(), Halt>
+    ensures { Assigns (map pair_of assignments.now) machine.old machine.new result }
+{
+    for assignment in assignments {
+        machine.assign_text(&assignment.name, &assignment.text)?;
+    }
+    Ok(())
+}
+
+/// Makes the assignments before a run, and runs the items.
+fn run_whole<W: World>(
+    items: &[Item],
+    assignments: &[Assignment],
+    machine: &mut Machine,
+    world: &mut W,
+) -> Result<(), Halt>
+    requires open { AreOpen (W.is_open world.old) machine.old.streams }
+    requires sound { W.tells → IsSoundMain (W.log world.old) machine.old.streams.main }
+    ensures { RunsWhole W.tells (items_of items.now) (map pair_of assignments.now) machine.old (seen (W.is_open world.old) (W.log world.old) (W.mark world.old)) machine.new (seen (W.is_open world.new) (W.log world.new) (W.mark world.new)) result }
+{
+    assign_all(assignments, machine)?;
+    run_items(items, machine, world)
+}
+
+/// Runs the items from the start values, with at most so many steps (POSIX awk, Overall Program
 /// Structure).
-fn run<W: World>(alloc: Global, items: &[Item], limit: u64, world: &mut W) -> Outcome
-    ensures { RunsFrom W.tells (items_of items.now) limit (seen (W.is_open world.old) (W.log world.old) (W.mark world.old)) (seen (W.is_open world.new) (W.log world.new) (W.mark world.new)) result }
+fn run<W: World>(alloc: Global, items: &[Item], start: &Start, limit: u64, world: &mut W) -> Outcome
+    ensures { RunsFrom W.tells (items_of items.now) (start_values start.now) limit (seen (W.is_open world.old) (W.log world.old) (W.mark world.old)) (seen (W.is_open world.new) (W.log world.new) (W.mark world.new)) result }
 {
     some_answers_agree();
-    let Ok(mut machine) = Machine::new(alloc, limit) else {
+    let Ok(mut machine) = Machine::new(alloc, start, limit) else {
         return Outcome::Fault(Fault::OutOfMemory);
     };
-    let ended = run_items(items, &mut machine, world);
+    let ended = run_whole(items, &start.pre, &mut machine, world);
     let finished = machine.streams.finish(world);
     outcome_after(ended, finished)
 }
 
-/// The program of a text.
-fn program(alloc: Global, text: &[u8]) -> Result<Tree, Refusal>
-    ensures accepted { IfOk result (λ tree. Accepted text.now (tree_of tree)) }
-    ensures only { (items : List ItemTree) → Accepted text.now items → ReadsOnly result items }
+/// The tree of a text.
+fn tree_of_text(alloc: Global, text: &[u8]) -> Result<Tree, Refusal>
+    ensures spelled { IfOk result (λ tree. IsSpelled text.now (tree_of tree)) }
+    ensures only { (items : List ItemTree) → IsSpelled text.now items → ReadsOnly result items }
     ensures cause { IfErr result (λ refusal. RefusedFor refusal.code text.now) }
 {
     let tokens = tokens(alloc, text)?;
     parse(alloc, &tokens)
 }
 
-/// Reads a program text and runs it on standard input, with at most `limit` steps.
+/// The program of a text: a tree whose names fit.
+fn program(alloc: Global, text: &[u8]) -> Result<Tree, Refusal>
+    ensures accepted { IfOk result (λ tree. Accepted text.now (tree_of tree)) }
+    ensures only { (items : List ItemTree) → Accepted text.now items → ReadsOnly result items }
+    ensures cause { IfErr result (λ refusal. RefusedFor refusal.code text.now) }
+{
+    let tree = tree_of_text(alloc, text)?;
+    match name_refusal(&tree.items) {
+        Some(code) => Err(Refusal { code, line: 1 }),
+        None => Ok(tree),
+    }
+}
+
+/// Reads a program text and runs it from the start values, with at most `limit` steps.
 ///
 /// A text that is no program is refused, with the first cause that holds and its line, and nothing
 /// is done in the world. (POSIX awk, the awk utility)
@@ -85,12 +125,11 @@ pub fn execute<W: World>(
     limit: u64,
     world: &mut W,
 ) -> Result<Outcome, Refusal>
-    requires plain { IsPlain start.now }
     ensures executed { Executed W.tells text.now (start_values start.now) limit (seen (W.is_open world.old) (W.log world.old) (W.mark world.old)) (seen (W.is_open world.new) (W.log world.new) (W.mark world.new)) result }
     ensures untouched { OnErr result (world.new ≡ world.old) }
 {
     let tree = program(alloc, text)?;
-    Ok(run(alloc, &tree.items, limit, world))
+    Ok(run(alloc, &tree.items, start, limit, world))
 }
 
 /// A text is at most one program.

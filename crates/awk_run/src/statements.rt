@@ -1,11 +1,13 @@
 // Statements, items and records.
 
 ghost use Rattle.awk_streams.specs.Streams.{AreOpen, IsSoundMain};
-ghost use Rattle.awk_syntax.specs.Tree.{Print};
-ghost use Rattle.awk_syntax.specs.View.{exprs_of, statement_of, statements_of, item_of, items_of};
-ghost use Rattle.awk_run.specs.Does.{seen, Executes, ExecutesAll, Tries, TriesAll, ReadsAll, RunsItems};
+ghost use Rattle.std.specs.Prelude.{◌≡◌};
+ghost use Rattle.awk_syntax.specs.Tree.{Evaluate, Print, Short};
+ghost use Rattle.awk_syntax.specs.View.{expr_of, exprs_of, statement_of, statements_of, item_of, items_of};
+ghost use Rattle.awk_run.specs.Does.{seen, Executes, ExecutesAll, Tries, TriesAll, BeginsItem, BeginsAll, ReadsAll, RunsItems};
+ghost use Rattle.awk_run.specs.Effect.{is_rule, has_rule};
 
-use crate::expressions::{holds, listed};
+use crate::expressions::{eval, holds, listed};
 use crate::halt::Halt;
 use crate::machine::Machine;
 use awk_streams::World;
@@ -17,7 +19,16 @@ fn print<W: World>(list: &[Expr], machine: &mut Machine, world: &mut W) -> Resul
 {
     machine.spend()?;
     let values = listed(list, machine)?;
-    machine.show_line(world, &values)
+    machine.show_values(world, &values)
+}
+
+/// Evaluates an expression, whose value is of no use.
+fn evaluate<W: World>(e: &Expr, machine: &mut Machine, world: &mut W) -> Result<(), Halt>
+    ensures { Executes W.tells (Evaluate (expr_of e.now)) machine.old (seen (W.is_open world.old) (W.log world.old) (W.mark world.old)) machine.new (seen (W.is_open world.new) (W.log world.new) (W.mark world.new)) result }
+{
+    machine.spend()?;
+    eval(e, machine)?;
+    Ok(())
 }
 
 /// Executes a statement (POSIX awk, Actions).
@@ -27,6 +38,7 @@ pub fn exec<W: World>(s: &Statement, machine: &mut Machine, world: &mut W) -> Re
 {
     match s {
         Statement::Block(all) => exec_all(all, machine, world),
+        Statement::Expression(e) => evaluate(e, machine, world),
         Statement::Print(list) => print(list, machine, world),
     }
 }
@@ -46,12 +58,25 @@ pub fn exec_all<W: World>(
     Ok(())
 }
 
+/// Prints the record at hand where an expression is true (POSIX awk, Patterns).
+fn try_pattern<W: World>(e: &Expr, machine: &mut Machine, world: &mut W) -> Result<(), Halt>
+    ensures { Tries W.tells (Short (expr_of e.now)) machine.old (seen (W.is_open world.old) (W.log world.old) (W.mark world.old)) machine.new (seen (W.is_open world.new) (W.log world.new) (W.mark world.new)) result }
+{
+    if holds(e, machine)? {
+        print(&[], machine, world)
+    } else {
+        Ok(())
+    }
+}
+
 /// Tries an item on the record at hand (POSIX awk, Patterns).
 fn try_item<W: World>(item: &Item, machine: &mut Machine, world: &mut W) -> Result<(), Halt>
     ensures { Tries W.tells (item_of item.now) machine.old (seen (W.is_open world.old) (W.log world.old) (W.mark world.old)) machine.new (seen (W.is_open world.new) (W.log world.new) (W.mark world.new)) result }
 {
     match item {
+        Item::Begin(_) => Ok(()),
         Item::Always(block) => exec_all(block, machine, world),
+        Item::Pattern(e) => try_pattern(e, machine, world),
         Item::Rule(e, block) => {
             if holds(e, machine)? {
                 exec_all(block, machine, world)
@@ -72,6 +97,26 @@ fn try_items<W: World>(items: &[Item], machine: &mut Machine, world: &mut W) -> 
     Ok(())
 }
 
+/// Runs the action of an item that comes before all records (POSIX awk, Patterns: BEGIN).
+fn begin_item<W: World>(item: &Item, machine: &mut Machine, world: &mut W) -> Result<(), Halt>
+    ensures { BeginsItem W.tells (item_of item.now) machine.old (seen (W.is_open world.old) (W.log world.old) (W.mark world.old)) machine.new (seen (W.is_open world.new) (W.log world.new) (W.mark world.new)) result }
+{
+    match item {
+        Item::Begin(block) => exec_all(block, machine, world),
+        _ => Ok(()),
+    }
+}
+
+/// Runs the actions that come before all records, in turn.
+fn begin_items<W: World>(items: &[Item], machine: &mut Machine, world: &mut W) -> Result<(), Halt>
+    ensures { BeginsAll W.tells (items_of items.now) machine.old (seen (W.is_open world.old) (W.log world.old) (W.mark world.old)) machine.new (seen (W.is_open world.new) (W.log world.new) (W.mark world.new)) result }
+{
+    for item in items {
+        begin_item(item, machine, world)?;
+    }
+    Ok(())
+}
+
 /// Reads the main records to their end, and tries the items on each (POSIX awk, Overall Program
 /// Structure).
 fn run_records<W: World>(items: &[Item], machine: &mut Machine, world: &mut W) -> Result<(), Halt>
@@ -81,20 +126,35 @@ fn run_records<W: World>(items: &[Item], machine: &mut Machine, world: &mut W) -
 {
     while let Some(text) = machine.next_record(world)? {
         machine.spend()?;
-        machine.set_record(text)?;
+        machine.begin_record(text)?;
         try_items(items, machine, world)?;
     }
     Ok(())
 }
 
-/// Runs the items on all main records; without items nothing is read.
+/// Whether an item is tried on records.
+fn is_rule(item: &Item) -> bool
+    ensures { result ≡ is_rule (item_of item.now) }
+{
+    !matches!(item, Item::Begin(_))
+}
+
+fn has_rule(items: &[Item]) -> bool
+    ensures { result ≡ has_rule (items_of items.now) }
+{
+    items.iter().any(|item| is_rule(item))
+}
+
+/// Runs the actions before all records, and then the items on the main records; where there is no
+/// rule, none is read. (POSIX awk, Overall Program Structure)
 pub fn run_items<W: World>(items: &[Item], machine: &mut Machine, world: &mut W) -> Result<(), Halt>
     requires open { AreOpen (W.is_open world.old) machine.old.streams }
     requires sound { W.tells → IsSoundMain (W.log world.old) machine.old.streams.main }
     ensures { RunsItems W.tells (items_of items.now) machine.old (seen (W.is_open world.old) (W.log world.old) (W.mark world.old)) machine.new (seen (W.is_open world.new) (W.log world.new) (W.mark world.new)) result }
 {
-    if items.is_empty() {
-        return Ok(());
+    begin_items(items, machine, world)?;
+    if has_rule(items) {
+        run_records(items, machine, world)?;
     }
-    run_records(items, machine, world)
+    Ok(())
 }

@@ -17,5 +17,5 @@ returns-clause-executed g c =
     record {
       cause = tt;
       refused = tt;
-      run = (tree_of c.in_ok-tree.tree, c.in_ok-tree.ensures.accepted, λ t fresh. ran.runs t fresh _);
+      run = (tree_of c.in_ok-tree.tree, c.in_ok-tree.ensures.accepted, λ t fresh. ran.runs t fresh);
     }

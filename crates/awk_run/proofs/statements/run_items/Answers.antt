@@ -1,9 +1,20 @@
 use Rattle.std.proofs.Common.{sym, ◌∙◌}
-use Rattle.awk_run.proofs.Forms.{runs_none, runs_any, items_of_none}
+use Rattle.std.proofs.lemmas.Result.{err_from_is_err_and}
+use Rattle.awk_run.proofs.Forms.{runs_halts, runs_none, runs_some}
 use Rattle.awk_run.proofs.statements.run_items.Goals as goal
 
-pub returns-then-is_empty : goal.returns-then-is_empty
-returns-then-is_empty g c = rw (items_of_none c.args.items.now (sym c.is_empty.ensures ∙ c.if-is_empty.true)) runs_none
+pub returns-in_err-begin_items : goal.returns-in_err-begin_items
+returns-in_err-begin_items g c =
+    let p = err_from_is_err_and c.from_residual.result c.from_residual.ensures.1 in
+    rw (p.1, p.2) (runs_halts c.in_err-begin_items.ensures)
 
-pub returns : goal.returns
-returns g c = runs_any c.args.items.now (sym c.is_empty.ensures ∙ c.if-is_empty.false) c.run_records.ensures
+pub returns-in_err-run_records : goal.returns-in_err-run_records
+returns-in_err-run_records g c =
+    let p = err_from_is_err_and c.from_residual-in_err-run_records.result c.from_residual-in_err-run_records.ensures.1 in
+    rw (p.1, p.2) (runs_some (sym c.has_rule.ensures ∙ c.if-has_rule.true) c.in_ok-begin_items.ensures c.in_err-run_records.ensures)
+
+pub returns-in_ok-run_records : goal.returns-in_ok-run_records
+returns-in_ok-run_records g c = runs_some (sym c.has_rule.ensures ∙ c.if-has_rule.true) c.in_ok-begin_items.ensures c.in_ok-run_records.ensures
+
+pub returns-else-has_rule : goal.returns-else-has_rule
+returns-else-has_rule g c = runs_none (sym c.has_rule.ensures ∙ c.if-has_rule.false) c.in_ok-begin_items.ensures

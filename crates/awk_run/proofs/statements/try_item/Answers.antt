@@ -1,7 +1,7 @@
 use Rattle.std.proofs.Common.{ap}
 use Rattle.std.proofs.lemmas.Result.{err_from_is_err_and}
 use Rattle.awk_syntax.specs.View.{item_of}
-use Rattle.awk_run.proofs.Forms.{always_tries, rule_halts, rule_holds, rule_fails}
+use Rattle.awk_run.proofs.Forms.{begin_tries, always_tries, rule_halts, rule_holds, rule_fails}
 use Rattle.awk_run.proofs.statements.try_item.Goals as goal
 
 pub returns-in-Always : goal.returns-in-Always
@@ -19,3 +19,6 @@ returns-then-branch g c =
 pub returns-else-branch : goal.returns-else-branch
 returns-else-branch g c =
     rw (ap item_of c.in-Rule.is) (rule_fails (rw c.if-branch.false at (c.in_ok-holds-in-Rule.ensures {u = tt})))
+
+pub returns-in-Begin : goal.returns-in-Begin
+returns-in-Begin g c = rw (ap item_of c.in-Begin.is) begin_tries

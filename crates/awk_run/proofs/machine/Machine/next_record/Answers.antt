@@ -1,11 +1,14 @@
 use Rattle.std.proofs.lemmas.Result.{err_from_is_err_and}
-use Rattle.awk_run.proofs.Outside.{next_ends, next_takes}
+use Rattle.awk_run.proofs.Seeking.{next_ends, next_gives, next_seeks}
 use Rattle.awk_run.proofs.machine.Machine.next_record.Goals as goal
 
-pub returns-in_err-open_standard : goal.returns-in_err-open_standard
-returns-in_err-open_standard g c =
+pub returns-in_err-text : goal.returns-in_err-text
+returns-in_err-text g c =
     let p = err_from_is_err_and c.from_residual.result c.from_residual.ensures.1 in
-    rw (p.1, p.2) (next_ends c.in_err-open_standard.ensures)
+    rw (p.1, p.2) (next_ends c.in_err-text.ensures)
 
-pub returns : goal.returns
-returns g c = next_takes c.in_ok-open_standard.ensures c.take_record.ensures
+pub returns-in-Some : goal.returns-in-Some
+returns-in-Some g c = next_gives (rw c.in-Some.is at (c.in_ok-text.ensures {u = tt}))
+
+pub returns-in-None : goal.returns-in-None
+returns-in-None g c = next_seeks (rw c.in-None.is at (c.in_ok-text.ensures {u = tt})) c.search.ensures

@@ -1,9 +1,0 @@
-use Rattle.std.proofs.Common.{◌≡◌, ◌++◌, map, drop}
-use Rattle.awk_value.specs.Values.{str_of}
-use Rattle.awk_run.specs.Words.{output_field_separator}
-use Rattle.awk_run.specs.Effect.{led}
-use Rattle.awk_run.proofs.machine.append_led.Given as goal
-
-abbrev pub invariant-loop-value : goal.invariant-loop-value
-invariant-loop-value l =
-    l.line.items ++ led output_field_separator (map str_of (drop l.value-index l.values)) ≡ l.fn.line.items ++ led output_field_separator (map str_of l.values)

@@ -1,0 +1,180 @@
+// Where the main records come from.
+
+ghost use Rattle.std.specs.Prelude.{◌≡◌, ◌≢◌, [], None, true, is_some};
+ghost use Rattle.awk_streams.specs.Streams.{AreOpen, IsSoundMain};
+ghost use Rattle.awk_run.specs.Words.{take_record, close_main, take_argument};
+ghost use Rattle.awk_run.specs.Inputs.{assign_text, path_of, main_record, first_record, record_of, standard_record, search_all, next_record};
+ghost use Rattle.awk_run.specs.Does.{seen, Changes, Follows, Closes, Opens, Seeks};
+
+use crate::arguments::{Request, assigned_text, request_of};
+use crate::halt::Halt;
+use crate::machine::Machine;
+use crate::outcome::Fault;
+use crate::variables::Special;
+use awk_streams::{InputKind, World};
+use awk_value::{Bytes, Value, text_of};
+
+/// The path of an input; standard input has none.
+fn path_of(kind: InputKind, name: &Bytes) -> &[u8]
+    ensures path { result.now ≡ path_of kind name.now }
+    ensures standard { kind ≡ InputKind.Standard → result.now ≡ [] }
+{
+    match kind {
+        InputKind::Standard => b"",
+        InputKind::File | InputKind::Command => name.as_slice(),
+    }
+}
+
+impl Machine {
+    /// Gives a name a text from the command line, in which the escapes of a string stand for their
+    /// bytes. (POSIX awk, OPTIONS: -v; OPERANDS)
+    pub fn assign_text(&mut self, name: &[u8], text: &[u8]) -> Result<(), Halt>
+        ensures { Changes (assign_text name.now text.now) self.old self.new result }
+    {
+        let text = assigned_text(self.alloc, name, text)?;
+        self.put(name, Value::Input(text))
+    }
+
+    /// The next element of ARGV, if it is below the number of ARGC.
+    fn take_argument(&mut self) -> Result<Option<Bytes>, Halt>
+        ensures { Changes take_argument self.old self.new result }
+    {
+        let count = self.variables.special(Special::Argc);
+        self.arguments.take(self.alloc, count)
+    }
+
+    /// Opens a main input; standard input has no path.
+    fn open_main<W: World>(
+        &mut self,
+        world: &mut W,
+        kind: InputKind,
+        path: &[u8],
+    ) -> Result<(), Halt>
+        requires none { self.old.streams.main ≡ None }
+        requires plain { kind ≢ InputKind.Command }
+        requires named { kind ≡ InputKind.Standard → path.now ≡ [] }
+        ensures { Opens W.tells kind path.now self.old (seen (W.is_open world.old) (W.log world.old) (W.mark world.old)) self.new (seen (W.is_open world.new) (W.log world.new) (W.mark world.new)) result }
+    {
+        Ok(self.streams.open_main(world, kind, path)?)
+    }
+
+    /// Closes the main input, if one is open.
+    fn close_main<W: World>(&mut self, world: &mut W)
+        requires open { AreOpen (W.is_open world.old) self.old.streams }
+        requires sound { W.tells → IsSoundMain (W.log world.old) self.old.streams.main }
+        ensures { Closes W.tells self.old (seen (W.is_open world.old) (W.log world.old) (W.mark world.old)) self.new (seen (W.is_open world.new) (W.log world.new) (W.mark world.new)) }
+    {
+        self.streams.close_main(world);
+    }
+
+    /// The next record of the main input, by RS. `None` at its end, and where none is open.
+    fn take_record<W: World>(&mut self, world: &mut W) -> Result<Option<Bytes>, Halt>
+        requires open { AreOpen (W.is_open world.old) self.old.streams }
+        requires sound { W.tells → IsSoundMain (W.log world.old) self.old.streams.main }
+        ensures { Follows W.tells take_record self.old (seen (W.is_open world.old) (W.log world.old) (W.mark world.old)) self.new (seen (W.is_open world.new) (W.log world.new) (W.mark world.new)) result }
+    {
+        if !self.streams.has_main() {
+            return Ok(None);
+        }
+        let separator = text_of(self.alloc, self.variables.special(Special::Rs))?;
+        if separator.is_empty() {
+            return Err(Halt::Fault(Fault::RecordSeparatorTooLong));
+        }
+        Ok(self.streams.next_main(world, separator.as_slice())?)
+    }
+
+    /// The next record of the main input, which is closed at its end.
+    fn main_record<W: World>(&mut self, world: &mut W) -> Result<Option<Bytes>, Halt>
+        requires open { AreOpen (W.is_open world.old) self.old.streams }
+        requires sound { W.tells → IsSoundMain (W.log world.old) self.old.streams.main }
+        ensures { Seeks W.tells main_record self.old (seen (W.is_open world.old) (W.log world.old) (W.mark world.old)) self.new (seen (W.is_open world.new) (W.log world.new) (W.mark world.new)) result }
+    {
+        match self.take_record(world)? {
+            Some(text) => Ok(Some(text)),
+            None => {
+                self.close_main(world);
+                Ok(None)
+            }
+        }
+    }
+
+    /// Opens a main input under a name, and takes its first record.
+    fn first_record<W: World>(
+        &mut self,
+        world: &mut W,
+        kind: InputKind,
+        name: Bytes,
+    ) -> Result<Option<Bytes>, Halt>
+        requires none { self.old.streams.main ≡ None }
+        requires plain { kind ≢ InputKind.Command }
+        requires open { AreOpen (W.is_open world.old) self.old.streams }
+        requires sound { W.tells → IsSoundMain (W.log world.old) self.old.streams.main }
+        ensures { Seeks W.tells (first_record kind name) self.old (seen (W.is_open world.old) (W.log world.old) (W.mark world.old)) self.new (seen (W.is_open world.new) (W.log world.new) (W.mark world.new)) result }
+    {
+        self.open_main(world, kind, path_of(kind, &name))?;
+        self.begin_input(name)?;
+        self.main_record(world)
+    }
+
+    /// The first record that an element of ARGV leads to, if it leads to one.
+    fn record_of<W: World>(&mut self, world: &mut W, word: Bytes) -> Result<Option<Bytes>, Halt>
+        requires none { self.old.streams.main ≡ None }
+        requires open { AreOpen (W.is_open world.old) self.old.streams }
+        requires sound { W.tells → IsSoundMain (W.log world.old) self.old.streams.main }
+        ensures { Seeks W.tells (record_of word) self.old (seen (W.is_open world.old) (W.log world.old) (W.mark world.old)) self.new (seen (W.is_open world.new) (W.log world.new) (W.mark world.new)) result }
+    {
+        let bytes = word.as_slice();
+        match request_of(bytes) {
+            Request::Nothing => Ok(None),
+            Request::Assignment(len) => {
+                self.assign_text(&bytes[..len], &bytes[len + 1..])?;
+                Ok(None)
+            }
+            Request::StandardInput => self.first_record(world, InputKind::Standard, word),
+            Request::File => self.first_record(world, InputKind::File, word),
+        }
+    }
+
+    /// The first record of standard input, unless a main input was found.
+    fn standard_record<W: World>(&mut self, world: &mut W) -> Result<Option<Bytes>, Halt>
+        requires none { self.old.streams.main ≡ None }
+        requires open { AreOpen (W.is_open world.old) self.old.streams }
+        requires sound { W.tells → IsSoundMain (W.log world.old) self.old.streams.main }
+        ensures { Seeks W.tells standard_record self.old (seen (W.is_open world.old) (W.log world.old) (W.mark world.old)) self.new (seen (W.is_open world.new) (W.log world.new) (W.mark world.new)) result }
+    {
+        if self.arguments.served {
+            return Ok(None);
+        }
+        let name = Bytes::from_slice(self.alloc, b"")?;
+        self.first_record(world, InputKind::Standard, name)
+    }
+
+    /// Looks at the elements of ARGV in turn, until one leads to a record.
+    fn search<W: World>(&mut self, world: &mut W) -> Result<Option<Bytes>, Halt>
+        requires none { self.old.streams.main ≡ None }
+        requires open { AreOpen (W.is_open world.old) self.old.streams }
+        requires sound { W.tells → IsSoundMain (W.log world.old) self.old.streams.main }
+        ensures { Seeks W.tells search_all self.old (seen (W.is_open world.old) (W.log world.old) (W.mark world.old)) self.new (seen (W.is_open world.new) (W.log world.new) (W.mark world.new)) result }
+    {
+        while let Some(word) = self.take_argument()? {
+            self.spend()?;
+            if let Some(text) = self.record_of(world, word)? {
+                return Ok(Some(text));
+            }
+        }
+        self.standard_record(world)
+    }
+
+    /// The next main record, from the elements of ARGV in turn, or from standard input for want of
+    /// a file operand. `None` where no record is left. (POSIX awk, OPERANDS and INPUT FILES)
+    pub fn next_record<W: World>(&mut self, world: &mut W) -> Result<Option<Bytes>, Halt>
+        requires open { AreOpen (W.is_open world.old) self.old.streams }
+        requires sound { W.tells → IsSoundMain (W.log world.old) self.old.streams.main }
+        ensures { Follows W.tells next_record self.old (seen (W.is_open world.old) (W.log world.old) (W.mark world.old)) self.new (seen (W.is_open world.new) (W.log world.new) (W.mark world.new)) result }
+    {
+        match self.main_record(world)? {
+            Some(text) => Ok(Some(text)),
+            None => self.search(world),
+        }
+    }
+}
