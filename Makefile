@@ -12,5 +12,6 @@ test:
 	rt ci
 
 install: build
-	install -d "$(DESTDIR)$(PREFIX)/bin"
+	install -d "$(DESTDIR)$(PREFIX)/bin" "$(DESTDIR)$(PREFIX)/share/man/man1"
 	install -m 755 out/awk "$(DESTDIR)$(PREFIX)/bin/awk"
+	install -m 644 awk.1 "$(DESTDIR)$(PREFIX)/share/man/man1/awk.1"

@@ -1,2 +1,7 @@
+pub mod Command
+pub mod Held
+pub mod Invocation
 pub mod Open
+pub mod Program
 pub mod Report
+pub mod View

@@ -1,17 +1,18 @@
-// The outside of a run, over the system's standard streams.
+// The outside of a run, over the system's standard streams and files.
 
-ghost use Rattle.std.specs.Prelude.{◌≡◌, ◌≤◌, ◌↔◌, ℕ, Err, [], None, IfOk, OnErr, length, nat_lt};
+ghost use Rattle.std.specs.Prelude.{◌≡◌, ◌≤◌, ℕ, Err, [], None, IfOk, OnErr, false, is_some, nat_lt};
 ghost use Rattle.std.specs.Ordering.{nat_cmp};
-ghost use Rattle.std.specs.IoError.{error_kind};
 ghost use Rattle.std.specs.BTreeMap.{get};
-ghost use Rattle.std.specs.Io.KnownBytes.{ReadConsumes, WriteAppends};
 ghost use Rattle.awk_streams.specs.Ids.{IsFresh, Opens, SameOpen};
 ghost use Rattle.awk.specs.Open.{is_open_in, standard_outputs_open};
 
+use crate::fault::{fault_of, read_from, write_to};
+use crate::held::HeldOutput;
 use awk_streams::{InputKind, Mode, OutputKind, World, WorldFault};
 use std::alloc::Global;
 use std::collections::BTreeMap;
-use std::io::{self, ErrorKind, Read, Stderr, Stdin, Stdout, Write};
+use std::fs::{File, Files, OpenOptions};
+use std::io::{self, BufReader, IsTerminal, Stderr, Stdin, Stdout};
 
 const STANDARD_OUTPUT: u64 = 0;
 
@@ -23,38 +24,58 @@ const FIRST_OPENED: u64 = 2;
 /// The number that a shell answers for a command that can't be started.
 const NOT_STARTED: i128 = 127;
 
+/// The most bytes of an input that are read ahead.
+const AHEAD: usize = 65_536;
+
 /// What stands open under a number.
-#[derive(Clone, Copy, Debug, PartialEq, Eq)]
+#[derive(Drop)]
 pub enum Stream {
     StandardInput,
+    Input(File),
+    Output(File),
 }
 
-/// The system as the outside of a run: standard input can be opened, any other opening is refused,
-/// and no command is started. It tells nothing of its bytes.
+/// The system as the outside of a run: standard input and files can be opened, and no command is
+/// started. Standard output is held back until it is flushed, 65,536 bytes are held, or something is
+/// written to standard error; where it is a terminal, also until standard input is read. It tells
+/// nothing of its bytes.
 #[derive(Drop)]
-pub struct SysWorld {
-    stdin: Stdin,
-    stdout: Stdout,
+pub struct SysWorld<R: Files<File = File> + Drop> {
+    alloc: Global,
+    files: R,
+    stdin: BufReader<Stdin>,
+    stdout: HeldOutput<Stdout>,
     stderr: Stderr,
+    /// Whether standard output is a terminal.
+    is_watched: bool,
     opened: BTreeMap<u64, Stream>,
     /// The number of the next opening: above those of all that was opened.
     next: u64,
     ghost named: { 2 ≤ next },
-    ghost unused: { (id : ℕ) → next ≤ id → get nat_cmp opened id ≡ None },
+    ghost unused: { (id : ℕ) → next ≤ id → is_some (get nat_cmp opened id) ≡ false },
 }
 
-impl SysWorld {
+impl<R: Files<File = File> + Drop> SysWorld<R> {
     /// The system as it stands before a run: of its streams the two standard outputs are open.
-    pub fn new(alloc: Global, stdin: Stdin, stdout: Stdout, stderr: Stderr) -> SysWorld
-        ensures { (id : ℕ) → ⟦<SysWorld as World>⟧.is_open result id ≡ nat_lt id 2 }
+    pub fn new(
+        alloc: Global,
+        files: R,
+        stdin: Stdin,
+        stdout: Stdout,
+        stderr: Stderr,
+    ) -> io::Result<SysWorld<R>>
+        ensures { IfOk result (λ world. (id : ℕ) → is_open_in world.opened id ≡ nat_lt id 2) }
     {
-        SysWorld {
-            stdin,
-            stdout,
+        Ok(SysWorld {
+            alloc,
+            files,
+            stdin: BufReader::with_capacity(alloc, AHEAD, stdin)?,
+            is_watched: stdout.is_terminal(),
+            stdout: HeldOutput::new(alloc, stdout)?,
             stderr,
             opened: BTreeMap::new(alloc),
             next: FIRST_OPENED,
-        }
+        })
     }
 
     /// Keeps what was opened, and answers its number. `Failed`: no number is left.
@@ -72,55 +93,29 @@ impl SysWorld {
         self.next = next;
         Ok(id)
     }
-}
 
-/// Refused memory is told from every other failure.
-fn fault_of(error: io::Error) -> WorldFault
-    ensures { result ≡ WorldFault.Memory ↔ (error_kind error ≡ ErrorKind.OutOfMemory) }
-{
-    match error.kind() {
-        ErrorKind::OutOfMemory => WorldFault::Memory,
-        _ => WorldFault::Failed,
+    /// Opens a file to be read.
+    fn open_reader(&self, name: &[u8]) -> Result<File, WorldFault> {
+        let path = std::str::from_utf8(name).map_err(|_| WorldFault::Failed)?;
+        File::open(&self.files, path).map_err(fault_of)
+    }
+
+    /// Opens a file to be written.
+    fn open_writer(&self, name: &[u8], mode: Mode) -> Result<File, WorldFault> {
+        let path = std::str::from_utf8(name).map_err(|_| WorldFault::Failed)?;
+        let mut options = OpenOptions::new();
+        match mode {
+            Mode::Truncate => options.write(true).truncate(true),
+            Mode::Append => options.append(true),
+        };
+        options
+            .create(true)
+            .open(&self.files, path)
+            .map_err(fault_of)
     }
 }
 
-/// One read, begun again where a signal interrupts it.
-fn read_from<R: Read>(reader: &mut R, into: &mut [u8]) -> Result<usize, WorldFault>
-    ensures count { IfOk result (λ n. n ≤ length into.old) }
-    ensures bytes { ReadConsumes (R.remaining reader.old) (R.remaining reader.new) result into.new }
-{
-    for _ in 0..u64::MAX {
-        match reader.read(into) {
-            Ok(count) => return Ok(count),
-            Err(error) => {
-                if error.kind() != ErrorKind::Interrupted {
-                    return Err(fault_of(error));
-                }
-            }
-        }
-    }
-    Err(WorldFault::Failed)
-}
-
-/// One write, begun again where a signal interrupts it.
-fn write_to<W: Write>(writer: &mut W, bytes: &[u8]) -> Result<usize, WorldFault>
-    ensures count { IfOk result (λ n. n ≤ length bytes.now) }
-    ensures bytes { WriteAppends (W.contents writer.old) (W.contents writer.new) result bytes.now }
-{
-    for _ in 0..u64::MAX {
-        match writer.write(bytes) {
-            Ok(count) => return Ok(count),
-            Err(error) => {
-                if error.kind() != ErrorKind::Interrupted {
-                    return Err(fault_of(error));
-                }
-            }
-        }
-    }
-    Err(WorldFault::Failed)
-}
-
-impl World for SysWorld {
+impl<R: Files<File = File> + Drop> World for SysWorld<R> {
     ghost tells = { ⊥ };
 
     ghost log = { λ _. [] };
@@ -129,41 +124,68 @@ impl World for SysWorld {
 
     ghost is_open = { λ world. is_open_in world.opened };
 
-    fn open_input(&mut self, kind: InputKind, _name: &[u8]) -> Result<u64, WorldFault> {
+    fn open_input(&mut self, kind: InputKind, name: &[u8]) -> Result<u64, WorldFault> {
         match kind {
             InputKind::Standard => self.keep(Stream::StandardInput),
-            InputKind::File | InputKind::Command => Err(WorldFault::Failed),
+            InputKind::File => {
+                let file = self.open_reader(name)?;
+                self.keep(Stream::Input(file))
+            }
+            InputKind::Command => Err(WorldFault::Failed),
         }
     }
 
     fn read(&mut self, id: u64, into: &mut [u8]) -> Result<usize, WorldFault> {
         match self.opened.get(&id) {
-            Some(Stream::StandardInput) => read_from(&mut self.stdin, into),
-            None => Err(WorldFault::Failed),
+            Some(Stream::StandardInput) => {
+                if self.is_watched {
+                    let _ = self.stdout.flush();
+                }
+                read_from(&mut self.stdin, into)
+            }
+            Some(Stream::Input(file)) => {
+                let mut file: &File = file;
+                read_from(&mut file, into)
+            }
+            Some(Stream::Output(_)) | None => Err(WorldFault::Failed),
         }
     }
 
     fn open_output(
         &mut self,
-        _kind: OutputKind,
-        _name: &[u8],
-        _mode: Mode,
+        kind: OutputKind,
+        name: &[u8],
+        mode: Mode,
     ) -> Result<u64, WorldFault> {
-        Err(WorldFault::Failed)
+        match kind {
+            OutputKind::File => {
+                let file = self.open_writer(name, mode)?;
+                self.keep(Stream::Output(file))
+            }
+            OutputKind::Command => Err(WorldFault::Failed),
+        }
     }
 
     fn write(&mut self, id: u64, bytes: &[u8]) -> Result<usize, WorldFault> {
         match id {
-            STANDARD_OUTPUT => write_to(&mut self.stdout, bytes),
-            STANDARD_ERROR => write_to(&mut self.stderr, bytes),
-            _ => Err(WorldFault::Failed),
+            STANDARD_OUTPUT => self.stdout.write(bytes),
+            STANDARD_ERROR => {
+                let _ = self.stdout.flush();
+                write_to(&mut self.stderr, bytes)
+            }
+            _ => match self.opened.get(&id) {
+                Some(Stream::Output(file)) => {
+                    let mut file: &File = file;
+                    write_to(&mut file, bytes)
+                }
+                _ => Err(WorldFault::Failed),
+            },
         }
     }
 
     fn flush(&mut self, id: u64) -> Result<(), WorldFault> {
         match id {
-            STANDARD_OUTPUT => self.stdout.flush().map_err(fault_of),
-            STANDARD_ERROR => self.stderr.flush().map_err(fault_of),
+            STANDARD_OUTPUT => self.stdout.flush(),
             _ => Ok(()),
         }
     }

@@ -1,0 +1,4 @@
+pub mod CommandLemmas
+pub mod InvocationLemmas
+pub mod ProgramLemmas
+pub mod ReportLemmas
