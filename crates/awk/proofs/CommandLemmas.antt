@@ -8,15 +8,11 @@ use Rattle.std.proofs.lemmas.Str.{IsUtf8-from_is_utf8}
 use Rattle.std.proofs.lemmas.List.{take_rest}
 use Rattle.std.proofs.lemmas.List.Sums.{AllPass-from_list_all}
 use Rattle.std.proofs.lemmas.Int.Digits.{digits_value_more}
-use Rattle.awk_lex.specs.Words.{is_letter, is_word_byte, is_word, is_digits}
+use Rattle.awk_lex.specs.Words.{is_digits}
 use Rattle.awk.specs.Command.{Settings, Parted, Command, no_settings, with_option, word_of, parted, command_with, command_from, command_of}
 use Rattle.awk.specs.View.{texts}
 use Rattle.awk.specs.declared.command.Flag.{Flag}
 use Rattle.awk.specs.declared.command.Word.TheVariants.{Joined, Apart, Unknown, EndOfOptions, NoOption}
-
-pub word_is : (xs : List ℕ) → 0 < length xs → is_word xs ≡ (is_letter (get_or xs 0 0) && list_all is_word_byte (drop 1 xs))
-word_is [] h = absurd (omega (arith, h))
-word_is (x ∷ xs) h = refl
 
 pub digits_are : (xs : List ℕ) → 0 < length xs → is_digits xs ≡ list_all is_ascii_digit xs
 digits_are [] h = absurd (omega (arith, h))

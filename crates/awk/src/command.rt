@@ -6,12 +6,12 @@ ghost use Rattle.std.specs.Option.{option_map};
 ghost use Rattle.std.specs.Char.{is_ascii_digit};
 ghost use Rattle.std.specs.Str.{is_utf8 as is_text};
 ghost use Rattle.std.specs.Str.Parse.{digits_value};
-ghost use Rattle.awk_lex.specs.Words.{is_letter, is_word_byte, is_word};
 ghost use Rattle.awk_run.specs.Start.{pair_of};
 ghost use Rattle.awk.specs.Command.{flag_of as flag_at, word_of as word_at, assignment_of, steps_of as steps_in, with_option, with_pre, no_settings, parted, command_with, command_of, Settings};
 ghost use Rattle.awk.specs.View.{texts, settings_of, source_of, view_of};
 ghost use Rattle.awk.specs.declared.command.CommandFault.TheVariants.{Memory};
 
+use awk_lex::words::is_name;
 use awk_run::Assignment;
 use std::alloc::{AllocError, AllocFailed, Global};
 
@@ -117,35 +117,6 @@ fn word_of(word: &[u8]) -> Word
             None => Word::Unknown,
         },
         _ => Word::NoOption,
-    }
-}
-
-fn is_letter(byte: u8) -> bool
-    ensures { result ≡ is_letter byte }
-{
-    byte.is_ascii_alphabetic() || byte == b'_'
-}
-
-fn is_name_byte(byte: u8) -> bool
-    ensures { result ≡ is_word_byte byte }
-{
-    is_letter(byte) || byte.is_ascii_digit()
-}
-
-fn are_name_bytes(bytes: &[u8]) -> bool
-    ensures { result ≡ list_all is_word_byte bytes.now }
-{
-    bytes.iter().all(|byte| is_name_byte(*byte))
-}
-
-/// Whether these are letters, digits and underscores, with no digit first.
-#[tactic(auto, using(crate::proofs::CommandLemmas::word_is))]
-fn is_name(name: &[u8]) -> bool
-    ensures { result ≡ is_word name.now }
-{
-    match name {
-        [] => false,
-        [first, rest @ ..] => is_letter(*first) && are_name_bytes(rest),
     }
 }
 
