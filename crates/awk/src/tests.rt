@@ -1,11 +1,8 @@
 // The program over a world in memory: what no clause says is that it finds memory.
 
-ghost use Rattle.std.specs.Prelude.{[], None, nat_lt};
-ghost use Rattle.std.proofs.lemmas.Bool.{lt-ltb};
-
 use crate::words::main_words;
 use awk_run::Assignment;
-use awk_streams::{Answer, Entry, InputKind, Mode, OutputKind, ScriptWorld, World, WorldFault};
+use awk_streams::{Answer, Entry, InputKind, ScriptWorld};
 use std::alloc::{AllocError, Global};
 use std::process::Abort;
 use std::test::Fail;
@@ -268,76 +265,5 @@ fn entries_that_are_no_text_are_skipped(rt: HostRuntime) -> Result<(), Fail> {
     let all = words_of(alloc, "{print}")?;
     assert_eq!(rt; main_words(alloc, &all, environ, &mut world), 0);
     assert_eq!(rt; world.received(0)?.as_slice(), b"a\n".as_slice());
-    Ok(())
-}
-
-// A world that refuses memory, but takes what is written.
-#[derive(Drop)]
-struct Wanting {
-    errors: Vec<u8>,
-}
-
-impl World for Wanting {
-    ghost tells = { ⊥ };
-
-    ghost log = { λ _. [] };
-
-    ghost mark = { λ _. None };
-
-    ghost is_open = { λ _ id. nat_lt id 2 };
-
-    ghost standard_open = { λ _ id below. lt-ltb id 2 below };
-
-    fn open_input(&mut self, _kind: InputKind, _name: &[u8]) -> Result<u64, WorldFault> {
-        Err(WorldFault::Memory)
-    }
-
-    fn read(&mut self, _id: u64, _into: &mut [u8]) -> Result<usize, WorldFault> {
-        Err(WorldFault::Memory)
-    }
-
-    fn open_output(
-        &mut self,
-        _kind: OutputKind,
-        _name: &[u8],
-        _mode: Mode,
-    ) -> Result<u64, WorldFault> {
-        Err(WorldFault::Memory)
-    }
-
-    fn write(&mut self, id: u64, bytes: &[u8]) -> Result<usize, WorldFault> {
-        if id == 1 {
-            self.errors
-                .extend_from_slice(bytes)
-                .map_err(|_| WorldFault::Memory)?;
-        }
-        Ok(bytes.len())
-    }
-
-    fn flush(&mut self, _id: u64) -> Result<(), WorldFault> {
-        Ok(())
-    }
-
-    fn close(&mut self, _id: u64) -> i128 {
-        0
-    }
-
-    fn run(&mut self, _command: &[u8]) -> Result<i128, WorldFault> {
-        Err(WorldFault::Memory)
-    }
-}
-
-#[test]
-fn want_of_memory_is_told(rt: HostRuntime) -> Result<(), Fail> {
-    let alloc = rt.alloc();
-    for words in ["-f|p", "{print}"] {
-        let mut world = Wanting {
-            errors: Vec::new(alloc),
-        };
-        let all = words_of(alloc, words)?;
-        assert_eq!(rt; main_words(alloc, &all, Vec::new(alloc), &mut world), 2);
-        let line = b"awk: fault 1: out of memory\n";
-        assert_eq!(rt; world.errors.as_slice(), line.as_slice());
-    }
     Ok(())
 }
