@@ -1,6 +1,6 @@
 -- Arithmetic on whole numbers without bounds, of which only the end is tested for range
 -- (POSIX awk, Expressions in awk: the arithmetic operators).
-use Rattle.std.specs.Prelude.{◌^◌, Bool, false, ℤ, pos, negsuc, neg_ℤ, ◌+ℤ◌, ◌-ℤ◌, ◌*ℤ◌, int_rem, nat_lt, ◌==◌, if◌then◌else◌, Result, Ok, Err}
+use Rattle.std.specs.Prelude.{◌^◌, Bool, false, ℤ, pos, negsuc, neg_ℤ, ◌+ℤ◌, ◌-ℤ◌, ◌*ℤ◌, int_div, int_rem, nat_lt, ◌==◌, if◌then◌else◌, Result, Ok, Err}
 use Rattle.awk_value.specs.declared.fault.ValueFault.{ValueFault}
 use Rattle.awk_value.specs.declared.fault.ValueFault.TheVariants.{Range, ZeroDivisor}
 
@@ -28,6 +28,10 @@ difference_of m n = range_checked (m -ℤ n)
 
 abbrev pub negative_of : ℤ → Result ℤ ValueFault
 negative_of n = range_checked (neg_ℤ n)
+
+-- the quotient, cut off toward zero
+abbrev pub quotient_of : ℤ → ℤ → Result ℤ ValueFault
+quotient_of m n = if is_zero n then Err ZeroDivisor else range_checked (int_div m n)
 
 -- what division leaves of the dividend, whose sign it takes
 abbrev pub remainder_of : ℤ → ℤ → Result ℤ ValueFault

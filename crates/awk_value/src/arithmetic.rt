@@ -1,7 +1,7 @@
 // Arithmetic on numbers and on values.
 
 ghost use Rattle.std.specs.Prelude.{◌≡◌};
-ghost use Rattle.awk_value.specs.Arithmetic.{product_of, sum_of, difference_of, negative_of, remainder_of};
+ghost use Rattle.awk_value.specs.Arithmetic.{product_of, sum_of, difference_of, negative_of, quotient_of, remainder_of};
 ghost use Rattle.awk_value.specs.Values.{num_of, number_value, from_numbers, from_number};
 
 use crate::convert::number_of;
@@ -39,6 +39,18 @@ pub fn neg(n: i128) -> Result<i128, ValueFault>
     ensures { result ≡ negative_of n }
 {
     n.checked_neg().ok_or(ValueFault::Range)
+}
+
+/// The quotient of two numbers, cut off toward zero. The faults are `ZeroDivisor`, and `Range` of
+/// -2^127 by -1 alone. (POSIX awk, Expressions in awk.)
+#[tactic(auto, using(crate::proofs::Ranges::in_range, crate::proofs::Ranges::out_of_range))]
+pub fn div(m: i128, n: i128) -> Result<i128, ValueFault>
+    ensures { result ≡ quotient_of m n }
+{
+    if n == 0 {
+        return Err(ValueFault::ZeroDivisor);
+    }
+    m.checked_div(n).ok_or(ValueFault::Range)
 }
 
 /// What division leaves of `m`, with the sign of `m`; what -1 leaves is 0, of the least number too.
@@ -83,6 +95,17 @@ pub fn minus(left: &Value, right: &Value) -> Result<Value, ValueFault>
     let m = number_of(left)?;
     let n = number_of(right)?;
     Ok(Value::Number(sub(m, n)?))
+}
+
+/// The quotient of the numbers of two values, cut off toward zero. The left one's is taken first. The
+/// faults are `Range`, of an operand's number or of the quotient, and `ZeroDivisor`.
+/// Takes no memory. (POSIX awk, Expressions in awk.)
+pub fn divide(left: &Value, right: &Value) -> Result<Value, ValueFault>
+    ensures { result ≡ from_numbers quotient_of (num_of left.now) (num_of right.now) }
+{
+    let m = number_of(left)?;
+    let n = number_of(right)?;
+    Ok(Value::Number(div(m, n)?))
 }
 
 /// What division of the left value's number by the right one's leaves. The faults are `Range`, of an

@@ -3,6 +3,7 @@
 ghost use Rattle.std.specs.Prelude.{◌≡◌, ◌++◌, IfOk, IfErr, OnOk, OnErr};
 ghost use Rattle.awk_value.specs.Values.{num_of, str_of, numeric_of, truth_of};
 ghost use Rattle.awk_value.specs.declared.fault.ValueFault.TheVariants.{Memory};
+ghost use Rattle.awk_value.specs.declared.value.Value.TheVariants.{Text};
 
 use crate::bytes::Bytes;
 use crate::fault::ValueFault;
@@ -73,6 +74,18 @@ pub fn append_text(value: &Value, buffer: &mut Vec<u8>) -> Result<(), ValueFault
     let mut digits = Buffer::new();
     buffer.extend_from_slice(text_in(value, &mut digits))?;
     Ok(())
+}
+
+/// The texts of two values, one behind the other, as a text that was made. The fault is `Memory`.
+/// (POSIX awk, Expressions in awk: string concatenation.)
+pub fn concatenate(alloc: Global, left: &Value, right: &Value) -> Result<Value, ValueFault>
+    ensures text { IfOk result (λ value. value ≡ Text (str_of left.now ++ str_of right.now)) }
+    ensures fault { IfErr result (λ fault. fault ≡ Memory) }
+{
+    let mut digits = Buffer::new();
+    let mut bytes = Vec::from_slice(alloc, text_in(left, &mut digits))?;
+    append_text(right, &mut bytes)?;
+    Ok(Value::Text(Bytes::from_vec(alloc, bytes)?))
 }
 
 /// Whether a value is true: a number and a numeric text from outside where it is not 0, any

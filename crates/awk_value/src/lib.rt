@@ -11,10 +11,10 @@ mod order;
 mod value;
 
 pub use crate::arithmetic::{
-    add, minus, mul, multiply, neg, negate, plus, rem, remainder, sub, to_number,
+    add, div, divide, minus, mul, multiply, neg, negate, plus, rem, remainder, sub, to_number,
 };
 pub use crate::bytes::Bytes;
-pub use crate::convert::{append_text, is_true, number_of, text_of};
+pub use crate::convert::{append_text, concatenate, is_true, number_of, text_of};
 pub use crate::fault::ValueFault;
 pub use crate::order::compare;
 pub use crate::value::Value;

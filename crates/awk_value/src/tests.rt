@@ -188,6 +188,15 @@ fn operations(rt: HostRuntime) -> Result<(), Fail> {
         (plus(&seven, &three), Ok(4)),
         (minus(&seven, &three), Ok(10)),
         (remainder(&seven, &three), Ok(1)),
+        (divide(&seven, &three), Ok(-2)),
+        (
+            divide(&seven, &Value::Nothing),
+            Err(ValueFault::ZeroDivisor),
+        ),
+        (
+            divide(&least, &Number(-1).value(rt.alloc())?),
+            Err(ValueFault::Range),
+        ),
         (
             remainder(&seven, &Value::Nothing),
             Err(ValueFault::ZeroDivisor),
@@ -216,6 +225,17 @@ fn texts(rt: HostRuntime) -> Result<(), Fail> {
         line.as_slice(),
         b"0-170141183460469231731687303715884105728a b 7 ".as_slice()
     );
+    Ok(())
+}
+
+#[test]
+fn concatenations(rt: HostRuntime) -> Result<(), Fail> {
+    let alloc = rt.alloc();
+    let left = Input(" 7x").value(alloc)?;
+    let both = concatenate(alloc, &left, &Number(-3).value(alloc)?)?;
+    assert!(rt; text_of(alloc, &both)?.as_slice() == b" 7x-3".as_slice());
+    let none = concatenate(alloc, &Value::Nothing, &Value::Nothing)?;
+    assert!(rt; text_of(alloc, &none)?.is_empty() && !is_true(&none));
     Ok(())
 }
 
