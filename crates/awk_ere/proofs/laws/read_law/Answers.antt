@@ -1,0 +1,5 @@
+use Rattle.awk_ere.proofs.Deciding.{read_as}
+use Rattle.awk_ere.proofs.laws.read_law.Goals as goal
+
+pub returns : goal.returns
+returns c = read_as

@@ -1,0 +1,14 @@
+use Rattle.std.proofs.Common.{None}
+use Rattle.awk_ere.specs.Tree.{Tree}
+use Rattle.awk_ere.specs.Means.{Means}
+use Rattle.awk_ere.specs.Pass.{IsFor}
+use Rattle.awk_ere.specs.Runs.{Runs}
+use Rattle.awk_ere.specs.Found.{between, LastEnd}
+use Rattle.awk_ere.proofs.pattern.Pattern.any_between.Given as goal
+
+abbrev pub invariant-loop-k : goal.invariant-loop-k
+invariant-loop-k l = record {
+  same : IsFor l.scratch l.self;
+  runs : (t : Tree) → Means t l.self → Runs l.text t (between l.low l.high) l.k l.scratch.cells.items;
+  none : (t : Tree) → Means t l.self → LastEnd t l.text (between l.low l.high) l.k None;
+}
