@@ -5,7 +5,7 @@ use Rattle.std.specs.Option.{option_map, option_and_then}
 use Rattle.std.proofs.lemmas.List.{at_drop_more, drop-drop, length-drop, take_rest}
 use Rattle.std.specs.List.{list_any}
 use Rattle.std.proofs.lemmas.Bool.{or_parts}
-use Rattle.awk_lex.proofs.Fronts.{if_false}
+use Rattle.awk_lex.proofs.Prefixes.{if_false}
 use Rattle.awk_lex.specs.Escapes.{front_symbol, unescaped_behind, unescaped}
 use Rattle.awk_lex.specs.declared.escapes.Symbol.{Symbol}
 

@@ -1,13 +1,13 @@
 -- Gaps, part by part.
-use Rattle.std.proofs.Common.{◌≡◌, ℕ, suc, ◌+◌, ◌≤◌, true, false, cond, eqb, not, ◌||◌, ◌⊎◌, inl, inr, List, [], ◌∷◌, ◌++◌, length, take, drop, Err, refl, sym, ap, ◌∙◌, subst, arith, append_assoc}
+use Rattle.std.proofs.Common.{◌≡◌, ℕ, suc, ◌+◌, ◌≤◌, Bool, true, false, cond, eqb, not, ◌||◌, ◌⊎◌, inl, inr, List, [], ◌∷◌, ◌++◌, length, take, drop, Err, refl, sym, ap, ◌∙◌, subst, arith, append_assoc}
 use Rattle.std.specs.List.{list_all, prefix_len}
 use Rattle.std.proofs.Math.Seq.{drop-append_seam}
 use Rattle.std.proofs.lemmas.Bool.{cases_Bool, eqb-true}
 use Rattle.std.proofs.lemmas.List.Folds.{length-prefix_len}
 use Rattle.awk_lex.specs.Lexes.{is_blank, is_no_newline, EndsLine, Gap, none, blank, hidden, comment, Skips}
-use Rattle.awk_lex.specs.Steps.{hidden_len, gap_len, token_at}
+use Rattle.awk_lex.specs.Front.{hidden_len, gap_len, token_at}
 use Rattle.awk_lex.specs.declared.refusal.Code.TheVariants.{UnexpectedByte}
-use Rattle.awk_lex.proofs.Fronts.{if_true, if_false, prefix_over, front_passes, front_split}
+use Rattle.awk_lex.proofs.Prefixes.{if_true, if_false, prefix_over, front_passes, front_split}
 
 pub blank_is : (b : ℕ) → is_blank b ≡ true → (b ≡ 32) ⊎ (b ≡ 9)
 blank_is b h = elim (cases_Bool (eqb b 32)) [
@@ -154,33 +154,33 @@ pub skip_less : (text place : List ℕ) (n : ℕ) → Skips text place → gap_l
 skip_less text place n s h k =
     subst (λ x. Skips (drop (suc n) x) place) (sym s.is) (less place s.gap n s.is_gap h (ap gap_len (sym s.is) ∙ k))
 
-token_at_blank : (bs : List ℕ) → token_at (32 ∷ bs) ≡ Err UnexpectedByte
-token_at_blank [] = refl
-token_at_blank (c ∷ bs) = refl
+token_at_blank : (d : Bool) (bs : List ℕ) → token_at d (32 ∷ bs) ≡ Err UnexpectedByte
+token_at_blank d [] = refl
+token_at_blank d (c ∷ bs) = refl
 
-token_at_tab : (bs : List ℕ) → token_at (9 ∷ bs) ≡ Err UnexpectedByte
-token_at_tab [] = refl
-token_at_tab (c ∷ bs) = refl
+token_at_tab : (d : Bool) (bs : List ℕ) → token_at d (9 ∷ bs) ≡ Err UnexpectedByte
+token_at_tab d [] = refl
+token_at_tab d (c ∷ bs) = refl
 
-token_at_backslash : (bs : List ℕ) → token_at (92 ∷ bs) ≡ Err UnexpectedByte
-token_at_backslash [] = refl
-token_at_backslash (c ∷ bs) = refl
+token_at_backslash : (d : Bool) (bs : List ℕ) → token_at d (92 ∷ bs) ≡ Err UnexpectedByte
+token_at_backslash d [] = refl
+token_at_backslash d (c ∷ bs) = refl
 
-token_at_hash : (bs : List ℕ) → token_at (35 ∷ bs) ≡ Err UnexpectedByte
-token_at_hash [] = refl
-token_at_hash (c ∷ bs) = refl
+token_at_hash : (d : Bool) (bs : List ℕ) → token_at d (35 ∷ bs) ≡ Err UnexpectedByte
+token_at_hash d [] = refl
+token_at_hash d (c ∷ bs) = refl
 
-gap_no_token : (rest gap : List ℕ) → Gap rest gap → 1 ≤ length gap → token_at (gap ++ rest) ≡ Err UnexpectedByte
-gap_no_token rest _ none some = absurd (omega arith)
-gap_no_token rest _ (blank {b} {gap} h g) some = elim (blank_is b h) [
-  | inl e ↦ ap (λ x. token_at (x ∷ gap ++ rest)) e ∙ token_at_blank (gap ++ rest)
-  | inr e ↦ ap (λ x. token_at (x ∷ gap ++ rest)) e ∙ token_at_tab (gap ++ rest)
+gap_no_token : (d : Bool) (rest gap : List ℕ) → Gap rest gap → 1 ≤ length gap → token_at d (gap ++ rest) ≡ Err UnexpectedByte
+gap_no_token d rest _ none some = absurd (omega arith)
+gap_no_token d rest _ (blank {b} {gap} h g) some = elim (blank_is b h) [
+  | inl e ↦ ap (λ x. token_at d (x ∷ gap ++ rest)) e ∙ token_at_blank d (gap ++ rest)
+  | inr e ↦ ap (λ x. token_at d (x ∷ gap ++ rest)) e ∙ token_at_tab d (gap ++ rest)
 ]
-gap_no_token rest _ (hidden {gap} g) some = token_at_backslash (10 ∷ gap ++ rest)
-gap_no_token rest _ (comment {bytes} all ends) some = token_at_hash (bytes ++ rest)
+gap_no_token d rest _ (hidden {gap} g) some = token_at_backslash d (10 ∷ gap ++ rest)
+gap_no_token d rest _ (comment {bytes} all ends) some = token_at_hash d (bytes ++ rest)
 
 -- no token begins where a gap does
-pub no_token_in_gap : (text : List ℕ) (n : ℕ) → gap_len text ≡ suc n → token_at text ≡ Err UnexpectedByte
-no_token_in_gap text n h =
+pub no_token_in_gap : (d : Bool) (text : List ℕ) (n : ℕ) → gap_len text ≡ suc n → token_at d text ≡ Err UnexpectedByte
+no_token_in_gap d text n h =
     let p = part_of text n h in
-    ap token_at p.is ∙ gap_no_token (drop (suc n) text) p.gap p.is_gap (omega (arith, p.len))
+    ap (token_at d) p.is ∙ gap_no_token d (drop (suc n) text) p.gap p.is_gap (omega (arith, p.len))

@@ -1,29 +1,26 @@
 -- How many newlines stand before a place.
-use Rattle.std.proofs.Common.{◌≡◌, ℕ, zero, suc, ◌+◌, ◌<◌, ◌≤◌, Bool, true, false, eqb, cond, inl, inr, List, [], ◌∷◌, ◌++◌, length, get_or, take, drop, Option, Some, None, refl, sym, ap, ◌∙◌, subst, arith, length-drop, drop-drop}
-use Rattle.std.specs.Prelude.{count_by, unwrap_or}
+use Rattle.std.proofs.Common.{◌≡◌, ℕ, zero, suc, ◌+◌, Bool, true, false, eqb, cond, inl, inr, List, [], ◌∷◌, ◌++◌, length, get_or, take, drop, Some, refl, sym, ap, ◌∙◌, subst, arith}
+use Rattle.std.specs.Prelude.{count_by}
 use Rattle.std.specs.List.{list_all, prefix_len}
 use mir.Val.{bool_byte}
 use Rattle.std.specs.Char.{is_ascii_digit}
 use Rattle.std.proofs.Math.Seq.{take-append_seam, take-add}
 use Rattle.std.proofs.lemmas.Bool.{cases_Bool, and_parts, and_from, not-true, eqb-true}
 use Rattle.std.proofs.lemmas.List.Sums.{sum_by-append, sum_by-cons}
-use Rattle.awk_lex.specs.Words.{is_letter, is_word_byte, is_word, is_digits, kinds, word_kind, signs, kind_in, Body, none, plain, escaped, Writes, number, string, word, name, called, sign, behind, is_newline}
-use Rattle.awk_lex.specs.Lexes.{is_blank, is_no_newline, Stands, Reads, Fault}
-use Rattle.awk_lex.specs.Steps.{hidden_len, gap_len, first_step}
-use Rattle.awk_lex.specs.Told.{line_at, StandsAt, FaultStands}
+use Rattle.awk_lex.specs.Words.{is_letter, is_word_byte, is_word, is_digits, Body, none, plain, escaped, Writes, number, string, ere, word, name, called, sign, division, is_newline}
+use Rattle.awk_lex.specs.Tables.{reserved, signs, divisions, kind_in}
+use Rattle.awk_lex.specs.Lexes.{is_blank, is_no_newline}
+use Rattle.awk_lex.specs.Front.{hidden_len, gap_len, front_of}
+use Rattle.awk_lex.specs.Told.{line_at}
 use Rattle.awk_lex.specs.declared.token.Kind.{Kind}
-use Rattle.awk_lex.specs.declared.token.Kind.TheVariants.{Unbuilt}
-use Rattle.awk_lex.specs.declared.token.Token.{Token}
-use Rattle.awk_lex.specs.declared.refusal.Code.{Code}
-use Rattle.awk_lex.specs.declared.refusal.Refusal.{Refusal}
-use Rattle.awk_lex.specs.declared.scan.Step.TheVariants as step
-use Rattle.awk_lex.proofs.Fronts.{if_true, if_false, front_passes}
-use Rattle.awk_lex.proofs.Tables.{found_row, reserved_is_word}
+use Rattle.awk_lex.specs.declared.front.Front.TheVariants as front
+use Rattle.awk_lex.proofs.Prefixes.{if_true, if_false, front_passes}
+use Rattle.awk_lex.proofs.Tables.{found_row}
 use Rattle.awk_lex.proofs.Bodies.{plain_no_newline}
 use Rattle.awk_lex.proofs.Gaps.{blank_is}
-use Rattle.awk_lex.proofs.Progress.{not_at_end}
-use Rattle.awk_lex.proofs.Munch.{spelled, stands, letter_in_word}
-use Rattle.awk_lex.proofs.Read.{token_is, gap_is, fault_is}
+use Rattle.awk_lex.proofs.Munch.{letter_in_word}
+use Rattle.awk_lex.proofs.Spelled.{spelled}
+use Rattle.awk_lex.proofs.Read.{token_is, gap_is}
 
 byte_is : (b : Bool) → bool_byte b ≡ cond b 1 0
 byte_is true = refl
@@ -56,12 +53,12 @@ no_newlines p other (b ∷ bs) h =
     let a = and_parts (p b) (list_all p bs) h in
     other_byte b bs (other b a.0) ∙ no_newlines p other bs a.1
 
-body_newlines : (body : List ℕ) → Body body → newlines body ≡ 0
+body_newlines : (mark : ℕ) (body : List ℕ) → Body mark body → newlines body ≡ 0
 unfolding newlines
-body_newlines _ none = refl
-body_newlines _ (plain {b} {body} h g) = other_byte b body (plain_no_newline b h) ∙ body_newlines body g
-body_newlines _ (escaped {b} {body} h g) =
-    other_byte 92 (b ∷ body) refl ∙ other_byte b body (not-true (eqb b 10) h) ∙ body_newlines body g
+body_newlines mark _ none = refl
+body_newlines mark _ (plain {b} {body} h g) = other_byte b body (plain_no_newline mark b h) ∙ body_newlines mark body g
+body_newlines mark _ (escaped {b} {body} h g) =
+    other_byte 92 (b ∷ body) refl ∙ other_byte b body (not-true (eqb b 10) h) ∙ body_newlines mark body g
 
 word_byte_is : (b : ℕ) → is_word_byte b ≡ true → eqb b 10 ≡ false
 word_byte_is b h = elim (cases_Bool (eqb b 10)) [
@@ -89,33 +86,38 @@ digits_newlines (b ∷ w) h = no_newlines is_ascii_digit digit_is (b ∷ w) h
 count_of : Kind → ℕ
 count_of k = cond (is_newline k) 1 0
 
-word_kind_count : (w : List ℕ) → count_of (word_kind w) ≡ 0
-unfolding count_of
-word_kind_count w = by_row (kind_in kinds w) refl
-  where
-    by_row : (o : Option Kind) → kind_in kinds w ≡ o → count_of (unwrap_or o Unbuilt) ≡ 0
-    by_row None e = refl
-    by_row (Some k) e = eqb-true _ _ (found_row (λ _ j. eqb (count_of j) 0) kinds w k refl e)
-
-string_newlines : (body : List ℕ) → Body body → newlines (34 ∷ body ++ 34 ∷ []) ≡ 0
+marked_newlines : (mark : ℕ) (body : List ℕ) → eqb mark 10 ≡ false → Body mark body → newlines (mark ∷ body ++ mark ∷ []) ≡ 0
 unfolding newlines
-string_newlines body h =
-    other_byte 34 (body ++ 34 ∷ []) refl ∙ newlines-append body (34 ∷ []) ∙ ap (λ n. n + 0) (body_newlines body h)
+marked_newlines mark body other h =
+    let inside = body_newlines mark body h in
+    let close : newlines (mark ∷ []) ≡ 0 = other_byte mark [] other in
+    other_byte mark (body ++ mark ∷ []) other ∙ newlines-append body (mark ∷ []) ∙ omega (arith, inside, close)
 
-writes_newlines : (k : Kind) (w : List ℕ) → Writes k w → newlines w ≡ count_of k
-unfolding count_of newlines
-writes_newlines _ w (number h) = digits_newlines w h
-writes_newlines _ _ (string {body} h value) = string_newlines body h
-writes_newlines _ w (word h) = word_newlines w (reserved_is_word w h) ∙ sym (word_kind_count w)
-writes_newlines _ w (name h free) = word_newlines w h
-writes_newlines _ w (called h free) = word_newlines w h
-writes_newlines k w (sign h) = eqb-true _ _ (found_row (λ v j. eqb (newlines v) (count_of j)) signs w k refl h)
+-- each row of a table has the newlines of its kind
+has_count : List ℕ → Kind → Bool
+has_count w k = eqb (newlines w) (count_of k)
 
-token_newlines : (text : List ℕ) (k : Kind) (n : ℕ) → first_step text ≡ step.Token k n → newlines (take n text) ≡ count_of k
-token_newlines text k n h =
-    let s = spelled text (record { kind = k; len = n }) (token_is text k n h).is in
-    let front : take n text ≡ s.word = ap (λ m. take m text) (sym s.len) ∙ ap (take (length s.word)) s.is ∙ take-append_seam s.word s.rest in
-    ap newlines front ∙ writes_newlines k s.word s.writes
+row_newlines : (rows : List (List ℕ × Kind)) (w : List ℕ) (k : Kind) → list_all (λ row. has_count row.0 row.1) rows ≡ true → kind_in rows w ≡ Some k
+    → newlines w ≡ count_of k
+unfolding has_count
+row_newlines rows w k all h = eqb-true _ _ (found_row has_count rows w k all h)
+
+writes_newlines : (d : Bool) (k : Kind) (w : List ℕ) → Writes d k w → newlines w ≡ count_of k
+unfolding count_of newlines has_count
+writes_newlines d _ w (number h) = digits_newlines w h
+writes_newlines d _ _ (string {body} h value) = marked_newlines 34 body refl h
+writes_newlines d _ _ (ere {body} opens h) = marked_newlines 47 body refl h
+writes_newlines d k w (word h) = row_newlines reserved w k refl h
+writes_newlines d _ w (name h free) = word_newlines w h
+writes_newlines d _ w (called h free) = word_newlines w h
+writes_newlines d k w (sign h) = row_newlines signs w k refl h
+writes_newlines d k w (division divides h) = row_newlines divisions w k refl h
+
+token_newlines : (d : Bool) (text : List ℕ) (k : Kind) (n : ℕ) → front_of d text ≡ front.Token k n → newlines (take n text) ≡ count_of k
+token_newlines d text k n h =
+    let s = spelled d text (record { kind = k; len = n }) (token_is d text k n h).is in
+    let prefix : take n text ≡ s.word = ap (λ m. take m text) (sym s.len) ∙ ap (take (length s.word)) s.is ∙ take-append_seam s.word s.rest in
+    ap newlines prefix ∙ writes_newlines d k s.word s.writes
 
 no_newline_is : (b : ℕ) → is_no_newline b ≡ true → eqb b 10 ≡ false
 no_newline_is b h = not-true (eqb b 10) h
@@ -164,10 +166,10 @@ part_newlines b bs n h = elim (cases_Bool (is_blank b)) [
       ]
 ]
 
-gap_newlines : (text : List ℕ) (n : ℕ) → first_step text ≡ step.Gap n → newlines (take n text) ≡ hides (get_or text 0 0)
-gap_newlines [] n h = let g = gap_is [] n h in absurd (omega (arith, g.is))
-gap_newlines (b ∷ bs) n h =
-    let g = gap_is (b ∷ bs) n h in
+gap_newlines : (d : Bool) (text : List ℕ) (n : ℕ) → front_of d text ≡ front.Gap n → newlines (take n text) ≡ hides (get_or text 0 0)
+gap_newlines d [] n h = let g = gap_is d [] n h in absurd (omega (arith, g.is))
+gap_newlines d (b ∷ bs) n h =
+    let g = gap_is d (b ∷ bs) n h in
     ap (λ m. newlines (take m (b ∷ bs))) g.len ∙ part_newlines b bs g.before g.is
 
 line_more : (text : List ℕ) (at n : ℕ) → line_at text (at + n) ≡ line_at text at + newlines (take n (drop at text))
@@ -177,51 +179,20 @@ line_more text at n =
     omega (arith, parts)
 
 -- the line behind a part of a gap
-pub gap_line : (text : List ℕ) (at n line more : ℕ) → first_step (drop at text) ≡ step.Gap n → line ≡ line_at text at
+pub gap_line : (d : Bool) (text : List ℕ) (at n line more : ℕ) → front_of d (drop at text) ≡ front.Gap n → line ≡ line_at text at
     → more ≡ bool_byte (eqb (get_or text at 0) 92) → line + more ≡ line_at text (at + n)
 unfolding hides
-gap_line text at n line more h here counted =
+gap_line d text at n line more h here counted =
     let first : get_or (drop at text) 0 0 ≡ get_or text at 0 = get_or-drop_first text at in
-    let part : newlines (take n (drop at text)) ≡ cond (eqb (get_or text at 0) 92) 1 0 = gap_newlines (drop at text) n h ∙ ap hides first in
+    let part : newlines (take n (drop at text)) ≡ cond (eqb (get_or text at 0) 92) 1 0 = gap_newlines d (drop at text) n h ∙ ap hides first in
     let both = byte_is (eqb (get_or text at 0) 92) in
     omega (arith, line_more text at n)
 
-same_place : (k : Kind) (text : List ℕ) (place end : ℕ) → place ≤ length text → end < length text → drop end text ≡ behind k (drop place text) → end ≡ place
-same_place Unbuilt text place end inside short e = absurd (omega (arith, length-drop end text, ap length e))
-same_place _ text place end inside short e = omega (arith, length-drop end text, length-drop place text, ap length e)
-
--- the line behind a token, unless nothing is read on there
-pub token_line : (text : List ℕ) (at n end line more : ℕ) (k : Kind) → at + n ≤ length text → first_step (drop at text) ≡ step.Token k n
-    → line ≡ line_at text at → more ≡ bool_byte (is_newline k) → drop end text ≡ behind k (drop (at + n) text) → end < length text
-    → line + more ≡ line_at text end
+-- the line behind a token
+pub token_line : (d : Bool) (text : List ℕ) (at n line more : ℕ) (k : Kind) → front_of d (drop at text) ≡ front.Token k n
+    → line ≡ line_at text at → more ≡ bool_byte (is_newline k) → line + more ≡ line_at text (at + n)
 unfolding count_of
-token_line text at n end line more k inside h here counted place short =
-    let token = token_newlines (drop at text) k n h in
+token_line d text at n line more k h here counted =
+    let token = token_newlines d (drop at text) k n h in
     let both = byte_is (is_newline k) in
-    let e = same_place k text (at + n) end inside short place in
-    let there : line + more ≡ line_at text (at + n) = omega (arith, line_more text at n) in
-    there ∙ ap (line_at text) (sym e)
-
--- a token and a fault, where they stand
-pub stands_at : (text : List ℕ) (token : Token) (at n : ℕ) (k : Kind) → token.kind ≡ k → token.start ≡ at → token.line ≡ line_at text at
-    → first_step (drop at text) ≡ step.Token k n → drop token.end text ≡ behind k (drop (at + n) text) → StandsAt text token
-stands_at text token at n k kind_is start_is line_is h place =
-    let found = stands (drop at text) (record { kind = k; len = n }) (token_is (drop at text) k n h).is in
-    record {
-      after = drop n (drop at text);
-      stands = subst (λ x. Stands x (drop token.start text) (drop n (drop at text))) (sym kind_is)
-          (subst (λ x. Stands k (drop x text) (drop n (drop at text))) (sym start_is) found);
-      ends = place ∙ ap (behind k) (sym (drop-drop n at text)) ∙ ap (λ x. behind x (drop n (drop at text))) (sym kind_is);
-      line = line_is ∙ ap (line_at text) (sym start_is);
-    }
-
-pub fault_stands : (ts : List Kind) (text : List ℕ) (at : ℕ) (refusal : Refusal) (c : Code) → at < length text → Reads ts text (drop at text)
-    → first_step (drop at text) ≡ step.Fault c → refusal.code ≡ c → refusal.line ≡ line_at text at → FaultStands text refusal
-fault_stands ts text at refusal c inside r h code_is line_is =
-    record {
-      tokens = ts;
-      place = at;
-      reads = r;
-      fault = subst (λ x. Fault x (drop at text)) (sym code_is) (fault_is (drop at text) c (not_at_end text at inside) h);
-      line = line_is;
-    }
+    omega (arith, line_more text at n)

@@ -2,11 +2,11 @@
 use Rattle.std.specs.Prelude.{◌≡◌, ◌≢◌, ℕ, Bool, true, false, not, ◌||◌, ◌==◌, List, [], ◌∷◌, ◌++◌, ℤ, None, ◌⊎◌}
 use Rattle.std.specs.List.{list_all}
 use Rattle.awk_lex.specs.Escapes.{unescaped}
-use Rattle.awk_lex.specs.Words.{Body, Writes, Longest, suits, is_allowed, behind}
+use Rattle.awk_lex.specs.Words.{Body, Writes, Longest, suits, is_allowed, divides_after}
 use Rattle.awk_lex.specs.declared.token.Kind.{Kind}
 use Rattle.awk_lex.specs.declared.token.Kind.TheVariants.{Number}
 use Rattle.awk_lex.specs.declared.refusal.Code.{Code}
-use Rattle.awk_lex.specs.declared.refusal.Code.TheVariants.{UnexpectedByte, OpenString, EscapeRefused, NumberRefused}
+use Rattle.awk_lex.specs.declared.refusal.Code.TheVariants.{UnexpectedByte, OpenString, EscapeRefused, OpenPattern, NumberRefused}
 
 -- a space or a tab
 abbrev pub is_blank : ℕ → Bool
@@ -35,43 +35,48 @@ pub record Skips (text rest : List ℕ) : Type 0 where
   pub is_gap : Gap rest gap
 
 -- the token stands in front of the rest: the longest spelling at its place, and what stands behind suits it
-pub record Stands (t : Kind) (text rest : List ℕ) : Type 0 where
+pub record Stands (divides : Bool) (t : Kind) (text rest : List ℕ) : Type 0 where
   pub word : List ℕ
   pub is : text ≡ word ++ rest
-  pub writes : Writes t word
-  pub longest : Longest word rest
+  pub writes : Writes divides t word
+  pub longest : Longest divides word rest
   pub suited : suits t rest ≡ true
 
--- The text up to the rest is gaps and tokens in turn, each token the longest spelling at its place. What a
--- spelling takes from the token before it, as a slash takes whether it divides, can be one argument more of
--- `Reads`, which each token hands on as it does its place, and of `Stands` and `Writes`.
-abbrev pub Reads : List Kind → List ℕ → List ℕ → Type 0
-Reads [] text rest = Skips text rest
-Reads (t ∷ ts) text rest =
-    (place after : List ℕ) × Skips text place × Stands t place after × (is_allowed t after ≡ true)
-    × Reads ts (behind t after) rest
+-- The text up to the rest is gaps and tokens in turn, each token the longest spelling at its place. Whether a slash
+-- divides, each token says for the next one.
+abbrev pub Reads : Bool → List Kind → List ℕ → List ℕ → Type 0
+Reads divides [] text rest = Skips text rest
+Reads divides (t ∷ ts) text rest =
+    (place after : List ℕ) × Skips text place × Stands divides t place after × (is_allowed t after ≡ true)
+    × Reads (divides_after t) ts after rest
 
--- the text is gaps and tokens in turn
+-- The text is gaps and tokens in turn. A slash in front of all tokens opens an ERE.
 abbrev pub Lexes : List Kind → List ℕ → Type 0
-Lexes ts text = Reads ts text []
+Lexes ts text = Reads false ts text []
 
--- no gap, no token and no string begins here
-pub record BeginsNothing (text : List ℕ) : Type 0 where
+-- whether a slash divides behind these tokens, by whether it does before them
+abbrev pub divides_behind : Bool → List Kind → Bool
+divides_behind divides [] = divides
+divides_behind divides (t ∷ ts) = divides_behind (divides_after t) ts
+
+-- no gap, no token, no string and no ERE begins here
+pub record BeginsNothing (divides : Bool) (text : List ℕ) : Type 0 where
   pub some : text ≢ []
   pub no_gap : (gap rest : List ℕ) → text ≡ gap ++ rest → Gap rest gap → gap ≡ []
-  pub no_token : (t : Kind) (word rest : List ℕ) → text ≡ word ++ rest → Writes t word → ⊥
+  pub no_token : (t : Kind) (word rest : List ℕ) → text ≡ word ++ rest → Writes divides t word → ⊥
   pub no_string : (rest : List ℕ) → text ≡ 34 ∷ rest → ⊥
+  pub no_ere : (rest : List ℕ) → text ≡ 47 ∷ rest → ⊥
 
 -- the line ends in front, or directly behind a backslash
 abbrev pub BreaksOff : List ℕ → Type 0
 BreaksOff rest = EndsLine rest ⊎ ((end : List ℕ) × (rest ≡ 92 ∷ end) × EndsLine end)
 
--- a string begins here that its line or the text ends
-pub record IsOpenString (text : List ℕ) : Type 0 where
+-- the mark stands here, and its line or the text ends before the next one
+pub record IsOpen (mark : ℕ) (text : List ℕ) : Type 0 where
   pub body : List ℕ
   pub rest : List ℕ
-  pub is : text ≡ 34 ∷ (body ++ rest)
-  pub is_body : Body body
+  pub is : text ≡ mark ∷ (body ++ rest)
+  pub is_body : Body mark body
   pub breaks_off : BreaksOff rest
 
 -- a string stands here whose escapes stand for no bytes
@@ -79,28 +84,29 @@ pub record IsBadString (text : List ℕ) : Type 0 where
   pub body : List ℕ
   pub rest : List ℕ
   pub is : text ≡ 34 ∷ (body ++ 34 ∷ rest)
-  pub is_body : Body body
+  pub is_body : Body 34 body
   pub refused : unescaped body ≡ None
 
 -- a number stands here that is too large or that goes on with a letter, an underscore or a point
-pub record IsBadNumber (text : List ℕ) : Type 0 where
+pub record IsBadNumber (divides : Bool) (text : List ℕ) : Type 0 where
   pub value : ℤ
   pub after : List ℕ
-  pub stands : Stands (Number value) text after
+  pub stands : Stands divides (Number value) text after
   pub refused : is_allowed (Number value) after ≡ false
 
--- the fault at a place
-abbrev pub Fault : Code → List ℕ → Type 0
-Fault UnexpectedByte text = BeginsNothing text
-Fault OpenString text = IsOpenString text
-Fault EscapeRefused text = IsBadString text
-Fault NumberRefused text = IsBadNumber text
-Fault _ text = ⊥
+-- the fault at a place, where a slash divides or else opens an ERE
+abbrev pub Fault : Bool → Code → List ℕ → Type 0
+Fault divides UnexpectedByte text = BeginsNothing divides text
+Fault divides OpenString text = IsOpen 34 text
+Fault divides EscapeRefused text = IsBadString text
+Fault divides OpenPattern text = (divides ≡ false) × IsOpen 47 text
+Fault divides NumberRefused text = IsBadNumber divides text
+Fault divides _ text = ⊥
 
 -- The text is gaps and tokens up to a place, and there stands a fault: the leftmost, since each token before it
 -- stands whole.
 pub record Breaks (code : Code) (text : List ℕ) : Type 0 where
   pub tokens : List Kind
   pub place : List ℕ
-  pub reads : Reads tokens text place
-  pub fault : Fault code place
+  pub reads : Reads false tokens text place
+  pub fault : Fault (divides_behind false tokens) code place

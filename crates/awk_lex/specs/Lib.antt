@@ -1,6 +1,7 @@
 pub mod Refused
 pub mod Escapes
+pub mod Tables
 pub mod Words
 pub mod Lexes
-pub mod Steps
+pub mod Front
 pub mod Told

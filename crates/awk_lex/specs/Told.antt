@@ -1,8 +1,7 @@
 -- What reading the tokens of a text answers.
-use Rattle.std.specs.Prelude.{◌≡◌, ◌⊎◌, ℕ, ◌<◌, ◌≤◌, ◌+◌, ◌==◌, List, map, count_by, length, take, drop, Result, Ok, Err}
+use Rattle.std.specs.Prelude.{◌≡◌, ◌⊎◌, ℕ, ◌<◌, ◌≤◌, ◌+◌, ◌==◌, Bool, false, List, [], ◌∷◌, map, count_by, length, take, drop, Result, Ok, Err}
 use Rattle.std.specs.Global.{Vec}
-use Rattle.awk_lex.specs.Words.{behind}
-use Rattle.awk_lex.specs.Lexes.{Stands, Reads, Fault, Breaks}
+use Rattle.awk_lex.specs.Lexes.{Stands, Reads, divides_behind, Fault, Breaks}
 use Rattle.awk_lex.specs.Refused.{IsOutOfMemory}
 use Rattle.awk_lex.specs.declared.token.Kind.{Kind}
 use Rattle.awk_lex.specs.declared.token.Token.{Token}
@@ -19,19 +18,23 @@ kinds_of = map (λ token. token.kind)
 abbrev pub line_at : List ℕ → ℕ → ℕ
 line_at text place = 1 + count_by (λ b. b == 10) (take place text)
 
--- The token stands where its stretch begins, on its line. Its stretch ends where the text is read on.
+-- the token stands on its stretch, whose line is its line
 pub record StandsAt (text : List ℕ) (token : Token) : Type 0 where
-  pub after : List ℕ
-  pub stands : Stands token.kind (drop token.start text) after
-  pub ends : drop token.end text ≡ behind token.kind after
+  pub divides : Bool
+  pub stands : Stands divides token.kind (drop token.start text) (drop token.end text)
   pub line : token.line ≡ line_at text token.start
+
+-- the stretches of the tokens stand in turn, none of them empty, from one place to another
+abbrev pub InTurn : ℕ → List Token → ℕ → Type 0
+InTurn place [] end = place ≤ end
+InTurn place (t ∷ ts) end = (place ≤ t.start) × (t.start < t.end) × InTurn t.end ts end
 
 -- the text is gaps and tokens up to a place on the refusal's line, and there stands its fault
 pub record FaultStands (text : List ℕ) (refusal : Refusal) : Type 0 where
   pub tokens : List Kind
   pub place : ℕ
-  pub reads : Reads tokens text (drop place text)
-  pub fault : Fault refusal.code (drop place text)
+  pub reads : Reads false tokens text (drop place text)
+  pub fault : Fault (divides_behind false tokens) refusal.code (drop place text)
   pub line : refusal.line ≡ line_at text place
 
 -- these tokens are answered, or memory was refused

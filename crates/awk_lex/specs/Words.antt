@@ -1,12 +1,12 @@
--- The tokens of a program and how they are spelled (POSIX awk, Lexical Conventions).
-use Rattle.std.specs.Prelude.{◌≡◌, ℕ, ◌^◌, Bool, true, false, ◌&&◌, ◌||◌, not, ◌==◌, if◌then◌else◌, List, [], ◌∷◌, ◌++◌, pos, int_lt, codes, bytes_eq, Option, Some, None, unwrap_or}
+-- How the tokens of a program are spelled (POSIX awk, Lexical Conventions).
+use Rattle.std.specs.Prelude.{◌≡◌, ℕ, ◌^◌, Bool, true, false, ◌&&◌, ◌||◌, not, ◌==◌, List, [], ◌∷◌, ◌++◌, pos, int_lt, bytes_eq, Some, is_some}
 use Rattle.std.specs.List.{list_all, list_any}
 use Rattle.std.specs.Char.{is_ascii_digit, is_ascii_alphabetic}
 use Rattle.std.specs.Str.Parse.{digits_value}
 use Rattle.awk_lex.specs.Escapes.{unescaped}
-use Rattle.awk_lex.specs.declared.token.Operator.TheVariants as operator
+use Rattle.awk_lex.specs.Tables.{reserved, left_out, signs, divisions, kind_in}
 use Rattle.awk_lex.specs.declared.token.Kind.{Kind}
-use Rattle.awk_lex.specs.declared.token.Kind.TheVariants.{Number, String, Name, Called, Operator, Not, Assign, Dollar, Comma, Semicolon, Newline, OpenBrace, CloseBrace, OpenParenthesis, CloseParenthesis, Begin, Print, Unbuilt}
+use Rattle.awk_lex.specs.declared.token.Kind.TheVariants.{Number, String, Ere, Name, Called, BuiltIn, Step, Newline, CloseBracket, CloseParenthesis}
 
 -- a letter or an underscore
 abbrev pub is_letter : ℕ → Bool
@@ -26,154 +26,39 @@ abbrev pub is_digits : List ℕ → Bool
 is_digits [] = false
 is_digits (b ∷ bs) = list_all is_ascii_digit (b ∷ bs)
 
--- the keywords
-abbrev pub keywords : List (List ℕ)
-keywords =
-    codes "BEGIN"
-    ∷ codes "END"
-    ∷ codes "function"
-    ∷ codes "if"
-    ∷ codes "else"
-    ∷ codes "while"
-    ∷ codes "for"
-    ∷ codes "do"
-    ∷ codes "break"
-    ∷ codes "continue"
-    ∷ codes "next"
-    ∷ codes "exit"
-    ∷ codes "return"
-    ∷ codes "delete"
-    ∷ codes "in"
-    ∷ codes "getline"
-    ∷ codes "print"
-    ∷ codes "printf"
-    ∷ []
-
--- the names of the built-in functions
-abbrev pub built_ins : List (List ℕ)
-built_ins =
-    codes "length"
-    ∷ codes "substr"
-    ∷ codes "index"
-    ∷ codes "split"
-    ∷ codes "sub"
-    ∷ codes "gsub"
-    ∷ codes "match"
-    ∷ codes "sprintf"
-    ∷ codes "tolower"
-    ∷ codes "toupper"
-    ∷ codes "int"
-    ∷ codes "system"
-    ∷ codes "close"
-    ∷ []
-
--- names that other awks give a meaning and that this one leaves out
-abbrev pub left_out : List (List ℕ)
-left_out =
-    codes "atan2"
-    ∷ codes "cos"
-    ∷ codes "sin"
-    ∷ codes "exp"
-    ∷ codes "log"
-    ∷ codes "sqrt"
-    ∷ codes "rand"
-    ∷ codes "srand"
-    ∷ codes "func"
-    ∷ codes "nextfile"
-    ∷ codes "fflush"
-    ∷ []
-
-abbrev pub is_in : List (List ℕ) → List ℕ → Bool
-is_in table w = list_any (bytes_eq w) table
-
 -- a keyword or the name of a built-in function
 abbrev pub is_reserved : List ℕ → Bool
-is_reserved w = is_in keywords w || is_in built_ins w
+is_reserved w = is_some (kind_in reserved w)
 
 abbrev pub is_left_out : List ℕ → Bool
-is_left_out w = is_in left_out w
+is_left_out w = list_any (bytes_eq w) left_out
 
--- the keywords that have a kind of their own
-abbrev pub kinds : List (List ℕ × Kind)
-kinds = (codes "BEGIN", Begin) ∷ (codes "print", Print) ∷ []
+-- a byte that is no mark, no backslash and no newline
+abbrev pub is_plain : ℕ → ℕ → Bool
+is_plain mark b = not (b == mark || (b == 92 || b == 10))
 
--- The signs of the language, newline included. A slash divides or opens a pattern: neither is built, so the one
--- byte stands for the whole token.
-abbrev pub signs : List (List ℕ × Kind)
-signs =
-    (codes "\n", Newline)
-    ∷ (codes "{", OpenBrace)
-    ∷ (codes "}", CloseBrace)
-    ∷ (codes "(", OpenParenthesis)
-    ∷ (codes ")", CloseParenthesis)
-    ∷ (codes ",", Comma)
-    ∷ (codes ";", Semicolon)
-    ∷ (codes "$", Dollar)
-    ∷ (codes "!", Not)
-    ∷ (codes "=", Assign)
-    ∷ (codes "*", Operator operator.Times)
-    ∷ (codes "%", Operator operator.Remainder)
-    ∷ (codes "+", Operator operator.Plus)
-    ∷ (codes "-", Operator operator.Minus)
-    ∷ (codes "<", Operator operator.Less)
-    ∷ (codes "<=", Operator operator.LessEqual)
-    ∷ (codes "==", Operator operator.Equal)
-    ∷ (codes "!=", Operator operator.NotEqual)
-    ∷ (codes ">", Operator operator.Greater)
-    ∷ (codes ">=", Operator operator.GreaterEqual)
-    ∷ (codes "[", Unbuilt)
-    ∷ (codes "]", Unbuilt)
-    ∷ (codes "/", Unbuilt)
-    ∷ (codes "++", Unbuilt)
-    ∷ (codes "+=", Unbuilt)
-    ∷ (codes "--", Unbuilt)
-    ∷ (codes "-=", Unbuilt)
-    ∷ (codes "*=", Unbuilt)
-    ∷ (codes "%=", Unbuilt)
-    ∷ (codes "^", Unbuilt)
-    ∷ (codes "^=", Unbuilt)
-    ∷ (codes "!~", Unbuilt)
-    ∷ (codes "~", Unbuilt)
-    ∷ (codes ">>", Unbuilt)
-    ∷ (codes "|", Unbuilt)
-    ∷ (codes "||", Unbuilt)
-    ∷ (codes "&&", Unbuilt)
-    ∷ (codes "?", Unbuilt)
-    ∷ (codes ":", Unbuilt)
-    ∷ []
+-- The bytes may stand between two marks, the quotes of a string or the slashes of an ERE: no newline and no
+-- unescaped mark is among them, and the last isn't a backslash that escapes what follows.
+pub data Body (mark : ℕ) : List ℕ → Type 0 where
+  none : Body mark []
+  plain : {b : ℕ} {body : List ℕ} → is_plain mark b ≡ true → Body mark body → Body mark (b ∷ body)
+  escaped : {b : ℕ} {body : List ℕ} → not (b == 10) ≡ true → Body mark body → Body mark (92 ∷ b ∷ body)
 
--- the kind of a spelling in a table
-abbrev pub kind_in : List (List ℕ × Kind) → List ℕ → Option Kind
-kind_in [] w = None
-kind_in (row ∷ rows) w = if bytes_eq w row.0 then Some row.1 else kind_in rows w
-
--- the kind of a keyword or a built-in function's name
-abbrev pub word_kind : List ℕ → Kind
-word_kind w = unwrap_or (kind_in kinds w) Unbuilt
-
--- a byte of a string that is no quote, no backslash and no newline
-abbrev pub is_plain : ℕ → Bool
-is_plain b = not (b == 34 || (b == 92 || b == 10))
-
--- The bytes may stand between a string's quotes: no newline and no unescaped quote is among them, and the last isn't a
--- backslash that escapes what follows.
-pub data Body : List ℕ → Type 0 where
-  none : Body []
-  plain : {b : ℕ} {body : List ℕ} → is_plain b ≡ true → Body body → Body (b ∷ body)
-  escaped : {b : ℕ} {body : List ℕ} → not (b == 10) ≡ true → Body body → Body (92 ∷ b ∷ body)
-
--- The bytes spell the token. What a name is called, the bytes behind it say (`suits`).
-pub data Writes : Kind → List ℕ → Type 0 where
-  number : {w : List ℕ} → is_digits w ≡ true → Writes (Number (pos (digits_value 10 w))) w
-  string : {body bytes : List ℕ} → Body body → unescaped body ≡ Some bytes → Writes (String bytes) (34 ∷ body ++ 34 ∷ [])
-  word : {w : List ℕ} → is_reserved w ≡ true → Writes (word_kind w) w
-  name : {w : List ℕ} → is_word w ≡ true → is_reserved w ≡ false → Writes (Name w) w
-  called : {w : List ℕ} → is_word w ≡ true → is_reserved w ≡ false → Writes (Called w) w
-  sign : {k : Kind} {w : List ℕ} → kind_in signs w ≡ Some k → Writes k w
+-- The bytes spell the token, where a slash divides or else opens an ERE. What a name is called, the bytes behind it
+-- say (`suits`).
+pub data Writes (divides : Bool) : Kind → List ℕ → Type 0 where
+  number : {w : List ℕ} → is_digits w ≡ true → Writes divides (Number (pos (digits_value 10 w))) w
+  string : {body bytes : List ℕ} → Body 34 body → unescaped body ≡ Some bytes → Writes divides (String bytes) (34 ∷ body ++ 34 ∷ [])
+  ere : {body : List ℕ} → divides ≡ false → Body 47 body → Writes divides (Ere body) (47 ∷ body ++ 47 ∷ [])
+  word : {k : Kind} {w : List ℕ} → kind_in reserved w ≡ Some k → Writes divides k w
+  name : {w : List ℕ} → is_word w ≡ true → is_reserved w ≡ false → Writes divides (Name w) w
+  called : {w : List ℕ} → is_word w ≡ true → is_reserved w ≡ false → Writes divides (Called w) w
+  sign : {k : Kind} {w : List ℕ} → kind_in signs w ≡ Some k → Writes divides k w
+  division : {k : Kind} {w : List ℕ} → divides ≡ true → kind_in divisions w ≡ Some k → Writes divides k w
 
 -- where these bytes stand before the rest, no longer spelling of any token stands
-abbrev pub Longest : List ℕ → List ℕ → Type 0
-Longest w rest = (t : Kind) (x y : List ℕ) → rest ≡ x ++ y → Writes t (w ++ x) → x ≡ []
+abbrev pub Longest : Bool → List ℕ → List ℕ → Type 0
+Longest divides w rest = (t : Kind) (x y : List ℕ) → rest ≡ x ++ y → Writes divides t (w ++ x) → x ≡ []
 
 -- a `(` stands in front
 abbrev pub opens : List ℕ → Bool
@@ -196,11 +81,18 @@ abbrev pub is_allowed : Kind → List ℕ → Bool
 is_allowed (Number value) rest = int_lt value (pos (2 ^ 127)) && not (goes_on rest)
 is_allowed _ rest = true
 
--- What is read on behind a token: the rest, but nothing behind a token that isn't built, since a string or
--- a pattern may stand there.
-abbrev pub behind : Kind → List ℕ → List ℕ
-behind Unbuilt rest = []
-behind _ rest = rest
+-- A slash behind the token divides, since an operand may end there. Behind any other token it opens an ERE (behind a
+-- called name none stands).
+abbrev pub divides_after : Kind → Bool
+divides_after (Number value) = true
+divides_after (String bytes) = true
+divides_after (Ere body) = true
+divides_after (Name w) = true
+divides_after (BuiltIn b) = true
+divides_after (Step s) = true
+divides_after CloseBracket = true
+divides_after CloseParenthesis = true
+divides_after _ = false
 
 -- the token is a newline
 abbrev pub is_newline : Kind → Bool

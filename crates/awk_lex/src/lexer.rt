@@ -1,32 +1,20 @@
 // The tokens of a program text.
 
-ghost use Rattle.std.specs.Prelude.{◌≡◌, ◌≤◌, ◌⊎◌, ◌+◌, ◌<◌, List, ℕ, length, drop, All, IfOk, IfErr, OnOk};
-ghost use Rattle.awk_lex.specs.Words.{behind, is_newline};
+ghost use Rattle.std.specs.Prelude.{◌≡◌, ◌≤◌, ◌⊎◌, ◌+◌, ◌<◌, List, ℕ, length, All, IfOk, IfErr, OnOk};
+ghost use Rattle.awk_lex.specs.Words.{is_newline, divides_after};
 ghost use Rattle.awk_lex.specs.Lexes.{Lexes};
 ghost use Rattle.awk_lex.specs.Refused.{IsOutOfMemory};
-ghost use Rattle.awk_lex.specs.Told.{kinds_of, StandsAt, FaultStands, GivesOnly, Refuses, RefusesOnly};
+ghost use Rattle.awk_lex.specs.Told.{kinds_of, StandsAt, InTurn, FaultStands, GivesOnly, Refuses, RefusesOnly};
 
+use crate::front::Front;
 use crate::refusal::{Code, Refusal};
-use crate::scan::{Step, first_step};
+use crate::scan::front_at;
 use crate::token::{Kind, Token};
 use awk_value::Bytes;
 use std::alloc::Global;
 
 /// The most bytes of a program text.
 pub const LIMIT: usize = 1_048_576;
-
-/// Where the text goes on behind a token that ends at `end`: nowhere behind one that isn't built.
-fn next_place(kind: &Kind, end: usize, text: &[u8]) -> usize
-    requires { end ≤ length text.now }
-    ensures place { drop result text.now ≡ behind kind.now (drop end text.now) }
-    ensures forward { end ≤ result }
-    ensures within { result ≤ length text.now }
-{
-    match kind {
-        Kind::Unbuilt => text.len(),
-        _ => end,
-    }
-}
 
 /// Whether a token is a newline.
 fn is_newline(kind: &Kind) -> bool
@@ -35,16 +23,35 @@ fn is_newline(kind: &Kind) -> bool
     matches!(kind, Kind::Newline)
 }
 
+/// Whether a slash behind a token divides. Behind any other it opens an ERE.
+fn divides_after(kind: &Kind) -> bool
+    ensures { result ≡ divides_after kind.now }
+{
+    matches!(
+        kind,
+        Kind::Number(_)
+            | Kind::String(_)
+            | Kind::Ere(_)
+            | Kind::Name(_)
+            | Kind::BuiltIn(_)
+            | Kind::Step(_)
+            | Kind::CloseBracket
+            | Kind::CloseParenthesis
+    )
+}
+
 /// The tokens of a program text, each the longest at its place, with gaps between them.
 ///
-/// A token of the language that isn't built yet takes all of the text from its first byte on. The refusals
-/// are `ProgramTooLong` above `LIMIT` bytes, and else that of the leftmost place where the text goes on as
-/// no gap and no token, with its line; or `OutOfMemory` at any time.
+/// A slash divides behind a name, a number, a string, an ERE, `)`, `]`, `++`, `--` and a built-in function's name, and
+/// opens an ERE behind any other token and at the start (POSIX awk, Lexical Conventions). The refusals are
+/// `ProgramTooLong` above `LIMIT` bytes, and else that of the leftmost place where the text goes on as no gap and no
+/// token, with its line; or `OutOfMemory` at any time.
 pub fn tokens(alloc: Global, text: &[u8]) -> Result<Vec<Token>, Refusal>
     ensures found { IfOk result (λ tokens. Lexes (kinds_of tokens.items) text.now) }
     ensures short { OnOk result (length text.now ≤ LIMIT) }
 
-    // Each token is a stretch of the text, and stands there on its line.
+    // Each token has a stretch of the text, in turn, and stands there on its line.
+    ensures in_turn { IfOk result (λ tokens. InTurn 0 tokens.items (length text.now)) }
     ensures within { IfOk result (λ tokens. All (λ token. (token.start ≤ token.end) × (token.end ≤ length text.now)) tokens.items) }
     ensures placed { IfOk result (λ tokens. All (StandsAt text.now) tokens.items) }
 
@@ -69,15 +76,18 @@ pub fn tokens(alloc: Global, text: &[u8]) -> Result<Vec<Token>, Refusal>
     let mut tokens = Vec::new(alloc);
     let mut at = 0;
     let mut line = 1;
+    let mut divides = false;
     while at < text.len() {
-        match first_step(alloc, &shared, at)? {
-            Step::Gap(len) => {
-                line += u64::from(text[at] == b'\\');
+        match front_at(alloc, &shared, at, divides)? {
+            Front::Gap(len) => {
+                let hidden = u64::from(text[at] == b'\\');
+                line += hidden;
                 at += len;
             }
-            Step::Token(kind, len) => {
-                let end = next_place(&kind, at + len, text);
+            Front::Token(kind, len) => {
+                divides = divides_after(&kind);
                 let newlines = u64::from(is_newline(&kind));
+                let end = at + len;
                 tokens.push(Token {
                     kind,
                     line,
@@ -87,7 +97,7 @@ pub fn tokens(alloc: Global, text: &[u8]) -> Result<Vec<Token>, Refusal>
                 line += newlines;
                 at = end;
             }
-            Step::Fault(code) => return Err(Refusal { code, line }),
+            Front::Fault(code) => return Err(Refusal { code, line }),
         }
     }
     Ok(tokens)

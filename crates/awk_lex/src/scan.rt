@@ -1,31 +1,24 @@
-// What stands at the front of a text.
+// Finding what stands at the front of a text.
 
-ghost use Rattle.std.specs.Prelude.{◌≡◌, ◌+◌, ◌<◌, ◌≤◌, ◌^◌, true, false, ◌∷◌, [], length, pos, take, drop, take_while, slice_index, MatchOption, IfOk};
+ghost use Rattle.std.specs.Prelude.{◌≡◌, ◌+◌, ◌<◌, ◌≤◌, ◌^◌, true, false, length, pos, drop, take_while, slice_index, MatchOption, IfOk};
 ghost use Rattle.std.specs.List.{list_all, prefix_len};
 ghost use Rattle.std.specs.Char.{is_ascii_digit};
 ghost use Rattle.std.specs.Str.Parse.{digits_value};
-ghost use Rattle.awk_lex.specs.Words.{is_word_byte, goes_on, opens, signs, kind_in};
+ghost use Rattle.awk_lex.specs.Words.{is_word_byte, goes_on};
 ghost use Rattle.awk_lex.specs.Lexes.{is_no_newline};
-ghost use Rattle.awk_lex.specs.Steps.{gap_len, body_len, word_of, number_of, string_of, sign_at, named, token_step, first_step};
+ghost use Rattle.awk_lex.specs.Front.{gap_len, body_len, word_of, number_of, string_of, slash_at, ere_of, named, token_front, front_of};
 
+use crate::front::Front;
 use crate::refusal::Code;
+use crate::signs::{division_front, sign_front};
 use crate::strings::{body_len, string_value};
-use crate::token::{Kind, Operator};
+use crate::token::Kind;
 use crate::words::{is_letter, is_word_byte, reserved_kind};
 use awk_value::Bytes;
 use std::alloc::{AllocError, Global};
 
 /// The largest number that may be followed by one more digit.
 const TENTH: u128 = 17_014_118_346_046_923_173_168_730_371_588_410_572;
-
-/// What stands at the front of a text, and how many bytes it has.
-#[derive(Drop)]
-pub enum Step {
-    /// One part of a gap.
-    Gap(usize),
-    Token(Kind, usize),
-    Fault(Code),
-}
 
 /// The text from a place on.
 fn rest(text: &Bytes, at: usize) -> &[u8]
@@ -77,18 +70,18 @@ fn named(name: Bytes, behind: &[u8]) -> Kind
     }
 }
 
-fn word_step(text: &Bytes, at: usize) -> Result<Step, AllocError>
+fn word_front(text: &Bytes, at: usize) -> Result<Front, AllocError>
     requires { at ≤ length text.now }
-    ensures { IfOk result (λ step. let rest = drop at text.now in
-        step ≡ token_step rest (word_of (take_while is_word_byte rest) (drop (prefix_len is_word_byte rest) rest))) }
+    ensures { IfOk result (λ front. let rest = drop at text.now in
+        front ≡ token_front rest (word_of (take_while is_word_byte rest) (drop (prefix_len is_word_byte rest) rest))) }
 {
     let rest = rest(text, at);
     let len = word_len(rest);
     if let Some(kind) = reserved_kind(&rest[..len]) {
-        return Ok(Step::Token(kind, len));
+        return Ok(Front::Token(kind, len));
     }
     let name = text.cut(at, at + len)?;
-    Ok(Step::Token(named(name, &rest[len..]), len))
+    Ok(Front::Token(named(name, &rest[len..]), len))
 }
 
 /// The number that digits spell, where it is at most 2^127 - 1.
@@ -115,109 +108,79 @@ fn goes_on(text: &[u8]) -> bool
     }
 }
 
-fn number_step(text: &[u8]) -> Step
-    ensures { result ≡ token_step text.now (number_of (take_while is_ascii_digit text.now)) }
+fn number_front(text: &[u8]) -> Front
+    ensures { result ≡ token_front text.now (number_of (take_while is_ascii_digit text.now)) }
 {
     let len = digits_len(text);
     match number_value(&text[..len]) {
-        Some(value) if !goes_on(&text[len..]) => Step::Token(Kind::Number(value), len),
-        _ => Step::Fault(Code::NumberRefused),
+        Some(value) if !goes_on(&text[len..]) => Front::Token(Kind::Number(value), len),
+        _ => Front::Fault(Code::NumberRefused),
     }
 }
 
 /// The string whose first quote stands at a place.
-fn string_step(alloc: Global, text: &Bytes, at: usize) -> Result<Step, AllocError>
+fn string_front(alloc: Global, text: &Bytes, at: usize) -> Result<Front, AllocError>
     requires { at < length text.now }
-    ensures { IfOk result (λ step. let rest = drop at text.now in
-        step ≡ token_step rest (string_of (drop 1 rest) (body_len false (drop 1 rest)))) }
+    ensures { IfOk result (λ front. let rest = drop at text.now in
+        front ≡ token_front rest (string_of (drop 1 rest) (body_len 34 false (drop 1 rest)))) }
 {
-    let Some(len) = body_len(&rest(text, at)[1..]) else {
-        return Ok(Step::Fault(Code::OpenString));
+    let Some(len) = body_len(&rest(text, at)[1..], b'"') else {
+        return Ok(Front::Fault(Code::OpenString));
     };
     let start = at + 1;
     match string_value(alloc, text.cut(start, start + len)?)? {
-        Some(bytes) => Ok(Step::Token(Kind::String(bytes), len + 2)),
-        None => Ok(Step::Fault(Code::EscapeRefused)),
+        Some(bytes) => Ok(Front::Token(Kind::String(bytes), len + 2)),
+        None => Ok(Front::Fault(Code::EscapeRefused)),
     }
 }
 
-/// The token that one byte spells.
-fn short_sign(byte: u8) -> Option<Kind>
-    ensures { result ≡ kind_in signs (byte ∷ []) }
-{
-    match byte {
-        b'\n' => Some(Kind::Newline),
-        b'{' => Some(Kind::OpenBrace),
-        b'}' => Some(Kind::CloseBrace),
-        b'(' => Some(Kind::OpenParenthesis),
-        b')' => Some(Kind::CloseParenthesis),
-        b',' => Some(Kind::Comma),
-        b';' => Some(Kind::Semicolon),
-        b'$' => Some(Kind::Dollar),
-        b'!' => Some(Kind::Not),
-        b'=' => Some(Kind::Assign),
-        b'*' => Some(Kind::Operator(Operator::Times)),
-        b'%' => Some(Kind::Operator(Operator::Remainder)),
-        b'+' => Some(Kind::Operator(Operator::Plus)),
-        b'-' => Some(Kind::Operator(Operator::Minus)),
-        b'<' => Some(Kind::Operator(Operator::Less)),
-        b'>' => Some(Kind::Operator(Operator::Greater)),
-        b'[' | b']' | b'/' | b'^' | b'~' | b'|' | b'?' | b':' => Some(Kind::Unbuilt),
-        _ => None,
-    }
-}
-
-/// The token that two bytes spell.
-fn long_sign(first: u8, second: u8) -> Option<Kind>
-    ensures { result ≡ kind_in signs (first ∷ second ∷ []) }
-{
-    match (first, second) {
-        (b'<', b'=') => Some(Kind::Operator(Operator::LessEqual)),
-        (b'=', b'=') => Some(Kind::Operator(Operator::Equal)),
-        (b'!', b'=') => Some(Kind::Operator(Operator::NotEqual)),
-        (b'>', b'=') => Some(Kind::Operator(Operator::GreaterEqual)),
-        (b'+' | b'-' | b'*' | b'%' | b'^', b'=') => Some(Kind::Unbuilt),
-        (b'+', b'+') | (b'-', b'-') | (b'>', b'>') | (b'|', b'|') | (b'&', b'&') => Some(
-            Kind::Unbuilt,
-        ),
-        (b'!', b'~') => Some(Kind::Unbuilt),
-        _ => None,
-    }
-}
-
-fn sign_step(text: &[u8]) -> Step
-    ensures { result ≡ token_step text.now (sign_at text.now) }
-{
-    if let [first, second, ..] = text
-        && let Some(kind) = long_sign(*first, *second)
-    {
-        return Step::Token(kind, 2);
-    }
-    if let [first, ..] = text
-        && let Some(kind) = short_sign(*first)
-    {
-        return Step::Token(kind, 1);
-    }
-    Step::Fault(Code::UnexpectedByte)
-}
-
-/// What stands at a place in a text, which isn't its end.
-pub fn first_step(alloc: Global, text: &Bytes, at: usize) -> Result<Step, AllocError>
+/// The ERE whose first slash stands at a place.
+fn ere_front(text: &Bytes, at: usize) -> Result<Front, AllocError>
     requires { at < length text.now }
-    ensures { IfOk result (λ step. step ≡ first_step (drop at text.now)) }
+    ensures { IfOk result (λ front. let rest = drop at text.now in
+        front ≡ token_front rest (ere_of (drop 1 rest) (body_len 47 false (drop 1 rest)))) }
+{
+    let Some(len) = body_len(&rest(text, at)[1..], b'/') else {
+        return Ok(Front::Fault(Code::OpenPattern));
+    };
+    let start = at + 1;
+    let body = text.cut(start, start + len)?;
+    Ok(Front::Token(Kind::Ere(body), len + 2))
+}
+
+/// What the slash at a place begins: a sign where it divides, and else an ERE.
+fn slash_front(text: &Bytes, at: usize, divides: bool) -> Result<Front, AllocError>
+    requires within { at < length text.now }
+    requires slash { slice_index (drop at text.now) 0 ≡ 47 }
+    ensures { IfOk result (λ front. front ≡ token_front (drop at text.now) (slash_at divides (drop at text.now))) }
+{
+    if divides {
+        Ok(division_front(rest(text, at)))
+    } else {
+        ere_front(text, at)
+    }
+}
+
+/// What stands at a place in a text, which isn't its end. A slash there divides or else opens an ERE.
+pub fn front_at(alloc: Global, text: &Bytes, at: usize, divides: bool) -> Result<Front, AllocError>
+    requires { at < length text.now }
+    ensures { IfOk result (λ front. front ≡ front_of divides (drop at text.now)) }
 {
     let rest = rest(text, at);
     let gap = gap_len(rest);
     if gap > 0 {
-        return Ok(Step::Gap(gap));
+        return Ok(Front::Gap(gap));
     }
-    if is_letter(rest[0]) {
-        word_step(text, at)
-    } else if rest[0].is_ascii_digit() {
-        Ok(number_step(rest))
-    } else if rest[0] == b'"' {
-        string_step(alloc, text, at)
+    let first = rest[0];
+    if is_letter(first) {
+        word_front(text, at)
+    } else if first.is_ascii_digit() {
+        Ok(number_front(rest))
+    } else if first == b'"' {
+        string_front(alloc, text, at)
+    } else if first == b'/' {
+        slash_front(text, at, divides)
     } else {
-        Ok(sign_step(rest))
+        Ok(sign_front(rest))
     }
 }

@@ -1,25 +1,27 @@
-// What stands between the quotes of a string.
+// What stands between two marks: the quotes of a string, the slashes of an ERE.
 
 ghost use Rattle.std.specs.Prelude.{◌≡◌, false, ◌+◌, ◌≤◌, length, IfOk, IfSome};
 ghost use Rattle.awk_lex.specs.Escapes.{unescaped};
-ghost use Rattle.awk_lex.specs.Steps.{body_len};
+ghost use Rattle.awk_lex.specs.Front.{body_len};
 
 use crate::escapes::{EscapeFault, unescape};
 use awk_value::Bytes;
 use std::alloc::{AllocError, Global};
 
-/// How many bytes stand before the quote that closes a string, where one does on the same line.
-pub fn body_len(text: &[u8]) -> Option<usize>
-    ensures is { result ≡ body_len false text.now }
+/// How many bytes stand before the next mark that no backslash escapes, where one stands on the same line.
+pub fn body_len(text: &[u8], mark: u8) -> Option<usize>
+    ensures is { result ≡ body_len mark false text.now }
     ensures within { IfSome result (λ len. len + 1 ≤ length text.now) }
 {
     let mut behind_backslash = false;
     for (len, byte) in text.iter().enumerate() {
-        match byte {
-            b'\n' => return None,
-            b'"' if !behind_backslash => return Some(len),
-            _ => behind_backslash = *byte == b'\\' && !behind_backslash,
+        if *byte == b'\n' {
+            return None;
         }
+        if *byte == mark && !behind_backslash {
+            return Some(len);
+        }
+        behind_backslash = *byte == b'\\' && !behind_backslash;
     }
     None
 }

@@ -2,19 +2,110 @@
 
 use awk_value::Bytes;
 
-/// An operator. Plus and minus may also stand before an operand, and the others stand between two.
+/// An operator between two operands. Plus and minus may also stand before one.
 #[derive(Clone, Copy, Debug, PartialEq, Eq)]
 pub enum Operator {
+    /// `^`
+    Power,
+    /// `*`
     Times,
+    /// `/`
+    Divide,
+    /// `%`
     Remainder,
+    /// `+`
     Plus,
+    /// `-`
     Minus,
+    /// `<`
     Less,
+    /// `<=`
     LessEqual,
+    /// `==`
     Equal,
+    /// `!=`
     NotEqual,
+    /// `>`
     Greater,
+    /// `>=`
     GreaterEqual,
+    /// `~`
+    Matches,
+    /// `!~`
+    NotMatches,
+    /// `&&`
+    And,
+    /// `||`
+    Or,
+}
+
+/// How an assignment makes the new value.
+#[derive(Clone, Copy, Debug, PartialEq, Eq)]
+pub enum Assignment {
+    /// `=`
+    Plain,
+    /// `+=`
+    Add,
+    /// `-=`
+    Subtract,
+    /// `*=`
+    Multiply,
+    /// `/=`
+    Divide,
+    /// `%=`
+    Remainder,
+    /// `^=`
+    Power,
+}
+
+/// A step of a variable by one, before or behind its use.
+#[derive(Clone, Copy, Debug, PartialEq, Eq)]
+pub enum Step {
+    /// `++`
+    Increment,
+    /// `--`
+    Decrement,
+}
+
+/// A keyword, which is no name.
+#[derive(Clone, Copy, Debug, PartialEq, Eq)]
+pub enum Keyword {
+    Begin,
+    End,
+    Function,
+    If,
+    Else,
+    While,
+    For,
+    Do,
+    Break,
+    Continue,
+    Next,
+    Exit,
+    Return,
+    Delete,
+    In,
+    Getline,
+    Print,
+    Printf,
+}
+
+/// A built-in function.
+#[derive(Clone, Copy, Debug, PartialEq, Eq)]
+pub enum BuiltIn {
+    Length,
+    Substr,
+    Index,
+    Split,
+    Sub,
+    Gsub,
+    Match,
+    Sprintf,
+    ToLower,
+    ToUpper,
+    Int,
+    System,
+    Close,
 }
 
 /// What a token is.
@@ -24,29 +115,36 @@ pub enum Kind {
     Number(i128),
     /// A string: the bytes that it stands for.
     String(Bytes),
+    /// An extended regular expression: its text between the slashes, with the backslashes that stand there.
+    Ere(Bytes),
     /// A name that is no keyword and no built-in.
     Name(Bytes),
     /// A name with `(` directly behind it: a function's.
     Called(Bytes),
+    Keyword(Keyword),
+    BuiltIn(BuiltIn),
     Operator(Operator),
+    Assign(Assignment),
+    Step(Step),
     /// `!`
     Not,
-    /// `=`
-    Assign,
     Dollar,
     Comma,
     Semicolon,
     Newline,
+    /// `?`
+    Question,
+    Colon,
+    /// `|`
+    Bar,
+    /// `>>`
+    Append,
     OpenBrace,
     CloseBrace,
+    OpenBracket,
+    CloseBracket,
     OpenParenthesis,
     CloseParenthesis,
-    /// The word `BEGIN`.
-    Begin,
-    /// The word `print`.
-    Print,
-    /// A token that no form of the language needs so far, and all of the text behind it.
-    Unbuilt,
 }
 
 /// A token, the line on which it begins (from 1), and its stretch of the text.

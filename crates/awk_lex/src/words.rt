@@ -1,35 +1,48 @@
 // Words, and what they mean.
 
-ghost use Rattle.std.specs.Prelude.{◌≡◌, bytes_eq, if◌then◌else◌, Some, None};
+ghost use Rattle.std.specs.Prelude.{◌≡◌, bytes_eq, find};
 ghost use Rattle.std.specs.List.{list_all, list_any};
-ghost use Rattle.awk_lex.specs.Words.{is_letter, is_word_byte, is_word, is_reserved, is_left_out, word_kind};
+ghost use Rattle.std.specs.Option.{option_map};
+ghost use Rattle.awk_lex.specs.Tables.{keywords, built_ins, reserved, kind_in};
+ghost use Rattle.awk_lex.specs.Words.{is_letter, is_word_byte, is_word, is_reserved, is_left_out};
 
-use crate::token::Kind;
+use crate::token::{BuiltIn, Keyword, Kind};
 
-const KEYWORDS: [&[u8]; 18] = [
-    b"BEGIN",
-    b"END",
-    b"function",
-    b"if",
-    b"else",
-    b"while",
-    b"for",
-    b"do",
-    b"break",
-    b"continue",
-    b"next",
-    b"exit",
-    b"return",
-    b"delete",
-    b"in",
-    b"getline",
-    b"print",
-    b"printf",
+const KEYWORDS: [(&[u8], Keyword); 18] = [
+    (b"BEGIN", Keyword::Begin),
+    (b"END", Keyword::End),
+    (b"function", Keyword::Function),
+    (b"if", Keyword::If),
+    (b"else", Keyword::Else),
+    (b"while", Keyword::While),
+    (b"for", Keyword::For),
+    (b"do", Keyword::Do),
+    (b"break", Keyword::Break),
+    (b"continue", Keyword::Continue),
+    (b"next", Keyword::Next),
+    (b"exit", Keyword::Exit),
+    (b"return", Keyword::Return),
+    (b"delete", Keyword::Delete),
+    (b"in", Keyword::In),
+    (b"getline", Keyword::Getline),
+    (b"print", Keyword::Print),
+    (b"printf", Keyword::Printf),
 ];
 
-const BUILT_INS: [&[u8]; 13] = [
-    b"length", b"substr", b"index", b"split", b"sub", b"gsub", b"match", b"sprintf", b"tolower",
-    b"toupper", b"int", b"system", b"close",
+const BUILT_INS: [(&[u8], BuiltIn); 13] = [
+    (b"length", BuiltIn::Length),
+    (b"substr", BuiltIn::Substr),
+    (b"index", BuiltIn::Index),
+    (b"split", BuiltIn::Split),
+    (b"sub", BuiltIn::Sub),
+    (b"gsub", BuiltIn::Gsub),
+    (b"match", BuiltIn::Match),
+    (b"sprintf", BuiltIn::Sprintf),
+    (b"tolower", BuiltIn::ToLower),
+    (b"toupper", BuiltIn::ToUpper),
+    (b"int", BuiltIn::Int),
+    (b"system", BuiltIn::System),
+    (b"close", BuiltIn::Close),
 ];
 
 const LEFT_OUT: [&[u8]; 11] = [
@@ -75,6 +88,42 @@ pub fn is_name(word: &[u8]) -> bool
     }
 }
 
+/// What a word stands for in a table.
+fn look_up<T: Copy>(table: &[(&[u8], T)], word: &[u8]) -> Option<T>
+    ensures { result ≡ option_map (λ row. row.1) (find (λ row. bytes_eq word.now row.0.now) table.now) }
+{
+    table.iter().find(|row| row.0 == word).map(|row| row.1)
+}
+
+fn keyword(word: &[u8]) -> Option<Keyword>
+    ensures { option_map (λ keyword. Kind.Keyword keyword) result ≡ kind_in keywords word.now }
+{
+    look_up(&KEYWORDS, word)
+}
+
+fn built_in(word: &[u8]) -> Option<BuiltIn>
+    ensures { option_map (λ function. Kind.BuiltIn function) result ≡ kind_in built_ins word.now }
+{
+    look_up(&BUILT_INS, word)
+}
+
+/// The kind of a keyword or a built-in function's name.
+pub(crate) fn reserved_kind(word: &[u8]) -> Option<Kind>
+    ensures { result ≡ kind_in reserved word.now }
+{
+    match keyword(word) {
+        Some(keyword) => Some(Kind::Keyword(keyword)),
+        None => built_in(word).map(|function| Kind::BuiltIn(function)),
+    }
+}
+
+/// Whether a word is a keyword or a built-in function's name (POSIX awk, Lexical Conventions).
+pub fn is_reserved(word: &[u8]) -> bool
+    ensures { result ≡ is_reserved word.now }
+{
+    reserved_kind(word).is_some()
+}
+
 /// Whether a word is one of the table.
 fn is_listed(word: &[u8], table: &[&[u8]]) -> bool
     ensures { result ≡ list_any (λ row. bytes_eq word.now row.now) table.now }
@@ -82,28 +131,9 @@ fn is_listed(word: &[u8], table: &[&[u8]]) -> bool
     table.iter().any(|row| *row == word)
 }
 
-/// Whether a word is a keyword or a built-in function's name (POSIX awk, Lexical Conventions).
-pub fn is_reserved(word: &[u8]) -> bool
-    ensures { result ≡ is_reserved word.now }
-{
-    is_listed(word, &KEYWORDS) || is_listed(word, &BUILT_INS)
-}
-
 /// Whether a name is one that other awks give a meaning and that this one leaves out (K7).
 pub fn is_left_out(name: &[u8]) -> bool
     ensures { result ≡ is_left_out name.now }
 {
     is_listed(name, &LEFT_OUT)
-}
-
-/// The kind of a keyword or a built-in function's name.
-pub(crate) fn reserved_kind(word: &[u8]) -> Option<Kind>
-    ensures { result ≡ (if is_reserved word.now then Some (word_kind word.now) else None) }
-{
-    match word {
-        b"BEGIN" => Some(Kind::Begin),
-        b"print" => Some(Kind::Print),
-        _ if is_reserved(word) => Some(Kind::Unbuilt),
-        _ => None,
-    }
 }

@@ -18,7 +18,7 @@ use Rattle.awk_run.specs.declared.variables.special.Special.{Special}
 use Rattle.awk_run.specs.declared.variables.special.Special.TheVariants.{Argc, Convfmt, Filename, Fnr, Fs, Nr, Ofmt, Ofs, Ors, Rlength, Rs, Rstart, Subsep}
 use Rattle.awk_run.specs.declared.variables.fault.VariableFault.{VariableFault}
 use Rattle.awk_run.specs.declared.variables.fault.VariableFault.TheVariants.{Memory, Pattern}
-use Rattle.awk_run.specs.State.{Faulted, State}
+use Rattle.awk_run.specs.State.{Faulted, State, Stop, lift}
 use Rattle.awk_run.specs.Variables.{value_of, name_of, with_value, is_refused}
 use Rattle.awk_run.specs.Operators.{field_value, raised, variable_fault, value_fault}
 use Rattle.awk_run.specs.Words.{value_in, read_name, put, put_unless, count_in, field_at, current_text, split_as, set_record, be_served, begin_input, argument_if, argument_below, take_argument, is_served}
@@ -313,3 +313,9 @@ record_ends_later text p q = then_changes _ p (ends_changes _ q)
 pub record_begins : (text : List ℕ) {old mid later new : Machine} {r : Result (Unit {0}) Halt} → Changes (set_record text) old mid (Ok tt) → Changes (count_in Nr) mid later (Ok tt) → Changes (count_in Fnr) later new r → Changes (begin_record text) old new r
 unfolding begin_record
 record_begins text p q r = then_changes _ p (then_changes _ q r)
+
+-- what takes values and kept patterns alone
+
+pub applied_changes : (v : Result Value Stop) {old new : Machine} {c : Result Value Halt} → SameState old new → Matches c v → Changes (lift v) old new c
+unfolding lift
+applied_changes v same e = reads_changes _ (λ s. v) (λ s. refl) same (λ s h. e)

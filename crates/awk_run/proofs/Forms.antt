@@ -7,12 +7,14 @@ use Rattle.awk_value.specs.declared.value.Value.TheVariants as value
 use Rattle.awk_streams.specs.Streams.{AreOpen, IsSoundMain}
 use Rattle.awk_syntax.specs.declared.tree.UnaryOperator.{UnaryOperator}
 use Rattle.awk_syntax.specs.declared.tree.BinaryOperator.{BinaryOperator}
+use Rattle.awk_syntax.specs.declared.tree.BinaryOperator.TheVariants.{Matches as MatchOperator}
+use Rattle.awk_run.specs.State.{Run, lift}
 use Rattle.awk_syntax.specs.declared.tree.Expr.{Expr as Code}
 use Rattle.awk_syntax.specs.declared.tree.Statement.{Statement as CodeStatement, Row_of-Statement, end_of-Statement, more_of-Statement, items-the_row-Statement}
 use Rattle.awk_syntax.specs.declared.tree.Item.{Item as CodeItem}
 use Rattle.awk_syntax.specs.declared.tree.Item.TheVariants as items
 use Rattle.std.specs.Global.{Vec}
-use Rattle.awk_syntax.specs.Tree.{Expr, Number, String, Name, Group, Field, Unary, Binary, Assign, Exprs, Nil, Cons, Statement, Block, Evaluate, Print, Statements, NoMore, Then, Item, Begin, Always, Short, Rule}
+use Rattle.awk_syntax.specs.Tree.{Expr, Number, String, Ere, Name, Group, Field, Unary, Binary, Assign, Exprs, Nil, Cons, Statement, Block, Evaluate, Print, Statements, NoMore, Then, Item, Begin, Always, Short, Rule}
 use Rattle.awk_syntax.specs.View.{expr_of, exprs_of, statement_of, statements_of, statements_of_row, item_of, items_of}
 use Rattle.awk_run.specs.declared.machine.Machine.{Machine}
 use Rattle.awk_run.specs.declared.start.Assignment.{Assignment}
@@ -24,7 +26,7 @@ use Rattle.awk_run.specs.Operators.{applied, changed}
 use Rattle.awk_run.specs.Words.{read_name, put, field_at, current_text, show_values}
 use Rattle.awk_run.specs.Inputs.{assign_text, next_record}
 use Rattle.awk_run.specs.Meaning.{assign_all, whole_run}
-use Rattle.awk_run.specs.Effect.{E, values_of, printed_values, S, S_all, run_if, try_item, try_items, begin_record, each_record, all_records, begin_item, begin_items, is_rule, has_rule, run_items}
+use Rattle.awk_run.specs.Effect.{takes_pattern, right_operand, E, values_of, printed_values, S, S_all, run_if, try_item, try_items, begin_record, each_record, all_records, begin_item, begin_items, is_rule, has_rule, run_items}
 use Rattle.awk_run.specs.Does.{Seen, Matches, Does, Changes, Spends, Evaluates, Tests, EvaluatesAll, Lists, Follows, Executes, ExecutesAll, Tries, TriesAll, BeginsItem, BeginsAll, ReadsOn, ReadsAll, RunsItems, Assigns, RunsWhole}
 use Rattle.awk_run.proofs.Calculus.{then_changes, ends_changes, lift_changes, memory_changes, then_does, ends_does, lift_does, change_does}
 
@@ -44,6 +46,14 @@ string_unread = record { does = memory_changes _ refl (omega arith) }
 pub name_evaluates : {x : List ℕ} {old new : Machine} {r : Result Value Halt} → Changes (read_name x) old new r → Evaluates (Name x) old new r
 unfolding E
 name_evaluates p = record { does = p }
+
+pub ere_ends : {text : List ℕ} {old new : Machine} {h : Halt} → Changes current_text old new (Err h) → Evaluates (Ere text) old new (Err h)
+unfolding E
+ere_ends p = record { does = ends_changes _ p }
+
+pub ere_gives : {text : List ℕ} {old mid new : Machine} {v : Value} {r : Result Value Halt} → Changes current_text old mid (Ok v) → Changes (lift (applied MatchOperator v (value.Text text))) mid new r → Evaluates (Ere text) old new r
+unfolding E
+ere_gives p q = record { does = then_changes _ p q }
 
 pub group_evaluates : {e : Expr} {old new : Machine} {r : Result Value Halt} → Evaluates e old new r → Evaluates (Group e) old new r
 unfolding E
@@ -81,13 +91,22 @@ pub binary_ends : {o : BinaryOperator} {a b : Expr} {old new : Machine} {h : Hal
 unfolding E
 binary_ends p = record { does = ends_changes _ p.does }
 
-pub binary_ends_right : {o : BinaryOperator} {a b : Expr} {old mid new : Machine} {x : Value} {h : Halt} → Evaluates a old mid (Ok x) → Evaluates b mid new (Err h) → Evaluates (Binary o a b) old new (Err h)
-unfolding E
-binary_ends_right p q = record { does = then_changes _ p.does (ends_changes _ q.does) }
+-- the operand on the right is evaluated
+abbrev IsEvaluated : BinaryOperator → Expr → Type 0
+IsEvaluated o b = (run : Run Value) → right_operand (takes_pattern o) b run ≡ run
 
-pub binary_gives : {o : BinaryOperator} {a b : Expr} {old mid new : Machine} {x y : Value} {r : Result Value Halt} → Evaluates a old mid (Ok x) → Evaluates b mid new (Ok y) → Matches r (applied o x y) → Evaluates (Binary o a b) old new r
+pub binary_ends_right : {o : BinaryOperator} {a b : Expr} {old mid new : Machine} {x : Value} {h : Halt} → IsEvaluated o b → Evaluates a old mid (Ok x) → Evaluates b mid new (Err h) → Evaluates (Binary o a b) old new (Err h)
 unfolding E
-binary_gives {new = new} p q e = record { does = then_changes _ p.does (then_changes _ q.does (lift_changes _ new e)) }
+binary_ends_right {b = b} is p q = record { does = then_changes _ p.does (rw (is (E b)) (ends_changes _ q.does)) }
+
+pub binary_gives : {o : BinaryOperator} {a b : Expr} {old mid later new : Machine} {x y : Value} {r : Result Value Halt} → IsEvaluated o b → Evaluates a old mid (Ok x) → Evaluates b mid later (Ok y) → Changes (lift (applied o x y)) later new r → Evaluates (Binary o a b) old new r
+unfolding E
+binary_gives {b = b} is p q e = record { does = then_changes _ p.does (rw (is (E b)) (then_changes _ q.does e)) }
+
+-- the operand on the right is a pattern
+pub binary_takes : {o : BinaryOperator} {a : Expr} {text : List ℕ} {old mid new : Machine} {x : Value} {r : Result Value Halt} → takes_pattern o ≡ true → Evaluates a old mid (Ok x) → Changes (lift (applied o x (value.Text text))) mid new r → Evaluates (Binary o a (Ere text)) old new r
+unfolding E
+binary_takes {mid = mid} takes p e = record { does = then_changes _ p.does (rw takes (then_changes _ (lift_changes _ mid refl) e)) }
 
 -- lists of values
 

@@ -8,3 +8,4 @@ pub mod Limits
 pub mod Outside
 pub mod Seeking
 pub mod Whole
+pub mod CompiledLemmas

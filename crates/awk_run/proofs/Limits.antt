@@ -10,7 +10,8 @@ use Rattle.awk_record.specs.Cut.{Cut, Found, NoMore, BrokenOff, TooLong, BadSepa
 use Rattle.awk_streams.specs.declared.world.InputKind.{InputKind}
 use Rattle.awk_streams.specs.declared.world.InputKind.TheVariants.{Standard, File}
 use Rattle.awk_streams.specs.Answers.{Source, Answers}
-use Rattle.awk_syntax.specs.Tree.{Expr, Number, String, Name, Group, Field, Unary, Binary, Assign, Exprs, Nil, Cons, Statement, Block, Evaluate, Print, Statements, NoMore as NoStatement, Then, Item, Begin, Always, Short, Rule}
+use Rattle.awk_syntax.specs.declared.tree.BinaryOperator.TheVariants.{Matches}
+use Rattle.awk_syntax.specs.Tree.{Expr, Number, String, Ere, Name, Group, Field, Unary, Binary, Assign, Exprs, Nil, Cons, Statement, Block, Evaluate, Print, Statements, NoMore as NoStatement, Then, Item, Begin, Always, Short, Rule}
 use Rattle.awk_run.specs.declared.outcome.Outcome.TheVariants.{Ended, Fault, Stopped}
 use Rattle.awk_run.specs.State.{Output, TheEnd, Event, Printed, Demanded, Stop, Faulted, OutOfSteps, State, Out, Run, go_on, ◌>>=◌, lift}
 use Rattle.awk_run.specs.declared.variables.special.Special.{Special}
@@ -19,7 +20,7 @@ use Rattle.awk_run.specs.Variables.{name_of, is_refused}
 use Rattle.awk_run.specs.Words.{spend, spend_of, read_name, put_unless, put, count_in, field_at, current_text, split_as, set_record, show, show_values, opened, open_main, be_served, begin_input, taken, taken_of, take_record, close_main, argument_if, argument_below, take_argument, is_served}
 use Rattle.awk_run.specs.Operators.{changed, applied, raised}
 use Rattle.awk_run.specs.Inputs.{assigned_text, assign_text, Argument, Nothing, Assignment, StandardInput, AFile, argument_of, at_end, main_record, path_of, first_record, record_by, record_of, standard_unless, standard_record, or_else, search_by, search, search_all, next_record}
-use Rattle.awk_run.specs.Effect.{E, values_of, printed_values, S, S_all, run_if, try_item, try_items, begin_record, on_record, each_record, all_records, begin_item, begin_items, has_rule, run_items}
+use Rattle.awk_run.specs.Effect.{takes_pattern, right_operand, E, values_of, printed_values, S, S_all, run_if, try_item, try_items, begin_record, on_record, each_record, all_records, begin_item, begin_items, has_rule, run_items}
 use Rattle.awk_run.specs.Meaning.{StartValues, Meaning, start_state, assign_all, whole_run, whole, outcome_of, printed_to, demands_after, same_output}
 use Rattle.awk_run.specs.Limits.{IsBeginning, Begins, LawOfLimits}
 
@@ -236,15 +237,28 @@ next_larger = then_larger _ _ main_larger (λ found. or_else_larger found _ _ se
 
 -- the forms
 
+right_larger : (takes : Bool) (e : Expr) {run : Run Value} → Larger run run → Larger (right_operand takes e run) (right_operand takes e run)
+right_larger true (Ere text) h = lift_larger (Ok (value.Text text))
+right_larger true (Number n) h = h
+right_larger true (String bytes) h = h
+right_larger true (Name x) h = h
+right_larger true (Group e) h = h
+right_larger true (Field e) h = h
+right_larger true (Unary o e) h = h
+right_larger true (Binary o a b) h = h
+right_larger true (Assign x e) h = h
+right_larger false e h = h
+
 E_larger : (e : Expr) → Larger (E e) (E e)
 unfolding E
 E_larger (Number n) = lift_larger (Ok (value.Number n))
 E_larger (String bytes) = lift_larger (Ok (value.Text bytes))
+E_larger (Ere text) = then_larger _ _ text_larger (λ v. lift_larger (applied Matches v (value.Text text)))
 E_larger (Name x) = name_larger x
 E_larger (Group e) = E_larger e
 E_larger (Field e) = then_larger _ _ (E_larger e) field_larger
 E_larger (Unary o e) = then_larger _ _ (E_larger e) (λ v. lift_larger (changed o v))
-E_larger (Binary o a b) = then_larger _ _ (E_larger a) (λ x. then_larger _ _ (E_larger b) (λ y. lift_larger (applied o x y)))
+E_larger (Binary o a b) = then_larger _ _ (E_larger a) (λ x. then_larger _ _ (right_larger (takes_pattern o) b (E_larger b)) (λ y. lift_larger (applied o x y)))
 E_larger (Assign x e) = then_larger _ _ (E_larger e) (λ v. then_larger _ _ (put_larger x v) (λ _. name_larger x))
 
 values_larger : (front : List Value) (es : Exprs) → Larger (values_of front es) (values_of front es)

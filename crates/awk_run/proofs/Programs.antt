@@ -1,30 +1,32 @@
 -- From a text's tokens and their tree to its program.
-use Rattle.std.proofs.Common.{◌≡◌, ◌⊎◌, inl, inr, ℕ, ◌≤◌, List, length, Some, None, Result, Ok, Err, IfOk, IfErr, refl, sym, ap, ◌∙◌, subst}
+use Rattle.std.proofs.Common.{◌≡◌, ◌⊎◌, inl, inr, ℕ, ◌≤◌, List, [], ◌∷◌, ◌++◌, length, Some, None, Result, Ok, Err, IfOk, IfErr, OnOk, refl, sym, ap, ◌∙◌, subst}
 use Rattle.std.proofs.lemmas.Bool.{cases_Bool}
 use Rattle.awk_lex.specs.declared.token.Kind.{Kind}
 use Rattle.awk_lex.specs.declared.refusal.Refusal.{Refusal}
 use Rattle.awk_lex.specs.declared.refusal.Code.{Code}
-use Rattle.awk_lex.specs.declared.refusal.Code.TheVariants.{UnexpectedByte, OpenString, EscapeRefused, NumberRefused, ProgramTooLong, NotAProgram, NestedTooDeep, ArrayAndScalar, NameLeftOut, OutOfMemory}
+use Rattle.awk_lex.specs.declared.refusal.Code.TheVariants.{UnexpectedByte, OpenString, OpenPattern, EscapeRefused, NumberRefused, ProgramTooLong, NotAProgram, NestedTooDeep, PatternIllFormed, PatternCountRefused, PatternTooLarge, ArrayAndScalar, NameLeftOut, OutOfMemory}
 use Rattle.awk_lex.specs.Refused.{IsOutOfMemory}
 use Rattle.awk_lex.specs.Lexes.{Lexes}
-use Rattle.awk_lex.specs.Told.{Refuses}
+use Rattle.awk_lex.specs.Told.{Refuses, kinds_of}
+use Rattle.awk_lex.specs.declared.token.Token.{Token}
 use Rattle.awk_syntax.specs.Tree.{Item}
 use Rattle.awk_syntax.specs.Height.{height_of_program}
 use Rattle.awk_syntax.specs.Spelling.{IsProgram}
-use Rattle.awk_syntax.specs.Outcome.{Reads, Justifies}
+use Rattle.awk_syntax.specs.Outcome.{Reads, IsLowProgram, RefusesPattern, Justifies}
+use Rattle.awk_syntax.specs.Patterns.{AreReadable, IsLeftmostRefused}
 use Rattle.awk_syntax.specs.View.{tree_of}
 use Rattle.awk_syntax.specs.declared.tree.Tree.{Tree}
 use Rattle.awk_run.specs.Kinds.{uses_in, uses_left_out, scalar_names, array_names, are_apart, Fits}
 use Rattle.awk_run.specs.Names.{name_refusal}
-use Rattle.awk_run.specs.Accepted.{longest_text, greatest_height, IsSpelled, Accepted, RefusedFor}
+use Rattle.awk_run.specs.Accepted.{longest_text, greatest_height, IsSpelled, RefusesEre, HasBadEre, Accepted, RefusedFor}
 use Rattle.awk_run.specs.Verdict.{ReadsOnly}
 
 -- the tree of a text
 
 -- what is read of the tokens is what the text spells
-pub spelled : (r : Result Tree Refusal) (text : List ℕ) (tokens : List Kind) → length text ≤ longest_text → Lexes tokens text → IfOk r (λ tree. IsProgram tokens (tree_of tree) × (height_of_program (tree_of tree) ≤ greatest_height)) → IfOk r (λ tree. IsSpelled text (tree_of tree))
-spelled (Ok tree) text tokens short lexes found = record { tokens = tokens; has = record { short = short; lexes = lexes }; spells = found.0; low = found.1 }
-spelled (Err refusal) text tokens short lexes found = tt
+pub spelled : (r : Result Tree Refusal) (text : List ℕ) (tokens : List Kind) → length text ≤ longest_text → Lexes tokens text → IfOk r (λ tree. IsLowProgram tokens (tree_of tree)) → OnOk r (AreReadable tokens) → IfOk r (λ tree. IsSpelled text (tree_of tree))
+spelled (Ok tree) text tokens short lexes found readable = record { tokens = tokens; has = record { short = short; lexes = lexes }; spells = found.0; low = found.1; readable = readable }
+spelled (Err refusal) text tokens short lexes found readable = tt
 
 reads_only : (r : Result Tree Refusal) (items : List Item) → Reads r items → ReadsOnly r items
 reads_only (Ok tree) items h = h
@@ -33,19 +35,24 @@ reads_only (Err refusal) items h = h
 -- what the text spells is read of its tokens
 pub only_spelled : (r : Result Tree Refusal) (text : List ℕ) (tokens : List Kind)
     → ((ts : List Kind) → Lexes ts text → length text ≤ longest_text → tokens ≡ ts)
-    → ((items : List Item) → IsProgram tokens items → height_of_program items ≤ greatest_height → Reads r items)
+    → ((items : List Item) → IsLowProgram tokens items → AreReadable tokens → Reads r items)
     → (items : List Item) → IsSpelled text items → ReadsOnly r items
 only_spelled r text tokens one only items s =
-    reads_only r items (only items (subst (λ ts. IsProgram ts items) (sym (one s.tokens s.has.lexes s.has.short)) s.spells) s.low)
+    let same : s.tokens ≡ tokens = sym (one s.tokens s.has.lexes s.has.short) in
+    reads_only r items (only items (subst (λ ts. IsLowProgram ts items) same (s.spells, s.low)) (subst AreReadable same s.readable))
 
 refused_as : (code : Code) (text : List ℕ) → Refuses code text → RefusedFor code text
 refused_as ProgramTooLong text why = why
 refused_as UnexpectedByte text why = why
 refused_as OpenString text why = why
+refused_as OpenPattern text why = why
 refused_as EscapeRefused text why = why
 refused_as NumberRefused text why = why
 refused_as NotAProgram text why = absurd why.1.fault
 refused_as NestedTooDeep text why = absurd why.1.fault
+refused_as PatternIllFormed text why = absurd why.1.fault
+refused_as PatternCountRefused text why = absurd why.1.fault
+refused_as PatternTooLarge text why = absurd why.1.fault
 refused_as ArrayAndScalar text why = absurd why.1.fault
 refused_as NameLeftOut text why = absurd why.1.fault
 refused_as OutOfMemory text why = tt
@@ -57,21 +64,47 @@ pub lexing_refused : (refusal : Refusal) (text : List ℕ) → (IsOutOfMemory re
 lexing_refused refusal text (inl e) = of_memory refusal.code text e
 lexing_refused refusal text (inr why) = refused_as refusal.code text why
 
-justified : (code : Code) (text : List ℕ) (tokens : List Kind) → length text ≤ longest_text → Lexes tokens text → Justifies code tokens → RefusedFor code text
-justified NotAProgram text tokens short lexes why = (tokens, record { short = short; lexes = lexes }, why)
-justified NestedTooDeep text tokens short lexes why = (tokens, record { short = short; lexes = lexes }, why)
-justified OutOfMemory text tokens short lexes why = tt
-justified ProgramTooLong text tokens short lexes why = absurd why
-justified UnexpectedByte text tokens short lexes why = absurd why
-justified OpenString text tokens short lexes why = absurd why
-justified EscapeRefused text tokens short lexes why = absurd why
-justified NumberRefused text tokens short lexes why = absurd why
-justified ArrayAndScalar text tokens short lexes why = absurd why
-justified NameLeftOut text tokens short lexes why = absurd why
+-- a refused ERE among the tokens, without their places
+kinds_append : (ts us : List Token) → kinds_of (ts ++ us) ≡ kinds_of ts ++ kinds_of us
+kinds_append [] us = refl
+kinds_append (t ∷ ts) us = ap (λ l. t.kind ∷ l) (kinds_append ts us)
 
-pub parsing_refused : (r : Result Tree Refusal) (text : List ℕ) (tokens : List Kind) → length text ≤ longest_text → Lexes tokens text → IfErr r (λ refusal. Justifies refusal.code tokens) → IfErr r (λ refusal. RefusedFor refusal.code text)
+refuses_ere : (code : Code) (line : ℕ) (tokens : List Token) → IsLeftmostRefused code line tokens → RefusesEre code (kinds_of tokens)
+refuses_ere code line tokens r = record {
+  before = kinds_of r.before;
+  ere = r.text;
+  after = kinds_of r.after;
+  stand = ap kinds_of r.stand ∙ kinds_append r.before (r.token ∷ r.after) ∙ ap (λ k. kinds_of r.before ++ k ∷ kinds_of r.after) r.is_ere;
+  readable = r.readable;
+  fails = r.fails;
+}
+
+abbrev Refusing : List ℕ → List Token → Type 0
+Refusing text tokens = (length text ≤ longest_text) × Lexes (kinds_of tokens) text
+
+has_bad_ere : (code : Code) (line : ℕ) (text : List ℕ) (tokens : List Token) → Refusing text tokens → RefusesPattern code line tokens → HasBadEre code text
+has_bad_ere code line text tokens h why =
+    (kinds_of tokens, record { short = h.0; lexes = h.1 }, (why.0.0, why.0.1.0, why.0.1.1), refuses_ere code line tokens why.1)
+
+justified : (code : Code) (line : ℕ) (text : List ℕ) (tokens : List Token) → Refusing text tokens → Justifies code line tokens → RefusedFor code text
+justified NotAProgram line text tokens h why = (kinds_of tokens, record { short = h.0; lexes = h.1 }, why)
+justified NestedTooDeep line text tokens h why = (kinds_of tokens, record { short = h.0; lexes = h.1 }, why)
+justified PatternIllFormed line text tokens h why = has_bad_ere PatternIllFormed line text tokens h why
+justified PatternCountRefused line text tokens h why = has_bad_ere PatternCountRefused line text tokens h why
+justified PatternTooLarge line text tokens h why = has_bad_ere PatternTooLarge line text tokens h why
+justified OutOfMemory line text tokens h why = tt
+justified ProgramTooLong line text tokens h why = absurd why
+justified UnexpectedByte line text tokens h why = absurd why
+justified OpenString line text tokens h why = absurd why
+justified OpenPattern line text tokens h why = absurd why
+justified EscapeRefused line text tokens h why = absurd why
+justified NumberRefused line text tokens h why = absurd why
+justified ArrayAndScalar line text tokens h why = absurd why
+justified NameLeftOut line text tokens h why = absurd why
+
+pub parsing_refused : (r : Result Tree Refusal) (text : List ℕ) (tokens : List Token) → length text ≤ longest_text → Lexes (kinds_of tokens) text → IfErr r (λ refusal. Justifies refusal.code refusal.line tokens) → IfErr r (λ refusal. RefusedFor refusal.code text)
 parsing_refused (Ok tree) text tokens short lexes why = tt
-parsing_refused (Err refusal) text tokens short lexes why = justified refusal.code text tokens short lexes why
+parsing_refused (Err refusal) text tokens short lexes why = justified refusal.code refusal.line text tokens (short, lexes) why
 
 -- the names of a tree
 
@@ -86,10 +119,10 @@ fits items none = elim (cases_Bool (uses_left_out (uses_in items))) [
 
 -- a tree whose names fit is a program
 pub accepts : (text : List ℕ) (items : List Item) → IsSpelled text items → name_refusal items ≡ None → Accepted text items
-accepts text items s none = record { tokens = s.tokens; has = s.has; spells = s.spells; low = s.low; fits = fits items none }
+accepts text items s none = record { tokens = s.tokens; has = s.has; spells = s.spells; low = s.low; readable = s.readable; fits = fits items none }
 
 pub is_spelled : {text : List ℕ} {items : List Item} → Accepted text items → IsSpelled text items
-is_spelled a = record { tokens = a.tokens; has = a.has; spells = a.spells; low = a.low }
+is_spelled a = record { tokens = a.tokens; has = a.has; spells = a.spells; low = a.low; readable = a.readable }
 
 fitting : (items : List Item) → Fits items → name_refusal items ≡ None
 fitting items f = rw (f.kept, f.apart) refl

@@ -8,7 +8,7 @@ use Rattle.awk_lex.specs.declared.refusal.Code.TheVariants.{ArrayAndScalar, Name
 use Rattle.awk_syntax.specs.declared.tree.Expr.{Expr as CodeExpr}
 use Rattle.awk_syntax.specs.declared.tree.Statement.{Statement as CodeStatement, Row_of-Statement, end_of-Statement, more_of-Statement, items-the_row-Statement}
 use Rattle.awk_syntax.specs.declared.tree.Item.{Item as CodeItem}
-use Rattle.awk_syntax.specs.Tree.{Expr, Number, String, Name, Group, Field, Unary, Binary, Assign, Exprs, Nil, Cons, Statement, Block, Evaluate, Print, Statements, NoMore, Then, Item, Begin, Always, Short, Rule}
+use Rattle.awk_syntax.specs.Tree.{Expr, Number, String, Ere, Name, Group, Field, Unary, Binary, Assign, Exprs, Nil, Cons, Statement, Block, Evaluate, Print, Statements, NoMore, Then, Item, Begin, Always, Short, Rule}
 use Rattle.awk_syntax.specs.View.{expr_of, exprs_of, statement_of, statements_of, statements_of_row, item_of, items_of}
 use Rattle.awk_run.specs.declared.kinds.Misuse.{Misuse}
 use Rattle.awk_run.specs.Kinds.{Use, uses_in_expr, uses_in_list, uses_in_statement, uses_in_block, uses_in_item, uses_in, uses_left_out, special_scalars, special_arrays, scalar_names, array_names, is_absent, are_apart}
@@ -56,6 +56,7 @@ are_scalar-append (u ∷ us) vs p q = (p.0, are_scalar-append us vs p.1 q)
 scalars_in_expr : (e : Expr) → AreScalar (uses_in_expr e)
 scalars_in_expr (Number n) = tt
 scalars_in_expr (String bytes) = tt
+scalars_in_expr (Ere text) = tt
 scalars_in_expr (Name x) = (refl, tt)
 scalars_in_expr (Group e) = scalars_in_expr e
 scalars_in_expr (Field e) = scalars_in_expr e

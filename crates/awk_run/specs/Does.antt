@@ -8,7 +8,7 @@ use Rattle.awk_streams.specs.Log as log
 use Rattle.awk_streams.specs.Answers.{Answers, Agrees, how_many, opens_input}
 use Rattle.awk_streams.specs.Writes.{received}
 use Rattle.awk_streams.specs.Streams.{AreOpen, AreSound, IsSoundMain, Grows, IsMainRest}
-use Rattle.awk_syntax.specs.Tree.{Expr, Exprs, Statement, Statements, Item}
+use Rattle.awk_syntax.specs.Tree.{Expr, Ere, Exprs, Statement, Statements, Item}
 use Rattle.awk_run.specs.declared.machine.Machine.{Machine}
 use Rattle.awk_run.specs.declared.halt.Halt.{Halt}
 use Rattle.awk_run.specs.declared.halt.Halt.TheVariants as halt
@@ -18,7 +18,7 @@ use Rattle.awk_run.specs.Variables.{value_of, start_value}
 use Rattle.awk_run.specs.Words.{spend, open_main, close_main}
 use Rattle.awk_run.specs.Inputs.{search}
 use Rattle.awk_run.specs.Operators.{stream_fault}
-use Rattle.awk_run.specs.Effect.{E, values_of, printed_values, S, S_all, try_item, try_items, each_record, all_records, begin_item, begin_items, run_items}
+use Rattle.awk_run.specs.Effect.{right_operand, E, values_of, printed_values, S, S_all, try_item, try_items, each_record, all_records, begin_item, begin_items, run_items}
 use Rattle.awk_run.specs.Meaning.{StartValues, arguments_of, assign_all, whole_run, printed_to}
 
 -- what is known of a world: which streams are open, and what was done, if it tells
@@ -109,6 +109,11 @@ pub record Spends (old new : Machine) (r : Result (Unit {0}) Halt) : Type 0 wher
 -- an expression is evaluated, without a call of the world
 pub record Evaluates (e : Expr) (old new : Machine) (r : Result Value Halt) : Type 0 where
   pub does : Changes (E e) old new r
+
+-- right of an operator stands this pattern, or an operand that is evaluated
+abbrev pub IsPatternOperand : Bool → Expr → Option (List ℕ) → Type 0
+IsPatternOperand takes e (Some text) = (takes ≡ true) × (e ≡ Ere text)
+IsPatternOperand takes e None = (run : Run Value) → right_operand takes e run ≡ run
 
 -- an expression is tested
 abbrev pub TestsTo : Expr → Machine → Machine → Result Bool Halt → Type 0

@@ -3,22 +3,35 @@ use Rattle.std.specs.Prelude.{ℕ, zero, suc, Bool, true, false, ◌||◌, List,
 use Rattle.awk_value.specs.declared.value.Value.{Value}
 use Rattle.awk_value.specs.declared.value.Value.TheVariants as value
 use Rattle.awk_value.specs.Values.{truth_of}
-use Rattle.awk_syntax.specs.Tree.{Expr, Number, String, Name, Group, Field, Unary, Binary, Assign, Exprs, Nil, Cons, Statement, Block, Evaluate, Print, Statements, NoMore, Then, Item, Begin, Always, Short, Rule}
+use Rattle.awk_syntax.specs.Tree.{Expr, Number, String, Ere, Name, Group, Field, Unary, Binary, Assign, Exprs, Nil, Cons, Statement, Block, Evaluate, Print, Statements, NoMore, Then, Item, Begin, Always, Short, Rule}
+use Rattle.awk_syntax.specs.declared.tree.BinaryOperator.{BinaryOperator}
+use Rattle.awk_syntax.specs.declared.tree.BinaryOperator.TheVariants.{Matches, NotMatches}
 use Rattle.awk_run.specs.State.{OutOfSteps, Run, ◌>>=◌, lift, ret}
 use Rattle.awk_run.specs.declared.variables.special.Special.TheVariants.{Nr, Fnr}
 use Rattle.awk_run.specs.Words.{spend, read_name, put, count_in, field_at, current_text, set_record, show_values}
 use Rattle.awk_run.specs.Inputs.{next_record}
 use Rattle.awk_run.specs.Operators.{changed, applied}
 
--- an expression gives a value; operands go from left to right
+abbrev pub takes_pattern : BinaryOperator → Bool
+takes_pattern Matches = true
+takes_pattern NotMatches = true
+takes_pattern o = false
+
+-- an ERE right of `~` and `!~` is that pattern; any other operand there is evaluated
+abbrev pub right_operand : Bool → Expr → Run Value → Run Value
+right_operand true (Ere text) evaluated = ret (value.Text text)
+right_operand takes e evaluated = evaluated
+
+-- an expression gives a value; operands go from left to right. An ERE alone is whether the record has a match of it
 unfoldable pub E : Expr → Run Value
 E (Number n) = ret (value.Number n)
 E (String bytes) = ret (value.Text bytes)
+E (Ere text) = current_text >>= λ v. lift (applied Matches v (value.Text text))
 E (Name x) = read_name x
 E (Group e) = E e
 E (Field e) = E e >>= λ v. field_at v
 E (Unary o e) = E e >>= λ v. lift (changed o v)
-E (Binary o a b) = E a >>= λ x. E b >>= λ y. lift (applied o x y)
+E (Binary o a b) = E a >>= λ x. right_operand (takes_pattern o) b (E b) >>= λ y. lift (applied o x y)
 -- what an assignment gives is what its name then has
 E (Assign x e) = E e >>= λ v. put x v >>= λ _. read_name x
 

@@ -2,7 +2,7 @@
 -- (POSIX awk, Variables and Special Variables).
 use Rattle.std.specs.Prelude.{ℕ, Bool, true, false, ◌&&◌, ◌||◌, not, ◌≡◌, List, [], ◌∷◌, ◌++◌, map, filter, codes, bytes_eq}
 use Rattle.awk_lex.specs.Words.{is_left_out}
-use Rattle.awk_syntax.specs.Tree.{Expr, Number, String, Name, Group, Field, Unary, Binary, Assign, Exprs, Nil, Cons, Statement, Block, Evaluate, Print, Statements, NoMore, Then, Item, Begin, Always, Short, Rule}
+use Rattle.awk_syntax.specs.Tree.{Expr, Number, String, Ere, Name, Group, Field, Unary, Binary, Assign, Exprs, Nil, Cons, Statement, Block, Evaluate, Print, Statements, NoMore, Then, Item, Begin, Always, Short, Rule}
 
 -- a name, and whether it is used as an array there or as a scalar
 pub record Use : Type 0 where
@@ -17,6 +17,7 @@ scalar x = record { name = x; is_array = false }
 abbrev pub uses_in_expr : Expr → List Use
 uses_in_expr (Number n) = []
 uses_in_expr (String bytes) = []
+uses_in_expr (Ere text) = []
 uses_in_expr (Name x) = scalar x ∷ []
 uses_in_expr (Group e) = uses_in_expr e
 uses_in_expr (Field e) = uses_in_expr e

@@ -18,3 +18,5 @@ pub mod Requests
 pub mod Specials
 pub mod VariableFaults
 pub mod Misuse
+pub mod Patterns
+pub mod Compiled

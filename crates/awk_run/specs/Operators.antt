@@ -3,11 +3,13 @@ use Rattle.std.specs.Prelude.{ℕ, ℤ, pos, Bool, true, false, not, List, [], �
 use Rattle.std.specs.declared.cmp.Ordering.{Ordering}
 use Rattle.std.specs.declared.cmp.Ordering.TheVariants as ordering
 use Rattle.awk_value.specs.declared.value.Value.{Value}
-use Rattle.awk_value.specs.declared.value.Value.TheVariants.{Number}
+use Rattle.awk_value.specs.declared.value.Value.TheVariants.{Number, Text}
 use Rattle.awk_value.specs.declared.fault.ValueFault.{ValueFault}
 use Rattle.awk_value.specs.declared.fault.ValueFault.TheVariants as value
-use Rattle.awk_value.specs.Arithmetic.{product_of, sum_of, difference_of, remainder_of, negative_of}
+use Rattle.awk_value.specs.Arithmetic.{product_of, sum_of, difference_of, quotient_of, remainder_of, negative_of}
 use Rattle.awk_value.specs.Values.{num_of, str_of, truth_of, order_of, number_value, from_numbers, from_number}
+use Rattle.awk_ere.specs.declared.fault.PatternFault.{PatternFault}
+use Rattle.awk_ere.specs.declared.fault.PatternFault.TheVariants as patterns
 use Rattle.awk_record.specs.declared.fault.RecordFault.{RecordFault}
 use Rattle.awk_record.specs.declared.fault.RecordFault.TheVariants as fields
 use Rattle.awk_record.specs.Record.{RecordPair, field_of}
@@ -16,12 +18,13 @@ use Rattle.awk_streams.specs.declared.fault.StreamFault.TheVariants as streams
 use Rattle.awk_syntax.specs.declared.tree.UnaryOperator.{UnaryOperator}
 use Rattle.awk_syntax.specs.declared.tree.UnaryOperator.TheVariants as unary
 use Rattle.awk_syntax.specs.declared.tree.BinaryOperator.{BinaryOperator}
-use Rattle.awk_syntax.specs.declared.tree.BinaryOperator.TheVariants.{Times, Remainder, Plus, Minus, Less, LessEqual, Equal, NotEqual, Greater, GreaterEqual}
+use Rattle.awk_syntax.specs.declared.tree.BinaryOperator.TheVariants.{Times, Divide, Remainder, Plus, Minus, Concatenate, Less, LessEqual, Equal, NotEqual, Greater, GreaterEqual, Matches, NotMatches}
 use Rattle.awk_run.specs.declared.variables.fault.VariableFault.{VariableFault}
 use Rattle.awk_run.specs.declared.variables.fault.VariableFault.TheVariants as variables
 use Rattle.awk_run.specs.declared.outcome.Fault.{Fault}
 use Rattle.awk_run.specs.declared.outcome.Fault.TheVariants as fault
 use Rattle.awk_run.specs.State.{Stop, Faulted}
+use Rattle.awk_run.specs.Patterns.{matched}
 
 -- the faults of the crates below, by their numbers
 abbrev pub value_fault : ValueFault → Fault
@@ -46,6 +49,12 @@ abbrev pub variable_fault : VariableFault → Fault
 variable_fault variables.Memory = fault.OutOfMemory
 variable_fault variables.Pattern = fault.PatternRefused
 
+abbrev pub pattern_fault : PatternFault → Fault
+pattern_fault patterns.Memory = fault.OutOfMemory
+pattern_fault patterns.IllFormed = fault.PatternRefused
+pattern_fault patterns.BadCount = fault.PatternRefused
+pattern_fault patterns.TooLarge = fault.PatternRefused
+
 abbrev pub of_values : {A : Type 0} → Result A ValueFault → Result A Stop
 of_values (Ok a) = Ok a
 of_values (Err f) = Err (Faulted (value_fault f))
@@ -57,9 +66,13 @@ of_record (Err f) = Err (Faulted (record_fault f))
 -- whether two values in this order are so related
 abbrev pub relates : BinaryOperator → Ordering → Bool
 relates Times o = false
+relates Divide o = false
 relates Remainder o = false
 relates Plus o = false
 relates Minus o = false
+relates Concatenate o = false
+relates Matches o = false
+relates NotMatches o = false
 relates Less ordering.Less = true
 relates Less o = false
 relates LessEqual ordering.Greater = false
@@ -82,12 +95,20 @@ changed unary.Not v = Ok (truth_value (not (truth_of v)))
 changed unary.Plus v = of_values (number_value (num_of v))
 changed unary.Minus v = of_values (from_number negative_of (num_of v))
 
--- an operator between two values: a number, or 1 or 0 for a comparison
+abbrev pub of_match : (Bool → Bool) → Result Bool Stop → Result Value Stop
+of_match f (Ok b) = Ok (truth_value (f b))
+of_match f (Err stop) = Err stop
+
+-- an operator between two values: a number, a text, or 1 or 0. The text right of a `~` is read as a pattern
 abbrev pub applied : BinaryOperator → Value → Value → Result Value Stop
 applied Times x y = of_values (from_numbers product_of (num_of x) (num_of y))
+applied Divide x y = of_values (from_numbers quotient_of (num_of x) (num_of y))
 applied Remainder x y = of_values (from_numbers remainder_of (num_of x) (num_of y))
 applied Plus x y = of_values (from_numbers sum_of (num_of x) (num_of y))
 applied Minus x y = of_values (from_numbers difference_of (num_of x) (num_of y))
+applied Concatenate x y = Ok (Text (str_of x ++ str_of y))
+applied Matches x y = of_match (λ b. b) (matched (str_of y) (str_of x))
+applied NotMatches x y = of_match not (matched (str_of y) (str_of x))
 applied o x y = Ok (truth_value (relates o (order_of x y)))
 
 -- the field of a record whose number is a value's

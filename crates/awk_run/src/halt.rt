@@ -1,12 +1,13 @@
 // Why a run ends before its end.
 
 ghost use Rattle.std.specs.Prelude.{◌≡◌};
-ghost use Rattle.awk_run.specs.Operators.{value_fault, record_fault, stream_fault, variable_fault};
+ghost use Rattle.awk_run.specs.Operators.{value_fault, record_fault, stream_fault, pattern_fault, variable_fault};
 ghost use Rattle.awk_run.specs.declared.halt.Halt.TheVariants.{Fault as FaultHalt};
 ghost use Rattle.awk_run.specs.declared.outcome.Fault.TheVariants.{OutOfMemory};
 
 use crate::outcome::Fault;
 use crate::variables::VariableFault;
+use awk_ere::PatternFault;
 use awk_record::RecordFault;
 use awk_streams::StreamFault;
 use awk_value::ValueFault;
@@ -56,6 +57,19 @@ impl From<RecordFault> for Halt {
             RecordFault::FieldNumber => Fault::FieldNumberOutOfRange,
             RecordFault::SeparatorTooLong => Fault::RecordSeparatorTooLong,
             RecordFault::RecordTooLong => Fault::RecordTooLong,
+        })
+    }
+}
+
+impl From<PatternFault> for Halt {
+    ghost from_gives = { λ fault h. h ≡ FaultHalt (pattern_fault fault) };
+
+    fn from(fault: PatternFault) -> Halt {
+        Halt::Fault(match fault {
+            PatternFault::Memory => Fault::OutOfMemory,
+            PatternFault::IllFormed | PatternFault::BadCount | PatternFault::TooLarge => {
+                Fault::PatternRefused
+            }
         })
     }
 }

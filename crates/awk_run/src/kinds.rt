@@ -41,7 +41,7 @@ impl Misuse {
         ensures { Adds self.old self.new (uses_in_expr (expr_of e.now)) }
     {
         match e {
-            Expr::Number(_) | Expr::String(_) => {}
+            Expr::Number(_) | Expr::String(_) | Expr::Ere(_) => {}
             Expr::Name(name) => self.add_scalar(name.as_slice()),
             Expr::Group(e) | Expr::Field(e) | Expr::Unary(_, e) => self.add_expr(e),
             Expr::Binary(_, a, b) => {

@@ -2,6 +2,7 @@
 #![tactic(auto)]
 
 mod arguments;
+mod compiled;
 mod expressions;
 mod halt;
 mod inputs;
@@ -10,6 +11,7 @@ pub mod laws;
 mod line;
 mod machine;
 mod outcome;
+mod patterns;
 mod run;
 mod start;
 mod statements;

@@ -1,21 +1,26 @@
 // The state of a run, and what it can do by itself.
 
-ghost use Rattle.std.specs.Prelude.{◌≡◌, pos, codes, bytes_eq, IfOk, IfErr};
-ghost use Rattle.awk_run.specs.Operators.{raised};
+ghost use Rattle.std.specs.Prelude.{◌≡◌, pos, true, codes, bytes_eq, IfOk, IfErr};
+ghost use Rattle.awk_syntax.specs.Tree.{Ere as Pattern};
+ghost use Rattle.awk_value.specs.declared.value.Value.TheVariants.{Text};
+ghost use Rattle.awk_run.specs.State.{lift};
+ghost use Rattle.awk_run.specs.Operators.{applied, raised};
 ghost use Rattle.awk_run.specs.Variables.{name_of};
 ghost use Rattle.awk_run.specs.Words.{read_name, put, count_in, field_at, current_text, set_record, show_values, be_served, begin_input};
-ghost use Rattle.awk_run.specs.Effect.{begin_record};
+ghost use Rattle.awk_run.specs.Effect.{begin_record, takes_pattern};
 ghost use Rattle.awk_run.specs.Start.{start_values};
-ghost use Rattle.awk_run.specs.Does.{seen, Matches, Spends, Changes, Follows, IsWantOfMemory, IsStart};
+ghost use Rattle.awk_run.specs.Does.{seen, Matches, Evaluates, Spends, Changes, Follows, IsWantOfMemory, IsStart};
 
 use crate::arguments::Arguments;
 use crate::expressions;
 use crate::halt::Halt;
 use crate::line::make_line;
+use crate::patterns::Patterns;
 use crate::start::Start;
 use crate::variables::{Special, Variables};
 use awk_record::Record;
 use awk_streams::{Streams, World};
+use awk_syntax::tree::{BinaryOperator, Ere};
 use awk_value::{Bytes, Value, add, number_of};
 use std::alloc::Global;
 
@@ -28,6 +33,7 @@ pub struct Machine {
     pub variables: Variables,
     pub arguments: Arguments,
     pub streams: Streams,
+    pub patterns: Patterns,
     /// The steps left.
     pub steps: u64,
     /// The line that a print makes, kept for its room.
@@ -69,6 +75,7 @@ impl Machine {
             variables,
             arguments,
             streams: Streams::new(alloc),
+            patterns: Patterns::new(alloc)?,
             steps: limit,
             line: Vec::new(alloc),
         })
@@ -148,6 +155,34 @@ impl Machine {
         ensures { Changes current_text self.old self.new result }
     {
         Ok(Value::Input(self.current.text()?))
+    }
+
+    /// What an operator makes of two values.
+    pub fn apply(&mut self, operator: BinaryOperator, x: &Value, y: &Value) -> Result<Value, Halt>
+        ensures { Changes (lift (applied operator x.now y.now)) self.old self.new result }
+    {
+        expressions::apply(operator, x, y, &mut self.patterns, self.alloc)
+    }
+
+    /// What `~` and `!~` make of a value and of a pattern that stands in the program.
+    pub fn apply_ere(
+        &mut self,
+        operator: BinaryOperator,
+        x: &Value,
+        ere: &Ere,
+    ) -> Result<Value, Halt>
+        requires { takes_pattern operator ≡ true }
+        ensures { Changes (lift (applied operator x.now (Text ere.now.text))) self.old self.new result }
+    {
+        expressions::apply_ere(operator, x, ere, &mut self.patterns, self.alloc)
+    }
+
+    /// Whether the record has a match of a pattern that stands in the program, as 1 or 0.
+    pub fn record_matches(&mut self, ere: &Ere) -> Result<Value, Halt>
+        ensures { Evaluates (Pattern ere.now.text) self.old self.new result }
+    {
+        let record = self.text()?;
+        self.apply_ere(BinaryOperator::Matches, &record, ere)
     }
 
     /// Makes the text the record at hand.

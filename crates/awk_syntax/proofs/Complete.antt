@@ -1,16 +1,19 @@
 -- A leveled expression that is spelled is the one that is read.
-use Rattle.std.proofs.Common.{◌≡◌, ℕ, zero, suc, ◌≤◌, ◌<◌, Bool, true, false, ◌&&◌, ◌||◌, List, [], ◌∷◌, Option, refl, sym, ap, ◌∙◌, subst, arith}
+use Rattle.std.proofs.Common.{◌≡◌, ℕ, zero, suc, ◌≤◌, ◌<◌, Bool, true, false, ◌&&◌, ◌||◌, List, [], ◌∷◌, Option, Some, refl, sym, ap, ◌∙◌, subst, arith}
 use Rattle.std.proofs.lemmas.Bool.{and_from, le-leb, lt-leb, and_right}
+use Rattle.std.proofs.lemmas.Option.{same_Some}
+use Rattle.awk_lex.specs.declared.token.Operator.{Operator}
 use Rattle.awk_lex.specs.declared.token.Operator.TheVariants as s
 use Rattle.awk_lex.specs.declared.token.Kind.{Kind}
+use Rattle.awk_lex.specs.declared.token.Assignment.TheVariants as assign
 use Rattle.awk_lex.specs.declared.token.Kind.TheVariants as t
 use Rattle.awk_syntax.specs.declared.tree.UnaryOperator.{UnaryOperator}
 use Rattle.awk_syntax.specs.declared.tree.UnaryOperator.TheVariants as p
 use Rattle.awk_syntax.specs.declared.tree.BinaryOperator.{BinaryOperator}
 use Rattle.awk_syntax.specs.declared.tree.BinaryOperator.TheVariants as o
-use Rattle.awk_syntax.specs.Tree.{Expr, Number, String, Name, Group, Field, Unary, Binary, Assign, Exprs, Nil, Cons, Print}
+use Rattle.awk_syntax.specs.Tree.{Expr, Number, String, Ere, Name, Group, Field, Unary, Binary, Assign, Exprs, Nil, Cons, Print}
 use Rattle.awk_syntax.specs.Level.{level_of, left, right, is_greater, level, is_assignable, Leveled, AllLeveled}
-use Rattle.awk_syntax.specs.Spelling.{newlines, operator_of, prefix_of, Joined, Spells, SpellsList}
+use Rattle.awk_syntax.specs.Spelling.{newlines, operator_of, prefix_of, is_signed, Joined, Spells, SpellsList}
 use Rattle.awk_syntax.specs.Machine.{Part, name, append, no_exprs, one_more, printed, Role, Infix, Ends, role, Frame, InGroup, InUnary, InBinary, InAssign, InPrint, hole, hole_of, keeps, fill, takes, settle, when, Expect, Ready, Named, Selects, Prints, end_with, go_on, follow, step, whole, answer}
 use Rattle.awk_syntax.proofs.Limits.{test_true, test_false, pruned, pruned_list, pruned_statement, group-pruned, field-pruned, prefixed-pruned, joined-pruned, assigned-pruned, one_more-pruned, printed-pruned}
 
@@ -23,6 +26,7 @@ next g (y ∷ ts) = role g y
 abbrev pub Stops : ℕ → Role → Expr → Type 0
 Stops m r (Number n) = Unit {0}
 Stops m r (String bytes) = Unit {0}
+Stops m r (Ere text) = Unit {0}
 Stops m r (Name x) = Unit {0}
 Stops m r (Group e) = Unit {0}
 Stops m r (Field e) = Unit {0}
@@ -33,7 +37,7 @@ Stops m r (Assign x e) = (takes r (pruned m e) 16 ≡ false) × Stops m r e
 -- `=` follows: a name may be assigned then
 abbrev pub assigns : List Kind → Bool
 assigns [] = false
-assigns (t.Assign ∷ ts) = true
+assigns (t.Assign assign.Plain ∷ ts) = true
 assigns (y ∷ ts) = false
 
 -- what is known of the table
@@ -90,7 +94,7 @@ settled : (m : ℕ) (r : Role) (e : Part) (k : List Frame) → takes r e (hole_o
 settled m r e [] h = refl
 settled m r e (f ∷ k) h = test_true _ _ _ (or_left (takes r e (hole f)) (keeps f) h)
 
-extends : (m : ℕ) (x : Kind) (r : Role) (g : Bool) (e : Part) (k : List Frame) → role g x ≡ r → takes r e (hole_of k) ≡ true → step m (Ready g e k) x ≡ go_on r g e k
+extends : (m : ℕ) (x : Kind) (r : Role) (g : Bool) (e : Part) (k : List Frame) → role g x ≡ r → takes r e (hole_of k) ≡ true → step m (Ready g e k) x ≡ go_on m r x g e k
 extends m x r g e k q h =
     ap (λ z. follow m z x g (settle m z e k)) q ∙ ap (follow m r x g) (settled m r e k h) ∙ test_true _ _ _ h
 
@@ -99,29 +103,59 @@ over_newlines m zero g k ts = refl
 over_newlines m (suc n) g k ts = over_newlines m n g k ts
 
 -- the flag matters at `>` alone
-role_by : (g : Bool) (o : BinaryOperator) → (g && is_greater o) ≡ false → role g (t.Operator (operator_of o)) ≡ Infix o
-role_by true o.Greater h = absurd (cc)
-role_by false o.Greater h = refl
-role_by g o h = refl
+role_by : (g : Bool) (o : BinaryOperator) (x : Operator) → operator_of o ≡ Some x → (g && is_greater o) ≡ false → role g (t.Operator x) ≡ Infix o
+role_by true o.Greater x q h = absurd (cc)
+role_by g o.Concatenate x q h = absurd (cc)
+role_by g o x q h = ap (λ z. role g (t.Operator z)) (sym (same_Some _ x q))
+
+-- an operand that begins with no sign begins with a token that goes on with the operand before it
+begins : (g : Bool) (e : Expr) (ts rest : List Kind) → Spells e ts rest → is_signed ts ≡ false → next g ts ≡ Infix o.Concatenate
+begins g (Number n) ts rest q h = ap (next g) q
+begins g (String bytes) ts rest q h = ap (next g) q
+begins g (Ere text) ts rest q h = ap (next g) q
+begins g (Name x) ts rest q h = ap (next g) q
+begins g (Group e) ts rest q h = ap (next g) q.1
+begins g (Field e) ts rest q h = ap (next g) q.1
+begins g (Unary p.Not e) ts rest q h = ap (next g) q.1
+begins g (Unary o e) ts rest q h = let z : true ≡ false = sym (ap is_signed q.1) ∙ h in absurd (cc)
+begins g (Binary o a b) ts rest q h = begins g a ts q.0 q.2 h
+begins g (Assign x e) ts rest q h = ap (next g) q.1
+
+-- what stands behind a left operand goes on with it
+goes_on : (o : BinaryOperator) (g : Bool) (b : Expr) (u v rest : List Kind) → Joined (operator_of o) u v → Spells b v rest → (g && is_greater o) ≡ false → next g u ≡ Infix o
+goes_on o.Concatenate g b u v rest j q n = ap (next g) j.0 ∙ begins g b v rest q j.1
+goes_on o g b u v rest j q n = ap (next g) j ∙ role_by g o _ refl n
+
+concatenates : (m : ℕ) (g : Bool) (a : Part) (k : List Frame) (v : List Kind) → next g v ≡ Infix o.Concatenate → a.rank ≤ 8 → 8 ≤ hole_of k → answer m (Ready g a k) v ≡ answer m (Expect false g (InBinary o.Concatenate a ∷ k)) v
+concatenates m g a k [] q la lo = absurd (cc)
+concatenates m g a k (y ∷ v) q la lo =
+    ap (λ s. answer m s v) (extends m y (Infix o.Concatenate) g a k q (and_from _ _ (le-leb a.rank 8 la) (le-leb 8 (hole_of k) lo)))
+
+operates : (m : ℕ) (o : BinaryOperator) (x : Operator) (g : Bool) (a : Part) (k : List Frame) (v : List Kind) → operator_of o ≡ Some x → (g && is_greater o) ≡ false → a.rank ≤ left o → level_of o ≤ hole_of k → answer m (Ready g a k) (t.Operator x ∷ v) ≡ answer m (Expect false g (InBinary o a ∷ k)) v
+operates m o.Concatenate x g a k v q n la lo = absurd (cc)
+operates m o x g a k v q n la lo =
+    ap (λ s. answer m s v) (extends m (t.Operator x) (Infix o) g a k (role_by g o x q n) (and_from _ _ (le-leb a.rank (left o) la) (le-leb (level_of o) (hole_of k) lo)))
 
 -- from a left operand to the right one
-joins : (m : ℕ) (o : BinaryOperator) (g : Bool) (a : Part) (k : List Frame) (u v : List Kind) → Joined o u v → (g && is_greater o) ≡ false → a.rank ≤ left o → level_of o ≤ hole_of k → answer m (Ready g a k) u ≡ answer m (Expect false g (InBinary o a ∷ k)) v
-joins m o g a k u v j n la lo =
-    ap (answer m (Ready g a k)) j
-    ∙ ap (λ s. answer m s v) (extends m (t.Operator (operator_of o)) (Infix o) g a k (role_by g o n) (and_from _ _ (le-leb a.rank (left o) la) (le-leb (level_of o) (hole_of k) lo)))
+joins : (m : ℕ) (o : BinaryOperator) (g : Bool) (a : Part) (b : Expr) (k : List Frame) (u v rest : List Kind) → Joined (operator_of o) u v → Spells b v rest → (g && is_greater o) ≡ false → a.rank ≤ left o → level_of o ≤ hole_of k → answer m (Ready g a k) u ≡ answer m (Expect false g (InBinary o a ∷ k)) v
+joins m o.Concatenate g a b k u v rest j q n la lo =
+    ap (answer m (Ready g a k)) j.0 ∙ concatenates m g a k v (begins g b v rest q j.1) la lo
+joins m o g a b k u v rest j q n la lo = ap (answer m (Ready g a k)) j ∙ operates m o _ g a k v refl n la lo
 
--- the left operand ends where the operator stands
-left_stops : (m : ℕ) (o : BinaryOperator) (g : Bool) (a : Expr) (u v : List Kind) → Joined o u v → (g && is_greater o) ≡ false → Leveled g a → level a ≤ left o → Stops m (next g u) a
-left_stops m o g a u v j n l h = subst (λ r. Stops m r a) (sym (ap (next g) j ∙ role_by g o n)) (stops m o g a l h)
+-- no `=` goes on with an operand
+no_assignment : (g : Bool) (o : BinaryOperator) (u : List Kind) → next g u ≡ Infix o → assigns u ≡ false
+no_assignment g o [] q = refl
+no_assignment g o (t.Assign assign.Plain ∷ u) q = absurd (cc)
+no_assignment g o (y ∷ u) q = refl
 
 -- a name that isn't assigned
 named_alone : (m : ℕ) (x : List ℕ) (g : Bool) (k : List Frame) (ts : List Kind) → assigns ts ≡ false → answer m (Named x g k) ts ≡ answer m (Ready g (name m x) k) ts
 named_alone m x g k [] h = refl
-named_alone m x g k (t.Assign ∷ ts) h = absurd (cc)
+named_alone m x g k (t.Assign assign.Plain ∷ ts) h = absurd (cc)
 named_alone m x g k (y ∷ ts) h = refl
 
 -- a name and the `=` behind it
-named_assigned : (m : ℕ) (x : List ℕ) (g : Bool) (k : List Frame) (ts : List Kind) → is_assignable x ≡ true → 16 ≤ hole_of k → answer m (Named x g k) (t.Assign ∷ ts) ≡ answer m (Expect false g (InAssign x ∷ k)) ts
+named_assigned : (m : ℕ) (x : List ℕ) (g : Bool) (k : List Frame) (ts : List Kind) → is_assignable x ≡ true → 16 ≤ hole_of k → answer m (Named x g k) (t.Assign assign.Plain ∷ ts) ≡ answer m (Expect false g (InAssign x ∷ k)) ts
 named_assigned m x g k ts a h = ap (λ b. answer m (when b (Expect false g (InAssign x ∷ k))) ts) (and_from _ _ a (le-leb 16 (hole_of k) h))
 
 -- an operator before an operand
@@ -130,13 +164,10 @@ enters_unary m p.Not s g k u = refl
 enters_unary m p.Plus s g k u = refl
 enters_unary m p.Minus s g k u = refl
 
--- the operator is no `=`
-joined_assigns : (o : BinaryOperator) (u v : List Kind) → Joined o u v → assigns u ≡ false
-joined_assigns o u v j = ap assigns j
-
 pub complete : (m : ℕ) (e : Expr) (ts rest : List Kind) (s g : Bool) (k : List Frame) → Leveled g e → Spells e ts rest → level e ≤ hole_of k → Stops m (next g rest) e → assigns rest ≡ false → answer m (Expect s g k) ts ≡ answer m (Ready g (pruned m e) k) rest
 complete m (Number n) ts rest s g k l p h z w = ap (answer m (Expect s g k)) p
 complete m (String bytes) ts rest s g k l p h z w = ap (answer m (Expect s g k)) p
+complete m (Ere text) ts rest s g k l p h z w = ap (answer m (Expect s g k)) p
 complete m (Name x) ts rest s g k l p h z w = ap (answer m (Expect s g k)) p ∙ named_alone m x g k rest w
 complete m (Group e) ts rest s g k l p h z w =
     ap (answer m (Expect s g k)) p.1
@@ -151,8 +182,9 @@ complete m (Unary o e) ts rest s g k l p h z w =
     ∙ reduced m g (InUnary o) k (pruned m e) rest refl z.0 ∙ ap (λ x. answer m (Ready g x k) rest) (prefixed-pruned m o e)
 complete m (Binary o a b) ts rest s g k l p h z w =
     let low : level a ≤ hole_of k = omega (arith, bounds o, l.0) in
-    complete m a ts p.0 s g k l.2 p.2 low (left_stops m o g a p.0 p.1 p.3 l.4 l.2 l.0) (joined_assigns o p.0 p.1 p.3)
-    ∙ joins m o g (pruned m a) k p.0 p.1 p.3 l.4 l.0 h
+    let r = goes_on o g b p.0 p.1 rest p.3 p.4 l.4 in
+    complete m a ts p.0 s g k l.2 p.2 low (subst (λ z. Stops m z a) (sym r) (stops m o g a l.2 l.0)) (no_assignment g o p.0 r)
+    ∙ joins m o g (pruned m a) b k p.0 p.1 rest p.3 p.4 l.4 l.0 h
     ∙ complete m b p.1 rest false g (InBinary o (pruned m a) ∷ k) l.3 p.4 l.1 z.1 w
     ∙ reduced m g (InBinary o (pruned m a)) k (pruned m b) rest refl z.0
     ∙ ap (λ x. answer m (Ready g x k) rest) (joined-pruned m o a b)
@@ -225,6 +257,7 @@ join_all xs = join_plus xs Nil
 abbrev pub starter : Kind → Bool
 starter (t.Number n) = true
 starter (t.String bytes) = true
+starter (t.Ere text) = true
 starter (t.Name x) = true
 starter t.OpenParenthesis = true
 starter t.Not = true
@@ -240,6 +273,7 @@ started (y ∷ ts) = starter y
 pub starts_so : (e : Expr) (ts rest : List Kind) → Spells e ts rest → started ts ≡ true
 starts_so (Number n) ts rest p = ap started p
 starts_so (String bytes) ts rest p = ap started p
+starts_so (Ere text) ts rest p = ap started p
 starts_so (Name x) ts rest p = ap started p
 starts_so (Group e) ts rest p = ap started p.1
 starts_so (Field e) ts rest p = ap started p.1

@@ -1,6 +1,10 @@
 pub mod Limits
 pub mod Complete
 pub mod Program
+pub mod Holds
+pub mod SoundOperands
+pub mod SoundStatements
 pub mod Sound
 pub mod Rows
+pub mod Readable
 pub mod Verdicts

@@ -1,6 +1,7 @@
 -- A program that is spelled is the one that is read.
 use Rattle.std.proofs.Common.{◌≡◌, ℕ, zero, suc, ◌+◌, Bool, true, false, List, [], ◌∷◌, ◌++◌, Option, Some, refl, sym, ap, ◌∙◌, subst, arith}
 use Rattle.awk_lex.specs.declared.token.Kind.{Kind}
+use Rattle.awk_lex.specs.declared.token.Keyword.TheVariants as word
 use Rattle.awk_lex.specs.declared.token.Kind.TheVariants as t
 use Rattle.awk_syntax.specs.Tree.{Expr, Exprs, Statement, Block, Evaluate, Print, Statements, NoMore, Then, Item, Begin, Always, Short, Rule}
 use Rattle.awk_syntax.specs.Height.{height_of_program}
@@ -18,7 +19,7 @@ done_newlines : (m n : ℕ) (x : Option Statement) (k : List Frame) (ts : List K
 done_newlines m zero x k ts = refl
 done_newlines m (suc n) x k ts = done_newlines m n x k ts
 
-print_ended : (m : ℕ) (xs : Exprs) (ts u rest : List Kind) (k : List Frame) → AllLeveled true xs → SpellsList xs ts u → Ended u rest → answer m (Begins k) (t.Print ∷ ts) ≡ answer m (Done (pruned_statement m (Print xs)) k) rest
+print_ended : (m : ℕ) (xs : Exprs) (ts u rest : List Kind) (k : List Frame) → AllLeveled true xs → SpellsList xs ts u → Ended u rest → answer m (Begins k) (t.Keyword word.Print ∷ ts) ≡ answer m (Done (pruned_statement m (Print xs)) k) rest
 print_ended m xs ts u rest k l p (BySemicolon n r) = print_read m xs ts t.Semicolon (newlines n r) k l p AtSemicolon ∙ done_newlines m n (pruned_statement m (Print xs)) k r
 print_ended m xs ts u rest k l p (ByNewline n r) = print_read m xs ts t.Newline (newlines n r) k l p AtNewline ∙ done_newlines m n (pruned_statement m (Print xs)) k r
 print_ended m xs ts u rest k l p (ByBrace r) = print_read m xs ts t.CloseBrace r k l p AtBrace
@@ -28,7 +29,7 @@ statement_enters m k [] h = absurd (cc)
 statement_enters m k (t.Newline ∷ ts) h = absurd (cc)
 statement_enters m k (t.OpenBrace ∷ ts) h = absurd (cc)
 statement_enters m k (t.CloseBrace ∷ ts) h = absurd (cc)
-statement_enters m k (t.Print ∷ ts) h = absurd (cc)
+statement_enters m k (t.Keyword word.Print ∷ ts) h = absurd (cc)
 statement_enters m k (y ∷ ts) h = refl
 
 expr_ended : (m : ℕ) (e : Expr) (ts u rest : List Kind) (k : List Frame) → Leveled false e → Spells e ts u → Ended u rest → answer m (Expect false false (InStatement ∷ k)) ts ≡ answer m (Done (evaluated m (pruned m e)) k) rest
@@ -121,7 +122,7 @@ item_enters : (m : ℕ) (k : List Frame) (ts : List Kind) → started ts ≡ tru
 item_enters m k [] h = absurd (cc)
 item_enters m k (t.Semicolon ∷ ts) h = absurd (cc)
 item_enters m k (t.Newline ∷ ts) h = absurd (cc)
-item_enters m k (t.Begin ∷ ts) h = absurd (cc)
+item_enters m k (t.Keyword word.Begin ∷ ts) h = absurd (cc)
 item_enters m k (t.OpenBrace ∷ ts) h = absurd (cc)
 item_enters m k (y ∷ ts) h = refl
 

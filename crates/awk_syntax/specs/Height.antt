@@ -1,7 +1,7 @@
 -- The height of a tree: how many nodes lie on the longest way down. Items, blocks, statements and expressions are
 -- nodes; a list is none. An item's block is a node under the item, a block that is a statement is one node.
 use Rattle.std.specs.Prelude.{ℕ, ◌+◌, max, List, [], ◌∷◌}
-use Rattle.awk_syntax.specs.Tree.{Expr, Number, String, Name, Group, Field, Unary, Binary, Assign, Exprs, Nil, Cons, Statement, Block, Evaluate, Print, Statements, NoMore, Then, Item, Begin, Always, Short, Rule}
+use Rattle.awk_syntax.specs.Tree.{Expr, Number, String, Ere, Name, Group, Field, Unary, Binary, Assign, Exprs, Nil, Cons, Statement, Block, Evaluate, Print, Statements, NoMore, Then, Item, Begin, Always, Short, Rule}
 
 -- no program is higher
 abbrev pub most_height : ℕ
@@ -10,6 +10,7 @@ most_height = 200
 abbrev pub height_of : Expr → ℕ
 height_of (Number n) = 1
 height_of (String bytes) = 1
+height_of (Ere text) = 1
 height_of (Name x) = 1
 height_of (Group e) = 1 + height_of e
 height_of (Field e) = 1 + height_of e

@@ -5,12 +5,14 @@ use Rattle.std.specs.Prelude.{ℕ, ℤ, Bool, true, false, nat_le, ◌&&◌, ◌
 use Rattle.awk_lex.specs.declared.token.Operator.{Operator}
 use Rattle.awk_lex.specs.declared.token.Operator.TheVariants as s
 use Rattle.awk_lex.specs.declared.token.Kind.{Kind}
+use Rattle.awk_lex.specs.declared.token.Keyword.TheVariants as word
+use Rattle.awk_lex.specs.declared.token.Assignment.TheVariants as assign
 use Rattle.awk_lex.specs.declared.token.Kind.TheVariants as t
 use Rattle.awk_syntax.specs.declared.tree.UnaryOperator.{UnaryOperator}
 use Rattle.awk_syntax.specs.declared.tree.UnaryOperator.TheVariants as p
 use Rattle.awk_syntax.specs.declared.tree.BinaryOperator.{BinaryOperator}
 use Rattle.awk_syntax.specs.declared.tree.BinaryOperator.TheVariants as o
-use Rattle.awk_syntax.specs.Tree.{Expr, Number, String, Name, Group, Field, Unary, Binary, Assign, Exprs, Nil, Cons, Statement, Block, Evaluate, Print, Statements, NoMore, Then, Item, Begin, Always, Short, Rule}
+use Rattle.awk_syntax.specs.Tree.{Expr, Number, String, Ere, Name, Group, Field, Unary, Binary, Assign, Exprs, Nil, Cons, Statement, Block, Evaluate, Print, Statements, NoMore, Then, Item, Begin, Always, Short, Rule}
 use Rattle.awk_syntax.specs.Height.{height_of, tallest, height_of_statement, tallest_of, height_of_item, height_of_program}
 use Rattle.awk_syntax.specs.Level.{level_of, left, right, is_assignable}
 
@@ -38,6 +40,9 @@ number m n = record { rank = 0; tree = limited m 1 (Number n) }
 
 abbrev pub string : ℕ → List ℕ → Part
 string m bytes = record { rank = 0; tree = limited m 1 (String bytes) }
+
+abbrev pub ere : ℕ → List ℕ → Part
+ere m text = record { rank = 0; tree = limited m 1 (Ere text) }
 
 abbrev pub name : ℕ → List ℕ → Part
 name m x = record { rank = 0; tree = limited m 1 (Name x) }
@@ -96,13 +101,15 @@ evaluated m e = over_one m height_of_statement Evaluate e.tree
 abbrev pub block : ℕ → Option Statements → Option Statement
 block m all = over_one m height_of_statement Block all
 
--- what a token does after an operand
+-- What a token does after an operand: it goes on with it as a left operand, or ends it. A token that begins an
+-- operand, and is no sign, goes on with it in a concatenation.
 pub data Role : Type 0 where
   Infix : (o : BinaryOperator) → Role
   Ends : Role
 
 abbrev pub operate : Operator → Bool → Role
 operate s.Times g = Infix o.Times
+operate s.Divide g = Infix o.Divide
 operate s.Remainder g = Infix o.Remainder
 operate s.Plus g = Infix o.Plus
 operate s.Minus g = Infix o.Minus
@@ -113,10 +120,20 @@ operate s.NotEqual g = Infix o.NotEqual
 operate s.Greater true = Ends
 operate s.Greater false = Infix o.Greater
 operate s.GreaterEqual g = Infix o.GreaterEqual
+operate s.Matches g = Infix o.Matches
+operate s.NotMatches g = Infix o.NotMatches
+operate x g = Ends
 
 -- g: in a bare print list
 abbrev pub role : Bool → Kind → Role
 role g (t.Operator x) = operate x g
+role g (t.Number n) = Infix o.Concatenate
+role g (t.String bytes) = Infix o.Concatenate
+role g (t.Ere text) = Infix o.Concatenate
+role g (t.Name x) = Infix o.Concatenate
+role g t.OpenParenthesis = Infix o.Concatenate
+role g t.Not = Infix o.Concatenate
+role g t.Dollar = Infix o.Concatenate
 role g y = Ends
 
 -- what stands before an action
@@ -214,6 +231,7 @@ when false x = Failed
 abbrev pub enter : ℕ → Kind → Bool → Bool → List Frame → State
 enter m (t.Number n) s g k = Ready g (number m n) k
 enter m (t.String bytes) s g k = Ready g (string m bytes) k
+enter m (t.Ere text) s g k = Ready g (ere m text) k
 enter m (t.Name x) s g k = Named x g k
 enter m t.OpenParenthesis s g k = Expect false false (InGroup g ∷ k)
 enter m t.Not s g k = Expect false g (InUnary p.Not ∷ k)
@@ -240,7 +258,7 @@ abbrev pub begin : ℕ → Kind → List Frame → State
 begin m t.Newline k = Begins k
 begin m t.OpenBrace k = Begins (InBlock (no_statements m) ∷ k)
 begin m t.CloseBrace k = close_block m k
-begin m t.Print k = Prints k
+begin m (t.Keyword word.Print) k = Prints k
 begin m y k = enter m y false false (InStatement ∷ k)
 
 -- a statement is done, and the next token isn't a newline
@@ -279,18 +297,19 @@ close m y e (InPattern ∷ k) = close_pattern m y e k
 close m y e k = Failed
 
 -- after an operand that is settled
-abbrev pub go_on : Role → Bool → Part → List Frame → State
-go_on (Infix o) g e k = Expect false g (InBinary o e ∷ k)
-go_on Ends g e k = Failed
+abbrev pub go_on : ℕ → Role → Kind → Bool → Part → List Frame → State
+go_on m (Infix o.Concatenate) y g e k = enter m y false g (InBinary o.Concatenate e ∷ k)
+go_on m (Infix o) y g e k = Expect false g (InBinary o e ∷ k)
+go_on m Ends y g e k = Failed
 
 abbrev pub follow : ℕ → Role → Kind → Bool → Held → State
-follow m r y g h = if takes r h.part (hole_of h.stack) then go_on r g h.part h.stack else close m y h.part h.stack
+follow m r y g h = if takes r h.part (hole_of h.stack) then go_on m r y g h.part h.stack else close m y h.part h.stack
 
 abbrev pub after : ℕ → Bool → Part → List Frame → Kind → State
 after m g e k y = follow m (role g y) y g (settle m (role g y) e k)
 
 abbrev pub named : ℕ → List ℕ → Bool → List Frame → Kind → State
-named m x g k t.Assign = when (is_assignable x && nat_le 16 (hole_of k)) (Expect false g (InAssign x ∷ k))
+named m x g k (t.Assign assign.Plain) = when (is_assignable x && nat_le 16 (hole_of k)) (Expect false g (InAssign x ∷ k))
 named m x g k y = after m g (name m x) k y
 
 abbrev pub prints : ℕ → List Frame → Kind → State
@@ -310,7 +329,7 @@ opens m k y = Failed
 abbrev pub item : ℕ → List Frame → Kind → State
 item m k t.Semicolon = Between k
 item m k t.Newline = Between k
-item m k t.Begin = Opens k
+item m k (t.Keyword word.Begin) = Opens k
 item m k t.OpenBrace = Begins (InAction OfAll (no_statements m) ∷ k)
 item m k y = enter m y false false (InPattern ∷ k)
 

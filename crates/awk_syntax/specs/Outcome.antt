@@ -1,13 +1,16 @@
 -- What reading tokens answers.
-use Rattle.std.specs.Prelude.{◌≡◌, ◌<◌, List, Result, Ok, Err}
+use Rattle.std.specs.Prelude.{◌≡◌, ◌<◌, ◌≤◌, ℕ, List, Result, Ok, Err}
+use Rattle.awk_lex.specs.Told.{kinds_of}
 use Rattle.awk_lex.specs.declared.token.Kind.{Kind}
+use Rattle.awk_lex.specs.declared.token.Token.{Token}
 use Rattle.awk_lex.specs.declared.refusal.Refusal.{Refusal}
 use Rattle.awk_lex.specs.declared.refusal.Code.{Code}
-use Rattle.awk_lex.specs.declared.refusal.Code.TheVariants.{UnexpectedByte, OpenString, EscapeRefused, NumberRefused, ProgramTooLong, NotAProgram, NestedTooDeep, ArrayAndScalar, NameLeftOut, OutOfMemory}
+use Rattle.awk_lex.specs.declared.refusal.Code.TheVariants.{NotAProgram, NestedTooDeep, PatternIllFormed, PatternCountRefused, PatternTooLarge, OutOfMemory}
 use Rattle.awk_lex.specs.Refused.{IsOutOfMemory}
 use Rattle.awk_syntax.specs.Tree.{Item}
 use Rattle.awk_syntax.specs.Height.{most_height, height_of_program}
 use Rattle.awk_syntax.specs.Spelling.{IsProgram}
+use Rattle.awk_syntax.specs.Patterns.{IsLeftmostRefused}
 use Rattle.awk_syntax.specs.View.{tree_of}
 use Rattle.awk_syntax.specs.declared.tree.Tree.{Tree}
 
@@ -16,17 +19,22 @@ abbrev pub Reads : Result Tree Refusal → List Item → Type 0
 Reads (Ok tree) items = tree_of tree ≡ items
 Reads (Err refusal) items = IsOutOfMemory refusal
 
--- why the tokens are refused with this code
-abbrev pub Justifies : Code → List Kind → Type 0
+-- these are the items of the tokens, and not too high
+abbrev pub IsLowProgram : List Kind → List Item → Type 0
+IsLowProgram ts items = IsProgram ts items × (height_of_program items ≤ most_height)
+
+-- the tokens are a program that is not too high, and the leftmost of its EREs that are not readable is refused
+abbrev pub RefusesPattern : Code → ℕ → List Token → Type 0
+RefusesPattern code line tokens = ((items : List Item) × IsLowProgram (kinds_of tokens) items) × IsLeftmostRefused code line tokens
+
+-- why the tokens are refused with this code and this line
+abbrev pub Justifies : Code → ℕ → List Token → Type 0
 -- no tree spells them, however high
-Justifies NotAProgram ts = (items : List Item) → IsProgram ts items → ⊥
+Justifies NotAProgram line tokens = (items : List Item) → IsProgram (kinds_of tokens) items → ⊥
 -- one does, and is too high
-Justifies NestedTooDeep ts = (items : List Item) × IsProgram ts items × (most_height < height_of_program items)
-Justifies OutOfMemory ts = Unit {0}
-Justifies UnexpectedByte ts = ⊥
-Justifies OpenString ts = ⊥
-Justifies EscapeRefused ts = ⊥
-Justifies NumberRefused ts = ⊥
-Justifies ProgramTooLong ts = ⊥
-Justifies ArrayAndScalar ts = ⊥
-Justifies NameLeftOut ts = ⊥
+Justifies NestedTooDeep line tokens = (items : List Item) × IsProgram (kinds_of tokens) items × (most_height < height_of_program items)
+Justifies PatternIllFormed line tokens = RefusesPattern PatternIllFormed line tokens
+Justifies PatternCountRefused line tokens = RefusesPattern PatternCountRefused line tokens
+Justifies PatternTooLarge line tokens = RefusesPattern PatternTooLarge line tokens
+Justifies OutOfMemory line tokens = Unit {0}
+Justifies code line tokens = ⊥

@@ -1,31 +1,38 @@
 -- How a program is written (POSIX awk, Grammar).
-use Rattle.std.specs.Prelude.{ℕ, zero, suc, ◌≡◌, Bool, true, false, List, [], ◌∷◌}
+use Rattle.std.specs.Prelude.{ℕ, zero, suc, ◌≡◌, Bool, true, false, List, [], ◌∷◌, Option, Some, None}
 use Rattle.awk_lex.specs.declared.token.Operator.{Operator}
 use Rattle.awk_lex.specs.declared.token.Operator.TheVariants as s
 use Rattle.awk_lex.specs.declared.token.Kind.{Kind}
+use Rattle.awk_lex.specs.declared.token.Keyword.TheVariants as word
+use Rattle.awk_lex.specs.declared.token.Assignment.TheVariants as assign
 use Rattle.awk_lex.specs.declared.token.Kind.TheVariants as t
 use Rattle.awk_syntax.specs.declared.tree.UnaryOperator.{UnaryOperator}
 use Rattle.awk_syntax.specs.declared.tree.UnaryOperator.TheVariants as p
 use Rattle.awk_syntax.specs.declared.tree.BinaryOperator.{BinaryOperator}
 use Rattle.awk_syntax.specs.declared.tree.BinaryOperator.TheVariants as o
-use Rattle.awk_syntax.specs.Tree.{Expr, Number, String, Name, Group, Field, Unary, Binary, Assign, Exprs, Nil, Cons, Statement, Block, Evaluate, Print, Statements, NoMore, Then, Item, Begin, Always, Short, Rule}
+use Rattle.awk_syntax.specs.Tree.{Expr, Number, String, Ere, Name, Group, Field, Unary, Binary, Assign, Exprs, Nil, Cons, Statement, Block, Evaluate, Print, Statements, NoMore, Then, Item, Begin, Always, Short, Rule}
 use Rattle.awk_syntax.specs.Level.{ProgramLeveled}
 
 abbrev pub newlines : ℕ → List Kind → List Kind
 newlines zero ts = ts
 newlines (suc n) ts = t.Newline ∷ newlines n ts
 
-abbrev pub operator_of : BinaryOperator → Operator
-operator_of o.Times = s.Times
-operator_of o.Remainder = s.Remainder
-operator_of o.Plus = s.Plus
-operator_of o.Minus = s.Minus
-operator_of o.Less = s.Less
-operator_of o.LessEqual = s.LessEqual
-operator_of o.Equal = s.Equal
-operator_of o.NotEqual = s.NotEqual
-operator_of o.Greater = s.Greater
-operator_of o.GreaterEqual = s.GreaterEqual
+-- what stands between the operands: nothing in a concatenation
+abbrev pub operator_of : BinaryOperator → Option Operator
+operator_of o.Times = Some s.Times
+operator_of o.Divide = Some s.Divide
+operator_of o.Remainder = Some s.Remainder
+operator_of o.Plus = Some s.Plus
+operator_of o.Minus = Some s.Minus
+operator_of o.Concatenate = None
+operator_of o.Less = Some s.Less
+operator_of o.LessEqual = Some s.LessEqual
+operator_of o.Equal = Some s.Equal
+operator_of o.NotEqual = Some s.NotEqual
+operator_of o.Greater = Some s.Greater
+operator_of o.GreaterEqual = Some s.GreaterEqual
+operator_of o.Matches = Some s.Matches
+operator_of o.NotMatches = Some s.NotMatches
 
 -- the token that stands before an operand
 abbrev pub prefix_of : UnaryOperator → Kind
@@ -33,20 +40,28 @@ prefix_of p.Not = t.Not
 prefix_of p.Plus = t.Operator s.Plus
 prefix_of p.Minus = t.Operator s.Minus
 
--- from u to v the operator is written
-abbrev pub Joined : BinaryOperator → List Kind → List Kind → Type 0
-Joined o u v = u ≡ t.Operator (operator_of o) ∷ v
+-- a plus or a minus stands in front
+abbrev pub is_signed : List Kind → Bool
+is_signed (t.Operator s.Plus ∷ ts) = true
+is_signed (t.Operator s.Minus ∷ ts) = true
+is_signed ts = false
+
+-- From u to v the operator is written. Where it is nothing, the right operand begins with no sign: that would be a sum.
+abbrev pub Joined : Option Operator → List Kind → List Kind → Type 0
+Joined (Some x) u v = u ≡ t.Operator x ∷ v
+Joined None u v = (u ≡ v) × (is_signed v ≡ false)
 
 -- the tokens begin with the tree, written out from left to right, and then comes the rest
 abbrev pub Spells : Expr → List Kind → List Kind → Type 0
 Spells (Number n) ts rest = ts ≡ t.Number n ∷ rest
 Spells (String bytes) ts rest = ts ≡ t.String bytes ∷ rest
+Spells (Ere text) ts rest = ts ≡ t.Ere text ∷ rest
 Spells (Name x) ts rest = ts ≡ t.Name x ∷ rest
 Spells (Group e) ts rest = (u : List Kind) × (ts ≡ t.OpenParenthesis ∷ u) × Spells e u (t.CloseParenthesis ∷ rest)
 Spells (Field e) ts rest = (u : List Kind) × (ts ≡ t.Dollar ∷ u) × Spells e u rest
 Spells (Unary o e) ts rest = (u : List Kind) × (ts ≡ prefix_of o ∷ u) × Spells e u rest
-Spells (Binary o a b) ts rest = (u v : List Kind) × Spells a ts u × Joined o u v × Spells b v rest
-Spells (Assign x e) ts rest = (u : List Kind) × (ts ≡ t.Name x ∷ t.Assign ∷ u) × Spells e u rest
+Spells (Binary o a b) ts rest = (u v : List Kind) × Spells a ts u × Joined (operator_of o) u v × Spells b v rest
+Spells (Assign x e) ts rest = (u : List Kind) × (ts ≡ t.Name x ∷ t.Assign assign.Plain ∷ u) × Spells e u rest
 
 -- newlines may follow each comma
 abbrev pub SpellsMore : Exprs → List Kind → List Kind → Type 0
@@ -68,7 +83,7 @@ abbrev mutual
   pub SpellsStatement : Statement → List Kind → List Kind → Type 0
   SpellsStatement (Block all) ts rest = (n m : ℕ) × (u : List Kind) × (ts ≡ t.OpenBrace ∷ newlines n u) × SpellsAll all u (t.CloseBrace ∷ newlines m rest)
   SpellsStatement (Evaluate e) ts rest = (u : List Kind) × Spells e ts u × Ended u rest
-  SpellsStatement (Print xs) ts rest = (u v : List Kind) × (ts ≡ t.Print ∷ u) × SpellsList xs u v × Ended v rest
+  SpellsStatement (Print xs) ts rest = (u v : List Kind) × (ts ≡ t.Keyword word.Print ∷ u) × SpellsList xs u v × Ended v rest
 
   pub SpellsAll : Statements → List Kind → List Kind → Type 0
   SpellsAll NoMore ts rest = ts ≡ rest
@@ -85,7 +100,7 @@ is_closed (t.Newline ∷ ts) = true
 is_closed (y ∷ ts) = false
 
 abbrev pub SpellsItem : Item → List Kind → List Kind → Type 0
-SpellsItem (Begin all) ts rest = (u : List Kind) × (ts ≡ t.Begin ∷ u) × SpellsBlock all u rest
+SpellsItem (Begin all) ts rest = (u : List Kind) × (ts ≡ t.Keyword word.Begin ∷ u) × SpellsBlock all u rest
 SpellsItem (Always all) ts rest = SpellsBlock all ts rest
 SpellsItem (Short e) ts rest = Spells e ts rest × (is_closed rest ≡ true)
 SpellsItem (Rule e all) ts rest = (u : List Kind) × Spells e ts u × SpellsBlock all u rest

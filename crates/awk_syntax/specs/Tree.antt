@@ -7,6 +7,8 @@ pub data Expr : Type 0 where
   Number : (n : ℤ) → Expr
   -- a string, by the bytes that it stands for
   String : (bytes : List ℕ) → Expr
+  -- an extended regular expression, by the text between its slashes
+  Ere : (text : List ℕ) → Expr
   Name : (name : List ℕ) → Expr
   -- an expression in parentheses
   Group : (e : Expr) → Expr

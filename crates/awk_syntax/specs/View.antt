@@ -2,7 +2,7 @@
 use Rattle.std.specs.Prelude.{List, [], ◌∷◌}
 use Rattle.awk_syntax.specs.Tree as t
 use Rattle.awk_syntax.specs.declared.tree.Expr.{Expr}
-use Rattle.awk_syntax.specs.declared.tree.Expr.TheVariants.{Number, String, Name, Group', Field', Unary', Binary', Assign'}
+use Rattle.awk_syntax.specs.declared.tree.Expr.TheVariants.{Number, String, Ere, Name, Group', Field', Unary', Binary', Assign'}
 use Rattle.awk_syntax.specs.declared.tree.Statement.{Statement, Row_of-Statement, end_of-Statement, more_of-Statement}
 use Rattle.awk_syntax.specs.declared.tree.Statement.TheVariants.{Block', Expression, Print}
 use Rattle.awk_syntax.specs.declared.tree.Item.{Item}
@@ -12,6 +12,7 @@ use Rattle.awk_syntax.specs.declared.tree.Tree.{Tree}
 abbrev pub expr_of : Expr → t.Expr
 expr_of (Number n) = t.Number n
 expr_of (String bytes) = t.String bytes
+expr_of (Ere x) = t.Ere x.text
 expr_of (Name x) = t.Name x
 expr_of (Group' p e) = t.Group (expr_of e)
 expr_of (Field' p e) = t.Field (expr_of e)

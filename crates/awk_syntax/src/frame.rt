@@ -8,7 +8,7 @@ ghost use Rattle.awk_syntax.specs.Roles.{role_of};
 use crate::build::{assign, binary, field, group, unary};
 use crate::kept::{LowExpr, LowExprs, LowItems, LowStatements};
 use crate::role::Role;
-use crate::tree::{BinaryOperator, Expr, UnaryOperator};
+use crate::tree::{BinaryOperator, Ere, Expr, UnaryOperator};
 use awk_value::Bytes;
 use std::alloc::{AllocError, Global};
 
@@ -65,6 +65,19 @@ impl Part {
             rank: 0,
             tree: Some(LowExpr {
                 expr: Expr::String(bytes),
+                height: 1,
+            }),
+        }
+    }
+
+    /// An ERE.
+    pub fn ere(ere: Ere) -> Part
+        ensures { part_of result ≡ machine.ere 200 ere.text }
+    {
+        Part {
+            rank: 0,
+            tree: Some(LowExpr {
+                expr: Expr::Ere(ere),
                 height: 1,
             }),
         }

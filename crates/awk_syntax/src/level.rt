@@ -11,14 +11,16 @@ impl BinaryOperator {
         ensures { result ≡ level_of self }
     {
         match self {
-            BinaryOperator::Times | BinaryOperator::Remainder => 6,
+            BinaryOperator::Times | BinaryOperator::Divide | BinaryOperator::Remainder => 6,
             BinaryOperator::Plus | BinaryOperator::Minus => 7,
+            BinaryOperator::Concatenate => 8,
             BinaryOperator::Less
             | BinaryOperator::LessEqual
             | BinaryOperator::Equal
             | BinaryOperator::NotEqual
             | BinaryOperator::Greater
             | BinaryOperator::GreaterEqual => 10,
+            BinaryOperator::Matches | BinaryOperator::NotMatches => 11,
         }
     }
 
@@ -27,14 +29,16 @@ impl BinaryOperator {
         ensures { result ≡ left self }
     {
         match self {
-            BinaryOperator::Times | BinaryOperator::Remainder => 6,
+            BinaryOperator::Times | BinaryOperator::Divide | BinaryOperator::Remainder => 6,
             BinaryOperator::Plus | BinaryOperator::Minus => 7,
+            BinaryOperator::Concatenate => 8,
             BinaryOperator::Less
             | BinaryOperator::LessEqual
             | BinaryOperator::Equal
             | BinaryOperator::NotEqual
             | BinaryOperator::Greater
             | BinaryOperator::GreaterEqual => 9,
+            BinaryOperator::Matches | BinaryOperator::NotMatches => 10,
         }
     }
 
@@ -43,14 +47,16 @@ impl BinaryOperator {
         ensures { result ≡ right self }
     {
         match self {
-            BinaryOperator::Times | BinaryOperator::Remainder => 5,
+            BinaryOperator::Times | BinaryOperator::Divide | BinaryOperator::Remainder => 5,
             BinaryOperator::Plus | BinaryOperator::Minus => 6,
+            BinaryOperator::Concatenate => 7,
             BinaryOperator::Less
             | BinaryOperator::LessEqual
             | BinaryOperator::Equal
             | BinaryOperator::NotEqual
             | BinaryOperator::Greater
             | BinaryOperator::GreaterEqual => 9,
+            BinaryOperator::Matches | BinaryOperator::NotMatches => 10,
         }
     }
 }

@@ -8,6 +8,7 @@ mod level;
 mod machine;
 mod operands;
 pub mod parse;
+mod patterns;
 mod role;
 mod state;
 mod statements;

@@ -5,13 +5,14 @@ ghost use Rattle.awk_syntax.specs.Machine as machine;
 ghost use Rattle.awk_syntax.specs.Roles.{role_of};
 ghost use Rattle.awk_syntax.specs.Frames.{part_of, frame_of, stack_of, held};
 ghost use Rattle.awk_syntax.specs.Level as level;
+ghost use Rattle.awk_lex.specs.declared.token.Assignment.TheVariants.{Plain};
 ghost use Rattle.awk_lex.specs.declared.token.Kind.TheVariants.{Assign};
 ghost use Rattle.awk_syntax.specs.States.{next_of};
 
 use crate::frame::{Frame, Part};
 use crate::role::Role;
-use crate::state::Now;
-use crate::tree::UnaryOperator;
+use crate::state::{Next, Now};
+use crate::tree::{BinaryOperator, Ere, UnaryOperator};
 use awk_lex::token::{Kind, Operator};
 use awk_value::Bytes;
 use std::alloc::{AllocError, Global};
@@ -37,15 +38,15 @@ fn descend(frame: Frame, bare: bool, stack: &mut Vec<Frame>) -> Result<Option<No
 
 /// The token at the beginning of an operand: where the reader stands then, or none if it can't be taken.
 pub fn enter(
-    kind: &Kind,
+    next: Next,
     skips: bool,
     bare: bool,
     stack: &mut Vec<Frame>,
 ) -> Result<Option<Now>, AllocError>
     ensures { IfOk result (λ now. next_of now stack.new.items
-        ≡ machine.enter 200 kind.now skips bare (stack_of stack.old.items)) }
+        ≡ machine.enter 200 next.entry.kind.now skips bare (stack_of stack.old.items)) }
 {
-    match kind {
+    match next.kind {
         Kind::Number(n) => Ok(Some(Now::Ready {
             bare,
             part: Part::number(*n),
@@ -53,6 +54,13 @@ pub fn enter(
         Kind::String(bytes) => Ok(Some(Now::Ready {
             bare,
             part: Part::string(bytes.clone()?),
+        })),
+        Kind::Ere(text) => Ok(Some(Now::Ready {
+            bare,
+            part: Part::ere(Ere {
+                text: text.clone()?,
+                number: next.eres,
+            }),
         })),
         Kind::Name(name) => Ok(Some(Now::Named {
             bare,
@@ -71,14 +79,14 @@ pub fn enter(
 /// The token behind `$`.
 pub fn select(
     alloc: Global,
-    kind: &Kind,
+    next: Next,
     bare: bool,
     stack: &Vec<Frame>,
 ) -> Result<Option<Now>, AllocError>
     ensures { IfOk result (λ now. next_of now stack.now.items
-        ≡ machine.select 200 bare (stack_of stack.now.items) kind.now) }
+        ≡ machine.select 200 bare (stack_of stack.now.items) next.entry.kind.now) }
 {
-    let Kind::Number(n) = kind else {
+    let Kind::Number(n) = next.kind else {
         return Ok(None);
     };
     let part = Part::number(*n).into_field(alloc)?;
@@ -95,7 +103,7 @@ fn is_assignable(name: &Bytes) -> bool
 /// A name and the `=` behind it.
 pub fn assign(bare: bool, name: Bytes, stack: &mut Vec<Frame>) -> Result<Option<Now>, AllocError>
     ensures { IfOk result (λ now. next_of now stack.new.items
-        ≡ machine.named 200 name bare (stack_of stack.old.items) Assign) }
+        ≡ machine.named 200 name bare (stack_of stack.old.items) (Assign Plain)) }
 {
     if is_assignable(&name) && hole_of(stack) >= 16 {
         return descend(Frame::Assign(name), bare, stack);
@@ -106,15 +114,15 @@ pub fn assign(bare: bool, name: Bytes, stack: &mut Vec<Frame>) -> Result<Option<
 /// The token behind an expression in parentheses.
 pub fn close_group(
     alloc: Global,
-    kind: &Kind,
+    next: Next,
     outer: bool,
     part: Part,
     stack: &Vec<Frame>,
 ) -> Result<Option<Now>, AllocError>
     ensures { IfOk result (λ now. next_of now stack.now.items
-        ≡ machine.close_group 200 kind.now outer (part_of part) (stack_of stack.now.items)) }
+        ≡ machine.close_group 200 next.entry.kind.now outer (part_of part) (stack_of stack.now.items)) }
 {
-    let Kind::CloseParenthesis = kind else {
+    let Kind::CloseParenthesis = next.kind else {
         return Ok(None);
     };
     let part = part.into_group(alloc)?;
@@ -147,14 +155,19 @@ pub fn settle(
 /// Goes on with an operand that is settled.
 pub fn go_on(
     role: Role,
+    next: Next,
     bare: bool,
     part: Part,
     stack: &mut Vec<Frame>,
 ) -> Result<Option<Now>, AllocError>
     ensures { IfOk result (λ now. next_of now stack.new.items
-        ≡ machine.go_on (role_of role) bare (part_of part) (stack_of stack.old.items)) }
+        ≡ machine.go_on 200 (role_of role) next.entry.kind.now bare (part_of part) (stack_of stack.old.items)) }
 {
     match role {
+        Role::Infix(BinaryOperator::Concatenate) => {
+            stack.push(Frame::Binary(BinaryOperator::Concatenate, part))?;
+            enter(next, false, bare, stack)
+        }
         Role::Infix(operator) => descend(Frame::Binary(operator, part), bare, stack),
         Role::Ends => Ok(None),
     }

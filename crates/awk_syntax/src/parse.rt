@@ -1,22 +1,23 @@
 // Reading a whole text.
 
-ghost use Rattle.std.specs.Prelude.{◌≡◌, ◌≤◌, List, IfOk, IfErr};
+ghost use Rattle.std.specs.Prelude.{◌≡◌, List, IfOk, OnOk, IfErr};
 ghost use Rattle.awk_syntax.specs.Tree as t;
-ghost use Rattle.awk_syntax.specs.Height.{most_height, height_of_program};
 ghost use Rattle.awk_lex.specs.Told.{kinds_of};
 ghost use Rattle.awk_syntax.specs.Spelling.{IsProgram};
 ghost use Rattle.awk_syntax.specs.View.{tree_of};
-ghost use Rattle.awk_syntax.specs.Outcome.{Reads, Justifies};
+ghost use Rattle.awk_syntax.specs.Patterns.{AreReadable};
+ghost use Rattle.awk_syntax.specs.Outcome.{IsLowProgram, Reads, Justifies};
 ghost use Rattle.awk_syntax.specs.Machine as machine;
 ghost use Rattle.awk_syntax.specs.Verdict.{Gives};
 
 use crate::frame::Frame;
 use crate::kept::LowItems;
 use crate::machine::{finish, step};
-use crate::state::Now;
+use crate::patterns::check_patterns;
+use crate::state::{Next, Now};
 use crate::tree::Tree;
 use awk_lex::refusal::{Code, Refusal};
-use awk_lex::token::Token;
+use awk_lex::token::{Kind, Token};
 use std::alloc::Global;
 
 fn read(alloc: Global, tokens: &[Token]) -> Result<Tree, Refusal>
@@ -25,14 +26,19 @@ fn read(alloc: Global, tokens: &[Token]) -> Result<Tree, Refusal>
     let mut stack = Vec::new(alloc);
     stack.push(Frame::Program(Some(LowItems::new(alloc))))?;
     let mut now = Now::Between;
+    let mut eres = 0;
     for token in tokens {
-        let Some(next) = step(alloc, now, &token.kind, &mut stack)? else {
+        let kind = &token.kind;
+        let Some(then) = step(alloc, now, Next { kind, eres }, &mut stack)? else {
             return Err(Refusal {
                 code: Code::NotAProgram,
                 line: token.line,
             });
         };
-        now = next;
+        now = then;
+        if matches!(kind, Kind::Ere(_)) {
+            eres += 1;
+        }
     }
     match finish(alloc, now, &mut stack)? {
         Some(Some(kept)) => Ok(Tree { items: kept.items }),
@@ -58,19 +64,24 @@ fn last_line(tokens: &[Token]) -> u64 {
 /// The tree that the tokens spell (POSIX awk, Grammar).
 ///
 /// An S1 names the line of the first token that can't stand where it stands, or of the last token
-/// where the text ended too early; an S2 names line 1. The time is linear in the number of tokens,
-/// and no nesting of the text is a nesting of calls.
+/// where the text ended too early; an S2 names line 1. Where neither is answered, P1, P2 and P3 are
+/// for the leftmost ERE that is no pattern within the limits (POSIX awk, Regular Expressions), and
+/// name the line on which it begins. The time is linear in the number of tokens and in what reading
+/// the EREs takes, and no nesting of the text is a nesting of calls.
 pub fn parse(alloc: Global, tokens: &[Token]) -> Result<Tree, Refusal>
-    // What is read is spelled so and leveled, and not too high.
-    ensures found { IfOk result (λ tree. IsProgram (kinds_of tokens.now) (tree_of tree)
-        × (height_of_program (tree_of tree) ≤ most_height)) }
+    // What is read is spelled so and leveled, and not too high. Its EREs are patterns.
+    ensures found { IfOk result (λ tree. IsLowProgram (kinds_of tokens.now) (tree_of tree)) }
+    ensures readable { OnOk result (AreReadable (kinds_of tokens.now)) }
     // Every such program is read, unless memory is refused.
-    ensures only { (items : List t.Item) → IsProgram (kinds_of tokens.now) items
-        → height_of_program items ≤ most_height → Reads result items }
-    // S1 only where no tree spells the tokens at all, S2 only where one does that is too high.
-    ensures refused { IfErr result (λ refusal. Justifies refusal.code (kinds_of tokens.now)) }
+    ensures only { (items : List t.Item) → IsLowProgram (kinds_of tokens.now) items
+        → AreReadable (kinds_of tokens.now) → Reads result items }
+    // S1 only where no tree spells the tokens at all, S2 only where one does that is too high, and a
+    // P code only where one does that is not, for the leftmost ERE that is no pattern.
+    ensures refused { IfErr result (λ refusal. Justifies refusal.code refusal.line tokens.now) }
 {
-    read(alloc, tokens)
+    let tree = read(alloc, tokens)?;
+    check_patterns(alloc, tokens)?;
+    Ok(tree)
 }
 
 /// Tokens have one tree at most, however high it is.

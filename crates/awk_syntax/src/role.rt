@@ -23,6 +23,14 @@ impl Role {
     {
         match kind {
             Kind::Operator(operator) => Role::of_operator(*operator, bare),
+            // It begins the right operand of a concatenation. No sign does: that is a sum.
+            Kind::Number(_)
+            | Kind::String(_)
+            | Kind::Ere(_)
+            | Kind::Name(_)
+            | Kind::OpenParenthesis
+            | Kind::Not
+            | Kind::Dollar => Role::Infix(BinaryOperator::Concatenate),
             _ => Role::Ends,
         }
     }
@@ -32,6 +40,7 @@ impl Role {
     {
         match operator {
             Operator::Times => Role::Infix(BinaryOperator::Times),
+            Operator::Divide => Role::Infix(BinaryOperator::Divide),
             Operator::Remainder => Role::Infix(BinaryOperator::Remainder),
             Operator::Plus => Role::Infix(BinaryOperator::Plus),
             Operator::Minus => Role::Infix(BinaryOperator::Minus),
@@ -42,6 +51,9 @@ impl Role {
             Operator::Greater if bare => Role::Ends,
             Operator::Greater => Role::Infix(BinaryOperator::Greater),
             Operator::GreaterEqual => Role::Infix(BinaryOperator::GreaterEqual),
+            Operator::Matches => Role::Infix(BinaryOperator::Matches),
+            Operator::NotMatches => Role::Infix(BinaryOperator::NotMatches),
+            Operator::Power | Operator::And | Operator::Or => Role::Ends,
         }
     }
 }

@@ -2,7 +2,15 @@
 
 use crate::frame::Part;
 use crate::kept::LowStatement;
+use awk_lex::token::Kind;
 use awk_value::Bytes;
+
+/// The token that is read next, and how many EREs of the program stand before it.
+#[derive(Clone, Copy)]
+pub struct Next<'a> {
+    pub kind: &'a Kind,
+    pub eres: usize,
+}
 
 /// Where the reader stands, above what it has begun.
 #[derive(Drop)]

@@ -12,8 +12,8 @@ use crate::build::{
 use crate::frame::{Frame, Head, Part};
 use crate::kept::{LowExprs, LowItem, LowStatement, LowStatements};
 use crate::operands::enter;
-use crate::state::Now;
-use awk_lex::token::Kind;
+use crate::state::{Next, Now};
+use awk_lex::token::{Keyword, Kind};
 use std::alloc::{AllocError, Global};
 
 /// The item of a head and its action.
@@ -65,21 +65,21 @@ pub fn close_block(stack: &mut Vec<Frame>) -> Result<Option<Now>, AllocError>
 }
 
 /// The token where a statement or the end of a block stands.
-pub fn begin(alloc: Global, kind: &Kind, stack: &mut Vec<Frame>) -> Result<Option<Now>, AllocError>
+pub fn begin(alloc: Global, next: Next, stack: &mut Vec<Frame>) -> Result<Option<Now>, AllocError>
     ensures { IfOk result (λ now. next_of now stack.new.items
-        ≡ machine.begin 200 kind.now (stack_of stack.old.items)) }
+        ≡ machine.begin 200 next.entry.kind.now (stack_of stack.old.items)) }
 {
-    match kind {
+    match next.kind {
         Kind::Newline => Ok(Some(Now::Begins)),
         Kind::OpenBrace => {
             stack.push(Frame::Block(Some(LowStatements::new(alloc))))?;
             Ok(Some(Now::Begins))
         }
         Kind::CloseBrace => close_block(stack),
-        Kind::Print => Ok(Some(Now::Prints)),
+        Kind::Keyword(Keyword::Print) => Ok(Some(Now::Prints)),
         _ => {
             stack.push(Frame::Statement)?;
-            enter(kind, false, false, stack)
+            enter(next, false, false, stack)
         }
     }
 }
@@ -87,12 +87,12 @@ pub fn begin(alloc: Global, kind: &Kind, stack: &mut Vec<Frame>) -> Result<Optio
 /// The token behind a statement, no newline.
 pub fn pass(
     alloc: Global,
-    kind: &Kind,
+    next: Next,
     statement: Option<LowStatement>,
     stack: &mut Vec<Frame>,
 ) -> Result<Option<Now>, AllocError>
     ensures { IfOk result (λ now. next_of now stack.new.items
-        ≡ machine.pass 200 kind.now (kept_statement statement) (stack_of stack.old.items)) }
+        ≡ machine.pass 200 next.entry.kind.now (kept_statement statement) (stack_of stack.old.items)) }
 {
     let frame = match stack.pop() {
         Some(Frame::Block(all)) => Frame::Block(one_more_statement(all, statement)?),
@@ -100,22 +100,22 @@ pub fn pass(
         _ => return Ok(None),
     };
     stack.push(frame)?;
-    begin(alloc, kind, stack)
+    begin(alloc, next, stack)
 }
 
 /// The token behind a simple statement.
 pub fn end_with(
     alloc: Global,
-    kind: &Kind,
+    next: Next,
     statement: Option<LowStatement>,
     stack: &mut Vec<Frame>,
 ) -> Result<Option<Now>, AllocError>
     ensures { IfOk result (λ now. next_of now stack.new.items
-        ≡ machine.end_with 200 kind.now (kept_statement statement) (stack_of stack.old.items)) }
+        ≡ machine.end_with 200 next.entry.kind.now (kept_statement statement) (stack_of stack.old.items)) }
 {
-    match kind {
+    match next.kind {
         Kind::Semicolon | Kind::Newline => Ok(Some(Now::Done(statement))),
-        Kind::CloseBrace => pass(alloc, kind, statement, stack),
+        Kind::CloseBrace => pass(alloc, next, statement, stack),
         _ => Ok(None),
     }
 }
@@ -123,34 +123,34 @@ pub fn end_with(
 /// The token behind an expression of a print's list.
 pub fn close_print(
     alloc: Global,
-    kind: &Kind,
+    next: Next,
     list: Option<LowExprs>,
     stack: &mut Vec<Frame>,
 ) -> Result<Option<Now>, AllocError>
     ensures { IfOk result (λ now. next_of now stack.new.items
-        ≡ machine.close_print 200 kind.now (kept_exprs list) (stack_of stack.old.items)) }
+        ≡ machine.close_print 200 next.entry.kind.now (kept_exprs list) (stack_of stack.old.items)) }
 {
-    if matches!(kind, Kind::Comma) {
+    if matches!(next.kind, Kind::Comma) {
         stack.push(Frame::Print(list))?;
         return Ok(Some(Now::Expect {
             skips: true,
             bare: true,
         }));
     }
-    end_with(alloc, kind, print(list), stack)
+    end_with(alloc, next, print(list), stack)
 }
 
 /// The token behind the expression of an item.
 pub fn close_pattern(
     alloc: Global,
-    kind: &Kind,
+    next: Next,
     part: Part,
     stack: &mut Vec<Frame>,
 ) -> Result<Option<Now>, AllocError>
     ensures { IfOk result (λ now. next_of now stack.new.items
-        ≡ machine.close_pattern 200 kind.now (part_of part) (stack_of stack.old.items)) }
+        ≡ machine.close_pattern 200 next.entry.kind.now (part_of part) (stack_of stack.old.items)) }
 {
-    match kind {
+    match next.kind {
         Kind::OpenBrace => begin_action(alloc, Head::Rule(part), stack),
         Kind::Semicolon | Kind::Newline => between(pattern(part.tree), stack),
         _ => Ok(None),
@@ -158,18 +158,18 @@ pub fn close_pattern(
 }
 
 /// The token behind the word `print`.
-pub fn prints(alloc: Global, kind: &Kind, stack: &mut Vec<Frame>) -> Result<Option<Now>, AllocError>
+pub fn prints(alloc: Global, next: Next, stack: &mut Vec<Frame>) -> Result<Option<Now>, AllocError>
     ensures { IfOk result (λ now. next_of now stack.new.items
-        ≡ machine.prints 200 (stack_of stack.old.items) kind.now) }
+        ≡ machine.prints 200 (stack_of stack.old.items) next.entry.kind.now) }
 {
     let none = Some(LowExprs::new(alloc));
-    match kind {
+    match next.kind {
         Kind::Semicolon | Kind::Newline | Kind::CloseBrace => {
-            end_with(alloc, kind, print(none), stack)
+            end_with(alloc, next, print(none), stack)
         }
         _ => {
             stack.push(Frame::Print(none))?;
-            enter(kind, false, true, stack)
+            enter(next, false, true, stack)
         }
     }
 }
@@ -177,42 +177,42 @@ pub fn prints(alloc: Global, kind: &Kind, stack: &mut Vec<Frame>) -> Result<Opti
 /// The token behind a statement.
 pub fn next_statement(
     alloc: Global,
-    kind: &Kind,
+    next: Next,
     statement: Option<LowStatement>,
     stack: &mut Vec<Frame>,
 ) -> Result<Option<Now>, AllocError>
     ensures { IfOk result (λ now. next_of now stack.new.items
-        ≡ machine.next_statement 200 (kept_statement statement) (stack_of stack.old.items) kind.now) }
+        ≡ machine.next_statement 200 (kept_statement statement) (stack_of stack.old.items) next.entry.kind.now) }
 {
-    if matches!(kind, Kind::Newline) {
+    if matches!(next.kind, Kind::Newline) {
         return Ok(Some(Now::Done(statement)));
     }
-    pass(alloc, kind, statement, stack)
+    pass(alloc, next, statement, stack)
 }
 
 /// The token behind the word `BEGIN`.
-pub fn open(alloc: Global, kind: &Kind, stack: &mut Vec<Frame>) -> Result<Option<Now>, AllocError>
+pub fn open(alloc: Global, next: Next, stack: &mut Vec<Frame>) -> Result<Option<Now>, AllocError>
     ensures { IfOk result (λ now. next_of now stack.new.items
-        ≡ machine.opens 200 (stack_of stack.old.items) kind.now) }
+        ≡ machine.opens 200 (stack_of stack.old.items) next.entry.kind.now) }
 {
-    match kind {
+    match next.kind {
         Kind::OpenBrace => begin_action(alloc, Head::Begin, stack),
         _ => Ok(None),
     }
 }
 
 /// The token between items.
-pub fn item(alloc: Global, kind: &Kind, stack: &mut Vec<Frame>) -> Result<Option<Now>, AllocError>
+pub fn item(alloc: Global, next: Next, stack: &mut Vec<Frame>) -> Result<Option<Now>, AllocError>
     ensures { IfOk result (λ now. next_of now stack.new.items
-        ≡ machine.item 200 (stack_of stack.old.items) kind.now) }
+        ≡ machine.item 200 (stack_of stack.old.items) next.entry.kind.now) }
 {
-    match kind {
+    match next.kind {
         Kind::Semicolon | Kind::Newline => Ok(Some(Now::Between)),
-        Kind::Begin => Ok(Some(Now::Opens)),
+        Kind::Keyword(Keyword::Begin) => Ok(Some(Now::Opens)),
         Kind::OpenBrace => begin_action(alloc, Head::All, stack),
         _ => {
             stack.push(Frame::Pattern)?;
-            enter(kind, false, false, stack)
+            enter(next, false, false, stack)
         }
     }
 }

@@ -14,15 +14,31 @@ pub enum UnaryOperator {
 #[derive(Clone, Copy, Debug, PartialEq, Eq)]
 pub enum BinaryOperator {
     Times,
+    Divide,
     Remainder,
     Plus,
     Minus,
+    /// No token stands between the operands.
+    Concatenate,
     Less,
     LessEqual,
     Equal,
     NotEqual,
     Greater,
     GreaterEqual,
+    /// `~`
+    Matches,
+    /// `!~`
+    NotMatches,
+}
+
+/// An extended regular expression as it stands in a program.
+#[derive(Drop)]
+pub struct Ere {
+    /// The text between the slashes.
+    pub text: Bytes,
+    /// Which of the program's EREs it is, in the order of the text, from 0.
+    pub number: usize,
 }
 
 /// An expression.
@@ -32,6 +48,7 @@ pub enum Expr {
     Number(i128),
     /// A string: the bytes that it stands for.
     String(Bytes),
+    Ere(Ere),
     Name(Bytes),
     /// An expression in parentheses.
     Group(Box<Expr>),

@@ -88,6 +88,83 @@ $ none
 = 0
 "#;
 
+const PATTERNS: &str = r#"
+$ /b/
+< ab
+< c
+> ab
+= 0
+$ {print ($1 ~ /^a+$/), ($1 !~ "b")}
+< aa
+< ab
+> 1 1
+> 0 0
+= 0
+$ BEGIN{print "a.b" ~ "a\\.b", "axb" ~ "a\\.b"}
+> 1 0
+= 0
+$ BEGIN{print "a" ~ "("}
+! awk: fault 6: pattern refused
+= 2
+$ /=/
+< a=b
+< c
+> a=b
+= 0
+$ !/a/
+< ab
+< c
+> c
+= 0
+$ {print /a/ + (/b/), "b" ~ /a/, /^$/}
+< ab
+<
+< b
+> 2 0 0
+> 0 0 1
+> 1 0 0
+= 0
+the last pattern is kept, and so are those before it
+$ {print $1 ~ $2, $1 ~ $2, $2 ~ $1}
+< ab b
+< b b
+< ab .{2}
+> 1 1 0
+> 1 1 1
+> 1 1 0
+= 0
+$ $1 ~ "[0-9]{2}" "x" { print NR ": " $1 }
+< 12x
+< 1x
+> 1: 12x
+= 0
+"#;
+
+const JOINED: &str = r#"
+$ BEGIN{print 1 " " -1}
+> 1-1
+= 0
+$ BEGIN{a=8;b=2;print a/b/b, (a)/b/b}
+> 2 2
+= 0
+$ BEGIN{print 7/2, -7/2, 7/-2, 6/3*2}
+> 3 -3 -3 4
+= 0
+$ BEGIN{print 1/0}
+! awk: fault 4: division by zero
+= 2
+$ BEGIN{x = "a" "b" 1+2; print x x, (x > "ab3") "", 1 2 == 12}
+> ab3ab3 0 1
+= 0
+$ { print $1 $2 "-" NR }
+< a b
+> ab-1
+= 0
+$ BEGIN { print 1 !x, 2 !!x }
+> 11 20
+= 0
+"#;
+
 const VARIABLES: &str = r#"
 $ BEGIN { FS = ":"; OFS = "-"; ORS = ".\n" } { print $2, NF, NR, FNR }
 < a:b
@@ -290,6 +367,8 @@ $ f
 fn programs(rt: HostRuntime) -> Result<(), Fail> {
     let alloc = rt.alloc();
     expect_rows(&rt, alloc, EXPRESSIONS)?;
+    expect_rows(&rt, alloc, PATTERNS)?;
+    expect_rows(&rt, alloc, JOINED)?;
     expect_rows(&rt, alloc, VARIABLES)?;
     expect_rows(&rt, alloc, OPERANDS)?;
     expect_rows(&rt, alloc, FAULTS)?;

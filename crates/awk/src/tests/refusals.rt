@@ -12,7 +12,6 @@ $ {print 1 < 2 < 3}
 = 2
 $ {print}
 . {print "x}
-. 
 ! awk: line 2: refusal L2: open string
 = 2
 $ {x = "\q"}
@@ -47,8 +46,50 @@ $ BEGIN
 ! awk: line 1: refusal S1: not a program
 = 2
 $ {print}
-. {print /x/}
+. {print [x]}
 ! awk: line 2: refusal S1: not a program
+= 2
+$ BEGIN{print "a
+! awk: line 1: refusal L2: open string
+= 2
+$ BEGIN{x="\q"}
+! awk: line 1: refusal L3: escape refused
+= 2
+$ /a
+! awk: line 1: refusal L4: open pattern
+= 2
+$ BEGIN{x=1.5}
+! awk: line 1: refusal L5: number refused
+= 2
+$ {print}
+. /(/
+! awk: line 2: refusal P1: pattern ill-formed
+= 2
+$ /a{2,1}/
+! awk: line 1: refusal P2: interval or range refused
+= 2
+$ /a{256}/
+! awk: line 1: refusal P2: interval or range refused
+= 2
+$ /[z-a]/
+! awk: line 1: refusal P2: interval or range refused
+= 2
+$ /(a{100}){100}/
+! awk: line 1: refusal P3: pattern too large
+= 2
+$ /(a{100}){99}/
+= 0
+$ BEGIN{x=2**3}
+! awk: line 1: refusal S1: not a program
+= 2
+$ {print $-1}
+! awk: line 1: refusal S1: not a program
+= 2
+$ BEGIN{print "a" ~ "b" ~ "c"}
+! awk: line 1: refusal S1: not a program
+= 2
+$ BEGIN{x = cos ~ /(/}
+! awk: line 1: refusal P1: pattern ill-formed
 = 2
 "#;
 

@@ -45,6 +45,7 @@ impl Row {
             [b'$'] => self.words.push(Vec::new(alloc))?,
             [b'$', b' ', word @ ..] => self.words.push(word.to_vec(alloc)?)?,
             [b'.', b' ', text @ ..] => self.go_on(text)?,
+            [b'<'] => self.give(alloc, b"", b"", b"\n")?,
             [b'<', b' ', text @ ..] => self.give(alloc, b"", text, b"\n")?,
             [b'<', b'-', b' ', text @ ..] => self.give(alloc, b"", text, b"")?,
             [b'[', name, b']', b' ', text @ ..] => self.give(alloc, &[*name], text, b"\n")?,

@@ -1,16 +1,17 @@
-use Rattle.std.proofs.Common.{length, drop, ◌+◌, ◌-◌, ◌<◌, ◌≤◌, ◌≡◌}
+use Rattle.std.proofs.Common.{length, ◌+◌, ◌-◌, ◌≤◌, ◌≡◌}
 use Rattle.std.specs.Prelude.{All}
-use Rattle.awk_lex.specs.Lexes.{Reads}
-use Rattle.awk_lex.specs.Told.{kinds_of, line_at, StandsAt}
+use Rattle.awk_lex.specs.Told.{kinds_of, line_at, StandsAt, InTurn}
+use Rattle.awk_lex.proofs.Progress.{IsRead}
 use Rattle.awk_lex.proofs.lexer.tokens.Given as goal
 
 abbrev pub invariant-loop-at : goal.invariant-loop-at
 invariant-loop-at l = record {
   within : l.at ≤ length l.text;
   few : l.line ≤ l.at + 1;
-  line : l.at < length l.text → l.line ≡ line_at l.text l.at;
-  reads : Reads (kinds_of l.tokens.items) l.text (drop l.at l.text);
+  line : l.line ≡ line_at l.text l.at;
+  read : IsRead (kinds_of l.tokens.items) l.divides l.text l.at;
   placed : All (StandsAt l.text) l.tokens.items;
+  in_turn : InTurn 0 l.tokens.items l.at;
   stretches : All (λ token. (token.start ≤ token.end) × (token.end ≤ length l.text)) l.tokens.items;
 }
 

@@ -1,21 +1,11 @@
-use Rattle.std.proofs.Common.{◌≡◌, List, ℕ, Option, Some, None, sym, ap, arith, rules}
-use Rattle.std.specs.Prelude.{codes, if◌then◌else◌}
-use Rattle.std.proofs.lemmas.Slice.Eq.{text_from_reads}
-use Rattle.awk_lex.specs.Words.{is_reserved, word_kind}
-use Rattle.awk_lex.specs.declared.token.Kind.{Kind}
+use Rattle.std.proofs.Common.{sym, ap, ◌∙◌}
+use Rattle.std.specs.Option.{option_map}
+use Rattle.awk_lex.specs.Tables.{keywords, built_ins}
+use Rattle.awk_lex.specs.declared.token.Kind.TheVariants.{Keyword}
+use Rattle.awk_lex.proofs.Tables.{in_first}
 use Rattle.awk_lex.proofs.words.reserved_kind.Goals as goal
 
-kind_of : List ℕ → Option Kind
-kind_of w = if is_reserved w then Some (word_kind w) else None
-
-pub returns-in-BEGIN : goal.returns-in-BEGIN
-unfolding kind_of
-returns-in-BEGIN c =
-    let is : c.args.word.now ≡ codes "BEGIN" = text_from_reads _ _ (omega arith) (search rules) in
-    sym (ap kind_of is)
-
-pub returns-in-print : goal.returns-in-print
-unfolding kind_of
-returns-in-print c =
-    let is : c.args.word.now ≡ codes "print" = text_from_reads _ _ (omega arith) (search rules) in
-    sym (ap kind_of is)
+pub returns-in-Some : goal.returns-in-Some
+returns-in-Some c =
+    let found = sym c.keyword.ensures ∙ ap (option_map (λ keyword. Keyword keyword)) c.in-Some.is in
+    sym (in_first keywords built_ins c.args.word.now (Keyword c.in-Some.keyword) found)

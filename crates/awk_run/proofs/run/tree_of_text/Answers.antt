@@ -4,7 +4,7 @@ use Rattle.awk_run.proofs.run.tree_of_text.Goals as goal
 
 pub returns-clause-spelled : goal.returns-clause-spelled
 returns-clause-spelled c =
-    spelled c.parse.result c.args.text.now _ c.in_ok-tokens.ensures.short (rw (← c.deref.ensures.value) at (c.in_ok-tokens.ensures.found)) c.parse.ensures.found
+    spelled c.parse.result c.args.text.now _ c.in_ok-tokens.ensures.short (rw (← c.deref.ensures.value) at (c.in_ok-tokens.ensures.found)) c.parse.ensures.found c.parse.ensures.readable
 
 pub returns-clause-only : goal.returns-clause-only
 returns-clause-only c =
