@@ -1,6 +1,5 @@
 -- A class of the bytes that pass has the bytes that pass.
 use Rattle.std.proofs.Common.{◌≡◌, ℕ, ◌<◌, Bool, false, arith}
-use Rattle.std.specs.Prelude.{◌==◌, slice_index_or}
 use Rattle.std.proofs.lemmas.List.FromFn.{get_or-map-range_with_len}
 use Rattle.awk_ere.specs.Classes.{has, class_of}
 

@@ -1,6 +1,6 @@
 -- Which pattern a text spells is decided.
-use Rattle.std.proofs.Common.{◌≡◌, ℕ, zero, suc, ◌+◌, ◌≤◌, Bool, true, false, List, [], ◌∷◌, ◌++◌, length, Option, Some, None, Result, Ok, Err, IfOk, IfErr, refl, sym, ap, subst, ◌∙◌, arith}
-use Rattle.std.specs.Prelude.{◌&&◌, not, nat_le, option_map}
+use Rattle.std.proofs.Common.{◌≡◌, ℕ, zero, suc, ◌≤◌, true, false, List, [], ◌∷◌, ◌++◌, length, Option, Some, None, Result, Ok, Err, IfOk, IfErr, refl, sym, ap, subst, ◌∙◌, arith}
+use Rattle.std.specs.Prelude.{not, nat_le, option_map}
 use Rattle.std.proofs.lemmas.List.{length-append}
 use Rattle.std.proofs.lemmas.Option.{same_Some, none-some}
 use Rattle.std.proofs.lemmas.Bool.{and_parts, and_from, not-true, not_from_false, leb-true, le-leb, cond-true}
@@ -9,7 +9,7 @@ use Rattle.awk_ere.specs.Words.{Word, word_bytes, word_fits, text_of, words_fit,
 use Rattle.awk_ere.specs.declared.pattern.Pattern.{Pattern}
 use Rattle.awk_ere.proofs.Refusing.{read_exactly}
 use Rattle.awk_ere.specs.Written.{Pattern as Written, words, Whole, nothing, whole, whole_words, tree_of, whole_opened}
-use Rattle.awk_ere.specs.Limits.{any_bad, IsGood, SpellsWithin}
+use Rattle.awk_ere.specs.Limits.{any_bad, SpellsWithin}
 use Rattle.awk_ere.specs.Means.{Means}
 use Rattle.awk_ere.specs.Refused.{Refused, ReadsAs}
 use Rattle.awk_ere.specs.declared.fault.PatternFault.{PatternFault}

@@ -1,6 +1,7 @@
 -- How a search follows the last end of a match.
-use Rattle.std.proofs.Common.{◌≡◌, ℕ, suc, ◌+◌, ◌<◌, ◌≤◌, List, [], ◌∷◌, length, Bool, true, false, Option, Some, None, refl, sym, ◌∙◌, subst, ⊎_elim, arith, get_or}
-use Rattle.std.proofs.lemmas.Bool.{cases_lt, false≢true, eqb-true, eq-eqb, leb-true, le-leb, and_parts, and_from}
+use Rattle.std.proofs.Common.{◌≡◌, ℕ, suc, ◌+◌, ◌<◌, ◌≤◌, List, [], ◌∷◌, length, Bool, true, false, Option, Some, None, ◌&&◌, min, sym, ap, ◌∙◌, subst, ⊎_elim, arith, get_or}
+use Rattle.std.specs.Prelude.{nat_eq, nat_le}
+use Rattle.std.proofs.lemmas.Bool.{cases_lt, cases_eq, cases_Bool, false≢true, leb-true, le-leb, eq-eqb, ne_eqb, and_parts, and_from}
 use Rattle.awk_ere.specs.Tree.{Tree, Matches}
 use Rattle.awk_ere.specs.Means.{Means}
 use Rattle.awk_ere.specs.Marked.{Marked, meps, mone, mfirst, mlast, mcat, malt, mplus, bare, Rest}
@@ -8,7 +9,8 @@ use Rattle.awk_ere.specs.Program.{code_size}
 use Rattle.awk_ere.specs.Machine.{cells}
 use Rattle.awk_ere.specs.Pass.{leaves}
 use Rattle.awk_ere.specs.Runs.{Starts, Runs}
-use Rattle.awk_ere.specs.Found.{Longest, OccursBetween, only, between, LastEnd}
+use Rattle.awk_ere.specs.Stood.{Enters}
+use Rattle.awk_ere.specs.Found.{Longest, EndsAt, EndsBetween, between, LastEnd}
 use Rattle.awk_ere.specs.declared.pattern.Pattern.{Pattern}
 use Rattle.awk_ere.proofs.PlainLemmas.{plain_to}
 use Rattle.awk_ere.proofs.Passes.{cell_at}
@@ -61,19 +63,44 @@ module _ (s : List ℕ) (t : Tree) (p : Pattern) (means : Means t p) (from : ℕ
         also None l = λ i j fi lt mt. ⊎_elim (λ below. l i j fi below mt) (λ ge. none i j fi ge lt mt) (cases_lt j k)
         also (Some e) l = (l.0, λ i j fi lt mt. ⊎_elim (λ below. l.1 i j fi below mt) (λ ge. absurd (none i j fi ge lt mt)) (cases_lt j k))
 
--- what the last end behind the text tells
-pub last_longest : (t : Tree) (s : List ℕ) (i n : ℕ) (b : Option ℕ) → i ≤ length s → length s < n → LastEnd t s (only i) n b → Longest t s i b
-last_longest t s i n None le lt l = λ j m. let w = match_within s t i j m le in l i j (eq-eqb i i refl) (omega (arith, w, lt)) m
-last_longest t s i n (Some e) le lt l =
-    let m = subst (λ a. Matches s t a e) (eqb-true l.0.0 i l.0.1) l.0.2 in
-    (m, λ j h. let w = match_within s t i j h le in l.1 i j (eq-eqb i i refl) (omega (arith, w, lt)) h)
+-- where matches may begin in both parts of a walk, and at the text's end
+le_false : (a b : ℕ) → b < a → nat_le a b ≡ false
+le_false a b lt = ⊎_elim (λ y. absurd (let le = leb-true a b y in omega (arith, le, lt))) (λ n. n) (cases_Bool (nat_le a b))
 
-pub last_none : (t : Tree) (s : List ℕ) (low high n : ℕ) → high ≤ length s → length s < n → LastEnd t s (between low high) n None → OccursBetween t s low high → ⊥
-last_none t s low high n le lt l o =
+between_in : (low high k : ℕ) → low ≤ k → k ≤ high → true ≡ between low high k
+between_in low high k a b = sym (and_from _ _ (le-leb low k a) (le-leb k high b))
+
+between_past : (low high k : ℕ) → low ≤ k → high < k → false ≡ between low high k
+between_past low high k a b = sym (ap (λ c. c && nat_le k high) (le-leb low k a) ∙ le_false k high b)
+
+pub enters_on : (low high len : ℕ) → Enters (between low high) true low (min len (high + 1))
+enters_on low high len = λ k a b. between_in low high k a (omega (arith, b))
+
+pub enters_end : (low high k len : ℕ) → low ≤ high → high ≤ len → min len (high + 1) ≤ k → k ≤ len → nat_eq high len ≡ between low high k
+enters_end low high k len lh hl ge le =
+    ⊎_elim
+    (λ same. eq-eqb high len same ∙ between_in low high k (omega (arith, lh, same, ge)) (omega (arith, le, same)))
+    (λ other. ne_eqb high len other ∙ between_past low high k (omega (arith, lh, ge, hl, other)) (omega (arith, ge, hl, other)))
+    (cases_eq high len)
+
+-- what an end tells where the text is read
+pub ends_longest : (t : Tree) (s : List ℕ) (i : ℕ) (b : Option ℕ) → i ≤ length s → EndsBetween false t s i i b → Longest t s i b
+ends_longest t s i b le h = longest b h.0 h.1 (⊎_elim (λ lt. lt) (λ ge. absurd (false≢true (h.2 ge).0)) (cases_lt (length s) h.0))
+  where
+    here : between i i i ≡ true
+    here = and_from _ _ (le-leb i i (omega arith)) (le-leb i i (omega arith))
+
+    longest : (b : Option ℕ) (n : ℕ) → LastEnd t s (between i i) n b → length s < n → Longest t s i b
+    longest None n l lt = λ j m. let w = match_within s t i j m le in l i j here (omega (arith, w, lt)) m
+    longest (Some e) n l lt =
+        let p = and_parts _ _ l.0.1 in
+        let same : l.0.0 ≡ i = omega (arith, leb-true i l.0.0 p.0, leb-true l.0.0 i p.1) in
+        (subst (λ a. Matches s t a e) same l.0.2, λ j h. let w = match_within s t i j h le in l.1 i j here (omega (arith, w, lt)) h)
+
+pub ends_at : (first : Bool) (t : Tree) (s : List ℕ) (low high : ℕ) (b : Option ℕ) → high ≤ length s → EndsBetween first t s low high b → EndsAt t s low high b
+ends_at first t s low high None le h = λ o.
     let w = match_within s t o.0 o.1 o.4 (omega (arith, o.3, le)) in
-    l o.0 o.1 (and_from _ _ (le-leb low o.0 o.2) (le-leb o.0 high o.3)) (omega (arith, w, lt)) o.4
-
-pub last_some : (t : Tree) (s : List ℕ) (low high n e : ℕ) → LastEnd t s (between low high) n (Some e) → OccursBetween t s low high
-last_some t s low high n e l =
-    let p = and_parts _ _ l.0.1 in
-    (l.0.0, e, leb-true low l.0.0 p.0, leb-true l.0.0 high p.1, l.0.2)
+    ⊎_elim (λ lt. h.1 o.0 o.1 (and_from _ _ (le-leb low o.0 o.2) (le-leb o.0 high o.3)) (omega (arith, w, lt)) o.4) (λ ge. false≢true (h.2 ge).1) (cases_lt (length s) h.0)
+ends_at first t s low high (Some e) le h =
+    let p = and_parts _ _ h.1.0.1 in
+    (h.1.0.0, leb-true low h.1.0.0 p.0, leb-true h.1.0.0 high p.1, h.1.0.2)

@@ -34,3 +34,5 @@ pub mod Building
 pub mod Checking
 pub mod Validated
 pub mod Refusing
+pub mod Tables
+pub mod Walks

@@ -1,11 +1,12 @@
 -- Whether a pattern matches somewhere is decided.
-use Rattle.std.proofs.Common.{◌≡◌, ℕ, zero, suc, ◌+◌, ◌<◌, ◌≤◌, Bool, true, false, List, [], ◌∷◌, ◌++◌, length, Some, refl, sym, ap, subst, ◌∙◌, append_assoc, arith, inl, inr}
-use Rattle.std.specs.Prelude.{◌↔◌, ◌||◌, nat_eq, slice_get}
+use Rattle.std.proofs.Common.{◌≡◌, ℕ, suc, ◌+◌, ◌≤◌, Bool, true, false, List, [], ◌∷◌, ◌++◌, length, Option, Some, None, refl, sym, ap, subst, ◌∙◌, append_assoc, arith, inl, inr}
+use Rattle.std.specs.Prelude.{◌↔◌, nat_eq, slice_get}
+use Rattle.std.specs.Option.{is_some}
 use Rattle.std.proofs.lemmas.List.{length-append}
 use Rattle.std.proofs.lemmas.Bool.{or_cases, or_right, or_left, eqb-true, eq-eqb, cases_lt, false≢true}
-use Rattle.awk_ere.specs.Tree.{Tree, Matches}
+use Rattle.awk_ere.specs.Tree.{Tree}
 use Rattle.awk_ere.specs.Finds.{Occurs}
-use Rattle.awk_ere.specs.Found.{OccursBetween}
+use Rattle.awk_ere.specs.Found.{EndsAt}
 use Rattle.awk_ere.specs.Plain.{Re, MatchesRe, plain, IsOrdered}
 use Rattle.awk_ere.specs.Marked.{Marked, flow, step, fresh}
 use Rattle.awk_ere.specs.Runs.{Starts, Tracks}
@@ -106,6 +107,8 @@ pub tells_occurs : (t : Tree) (s : List ℕ) (b : Bool) → IsOrdered t → (b �
 tells_occurs t s b ordered h =
     same_truth b (occurs t s) (λ e. occurs_complete t s (h.0 e)) (λ e. h.1 (occurs_sound t s ordered e))
 
-pub tells_between : (t : Tree) (s : List ℕ) (b : Bool) → IsOrdered t → (b ≡ true) ↔ OccursBetween t s 0 (length s) → b ≡ occurs t s
-tells_between t s b ordered h =
-    tells_occurs t s b ordered (λ e. let f = h.0 e in (f.0, f.1, f.3, f.4), λ f. h.1 (f.0, f.1, omega arith, f.2, f.3))
+-- whether a search for any end finds one tells it too
+pub tells_ends : (t : Tree) (s : List ℕ) (r : Option ℕ) → IsOrdered t → EndsAt t s 0 (length s) r → is_some r ≡ occurs t s
+tells_ends t s None ordered h =
+    tells_occurs t s false ordered (λ e. absurd (false≢true e), λ f. absurd (h (f.0, f.1, omega arith, f.2, f.3)))
+tells_ends t s (Some e) ordered h = tells_occurs t s true ordered (λ _. (h.0, e, h.2, h.3), λ _. refl)

@@ -11,11 +11,11 @@ use Rattle.awk_ere.specs.Program.{Instruction, seen, swap, join, leave, code_siz
 use Rattle.awk_ere.specs.Means.{Means}
 use Rattle.awk_ere.specs.Marked.{bare, flow, step, fresh}
 use Rattle.awk_ere.specs.Machine.{registers, exec, cells}
-use Rattle.awk_ere.specs.Pass.{program, leaves, behind}
+use Rattle.awk_ere.specs.Pass.{program, leaves, behind, idle_cells, IsStill}
 use Rattle.awk_ere.specs.Runs.{Starts, Runs}
 use Rattle.awk_ere.specs.declared.pattern.Pattern.{Pattern}
 use Rattle.awk_ere.proofs.PlainLemmas.{plain_to, plain_from}
-use Rattle.awk_ere.proofs.Steps.{matches_le}
+use Rattle.awk_ere.proofs.Steps.{matches_le, flow_fresh, bare_fresh, flagged_fresh, step_fresh}
 use Rattle.awk_ere.proofs.Passes.{exec_code}
 use Rattle.awk_ere.proofs.Tracks.{tracks_fresh, leaves_sound, leaves_complete, tracks_step}
 
@@ -67,15 +67,30 @@ length_code (cat a b) ops = omega (arith, length_code a (code b ops), length_cod
 length_code (alt a b) ops = omega (arith, length_code a (swap ∷ code b (join ∷ ops)), length_code b (join ∷ ops))
 length_code (plus a) ops = omega (arith, length_code a (leave ∷ ops))
 
+pub idle_fresh : (t : Tree) (p : Pattern) → Means t p → idle_cells p ≡ cells (fresh (plain t)) []
+idle_fresh t p means =
+    let n : length p.ops.items ≡ code_size (plain t) + 0 =
+    sym (length-map p.ops.items (seen p.classes.items)) ∙ ap length means.1 ∙ length_code (plain t) [] in
+    ap (λ m. replicate m false) n ∙ sym (cells_fresh (plain t) 0)
+
+-- where no match may begin, none does
+pub still_off : (t : Tree) (p : Pattern) → Means t p → IsStill p false
+still_off t p means x _ =
+    let r = plain t in
+    let all =
+    ap (λ is. exec false false x is (idle_cells p) (registers false false [])) means.1
+    ∙ ap (λ q. exec false false x (code q []) (idle_cells p) (registers false false [])) (sym (bare_fresh r))
+    ∙ ap (λ a. exec false false x (code (bare (fresh r)) []) a (registers false false [])) (idle_fresh t p means)
+    ∙ exec_code false false x (fresh r) false false false [] [] [] (λ e. e) (flagged_fresh false r) in
+    (ap (λ e. e.0.now.before) all ∙ flow_fresh false false r, ap (λ e. e.1) all ∙ ap (λ q. cells q []) (step_fresh false false x r) ∙ sym (idle_fresh t p means))
+
 pub at_start : (k : ℕ) → Starts (nat_eq k 0) k
 at_start k = (eqb-true k 0, eq-eqb k 0)
 
 module _ (s : List ℕ) (t : Tree) (p : Pattern) (means : Means t p) (from : ℕ → Bool) (k : ℕ) (cs : List Bool) where
-  pub runs_fresh : cs ≡ replicate (length p.ops.items) false → ((i : ℕ) → from i ≡ true → i < k → ⊥) → Runs s t from k cs
+  pub runs_fresh : cs ≡ idle_cells p → ((i : ℕ) → from i ≡ true → i < k → ⊥) → Runs s t from k cs
   runs_fresh h none =
-      let n : length p.ops.items ≡ code_size (plain t) + 0 =
-      sym (length-map p.ops.items (seen p.classes.items)) ∙ ap length means.1 ∙ length_code (plain t) [] in
-      (fresh (plain t), tracks_fresh s (plain t) from k none, h ∙ ap (λ m. replicate m false) n ∙ sym (cells_fresh (plain t) 0))
+      (fresh (plain t), tracks_fresh s (plain t) from k none, h ∙ idle_fresh t p means)
 
   module _ (runs : Runs s t from k cs) (st m : Bool) (starts : Starts st k) (enters : m ≡ from k) where
     passed : (en : Bool) (x : ℕ) → exec st en x (program p) cs (registers m false []) ≡ (registers (flow st en m runs.0) (flow false false false (step st en x m false runs.0)) [], cells (step st en x m false runs.0) [])

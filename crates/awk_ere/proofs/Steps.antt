@@ -256,7 +256,7 @@ flagged_step st en x m g (mcat p q) =
 flagged_step st en x m g (malt p q) = (flagged_step st en x m g p, flagged_step st en x m g q)
 flagged_step st en x m g (mplus d p) = (refl, flagged_step st en x (m || d) g p)
 
-flow_fresh : (st en : Bool) (r : Re) → flow st en false (fresh r) ≡ false
+pub flow_fresh : (st en : Bool) (r : Re) → flow st en false (fresh r) ≡ false
 flow_fresh st en eps = refl
 flow_fresh st en (one c) = refl
 flow_fresh st en first = refl
@@ -291,3 +291,19 @@ flagged_fresh st last = tt
 flagged_fresh st (cat a b) = (flagged_fresh st a, subst (λ u. IsFlagged st u (fresh b)) (sym (flow_fresh st false a)) (flagged_fresh st b))
 flagged_fresh st (alt a b) = (flagged_fresh st a, flagged_fresh st b)
 flagged_fresh st (plus a) = (sym (flow_fresh st false a), flagged_fresh st a)
+
+-- where nothing enters, no mark is made
+pub step_fresh : (st en : Bool) (x : ℕ) (r : Re) → step st en x false false (fresh r) ≡ fresh r
+step_fresh st en x eps = refl
+step_fresh st en x (one c) = refl
+step_fresh st en x first = refl
+step_fresh st en x last = refl
+step_fresh st en x (cat a b) =
+    ap (λ p. mcat p (step st en x (flow st en false (fresh a)) (flow false false false p) (fresh b))) (step_fresh st en x a)
+    ∙ ap (λ m. mcat (fresh a) (step st en x m (flow false false false (fresh a)) (fresh b))) (flow_fresh st en a)
+    ∙ ap (λ g. mcat (fresh a) (step st en x false g (fresh b))) (flow_fresh false false a)
+    ∙ ap (mcat (fresh a)) (step_fresh st en x b)
+step_fresh st en x (alt a b) =
+    ap (λ p. malt p (step st en x false false (fresh b))) (step_fresh st en x a) ∙ ap (malt (fresh a)) (step_fresh st en x b)
+step_fresh st en x (plus a) =
+    ap (λ p. mplus (flow false false false p) p) (step_fresh st en x a) ∙ ap (λ d. mplus d (fresh a)) (flow_fresh false false a)

@@ -1,9 +1,9 @@
 -- The marks after k bytes stand for the matches that began before.
-use Rattle.std.proofs.Common.{◌≡◌, ℕ, suc, ◌<◌, ◌≤◌, List, length, Bool, true, false, Some, refl, sym, ap, ◌∙◌, subst, ⊎_elim, arith}
+use Rattle.std.proofs.Common.{◌≡◌, ℕ, suc, ◌<◌, ◌≤◌, List, length, Bool, true, false, Some, refl, sym, ◌∙◌, subst, ⊎_elim, arith}
 use Rattle.std.specs.Prelude.{slice_get}
 use Rattle.std.proofs.lemmas.Bool.{cases_lt, false≢true}
 use Rattle.awk_ere.specs.Plain.{Re, MatchesRe}
-use Rattle.awk_ere.specs.Marked.{Marked, bare, flow, step, fresh, IsFlagged}
+use Rattle.awk_ere.specs.Marked.{Marked, flow, step, fresh, IsFlagged}
 use Rattle.awk_ere.specs.Runs.{Starts, Tracks}
 use Rattle.awk_ere.proofs.Steps.{bare_step, flow_sound, flow_enters, flow_marks, step_sound, step_enters, step_moves, flagged_step, flagged_fresh, bare_fresh, rest_fresh}
 

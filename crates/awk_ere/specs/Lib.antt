@@ -12,9 +12,12 @@ pub mod Marked
 pub mod Machine
 pub mod Flow
 pub mod Pass
+pub mod Known
+pub mod Table
 pub mod Runs
 pub mod Fault
 pub mod Found
+pub mod Stood
 pub mod Means
 pub mod Reading
 pub mod Emitted

@@ -1,5 +1,5 @@
 -- The straight program of a pattern.
-use Rattle.std.specs.Prelude.{ℕ, suc, ◌+◌, ◌==◌, true, List, [], ◌∷◌, map, slice_index_or}
+use Rattle.std.specs.Prelude.{ℕ, suc, ◌+◌, ◌==◌, true, List, [], ◌∷◌, slice_index_or}
 use Rattle.awk_ere.specs.Classes.{Class, class_of}
 use Rattle.awk_ere.specs.Plain.{Re, eps, one, first, last, cat, alt, plus}
 use Rattle.awk_ere.specs.declared.program.Op.{Op}

@@ -12,6 +12,7 @@ pub mod fault;
 mod frame;
 mod interval;
 pub mod laws;
+pub mod learn;
 mod machine;
 pub mod newline;
 pub mod pattern;
@@ -20,6 +21,8 @@ mod read;
 mod scan;
 pub mod scratch;
 pub mod search;
+mod table;
+mod walk;
 pub mod word;
 
 pub use fault::PatternFault;

@@ -1,15 +1,14 @@
 // One pass over the program of a pattern.
 
-ghost use Rattle.std.specs.Prelude.{◌≡◌, ℕ, ◌+◌, ◌<◌, ◌≤◌, ◌&&◌, ◌||◌, false, true, nat_eq, slice_index, [], ◌∷◌, length, drop, map, slice_set, slice_index_or};
+ghost use Rattle.std.specs.Prelude.{◌≡◌, ℕ, ◌+◌, ◌<◌, ◌≤◌, ◌&&◌, ◌||◌, false, true, [], ◌∷◌, length, drop, replicate, slice_set, slice_index_or};
 ghost use Rattle.awk_ere.specs.Classes.{has};
 ghost use Rattle.awk_ere.specs.Program.{seen};
 ghost use Rattle.awk_ere.specs.Machine.{swapped, joined, act};
 ghost use Rattle.awk_ere.specs.Flow.{read_off};
-ghost use Rattle.awk_ere.specs.Pass.{IsFor, leaves, behind};
+ghost use Rattle.awk_ere.specs.Pass.{AreFor, leaves, behind};
 
 use crate::pattern::Pattern;
 use crate::program::Op;
-use crate::scratch::Scratch;
 
 /// What flows through the program: before the byte that is read, and after it.
 #[derive(Clone, Copy)]
@@ -33,29 +32,11 @@ pub(crate) struct Place {
     pub(crate) end: bool,
 }
 
-impl Place {
-    /// The place at a byte of a text.
-    pub(crate) fn at(text: &[u8], k: usize) -> Place
-        requires { k < length text.now }
-        ensures { result ≡ record { byte = slice_index text.now k; start = nat_eq k 0; end = false } }
-    {
-        Place {
-            byte: text[k],
-            start: k == 0,
-            end: false,
-        }
-    }
-
-    /// The place at the end of a text.
-    pub(crate) fn end_of(text: &[u8]) -> Place
-        ensures { result ≡ record { byte = 0; start = nat_eq (length text.now) 0; end = true } }
-    {
-        Place {
-            byte: 0,
-            start: text.is_empty(),
-            end: true,
-        }
-    }
+/// The marks of a pattern: a cell for each instruction, and room for the signals that forks keep.
+#[derive(Drop)]
+pub(crate) struct Marks {
+    pub(crate) cells: Vec<bool>,
+    pub(crate) kept: Vec<Signal>,
 }
 
 // Whether the byte is in the class with this number. A number out of range is an empty class.
@@ -198,18 +179,35 @@ fn turn(
     }
 }
 
+impl Marks {
+    /// No match has begun.
+    pub(crate) fn clear(&mut self)
+        ensures cells { self.new.cells.items ≡ replicate (length self.old.cells.items) false }
+        ensures same { (p : Pattern) → AreFor self.old p → AreFor self.new p }
+    {
+        self.cells.as_mut_slice().fill(false);
+    }
+
+    /// Whether no match that has begun goes on.
+    pub(crate) fn are_idle(&self) -> bool
+        ensures { result ≡ true → self.now.cells.items ≡ replicate (length self.now.cells.items) false }
+    {
+        !self.cells.as_slice().contains(&true)
+    }
+}
+
 impl Pattern {
     /// One pass: whether the flow leaves the program before the byte. The cells become those behind it.
-    pub(crate) fn pass(&self, scratch: &mut Scratch, before: bool, place: Place) -> bool
-        requires { IsFor scratch.old self.now }
-        ensures leaves { result ≡ leaves self.now scratch.old.cells.items place.start before place.end place.byte }
-        ensures cells { scratch.new.cells.items
-            ≡ behind self.now scratch.old.cells.items place.start before place.end place.byte }
-        ensures same { IsFor scratch.new self.now }
+    pub(crate) fn pass(&self, marks: &mut Marks, before: bool, place: Place) -> bool
+        requires { AreFor marks.old self.now }
+        ensures leaves { result ≡ leaves self.now marks.old.cells.items place.start before place.end place.byte }
+        ensures cells { marks.new.cells.items
+            ≡ behind self.now marks.old.cells.items place.start before place.end place.byte }
+        ensures same { AreFor marks.new self.now }
     {
         let classes = self.classes.as_slice();
-        let cells = scratch.cells.as_mut_slice();
-        let kept = scratch.kept.as_mut_slice();
+        let cells = marks.cells.as_mut_slice();
+        let kept = marks.kept.as_mut_slice();
         let mut at = Flow {
             now: Signal {
                 before,

@@ -2,7 +2,7 @@
 
 ghost use Rattle.std.specs.Prelude.{◌≡◌, Ok};
 ghost use Rattle.awk_ere.specs.Decided.{pattern_of};
-ghost use Rattle.awk_ere.specs.Pass.{IsFor};
+ghost use Rattle.awk_ere.specs.Table.{IsFor};
 ghost use Rattle.awk_run.specs.Patterns.{matched};
 ghost use Rattle.awk_run.specs.Compiled.{MeansOf, ReadsFor};
 

@@ -280,6 +280,102 @@ fn finds_the_leftmost_and_longest_match(rt: HostRuntime) -> Result<(), Fail> {
     Ok(())
 }
 
+// (a|b)*a(a|b)(a|b)(a|b)(a|b)(a|b)(a|b)(a|b)(a|b), which has more states than a table for it
+const BEHIND: &[Op] = &[
+    Op::Fork,
+    Op::Enter(6),
+    Op::Fork,
+    A,
+    Op::Swap,
+    B,
+    Op::Join,
+    Op::Leave,
+    Op::Swap,
+    Op::Join,
+    A,
+    Op::Fork,
+    A,
+    Op::Swap,
+    B,
+    Op::Join,
+    Op::Fork,
+    A,
+    Op::Swap,
+    B,
+    Op::Join,
+    Op::Fork,
+    A,
+    Op::Swap,
+    B,
+    Op::Join,
+    Op::Fork,
+    A,
+    Op::Swap,
+    B,
+    Op::Join,
+    Op::Fork,
+    A,
+    Op::Swap,
+    B,
+    Op::Join,
+    Op::Fork,
+    A,
+    Op::Swap,
+    B,
+    Op::Join,
+    Op::Fork,
+    A,
+    Op::Swap,
+    B,
+    Op::Join,
+    Op::Fork,
+    A,
+    Op::Swap,
+    B,
+    Op::Join,
+];
+
+#[test]
+fn goes_on_where_the_table_is_full(rt: HostRuntime) -> Result<(), Fail> {
+    let pattern = pattern_of(rt.alloc(), BEHIND)?;
+    let mut scratch = Scratch::for_pattern(rt.alloc(), &pattern)?;
+    let mut text = Vec::new(rt.alloc());
+    let mut mixed: u32 = 1;
+    for _ in 0..3000 {
+        mixed = mixed.wrapping_mul(1_103_515_245).wrapping_add(12_345);
+        text.push(if mixed & 0x10000 == 0 { b'a' } else { b'b' })?;
+    }
+    text.extend_from_slice(b"abbbbbbbbbbbbbbbbbbbbbbbbbbbbbbb")?;
+    assert_eq!(rt; pattern.find_from(&text, 0, &mut scratch), Some((0, 3009)));
+    assert_eq!(rt; pattern.find_from(&text, 0, &mut scratch), Some((0, 3009)));
+    assert_eq!(rt; text.len(), 3032);
+    assert_eq!(rt; pattern.find_from(&text, 3001, &mut scratch), None);
+    Ok(())
+}
+
+#[test]
+fn finds_a_match_far_behind(rt: HostRuntime) -> Result<(), Fail> {
+    let pattern = pattern_of(rt.alloc(), WORDS)?;
+    let mut scratch = Scratch::for_pattern(rt.alloc(), &pattern)?;
+    let mut text = vec![in rt.alloc(); b'a'; 1000]?;
+    text.extend_from_slice(b"bcabacab")?;
+    assert_eq!(rt; text.len(), 1008);
+    assert_eq!(rt;
+        pattern.find_from(&text, 0, &mut scratch),
+        Some((999, 1004))
+    );
+    assert_eq!(rt;
+        pattern.find_from(&text, 1000, &mut scratch),
+        Some((1000, 1001))
+    );
+    assert_eq!(rt;
+        pattern.find_from(&text, 1001, &mut scratch),
+        Some((1003, 1004))
+    );
+    assert!(rt; pattern.is_match(&text, &mut scratch));
+    Ok(())
+}
+
 #[test]
 fn reads_a_newline_as_one_more_branch(rt: HostRuntime) -> Result<(), Fail> {
     let pattern = pattern_of(rt.alloc(), FRONT)?.or_newline(rt.alloc())?;

@@ -1,17 +1,17 @@
-use Rattle.std.proofs.Common.{◌≤◌, ◌-◌}
+use Rattle.std.proofs.Common.{◌≤◌, ◌-◌, length}
 use Rattle.awk_ere.specs.Tree.{Tree}
 use Rattle.awk_ere.specs.Finds.{NoneFrom}
 use Rattle.awk_ere.specs.Means.{Means}
-use Rattle.awk_ere.specs.Pass.{IsFor}
+use Rattle.awk_ere.specs.Table.{IsFor}
 use Rattle.awk_ere.specs.Found.{OccursBetween}
 use Rattle.awk_ere.proofs.pattern.Pattern.first_between.Given as goal
 
 abbrev pub invariant-halves : goal.invariant-halves
 invariant-halves l = record {
   same : IsFor l.scratch l.self;
-  begun : l.low ≤ l.first;
-  order : l.first ≤ l.last;
-  within : l.last ≤ l.high;
+  order : l.low ≤ l.first;
+  begun : l.first ≤ length l.text;
+  within : l.last ≤ length l.text;
   none : (t : Tree) → Means t l.self → NoneFrom t l.text l.low l.first;
   some : (t : Tree) → Means t l.self → OccursBetween t l.text l.low l.high → OccursBetween t l.text l.first l.last;
 }

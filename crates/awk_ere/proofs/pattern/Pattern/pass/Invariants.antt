@@ -9,7 +9,7 @@ use Rattle.awk_ere.proofs.pattern.Pattern.pass.Given as goal
 abbrev pub invariant-loop-i : goal.invariant-loop-i
 invariant-loop-i l =
     let left = exec l.place.start l.place.end l.place.byte (map (seen l.classes) (drop l.i l.self.ops.items)) (drop l.i l.cells) (read_off l.at l.kept) in
-    let all = exec l.place.start l.place.end l.place.byte (program l.self) l.fn.scratch.cells.items (registers l.before false []) in
+    let all = exec l.place.start l.place.end l.place.byte (program l.self) l.fn.marks.cells.items (registers l.before false []) in
     record {
       registers : left.0 ≡ all.0;
       marks : take l.i l.cells ++ left.1 ≡ all.1;

@@ -1,0 +1,284 @@
+-- What the table keeps where an entry or a state is added.
+use Rattle.std.proofs.Common.{◌≡◌, ℕ, suc, ◌+◌, ◌-◌, ◌*◌, ◌/◌, ◌<◌, ◌≤◌, List, length, take, drop, Bool, true, false, refl, sym, ap, ◌∙◌, subst, ⊎_elim, arith, get_or, set, replicate}
+use Rattle.std.specs.Prelude.{nat_eq, if◌then◌else◌}
+use Rattle.std.proofs.lemmas.List.{length-set, take-replicate, drop-replicate, get_or-set_same, get_or-set_other, get_or-replicate, length-replicate}
+use Rattle.std.proofs.Math.Nat.{mul-le-mul_right}
+use Rattle.std.proofs.Math.ListN.{get_or-eq_default}
+use Rattle.std.proofs.lemmas.Bool.{cases_lt, cases_eq, ne_eqb}
+use Rattle.awk_ere.specs.Pass.{count_of, leaves, behind, idle_cells}
+use Rattle.awk_ere.specs.Known.{IsKnown}
+use Rattle.awk_ere.specs.Table.{cells_at, IsState, IsEntry, IsEnding, AreSteps, IsTable, Grows}
+use Rattle.awk_ere.specs.declared.pattern.Pattern.{Pattern}
+use Rattle.awk_ere.specs.declared.table.Table.{Table}
+
+-- a row lies within the rows
+pub row_within : (d limit n : ℕ) → d < limit → d * n + n ≤ limit * n
+row_within d limit n lt = let times : suc d * n ≤ limit * n = mul-le-mul_right n lt in omega (arith, times)
+
+pub cells_blank : (p : Pattern) (limit d : ℕ) → d < limit → cells_at p (replicate (limit * count_of p) false) d ≡ idle_cells p
+cells_blank p limit d lt =
+    let n = count_of p in
+    let w = row_within d limit n lt in
+    ap (take n) (drop-replicate (d * n) (limit * n) false) ∙ take-replicate n (limit * n - d * n) false (omega (arith, w))
+
+-- nothing is known
+pub entry_zero : (p : Pattern) (tb : Table) (st m : Bool) (cs : List Bool) (x v : ℕ) → v ≡ 0 → IsEntry p tb st m cs x v
+entry_zero p tb st m cs x v z = record {
+  miss = λ a _. absurd (omega (arith, a, z));
+  goes = λ a _. absurd (omega (arith, a, z));
+  hit = λ a. absurd (omega (arith, a, z));
+  leads = λ a. absurd (omega (arith, a, z));
+}
+
+pub ending_zero : (p : Pattern) (st m : Bool) (cs : List Bool) (v : ℕ) → v ≡ 0 → IsEnding p st m cs v
+ending_zero p st m cs v z = record {
+  miss = λ a _. absurd (omega (arith, a, z));
+  hit = λ a. absurd (omega (arith, a, z));
+}
+
+pub steps_blank : (p : Pattern) (tb : Table) (m : Bool) (steps : List ℕ) → 257 * suc tb.limit ≤ length steps → ((i : ℕ) → get_or steps i 0 ≡ 0) → AreSteps p tb m steps
+steps_blank p tb m steps room zero = record {
+  room = room;
+  entries = λ d x _ _. entry_zero p tb (nat_eq d 0) m _ x _ (zero (257 * suc d + x));
+  endings = λ d _. ending_zero p (nat_eq d 0) m _ _ (zero (257 * suc d + 256));
+  blank = λ i _. zero i;
+}
+
+-- one more entry
+pub steps_set : (p : Pattern) (tb : Table) (m : Bool) (steps : List ℕ) (d x v : ℕ) → AreSteps p tb m steps → tb.count ≤ tb.limit → d < tb.count → x < 256 → IsEntry p tb (nat_eq d 0) m (cells_at p tb.rows.items d) x v → AreSteps p tb m (set steps (257 * suc d + x) v)
+steps_set p tb m steps d x v t most known byte h =
+    let at = 257 * suc d + x in
+    let within : at < length steps = omega (arith, t.room, known, byte, most) in
+    record {
+      room = subst (λ n. 257 * suc tb.limit ≤ n) (sym (length-set steps at v)) t.room;
+      entries = λ e y el yl.
+          ⊎_elim
+          (λ same.
+          let ed : d ≡ e = omega (arith, same, byte, yl) in
+          let ey : x ≡ y = omega (arith, same, byte, yl) in
+          subst (λ n. IsEntry p tb (nat_eq e 0) m (cells_at p tb.rows.items e) y n) (sym (get_or-set_same steps at v 0 within) ∙ ap (λ i. get_or (set steps at v) i 0) (sym same))
+          (subst (λ n. IsEntry p tb (nat_eq e 0) m (cells_at p tb.rows.items e) n v) ey (subst (λ n. IsEntry p tb (nat_eq n 0) m (cells_at p tb.rows.items n) x v) ed h)))
+          (λ other. subst (λ n. IsEntry p tb (nat_eq e 0) m (cells_at p tb.rows.items e) y n) (sym (get_or-set_other steps at (257 * suc e + y) v 0 other)) (t.entries e y el yl))
+          (cases_eq (257 * suc e + y) at);
+      endings = λ e el.
+          subst (λ n. IsEnding p (nat_eq e 0) m (cells_at p tb.rows.items e) n)
+          (sym (get_or-set_other steps at (257 * suc e + 256) v 0 (λ same. absurd (omega (arith, same, byte))))) (t.endings e el);
+      blank = λ i le. get_or-set_other steps at i v 0 (λ same. absurd (omega (arith, same, le, byte, known))) ∙ t.blank i le;
+    }
+
+-- the answer at the text's end
+pub steps_end : (p : Pattern) (tb : Table) (m : Bool) (steps : List ℕ) (d v : ℕ) → AreSteps p tb m steps → tb.count ≤ tb.limit → d < tb.count → IsEnding p (nat_eq d 0) m (cells_at p tb.rows.items d) v → AreSteps p tb m (set steps (257 * suc d + 256) v)
+steps_end p tb m steps d v t most known h =
+    let at = 257 * suc d + 256 in
+    let within : at < length steps = omega (arith, t.room, known, most) in
+    record {
+      room = subst (λ n. 257 * suc tb.limit ≤ n) (sym (length-set steps at v)) t.room;
+      entries = λ e y el yl.
+          subst (λ n. IsEntry p tb (nat_eq e 0) m (cells_at p tb.rows.items e) y n)
+          (sym (get_or-set_other steps at (257 * suc e + y) v 0 (λ same. absurd (omega (arith, same, yl))))) (t.entries e y el yl);
+      endings = λ e el.
+          ⊎_elim
+          (λ same.
+          let ed : d ≡ e = omega (arith, same) in
+          subst (λ n. IsEnding p (nat_eq e 0) m (cells_at p tb.rows.items e) n) (sym (get_or-set_same steps at v 0 within) ∙ ap (λ i. get_or (set steps at v) i 0) (sym same))
+          (subst (λ n. IsEnding p (nat_eq n 0) m (cells_at p tb.rows.items n) v) ed h))
+          (λ other. subst (λ n. IsEnding p (nat_eq e 0) m (cells_at p tb.rows.items e) n) (sym (get_or-set_other steps at (257 * suc e + 256) v 0 other)) (t.endings e el))
+          (cases_eq (257 * suc e + 256) at);
+      blank = λ i le. get_or-set_other steps at i v 0 (λ same. absurd (omega (arith, same, le, known))) ∙ t.blank i le;
+    }
+
+-- the same states, and perhaps one more
+module _ (p : Pattern) (tb tb' : Table) (g : Grows p tb tb') where
+  pub state_more : (v : ℕ) (st : Bool) (cs : List Bool) → IsState p tb v st cs → IsState p tb' v st cs
+  state_more v st cs h = record {
+    number = h.number;
+    known = omega (arith, h.known, g.up);
+    named = h.named;
+    start = h.start;
+    cells = g.same h.number h.known ∙ h.cells;
+  }
+
+  pub entry_more : (st m : Bool) (cs : List Bool) (x v : ℕ) → IsEntry p tb st m cs x v → IsEntry p tb' st m cs x v
+  entry_more st m cs x v h = record {
+    miss = h.miss;
+    goes = λ a b. state_more v false (behind p cs st m false x) (h.goes a b);
+    hit = h.hit;
+    leads = λ a. state_more (v - 2147483648) false (behind p cs st m false x) (h.leads a);
+  }
+
+  -- of one more state nothing is known
+  steps_more : (m : Bool) (steps : List ℕ) → AreSteps p tb m steps → AreSteps p tb' m steps
+  steps_more m steps t = record {
+    room = subst (λ n. 257 * suc n ≤ length steps) (sym g.limit) t.room;
+    entries = λ d x dl xl.
+        ⊎_elim
+        (λ old. subst (λ cs. IsEntry p tb' (nat_eq d 0) m cs x (get_or steps (257 * suc d + x) 0)) (sym (g.same d old)) (entry_more (nat_eq d 0) m _ x _ (t.entries d x old xl)))
+        (λ new. entry_zero p tb' (nat_eq d 0) m _ x _ (t.blank (257 * suc d + x) (omega (arith, new))))
+        (cases_lt d tb.count);
+    endings = λ d dl.
+        ⊎_elim
+        (λ old. subst (λ cs. IsEnding p (nat_eq d 0) m cs (get_or steps (257 * suc d + 256) 0)) (sym (g.same d old)) (t.endings d old))
+        (λ new. ending_zero p (nat_eq d 0) m _ _ (t.blank (257 * suc d + 256) (omega (arith, new))))
+        (cases_lt d tb.count);
+    blank = λ i le. t.blank i (omega (arith, le, g.up));
+  }
+
+  pub table_more : IsTable p tb → AreSteps p tb true tb'.on.items → AreSteps p tb false tb'.off.items → IsTable p tb'
+  table_more t on off = record {
+    least = omega (arith, t.least, g.up);
+    most = omega (arith, g.most t.most, g.limit);
+    room = omega (arith, t.room, g.limit);
+    few = omega (arith, t.few, g.limit);
+    rows = subst (λ n. n * count_of p ≤ length tb'.rows.items) (sym g.limit) (subst (λ n. tb.limit * count_of p ≤ n) (sym g.rows) t.rows);
+    start = g.same 0 (omega (arith, t.least)) ∙ t.start;
+    idle = g.same 1 (omega (arith, t.least)) ∙ t.idle;
+    on = steps_more true tb'.on.items on;
+    off = steps_more false tb'.off.items off;
+  }
+
+-- a table of the first two states
+pub table_first : (p : Pattern) (tb : Table) → tb.count ≡ 2 → 3 ≤ tb.limit → tb.limit < 1000000 → tb.limit * count_of p ≤ length tb.rows.items → cells_at p tb.rows.items 0 ≡ idle_cells p → cells_at p tb.rows.items 1 ≡ idle_cells p → 257 * suc tb.limit ≤ length tb.on.items → 257 * suc tb.limit ≤ length tb.off.items → ((i : ℕ) → get_or tb.on.items i 0 ≡ 0) → ((i : ℕ) → get_or tb.off.items i 0 ≡ 0) → IsTable p tb
+table_first p tb two room few rows start idle on off on0 off0 = record {
+  least = omega (arith, two);
+  most = omega (arith, two, room);
+  room = room;
+  few = few;
+  rows = rows;
+  start = start;
+  idle = idle;
+  on = steps_blank p tb true tb.on.items on on0;
+  off = steps_blank p tb false tb.off.items off off0;
+}
+
+zeros : (n i : ℕ) → ◌≡◌ {A = ℕ} (get_or (replicate n 0) i 0) 0
+zeros n i =
+    ⊎_elim (λ below. get_or-replicate n i 0 0 below)
+    (λ ge. get_or-eq_default (replicate n 0) 0 {n = i} (subst (λ m. m ≤ i) (sym (length-replicate n 0)) ge))
+    (cases_lt i n)
+
+pub table_begun : (p : Pattern) (tb : Table) (n : ℕ) → n ≡ count_of p → tb.count ≡ 2 → 3 ≤ tb.limit → tb.limit < 1000000 → tb.rows.items ≡ replicate (tb.limit * n) false → tb.on.items ≡ replicate (257 * suc tb.limit) 0 → tb.off.items ≡ replicate (257 * suc tb.limit) 0 → IsTable p tb
+table_begun p tb n e two room few rows on off =
+    let blank = rows ∙ ap (λ k. replicate (tb.limit * k) false) e in
+    let rows_len = ap length blank ∙ length-replicate (tb.limit * count_of p) false in
+    let on_len = ap length on ∙ length-replicate (257 * suc tb.limit) 0 in
+    let off_len = ap length off ∙ length-replicate (257 * suc tb.limit) 0 in
+    table_first p tb two room few (omega (arith, rows_len))
+    (ap (λ l. cells_at p l 0) blank ∙ cells_blank p tb.limit 0 (omega (arith, room)))
+    (ap (λ l. cells_at p l 1) blank ∙ cells_blank p tb.limit 1 (omega (arith, room)))
+    (omega (arith, on_len)) (omega (arith, off_len))
+    (λ i. ap (λ l. get_or l i 0) on ∙ zeros (257 * suc tb.limit) i)
+    (λ i. ap (λ l. get_or l i 0) off ∙ zeros (257 * suc tb.limit) i)
+
+-- a state, and an entry that leads to it
+pub state_named : (p : Pattern) (tb : Table) (d : ℕ) (cs : List Bool) → 0 < d → d < tb.count → cells_at p tb.rows.items d ≡ cs → IsState p tb (257 * suc d) false cs
+state_named p tb d cs pos lt e = record {
+  number = d;
+  known = lt;
+  named = refl;
+  start = sym (ne_eqb d 0 (λ z. omega (arith, z, pos)));
+  cells = e;
+}
+
+pub entry_made : (p : Pattern) (tb : Table) (st m : Bool) (cs : List Bool) (x : ℕ) (left : Bool) (v : ℕ) → left ≡ leaves p cs st m false x → 0 < v → v < 2147483648 → IsState p tb v false (behind p cs st m false x) → IsEntry p tb st m cs x (v + (if left then 2147483648 else 0))
+entry_made p tb st m cs x true v l some small s = record {
+  miss = λ a b. absurd (omega (arith, b));
+  goes = λ a b. absurd (omega (arith, b));
+  hit = λ a. sym l;
+  leads = λ a. let e : v ≡ v + 2147483648 - 2147483648 = omega arith in subst (λ n. IsState p tb n false (behind p cs st m false x)) e s;
+}
+entry_made p tb st m cs x false v l some small s = record {
+  miss = λ a b. sym l;
+  goes = λ a b. let e : v ≡ v + 0 = omega arith in subst (λ n. IsState p tb n false (behind p cs st m false x)) e s;
+  hit = λ a. absurd (omega (arith, a, small));
+  leads = λ a. absurd (omega (arith, a, small));
+}
+
+-- the number of a state, and what is read of it
+module _ (p : Pattern) (tb : Table) (v : ℕ) (st : Bool) (cs : List Bool) (h : IsState p tb v st cs) where
+  pub number_of : v / 257 - 1 ≡ h.number
+  number_of = omega (arith, h.named)
+
+  pub start_of : nat_eq (v / 257 - 1) 0 ≡ st
+  start_of = ap (λ d. nat_eq d 0) number_of ∙ sym h.start
+
+  pub cells_of : (n : ℕ) → n ≡ count_of p → take n (drop ((v / 257 - 1) * n) tb.rows.items) ≡ cs
+  cells_of n e =
+      ap (λ d. take n (drop (d * n) tb.rows.items)) number_of ∙ ap (λ k. take k (drop (h.number * k) tb.rows.items)) e ∙ h.cells
+
+-- an entry is written
+grows_same : (p : Pattern) (tb tb' : Table) → tb'.rows.items ≡ tb.rows.items → tb'.count ≡ tb.count → tb'.limit ≡ tb.limit → Grows p tb tb'
+grows_same p tb tb' rows count limit = record {
+  up = omega (arith, count);
+  one = omega (arith, count);
+  most = λ le. omega (arith, le, count);
+  limit = limit;
+  rows = ap length rows;
+  same = λ d _. ap (λ l. cells_at p l d) rows;
+}
+
+table_set : (p : Pattern) (tb tb' : Table) (m : Bool) (steps : List ℕ → List ℕ) → IsTable p tb → tb'.rows.items ≡ tb.rows.items → tb'.count ≡ tb.count → tb'.limit ≡ tb.limit → tb'.on.items ≡ (if m then steps tb.on.items else tb.on.items) → tb'.off.items ≡ (if m then tb.off.items else steps tb.off.items) → ((l : List ℕ) → AreSteps p tb m l → AreSteps p tb m (steps l)) → IsTable p tb'
+table_set p tb tb' true steps t rows count limit on off h =
+    table_more p tb tb' (grows_same p tb tb' rows count limit) t (subst (AreSteps p tb true) (sym on) (h tb.on.items t.on)) (subst (AreSteps p tb false) (sym off) t.off)
+table_set p tb tb' false steps t rows count limit on off h =
+    table_more p tb tb' (grows_same p tb tb' rows count limit) t (subst (AreSteps p tb true) (sym on) t.on) (subst (AreSteps p tb false) (sym off) (h tb.off.items t.off))
+
+known_state : (p : Pattern) (tb : Table) (v : ℕ) (k : IsKnown tb v) → IsState p tb v (nat_eq k.number 0) (cells_at p tb.rows.items k.number)
+known_state p tb v k = record { number = k.number; known = k.known; named = k.named; start = refl; cells = refl }
+
+pub end_table : (p : Pattern) (tb tb' : Table) (state : ℕ) (m left : Bool) (at v : ℕ) → IsTable p tb → IsKnown tb state → ((st : Bool) (cs : List Bool) → IsState p tb state st cs → left ≡ leaves p cs st m true 0) → at ≡ state + 257 - 1 → v ≡ (if left then 2147483648 else 514) → tb'.rows.items ≡ tb.rows.items → tb'.count ≡ tb.count → tb'.limit ≡ tb.limit → tb'.on.items ≡ (if m then set tb.on.items at v else tb.on.items) → tb'.off.items ≡ (if m then tb.off.items else set tb.off.items at v) → IsTable p tb'
+end_table p tb tb' state m left at v t k left_is at_is v_is rows count limit on off =
+    let same : at ≡ 257 * suc k.number + 256 = omega (arith, at_is, k.named) in
+    table_set p tb tb' m (λ l. set l at v) t rows count limit on off
+    (λ l a. subst (λ i. AreSteps p tb m (set l i v)) (sym same) (steps_end p tb m l k.number v a t.most k.known (ending left v v_is (left_is _ _ (known_state p tb state k)))))
+  where
+    ending : (left : Bool) (v : ℕ) → v ≡ (if left then 2147483648 else 514) → left ≡ leaves p (cells_at p tb.rows.items k.number) (nat_eq k.number 0) m true 0 → IsEnding p (nat_eq k.number 0) m (cells_at p tb.rows.items k.number) v
+    ending true v e l = record { miss = λ _ b. absurd (omega (arith, b, e)); hit = λ _. sym l }
+    ending false v e l = record { miss = λ _ _. sym l; hit = λ b. absurd (omega (arith, b, e)) }
+
+-- what a pass from a state has given
+module _ (p : Pattern) (tb : Table) (t : IsTable p tb) (state x : ℕ) (m left : Bool) (cells : List Bool)
+    (left_is : (st : Bool) (cs : List Bool) → IsState p tb state st cs → left ≡ leaves p cs st m false x)
+    (cells_is : (st : Bool) (cs : List Bool) → IsState p tb state st cs → cells ≡ behind p cs st m false x)
+    (number : ℕ) (pos : 0 < number) where
+  -- leads to a state of a table
+  made : (to : Table) → IsTable p to → number < to.count → cells_at p to.rows.items number ≡ cells → (st : Bool) (cs : List Bool) → IsState p tb state st cs → IsEntry p to st m cs x (257 * suc number + (if left then 2147483648 else 0))
+  made to h lt e st cs s =
+      entry_made p to st m cs x left (257 * suc number) (left_is st cs s) (omega arith) (omega (arith, lt, h.most, h.few))
+      (subst (IsState p to (257 * suc number) false) (cells_is st cs s) (state_named p to number cells pos lt e))
+
+  module _ (tb2 tb3 : Table) (g : Grows p tb tb2) (on2 : tb2.on.items ≡ tb.on.items) (off2 : tb2.off.items ≡ tb.off.items) where
+    grown : IsTable p tb2
+    grown = table_more p tb tb2 g t (subst (AreSteps p tb true) (sym on2) t.on) (subst (AreSteps p tb false) (sym off2) t.off)
+
+    -- that is there, or was added
+    module _ (lt : number < tb2.count) (e : cells_at p tb2.rows.items number ≡ cells) (v : ℕ) (v_is : v ≡ 257 * suc number + (if left then 2147483648 else 0))
+        (rows : tb3.rows.items ≡ tb2.rows.items) (count : tb3.count ≡ tb2.count) (limit : tb3.limit ≡ tb2.limit) where
+      pub learn_entry : (st : Bool) (cs : List Bool) → IsState p tb state st cs → IsEntry p tb3 st m cs x v
+      learn_entry st cs s =
+          entry_more p tb2 tb3 (grows_same p tb2 tb3 rows count limit) st m cs x v
+          (subst (IsEntry p tb2 st m cs x) (sym v_is) (made tb2 grown lt e st cs s))
+
+      pub learn_table : IsKnown tb state → x < 256 → tb3.on.items ≡ (if m then set tb2.on.items (state + x) v else tb2.on.items) → tb3.off.items ≡ (if m then tb2.off.items else set tb2.off.items (state + x) v) → IsTable p tb3
+      learn_table k byte on off =
+          let here = subst (IsEntry p tb2 (nat_eq k.number 0) m (cells_at p tb.rows.items k.number) x) (sym v_is) (made tb2 grown lt e _ _ (known_state p tb state k)) in
+          let entry = subst (λ l. IsEntry p tb2 (nat_eq k.number 0) m l x v) (sym (g.same k.number k.known)) here in
+          table_set p tb2 tb3 m (λ l. set l (state + x) v) grown rows count limit on off
+          (λ l a. subst (λ i. AreSteps p tb2 m (set l (i + x) v)) (sym k.named) (steps_set p tb2 m l k.number x v a grown.most (omega (arith, k.known, g.up)) byte entry))
+
+    -- that is added to the first two
+    module _ (tb4 : Table) (rows : tb3.rows.items ≡ tb2.rows.items) (two : tb3.count ≡ 2) (limit : tb3.limit ≡ tb2.limit)
+        (on_len : length tb3.on.items ≡ length tb2.on.items) (off_len : length tb3.off.items ≡ length tb2.off.items)
+        (on0 : (i : ℕ) → get_or tb3.on.items i 0 ≡ 0) (off0 : (i : ℕ) → get_or tb3.off.items i 0 ≡ 0)
+        (g4 : Grows p tb3 tb4) (on4 : tb4.on.items ≡ tb3.on.items) (off4 : tb4.off.items ≡ tb3.off.items) where
+      cleared : IsTable p tb3
+      cleared =
+          table_first p tb3 two (omega (arith, grown.room, limit)) (omega (arith, grown.few, limit))
+          (subst (λ n. n * count_of p ≤ length tb3.rows.items) (sym limit) (subst (λ l. tb2.limit * count_of p ≤ length l) (sym rows) grown.rows))
+          (ap (λ l. cells_at p l 0) rows ∙ grown.start) (ap (λ l. cells_at p l 1) rows ∙ grown.idle)
+          (omega (arith, grown.on.room, limit, on_len)) (omega (arith, grown.off.room, limit, off_len)) on0 off0
+
+      pub begun_table : IsTable p tb4
+      begun_table = table_more p tb3 tb4 g4 cleared (subst (AreSteps p tb3 true) (sym on4) cleared.on) (subst (AreSteps p tb3 false) (sym off4) cleared.off)
+
+      pub begun_entry : number < tb4.count → cells_at p tb4.rows.items number ≡ cells → (st : Bool) (cs : List Bool) → IsState p tb state st cs → IsEntry p tb4 st m cs x (257 * suc number + (if left then 2147483648 else 0))
+      begun_entry lt e st cs s = made tb4 begun_table lt e st cs s

@@ -1,0 +1,23 @@
+use Rattle.std.proofs.Common.{◌≡◌, ◌+◌, sym, subst, ⊎_elim, arith}
+use Rattle.std.proofs.lemmas.Bool.{cases_lt}
+use Rattle.awk_ere.specs.Tree.{Matches}
+use Rattle.awk_ere.specs.Finds.{Finds}
+use Rattle.awk_ere.proofs.pattern.Pattern.find_from.Goals as goal
+
+pub returns-in_err-start-clause-found : goal.returns-in_err-start-clause-found
+returns-in_err-start-clause-found c = λ t means.
+    let s = c.args.text.now in
+    let start = c.candidate-start.result in
+    subst (Finds t s c.args.from) (sym c.from_residual.ensures)
+    (λ i j ge le m.
+    ⊎_elim (λ below. c.candidate-start.ensures.none t means i j ge below m)
+    (λ at.
+    ⊎_elim
+    (λ here. let same : i ≡ start = omega (arith, at, here) in c.in_default.ensures.found t means j (subst (λ a. Matches s t a j) same m))
+    (λ past. c.in_err-start.ensures.found t means i j past le m) (cases_lt i (start + 1)))
+    (cases_lt i start))
+
+pub returns-in_err-end-clause-found : goal.returns-in_err-end-clause-found
+returns-in_err-end-clause-found c = λ t means.
+    let begins = c.in_ok-start.ensures.found t means in
+    absurd (c.in_err-end.ensures.found t means begins.1.0 begins.1.1)
