@@ -7,7 +7,7 @@ use Rattle.std.proofs.Math.ListN.{get_or-eq_default}
 use Rattle.std.proofs.lemmas.Bool.{cases_lt, cases_eq, ne_eqb}
 use Rattle.awk_ere.specs.Pass.{count_of, leaves, behind, idle_cells}
 use Rattle.awk_ere.specs.Known.{IsKnown}
-use Rattle.awk_ere.specs.Table.{cells_at, IsState, IsEntry, IsEnding, AreSteps, IsTable, Grows}
+use Rattle.awk_ere.specs.Table.{cells_at, state_number, IsState, IsEntry, IsEnding, AreSteps, IsTable, Grows}
 use Rattle.awk_ere.specs.declared.pattern.Pattern.{Pattern}
 use Rattle.awk_ere.specs.declared.table.Table.{Table}
 
@@ -91,11 +91,10 @@ steps_end p tb m steps d v t most known h =
 module _ (p : Pattern) (tb tb' : Table) (g : Grows p tb tb') where
   pub state_more : (v : ℕ) (st : Bool) (cs : List Bool) → IsState p tb v st cs → IsState p tb' v st cs
   state_more v st cs h = record {
-    number = h.number;
     known = omega (arith, h.known, g.up);
     named = h.named;
     start = h.start;
-    cells = g.same h.number h.known ∙ h.cells;
+    cells = g.same (state_number v) h.known ∙ h.cells;
   }
 
   pub entry_more : (st m : Bool) (cs : List Bool) (x v : ℕ) → IsEntry p tb st m cs x v → IsEntry p tb' st m cs x v
@@ -169,15 +168,24 @@ table_begun p tb n e two room few rows on off =
     (λ i. ap (λ l. get_or l i 0) on ∙ zeros (257 * suc tb.limit) i)
     (λ i. ap (λ l. get_or l i 0) off ∙ zeros (257 * suc tb.limit) i)
 
+-- a state by its number
+pub state_at : (p : Pattern) (tb : Table) (v : ℕ) (st : Bool) (cs : List Bool) (d : ℕ) → d < tb.count → v ≡ 257 * suc d → st ≡ nat_eq d 0 → cells_at p tb.rows.items d ≡ cs → IsState p tb v st cs
+state_at p tb v st cs d known named start cells =
+    let e : d ≡ state_number v = omega (arith, named) in
+    record {
+      known = omega (arith, e, known);
+      named = omega (arith, e, named);
+      start = start ∙ ap (λ n. nat_eq n 0) e;
+      cells = ap (cells_at p tb.rows.items) (sym e) ∙ cells;
+    }
+
+-- a known state stands for cells
+pub state_of : (p : Pattern) (tb : Table) (v : ℕ) (k : IsKnown tb v) → IsState p tb v (nat_eq k.number 0) (cells_at p tb.rows.items k.number)
+state_of p tb v k = state_at p tb v _ _ k.number k.known k.named refl refl
+
 -- a state, and an entry that leads to it
 pub state_named : (p : Pattern) (tb : Table) (d : ℕ) (cs : List Bool) → 0 < d → d < tb.count → cells_at p tb.rows.items d ≡ cs → IsState p tb (257 * suc d) false cs
-state_named p tb d cs pos lt e = record {
-  number = d;
-  known = lt;
-  named = refl;
-  start = sym (ne_eqb d 0 (λ z. omega (arith, z, pos)));
-  cells = e;
-}
+state_named p tb d cs pos lt e = state_at p tb (257 * suc d) false cs d lt refl (sym (ne_eqb d 0 (λ z. omega (arith, z, pos)))) e
 
 pub entry_made : (p : Pattern) (tb : Table) (st m : Bool) (cs : List Bool) (x : ℕ) (left : Bool) (v : ℕ) → left ≡ leaves p cs st m false x → 0 < v → v < 2147483648 → IsState p tb v false (behind p cs st m false x) → IsEntry p tb st m cs x (v + (if left then 2147483648 else 0))
 entry_made p tb st m cs x true v l some small s = record {
@@ -193,17 +201,13 @@ entry_made p tb st m cs x false v l some small s = record {
   leads = λ a. absurd (omega (arith, a, small));
 }
 
--- the number of a state, and what is read of it
+-- what is read of a state
 module _ (p : Pattern) (tb : Table) (v : ℕ) (st : Bool) (cs : List Bool) (h : IsState p tb v st cs) where
-  pub number_of : v / 257 - 1 ≡ h.number
-  number_of = omega (arith, h.named)
+  pub start_of : nat_eq (state_number v) 0 ≡ st
+  start_of = sym h.start
 
-  pub start_of : nat_eq (v / 257 - 1) 0 ≡ st
-  start_of = ap (λ d. nat_eq d 0) number_of ∙ sym h.start
-
-  pub cells_of : (n : ℕ) → n ≡ count_of p → take n (drop ((v / 257 - 1) * n) tb.rows.items) ≡ cs
-  cells_of n e =
-      ap (λ d. take n (drop (d * n) tb.rows.items)) number_of ∙ ap (λ k. take k (drop (h.number * k) tb.rows.items)) e ∙ h.cells
+  pub cells_of : (n : ℕ) → n ≡ count_of p → take n (drop (state_number v * n) tb.rows.items) ≡ cs
+  cells_of n e = ap (λ k. take k (drop (state_number v * k) tb.rows.items)) e ∙ h.cells
 
 -- an entry is written
 grows_same : (p : Pattern) (tb tb' : Table) → tb'.rows.items ≡ tb.rows.items → tb'.count ≡ tb.count → tb'.limit ≡ tb.limit → Grows p tb tb'
@@ -222,14 +226,11 @@ table_set p tb tb' true steps t rows count limit on off h =
 table_set p tb tb' false steps t rows count limit on off h =
     table_more p tb tb' (grows_same p tb tb' rows count limit) t (subst (AreSteps p tb true) (sym on) t.on) (subst (AreSteps p tb false) (sym off) (h tb.off.items t.off))
 
-known_state : (p : Pattern) (tb : Table) (v : ℕ) (k : IsKnown tb v) → IsState p tb v (nat_eq k.number 0) (cells_at p tb.rows.items k.number)
-known_state p tb v k = record { number = k.number; known = k.known; named = k.named; start = refl; cells = refl }
-
 pub end_table : (p : Pattern) (tb tb' : Table) (state : ℕ) (m left : Bool) (at v : ℕ) → IsTable p tb → IsKnown tb state → ((st : Bool) (cs : List Bool) → IsState p tb state st cs → left ≡ leaves p cs st m true 0) → at ≡ state + 257 - 1 → v ≡ (if left then 2147483648 else 514) → tb'.rows.items ≡ tb.rows.items → tb'.count ≡ tb.count → tb'.limit ≡ tb.limit → tb'.on.items ≡ (if m then set tb.on.items at v else tb.on.items) → tb'.off.items ≡ (if m then tb.off.items else set tb.off.items at v) → IsTable p tb'
 end_table p tb tb' state m left at v t k left_is at_is v_is rows count limit on off =
     let same : at ≡ 257 * suc k.number + 256 = omega (arith, at_is, k.named) in
     table_set p tb tb' m (λ l. set l at v) t rows count limit on off
-    (λ l a. subst (λ i. AreSteps p tb m (set l i v)) (sym same) (steps_end p tb m l k.number v a t.most k.known (ending left v v_is (left_is _ _ (known_state p tb state k)))))
+    (λ l a. subst (λ i. AreSteps p tb m (set l i v)) (sym same) (steps_end p tb m l k.number v a t.most k.known (ending left v v_is (left_is _ _ (state_of p tb state k)))))
   where
     ending : (left : Bool) (v : ℕ) → v ≡ (if left then 2147483648 else 514) → left ≡ leaves p (cells_at p tb.rows.items k.number) (nat_eq k.number 0) m true 0 → IsEnding p (nat_eq k.number 0) m (cells_at p tb.rows.items k.number) v
     ending true v e l = record { miss = λ _ b. absurd (omega (arith, b, e)); hit = λ _. sym l }
@@ -260,7 +261,7 @@ module _ (p : Pattern) (tb : Table) (t : IsTable p tb) (state x : ℕ) (m left :
 
       pub learn_table : IsKnown tb state → x < 256 → tb3.on.items ≡ (if m then set tb2.on.items (state + x) v else tb2.on.items) → tb3.off.items ≡ (if m then tb2.off.items else set tb2.off.items (state + x) v) → IsTable p tb3
       learn_table k byte on off =
-          let here = subst (IsEntry p tb2 (nat_eq k.number 0) m (cells_at p tb.rows.items k.number) x) (sym v_is) (made tb2 grown lt e _ _ (known_state p tb state k)) in
+          let here = subst (IsEntry p tb2 (nat_eq k.number 0) m (cells_at p tb.rows.items k.number) x) (sym v_is) (made tb2 grown lt e _ _ (state_of p tb state k)) in
           let entry = subst (λ l. IsEntry p tb2 (nat_eq k.number 0) m l x v) (sym (g.same k.number k.known)) here in
           table_set p tb2 tb3 m (λ l. set l (state + x) v) grown rows count limit on off
           (λ l a. subst (λ i. AreSteps p tb2 m (set l (i + x) v)) (sym k.named) (steps_set p tb2 m l k.number x v a grown.most (omega (arith, k.known, g.up)) byte entry))

@@ -8,7 +8,7 @@ use Rattle.awk_ere.specs.Tree.{Tree, Matches}
 use Rattle.awk_ere.specs.Means.{Means}
 use Rattle.awk_ere.specs.Pass.{count_of, leaves, behind, idle_cells, IsStill}
 use Rattle.awk_ere.specs.Known.{IsKnown}
-use Rattle.awk_ere.specs.Table.{IsState, IsEntry, AreSteps, IsTable, cells_at}
+use Rattle.awk_ere.specs.Table.{state_number, IsState, IsEntry, AreSteps, IsTable, cells_at}
 use Rattle.awk_ere.specs.Runs.{Starts, Runs}
 use Rattle.awk_ere.specs.Found.{between, LastEnd, EndsBetween}
 use Rattle.awk_ere.specs.Stood.{Stood, Enters}
@@ -17,7 +17,7 @@ use Rattle.awk_ere.specs.declared.table.Table.{Table}
 use Rattle.awk_ere.specs.declared.walk.Walk.{Walk}
 use Rattle.awk_ere.proofs.Searches.{match_le, at_start, runs_fresh, next}
 use Rattle.awk_ere.proofs.Ends.{last_hit, last_miss, last_idle}
-use Rattle.awk_ere.proofs.Tables.{state_named}
+use Rattle.awk_ere.proofs.Tables.{state_at, state_named}
 
 -- behind the first place the text doesn't start
 started : (k : ℕ) → Starts false (k + 1)
@@ -60,17 +60,14 @@ table_steps p tb false h = h.off
 pub entry_of : (p : Pattern) (tb : Table) (m : Bool) → IsTable p tb → (v : ℕ) (st : Bool) (cs : List Bool) → IsState p tb v st cs → (x : ℕ) → x < 256 → IsEntry p tb st m cs x (get_or (if m then tb.on.items else tb.off.items) (v + x) 0)
 entry_of p tb m h v st cs k x lt =
     let steps = if m then tb.on.items else tb.off.items in
+    let d = state_number v in
     subst (λ l. IsEntry p tb st m l x (get_or steps (v + x) 0)) k.cells
-    (subst (λ b. IsEntry p tb b m (cells_at p tb.rows.items k.number) x (get_or steps (v + x) 0)) (sym k.start)
-    (subst (λ u. IsEntry p tb (nat_eq k.number 0) m (cells_at p tb.rows.items k.number) x (get_or steps (u + x) 0)) (sym k.named)
-    ((table_steps p tb m h).entries k.number x k.known lt)))
-
--- a known state stands for cells
-pub state_of : (p : Pattern) (tb : Table) (v : ℕ) (k : IsKnown tb v) → IsState p tb v (nat_eq k.number 0) (cells_at p tb.rows.items k.number)
-state_of p tb v k = record { number = k.number; known = k.known; named = k.named; start = refl; cells = refl }
+    (subst (λ b. IsEntry p tb b m (cells_at p tb.rows.items d) x (get_or steps (v + x) 0)) (sym k.start)
+    (subst (λ u. IsEntry p tb (nat_eq d 0) m (cells_at p tb.rows.items d) x (get_or steps (u + x) 0)) (sym k.named)
+    ((table_steps p tb m h).entries d x k.known lt)))
 
 pub known_of : (p : Pattern) (tb : Table) (v : ℕ) (st : Bool) (cs : List Bool) → IsState p tb v st cs → IsKnown tb v
-known_of p tb v st cs h = record { number = h.number; known = h.known; named = h.named }
+known_of p tb v st cs h = record { number = state_number v; known = h.known; named = h.named }
 
 -- within the table
 pub entry_within : (p : Pattern) (tb : Table) (m : Bool) → IsTable p tb → (v x : ℕ) → IsKnown tb v → x < 257 → v + x < length (if m then tb.on.items else tb.off.items)
@@ -90,7 +87,7 @@ stood_same p tb s t from w w' h place state end = record {
 module _ (p : Pattern) (tb : Table) (table : IsTable p tb) (s : List ℕ) (bytes : (k : ℕ) → get_or s k 0 < 256) (t : Tree) (means : Means t p) (from : ℕ → Bool) (m : Bool) where
   idle_entry : IsStill p m → (w : Walk) (h : Stood p tb s t from w) → w.state ≡ 514 → IsEntry p tb h.start m h.cells (get_or s w.place 0) 514
   idle_entry still w h e =
-      let one : h.state.number ≡ 1 = omega (arith, e, h.state.named) in
+      let one : state_number w.state ≡ 1 = omega (arith, e) in
       let start : h.start ≡ false = h.state.start ∙ ap (λ d. nat_eq d 0) one in
       let cells = sym h.state.cells ∙ ap (cells_at p tb.rows.items) one ∙ table.idle in
       let x = get_or s w.place 0 in
@@ -123,8 +120,8 @@ stood_begin p tb table s t means from w begun state end = record {
 }
   where
     first_state : (b : Bool) → IsState p tb (if b then 257 else 514) b (idle_cells p)
-    first_state true = record { number = 0; known = omega (arith, table.least); named = refl; start = refl; cells = table.start }
-    first_state false = record { number = 1; known = omega (arith, table.least); named = refl; start = refl; cells = table.idle }
+    first_state true = state_at p tb 257 true (idle_cells p) 0 (omega (arith, table.least)) refl refl table.start
+    first_state false = state_at p tb 514 false (idle_cells p) 1 (omega (arith, table.least)) refl refl table.idle
 
 zeros : (n i : ℕ) → get_or (replicate n false) i false ≡ false
 zeros n i =
@@ -142,8 +139,7 @@ none_at p tb table s t means k within byte e j mt =
     let h = stood_begin p tb table s t means only w (λ i f. leb-true k i (and_parts _ _ f).0) refl refl in
     let entry = subst (IsEntry p tb h.start true h.cells (get_or s k 0)) e (entry_of p tb true table w.state h.start h.cells h.state (get_or s k 0) byte) in
     let h' = stood_miss p tb tb s t means only w h true here within 514 entry w' refl (omega arith) (omega arith) refl refl in
-    let one : h'.state.number ≡ 1 = omega (arith, h'.state.named) in
-    let idle = sym h'.state.cells ∙ ap (cells_at p tb.rows.items) one ∙ table.idle in
+    let idle = sym h'.state.cells ∙ table.idle in
     let up = match_le s t k j mt in
     last_idle s t p means only (k + 1) h'.cells h'.runs (j + 1) None (λ n. ap (λ l. get_or l n false) idle ∙ zeros (count_of p) n)
     (λ i f. let le = leb-true i k (and_parts _ _ f).1 in omega (arith, le)) h'.last k j (sym here) (omega arith) mt

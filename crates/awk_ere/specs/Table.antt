@@ -1,6 +1,6 @@
 -- A table of passes that are known. A state of it is a list of cells, and is named by the place where its
 -- entries begin: 257 of them, one for each byte and one for the end of the text.
-use Rattle.std.specs.Prelude.{◌≡◌, ℕ, suc, ◌+◌, ◌-◌, ◌*◌, ◌<◌, ◌≤◌, Bool, true, false, nat_eq, List, length, take, drop, slice_index}
+use Rattle.std.specs.Prelude.{◌≡◌, ℕ, suc, ◌+◌, ◌-◌, ◌*◌, ◌/◌, ◌<◌, ◌≤◌, Bool, true, false, nat_eq, List, length, take, drop, slice_index}
 use Rattle.awk_ere.specs.Pass.{count_of, leaves, behind, idle_cells, IsStill, AreFor}
 use Rattle.awk_ere.specs.declared.pattern.Pattern.{Pattern}
 use Rattle.awk_ere.specs.declared.table.Table.{Table}
@@ -10,13 +10,16 @@ use Rattle.awk_ere.specs.declared.scratch.Scratch.{Scratch}
 abbrev pub cells_at : Pattern → List Bool → ℕ → List Bool
 cells_at p rows d = take (count_of p) (drop (d * count_of p) rows)
 
+-- the number of the state with this name
+abbrev pub state_number : ℕ → ℕ
+state_number v = v / 257 - 1
+
 -- a state that is in the table. The first one is the start of the text.
 pub record IsState (p : Pattern) (tb : Table) (v : ℕ) (st : Bool) (cs : List Bool) : Type 0 where
-  pub number : ℕ
-  pub known : number < tb.count
-  pub named : v ≡ 257 * suc number
-  pub start : st ≡ nat_eq number 0
-  pub cells : cells_at p tb.rows.items number ≡ cs
+  pub known : state_number v < tb.count
+  pub named : v ≡ 257 * suc (state_number v)
+  pub start : st ≡ nat_eq (state_number v) 0
+  pub cells : cells_at p tb.rows.items (state_number v) ≡ cs
 
 -- an entry: 0 is unknown, and else it is a state, with 2^31 added where the flow leaves before the byte x
 pub record IsEntry (p : Pattern) (tb : Table) (st m : Bool) (cs : List Bool) (x v : ℕ) : Type 0 where

@@ -1,7 +1,8 @@
 use Rattle.std.proofs.Common.{◌-◌, sym, subst, ⊎_elim}
 use Rattle.std.proofs.lemmas.Bool.{cases_lt}
 use Rattle.awk_ere.specs.Known.{IsKnown}
-use Rattle.awk_ere.proofs.Walks.{known_of, state_of, stood_miss, stood_hit}
+use Rattle.awk_ere.proofs.Tables.{state_of}
+use Rattle.awk_ere.proofs.Walks.{known_of, stood_miss, stood_hit}
 use Rattle.awk_ere.proofs.pattern.Pattern.advance.Goals as goal
 
 pub returns-clause-known : goal.returns-clause-known

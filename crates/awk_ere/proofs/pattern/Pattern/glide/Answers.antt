@@ -1,7 +1,8 @@
 use Rattle.std.proofs.Common.{◌+◌, ◌<◌, length, refl, sym, ap, subst, arith, get_or}
 use Rattle.awk_ere.specs.Table.{IsEntry}
 use Rattle.awk_ere.specs.declared.walk.Walk.{Walk}
-use Rattle.awk_ere.proofs.Walks.{entry_of, entry_within, known_of, state_of, stood_miss}
+use Rattle.awk_ere.proofs.Tables.{state_of}
+use Rattle.awk_ere.proofs.Walks.{entry_of, entry_within, known_of, stood_miss}
 use Rattle.awk_ere.proofs.pattern.Pattern.glide.Goals as goal
 
 pub bounds-steps-state : goal.bounds-steps-state
