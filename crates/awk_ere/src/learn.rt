@@ -158,6 +158,7 @@ impl Table {
     fn find_or_add(&mut self, cells: &[bool]) -> Option<usize>
         requires some { 0 < self.old.count }
         requires count { self.old.count ≤ self.old.limit }
+        requires few { self.old.limit < 1000000 }
         requires rows { self.old.limit * length cells.now ≤ length self.old.rows.items }
         ensures known { IfSome result (λ d. (0 < d) × (d < self.new.count)) }
         ensures cells { IfSome result (λ d. (p : Pattern) → length cells.now ≡ count_of p → cells_at p self.new.rows.items d ≡ cells.now) }
@@ -175,6 +176,7 @@ impl Table {
     // A new state of these cells.
     fn add(&mut self, cells: &[bool]) -> usize
         requires room { self.old.count < self.old.limit }
+        requires few { self.old.limit < 1000000 }
         requires rows { self.old.limit * length cells.now ≤ length self.old.rows.items }
         ensures number { result ≡ self.old.count }
         ensures cells { (p : Pattern) → length cells.now ≡ count_of p → cells_at p self.new.rows.items result ≡ cells.now }

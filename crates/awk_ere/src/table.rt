@@ -20,6 +20,8 @@ pub(crate) struct Table {
     pub(crate) count: usize,
     /// How many states there may be.
     pub(crate) limit: usize,
+    /// For a hash of cells the number of the last state that was added under it.
+    slots: Vec<u32>,
 }
 
 /// How many entries a state has: one for each byte, and one for the end of the text.
@@ -55,9 +57,21 @@ fn limit_for(count: usize) -> usize
     ensures least { 3 ≤ result }
     ensures most { result < 1000000 }
 {
-    let wanted = count.saturating_mul(2).saturating_add(8);
+    let wanted = count.saturating_mul(8).saturating_add(8);
     let fits = BUDGET / count.saturating_add(8 * WIDTH);
     wanted.min(fits).max(3)
+}
+
+// How many bits a slot's number has.
+const SLOT_BITS: u32 = 10;
+
+// The slot of a state's cells: the upper bits of their hash, by Fowler, Noll and Vo.
+fn slot_of(cells: &[bool]) -> usize {
+    let mut hash: u64 = 0xcbf2_9ce4_8422_2325;
+    for cell in cells {
+        hash = (hash ^ u64::from(*cell)).wrapping_mul(0x0000_0100_0000_01b3);
+    }
+    (hash >> (u64::BITS - SLOT_BITS)) as usize
 }
 
 // The entry that leads to the state with a number, where the flow leaves before the byte or not.
@@ -88,12 +102,14 @@ impl Table {
         }
         let on = vec![in alloc; 0; WIDTH * (limit + 1)]?;
         let off = vec![in alloc; 0; WIDTH * (limit + 1)]?;
+        let slots = vec![in alloc; 0; 1 << SLOT_BITS]?;
         Ok(Table {
             rows,
             on,
             off,
             count: 2,
             limit,
+            slots,
         })
     }
 
@@ -136,7 +152,8 @@ impl Table {
 
     // Writes the cells of the state with a number.
     pub(crate) fn store(&mut self, number: usize, cells: &[bool])
-        requires { number * length cells.now + length cells.now ≤ length self.old.rows.items }
+        requires within { number * length cells.now + length cells.now ≤ length self.old.rows.items }
+        requires few { number < 1000000 }
         ensures row { take (length cells.now) (drop (number * length cells.now) self.new.rows.items) ≡ cells.now }
         ensures others { (d : ℕ) → d < number →
             take (length cells.now) (drop (d * length cells.now) self.new.rows.items)
@@ -148,23 +165,25 @@ impl Table {
         ensures limit { self.new.limit ≡ self.old.limit }
     {
         write_row(self.rows.as_mut_slice(), number, cells);
+        if let Some(slot) = self.slots.get_mut(slot_of(cells)) {
+            *slot = number as u32;
+        }
     }
 
-    // The number of a state with these cells, but for the first.
+    // The number of a state with these cells, but for the first. It is looked for in one slot, so it may be missed.
     pub(crate) fn find(&self, cells: &[bool]) -> Option<usize>
         requires { self.now.count * length cells.now ≤ length self.now.rows.items }
         ensures { IfSome result (λ d. (0 < d) × (d < self.now.count)
             × (take (length cells.now) (drop (d * length cells.now) self.now.rows.items) ≡ cells.now)) }
     {
-        let n = cells.len();
-        for d in 1..self.count {
-            let at = d * n;
-            let row = &self.rows.as_slice()[at..at + n];
-            if row == cells {
-                return Some(d);
-            }
+        let d = *self.slots.get(slot_of(cells))? as usize;
+        if d == 0 || self.count <= d {
+            return None;
         }
-        None
+        let n = cells.len();
+        let at = d * n;
+        let row = &self.rows.as_slice()[at..at + n];
+        if row == cells { Some(d) } else { None }
     }
 
     // Forgets all states but the first two.

@@ -12,7 +12,6 @@ same_row m n xs ys r e t =
 
 pub returns-then-eq : goal.returns-then-eq
 returns-then-eq c =
-    let d = c.loop-d.d in
+    let d = c.in_ok-d.field-0.now in
     let n = length c.args.cells.now in
-    let rows = c.args.self.now.rows.items in
-    (omega arith, c.loop-d-test.true, ap (λ l. take n (drop (d * n) l)) (sym c.as_slice.ensures.value) ∙ same_row (d * n) n (drop (d * n) c.as_slice.result.now) c.args.cells.now c.eq.result c.eq.ensures c.if-eq.true)
+    (omega (arith, c.if-d-eq0.false), omega (arith, c.if-self-d.false), ap (λ l. take n (drop (d * n) l)) (sym c.as_slice.ensures.value) ∙ same_row (d * n) n (drop (d * n) c.as_slice.result.now) c.args.cells.now c.eq.result c.eq.ensures c.if-eq.true)
