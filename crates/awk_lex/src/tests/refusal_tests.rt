@@ -48,6 +48,18 @@ fn codes(rt: HostRuntime) -> Result<(), Fail> {
         (Code::ProgramTooLong, "line 3: refusal L6: program too long"),
         (Code::NotAProgram, "line 3: refusal S1: not a program"),
         (Code::NestedTooDeep, "line 3: refusal S2: nested too deep"),
+        (
+            Code::PatternIllFormed,
+            "line 3: refusal P1: pattern ill-formed",
+        ),
+        (
+            Code::PatternCountRefused,
+            "line 3: refusal P2: interval or range refused",
+        ),
+        (
+            Code::PatternTooLarge,
+            "line 3: refusal P3: pattern too large",
+        ),
         (Code::ArrayAndScalar, "line 3: refusal K1: array and scalar"),
         (Code::NameLeftOut, "line 3: refusal K7: name left out"),
         (Code::OutOfMemory, "line 3: refusal M0: out of memory"),
