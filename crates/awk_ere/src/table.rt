@@ -1,6 +1,6 @@
 // The passes over a program that are known, as a table.
 
-ghost use Rattle.std.specs.Prelude.{◌≡◌, ℕ, suc, ◌+◌, ◌*◌, ◌<◌, ◌≤◌, length, take, drop, slice_index, slice_set, IfSome, IfOk, IfErr, replicate, false, if◌then◌else◌};
+ghost use Rattle.std.specs.Prelude.{◌≡◌, ℕ, suc, ◌+◌, ◌*◌, ◌<◌, ◌≤◌, length, take, drop, slice_index, slice_set, true, IfSome, IfOk, IfErr, replicate, false, if◌then◌else◌};
 ghost use Rattle.awk_ere.specs.Table.{cells_at};
 
 use crate::fault::PatternFault;
@@ -170,20 +170,36 @@ impl Table {
         }
     }
 
-    // The number of a state with these cells, but for the first. It is looked for in one slot, so it may be missed.
+    // Whether the state with a number has these cells.
+    fn has_row(&self, number: usize, cells: &[bool]) -> bool
+        requires { number * length cells.now + length cells.now ≤ length self.now.rows.items }
+        ensures { result ≡ true → take (length cells.now) (drop (number * length cells.now) self.now.rows.items) ≡ cells.now }
+    {
+        let n = cells.len();
+        let at = number * n;
+        let row = &self.rows.as_slice()[at..at + n];
+        row == cells
+    }
+
+    // The number of a state with these cells, but for the first. Others than the second are looked for in
+    // one slot, so they may be missed.
     pub(crate) fn find(&self, cells: &[bool]) -> Option<usize>
         requires { self.now.count * length cells.now ≤ length self.now.rows.items }
         ensures { IfSome result (λ d. (0 < d) × (d < self.now.count)
             × (take (length cells.now) (drop (d * length cells.now) self.now.rows.items) ≡ cells.now)) }
     {
-        let d = *self.slots.get(slot_of(cells))? as usize;
-        if d == 0 || self.count <= d {
+        if 1 < self.count && self.has_row(1, cells) {
+            return Some(1);
+        }
+        let number = *self.slots.get(slot_of(cells))? as usize;
+        if number == 0 || self.count <= number {
             return None;
         }
-        let n = cells.len();
-        let at = d * n;
-        let row = &self.rows.as_slice()[at..at + n];
-        if row == cells { Some(d) } else { None }
+        if self.has_row(number, cells) {
+            Some(number)
+        } else {
+            None
+        }
     }
 
     // Forgets all states but the first two.

@@ -3,15 +3,15 @@ use Rattle.std.proofs.Math.Bool.{beq}
 use Rattle.std.specs.Cmp.{booleans_Decides}
 use lib.Pointwise.{pointwise}
 use Rattle.std.proofs.lemmas.Slice.Eq.{slice_eq-Decides}
-use Rattle.awk_ere.proofs.table.Table.find.Goals as goal
+use Rattle.awk_ere.proofs.table.Table.has_row.Goals as goal
 
 same_row : (m n : ℕ) (xs ys : List Bool) → (r : Bool) → r ≡ pointwise beq (take (m + n - m) xs) ys → r ≡ true → take n xs ≡ ys
 same_row m n xs ys r e t =
     let z : m + n - m ≡ n = omega arith in
     ap (λ k. take k xs) (sym z) ∙ (slice_eq-Decides booleans_Decides (take (m + n - m) xs) ys r e).0 t
 
-pub returns-then-eq : goal.returns-then-eq
-returns-then-eq c =
-    let d = c.in_ok-d.field-0.now in
+pub returns : goal.returns
+returns c = λ is.
+    let m = c.args.number * length c.args.cells.now in
     let n = length c.args.cells.now in
-    (omega (arith, c.if-d-eq0.false), omega (arith, c.if-self-d.false), ap (λ l. take n (drop (d * n) l)) (sym c.as_slice.ensures.value) ∙ same_row (d * n) n (drop (d * n) c.as_slice.result.now) c.args.cells.now c.eq.result c.eq.ensures c.if-eq.true)
+    ap (λ l. take n (drop m l)) (sym c.as_slice.ensures.value) ∙ same_row m n (drop m c.as_slice.result.now) c.args.cells.now c.eq.result c.eq.ensures is
