@@ -1,13 +1,15 @@
 #!/bin/sh
 # Times a small program that counts the lines of a file in which the library awk_ere finds a pattern,
-# beside the other awks of this machine, and prints a row for each pattern: the least seconds of the
-# rounds, and how many lines match. The program is made, proved and built in a folder of its own, over
-# what the repository has built.  Needs GNU time, seq, sed, tr and paste.
+# beside the other awks of this machine, and prints a row for each pattern: how many lines match, and
+# the least seconds of the rounds. A run is stopped after 20 seconds. The program is made, proved and
+# built in a folder of its own, over what the repository has built. Needs GNU time, timeout, seq, sed,
+# tr and paste.
 #
 #   bench/lines.sh [ROUNDS]
 set -eu
 
 rounds=${1:-3}
+most=20
 root=$(CDPATH='' cd "$(dirname "$0")/.." && pwd -P)
 work=$(mktemp -d)
 trap 'rm -rf "$work"' EXIT
@@ -115,8 +117,9 @@ measure() {
     this) set -- "$1" "$3" "$program/out/count_lines" "$2" ;;
     *) set -- "$1" "$3" "$1" "/$2/ { n++ } END { print n + 0 }" ;;
     esac
-    LC_ALL=C command time -f '%e' -o "$work/$1.times" -a "$3" "$4" <"$work/$2" >"$work/$1.output"
-    cmp -s "$work/this.output" "$work/$1.output" || echo "$1 counts something else for $4" >&2
+    ! LC_ALL=C command time -q -f '%e' -o "$work/$1.times" -a timeout "$most" "$3" "$4" \
+        <"$work/$2" >"$work/$1.output" || cmp -s "$work/this.output" "$work/$1.output" ||
+        echo "$1 counts something else for $4" >&2
 }
 
 # A row: the least seconds of each.
