@@ -1,4 +1,5 @@
 pub mod Command
+pub mod Entry
 pub mod Held
 pub mod Invocation
 pub mod Open

@@ -120,7 +120,8 @@ fn word_of(word: &[u8]) -> Word
     }
 }
 
-fn first_equals_sign(value: &[u8]) -> Option<usize>
+/// Where the first `=` stands.
+pub fn first_equals_sign(value: &[u8]) -> Option<usize>
     ensures { result ≡ position (λ b. b == 61) value.now }
 {
     value.iter().position(|byte| *byte == b'=')

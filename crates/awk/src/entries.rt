@@ -1,7 +1,12 @@
 // The words after the program's name and the entries of the environment, as bytes.
 
+ghost use Rattle.std.specs.Prelude.{◌≡◌, IfOk};
+ghost use Rattle.std.specs.Option.{option_map};
 ghost use Rattle.std.specs.Io.{WritesAtMost};
+ghost use Rattle.awk_run.specs.Start.{pair_of};
+ghost use Rattle.awk.specs.Entry.{entry_of};
 
+use crate::command::first_equals_sign;
 use awk_run::Assignment;
 use std::alloc::{AllocError, Global};
 use std::env::{Env, FillError};
@@ -61,8 +66,10 @@ pub fn given_words<R: Env>(rt: &R, alloc: Global) -> Result<Vec<Vec<u8>>, AllocE
 }
 
 /// The name and the text of an entry `name=text`.
-fn assignment(alloc: Global, entry: &[u8]) -> Result<Option<Assignment>, AllocError> {
-    let Some(at) = entry.iter().position(|byte| *byte == b'=') else {
+fn assignment(alloc: Global, entry: &[u8]) -> Result<Option<Assignment>, AllocError>
+    ensures { IfOk result (λ read. option_map pair_of read ≡ entry_of entry.now) }
+{
+    let Some(at) = first_equals_sign(entry) else {
         return Ok(None);
     };
     Ok(Some(Assignment {
