@@ -36,3 +36,4 @@ pub mod Validated
 pub mod Refusing
 pub mod Tables
 pub mod Walks
+pub mod Literals

@@ -1,5 +1,5 @@
 -- What the table keeps where an entry or a state is added.
-use Rattle.std.proofs.Common.{◌≡◌, ℕ, suc, ◌+◌, ◌-◌, ◌*◌, ◌/◌, ◌<◌, ◌≤◌, List, length, take, drop, Bool, true, false, refl, sym, ap, ◌∙◌, subst, ⊎_elim, arith, get_or, set, replicate}
+use Rattle.std.proofs.Common.{◌≡◌, ℕ, suc, ◌+◌, ◌-◌, ◌*◌, ◌<◌, ◌≤◌, List, length, take, drop, Bool, true, false, refl, sym, ap, ◌∙◌, subst, ⊎_elim, arith, get_or, set, replicate}
 use Rattle.std.specs.Prelude.{nat_eq, if◌then◌else◌}
 use Rattle.std.proofs.lemmas.List.{length-set, take-replicate, drop-replicate, get_or-set_same, get_or-set_other, get_or-replicate, length-replicate}
 use Rattle.std.proofs.Math.Nat.{mul-le-mul_right}

@@ -13,6 +13,7 @@ pub mod Machine
 pub mod Flow
 pub mod Pass
 pub mod Known
+pub mod Literal
 pub mod Table
 pub mod Runs
 pub mod Fault

@@ -2,6 +2,7 @@
 -- entries begin: 257 of them, one for each byte and one for the end of the text.
 use Rattle.std.specs.Prelude.{◌≡◌, ℕ, suc, ◌+◌, ◌-◌, ◌*◌, ◌/◌, ◌<◌, ◌≤◌, Bool, true, false, nat_eq, List, length, take, drop, slice_index}
 use Rattle.awk_ere.specs.Pass.{count_of, leaves, behind, idle_cells, IsStill, AreFor}
+use Rattle.awk_ere.specs.Literal.{IsLiteral}
 use Rattle.awk_ere.specs.declared.pattern.Pattern.{Pattern}
 use Rattle.awk_ere.specs.declared.table.Table.{Table}
 use Rattle.awk_ere.specs.declared.scratch.Scratch.{Scratch}
@@ -65,3 +66,4 @@ pub record IsFor (s : Scratch) (p : Pattern) : Type 0 where
   pub marks : AreFor s.marks p
   pub table : IsTable p s.table
   pub anchored : s.anchored ≡ true → IsStill p true
+  pub literal : IsLiteral s.literal p

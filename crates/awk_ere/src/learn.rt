@@ -29,10 +29,12 @@ impl Scratch {
         };
         let table = Table::for_count(alloc, count)?;
         let anchored = pattern.is_anchored(&mut marks);
+        let literal = pattern.literal(alloc)?;
         Ok(Scratch {
             marks,
             table,
             anchored,
+            literal,
         })
     }
 }

@@ -13,6 +13,7 @@ mod frame;
 mod interval;
 pub mod laws;
 pub mod learn;
+mod literal;
 mod machine;
 pub mod newline;
 pub mod pattern;

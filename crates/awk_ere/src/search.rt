@@ -143,6 +143,9 @@ impl Pattern {
         ensures decided { (t : Tree) → Means t self.now → result ≡ occurs t text.now }
         ensures same { IsFor scratch.new self.now }
     {
+        if let Some(finder) = &scratch.literal {
+            return finder.find(text).is_some();
+        }
         self.end_between(text, 0, text.len(), scratch).is_some()
     }
 

@@ -62,6 +62,9 @@ const STARS: &[Op] = &[
     B,
 ];
 
+// ab
+const TEXT: &[Op] = &[A, B];
+
 // ^a
 const FRONT: &[Op] = &[Op::Start, A];
 
@@ -89,7 +92,19 @@ const DIGITS: &[Op] = &[Op::Enter(2), DIGIT, Op::Leave, A];
 // nothing
 const EMPTY: &[Op] = &[];
 
-const SEARCHES: [Search; 26] = [
+const SEARCHES: [Search; 28] = [
+    Search {
+        ops: TEXT,
+        text: "aaba",
+        from: 0,
+        found: Some((1, 3)),
+    },
+    Search {
+        ops: TEXT,
+        text: "bba",
+        from: 0,
+        found: None,
+    },
     Search {
         ops: WORDS,
         text: "xabcabc",

@@ -1,7 +1,18 @@
 -- A match is found where one is decided to be.
-use Rattle.std.proofs.Common.{◌∙◌}
-use Rattle.awk_ere.proofs.Occurring.{tells_ends}
+use Rattle.std.proofs.Common.{sym, ◌∙◌}
+use Rattle.awk_ere.proofs.Occurring.{occurs_sound, occurs_complete, tells_ends}
+use Rattle.awk_ere.proofs.Literals.{literal_tells}
 use Rattle.awk_ere.proofs.pattern.Pattern.is_match.Goals as goal
 
+pub returns-in-Some-clause-decided : goal.returns-in-Some-clause-decided
+returns-in-Some-clause-decided c t means =
+    let literal = c.requires.literal c.in-Some.finder c.in-Some.is in
+    c.is_some.ensures ∙ literal_tells t c.args.self.now c.args.text.now c.in-Some.finder c.find.result means literal c.find.ensures
+
+pub returns-in-Some-clause-found : goal.returns-in-Some-clause-found
+returns-in-Some-clause-found c t means =
+    let decided = returns-in-Some-clause-decided c t means in
+    (λ e. occurs_sound t _ means.0 (sym decided ∙ e), λ o. decided ∙ occurs_complete t _ o)
+
 pub returns-clause-decided : goal.returns-clause-decided
-returns-clause-decided c t means = c.is_some.ensures ∙ tells_ends t _ _ means.0 (c.end_between.ensures.found t means)
+returns-clause-decided c t means = c.is_some-2.ensures ∙ tells_ends t _ _ means.0 (c.end_between.ensures.found t means)

@@ -37,6 +37,7 @@ returns-in-Some-clause-same c =
           c.in-Some.number c.in-Some.ensures.known.0 new c.set.new.self grows on off c.in-Some.ensures.known.1 (c.in-Some.ensures.cells p len)
           c.entry_to-entry.result c.entry_to-entry.ensures c.set.ensures.rows c.set.ensures.count c.set.ensures.limit c.requires.known (omega arith) c.set.ensures.on c.set.ensures.off;
       anchored = hit.ensures.same.anchored;
+      literal = hit.ensures.same.literal;
     }
 
 pub returns-in-None-clause-entry : goal.returns-in-None-clause-entry
@@ -78,4 +79,5 @@ returns-in-None-clause-same c =
           c.add.new.self c.clear.ensures.rows c.clear.ensures.count c.clear.ensures.limit c.clear.ensures.on_len c.clear.ensures.off_len c.clear.ensures.on c.clear.ensures.off
           (c.add.ensures.grows p len) c.add.ensures.on c.add.ensures.off;
       anchored = hit.ensures.same.anchored;
+      literal = hit.ensures.same.literal;
     }

@@ -23,4 +23,5 @@ returns-clause-same c =
           (c.set.ensures.on ∙ ap (λ a. if c.args.entering then set a.on.items (c.args.state + 257 - 1) c.if-leaves.set else a.on.items) same)
           (c.set.ensures.off ∙ ap (λ a. if c.args.entering then a.off.items else set a.off.items (c.args.state + 257 - 1) c.if-leaves.set) same);
       anchored = c.pass_from-leaves.ensures.same.anchored;
+      literal = c.pass_from-leaves.ensures.same.literal;
     }

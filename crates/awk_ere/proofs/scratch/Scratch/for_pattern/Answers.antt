@@ -9,4 +9,5 @@ returns c =
       marks = c.is_anchored-anchored.ensures.same;
       table = table_begun c.args.pattern.now c.in_ok-table.table c.len-count.result (search rules) made.count made.least made.most made.rows made.on made.off;
       anchored = c.is_anchored-anchored.ensures.still;
+      literal = c.in_ok-literal.ensures.literal;
     }
