@@ -5,3 +5,4 @@ mod entries;
 mod programs;
 mod refusals;
 mod rows;
+mod runs;

@@ -15,8 +15,6 @@ mod patterns;
 mod run;
 mod start;
 mod statements;
-#[cfg(test)]
-mod tests;
 mod variables;
 
 pub use laws::law_of_limits;

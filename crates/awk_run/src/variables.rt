@@ -7,8 +7,6 @@ ghost use Rattle.awk_run.specs.Specials.{kept_at};
 
 mod fault;
 mod special;
-#[cfg(test)]
-mod tests;
 
 use awk_text::{Separator, TextFault};
 use awk_value::{Bytes, Value};

@@ -191,8 +191,28 @@ $ { NR = NR + 10; FNR = "x"; print NR, FNR }
 > 11 x
 > 22 x
 = 0
-$ BEGIN { print ARGC, CONVFMT, OFMT, (SUBSEP == "\034"), (RSTART == 0) }
-> 1 %.6g %.6g 1 1
+$ BEGIN { print ARGC, CONVFMT, OFMT, (SUBSEP == "\034"), NR, FNR, NF }
+> 1 %.6g %.6g 1 0 0 0
+= 0
+$ BEGIN { print FS == " ", OFS == " ", ORS == "\n", RS == "\n" }
+> 1 1 1 1
+= 0
+$ BEGIN { print FILENAME == 0, FILENAME == "", RSTART == 0, RLENGTH == "" }
+> 1 1 1 1
+= 0
+$ BEGIN { OFS = x = "one"; print x, OFS; OFS = x = 2; print x, OFS }
+> oneoneone
+> 222
+= 0
+$ BEGIN { FS = 1 } NR == 2 { FS = "x" } NR == 3 { FS = " " } { print $2 }
+< a b1c d
+< 213
+< a bxc
+< 4 5 6
+> c d
+> 3
+> c
+> 5
 = 0
 $ -F
 $ :
@@ -313,6 +333,14 @@ $ { print 1, 7 % x }
 = 2
 $ { FS = "ab" }
 < a
+! awk: fault 6: pattern refused
+= 2
+$ BEGIN { FS = "," } { print $2; FS = "" }
+< a,b
+> b
+! awk: fault 6: pattern refused
+= 2
+$ BEGIN { FS = x }
 ! awk: fault 6: pattern refused
 = 2
 $ BEGIN { RS = "" } { print }

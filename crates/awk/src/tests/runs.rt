@@ -1,10 +1,9 @@
-// Runs over a world in memory: what no clause says is that a run finds memory. Rows of programs and what
-// they print stand with the program itself.
+// Runs by `execute` itself, which the program is made of.
 
-use crate::{
+use awk_lex::refusal::{Code, Refusal};
+use awk_run::{
     Assignment, Fault, Outcome, Start, execute, fault_line, law_of_limits, one_program, status,
 };
-use awk_lex::refusal::{Code, Refusal};
 use awk_streams::{Answer, InputKind, ScriptWorld};
 use std::alloc::{AllocError, Global};
 use std::process::Abort;
