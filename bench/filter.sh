@@ -18,10 +18,7 @@ seq 1000001 3000000 | sed \
 
 "$root/awk" '' </dev/null
 
-names=this
-for name in mawk gawk; do
-    ! command -v "$name" >/dev/null || names="$names $name"
-done
+. "$root/bench/rounds.sh"
 
 # Runs one of them on the input, and notes its seconds and its peak memory.
 measure() {
@@ -36,19 +33,9 @@ measure() {
 echo '| program | awk | seconds, least | seconds, most | peak memory, KB | lines |'
 echo '|---|---|---|---|---|---|'
 for program in '/missing/' '/item[0-9]+x3 /' '/(status 1|status 2|ab)55c/' '/^GET .* 404 [a-z]+/'; do
-    rm -f "$work"/*.times
-    round=0
-    while [ "$round" -lt "$rounds" ]; do
-        round=$((round + 1))
-        for name in $names; do
-            measure "$name" "$program"
-        done
-    done
+    take_rounds "$program"
     for name in $names; do
-        sort -n "$work/$name.times" | sed -n -e 's/ .*//' -e '1p' -e '$p' >"$work/ends"
-        peak=$(sed 's/.* //' "$work/$name.times" | sort -n | tail -n 1)
-        lines=$(wc -l <"$work/$name.output")
-        shown=$(printf '%s' "$program" | sed 's/|/\\|/g')
-        echo "| \`$shown\` | $name | $(sed -n 1p "$work/ends") | $(sed -n '$p' "$work/ends") | $peak | $lines |"
+        printf '| `%s` | %s | %s | %s | %s | %s |\n' "$(in_table "$program")" "$name" "$(least_seconds "$name")" \
+            "$(most_seconds "$name")" "$(peak_memory "$name")" "$(wc -l <"$work/$name.output")"
     done
 done

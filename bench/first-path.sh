@@ -17,10 +17,7 @@ seq 1000001 2000000 | sed 's/^.*\(..\)$/\1 word&/' >"$work/input"
 
 "$root/awk" "$program" <"$work/input" >"$work/expected"
 
-names=this
-for name in mawk gawk; do
-    ! command -v "$name" >/dev/null || names="$names $name"
-done
+. "$root/bench/rounds.sh"
 
 # Runs one of them on the input, and notes its seconds and its peak memory.
 measure() {
@@ -32,19 +29,10 @@ measure() {
     cmp -s "$work/expected" "$work/output" || echo "$1 prints something else" >&2
 }
 
-# They take turns, so that what else goes on falls on each of them.
-round=0
-while [ "$round" -lt "$rounds" ]; do
-    round=$((round + 1))
-    for name in $names; do
-        measure "$name"
-    done
-done
+take_rounds
 
 echo '| awk | seconds, least | seconds, most | peak memory, KB |'
 echo '|---|---|---|---|'
 for name in $names; do
-    sort -n "$work/$name.times" | sed -n -e 's/ .*//' -e '1p' -e '$p' >"$work/ends"
-    peak=$(sed 's/.* //' "$work/$name.times" | sort -n | tail -n 1)
-    echo "| $name | $(sed -n 1p "$work/ends") | $(sed -n '$p' "$work/ends") | $peak |"
+    echo "| $name | $(least_seconds "$name") | $(most_seconds "$name") | $(peak_memory "$name") |"
 done

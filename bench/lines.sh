@@ -9,7 +9,7 @@
 set -eu
 
 rounds=${1:-3}
-most=20
+limit=20
 root=$(CDPATH='' cd "$(dirname "$0")/.." && pwd -P)
 work=$(mktemp -d)
 trap 'rm -rf "$work"' EXIT
@@ -19,7 +19,7 @@ program=$work/crates/count_lines
 mkdir -p "$program/src"
 cp -R "$root/crates/awk_ere" "$work/crates/awk_ere"
 cp "$root/HANDLES" "$work/HANDLES"
-printf 'awk_ere:\ncount_lines: awk_ere memchr\n' >"$work/crates.txt"
+printf 'awk_ere: memchr\ncount_lines: awk_ere memchr\n' >"$work/crates.txt"
 cat >"$program/src/main.rt" <<'PROGRAM'
 //! Counts the lines of standard input that the pattern, its first word, matches somewhere.
 #![tactic(auto)]
@@ -106,10 +106,7 @@ head -c 1000000 /dev/zero | tr '\0' a >"$work/long"
 echo >>"$work/long"
 seq 1000001 3 3400000 | tr 1357902468 aaaaabbbbb | paste -s -d '\0\0\0\0\0\0\n' - >"$work/pairs"
 
-names=this
-for name in mawk gawk; do
-    ! command -v "$name" >/dev/null || names="$names $name"
-done
+. "$root/bench/rounds.sh"
 
 # Runs one of them on an input, and notes its seconds.
 measure() {
@@ -117,25 +114,17 @@ measure() {
     this) set -- "$1" "$3" "$program/out/count_lines" "$2" ;;
     *) set -- "$1" "$3" "$1" "/$2/ { n++ } END { print n + 0 }" ;;
     esac
-    ! LC_ALL=C command time -q -f '%e' -o "$work/$1.times" -a timeout "$most" "$3" "$4" \
+    ! LC_ALL=C command time -q -f '%e' -o "$work/$1.times" -a timeout "$limit" "$3" "$4" \
         <"$work/$2" >"$work/$1.output" || cmp -s "$work/this.output" "$work/$1.output" ||
         echo "$1 counts something else for $4" >&2
 }
 
 # A row: the least seconds of each.
 row() {
-    rm -f "$work"/*.times
-    round=0
-    while [ "$round" -lt "$rounds" ]; do
-        round=$((round + 1))
-        for name in $names; do
-            measure "$name" "$1" "$2"
-        done
-    done
-    shown=$(printf '%s' "$1" | sed 's/|/\\|/g')
-    printf '| `%s` | %s | %s |' "$shown" "$2" "$(cat "$work/this.output")"
+    take_rounds "$1" "$2"
+    printf '| `%s` | %s | %s |' "$(in_table "$1")" "$2" "$(cat "$work/this.output")"
     for name in $names; do
-        printf ' %s |' "$(sort -n "$work/$name.times" | sed -n 1p)"
+        printf ' %s |' "$(least_seconds "$name")"
     done
     echo
 }
