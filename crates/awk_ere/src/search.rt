@@ -136,7 +136,7 @@ impl Pattern {
 }
 
 impl Pattern {
-    /// Whether the pattern matches somewhere in the text. Each byte is read once, and no memory is taken.
+    /// Whether the pattern matches somewhere in the text. It takes no memory, and time that grows with the text.
     pub fn is_match(&self, text: &[u8], scratch: &mut Scratch) -> bool
         requires { IsFor scratch.old self.now }
         ensures found { (t : Tree) → Means t self.now → (result ≡ true) ↔ Occurs t text.now }
