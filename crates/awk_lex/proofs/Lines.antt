@@ -7,10 +7,10 @@ use Rattle.std.specs.Char.{is_ascii_digit}
 use Rattle.std.proofs.Math.Seq.{take-append_seam, take-add}
 use Rattle.std.proofs.lemmas.Bool.{cases_Bool, and_parts, and_from, not-true, eqb-true}
 use Rattle.std.proofs.lemmas.List.Sums.{sum_by-append, sum_by-cons}
-use Rattle.awk_lex.specs.definitions.Words.{is_name_start, is_word_byte, is_word, is_digits, Body, none, plain, escaped, Writes, number, string, ere, word, name, called, punctuator, division, is_newline}
+use Rattle.awk_lex.specs.definitions.Words.{is_name_start, is_word_byte, is_word, is_digits, Body, none, plain, escaped, Writes, number, string, ere, word, name, called, punctuator, division}
 use Rattle.awk_lex.specs.definitions.Tables.{reserved, punctuators, divisions, kind_in}
 use Rattle.awk_lex.specs.definitions.Lexes.{is_space_or_tab, is_no_newline}
-use Rattle.awk_lex.specs.support.Lexeme.{hidden_len, gap_len, lexeme_of}
+use Rattle.awk_lex.specs.support.Lexeme.{hidden_len, gap_len, lexeme_of, is_newline}
 use Rattle.awk_lex.specs.definitions.Told.{line_at}
 use Rattle.awk_lex.specs.declared.token.Kind.{Kind}
 use Rattle.awk_lex.specs.declared.lexeme.Lexeme.TheVariants as lexeme

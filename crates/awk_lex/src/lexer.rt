@@ -1,10 +1,12 @@
 // The tokens of a program text.
 
 ghost use Rattle.std.specs.Prelude.{◌≡◌, ◌≤◌, ◌⊎◌, ◌+◌, ◌<◌, List, ℕ, length, All, IfOk, IfErr, OnOk};
-ghost use Rattle.awk_lex.specs.definitions.Words.{is_newline, divides_after};
+ghost use Rattle.awk_lex.specs.definitions.Words.{divides_after};
 ghost use Rattle.awk_lex.specs.definitions.Lexes.{Lexes};
 ghost use Rattle.awk_lex.specs.definitions.Refused.{IsOutOfMemory};
-ghost use Rattle.awk_lex.specs.definitions.Told.{kinds_of, StandsAt, InTurn, FaultStands, GivesOnly, Refuses, RefusesOnly};
+ghost use Rattle.awk_lex.specs.support.Lexeme.{is_newline};
+ghost use Rattle.awk_lex.specs.definitions.Told.{kinds_of, StandsAt, InTurn};
+ghost use Rattle.awk_lex.specs.definitions.Told.{FaultStands, GivesOnly, Refuses, RefusesOnly};
 
 use crate::lexeme::Lexeme;
 use crate::refusal::{Refusal, RefusalCode};
@@ -52,7 +54,8 @@ pub fn tokens(alloc: Global, text: &[u8]) -> Result<Vec<Token>, Refusal>
 
     // Each token has a stretch of the text, in turn, and stands there on its line.
     ensures in_turn { IfOk result (λ tokens. InTurn 0 tokens.items (length text.now)) }
-    ensures within { IfOk result (λ tokens. All (λ token. (token.start ≤ token.end) × (token.end ≤ length text.now)) tokens.items) }
+    ensures within { IfOk result (λ tokens.
+        All (λ token. (token.start ≤ token.end) × (token.end ≤ length text.now)) tokens.items) }
     ensures placed { IfOk result (λ tokens. All (StandsAt text.now) tokens.items) }
 
     // Tokens that the text has are found, unless memory runs out.
@@ -63,7 +66,8 @@ pub fn tokens(alloc: Global, text: &[u8]) -> Result<Vec<Token>, Refusal>
     ensures broken { (code : _) → Refuses code text.now → RefusesOnly result code }
 
     // A refusal's line is that of the fault, and the first one where the text is too long.
-    ensures fault_line { length text.now ≤ LIMIT → IfErr result (λ refusal. IsOutOfMemory refusal ⊎ FaultStands text.now refusal) }
+    ensures fault_line { length text.now ≤ LIMIT →
+        IfErr result (λ refusal. IsOutOfMemory refusal ⊎ FaultStands text.now refusal) }
     ensures first_line { LIMIT < length text.now → IfErr result (λ refusal. refusal.line ≡ 1) }
 {
     if text.len() > LIMIT {

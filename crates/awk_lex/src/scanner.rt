@@ -1,12 +1,14 @@
 // Finding the lexeme at a place in a text, by its first byte.
 
-ghost use Rattle.std.specs.Prelude.{◌≡◌, ◌+◌, ◌<◌, ◌≤◌, ◌^◌, true, false, length, pos, drop, take_while, slice_index, MatchOption, IfOk};
+ghost use Rattle.std.specs.Prelude.{◌≡◌, ◌+◌, ◌<◌, ◌≤◌, ◌^◌, true, false, length, pos, drop};
+ghost use Rattle.std.specs.Prelude.{take_while, slice_index, MatchOption, IfOk};
 ghost use Rattle.std.specs.List.{list_all, prefix_len};
 ghost use Rattle.std.specs.Char.{is_ascii_digit};
 ghost use Rattle.std.specs.Str.Parse.{digits_value};
 ghost use Rattle.awk_lex.specs.definitions.Words.{is_word_byte, goes_on};
 ghost use Rattle.awk_lex.specs.definitions.Lexes.{is_no_newline};
-ghost use Rattle.awk_lex.specs.support.Lexeme.{gap_len, body_len, found_word, found_number, found_string, slash_at, found_ere, named, token_lexeme, lexeme_of};
+ghost use Rattle.awk_lex.specs.support.Lexeme.{gap_len, body_len, found_word, found_number, found_string};
+ghost use Rattle.awk_lex.specs.support.Lexeme.{slash_at, found_ere, named, token_lexeme, lexeme_of};
 
 use crate::delimited::{body_len, string_value};
 use crate::lexeme::Lexeme;
@@ -73,7 +75,8 @@ fn named(name: Bytes, behind: &[u8]) -> Kind
 fn word_lexeme(text: &Bytes, at: usize) -> Result<Lexeme, AllocError>
     requires { at ≤ length text.now }
     ensures { IfOk result (λ lexeme. let rest = drop at text.now in
-        lexeme ≡ token_lexeme rest (found_word (take_while is_word_byte rest) (drop (prefix_len is_word_byte rest) rest))) }
+        lexeme ≡ token_lexeme rest
+        (found_word (take_while is_word_byte rest) (drop (prefix_len is_word_byte rest) rest))) }
 {
     let rest = rest(text, at);
     let len = word_len(rest);
@@ -87,7 +90,8 @@ fn word_lexeme(text: &Bytes, at: usize) -> Result<Lexeme, AllocError>
 /// The number that digits spell, where it is at most 2^127 - 1.
 fn number_value(digits: &[u8]) -> Option<i128>
     requires { list_all is_ascii_digit digits.now ≡ true }
-    ensures { MatchOption result (2 ^ 127 ≤ digits_value 10 digits.now) (λ value. value ≡ pos (digits_value 10 digits.now)) }
+    ensures { MatchOption result (2 ^ 127 ≤ digits_value 10 digits.now)
+        (λ value. value ≡ pos (digits_value 10 digits.now)) }
 {
     let mut value: u128 = 0;
     for digit in digits {
@@ -152,7 +156,8 @@ fn ere_lexeme(text: &Bytes, at: usize) -> Result<Lexeme, AllocError>
 fn slash_lexeme(text: &Bytes, at: usize, divides: bool) -> Result<Lexeme, AllocError>
     requires within { at < length text.now }
     requires slash { slice_index (drop at text.now) 0 ≡ 47 }
-    ensures { IfOk result (λ lexeme. lexeme ≡ token_lexeme (drop at text.now) (slash_at divides (drop at text.now))) }
+    ensures { IfOk result (λ lexeme.
+        lexeme ≡ token_lexeme (drop at text.now) (slash_at divides (drop at text.now))) }
 {
     if divides {
         Ok(division_lexeme(rest(text, at)))

@@ -6,7 +6,7 @@ use Rattle.std.specs.Str.Parse.{digits_value}
 use Rattle.awk_lex.specs.definitions.Escapes.{unescaped}
 use Rattle.awk_lex.specs.definitions.Tables.{reserved, left_out, punctuators, divisions, kind_in}
 use Rattle.awk_lex.specs.declared.token.Kind.{Kind}
-use Rattle.awk_lex.specs.declared.token.Kind.TheVariants.{Number, String, Ere, Name, Called, BuiltIn, Increment, Newline, CloseBracket, CloseParenthesis}
+use Rattle.awk_lex.specs.declared.token.Kind.TheVariants.{Number, String, Ere, Name, Called, BuiltIn, Increment, CloseBracket, CloseParenthesis}
 
 -- a letter or an underscore
 abbrev pub is_name_start : ℕ → Bool
@@ -93,8 +93,3 @@ divides_after (Increment s) = true
 divides_after CloseBracket = true
 divides_after CloseParenthesis = true
 divides_after _ = false
-
--- the token is a newline
-abbrev pub is_newline : Kind → Bool
-is_newline Newline = true
-is_newline _ = false

@@ -1,4 +1,4 @@
--- What stands at the front of a text, as the scanner finds it.
+-- The lexeme that a text begins with, as the scanner finds it.
 use Rattle.std.specs.Prelude.{ℕ, zero, suc, ◌+◌, Bool, true, false, not, ◌&&◌, ◌==◌, if◌then◌else◌, List, [], ◌∷◌, length, take, drop, pos, Option, Some, None, Result, Ok, Err, take_while, slice_index, unwrap_or}
 use Rattle.std.specs.List.{prefix_len}
 use Rattle.std.specs.Char.{is_ascii_digit}
@@ -9,7 +9,7 @@ use Rattle.awk_lex.specs.definitions.Tables.{reserved, punctuators, divisions, k
 use Rattle.awk_lex.specs.definitions.Words.{is_name_start, is_word_byte, opens, is_allowed}
 use Rattle.awk_lex.specs.definitions.Lexes.{is_space_or_tab, is_no_newline}
 use Rattle.awk_lex.specs.declared.token.Kind.{Kind}
-use Rattle.awk_lex.specs.declared.token.Kind.TheVariants.{Number, String, Ere, Name, Called}
+use Rattle.awk_lex.specs.declared.token.Kind.TheVariants.{Number, String, Ere, Name, Called, Newline}
 use Rattle.awk_lex.specs.declared.refusal.RefusalCode.{RefusalCode}
 use Rattle.awk_lex.specs.declared.refusal.RefusalCode.TheVariants.{UnexpectedByte, OpenString, EscapeRefused, OpenPattern, NumberRefused}
 use Rattle.awk_lex.specs.declared.lexeme.Lexeme.{Lexeme}
@@ -108,3 +108,8 @@ gap_lexeme divides text (suc n) = Gap (suc n)
 
 abbrev pub lexeme_of : Bool → List ℕ → Lexeme
 lexeme_of divides text = gap_lexeme divides text (gap_len text)
+
+-- the token is a newline
+abbrev pub is_newline : Kind → Bool
+is_newline Newline = true
+is_newline _ = false

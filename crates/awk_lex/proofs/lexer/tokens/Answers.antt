@@ -113,6 +113,9 @@ returns-in-Fault-clause-fault_line c = λ short.
     inr (fault_stands (kinds_of c.loop-at.tokens.items) c.loop-at.divides c.args.text.now c.loop-at.at _ c.in-Fault.code c.loop-at-test.true c.loop-at.invariant.read there refl
     c.loop-at.invariant.line)
 
+pub returns-clause-found : goal.returns-clause-found
+returns-clause-found c = all_read (kinds_of c.loop-at.tokens.items) c.loop-at.divides c.args.text.now c.loop-at.at c.loop-at-test.false c.loop-at.invariant.read
+
 pub returns-clause-only : goal.returns-clause-only
 returns-clause-only c = λ ts lexes short.
     one_lexing (kinds_of c.loop-at.tokens.items) ts c.args.text.now (all_read (kinds_of c.loop-at.tokens.items) c.loop-at.divides c.args.text.now c.loop-at.at c.loop-at-test.false c.loop-at.invariant.read) lexes
