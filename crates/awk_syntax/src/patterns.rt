@@ -5,7 +5,7 @@ ghost use Rattle.awk_ere.specs.Tree.{Tree};
 ghost use Rattle.awk_ere.specs.Limits.{SpellsWithin};
 ghost use Rattle.awk_lex.specs.Told.{kinds_of};
 ghost use Rattle.awk_lex.specs.Refused.{IsOutOfMemory};
-ghost use Rattle.awk_syntax.specs.Patterns.{AreReadable, PatternFails, IsLeftmostRefused};
+ghost use Rattle.awk_syntax.specs.definitions.Patterns.{AreReadable, PatternFails, IsLeftmostRefused};
 
 use awk_ere::fault::PatternFault;
 use awk_ere::pattern::Pattern;
