@@ -7,8 +7,8 @@ use Rattle.awk_lex.specs.Refused.{IsOutOfMemory}
 use Rattle.awk_lex.specs.declared.token.Kind.{Kind}
 use Rattle.awk_lex.specs.declared.token.Token.{Token}
 use Rattle.awk_lex.specs.declared.refusal.Refusal.{Refusal}
-use Rattle.awk_lex.specs.declared.refusal.Code.{Code}
-use Rattle.awk_lex.specs.declared.refusal.Code.TheVariants.{NotAProgram, NestedTooDeep, PatternIllFormed, PatternCountRefused, PatternTooLarge, OutOfMemory}
+use Rattle.awk_lex.specs.declared.refusal.RefusalCode.{RefusalCode}
+use Rattle.awk_lex.specs.declared.refusal.RefusalCode.TheVariants.{NotAProgram, NestedTooDeep, PatternIllFormed, PatternCountRefused, PatternTooLarge, OutOfMemory}
 use Rattle.awk_tree.specs.Tree.{Item}
 use Rattle.awk_tree.specs.Height.{max_height, height_of_program}
 use Rattle.awk_tree.specs.Spelling.{IsProgram}
@@ -50,7 +50,7 @@ found ts tree g = found_items ts (tree_of tree) g
 read_low : (ts : List Kind) (xs : List Item) → IsProgramWithinHeight ts xs → read max_height ts ≡ Some (Some xs)
 read_low ts xs p = reads max_height ts xs p.0 ∙ ap (λ z. Some z) (low max_height (height_of_program xs) xs p.1)
 
-only_memory : (c : Code) (xs : List Item) → Fails c (Some (Some xs)) → c ≡ OutOfMemory
+only_memory : (c : RefusalCode) (xs : List Item) → Fails c (Some (Some xs)) → c ≡ OutOfMemory
 only_memory NotAProgram xs f = absurd (cc)
 only_memory NestedTooDeep xs f = absurd (cc)
 only_memory OutOfMemory xs f = refl
@@ -60,7 +60,7 @@ pub only : (ts : List Kind) (r : Result Tree Refusal) → Gives r (read max_heig
 only ts (Ok tree) g xs p = let e = read_low ts xs p in cc
 only ts (Err refusal) g xs p = only_memory refusal.code xs (subst (Fails refusal.code) (read_low ts xs p) g)
 
-pub refused : (c : Code) (line : ℕ) (tokens : List Token) → Fails c (read max_height (kinds_of tokens)) → Justifies c line tokens
+pub refused : (c : RefusalCode) (line : ℕ) (tokens : List Token) → Fails c (read max_height (kinds_of tokens)) → Justifies c line tokens
 refused NotAProgram line tokens f = λ xs p. let e = reads max_height (kinds_of tokens) xs p in cc
 refused NestedTooDeep line tokens f =
     let s = sound max_height (kinds_of tokens) None f in
@@ -72,7 +72,7 @@ refused c line tokens f = absurd f
 pub pattern_only : (r : Refusal) (tokens : List Token) → IsOutOfMemory r ⊎ IsLeftmostRefused r.code r.line tokens → AreReadable (kinds_of tokens) → IsOutOfMemory r
 pattern_only r tokens h readable = elim h [ inl m ↦ m | inr l ↦ absurd (leftmost_unreadable r.code r.line tokens l readable) ]
 
-leftmost_refused : (c : Code) (line : ℕ) (tokens : List Token) (xs : List Item) → IsProgramWithinHeight (kinds_of tokens) xs → IsLeftmostRefused c line tokens → Justifies c line tokens
+leftmost_refused : (c : RefusalCode) (line : ℕ) (tokens : List Token) (xs : List Item) → IsProgramWithinHeight (kinds_of tokens) xs → IsLeftmostRefused c line tokens → Justifies c line tokens
 leftmost_refused PatternIllFormed line tokens xs p l = ((xs, p), l)
 leftmost_refused PatternCountRefused line tokens xs p l = ((xs, p), l)
 leftmost_refused PatternTooLarge line tokens xs p l = ((xs, p), l)

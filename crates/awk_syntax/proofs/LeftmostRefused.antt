@@ -10,12 +10,12 @@ use Rattle.awk_lex.specs.declared.token.Kind.TheVariants.{Ere}
 use Rattle.awk_lex.specs.declared.token.Token.{Token}
 use Rattle.awk_lex.specs.Refused.{IsOutOfMemory}
 use Rattle.awk_lex.specs.declared.refusal.Refusal.{Refusal}
-use Rattle.awk_lex.specs.declared.refusal.Code.{Code}
-use Rattle.awk_lex.specs.declared.refusal.Code.TheVariants.{PatternIllFormed, PatternCountRefused, PatternTooLarge}
+use Rattle.awk_lex.specs.declared.refusal.RefusalCode.{RefusalCode}
+use Rattle.awk_lex.specs.declared.refusal.RefusalCode.TheVariants.{PatternIllFormed, PatternCountRefused, PatternTooLarge}
 use Rattle.awk_syntax.specs.definitions.Patterns.{IsReadable, AreReadable, PatternFails, IsLeftmostRefused}
 
 -- a text that spells a pattern within the limits isn't refused
-readable_fails : (c : Code) (pattern : Tree) (text : List ℕ) → SpellsWithin pattern text → PatternFails c text → ⊥
+readable_fails : (c : RefusalCode) (pattern : Tree) (text : List ℕ) → SpellsWithin pattern text → PatternFails c text → ⊥
 readable_fails PatternIllFormed pattern text s f = let e = read_exactly pattern text IllFormed s f in absurd (cc)
 readable_fails PatternCountRefused pattern text s f = let e = read_exactly pattern text BadCount s f in absurd (cc)
 readable_fails PatternTooLarge pattern text s f = let e = read_exactly pattern text TooLarge s f in absurd (cc)
@@ -26,7 +26,7 @@ readable_at [] after y r = r.0
 readable_at (z ∷ before) after y r = readable_at before after y r.1
 
 -- where an ERE is refused, not all are readable
-pub leftmost_unreadable : (c : Code) (line : ℕ) (tokens : List Token) → IsLeftmostRefused c line tokens → AreReadable (kinds_of tokens) → ⊥
+pub leftmost_unreadable : (c : RefusalCode) (line : ℕ) (tokens : List Token) → IsLeftmostRefused c line tokens → AreReadable (kinds_of tokens) → ⊥
 leftmost_unreadable c line tokens l r =
     let a = subst AreReadable l.refuses.stand r in
     let p = readable_at l.refuses.before l.refuses.after (Ere l.refuses.ere) a in

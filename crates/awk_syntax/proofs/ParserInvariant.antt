@@ -2,7 +2,7 @@
 use Rattle.std.proofs.Common.{◌≡◌, ℕ, ◌≤◌, Bool, true, false, ◌&&◌, List, [], ◌∷◌, Option, refl}
 use Rattle.awk_lex.specs.declared.token.Kind.{Kind}
 use Rattle.awk_lex.specs.declared.token.Keyword.TheVariants as word
-use Rattle.awk_lex.specs.declared.token.Assignment.TheVariants as assign
+use Rattle.awk_lex.specs.declared.token.AssignmentOperator.TheVariants as assign
 use Rattle.awk_lex.specs.declared.token.Kind.TheVariants as t
 use Rattle.awk_tree.specs.Tree.{Expr, Exprs, Nil, Cons, Statement, Statements, Item}
 use Rattle.awk_tree.specs.Precedence.{operator_precedence, greatest_left, is_greater, expr_precedence, is_assignable, KeepsPrecedence, AllKeepPrecedence, StatementKeepsPrecedence, StatementsKeepPrecedence, ItemKeepsPrecedence, ProgramKeepsPrecedence}

@@ -2,7 +2,7 @@
 use Rattle.std.proofs.Common.{◌≡◌, ℕ, Bool, true, false, leb, ◌&&◌, List, [], ◌∷◌, Option, Some, refl, sym, ap, ◌∙◌, subst}
 use Rattle.std.proofs.lemmas.Bool.{and_parts, leb-true}
 use Rattle.awk_lex.specs.declared.token.Kind.{Kind}
-use Rattle.awk_lex.specs.declared.token.Assignment.TheVariants as assign
+use Rattle.awk_lex.specs.declared.token.AssignmentOperator.TheVariants as assign
 use Rattle.awk_lex.specs.declared.token.Kind.TheVariants as t
 use Rattle.awk_tree.specs.Tree.{Item}
 use Rattle.awk_tree.specs.Precedence.{is_assignable, KeepsPrecedence}

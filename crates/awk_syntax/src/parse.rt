@@ -15,7 +15,7 @@ use crate::frame::Frame;
 use crate::parser::{finish, step};
 use crate::patterns::check_patterns;
 use crate::state::{NextToken, ParserState};
-use awk_lex::refusal::{Code, Refusal};
+use awk_lex::refusal::{Refusal, RefusalCode};
 use awk_lex::token::{Kind, Token};
 use awk_tree::checked::CheckedItems;
 use awk_tree::tree::Tree;
@@ -32,7 +32,7 @@ fn read(alloc: Global, tokens: &[Token]) -> Result<Tree, Refusal>
         let kind = &token.kind;
         let Some(then) = step(alloc, state, NextToken { kind, eres }, &mut stack)? else {
             return Err(Refusal {
-                code: Code::NotAProgram,
+                code: RefusalCode::NotAProgram,
                 line: token.line,
             });
         };
@@ -46,11 +46,11 @@ fn read(alloc: Global, tokens: &[Token]) -> Result<Tree, Refusal>
             items: checked.items,
         }),
         Some(None) => Err(Refusal {
-            code: Code::NestedTooDeep,
+            code: RefusalCode::NestedTooDeep,
             line: 1,
         }),
         None => Err(Refusal {
-            code: Code::NotAProgram,
+            code: RefusalCode::NotAProgram,
             line: last_line(tokens),
         }),
     }

@@ -16,7 +16,7 @@ use crate::statements::{
     after_begin, after_pattern, after_print, after_print_expr, after_statement,
     end_simple_statement, start_item, start_statement,
 };
-use awk_lex::token::{Assignment, Kind};
+use awk_lex::token::{AssignmentOperator, Kind};
 use awk_tree::checked::CheckedItems;
 use awk_tree::nodes::{evaluate, one_more_expr};
 use awk_value::Bytes;
@@ -88,7 +88,7 @@ fn after_name(
     ensures { IfOk result (λ state. next_of state stack.new.items
         ≡ parser.after_name max_height name in_print_list (stack_of stack.old.items) next.entry.kind.now) }
 {
-    if matches!(next.kind, Kind::Assign(Assignment::Plain)) {
+    if matches!(next.kind, Kind::Assign(AssignmentOperator::Plain)) {
         return start_assignment(in_print_list, name, stack);
     }
     after_operand(alloc, next, in_print_list, Operand::name(name), stack)

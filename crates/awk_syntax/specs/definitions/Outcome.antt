@@ -4,8 +4,8 @@ use Rattle.awk_lex.specs.Told.{kinds_of}
 use Rattle.awk_lex.specs.declared.token.Kind.{Kind}
 use Rattle.awk_lex.specs.declared.token.Token.{Token}
 use Rattle.awk_lex.specs.declared.refusal.Refusal.{Refusal}
-use Rattle.awk_lex.specs.declared.refusal.Code.{Code}
-use Rattle.awk_lex.specs.declared.refusal.Code.TheVariants.{NotAProgram, NestedTooDeep, PatternIllFormed, PatternCountRefused, PatternTooLarge, OutOfMemory}
+use Rattle.awk_lex.specs.declared.refusal.RefusalCode.{RefusalCode}
+use Rattle.awk_lex.specs.declared.refusal.RefusalCode.TheVariants.{NotAProgram, NestedTooDeep, PatternIllFormed, PatternCountRefused, PatternTooLarge, OutOfMemory}
 use Rattle.awk_lex.specs.Refused.{IsOutOfMemory}
 use Rattle.awk_tree.specs.Tree.{Item}
 use Rattle.awk_tree.specs.Height.{max_height, height_of_program}
@@ -24,11 +24,11 @@ abbrev pub IsProgramWithinHeight : List Kind → List Item → Type 0
 IsProgramWithinHeight ts items = IsProgram ts items × (height_of_program items ≤ max_height)
 
 -- the tokens are a program that is not too high, and the leftmost of its EREs that are not readable is refused
-abbrev pub RefusesPattern : Code → ℕ → List Token → Type 0
+abbrev pub RefusesPattern : RefusalCode → ℕ → List Token → Type 0
 RefusesPattern code line tokens = ((items : List Item) × IsProgramWithinHeight (kinds_of tokens) items) × IsLeftmostRefused code line tokens
 
 -- why the tokens are refused with this code and this line
-abbrev pub Justifies : Code → ℕ → List Token → Type 0
+abbrev pub Justifies : RefusalCode → ℕ → List Token → Type 0
 -- no tree spells them, however high
 Justifies NotAProgram line tokens = (items : List Item) → IsProgram (kinds_of tokens) items → ⊥
 -- one does, and is too high

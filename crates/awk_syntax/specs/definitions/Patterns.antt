@@ -6,8 +6,8 @@ use Rattle.awk_lex.specs.Told.{kinds_of}
 use Rattle.awk_lex.specs.declared.token.Kind.{Kind}
 use Rattle.awk_lex.specs.declared.token.Kind.TheVariants.{Ere}
 use Rattle.awk_lex.specs.declared.token.Token.{Token}
-use Rattle.awk_lex.specs.declared.refusal.Code.{Code}
-use Rattle.awk_lex.specs.declared.refusal.Code.TheVariants.{PatternIllFormed, PatternCountRefused, PatternTooLarge}
+use Rattle.awk_lex.specs.declared.refusal.RefusalCode.{RefusalCode}
+use Rattle.awk_lex.specs.declared.refusal.RefusalCode.TheVariants.{PatternIllFormed, PatternCountRefused, PatternTooLarge}
 
 -- the text of an ERE spells a pattern within the limits
 abbrev pub IsReadable : Kind → Type 0
@@ -19,14 +19,14 @@ AreReadable [] = Unit {0}
 AreReadable (y ∷ ts) = IsReadable y × AreReadable ts
 
 -- why a text is refused as a pattern with this code
-abbrev pub PatternFails : Code → List ℕ → Type 0
+abbrev pub PatternFails : RefusalCode → List ℕ → Type 0
 PatternFails PatternIllFormed text = IsIllFormed text
 PatternFails PatternCountRefused text = HasBadCount text
 PatternFails PatternTooLarge text = IsTooLarge text
 PatternFails code text = ⊥
 
 -- the leftmost ERE that is not readable is refused with this code
-pub record RefusesEre (code : Code) (tokens : List Kind) : Type 0 where
+pub record RefusesEre (code : RefusalCode) (tokens : List Kind) : Type 0 where
   pub before : List Kind
   pub ere : List ℕ
   pub after : List Kind
@@ -35,7 +35,7 @@ pub record RefusesEre (code : Code) (tokens : List Kind) : Type 0 where
   pub fails : PatternFails code ere
 
 -- and its token begins on this line
-pub record IsLeftmostRefused (code : Code) (line : ℕ) (tokens : List Token) : Type 0 where
+pub record IsLeftmostRefused (code : RefusalCode) (line : ℕ) (tokens : List Token) : Type 0 where
   pub before : List Token
   pub token : Token
   pub after : List Token

@@ -6,7 +6,7 @@ use Rattle.awk_lex.specs.declared.token.Operator.{Operator}
 use Rattle.awk_lex.specs.declared.token.Operator.TheVariants as s
 use Rattle.awk_lex.specs.declared.token.Kind.{Kind}
 use Rattle.awk_lex.specs.declared.token.Keyword.TheVariants as word
-use Rattle.awk_lex.specs.declared.token.Assignment.TheVariants as assign
+use Rattle.awk_lex.specs.declared.token.AssignmentOperator.TheVariants as assign
 use Rattle.awk_lex.specs.declared.token.Kind.TheVariants as t
 use Rattle.awk_tree.specs.declared.tree.UnaryOperator.{UnaryOperator}
 use Rattle.awk_tree.specs.declared.tree.UnaryOperator.TheVariants as p

@@ -1,8 +1,8 @@
 -- The code's parser, seen as the parser over lists: operands, frames, states, and what it answers.
 use Rattle.std.specs.Prelude.{◌≡◌, List, map, reverse, Option, Some, None, Result, Ok, Err}
 use Rattle.awk_lex.specs.declared.refusal.Refusal.{Refusal}
-use Rattle.awk_lex.specs.declared.refusal.Code.{Code}
-use Rattle.awk_lex.specs.declared.refusal.Code.TheVariants.{NotAProgram, NestedTooDeep, OutOfMemory}
+use Rattle.awk_lex.specs.declared.refusal.RefusalCode.{RefusalCode}
+use Rattle.awk_lex.specs.declared.refusal.RefusalCode.TheVariants.{NotAProgram, NestedTooDeep, OutOfMemory}
 use Rattle.awk_tree.specs.Tree as t
 use Rattle.awk_tree.specs.View.{tree_of}
 use Rattle.awk_tree.specs.Checked.{checked_expr, checked_exprs, checked_statement, checked_statements, checked_items}
@@ -72,7 +72,7 @@ found_of None = None
 found_of (Some x) = Some (checked_items x)
 
 -- what the code answers where the parser over lists answers this
-abbrev pub Fails : Code → Option (Option (List t.Item)) → Type 0
+abbrev pub Fails : RefusalCode → Option (Option (List t.Item)) → Type 0
 Fails NotAProgram r = r ≡ None
 Fails NestedTooDeep r = r ≡ Some None
 Fails OutOfMemory r = Unit {0}
