@@ -49,15 +49,15 @@ is_alive() {
     kill -0 "$1" 2>/dev/null || [ -d "/proc/$1" ] || ps -p "$1" >/dev/null 2>&1
 }
 
-# Waits until no other build goes on. The lock is a link that names its owner's process, and one whose
+# Waits until no other build goes on. The lock is a file that names its owner's process, and one whose
 # owner is gone is taken away.
 take_lock() {
     told=
-    until ln -s "$$" "$lock" 2>/dev/null; do
-        owner=$(readlink "$lock" 2>/dev/null) || owner=
+    until (set -C && echo "$$" >"$lock") 2>/dev/null; do
+        owner=$(cat "$lock" 2>/dev/null) || owner=
         if [ -z "$owner" ]; then
-            # It was given back since, or there is no room for a link.
-            [ "$told" != none ] || fail "no lock can be made in $root/out"
+            # It was given back since, or it can't be written.
+            [ "$told" != none ] || fail "$lock can't be made"
             told=none
         elif ! is_alive "$owner"; then
             rm -f "$lock"
