@@ -6,8 +6,8 @@ use Rattle.awk_value.specs.declared.value.Value.{Value}
 use Rattle.awk_value.specs.declared.value.Value.TheVariants.{Nothing, Number, Text}
 use Rattle.awk_value.specs.Values.{str_of}
 use Rattle.awk_text.specs.Separator.{separator_of}
-use Rattle.awk_run.specs.declared.variables.special.Special.{Special}
-use Rattle.awk_run.specs.declared.variables.special.Special.TheVariants.{Argc, Convfmt, Filename, Fnr, Fs, Nr, Ofmt, Ofs, Ors, Rlength, Rs, Rstart, Subsep}
+use Rattle.awk_variables.specs.declared.special.Special.{Special}
+use Rattle.awk_variables.specs.declared.special.Special.TheVariants.{Argc, Convfmt, Filename, Fnr, Fs, Nr, Ofmt, Ofs, Ors, Rlength, Rs, Rstart, Subsep}
 
 -- names with their values
 abbrev pub Pairs : Type 0

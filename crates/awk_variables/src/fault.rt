@@ -17,7 +17,7 @@ pub enum VariableFault {
 
 impl From<AllocError> for VariableFault {
     ghost use Rattle.std.specs.Prelude.{◌≡◌};
-    ghost use Rattle.awk_run.specs.declared.variables.fault.VariableFault.TheVariants.{Memory};
+    ghost use Rattle.awk_variables.specs.declared.fault.VariableFault.TheVariants.{Memory};
 
     ghost from_gives = { λ _ e. e ≡ Memory };
 
@@ -28,7 +28,7 @@ impl From<AllocError> for VariableFault {
 
 impl<T: Drop> From<AllocFailed<T>> for VariableFault {
     ghost use Rattle.std.specs.Prelude.{◌≡◌};
-    ghost use Rattle.awk_run.specs.declared.variables.fault.VariableFault.TheVariants.{Memory};
+    ghost use Rattle.awk_variables.specs.declared.fault.VariableFault.TheVariants.{Memory};
 
     ghost from_gives = { λ _ e. e ≡ Memory };
 
@@ -39,9 +39,9 @@ impl<T: Drop> From<AllocFailed<T>> for VariableFault {
 
 impl From<TextFault> for VariableFault {
     ghost use Rattle.std.specs.Prelude.{◌≡◌};
-    ghost use Rattle.awk_run.specs.VariableFaults.{variable_fault};
+    ghost use Rattle.awk_variables.specs.support.Storage.{text_fault};
 
-    ghost from_gives = { λ fault e. e ≡ variable_fault fault };
+    ghost from_gives = { λ fault e. e ≡ text_fault fault };
 
     fn from(fault: TextFault) -> Self {
         match fault {

@@ -3,17 +3,14 @@ ghost use Rattle.std.specs.Prelude.{◌≡◌, ◌↔◌, ℕ, List, true, false
 ghost use Rattle.awk_value.specs.Values.{str_of};
 ghost use Rattle.awk_value.specs.declared.value.Value.TheVariants.{Nothing};
 ghost use Rattle.awk_text.specs.Separator.{separator_of};
-ghost use Rattle.awk_run.specs.Specials.{kept_at};
+ghost use Rattle.awk_variables.specs.support.Storage.{kept_at};
 
-mod fault;
-mod special;
-
+use crate::fault::VariableFault;
+use crate::special::Special;
 use awk_text::{Separator, TextFault};
 use awk_value::{Bytes, Value};
-pub use fault::VariableFault;
 use indexmap::IndexMap;
 use itoa::Buffer;
-pub use special::Special;
 use std::alloc::Global;
 use std::marker::Model;
 
@@ -64,9 +61,9 @@ impl Model for Variables {
     ghost use Rattle.std.specs.Prelude.{◌≡◌, ◌++◌, Ok};
     ghost use Rattle.awk_value.specs.Values.{str_of};
     ghost use Rattle.awk_text.specs.Separator.{separator_of};
-    ghost use Rattle.awk_run.specs.Variables.{Pairs};
-    ghost use Rattle.awk_run.specs.Specials.{special_pairs, other_pairs, value_at};
-    ghost use Rattle.awk_run.specs.declared.variables.special.Special.TheVariants.{Fs};
+    ghost use Rattle.awk_variables.specs.definitions.Variables.{Pairs};
+    ghost use Rattle.awk_variables.specs.support.Storage.{special_pairs, other_pairs, value_at};
+    ghost use Rattle.awk_variables.specs.declared.special.Special.TheVariants.{Fs};
 
     ghost Value = { Pairs };
 
@@ -76,8 +73,8 @@ impl Model for Variables {
 }
 
 impl Variables {
-    ghost use Rattle.awk_run.specs.Specials.{special_named};
-    ghost use Rattle.awk_run.specs.Variables.{value_of, name_of, start_value, with_value, is_refused};
+    ghost use Rattle.awk_variables.specs.support.Storage.{special_named};
+    ghost use Rattle.awk_variables.specs.definitions.Variables.{value_of, name_of, start_value, with_value, is_refused};
 
     /// The variables before the run, where ARGV has so many elements. The
     /// only fault is `Memory`.
@@ -85,23 +82,27 @@ impl Variables {
         ensures start { IfOk result (λ v. (x : List ℕ) → value_of v x ≡ start_value arguments x) }
         ensures memory { IfErr result (λ e. e ≡ VariableFault.Memory) }
     {
-        let format = Bytes::from_slice(alloc, b"%.6g")?;
-        let space = Bytes::from_slice(alloc, b" ")?;
-        let newline = Bytes::from_slice(alloc, b"\n")?;
+        let convfmt = Bytes::from_slice(alloc, b"%.6g")?;
+        let fs = Bytes::from_slice(alloc, b" ")?;
+        let ofmt = Bytes::from_slice(alloc, b"%.6g")?;
+        let ofs = Bytes::from_slice(alloc, b" ")?;
+        let ors = Bytes::from_slice(alloc, b"\n")?;
+        let rs = Bytes::from_slice(alloc, b"\n")?;
+        let subsep = Bytes::from_slice(alloc, b"\x1c")?;
         let specials = [
             Value::Number(arguments as i128), // ARGC
-            Value::Text(format.clone()?), // CONVFMT
+            Value::Text(convfmt),
             Value::Nothing, // FILENAME
             Value::Number(0), // FNR
-            Value::Text(space.clone()?), // FS
+            Value::Text(fs),
             Value::Number(0), // NR
-            Value::Text(format), // OFMT
-            Value::Text(space), // OFS
-            Value::Text(newline.clone()?), // ORS
+            Value::Text(ofmt),
+            Value::Text(ofs),
+            Value::Text(ors),
             Value::Nothing, // RLENGTH
-            Value::Text(newline), // RS
+            Value::Text(rs),
             Value::Nothing, // RSTART
-            Value::Text(Bytes::from_slice(alloc, b"\x1c")?), // SUBSEP
+            Value::Text(subsep),
         ];
         Ok(Variables {
             specials,
@@ -129,7 +130,7 @@ impl Variables {
     pub fn special(&self, special: Special) -> &Value
         ensures { result.now ≡ value_of self.now (name_of special) }
     {
-        &self.specials[special.place()]
+        &self.specials[special.index()]
     }
 
     /// Gives a name a value. An `Err` changes nothing: it is `Pattern` where
@@ -171,7 +172,7 @@ impl Variables {
         if let Special::Fs = special {
             self.separator = separator_in(&value)?;
         }
-        self.specials[special.place()] = value;
+        self.specials[special.index()] = value;
         Ok(())
     }
 

@@ -1,8 +1,8 @@
 use Rattle.std.proofs.Common.{ap, sym, ◌∙◌, unwrap_or}
 use Rattle.awk_value.specs.declared.value.Value.TheVariants.{Nothing}
-use Rattle.awk_run.specs.Variables.{value_of, with_value, Pairs}
-use Rattle.awk_run.proofs.KeptLemmas.{value_of-put, value_of-other, on_ok, on_err}
-use Rattle.awk_run.proofs.variables.Variables.set_other.Goals as goal
+use Rattle.awk_variables.specs.definitions.Variables.{value_of, with_value, Pairs}
+use Rattle.awk_variables.proofs.Storage.{value_of-put, value_of-other, on_ok, on_err}
+use Rattle.awk_variables.proofs.variables.Variables.set_other.Goals as goal
 
 pub returns-clause-set : goal.returns-clause-set
 returns-clause-set c =

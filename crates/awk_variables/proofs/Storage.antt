@@ -9,10 +9,15 @@ use Rattle.std.proofs.lemmas.Bool.{false_from_ne_true}
 use Rattle.std.proofs.lemmas.Slice.Eq.{bytes_eq-Decides}
 use Rattle.awk_value.specs.declared.value.Value.{Value}
 use Rattle.awk_value.specs.declared.value.Value.TheVariants.{Nothing}
-use Rattle.awk_run.specs.declared.variables.special.Special.{Special}
-use Rattle.awk_run.specs.declared.variables.special.Special.TheVariants.{Argc, Convfmt, Filename, Fnr, Fs, Nr, Ofmt, Ofs, Ors, Rlength, Rs, Rstart, Subsep}
-use Rattle.awk_run.specs.Variables.{Pairs, value_of, name_of, with_value}
-use Rattle.awk_run.specs.Specials.{all_specials, place_of, special_named, value_at, special_pairs, other_pairs, kept_at}
+use Rattle.awk_variables.specs.declared.special.Special.{Special}
+use Rattle.awk_variables.specs.declared.special.Special.TheVariants.{Argc, Convfmt, Filename, Fnr, Fs, Nr, Ofmt, Ofs, Ors, Rlength, Rs, Rstart, Subsep}
+use Rattle.awk_variables.specs.definitions.Variables.{Pairs, value_of, name_of, with_value}
+use Rattle.awk_variables.specs.support.Storage.{all_specials, index_of, special_named, value_at, special_pairs, other_pairs, kept_at}
+
+-- a choice that is mapped
+pub option_map-if : {A B : Type 0} (f : A → B) (b : Bool) (x y : Option A) → option_map f (if b then x else y) ≡ (if b then option_map f x else option_map f y)
+option_map-if f true x y = refl
+option_map-if f false x y = refl
 
 -- texts
 
@@ -79,38 +84,38 @@ named-names name found is s = (λ e. name_of_named name s (sym is ∙ e), λ e. 
 abbrev special_at : ℕ → Special
 special_at n = get_or all_specials n Subsep
 
-special_at-place_of : (s : Special) → special_at (place_of s) ≡ s
-special_at-place_of Argc = refl
-special_at-place_of Convfmt = refl
-special_at-place_of Filename = refl
-special_at-place_of Fnr = refl
-special_at-place_of Fs = refl
-special_at-place_of Nr = refl
-special_at-place_of Ofmt = refl
-special_at-place_of Ofs = refl
-special_at-place_of Ors = refl
-special_at-place_of Rlength = refl
-special_at-place_of Rs = refl
-special_at-place_of Rstart = refl
-special_at-place_of Subsep = refl
+special_at-index_of : (s : Special) → special_at (index_of s) ≡ s
+special_at-index_of Argc = refl
+special_at-index_of Convfmt = refl
+special_at-index_of Filename = refl
+special_at-index_of Fnr = refl
+special_at-index_of Fs = refl
+special_at-index_of Nr = refl
+special_at-index_of Ofmt = refl
+special_at-index_of Ofs = refl
+special_at-index_of Ors = refl
+special_at-index_of Rlength = refl
+special_at-index_of Rs = refl
+special_at-index_of Rstart = refl
+special_at-index_of Subsep = refl
 
-place_within : (s : Special) → place_of s < 13
-place_within Argc = omega arith
-place_within Convfmt = omega arith
-place_within Filename = omega arith
-place_within Fnr = omega arith
-place_within Fs = omega arith
-place_within Nr = omega arith
-place_within Ofmt = omega arith
-place_within Ofs = omega arith
-place_within Ors = omega arith
-place_within Rlength = omega arith
-place_within Rs = omega arith
-place_within Rstart = omega arith
-place_within Subsep = omega arith
+index_within : (s : Special) → index_of s < 13
+index_within Argc = omega arith
+index_within Convfmt = omega arith
+index_within Filename = omega arith
+index_within Fnr = omega arith
+index_within Fs = omega arith
+index_within Nr = omega arith
+index_within Ofmt = omega arith
+index_within Ofs = omega arith
+index_within Ors = omega arith
+index_within Rlength = omega arith
+index_within Rs = omega arith
+index_within Rstart = omega arith
+index_within Subsep = omega arith
 
-same_special : (s t : Special) → place_of s ≡ place_of t → s ≡ t
-same_special s t e = sym (special_at-place_of s) ∙ ap special_at e ∙ special_at-place_of t
+same_special : (s t : Special) → index_of s ≡ index_of t → s ≡ t
+same_special s t e = sym (special_at-index_of s) ∙ ap special_at e ∙ special_at-index_of t
 
 -- look-ups
 
@@ -167,25 +172,25 @@ unchanged : (values : List ℕ → Value) (name : List ℕ) (v : Value) (x : Lis
 unchanged values name v x ne = ap (λ b. if b then v else values x) (other name x ne)
 
 -- a special variable takes a value
-pub value_of-set_special : (values : List Value) (es : List (Vec ℕ × Value)) (s : Special) (v : Value) → length values ≡ 13 → (x : List ℕ) → value_of (kept (set values (place_of s) v) es) x ≡ with_value (value_of (kept values es)) (name_of s) v x
+pub value_of-set_special : (values : List Value) (es : List (Vec ℕ × Value)) (s : Special) (v : Value) → length values ≡ 13 → (x : List ℕ) → value_of (kept (set values (index_of s) v) es) x ≡ with_value (value_of (kept values es)) (name_of s) v x
 value_of-set_special values es s v len x = by (special_named x) refl
   where
-    by_name : (t : Special) → special_named x ≡ Some t → (b : Bool) → bytes_eq (name_of s) x ≡ b → value_at (set values (place_of s) v) t ≡ with_value (value_of (kept values es)) (name_of s) v x
+    by_name : (t : Special) → special_named x ≡ Some t → (b : Bool) → bytes_eq (name_of s) x ≡ b → value_at (set values (index_of s) v) t ≡ with_value (value_of (kept values es)) (name_of s) v x
     by_name t is true e =
         let here : name_of s ≡ x = same (name_of s) x e in
         let one : t ≡ s = same_some (sym is ∙ ap special_named (sym here) ∙ special_named-name_of s) in
-        let within : place_of s < length values = omega (arith, place_within s) in
-        ap (λ r. get_or (set values (place_of s) v) (place_of r) Nothing) one ∙ get_or-set_same values (place_of s) v Nothing within ∙ sym (changed (value_of (kept values es)) (name_of s) v x here)
+        let within : index_of s < length values = omega (arith, index_within s) in
+        ap (λ r. get_or (set values (index_of s) v) (index_of r) Nothing) one ∙ get_or-set_same values (index_of s) v Nothing within ∙ sym (changed (value_of (kept values es)) (name_of s) v x here)
     by_name t is false e =
         let elsewhere : name_of s ≡ x → ⊥ = differs (name_of s) x e in
-        let apart : place_of t ≢ place_of s = λ p. elsewhere (ap name_of (sym (same_special t s p)) ∙ sym (name_of_named x t is)) in
-        get_or-set_other values (place_of s) (place_of t) v Nothing apart ∙ sym (unchanged (value_of (kept values es)) (name_of s) v x elsewhere ∙ value_of-special values es x t is)
+        let apart : index_of t ≢ index_of s = λ p. elsewhere (ap name_of (sym (same_special t s p)) ∙ sym (name_of_named x t is)) in
+        get_or-set_other values (index_of s) (index_of t) v Nothing apart ∙ sym (unchanged (value_of (kept values es)) (name_of s) v x elsewhere ∙ value_of-special values es x t is)
 
-    by : (r : Option Special) → special_named x ≡ r → value_of (kept (set values (place_of s) v) es) x ≡ with_value (value_of (kept values es)) (name_of s) v x
+    by : (r : Option Special) → special_named x ≡ r → value_of (kept (set values (index_of s) v) es) x ≡ with_value (value_of (kept values es)) (name_of s) v x
     by None is =
         let elsewhere : name_of s ≡ x → ⊥ = λ e. none_or_some (sym is ∙ ap special_named (sym e) ∙ special_named-name_of s) in
-        value_of-other (set values (place_of s) v) es x is ∙ sym (unchanged (value_of (kept values es)) (name_of s) v x elsewhere ∙ value_of-other values es x is)
-    by (Some t) is = value_of-special (set values (place_of s) v) es x t is ∙ by_name t is (bytes_eq (name_of s) x) refl
+        value_of-other (set values (index_of s) v) es x is ∙ sym (unchanged (value_of (kept values es)) (name_of s) v x elsewhere ∙ value_of-other values es x is)
+    by (Some t) is = value_of-special (set values (index_of s) v) es x t is ∙ by_name t is (bytes_eq (name_of s) x) refl
 
 -- the map gives the name the value, and leaves all others
 abbrev pub Puts : List (Vec ℕ × Value) → List (Vec ℕ × Value) → List ℕ → Value → Type 0
@@ -218,17 +223,3 @@ puts old new name v keeps has x = by (bytes_eq name x) refl
     by false e =
         let apart : AreApart (λ (k : Vec ℕ). bytes_eq name k.items) (λ (k : Vec ℕ). bytes_eq x k.items) = λ k is. other x k.items (λ h. differs name x e (same name k.items is ∙ sym h)) in
         keeps (λ (k : Vec ℕ). bytes_eq x k.items) tests apart
-
--- texts of six, seven and eight bytes
-
-pub six : (xs : List ℕ) (a b c d e f : ℕ) → length xs ≡ 6 → get_or xs 0 0 ≡ a → get_or xs 1 0 ≡ b → get_or xs 2 0 ≡ c → get_or xs 3 0 ≡ d → get_or xs 4 0 ≡ e → get_or xs 5 0 ≡ f → xs ≡ a ∷ b ∷ c ∷ d ∷ e ∷ f ∷ []
-six (p ∷ q ∷ r ∷ s ∷ t ∷ u ∷ []) a b c d e f len ata atb atc atd ate atf = cc
-six xs a b c d e f len ata atb atc atd ate atf = absurd (omega (arith, len))
-
-pub seven : (xs : List ℕ) (a b c d e f g : ℕ) → length xs ≡ 7 → get_or xs 0 0 ≡ a → get_or xs 1 0 ≡ b → get_or xs 2 0 ≡ c → get_or xs 3 0 ≡ d → get_or xs 4 0 ≡ e → get_or xs 5 0 ≡ f → get_or xs 6 0 ≡ g → xs ≡ a ∷ b ∷ c ∷ d ∷ e ∷ f ∷ g ∷ []
-seven (p ∷ q ∷ r ∷ s ∷ t ∷ u ∷ v ∷ []) a b c d e f g len ata atb atc atd ate atf atg = cc
-seven xs a b c d e f g len ata atb atc atd ate atf atg = absurd (omega (arith, len))
-
-pub eight : (xs : List ℕ) (a b c d e f g h : ℕ) → length xs ≡ 8 → get_or xs 0 0 ≡ a → get_or xs 1 0 ≡ b → get_or xs 2 0 ≡ c → get_or xs 3 0 ≡ d → get_or xs 4 0 ≡ e → get_or xs 5 0 ≡ f → get_or xs 6 0 ≡ g → get_or xs 7 0 ≡ h → xs ≡ a ∷ b ∷ c ∷ d ∷ e ∷ f ∷ g ∷ h ∷ []
-eight (p ∷ q ∷ r ∷ s ∷ t ∷ u ∷ v ∷ w ∷ []) a b c d e f g h len ata atb atc atd ate atf atg ath = cc
-eight xs a b c d e f g h len ata atb atc atd ate atf atg ath = absurd (omega (arith, len))

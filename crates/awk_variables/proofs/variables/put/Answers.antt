@@ -1,6 +1,6 @@
 use Rattle.std.proofs.Common.{subst, rules, List, ℕ}
-use Rattle.awk_run.proofs.KeptLemmas.{puts, Puts}
-use Rattle.awk_run.proofs.variables.put.Goals as goal
+use Rattle.awk_variables.proofs.Storage.{puts, Puts}
+use Rattle.awk_variables.proofs.variables.put.Goals as goal
 
 pub returns-in-Some-clause-put : goal.returns-in-Some-clause-put
 returns-in-Some-clause-put c =

@@ -1,8 +1,8 @@
 use Rattle.std.proofs.Common.{ap, sym, ◌∙◌, unwrap_or}
 use Rattle.awk_value.specs.declared.value.Value.TheVariants.{Nothing}
-use Rattle.awk_run.specs.Variables.{value_of, Pairs}
-use Rattle.awk_run.proofs.KeptLemmas.{value_of-other}
-use Rattle.awk_run.proofs.variables.Variables.get.Goals as goal
+use Rattle.awk_variables.specs.definitions.Variables.{value_of, Pairs}
+use Rattle.awk_variables.proofs.Storage.{value_of-other}
+use Rattle.awk_variables.proofs.variables.Variables.get.Goals as goal
 
 pub returns-in_ok-clone-in-Some-get-clause-value : goal.returns-in_ok-clone-in-Some-get-clause-value
 returns-in_ok-clone-in-Some-get-clause-value c =
