@@ -14,32 +14,33 @@ use Rattle.awk_streams.specs.Writes.{received}
 use Rattle.awk_streams.specs.Told.{NextTold}
 use Rattle.awk_streams.specs.Streams.{InputView, AreOpen, IsMainRest, IsFreshMain, OpensMain, AsksMain, EndsMain, Prints}
 use Rattle.awk_streams.specs.Outputs.{IsOutputFault}
-use Rattle.awk_run.specs.declared.machine.Machine.{Machine}
-use Rattle.awk_run.specs.declared.halt.Halt.TheVariants as halt
-use Rattle.awk_run.specs.declared.outcome.Fault.TheVariants as faults
-use Rattle.awk_run.specs.State.{StandardOutput, StandardError, AnOpening, ARecord, Event, Printed, Demanded, State, Out, lift}
-use Rattle.awk_run.specs.declared.variables.special.Special.TheVariants.{Ofs, Ors, Rs}
-use Rattle.awk_run.specs.Variables.{value_of, name_of}
-use Rattle.awk_run.specs.Operators.{line_of}
-use Rattle.awk_run.specs.Words.{show, show_values, counted, opened, open_main, with_rest, taken, taken_of, take_record, close_main}
-use Rattle.awk_run.specs.Meaning.{printed_to}
-use Rattle.awk_run.specs.Does.{Seen, Holds, Stands, Comes, Means, Does, Follows, Closes, Beside, halted}
-use Rattle.awk_run.proofs.Calculus.{beside_holds, grows_refl}
-use Rattle.awk_run.proofs.Limits.{printed_to-append}
+use Rattle.awk_run.specs.declared.interpreter.Interpreter.{Interpreter}
+use Rattle.awk_meaning.specs.declared.halt.Halt.TheVariants as halt
+use Rattle.awk_meaning.specs.declared.fault.Fault.TheVariants as faults
+use Rattle.awk_meaning.specs.State.{StandardOutput, StandardError, AnOpening, ARecord, Effect, Printed, Requested, State, Out, lift}
+use Rattle.awk_variables.specs.declared.special.Special.TheVariants.{Ofs, Ors, Rs}
+use Rattle.awk_variables.specs.Variables.{value_of, name_of}
+use Rattle.awk_meaning.specs.Operators.{line_of}
+use Rattle.awk_meaning.specs.Primitives.{print_bytes, print_line, counted, opened, open_main, with_rest, taken, taken_of, take_record, close_main}
+use Rattle.awk_meaning.specs.Meaning.{printed_to}
+use Rattle.awk_run.specs.support.Does.{Seen}
+use Rattle.awk_run.specs.support.Simulation.{OwnRelation, StateRelation, ResultRelation, SimulatesLogged, Simulates, Follows, ClosesMainInput, Beside, halted}
+use Rattle.awk_run.proofs.Composition.{beside_holds, grows_refl}
+use Rattle.awk_meaning.proofs.LawOfLimits.{printed_to-append}
 
 -- a state whose main input alone is another stands for the same
-at_main : (m : Machine) (s : State) (openings : InputKind → List ℕ → ℕ) (main : Option Source) → Holds m s → Holds m (record s { openings = openings; main = main })
-at_main m s openings main h = record { current = h.current; variables = h.variables; arguments = h.arguments; next = h.next; served = h.served; steps = h.steps }
+at_main : (m : Interpreter) (s : State) (openings : InputKind → List ℕ → ℕ) (main : Option Source) → OwnRelation m s → OwnRelation m (record s { openings = openings; main = main })
+at_main m s openings main h = record { current = h.current; variables = h.variables; arguments = h.arguments; next = h.next; input_seen = h.input_seen; steps = h.steps }
 
 -- printing
 
 -- the line that the code prints of values
-abbrev pub machine_line : Machine → List Value → List ℕ
+abbrev pub machine_line : Interpreter → List Value → List ℕ
 machine_line m vs = line_of (str_of (value_of m.variables (name_of Ofs))) (str_of (value_of m.variables (name_of Ors))) vs
 
-shown : (answers : Answers) (old new : Machine) (before after : Seen) (s : State) (past : List Event) (bytes : List ℕ) → Beside old new
+shown : (answers : Answers) (old new : Interpreter) (before after : Seen) (s : State) (past : List Effect) (bytes : List ℕ) → Beside old new
     → Prints bytes before.is_open before.log before.mark old.streams (Ok tt) after.is_open after.log after.mark new.streams
-    → Stands answers old before s past → Stands answers new after s (past ++ Printed StandardOutput bytes ∷ [])
+    → StateRelation answers old before s past → StateRelation answers new after s (past ++ Printed StandardOutput bytes ∷ [])
 shown answers old new before after s past bytes beside told stands = record {
   clear = told.unmarked ∙ stands.clear;
   outside = stands.outside;
@@ -51,40 +52,40 @@ shown answers old new before after s past bytes beside told stands = record {
 }
 
 -- the line is that of the code's variables
-shown_values : (vs : List Value) (m : Machine) (s : State) → Holds m s → show_values vs s ≡ show (machine_line m vs) s
-unfolding show_values
-shown_values vs m s h = ap (λ between. show (line_of between (str_of (s.variables (name_of Ors))) vs) s) (ap str_of (h.variables (name_of Ofs))) ∙ ap (λ behind. show (line_of (str_of (value_of m.variables (name_of Ofs))) behind vs) s) (ap str_of (h.variables (name_of Ors)))
+shown_values : (vs : List Value) (m : Interpreter) (s : State) → OwnRelation m s → print_line vs s ≡ print_bytes (machine_line m vs) s
+unfolding print_line
+shown_values vs m s h = ap (λ between. print_bytes (line_of between (str_of (s.variables (name_of Ors))) vs) s) (ap str_of (h.variables (name_of Ofs))) ∙ ap (λ behind. print_bytes (line_of (str_of (value_of m.variables (name_of Ofs))) behind vs) s) (ap str_of (h.variables (name_of Ors)))
 
-show_comes : (vs : List Value) {old new : Machine} {before after : Seen} → Beside old new
+show_comes : (vs : List Value) {old new : Interpreter} {before after : Seen} → Beside old new
     → Prints (machine_line old vs) before.is_open before.log before.mark old.streams (Ok tt) after.is_open after.log after.mark new.streams
-    → (answers : Answers) (s : State) (past : List Event) → Stands answers old before s past → Comes answers new after (Ok tt) (show (machine_line old vs) s) past
-unfolding show
+    → (answers : Answers) (s : State) (past : List Effect) → StateRelation answers old before s past → ResultRelation answers new after (Ok tt) (print_bytes (machine_line old vs) s) past
+unfolding print_bytes
 show_comes vs {old = old} {new = new} {before = before} {after = after} beside told answers s past stands = (refl, shown answers old new before after s past (machine_line old vs) beside told stands)
 
-show_means : (r : Result (Unit {0}) StreamFault) (vs : List Value) {old new : Machine} {before after : Seen} → Beside old new
+show_logged : (r : Result (Unit {0}) StreamFault) (vs : List Value) {old new : Interpreter} {before after : Seen} → Beside old new
     → Prints (machine_line old vs) before.is_open before.log before.mark old.streams r after.is_open after.log after.mark new.streams
-    → IfErr r IsOutputFault → Means old before new after (halted r) (show_values vs)
-show_means (Ok tt) vs {old = old} {new = new} {before = before} {after = after} beside told fault = record {
+    → IfErr r IsOutputFault → SimulatesLogged old before new after (halted r) (print_line vs)
+show_logged (Ok tt) vs {old = old} {new = new} {before = before} {after = after} beside told fault = record {
   grows = told.grows;
   keeps = told.sound;
   keeps_main = told.main;
-  means = λ answers s past agrees stands. subst (λ (o : Out (Unit {0})). Comes answers new after (Ok tt) o past) (sym (shown_values vs old s stands.holds)) (show_comes vs beside told answers s past stands);
+  means = λ answers s past agrees stands. subst (λ (o : Out (Unit {0})). ResultRelation answers new after (Ok tt) o past) (sym (shown_values vs old s stands.holds)) (show_comes vs beside told answers s past stands);
 }
-show_means (Err Memory) vs beside told fault = record { grows = told.grows; keeps = told.sound; keeps_main = told.main; means = λ answers s past agrees stands. tt }
-show_means (Err WriteFailed) vs beside told fault = record { grows = told.grows; keeps = told.sound; keeps_main = told.main; means = λ answers s past agrees stands. told.marked }
-show_means (Err InputNotReadable) vs beside told fault = absurd (elim fault [ inl e ↦ (cc) | inr e ↦ (cc) ])
-show_means (Err SeparatorTooLong) vs beside told fault = absurd (elim fault [ inl e ↦ (cc) | inr e ↦ (cc) ])
-show_means (Err RecordTooLong) vs beside told fault = absurd (elim fault [ inl e ↦ (cc) | inr e ↦ (cc) ])
+show_logged (Err Memory) vs beside told fault = record { grows = told.grows; keeps = told.sound; keeps_main = told.main; means = λ answers s past agrees stands. tt }
+show_logged (Err WriteFailed) vs beside told fault = record { grows = told.grows; keeps = told.sound; keeps_main = told.main; means = λ answers s past agrees stands. told.marked }
+show_logged (Err InputNotReadable) vs beside told fault = absurd (elim fault [ inl e ↦ (cc) | inr e ↦ (cc) ])
+show_logged (Err SeparatorTooLong) vs beside told fault = absurd (elim fault [ inl e ↦ (cc) | inr e ↦ (cc) ])
+show_logged (Err RecordTooLong) vs beside told fault = absurd (elim fault [ inl e ↦ (cc) | inr e ↦ (cc) ])
 
-pub show_follows : {tells : Type 0} (r : Result (Unit {0}) StreamFault) (vs : List Value) (bytes : List ℕ) {old new : Machine} {before after : Seen} → bytes ≡ machine_line old vs → Beside old new
+pub show_follows : {tells : Type 0} (r : Result (Unit {0}) StreamFault) (vs : List Value) (bytes : List ℕ) {old new : Interpreter} {before after : Seen} → bytes ≡ machine_line old vs → Beside old new
     → (AreOpen before.is_open old.streams → AreOpen after.is_open new.streams)
     → (tells → Prints bytes before.is_open before.log before.mark old.streams r after.is_open after.log after.mark new.streams)
-    → IfErr r IsOutputFault → Follows tells (show_values vs) old before new after (halted r)
+    → IfErr r IsOutputFault → Follows tells (print_line vs) old before new after (halted r)
 show_follows r vs bytes {old = old} {new = new} {before = before} {after = after} line beside stays told fault = record {
-  does = record {
+  simulates = record {
     steps = omega (arith, beside.steps);
     kept_open = stays;
-    told = λ t. show_means r vs beside (subst (λ (l : List ℕ). Prints l before.is_open before.log before.mark old.streams r after.is_open after.log after.mark new.streams) line (told t)) fault;
+    told = λ t. show_logged r vs beside (subst (λ (l : List ℕ). Prints l before.is_open before.log before.mark old.streams r after.is_open after.log after.mark new.streams) line (told t)) fault;
   };
 }
 
@@ -100,19 +101,19 @@ no_rest : (a : Answers) (l : List log.Event) (rest : Option Source) → IsMainRe
 no_rest a l None stands = refl
 no_rest a l (Some source) stands = absurd stands
 
-opens_stands : (answers : Answers) (old new : Machine) (before after : Seen) (s : State) (kind : InputKind) (path : List ℕ) (rest : Option Source) (past : List Event) → Beside old new
+opens_stands : (answers : Answers) (old new : Interpreter) (before after : Seen) (s : State) (kind : InputKind) (path : List ℕ) (rest : Option Source) (past : List Effect) → Beside old new
     → (after.mark ≡ before.mark) → ((k : InputKind) (n : List ℕ) → how_many (opens_input k n) after.log ≡ one_if (same_input k kind && bytes_eq n path) + how_many (opens_input k n) before.log)
     → ((j : ℕ) → received j after.log ≡ received j before.log)
     → IsMainRest answers after.log new.streams.main rest
-    → Stands answers old before s past → Stands answers new after (record (counted kind path s) { main = rest }) (past ++ Demanded (AnOpening kind path) ∷ [])
+    → StateRelation answers old before s past → StateRelation answers new after (record (counted kind path s) { main = rest }) (past ++ Requested (AnOpening kind path) ∷ [])
 opens_stands answers old new before after s kind path rest past beside mark counts outputs main stands = record {
   clear = mark ∙ stands.clear;
   outside = stands.outside;
   openings = λ k name. ap (λ n. one_if (same_input k kind && bytes_eq name path) + n) (stands.openings k name) ∙ sym (counts k name);
   main = main;
   holds = at_main new s _ rest (beside_holds beside stands.holds);
-  output = outputs 0 ∙ stands.output ∙ sym (append-nil (printed_to StandardOutput past)) ∙ sym (printed_to-append StandardOutput past (Demanded (AnOpening kind path) ∷ []));
-  error = outputs 1 ∙ stands.error ∙ sym (append-nil (printed_to StandardError past)) ∙ sym (printed_to-append StandardError past (Demanded (AnOpening kind path) ∷ []));
+  output = outputs 0 ∙ stands.output ∙ sym (append-nil (printed_to StandardOutput past)) ∙ sym (printed_to-append StandardOutput past (Requested (AnOpening kind path) ∷ []));
+  error = outputs 1 ∙ stands.error ∙ sym (append-nil (printed_to StandardError past)) ∙ sym (printed_to-append StandardError past (Requested (AnOpening kind path) ∷ []));
 }
 
 -- what the model opens, by what the outside answers
@@ -122,20 +123,20 @@ unfolding open_main
 opens_as kind path s answers l given outside count is =
     ap (λ (o : Option Source). opened kind path o s) (ap (λ (a : Answers). a.input kind path (s.openings kind path)) outside ∙ ap (λ n. answers.input kind path n) count ∙ is)
 
-opens_means : (kind : InputKind) (path : List ℕ) (r : Result (Unit {0}) StreamFault) {old new : Machine} {before after : Seen} → Beside old new → old.streams.main ≡ None
+opens_logged : (kind : InputKind) (path : List ℕ) (r : Result (Unit {0}) StreamFault) {old new : Interpreter} {before after : Seen} → Beside old new → old.streams.main ≡ None
     → (r ≡ Err InputNotReadable → new.streams ≡ old.streams)
     → OpensMain kind path before.is_open before.log before.mark old.streams r after.is_open after.log after.mark new.streams
-    → IfErr r IsOpeningFault → Means old before new after (halted r) (open_main kind path)
-opens_means kind path (Ok tt) {old = old} {new = new} {before = before} {after = after} beside none same told fault = record {
+    → IfErr r IsOpeningFault → SimulatesLogged old before new after (halted r) (open_main kind path)
+opens_logged kind path (Ok tt) {old = old} {new = new} {before = before} {after = after} beside none same told fault = record {
   grows = told.grows;
   keeps = told.sound;
   keeps_main = told.main;
   means = λ answers s past agrees stands.
       let given = told.granted answers agrees in
-      subst (λ (o : Out (Unit {0})). Comes answers new after (Ok tt) o past) (sym (opens_as kind path s answers before.log (Some given.0) stands.outside (stands.openings kind path) given.1))
+      subst (λ (o : Out (Unit {0})). ResultRelation answers new after (Ok tt) o past) (sym (opens_as kind path s answers before.log (Some given.0) stands.outside (stands.openings kind path) given.1))
       (refl, opens_stands answers old new before after s kind path (Some given.0) past beside (told.unmarked (λ (e : Ok tt ≡ Err Memory). absurd (cc))) (told.counts (λ (e : Ok tt ≡ Err Memory). absurd (cc))).inputs told.outputs given.2 stands);
 }
-opens_means kind path (Err InputNotReadable) {old = old} {new = new} {before = before} {after = after} beside none same told fault = record {
+opens_logged kind path (Err InputNotReadable) {old = old} {new = new} {before = before} {after = after} beside none same told fault = record {
   grows = told.grows;
   keeps = told.sound;
   keeps_main = told.main;
@@ -144,68 +145,68 @@ opens_means kind path (Err InputNotReadable) {old = old} {new = new} {before = b
       let still : new.streams.main ≡ None = ap (λ v. v.main) (same refl) ∙ none in
       let closed : IsMainRest answers after.log new.streams.main None = subst (λ m. IsMainRest answers after.log m None) (sym still) tt in
       let unopened = opens_stands answers old new before after s kind path None past beside (told.unmarked (λ (e : Err InputNotReadable ≡ Err Memory). absurd (cc))) (told.counts (λ (e : Err InputNotReadable ≡ Err Memory). absurd (cc))).inputs told.outputs closed stands in
-      subst (λ (o : Out (Unit {0})). Comes answers new after (Err (halt.Fault faults.InputNotReadable)) o past) (sym (opens_as kind path s answers before.log None stands.outside (stands.openings kind path) (told.refused refl answers agrees)))
-      (refl, subst (λ rest. Stands answers new after (record (counted kind path s) { main = rest }) (past ++ Demanded (AnOpening kind path) ∷ [])) (sym no_main) unopened);
+      subst (λ (o : Out (Unit {0})). ResultRelation answers new after (Err (halt.Fault faults.InputNotReadable)) o past) (sym (opens_as kind path s answers before.log None stands.outside (stands.openings kind path) (told.refused refl answers agrees)))
+      (refl, subst (λ rest. StateRelation answers new after (record (counted kind path s) { main = rest }) (past ++ Requested (AnOpening kind path) ∷ [])) (sym no_main) unopened);
 }
-opens_means kind path (Err Memory) beside none same told fault = record { grows = told.grows; keeps = told.sound; keeps_main = told.main; means = λ answers s past agrees stands. tt }
-opens_means kind path (Err WriteFailed) beside none same told fault = absurd (elim fault [ inl e ↦ (cc) | inr e ↦ (cc) ])
-opens_means kind path (Err SeparatorTooLong) beside none same told fault = absurd (elim fault [ inl e ↦ (cc) | inr e ↦ (cc) ])
-opens_means kind path (Err RecordTooLong) beside none same told fault = absurd (elim fault [ inl e ↦ (cc) | inr e ↦ (cc) ])
+opens_logged kind path (Err Memory) beside none same told fault = record { grows = told.grows; keeps = told.sound; keeps_main = told.main; means = λ answers s past agrees stands. tt }
+opens_logged kind path (Err WriteFailed) beside none same told fault = absurd (elim fault [ inl e ↦ (cc) | inr e ↦ (cc) ])
+opens_logged kind path (Err SeparatorTooLong) beside none same told fault = absurd (elim fault [ inl e ↦ (cc) | inr e ↦ (cc) ])
+opens_logged kind path (Err RecordTooLong) beside none same told fault = absurd (elim fault [ inl e ↦ (cc) | inr e ↦ (cc) ])
 
-pub opens_does : {tells : Type 0} (kind : InputKind) (path : List ℕ) (r : Result (Unit {0}) StreamFault) {old new : Machine} {before after : Seen} → Beside old new → old.streams.main ≡ None
+pub opens_simulates : {tells : Type 0} (kind : InputKind) (path : List ℕ) (r : Result (Unit {0}) StreamFault) {old new : Interpreter} {before after : Seen} → Beside old new → old.streams.main ≡ None
     → (r ≡ Err InputNotReadable → new.streams ≡ old.streams)
     → (AreOpen before.is_open old.streams → AreOpen after.is_open new.streams)
     → (tells → OpensMain kind path before.is_open before.log before.mark old.streams r after.is_open after.log after.mark new.streams)
-    → IfErr r IsOpeningFault → Does tells old before new after (halted r) (open_main kind path)
-opens_does kind path r beside none same stays told fault = record {
+    → IfErr r IsOpeningFault → Simulates tells old before new after (halted r) (open_main kind path)
+opens_simulates kind path r beside none same stays told fault = record {
   steps = omega (arith, beside.steps);
   kept_open = stays;
-  told = λ t. opens_means kind path r beside none same (told t) fault;
+  told = λ t. opens_logged kind path r beside none same (told t) fault;
 }
 
 -- asking for a record
 
-asked_stands : (answers : Answers) (old new : Machine) (before after : Seen) (s : State) (whole : Source) (left : List ℕ) (past : List Event) → Beside old new
+asked_stands : (answers : Answers) (old new : Interpreter) (before after : Seen) (s : State) (whole : Source) (left : List ℕ) (past : List Effect) → Beside old new
     → (after.mark ≡ before.mark) → ((k : InputKind) (n : List ℕ) → how_many (opens_input k n) after.log ≡ how_many (opens_input k n) before.log)
     → ((j : ℕ) → received j after.log ≡ received j before.log)
     → IsMainRest answers after.log new.streams.main (Some (record { bytes = left; ending = whole.ending }))
-    → Stands answers old before s past → Stands answers new after (with_rest s left whole.ending) (past ++ Demanded ARecord ∷ [])
+    → StateRelation answers old before s past → StateRelation answers new after (with_rest s left whole.ending) (past ++ Requested ARecord ∷ [])
 asked_stands answers old new before after s whole left past beside mark counts outputs main stands = record {
   clear = mark ∙ stands.clear;
   outside = stands.outside;
   openings = λ kind name. stands.openings kind name ∙ sym (counts kind name);
   main = main;
   holds = at_main new s _ _ (beside_holds beside stands.holds);
-  output = outputs 0 ∙ stands.output ∙ sym (append-nil (printed_to StandardOutput past)) ∙ sym (printed_to-append StandardOutput past (Demanded ARecord ∷ []));
-  error = outputs 1 ∙ stands.error ∙ sym (append-nil (printed_to StandardError past)) ∙ sym (printed_to-append StandardError past (Demanded ARecord ∷ []));
+  output = outputs 0 ∙ stands.output ∙ sym (append-nil (printed_to StandardOutput past)) ∙ sym (printed_to-append StandardOutput past (Requested ARecord ∷ []));
+  error = outputs 1 ∙ stands.error ∙ sym (append-nil (printed_to StandardError past)) ∙ sym (printed_to-append StandardError past (Requested ARecord ∷ []));
 }
 
 -- what is taken of a rest, by its cut and what the streams told of it
-asked_comes : (c : Cut) (answers : Answers) (new : Machine) (after : Seen) (r : Result (Option (List ℕ)) StreamFault) (whole : Source) (left : List ℕ) (s : State) (past : List Event)
-    → NextTold c r whole.bytes left → Stands answers new after (with_rest s left whole.ending) (past ++ Demanded ARecord ∷ [])
-    → Comes answers new after (halted r) (taken c whole s) past
+asked_comes : (c : Cut) (answers : Answers) (new : Interpreter) (after : Seen) (r : Result (Option (List ℕ)) StreamFault) (whole : Source) (left : List ℕ) (s : State) (past : List Effect)
+    → NextTold c r whole.bytes left → StateRelation answers new after (with_rest s left whole.ending) (past ++ Requested ARecord ∷ [])
+    → ResultRelation answers new after (halted r) (taken c whole s) past
 asked_comes (Found first rest) answers new after r whole left s past told stands =
-    subst (λ x. Comes answers new after (halted x) (taken (Found first rest) whole s) past) (sym told.0)
-    (refl, subst (λ l. Stands answers new after (with_rest s l whole.ending) (past ++ Demanded ARecord ∷ [])) told.1 stands)
+    subst (λ x. ResultRelation answers new after (halted x) (taken (Found first rest) whole s) past) (sym told.0)
+    (refl, subst (λ l. StateRelation answers new after (with_rest s l whole.ending) (past ++ Requested ARecord ∷ [])) told.1 stands)
 asked_comes NoMore answers new after r whole left s past told stands =
-    subst (λ x. Comes answers new after (halted x) (taken NoMore whole s) past) (sym told.0)
-    (refl, subst (λ l. Stands answers new after (with_rest s l whole.ending) (past ++ Demanded ARecord ∷ [])) told.1 stands)
+    subst (λ x. ResultRelation answers new after (halted x) (taken NoMore whole s) past) (sym told.0)
+    (refl, subst (λ l. StateRelation answers new after (with_rest s l whole.ending) (past ++ Requested ARecord ∷ [])) told.1 stands)
 asked_comes BrokenOff answers new after r whole left s past told stands =
-    subst (λ x. Comes answers new after (halted x) (taken BrokenOff whole s) past) (sym told.0)
-    (refl, subst (λ l. Stands answers new after (with_rest s l whole.ending) (past ++ Demanded ARecord ∷ [])) told.1 stands)
+    subst (λ x. ResultRelation answers new after (halted x) (taken BrokenOff whole s) past) (sym told.0)
+    (refl, subst (λ l. StateRelation answers new after (with_rest s l whole.ending) (past ++ Requested ARecord ∷ [])) told.1 stands)
 asked_comes TooLong answers new after r whole left s past told stands =
-    subst (λ x. Comes answers new after (halted x) (taken TooLong whole s) past) (sym told.0)
-    (refl, subst (λ l. Stands answers new after (with_rest s l whole.ending) (past ++ Demanded ARecord ∷ [])) told.1 stands)
+    subst (λ x. ResultRelation answers new after (halted x) (taken TooLong whole s) past) (sym told.0)
+    (refl, subst (λ l. StateRelation answers new after (with_rest s l whole.ending) (past ++ Requested ARecord ∷ [])) told.1 stands)
 asked_comes BadSeparator answers new after r whole left s past told stands =
-    subst (λ x. Comes answers new after (halted x) (taken BadSeparator whole s) past) (sym told.0)
-    (refl, subst (λ l. Stands answers new after (with_rest s l whole.ending) (past ++ Demanded ARecord ∷ [])) told.1 stands)
+    subst (λ x. ResultRelation answers new after (halted x) (taken BadSeparator whole s) past) (sym told.0)
+    (refl, subst (λ l. StateRelation answers new after (with_rest s l whole.ending) (past ++ Requested ARecord ∷ [])) told.1 stands)
 
 -- there is a rest in the model where the code has a main input
-taken_comes : (separator : List ℕ) (rest : Option Source) (main : Option InputView) (answers : Answers) (old new : Machine) (before after : Seen) (r : Result (Option (List ℕ)) StreamFault) (s : State) (past : List Event)
+taken_comes : (separator : List ℕ) (rest : Option Source) (main : Option InputView) (answers : Answers) (old new : Interpreter) (before after : Seen) (r : Result (Option (List ℕ)) StreamFault) (s : State) (past : List Effect)
     → Beside old new → main ≡ old.streams.main → is_some main ≡ true → separator ≢ [] → r ≢ Err Memory
     → AsksMain separator before.is_open before.log before.mark old.streams r after.is_open after.log after.mark new.streams
-    → Agrees answers after.log → Stands answers old before s past → IsMainRest answers before.log main rest
-    → Comes answers new after (halted r) (taken_of rest separator s) past
+    → Agrees answers after.log → StateRelation answers old before s past → IsMainRest answers before.log main rest
+    → ResultRelation answers new after (halted r) (taken_of rest separator s) past
 taken_comes separator rest None answers old new before after r s past beside is there some kept told agrees stands main = absurd (cc)
 taken_comes separator None (Some v) answers old new before after r s past beside is there some kept told agrees stands main = absurd main
 taken_comes [] (Some whole) (Some v) answers old new before after r s past beside is there some kept told agrees stands main = absurd (some refl)
@@ -215,64 +216,64 @@ taken_comes (b ∷ separator) (Some whole) (Some v) answers old new before after
     (asked_stands answers old new before after s whole gives.0 past beside (told.unmarked kept) told.counts.inputs told.outputs gives.2 stands)
 
 -- what the model takes, by the code's RS
-takes_as : (m : Machine) (s : State) → Holds m s → take_record s ≡ taken_of s.main (str_of (value_of m.variables (name_of Rs))) s
+takes_as : (m : Interpreter) (s : State) → OwnRelation m s → take_record s ≡ taken_of s.main (str_of (value_of m.variables (name_of Rs))) s
 unfolding take_record
 takes_as m s h = ap (λ v. taken_of s.main (str_of v) s) (h.variables (name_of Rs))
 
-asks_means : (separator : List ℕ) (r : Result (Option (List ℕ)) StreamFault) {old new : Machine} {before after : Seen} → separator ≡ str_of (value_of old.variables (name_of Rs)) → Beside old new → is_some old.streams.main ≡ true → separator ≢ [] → r ≢ Err Memory
+asks_logged : (separator : List ℕ) (r : Result (Option (List ℕ)) StreamFault) {old new : Interpreter} {before after : Seen} → separator ≡ str_of (value_of old.variables (name_of Rs)) → Beside old new → is_some old.streams.main ≡ true → separator ≢ [] → r ≢ Err Memory
     → AsksMain separator before.is_open before.log before.mark old.streams r after.is_open after.log after.mark new.streams
-    → Means old before new after (halted r) take_record
-asks_means separator r {old = old} {new = new} {before = before} {after = after} rs beside there some kept told = record {
+    → SimulatesLogged old before new after (halted r) take_record
+asks_logged separator r {old = old} {new = new} {before = before} {after = after} rs beside there some kept told = record {
   grows = told.grows;
   keeps = told.sound;
   keeps_main = λ sound. told.main;
   means = λ answers s past agrees stands.
-      subst (λ (o : Out (Option (List ℕ))). Comes answers new after (halted r) o past) (ap (λ l. taken_of s.main l s) rs ∙ sym (takes_as old s stands.holds))
+      subst (λ (o : Out (Option (List ℕ))). ResultRelation answers new after (halted r) o past) (ap (λ l. taken_of s.main l s) rs ∙ sym (takes_as old s stands.holds))
       (taken_comes separator s.main old.streams.main answers old new before after r s past beside refl there some kept told agrees stands stands.main);
 }
 
-asks_by : (separator : List ℕ) (r : Result (Option (List ℕ)) StreamFault) {old new : Machine} {before after : Seen} → separator ≡ str_of (value_of old.variables (name_of Rs)) → Beside old new → is_some old.streams.main ≡ true → separator ≢ []
+asks_by : (separator : List ℕ) (r : Result (Option (List ℕ)) StreamFault) {old new : Interpreter} {before after : Seen} → separator ≡ str_of (value_of old.variables (name_of Rs)) → Beside old new → is_some old.streams.main ≡ true → separator ≢ []
     → AsksMain separator before.is_open before.log before.mark old.streams r after.is_open after.log after.mark new.streams
-    → Means old before new after (halted r) take_record
-asks_by separator (Ok found) rs beside there some told = asks_means separator (Ok found) rs beside there some (λ (e : Ok found ≡ Err Memory). absurd (cc)) told
+    → SimulatesLogged old before new after (halted r) take_record
+asks_by separator (Ok found) rs beside there some told = asks_logged separator (Ok found) rs beside there some (λ (e : Ok found ≡ Err Memory). absurd (cc)) told
 asks_by separator (Err Memory) rs beside there some told = record { grows = told.grows; keeps = told.sound; keeps_main = λ sound. told.main; means = λ answers s past agrees stands. tt }
-asks_by separator (Err WriteFailed) rs beside there some told = asks_means separator (Err WriteFailed) rs beside there some (λ (e : Err WriteFailed ≡ Err Memory). absurd (cc)) told
-asks_by separator (Err InputNotReadable) rs beside there some told = asks_means separator (Err InputNotReadable) rs beside there some (λ (e : Err InputNotReadable ≡ Err Memory). absurd (cc)) told
-asks_by separator (Err SeparatorTooLong) rs beside there some told = asks_means separator (Err SeparatorTooLong) rs beside there some (λ (e : Err SeparatorTooLong ≡ Err Memory). absurd (cc)) told
-asks_by separator (Err RecordTooLong) rs beside there some told = asks_means separator (Err RecordTooLong) rs beside there some (λ (e : Err RecordTooLong ≡ Err Memory). absurd (cc)) told
+asks_by separator (Err WriteFailed) rs beside there some told = asks_logged separator (Err WriteFailed) rs beside there some (λ (e : Err WriteFailed ≡ Err Memory). absurd (cc)) told
+asks_by separator (Err InputNotReadable) rs beside there some told = asks_logged separator (Err InputNotReadable) rs beside there some (λ (e : Err InputNotReadable ≡ Err Memory). absurd (cc)) told
+asks_by separator (Err SeparatorTooLong) rs beside there some told = asks_logged separator (Err SeparatorTooLong) rs beside there some (λ (e : Err SeparatorTooLong ≡ Err Memory). absurd (cc)) told
+asks_by separator (Err RecordTooLong) rs beside there some told = asks_logged separator (Err RecordTooLong) rs beside there some (λ (e : Err RecordTooLong ≡ Err Memory). absurd (cc)) told
 
-pub asks_does : {tells : Type 0} (separator : List ℕ) (r : Result (Option (List ℕ)) StreamFault) {old new : Machine} {before after : Seen} → separator ≡ str_of (value_of old.variables (name_of Rs)) → Beside old new → is_some old.streams.main ≡ true → separator ≢ []
+pub asks_simulates : {tells : Type 0} (separator : List ℕ) (r : Result (Option (List ℕ)) StreamFault) {old new : Interpreter} {before after : Seen} → separator ≡ str_of (value_of old.variables (name_of Rs)) → Beside old new → is_some old.streams.main ≡ true → separator ≢ []
     → (AreOpen before.is_open old.streams → AreOpen after.is_open new.streams)
     → (tells → AsksMain separator before.is_open before.log before.mark old.streams r after.is_open after.log after.mark new.streams)
-    → Does tells old before new after (halted r) take_record
-asks_does separator r rs beside there some stays told = record {
+    → Simulates tells old before new after (halted r) take_record
+asks_simulates separator r rs beside there some stays told = record {
   steps = omega (arith, beside.steps);
   kept_open = stays;
   told = λ t. asks_by separator r rs beside there some (told t);
 }
 
 -- where no main input is open, none is taken
-none_comes : (answers : Answers) (m : Machine) (k : Seen) (s : State) (past : List Event) (main : Option InputView) (rest : Option Source) (separator : List ℕ) → main ≡ None → IsMainRest answers k.log main rest → Stands answers m k s past → Comes answers m k (Ok None) (taken_of rest separator s) past
+none_comes : (answers : Answers) (m : Interpreter) (k : Seen) (s : State) (past : List Effect) (main : Option InputView) (rest : Option Source) (separator : List ℕ) → main ≡ None → IsMainRest answers k.log main rest → StateRelation answers m k s past → ResultRelation answers m k (Ok None) (taken_of rest separator s) past
 unfolding lift
-none_comes answers m k s past None None separator e main stands = (refl, subst (λ (l : List Event). Stands answers m k s l) (sym (append-nil past)) stands)
+none_comes answers m k s past None None separator e main stands = (refl, subst (λ (l : List Effect). StateRelation answers m k s l) (sym (append-nil past)) stands)
 none_comes answers m k s past None (Some source) separator e main stands = absurd main
 none_comes answers m k s past (Some v) rest separator e main stands = absurd (cc)
 
-takes_none_means : {m : Machine} {k : Seen} → m.streams.main ≡ None → Means m k m k (Ok None) take_record
-takes_none_means {m = m} {k = k} none = record {
+takes_none_logged : {m : Interpreter} {k : Seen} → m.streams.main ≡ None → SimulatesLogged m k m k (Ok None) take_record
+takes_none_logged {m = m} {k = k} none = record {
   grows = grows_refl k.log k.mark;
   keeps = λ sound. sound;
   keeps_main = λ sound. sound;
   means = λ answers s past agrees stands.
-      subst (λ (o : Out (Option (List ℕ))). Comes answers m k (Ok None) o past) (sym (takes_as m s stands.holds))
+      subst (λ (o : Out (Option (List ℕ))). ResultRelation answers m k (Ok None) o past) (sym (takes_as m s stands.holds))
       (none_comes answers m k s past m.streams.main s.main _ none stands.main stands);
 }
 
-pub takes_none : {tells : Type 0} {m : Machine} {k : Seen} → m.streams.main ≡ None → Does tells m k m k (Ok None) take_record
-takes_none none = record { steps = omega arith; kept_open = λ h. h; told = λ t. takes_none_means none }
+pub takes_none : {tells : Type 0} {m : Interpreter} {k : Seen} → m.streams.main ≡ None → Simulates tells m k m k (Ok None) take_record
+takes_none none = record { steps = omega arith; kept_open = λ h. h; told = λ t. takes_none_logged none }
 
 -- an empty separator is refused before a byte is read
-refuses_comes : (answers : Answers) (m : Machine) (k : Seen) (s : State) (past : List Event) (main : Option InputView) (rest : Option Source) → main ≡ m.streams.main → is_some main ≡ true → IsMainRest answers k.log main rest → s.main ≡ rest → Stands answers m k s past → Comes answers m k (Err (halt.Fault faults.RecordSeparatorTooLong)) (taken_of rest [] s) past
+refuses_comes : (answers : Answers) (m : Interpreter) (k : Seen) (s : State) (past : List Effect) (main : Option InputView) (rest : Option Source) → main ≡ m.streams.main → is_some main ≡ true → IsMainRest answers k.log main rest → s.main ≡ rest → StateRelation answers m k s past → ResultRelation answers m k (Err (halt.Fault faults.RecordSeparatorTooLong)) (taken_of rest [] s) past
 refuses_comes answers m k s past None rest is there main same stands = absurd (cc)
 refuses_comes answers m k s past (Some v) None is there main same stands = absurd main
 refuses_comes answers m k s past (Some v) (Some source) is there main same stands = (
@@ -283,29 +284,29 @@ refuses_comes answers m k s past (Some v) (Some source) is there main same stand
     openings = stands.openings;
     main = subst (λ x. IsMainRest answers k.log x (Some source)) is main;
     holds = at_main m s s.openings _ stands.holds;
-    output = stands.output ∙ sym (append-nil (printed_to StandardOutput past)) ∙ sym (printed_to-append StandardOutput past (Demanded ARecord ∷ []));
-    error = stands.error ∙ sym (append-nil (printed_to StandardError past)) ∙ sym (printed_to-append StandardError past (Demanded ARecord ∷ []));
+    output = stands.output ∙ sym (append-nil (printed_to StandardOutput past)) ∙ sym (printed_to-append StandardOutput past (Requested ARecord ∷ []));
+    error = stands.error ∙ sym (append-nil (printed_to StandardError past)) ∙ sym (printed_to-append StandardError past (Requested ARecord ∷ []));
   },
 )
 
-refuses_means : {m : Machine} {k : Seen} → str_of (value_of m.variables (name_of Rs)) ≡ [] → is_some m.streams.main ≡ true → Means m k m k (Err (halt.Fault faults.RecordSeparatorTooLong)) take_record
-refuses_means {m = m} {k = k} empty there = record {
+refuses_logged : {m : Interpreter} {k : Seen} → str_of (value_of m.variables (name_of Rs)) ≡ [] → is_some m.streams.main ≡ true → SimulatesLogged m k m k (Err (halt.Fault faults.RecordSeparatorTooLong)) take_record
+refuses_logged {m = m} {k = k} empty there = record {
   grows = grows_refl k.log k.mark;
   keeps = λ sound. sound;
   keeps_main = λ sound. sound;
   means = λ answers s past agrees stands.
-      subst (λ (o : Out (Option (List ℕ))). Comes answers m k (Err (halt.Fault faults.RecordSeparatorTooLong)) o past) (sym (takes_as m s stands.holds ∙ ap (λ l. taken_of s.main l s) empty))
+      subst (λ (o : Out (Option (List ℕ))). ResultRelation answers m k (Err (halt.Fault faults.RecordSeparatorTooLong)) o past) (sym (takes_as m s stands.holds ∙ ap (λ l. taken_of s.main l s) empty))
       (refuses_comes answers m k s past m.streams.main s.main refl there stands.main refl stands);
 }
 
-pub takes_refused : {tells : Type 0} {m : Machine} {k : Seen} → str_of (value_of m.variables (name_of Rs)) ≡ [] → is_some m.streams.main ≡ true → Does tells m k m k (Err (halt.Fault faults.RecordSeparatorTooLong)) take_record
-takes_refused empty there = record { steps = omega arith; kept_open = λ h. h; told = λ t. refuses_means empty there }
+pub takes_refused : {tells : Type 0} {m : Interpreter} {k : Seen} → str_of (value_of m.variables (name_of Rs)) ≡ [] → is_some m.streams.main ≡ true → Simulates tells m k m k (Err (halt.Fault faults.RecordSeparatorTooLong)) take_record
+takes_refused empty there = record { steps = omega arith; kept_open = λ h. h; told = λ t. refuses_logged empty there }
 
 -- closing the main input
 
-closes_stands : (answers : Answers) (old new : Machine) (before after : Seen) (s : State) (past : List Event) → Beside old new → new.streams.main ≡ None
+closes_stands : (answers : Answers) (old new : Interpreter) (before after : Seen) (s : State) (past : List Effect) → Beside old new → new.streams.main ≡ None
     → EndsMain before.is_open before.log before.mark old.streams after.is_open after.log after.mark new.streams
-    → Stands answers old before s past → Stands answers new after (record s { main = None }) (past ++ [])
+    → StateRelation answers old before s past → StateRelation answers new after (record s { main = None }) (past ++ [])
 closes_stands answers old new before after s past beside none told stands = record {
   clear = told.unmarked ∙ stands.clear;
   outside = stands.outside;
@@ -316,23 +317,23 @@ closes_stands answers old new before after s past beside none told stands = reco
   error = told.outputs 1 ∙ stands.error ∙ ap (printed_to StandardError) (sym (append-nil past));
 }
 
-closes_means : {old new : Machine} {before after : Seen} → Beside old new → new.streams.main ≡ None
+closes_logged : {old new : Interpreter} {before after : Seen} → Beside old new → new.streams.main ≡ None
     → EndsMain before.is_open before.log before.mark old.streams after.is_open after.log after.mark new.streams
-    → Means old before new after (Ok tt) close_main
+    → SimulatesLogged old before new after (Ok tt) close_main
 unfolding close_main
-closes_means {old = old} {new = new} {before = before} {after = after} beside none told = record {
+closes_logged {old = old} {new = new} {before = before} {after = after} beside none told = record {
   grows = told.grows;
   keeps = told.sound;
   keeps_main = λ sound. told.main;
   means = λ answers s past agrees stands. (refl, closes_stands answers old new before after s past beside none told stands);
 }
 
-pub closes_does : {tells : Type 0} {old new : Machine} {before after : Seen} → Beside old new → new.streams.main ≡ None
+pub closes_simulates : {tells : Type 0} {old new : Interpreter} {before after : Seen} → Beside old new → new.streams.main ≡ None
     → (AreOpen before.is_open old.streams → AreOpen after.is_open new.streams)
     → (tells → EndsMain before.is_open before.log before.mark old.streams after.is_open after.log after.mark new.streams)
-    → Closes tells old before new after
-closes_does beside none stays told = record {
-  does = record { steps = omega (arith, beside.steps); kept_open = stays; told = λ t. closes_means beside none (told t) };
+    → ClosesMainInput tells old before new after
+closes_simulates beside none stays told = record {
+  simulates = record { steps = omega (arith, beside.steps); kept_open = stays; told = λ t. closes_logged beside none (told t) };
   main = none;
 }
 

@@ -16,10 +16,10 @@ use Rattle.awk_syntax.specs.Outcome.{Reads, IsLowProgram, RefusesPattern, Justif
 use Rattle.awk_syntax.specs.Patterns.{AreReadable, IsLeftmostRefused}
 use Rattle.awk_syntax.specs.View.{tree_of}
 use Rattle.awk_syntax.specs.declared.tree.Tree.{Tree}
-use Rattle.awk_run.specs.Kinds.{uses_in, uses_left_out, scalar_names, array_names, are_apart, Fits}
-use Rattle.awk_run.specs.Names.{name_refusal}
-use Rattle.awk_run.specs.Accepted.{longest_text, greatest_height, IsSpelled, RefusesEre, HasBadEre, Accepted, RefusedFor}
-use Rattle.awk_run.specs.Verdict.{ReadsOnly}
+use Rattle.awk_resolve.specs.Names.{uses_in, uses_left_out, scalar_names, array_names, are_apart, Fits}
+use Rattle.awk_resolve.specs.Names.{name_refusal}
+use Rattle.awk_run.specs.definitions.Accepted.{longest_text, greatest_height, IsSpelled, RefusesEre, HasBadEre, Accepted, RefusedFor}
+use Rattle.awk_run.specs.support.Verdict.{ReadsOnly}
 
 -- the tree of a text
 

@@ -7,33 +7,35 @@ use Rattle.awk_streams.specs.Orderly.{IsOrderly, IsInOrder}
 use Rattle.awk_streams.specs.Writes.{received}
 use Rattle.awk_streams.specs.Streams.{StreamsView, AreOpen, AreSound, IsMainRest, IsSoundMain, IsOpenMain, Finishes}
 use Rattle.awk_syntax.specs.Tree.{Item}
-use Rattle.awk_run.specs.declared.machine.Machine.{Machine}
-use Rattle.awk_run.specs.declared.halt.Halt.{Halt}
-use Rattle.awk_run.specs.declared.halt.Halt.TheVariants as halt
-use Rattle.awk_run.specs.declared.outcome.Outcome.{Outcome}
-use Rattle.awk_run.specs.declared.outcome.Outcome.TheVariants.{Fault}
-use Rattle.awk_run.specs.declared.outcome.Fault.TheVariants as faults
-use Rattle.awk_run.specs.State.{StandardOutput, StandardError, Stop, Faulted, OutOfSteps, Out}
-use Rattle.awk_run.specs.Meaning.{StartValues, start_state, whole_run, whole, outcome_of, printed_to}
-use Rattle.awk_run.specs.Does.{Seen, Stands, Sort, WantOfMemory, FailedWrite, OfLanguage, sort_of, Comes, ComesBy, RunsWhole, IsStart}
-use Rattle.awk_run.specs.Headline.{IsFresh, IsUndisturbed}
-use Rattle.awk_run.specs.Verdict.{outcome_after, RunsFrom}
+use Rattle.awk_run.specs.declared.interpreter.Interpreter.{Interpreter}
+use Rattle.awk_meaning.specs.declared.halt.Halt.{Halt}
+use Rattle.awk_meaning.specs.declared.halt.Halt.TheVariants as halt
+use Rattle.awk_meaning.specs.declared.outcome.Outcome.{Outcome}
+use Rattle.awk_meaning.specs.declared.outcome.Outcome.TheVariants.{Fault}
+use Rattle.awk_meaning.specs.declared.fault.Fault.TheVariants as faults
+use Rattle.awk_meaning.specs.State.{StandardOutput, StandardError, Out}
+use Rattle.awk_meaning.specs.Meaning.{StartValues, start_state, assign_and_run, run_program, outcome_of, printed_to}
+use Rattle.awk_run.specs.support.Does.{Seen}
+use Rattle.awk_run.specs.support.Simulation.{StateRelation, ResultRelation, ResultRelationBy, AssignsAndRuns, IsStart}
+use Rattle.awk_meaning.specs.Results.{Sort, WantOfMemory, FailedWrite, OfLanguage, sort_of}
+use Rattle.awk_run.specs.definitions.Headline.{IsUntouched, IsUndisturbed}
+use Rattle.awk_run.specs.support.Verdict.{outcome_after, RunsFrom}
 
 -- nothing is open before a run
-pub start_open : {start : StartValues} {limit : ℕ} {m : Machine} (is_open : ℕ → Bool) → IsStart start limit m → AreOpen is_open m.streams
+pub start_open : {start : StartValues} {limit : ℕ} {m : Interpreter} (is_open : ℕ → Bool) → IsStart start limit m → AreOpen is_open m.streams
 start_open is_open start = subst (λ x. IsOpenMain is_open x) (sym start.main) tt
 
-pub start_main : {start : StartValues} {limit : ℕ} {m : Machine} (l : List log.Event) → IsStart start limit m → IsSoundMain l m.streams.main
+pub start_main : {start : StartValues} {limit : ℕ} {m : Interpreter} (l : List log.Event) → IsStart start limit m → IsSoundMain l m.streams.main
 start_main l start = subst (λ x. IsSoundMain l x) (sym start.main) tt
 
 -- the log is empty, and in order
-pub start_sound : {start : StartValues} {limit : ℕ} {m : Machine} (is_open : ℕ → Bool) (l : List log.Event) → IsStart start limit m → l ≡ [] → IsInOrder is_open [] → AreSound is_open l m.streams
+pub start_sound : {start : StartValues} {limit : ℕ} {m : Interpreter} (is_open : ℕ → Bool) (l : List log.Event) → IsStart start limit m → l ≡ [] → IsInOrder is_open [] → AreSound is_open l m.streams
 start_sound is_open l start empty order = record {
   order = subst (λ (x : List log.Event). IsInOrder is_open x) (sym empty) order;
   main = subst (λ x. IsSoundMain l x) (sym start.main) tt;
 }
 
-start_stands : (start : StartValues) (answers : Answers) (limit : ℕ) (m : Machine) (k : Seen) → IsStart start limit m → IsFresh k → Stands answers m k (start_state start answers limit) []
+start_stands : (start : StartValues) (answers : Answers) (limit : ℕ) (m : Interpreter) (k : Seen) → IsStart start limit m → IsUntouched k → StateRelation answers m k (start_state start answers limit) []
 start_stands start answers limit m k is fresh = record {
   clear = fresh.mark;
   outside = refl;
@@ -44,7 +46,7 @@ start_stands start answers limit m k is fresh = record {
     variables = λ x. sym (is.variables x);
     arguments = sym is.words;
     next = sym is.next;
-    served = sym is.served;
+    input_seen = sym is.input_seen;
     steps = sym is.steps;
   };
   output = ap (λ l. received 0 l) fresh.log;
@@ -54,21 +56,21 @@ start_stands start answers limit m k is fresh = record {
 -- what a run came to, where it is neither for want of memory nor by a failed write
 pub record IsMeant (answers : Answers) (k : Seen) (o : Out (Unit {0})) (result : Outcome) : Type 0 where
   pub outcome : outcome_of o.result ≡ result
-  pub output : received 0 k.log ≡ printed_to StandardOutput o.events
-  pub error : received 1 k.log ≡ printed_to StandardError o.events
+  pub output : received 0 k.log ≡ printed_to StandardOutput o.effects
+  pub error : received 1 k.log ≡ printed_to StandardError o.effects
 
 -- the outcome of a halt, by what the language knows of it
-outcome_by : (h : Halt) (stop : Stop) → sort_of h ≡ OfLanguage stop → outcome_of (Err stop) ≡ outcome_after (Err h) (Ok tt)
-outcome_by halt.OutOfSteps stop e = let s : OutOfSteps ≡ stop = cc in ap (λ (x : Stop). outcome_of (Err x)) (sym s)
-outcome_by (halt.Fault faults.OutOfMemory) stop e = absurd (cc)
-outcome_by (halt.Fault faults.WriteFailed) stop e = absurd (cc)
-outcome_by (halt.Fault f) stop e = let s : Faulted f ≡ stop = cc in ap (λ (x : Stop). outcome_of (Err x)) (sym s)
+outcome_by : (h : Halt) (reason : Halt) → sort_of h ≡ OfLanguage reason → outcome_of (Err reason) ≡ outcome_after (Err h) (Ok tt)
+outcome_by halt.OutOfSteps reason e = let s : halt.OutOfSteps ≡ reason = cc in ap (λ (x : Halt). outcome_of (Err x)) (sym s)
+outcome_by (halt.Fault faults.OutOfMemory) reason e = absurd (cc)
+outcome_by (halt.Fault faults.WriteFailed) reason e = absurd (cc)
+outcome_by (halt.Fault f) reason e = let s : halt.Fault f ≡ reason = cc in ap (λ (x : Halt). outcome_of (Err x)) (sym s)
 
 not_some : (mark : Option ℕ) → mark ≡ None → is_some mark ≡ true → ⊥
 not_some None e s = absurd (cc)
 not_some (Some n) e s = absurd (cc)
 
-meant_by : (answers : Answers) (m : Machine) (k : Seen) (h : Halt) (s : Sort) (o : Out (Unit {0})) → sort_of h ≡ s → h ≢ halt.Fault faults.OutOfMemory → k.mark ≡ None → ComesBy answers m k s o [] → IsMeant answers k o (outcome_after (Err h) (Ok tt))
+meant_by : (answers : Answers) (m : Interpreter) (k : Seen) (h : Halt) (s : Sort) (o : Out (Unit {0})) → sort_of h ≡ s → h ≢ halt.Fault faults.OutOfMemory → k.mark ≡ None → ResultRelationBy answers m k s o [] → IsMeant answers k o (outcome_after (Err h) (Ok tt))
 meant_by answers m k h WantOfMemory o e memory clear comes = absurd (memory (memory_sort h e))
   where
     memory_sort : (h : Halt) → sort_of h ≡ WantOfMemory → h ≡ halt.Fault faults.OutOfMemory
@@ -77,13 +79,13 @@ meant_by answers m k h WantOfMemory o e memory clear comes = absurd (memory (mem
     memory_sort (halt.Fault f) e = absurd (cc)
     memory_sort halt.OutOfSteps e = absurd (cc)
 meant_by answers m k h FailedWrite o e memory clear comes = absurd (not_some k.mark clear comes)
-meant_by answers m k h (OfLanguage stop) o e memory clear comes = record {
-  outcome = ap outcome_of comes.0 ∙ outcome_by h stop e;
+meant_by answers m k h (OfLanguage reason) o e memory clear comes = record {
+  outcome = ap outcome_of comes.0 ∙ outcome_by h reason e;
   output = comes.1.output;
   error = comes.1.error;
 }
 
-meant : (answers : Answers) (m : Machine) (k : Seen) (r : Result (Unit {0}) Halt) (o : Out (Unit {0})) → r ≢ Err (halt.Fault faults.OutOfMemory) → k.mark ≡ None → Comes answers m k r o [] → IsMeant answers k o (outcome_after r (Ok tt))
+meant : (answers : Answers) (m : Interpreter) (k : Seen) (r : Result (Unit {0}) Halt) (o : Out (Unit {0})) → r ≢ Err (halt.Fault faults.OutOfMemory) → k.mark ≡ None → ResultRelation answers m k r o [] → IsMeant answers k o (outcome_after r (Ok tt))
 meant answers m k (Ok u) o memory clear comes = record { outcome = ap outcome_of comes.0; output = comes.1.output; error = comes.1.error }
 meant answers m k (Err h) o memory clear comes = meant_by answers m k h (sort_of h) o refl (λ e. memory (ap (λ (x : Halt). Err x) e)) clear comes
 
@@ -98,28 +100,28 @@ still_unmarked (Err e) {mark' = mark'} told clear = absurd (not_some mark' clear
 halted_by_memory : (r : Result (Unit {0}) Halt) (f : Result (Unit {0}) StreamFault) → r ≡ Err (halt.Fault faults.OutOfMemory) → outcome_after r f ≡ Fault faults.OutOfMemory
 halted_by_memory r f e = ap (λ x. outcome_after x f) e
 
-ends_as_meant : (items : List Item) (start : StartValues) (answers : Answers) (limit : ℕ) {tells : Type 0} {m m1 : Machine} {k k1 k2 : Seen} {r : Result (Unit {0}) Halt} {f : Result (Unit {0}) StreamFault} {last : StreamsView} {result : Outcome} → IsStart start limit m → IsFresh k → tells
-    → RunsWhole tells items start.pre m k m1 k1 r → Finishes k1.is_open k1.log k1.mark m1.streams f k2.is_open k2.log k2.mark last → result ≡ outcome_after r f
-    → IsUndisturbed k2 result → Agrees answers k2.log → IsMeant answers k2 (whole items start answers limit) result
-unfolding whole
+ends_as_meant : (items : List Item) (start : StartValues) (answers : Answers) (limit : ℕ) {tells : Type 0} {m m1 : Interpreter} {k k1 k2 : Seen} {r : Result (Unit {0}) Halt} {f : Result (Unit {0}) StreamFault} {last : StreamsView} {result : Outcome} → IsStart start limit m → IsUntouched k → tells
+    → AssignsAndRuns tells items start.pre m k m1 k1 r → Finishes k1.is_open k1.log k1.mark m1.streams f k2.is_open k2.log k2.mark last → result ≡ outcome_after r f
+    → IsUndisturbed k2 result → Agrees answers k2.log → IsMeant answers k2 (run_program items start answers limit) result
+unfolding run_program
 ends_as_meant items start answers limit {m = m} {m1 = m1} {k = k} {k1 = k1} {k2 = k2} {r = r} {f = f} {result = result} began fresh t ran told is calm agrees =
     let clear = still_unmarked f told calm.mark in
-    let part = ran.does.told t in
+    let part = ran.simulates.told t in
     let comes = part.means answers (start_state start answers limit) [] (told.grows.agrees answers agrees) (start_stands start answers limit m k began fresh) in
     let kept : r ≢ Err (halt.Fault faults.OutOfMemory) = λ e. calm.memory (is ∙ halted_by_memory r f e) in
-    let came = meant answers m1 k1 r (whole_run items start.pre (start_state start answers limit)) kept clear.1 comes in
+    let came = meant answers m1 k1 r (assign_and_run items start.pre (start_state start answers limit)) kept clear.1 comes in
     record {
       outcome = came.outcome ∙ ap (λ x. outcome_after r x) (sym clear.0) ∙ sym is;
       output = told.outputs 0 ∙ came.output;
       error = told.outputs 1 ∙ came.error;
     }
 
-pub runs_from : (items : List Item) (start : StartValues) (limit : ℕ) {tells : Type 0} {m m1 : Machine} {k k1 k2 : Seen} {r : Result (Unit {0}) Halt} {f : Result (Unit {0}) StreamFault} {last : StreamsView} {result : Outcome} → SomeAgree → IsInOrder k.is_open [] → IsStart start limit m
-    → RunsWhole tells items start.pre m k m1 k1 r → (tells → Finishes k1.is_open k1.log k1.mark m1.streams f k2.is_open k2.log k2.mark last) → result ≡ outcome_after r f
+pub runs_from : (items : List Item) (start : StartValues) (limit : ℕ) {tells : Type 0} {m m1 : Interpreter} {k k1 k2 : Seen} {r : Result (Unit {0}) Halt} {f : Result (Unit {0}) StreamFault} {last : StreamsView} {result : Outcome} → SomeAgree → IsInOrder k.is_open [] → IsStart start limit m
+    → AssignsAndRuns tells items start.pre m k m1 k1 r → (tells → Finishes k1.is_open k1.log k1.mark m1.streams f k2.is_open k2.log k2.mark last) → result ≡ outcome_after r f
     → RunsFrom tells items start limit k k2 result
 runs_from items start limit {k = k} {k2 = k2} law order began ran told is = record {
   runs = λ t fresh. record {
-    some = law k2.log ((told t).sound ((ran.does.told t).keeps (start_sound k.is_open k.log began fresh.log order))).order.orderly;
+    some = law k2.log ((told t).sound ((ran.simulates.told t).keeps (start_sound k.is_open k.log began fresh.log order))).order.orderly;
     outcome = λ calm answers agrees. (ends_as_meant items start answers limit began fresh t ran (told t) is calm agrees).outcome;
     standard_output = λ calm answers agrees. (ends_as_meant items start answers limit began fresh t ran (told t) is calm agrees).output;
     standard_error = λ calm answers agrees. (ends_as_meant items start answers limit began fresh t ran (told t) is calm agrees).error;

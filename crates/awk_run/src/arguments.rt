@@ -5,15 +5,14 @@ ghost use Rattle.std.specs.List.{prefix_len};
 ghost use Rattle.awk_value.specs.Values.{num_of};
 ghost use Rattle.awk_lex.specs.Words.{is_word_byte};
 ghost use Rattle.awk_lex.specs.Escapes.{unescaped};
-ghost use Rattle.awk_run.specs.Meaning.{arguments_of};
-ghost use Rattle.awk_run.specs.Inputs.{argument_of, is_unassignable, assigned_text, text_or_fault};
-ghost use Rattle.awk_run.specs.Requests.{argument_in, is_below, IsFaultOf};
-ghost use Rattle.awk_run.specs.Does.{Matches, IsWantOfMemory};
+ghost use Rattle.awk_meaning.specs.Meaning.{arguments_of};
+ghost use Rattle.awk_meaning.specs.Inputs.{operand_of, is_unassignable, assigned_text, text_or_fault};
+ghost use Rattle.awk_run.specs.support.Operands.{operand_in, is_below, IsFaultOf};
+ghost use Rattle.awk_meaning.specs.Results.{Yields, IsWantOfMemory};
 
-use crate::halt::Halt;
-use crate::outcome::Fault;
 use awk_lex::escapes::{EscapeFault, unescape};
 use awk_lex::words::{is_left_out, is_name, is_reserved, is_word_byte};
+use awk_meaning::{Fault, Halt};
 use awk_value::{Bytes, Value, number_of};
 use std::alloc::{AllocError, Global};
 
@@ -29,12 +28,12 @@ pub struct Arguments {
     /// The element that is looked at next.
     pub next: i128,
     /// Whether a main input was found: a file operand, or standard input for want of one.
-    pub served: bool,
+    pub input_seen: bool,
 }
 
 /// What an element of ARGV asks for.
 #[derive(Clone, Copy, Debug, PartialEq, Eq)]
-pub enum Request {
+pub enum OperandForm {
     /// Nothing: it is empty or absent.
     Nothing,
     /// An assignment to the name of so many bytes in front. Its text stands behind the `=`.
@@ -71,12 +70,12 @@ impl Arguments {
     pub fn new(alloc: Global, operands: &[Vec<u8>]) -> Result<Arguments, AllocError>
         ensures words { IfOk result (λ a. a.words.items ≡ arguments_of (map (λ word. word.items) operands.now)) }
         ensures next { IfOk result (λ a. a.next ≡ pos 1) }
-        ensures served { IfOk result (λ a. a.served ≡ false) }
+        ensures input_seen { IfOk result (λ a. a.input_seen ≡ false) }
     {
         Ok(Arguments {
             words: words_of(alloc, operands)?,
             next: 1,
-            served: false,
+            input_seen: false,
         })
     }
 
@@ -84,7 +83,7 @@ impl Arguments {
     /// empty. Fails for want of memory, and where the count has no number; then nothing is taken.
     pub fn take(&mut self, alloc: Global, count: &Value) -> Result<Option<Bytes>, Halt>
         ensures words { self.new.words ≡ self.old.words }
-        ensures served { self.new.served ≡ self.old.served }
+        ensures input_seen { self.new.input_seen ≡ self.old.input_seen }
         ensures none { IfOk result (λ found. IfNone found (is_below self.old.next (num_of count.now) ≡ Ok false)) }
         ensures some { IfOk result (λ found. IfSome found (λ word. is_below self.old.next (num_of count.now) ≡ Ok true)) }
         ensures word { IfOk result (λ found. IfSome found (λ word. (i : ℕ) → self.old.next ≡ pos i → word ≡ unwrap_or (slice_get self.old.words.items i) [])) }
@@ -111,20 +110,20 @@ fn name_len(word: &[u8]) -> usize
 }
 
 /// What an element of ARGV asks for.
-pub fn request_of(word: &[u8]) -> Request
-    ensures { argument_in word.now result ≡ argument_of word.now }
+pub fn form_of(word: &[u8]) -> OperandForm
+    ensures { operand_in word.now result ≡ operand_of word.now }
 {
     if word.is_empty() {
-        return Request::Nothing;
+        return OperandForm::Nothing;
     }
     let len = name_len(word);
     if len < word.len() && word[len] == b'=' && is_name(&word[..len]) {
-        return Request::Assignment(len);
+        return OperandForm::Assignment(len);
     }
     if word == b"-".as_slice() {
-        Request::StandardInput
+        OperandForm::StandardInput
     } else {
-        Request::File
+        OperandForm::File
     }
 }
 
@@ -138,7 +137,7 @@ fn is_unassignable(name: &[u8]) -> bool
 
 /// The bytes that the text of an assignment stands for.
 fn unescaped_text(alloc: Global, text: &[u8]) -> Result<Bytes, Halt>
-    ensures { Matches result (text_or_fault (unescaped text.now)) }
+    ensures { Yields result (text_or_fault (unescaped text.now)) }
 {
     let mut bytes = Vec::new(alloc);
     match unescape(text, &mut bytes) {
@@ -150,7 +149,7 @@ fn unescaped_text(alloc: Global, text: &[u8]) -> Result<Bytes, Halt>
 
 /// The text that an assignment on the command line gives a name. (POSIX awk, OPERANDS)
 pub fn assigned_text(alloc: Global, name: &[u8], text: &[u8]) -> Result<Bytes, Halt>
-    ensures { Matches result (assigned_text name.now text.now) }
+    ensures { Yields result (assigned_text name.now text.now) }
 {
     if is_unassignable(name) {
         return Err(Halt::Fault(Fault::AssignmentRefused));

@@ -2,17 +2,17 @@
 
 ghost use Rattle.std.specs.Prelude.{◌≡◌, ◌≢◌, [], None, true, is_some};
 ghost use Rattle.awk_streams.specs.Streams.{AreOpen, IsSoundMain};
-ghost use Rattle.awk_run.specs.Words.{take_record, close_main, take_argument};
-ghost use Rattle.awk_run.specs.Inputs.{assign_text, path_of, main_record, first_record, record_of, standard_record, search_all, next_record};
-ghost use Rattle.awk_run.specs.Does.{seen, Changes, Follows, Closes, Opens, Seeks};
+ghost use Rattle.awk_meaning.specs.Primitives.{take_record, close_main, take_argument};
+ghost use Rattle.awk_meaning.specs.Inputs.{assign_text, path_of, main_record, first_record, operand_record, standard_record, search_operands, next_record};
+ghost use Rattle.awk_run.specs.support.Does.{seen};
+ghost use Rattle.awk_run.specs.support.Simulation.{Changes, Follows, ClosesMainInput, OpensMainInput, Seeks};
 
-use crate::arguments::{Request, assigned_text, request_of};
-use crate::halt::Halt;
-use crate::machine::Machine;
-use crate::outcome::Fault;
-use crate::variables::Special;
+use crate::arguments::{OperandForm, assigned_text, form_of};
+use crate::interpreter::Interpreter;
+use awk_meaning::{Fault, Halt};
 use awk_streams::{InputKind, World};
 use awk_value::{Bytes, Value, text_of};
+use awk_variables::Special;
 
 /// The path of an input; standard input has none.
 fn path_of(kind: InputKind, name: &Bytes) -> &[u8]
@@ -25,7 +25,7 @@ fn path_of(kind: InputKind, name: &Bytes) -> &[u8]
     }
 }
 
-impl Machine {
+impl Interpreter {
     /// Gives a name a text from the command line, in which the escapes of a string stand for their
     /// bytes. (POSIX awk, OPTIONS: -v; OPERANDS)
     pub fn assign_text(&mut self, name: &[u8], text: &[u8]) -> Result<(), Halt>
@@ -43,7 +43,7 @@ impl Machine {
         self.arguments.take(self.alloc, count)
     }
 
-    /// Opens a main input; standard input has no path.
+    /// OpensMainInput a main input; standard input has no path.
     fn open_main<W: World>(
         &mut self,
         world: &mut W,
@@ -53,16 +53,16 @@ impl Machine {
         requires none { self.old.streams.main ≡ None }
         requires plain { kind ≢ InputKind.Command }
         requires named { kind ≡ InputKind.Standard → path.now ≡ [] }
-        ensures { Opens W.tells kind path.now self.old (seen (W.is_open world.old) (W.log world.old) (W.mark world.old)) self.new (seen (W.is_open world.new) (W.log world.new) (W.mark world.new)) result }
+        ensures { OpensMainInput W.tells kind path.now self.old (seen (W.is_open world.old) (W.log world.old) (W.mark world.old)) self.new (seen (W.is_open world.new) (W.log world.new) (W.mark world.new)) result }
     {
         Ok(self.streams.open_main(world, kind, path)?)
     }
 
-    /// Closes the main input, if one is open.
+    /// ClosesMainInput the main input, if one is open.
     fn close_main<W: World>(&mut self, world: &mut W)
         requires open { AreOpen (W.is_open world.old) self.old.streams }
         requires sound { W.tells → IsSoundMain (W.log world.old) self.old.streams.main }
-        ensures { Closes W.tells self.old (seen (W.is_open world.old) (W.log world.old) (W.mark world.old)) self.new (seen (W.is_open world.new) (W.log world.new) (W.mark world.new)) }
+        ensures { ClosesMainInput W.tells self.old (seen (W.is_open world.old) (W.log world.old) (W.mark world.old)) self.new (seen (W.is_open world.new) (W.log world.new) (W.mark world.new)) }
     {
         self.streams.close_main(world);
     }
@@ -98,7 +98,7 @@ impl Machine {
         }
     }
 
-    /// Opens a main input under a name, and takes its first record.
+    /// OpensMainInput a main input under a name, and takes its first record.
     fn first_record<W: World>(
         &mut self,
         world: &mut W,
@@ -117,21 +117,25 @@ impl Machine {
     }
 
     /// The first record that an element of ARGV leads to, if it leads to one.
-    fn record_of<W: World>(&mut self, world: &mut W, word: Bytes) -> Result<Option<Bytes>, Halt>
+    fn operand_record<W: World>(
+        &mut self,
+        world: &mut W,
+        word: Bytes,
+    ) -> Result<Option<Bytes>, Halt>
         requires none { self.old.streams.main ≡ None }
         requires open { AreOpen (W.is_open world.old) self.old.streams }
         requires sound { W.tells → IsSoundMain (W.log world.old) self.old.streams.main }
-        ensures { Seeks W.tells (record_of word) self.old (seen (W.is_open world.old) (W.log world.old) (W.mark world.old)) self.new (seen (W.is_open world.new) (W.log world.new) (W.mark world.new)) result }
+        ensures { Seeks W.tells (operand_record word) self.old (seen (W.is_open world.old) (W.log world.old) (W.mark world.old)) self.new (seen (W.is_open world.new) (W.log world.new) (W.mark world.new)) result }
     {
         let bytes = word.as_slice();
-        match request_of(bytes) {
-            Request::Nothing => Ok(None),
-            Request::Assignment(len) => {
+        match form_of(bytes) {
+            OperandForm::Nothing => Ok(None),
+            OperandForm::Assignment(len) => {
                 self.assign_text(&bytes[..len], &bytes[len + 1..])?;
                 Ok(None)
             }
-            Request::StandardInput => self.first_record(world, InputKind::Standard, word),
-            Request::File => self.first_record(world, InputKind::File, word),
+            OperandForm::StandardInput => self.first_record(world, InputKind::Standard, word),
+            OperandForm::File => self.first_record(world, InputKind::File, word),
         }
     }
 
@@ -142,7 +146,7 @@ impl Machine {
         requires sound { W.tells → IsSoundMain (W.log world.old) self.old.streams.main }
         ensures { Seeks W.tells standard_record self.old (seen (W.is_open world.old) (W.log world.old) (W.mark world.old)) self.new (seen (W.is_open world.new) (W.log world.new) (W.mark world.new)) result }
     {
-        if self.arguments.served {
+        if self.arguments.input_seen {
             return Ok(None);
         }
         let name = Bytes::from_slice(self.alloc, b"")?;
@@ -150,15 +154,15 @@ impl Machine {
     }
 
     /// Looks at the elements of ARGV in turn, until one leads to a record.
-    fn search<W: World>(&mut self, world: &mut W) -> Result<Option<Bytes>, Halt>
+    fn search_operands<W: World>(&mut self, world: &mut W) -> Result<Option<Bytes>, Halt>
         requires none { self.old.streams.main ≡ None }
         requires open { AreOpen (W.is_open world.old) self.old.streams }
         requires sound { W.tells → IsSoundMain (W.log world.old) self.old.streams.main }
-        ensures { Seeks W.tells search_all self.old (seen (W.is_open world.old) (W.log world.old) (W.mark world.old)) self.new (seen (W.is_open world.new) (W.log world.new) (W.mark world.new)) result }
+        ensures { Seeks W.tells search_operands self.old (seen (W.is_open world.old) (W.log world.old) (W.mark world.old)) self.new (seen (W.is_open world.new) (W.log world.new) (W.mark world.new)) result }
     {
         while let Some(word) = self.take_argument()? {
             self.spend()?;
-            if let Some(text) = self.record_of(world, word)? {
+            if let Some(text) = self.operand_record(world, word)? {
                 return Ok(Some(text));
             }
         }
@@ -174,7 +178,7 @@ impl Machine {
     {
         match self.main_record(world)? {
             Some(text) => Ok(Some(text)),
-            None => self.search(world),
+            None => self.search_operands(world),
         }
     }
 }

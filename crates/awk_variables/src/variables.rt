@@ -74,12 +74,12 @@ impl Model for Variables {
 
 impl Variables {
     ghost use Rattle.awk_variables.specs.support.Storage.{special_named};
-    ghost use Rattle.awk_variables.specs.definitions.Variables.{value_of, name_of, start_value, with_value, is_refused};
+    ghost use Rattle.awk_variables.specs.definitions.Variables.{value_of, name_of, initial_value, with_value, is_refused};
 
     /// The variables before the run, where ARGV has so many elements. The
     /// only fault is `Memory`.
     pub fn new(alloc: Global, arguments: usize) -> Result<Variables, VariableFault>
-        ensures start { IfOk result (λ v. (x : List ℕ) → value_of v x ≡ start_value arguments x) }
+        ensures start { IfOk result (λ v. (x : List ℕ) → value_of v x ≡ initial_value arguments x) }
         ensures memory { IfErr result (λ e. e ≡ VariableFault.Memory) }
     {
         let convfmt = Bytes::from_slice(alloc, b"%.6g")?;

@@ -33,8 +33,8 @@ name_of Rstart = codes "RSTART"
 name_of Subsep = codes "SUBSEP"
 
 -- the values before the run, where ARGV has so many elements
-abbrev pub start_values : (arguments : ℕ) → Pairs
-start_values arguments =
+abbrev pub initial_values : (arguments : ℕ) → Pairs
+initial_values arguments =
     (codes "ARGC", Number (pos arguments))
     ∷ (codes "CONVFMT", Text (codes "%.6g"))
     ∷ (codes "FILENAME", Nothing)
@@ -50,8 +50,8 @@ start_values arguments =
     ∷ (codes "SUBSEP", Text (28 ∷ []))
     ∷ []
 
-abbrev pub start_value : (arguments : ℕ) → List ℕ → Value
-start_value arguments name = value_of (start_values arguments) name
+abbrev pub initial_value : (arguments : ℕ) → List ℕ → Value
+initial_value arguments name = value_of (initial_values arguments) name
 
 -- the values, with one name's changed
 abbrev pub with_value : (List ℕ → Value) → List ℕ → Value → List ℕ → Value

@@ -1,5 +1,5 @@
 use Rattle.std.proofs.Common.{◌≡◌, map, take}
-use Rattle.awk_run.specs.Meaning.{arguments_of}
+use Rattle.awk_meaning.specs.Meaning.{arguments_of}
 use Rattle.awk_run.proofs.arguments.words_of.Given as goal
 
 abbrev pub invariant-loop-operand : goal.invariant-loop-operand

@@ -1,0 +1,4 @@
+pub mod Does
+pub mod Operands
+pub mod Simulation
+pub mod Verdict

@@ -1,0 +1,197 @@
+-- How the code's state and world stand for the state of the definitions, and what a part of the code does.
+use Rattle.std.specs.Prelude.{◌≡◌, ℕ, pos, ◌≤◌, ◌<◌, Bool, true, false, List, [], ◌++◌, length, Option, Some, None, is_some, suc, Result, Ok, Err, OnOk}
+use Rattle.awk_value.specs.declared.value.Value.{Value}
+use Rattle.awk_value.specs.Values.{truth_of}
+use Rattle.awk_streams.specs.declared.world.InputKind.{InputKind}
+use Rattle.awk_streams.specs.declared.fault.StreamFault.{StreamFault}
+use Rattle.awk_streams.specs.Log as log
+use Rattle.awk_streams.specs.Answers.{Answers, Agrees, how_many, opens_input}
+use Rattle.awk_streams.specs.Writes.{received}
+use Rattle.awk_streams.specs.Streams.{AreOpen, AreSound, IsSoundMain, Grows, IsMainRest}
+use Rattle.awk_syntax.specs.Tree.{Expr, Ere, Exprs, Statement, Statements, Item}
+use Rattle.awk_run.specs.declared.interpreter.Interpreter.{Interpreter}
+use Rattle.awk_meaning.specs.declared.halt.Halt.{Halt}
+use Rattle.awk_meaning.specs.declared.halt.Halt.TheVariants as halt
+use Rattle.awk_meaning.specs.declared.fault.Fault.TheVariants.{OutOfMemory, WriteFailed}
+use Rattle.awk_meaning.specs.State.{StandardOutput, StandardError, Effect, State, Out, Run}
+use Rattle.awk_variables.specs.Variables.{value_of, initial_value}
+use Rattle.awk_meaning.specs.Results.{Sort, WantOfMemory, FailedWrite, OfLanguage, sort_of}
+use Rattle.awk_run.specs.support.Does.{Seen}
+use Rattle.awk_meaning.specs.Primitives.{spend, open_main, close_main}
+use Rattle.awk_meaning.specs.Inputs.{search_operands_within}
+use Rattle.awk_meaning.specs.Faults.{stream_fault}
+use Rattle.awk_meaning.specs.Semantics.{right_operand, eval, eval_all, printed_values, exec, exec_all, try_item, try_items, each_record, run_records, begin_item, begin_items, run_items}
+use Rattle.awk_meaning.specs.Meaning.{StartValues, arguments_of, assign_all, assign_and_run, printed_to}
+
+-- the code's own state is the one of the definitions; its streams are left aside
+pub record OwnRelation (m : Interpreter) (s : State) : Type 0 where
+  pub current : s.current ≡ m.current
+  pub variables : (x : List ℕ) → s.variables x ≡ value_of m.variables x
+  pub arguments : s.arguments ≡ m.arguments.words.items
+  pub next : pos s.next ≡ m.arguments.next
+  pub input_seen : s.input_seen ≡ m.arguments.input_seen
+  pub steps : s.steps ≡ m.steps
+
+-- the code's state and world stand for the state s after these effects
+pub record StateRelation (answers : Answers) (m : Interpreter) (k : Seen) (s : State) (past : List Effect) : Type 0 where
+  pub clear : k.mark ≡ None
+  pub outside : s.outside ≡ answers
+  pub openings : (kind : InputKind) (name : List ℕ) → s.openings kind name ≡ how_many (opens_input kind name) k.log
+  pub main : IsMainRest answers k.log m.streams.main s.main
+  pub holds : OwnRelation m s
+  pub output : received 0 k.log ≡ printed_to StandardOutput past
+  pub error : received 1 k.log ≡ printed_to StandardError past
+
+-- what a part came to: after a failed write the world's mark is set; unless memory was refused or a
+-- write failed, the result is the meaning's, and the code's state stands for the meaning's
+abbrev pub ResultRelationBy : {A : Type 0} → Answers → Interpreter → Seen → Sort → Out A → List Effect → Type 0
+ResultRelationBy answers m k WantOfMemory o past = Unit {0}
+ResultRelationBy answers m k FailedWrite o past = is_some k.mark ≡ true
+ResultRelationBy answers m k (OfLanguage reason) o past = (o.result ≡ Err reason) × StateRelation answers m k o.state (past ++ o.effects)
+
+abbrev pub ResultRelation : {A : Type 0} → Answers → Interpreter → Seen → Result A Halt → Out A → List Effect → Type 0
+ResultRelation answers m k (Ok a) o past = (o.result ≡ Ok a) × StateRelation answers m k o.state (past ++ o.effects)
+ResultRelation answers m k (Err h) o past = ResultRelationBy answers m k (sort_of h) o past
+
+-- from the old state and a world that tells to the new ones, with this result, the code does what the run says
+pub record SimulatesLogged {A : Type 0} (old : Interpreter) (before : Seen) (new : Interpreter) (after : Seen) (r : Result A Halt) (run : Run A) : Type 0 where
+  pub grows : Grows before.log before.mark after.log after.mark
+  pub keeps : AreSound before.is_open before.log old.streams → AreSound after.is_open after.log new.streams
+  pub keeps_main : IsSoundMain before.log old.streams.main → IsSoundMain after.log new.streams.main
+  pub means : (answers : Answers) (s : State) (past : List Effect) → Agrees answers after.log → StateRelation answers old before s past → ResultRelation answers new after r (run s) past
+
+-- the same of any world, of which it holds where the world tells
+pub record Simulates {A : Type 0} (tells : Type 0) (old : Interpreter) (before : Seen) (new : Interpreter) (after : Seen) (r : Result A Halt) (run : Run A) : Type 0 where
+  pub steps : new.steps ≤ old.steps
+  pub kept_open : AreOpen before.is_open old.streams → AreOpen after.is_open new.streams
+  pub told : tells → SimulatesLogged old before new after r run
+
+-- a change of the code's state alone, whatever world stands beside it
+pub record Changes {A : Type 0} (run : Run A) (old new : Interpreter) (r : Result A Halt) : Type 0 where
+  pub steps : new.steps ≤ old.steps
+  pub streams : new.streams ≡ old.streams
+  pub means : (k : Seen) → SimulatesLogged old k new k r run
+
+-- a step is spent, or there is none
+pub record Spends (old new : Interpreter) (r : Result (Unit {0}) Halt) : Type 0 where
+  pub simulates : Changes spend old new r
+  pub falls : OnOk r (new.steps < old.steps)
+
+-- an expression is evaluated, without a call of the world
+pub record Evaluates (e : Expr) (old new : Interpreter) (r : Result Value Halt) : Type 0 where
+  pub simulates : Changes (eval e) old new r
+
+-- right of an operator stands this pattern, or an operand that is evaluated
+abbrev pub IsPatternOperand : Bool → Expr → Option (List ℕ) → Type 0
+IsPatternOperand takes e (Some text) = (takes ≡ true) × (e ≡ Ere text)
+IsPatternOperand takes e None = (run : Run Value) → right_operand takes e run ≡ run
+
+-- an expression is tested
+abbrev pub TestsTo : Expr → Interpreter → Interpreter → Result Bool Halt → Type 0
+TestsTo e old new (Ok b) = (v : Value) × Evaluates e old new (Ok v) × (b ≡ truth_of v)
+TestsTo e old new (Err h) = Evaluates e old new (Err h)
+
+pub record Tests (e : Expr) (old new : Interpreter) (r : Result Bool Halt) : Type 0 where
+  pub tests : TestsTo e old new r
+
+abbrev pub viewed : {X Y : Type 0} → (X → Y) → Result X Halt → Result Y Halt
+viewed view (Ok x) = Ok (view x)
+viewed view (Err h) = Err h
+
+pub record EvaluatesAll (front : List Value) (es : Exprs) (old new : Interpreter) (r : Result (List Value) Halt) : Type 0 where
+  pub simulates : Changes (eval_all front es) old new r
+
+-- the values that a print prints
+pub record Lists (es : Exprs) (old new : Interpreter) (r : Result (List Value) Halt) : Type 0 where
+  pub simulates : Changes (printed_values es) old new r
+
+-- nothing is changed that the definitions know, but perhaps the streams
+pub record Beside (old new : Interpreter) : Type 0 where
+  pub current : new.current ≡ old.current
+  pub variables : new.variables ≡ old.variables
+  pub arguments : new.arguments ≡ old.arguments
+  pub steps : new.steps ≡ old.steps
+
+-- nothing is changed that the definitions know
+pub record SameState (old new : Interpreter) : Type 0 where
+  pub beside : Beside old new
+  pub streams : new.streams ≡ old.streams
+
+pub record Follows {A : Type 0} (tells : Type 0) (run : Run A) (old : Interpreter) (before : Seen) (new : Interpreter) (after : Seen) (r : Result A Halt) : Type 0 where
+  pub simulates : Simulates tells old before new after r run
+
+pub record Executes (tells : Type 0) (s : Statement) (old : Interpreter) (before : Seen) (new : Interpreter) (after : Seen) (r : Result (Unit {0}) Halt) : Type 0 where
+  pub simulates : Simulates tells old before new after r (exec s)
+
+pub record ExecutesAll (tells : Type 0) (all : Statements) (old : Interpreter) (before : Seen) (new : Interpreter) (after : Seen) (r : Result (Unit {0}) Halt) : Type 0 where
+  pub simulates : Simulates tells old before new after r (exec_all all)
+
+pub record Tries (tells : Type 0) (x : Item) (old : Interpreter) (before : Seen) (new : Interpreter) (after : Seen) (r : Result (Unit {0}) Halt) : Type 0 where
+  pub simulates : Simulates tells old before new after r (try_item x)
+
+pub record TriesAll (tells : Type 0) (xs : List Item) (old : Interpreter) (before : Seen) (new : Interpreter) (after : Seen) (r : Result (Unit {0}) Halt) : Type 0 where
+  pub simulates : Simulates tells old before new after r (try_items xs)
+
+-- the records that are left, at any bound above the steps
+pub record ReadsOn (tells : Type 0) (xs : List Item) (old : Interpreter) (before : Seen) (new : Interpreter) (after : Seen) (r : Result (Unit {0}) Halt) : Type 0 where
+  pub simulates : (n : ℕ) → old.steps ≤ n → Simulates tells old before new after r (each_record (suc n) (try_items xs))
+
+pub record ReadsAll (tells : Type 0) (xs : List Item) (old : Interpreter) (before : Seen) (new : Interpreter) (after : Seen) (r : Result (Unit {0}) Halt) : Type 0 where
+  pub simulates : Simulates tells old before new after r (run_records (try_items xs))
+
+pub record BeginsItem (tells : Type 0) (x : Item) (old : Interpreter) (before : Seen) (new : Interpreter) (after : Seen) (r : Result (Unit {0}) Halt) : Type 0 where
+  pub simulates : Simulates tells old before new after r (begin_item x)
+
+pub record BeginsAll (tells : Type 0) (xs : List Item) (old : Interpreter) (before : Seen) (new : Interpreter) (after : Seen) (r : Result (Unit {0}) Halt) : Type 0 where
+  pub simulates : Simulates tells old before new after r (begin_items xs)
+
+pub record RunsItems (tells : Type 0) (xs : List Item) (old : Interpreter) (before : Seen) (new : Interpreter) (after : Seen) (r : Result (Unit {0}) Halt) : Type 0 where
+  pub simulates : Simulates tells old before new after r (run_items xs)
+
+pub record AssignsAndRuns (tells : Type 0) (xs : List Item) (pre : List (List ℕ × List ℕ)) (old : Interpreter) (before : Seen) (new : Interpreter) (after : Seen) (r : Result (Unit {0}) Halt) : Type 0 where
+  pub simulates : Simulates tells old before new after r (assign_and_run xs pre)
+
+-- the assignments before a run
+pub record Assigns (all : List (List ℕ × List ℕ)) (old new : Interpreter) (r : Result (Unit {0}) Halt) : Type 0 where
+  pub simulates : Changes (assign_all all) old new r
+
+-- a fault of the streams, as a halt
+abbrev pub halted : {A : Type 0} → Result A StreamFault → Result A Halt
+halted (Ok a) = Ok a
+halted (Err f) = Err (halt.Fault (stream_fault f))
+
+-- no main input is open, unless a record was found
+abbrev pub ClosedUnless : {A : Type 0} → Result (Option A) Halt → Interpreter → Type 0
+ClosedUnless (Ok None) m = m.streams.main ≡ None
+ClosedUnless (Ok (Some a)) m = Unit {0}
+ClosedUnless (Err h) m = Unit {0}
+
+-- a record is looked for, and where none is found no main input is left open
+pub record Seeks (tells : Type 0) (run : Run (Option (List ℕ))) (old : Interpreter) (before : Seen) (new : Interpreter) (after : Seen) (r : Result (Option (List ℕ)) Halt) : Type 0 where
+  pub simulates : Simulates tells old before new after r run
+  pub closed : ClosedUnless r new
+
+-- the elements of ARGV that are left, at any bound above the steps
+pub record SearchesOn (tells : Type 0) (old : Interpreter) (before : Seen) (new : Interpreter) (after : Seen) (r : Result (Option (List ℕ)) Halt) : Type 0 where
+  pub simulates : (n : ℕ) → old.steps ≤ n → Simulates tells old before new after r (search_operands_within (suc n))
+
+-- the main input is closed, and then there is none
+pub record ClosesMainInput (tells : Type 0) (old : Interpreter) (before : Seen) (new : Interpreter) (after : Seen) : Type 0 where
+  pub simulates : Simulates tells old before new after (Ok tt) close_main
+  pub main : new.streams.main ≡ None
+
+-- a main input is opened, and then there is one
+pub record OpensMainInput (tells : Type 0) (kind : InputKind) (path : List ℕ) (old : Interpreter) (before : Seen) (new : Interpreter) (after : Seen) (r : Result (Unit {0}) Halt) : Type 0 where
+  pub simulates : Simulates tells old before new after r (open_main kind path)
+  pub main : OnOk r (is_some new.streams.main ≡ true)
+
+-- the code's state before a run
+pub record IsStart (start : StartValues) (limit : ℕ) (m : Interpreter) : Type 0 where
+  pub text : m.current.text ≡ []
+  pub fields : m.current.fields ≡ []
+  pub variables : (x : List ℕ) → value_of m.variables x ≡ initial_value (suc (length start.operands)) x
+  pub words : m.arguments.words.items ≡ arguments_of start.operands
+  pub next : m.arguments.next ≡ pos 1
+  pub input_seen : m.arguments.input_seen ≡ false
+  pub main : m.streams.main ≡ None
+  pub steps : m.steps ≡ limit
