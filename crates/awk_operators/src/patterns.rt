@@ -14,6 +14,17 @@ use std::num::NonZeroUsize;
 /// How many patterns are kept that don't stand in the program.
 const CACHED: usize = 64;
 
+/// Adds empty places, until there is one of this number.
+fn reserve_place<T: Drop>(
+    places: &mut Vec<Option<T>>,
+    number: usize,
+) -> Result<(), AllocFailed<Option<T>>> {
+    for _ in places.len()..=number {
+        places.push(None)?;
+    }
+    Ok(())
+}
+
 /// The patterns that were read in a run.
 #[derive(Drop)]
 pub struct Patterns {
@@ -32,21 +43,13 @@ impl Patterns {
         })
     }
 
-    /// Makes a place for the pattern of a number.
-    fn grow(&mut self, number: usize) -> Result<(), AllocFailed<Option<Compiled>>> {
-        for _ in self.fixed.len()..=number {
-            self.fixed.push(None)?;
-        }
-        Ok(())
-    }
-
     /// Keeps a pattern of the program under its number.
     fn keep(
         &mut self,
         number: usize,
         compiled: Compiled,
     ) -> Result<(), AllocFailed<Option<Compiled>>> {
-        self.grow(number)?;
+        reserve_place(&mut self.fixed, number)?;
         if let Some(place) = self.fixed.get_mut(number) {
             *place = Some(compiled);
         }

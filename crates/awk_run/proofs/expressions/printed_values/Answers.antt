@@ -1,7 +1,7 @@
 use Rattle.std.proofs.Common.{sym, ◌∙◌}
 use Rattle.std.proofs.lemmas.Result.{err_from_is_err_and}
 use Rattle.awk_run.proofs.Forms.{list_of_some, list_of_text, list_text_ends, list_text_full, exprs_of_none}
-use Rattle.awk_run.proofs.expressions.listed.Goals as goal
+use Rattle.awk_run.proofs.expressions.printed_values.Goals as goal
 
 pub returns-then-not-is_empty : goal.returns-then-not-is_empty
 returns-then-not-is_empty c = list_of_some c.args.list.now (sym c.is_empty.ensures ∙ c.if-not-is_empty.true) c.eval_all.ensures

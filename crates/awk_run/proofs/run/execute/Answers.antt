@@ -13,7 +13,7 @@ returns-in_err-tree-clause-executed g c =
 
 pub returns-clause-executed : goal.returns-clause-executed
 returns-clause-executed g c =
-    let ran = rw c.deref.ensures.value at c.run.ensures in
+    let ran = rw c.deref.ensures.value at c.run_program.ensures in
     record {
       cause = tt;
       refused = tt;
