@@ -1,4 +1,4 @@
--- To a log in order there are answers that agree: those that the log itself shows.
+-- To a log in order there are oracles that are consistent: those that the log itself shows.
 use Rattle.std.proofs.Common.{◌≡◌, inl, inr, ℕ, ℤ, ◌+◌, ◌<◌, ◌==◌, ◌&&◌, if◌then◌else◌, pos, Bool, true, false, List, [], ◌∷◌, ◌++◌, Option, Some, None, refl, sym, ◌∙◌, ap, subst, arith, append_assoc, append-nil, bytes_eq}
 use Rattle.std.proofs.lemmas.Bool.{cond-true, cond-false, ne_eqb, eq-eqb, cases_eq}
 use Rattle.awk_streams.specs.declared.world.InputKind.{InputKind}
@@ -7,7 +7,7 @@ use Rattle.awk_streams.specs.declared.world.OutputKind.{OutputKind}
 use Rattle.awk_streams.specs.declared.world.OutputKind.TheVariants.{File as ToFile, Command as ToCommand}
 use Rattle.awk_streams.specs.Log.{Event, OpenedInput, OpenedOutput, Read, Ended, Broke, Wrote, Flushed, Closed, Ran}
 use Rattle.awk_record.specs.Cut.{AtEnd, AtBreak}
-use Rattle.awk_streams.specs.Answers.{Source, Answers, same_input, same_output, one_if, how_many, opens_input, opens_output, closes_command, runs, Reading, read_on, over, new_reading, reading_of, Gives, EndsWith, AgreesAt, Agrees}
+use Rattle.awk_streams.specs.Oracle.{Source, Oracle, same_input, same_output, one_if, how_many, opens_input, opens_output, closes_command, runs, Reading, read_on, over, new_reading, reading_of, Gives, EndsWith, IsConsistentAt, IsConsistent}
 use Rattle.awk_streams.specs.Writes.{with_events}
 use Rattle.awk_streams.specs.Orderly.{IsOrderlyAt, IsOrderly}
 
@@ -41,8 +41,8 @@ number_of (Closed id n) newer = n
 number_of (Ran command n) newer = n
 number_of e newer = pos 0
 
-abbrev pub answers_of : List Event → Answers
-answers_of log = record {
+abbrev pub oracle_of : List Event → Oracle
+oracle_of log = record {
   input = λ kind name k. pick (opens_input kind name) source_of None k [] log;
   output = λ kind name k. pick (opens_output kind name) is_granted false k [] log;
   closing = λ k. pick closes_command number_of (pos 0) k [] log;
@@ -98,7 +98,7 @@ over-is (Some was) r e unended =
 
 -- of an input that stands open and is not over, the answers give what was read and then what the later events show
 abbrev Shows : ℕ → List Event → List Event → Reading → Type 0
-Shows id newer older r = (answers_of (with_events newer older)).input r.kind r.name r.count ≡ Some (front r.bytes (shown id newer))
+Shows id newer older r = (oracle_of (with_events newer older)).input r.kind r.name r.count ≡ Some (front r.bytes (shown id newer))
 
 shows : (id : ℕ) (newer older : List Event) (r : Reading) → reading_of id older ≡ Some r → r.is_over ≡ false → Shows id newer older r
 shows id newer [] r is unended = none_is r is
@@ -139,38 +139,38 @@ shows id newer (Broke i ∷ older) r is unended = elim (cases_eq i id) [
 ]
 shows id newer (e ∷ older) r is unended = shows id (e ∷ newer) older r is unended
 
-agrees_at : (e : Event) (newer older : List Event) → IsOrderlyAt e older → AgreesAt (answers_of (with_events newer (e ∷ older))) e older
-agrees_at (OpenedInput kind name (Some id)) newer older at =
+consistent_at : (e : Event) (newer older : List Event) → IsOrderlyAt e older → IsConsistentAt (oracle_of (with_events newer (e ∷ older))) e older
+consistent_at (OpenedInput kind name (Some id)) newer older at =
     (shown id newer, pick-here (opens_input kind name) source_of None newer (OpenedInput kind name (Some id)) older (opens_input-self kind name))
-agrees_at (OpenedInput kind name None) newer older at = pick-here (opens_input kind name) source_of None newer (OpenedInput kind name None) older (opens_input-self kind name)
-agrees_at (OpenedOutput kind name mode (Some id)) newer older at = pick-here (opens_output kind name) is_granted false newer (OpenedOutput kind name mode (Some id)) older (opens_output-self kind name)
-agrees_at (OpenedOutput kind name mode None) newer older at = pick-here (opens_output kind name) is_granted false newer (OpenedOutput kind name mode None) older (opens_output-self kind name)
-agrees_at (Read id bs) newer older at =
-    let a = answers_of (with_events newer (Read id bs ∷ older)) in
+consistent_at (OpenedInput kind name None) newer older at = pick-here (opens_input kind name) source_of None newer (OpenedInput kind name None) older (opens_input-self kind name)
+consistent_at (OpenedOutput kind name mode (Some id)) newer older at = pick-here (opens_output kind name) is_granted false newer (OpenedOutput kind name mode (Some id)) older (opens_output-self kind name)
+consistent_at (OpenedOutput kind name mode None) newer older at = pick-here (opens_output kind name) is_granted false newer (OpenedOutput kind name mode None) older (opens_output-self kind name)
+consistent_at (Read id bs) newer older at =
+    let a = oracle_of (with_events newer (Read id bs ∷ older)) in
     let r = at.reading in
     let later : shown id (Read id bs ∷ newer) ≡ front bs (shown id newer) = cond-true _ _ _ (eq-eqb id id refl) in
     subst (λ (o : Option Reading). Gives a o bs) (sym at.stands)
     (front r.bytes (front bs (shown id newer)), (shows id (Read id bs ∷ newer) older r at.stands at.unended ∙ ap (λ s. Some (front r.bytes s)) later), ((shown id newer).bytes, sym (append_assoc r.bytes bs (shown id newer).bytes)))
-agrees_at (Ended id) newer older at =
-    let a = answers_of (with_events newer (Ended id ∷ older)) in
+consistent_at (Ended id) newer older at =
+    let a = oracle_of (with_events newer (Ended id ∷ older)) in
     let r = at.reading in
     let later : shown id (Ended id ∷ newer) ≡ record { bytes = []; ending = AtEnd } = cond-true _ _ _ (eq-eqb id id refl) in
     subst (λ (o : Option Reading). EndsWith a o AtEnd) (sym at.stands)
     (front r.bytes record { bytes = []; ending = AtEnd }, (shows id (Ended id ∷ newer) older r at.stands at.unended ∙ ap (λ s. Some (front r.bytes s)) later), append-nil r.bytes, refl)
-agrees_at (Broke id) newer older at =
-    let a = answers_of (with_events newer (Broke id ∷ older)) in
+consistent_at (Broke id) newer older at =
+    let a = oracle_of (with_events newer (Broke id ∷ older)) in
     let r = at.reading in
     let later : shown id (Broke id ∷ newer) ≡ record { bytes = []; ending = AtBreak } = cond-true _ _ _ (eq-eqb id id refl) in
     subst (λ (o : Option Reading). EndsWith a o AtBreak) (sym at.stands)
     (front r.bytes record { bytes = []; ending = AtBreak }, (shows id (Broke id ∷ newer) older r at.stands at.unended ∙ ap (λ s. Some (front r.bytes s)) later), append-nil r.bytes, refl)
-agrees_at (Closed id n) newer older at = λ is. pick-here closes_command number_of (pos 0) newer (Closed id n) older is
-agrees_at (Ran command n) newer older at = pick-here runs number_of (pos 0) newer (Ran command n) older refl
-agrees_at (Wrote id bs) newer older at = tt
-agrees_at (Flushed id) newer older at = tt
+consistent_at (Closed id n) newer older at = λ is. pick-here closes_command number_of (pos 0) newer (Closed id n) older is
+consistent_at (Ran command n) newer older at = pick-here runs number_of (pos 0) newer (Ran command n) older refl
+consistent_at (Wrote id bs) newer older at = tt
+consistent_at (Flushed id) newer older at = tt
 
-agrees_from : (newer older : List Event) → IsOrderly older → Agrees (answers_of (with_events newer older)) older
-agrees_from newer [] orderly = tt
-agrees_from newer (e ∷ older) orderly = (agrees_at e newer older orderly.0, agrees_from (e ∷ newer) older orderly.1)
+consistent_from : (newer older : List Event) → IsOrderly older → IsConsistent (oracle_of (with_events newer older)) older
+consistent_from newer [] orderly = tt
+consistent_from newer (e ∷ older) orderly = (consistent_at e newer older orderly.0, consistent_from (e ∷ newer) older orderly.1)
 
-pub some_answers : (log : List Event) → IsOrderly log → (a : Answers) × Agrees a log
-some_answers log orderly = (answers_of log, agrees_from [] log orderly)
+pub some_oracle : (log : List Event) → IsOrderly log → (a : Oracle) × IsConsistent a log
+some_oracle log orderly = (oracle_of log, consistent_from [] log orderly)

@@ -1,10 +1,9 @@
 -- Logs that go on, one call after another.
-use Rattle.std.proofs.Common.{ℕ, List, Option}
-use Rattle.awk_streams.specs.Log.{Event}
+use Rattle.awk_streams.specs.WorldState.{WorldState}
 use Rattle.awk_streams.specs.Streams.{Grows}
 
-pub Grows-self : (log : List Event) (mark : Option ℕ) → Grows log mark log mark
-Grows-self log mark = record { agrees = λ a h. h; clear = λ none. none }
+pub Grows-self : (world : WorldState) → Grows world world
+Grows-self world = record { consistent = λ a h. h; clear = λ none. none }
 
-pub Grows-then : {log0 log1 log2 : List Event} {mark0 mark1 mark2 : Option ℕ} → Grows log0 mark0 log1 mark1 → Grows log1 mark1 log2 mark2 → Grows log0 mark0 log2 mark2
-Grows-then first then = record { agrees = λ a h. first.agrees a (then.agrees a h); clear = λ none. first.clear (then.clear none) }
+pub Grows-then : {w0 w1 w2 : WorldState} → Grows w0 w1 → Grows w1 w2 → Grows w0 w2
+Grows-then first then = record { consistent = λ a h. first.consistent a (then.consistent a h); clear = λ none. first.clear (then.clear none) }

@@ -3,10 +3,9 @@ use Rattle.std.proofs.Common.{◌≡◌, ◌≢◌, ℕ, ◌+◌, List, [], ◌�
 use Rattle.std.proofs.lemmas.Bool.{cond-true, cond-false, ne_eqb, eq-eqb}
 use Rattle.awk_streams.specs.Log.{Event, Read, Ended, Broke, Wrote, Flushed}
 use Rattle.awk_record.specs.Cut.{Ending}
-use Rattle.awk_streams.specs.Answers.{reading_of, read_on}
+use Rattle.awk_streams.specs.Oracle.{reading_of, read_on}
 use Rattle.awk_streams.specs.Orderly.{IsReadable, IsOrderly, IsInOrder}
 use Rattle.std.specs.Prelude.{is_some}
-use Rattle.awk_streams.specs.Ids.{SameOpen}
 use Rattle.awk_streams.specs.Writes.{with_events, Writes, OnlyWritesTo, received}
 use Rattle.awk_streams.specs.Inputs.{NeededReads}
 use Rattle.awk_streams.specs.Kept.{IsOutput, IsQuiet, SameCounts, SameStreams}
@@ -118,7 +117,7 @@ reads_quiet id separator b b' ending (Ended i ∷ es) (same, undecided, last, by
 reads_quiet id separator b b' ending (Broke i ∷ es) (same, undecided, last, bytes, met) = subst (λ (x : List Event). IsQuiet x) (sym last) tt
 reads_quiet id separator b b' ending (e ∷ es) h = absurd h
 
-pub output_in_order : (old new : ℕ → Bool) (es log : List Event) → SameOpen old new → IsOutput es → IsInOrder old log → IsInOrder new (with_events es log)
+pub output_in_order : (old new : ℕ → Bool) (es log : List Event) → ((j : ℕ) → new j ≡ old j) → IsOutput es → IsInOrder old log → IsInOrder new (with_events es log)
 output_in_order old new es log same h order = record {
   orderly = output_orderly es log h order.orderly;
   known = λ id some. same id ∙ order.known id (ap is_some (sym ((quiet_streams es log (output_quiet es h)).stands id)) ∙ some);
@@ -131,7 +130,7 @@ in_order-start is_open = record {
 }
 
 -- a log that goes on by writes to one output alone
-pub writes_order : (id : ℕ) (old new : ℕ → Bool) (log log' : List Event) → SameOpen old new → OnlyWritesTo id log log' → IsInOrder old log → IsInOrder new log'
+pub writes_order : (id : ℕ) (old new : ℕ → Bool) (log log' : List Event) → ((j : ℕ) → new j ≡ old j) → OnlyWritesTo id log log' → IsInOrder old log → IsInOrder new log'
 writes_order id old new log log' same (bytes, goes) order =
     subst (λ (l : List Event). IsInOrder new l) (sym goes.log) (output_in_order old new goes.events log same (writes_output id bytes goes.events goes.each) order)
 

@@ -1,4 +1,4 @@
-pub mod AgreesLemmas
+pub mod ConsistencyLemmas
 pub mod Exist
 pub mod KeptLemmas
 pub mod RestLemmas

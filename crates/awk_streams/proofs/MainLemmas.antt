@@ -12,16 +12,16 @@ use Rattle.awk_streams.specs.declared.world.InputKind.{InputKind}
 use Rattle.awk_streams.specs.declared.world.InputKind.TheVariants.{Command}
 use Rattle.awk_streams.specs.declared.fault.StreamFault.{StreamFault}
 use Rattle.awk_streams.specs.declared.fault.StreamFault.TheVariants.{Memory, InputNotReadable}
-use Rattle.awk_streams.specs.Ids.{IsFresh, Opens, SameOpen}
+use Rattle.awk_streams.specs.WorldState.{WorldState, IsFresh, Opens, SameOpen}
 use Rattle.awk_streams.specs.Log.{Event, OpenedInput}
-use Rattle.awk_streams.specs.Answers.{Answers, Agrees, Standing, new_reading, how_many, opens_input, standing}
+use Rattle.awk_streams.specs.Oracle.{Oracle, IsConsistent, Standing, new_reading, how_many, opens_input, standing}
 use Rattle.awk_streams.specs.Orderly.{IsReadable, IsOrderly, IsInOrder}
 use Rattle.awk_streams.specs.Writes.{received}
 use Rattle.awk_streams.specs.Inputs.{Reaches, Pulls}
 use Rattle.awk_streams.specs.Kept.{SameStreams}
 use Rattle.awk_streams.specs.Told.{Tells, IsToldAs, NextTold}
 use Rattle.awk_streams.specs.Streams.{InputView, StreamsView, StandsAsMain, CountsInput, OpensMain, AsksMain}
-use Rattle.awk_streams.proofs.AgreesLemmas.{agrees-before}
+use Rattle.awk_streams.proofs.ConsistencyLemmas.{consistent-before}
 use Rattle.awk_streams.proofs.Exist.{opens_input-self}
 use Rattle.awk_streams.proofs.KeptLemmas.{same_counts-self, quiet_streams, reads_orderly, reads_readable, reads_quiet, reads_received}
 use Rattle.awk_streams.proofs.ToldLemmas.{told_next}
@@ -40,23 +40,23 @@ standing_none (Some s) closed = absurd (closed refl)
 false_true : false ≡ true → ⊥
 false_true e = cc
 
-free_of_fresh : (is_open : ℕ → Bool) (log : List Event) (id : ℕ) → IsInOrder is_open log → IsFresh is_open id → standing id log ≡ None
-free_of_fresh is_open log id order fresh = standing_none (standing id log) (λ some. false_true (sym fresh.not_open ∙ order.known id some))
+free_of_fresh : (before : WorldState) (log : List Event) (id : ℕ) → IsInOrder before.is_open log → IsFresh before id → standing id log ≡ None
+free_of_fresh before log id order fresh = standing_none (standing id log) (λ some. false_true (sym fresh.not_open ∙ order.known id some))
 
-opened_known : (is_open is_open' : ℕ → Bool) (kind : InputKind) (name : List ℕ) (log : List Event) (id j : ℕ) → IsInOrder is_open log → Opens is_open is_open' id →
-    is_some (standing j (OpenedInput kind name (Some id) ∷ log)) ≡ true → is_open' j ≡ true
-opened_known is_open is_open' kind name log id j order opens some = elim (cases_eq j id) [
+opened_known : (before after : WorldState) (kind : InputKind) (name : List ℕ) (log : List Event) (id j : ℕ) → IsInOrder before.is_open log → Opens before after id →
+    is_some (standing j (OpenedInput kind name (Some id) ∷ log)) ≡ true → after.is_open j ≡ true
+opened_known before after kind name log id j order opens some = elim (cases_eq j id) [
   | inl same ↦ opens j ∙ cond-true _ _ _ (eq-eqb j id same)
   | inr differs ↦
       let still : standing j (OpenedInput kind name (Some id) ∷ log) ≡ standing j log = cond-false _ _ _ (ne_eqb id j (λ (e : id ≡ j). differs (sym e))) in
       opens j ∙ (cond-false _ _ _ (ne_eqb j id differs) ∙ order.known j (ap is_some (sym still) ∙ some))
 ]
 
-opened_order : (is_open is_open' : ℕ → Bool) (kind : InputKind) (name : List ℕ) (log : List Event) (id : ℕ) → IsInOrder is_open log → IsFresh is_open id → Opens is_open is_open' id →
-    IsInOrder is_open' (OpenedInput kind name (Some id) ∷ log)
-opened_order is_open is_open' kind name log id order fresh opens = record {
-  orderly = (record { none = free_of_fresh is_open log id order fresh; named = fresh.named }, order.orderly);
-  known = λ j some. opened_known is_open is_open' kind name log id j order opens some;
+opened_order : (before after : WorldState) (kind : InputKind) (name : List ℕ) (log : List Event) (id : ℕ) → IsInOrder before.is_open log → IsFresh before id → Opens before after id →
+    IsInOrder after.is_open (OpenedInput kind name (Some id) ∷ log)
+opened_order before after kind name log id order fresh opens = record {
+  orderly = (record { none = free_of_fresh before log id order fresh; named = fresh.named }, order.orderly);
+  known = λ j some. opened_known before after kind name log id j order opens some;
 }
 
 opened_counts : (kind : InputKind) (name : List ℕ) (id : Option ℕ) (log : List Event) → CountsInput kind name log (OpenedInput kind name id ∷ log)
@@ -72,10 +72,11 @@ opened_counts kind name id log = record {
 }
 
 -- a granted opening
-pub opens_granted : (kind : InputKind) (name : List ℕ) (is_open is_open' : ℕ → Bool) (log log' : List Event) (mark mark' : Option ℕ) (old : StreamsView) (id : ℕ) (p : Pending) (u : Unit {0}) → kind ≢ Command → p.bytes ≡ [] → p.ending ≡ None →
-    IsFresh is_open id → Opens is_open is_open' id → log' ≡ OpenedInput kind name (Some id) ∷ log → mark' ≡ mark →
-    OpensMain kind name is_open log mark old (Ok u) is_open' log' mark' record { main = Some record { id = id; pending = p } }
-opens_granted kind name is_open is_open' log log' mark mark' old id p u plain empty unended fresh opens is same_mark =
+pub opens_granted : (kind : InputKind) (name : List ℕ) (before after : WorldState) (old : StreamsView) (id : ℕ) (p : Pending) (u : Unit {0}) → kind ≢ Command → p.bytes ≡ [] → p.ending ≡ None →
+    IsFresh before id → Opens before after id → after.log ≡ OpenedInput kind name (Some id) ∷ before.log → after.first_failure ≡ before.first_failure →
+    OpensMain kind name before old (Ok u) after record { main = Some record { id = id; pending = p } }
+opens_granted kind name before after old id p u plain empty unended fresh opens is same_failure =
+    let log : List Event = before.log in
     let view : StreamsView = record { main = Some record { id = id; pending = p } } in
     let stands : StandsAsMain (OpenedInput kind name (Some id) ∷ log) record { id = id; pending = p } = record {
       kind = kind;
@@ -83,18 +84,18 @@ opens_granted kind name is_open is_open' log log' mark mark' old id p u plain em
       stands = cond-true _ _ _ (eq-eqb id id refl);
       readable = λ none. record { reading = new_reading kind name log; stands = cond-true _ _ _ (eq-eqb id id refl); unended = refl };
     } in
-    subst (λ (l : List Event). OpensMain kind name is_open log mark old (Ok u) is_open' l mark' view) (sym is) record {
+    subst (λ (l : List Event). OpensMain kind name before old (Ok u) record after { log = l } view) (sym is) record {
       sound = λ s. record {
-        order = opened_order is_open is_open' kind name log id s.order fresh opens;
+        order = opened_order before after kind name log id s.order fresh opens;
         main = stands;
       };
       main = λ s. stands;
-      grows = record { agrees = λ a h. h.1; clear = λ none. sym same_mark ∙ none };
+      grows = record { consistent = λ a h. h.1; clear = λ none. sym same_failure ∙ none };
       adds = refl;
       outputs = λ j. refl;
       counts = λ differs. opened_counts kind name (Some id) log;
-      granted = λ a agrees.
-          let source = agrees.0 in (
+      granted = λ a consistent.
+          let source = consistent.0 in (
             source.0,
             source.1,
             (
@@ -112,8 +113,8 @@ opens_granted kind name is_open is_open' log log' mark mark' old id p u plain em
             ),
           );
       refused = λ e. let bad : Ok u ≡ Err InputNotReadable = e in absurd cc;
-      unmarked = λ differs. same_mark;
-      marked = λ e. let bad : Ok u ≡ Err Memory = e in absurd cc;
+      no_failure = λ differs. same_failure;
+      failure = λ e. let bad : Ok u ≡ Err Memory = e in absurd cc;
     }
 
 -- from one asking of the buffer to what the streams tell
@@ -128,9 +129,9 @@ next_told BadSeparator step result whole left says tells = (subst (λ (r : Resul
 memory_told : (step : Result Step RecordFault) (result : Result (Option (List ℕ)) StreamFault) → IsToldAs step result → step ≡ Err BufferMemory → result ≡ Err Memory
 memory_told step result says is = subst (λ (r : Result Step RecordFault). IsToldAs r result) is says
 
-reaches_agrees : (id : ℕ) (separator : List ℕ) (old seen : Pending) (log log' : List Event) (a : Answers) → Reaches id separator old log seen log' → Agrees a log' → Agrees a log
-reaches_agrees id separator old seen log log' a (inl (same, still)) agrees = subst (λ (l : List Event). Agrees a l) still agrees
-reaches_agrees id separator old seen log log' a (inr (began, goes)) agrees = agrees-before a goes.events log (subst (λ (l : List Event). Agrees a l) goes.log agrees)
+reaches_consistent : (id : ℕ) (separator : List ℕ) (old seen : Pending) (log log' : List Event) (a : Oracle) → Reaches id separator old log seen log' → IsConsistent a log' → IsConsistent a log
+reaches_consistent id separator old seen log log' a (inl (same, still)) consistent = subst (λ (l : List Event). IsConsistent a l) still consistent
+reaches_consistent id separator old seen log log' a (inr (began, goes)) consistent = consistent-before a goes.events log (subst (λ (l : List Event). IsConsistent a l) goes.log consistent)
 
 reaches_received : (id j : ℕ) (separator : List ℕ) (old seen : Pending) (log log' : List Event) → Reaches id separator old log seen log' → received j log' ≡ received j log
 reaches_received id j separator old seen log log' (inl (same, still)) = ap (received j) still
@@ -155,11 +156,13 @@ reaches_readable id separator old seen log log' (inr (began, goes)) readable non
     subst (λ (l : List Event). IsReadable id l) (sym goes.log) (reads_readable id separator old.bytes seen.bytes seen.ending goes.events log goes.each (readable began) none)
 
 -- one asking for a record of the main input
-pub asks_main : (separator : List ℕ) (is_open is_open' : ℕ → Bool) (log log' : List Event) (mark mark' : Option ℕ) (v : InputView) (new : Pending) (step : Result Step RecordFault) (result : Result (Option (List ℕ)) StreamFault) →
-    SameOpen is_open is_open' → StandsAsMain log v → Pulls v.id separator v.pending log step new log' → step ≢ Ok NeedMore → IsToldAs step result →
-    (step ≢ Err BufferMemory → mark' ≡ mark) → (mark' ≡ None → mark ≡ None) →
-    AsksMain separator is_open log mark record { main = Some v } result is_open' log' mark' record { main = Some record { id = v.id; pending = new } }
-asks_main separator is_open is_open' log log' mark mark' v new step result same main pulls told says unmarked clear =
+pub asks_main : (separator : List ℕ) (before after : WorldState) (v : InputView) (new : Pending) (step : Result Step RecordFault) (result : Result (Option (List ℕ)) StreamFault) →
+    SameOpen before after → StandsAsMain before.log v → Pulls v.id separator v.pending before.log step new after.log → step ≢ Ok NeedMore → IsToldAs step result →
+    (step ≢ Err BufferMemory → after.first_failure ≡ before.first_failure) → (after.first_failure ≡ None → before.first_failure ≡ None) →
+    AsksMain separator before record { main = Some v } result after record { main = Some record { id = v.id; pending = new } }
+asks_main separator before after v new step result same main pulls told says no_failure clear =
+    let log : List Event = before.log in
+    let log' : List Event = after.log in
     let streams : SameStreams log log' = reaches_streams v.id separator v.pending pulls.seen log log' pulls.reads in
     let stands : StandsAsMain log' record { id = v.id; pending = new } = record { kind = main.kind; plain = main.plain; stands = streams.stands v.id ∙ main.stands; readable = λ none. reaches_readable v.id separator v.pending pulls.seen log log' pulls.reads main.readable (pulls.ending none) } in
     record {
@@ -171,13 +174,13 @@ asks_main separator is_open is_open' log log' mark mark' v new step result same 
         main = stands;
       };
       main = stands;
-      grows = record { agrees = λ a agrees. reaches_agrees v.id separator v.pending pulls.seen log log' a pulls.reads agrees; clear = clear };
-      demand = (pulls.seen, pulls.reads);
+      grows = record { consistent = λ a consistent. reaches_consistent v.id separator v.pending pulls.seen log log' a pulls.reads consistent; clear = clear };
+      request = (pulls.seen, pulls.reads);
       outputs = λ j. reaches_received v.id j separator v.pending pulls.seen log log' pulls.reads;
       counts = streams.counts;
-      answered = λ differs a whole agrees rest.
-          let tells = told_next v.id separator v.pending new log log' step pulls told (λ is. differs (memory_told step result says is)) a rest.0 whole.bytes agrees rest.2 in
-          let here : Tells (cut_of separator whole.bytes whole.ending) step whole.bytes tells.0 = subst (λ (e : Ending). Tells (cut_of separator whole.bytes e) step whole.bytes tells.0) rest.1 tells.1 in
-          (tells.0, next_told (cut_of separator whole.bytes whole.ending) step result whole.bytes tells.0 says here, (rest.0, rest.1, tells.2));
-      unmarked = λ differs. unmarked (λ is. differs (memory_told step result says is));
+      answered = λ differs a whole consistent rest.
+          let next = told_next v.id separator v.pending new log log' step pulls told (λ is. differs (memory_told step result says is)) a rest.0 whole.bytes consistent rest.2 in
+          let here : Tells (cut_of separator whole.bytes whole.ending) step whole.bytes next.0 = subst (λ (e : Ending). Tells (cut_of separator whole.bytes e) step whole.bytes next.0) rest.1 next.1 in
+          (next.0, next_told (cut_of separator whole.bytes whole.ending) step result whole.bytes next.0 says here, (rest.0, rest.1, next.2));
+      no_failure = λ differs. no_failure (λ is. differs (memory_told step result says is));
     }

@@ -7,15 +7,15 @@ use Rattle.std.proofs.Math.Seq.{take-length}
 use Rattle.awk_streams.specs.declared.fault.StreamFault.{StreamFault}
 use Rattle.awk_streams.specs.declared.world.InputKind.{InputKind}
 use Rattle.awk_streams.specs.declared.world.InputKind.TheVariants.{Standard, File, Command}
-use Rattle.awk_streams.specs.Ids.{SameOpen}
+use Rattle.awk_streams.specs.WorldState.{WorldState, SameOpen}
 use Rattle.awk_streams.specs.Log.{Event, Flushed, Closed}
-use Rattle.awk_streams.specs.Answers.{Answers, Source, Agrees, AnInput, one_if, how_many, closes_command, is_command, reading_of, standing}
+use Rattle.awk_streams.specs.Oracle.{Oracle, Source, IsConsistent, AnInput, one_if, how_many, closes_command, is_command, reading_of, standing}
 use Rattle.awk_streams.specs.Orderly.{IsReadable, IsInOrder}
 use Rattle.awk_streams.specs.Writes.{OnlyWritesTo, received, flushed_if}
 use Rattle.awk_streams.specs.Outputs.{WritesAll, Flushes}
 use Rattle.awk_streams.specs.Kept.{SameCounts, SameStreams}
 use Rattle.awk_streams.specs.Streams.{InputView, StreamsView, StandsAsMain, IsSoundMain, IsMainRest, ClosesMain, Prints, closed_main, EndsMain, Finishes}
-use Rattle.awk_streams.proofs.AgreesLemmas.{agrees-before}
+use Rattle.awk_streams.proofs.ConsistencyLemmas.{consistent-before}
 use Rattle.awk_streams.proofs.KeptLemmas.{same_counts-self, writes_order, writes_streams, writes_reading, writes_received}
 use Rattle.awk_streams.proofs.WritesLemmas.{received-writes}
 
@@ -32,7 +32,7 @@ main_same log log' (Some v) stands reading h = record {
   readable = λ none. readable_same v.id log log' (reading v.id) (h.readable none);
 }
 
-rest_same : (a : Answers) (log log' : List Event) (main : Option InputView) (r : Option Source) → ((j : ℕ) → reading_of j log' ≡ reading_of j log) → IsMainRest a log main r → IsMainRest a log' main r
+rest_same : (a : Oracle) (log log' : List Event) (main : Option InputView) (r : Option Source) → ((j : ℕ) → reading_of j log' ≡ reading_of j log) → IsMainRest a log main r → IsMainRest a log' main r
 rest_same a log log' None None reading h = h
 rest_same a log log' None (Some whole) reading h = h
 rest_same a log log' (Some v) None reading h = h
@@ -59,38 +59,40 @@ some_received : (r : Result (Unit {0}) StreamFault) (old new bytes : List ℕ) (
 some_received (Ok u) old new bytes count within is = tt
 some_received (Err e) old new bytes count within is = (count, within, is)
 
-pub prints : (bytes : List ℕ) (is_open is_open' : ℕ → Bool) (log log' : List Event) (mark mark' : Option ℕ) (streams : StreamsView) (result : Result (Unit {0}) StreamFault) → SameOpen is_open is_open' → WritesAll 0 bytes log mark result log' mark' →
-    Prints bytes is_open log mark streams result is_open' log' mark' streams
-prints bytes is_open is_open' log log' mark mark' streams result same writes =
+pub prints : (bytes : List ℕ) (before after : WorldState) (streams : StreamsView) (result : Result (Unit {0}) StreamFault) → SameOpen before after → WritesAll 0 bytes before result after →
+    Prints bytes before streams result after streams
+prints bytes before after streams result same writes =
+    let log : List Event = before.log in
+    let log' : List Event = after.log in
     let only : OnlyWritesTo 0 log log' = (take writes.count bytes, writes.writes) in
     let kept : SameStreams log log' = writes_streams 0 log log' only in
     let gains : received 0 log' ≡ received 0 log ++ take writes.count bytes = received-writes 0 (take writes.count bytes) log log' writes.writes in
     record {
-      sound = λ s. record { order = writes_order 0 is_open is_open' log log' same only s.order; main = main_same log log' streams.main kept.stands (writes_reading 0 log log' only) s.main };
+      sound = λ s. record { order = writes_order 0 before.is_open after.is_open log log' same only s.order; main = main_same log log' streams.main kept.stands (writes_reading 0 log log' only) s.main };
       main = main_same log log' streams.main kept.stands (writes_reading 0 log log' only);
-      grows = record { agrees = λ a agrees. agrees-before a writes.writes.events log (subst (λ (l : List Event). Agrees a l) writes.writes.log agrees); clear = writes.clear };
+      grows = record { consistent = λ a consistent. consistent-before a writes.writes.events log (subst (λ (l : List Event). IsConsistent a l) writes.writes.log consistent); clear = writes.clear };
       only = only;
       printed = all_received result (received 0 log) (received 0 log') bytes writes.count writes.all gains;
       partly = some_received result (received 0 log) (received 0 log') bytes writes.count writes.within gains;
       others = λ j apart. ap (received j) writes.writes.log ∙ writes_received 0 j (take writes.count bytes) writes.writes.events log apart writes.writes.each;
       counts = kept.counts;
       rest = λ a r h. rest_same a log log' streams.main r (writes_reading 0 log log' only) h;
-      unmarked = writes.unmarked;
-      marked = writes.marked;
+      no_failure = writes.no_failure;
+      failure = writes.failure;
     }
 
 -- one flush, done or not
-flush_order : (done : Bool) (id : ℕ) (is_open is_open' : ℕ → Bool) (log : List Event) → SameOpen is_open is_open' → IsInOrder is_open log → IsInOrder is_open' (flushed_if done id log)
-flush_order true id is_open is_open' log same order = record { orderly = (tt, order.orderly); known = λ j some. same j ∙ order.known j some }
-flush_order false id is_open is_open' log same order = record { orderly = order.orderly; known = λ j some. same j ∙ order.known j some }
+flush_order : (done : Bool) (id : ℕ) (before after : WorldState) (log : List Event) → SameOpen before after → IsInOrder before.is_open log → IsInOrder after.is_open (flushed_if done id log)
+flush_order true id before after log same order = record { orderly = (tt, order.orderly); known = λ j some. same j ∙ order.known j some }
+flush_order false id before after log same order = record { orderly = order.orderly; known = λ j some. same j ∙ order.known j some }
 
 flush_main : (done : Bool) (id : ℕ) (log : List Event) (main : Option InputView) → IsSoundMain log main → IsSoundMain (flushed_if done id log) main
 flush_main true id log main h = main_same log (Flushed id ∷ log) main (λ j. refl) (λ j. refl) h
 flush_main false id log main h = h
 
-flush_agrees : (done : Bool) (id : ℕ) (log : List Event) (a : Answers) → Agrees a (flushed_if done id log) → Agrees a log
-flush_agrees true id log a h = h.1
-flush_agrees false id log a h = h
+flush_consistent : (done : Bool) (id : ℕ) (log : List Event) (a : Oracle) → IsConsistent a (flushed_if done id log) → IsConsistent a log
+flush_consistent true id log a h = h.1
+flush_consistent false id log a h = h
 
 flush_received : (done : Bool) (id j : ℕ) (log : List Event) → received j (flushed_if done id log) ≡ received j log
 flush_received true id j log = refl
@@ -100,9 +102,9 @@ flush_received false id j log = refl
 false_true : false ≡ true → ⊥
 false_true e = cc
 
-close_order : (main : Option InputView) (n : ℤ) (is_open is_open' : ℕ → Bool) (log : List Event) → ClosesMain is_open is_open' main → IsInOrder is_open log → IsSoundMain log main → IsInOrder is_open' (closed_main main n log)
-close_order None n is_open is_open' log closes order h = record { orderly = order.orderly; known = λ j some. closes j ∙ order.known j some }
-close_order (Some v) n is_open is_open' log closes order h = record {
+close_order : (main : Option InputView) (n : ℤ) (before after : WorldState) (log : List Event) → ClosesMain before after main → IsInOrder before.is_open log → IsSoundMain log main → IsInOrder after.is_open (closed_main main n log)
+close_order None n before after log closes order h = record { orderly = order.orderly; known = λ j some. closes j ∙ order.known j some }
+close_order (Some v) n before after log closes order h = record {
   orderly = (ap is_some h.stands, order.orderly);
   known = λ j some. elim (cases_eq v.id j) [
     | inl same ↦
@@ -114,9 +116,9 @@ close_order (Some v) n is_open is_open' log closes order h = record {
   ];
 }
 
-close_agrees : (main : Option InputView) (n : ℤ) (log : List Event) (a : Answers) → Agrees a (closed_main main n log) → Agrees a log
-close_agrees None n log a h = h
-close_agrees (Some v) n log a h = h.1
+close_consistent : (main : Option InputView) (n : ℤ) (log : List Event) (a : Oracle) → IsConsistent a (closed_main main n log) → IsConsistent a log
+close_consistent None n log a h = h
+close_consistent (Some v) n log a h = h.1
 
 close_received : (main : Option InputView) (n : ℤ) (j : ℕ) (log : List Event) → received j (closed_main main n log) ≡ received j log
 close_received None n j log = refl
@@ -142,24 +144,25 @@ close_counts (Some v) n log h = record {
   runs = none_more _;
 }
 
-closed_agrees : (main : Option InputView) (n : ℤ) (log : List Event) (a : Answers) → IsSoundMain log main → Agrees a log → Agrees a (closed_main main n log)
-closed_agrees None n log a h agrees = agrees
-closed_agrees (Some v) n log a h agrees = (λ command. absurd (false_true (sym (no_command log v h) ∙ command)), agrees)
+closed_consistent : (main : Option InputView) (n : ℤ) (log : List Event) (a : Oracle) → IsSoundMain log main → IsConsistent a log → IsConsistent a (closed_main main n log)
+closed_consistent None n log a h consistent = consistent
+closed_consistent (Some v) n log a h consistent = (λ command. absurd (false_true (sym (no_command log v h) ∙ command)), consistent)
 
-pub ends_main : (is_open is_open' : ℕ → Bool) (log log' : List Event) (mark mark' : Option ℕ) (old new : StreamsView) (answer : ℤ) →
-    new.main ≡ None → IsSoundMain log old.main → ClosesMain is_open is_open' old.main → log' ≡ closed_main old.main answer log → mark' ≡ mark → EndsMain is_open log mark old is_open' log' mark' new
-ends_main is_open is_open' log log' mark mark' old new answer none sound closes adds same_mark =
+pub ends_main : (before after : WorldState) (old new : StreamsView) (answer : ℤ) →
+    new.main ≡ None → IsSoundMain before.log old.main → ClosesMain before after old.main → after.log ≡ closed_main old.main answer before.log → after.first_failure ≡ before.first_failure → EndsMain before old after new
+ends_main before after old new answer none sound closes adds same_failure =
+    let log : List Event = before.log in
     let closed : List Event = closed_main old.main answer log in
     let main : IsSoundMain closed new.main = subst (λ (m : Option InputView). IsSoundMain closed m) (sym none) tt in
-    subst (λ (l : List Event). EndsMain is_open log mark old is_open' l mark' new) (sym adds) record {
-      sound = λ s. record { order = close_order old.main answer is_open is_open' log closes s.order s.main; main = main };
+    subst (λ (l : List Event). EndsMain before old record after { log = l } new) (sym adds) record {
+      sound = λ s. record { order = close_order old.main answer before after log closes s.order s.main; main = main };
       main = main;
-      grows = record { agrees = λ a. close_agrees old.main answer log a; clear = λ unmarked. sym same_mark ∙ unmarked };
-      agrees = λ a. closed_agrees old.main answer log a sound;
+      grows = record { consistent = λ a. close_consistent old.main answer log a; clear = λ none. sym same_failure ∙ none };
+      consistent = λ a. closed_consistent old.main answer log a sound;
       adds = (answer, refl);
       outputs = λ j. close_received old.main answer j log;
       counts = close_counts old.main answer log sound;
-      unmarked = same_mark;
+      no_failure = same_failure;
     }
 
 -- the first failure of two flushes is the answer
@@ -173,49 +176,50 @@ one_failed (Ok u) (Ok v) = tt
 one_failed (Ok u) (Err e) = refl
 one_failed (Err e) second = refl
 
-unmarked_after : (first second : Result (Unit {0}) StreamFault) (mark mark1 mark2 : Option ℕ) → OnOk first (mark1 ≡ mark) → OnOk second (mark2 ≡ mark1) → OnOk (result_and first second) (mark2 ≡ mark)
-unmarked_after (Ok u) (Ok v) mark mark1 mark2 p q = q ∙ p
-unmarked_after (Ok u) (Err e) mark mark1 mark2 p q = tt
-unmarked_after (Err e) second mark mark1 mark2 p q = tt
+no_failure_after : (first second : Result (Unit {0}) StreamFault) (failure failure1 failure2 : Option ℕ) → OnOk first (failure1 ≡ failure) → OnOk second (failure2 ≡ failure1) → OnOk (result_and first second) (failure2 ≡ failure)
+no_failure_after (Ok u) (Ok v) failure failure1 failure2 p q = q ∙ p
+no_failure_after (Ok u) (Err e) failure failure1 failure2 p q = tt
+no_failure_after (Err e) second failure failure1 failure2 p q = tt
 
-some_none : (mark : Option ℕ) → is_some mark ≡ true → mark ≡ None → ⊥
-some_none mark some none = false_true (sym (ap is_some none) ∙ some)
+some_none : (failure : Option ℕ) → is_some failure ≡ true → failure ≡ None → ⊥
+some_none failure some none = false_true (sym (ap is_some none) ∙ some)
 
-is_set : (mark : Option ℕ) → (mark ≡ None → ⊥) → is_some mark ≡ true
+is_set : (failure : Option ℕ) → (failure ≡ None → ⊥) → is_some failure ≡ true
 is_set None some = absurd (some refl)
 is_set (Some n) some = refl
 
-marked_after : (first second : Result (Unit {0}) StreamFault) (mark1 mark2 : Option ℕ) → OnErr first (is_some mark1 ≡ true) → OnErr second (is_some mark2 ≡ true) → (mark2 ≡ None → mark1 ≡ None) → OnErr (result_and first second) (is_some mark2 ≡ true)
-marked_after (Ok u) (Ok v) mark1 mark2 p q clear = tt
-marked_after (Ok u) (Err e) mark1 mark2 p q clear = q
-marked_after (Err e) second mark1 mark2 p q clear = is_set mark2 (λ none. some_none mark1 p (clear none))
+some_failure_after : (first second : Result (Unit {0}) StreamFault) (failure1 failure2 : Option ℕ) → OnErr first (is_some failure1 ≡ true) → OnErr second (is_some failure2 ≡ true) → (failure2 ≡ None → failure1 ≡ None) → OnErr (result_and first second) (is_some failure2 ≡ true)
+some_failure_after (Ok u) (Ok v) failure1 failure2 p q clear = tt
+some_failure_after (Ok u) (Err e) failure1 failure2 p q clear = q
+some_failure_after (Err e) second failure1 failure2 p q clear = is_set failure2 (λ none. some_none failure1 p (clear none))
 
-pub finishes : (is_open is_open1 is_open2 is_open' : ℕ → Bool) (log log1 log2 log' : List Event) (mark mark1 mark2 mark' : Option ℕ) (old new : StreamsView) (main : Option InputView) (first second result : Result (Unit {0}) StreamFault) (answer : ℤ) →
-    result ≡ result_and first second → old.main ≡ main → new.main ≡ None → SameOpen is_open is_open1 → SameOpen is_open1 is_open2 → ClosesMain is_open2 is_open' main → Flushes 0 log mark first log1 mark1 → Flushes 1 log1 mark1 second log2 mark2 →
-    log' ≡ closed_main main answer log2 → mark' ≡ mark2 → Finishes is_open log mark old result is_open' log' mark' new
-finishes is_open is_open1 is_open2 is_open' log log1 log2 log' mark mark1 mark2 mark' old new main first second result answer is old_is none same same1 closes_it flush flush1 closed_it same_mark =
-    let closes : ClosesMain is_open2 is_open' old.main = subst (λ (m : Option InputView). ClosesMain is_open2 is_open' m) (sym old_is) closes_it in
-    let closed : log' ≡ closed_main old.main answer log2 = closed_it ∙ ap (λ m. closed_main m answer log2) (sym old_is) in
-    let adds : log' ≡ closed_main old.main answer (flushed_if (is_ok second) 1 (flushed_if (is_ok first) 0 log)) = closed ∙ (ap (closed_main old.main answer) flush1.adds ∙ ap (λ l. closed_main old.main answer (flushed_if (is_ok second) 1 l)) flush.adds) in
+pub finishes : (before middle later after : WorldState) (old new : StreamsView) (main : Option InputView) (first second result : Result (Unit {0}) StreamFault) (answer : ℤ) →
+    result ≡ result_and first second → old.main ≡ main → new.main ≡ None → SameOpen before middle → SameOpen middle later → ClosesMain later after main → Flushes 0 before first middle → Flushes 1 middle second later →
+    after.log ≡ closed_main main answer later.log → after.first_failure ≡ later.first_failure → Finishes before old result after new
+finishes before middle later after old new main first second result answer is old_is none same same1 closes_it flush flush1 closed_it same_failure =
+    let log : List Event = before.log in
+    let closes : ClosesMain later after old.main = subst (λ (m : Option InputView). ClosesMain later after m) (sym old_is) closes_it in
+    let closed : after.log ≡ closed_main old.main answer later.log = closed_it ∙ ap (λ m. closed_main m answer later.log) (sym old_is) in
+    let adds : after.log ≡ closed_main old.main answer (flushed_if (is_ok second) 1 (flushed_if (is_ok first) 0 log)) = closed ∙ (ap (closed_main old.main answer) flush1.adds ∙ ap (λ l. closed_main old.main answer (flushed_if (is_ok second) 1 l)) flush.adds) in
     let mid : List Event = flushed_if (is_ok first) 0 log in
     let last : List Event = flushed_if (is_ok second) 1 mid in
-    let whole : Finishes is_open log mark old (result_and first second) is_open' (closed_main old.main answer last) mark' new = record {
+    let whole : Finishes before old (result_and first second) record after { log = closed_main old.main answer last } new = record {
       sound = λ s.
-          let order1 = flush_order (is_ok first) 0 is_open is_open1 log same s.order in
-          let order2 = flush_order (is_ok second) 1 is_open1 is_open2 mid same1 order1 in
+          let order1 = flush_order (is_ok first) 0 before middle log same s.order in
+          let order2 = flush_order (is_ok second) 1 middle later mid same1 order1 in
           let main2 = flush_main (is_ok second) 1 mid old.main (flush_main (is_ok first) 0 log old.main s.main) in
           record {
-            order = close_order old.main answer is_open2 is_open' last closes order2 main2;
+            order = close_order old.main answer later after last closes order2 main2;
             main = subst (λ (m : Option InputView). IsSoundMain (closed_main old.main answer last) m) (sym none) tt;
           };
       grows = record {
-        agrees = λ a agrees. flush_agrees (is_ok first) 0 log a (flush_agrees (is_ok second) 1 mid a (close_agrees old.main answer last a agrees));
-        clear = λ e. flush.clear (flush1.clear (sym same_mark ∙ e));
+        consistent = λ a consistent. flush_consistent (is_ok first) 0 log a (flush_consistent (is_ok second) 1 mid a (close_consistent old.main answer last a consistent));
+        clear = λ e. flush.clear (flush1.clear (sym same_failure ∙ e));
       };
       ends = record { first = is_ok first; second = is_ok second; answer = answer; adds = refl; flushed = both_ok first second; failed = one_failed first second };
       outputs = λ j. close_received old.main answer j last ∙ (flush_received (is_ok second) 1 j mid ∙ flush_received (is_ok first) 0 j log);
-      unmarked = subst (λ (m : Option ℕ). OnOk (result_and first second) (m ≡ mark)) (sym same_mark) (unmarked_after first second mark mark1 mark2 flush.unmarked flush1.unmarked);
-      marked = subst (λ (m : Option ℕ). OnErr (result_and first second) (is_some m ≡ true)) (sym same_mark) (marked_after first second mark1 mark2 flush.marked flush1.marked flush1.clear);
+      no_failure = subst (λ (m : Option ℕ). OnOk (result_and first second) (m ≡ before.first_failure)) (sym same_failure) (no_failure_after first second before.first_failure middle.first_failure later.first_failure flush.no_failure flush1.no_failure);
+      failure = subst (λ (m : Option ℕ). OnErr (result_and first second) (is_some m ≡ true)) (sym same_failure) (some_failure_after first second middle.first_failure later.first_failure flush.failure flush1.failure flush1.clear);
     } in
-    let with_log : Finishes is_open log mark old (result_and first second) is_open' log' mark' new = subst (λ (l : List Event). Finishes is_open log mark old (result_and first second) is_open' l mark' new) (sym adds) whole in
-    subst (λ (r : Result (Unit {0}) StreamFault). Finishes is_open log mark old r is_open' log' mark' new) (sym is) with_log
+    let with_log : Finishes before old (result_and first second) after new = subst (λ (l : List Event). Finishes before old (result_and first second) record after { log = l } new) (sym adds) whole in
+    subst (λ (r : Result (Unit {0}) StreamFault). Finishes before old r after new) (sym is) with_log

@@ -8,7 +8,7 @@ use Rattle.awk_record.specs.declared.buffer.Step.TheVariants.{NeedMore}
 use Rattle.awk_record.specs.declared.fault.RecordFault.{RecordFault}
 use Rattle.awk_record.specs.declared.fault.RecordFault.TheVariants.{Memory, FieldNumber}
 use Rattle.awk_record.proofs.CutLemmas.{IsDecided_law}
-use Rattle.awk_streams.specs.Answers.{Answers, Source, Agrees}
+use Rattle.awk_streams.specs.Oracle.{Oracle, Source, IsConsistent}
 use Rattle.awk_streams.specs.Inputs.{Reaches, Pulls}
 use Rattle.awk_streams.specs.Rest.{Rest}
 use Rattle.awk_streams.specs.Told.{Tells, TellsNext}
@@ -21,7 +21,7 @@ none_some : {T : Type 0} {P : Type 0} (x : T) → None ≡ Some x → P
 none_some x e = cc
 
 -- the rest with other bytes in hand and the same bytes unread
-rest_with : {a : Answers} {id : ℕ} {log : List Event} {s : Source} {whole b : List ℕ} {ending : Option Ending} (r : Rest a id log s whole b ending) (left b' : List ℕ) (ending' : Option Ending) →
+rest_with : {a : Oracle} {id : ℕ} {log : List Event} {s : Source} {whole b : List ℕ} {ending : Option Ending} (r : Rest a id log s whole b ending) (left b' : List ℕ) (ending' : Option Ending) →
     left ≡ b' ++ r.more → ((e : Ending) → ending' ≡ Some e → (r.more ≡ []) × (s.ending ≡ e)) → Rest a id log s left b' ending'
 rest_with r left b' ending' same over = record {
   reading = r.reading;
@@ -33,7 +33,7 @@ rest_with r left b' ending' same over = record {
   over = over;
 }
 
-told_ended : (c : Cut) (a : Answers) (id : ℕ) (log : List Event) (s : Source) (whole : List ℕ) (e : Ending) (seen new : Pending) (result : Result Step RecordFault) (r : Rest a id log s whole seen.bytes seen.ending) →
+told_ended : (c : Cut) (a : Oracle) (id : ℕ) (log : List Event) (s : Source) (whole : List ℕ) (e : Ending) (seen new : Pending) (result : Result Step RecordFault) (r : Rest a id log s whole seen.bytes seen.ending) →
     r.more ≡ [] → s.ending ≡ e → IsAnswerOf c (Some e) result seen new → (left : List ℕ) × Tells c result whole left × Rest a id log s left new.bytes new.ending
 told_ended (Found first rest) a id log s whole e seen new result r none ends h =
     (rest, (h.0, refl), rest_with r rest new.bytes new.ending (sym h.1 ∙ (sym (append-nil new.bytes) ∙ ap (λ m. new.bytes ++ m) (sym none))) (λ e' is. (none, ends ∙ same_some e e' (sym h.2 ∙ is))))
@@ -48,7 +48,7 @@ told_ended BadSeparator a id log s whole e seen new result r none ends h = (whol
 alone : (separator b : List ℕ) (c : Cut) (e : Ending) → cut_of separator (b ++ []) e ≡ c → cut_of separator b e ≡ c
 alone separator b c e is = ap (λ x. cut_of separator x e) (sym (append-nil b)) ∙ is
 
-told_decided : (separator : List ℕ) (a : Answers) (id : ℕ) (log : List Event) (s : Source) (whole : List ℕ) (seen new : Pending) (result : Result Step RecordFault) (r : Rest a id log s whole seen.bytes seen.ending) →
+told_decided : (separator : List ℕ) (a : Oracle) (id : ℕ) (log : List Event) (s : Source) (whole : List ℕ) (seen new : Pending) (result : Result Step RecordFault) (r : Rest a id log s whole seen.bytes seen.ending) →
     IsDecided separator seen.bytes → IsAnswerOf (cut_of separator seen.bytes s.ending) None result seen new →
     (left : List ℕ) × Tells (cut_of separator whole s.ending) result whole left × Rest a id log s left new.bytes new.ending
 told_decided separator a id log s whole seen new result r (inl (first, rest, decides)) h =
@@ -84,7 +84,7 @@ ending_is (Some e) = inr (e, refl)
 abbrev pub DecidedLaw : Type 0
 DecidedLaw = (separator bytes : List ℕ) → IsDecided separator bytes ↔ (cut_of separator bytes AtBreak ≢ BrokenOff)
 
-told_steps : DecidedLaw → (separator : List ℕ) (a : Answers) (id : ℕ) (log : List Event) (s : Source) (whole : List ℕ) (seen new : Pending) (result : Result Step RecordFault) →
+told_steps : DecidedLaw → (separator : List ℕ) (a : Oracle) (id : ℕ) (log : List Event) (s : Source) (whole : List ℕ) (seen new : Pending) (result : Result Step RecordFault) →
     Rest a id log s whole seen.bytes seen.ending → Steps separator seen result new → result ≢ Ok NeedMore →
     (left : List ℕ) × Tells (cut_of separator whole s.ending) result whole left × Rest a id log s left new.bytes new.ending
 told_steps law separator a id log s whole seen new result r steps told = elim (ending_is seen.ending) [
@@ -101,18 +101,18 @@ told_steps law separator a id log s whole seen new result r steps told = elim (e
       told_ended (cut_of separator whole s.ending) a id log s whole e seen new result r all.0 all.1 (subst (λ (c : Cut). IsAnswerOf c (Some e) result seen new) same (steps.ended e met))
 ]
 
-rest_reaches : (id : ℕ) (separator : List ℕ) (old seen : Pending) (log log' : List Event) (a : Answers) (s : Source) (whole : List ℕ) →
-    Reaches id separator old log seen log' → Agrees a log' → Rest a id log s whole old.bytes old.ending → Rest a id log' s whole seen.bytes seen.ending
-rest_reaches id separator old seen log log' a s whole (inl (same, still)) agrees r =
+rest_reaches : (id : ℕ) (separator : List ℕ) (old seen : Pending) (log log' : List Event) (a : Oracle) (s : Source) (whole : List ℕ) →
+    Reaches id separator old log seen log' → IsConsistent a log' → Rest a id log s whole old.bytes old.ending → Rest a id log' s whole seen.bytes seen.ending
+rest_reaches id separator old seen log log' a s whole (inl (same, still)) consistent r =
     subst (λ (l : List Event). Rest a id l s whole seen.bytes seen.ending) (sym still) (subst (λ (p : Pending). Rest a id log s whole p.bytes p.ending) (sym same) r)
-rest_reaches id separator old seen log log' a s whole (inr (began, goes)) agrees r =
+rest_reaches id separator old seen log log' a s whole (inr (began, goes)) consistent r =
     subst (λ (l : List Event). Rest a id l s whole seen.bytes seen.ending) (sym goes.log)
-    (reads_rest id separator old.bytes seen.bytes seen.ending goes.events a log r.reading s r.more whole goes.each (subst (λ (l : List Event). Agrees a l) goes.log agrees) r.stands r.answer r.begins r.same)
+    (reads_rest id separator old.bytes seen.bytes seen.ending goes.events a log r.reading s r.more whole goes.each (subst (λ (l : List Event). IsConsistent a l) goes.log consistent) r.stands r.answer r.begins r.same)
 
 told_pulls : DecidedLaw → (id : ℕ) (separator : List ℕ) (old new : Pending) (log log' : List Event) (result : Result Step RecordFault) →
     Pulls id separator old log result new log' → result ≢ Ok NeedMore → result ≢ Err Memory → TellsNext id separator old log result new log'
-told_pulls law id separator old new log log' result pulls told differs a s whole agrees r =
-    told_steps law separator a id log' s whole pulls.seen new result (rest_reaches id separator old pulls.seen log log' a s whole pulls.reads agrees r) (pulls.steps differs) told
+told_pulls law id separator old new log log' result pulls told differs a s whole consistent r =
+    told_steps law separator a id log' s whole pulls.seen new result (rest_reaches id separator old pulls.seen log log' a s whole pulls.reads consistent r) (pulls.steps differs) told
 
 pub told_next : (id : ℕ) (separator : List ℕ) (old new : Pending) (log log' : List Event) (result : Result Step RecordFault) →
     Pulls id separator old log result new log' → result ≢ Ok NeedMore → result ≢ Err Memory → TellsNext id separator old log result new log'

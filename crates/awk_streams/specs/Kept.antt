@@ -3,7 +3,7 @@ use Rattle.std.specs.Prelude.{◌≡◌, ℕ, List, [], ◌∷◌}
 use Rattle.awk_streams.specs.declared.world.InputKind.{InputKind}
 use Rattle.awk_streams.specs.declared.world.OutputKind.{OutputKind}
 use Rattle.awk_streams.specs.Log.{Event, Read, Ended, Broke, Wrote, Flushed}
-use Rattle.awk_streams.specs.Answers.{how_many, opens_input, opens_output, closes_command, runs, standing}
+use Rattle.awk_streams.specs.Oracle.{how_many, opens_input, opens_output, closes_command, runs, standing}
 
 -- these events only bring bytes to outputs
 abbrev pub IsOutput : List Event → Type 0

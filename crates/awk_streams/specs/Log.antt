@@ -25,11 +25,11 @@ abbrev pub logged : Option Event → List Event → List Event
 logged (Some e) log = e ∷ log
 logged None log = log
 
--- the mark after a call: one that isn't logged sets it, to the length of the log then, unless it was set before
-abbrev pub marked : Option Event → List Event → Option ℕ → Option ℕ
-marked (Some e) log mark = mark
-marked None log (Some n) = Some n
-marked None log None = Some (length log)
+-- the first failure after a call: one that isn't logged is a failure, at the length of the log then, unless there was one before
+abbrev pub failure_after : Option Event → List Event → Option ℕ → Option ℕ
+failure_after (Some e) log first_failure = first_failure
+failure_after None log (Some n) = Some n
+failure_after None log None = Some (length log)
 
 -- What each call logs, by its arguments and its answer. Refused memory, a failed write and a failed flush are not logged.
 

@@ -1,11 +1,11 @@
 -- What writing and flushing an output comes to.
-use Rattle.std.specs.Prelude.{◌≡◌, ◌⊎◌, ◌≤◌, ℕ, true, List, length, take, Option, None, is_some, Result, OnOk, OnErr}
+use Rattle.std.specs.Prelude.{◌≡◌, ◌⊎◌, ◌≤◌, ℕ, true, List, length, take, None, is_some, Result, OnOk, OnErr}
 use Rattle.std.specs.Result.{is_ok}
 use Rattle.awk_streams.specs.declared.fault.StreamFault.{StreamFault}
 use Rattle.awk_streams.specs.declared.fault.StreamFault.TheVariants.{Memory, WriteFailed}
 use Rattle.awk_streams.specs.declared.world.WorldFault.{WorldFault}
 use Rattle.awk_streams.specs.declared.world.WorldFault.TheVariants.{Memory as WorldMemory, Failed}
-use Rattle.awk_streams.specs.Log.{Event}
+use Rattle.awk_streams.specs.WorldState.{WorldState}
 use Rattle.awk_streams.specs.Writes.{GoesOn, Writes, flushed_if}
 
 abbrev pub output_fault_of : WorldFault → StreamFault
@@ -15,19 +15,19 @@ output_fault_of Failed = WriteFailed
 abbrev pub IsOutputFault : StreamFault → Type 0
 IsOutputFault fault = (fault ≡ Memory) ⊎ (fault ≡ WriteFailed)
 
--- the bytes were written, or a beginning of them and the mark is set
-pub record WritesAll (id : ℕ) (bytes : List ℕ) (log : List Event) (mark : Option ℕ) (result : Result (Unit {0}) StreamFault) (log' : List Event) (mark' : Option ℕ) : Type 0 where
+-- the bytes were written, or a beginning of them, and then there was a failure
+pub record WritesAll (id : ℕ) (bytes : List ℕ) (before : WorldState) (result : Result (Unit {0}) StreamFault) (after : WorldState) : Type 0 where
   pub count : ℕ
   pub within : count ≤ length bytes
-  pub writes : GoesOn (Writes id (take count bytes)) log log'
+  pub writes : GoesOn (Writes id (take count bytes)) before.log after.log
   pub all : OnOk result (count ≡ length bytes)
-  pub unmarked : OnOk result (mark' ≡ mark)
-  pub marked : OnErr result (is_some mark' ≡ true)
-  pub clear : mark' ≡ None → mark ≡ None
+  pub no_failure : OnOk result (after.first_failure ≡ before.first_failure)
+  pub failure : OnErr result (is_some after.first_failure ≡ true)
+  pub clear : after.first_failure ≡ None → before.first_failure ≡ None
 
--- the output was flushed, or the mark is set
-pub record Flushes (id : ℕ) (log : List Event) (mark : Option ℕ) (result : Result (Unit {0}) StreamFault) (log' : List Event) (mark' : Option ℕ) : Type 0 where
-  pub adds : log' ≡ flushed_if (is_ok result) id log
-  pub unmarked : OnOk result (mark' ≡ mark)
-  pub marked : OnErr result (is_some mark' ≡ true)
-  pub clear : mark' ≡ None → mark ≡ None
+-- the output was flushed, or there was a failure
+pub record Flushes (id : ℕ) (before : WorldState) (result : Result (Unit {0}) StreamFault) (after : WorldState) : Type 0 where
+  pub adds : after.log ≡ flushed_if (is_ok result) id before.log
+  pub no_failure : OnOk result (after.first_failure ≡ before.first_failure)
+  pub failure : OnErr result (is_some after.first_failure ≡ true)
+  pub clear : after.first_failure ≡ None → before.first_failure ≡ None

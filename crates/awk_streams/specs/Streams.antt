@@ -7,11 +7,11 @@ use Rattle.awk_streams.specs.declared.world.OutputKind.{OutputKind}
 use Rattle.awk_streams.specs.declared.input.Input.{Input}
 use Rattle.awk_streams.specs.declared.fault.StreamFault.{StreamFault}
 use Rattle.awk_streams.specs.declared.fault.StreamFault.TheVariants.{Memory, InputNotReadable}
-use Rattle.awk_streams.specs.Ids.{Closes, SameOpen}
+use Rattle.awk_streams.specs.WorldState.{WorldState, Closes, SameOpen}
 use Rattle.awk_streams.specs.Log.{Event, OpenedInput, Closed, logged}
 use Rattle.awk_record.specs.Cut.{cut_of}
 use Rattle.awk_record.specs.Buffer.{Pending}
-use Rattle.awk_streams.specs.Answers.{Answers, Source, Agrees, one_if, how_many, opens_input, opens_output, closes_command, runs, same_input, AnInput, standing}
+use Rattle.awk_streams.specs.Oracle.{Oracle, Source, IsConsistent, one_if, how_many, opens_input, opens_output, closes_command, runs, same_input, AnInput, standing}
 use Rattle.awk_streams.specs.Orderly.{IsReadable, IsInOrder}
 use Rattle.awk_streams.specs.Writes.{OnlyWritesTo, received, flushed_if}
 use Rattle.awk_streams.specs.Inputs.{ReadsAsNeeded}
@@ -40,13 +40,13 @@ IsFreshMain main = (id : ℕ) × (main ≡ Some record { id = id; pending = reco
 
 -- What is known of every world.
 
-abbrev pub IsOpenMain : (ℕ → Bool) → Option InputView → Type 0
-IsOpenMain is_open None = Unit {0}
-IsOpenMain is_open (Some v) = (is_open v.id ≡ true) × (2 ≤ v.id)
+abbrev pub IsOpenMain : WorldState → Option InputView → Type 0
+IsOpenMain world None = Unit {0}
+IsOpenMain world (Some v) = (world.is_open v.id ≡ true) × (2 ≤ v.id)
 
 -- the main input, if there is one, is open in the world
-abbrev pub AreOpen : (ℕ → Bool) → StreamsView → Type 0
-AreOpen is_open streams = IsOpenMain is_open streams.main
+abbrev pub AreOpen : WorldState → StreamsView → Type 0
+AreOpen world streams = IsOpenMain world streams.main
 
 -- the same main input, or none as before
 abbrev pub IsSameMain : Option InputView → Option InputView → Type 0
@@ -55,7 +55,7 @@ IsSameMain (Some v) (Some w) = w.id ≡ v.id
 IsSameMain v w = ⊥
 
 -- which streams are open after the main input, if there was one, was closed
-abbrev pub ClosesMain : (ℕ → Bool) → (ℕ → Bool) → Option InputView → Type 0
+abbrev pub ClosesMain : WorldState → WorldState → Option InputView → Type 0
 ClosesMain old new None = SameOpen old new
 ClosesMain old new (Some v) = Closes old new v.id
 
@@ -72,17 +72,17 @@ abbrev pub IsSoundMain : List Event → Option InputView → Type 0
 IsSoundMain log None = Unit {0}
 IsSoundMain log (Some v) = StandsAsMain log v
 
-pub record AreSound (is_open : ℕ → Bool) (log : List Event) (streams : StreamsView) : Type 0 where
-  pub order : IsInOrder is_open log
-  pub main : IsSoundMain log streams.main
+pub record AreSound (world : WorldState) (streams : StreamsView) : Type 0 where
+  pub order : IsInOrder world.is_open world.log
+  pub main : IsSoundMain world.log streams.main
 
--- the log goes on: answers that agree with what it became agree with what it was; and a mark once set stays
-pub record Grows (log : List Event) (mark : Option ℕ) (log' : List Event) (mark' : Option ℕ) : Type 0 where
-  pub agrees : (a : Answers) → Agrees a log' → Agrees a log
-  pub clear : mark' ≡ None → mark ≡ None
+-- the log goes on: what is consistent with what it became is consistent with what it was; and no failure is forgotten
+pub record Grows (before after : WorldState) : Type 0 where
+  pub consistent : (a : Oracle) → IsConsistent a after.log → IsConsistent a before.log
+  pub clear : after.first_failure ≡ None → before.first_failure ≡ None
 
--- what is left of the main input, as the answers give it: all bytes not yet taken, and the ending behind them
-abbrev pub IsMainRest : Answers → List Event → Option InputView → Option Source → Type 0
+-- what is left of the main input, as the oracle gives it: all bytes not yet taken, and the ending behind them
+abbrev pub IsMainRest : Oracle → List Event → Option InputView → Option Source → Type 0
 IsMainRest a log None None = Unit {0}
 IsMainRest a log (Some v) (Some whole) = (s : Source) × (s.ending ≡ whole.ending) × Rest a v.id log s whole.bytes v.pending.bytes v.pending.ending
 IsMainRest a log None (Some whole) = ⊥
@@ -103,18 +103,17 @@ main_opening kind name (Err InputNotReadable) main = Some (OpenedInput kind name
 main_opening kind name result main = None
 
 -- an opening of the main input
-pub record OpensMain (kind : InputKind) (name : List ℕ) (is_open : ℕ → Bool) (log : List Event) (mark : Option ℕ) (old : StreamsView) (result : Result (Unit {0}) StreamFault)
-    (is_open' : ℕ → Bool) (log' : List Event) (mark' : Option ℕ) (new : StreamsView) : Type 0 where
-  pub sound : AreSound is_open log old → AreSound is_open' log' new
-  pub main : IsSoundMain log old.main → IsSoundMain log' new.main
-  pub grows : Grows log mark log' mark'
-  pub adds : log' ≡ logged (main_opening kind name result new.main) log
-  pub outputs : (j : ℕ) → received j log' ≡ received j log
-  pub counts : result ≢ Err Memory → CountsInput kind name log log'
-  pub granted : OnOk result ((a : Answers) → Agrees a log' → (s : Source) × (a.input kind name (how_many (opens_input kind name) log) ≡ Some s) × IsMainRest a log' new.main (Some s))
-  pub refused : result ≡ Err InputNotReadable → (a : Answers) → Agrees a log' → a.input kind name (how_many (opens_input kind name) log) ≡ None
-  pub unmarked : result ≢ Err Memory → mark' ≡ mark
-  pub marked : result ≡ Err Memory → is_some mark' ≡ true
+pub record OpensMain (kind : InputKind) (name : List ℕ) (before : WorldState) (old : StreamsView) (result : Result (Unit {0}) StreamFault) (after : WorldState) (new : StreamsView) : Type 0 where
+  pub sound : AreSound before old → AreSound after new
+  pub main : IsSoundMain before.log old.main → IsSoundMain after.log new.main
+  pub grows : Grows before after
+  pub adds : after.log ≡ logged (main_opening kind name result new.main) before.log
+  pub outputs : (j : ℕ) → received j after.log ≡ received j before.log
+  pub counts : result ≢ Err Memory → CountsInput kind name before.log after.log
+  pub granted : OnOk result ((a : Oracle) → IsConsistent a after.log → (s : Source) × (a.input kind name (how_many (opens_input kind name) before.log) ≡ Some s) × IsMainRest a after.log new.main (Some s))
+  pub refused : result ≡ Err InputNotReadable → (a : Oracle) → IsConsistent a after.log → a.input kind name (how_many (opens_input kind name) before.log) ≡ None
+  pub no_failure : result ≢ Err Memory → after.first_failure ≡ before.first_failure
+  pub failure : result ≡ Err Memory → is_some after.first_failure ≡ true
 
 -- the main input is read only while what is at hand doesn't decide its next record, and never behind its ending
 abbrev pub ReadsMain : List ℕ → Option InputView → List Event → List Event → Type 0
@@ -122,47 +121,45 @@ ReadsMain separator None log log' = log' ≡ log
 ReadsMain separator (Some v) log log' = ReadsAsNeeded v.id separator v.pending log log'
 
 -- an asking for the next record of the main input
-pub record AsksMain (separator : List ℕ) (is_open : ℕ → Bool) (log : List Event) (mark : Option ℕ) (old : StreamsView) (result : Result (Option (List ℕ)) StreamFault)
-    (is_open' : ℕ → Bool) (log' : List Event) (mark' : Option ℕ) (new : StreamsView) : Type 0 where
-  pub sound : AreSound is_open log old → AreSound is_open' log' new
-  pub main : IsSoundMain log' new.main
-  pub grows : Grows log mark log' mark'
-  pub demand : ReadsMain separator old.main log log'
-  pub outputs : (j : ℕ) → received j log' ≡ received j log
-  pub counts : SameCounts log log'
-  pub answered : result ≢ Err Memory → (a : Answers) (whole : Source) → Agrees a log' → IsMainRest a log old.main (Some whole) →
-      (left : List ℕ) × NextTold (cut_of separator whole.bytes whole.ending) result whole.bytes left × IsMainRest a log' new.main (Some record { bytes = left; ending = whole.ending })
-  pub unmarked : result ≢ Err Memory → mark' ≡ mark
+pub record AsksMain (separator : List ℕ) (before : WorldState) (old : StreamsView) (result : Result (Option (List ℕ)) StreamFault) (after : WorldState) (new : StreamsView) : Type 0 where
+  pub sound : AreSound before old → AreSound after new
+  pub main : IsSoundMain after.log new.main
+  pub grows : Grows before after
+  pub request : ReadsMain separator old.main before.log after.log
+  pub outputs : (j : ℕ) → received j after.log ≡ received j before.log
+  pub counts : SameCounts before.log after.log
+  pub answered : result ≢ Err Memory → (a : Oracle) (whole : Source) → IsConsistent a after.log → IsMainRest a before.log old.main (Some whole) →
+      (left : List ℕ) × NextTold (cut_of separator whole.bytes whole.ending) result whole.bytes left × IsMainRest a after.log new.main (Some record { bytes = left; ending = whole.ending })
+  pub no_failure : result ≢ Err Memory → after.first_failure ≡ before.first_failure
 
 -- a print of bytes to standard output
-pub record Prints (bytes : List ℕ) (is_open : ℕ → Bool) (log : List Event) (mark : Option ℕ) (old : StreamsView) (result : Result (Unit {0}) StreamFault)
-    (is_open' : ℕ → Bool) (log' : List Event) (mark' : Option ℕ) (new : StreamsView) : Type 0 where
-  pub sound : AreSound is_open log old → AreSound is_open' log' new
-  pub main : IsSoundMain log old.main → IsSoundMain log' new.main
-  pub grows : Grows log mark log' mark'
-  pub only : OnlyWritesTo 0 log log'
-  pub printed : OnOk result (received 0 log' ≡ received 0 log ++ bytes)
-  pub partly : OnErr result ((n : ℕ) × (n ≤ length bytes) × (received 0 log' ≡ received 0 log ++ take n bytes))
-  pub others : (j : ℕ) → j ≢ 0 → received j log' ≡ received j log
-  pub counts : SameCounts log log'
-  pub rest : (a : Answers) (r : Option Source) → IsMainRest a log old.main r → IsMainRest a log' new.main r
-  pub unmarked : OnOk result (mark' ≡ mark)
-  pub marked : OnErr result (is_some mark' ≡ true)
+pub record Prints (bytes : List ℕ) (before : WorldState) (old : StreamsView) (result : Result (Unit {0}) StreamFault) (after : WorldState) (new : StreamsView) : Type 0 where
+  pub sound : AreSound before old → AreSound after new
+  pub main : IsSoundMain before.log old.main → IsSoundMain after.log new.main
+  pub grows : Grows before after
+  pub only : OnlyWritesTo 0 before.log after.log
+  pub printed : OnOk result (received 0 after.log ≡ received 0 before.log ++ bytes)
+  pub partly : OnErr result ((n : ℕ) × (n ≤ length bytes) × (received 0 after.log ≡ received 0 before.log ++ take n bytes))
+  pub others : (j : ℕ) → j ≢ 0 → received j after.log ≡ received j before.log
+  pub counts : SameCounts before.log after.log
+  pub rest : (a : Oracle) (r : Option Source) → IsMainRest a before.log old.main r → IsMainRest a after.log new.main r
+  pub no_failure : OnOk result (after.first_failure ≡ before.first_failure)
+  pub failure : OnErr result (is_some after.first_failure ≡ true)
 
 abbrev pub closed_main : Option InputView → ℤ → List Event → List Event
 closed_main None answer log = log
 closed_main (Some v) answer log = Closed v.id answer ∷ log
 
 -- the end of the main input: it is closed, if there was one. It is no command, so its closing gives no answer of the outside
-pub record EndsMain (is_open : ℕ → Bool) (log : List Event) (mark : Option ℕ) (old : StreamsView) (is_open' : ℕ → Bool) (log' : List Event) (mark' : Option ℕ) (new : StreamsView) : Type 0 where
-  pub sound : AreSound is_open log old → AreSound is_open' log' new
-  pub main : IsSoundMain log' new.main
-  pub grows : Grows log mark log' mark'
-  pub agrees : (a : Answers) → Agrees a log → Agrees a log'
-  pub adds : (answer : ℤ) × (log' ≡ closed_main old.main answer log)
-  pub outputs : (j : ℕ) → received j log' ≡ received j log
-  pub counts : SameCounts log log'
-  pub unmarked : mark' ≡ mark
+pub record EndsMain (before : WorldState) (old : StreamsView) (after : WorldState) (new : StreamsView) : Type 0 where
+  pub sound : AreSound before old → AreSound after new
+  pub main : IsSoundMain after.log new.main
+  pub grows : Grows before after
+  pub consistent : (a : Oracle) → IsConsistent a before.log → IsConsistent a after.log
+  pub adds : (answer : ℤ) × (after.log ≡ closed_main old.main answer before.log)
+  pub outputs : (j : ℕ) → received j after.log ≡ received j before.log
+  pub counts : SameCounts before.log after.log
+  pub no_failure : after.first_failure ≡ before.first_failure
 
 -- both standard outputs are flushed, the second also where the first flush fails; then the main input is closed
 pub record EndsLog (main : Option InputView) (result : Result (Unit {0}) StreamFault) (log log' : List Event) : Type 0 where
@@ -174,11 +171,10 @@ pub record EndsLog (main : Option InputView) (result : Result (Unit {0}) StreamF
   pub failed : OnErr result ((first && second) ≡ false)
 
 -- the end of a run
-pub record Finishes (is_open : ℕ → Bool) (log : List Event) (mark : Option ℕ) (old : StreamsView) (result : Result (Unit {0}) StreamFault)
-    (is_open' : ℕ → Bool) (log' : List Event) (mark' : Option ℕ) (new : StreamsView) : Type 0 where
-  pub sound : AreSound is_open log old → AreSound is_open' log' new
-  pub grows : Grows log mark log' mark'
-  pub ends : EndsLog old.main result log log'
-  pub outputs : (j : ℕ) → received j log' ≡ received j log
-  pub unmarked : OnOk result (mark' ≡ mark)
-  pub marked : OnErr result (is_some mark' ≡ true)
+pub record Finishes (before : WorldState) (old : StreamsView) (result : Result (Unit {0}) StreamFault) (after : WorldState) (new : StreamsView) : Type 0 where
+  pub sound : AreSound before old → AreSound after new
+  pub grows : Grows before after
+  pub ends : EndsLog old.main result before.log after.log
+  pub outputs : (j : ℕ) → received j after.log ≡ received j before.log
+  pub no_failure : OnOk result (after.first_failure ≡ before.first_failure)
+  pub failure : OnErr result (is_some after.first_failure ≡ true)

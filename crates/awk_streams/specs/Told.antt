@@ -2,7 +2,7 @@
 use Rattle.std.specs.Prelude.{◌≡◌, ℕ, List, [], Result, Ok, Err, Option, Some, None}
 use Rattle.awk_streams.specs.Log.{Event}
 use Rattle.awk_record.specs.Buffer.{Pending}
-use Rattle.awk_streams.specs.Answers.{Answers, Source, Agrees}
+use Rattle.awk_streams.specs.Oracle.{Oracle, Source, IsConsistent}
 use Rattle.awk_streams.specs.Rest.{Rest}
 use Rattle.awk_record.specs.Cut.{cut_of, Cut, Found, NoMore, BrokenOff, TooLong, BadSeparator}
 use Rattle.awk_record.specs.declared.buffer.Step.{Step}
@@ -20,9 +20,9 @@ Tells BrokenOff result whole left = (result ≡ Ok Broken) × (left ≡ [])
 Tells TooLong result whole left = (result ≡ Err BufferRecordTooLong) × (left ≡ whole)
 Tells BadSeparator result whole left = (result ≡ Err BufferSeparatorTooLong) × (left ≡ whole)
 
--- for all answers that agree: from the whole rest to what is left of it, by its first cut
+-- for all oracles that are consistent: from the whole rest to what is left of it, by its first cut
 abbrev pub TellsNext : ℕ → List ℕ → Pending → List Event → Result Step RecordFault → Pending → List Event → Type 0
-TellsNext id separator old log result new log' = (a : Answers) (s : Source) (whole : List ℕ) → Agrees a log' → Rest a id log s whole old.bytes old.ending →
+TellsNext id separator old log result new log' = (a : Oracle) (s : Source) (whole : List ℕ) → IsConsistent a log' → Rest a id log s whole old.bytes old.ending →
     (left : List ℕ) × Tells (cut_of separator whole s.ending) result whole left × Rest a id log' s left new.bytes new.ending
 
 -- what the buffer answers, as the streams answer it; no step that is told asks for more

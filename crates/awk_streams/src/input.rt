@@ -1,7 +1,7 @@
 // Inputs: records out of the bytes that a world hands over.
 ghost use Rattle.std.specs.Prelude.{◌≡◌, ◌≢◌, ◌≤◌, ◌<◌, ◌⊎◌, ℕ, List, ◌∷◌, length, IsTrue, ◌↔◌, OnOk, OnErr, IfErr, None, Err, Ok};
 ghost use Rattle.awk_record.specs.Cut.{longest};
-ghost use Rattle.awk_streams.specs.Ids.{SameOpen};
+ghost use Rattle.awk_streams.specs.WorldState.{SameOpen};
 ghost use Rattle.awk_streams.specs.Log.{Event, Read};
 ghost use Rattle.awk_streams.specs.Inputs.{Brings, Pulls, room_of};
 
@@ -23,18 +23,18 @@ fn read_more<W: World>(
     buffer: &mut RecordBuffer,
     chunk: &mut [u8],
 ) -> Result<(), RecordFault>
-    requires open { IsTrue (W.is_open world.old id) }
+    requires open { IsTrue ((W.state world.old).is_open id) }
     requires room { 0 < length chunk.old }
     requires unended { buffer.old.ending ≡ None }
     requires short { length buffer.old.bytes ≤ longest }
-    ensures open { SameOpen (W.is_open world.old) (W.is_open world.new) }
-    ensures read { OnOk result (W.tells → ((e : Event) × (W.log world.new ≡ e ∷ W.log world.old) × Brings id e buffer.old buffer.new)) }
-    ensures lost { OnErr result (W.tells → (W.log world.new ≡ W.log world.old) ⊎ ((bytes : List ℕ) × (W.log world.new ≡ Read id bytes ∷ W.log world.old))) }
+    ensures open { SameOpen (W.state world.old) (W.state world.new) }
+    ensures read { OnOk result (W.is_logged → ((e : Event) × ((W.state world.new).log ≡ e ∷ (W.state world.old).log) × Brings id e buffer.old buffer.new)) }
+    ensures lost { OnErr result (W.is_logged → ((W.state world.new).log ≡ (W.state world.old).log) ⊎ ((bytes : List ℕ) × ((W.state world.new).log ≡ Read id bytes ∷ (W.state world.old).log))) }
     ensures err { OnErr result (buffer.new ≡ buffer.old) }
     ensures memory { IfErr result (λ e. e ≡ RecordFault.Memory) }
     ensures less { OnOk result (room_of buffer.new.ending (length buffer.new.bytes) < room_of buffer.old.ending (length buffer.old.bytes)) }
-    ensures unmarked { OnOk result (W.tells → W.mark world.new ≡ W.mark world.old) }
-    ensures clear { W.tells → W.mark world.new ≡ None → W.mark world.old ≡ None }
+    ensures no_failure { OnOk result (W.is_logged → (W.state world.new).first_failure ≡ (W.state world.old).first_failure) }
+    ensures clear { W.is_logged → (W.state world.new).first_failure ≡ None → (W.state world.old).first_failure ≡ None }
 {
     match world.read(id, chunk) {
         Ok(0) => buffer.end(),
@@ -62,14 +62,14 @@ pub fn next_from<W: World>(
     separator: &[u8],
     chunk: &mut [u8],
 ) -> Result<Step, RecordFault>
-    requires open { IsTrue (W.is_open world.old id) }
+    requires open { IsTrue ((W.state world.old).is_open id) }
     requires room { 0 < length chunk.old }
-    ensures open { SameOpen (W.is_open world.old) (W.is_open world.new) }
+    ensures open { SameOpen (W.state world.old) (W.state world.new) }
     ensures step { result ≢ Ok Step.NeedMore }
     ensures fault { result ≢ Err RecordFault.FieldNumber }
-    ensures pulls { W.tells → Pulls id separator.now buffer.old (W.log world.old) result buffer.new (W.log world.new) }
-    ensures unmarked { W.tells → result ≢ Err RecordFault.Memory → W.mark world.new ≡ W.mark world.old }
-    ensures clear { W.tells → W.mark world.new ≡ None → W.mark world.old ≡ None }
+    ensures pulls { W.is_logged → Pulls id separator.now buffer.old (W.state world.old).log result buffer.new (W.state world.new).log }
+    ensures no_failure { W.is_logged → result ≢ Err RecordFault.Memory → (W.state world.new).first_failure ≡ (W.state world.old).first_failure }
+    ensures clear { W.is_logged → (W.state world.new).first_failure ≡ None → (W.state world.old).first_failure ≡ None }
 {
     loop {
         let step = buffer.next(separator)?;

@@ -13,7 +13,7 @@ mod tests;
 mod world;
 
 pub use fault::StreamFault;
-pub use laws::{agrees_with_less, some_answers_agree};
+pub use laws::{is_consistent_with_less, some_oracle_is_consistent};
 pub use output::print_error;
 pub use script::{Answer, Entry, ScriptWorld};
 pub use streams::Streams;

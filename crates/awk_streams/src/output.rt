@@ -1,6 +1,6 @@
 // Outputs: bytes reach the world in order, all of them or a beginning.
 ghost use Rattle.std.specs.Prelude.{◌≡◌, IsTrue, IfErr};
-ghost use Rattle.awk_streams.specs.Ids.{SameOpen};
+ghost use Rattle.awk_streams.specs.WorldState.{SameOpen};
 ghost use Rattle.awk_streams.specs.Outputs.{output_fault_of, IsOutputFault, WritesAll, Flushes};
 
 use crate::fault::StreamFault;
@@ -24,10 +24,10 @@ fn output_fault(fault: WorldFault) -> StreamFault
 
 // Writes all the bytes. After an `Err` a beginning of them is written.
 pub fn write_all<W: World>(world: &mut W, id: u64, bytes: &[u8]) -> Result<(), StreamFault>
-    requires { IsTrue (W.is_open world.old id) }
-    ensures open { SameOpen (W.is_open world.old) (W.is_open world.new) }
+    requires { IsTrue ((W.state world.old).is_open id) }
+    ensures open { SameOpen (W.state world.old) (W.state world.new) }
     ensures fault { IfErr result IsOutputFault }
-    ensures told { W.tells → WritesAll id bytes.now (W.log world.old) (W.mark world.old) result (W.log world.new) (W.mark world.new) }
+    ensures told { W.is_logged → WritesAll id bytes.now (W.state world.old) result (W.state world.new) }
 {
     let mut done = 0;
     while done < bytes.len() {
@@ -44,19 +44,19 @@ pub fn write_all<W: World>(world: &mut W, id: u64, bytes: &[u8]) -> Result<(), S
 /// flushes nothing. Fails with `Memory` (F1) or `WriteFailed` (F2); then a
 /// beginning of them was written. (POSIX awk, STDERR)
 pub fn print_error<W: World>(world: &mut W, bytes: &[u8]) -> Result<(), StreamFault>
-    ensures open { SameOpen (W.is_open world.old) (W.is_open world.new) }
+    ensures open { SameOpen (W.state world.old) (W.state world.new) }
     ensures fault { IfErr result IsOutputFault }
-    ensures told { W.tells → WritesAll 1 bytes.now (W.log world.old) (W.mark world.old) result (W.log world.new) (W.mark world.new) }
+    ensures told { W.is_logged → WritesAll 1 bytes.now (W.state world.old) result (W.state world.new) }
 {
     write_all(world, STANDARD_ERROR, bytes)
 }
 
 // Flushes an output.
 pub fn flush<W: World>(world: &mut W, id: u64) -> Result<(), StreamFault>
-    requires { IsTrue (W.is_open world.old id) }
-    ensures open { SameOpen (W.is_open world.old) (W.is_open world.new) }
+    requires { IsTrue ((W.state world.old).is_open id) }
+    ensures open { SameOpen (W.state world.old) (W.state world.new) }
     ensures fault { IfErr result IsOutputFault }
-    ensures told { W.tells → Flushes id (W.log world.old) (W.mark world.old) result (W.log world.new) (W.mark world.new) }
+    ensures told { W.is_logged → Flushes id (W.state world.old) result (W.state world.new) }
 {
     match world.flush(id) {
         Ok(()) => Ok(()),

@@ -1,7 +1,7 @@
 // A world in memory that follows a list of answers and stores its log.
 ghost use Rattle.std.specs.Prelude.{◌≡◌, ◌≤◌, ◌<◌, ◌+◌, ◌∷◌, ◌++◌, [], vec_len, vec_capacity, OnOk, OnErr, Some, None, IsTrue, IfOk, IfSome, Err, length, slice_get, pos};
-ghost use Rattle.awk_streams.specs.Ids.{IsFresh, Opens, Closes, SameOpen};
-ghost use Rattle.awk_streams.specs.Log.{Event, marked, logged, input_opening, output_opening, reading};
+ghost use Rattle.awk_streams.specs.WorldState.{IsFresh, Opens, Closes, SameOpen};
+ghost use Rattle.awk_streams.specs.Log.{Event, failure_after, logged, input_opening, reading};
 ghost use Rattle.awk_streams.specs.Writes.{received, received_after};
 ghost use Rattle.awk_streams.specs.Script.{event_of, events, is_open_in, open_at, open_count, standard_outputs_open};
 
@@ -45,7 +45,7 @@ pub struct ScriptWorld {
     streams: Vec<Stream>,
     still_open: usize,
     log: Vec<Entry>,
-    mark: Option<usize>,
+    first_failure: Option<usize>,
     // Room for the closing of each open stream.
     ghost room: { vec_len log + still_open ≤ vec_capacity log },
     ghost counted: { still_open ≡ open_count streams.items },
@@ -101,8 +101,8 @@ fn answer_for(answers: &[Answer], kind: InputKind, name: &[u8]) -> Option<usize>
 impl ScriptWorld {
     /// A world of these answers, in which nothing was done. Takes no memory.
     pub fn new(alloc: Global, answers: Vec<Answer>) -> Self
-        ensures log { ⟦<ScriptWorld as World>⟧.log result ≡ [] }
-        ensures mark { ⟦<ScriptWorld as World>⟧.mark result ≡ None }
+        ensures log { (⟦<ScriptWorld as World>⟧.state result).log ≡ [] }
+        ensures first_failure { (⟦<ScriptWorld as World>⟧.state result).first_failure ≡ None }
     {
         ScriptWorld {
             alloc,
@@ -110,13 +110,13 @@ impl ScriptWorld {
             streams: Vec::new(alloc),
             still_open: 0,
             log: Vec::new(alloc),
-            mark: None,
+            first_failure: None,
         }
     }
 
     /// What was done, the oldest first.
     pub fn entries(&self) -> &[Entry]
-        ensures { ⟦<ScriptWorld as World>⟧.log self.now ≡ events result.now }
+        ensures { (⟦<ScriptWorld as World>⟧.state self.now).log ≡ events result.now }
     {
         self.log.as_slice()
     }
@@ -124,7 +124,7 @@ impl ScriptWorld {
     /// The bytes that an output has received since it was opened. Fails only where memory is
     /// refused.
     pub fn received(&self, output: u64) -> Result<Vec<u8>, AllocError>
-        ensures { IfOk result (λ bytes. bytes.items ≡ received output (⟦<ScriptWorld as World>⟧.log self.now)) }
+        ensures { IfOk result (λ bytes. bytes.items ≡ received output (⟦<ScriptWorld as World>⟧.state self.now).log) }
     {
         let mut bytes = Vec::new(self.alloc);
         for entry in &self.log {
@@ -137,7 +137,7 @@ impl ScriptWorld {
     fn take_answer(&mut self, kind: InputKind, name: &[u8]) -> Option<Stream>
         ensures open { IfSome result (λ stream. IsTrue stream.open) }
         ensures log { self.new.log ≡ self.old.log }
-        ensures mark { self.new.mark ≡ self.old.mark }
+        ensures first_failure { self.new.first_failure ≡ self.old.first_failure }
         ensures count { self.new.still_open ≡ self.old.still_open }
         ensures streams { self.new.streams ≡ self.old.streams }
     {
@@ -166,14 +166,14 @@ impl ScriptWorld {
         })
     }
 
-    // Sets the mark unless it is set.
-    fn note_want(&mut self)
-        ensures mark { self.new.mark ≡ marked None (events self.old.log.items) self.old.mark }
+    // A failure, unless there was one before.
+    fn note_failure(&mut self)
+        ensures first_failure { self.new.first_failure ≡ failure_after None (events self.old.log.items) self.old.first_failure }
         ensures log { self.new.log.items ≡ self.old.log.items }
         ensures streams { self.new.streams.items ≡ self.old.streams.items }
     {
-        if self.mark.is_none() {
-            self.mark = Some(self.log.len());
+        if self.first_failure.is_none() {
+            self.first_failure = Some(self.log.len());
         }
     }
 
@@ -185,11 +185,11 @@ impl ScriptWorld {
     ) -> Result<Result<u64, WorldFault>, AllocError>
         ensures log { IfOk result (λ r. events self.new.log.items ≡ logged (input_opening kind name.now r) (events self.old.log.items)) }
         ensures not_memory { IfOk result (λ r. r ≡ Err WorldFault.Memory → ⊥) }
-        ensures fresh { IfOk result (λ r. IfOk r (IsFresh (is_open_in self.old.streams.items))) }
-        ensures opens { IfOk result (λ r. IfOk r (Opens (is_open_in self.old.streams.items) (is_open_in self.new.streams.items))) }
+        ensures fresh { IfOk result (λ r. IfOk r (IsFresh (⟦<ScriptWorld as World>⟧.state self.old))) }
+        ensures opens { IfOk result (λ r. IfOk r (Opens (⟦<ScriptWorld as World>⟧.state self.old) (⟦<ScriptWorld as World>⟧.state self.new))) }
         ensures refused { IfOk result (λ r. OnErr r (self.new.streams.items ≡ self.old.streams.items)) }
         ensures err { OnErr result ((self.new.log.items ≡ self.old.log.items) × (self.new.streams.items ≡ self.old.streams.items)) }
-        ensures mark { self.new.mark ≡ self.old.mark }
+        ensures first_failure { self.new.first_failure ≡ self.old.first_failure }
     {
         let name_copy = name.to_vec(self.alloc)?;
         let still_open = self.still_open.checked_add(1).ok_or(AllocError)?;
@@ -224,9 +224,9 @@ impl ScriptWorld {
         ensures log { IfOk result (λ r. events self.new.log.items ≡ logged (reading id r into.new) (events self.old.log.items)) }
         ensures not_memory { IfOk result (λ r. r ≡ Err WorldFault.Memory → ⊥) }
         ensures count { IfOk result (λ r. IfOk r (λ n. n ≤ length into.old)) }
-        ensures open { SameOpen (is_open_in self.old.streams.items) (is_open_in self.new.streams.items) }
+        ensures open { SameOpen (⟦<ScriptWorld as World>⟧.state self.old) (⟦<ScriptWorld as World>⟧.state self.new) }
         ensures err { OnErr result (self.new.log.items ≡ self.old.log.items) }
-        ensures mark { self.new.mark ≡ self.old.mark }
+        ensures first_failure { self.new.first_failure ≡ self.old.first_failure }
     {
         let Some(place) = place_of(&self.streams, id) else {
             add_entry(&mut self.log, self.still_open, Entry::Broke(id))?;
@@ -257,7 +257,7 @@ impl ScriptWorld {
         ensures log { OnOk result (events self.new.log.items ≡ Event.OpenedOutput kind name.now mode None ∷ events self.old.log.items) }
         ensures err { OnErr result (self.new.log.items ≡ self.old.log.items) }
         ensures streams { self.new.streams.items ≡ self.old.streams.items }
-        ensures mark { self.new.mark ≡ self.old.mark }
+        ensures first_failure { self.new.first_failure ≡ self.old.first_failure }
     {
         let copy = name.to_vec(self.alloc)?;
         add_entry(
@@ -271,7 +271,7 @@ impl ScriptWorld {
         ensures log { OnOk result (events self.new.log.items ≡ Event.Wrote id bytes.now ∷ events self.old.log.items) }
         ensures err { OnErr result (self.new.log.items ≡ self.old.log.items) }
         ensures streams { self.new.streams.items ≡ self.old.streams.items }
-        ensures mark { self.new.mark ≡ self.old.mark }
+        ensures first_failure { self.new.first_failure ≡ self.old.first_failure }
     {
         let copy = bytes.to_vec(self.alloc)?;
         add_entry(&mut self.log, self.still_open, Entry::Wrote(id, copy))
@@ -281,7 +281,7 @@ impl ScriptWorld {
         ensures log { OnOk result (events self.new.log.items ≡ Event.Ran command.now (pos 0) ∷ events self.old.log.items) }
         ensures err { OnErr result (self.new.log.items ≡ self.old.log.items) }
         ensures streams { self.new.streams.items ≡ self.old.streams.items }
-        ensures mark { self.new.mark ≡ self.old.mark }
+        ensures first_failure { self.new.first_failure ≡ self.old.first_failure }
     {
         let copy = command.to_vec(self.alloc)?;
         add_entry(&mut self.log, self.still_open, Entry::Ran(copy, 0))
@@ -291,8 +291,8 @@ impl ScriptWorld {
     fn note_closing(&mut self, place: usize)
         requires { IsTrue (open_at (slice_get self.old.streams.items place)) }
         ensures log { events self.new.log.items ≡ Event.Closed (place + 2) (pos 0) ∷ events self.old.log.items }
-        ensures closes { Closes (is_open_in self.old.streams.items) (is_open_in self.new.streams.items) (place + 2) }
-        ensures mark { self.new.mark ≡ self.old.mark }
+        ensures closes { Closes (⟦<ScriptWorld as World>⟧.state self.old) (⟦<ScriptWorld as World>⟧.state self.new) (place + 2) }
+        ensures first_failure { self.new.first_failure ≡ self.old.first_failure }
     {
         shut(&mut self.streams, place);
         let _pushed = self.log.push(Entry::Closed(place as u64 + 2, 0));
@@ -301,13 +301,9 @@ impl ScriptWorld {
 }
 
 impl World for ScriptWorld {
-    ghost tells = { Unit {0} };
+    ghost is_logged = { Unit {0} };
 
-    ghost log = { λ w. events w.log.items };
-
-    ghost mark = { λ w. w.mark };
-
-    ghost is_open = { λ w. is_open_in w.streams.items };
+    ghost state = { λ w. record { is_open = is_open_in w.streams.items; log = events w.log.items; first_failure = w.first_failure } };
 
     ghost standard_open = { λ w id h. standard_outputs_open w.streams.items id h };
 
@@ -315,7 +311,7 @@ impl World for ScriptWorld {
         match self.try_open_input(kind, name) {
             Ok(outcome) => outcome,
             Err(_) => {
-                self.note_want();
+                self.note_failure();
                 Err(WorldFault::Memory)
             }
         }
@@ -325,7 +321,7 @@ impl World for ScriptWorld {
         match self.try_read(id, into) {
             Ok(outcome) => outcome,
             Err(_) => {
-                self.note_want();
+                self.note_failure();
                 Err(WorldFault::Memory)
             }
         }
@@ -340,7 +336,7 @@ impl World for ScriptWorld {
         match self.try_open_output(kind, name, mode) {
             Ok(()) => Err(WorldFault::Failed),
             Err(_) => {
-                self.note_want();
+                self.note_failure();
                 Err(WorldFault::Memory)
             }
         }
@@ -350,7 +346,7 @@ impl World for ScriptWorld {
         match self.try_write(id, bytes) {
             Ok(()) => Ok(bytes.len()),
             Err(_) => {
-                self.note_want();
+                self.note_failure();
                 Err(WorldFault::Memory)
             }
         }
@@ -360,7 +356,7 @@ impl World for ScriptWorld {
         match add_entry(&mut self.log, self.still_open, Entry::Flushed(id)) {
             Ok(()) => Ok(()),
             Err(_) => {
-                self.note_want();
+                self.note_failure();
                 Err(WorldFault::Memory)
             }
         }
@@ -375,7 +371,7 @@ impl World for ScriptWorld {
         match self.try_run(command) {
             Ok(()) => Ok(0),
             Err(_) => {
-                self.note_want();
+                self.note_failure();
                 Err(WorldFault::Memory)
             }
         }

@@ -1,8 +1,7 @@
 // The streams of a world in memory. A stream's number is its place plus two, behind the standard
 // outputs; a closed one keeps its place, so that no number is granted twice.
-ghost use Rattle.std.specs.Prelude.{◌≡◌, ◌≤◌, ◌<◌, ◌+◌, ◌-◌, ◌^◌, ◌⊎◌, min, take, drop, slice_index_or, IsNone, vec_len, vec_capacity, OnOk, OnErr, IsTrue, IsOk, IfSome, length, slice_get};
+ghost use Rattle.std.specs.Prelude.{◌≡◌, ◌≤◌, ◌<◌, ◌+◌, ◌-◌, ◌^◌, ◌⊎◌, ◌==◌, if◌then◌else◌, true, false, ℕ, min, take, drop, slice_index_or, IsNone, vec_len, vec_capacity, OnOk, OnErr, IsTrue, IsOk, IfSome, length, slice_get};
 ghost use Rattle.awk_streams.specs.declared.stream.Stream.{Stream as StreamValue};
-ghost use Rattle.awk_streams.specs.Ids.{IsFresh, Opens, Closes, SameOpen};
 ghost use Rattle.awk_streams.specs.Script.{is_open_in, open_at, open_count};
 
 use std::alloc::AllocError;
@@ -45,7 +44,7 @@ pub fn place_of(streams: &Vec<Stream>, id: u64) -> Option<usize>
 pub fn advance(streams: &mut Vec<Stream>, place: usize, count: usize)
     requires { place < vec_len streams.old }
     ensures at { (d : StreamValue) → let at = (slice_index_or streams.old.items place d).at in at + count < 2 ^ 64 → (slice_index_or streams.new.items place d).at ≡ at + count }
-    ensures open { SameOpen (is_open_in streams.old.items) (is_open_in streams.new.items) }
+    ensures open { (j : ℕ) → is_open_in streams.new.items j ≡ is_open_in streams.old.items j }
     ensures count { open_count streams.new.items ≡ open_count streams.old.items }
 {
     let stream = &mut streams[place];
@@ -54,7 +53,7 @@ pub fn advance(streams: &mut Vec<Stream>, place: usize, count: usize)
 
 pub fn shut(streams: &mut Vec<Stream>, place: usize)
     requires { IsTrue (open_at (slice_get streams.old.items place)) }
-    ensures closes { Closes (is_open_in streams.old.items) (is_open_in streams.new.items) (place + 2) }
+    ensures closes { (j : ℕ) → is_open_in streams.new.items j ≡ (if j == place + 2 then false else is_open_in streams.old.items j) }
     ensures count { open_count streams.new.items + 1 ≡ open_count streams.old.items }
 {
     let stream = &mut streams[place];
@@ -63,9 +62,9 @@ pub fn shut(streams: &mut Vec<Stream>, place: usize)
 
 pub fn add(streams: &mut Vec<Stream>, stream: Stream) -> Result<(), AllocError>
     requires { IsTrue stream.open }
-    ensures ok { OnOk result (Opens (is_open_in streams.old.items) (is_open_in streams.new.items) (vec_len streams.old + 2)) }
+    ensures ok { OnOk result ((j : ℕ) → is_open_in streams.new.items j ≡ (if j == vec_len streams.old + 2 then true else is_open_in streams.old.items j)) }
     ensures err { OnErr result (streams.new.items ≡ streams.old.items) }
-    ensures fresh { IsFresh (is_open_in streams.old.items) (vec_len streams.old + 2) }
+    ensures fresh { is_open_in streams.old.items (vec_len streams.old + 2) ≡ false }
     ensures count { OnOk result (open_count streams.new.items ≡ open_count streams.old.items + 1) }
     ensures succeeds { vec_len streams.old < vec_capacity streams.old → IsOk result }
 {

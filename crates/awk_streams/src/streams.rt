@@ -1,6 +1,6 @@
 // The streams of a run: its main input and its standard outputs.
 ghost use Rattle.std.specs.Prelude.{◌≡◌, ◌≢◌, ◌⊎◌, ℕ, ℤ, [], Some, None, is_some, IsTrue, OnOk, OnErr, IfErr, Ok, Err};
-ghost use Rattle.awk_streams.specs.Ids.{SameOpen};
+ghost use Rattle.awk_streams.specs.WorldState.{SameOpen};
 ghost use Rattle.awk_streams.specs.Outputs.{IsOutputFault};
 ghost use Rattle.awk_streams.specs.Streams.{AreOpen, IsSoundMain, StandsAsMain, IsOpenMain, view_of, main_of, IsFreshMain, IsSameMain, ClosesMain, closed_main, OpensMain, AsksMain, Prints, EndsMain, Finishes};
 ghost use Rattle.awk_streams.specs.Told.{IsToldAs};
@@ -41,12 +41,12 @@ fn next_of<W: World>(
     world: &mut W,
     separator: &[u8],
 ) -> Result<Option<Bytes>, StreamFault>
-    requires { IsTrue (W.is_open world.old input.old.id) }
+    requires { IsTrue ((W.state world.old).is_open input.old.id) }
     ensures same { input.new.id ≡ input.old.id }
-    ensures open { SameOpen (W.is_open world.old) (W.is_open world.new) }
+    ensures open { SameOpen (W.state world.old) (W.state world.new) }
     ensures fault { result ≢ Err StreamFault.WriteFailed }
-    ensures told { W.tells → StandsAsMain (W.log world.old) (view_of input.old) →
-        AsksMain separator.now (W.is_open world.old) (W.log world.old) (W.mark world.old) (record { main = Some (view_of input.old) }) result (W.is_open world.new) (W.log world.new) (W.mark world.new) (record { main = Some (view_of input.new) }) }
+    ensures told { W.is_logged → StandsAsMain (W.state world.old).log (view_of input.old) →
+        AsksMain separator.now (W.state world.old) (record { main = Some (view_of input.old) }) result (W.state world.new) (record { main = Some (view_of input.new) }) }
 {
     let mut chunk = [0u8; CHUNK];
     told(next_from(world, input.id, &mut input.buffer, separator, &mut chunk))
@@ -54,10 +54,10 @@ fn next_of<W: World>(
 
 // Closes the input, if there is one.
 fn close<W: World>(world: &mut W, input: Option<Input>)
-    requires { IsOpenMain (W.is_open world.old) (main_of input) }
-    ensures open { ClosesMain (W.is_open world.old) (W.is_open world.new) (main_of input) }
-    ensures log { W.tells → (answer : ℤ) × (W.log world.new ≡ closed_main (main_of input) answer (W.log world.old)) }
-    ensures mark { W.tells → W.mark world.new ≡ W.mark world.old }
+    requires { IsOpenMain (W.state world.old) (main_of input) }
+    ensures open { ClosesMain (W.state world.old) (W.state world.new) (main_of input) }
+    ensures log { W.is_logged → (answer : ℤ) × ((W.state world.new).log ≡ closed_main (main_of input) answer (W.state world.old).log) }
+    ensures no_failure { W.is_logged → (W.state world.new).first_failure ≡ (W.state world.old).first_failure }
 {
     if let Some(input) = input {
         world.close(input.id);
@@ -110,8 +110,8 @@ impl Streams {
         ensures opened { OnOk result (IsFreshMain self.new.main) }
         ensures err { OnErr result (self.new ≡ self.old) }
         ensures fault { IfErr result (λ e. (e ≡ StreamFault.Memory) ⊎ (e ≡ StreamFault.InputNotReadable)) }
-        ensures open { AreOpen (W.is_open world.new) self.new }
-        ensures told { W.tells → OpensMain kind name.now (W.is_open world.old) (W.log world.old) (W.mark world.old) self.old result (W.is_open world.new) (W.log world.new) (W.mark world.new) self.new }
+        ensures open { AreOpen (W.state world.new) self.new }
+        ensures told { W.is_logged → OpensMain kind name.now (W.state world.old) self.old result (W.state world.new) self.new }
     {
         match world.open_input(kind, name) {
             Ok(id) => {
@@ -134,13 +134,13 @@ impl Streams {
         separator: &[u8],
     ) -> Result<Option<Bytes>, StreamFault>
         requires main { IsTrue (is_some self.old.main) }
-        requires open { AreOpen (W.is_open world.old) self.old }
-        requires sound { W.tells → IsSoundMain (W.log world.old) self.old.main }
+        requires open { AreOpen (W.state world.old) self.old }
+        requires sound { W.is_logged → IsSoundMain (W.state world.old).log self.old.main }
         ensures main { IsTrue (is_some self.new.main) }
         ensures same { IsSameMain self.old.main self.new.main }
-        ensures open { AreOpen (W.is_open world.new) self.new }
+        ensures open { AreOpen (W.state world.new) self.new }
         ensures fault { result ≢ Err StreamFault.WriteFailed }
-        ensures told { W.tells → AsksMain separator.now (W.is_open world.old) (W.log world.old) (W.mark world.old) self.old result (W.is_open world.new) (W.log world.new) (W.mark world.new) self.new }
+        ensures told { W.is_logged → AsksMain separator.now (W.state world.old) self.old result (W.state world.new) self.new }
     {
         match &mut self.main {
             Some(input) => next_of(input, world, separator),
@@ -150,12 +150,12 @@ impl Streams {
 
     /// Ends the main input: closes it, if one is open. Takes no memory. (POSIX awk, INPUT FILES)
     pub fn close_main<W: World>(&mut self, world: &mut W)
-        requires open { AreOpen (W.is_open world.old) self.old }
-        requires sound { W.tells → IsSoundMain (W.log world.old) self.old.main }
+        requires open { AreOpen (W.state world.old) self.old }
+        requires sound { W.is_logged → IsSoundMain (W.state world.old).log self.old.main }
         ensures none { self.new.main ≡ None }
-        ensures open { AreOpen (W.is_open world.new) self.new }
-        ensures closes { ClosesMain (W.is_open world.old) (W.is_open world.new) self.old.main }
-        ensures told { W.tells → EndsMain (W.is_open world.old) (W.log world.old) (W.mark world.old) self.old (W.is_open world.new) (W.log world.new) (W.mark world.new) self.new }
+        ensures open { AreOpen (W.state world.new) self.new }
+        ensures closes { ClosesMain (W.state world.old) (W.state world.new) self.old.main }
+        ensures told { W.is_logged → EndsMain (W.state world.old) self.old (W.state world.new) self.new }
     {
         let input = self.main.take();
         close(world, input);
@@ -165,9 +165,9 @@ impl Streams {
     /// beginning of them was written. (POSIX awk, STDOUT)
     pub fn print<W: World>(&mut self, world: &mut W, bytes: &[u8]) -> Result<(), StreamFault>
         ensures same { self.new ≡ self.old }
-        ensures open { AreOpen (W.is_open world.old) self.old → AreOpen (W.is_open world.new) self.new }
+        ensures open { AreOpen (W.state world.old) self.old → AreOpen (W.state world.new) self.new }
         ensures fault { IfErr result IsOutputFault }
-        ensures told { W.tells → Prints bytes.now (W.is_open world.old) (W.log world.old) (W.mark world.old) self.old result (W.is_open world.new) (W.log world.new) (W.mark world.new) self.new }
+        ensures told { W.is_logged → Prints bytes.now (W.state world.old) self.old result (W.state world.new) self.new }
     {
         write_all(world, STANDARD_OUTPUT, bytes)
     }
@@ -176,11 +176,11 @@ impl Streams {
     /// closes the main input. The first failure is answered, `Memory` (F1) or `WriteFailed` (F2).
     /// Takes no memory of its own.
     pub fn finish<W: World>(&mut self, world: &mut W) -> Result<(), StreamFault>
-        requires { AreOpen (W.is_open world.old) self.old }
+        requires { AreOpen (W.state world.old) self.old }
         ensures none { self.new.main ≡ None }
-        ensures open { AreOpen (W.is_open world.new) self.new }
+        ensures open { AreOpen (W.state world.new) self.new }
         ensures fault { IfErr result IsOutputFault }
-        ensures told { W.tells → Finishes (W.is_open world.old) (W.log world.old) (W.mark world.old) self.old result (W.is_open world.new) (W.log world.new) (W.mark world.new) self.new }
+        ensures told { W.is_logged → Finishes (W.state world.old) self.old result (W.state world.new) self.new }
     {
         let output = flush(world, STANDARD_OUTPUT);
         let error = flush(world, STANDARD_ERROR);

@@ -6,7 +6,7 @@ ghost use Rattle.awk_streams.specs.Streams.{AreOpen, AreSound};
 
 use crate::{
     Answer, Entry, InputKind, Mode, OutputKind, ScriptWorld, StreamFault, Streams, World,
-    WorldFault, agrees_with_less, print_error, some_answers_agree,
+    WorldFault, is_consistent_with_less, print_error, some_oracle_is_consistent,
 };
 use std::alloc::Global;
 use std::test::Fail;
@@ -19,9 +19,9 @@ fn copy_records<W: World>(
     most: u64,
 ) -> Result<(), StreamFault>
     requires main { IsTrue (is_some streams.old.main) }
-    requires open { AreOpen (W.is_open world.old) streams.old }
-    requires sound { W.tells → AreSound (W.is_open world.old) (W.log world.old) streams.old }
-    ensures open { AreOpen (W.is_open world.new) streams.new }
+    requires open { AreOpen (W.state world.old) streams.old }
+    requires sound { W.is_logged → AreSound (W.state world.old) streams.old }
+    ensures open { AreOpen (W.state world.new) streams.new }
 {
     for _ in 0..most {
         let Some(record) = streams.next_main(world, separator)? else {
@@ -39,7 +39,7 @@ fn copy_standard_input(
     alloc: Global,
     separator: &[u8],
 ) -> Result<(), StreamFault>
-    requires { ⟦<ScriptWorld as World>⟧.log world.old ≡ [] }
+    requires { (⟦<ScriptWorld as World>⟧.state world.old).log ≡ [] }
 {
     let mut streams = Streams::new(alloc);
     streams.open_main(world, InputKind::Standard, b"")?;
@@ -53,7 +53,7 @@ fn standard_input(
     refused: bool,
     breaks: bool,
 ) -> Result<ScriptWorld, Fail>
-    ensures { IfOk result (λ world. ⟦<ScriptWorld as World>⟧.log world ≡ []) }
+    ensures { IfOk result (λ world. (⟦<ScriptWorld as World>⟧.state world).log ≡ []) }
 {
     let mut answers = Vec::new(alloc);
     answers.push(Answer {
@@ -78,13 +78,9 @@ struct Failing {
 }
 
 impl World for Failing {
-    ghost tells = { ⊥ };
+    ghost is_logged = { ⊥ };
 
-    ghost log = { λ _. [] };
-
-    ghost mark = { λ _. None };
-
-    ghost is_open = { λ w id. nat_lt id 2 || (w.input && (id == 2)) };
+    ghost state = { λ w. record { is_open = λ id. nat_lt id 2 || (w.input && (id == 2)); log = []; first_failure = None } };
 
     ghost standard_open = { λ w id below. ap (λ b. b || (w.input && (id == 2))) (lt-ltb id 2 below) };
 
@@ -303,8 +299,8 @@ fn a_run_ends_as_its_input_does(rt: HostRuntime) -> Result<(), Fail> {
 #[test]
 fn a_world_answers_what_no_answer_is_listed_for(rt: HostRuntime) -> Result<(), Fail> {
     let alloc = rt.alloc();
-    some_answers_agree();
-    agrees_with_less();
+    some_oracle_is_consistent();
+    is_consistent_with_less();
     let mut world = ScriptWorld::new(alloc, Vec::new(alloc));
     assert_eq!(rt;
         world.open_input(InputKind::File, b"f"),

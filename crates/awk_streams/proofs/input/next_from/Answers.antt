@@ -20,7 +20,7 @@ loop-step-preserved g c = record {
       let event = c.in_ok-read_more.ensures.read t in
       Reaches-more c.args.id c.args.separator.now c.args.buffer.now c.loop-step.buffer c.read_more.new.buffer _ _ _ event.0
       (c.loop-step.invariant.reaches t) waits.0 waits.1 event.1 (subst (λ (p : Pending). Brings c.args.id event.0 p c.read_more.new.buffer) same event.2);
-  unmarked = λ t. c.in_ok-read_more.ensures.unmarked t ∙ c.loop-step.invariant.unmarked t;
+  no_failure = λ t. c.in_ok-read_more.ensures.no_failure t ∙ c.loop-step.invariant.no_failure t;
 }
 
 pub returns-then-not-is_need_more-clause-pulls : goal.returns-then-not-is_need_more-clause-pulls
@@ -39,13 +39,13 @@ returns-in_err-step-clause-fault g c = λ bad.
 pub returns-in_err-step-clause-pulls : goal.returns-in_err-step-clause-pulls
 returns-in_err-step-clause-pulls g c = λ t.
     let is : c.from_residual.result ≡ Err c.in_err-step.field-0.0 = search rules in
-    let here : Pulls c.args.id c.args.separator.now c.args.buffer.now (g.W.World.log c.args.world.now) (Err c.in_err-step.field-0.0) c.next.new.self (g.W.World.log c.loop-step.world) = record {
+    let here : Pulls c.args.id c.args.separator.now c.args.buffer.now (g.W.World.state c.args.world.now).log (Err c.in_err-step.field-0.0) c.next.new.self (g.W.World.state c.loop-step.world).log = record {
       seen = c.loop-step.buffer;
       reads = c.loop-step.invariant.reaches t;
       ending = λ none. step_ending c.args.separator.now _ c.loop-step.buffer c.next.new.self c.in_err-step.ensures.steps c.in_err-step.ensures.memory none;
       steps = c.in_err-step.ensures.steps;
     } in
-    subst (λ (r : Result Step RecordFault). Pulls c.args.id c.args.separator.now c.args.buffer.now (g.W.World.log c.args.world.now) r c.next.new.self (g.W.World.log c.loop-step.world)) (sym is) here
+    subst (λ (r : Result Step RecordFault). Pulls c.args.id c.args.separator.now c.args.buffer.now (g.W.World.state c.args.world.now).log r c.next.new.self (g.W.World.state c.loop-step.world).log) (sym is) here
 
 pub returns-in_err-read_more-clause-pulls : goal.returns-in_err-read_more-clause-pulls
 returns-in_err-read_more-clause-pulls g c = λ t.

@@ -1,18 +1,18 @@
 use Rattle.std.proofs.Common.{◌≡◌, ◌<◌, length}
-use Rattle.awk_streams.specs.Ids.{SameOpen}
+use Rattle.awk_streams.specs.WorldState.{SameOpen}
 use Rattle.awk_streams.specs.Inputs.{Reaches, room_of}
 use Rattle.awk_streams.proofs.input.next_from.Given as goal
 
-pub record SoFar (same room reached marked : Type 0) : Type 0 where
+pub record SoFar (same room reached failed : Type 0) : Type 0 where
   pub same_open : same
   pub has_room : room
   pub reaches : reached
-  pub unmarked : marked
+  pub no_failure : failed
 
 abbrev pub invariant-loop-step : goal.invariant-loop-step
-invariant-loop-step g l = let w = g.W.World in SoFar (SameOpen (w.is_open l.fn.world) (w.is_open l.world)) (0 < length l.chunk)
-    (w.tells → Reaches l.id l.separator l.fn.buffer (w.log l.fn.world) l.buffer (w.log l.world))
-    (w.tells → w.mark l.world ≡ w.mark l.fn.world)
+invariant-loop-step g l = let w = g.W.World in SoFar (SameOpen (w.state l.fn.world) (w.state l.world)) (0 < length l.chunk)
+    (w.is_logged → Reaches l.id l.separator l.fn.buffer (w.state l.fn.world).log l.buffer (w.state l.world).log)
+    (w.is_logged → (w.state l.world).first_failure ≡ (w.state l.fn.world).first_failure)
 
 abbrev pub decreases-loop-step : goal.decreases-loop-step
 decreases-loop-step g l = room_of l.buffer.ending (length l.buffer.bytes)

@@ -9,4 +9,4 @@ pub record Ready (input opened told : Type 0) : Type 0 where
   pub sound : told
 
 abbrev pub invariant-loop : goal.invariant-loop
-invariant-loop g l = let w = g.W.World in Ready (IsTrue (is_some l.streams.main)) (AreOpen (w.is_open l.world) l.streams) (w.tells → AreSound (w.is_open l.world) (w.log l.world) l.streams)
+invariant-loop g l = let w = g.W.World in Ready (IsTrue (is_some l.streams.main)) (AreOpen (w.state l.world) l.streams) (w.is_logged → AreSound (w.state l.world) l.streams)

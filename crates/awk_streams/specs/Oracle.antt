@@ -1,4 +1,4 @@
--- What the outside answers to a run, and when a log agrees with it. All logs have the newest event first.
+-- What the outside of a run would answer, and which logs are consistent with that. All logs have the newest event first.
 use Rattle.std.specs.Prelude.{◌≡◌, ◌+◌, ℕ, ℤ, Bool, true, false, ◌&&◌, ◌==◌, if◌then◌else◌, List, [], ◌∷◌, ◌++◌, Option, Some, None, bytes_eq}
 use Rattle.awk_streams.specs.declared.world.InputKind.{InputKind}
 use Rattle.awk_streams.specs.declared.world.InputKind.TheVariants.{Standard, File, Command}
@@ -14,7 +14,7 @@ pub record Source : Type 0 where
 
 -- To the k-th opening of an input of a kind and name: what it gives, or that it is refused; to that of an output: whether it is granted;
 -- to the k-th closing of a command and to the k-th run of one: its number. Each k is counted from 0.
-pub record Answers : Type 0 where
+pub record Oracle : Type 0 where
   pub input : InputKind → List ℕ → ℕ → Option Source
   pub output : OutputKind → List ℕ → ℕ → Bool
   pub closing : ℕ → ℤ
@@ -104,30 +104,30 @@ reading_of id (Broke i ∷ older) = if i == id then over (reading_of id older) e
 reading_of id (Closed i n ∷ older) = if i == id then None else reading_of id older
 reading_of id (e ∷ older) = reading_of id older
 
--- the answers give what was read before, then these bytes, and then any more
-abbrev pub Gives : Answers → Option Reading → List ℕ → Type 0
+-- the oracle gives what was read before, then these bytes, and then any more
+abbrev pub Gives : Oracle → Option Reading → List ℕ → Type 0
 Gives a None bs = ⊥
 Gives a (Some r) bs = (s : Source) × (a.input r.kind r.name r.count ≡ Some s) × ((more : List ℕ) × (s.bytes ≡ (r.bytes ++ bs) ++ more))
 
--- the answers give just what was read before, and this ending
-abbrev pub EndsWith : Answers → Option Reading → Ending → Type 0
+-- the oracle gives just what was read before, and this ending
+abbrev pub EndsWith : Oracle → Option Reading → Ending → Type 0
 EndsWith a None ending = ⊥
 EndsWith a (Some r) ending = (s : Source) × (a.input r.kind r.name r.count ≡ Some s) × (s.bytes ≡ r.bytes) × (s.ending ≡ ending)
 
--- an event is what the answers give after the older ones; what is written, and what a file's closing gives, is no answer of the outside
-abbrev pub AgreesAt : Answers → Event → List Event → Type 0
-AgreesAt a (OpenedInput kind name (Some id)) older = (s : Source) × (a.input kind name (how_many (opens_input kind name) older) ≡ Some s)
-AgreesAt a (OpenedInput kind name None) older = a.input kind name (how_many (opens_input kind name) older) ≡ None
-AgreesAt a (OpenedOutput kind name mode (Some id)) older = a.output kind name (how_many (opens_output kind name) older) ≡ true
-AgreesAt a (OpenedOutput kind name mode None) older = a.output kind name (how_many (opens_output kind name) older) ≡ false
-AgreesAt a (Read id bs) older = Gives a (reading_of id older) bs
-AgreesAt a (Ended id) older = EndsWith a (reading_of id older) AtEnd
-AgreesAt a (Broke id) older = EndsWith a (reading_of id older) AtBreak
-AgreesAt a (Closed id n) older = is_command (standing id older) ≡ true → a.closing (how_many closes_command older) ≡ n
-AgreesAt a (Ran command n) older = a.running (how_many runs older) ≡ n
-AgreesAt a (Wrote id bs) older = Unit {0}
-AgreesAt a (Flushed id) older = Unit {0}
+-- an event is what the oracle gives after the older ones; what is written, and what a file's closing gives, is no answer of the outside
+abbrev pub IsConsistentAt : Oracle → Event → List Event → Type 0
+IsConsistentAt a (OpenedInput kind name (Some id)) older = (s : Source) × (a.input kind name (how_many (opens_input kind name) older) ≡ Some s)
+IsConsistentAt a (OpenedInput kind name None) older = a.input kind name (how_many (opens_input kind name) older) ≡ None
+IsConsistentAt a (OpenedOutput kind name mode (Some id)) older = a.output kind name (how_many (opens_output kind name) older) ≡ true
+IsConsistentAt a (OpenedOutput kind name mode None) older = a.output kind name (how_many (opens_output kind name) older) ≡ false
+IsConsistentAt a (Read id bs) older = Gives a (reading_of id older) bs
+IsConsistentAt a (Ended id) older = EndsWith a (reading_of id older) AtEnd
+IsConsistentAt a (Broke id) older = EndsWith a (reading_of id older) AtBreak
+IsConsistentAt a (Closed id n) older = is_command (standing id older) ≡ true → a.closing (how_many closes_command older) ≡ n
+IsConsistentAt a (Ran command n) older = a.running (how_many runs older) ≡ n
+IsConsistentAt a (Wrote id bs) older = Unit {0}
+IsConsistentAt a (Flushed id) older = Unit {0}
 
-abbrev pub Agrees : Answers → List Event → Type 0
-Agrees a [] = Unit {0}
-Agrees a (e ∷ older) = AgreesAt a e older × Agrees a older
+abbrev pub IsConsistent : Oracle → List Event → Type 0
+IsConsistent a [] = Unit {0}
+IsConsistent a (e ∷ older) = IsConsistentAt a e older × IsConsistent a older
