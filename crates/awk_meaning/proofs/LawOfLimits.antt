@@ -9,7 +9,7 @@ use Rattle.awk_value.specs.Values.{truth_of}
 use Rattle.awk_record.specs.Cut.{Cut, Found, NoMore, BrokenOff, TooLong, BadSeparator}
 use Rattle.awk_streams.specs.declared.world.InputKind.{InputKind}
 use Rattle.awk_streams.specs.declared.world.InputKind.TheVariants.{Standard, File}
-use Rattle.awk_streams.specs.Answers.{Source, Answers}
+use Rattle.awk_streams.specs.Oracle.{Source, Oracle}
 use Rattle.awk_syntax.specs.declared.tree.BinaryOperator.TheVariants.{Matches}
 use Rattle.awk_syntax.specs.Tree.{Expr, Number, String, Ere, Name, Group, Field, Unary, Binary, Assign, Exprs, Nil, Cons, Statement, Block, Evaluate, Print, Statements, NoMore as NoStatement, Then, Item, Begin, Always, Short, Rule}
 use Rattle.awk_meaning.specs.declared.outcome.Outcome.TheVariants.{Ended, Fault, Stopped}
@@ -349,9 +349,9 @@ whole_larger : (items : List Item) (pre : List (List ℕ × List ℕ)) → Large
 unfolding assign_and_run
 whole_larger items pre = then_larger _ _ (assign_all_larger pre) (λ _. run_larger items)
 
-whole_covers : (items : List Item) (start : StartValues) (answers : Answers) (limit d : ℕ) → Covers (run_program items start answers limit).result d (run_program items start answers limit) (run_program items start answers (limit + d))
+whole_covers : (items : List Item) (start : StartValues) (oracle : Oracle) (limit d : ℕ) → Covers (run_program items start oracle limit).result d (run_program items start oracle limit) (run_program items start oracle (limit + d))
 unfolding run_program
-whole_covers items start answers limit d = (whole_larger items start.pre).covers (start_state start answers limit) d
+whole_covers items start oracle limit d = (whole_larger items start.pre).covers (start_state start oracle limit) d
 
 -- from runs to what they print
 
@@ -377,7 +377,7 @@ stopped_of (Err (halt.Fault f)) d x y e c stops = let never : Fault f ≡ Stoppe
 stopped_of (Err halt.OutOfSteps) d x y e c stops = λ output. shows_begins output x.effects y.effects c.more c.is
 
 pub law_of_limits : LawOfLimits
-law_of_limits items start answers limit more = record {
-  settled = settled_of (run_program items start answers limit).result more _ _ refl (whole_covers items start answers limit more);
-  stopped = stopped_of (run_program items start answers limit).result more _ _ refl (whole_covers items start answers limit more);
+law_of_limits items start oracle limit more = record {
+  settled = settled_of (run_program items start oracle limit).result more _ _ refl (whole_covers items start oracle limit more);
+  stopped = stopped_of (run_program items start oracle limit).result more _ _ refl (whole_covers items start oracle limit more);
 }

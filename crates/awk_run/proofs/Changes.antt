@@ -10,7 +10,7 @@ use Rattle.awk_value.specs.declared.fault.ValueFault.TheVariants as values
 use Rattle.awk_value.specs.Values.{num_of, str_of}
 use Rattle.awk_record.specs.Record.{split_by}
 use Rattle.awk_run.specs.declared.interpreter.Interpreter.{Interpreter}
-use Rattle.awk_run.specs.declared.arguments.Arguments.{Arguments}
+use Rattle.awk_operands.specs.declared.arguments.Arguments.{Arguments}
 use Rattle.awk_meaning.specs.declared.halt.Halt.{Halt}
 use Rattle.awk_meaning.specs.declared.halt.Halt.TheVariants as halt
 use Rattle.awk_meaning.specs.declared.fault.Fault.TheVariants.{PatternRefused}
@@ -24,7 +24,7 @@ use Rattle.awk_meaning.specs.Operators.{field_value, raised}
 use Rattle.awk_meaning.specs.Faults.{variable_fault, value_fault}
 use Rattle.awk_meaning.specs.Primitives.{value_in, read_name, put, put_unless, count_in, field_at, record_text, split_as, set_record, note_input, begin_input, argument_if, argument_below, take_argument, is_input_seen}
 use Rattle.awk_meaning.specs.Semantics.{begin_record}
-use Rattle.awk_run.specs.support.Operands.{is_below, IsFaultOf}
+use Rattle.awk_operands.specs.Operands.{is_below, IsFaultOf}
 use Rattle.awk_run.specs.support.Simulation.{OwnRelation, Changes, SameState}
 use Rattle.awk_meaning.specs.Results.{Yields, IsWantOfMemory}
 use Rattle.awk_run.proofs.Composition.{same_part, own_changes, beside_holds, reads_changes, then_changes, ends_changes, lift_changes, memory_changes}

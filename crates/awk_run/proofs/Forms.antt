@@ -28,7 +28,7 @@ use Rattle.awk_meaning.specs.Inputs.{assign_text, next_record}
 use Rattle.awk_meaning.specs.Meaning.{assign_all, assign_and_run}
 use Rattle.awk_meaning.specs.Operators.{takes_pattern}
 use Rattle.awk_meaning.specs.Semantics.{right_operand, eval, eval_all, printed_values, exec, exec_all, run_if, try_item, try_items, begin_record, each_record, run_records, begin_item, begin_items, is_rule, has_rule, run_items}
-use Rattle.awk_run.specs.support.Does.{Seen}
+use Rattle.awk_streams.specs.WorldState.{WorldState}
 use Rattle.awk_run.specs.support.Simulation.{Simulates, Changes, Spends, Evaluates, Tests, EvaluatesAll, Lists, Follows, Executes, ExecutesAll, Tries, TriesAll, BeginsItem, BeginsAll, ReadsOn, ReadsAll, RunsItems, Assigns, AssignsAndRuns}
 use Rattle.awk_meaning.specs.Results.{Yields}
 use Rattle.awk_run.proofs.Composition.{then_changes, ends_changes, lift_changes, memory_changes, then_simulates, ends_simulates, lift_simulates, change_simulates}
@@ -155,132 +155,132 @@ exprs_of_none (x ∷ es) e = absurd (grind (arith, nat_tests))
 
 -- statements
 
-pub print_stops : {tells : Type 0} {es : Exprs} {m m1 : Interpreter} {k : Seen} {h : Halt} → Spends m m1 (Err h) → Executes tells (Print es) m k m1 k (Err h)
+pub print_stops : {is_logged : Type 0} {es : Exprs} {m m1 : Interpreter} {k : WorldState} {h : Halt} → Spends m m1 (Err h) → Executes is_logged (Print es) m k m1 k (Err h)
 unfolding exec
 print_stops p = record { simulates = ends_simulates _ (change_simulates p.simulates) }
 
-pub print_ends : {tells : Type 0} {es : Exprs} {m m1 m2 : Interpreter} {k : Seen} {h : Halt} → Spends m m1 (Ok tt) → Lists es m1 m2 (Err h) → Executes tells (Print es) m k m2 k (Err h)
+pub print_ends : {is_logged : Type 0} {es : Exprs} {m m1 m2 : Interpreter} {k : WorldState} {h : Halt} → Spends m m1 (Ok tt) → Lists es m1 m2 (Err h) → Executes is_logged (Print es) m k m2 k (Err h)
 unfolding exec
 print_ends p q = record { simulates = then_simulates _ (change_simulates p.simulates) (ends_simulates _ (change_simulates q.simulates)) }
 
-pub print_shows : {tells : Type 0} {es : Exprs} {m m1 m2 m3 : Interpreter} {k k3 : Seen} {vs : List Value} {r : Result (Unit {0}) Halt} → Spends m m1 (Ok tt) → Lists es m1 m2 (Ok vs) → Follows tells (print_line vs) m2 k m3 k3 r → Executes tells (Print es) m k m3 k3 r
+pub print_shows : {is_logged : Type 0} {es : Exprs} {m m1 m2 m3 : Interpreter} {k k3 : WorldState} {vs : List Value} {r : Result (Unit {0}) Halt} → Spends m m1 (Ok tt) → Lists es m1 m2 (Ok vs) → Follows is_logged (print_line vs) m2 k m3 k3 r → Executes is_logged (Print es) m k m3 k3 r
 unfolding exec
 print_shows p q s = record { simulates = then_simulates _ (change_simulates p.simulates) (then_simulates _ (change_simulates q.simulates) s.simulates) }
 
-pub evaluate_stops : {tells : Type 0} {e : Expr} {m m1 : Interpreter} {k : Seen} {h : Halt} → Spends m m1 (Err h) → Executes tells (Evaluate e) m k m1 k (Err h)
+pub evaluate_stops : {is_logged : Type 0} {e : Expr} {m m1 : Interpreter} {k : WorldState} {h : Halt} → Spends m m1 (Err h) → Executes is_logged (Evaluate e) m k m1 k (Err h)
 unfolding exec
 evaluate_stops p = record { simulates = ends_simulates _ (change_simulates p.simulates) }
 
-pub evaluate_ends : {tells : Type 0} {e : Expr} {m m1 m2 : Interpreter} {k : Seen} {h : Halt} → Spends m m1 (Ok tt) → Evaluates e m1 m2 (Err h) → Executes tells (Evaluate e) m k m2 k (Err h)
+pub evaluate_ends : {is_logged : Type 0} {e : Expr} {m m1 m2 : Interpreter} {k : WorldState} {h : Halt} → Spends m m1 (Ok tt) → Evaluates e m1 m2 (Err h) → Executes is_logged (Evaluate e) m k m2 k (Err h)
 unfolding exec
 evaluate_ends p q = record { simulates = then_simulates _ (change_simulates p.simulates) (ends_simulates _ (change_simulates q.simulates)) }
 
-pub evaluate_executes : {tells : Type 0} {e : Expr} {m m1 m2 : Interpreter} {k : Seen} {v : Value} → Spends m m1 (Ok tt) → Evaluates e m1 m2 (Ok v) → Executes tells (Evaluate e) m k m2 k (Ok tt)
+pub evaluate_executes : {is_logged : Type 0} {e : Expr} {m m1 m2 : Interpreter} {k : WorldState} {v : Value} → Spends m m1 (Ok tt) → Evaluates e m1 m2 (Ok v) → Executes is_logged (Evaluate e) m k m2 k (Ok tt)
 unfolding exec
 evaluate_executes {m2 = m2} {k = k} p q = record { simulates = then_simulates _ (change_simulates p.simulates) (then_simulates _ (change_simulates q.simulates) (lift_simulates _ m2 k refl)) }
 
-pub block_executes : {tells : Type 0} {all : Statements} {m m1 : Interpreter} {k k1 : Seen} {r : Result (Unit {0}) Halt} → ExecutesAll tells all m k m1 k1 r → Executes tells (Block all) m k m1 k1 r
+pub block_executes : {is_logged : Type 0} {all : Statements} {m m1 : Interpreter} {k k1 : WorldState} {r : Result (Unit {0}) Halt} → ExecutesAll is_logged all m k m1 k1 r → Executes is_logged (Block all) m k m1 k1 r
 unfolding exec
 block_executes p = record { simulates = p.simulates }
 
-pub all_end : {tells : Type 0} {m : Interpreter} {k : Seen} → ExecutesAll tells NoMore m k m k (Ok tt)
+pub all_end : {is_logged : Type 0} {m : Interpreter} {k : WorldState} → ExecutesAll is_logged NoMore m k m k (Ok tt)
 unfolding exec
 all_end {m = m} {k = k} = record { simulates = lift_simulates _ m k refl }
 
-pub all_halt : {tells : Type 0} {s : Statement} {all : Statements} {m m1 : Interpreter} {k k1 : Seen} {h : Halt} → Executes tells s m k m1 k1 (Err h) → ExecutesAll tells (Then s all) m k m1 k1 (Err h)
+pub all_halt : {is_logged : Type 0} {s : Statement} {all : Statements} {m m1 : Interpreter} {k k1 : WorldState} {h : Halt} → Executes is_logged s m k m1 k1 (Err h) → ExecutesAll is_logged (Then s all) m k m1 k1 (Err h)
 unfolding exec
 all_halt p = record { simulates = ends_simulates _ p.simulates }
 
-pub all_step : {tells : Type 0} {s : Statement} {all : Statements} {m m1 m2 : Interpreter} {k k1 k2 : Seen} {r : Result (Unit {0}) Halt} → Executes tells s m k m1 k1 (Ok tt) → ExecutesAll tells all m1 k1 m2 k2 r → ExecutesAll tells (Then s all) m k m2 k2 r
+pub all_step : {is_logged : Type 0} {s : Statement} {all : Statements} {m m1 m2 : Interpreter} {k k1 k2 : WorldState} {r : Result (Unit {0}) Halt} → Executes is_logged s m k m1 k1 (Ok tt) → ExecutesAll is_logged all m1 k1 m2 k2 r → ExecutesAll is_logged (Then s all) m k m2 k2 r
 unfolding exec
 all_step p q = record { simulates = then_simulates _ p.simulates q.simulates }
 
 -- items
 
-pub begin_tries : {tells : Type 0} {all : Statements} {m : Interpreter} {k : Seen} → Tries tells (Begin all) m k m k (Ok tt)
+pub begin_tries : {is_logged : Type 0} {all : Statements} {m : Interpreter} {k : WorldState} → Tries is_logged (Begin all) m k m k (Ok tt)
 unfolding try_item
 begin_tries {m = m} {k = k} = record { simulates = lift_simulates _ m k refl }
 
-pub short_halts : {tells : Type 0} {e : Expr} {m m1 : Interpreter} {k : Seen} {h : Halt} → Tests e m m1 (Err h) → Tries tells (Short e) m k m1 k (Err h)
+pub short_halts : {is_logged : Type 0} {e : Expr} {m m1 : Interpreter} {k : WorldState} {h : Halt} → Tests e m m1 (Err h) → Tries is_logged (Short e) m k m1 k (Err h)
 unfolding try_item
 short_halts p = record { simulates = ends_simulates _ (change_simulates p.tests.simulates) }
 
-pub short_holds : {tells : Type 0} {e : Expr} {m m1 m2 : Interpreter} {k k2 : Seen} {r : Result (Unit {0}) Halt} → Tests e m m1 (Ok true) → Executes tells (Print Nil) m1 k m2 k2 r → Tries tells (Short e) m k m2 k2 r
+pub short_holds : {is_logged : Type 0} {e : Expr} {m m1 m2 : Interpreter} {k k2 : WorldState} {r : Result (Unit {0}) Halt} → Tests e m m1 (Ok true) → Executes is_logged (Print Nil) m1 k m2 k2 r → Tries is_logged (Short e) m k m2 k2 r
 unfolding try_item
-short_holds {tells = tells} {m1 = m1} {m2 = m2} {k = k} {k2 = k2} {r = r} p q = record { simulates = then_simulates _ (change_simulates p.tests.1.simulates) (subst (λ (b : Bool). Simulates tells m1 k m2 k2 r (run_if b (exec (Print Nil)))) p.tests.2 q.simulates) }
+short_holds {is_logged = is_logged} {m1 = m1} {m2 = m2} {k = k} {k2 = k2} {r = r} p q = record { simulates = then_simulates _ (change_simulates p.tests.1.simulates) (subst (λ (b : Bool). Simulates is_logged m1 k m2 k2 r (run_if b (exec (Print Nil)))) p.tests.2 q.simulates) }
 
-pub short_fails : {tells : Type 0} {e : Expr} {m m1 : Interpreter} {k : Seen} → Tests e m m1 (Ok false) → Tries tells (Short e) m k m1 k (Ok tt)
+pub short_fails : {is_logged : Type 0} {e : Expr} {m m1 : Interpreter} {k : WorldState} → Tests e m m1 (Ok false) → Tries is_logged (Short e) m k m1 k (Ok tt)
 unfolding try_item
-short_fails {tells = tells} {m1 = m1} {k = k} p = record { simulates = then_simulates _ (change_simulates p.tests.1.simulates) (subst (λ (b : Bool). Simulates tells m1 k m1 k (Ok tt) (run_if b (exec (Print Nil)))) p.tests.2 (lift_simulates _ m1 k refl)) }
+short_fails {is_logged = is_logged} {m1 = m1} {k = k} p = record { simulates = then_simulates _ (change_simulates p.tests.1.simulates) (subst (λ (b : Bool). Simulates is_logged m1 k m1 k (Ok tt) (run_if b (exec (Print Nil)))) p.tests.2 (lift_simulates _ m1 k refl)) }
 
-pub always_tries : {tells : Type 0} {all : Statements} {m m1 : Interpreter} {k k1 : Seen} {r : Result (Unit {0}) Halt} → ExecutesAll tells all m k m1 k1 r → Tries tells (Always all) m k m1 k1 r
+pub always_tries : {is_logged : Type 0} {all : Statements} {m m1 : Interpreter} {k k1 : WorldState} {r : Result (Unit {0}) Halt} → ExecutesAll is_logged all m k m1 k1 r → Tries is_logged (Always all) m k m1 k1 r
 unfolding try_item
 always_tries p = record { simulates = p.simulates }
 
-pub rule_halts : {tells : Type 0} {e : Expr} {all : Statements} {m m1 : Interpreter} {k : Seen} {h : Halt} → Tests e m m1 (Err h) → Tries tells (Rule e all) m k m1 k (Err h)
+pub rule_halts : {is_logged : Type 0} {e : Expr} {all : Statements} {m m1 : Interpreter} {k : WorldState} {h : Halt} → Tests e m m1 (Err h) → Tries is_logged (Rule e all) m k m1 k (Err h)
 unfolding try_item
 rule_halts p = record { simulates = ends_simulates _ (change_simulates p.tests.simulates) }
 
-pub rule_holds : {tells : Type 0} {e : Expr} {all : Statements} {m m1 m2 : Interpreter} {k k2 : Seen} {r : Result (Unit {0}) Halt} → Tests e m m1 (Ok true) → ExecutesAll tells all m1 k m2 k2 r → Tries tells (Rule e all) m k m2 k2 r
+pub rule_holds : {is_logged : Type 0} {e : Expr} {all : Statements} {m m1 m2 : Interpreter} {k k2 : WorldState} {r : Result (Unit {0}) Halt} → Tests e m m1 (Ok true) → ExecutesAll is_logged all m1 k m2 k2 r → Tries is_logged (Rule e all) m k m2 k2 r
 unfolding try_item
-rule_holds {tells = tells} {all = all} {m1 = m1} {m2 = m2} {k = k} {k2 = k2} {r = r} p q = record { simulates = then_simulates _ (change_simulates p.tests.1.simulates) (subst (λ (b : Bool). Simulates tells m1 k m2 k2 r (run_if b (exec_all all))) p.tests.2 q.simulates) }
+rule_holds {is_logged = is_logged} {all = all} {m1 = m1} {m2 = m2} {k = k} {k2 = k2} {r = r} p q = record { simulates = then_simulates _ (change_simulates p.tests.1.simulates) (subst (λ (b : Bool). Simulates is_logged m1 k m2 k2 r (run_if b (exec_all all))) p.tests.2 q.simulates) }
 
-pub rule_fails : {tells : Type 0} {e : Expr} {all : Statements} {m m1 : Interpreter} {k : Seen} → Tests e m m1 (Ok false) → Tries tells (Rule e all) m k m1 k (Ok tt)
+pub rule_fails : {is_logged : Type 0} {e : Expr} {all : Statements} {m m1 : Interpreter} {k : WorldState} → Tests e m m1 (Ok false) → Tries is_logged (Rule e all) m k m1 k (Ok tt)
 unfolding try_item
-rule_fails {tells = tells} {all = all} {m1 = m1} {k = k} p = record { simulates = then_simulates _ (change_simulates p.tests.1.simulates) (subst (λ (b : Bool). Simulates tells m1 k m1 k (Ok tt) (run_if b (exec_all all))) p.tests.2 (lift_simulates _ m1 k refl)) }
+rule_fails {is_logged = is_logged} {all = all} {m1 = m1} {k = k} p = record { simulates = then_simulates _ (change_simulates p.tests.1.simulates) (subst (λ (b : Bool). Simulates is_logged m1 k m1 k (Ok tt) (run_if b (exec_all all))) p.tests.2 (lift_simulates _ m1 k refl)) }
 
-pub items_end : {tells : Type 0} {m : Interpreter} {k : Seen} → TriesAll tells [] m k m k (Ok tt)
+pub items_end : {is_logged : Type 0} {m : Interpreter} {k : WorldState} → TriesAll is_logged [] m k m k (Ok tt)
 unfolding try_items
 items_end {m = m} {k = k} = record { simulates = lift_simulates _ m k refl }
 
-pub items_halt : {tells : Type 0} {x : Item} {xs : List Item} {m m1 : Interpreter} {k k1 : Seen} {h : Halt} → Tries tells x m k m1 k1 (Err h) → TriesAll tells (x ∷ xs) m k m1 k1 (Err h)
+pub items_halt : {is_logged : Type 0} {x : Item} {xs : List Item} {m m1 : Interpreter} {k k1 : WorldState} {h : Halt} → Tries is_logged x m k m1 k1 (Err h) → TriesAll is_logged (x ∷ xs) m k m1 k1 (Err h)
 unfolding try_items
 items_halt p = record { simulates = ends_simulates _ p.simulates }
 
-pub items_step : {tells : Type 0} {x : Item} {xs : List Item} {m m1 m2 : Interpreter} {k k1 k2 : Seen} {r : Result (Unit {0}) Halt} → Tries tells x m k m1 k1 (Ok tt) → TriesAll tells xs m1 k1 m2 k2 r → TriesAll tells (x ∷ xs) m k m2 k2 r
+pub items_step : {is_logged : Type 0} {x : Item} {xs : List Item} {m m1 m2 : Interpreter} {k k1 k2 : WorldState} {r : Result (Unit {0}) Halt} → Tries is_logged x m k m1 k1 (Ok tt) → TriesAll is_logged xs m1 k1 m2 k2 r → TriesAll is_logged (x ∷ xs) m k m2 k2 r
 unfolding try_items
 items_step p q = record { simulates = then_simulates _ p.simulates q.simulates }
 
 -- records
 
-pub reading_ends : {tells : Type 0} {xs : List Item} {m m1 : Interpreter} {k k1 : Seen} {h : Halt} → Follows tells next_record m k m1 k1 (Err h) → ReadsOn tells xs m k m1 k1 (Err h)
+pub reading_ends : {is_logged : Type 0} {xs : List Item} {m m1 : Interpreter} {k k1 : WorldState} {h : Halt} → Follows is_logged next_record m k m1 k1 (Err h) → ReadsOn is_logged xs m k m1 k1 (Err h)
 unfolding each_record
 reading_ends p = record { simulates = λ n low. ends_simulates _ p.simulates }
 
-pub reading_over : {tells : Type 0} {xs : List Item} {m m1 : Interpreter} {k k1 : Seen} → Follows tells next_record m k m1 k1 (Ok None) → ReadsOn tells xs m k m1 k1 (Ok tt)
+pub reading_over : {is_logged : Type 0} {xs : List Item} {m m1 : Interpreter} {k k1 : WorldState} → Follows is_logged next_record m k m1 k1 (Ok None) → ReadsOn is_logged xs m k m1 k1 (Ok tt)
 unfolding each_record
 reading_over {m1 = m1} {k1 = k1} p = record { simulates = λ n low. then_simulates _ p.simulates (lift_simulates _ m1 k1 refl) }
 
-pub reading_stops : {tells : Type 0} {xs : List Item} {text : List ℕ} {m m1 m2 : Interpreter} {k k1 : Seen} {h : Halt} → Follows tells next_record m k m1 k1 (Ok (Some text)) → Spends m1 m2 (Err h) → ReadsOn tells xs m k m2 k1 (Err h)
+pub reading_stops : {is_logged : Type 0} {xs : List Item} {text : List ℕ} {m m1 m2 : Interpreter} {k k1 : WorldState} {h : Halt} → Follows is_logged next_record m k m1 k1 (Ok (Some text)) → Spends m1 m2 (Err h) → ReadsOn is_logged xs m k m2 k1 (Err h)
 unfolding each_record
 reading_stops p q = record { simulates = λ n low. then_simulates _ p.simulates (ends_simulates _ (change_simulates q.simulates)) }
 
-pub reading_unset : {tells : Type 0} {xs : List Item} {text : List ℕ} {m m1 m2 m3 : Interpreter} {k k1 : Seen} {h : Halt} → Follows tells next_record m k m1 k1 (Ok (Some text)) → Spends m1 m2 (Ok tt) → Changes (begin_record text) m2 m3 (Err h) → ReadsOn tells xs m k m3 k1 (Err h)
+pub reading_unset : {is_logged : Type 0} {xs : List Item} {text : List ℕ} {m m1 m2 m3 : Interpreter} {k k1 : WorldState} {h : Halt} → Follows is_logged next_record m k m1 k1 (Ok (Some text)) → Spends m1 m2 (Ok tt) → Changes (begin_record text) m2 m3 (Err h) → ReadsOn is_logged xs m k m3 k1 (Err h)
 unfolding each_record
 reading_unset p q r = record { simulates = λ n low. then_simulates _ p.simulates (then_simulates _ (change_simulates q.simulates) (ends_simulates _ (change_simulates r))) }
 
-pub reading_halts : {tells : Type 0} {xs : List Item} {text : List ℕ} {m m1 m2 m3 m4 : Interpreter} {k k1 k4 : Seen} {h : Halt} → Follows tells next_record m k m1 k1 (Ok (Some text)) → Spends m1 m2 (Ok tt) → Changes (begin_record text) m2 m3 (Ok tt) → TriesAll tells xs m3 k1 m4 k4 (Err h) → ReadsOn tells xs m k m4 k4 (Err h)
+pub reading_halts : {is_logged : Type 0} {xs : List Item} {text : List ℕ} {m m1 m2 m3 m4 : Interpreter} {k k1 k4 : WorldState} {h : Halt} → Follows is_logged next_record m k m1 k1 (Ok (Some text)) → Spends m1 m2 (Ok tt) → Changes (begin_record text) m2 m3 (Ok tt) → TriesAll is_logged xs m3 k1 m4 k4 (Err h) → ReadsOn is_logged xs m k m4 k4 (Err h)
 unfolding each_record
 reading_halts p q r s = record { simulates = λ n low. then_simulates _ p.simulates (then_simulates _ (change_simulates q.simulates) (then_simulates _ (change_simulates r) (ends_simulates _ s.simulates))) }
 
-goes_at : (n : ℕ) {tells : Type 0} {xs : List Item} {text : List ℕ} {m m1 m2 m3 m4 new : Interpreter} {k k1 k4 after : Seen} {x : Result (Unit {0}) Halt} → Follows tells next_record m k m1 k1 (Ok (Some text)) → Spends m1 m2 (Ok tt) → Changes (begin_record text) m2 m3 (Ok tt) → TriesAll tells xs m3 k1 m4 k4 (Ok tt) → ReadsOn tells xs m4 k4 new after x → m.steps ≤ n → Simulates tells m k new after x (each_record (suc n) (try_items xs))
+goes_at : (n : ℕ) {is_logged : Type 0} {xs : List Item} {text : List ℕ} {m m1 m2 m3 m4 new : Interpreter} {k k1 k4 after : WorldState} {x : Result (Unit {0}) Halt} → Follows is_logged next_record m k m1 k1 (Ok (Some text)) → Spends m1 m2 (Ok tt) → Changes (begin_record text) m2 m3 (Ok tt) → TriesAll is_logged xs m3 k1 m4 k4 (Ok tt) → ReadsOn is_logged xs m4 k4 new after x → m.steps ≤ n → Simulates is_logged m k new after x (each_record (suc n) (try_items xs))
 unfolding each_record
 goes_at zero p q r s t low = absurd (omega (arith, p.simulates.steps, q.falls))
 goes_at (suc n) p q r s t low = then_simulates _ p.simulates (then_simulates _ (change_simulates q.simulates) (then_simulates _ (change_simulates r) (then_simulates _ s.simulates (t.simulates n (omega (arith, p.simulates.steps, q.falls, r.steps, s.simulates.steps))))))
 
-pub reading_goes : {tells : Type 0} {xs : List Item} {text : List ℕ} {m m1 m2 m3 m4 new : Interpreter} {k k1 k4 after : Seen} {x : Result (Unit {0}) Halt} → Follows tells next_record m k m1 k1 (Ok (Some text)) → Spends m1 m2 (Ok tt) → Changes (begin_record text) m2 m3 (Ok tt) → TriesAll tells xs m3 k1 m4 k4 (Ok tt) → ReadsOn tells xs m4 k4 new after x → ReadsOn tells xs m k new after x
+pub reading_goes : {is_logged : Type 0} {xs : List Item} {text : List ℕ} {m m1 m2 m3 m4 new : Interpreter} {k k1 k4 after : WorldState} {x : Result (Unit {0}) Halt} → Follows is_logged next_record m k m1 k1 (Ok (Some text)) → Spends m1 m2 (Ok tt) → Changes (begin_record text) m2 m3 (Ok tt) → TriesAll is_logged xs m3 k1 m4 k4 (Ok tt) → ReadsOn is_logged xs m4 k4 new after x → ReadsOn is_logged xs m k new after x
 reading_goes p q r s t = record { simulates = λ n low. goes_at n p q r s t low }
 
-pub reading_falls : {tells : Type 0} {xs : List Item} {text : List ℕ} {m m1 m2 m3 m4 : Interpreter} {k k1 k4 : Seen} → Follows tells next_record m k m1 k1 (Ok (Some text)) → Spends m1 m2 (Ok tt) → Changes (begin_record text) m2 m3 (Ok tt) → TriesAll tells xs m3 k1 m4 k4 (Ok tt) → m4.steps < m.steps
+pub reading_falls : {is_logged : Type 0} {xs : List Item} {text : List ℕ} {m m1 m2 m3 m4 : Interpreter} {k k1 k4 : WorldState} → Follows is_logged next_record m k m1 k1 (Ok (Some text)) → Spends m1 m2 (Ok tt) → Changes (begin_record text) m2 m3 (Ok tt) → TriesAll is_logged xs m3 k1 m4 k4 (Ok tt) → m4.steps < m.steps
 reading_falls p q r s = omega (arith, p.simulates.steps, q.falls, r.steps, s.simulates.steps)
 
-pub reading_open : {tells : Type 0} {xs : List Item} {text : List ℕ} {m m1 m2 m3 m4 : Interpreter} {k k1 k4 : Seen} → Follows tells next_record m k m1 k1 (Ok (Some text)) → Spends m1 m2 (Ok tt) → Changes (begin_record text) m2 m3 (Ok tt) → TriesAll tells xs m3 k1 m4 k4 (Ok tt) → AreOpen k.is_open m.streams → AreOpen k4.is_open m4.streams
-reading_open {k1 = k1} p q r s stays = s.simulates.kept_open (subst (λ x. AreOpen k1.is_open x) (sym (r.streams ∙ q.simulates.streams)) (p.simulates.kept_open stays))
+pub reading_open : {is_logged : Type 0} {xs : List Item} {text : List ℕ} {m m1 m2 m3 m4 : Interpreter} {k k1 k4 : WorldState} → Follows is_logged next_record m k m1 k1 (Ok (Some text)) → Spends m1 m2 (Ok tt) → Changes (begin_record text) m2 m3 (Ok tt) → TriesAll is_logged xs m3 k1 m4 k4 (Ok tt) → AreOpen k m.streams → AreOpen k4 m4.streams
+reading_open {k1 = k1} p q r s stays = s.simulates.kept_open (subst (λ x. AreOpen k1 x) (sym (r.streams ∙ q.simulates.streams)) (p.simulates.kept_open stays))
 
-pub reading_sound : {tells : Type 0} {xs : List Item} {text : List ℕ} {m m1 m2 m3 m4 : Interpreter} {k k1 k4 : Seen} → Follows tells next_record m k m1 k1 (Ok (Some text)) → Spends m1 m2 (Ok tt) → Changes (begin_record text) m2 m3 (Ok tt) → TriesAll tells xs m3 k1 m4 k4 (Ok tt) → tells → IsSoundMain k.log m.streams.main → IsSoundMain k4.log m4.streams.main
+pub reading_sound : {is_logged : Type 0} {xs : List Item} {text : List ℕ} {m m1 m2 m3 m4 : Interpreter} {k k1 k4 : WorldState} → Follows is_logged next_record m k m1 k1 (Ok (Some text)) → Spends m1 m2 (Ok tt) → Changes (begin_record text) m2 m3 (Ok tt) → TriesAll is_logged xs m3 k1 m4 k4 (Ok tt) → is_logged → IsSoundMain k.log m.streams.main → IsSoundMain k4.log m4.streams.main
 reading_sound {k1 = k1} p q r s t sound = (s.simulates.told t).keeps_main (subst (λ x. IsSoundMain k1.log x.main) (sym (r.streams ∙ q.simulates.streams)) ((p.simulates.told t).keeps_main sound))
 
-pub reads_all : {tells : Type 0} {xs : List Item} {m new : Interpreter} {k after : Seen} {r : Result (Unit {0}) Halt} → ReadsOn tells xs m k new after r → ReadsAll tells xs m k new after r
+pub reads_all : {is_logged : Type 0} {xs : List Item} {m new : Interpreter} {k after : WorldState} {r : Result (Unit {0}) Halt} → ReadsOn is_logged xs m k new after r → ReadsAll is_logged xs m k new after r
 unfolding run_records
 reads_all {m = m} p = record {
   simulates = record {
@@ -290,49 +290,49 @@ reads_all {m = m} p = record {
       grows = ((p.simulates m.steps (omega arith)).told t).grows;
       keeps = ((p.simulates m.steps (omega arith)).told t).keeps;
       keeps_main = ((p.simulates m.steps (omega arith)).told t).keeps_main;
-      means = λ answers s past agrees stands. ((p.simulates s.steps (omega (arith, stands.holds.steps))).told t).means answers s past agrees stands;
+      means = λ oracle s past consistent stands. ((p.simulates s.steps (omega (arith, stands.holds.steps))).told t).means oracle s past consistent stands;
     };
   };
 }
 
 -- the actions before all records
 
-pub begin_runs : {tells : Type 0} {all : Statements} {m m1 : Interpreter} {k k1 : Seen} {r : Result (Unit {0}) Halt} → ExecutesAll tells all m k m1 k1 r → BeginsItem tells (Begin all) m k m1 k1 r
+pub begin_runs : {is_logged : Type 0} {all : Statements} {m m1 : Interpreter} {k k1 : WorldState} {r : Result (Unit {0}) Halt} → ExecutesAll is_logged all m k m1 k1 r → BeginsItem is_logged (Begin all) m k m1 k1 r
 unfolding begin_item
 begin_runs p = record { simulates = p.simulates }
 
-pub begin_skips : {tells : Type 0} {x : Item} {m : Interpreter} {k : Seen} → is_rule x ≡ true → BeginsItem tells x m k m k (Ok tt)
+pub begin_skips : {is_logged : Type 0} {x : Item} {m : Interpreter} {k : WorldState} → is_rule x ≡ true → BeginsItem is_logged x m k m k (Ok tt)
 unfolding begin_item
 begin_skips {x = Begin all} e = absurd (cc)
 begin_skips {x = Always all} {m = m} {k = k} e = record { simulates = lift_simulates _ m k refl }
 begin_skips {x = Short e1} {m = m} {k = k} e = record { simulates = lift_simulates _ m k refl }
 begin_skips {x = Rule e1 all} {m = m} {k = k} e = record { simulates = lift_simulates _ m k refl }
 
-pub begins_end : {tells : Type 0} {m : Interpreter} {k : Seen} → BeginsAll tells [] m k m k (Ok tt)
+pub begins_end : {is_logged : Type 0} {m : Interpreter} {k : WorldState} → BeginsAll is_logged [] m k m k (Ok tt)
 unfolding begin_items
 begins_end {m = m} {k = k} = record { simulates = lift_simulates _ m k refl }
 
-pub begins_halt : {tells : Type 0} {x : Item} {xs : List Item} {m m1 : Interpreter} {k k1 : Seen} {h : Halt} → BeginsItem tells x m k m1 k1 (Err h) → BeginsAll tells (x ∷ xs) m k m1 k1 (Err h)
+pub begins_halt : {is_logged : Type 0} {x : Item} {xs : List Item} {m m1 : Interpreter} {k k1 : WorldState} {h : Halt} → BeginsItem is_logged x m k m1 k1 (Err h) → BeginsAll is_logged (x ∷ xs) m k m1 k1 (Err h)
 unfolding begin_items
 begins_halt p = record { simulates = ends_simulates _ p.simulates }
 
-pub begins_step : {tells : Type 0} {x : Item} {xs : List Item} {m m1 m2 : Interpreter} {k k1 k2 : Seen} {r : Result (Unit {0}) Halt} → BeginsItem tells x m k m1 k1 (Ok tt) → BeginsAll tells xs m1 k1 m2 k2 r → BeginsAll tells (x ∷ xs) m k m2 k2 r
+pub begins_step : {is_logged : Type 0} {x : Item} {xs : List Item} {m m1 m2 : Interpreter} {k k1 k2 : WorldState} {r : Result (Unit {0}) Halt} → BeginsItem is_logged x m k m1 k1 (Ok tt) → BeginsAll is_logged xs m1 k1 m2 k2 r → BeginsAll is_logged (x ∷ xs) m k m2 k2 r
 unfolding begin_items
 begins_step p q = record { simulates = then_simulates _ p.simulates q.simulates }
 
 -- the whole of the items
 
-pub runs_halts : {tells : Type 0} {xs : List Item} {m m1 : Interpreter} {k k1 : Seen} {h : Halt} → BeginsAll tells xs m k m1 k1 (Err h) → RunsItems tells xs m k m1 k1 (Err h)
+pub runs_halts : {is_logged : Type 0} {xs : List Item} {m m1 : Interpreter} {k k1 : WorldState} {h : Halt} → BeginsAll is_logged xs m k m1 k1 (Err h) → RunsItems is_logged xs m k m1 k1 (Err h)
 unfolding run_items
 runs_halts p = record { simulates = ends_simulates _ p.simulates }
 
-pub runs_none : {tells : Type 0} {xs : List Item} {m m1 : Interpreter} {k k1 : Seen} → has_rule xs ≡ false → BeginsAll tells xs m k m1 k1 (Ok tt) → RunsItems tells xs m k m1 k1 (Ok tt)
+pub runs_none : {is_logged : Type 0} {xs : List Item} {m m1 : Interpreter} {k k1 : WorldState} → has_rule xs ≡ false → BeginsAll is_logged xs m k m1 k1 (Ok tt) → RunsItems is_logged xs m k m1 k1 (Ok tt)
 unfolding run_items
-runs_none {tells = tells} {xs = xs} {m1 = m1} {k1 = k1} e p = record { simulates = then_simulates _ p.simulates (subst (λ (b : Bool). Simulates tells m1 k1 m1 k1 (Ok tt) (run_if b (run_records (try_items xs)))) (sym e) (lift_simulates _ m1 k1 refl)) }
+runs_none {is_logged = is_logged} {xs = xs} {m1 = m1} {k1 = k1} e p = record { simulates = then_simulates _ p.simulates (subst (λ (b : Bool). Simulates is_logged m1 k1 m1 k1 (Ok tt) (run_if b (run_records (try_items xs)))) (sym e) (lift_simulates _ m1 k1 refl)) }
 
-pub runs_some : {tells : Type 0} {xs : List Item} {m m1 new : Interpreter} {k k1 after : Seen} {r : Result (Unit {0}) Halt} → has_rule xs ≡ true → BeginsAll tells xs m k m1 k1 (Ok tt) → ReadsAll tells xs m1 k1 new after r → RunsItems tells xs m k new after r
+pub runs_some : {is_logged : Type 0} {xs : List Item} {m m1 new : Interpreter} {k k1 after : WorldState} {r : Result (Unit {0}) Halt} → has_rule xs ≡ true → BeginsAll is_logged xs m k m1 k1 (Ok tt) → ReadsAll is_logged xs m1 k1 new after r → RunsItems is_logged xs m k new after r
 unfolding run_items
-runs_some {tells = tells} {xs = xs} {m1 = m1} {new = new} {k1 = k1} {after = after} {r = r} e p q = record { simulates = then_simulates _ p.simulates (subst (λ (b : Bool). Simulates tells m1 k1 new after r (run_if b (run_records (try_items xs)))) (sym e) q.simulates) }
+runs_some {is_logged = is_logged} {xs = xs} {m1 = m1} {new = new} {k1 = k1} {after = after} {r = r} e p q = record { simulates = then_simulates _ p.simulates (subst (λ (b : Bool). Simulates is_logged m1 k1 new after r (run_if b (run_records (try_items xs)))) (sym e) q.simulates) }
 
 -- the assignments before a run
 
@@ -348,11 +348,11 @@ pub assigns_step : {a : List ℕ × List ℕ} {all : List (List ℕ × List ℕ)
 unfolding assign_all
 assigns_step p q = record { simulates = then_changes _ p q.simulates }
 
-pub whole_halts : {tells : Type 0} {xs : List Item} {pre : List (List ℕ × List ℕ)} {m m1 : Interpreter} {k : Seen} {h : Halt} → Assigns pre m m1 (Err h) → AssignsAndRuns tells xs pre m k m1 k (Err h)
+pub whole_halts : {is_logged : Type 0} {xs : List Item} {pre : List (List ℕ × List ℕ)} {m m1 : Interpreter} {k : WorldState} {h : Halt} → Assigns pre m m1 (Err h) → AssignsAndRuns is_logged xs pre m k m1 k (Err h)
 unfolding assign_and_run
 whole_halts p = record { simulates = ends_simulates _ (change_simulates p.simulates) }
 
-pub whole_runs : {tells : Type 0} {xs : List Item} {pre : List (List ℕ × List ℕ)} {m m1 m2 : Interpreter} {k k2 : Seen} {r : Result (Unit {0}) Halt} → Assigns pre m m1 (Ok tt) → RunsItems tells xs m1 k m2 k2 r → AssignsAndRuns tells xs pre m k m2 k2 r
+pub whole_runs : {is_logged : Type 0} {xs : List Item} {pre : List (List ℕ × List ℕ)} {m m1 m2 : Interpreter} {k k2 : WorldState} {r : Result (Unit {0}) Halt} → Assigns pre m m1 (Ok tt) → RunsItems is_logged xs m1 k m2 k2 r → AssignsAndRuns is_logged xs pre m k m2 k2 r
 unfolding assign_and_run
 whole_runs p q = record { simulates = then_simulates _ (change_simulates p.simulates) q.simulates }
 

@@ -5,7 +5,6 @@ pub use Rattle.awk_run.specs.definitions.Headline
 pub use Rattle.awk_run.specs.definitions.Start
 pub use Rattle.awk_meaning.specs.Meaning
 pub use Rattle.awk_meaning.specs.Outcome
-pub use Rattle.awk_run.specs.support.Does
-pub use Rattle.awk_run.specs.support.Operands
+pub use Rattle.awk_operands.specs.Operands
 pub use Rattle.awk_run.specs.support.Simulation
 pub use Rattle.awk_run.specs.support.Verdict

@@ -1,4 +1,2 @@
-pub mod Does
-pub mod Operands
 pub mod Simulation
 pub mod Verdict

@@ -4,12 +4,11 @@ ghost use Rattle.std.specs.Prelude.{◌≡◌, ◌≢◌, [], None, true, is_som
 ghost use Rattle.awk_streams.specs.Streams.{AreOpen, IsSoundMain};
 ghost use Rattle.awk_meaning.specs.Primitives.{take_record, close_main, take_argument};
 ghost use Rattle.awk_meaning.specs.Inputs.{assign_text, path_of, main_record, first_record, operand_record, standard_record, search_operands, next_record};
-ghost use Rattle.awk_run.specs.support.Does.{seen};
 ghost use Rattle.awk_run.specs.support.Simulation.{Changes, Follows, ClosesMainInput, OpensMainInput, Seeks};
 
-use crate::arguments::{OperandForm, assigned_text, form_of};
 use crate::interpreter::Interpreter;
 use awk_meaning::{Fault, Halt};
+use awk_operands::{OperandForm, assigned_text, form_of};
 use awk_streams::{InputKind, World};
 use awk_value::{Bytes, Value, text_of};
 use awk_variables::Special;
@@ -53,25 +52,25 @@ impl Interpreter {
         requires none { self.old.streams.main ≡ None }
         requires plain { kind ≢ InputKind.Command }
         requires named { kind ≡ InputKind.Standard → path.now ≡ [] }
-        ensures { OpensMainInput W.tells kind path.now self.old (seen (W.is_open world.old) (W.log world.old) (W.mark world.old)) self.new (seen (W.is_open world.new) (W.log world.new) (W.mark world.new)) result }
+        ensures { OpensMainInput W.is_logged kind path.now self.old (W.state world.old) self.new (W.state world.new) result }
     {
         Ok(self.streams.open_main(world, kind, path)?)
     }
 
     /// ClosesMainInput the main input, if one is open.
     fn close_main<W: World>(&mut self, world: &mut W)
-        requires open { AreOpen (W.is_open world.old) self.old.streams }
-        requires sound { W.tells → IsSoundMain (W.log world.old) self.old.streams.main }
-        ensures { ClosesMainInput W.tells self.old (seen (W.is_open world.old) (W.log world.old) (W.mark world.old)) self.new (seen (W.is_open world.new) (W.log world.new) (W.mark world.new)) }
+        requires open { AreOpen (W.state world.old) self.old.streams }
+        requires sound { W.is_logged → IsSoundMain (W.state world.old).log self.old.streams.main }
+        ensures { ClosesMainInput W.is_logged self.old (W.state world.old) self.new (W.state world.new) }
     {
         self.streams.close_main(world);
     }
 
     /// The next record of the main input, by RS. `None` at its end, and where none is open.
     fn take_record<W: World>(&mut self, world: &mut W) -> Result<Option<Bytes>, Halt>
-        requires open { AreOpen (W.is_open world.old) self.old.streams }
-        requires sound { W.tells → IsSoundMain (W.log world.old) self.old.streams.main }
-        ensures { Follows W.tells take_record self.old (seen (W.is_open world.old) (W.log world.old) (W.mark world.old)) self.new (seen (W.is_open world.new) (W.log world.new) (W.mark world.new)) result }
+        requires open { AreOpen (W.state world.old) self.old.streams }
+        requires sound { W.is_logged → IsSoundMain (W.state world.old).log self.old.streams.main }
+        ensures { Follows W.is_logged take_record self.old (W.state world.old) self.new (W.state world.new) result }
     {
         if !self.streams.has_main() {
             return Ok(None);
@@ -85,9 +84,9 @@ impl Interpreter {
 
     /// The next record of the main input, which is closed at its end.
     fn main_record<W: World>(&mut self, world: &mut W) -> Result<Option<Bytes>, Halt>
-        requires open { AreOpen (W.is_open world.old) self.old.streams }
-        requires sound { W.tells → IsSoundMain (W.log world.old) self.old.streams.main }
-        ensures { Seeks W.tells main_record self.old (seen (W.is_open world.old) (W.log world.old) (W.mark world.old)) self.new (seen (W.is_open world.new) (W.log world.new) (W.mark world.new)) result }
+        requires open { AreOpen (W.state world.old) self.old.streams }
+        requires sound { W.is_logged → IsSoundMain (W.state world.old).log self.old.streams.main }
+        ensures { Seeks W.is_logged main_record self.old (W.state world.old) self.new (W.state world.new) result }
     {
         match self.take_record(world)? {
             Some(text) => Ok(Some(text)),
@@ -107,9 +106,9 @@ impl Interpreter {
     ) -> Result<Option<Bytes>, Halt>
         requires none { self.old.streams.main ≡ None }
         requires plain { kind ≢ InputKind.Command }
-        requires open { AreOpen (W.is_open world.old) self.old.streams }
-        requires sound { W.tells → IsSoundMain (W.log world.old) self.old.streams.main }
-        ensures { Seeks W.tells (first_record kind name) self.old (seen (W.is_open world.old) (W.log world.old) (W.mark world.old)) self.new (seen (W.is_open world.new) (W.log world.new) (W.mark world.new)) result }
+        requires open { AreOpen (W.state world.old) self.old.streams }
+        requires sound { W.is_logged → IsSoundMain (W.state world.old).log self.old.streams.main }
+        ensures { Seeks W.is_logged (first_record kind name) self.old (W.state world.old) self.new (W.state world.new) result }
     {
         self.open_main(world, kind, path_of(kind, &name))?;
         self.begin_input(name)?;
@@ -123,9 +122,9 @@ impl Interpreter {
         word: Bytes,
     ) -> Result<Option<Bytes>, Halt>
         requires none { self.old.streams.main ≡ None }
-        requires open { AreOpen (W.is_open world.old) self.old.streams }
-        requires sound { W.tells → IsSoundMain (W.log world.old) self.old.streams.main }
-        ensures { Seeks W.tells (operand_record word) self.old (seen (W.is_open world.old) (W.log world.old) (W.mark world.old)) self.new (seen (W.is_open world.new) (W.log world.new) (W.mark world.new)) result }
+        requires open { AreOpen (W.state world.old) self.old.streams }
+        requires sound { W.is_logged → IsSoundMain (W.state world.old).log self.old.streams.main }
+        ensures { Seeks W.is_logged (operand_record word) self.old (W.state world.old) self.new (W.state world.new) result }
     {
         let bytes = word.as_slice();
         match form_of(bytes) {
@@ -142,9 +141,9 @@ impl Interpreter {
     /// The first record of standard input, unless a main input was found.
     fn standard_record<W: World>(&mut self, world: &mut W) -> Result<Option<Bytes>, Halt>
         requires none { self.old.streams.main ≡ None }
-        requires open { AreOpen (W.is_open world.old) self.old.streams }
-        requires sound { W.tells → IsSoundMain (W.log world.old) self.old.streams.main }
-        ensures { Seeks W.tells standard_record self.old (seen (W.is_open world.old) (W.log world.old) (W.mark world.old)) self.new (seen (W.is_open world.new) (W.log world.new) (W.mark world.new)) result }
+        requires open { AreOpen (W.state world.old) self.old.streams }
+        requires sound { W.is_logged → IsSoundMain (W.state world.old).log self.old.streams.main }
+        ensures { Seeks W.is_logged standard_record self.old (W.state world.old) self.new (W.state world.new) result }
     {
         if self.arguments.input_seen {
             return Ok(None);
@@ -156,9 +155,9 @@ impl Interpreter {
     /// Looks at the elements of ARGV in turn, until one leads to a record.
     fn search_operands<W: World>(&mut self, world: &mut W) -> Result<Option<Bytes>, Halt>
         requires none { self.old.streams.main ≡ None }
-        requires open { AreOpen (W.is_open world.old) self.old.streams }
-        requires sound { W.tells → IsSoundMain (W.log world.old) self.old.streams.main }
-        ensures { Seeks W.tells search_operands self.old (seen (W.is_open world.old) (W.log world.old) (W.mark world.old)) self.new (seen (W.is_open world.new) (W.log world.new) (W.mark world.new)) result }
+        requires open { AreOpen (W.state world.old) self.old.streams }
+        requires sound { W.is_logged → IsSoundMain (W.state world.old).log self.old.streams.main }
+        ensures { Seeks W.is_logged search_operands self.old (W.state world.old) self.new (W.state world.new) result }
     {
         while let Some(word) = self.take_argument()? {
             self.spend()?;
@@ -172,9 +171,9 @@ impl Interpreter {
     /// The next main record, from the elements of ARGV in turn, or from standard input for want of
     /// a file operand. `None` where no record is left. (POSIX awk, OPERANDS and INPUT FILES)
     pub fn next_record<W: World>(&mut self, world: &mut W) -> Result<Option<Bytes>, Halt>
-        requires open { AreOpen (W.is_open world.old) self.old.streams }
-        requires sound { W.tells → IsSoundMain (W.log world.old) self.old.streams.main }
-        ensures { Follows W.tells next_record self.old (seen (W.is_open world.old) (W.log world.old) (W.mark world.old)) self.new (seen (W.is_open world.new) (W.log world.new) (W.mark world.new)) result }
+        requires open { AreOpen (W.state world.old) self.old.streams }
+        requires sound { W.is_logged → IsSoundMain (W.state world.old).log self.old.streams.main }
+        ensures { Follows W.is_logged next_record self.old (W.state world.old) self.new (W.state world.new) result }
     {
         match self.main_record(world)? {
             Some(text) => Ok(Some(text)),

@@ -10,13 +10,12 @@ ghost use Rattle.awk_meaning.specs.Primitives.{read_name, put, count_in, field_a
 ghost use Rattle.awk_meaning.specs.Semantics.{begin_record};
 ghost use Rattle.awk_meaning.specs.Operators.{takes_pattern};
 ghost use Rattle.awk_run.specs.definitions.Start.{start_values};
-ghost use Rattle.awk_run.specs.support.Does.{seen};
 ghost use Rattle.awk_run.specs.support.Simulation.{Evaluates, Spends, Changes, Follows, IsStart};
 ghost use Rattle.awk_meaning.specs.Results.{IsWantOfMemory};
 
-use crate::arguments::Arguments;
 use crate::start::Start;
 use awk_meaning::Halt;
+use awk_operands::Arguments;
 use awk_operators::{Patterns, make_line, raise};
 use awk_record::Record;
 use awk_streams::{Streams, World};
@@ -201,7 +200,7 @@ impl Interpreter {
     /// Prints the values as a line to standard output, by OFS and ORS. (POSIX awk, Output
     /// Statements)
     pub fn print_line<W: World>(&mut self, world: &mut W, values: &[Value]) -> Result<(), Halt>
-        ensures { Follows W.tells (print_line values.now) self.old (seen (W.is_open world.old) (W.log world.old) (W.mark world.old)) self.new (seen (W.is_open world.new) (W.log world.new) (W.mark world.new)) result }
+        ensures { Follows W.is_logged (print_line values.now) self.old (W.state world.old) self.new (W.state world.new) result }
     {
         let between = self.variables.special(Special::Ofs);
         let behind = self.variables.special(Special::Ors);

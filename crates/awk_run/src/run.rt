@@ -7,7 +7,6 @@ ghost use Rattle.awk_syntax.specs.View.{tree_of, items_of};
 ghost use Rattle.awk_run.specs.definitions.Accepted.{IsSpelled, Accepted, RefusedFor};
 ghost use Rattle.awk_run.specs.definitions.Start.{start_values, pair_of};
 ghost use Rattle.awk_streams.specs.Streams.{AreOpen, IsSoundMain};
-ghost use Rattle.awk_run.specs.support.Does.{seen};
 ghost use Rattle.awk_run.specs.support.Simulation.{Assigns, AssignsAndRuns};
 ghost use Rattle.awk_run.specs.support.Verdict.{outcome_after as outcome_at, ReadsOnly, RunsFrom};
 ghost use Rattle.awk_run.specs.definitions.Headline.{Executed};
@@ -19,7 +18,7 @@ use awk_lex::lexer::tokens;
 use awk_lex::refusal::Refusal;
 use awk_meaning::{Fault, Halt, Outcome};
 use awk_resolve::name_refusal;
-use awk_streams::{StreamFault, World, some_answers_agree};
+use awk_streams::{StreamFault, World, some_oracle_is_consistent};
 use awk_syntax::parse::parse;
 use awk_syntax::tree::{Item, Tree};
 use std::alloc::Global;
@@ -56,9 +55,9 @@ fn assign_and_run<W: World>(
     interpreter: &mut Interpreter,
     world: &mut W,
 ) -> Result<(), Halt>
-    requires open { AreOpen (W.is_open world.old) interpreter.old.streams }
-    requires sound { W.tells → IsSoundMain (W.log world.old) interpreter.old.streams.main }
-    ensures { AssignsAndRuns W.tells (items_of items.now) (map pair_of assignments.now) interpreter.old (seen (W.is_open world.old) (W.log world.old) (W.mark world.old)) interpreter.new (seen (W.is_open world.new) (W.log world.new) (W.mark world.new)) result }
+    requires open { AreOpen (W.state world.old) interpreter.old.streams }
+    requires sound { W.is_logged → IsSoundMain (W.state world.old).log interpreter.old.streams.main }
+    ensures { AssignsAndRuns W.is_logged (items_of items.now) (map pair_of assignments.now) interpreter.old (W.state world.old) interpreter.new (W.state world.new) result }
 {
     assign_all(assignments, interpreter)?;
     run_items(items, interpreter, world)
@@ -73,9 +72,9 @@ fn run_program<W: World>(
     limit: u64,
     world: &mut W,
 ) -> Outcome
-    ensures { RunsFrom W.tells (items_of items.now) (start_values start.now) limit (seen (W.is_open world.old) (W.log world.old) (W.mark world.old)) (seen (W.is_open world.new) (W.log world.new) (W.mark world.new)) result }
+    ensures { RunsFrom W.is_logged (items_of items.now) (start_values start.now) limit (W.state world.old) (W.state world.new) result }
 {
-    some_answers_agree();
+    some_oracle_is_consistent();
     let Ok(mut interpreter) = Interpreter::new(alloc, start, limit) else {
         return Outcome::Fault(Fault::OutOfMemory);
     };
@@ -118,7 +117,7 @@ pub fn execute<W: World>(
     limit: u64,
     world: &mut W,
 ) -> Result<Outcome, Refusal>
-    ensures executed { Executed W.tells text.now (start_values start.now) limit (seen (W.is_open world.old) (W.log world.old) (W.mark world.old)) (seen (W.is_open world.new) (W.log world.new) (W.mark world.new)) result }
+    ensures executed { Executed W.is_logged text.now (start_values start.now) limit (W.state world.old) (W.state world.new) result }
     ensures untouched { OnErr result (world.new ≡ world.old) }
 {
     let tree = read_program(alloc, text)?;

@@ -4,7 +4,6 @@ ghost use Rattle.awk_streams.specs.Streams.{AreOpen, IsSoundMain};
 ghost use Rattle.std.specs.Prelude.{◌≡◌};
 ghost use Rattle.awk_syntax.specs.Tree.{Evaluate, Print, Short};
 ghost use Rattle.awk_syntax.specs.View.{expr_of, exprs_of, statement_of, statements_of, item_of, items_of};
-ghost use Rattle.awk_run.specs.support.Does.{seen};
 ghost use Rattle.awk_run.specs.support.Simulation.{Executes, ExecutesAll, Tries, TriesAll, BeginsItem, BeginsAll, ReadsAll, RunsItems};
 ghost use Rattle.awk_meaning.specs.Semantics.{is_rule, has_rule};
 
@@ -16,7 +15,7 @@ use awk_syntax::tree::{Expr, Item, Statement};
 
 /// Prints the values of a list, or without one the record (POSIX awk, Output Statements).
 fn print<W: World>(list: &[Expr], interpreter: &mut Interpreter, world: &mut W) -> Result<(), Halt>
-    ensures { Executes W.tells (Print (exprs_of list.now)) interpreter.old (seen (W.is_open world.old) (W.log world.old) (W.mark world.old)) interpreter.new (seen (W.is_open world.new) (W.log world.new) (W.mark world.new)) result }
+    ensures { Executes W.is_logged (Print (exprs_of list.now)) interpreter.old (W.state world.old) interpreter.new (W.state world.new) result }
 {
     interpreter.spend()?;
     let values = printed_values(list, interpreter)?;
@@ -25,7 +24,7 @@ fn print<W: World>(list: &[Expr], interpreter: &mut Interpreter, world: &mut W) 
 
 /// Evaluates an expression, whose value is of no use.
 fn evaluate<W: World>(e: &Expr, interpreter: &mut Interpreter, world: &mut W) -> Result<(), Halt>
-    ensures { Executes W.tells (Evaluate (expr_of e.now)) interpreter.old (seen (W.is_open world.old) (W.log world.old) (W.mark world.old)) interpreter.new (seen (W.is_open world.new) (W.log world.new) (W.mark world.new)) result }
+    ensures { Executes W.is_logged (Evaluate (expr_of e.now)) interpreter.old (W.state world.old) interpreter.new (W.state world.new) result }
 {
     interpreter.spend()?;
     eval(e, interpreter)?;
@@ -39,7 +38,7 @@ pub fn exec<W: World>(
     interpreter: &mut Interpreter,
     world: &mut W,
 ) -> Result<(), Halt>
-    ensures { Executes W.tells (statement_of s.now) interpreter.old (seen (W.is_open world.old) (W.log world.old) (W.mark world.old)) interpreter.new (seen (W.is_open world.new) (W.log world.new) (W.mark world.new)) result }
+    ensures { Executes W.is_logged (statement_of s.now) interpreter.old (W.state world.old) interpreter.new (W.state world.new) result }
 {
     match s {
         Statement::Block(all) => exec_all(all, interpreter, world),
@@ -55,7 +54,7 @@ pub fn exec_all<W: World>(
     interpreter: &mut Interpreter,
     world: &mut W,
 ) -> Result<(), Halt>
-    ensures { ExecutesAll W.tells (statements_of all.now) interpreter.old (seen (W.is_open world.old) (W.log world.old) (W.mark world.old)) interpreter.new (seen (W.is_open world.new) (W.log world.new) (W.mark world.new)) result }
+    ensures { ExecutesAll W.is_logged (statements_of all.now) interpreter.old (W.state world.old) interpreter.new (W.state world.new) result }
 {
     for s in all {
         exec(s, interpreter, world)?;
@@ -65,7 +64,7 @@ pub fn exec_all<W: World>(
 
 /// Prints the record at hand where an expression is true (POSIX awk, Patterns).
 fn try_pattern<W: World>(e: &Expr, interpreter: &mut Interpreter, world: &mut W) -> Result<(), Halt>
-    ensures { Tries W.tells (Short (expr_of e.now)) interpreter.old (seen (W.is_open world.old) (W.log world.old) (W.mark world.old)) interpreter.new (seen (W.is_open world.new) (W.log world.new) (W.mark world.new)) result }
+    ensures { Tries W.is_logged (Short (expr_of e.now)) interpreter.old (W.state world.old) interpreter.new (W.state world.new) result }
 {
     if holds(e, interpreter)? {
         print(&[], interpreter, world)
@@ -76,7 +75,7 @@ fn try_pattern<W: World>(e: &Expr, interpreter: &mut Interpreter, world: &mut W)
 
 /// Tries an item on the record at hand (POSIX awk, Patterns).
 fn try_item<W: World>(item: &Item, interpreter: &mut Interpreter, world: &mut W) -> Result<(), Halt>
-    ensures { Tries W.tells (item_of item.now) interpreter.old (seen (W.is_open world.old) (W.log world.old) (W.mark world.old)) interpreter.new (seen (W.is_open world.new) (W.log world.new) (W.mark world.new)) result }
+    ensures { Tries W.is_logged (item_of item.now) interpreter.old (W.state world.old) interpreter.new (W.state world.new) result }
 {
     match item {
         Item::Begin(_) => Ok(()),
@@ -98,7 +97,7 @@ fn try_items<W: World>(
     interpreter: &mut Interpreter,
     world: &mut W,
 ) -> Result<(), Halt>
-    ensures { TriesAll W.tells (items_of items.now) interpreter.old (seen (W.is_open world.old) (W.log world.old) (W.mark world.old)) interpreter.new (seen (W.is_open world.new) (W.log world.new) (W.mark world.new)) result }
+    ensures { TriesAll W.is_logged (items_of items.now) interpreter.old (W.state world.old) interpreter.new (W.state world.new) result }
 {
     for item in items {
         try_item(item, interpreter, world)?;
@@ -112,7 +111,7 @@ fn begin_item<W: World>(
     interpreter: &mut Interpreter,
     world: &mut W,
 ) -> Result<(), Halt>
-    ensures { BeginsItem W.tells (item_of item.now) interpreter.old (seen (W.is_open world.old) (W.log world.old) (W.mark world.old)) interpreter.new (seen (W.is_open world.new) (W.log world.new) (W.mark world.new)) result }
+    ensures { BeginsItem W.is_logged (item_of item.now) interpreter.old (W.state world.old) interpreter.new (W.state world.new) result }
 {
     match item {
         Item::Begin(block) => exec_all(block, interpreter, world),
@@ -126,7 +125,7 @@ fn begin_items<W: World>(
     interpreter: &mut Interpreter,
     world: &mut W,
 ) -> Result<(), Halt>
-    ensures { BeginsAll W.tells (items_of items.now) interpreter.old (seen (W.is_open world.old) (W.log world.old) (W.mark world.old)) interpreter.new (seen (W.is_open world.new) (W.log world.new) (W.mark world.new)) result }
+    ensures { BeginsAll W.is_logged (items_of items.now) interpreter.old (W.state world.old) interpreter.new (W.state world.new) result }
 {
     for item in items {
         begin_item(item, interpreter, world)?;
@@ -141,9 +140,9 @@ fn run_records<W: World>(
     interpreter: &mut Interpreter,
     world: &mut W,
 ) -> Result<(), Halt>
-    requires open { AreOpen (W.is_open world.old) interpreter.old.streams }
-    requires sound { W.tells → IsSoundMain (W.log world.old) interpreter.old.streams.main }
-    ensures { ReadsAll W.tells (items_of items.now) interpreter.old (seen (W.is_open world.old) (W.log world.old) (W.mark world.old)) interpreter.new (seen (W.is_open world.new) (W.log world.new) (W.mark world.new)) result }
+    requires open { AreOpen (W.state world.old) interpreter.old.streams }
+    requires sound { W.is_logged → IsSoundMain (W.state world.old).log interpreter.old.streams.main }
+    ensures { ReadsAll W.is_logged (items_of items.now) interpreter.old (W.state world.old) interpreter.new (W.state world.new) result }
 {
     while let Some(text) = interpreter.next_record(world)? {
         interpreter.spend()?;
@@ -173,9 +172,9 @@ pub fn run_items<W: World>(
     interpreter: &mut Interpreter,
     world: &mut W,
 ) -> Result<(), Halt>
-    requires open { AreOpen (W.is_open world.old) interpreter.old.streams }
-    requires sound { W.tells → IsSoundMain (W.log world.old) interpreter.old.streams.main }
-    ensures { RunsItems W.tells (items_of items.now) interpreter.old (seen (W.is_open world.old) (W.log world.old) (W.mark world.old)) interpreter.new (seen (W.is_open world.new) (W.log world.new) (W.mark world.new)) result }
+    requires open { AreOpen (W.state world.old) interpreter.old.streams }
+    requires sound { W.is_logged → IsSoundMain (W.state world.old).log interpreter.old.streams.main }
+    ensures { RunsItems W.is_logged (items_of items.now) interpreter.old (W.state world.old) interpreter.new (W.state world.new) result }
 {
     begin_items(items, interpreter, world)?;
     if has_rule(items) {

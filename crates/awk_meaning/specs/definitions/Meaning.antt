@@ -1,6 +1,6 @@
 -- The meaning of a program: its outcome, the bytes of each output, and what it demands of the outside.
 use Rattle.std.specs.Prelude.{◌≡◌, ◌≢◌, ℕ, ◌+◌, suc, List, [], ◌∷◌, ◌++◌, length, codes, Bool, true, false, None, Result, Ok, Err, if◌then◌else◌}
-use Rattle.awk_streams.specs.Answers.{Answers}
+use Rattle.awk_streams.specs.Oracle.{Oracle}
 use Rattle.awk_syntax.specs.Tree.{Item}
 use Rattle.awk_meaning.specs.declared.outcome.Outcome.{Outcome}
 use Rattle.awk_meaning.specs.declared.outcome.Outcome.TheVariants.{Ended, Fault, Stopped}
@@ -23,9 +23,9 @@ abbrev pub arguments_of : List (List ℕ) → List (List ℕ)
 arguments_of operands = codes "awk" ∷ operands
 
 -- before a record is read, `$0` is empty
-abbrev pub start_state : StartValues → Answers → ℕ → State
-start_state start answers limit = record {
-  outside = answers;
+abbrev pub start_state : StartValues → Oracle → ℕ → State
+start_state start oracle limit = record {
+  outside = oracle;
   openings = λ kind name. 0;
   main = None;
   current = record { text = []; fields = [] };
@@ -45,8 +45,8 @@ assign_all (a ∷ all) = assign_text a.0 a.1 >>= λ _. assign_all all
 unfoldable pub assign_and_run : List Item → List (List ℕ × List ℕ) → Run (Unit {0})
 assign_and_run items pre = assign_all pre >>= λ _. run_items items
 
-unfoldable pub run_program : List Item → StartValues → Answers → ℕ → Out (Unit {0})
-run_program items start answers limit = assign_and_run items start.pre (start_state start answers limit)
+unfoldable pub run_program : List Item → StartValues → Oracle → ℕ → Out (Unit {0})
+run_program items start oracle limit = assign_and_run items start.pre (start_state start oracle limit)
 
 abbrev pub outcome_of : Result (Unit {0}) Halt → Outcome
 outcome_of (Ok u) = Ended 0
@@ -80,11 +80,11 @@ pub record Meaning : Type 0 where
   pub requests : List Asked
 
 -- the meaning of the program with these answers of the outside and this many steps; the end is the last request
-abbrev pub meaning_of : List Item → StartValues → Answers → ℕ → Meaning
-meaning_of items start answers limit = record {
-  outcome = outcome_of (run_program items start answers limit).result;
-  printed = λ output. printed_to output (run_program items start answers limit).effects;
-  requests = requests_after [] ((run_program items start answers limit).effects ++ Requested TheEnd ∷ []);
+abbrev pub meaning_of : List Item → StartValues → Oracle → ℕ → Meaning
+meaning_of items start oracle limit = record {
+  outcome = outcome_of (run_program items start oracle limit).result;
+  printed = λ output. printed_to output (run_program items start oracle limit).effects;
+  requests = requests_after [] ((run_program items start oracle limit).effects ++ Requested TheEnd ∷ []);
 }
 
 -- What a larger limit of steps changes: nothing but where a run stops.
@@ -98,9 +98,9 @@ abbrev pub Begins : Meaning → Meaning → Type 0
 Begins x y = (output : Output) → IsBeginning (x.printed output) (y.printed output)
 
 -- a meaning that isn't stopped at a limit is the same at a larger one, and what is stopped begins it
-pub record KeepsToLimits (items : List Item) (start : StartValues) (answers : Answers) (limit more : ℕ) : Type 0 where
-  pub settled : (meaning_of items start answers limit).outcome ≢ Stopped → meaning_of items start answers (limit + more) ≡ meaning_of items start answers limit
-  pub stopped : (meaning_of items start answers limit).outcome ≡ Stopped → Begins (meaning_of items start answers limit) (meaning_of items start answers (limit + more))
+pub record KeepsToLimits (items : List Item) (start : StartValues) (oracle : Oracle) (limit more : ℕ) : Type 0 where
+  pub settled : (meaning_of items start oracle limit).outcome ≢ Stopped → meaning_of items start oracle (limit + more) ≡ meaning_of items start oracle limit
+  pub stopped : (meaning_of items start oracle limit).outcome ≡ Stopped → Begins (meaning_of items start oracle limit) (meaning_of items start oracle (limit + more))
 
 abbrev pub LawOfLimits : Type 0
-LawOfLimits = (items : List Item) (start : StartValues) (answers : Answers) (limit more : ℕ) → KeepsToLimits items start answers limit more
+LawOfLimits = (items : List Item) (start : StartValues) (oracle : Oracle) (limit more : ℕ) → KeepsToLimits items start oracle limit more

@@ -3,7 +3,7 @@ use Rattle.std.specs.Prelude.{ℕ, Bool, List, [], ◌++◌, Option, Result, Ok,
 use Rattle.awk_value.specs.declared.value.Value.{Value}
 use Rattle.awk_record.specs.Record.{RecordPair}
 use Rattle.awk_streams.specs.declared.world.InputKind.{InputKind}
-use Rattle.awk_streams.specs.Answers.{Source, Answers}
+use Rattle.awk_streams.specs.Oracle.{Source, Oracle}
 use Rattle.awk_meaning.specs.declared.halt.Halt.{Halt}
 
 -- what is printed to: standard output and standard error are one opening each
@@ -24,7 +24,7 @@ pub data Effect : Type 0 where
 
 pub record State : Type 0 where
   -- what the outside answers
-  pub outside : Answers
+  pub outside : Oracle
   -- how many openings of an input of a kind and name there were
   pub openings : InputKind → List ℕ → ℕ
   -- the rest of the main input, if it is open

@@ -5,7 +5,7 @@ use Rattle.awk_value.specs.Values.{truth_of}
 use Rattle.awk_streams.specs.declared.world.InputKind.{InputKind}
 use Rattle.awk_streams.specs.declared.fault.StreamFault.{StreamFault}
 use Rattle.awk_streams.specs.Log as log
-use Rattle.awk_streams.specs.Answers.{Answers, Agrees, how_many, opens_input}
+use Rattle.awk_streams.specs.Oracle.{Oracle, IsConsistent, how_many, opens_input}
 use Rattle.awk_streams.specs.Writes.{received}
 use Rattle.awk_streams.specs.Streams.{AreOpen, AreSound, IsSoundMain, Grows, IsMainRest}
 use Rattle.awk_syntax.specs.Tree.{Expr, Ere, Exprs, Statement, Statements, Item}
@@ -16,7 +16,7 @@ use Rattle.awk_meaning.specs.declared.fault.Fault.TheVariants.{OutOfMemory, Writ
 use Rattle.awk_meaning.specs.State.{StandardOutput, StandardError, Effect, State, Out, Run}
 use Rattle.awk_variables.specs.Variables.{value_of, initial_value}
 use Rattle.awk_meaning.specs.Results.{Sort, WantOfMemory, FailedWrite, OfLanguage, sort_of}
-use Rattle.awk_run.specs.support.Does.{Seen}
+use Rattle.awk_streams.specs.WorldState.{WorldState}
 use Rattle.awk_meaning.specs.Primitives.{spend, open_main, close_main}
 use Rattle.awk_meaning.specs.Inputs.{search_operands_within}
 use Rattle.awk_meaning.specs.Faults.{stream_fault}
@@ -33,44 +33,44 @@ pub record OwnRelation (m : Interpreter) (s : State) : Type 0 where
   pub steps : s.steps ≡ m.steps
 
 -- the code's state and world stand for the state s after these effects
-pub record StateRelation (answers : Answers) (m : Interpreter) (k : Seen) (s : State) (past : List Effect) : Type 0 where
-  pub clear : k.mark ≡ None
-  pub outside : s.outside ≡ answers
+pub record StateRelation (oracle : Oracle) (m : Interpreter) (k : WorldState) (s : State) (past : List Effect) : Type 0 where
+  pub clear : k.first_failure ≡ None
+  pub outside : s.outside ≡ oracle
   pub openings : (kind : InputKind) (name : List ℕ) → s.openings kind name ≡ how_many (opens_input kind name) k.log
-  pub main : IsMainRest answers k.log m.streams.main s.main
+  pub main : IsMainRest oracle k.log m.streams.main s.main
   pub holds : OwnRelation m s
   pub output : received 0 k.log ≡ printed_to StandardOutput past
   pub error : received 1 k.log ≡ printed_to StandardError past
 
--- what a part came to: after a failed write the world's mark is set; unless memory was refused or a
+-- what a part came to: after a failed write the world's first failure is set; unless memory was refused or a
 -- write failed, the result is the meaning's, and the code's state stands for the meaning's
-abbrev pub ResultRelationBy : {A : Type 0} → Answers → Interpreter → Seen → Sort → Out A → List Effect → Type 0
-ResultRelationBy answers m k WantOfMemory o past = Unit {0}
-ResultRelationBy answers m k FailedWrite o past = is_some k.mark ≡ true
-ResultRelationBy answers m k (OfLanguage reason) o past = (o.result ≡ Err reason) × StateRelation answers m k o.state (past ++ o.effects)
+abbrev pub ResultRelationBy : {A : Type 0} → Oracle → Interpreter → WorldState → Sort → Out A → List Effect → Type 0
+ResultRelationBy oracle m k WantOfMemory o past = Unit {0}
+ResultRelationBy oracle m k FailedWrite o past = is_some k.first_failure ≡ true
+ResultRelationBy oracle m k (OfLanguage reason) o past = (o.result ≡ Err reason) × StateRelation oracle m k o.state (past ++ o.effects)
 
-abbrev pub ResultRelation : {A : Type 0} → Answers → Interpreter → Seen → Result A Halt → Out A → List Effect → Type 0
-ResultRelation answers m k (Ok a) o past = (o.result ≡ Ok a) × StateRelation answers m k o.state (past ++ o.effects)
-ResultRelation answers m k (Err h) o past = ResultRelationBy answers m k (sort_of h) o past
+abbrev pub ResultRelation : {A : Type 0} → Oracle → Interpreter → WorldState → Result A Halt → Out A → List Effect → Type 0
+ResultRelation oracle m k (Ok a) o past = (o.result ≡ Ok a) × StateRelation oracle m k o.state (past ++ o.effects)
+ResultRelation oracle m k (Err h) o past = ResultRelationBy oracle m k (sort_of h) o past
 
 -- from the old state and a world that tells to the new ones, with this result, the code does what the run says
-pub record SimulatesLogged {A : Type 0} (old : Interpreter) (before : Seen) (new : Interpreter) (after : Seen) (r : Result A Halt) (run : Run A) : Type 0 where
-  pub grows : Grows before.log before.mark after.log after.mark
-  pub keeps : AreSound before.is_open before.log old.streams → AreSound after.is_open after.log new.streams
+pub record SimulatesLogged {A : Type 0} (old : Interpreter) (before : WorldState) (new : Interpreter) (after : WorldState) (r : Result A Halt) (run : Run A) : Type 0 where
+  pub grows : Grows before after
+  pub keeps : AreSound before old.streams → AreSound after new.streams
   pub keeps_main : IsSoundMain before.log old.streams.main → IsSoundMain after.log new.streams.main
-  pub means : (answers : Answers) (s : State) (past : List Effect) → Agrees answers after.log → StateRelation answers old before s past → ResultRelation answers new after r (run s) past
+  pub means : (oracle : Oracle) (s : State) (past : List Effect) → IsConsistent oracle after.log → StateRelation oracle old before s past → ResultRelation oracle new after r (run s) past
 
 -- the same of any world, of which it holds where the world tells
-pub record Simulates {A : Type 0} (tells : Type 0) (old : Interpreter) (before : Seen) (new : Interpreter) (after : Seen) (r : Result A Halt) (run : Run A) : Type 0 where
+pub record Simulates {A : Type 0} (is_logged : Type 0) (old : Interpreter) (before : WorldState) (new : Interpreter) (after : WorldState) (r : Result A Halt) (run : Run A) : Type 0 where
   pub steps : new.steps ≤ old.steps
-  pub kept_open : AreOpen before.is_open old.streams → AreOpen after.is_open new.streams
-  pub told : tells → SimulatesLogged old before new after r run
+  pub kept_open : AreOpen before old.streams → AreOpen after new.streams
+  pub told : is_logged → SimulatesLogged old before new after r run
 
 -- a change of the code's state alone, whatever world stands beside it
 pub record Changes {A : Type 0} (run : Run A) (old new : Interpreter) (r : Result A Halt) : Type 0 where
   pub steps : new.steps ≤ old.steps
   pub streams : new.streams ≡ old.streams
-  pub means : (k : Seen) → SimulatesLogged old k new k r run
+  pub means : (k : WorldState) → SimulatesLogged old k new k r run
 
 -- a step is spent, or there is none
 pub record Spends (old new : Interpreter) (r : Result (Unit {0}) Halt) : Type 0 where
@@ -117,39 +117,39 @@ pub record SameState (old new : Interpreter) : Type 0 where
   pub beside : Beside old new
   pub streams : new.streams ≡ old.streams
 
-pub record Follows {A : Type 0} (tells : Type 0) (run : Run A) (old : Interpreter) (before : Seen) (new : Interpreter) (after : Seen) (r : Result A Halt) : Type 0 where
-  pub simulates : Simulates tells old before new after r run
+pub record Follows {A : Type 0} (is_logged : Type 0) (run : Run A) (old : Interpreter) (before : WorldState) (new : Interpreter) (after : WorldState) (r : Result A Halt) : Type 0 where
+  pub simulates : Simulates is_logged old before new after r run
 
-pub record Executes (tells : Type 0) (s : Statement) (old : Interpreter) (before : Seen) (new : Interpreter) (after : Seen) (r : Result (Unit {0}) Halt) : Type 0 where
-  pub simulates : Simulates tells old before new after r (exec s)
+pub record Executes (is_logged : Type 0) (s : Statement) (old : Interpreter) (before : WorldState) (new : Interpreter) (after : WorldState) (r : Result (Unit {0}) Halt) : Type 0 where
+  pub simulates : Simulates is_logged old before new after r (exec s)
 
-pub record ExecutesAll (tells : Type 0) (all : Statements) (old : Interpreter) (before : Seen) (new : Interpreter) (after : Seen) (r : Result (Unit {0}) Halt) : Type 0 where
-  pub simulates : Simulates tells old before new after r (exec_all all)
+pub record ExecutesAll (is_logged : Type 0) (all : Statements) (old : Interpreter) (before : WorldState) (new : Interpreter) (after : WorldState) (r : Result (Unit {0}) Halt) : Type 0 where
+  pub simulates : Simulates is_logged old before new after r (exec_all all)
 
-pub record Tries (tells : Type 0) (x : Item) (old : Interpreter) (before : Seen) (new : Interpreter) (after : Seen) (r : Result (Unit {0}) Halt) : Type 0 where
-  pub simulates : Simulates tells old before new after r (try_item x)
+pub record Tries (is_logged : Type 0) (x : Item) (old : Interpreter) (before : WorldState) (new : Interpreter) (after : WorldState) (r : Result (Unit {0}) Halt) : Type 0 where
+  pub simulates : Simulates is_logged old before new after r (try_item x)
 
-pub record TriesAll (tells : Type 0) (xs : List Item) (old : Interpreter) (before : Seen) (new : Interpreter) (after : Seen) (r : Result (Unit {0}) Halt) : Type 0 where
-  pub simulates : Simulates tells old before new after r (try_items xs)
+pub record TriesAll (is_logged : Type 0) (xs : List Item) (old : Interpreter) (before : WorldState) (new : Interpreter) (after : WorldState) (r : Result (Unit {0}) Halt) : Type 0 where
+  pub simulates : Simulates is_logged old before new after r (try_items xs)
 
 -- the records that are left, at any bound above the steps
-pub record ReadsOn (tells : Type 0) (xs : List Item) (old : Interpreter) (before : Seen) (new : Interpreter) (after : Seen) (r : Result (Unit {0}) Halt) : Type 0 where
-  pub simulates : (n : ℕ) → old.steps ≤ n → Simulates tells old before new after r (each_record (suc n) (try_items xs))
+pub record ReadsOn (is_logged : Type 0) (xs : List Item) (old : Interpreter) (before : WorldState) (new : Interpreter) (after : WorldState) (r : Result (Unit {0}) Halt) : Type 0 where
+  pub simulates : (n : ℕ) → old.steps ≤ n → Simulates is_logged old before new after r (each_record (suc n) (try_items xs))
 
-pub record ReadsAll (tells : Type 0) (xs : List Item) (old : Interpreter) (before : Seen) (new : Interpreter) (after : Seen) (r : Result (Unit {0}) Halt) : Type 0 where
-  pub simulates : Simulates tells old before new after r (run_records (try_items xs))
+pub record ReadsAll (is_logged : Type 0) (xs : List Item) (old : Interpreter) (before : WorldState) (new : Interpreter) (after : WorldState) (r : Result (Unit {0}) Halt) : Type 0 where
+  pub simulates : Simulates is_logged old before new after r (run_records (try_items xs))
 
-pub record BeginsItem (tells : Type 0) (x : Item) (old : Interpreter) (before : Seen) (new : Interpreter) (after : Seen) (r : Result (Unit {0}) Halt) : Type 0 where
-  pub simulates : Simulates tells old before new after r (begin_item x)
+pub record BeginsItem (is_logged : Type 0) (x : Item) (old : Interpreter) (before : WorldState) (new : Interpreter) (after : WorldState) (r : Result (Unit {0}) Halt) : Type 0 where
+  pub simulates : Simulates is_logged old before new after r (begin_item x)
 
-pub record BeginsAll (tells : Type 0) (xs : List Item) (old : Interpreter) (before : Seen) (new : Interpreter) (after : Seen) (r : Result (Unit {0}) Halt) : Type 0 where
-  pub simulates : Simulates tells old before new after r (begin_items xs)
+pub record BeginsAll (is_logged : Type 0) (xs : List Item) (old : Interpreter) (before : WorldState) (new : Interpreter) (after : WorldState) (r : Result (Unit {0}) Halt) : Type 0 where
+  pub simulates : Simulates is_logged old before new after r (begin_items xs)
 
-pub record RunsItems (tells : Type 0) (xs : List Item) (old : Interpreter) (before : Seen) (new : Interpreter) (after : Seen) (r : Result (Unit {0}) Halt) : Type 0 where
-  pub simulates : Simulates tells old before new after r (run_items xs)
+pub record RunsItems (is_logged : Type 0) (xs : List Item) (old : Interpreter) (before : WorldState) (new : Interpreter) (after : WorldState) (r : Result (Unit {0}) Halt) : Type 0 where
+  pub simulates : Simulates is_logged old before new after r (run_items xs)
 
-pub record AssignsAndRuns (tells : Type 0) (xs : List Item) (pre : List (List ℕ × List ℕ)) (old : Interpreter) (before : Seen) (new : Interpreter) (after : Seen) (r : Result (Unit {0}) Halt) : Type 0 where
-  pub simulates : Simulates tells old before new after r (assign_and_run xs pre)
+pub record AssignsAndRuns (is_logged : Type 0) (xs : List Item) (pre : List (List ℕ × List ℕ)) (old : Interpreter) (before : WorldState) (new : Interpreter) (after : WorldState) (r : Result (Unit {0}) Halt) : Type 0 where
+  pub simulates : Simulates is_logged old before new after r (assign_and_run xs pre)
 
 -- the assignments before a run
 pub record Assigns (all : List (List ℕ × List ℕ)) (old new : Interpreter) (r : Result (Unit {0}) Halt) : Type 0 where
@@ -167,22 +167,22 @@ ClosedUnless (Ok (Some a)) m = Unit {0}
 ClosedUnless (Err h) m = Unit {0}
 
 -- a record is looked for, and where none is found no main input is left open
-pub record Seeks (tells : Type 0) (run : Run (Option (List ℕ))) (old : Interpreter) (before : Seen) (new : Interpreter) (after : Seen) (r : Result (Option (List ℕ)) Halt) : Type 0 where
-  pub simulates : Simulates tells old before new after r run
+pub record Seeks (is_logged : Type 0) (run : Run (Option (List ℕ))) (old : Interpreter) (before : WorldState) (new : Interpreter) (after : WorldState) (r : Result (Option (List ℕ)) Halt) : Type 0 where
+  pub simulates : Simulates is_logged old before new after r run
   pub closed : ClosedUnless r new
 
 -- the elements of ARGV that are left, at any bound above the steps
-pub record SearchesOn (tells : Type 0) (old : Interpreter) (before : Seen) (new : Interpreter) (after : Seen) (r : Result (Option (List ℕ)) Halt) : Type 0 where
-  pub simulates : (n : ℕ) → old.steps ≤ n → Simulates tells old before new after r (search_operands_within (suc n))
+pub record SearchesOn (is_logged : Type 0) (old : Interpreter) (before : WorldState) (new : Interpreter) (after : WorldState) (r : Result (Option (List ℕ)) Halt) : Type 0 where
+  pub simulates : (n : ℕ) → old.steps ≤ n → Simulates is_logged old before new after r (search_operands_within (suc n))
 
 -- the main input is closed, and then there is none
-pub record ClosesMainInput (tells : Type 0) (old : Interpreter) (before : Seen) (new : Interpreter) (after : Seen) : Type 0 where
-  pub simulates : Simulates tells old before new after (Ok tt) close_main
+pub record ClosesMainInput (is_logged : Type 0) (old : Interpreter) (before : WorldState) (new : Interpreter) (after : WorldState) : Type 0 where
+  pub simulates : Simulates is_logged old before new after (Ok tt) close_main
   pub main : new.streams.main ≡ None
 
 -- a main input is opened, and then there is one
-pub record OpensMainInput (tells : Type 0) (kind : InputKind) (path : List ℕ) (old : Interpreter) (before : Seen) (new : Interpreter) (after : Seen) (r : Result (Unit {0}) Halt) : Type 0 where
-  pub simulates : Simulates tells old before new after r (open_main kind path)
+pub record OpensMainInput (is_logged : Type 0) (kind : InputKind) (path : List ℕ) (old : Interpreter) (before : WorldState) (new : Interpreter) (after : WorldState) (r : Result (Unit {0}) Halt) : Type 0 where
+  pub simulates : Simulates is_logged old before new after r (open_main kind path)
   pub main : OnOk r (is_some new.streams.main ≡ true)
 
 -- the code's state before a run

@@ -12,7 +12,7 @@ use Rattle.awk_meaning.specs.declared.outcome.Outcome.{Outcome}
 use Rattle.awk_meaning.specs.declared.outcome.Outcome.TheVariants.{Ended, Fault, Stopped}
 use Rattle.awk_meaning.specs.Faults.{stream_fault}
 use Rattle.awk_meaning.specs.Meaning.{StartValues}
-use Rattle.awk_run.specs.support.Does.{Seen}
+use Rattle.awk_streams.specs.WorldState.{WorldState}
 use Rattle.awk_run.specs.definitions.Headline.{IsUntouched, Runs}
 
 -- a failure of the end of a run counts unless a fault came before it
@@ -29,5 +29,5 @@ ReadsOnly (Ok tree) items = tree_of tree ≡ items
 ReadsOnly (Err refusal) items = IsOutOfMemory refusal
 
 -- from a world in which nothing was done, a run leaves what the items mean
-pub record RunsFrom (tells : Type 0) (items : List Item) (start : StartValues) (limit : ℕ) (before after : Seen) (result : Outcome) : Type 0 where
-  pub runs : tells → IsUntouched before → Runs items start limit after result
+pub record RunsFrom (is_logged : Type 0) (items : List Item) (start : StartValues) (limit : ℕ) (before after : WorldState) (result : Outcome) : Type 0 where
+  pub runs : is_logged → IsUntouched before → Runs items start limit after result

@@ -2,7 +2,7 @@ use Rattle.std.proofs.Common.{◌≡◌, ℕ, suc, ◌<◌, true, List, [], ◌�
 use Rattle.std.specs.List.{prefix_len}
 use Rattle.awk_lex.specs.Words.{is_word, is_word_byte}
 use Rattle.awk_meaning.specs.Inputs.{Assignment, split_name, operand_of}
-use Rattle.awk_run.proofs.arguments.form_of.Goals as goal
+use Rattle.awk_operands.proofs.arguments.form_of.Goals as goal
 
 split_name-behind : (word name behind text : List ℕ) → behind ≡ 61 ∷ text → is_word name ≡ true → Assignment name text ≡ split_name word name behind
 split_name-behind word name behind text e t = rw e (rw t refl)

@@ -4,8 +4,8 @@ use Rattle.awk_value.specs.declared.fault.ValueFault.{ValueFault}
 use Rattle.awk_meaning.specs.declared.halt.Halt.{Halt}
 use Rattle.awk_meaning.specs.declared.halt.Halt.TheVariants as halt
 use Rattle.awk_meaning.specs.Faults.{value_fault}
-use Rattle.awk_run.specs.declared.arguments.OperandForm.{OperandForm}
-use Rattle.awk_run.specs.declared.arguments.OperandForm.TheVariants as form
+use Rattle.awk_operands.specs.declared.arguments.OperandForm.{OperandForm}
+use Rattle.awk_operands.specs.declared.arguments.OperandForm.TheVariants as form
 use Rattle.awk_meaning.specs.Inputs.{Operand, Nothing, Assignment, StandardInput, AFile}
 
 abbrev pub operand_in : (word : List ℕ) → OperandForm → Operand

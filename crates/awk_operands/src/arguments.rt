@@ -7,7 +7,7 @@ ghost use Rattle.awk_lex.specs.Words.{is_word_byte};
 ghost use Rattle.awk_lex.specs.Escapes.{unescaped};
 ghost use Rattle.awk_meaning.specs.Meaning.{arguments_of};
 ghost use Rattle.awk_meaning.specs.Inputs.{operand_of, is_unassignable, assigned_text, text_or_fault};
-ghost use Rattle.awk_run.specs.support.Operands.{operand_in, is_below, IsFaultOf};
+ghost use Rattle.awk_operands.specs.support.Operands.{operand_in, is_below, IsFaultOf};
 ghost use Rattle.awk_meaning.specs.Results.{Yields, IsWantOfMemory};
 
 use awk_lex::escapes::{EscapeFault, unescape};
@@ -32,7 +32,7 @@ pub struct Arguments {
 }
 
 /// What an element of ARGV asks for.
-#[derive(Clone, Copy, Debug, PartialEq, Eq)]
+#[derive(Clone, Copy)]
 pub enum OperandForm {
     /// Nothing: it is empty or absent.
     Nothing,
