@@ -85,9 +85,12 @@ impl Arguments {
         ensures words { self.new.words ≡ self.old.words }
         ensures input_seen { self.new.input_seen ≡ self.old.input_seen }
         ensures none { IfOk result (λ found. IfNone found (is_below self.old.next (num_of count.now) ≡ Ok false)) }
-        ensures some { IfOk result (λ found. IfSome found (λ word. is_below self.old.next (num_of count.now) ≡ Ok true)) }
-        ensures word { IfOk result (λ found. IfSome found (λ word. (i : ℕ) → self.old.next ≡ pos i → word ≡ unwrap_or (slice_get self.old.words.items i) [])) }
-        ensures next { IfOk result (λ found. IfSome found (λ word. (i : ℕ) → self.old.next ≡ pos i → self.new.next ≡ pos (suc i))) }
+        ensures some { IfOk result (λ found. IfSome found (λ word. is_below self.old.next (num_of count.now)
+            ≡ Ok true)) }
+        ensures word { IfOk result (λ found. IfSome found (λ word. (i : ℕ) → self.old.next ≡ pos i →
+            word ≡ unwrap_or (slice_get self.old.words.items i) [])) }
+        ensures next { IfOk result (λ found. IfSome found (λ word. (i : ℕ) → self.old.next ≡ pos i →
+            self.new.next ≡ pos (suc i))) }
         ensures still { IfOk result (λ found. IfNone found (self.new.next ≡ self.old.next)) }
         ensures err { OnErr result (self.new.next ≡ self.old.next) }
         ensures fault { IfErr result (λ h. IsWantOfMemory h ⊎ IsFaultOf (num_of count.now) h) }

@@ -10,7 +10,8 @@ use awk_value::{Value, append_text};
 
 /// Appends the text of each value behind the separator.
 fn append_rest(line: &mut Vec<u8>, values: &[Value], separator: &Value) -> Result<(), Halt>
-    ensures text { OnOk result (line.new.items ≡ line.old.items ++ join_rest (str_of separator.now) (map str_of values.now)) }
+    ensures text { OnOk result (line.new.items ≡ line.old.items
+        ++ join_rest (str_of separator.now) (map str_of values.now)) }
     ensures fault { IfErr result IsWantOfMemory }
 {
     for value in values {
@@ -22,7 +23,8 @@ fn append_rest(line: &mut Vec<u8>, values: &[Value], separator: &Value) -> Resul
 
 /// Appends the texts of the values, each but the first behind the separator.
 fn append_join(line: &mut Vec<u8>, values: &[Value], separator: &Value) -> Result<(), Halt>
-    ensures text { OnOk result (line.new.items ≡ line.old.items ++ join (str_of separator.now) (map str_of values.now)) }
+    ensures text { OnOk result (line.new.items ≡ line.old.items
+        ++ join (str_of separator.now) (map str_of values.now)) }
     ensures fault { IfErr result IsWantOfMemory }
 {
     match values {

@@ -52,7 +52,8 @@ impl Interpreter {
         requires none { self.old.streams.main ≡ None }
         requires plain { kind ≢ InputKind.Command }
         requires named { kind ≡ InputKind.Standard → path.now ≡ [] }
-        ensures { OpensMainInput W.is_logged kind path.now self.old (W.state world.old) self.new (W.state world.new) result }
+        ensures { OpensMainInput W.is_logged kind path.now self.old (W.state world.old) self.new
+            (W.state world.new) result }
     {
         Ok(self.streams.open_main(world, kind, path)?)
     }
@@ -108,7 +109,8 @@ impl Interpreter {
         requires plain { kind ≢ InputKind.Command }
         requires open { AreOpen (W.state world.old) self.old.streams }
         requires sound { W.is_logged → IsSoundMain (W.state world.old).log self.old.streams.main }
-        ensures { Seeks W.is_logged (first_record kind name) self.old (W.state world.old) self.new (W.state world.new) result }
+        ensures { Seeks W.is_logged (first_record kind name) self.old (W.state world.old) self.new
+            (W.state world.new) result }
     {
         self.open_main(world, kind, path_of(kind, &name))?;
         self.begin_input(name)?;
@@ -124,7 +126,8 @@ impl Interpreter {
         requires none { self.old.streams.main ≡ None }
         requires open { AreOpen (W.state world.old) self.old.streams }
         requires sound { W.is_logged → IsSoundMain (W.state world.old).log self.old.streams.main }
-        ensures { Seeks W.is_logged (operand_record word) self.old (W.state world.old) self.new (W.state world.new) result }
+        ensures { Seeks W.is_logged (operand_record word) self.old (W.state world.old) self.new
+            (W.state world.new) result }
     {
         let bytes = word.as_slice();
         match form_of(bytes) {

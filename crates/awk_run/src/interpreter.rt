@@ -200,7 +200,8 @@ impl Interpreter {
     /// Prints the values as a line to standard output, by OFS and ORS. (POSIX awk, Output
     /// Statements)
     pub fn print_line<W: World>(&mut self, world: &mut W, values: &[Value]) -> Result<(), Halt>
-        ensures { Follows W.is_logged (print_line values.now) self.old (W.state world.old) self.new (W.state world.new) result }
+        ensures { Follows W.is_logged (print_line values.now) self.old (W.state world.old) self.new
+            (W.state world.new) result }
     {
         let between = self.variables.special(Special::Ofs);
         let behind = self.variables.special(Special::Ors);

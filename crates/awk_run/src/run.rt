@@ -57,7 +57,8 @@ fn assign_and_run<W: World>(
 ) -> Result<(), Halt>
     requires open { AreOpen (W.state world.old) interpreter.old.streams }
     requires sound { W.is_logged → IsSoundMain (W.state world.old).log interpreter.old.streams.main }
-    ensures { AssignsAndRuns W.is_logged (items_of items.now) (map pair_of assignments.now) interpreter.old (W.state world.old) interpreter.new (W.state world.new) result }
+    ensures { AssignsAndRuns W.is_logged (items_of items.now) (map pair_of assignments.now) interpreter.old
+        (W.state world.old) interpreter.new (W.state world.new) result }
 {
     assign_all(assignments, interpreter)?;
     run_items(items, interpreter, world)
@@ -72,7 +73,8 @@ fn run_program<W: World>(
     limit: u64,
     world: &mut W,
 ) -> Outcome
-    ensures { RunsFrom W.is_logged (items_of items.now) (start_values start.now) limit (W.state world.old) (W.state world.new) result }
+    ensures { RunsFrom W.is_logged (items_of items.now) (start_values start.now) limit (W.state world.old)
+        (W.state world.new) result }
 {
     some_oracle_is_consistent();
     let Ok(mut interpreter) = Interpreter::new(alloc, start, limit) else {
@@ -117,7 +119,8 @@ pub fn execute<W: World>(
     limit: u64,
     world: &mut W,
 ) -> Result<Outcome, Refusal>
-    ensures executed { Executed W.is_logged text.now (start_values start.now) limit (W.state world.old) (W.state world.new) result }
+    ensures executed { Executed W.is_logged text.now (start_values start.now) limit (W.state world.old)
+        (W.state world.new) result }
     ensures untouched { OnErr result (world.new ≡ world.old) }
 {
     let tree = read_program(alloc, text)?;

@@ -15,7 +15,8 @@ use awk_syntax::tree::{Expr, Item, Statement};
 
 /// Prints the values of a list, or without one the record (POSIX awk, Output Statements).
 fn print<W: World>(list: &[Expr], interpreter: &mut Interpreter, world: &mut W) -> Result<(), Halt>
-    ensures { Executes W.is_logged (Print (exprs_of list.now)) interpreter.old (W.state world.old) interpreter.new (W.state world.new) result }
+    ensures { Executes W.is_logged (Print (exprs_of list.now)) interpreter.old (W.state world.old)
+        interpreter.new (W.state world.new) result }
 {
     interpreter.spend()?;
     let values = printed_values(list, interpreter)?;
@@ -24,7 +25,8 @@ fn print<W: World>(list: &[Expr], interpreter: &mut Interpreter, world: &mut W) 
 
 /// Evaluates an expression, whose value is of no use.
 fn evaluate<W: World>(e: &Expr, interpreter: &mut Interpreter, world: &mut W) -> Result<(), Halt>
-    ensures { Executes W.is_logged (Evaluate (expr_of e.now)) interpreter.old (W.state world.old) interpreter.new (W.state world.new) result }
+    ensures { Executes W.is_logged (Evaluate (expr_of e.now)) interpreter.old (W.state world.old)
+        interpreter.new (W.state world.new) result }
 {
     interpreter.spend()?;
     eval(e, interpreter)?;
@@ -38,7 +40,8 @@ pub fn exec<W: World>(
     interpreter: &mut Interpreter,
     world: &mut W,
 ) -> Result<(), Halt>
-    ensures { Executes W.is_logged (statement_of s.now) interpreter.old (W.state world.old) interpreter.new (W.state world.new) result }
+    ensures { Executes W.is_logged (statement_of s.now) interpreter.old (W.state world.old) interpreter.new
+        (W.state world.new) result }
 {
     match s {
         Statement::Block(all) => exec_all(all, interpreter, world),
@@ -54,7 +57,8 @@ pub fn exec_all<W: World>(
     interpreter: &mut Interpreter,
     world: &mut W,
 ) -> Result<(), Halt>
-    ensures { ExecutesAll W.is_logged (statements_of all.now) interpreter.old (W.state world.old) interpreter.new (W.state world.new) result }
+    ensures { ExecutesAll W.is_logged (statements_of all.now) interpreter.old (W.state world.old)
+        interpreter.new (W.state world.new) result }
 {
     for s in all {
         exec(s, interpreter, world)?;
@@ -64,7 +68,8 @@ pub fn exec_all<W: World>(
 
 /// Prints the record at hand where an expression is true (POSIX awk, Patterns).
 fn try_pattern<W: World>(e: &Expr, interpreter: &mut Interpreter, world: &mut W) -> Result<(), Halt>
-    ensures { Tries W.is_logged (Short (expr_of e.now)) interpreter.old (W.state world.old) interpreter.new (W.state world.new) result }
+    ensures { Tries W.is_logged (Short (expr_of e.now)) interpreter.old (W.state world.old) interpreter.new
+        (W.state world.new) result }
 {
     if holds(e, interpreter)? {
         print(&[], interpreter, world)
@@ -75,7 +80,8 @@ fn try_pattern<W: World>(e: &Expr, interpreter: &mut Interpreter, world: &mut W)
 
 /// Tries an item on the record at hand (POSIX awk, Patterns).
 fn try_item<W: World>(item: &Item, interpreter: &mut Interpreter, world: &mut W) -> Result<(), Halt>
-    ensures { Tries W.is_logged (item_of item.now) interpreter.old (W.state world.old) interpreter.new (W.state world.new) result }
+    ensures { Tries W.is_logged (item_of item.now) interpreter.old (W.state world.old) interpreter.new
+        (W.state world.new) result }
 {
     match item {
         Item::Begin(_) => Ok(()),
@@ -97,7 +103,8 @@ fn try_items<W: World>(
     interpreter: &mut Interpreter,
     world: &mut W,
 ) -> Result<(), Halt>
-    ensures { TriesAll W.is_logged (items_of items.now) interpreter.old (W.state world.old) interpreter.new (W.state world.new) result }
+    ensures { TriesAll W.is_logged (items_of items.now) interpreter.old (W.state world.old) interpreter.new
+        (W.state world.new) result }
 {
     for item in items {
         try_item(item, interpreter, world)?;
@@ -111,7 +118,8 @@ fn begin_item<W: World>(
     interpreter: &mut Interpreter,
     world: &mut W,
 ) -> Result<(), Halt>
-    ensures { BeginsItem W.is_logged (item_of item.now) interpreter.old (W.state world.old) interpreter.new (W.state world.new) result }
+    ensures { BeginsItem W.is_logged (item_of item.now) interpreter.old (W.state world.old) interpreter.new
+        (W.state world.new) result }
 {
     match item {
         Item::Begin(block) => exec_all(block, interpreter, world),
@@ -125,7 +133,8 @@ fn begin_items<W: World>(
     interpreter: &mut Interpreter,
     world: &mut W,
 ) -> Result<(), Halt>
-    ensures { BeginsAll W.is_logged (items_of items.now) interpreter.old (W.state world.old) interpreter.new (W.state world.new) result }
+    ensures { BeginsAll W.is_logged (items_of items.now) interpreter.old (W.state world.old) interpreter.new
+        (W.state world.new) result }
 {
     for item in items {
         begin_item(item, interpreter, world)?;
@@ -142,7 +151,8 @@ fn run_records<W: World>(
 ) -> Result<(), Halt>
     requires open { AreOpen (W.state world.old) interpreter.old.streams }
     requires sound { W.is_logged → IsSoundMain (W.state world.old).log interpreter.old.streams.main }
-    ensures { ReadsAll W.is_logged (items_of items.now) interpreter.old (W.state world.old) interpreter.new (W.state world.new) result }
+    ensures { ReadsAll W.is_logged (items_of items.now) interpreter.old (W.state world.old) interpreter.new
+        (W.state world.new) result }
 {
     while let Some(text) = interpreter.next_record(world)? {
         interpreter.spend()?;
@@ -174,7 +184,8 @@ pub fn run_items<W: World>(
 ) -> Result<(), Halt>
     requires open { AreOpen (W.state world.old) interpreter.old.streams }
     requires sound { W.is_logged → IsSoundMain (W.state world.old).log interpreter.old.streams.main }
-    ensures { RunsItems W.is_logged (items_of items.now) interpreter.old (W.state world.old) interpreter.new (W.state world.new) result }
+    ensures { RunsItems W.is_logged (items_of items.now) interpreter.old (W.state world.old) interpreter.new
+        (W.state world.new) result }
 {
     begin_items(items, interpreter, world)?;
     if has_rule(items) {

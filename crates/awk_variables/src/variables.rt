@@ -32,7 +32,8 @@ fn put(
     name: &[u8],
     value: Value,
 ) -> Result<(), VariableFault>
-    ensures put { OnOk result ((x : List ℕ) → kept_at others.new.entries x ≡ (if bytes_eq name.now x then Some value else kept_at others.old.entries x)) }
+    ensures put { OnOk result ((x : List ℕ) → kept_at others.new.entries x
+        ≡ (if bytes_eq name.now x then Some value else kept_at others.old.entries x)) }
     ensures err { OnErr result (others.new.entries ≡ others.old.entries) }
     ensures absent { OnErr result (kept_at others.old.entries name.now ≡ None) }
     ensures memory { IfErr result (λ e. e ≡ VariableFault.Memory) }
@@ -137,7 +138,8 @@ impl Variables {
     /// the name is FS and the value's text is no separator, and else
     /// `Memory`. Only a name that was never assigned takes memory.
     pub fn set(&mut self, name: &[u8], value: Value) -> Result<(), VariableFault>
-        ensures set { OnOk result ((x : List ℕ) → value_of self.new x ≡ with_value (value_of self.old) name.now value x) }
+        ensures set { OnOk result ((x : List ℕ) → value_of self.new x
+            ≡ with_value (value_of self.old) name.now value x) }
         ensures accepted { OnOk result (is_refused name.now value ≡ false) }
         ensures err { OnErr result (self.new ≡ self.old) }
         ensures absent { result ≡ Err VariableFault.Memory → value_of self.old name.now ≡ Nothing }
@@ -152,7 +154,8 @@ impl Variables {
     // Gives a name that isn't special a value.
     fn set_other(&mut self, name: &[u8], value: Value) -> Result<(), VariableFault>
         requires { special_named name.now ≡ None }
-        ensures set { OnOk result ((x : List ℕ) → value_of self.new x ≡ with_value (value_of self.old) name.now value x) }
+        ensures set { OnOk result ((x : List ℕ) → value_of self.new x
+            ≡ with_value (value_of self.old) name.now value x) }
         ensures err { OnErr result (self.new ≡ self.old) }
         ensures absent { OnErr result (value_of self.old name.now ≡ Nothing) }
         ensures memory { IfErr result (λ e. e ≡ VariableFault.Memory) }
@@ -164,10 +167,12 @@ impl Variables {
     /// `Pattern`, where the variable is FS and the value's text is no
     /// separator. Takes no memory.
     pub fn set_special(&mut self, special: Special, value: Value) -> Result<(), VariableFault>
-        ensures set { OnOk result ((x : List ℕ) → value_of self.new x ≡ with_value (value_of self.old) (name_of special) value x) }
+        ensures set { OnOk result ((x : List ℕ) → value_of self.new x
+            ≡ with_value (value_of self.old) (name_of special) value x) }
         ensures accepted { OnOk result (is_refused (name_of special) value ≡ false) }
         ensures err { OnErr result (self.new ≡ self.old) }
-        ensures refused { IfErr result (λ e. (e ≡ VariableFault.Pattern) × (is_refused (name_of special) value ≡ true)) }
+        ensures refused { IfErr result (λ e. (e ≡ VariableFault.Pattern) ×
+            (is_refused (name_of special) value ≡ true)) }
     {
         if let Special::Fs = special {
             self.separator = separator_in(&value)?;
