@@ -16,7 +16,7 @@ use Rattle.awk_syntax.specs.declared.tree.Item.TheVariants as items
 use Rattle.std.specs.Global.{Vec}
 use Rattle.awk_syntax.specs.Tree.{Expr, Number, String, Ere, Name, Group, Field, Unary, Binary, Assign, Exprs, Nil, Cons, Statement, Block, Evaluate, Print, Statements, NoMore, Then, Item, Begin, Always, Short, Rule}
 use Rattle.awk_syntax.specs.View.{expr_of, exprs_of, statement_of, statements_of, statements_of_row, item_of, items_of}
-use Rattle.awk_run.specs.declared.interpreter.Interpreter.{Interpreter}
+use Rattle.awk_interpreter.specs.declared.interpreter.Interpreter.{Interpreter}
 use Rattle.awk_run.specs.declared.start.Assignment.{Assignment}
 use Rattle.awk_run.specs.definitions.Start.{pair_of}
 use Rattle.awk_meaning.specs.declared.halt.Halt.{Halt}
@@ -29,9 +29,10 @@ use Rattle.awk_meaning.specs.Meaning.{assign_all, assign_and_run}
 use Rattle.awk_meaning.specs.Operators.{takes_pattern}
 use Rattle.awk_meaning.specs.Semantics.{right_operand, eval, eval_all, printed_values, exec, exec_all, run_if, try_item, try_items, begin_record, each_record, run_records, begin_item, begin_items, is_rule, has_rule, run_items}
 use Rattle.awk_streams.specs.WorldState.{WorldState}
-use Rattle.awk_run.specs.support.Simulation.{Simulates, Changes, Spends, Evaluates, Tests, EvaluatesAll, Lists, Follows, Executes, ExecutesAll, Tries, TriesAll, BeginsItem, BeginsAll, ReadsOn, ReadsAll, RunsItems, Assigns, AssignsAndRuns}
+use Rattle.awk_interpreter.specs.Simulation.{Simulates, Changes, Spends, Follows}
+use Rattle.awk_run.specs.support.Evaluation.{Evaluates, Tests, EvaluatesAll, Lists, Executes, ExecutesAll, Tries, TriesAll, BeginsItem, BeginsAll, ReadsOn, ReadsAll, RunsItems, Assigns, AssignsAndRuns}
 use Rattle.awk_meaning.specs.Results.{Yields}
-use Rattle.awk_run.proofs.Composition.{then_changes, ends_changes, lift_changes, memory_changes, then_simulates, ends_simulates, lift_simulates, change_simulates}
+use Rattle.awk_interpreter.proofs.Composition.{then_changes, ends_changes, lift_changes, memory_changes, then_simulates, ends_simulates, lift_simulates, change_simulates}
 
 -- expressions
 

@@ -7,7 +7,7 @@ use Rattle.awk_streams.specs.Orderly.{IsOrderly, IsInOrder}
 use Rattle.awk_streams.specs.Writes.{received}
 use Rattle.awk_streams.specs.Streams.{StreamsView, AreOpen, AreSound, IsMainRest, IsSoundMain, IsOpenMain, Finishes}
 use Rattle.awk_syntax.specs.Tree.{Item}
-use Rattle.awk_run.specs.declared.interpreter.Interpreter.{Interpreter}
+use Rattle.awk_interpreter.specs.declared.interpreter.Interpreter.{Interpreter}
 use Rattle.awk_meaning.specs.declared.halt.Halt.{Halt}
 use Rattle.awk_meaning.specs.declared.halt.Halt.TheVariants as halt
 use Rattle.awk_meaning.specs.declared.outcome.Outcome.{Outcome}
@@ -16,26 +16,27 @@ use Rattle.awk_meaning.specs.declared.fault.Fault.TheVariants as faults
 use Rattle.awk_meaning.specs.State.{StandardOutput, StandardError, Out}
 use Rattle.awk_meaning.specs.Meaning.{StartValues, start_state, assign_and_run, run_program, outcome_of, printed_to}
 use Rattle.awk_streams.specs.WorldState.{WorldState}
-use Rattle.awk_run.specs.support.Simulation.{StateRelation, ResultRelation, ResultRelationBy, AssignsAndRuns, IsStart}
+use Rattle.awk_interpreter.specs.Simulation.{StateRelation, ResultRelation, ResultRelationBy, IsStart}
+use Rattle.awk_run.specs.support.Evaluation.{AssignsAndRuns}
 use Rattle.awk_meaning.specs.Results.{Sort, WantOfMemory, FailedWrite, OfLanguage, sort_of}
 use Rattle.awk_run.specs.definitions.Headline.{IsUntouched, IsUndisturbed}
 use Rattle.awk_run.specs.support.Verdict.{outcome_after, RunsFrom}
 
 -- nothing is open before a run
-pub start_open : {start : StartValues} {limit : ℕ} {m : Interpreter} (k : WorldState) → IsStart start limit m → AreOpen k m.streams
+pub start_open : {operands : List (List ℕ)} {limit : ℕ} {m : Interpreter} (k : WorldState) → IsStart operands limit m → AreOpen k m.streams
 start_open k start = subst (λ x. IsOpenMain k x) (sym start.main) tt
 
-pub start_main : {start : StartValues} {limit : ℕ} {m : Interpreter} (l : List log.Event) → IsStart start limit m → IsSoundMain l m.streams.main
+pub start_main : {operands : List (List ℕ)} {limit : ℕ} {m : Interpreter} (l : List log.Event) → IsStart operands limit m → IsSoundMain l m.streams.main
 start_main l start = subst (λ x. IsSoundMain l x) (sym start.main) tt
 
 -- the log is empty, and in order
-pub start_sound : {start : StartValues} {limit : ℕ} {m : Interpreter} (k : WorldState) → IsStart start limit m → k.log ≡ [] → IsInOrder k.is_open [] → AreSound k m.streams
+pub start_sound : {operands : List (List ℕ)} {limit : ℕ} {m : Interpreter} (k : WorldState) → IsStart operands limit m → k.log ≡ [] → IsInOrder k.is_open [] → AreSound k m.streams
 start_sound k start empty order = record {
   order = subst (λ (x : List log.Event). IsInOrder k.is_open x) (sym empty) order;
   main = subst (λ x. IsSoundMain k.log x) (sym start.main) tt;
 }
 
-start_stands : (start : StartValues) (oracle : Oracle) (limit : ℕ) (m : Interpreter) (k : WorldState) → IsStart start limit m → IsUntouched k → StateRelation oracle m k (start_state start oracle limit) []
+start_stands : (start : StartValues) (oracle : Oracle) (limit : ℕ) (m : Interpreter) (k : WorldState) → IsStart start.operands limit m → IsUntouched k → StateRelation oracle m k (start_state start oracle limit) []
 start_stands start oracle limit m k is fresh = record {
   clear = fresh.first_failure;
   outside = refl;
@@ -100,7 +101,7 @@ no_failure_before (Err e) {k' = k'} told clear = absurd (not_some k'.first_failu
 halted_by_memory : (r : Result (Unit {0}) Halt) (f : Result (Unit {0}) StreamFault) → r ≡ Err (halt.Fault faults.OutOfMemory) → outcome_after r f ≡ Fault faults.OutOfMemory
 halted_by_memory r f e = ap (λ x. outcome_after x f) e
 
-ends_as_meant : (items : List Item) (start : StartValues) (oracle : Oracle) (limit : ℕ) {is_logged : Type 0} {m m1 : Interpreter} {k k1 k2 : WorldState} {r : Result (Unit {0}) Halt} {f : Result (Unit {0}) StreamFault} {last : StreamsView} {result : Outcome} → IsStart start limit m → IsUntouched k → is_logged
+ends_as_meant : (items : List Item) (start : StartValues) (oracle : Oracle) (limit : ℕ) {is_logged : Type 0} {m m1 : Interpreter} {k k1 k2 : WorldState} {r : Result (Unit {0}) Halt} {f : Result (Unit {0}) StreamFault} {last : StreamsView} {result : Outcome} → IsStart start.operands limit m → IsUntouched k → is_logged
     → AssignsAndRuns is_logged items start.pre m k m1 k1 r → Finishes k1 m1.streams f k2 last → result ≡ outcome_after r f
     → IsUndisturbed k2 result → IsConsistent oracle k2.log → IsMeant oracle k2 (run_program items start oracle limit) result
 unfolding run_program
@@ -116,7 +117,7 @@ ends_as_meant items start oracle limit {m = m} {m1 = m1} {k = k} {k1 = k1} {k2 =
       error = told.outputs 1 ∙ came.error;
     }
 
-pub runs_from : (items : List Item) (start : StartValues) (limit : ℕ) {is_logged : Type 0} {m m1 : Interpreter} {k k1 k2 : WorldState} {r : Result (Unit {0}) Halt} {f : Result (Unit {0}) StreamFault} {last : StreamsView} {result : Outcome} → SomeIsConsistent → IsInOrder k.is_open [] → IsStart start limit m
+pub runs_from : (items : List Item) (start : StartValues) (limit : ℕ) {is_logged : Type 0} {m m1 : Interpreter} {k k1 k2 : WorldState} {r : Result (Unit {0}) Halt} {f : Result (Unit {0}) StreamFault} {last : StreamsView} {result : Outcome} → SomeIsConsistent → IsInOrder k.is_open [] → IsStart start.operands limit m
     → AssignsAndRuns is_logged items start.pre m k m1 k1 r → (is_logged → Finishes k1 m1.streams f k2 last) → result ≡ outcome_after r f
     → RunsFrom is_logged items start limit k k2 result
 runs_from items start limit {k = k} {k2 = k2} law order began ran told is = record {

@@ -1,2 +1,2 @@
-pub mod Simulation
+pub mod Evaluation
 pub mod Verdict

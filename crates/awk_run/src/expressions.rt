@@ -2,15 +2,23 @@
 
 ghost use Rattle.std.specs.Prelude.{[], option_map};
 ghost use Rattle.awk_syntax.specs.View.{expr_of, exprs_of};
-ghost use Rattle.awk_syntax.specs.Tree.{Assign};
+ghost use Rattle.awk_syntax.specs.Tree.{Assign, Ere as Pattern};
 ghost use Rattle.awk_meaning.specs.Operators.{takes_pattern};
-ghost use Rattle.awk_run.specs.support.Simulation.{IsPatternOperand, Evaluates, EvaluatesAll, Lists, Tests, viewed};
+ghost use Rattle.awk_run.specs.support.Evaluation.{IsPatternOperand, Evaluates, EvaluatesAll, Lists, Tests, viewed};
 
-use crate::interpreter::Interpreter;
+use awk_interpreter::Interpreter;
 use awk_meaning::Halt;
 use awk_operators::{change, takes_pattern};
 use awk_syntax::tree::{BinaryOperator, Ere, Expr};
 use awk_value::{Value, is_true};
+
+/// Whether the record has a match of a pattern that stands in the program, as 1 or 0.
+fn record_matches(ere: &Ere, interpreter: &mut Interpreter) -> Result<Value, Halt>
+    ensures { Evaluates (Pattern ere.now.text) interpreter.old interpreter.new result }
+{
+    let record = interpreter.record_text()?;
+    interpreter.apply_ere(BinaryOperator::Matches, &record, ere)
+}
 
 /// Gives a name the value of an expression, and answers what the name then has.
 #[cycle(evaluation)]
@@ -40,7 +48,7 @@ pub fn eval(e: &Expr, interpreter: &mut Interpreter) -> Result<Value, Halt>
     match e {
         Expr::Number(n) => Ok(Value::Number(*n)),
         Expr::String(bytes) => Ok(Value::Text(bytes.clone()?)),
-        Expr::Ere(ere) => interpreter.record_matches(ere),
+        Expr::Ere(ere) => record_matches(ere, interpreter),
         Expr::Name(name) => interpreter.read_name(name.as_slice()),
         Expr::Group(e) => eval(e, interpreter),
         Expr::Field(e) => {

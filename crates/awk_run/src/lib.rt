@@ -2,8 +2,6 @@
 #![tactic(auto)]
 
 mod expressions;
-mod inputs;
-mod interpreter;
 mod run;
 mod start;
 mod statements;

@@ -7,13 +7,13 @@ ghost use Rattle.awk_syntax.specs.View.{tree_of, items_of};
 ghost use Rattle.awk_run.specs.definitions.Accepted.{IsSpelled, Accepted, RefusedFor};
 ghost use Rattle.awk_run.specs.definitions.Start.{start_values, pair_of};
 ghost use Rattle.awk_streams.specs.Streams.{AreOpen, IsSoundMain};
-ghost use Rattle.awk_run.specs.support.Simulation.{Assigns, AssignsAndRuns};
+ghost use Rattle.awk_run.specs.support.Evaluation.{Assigns, AssignsAndRuns};
 ghost use Rattle.awk_run.specs.support.Verdict.{outcome_after as outcome_at, ReadsOnly, RunsFrom};
 ghost use Rattle.awk_run.specs.definitions.Headline.{Executed};
 
-use crate::interpreter::Interpreter;
 use crate::start::{Assignment, Start};
 use crate::statements::run_items;
+use awk_interpreter::Interpreter;
 use awk_lex::lexer::tokens;
 use awk_lex::refusal::Refusal;
 use awk_meaning::{Fault, Halt, Outcome};
@@ -77,7 +77,7 @@ fn run_program<W: World>(
         (W.state world.new) result }
 {
     some_oracle_is_consistent();
-    let Ok(mut interpreter) = Interpreter::new(alloc, start, limit) else {
+    let Ok(mut interpreter) = Interpreter::new(alloc, &start.operands, limit) else {
         return Outcome::Fault(Fault::OutOfMemory);
     };
     let ended = assign_and_run(items, &start.pre, &mut interpreter, world);

@@ -4,11 +4,11 @@ ghost use Rattle.awk_streams.specs.Streams.{AreOpen, IsSoundMain};
 ghost use Rattle.std.specs.Prelude.{◌≡◌};
 ghost use Rattle.awk_syntax.specs.Tree.{Evaluate, Print, Short};
 ghost use Rattle.awk_syntax.specs.View.{expr_of, exprs_of, statement_of, statements_of, item_of, items_of};
-ghost use Rattle.awk_run.specs.support.Simulation.{Executes, ExecutesAll, Tries, TriesAll, BeginsItem, BeginsAll, ReadsAll, RunsItems};
+ghost use Rattle.awk_run.specs.support.Evaluation.{Executes, ExecutesAll, Tries, TriesAll, BeginsItem, BeginsAll, ReadsAll, RunsItems};
 ghost use Rattle.awk_meaning.specs.Semantics.{is_rule, has_rule};
 
 use crate::expressions::{eval, holds, printed_values};
-use crate::interpreter::Interpreter;
+use awk_interpreter::Interpreter;
 use awk_meaning::Halt;
 use awk_streams::World;
 use awk_syntax::tree::{Expr, Item, Statement};

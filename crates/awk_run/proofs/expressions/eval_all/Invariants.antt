@@ -2,8 +2,8 @@ use Rattle.std.proofs.Common.{List, [], drop, Result}
 use Rattle.awk_value.specs.declared.value.Value.{Value}
 use Rattle.awk_syntax.specs.View.{exprs_of}
 use Rattle.awk_meaning.specs.declared.halt.Halt.{Halt}
-use Rattle.awk_run.specs.declared.interpreter.Interpreter.{Interpreter}
-use Rattle.awk_run.specs.support.Simulation.{EvaluatesAll}
+use Rattle.awk_interpreter.specs.declared.interpreter.Interpreter.{Interpreter}
+use Rattle.awk_run.specs.support.Evaluation.{EvaluatesAll}
 use Rattle.awk_run.proofs.expressions.eval_all.Given as goal
 
 abbrev pub invariant-loop-e : goal.invariant-loop-e

@@ -1,8 +1,8 @@
 use Rattle.std.proofs.Common.{drop, map, Result}
-use Rattle.awk_run.specs.declared.interpreter.Interpreter.{Interpreter}
+use Rattle.awk_interpreter.specs.declared.interpreter.Interpreter.{Interpreter}
 use Rattle.awk_meaning.specs.declared.halt.Halt.{Halt}
 use Rattle.awk_run.specs.definitions.Start.{pair_of}
-use Rattle.awk_run.specs.support.Simulation.{Assigns}
+use Rattle.awk_run.specs.support.Evaluation.{Assigns}
 use Rattle.awk_run.proofs.run.assign_all.Given as goal
 
 abbrev pub invariant-loop-assignment : goal.invariant-loop-assignment

@@ -1,9 +1,9 @@
 use Rattle.std.proofs.Common.{drop, Result}
 use Rattle.awk_syntax.specs.View.{statements_of}
-use Rattle.awk_run.specs.declared.interpreter.Interpreter.{Interpreter}
+use Rattle.awk_interpreter.specs.declared.interpreter.Interpreter.{Interpreter}
 use Rattle.awk_meaning.specs.declared.halt.Halt.{Halt}
 use Rattle.awk_streams.specs.WorldState.{WorldState}
-use Rattle.awk_run.specs.support.Simulation.{ExecutesAll}
+use Rattle.awk_run.specs.support.Evaluation.{ExecutesAll}
 use Rattle.awk_run.proofs.statements.+execution.Given as goal
 
 abbrev pub invariant-exec_all-loop-s : goal.invariant-exec_all-loop-s

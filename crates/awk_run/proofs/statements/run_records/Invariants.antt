@@ -1,10 +1,10 @@
 use Rattle.std.proofs.Common.{Result}
 use Rattle.awk_streams.specs.Streams.{AreOpen, IsSoundMain}
 use Rattle.awk_syntax.specs.View.{items_of}
-use Rattle.awk_run.specs.declared.interpreter.Interpreter.{Interpreter}
+use Rattle.awk_interpreter.specs.declared.interpreter.Interpreter.{Interpreter}
 use Rattle.awk_meaning.specs.declared.halt.Halt.{Halt}
 use Rattle.awk_streams.specs.WorldState.{WorldState}
-use Rattle.awk_run.specs.support.Simulation.{ReadsOn}
+use Rattle.awk_run.specs.support.Evaluation.{ReadsOn}
 use Rattle.awk_run.proofs.statements.run_records.Given as goal
 
 abbrev pub invariant-loop-text : goal.invariant-loop-text

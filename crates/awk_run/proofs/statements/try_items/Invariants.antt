@@ -1,9 +1,9 @@
 use Rattle.std.proofs.Common.{drop, Result}
 use Rattle.awk_syntax.specs.View.{items_of}
-use Rattle.awk_run.specs.declared.interpreter.Interpreter.{Interpreter}
+use Rattle.awk_interpreter.specs.declared.interpreter.Interpreter.{Interpreter}
 use Rattle.awk_meaning.specs.declared.halt.Halt.{Halt}
 use Rattle.awk_streams.specs.WorldState.{WorldState}
-use Rattle.awk_run.specs.support.Simulation.{TriesAll}
+use Rattle.awk_run.specs.support.Evaluation.{TriesAll}
 use Rattle.awk_run.proofs.statements.try_items.Given as goal
 
 abbrev pub invariant-loop-item : goal.invariant-loop-item
