@@ -22,7 +22,10 @@ folder_of() {
 root=$(folder_of "$0")
 program=$root/out/awk
 lock=$root/out/lock
-log=$root/out/build.log
+# What a build leaves: of each crate what its proof says, and its status.
+build=$root/out/build
+# How many crates are proved side by side.
+lanes=2
 
 say() {
     printf 'awk: %s\n' "$*" >&2
@@ -34,62 +37,156 @@ fail() {
 }
 
 # Whether something that the program is made of is newer than it. A folder is newer where a file of
-# it was taken away.
+# it was taken away. The crate of the tests is no part of the program.
 is_stale() {
     [ ! -x "$program" ] || [ -n "$(find "$root/crates.txt" "$root/HANDLES" \
         "$root"/crates/*/src "$root"/crates/*/specs "$root"/crates/*/proofs \
-        -newer "$program" 2>/dev/null)" ]
+        -path '*/crates/awk_tests/*' -prune -o -newer "$program" -print 2>/dev/null)" ]
 }
 
-# Waits until no other build goes on. The lock is a link that names its owner's process, and one whose
+# Whether a process goes on. A signal may not be sent to another user's.
+is_alive() {
+    kill -0 "$1" 2>/dev/null || [ -d "/proc/$1" ] || ps -p "$1" >/dev/null 2>&1
+}
+
+# Waits until no other build goes on. The lock is a file that names its owner's process, and one whose
 # owner is gone is taken away.
 take_lock() {
-    until ln -s "$$" "$lock" 2>/dev/null; do
-        owner=$(readlink "$lock") || continue
-        kill -0 "$owner" 2>/dev/null || rm -f "$lock"
+    told=
+    until (set -C && echo "$$" >"$lock") 2>/dev/null; do
+        owner=$(cat "$lock" 2>/dev/null) || owner=
+        if [ -z "$owner" ]; then
+            # It was given back since, or it can't be written.
+            [ "$told" != none ] || fail "$lock can't be made"
+            told=none
+        elif ! is_alive "$owner"; then
+            rm -f "$lock"
+        elif [ "$told" != "$owner" ]; then
+            say "waiting for the build of process $owner, which has $lock"
+            told=$owner
+        fi
         sleep 1
     done
-    trap 'rm -f "$lock"' EXIT
-    trap 'exit 2' HUP INT TERM
 }
 
-# Proves the crates from the lowest up, and links the program, which the last step runs on no input.
-prove_and_link() {
-    crates=$(sed -e 's/#.*//' -e 's/:.*//' -e 's/ .*//' -e '/^$/d' "$root/crates.txt")
-    count=$(printf '%s\n' "$crates" | wc -l)
-    number=0
-    for crate in $crates; do
-        number=$((number + 1))
-        say "proving $crate ($number of $((count)))"
-        cd "$root/crates/$crate" || return
-        if [ "$crate" = awk ]; then
-            rt run -- '{ print }'
-        else
-            rt lib
-        fi >"$log" 2>&1 </dev/null || return
+# Ends the proofs that go on, and gives the lock back.
+give_up() {
+    for job in $jobs; do
+        kill "$job" 2>/dev/null || :
     done
-    cp out/awk "$program.new"
+    rm -f "$lock"
 }
 
-build() {
+# The libraries of a crate, as crates.txt names them.
+libraries_of() {
+    sed -n -e 's/#.*//' -e "s/^$1[ a-z]*://p" "$root/crates.txt"
+}
+
+# Adds a crate to those that are needed, behind the crates that it stands on.
+need() {
+    case " $needed " in
+    *" $1 "*) return 0 ;;
+    esac
+    for library in $(libraries_of "$1"); do
+        [ ! -d "$root/crates/$library" ] || need "$library"
+    done
+    needed="$needed $1"
+}
+
+# Whether none of a crate's libraries is still to be proved.
+is_ready() {
+    for library in $(libraries_of "$1"); do
+        case " $left $running " in
+        *" $library "*) return 1 ;;
+        esac
+    done
+}
+
+# The words but one of them.
+without() {
+    word=$1
+    shift
+    for each in "$@"; do
+        [ "$each" = "$word" ] || printf '%s ' "$each"
+    done
+}
+
+# Proves a crate. The program is linked too, and run on no input.
+prove() {
+    crate=$1
+    cd "$root/crates/$crate" || return
+    set -- lib
+    [ "$crate" != awk ] || set -- run -- '{ print }'
+    rt "$@" >"$build/$crate.log" 2>&1 </dev/null &
+    proof=$!
+    trap 'kill "$proof" 2>/dev/null' TERM
+    status=0
+    wait "$proof" || status=$?
+    echo "$status" >"$build/$crate.status"
+}
+
+start() {
+    number=$((number + 1))
+    seconds=$(($(date +%s) - begun))
+    say "$(printf 'proving %s (%d of %d), %d:%02d so far' "$1" "$number" "$count" \
+        $((seconds / 60)) $((seconds % 60)))"
+    left=$(without "$1" $left)
+    running="$running $1"
+    prove "$1" &
+    jobs="$jobs $!"
+}
+
+# Goes on without a crate that was proved, and ends the build where it was not.
+finish() {
+    read -r status <"$build/$1.status"
+    running=$(without "$1" $running)
+    [ "$status" -ne 0 ] || return 0
+    tail -n 20 "$build/$1.log" >&2
+    fail "the program was not built: $1 failed, and above are the last lines of $build/$1.log"
+}
+
+# Proves the crates that the program is made of, each behind those that it stands on.
+prove_all() {
+    needed='' running='' number=0
+    need awk
+    left=$needed
+    count=$(printf '%s\n' $needed | wc -l)
+    begun=$(date +%s)
+    while [ -n "$left$running" ]; do
+        for crate in $left; do
+            set -- $running
+            if [ "$#" -lt "$lanes" ] && is_ready "$crate"; then
+                start "$crate"
+            fi
+        done
+        sleep 0.2 2>/dev/null || sleep 1
+        for crate in $running; do
+            [ ! -s "$build/$crate.status" ] || finish "$crate"
+        done
+    done
+}
+
+build_program() {
     command -v rt >/dev/null || fail 'rt, which proves and builds the program, is not in PATH'
-    begun=$root/out/begun
-    : >"$begun"
-    (prove_and_link) || {
-        tail -n 20 "$log" >&2
-        fail "the program was not built; above are the last lines of $log"
-    }
+    rm -rf "$build"
+    mkdir "$build" || exit 2
+    : >"$build/begun"
+    prove_all
+    cp "$root/crates/awk/out/awk" "$program.new"
     # What is edited while the build goes on is newer than the program.
-    touch -r "$begun" "$program.new"
+    touch -r "$build/begun" "$program.new"
     mv "$program.new" "$program"
-    rm -f "$begun"
 }
 
 if is_stale; then
-    mkdir -p "$root/out" || exit 2
-    [ -w "$root/out" ] || fail "$root/out is not writable"
+    mkdir -p "$root/out" 2>/dev/null && [ -w "$root/out" ] ||
+        fail "the program has to be built, and $root/out can't be written"
+    jobs=
     take_lock
-    ! is_stale || build
+    trap give_up EXIT
+    trap 'exit 2' HUP INT TERM
+    ! is_stale || build_program
+    trap - EXIT HUP INT TERM
     rm -f "$lock"
 fi
 exec "$program" "$@"

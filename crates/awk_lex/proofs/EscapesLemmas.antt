@@ -6,7 +6,7 @@ use Rattle.std.proofs.lemmas.List.{at_drop_more, drop-drop, length-drop, take_re
 use Rattle.std.specs.List.{list_any}
 use Rattle.std.proofs.lemmas.Bool.{or_parts}
 use Rattle.awk_lex.proofs.Prefixes.{if_false}
-use Rattle.awk_lex.specs.Escapes.{front_symbol, unescaped_behind, unescaped}
+use Rattle.awk_lex.specs.definitions.Escapes.{first_symbol, unescaped_behind, unescaped}
 use Rattle.awk_lex.specs.declared.escapes.Symbol.{Symbol}
 
 unescaped_behind-drop : (taken : ℕ) (text : List ℕ) → unescaped_behind taken text ≡ unescaped (drop taken text)
@@ -24,14 +24,14 @@ symbol_within text place taken lt le = omega (arith, ap length (take_rest text (
 
 -- one symbol more
 pub unescaped_more : (text front new : List ℕ) (whole : Option (List ℕ)) (place : ℕ) (first : Symbol) → place < length text →
-    Some first ≡ front_symbol (get_or text place 0) (slice_range text (place + 1) (length text)) →
+    Some first ≡ first_symbol (get_or text place 0) (slice_range text (place + 1) (length text)) →
     new ≡ front ++ first.byte ∷ [] →
     option_map (λ bytes. front ++ bytes) (unescaped (drop place text)) ≡ whole →
     option_map (λ bytes. new ++ bytes) (unescaped (drop (place + 1 + first.behind) text)) ≡ whole
 unescaped_more text front new whole place first lt is added h =
     let rest = drop (place + 1) text in
     let left : unescaped (drop place text) ≡ option_map (λ bytes. first.byte ∷ bytes) (unescaped_behind first.behind rest) =
-    at_drop_more unescaped text place 0 lt ∙ ap (option_and_then (λ (s : Symbol). option_map (λ bytes. s.byte ∷ bytes) (unescaped_behind s.behind rest))) (sym (is ∙ ap (front_symbol (get_or text place 0)) (take_rest text (place + 1)))) in
+    at_drop_more unescaped text place 0 lt ∙ ap (option_and_then (λ (s : Symbol). option_map (λ bytes. s.byte ∷ bytes) (unescaped_behind s.behind rest))) (sym (is ∙ ap (first_symbol (get_or text place 0)) (take_rest text (place + 1)))) in
     let behind : unescaped (drop (place + 1 + first.behind) text) ≡ unescaped_behind first.behind rest =
     ap unescaped (sym (drop-drop first.behind (place + 1) text)) ∙ sym (unescaped_behind-drop first.behind rest) in
     ap (λ (made : List ℕ). option_map (λ bytes. made ++ bytes) (unescaped (drop (place + 1 + first.behind) text))) added
@@ -43,6 +43,6 @@ pub unescaped_plain : (text : List ℕ) → list_any (λ b. eqb b 92) text ≡ f
 unescaped_plain [] h = refl
 unescaped_plain (b ∷ text) h =
     let parts = or_parts (eqb b 92) (list_any (λ x. eqb x 92) text) h in
-    let first : front_symbol b text ≡ Some (record { byte = b; behind = 0 }) = if_false (eqb b 92) _ _ parts.0 in
+    let first : first_symbol b text ≡ Some (record { byte = b; behind = 0 }) = if_false (eqb b 92) _ _ parts.0 in
     ap (option_and_then (λ (s : Symbol). option_map (λ bytes. s.byte ∷ bytes) (unescaped_behind s.behind text))) first
     ∙ ap (option_map (λ bytes. b ∷ bytes)) (unescaped_plain text parts.1)

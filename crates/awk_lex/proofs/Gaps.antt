@@ -4,12 +4,12 @@ use Rattle.std.specs.List.{list_all, prefix_len}
 use Rattle.std.proofs.Math.Seq.{drop-append_seam}
 use Rattle.std.proofs.lemmas.Bool.{cases_Bool, eqb-true}
 use Rattle.std.proofs.lemmas.List.Folds.{length-prefix_len}
-use Rattle.awk_lex.specs.Lexes.{is_blank, is_no_newline, EndsLine, Gap, none, blank, hidden, comment, Skips}
-use Rattle.awk_lex.specs.Front.{hidden_len, gap_len, token_at}
-use Rattle.awk_lex.specs.declared.refusal.Code.TheVariants.{UnexpectedByte}
+use Rattle.awk_lex.specs.definitions.Lexes.{is_space_or_tab, is_no_newline, EndsLine, Gap, none, blank, hidden, comment, Skips}
+use Rattle.awk_lex.specs.support.Lexeme.{hidden_len, gap_len, token_at}
+use Rattle.awk_lex.specs.declared.refusal.RefusalCode.TheVariants.{UnexpectedByte}
 use Rattle.awk_lex.proofs.Prefixes.{if_true, if_false, prefix_over, front_passes, front_split}
 
-pub blank_is : (b : ℕ) → is_blank b ≡ true → (b ≡ 32) ⊎ (b ≡ 9)
+pub blank_is : (b : ℕ) → is_space_or_tab b ≡ true → (b ≡ 32) ⊎ (b ≡ 9)
 blank_is b h = elim (cases_Bool (eqb b 32)) [
   | inl space ↦ inl (eqb-true b 32 space)
   | inr other ↦ inr (eqb-true b 9 (sym (ap (λ x. x || eqb b 9) other) ∙ h))
@@ -33,8 +33,8 @@ line_ends (b ∷ bs) = elim (cases_Bool (eqb b 10)) [
       subst (λ k. EndsLine (drop k (b ∷ bs))) (sym n) (line_ends bs)
 ]
 
-blank_len : (b : ℕ) (bs : List ℕ) → is_blank b ≡ true → gap_len (b ∷ bs) ≡ 1
-blank_len b bs h = if_true (is_blank b) _ _ h
+blank_len : (b : ℕ) (bs : List ℕ) → is_space_or_tab b ≡ true → gap_len (b ∷ bs) ≡ 1
+blank_len b bs h = if_true (is_space_or_tab b) _ _ h
 
 comment_len : (bytes rest : List ℕ) → list_all is_no_newline bytes ≡ true → EndsLine rest → gap_len (35 ∷ bytes ++ rest) ≡ suc (length bytes)
 comment_len bytes rest h ends =
@@ -47,7 +47,7 @@ pub record Part (text : List ℕ) (n : ℕ) : Type 0 where
   pub is_gap : Gap (drop (suc n) text) gap
   pub len : length gap ≡ suc n
 
-blank_part : (b : ℕ) (bs : List ℕ) (n : ℕ) → is_blank b ≡ true → 1 ≡ suc n → Part (b ∷ bs) n
+blank_part : (b : ℕ) (bs : List ℕ) (n : ℕ) → is_space_or_tab b ≡ true → 1 ≡ suc n → Part (b ∷ bs) n
 blank_part b bs n h e =
     let zero_is : 0 ≡ n = omega arith in
     subst (Part (b ∷ bs)) zero_is (record { gap = b ∷ []; is = refl; is_gap = blank h none; len = refl })
@@ -75,10 +75,10 @@ comment_part bs n h =
 
 pub part_of : (text : List ℕ) (n : ℕ) → gap_len text ≡ suc n → Part text n
 part_of [] n h = absurd (cc)
-part_of (b ∷ bs) n h = elim (cases_Bool (is_blank b)) [
-  | inl blanks ↦ blank_part b bs n blanks (sym (if_true (is_blank b) _ _ blanks) ∙ h)
+part_of (b ∷ bs) n h = elim (cases_Bool (is_space_or_tab b)) [
+  | inl blanks ↦ blank_part b bs n blanks (sym (if_true (is_space_or_tab b) _ _ blanks) ∙ h)
   | inr other ↦
-      let k = sym (if_false (is_blank b) _ _ other) ∙ h in
+      let k = sym (if_false (is_space_or_tab b) _ _ other) ∙ h in
       elim (cases_Bool (eqb b 92)) [
         | inl backslash ↦ subst (λ x. Part (x ∷ bs) n) (sym (eqb-true b 92 backslash)) (hidden_part bs n (sym (if_true (eqb b 92) _ _ backslash) ∙ k))
         | inr neither ↦
@@ -93,8 +93,8 @@ part_of (b ∷ bs) n h = elim (cases_Bool (is_blank b)) [
       ]
 ]
 
-blank_is_no_newline : (b : ℕ) → is_blank b ≡ true → b ≡ 10 → ⊥
-blank_is_no_newline b h e = let no : false ≡ true = ap is_blank (sym e) ∙ h in cc
+blank_is_no_newline : (b : ℕ) → is_space_or_tab b ≡ true → b ≡ 10 → ⊥
+blank_is_no_newline b h e = let no : false ≡ true = ap is_space_or_tab (sym e) ∙ h in cc
 
 -- a gap begins with no newline
 no_line_end : (rest gap : List ℕ) → Gap rest gap → 1 ≤ length gap → EndsLine (gap ++ rest) → ⊥

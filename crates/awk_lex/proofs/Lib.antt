@@ -1,9 +1,9 @@
 pub mod EscapesLemmas
 pub mod Digits
 pub mod Prefixes
-pub mod Bodies
+pub mod DelimitedBodies
 pub mod Tables
-pub mod Munch
+pub mod MaximalMunch
 pub mod Spelled
 pub mod Longest
 pub mod Gaps
@@ -13,4 +13,4 @@ pub mod Unique
 pub mod Progress
 pub mod Lines
 pub mod Places
-pub mod First
+pub mod ScannerLexemes

@@ -7,18 +7,18 @@ use Rattle.std.specs.Char.{is_ascii_digit}
 use Rattle.std.proofs.Math.Seq.{take-append_seam, take-add}
 use Rattle.std.proofs.lemmas.Bool.{cases_Bool, and_parts, and_from, not-true, eqb-true}
 use Rattle.std.proofs.lemmas.List.Sums.{sum_by-append, sum_by-cons}
-use Rattle.awk_lex.specs.Words.{is_letter, is_word_byte, is_word, is_digits, Body, none, plain, escaped, Writes, number, string, ere, word, name, called, sign, division, is_newline}
-use Rattle.awk_lex.specs.Tables.{reserved, signs, divisions, kind_in}
-use Rattle.awk_lex.specs.Lexes.{is_blank, is_no_newline}
-use Rattle.awk_lex.specs.Front.{hidden_len, gap_len, front_of}
-use Rattle.awk_lex.specs.Told.{line_at}
+use Rattle.awk_lex.specs.definitions.Words.{is_name_start, is_word_byte, is_word, is_digits, Body, none, plain, escaped, Writes, number, string, ere, word, name, called, punctuator, division}
+use Rattle.awk_lex.specs.definitions.Tables.{reserved, punctuators, divisions, kind_in}
+use Rattle.awk_lex.specs.definitions.Lexes.{is_space_or_tab, is_no_newline}
+use Rattle.awk_lex.specs.support.Lexeme.{hidden_len, gap_len, lexeme_of, is_newline}
+use Rattle.awk_lex.specs.definitions.Told.{line_at}
 use Rattle.awk_lex.specs.declared.token.Kind.{Kind}
-use Rattle.awk_lex.specs.declared.front.Front.TheVariants as front
+use Rattle.awk_lex.specs.declared.lexeme.Lexeme.TheVariants as lexeme
 use Rattle.awk_lex.proofs.Prefixes.{if_true, if_false, front_passes}
 use Rattle.awk_lex.proofs.Tables.{found_row}
-use Rattle.awk_lex.proofs.Bodies.{plain_no_newline}
+use Rattle.awk_lex.proofs.DelimitedBodies.{plain_no_newline}
 use Rattle.awk_lex.proofs.Gaps.{blank_is}
-use Rattle.awk_lex.proofs.Munch.{letter_in_word}
+use Rattle.awk_lex.proofs.MaximalMunch.{letter_in_word}
 use Rattle.awk_lex.proofs.Spelled.{spelled}
 use Rattle.awk_lex.proofs.Read.{token_is, gap_is}
 
@@ -53,12 +53,12 @@ no_newlines p other (b ∷ bs) h =
     let a = and_parts (p b) (list_all p bs) h in
     other_byte b bs (other b a.0) ∙ no_newlines p other bs a.1
 
-body_newlines : (mark : ℕ) (body : List ℕ) → Body mark body → newlines body ≡ 0
+body_newlines : (delimiter : ℕ) (body : List ℕ) → Body delimiter body → newlines body ≡ 0
 unfolding newlines
-body_newlines mark _ none = refl
-body_newlines mark _ (plain {b} {body} h g) = other_byte b body (plain_no_newline mark b h) ∙ body_newlines mark body g
-body_newlines mark _ (escaped {b} {body} h g) =
-    other_byte 92 (b ∷ body) refl ∙ other_byte b body (not-true (eqb b 10) h) ∙ body_newlines mark body g
+body_newlines delimiter _ none = refl
+body_newlines delimiter _ (plain {b} {body} h g) = other_byte b body (plain_no_newline delimiter b h) ∙ body_newlines delimiter body g
+body_newlines delimiter _ (escaped {b} {body} h g) =
+    other_byte 92 (b ∷ body) refl ∙ other_byte b body (not-true (eqb b 10) h) ∙ body_newlines delimiter body g
 
 word_byte_is : (b : ℕ) → is_word_byte b ≡ true → eqb b 10 ≡ false
 word_byte_is b h = elim (cases_Bool (eqb b 10)) [
@@ -75,7 +75,7 @@ digit_is b h = elim (cases_Bool (eqb b 10)) [
 word_newlines : (w : List ℕ) → is_word w ≡ true → newlines w ≡ 0
 word_newlines [] h = absurd (cc)
 word_newlines (b ∷ w) h =
-    let a = and_parts (is_letter b) (list_all is_word_byte w) h in
+    let a = and_parts (is_name_start b) (list_all is_word_byte w) h in
     no_newlines is_word_byte word_byte_is (b ∷ w) (and_from _ _ (letter_in_word b a.0) a.1)
 
 digits_newlines : (w : List ℕ) → is_digits w ≡ true → newlines w ≡ 0
@@ -86,12 +86,12 @@ digits_newlines (b ∷ w) h = no_newlines is_ascii_digit digit_is (b ∷ w) h
 count_of : Kind → ℕ
 count_of k = cond (is_newline k) 1 0
 
-marked_newlines : (mark : ℕ) (body : List ℕ) → eqb mark 10 ≡ false → Body mark body → newlines (mark ∷ body ++ mark ∷ []) ≡ 0
+marked_newlines : (delimiter : ℕ) (body : List ℕ) → eqb delimiter 10 ≡ false → Body delimiter body → newlines (delimiter ∷ body ++ delimiter ∷ []) ≡ 0
 unfolding newlines
-marked_newlines mark body other h =
-    let inside = body_newlines mark body h in
-    let close : newlines (mark ∷ []) ≡ 0 = other_byte mark [] other in
-    other_byte mark (body ++ mark ∷ []) other ∙ newlines-append body (mark ∷ []) ∙ omega (arith, inside, close)
+marked_newlines delimiter body other h =
+    let inside = body_newlines delimiter body h in
+    let close : newlines (delimiter ∷ []) ≡ 0 = other_byte delimiter [] other in
+    other_byte delimiter (body ++ delimiter ∷ []) other ∙ newlines-append body (delimiter ∷ []) ∙ omega (arith, inside, close)
 
 -- each row of a table has the newlines of its kind
 has_count : List ℕ → Kind → Bool
@@ -110,10 +110,10 @@ writes_newlines d _ _ (ere {body} opens h) = marked_newlines 47 body refl h
 writes_newlines d k w (word h) = row_newlines reserved w k refl h
 writes_newlines d _ w (name h free) = word_newlines w h
 writes_newlines d _ w (called h free) = word_newlines w h
-writes_newlines d k w (sign h) = row_newlines signs w k refl h
+writes_newlines d k w (punctuator h) = row_newlines punctuators w k refl h
 writes_newlines d k w (division divides h) = row_newlines divisions w k refl h
 
-token_newlines : (d : Bool) (text : List ℕ) (k : Kind) (n : ℕ) → front_of d text ≡ front.Token k n → newlines (take n text) ≡ count_of k
+token_newlines : (d : Bool) (text : List ℕ) (k : Kind) (n : ℕ) → lexeme_of d text ≡ lexeme.Token k n → newlines (take n text) ≡ count_of k
 token_newlines d text k n h =
     let s = spelled d text (record { kind = k; len = n }) (token_is d text k n h).is in
     let prefix : take n text ≡ s.word = ap (λ m. take m text) (sym s.len) ∙ ap (take (length s.word)) s.is ∙ take-append_seam s.word s.rest in
@@ -126,7 +126,7 @@ no_newline_is b h = not-true (eqb b 10) h
 hides : ℕ → ℕ
 hides b = cond (eqb b 92) 1 0
 
-blank_newlines : (b : ℕ) (bs : List ℕ) (n : ℕ) → is_blank b ≡ true → 1 ≡ suc n → newlines (take (suc n) (b ∷ bs)) ≡ hides b
+blank_newlines : (b : ℕ) (bs : List ℕ) (n : ℕ) → is_space_or_tab b ≡ true → 1 ≡ suc n → newlines (take (suc n) (b ∷ bs)) ≡ hides b
 unfolding newlines hides
 blank_newlines b bs n h e = elim (blank_is b h) [
   | inl space ↦ subst (λ m. newlines (take m (b ∷ bs)) ≡ hides b) e (ap (λ x. newlines (x ∷ [])) space ∙ sym (ap hides space))
@@ -149,10 +149,10 @@ comment_newlines b bs n h =
 
 part_newlines : (b : ℕ) (bs : List ℕ) (n : ℕ) → gap_len (b ∷ bs) ≡ suc n → newlines (take (suc n) (b ∷ bs)) ≡ hides b
 unfolding hides
-part_newlines b bs n h = elim (cases_Bool (is_blank b)) [
-  | inl blanks ↦ blank_newlines b bs n blanks (sym (if_true (is_blank b) _ _ blanks) ∙ h)
+part_newlines b bs n h = elim (cases_Bool (is_space_or_tab b)) [
+  | inl blanks ↦ blank_newlines b bs n blanks (sym (if_true (is_space_or_tab b) _ _ blanks) ∙ h)
   | inr other ↦
-      let k = sym (if_false (is_blank b) _ _ other) ∙ h in
+      let k = sym (if_false (is_space_or_tab b) _ _ other) ∙ h in
       elim (cases_Bool (eqb b 92)) [
         | inl backslash ↦
             let e = eqb-true b 92 backslash in
@@ -166,7 +166,7 @@ part_newlines b bs n h = elim (cases_Bool (is_blank b)) [
       ]
 ]
 
-gap_newlines : (d : Bool) (text : List ℕ) (n : ℕ) → front_of d text ≡ front.Gap n → newlines (take n text) ≡ hides (get_or text 0 0)
+gap_newlines : (d : Bool) (text : List ℕ) (n : ℕ) → lexeme_of d text ≡ lexeme.Gap n → newlines (take n text) ≡ hides (get_or text 0 0)
 gap_newlines d [] n h = let g = gap_is d [] n h in absurd (omega (arith, g.is))
 gap_newlines d (b ∷ bs) n h =
     let g = gap_is d (b ∷ bs) n h in
@@ -179,7 +179,7 @@ line_more text at n =
     omega (arith, parts)
 
 -- the line behind a part of a gap
-pub gap_line : (d : Bool) (text : List ℕ) (at n line more : ℕ) → front_of d (drop at text) ≡ front.Gap n → line ≡ line_at text at
+pub gap_line : (d : Bool) (text : List ℕ) (at n line more : ℕ) → lexeme_of d (drop at text) ≡ lexeme.Gap n → line ≡ line_at text at
     → more ≡ bool_byte (eqb (get_or text at 0) 92) → line + more ≡ line_at text (at + n)
 unfolding hides
 gap_line d text at n line more h here counted =
@@ -189,7 +189,7 @@ gap_line d text at n line more h here counted =
     omega (arith, line_more text at n)
 
 -- the line behind a token
-pub token_line : (d : Bool) (text : List ℕ) (at n line more : ℕ) (k : Kind) → front_of d (drop at text) ≡ front.Token k n
+pub token_line : (d : Bool) (text : List ℕ) (at n line more : ℕ) (k : Kind) → lexeme_of d (drop at text) ≡ lexeme.Token k n
     → line ≡ line_at text at → more ≡ bool_byte (is_newline k) → line + more ≡ line_at text (at + n)
 unfolding count_of
 token_line d text at n line more k h here counted =

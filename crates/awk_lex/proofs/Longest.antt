@@ -1,11 +1,11 @@
 -- What is found at a place is the longest spelling there, and the other way round.
 use Rattle.std.proofs.Common.{◌≡◌, ℕ, ◌≤◌, Bool, List, [], ◌∷◌, ◌++◌, length, drop, Ok, refl, sym, ap, ◌∙◌, subst, arith, append_assoc, length-append}
 use Rattle.std.proofs.Math.Seq.{drop-append_seam}
-use Rattle.awk_lex.specs.Words.{Writes, Longest}
-use Rattle.awk_lex.specs.Lexes.{Stands}
-use Rattle.awk_lex.specs.Front.{Found, found, token_at}
+use Rattle.awk_lex.specs.definitions.Words.{Writes, Longest}
+use Rattle.awk_lex.specs.definitions.Lexes.{Stands}
+use Rattle.awk_lex.specs.support.Lexeme.{Found, found, token_at}
 use Rattle.awk_lex.specs.declared.token.Kind.{Kind}
-use Rattle.awk_lex.proofs.Munch.{ok_is, munch}
+use Rattle.awk_lex.proofs.MaximalMunch.{ok_is, munch}
 use Rattle.awk_lex.proofs.Spelled.{spelled}
 
 none_left : (x : List ℕ) → length x ≤ 0 → x ≡ []

@@ -1,15 +1,15 @@
 -- How far a text is read.
 use Rattle.std.proofs.Common.{◌≡◌, ℕ, zero, suc, ◌+◌, ◌≤◌, ◌<◌, Bool, false, List, [], ◌∷◌, ◌++◌, length, drop, refl, sym, ap, ◌∙◌, subst, arith, drop-drop, length-drop, length-append}
-use Rattle.awk_lex.specs.Words.{divides_after}
-use Rattle.awk_lex.specs.Lexes.{Reads, Lexes, divides_behind, Fault, Breaks}
-use Rattle.awk_lex.specs.Front.{front_of}
-use Rattle.awk_lex.specs.Told.{Refuses}
+use Rattle.awk_lex.specs.definitions.Words.{divides_after}
+use Rattle.awk_lex.specs.definitions.Lexes.{Reads, Lexes, divides_behind, Fault, Breaks}
+use Rattle.awk_lex.specs.support.Lexeme.{lexeme_of}
+use Rattle.awk_lex.specs.definitions.Told.{Refuses}
 use Rattle.awk_lex.specs.declared.token.Kind.{Kind}
-use Rattle.awk_lex.specs.declared.refusal.Code.{Code}
-use Rattle.awk_lex.specs.declared.refusal.Code.TheVariants.{UnexpectedByte, OpenString, EscapeRefused, OpenPattern, NumberRefused, ProgramTooLong}
+use Rattle.awk_lex.specs.declared.refusal.RefusalCode.{RefusalCode}
+use Rattle.awk_lex.specs.declared.refusal.RefusalCode.TheVariants.{UnexpectedByte, OpenString, EscapeRefused, OpenPattern, NumberRefused, ProgramTooLong}
 use Rattle.awk_lex.specs.declared.lexer.TheConstants.{LIMIT}
-use Rattle.awk_lex.specs.declared.front.Front.{Front}
-use Rattle.awk_lex.specs.declared.front.Front.TheVariants as front
+use Rattle.awk_lex.specs.declared.lexeme.Lexeme.{Lexeme}
+use Rattle.awk_lex.specs.declared.lexeme.Lexeme.TheVariants as lexeme
 use Rattle.awk_lex.proofs.Spelled.{spelled}
 use Rattle.awk_lex.proofs.Gaps.{part_of, skip_none}
 use Rattle.awk_lex.proofs.Read.{token_is, gap_is, reads_gap, reads_token, divides_behind-append}
@@ -22,42 +22,42 @@ pub record IsRead (ts : List Kind) (d : Bool) (text : List ℕ) (at : ℕ) : Typ
   pub divides : d ≡ divides_behind false ts
 
 -- what stands in front takes a byte or more, and none behind the text
-abbrev TakesOf : ℕ → Front → Type 0
-TakesOf size (front.Gap n) = (1 ≤ n) × (n ≤ size)
-TakesOf size (front.Token k n) = (1 ≤ n) × (n ≤ size)
-TakesOf size (front.Fault c) = Unit {0}
+abbrev TakesOf : ℕ → Lexeme → Type 0
+TakesOf size (lexeme.Gap n) = (1 ≤ n) × (n ≤ size)
+TakesOf size (lexeme.Token k n) = (1 ≤ n) × (n ≤ size)
+TakesOf size (lexeme.Fault c) = Unit {0}
 
-takes : (d : Bool) (text : List ℕ) (s : Front) → front_of d text ≡ s → TakesOf (length text) s
-takes d text (front.Gap n) h =
+takes : (d : Bool) (text : List ℕ) (s : Lexeme) → lexeme_of d text ≡ s → TakesOf (length text) s
+takes d text (lexeme.Gap n) h =
     let g = gap_is d text n h in
     let p = part_of text g.before g.is in
     let size = ap length p.is in
     (omega (arith, g.len), omega (arith, g.len, p.len, size, length-append p.gap (drop (suc g.before) text), length-drop (suc g.before) text))
-takes d text (front.Token k n) h =
+takes d text (lexeme.Token k n) h =
     let s = spelled d text (record { kind = k; len = n }) (token_is d text k n h).is in
     (s.some, omega (arith, s.len, ap length s.is, length-append s.word s.rest))
-takes d text (front.Fault c) h = tt
+takes d text (lexeme.Fault c) h = tt
 
 -- what is answered for the text from a place on
-pub front_there : (shared text : List ℕ) (at : ℕ) (d : Bool) (found s : Front) → shared ≡ text → found ≡ front_of d (drop at shared) → found ≡ s
-    → front_of d (drop at text) ≡ s
-front_there shared text at d found s same is_front is = ap (λ x. front_of d (drop at x)) (sym same) ∙ sym is_front ∙ is
+pub lexeme_there : (shared text : List ℕ) (at : ℕ) (d : Bool) (found s : Lexeme) → shared ≡ text → found ≡ lexeme_of d (drop at shared) → found ≡ s
+    → lexeme_of d (drop at text) ≡ s
+lexeme_there shared text at d found s same is_front is = ap (λ x. lexeme_of d (drop at x)) (sym same) ∙ sym is_front ∙ is
 
-pub gap_takes : (d : Bool) (text : List ℕ) (at n : ℕ) → at < length text → front_of d (drop at text) ≡ front.Gap n → (1 ≤ n) × (at + n ≤ length text)
+pub gap_takes : (d : Bool) (text : List ℕ) (at n : ℕ) → at < length text → lexeme_of d (drop at text) ≡ lexeme.Gap n → (1 ≤ n) × (at + n ≤ length text)
 gap_takes d text at n inside h =
-    let t = takes d (drop at text) (front.Gap n) h in
+    let t = takes d (drop at text) (lexeme.Gap n) h in
     (t.0, omega (arith, t.1, length-drop at text))
 
-pub token_takes : (d : Bool) (text : List ℕ) (at : ℕ) (k : Kind) (n : ℕ) → at < length text → front_of d (drop at text) ≡ front.Token k n
+pub token_takes : (d : Bool) (text : List ℕ) (at : ℕ) (k : Kind) (n : ℕ) → at < length text → lexeme_of d (drop at text) ≡ lexeme.Token k n
     → (1 ≤ n) × (at + n ≤ length text)
 token_takes d text at k n inside h =
-    let t = takes d (drop at text) (front.Token k n) h in
+    let t = takes d (drop at text) (lexeme.Token k n) h in
     (t.0, omega (arith, t.1, length-drop at text))
 
 pub none_read : (text : List ℕ) → IsRead [] false text 0
 none_read text = record { reads = skip_none text; divides = refl }
 
-pub after_gap : (ts : List Kind) (d : Bool) (text : List ℕ) (at n : ℕ) → IsRead ts d text at → front_of d (drop at text) ≡ front.Gap n
+pub after_gap : (ts : List Kind) (d : Bool) (text : List ℕ) (at n : ℕ) → IsRead ts d text at → lexeme_of d (drop at text) ≡ lexeme.Gap n
     → IsRead ts d text (at + n)
 after_gap ts d text at n r h =
     let g = gap_is d (drop at text) n h in
@@ -66,10 +66,10 @@ after_gap ts d text at n r h =
     ap (λ m. drop m (drop at text)) (sym g.len) ∙ drop-drop n at text in
     record { reads = subst (Reads false ts text) place further; divides = r.divides }
 
-pub after_token : (ts : List Kind) (d e : Bool) (text : List ℕ) (at n : ℕ) (k : Kind) → IsRead ts d text at → front_of d (drop at text) ≡ front.Token k n
+pub after_token : (ts : List Kind) (d e : Bool) (text : List ℕ) (at n : ℕ) (k : Kind) → IsRead ts d text at → lexeme_of d (drop at text) ≡ lexeme.Token k n
     → e ≡ divides_after k → IsRead (ts ++ k ∷ []) e text (at + n)
 after_token ts d e text at n k r h is =
-    let here = ap (λ x. front_of x (drop at text)) (sym r.divides) ∙ h in
+    let here = ap (λ x. lexeme_of x (drop at text)) (sym r.divides) ∙ h in
     let further = reads_token false ts text (drop at text) k n r.reads (token_is (divides_behind false ts) (drop at text) k n here) in
     record {
       reads = subst (Reads false (ts ++ k ∷ []) text) (drop-drop n at text) further;
@@ -80,16 +80,16 @@ not_at_end : (text : List ℕ) (at : ℕ) → at < length text → drop at text 
 not_at_end text at inside e = omega (arith, length-drop at text, ap length e)
 
 -- the fault that stands where a text is read up to
-pub fault_here : (ts : List Kind) (d : Bool) (text : List ℕ) (at : ℕ) (c : Code) → at < length text → IsRead ts d text at
-    → front_of d (drop at text) ≡ front.Fault c → Fault (divides_behind false ts) c (drop at text)
+pub fault_here : (ts : List Kind) (d : Bool) (text : List ℕ) (at : ℕ) (c : RefusalCode) → at < length text → IsRead ts d text at
+    → lexeme_of d (drop at text) ≡ lexeme.Fault c → Fault (divides_behind false ts) c (drop at text)
 fault_here ts d text at c inside r h =
     subst (λ x. Fault x c (drop at text)) r.divides (fault_is d (drop at text) c (not_at_end text at inside) h)
 
-broken : (ts : List Kind) (d : Bool) (text : List ℕ) (at : ℕ) (c : Code) → at < length text → IsRead ts d text at → front_of d (drop at text) ≡ front.Fault c
+broken : (ts : List Kind) (d : Bool) (text : List ℕ) (at : ℕ) (c : RefusalCode) → at < length text → IsRead ts d text at → lexeme_of d (drop at text) ≡ lexeme.Fault c
     → Breaks c text
 broken ts d text at c inside r h = record { tokens = ts; place = drop at text; reads = r.reads; fault = fault_here ts d text at c inside r h }
 
-refuses : (c : Code) (text : List ℕ) → length text ≤ LIMIT → (b : Breaks c text) → Refuses c text
+refuses : (c : RefusalCode) (text : List ℕ) → length text ≤ LIMIT → (b : Breaks c text) → Refuses c text
 refuses UnexpectedByte text short b = (short, b)
 refuses OpenString text short b = (short, b)
 refuses EscapeRefused text short b = (short, b)
@@ -97,12 +97,12 @@ refuses OpenPattern text short b = (short, b)
 refuses NumberRefused text short b = (short, b)
 refuses _ text short b = absurd b.fault
 
-pub refused : (ts : List Kind) (d : Bool) (text : List ℕ) (at : ℕ) (c : Code) → length text ≤ LIMIT → at < length text → IsRead ts d text at
-    → front_of d (drop at text) ≡ front.Fault c → Refuses c text
+pub refused : (ts : List Kind) (d : Bool) (text : List ℕ) (at : ℕ) (c : RefusalCode) → length text ≤ LIMIT → at < length text → IsRead ts d text at
+    → lexeme_of d (drop at text) ≡ lexeme.Fault c → Refuses c text
 refused ts d text at c short inside r h = refuses c text short (broken ts d text at c inside r h)
 
-pub no_other : (ts us : List Kind) (d : Bool) (text : List ℕ) (at : ℕ) (c : Code) → at < length text → IsRead ts d text at
-    → front_of d (drop at text) ≡ front.Fault c → Lexes us text → ⊥
+pub no_other : (ts us : List Kind) (d : Bool) (text : List ℕ) (at : ℕ) (c : RefusalCode) → at < length text → IsRead ts d text at
+    → lexeme_of d (drop at text) ≡ lexeme.Fault c → Lexes us text → ⊥
 no_other ts us d text at c inside r h l = no_break us c text l (broken ts d text at c inside r h)
 
 at_end : (text : List ℕ) (at : ℕ) → length text ≤ at → drop at text ≡ []
@@ -115,17 +115,17 @@ pub all_read : (ts : List Kind) (d : Bool) (text : List ℕ) (at : ℕ) → leng
 all_read ts d text at h r = subst (Reads false ts text) (at_end text at h) r.reads
 
 -- a text that is not too long breaks where it is refused
-breaks : (c : Code) (text : List ℕ) → length text ≤ LIMIT → Refuses c text → Breaks c text
+breaks : (c : RefusalCode) (text : List ℕ) → length text ≤ LIMIT → Refuses c text → Breaks c text
 breaks ProgramTooLong text short r = absurd (omega arith)
 breaks _ text short r = r.1
 
-pub too_long_only : (c : Code) (text : List ℕ) → LIMIT < length text → Refuses c text → ProgramTooLong ≡ c
+pub too_long_only : (c : RefusalCode) (text : List ℕ) → LIMIT < length text → Refuses c text → ProgramTooLong ≡ c
 too_long_only ProgramTooLong text long r = refl
 too_long_only _ text long r = absurd (omega arith)
 
-pub fault_only : (ts : List Kind) (b : Bool) (text : List ℕ) (at : ℕ) (c d : Code) → length text ≤ LIMIT → at < length text → IsRead ts b text at
-    → front_of b (drop at text) ≡ front.Fault c → Refuses d text → c ≡ d
+pub fault_only : (ts : List Kind) (b : Bool) (text : List ℕ) (at : ℕ) (c d : RefusalCode) → length text ≤ LIMIT → at < length text → IsRead ts b text at
+    → lexeme_of b (drop at text) ≡ lexeme.Fault c → Refuses d text → c ≡ d
 fault_only ts b text at c d short inside r h refused = one_break c d text (broken ts b text at c inside r h) (breaks d text short refused)
 
-pub none_refused : (ts : List Kind) (text : List ℕ) (c : Code) → length text ≤ LIMIT → Lexes ts text → Refuses c text → ⊥
+pub none_refused : (ts : List Kind) (text : List ℕ) (c : RefusalCode) → length text ≤ LIMIT → Lexes ts text → Refuses c text → ⊥
 none_refused ts text c short lexes refused = no_break ts c text lexes (breaks c text short refused)

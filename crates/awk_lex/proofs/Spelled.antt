@@ -5,16 +5,16 @@ use Rattle.std.specs.List.{prefix_len}
 use Rattle.std.specs.Char.{is_ascii_digit}
 use Rattle.std.proofs.lemmas.List.{length-take}
 use Rattle.std.proofs.lemmas.Bool.{cases_Bool, and_from, eqb-true}
-use Rattle.awk_lex.specs.Escapes.{unescaped}
-use Rattle.awk_lex.specs.Tables.{reserved, signs, divisions, kind_in}
-use Rattle.awk_lex.specs.Words.{is_letter, is_word_byte, is_word, is_digits, opens, suits, Writes, number, string, ere, word, name, called, sign, division}
-use Rattle.awk_lex.specs.Front.{Found, number_of, body_len, named, kind_of, word_of, closed_string, string_of, ere_of, short_sign, long_sign, sign_at, slash_at, mark_at, token_at}
+use Rattle.awk_lex.specs.definitions.Escapes.{unescaped}
+use Rattle.awk_lex.specs.definitions.Tables.{reserved, punctuators, divisions, kind_in}
+use Rattle.awk_lex.specs.definitions.Words.{is_name_start, is_word_byte, is_word, is_digits, opens, suits, Writes, number, string, ere, word, name, called, punctuator, division}
+use Rattle.awk_lex.specs.support.Lexeme.{Found, found_number, body_len, named, kind_of, found_word, closed_string, found_string, found_ere, short_punctuator, long_punctuator, punctuator_at, slash_at, other_at, token_at}
 use Rattle.awk_lex.specs.declared.token.Kind.{Kind}
 use Rattle.awk_lex.specs.declared.token.Kind.TheVariants.{Name, Called}
 use Rattle.awk_lex.proofs.Prefixes.{if_true, if_false, front_passes, front_cons, front_split}
-use Rattle.awk_lex.proofs.Tables.{word_suits, IsTable, signs_are, divisions_are, row_is}
-use Rattle.awk_lex.proofs.Bodies.{closed_body}
-use Rattle.awk_lex.proofs.Munch.{ok_is, letter_in_word}
+use Rattle.awk_lex.proofs.Tables.{word_suits, IsTable, punctuators_are, divisions_are, row_is}
+use Rattle.awk_lex.proofs.DelimitedBodies.{closed_body}
+use Rattle.awk_lex.proofs.MaximalMunch.{ok_is, letter_in_word}
 
 -- what is found is spelled, and suits what stands behind
 pub record Spelled (d : Bool) (f : Found) (text : List ℕ) : Type 0 where
@@ -53,8 +53,8 @@ kind_spelled d w rest h = by_row (kind_in reserved w) refl
           (subst (λ k. Writes d k w) is (name h (ap is_some e)), subst (λ k. suits k rest ≡ true) is (ap not other))
     ]
 
-spelled_word : (d : Bool) (b : ℕ) (bs : List ℕ) (f : Found) → is_letter b ≡ true
-    → word_of (take_while is_word_byte (b ∷ bs)) (drop (prefix_len is_word_byte (b ∷ bs)) (b ∷ bs)) ≡ Ok f → Spelled d f (b ∷ bs)
+spelled_word : (d : Bool) (b : ℕ) (bs : List ℕ) (f : Found) → is_name_start b ≡ true
+    → found_word (take_while is_word_byte (b ∷ bs)) (drop (prefix_len is_word_byte (b ∷ bs)) (b ∷ bs)) ≡ Ok f → Spelled d f (b ∷ bs)
 spelled_word d b bs f letter h =
     let front = front_cons is_word_byte b bs (letter_in_word b letter) in
     let is_a_word : is_word (take_while is_word_byte (b ∷ bs)) ≡ true =
@@ -63,7 +63,7 @@ spelled_word d b bs f letter h =
     subst (λ g. Spelled d g (b ∷ bs)) (ok_is _ _ _ refl h)
     (front_spelled d is_word_byte (b ∷ bs) _ k.0 k.1 (omega (arith, ap length front)))
 
-spelled_number : (d : Bool) (b : ℕ) (bs : List ℕ) (f : Found) → is_ascii_digit b ≡ true → number_of (take_while is_ascii_digit (b ∷ bs)) ≡ Ok f → Spelled d f (b ∷ bs)
+spelled_number : (d : Bool) (b : ℕ) (bs : List ℕ) (f : Found) → is_ascii_digit b ≡ true → found_number (take_while is_ascii_digit (b ∷ bs)) ≡ Ok f → Spelled d f (b ∷ bs)
 spelled_number d b bs f digit h =
     let front = front_cons is_ascii_digit b bs digit in
     let are_digits : is_digits (take_while is_ascii_digit (b ∷ bs)) ≡ true =
@@ -71,19 +71,19 @@ spelled_number d b bs f digit h =
     subst (λ g. Spelled d g (b ∷ bs)) (ok_is _ _ _ refl h)
     (front_spelled d is_ascii_digit (b ∷ bs) _ (number are_digits) refl (omega (arith, ap length front)))
 
-taken_len : (mark : ℕ) (bs : List ℕ) (len : ℕ) → bs ≡ take len bs ++ mark ∷ drop (suc len) bs → length (take len bs) ≡ len
-taken_len mark bs len h = omega (arith, ap length h, length-append (take len bs) (mark ∷ drop (suc len) bs), length-take len bs)
+taken_len : (delimiter : ℕ) (bs : List ℕ) (len : ℕ) → bs ≡ take len bs ++ delimiter ∷ drop (suc len) bs → length (take len bs) ≡ len
+taken_len delimiter bs len h = omega (arith, ap length h, length-append (take len bs) (delimiter ∷ drop (suc len) bs), length-take len bs)
 
--- what stands between two marks
-between : (d : Bool) (mark : ℕ) (bs : List ℕ) (len : ℕ) (k : Kind) → bs ≡ take len bs ++ mark ∷ drop (suc len) bs
-    → Writes d k (mark ∷ take len bs ++ mark ∷ []) → suits k (drop (suc len) bs) ≡ true → Spelled d (record { kind = k; len = len + 2 }) (mark ∷ bs)
-between d mark bs len k is writes suited = record {
-  word = mark ∷ take len bs ++ mark ∷ [];
+-- what stands between two delimiters
+between : (d : Bool) (delimiter : ℕ) (bs : List ℕ) (len : ℕ) (k : Kind) → bs ≡ take len bs ++ delimiter ∷ drop (suc len) bs
+    → Writes d k (delimiter ∷ take len bs ++ delimiter ∷ []) → suits k (drop (suc len) bs) ≡ true → Spelled d (record { kind = k; len = len + 2 }) (delimiter ∷ bs)
+between d delimiter bs len k is writes suited = record {
+  word = delimiter ∷ take len bs ++ delimiter ∷ [];
   rest = drop (suc len) bs;
-  is = ap (λ x. mark ∷ x) (is ∙ sym (append_assoc (take len bs) (mark ∷ []) (drop (suc len) bs)));
+  is = ap (λ x. delimiter ∷ x) (is ∙ sym (append_assoc (take len bs) (delimiter ∷ []) (drop (suc len) bs)));
   writes = writes;
   suited = suited;
-  len = omega (arith, length-append (take len bs) (mark ∷ []), taken_len mark bs len is);
+  len = omega (arith, length-append (take len bs) (delimiter ∷ []), taken_len delimiter bs len is);
   some = omega arith;
 }
 
@@ -94,11 +94,11 @@ spelled_closed d bs len f (Some bytes) closed is_value h =
     let c = closed_body 34 bs len closed in
     subst (λ g. Spelled d g (34 ∷ bs)) (ok_is _ _ _ refl h) (between d 34 bs len _ c.1 (string c.0 is_value) refl)
 
-spelled_string : (d : Bool) (bs : List ℕ) (f : Found) (o : Option ℕ) → body_len 34 false bs ≡ o → string_of bs o ≡ Ok f → Spelled d f (34 ∷ bs)
+spelled_string : (d : Bool) (bs : List ℕ) (f : Found) (o : Option ℕ) → body_len 34 false bs ≡ o → found_string bs o ≡ Ok f → Spelled d f (34 ∷ bs)
 spelled_string d bs f None e h = absurd (cc)
 spelled_string d bs f (Some len) e h = spelled_closed d bs len f (unescaped (take len bs)) e refl h
 
-spelled_ere : (bs : List ℕ) (f : Found) (o : Option ℕ) → body_len 47 false bs ≡ o → ere_of bs o ≡ Ok f → Spelled false f (47 ∷ bs)
+spelled_ere : (bs : List ℕ) (f : Found) (o : Option ℕ) → body_len 47 false bs ≡ o → found_ere bs o ≡ Ok f → Spelled false f (47 ∷ bs)
 spelled_ere bs f None e h = absurd (cc)
 spelled_ere bs f (Some len) e h =
     let c = closed_body 47 bs len e in
@@ -109,7 +109,7 @@ Spells : Bool → List (List ℕ × Kind) → Type 0
 Spells d rows = (k : Kind) (w : List ℕ) → kind_in rows w ≡ Some k → Writes d k w
 
 spelled_short : (d : Bool) (rows : List (List ℕ × Kind)) (a : ℕ) (bs : List ℕ) (f : Found) (o : Option Kind) → IsTable rows → Spells d rows
-    → kind_in rows (a ∷ []) ≡ o → short_sign o ≡ Ok f → Spelled d f (a ∷ bs)
+    → kind_in rows (a ∷ []) ≡ o → short_punctuator o ≡ Ok f → Spelled d f (a ∷ bs)
 unfolding Spells
 spelled_short d rows a bs f None table spells e h = absurd (cc)
 spelled_short d rows a bs f (Some k) table spells e h =
@@ -118,7 +118,7 @@ spelled_short d rows a bs f (Some k) table spells e h =
     (record { word = a ∷ []; rest = bs; is = refl; writes = spells k (a ∷ []) e; suited = r.suits bs; len = refl; some = omega arith })
 
 spelled_long : (d : Bool) (rows : List (List ℕ × Kind)) (a b : ℕ) (bs : List ℕ) (f : Found) (o : Option Kind) → IsTable rows → Spells d rows
-    → kind_in rows (a ∷ b ∷ []) ≡ o → long_sign o (kind_in rows (a ∷ [])) ≡ Ok f → Spelled d f (a ∷ b ∷ bs)
+    → kind_in rows (a ∷ b ∷ []) ≡ o → long_punctuator o (kind_in rows (a ∷ [])) ≡ Ok f → Spelled d f (a ∷ b ∷ bs)
 unfolding Spells
 spelled_long d rows a b bs f None table spells e h = spelled_short d rows a (b ∷ bs) f (kind_in rows (a ∷ [])) table spells refl h
 spelled_long d rows a b bs f (Some k) table spells e h =
@@ -126,7 +126,7 @@ spelled_long d rows a b bs f (Some k) table spells e h =
     subst (λ g. Spelled d g (a ∷ b ∷ bs)) (ok_is _ _ _ refl h)
     (record { word = a ∷ b ∷ []; rest = bs; is = refl; writes = spells k (a ∷ b ∷ []) e; suited = r.suits bs; len = refl; some = omega arith })
 
-spelled_row : (d : Bool) (rows : List (List ℕ × Kind)) (text : List ℕ) (f : Found) → IsTable rows → Spells d rows → sign_at rows text ≡ Ok f → Spelled d f text
+spelled_row : (d : Bool) (rows : List (List ℕ × Kind)) (text : List ℕ) (f : Found) → IsTable rows → Spells d rows → punctuator_at rows text ≡ Ok f → Spelled d f text
 spelled_row d rows [] f table spells h = absurd (cc)
 spelled_row d rows (a ∷ []) f table spells h = spelled_short d rows a [] f (kind_in rows (a ∷ [])) table spells refl h
 spelled_row d rows (a ∷ b ∷ bs) f table spells h = spelled_long d rows a b bs f (kind_in rows (a ∷ b ∷ [])) table spells refl h
@@ -136,12 +136,12 @@ unfolding Spells
 spelled_slash true bs f h = spelled_row true divisions (47 ∷ bs) f divisions_are (λ k w e. division refl e) h
 spelled_slash false bs f h = spelled_ere bs f (body_len 47 false bs) refl h
 
-spelled_sign : (d : Bool) (text : List ℕ) (f : Found) → sign_at signs text ≡ Ok f → Spelled d f text
+spelled_punctuator : (d : Bool) (text : List ℕ) (f : Found) → punctuator_at punctuators text ≡ Ok f → Spelled d f text
 unfolding Spells
-spelled_sign d text f h = spelled_row d signs text f signs_are (λ k w e. sign e) h
+spelled_punctuator d text f h = spelled_row d punctuators text f punctuators_are (λ k w e. punctuator e) h
 
-spelled_mark : (d : Bool) (b : ℕ) (bs : List ℕ) (f : Found) → mark_at d (b ∷ bs) ≡ Ok f → Spelled d f (b ∷ bs)
-spelled_mark d b bs f h = elim (cases_Bool (eqb b 34)) [
+spelled_other : (d : Bool) (b : ℕ) (bs : List ℕ) (f : Found) → other_at d (b ∷ bs) ≡ Ok f → Spelled d f (b ∷ bs)
+spelled_other d b bs f h = elim (cases_Bool (eqb b 34)) [
   | inl quote ↦
       subst (λ x. Spelled d f (x ∷ bs)) (sym (eqb-true b 34 quote))
       (spelled_string d bs f (body_len 34 false bs) refl (sym (if_true (eqb b 34) _ _ quote) ∙ h))
@@ -152,18 +152,18 @@ spelled_mark d b bs f h = elim (cases_Bool (eqb b 34)) [
             let e = eqb-true b 47 slash in
             let at_slash = ap (λ x. slash_at d (x ∷ bs)) (sym e) ∙ sym (if_true (eqb b 47) _ _ slash) ∙ k in
             subst (λ x. Spelled d f (x ∷ bs)) (sym e) (spelled_slash d bs f at_slash)
-        | inr neither ↦ spelled_sign d (b ∷ bs) f (sym (if_false (eqb b 47) _ _ neither) ∙ k)
+        | inr neither ↦ spelled_punctuator d (b ∷ bs) f (sym (if_false (eqb b 47) _ _ neither) ∙ k)
       ]
 ]
 
 pub spelled : (d : Bool) (text : List ℕ) (f : Found) → token_at d text ≡ Ok f → Spelled d f text
 spelled d [] f h = absurd (cc)
-spelled d (b ∷ bs) f h = elim (cases_Bool (is_letter b)) [
-  | inl letter ↦ spelled_word d b bs f letter (sym (if_true (is_letter b) _ _ letter) ∙ h)
+spelled d (b ∷ bs) f h = elim (cases_Bool (is_name_start b)) [
+  | inl letter ↦ spelled_word d b bs f letter (sym (if_true (is_name_start b) _ _ letter) ∙ h)
   | inr other ↦
-      let k = sym (if_false (is_letter b) _ _ other) ∙ h in
+      let k = sym (if_false (is_name_start b) _ _ other) ∙ h in
       elim (cases_Bool (is_ascii_digit b)) [
         | inl digit ↦ spelled_number d b bs f digit (sym (if_true (is_ascii_digit b) _ _ digit) ∙ k)
-        | inr neither ↦ spelled_mark d b bs f (sym (if_false (is_ascii_digit b) _ _ neither) ∙ k)
+        | inr neither ↦ spelled_other d b bs f (sym (if_false (is_ascii_digit b) _ _ neither) ∙ k)
       ]
 ]

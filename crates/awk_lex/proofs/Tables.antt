@@ -6,8 +6,8 @@ use Rattle.std.specs.List.{list_all}
 use Rattle.std.specs.Char.{is_ascii_digit}
 use Rattle.std.specs.Cmp.Lexicographic.{same_text}
 use Rattle.std.proofs.lemmas.Bool.{cases_Bool, and_parts, not-true, leb-true, eqb-true}
-use Rattle.awk_lex.specs.Tables.{reserved, signs, divisions, kind_in}
-use Rattle.awk_lex.specs.Words.{is_letter, is_word, suits, is_allowed}
+use Rattle.awk_lex.specs.definitions.Tables.{reserved, punctuators, divisions, kind_in}
+use Rattle.awk_lex.specs.definitions.Words.{is_name_start, is_word, suits, is_allowed}
 use Rattle.awk_lex.specs.declared.token.Kind.{Kind}
 use Rattle.awk_lex.specs.declared.token.Kind.TheVariants.{Number, String, Ere, Name, Called}
 use Rattle.awk_lex.proofs.Prefixes.{if_true, if_false}
@@ -61,19 +61,19 @@ word_suits w rest k h = mere_suits k rest (mere_word w k h)
 pub word_allowed : (w rest : List ℕ) (k : Kind) → kind_in reserved w ≡ Some k → is_allowed k rest ≡ true
 word_allowed w rest k h = mere_allowed k rest (mere_word w k h)
 
--- a row of a table of signs: one byte or two, and a kind that says nothing of them
-is_sign : List ℕ → Kind → Bool
-is_sign w k = nat_le 1 (length w) && (nat_le (length w) 2 && is_mere k)
+-- a row of a table of punctuators: one byte or two, and a kind that says nothing of them
+is_punctuator : List ℕ → Kind → Bool
+is_punctuator w k = nat_le 1 (length w) && (nat_le (length w) 2 && is_mere k)
 
 pub IsTable : List (List ℕ × Kind) → Type 0
-IsTable rows = list_all (λ row. is_sign row.0 row.1) rows ≡ true
+IsTable rows = list_all (λ row. is_punctuator row.0 row.1) rows ≡ true
 
-pub signs_are : IsTable signs
-unfolding IsTable is_sign is_mere
-signs_are = refl
+pub punctuators_are : IsTable punctuators
+unfolding IsTable is_punctuator is_mere
+punctuators_are = refl
 
 pub divisions_are : IsTable divisions
-unfolding IsTable is_sign is_mere
+unfolding IsTable is_punctuator is_mere
 divisions_are = refl
 
 pub record IsRow (w : List ℕ) (k : Kind) : Type 0 where
@@ -83,9 +83,9 @@ pub record IsRow (w : List ℕ) (k : Kind) : Type 0 where
   pub allowed : (rest : List ℕ) → is_allowed k rest ≡ true
 
 pub row_is : (rows : List (List ℕ × Kind)) (w : List ℕ) (k : Kind) → IsTable rows → kind_in rows w ≡ Some k → IsRow w k
-unfolding IsTable is_sign
+unfolding IsTable is_punctuator
 row_is rows w k table h =
-    let a = and_parts _ _ (found_row is_sign rows w k table h) in
+    let a = and_parts _ _ (found_row is_punctuator rows w k table h) in
     let b = and_parts _ _ a.1 in
     record {
       some = leb-true _ _ a.0;
@@ -94,21 +94,21 @@ row_is rows w k table h =
       allowed = λ rest. mere_allowed k rest b.1;
     }
 
--- a sign that begins with no slash begins with no letter, no digit and no quote either
+-- a punctuator that begins with no slash begins with no letter, no digit and no quote either
 starts_no_word : List ℕ → Kind → Bool
 starts_no_word w k =
-    not (is_letter (get_or w 0 0)) && (not (is_ascii_digit (get_or w 0 0)) && (not (eqb (get_or w 0 0) 34) && not (eqb (get_or w 0 0) 47)))
+    not (is_name_start (get_or w 0 0)) && (not (is_ascii_digit (get_or w 0 0)) && (not (eqb (get_or w 0 0) 34) && not (eqb (get_or w 0 0) 47)))
 
-pub record StartsSign (b : ℕ) : Type 0 where
-  pub no_letter : is_letter b ≡ false
+pub record StartsPunctuator (b : ℕ) : Type 0 where
+  pub no_letter : is_name_start b ≡ false
   pub no_digit : is_ascii_digit b ≡ false
   pub no_quote : eqb b 34 ≡ false
   pub no_slash : eqb b 47 ≡ false
 
-pub sign_starts : (w : List ℕ) (k : Kind) → kind_in signs w ≡ Some k → StartsSign (get_or w 0 0)
+pub punctuator_starts : (w : List ℕ) (k : Kind) → kind_in punctuators w ≡ Some k → StartsPunctuator (get_or w 0 0)
 unfolding starts_no_word
-sign_starts w k h =
-    let a = and_parts _ _ (found_row starts_no_word signs w k refl h) in
+punctuator_starts w k h =
+    let a = and_parts _ _ (found_row starts_no_word punctuators w k refl h) in
     let b = and_parts _ _ a.1 in
     let c = and_parts _ _ b.1 in
     record { no_letter = not-true _ a.0; no_digit = not-true _ b.0; no_quote = not-true _ c.0; no_slash = not-true _ c.1 }

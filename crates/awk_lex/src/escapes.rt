@@ -1,7 +1,7 @@
 // The bytes that a text with escapes stands for.
 ghost use Rattle.std.specs.Prelude.{◌≡◌, ◌+◌, ◌≤◌, ◌++◌, None, Some, Err, OnOk, IfSome, length};
 ghost use Rattle.std.specs.Option.{option_map};
-ghost use Rattle.awk_lex.specs.Escapes.{letter, is_octal, octal, escape, front_symbol, unescaped};
+ghost use Rattle.awk_lex.specs.definitions.Escapes.{letter, is_octal, octal, escape, first_symbol, unescaped};
 
 use std::alloc::{AllocError, AllocFailed};
 use thiserror::Error;
@@ -107,8 +107,8 @@ fn escape(text: &[u8]) -> Option<Symbol>
 }
 
 // What stands at the front of a text, by its first byte and the text behind.
-fn front_symbol(first: u8, text: &[u8]) -> Option<Symbol>
-    ensures is { result ≡ front_symbol first text.now }
+fn first_symbol(first: u8, text: &[u8]) -> Option<Symbol>
+    ensures is { result ≡ first_symbol first text.now }
     ensures within { IfSome result (λ symbol. symbol.behind ≤ length text.now) }
 {
     if first == b'\\' {
@@ -134,7 +134,7 @@ pub fn unescape(text: &[u8], into: &mut Vec<u8>) -> Result<(), EscapeFault>
     while place < text.len() {
         let first = text[place];
         place += 1;
-        let Some(symbol) = front_symbol(first, &text[place..]) else {
+        let Some(symbol) = first_symbol(first, &text[place..]) else {
             return Err(EscapeFault::BadEscape);
         };
         into.push(symbol.byte)?;

@@ -1,14 +1,16 @@
 // The tokens of a program text.
 
 ghost use Rattle.std.specs.Prelude.{◌≡◌, ◌≤◌, ◌⊎◌, ◌+◌, ◌<◌, List, ℕ, length, All, IfOk, IfErr, OnOk};
-ghost use Rattle.awk_lex.specs.Words.{is_newline, divides_after};
-ghost use Rattle.awk_lex.specs.Lexes.{Lexes};
-ghost use Rattle.awk_lex.specs.Refused.{IsOutOfMemory};
-ghost use Rattle.awk_lex.specs.Told.{kinds_of, StandsAt, InTurn, FaultStands, GivesOnly, Refuses, RefusesOnly};
+ghost use Rattle.awk_lex.specs.definitions.Words.{divides_after};
+ghost use Rattle.awk_lex.specs.definitions.Lexes.{Lexes};
+ghost use Rattle.awk_lex.specs.definitions.Refused.{IsOutOfMemory};
+ghost use Rattle.awk_lex.specs.support.Lexeme.{is_newline};
+ghost use Rattle.awk_lex.specs.definitions.Told.{kinds_of, StandsAt, InTurn};
+ghost use Rattle.awk_lex.specs.definitions.Told.{FaultStands, GivesOnly, Refuses, RefusesOnly};
 
-use crate::front::Front;
-use crate::refusal::{Code, Refusal};
-use crate::scan::front_at;
+use crate::lexeme::Lexeme;
+use crate::refusal::{Refusal, RefusalCode};
+use crate::scanner::lexeme_at;
 use crate::token::{Kind, Token};
 use awk_value::Bytes;
 use std::alloc::Global;
@@ -34,7 +36,7 @@ fn divides_after(kind: &Kind) -> bool
             | Kind::Ere(_)
             | Kind::Name(_)
             | Kind::BuiltIn(_)
-            | Kind::Step(_)
+            | Kind::Increment(_)
             | Kind::CloseBracket
             | Kind::CloseParenthesis
     )
@@ -52,7 +54,8 @@ pub fn tokens(alloc: Global, text: &[u8]) -> Result<Vec<Token>, Refusal>
 
     // Each token has a stretch of the text, in turn, and stands there on its line.
     ensures in_turn { IfOk result (λ tokens. InTurn 0 tokens.items (length text.now)) }
-    ensures within { IfOk result (λ tokens. All (λ token. (token.start ≤ token.end) × (token.end ≤ length text.now)) tokens.items) }
+    ensures within { IfOk result (λ tokens.
+        All (λ token. (token.start ≤ token.end) × (token.end ≤ length text.now)) tokens.items) }
     ensures placed { IfOk result (λ tokens. All (StandsAt text.now) tokens.items) }
 
     // Tokens that the text has are found, unless memory runs out.
@@ -63,12 +66,13 @@ pub fn tokens(alloc: Global, text: &[u8]) -> Result<Vec<Token>, Refusal>
     ensures broken { (code : _) → Refuses code text.now → RefusesOnly result code }
 
     // A refusal's line is that of the fault, and the first one where the text is too long.
-    ensures fault_line { length text.now ≤ LIMIT → IfErr result (λ refusal. IsOutOfMemory refusal ⊎ FaultStands text.now refusal) }
+    ensures fault_line { length text.now ≤ LIMIT →
+        IfErr result (λ refusal. IsOutOfMemory refusal ⊎ FaultStands text.now refusal) }
     ensures first_line { LIMIT < length text.now → IfErr result (λ refusal. refusal.line ≡ 1) }
 {
     if text.len() > LIMIT {
         return Err(Refusal {
-            code: Code::ProgramTooLong,
+            code: RefusalCode::ProgramTooLong,
             line: 1,
         });
     }
@@ -78,13 +82,13 @@ pub fn tokens(alloc: Global, text: &[u8]) -> Result<Vec<Token>, Refusal>
     let mut line = 1;
     let mut divides = false;
     while at < text.len() {
-        match front_at(alloc, &shared, at, divides)? {
-            Front::Gap(len) => {
+        match lexeme_at(alloc, &shared, at, divides)? {
+            Lexeme::Gap(len) => {
                 let hidden = u64::from(text[at] == b'\\');
                 line += hidden;
                 at += len;
             }
-            Front::Token(kind, len) => {
+            Lexeme::Token(kind, len) => {
                 divides = divides_after(&kind);
                 let newlines = u64::from(is_newline(&kind));
                 let end = at + len;
@@ -97,7 +101,7 @@ pub fn tokens(alloc: Global, text: &[u8]) -> Result<Vec<Token>, Refusal>
                 line += newlines;
                 at = end;
             }
-            Front::Fault(code) => return Err(Refusal { code, line }),
+            Lexeme::Fault(code) => return Err(Refusal { code, line }),
         }
     }
     Ok(tokens)

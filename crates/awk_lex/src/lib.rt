@@ -4,14 +4,12 @@
 //! reasons. `words` says which names have a meaning of their own, and `escapes` what a text with escapes stands for.
 #![tactic(auto)]
 
+mod delimited;
 pub mod escapes;
-mod front;
+mod lexeme;
 pub mod lexer;
+mod punctuation;
 pub mod refusal;
-mod scan;
-mod signs;
-mod strings;
-#[cfg(test)]
-mod tests;
+mod scanner;
 pub mod token;
 pub mod words;

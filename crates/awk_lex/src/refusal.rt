@@ -1,14 +1,14 @@
 // Why a text is no program.
 
-ghost use Rattle.std.specs.Prelude.{Some};
-ghost use Rattle.awk_lex.specs.Refused.{IsOutOfMemory, code_text, refusal_text};
+ghost use Rattle.std.specs.Prelude.{◌≡◌, Some};
+ghost use Rattle.awk_lex.specs.definitions.Refused.{IsOutOfMemory, code_text, refusal_text};
 
 use std::alloc::{AllocError, AllocFailed};
 use std::fmt;
 
 /// Why a text is no program.
-#[derive(Clone, Copy, Debug, PartialEq, Eq)]
-pub enum Code {
+#[derive(Clone, Copy, PartialEq, Eq)]
+pub enum RefusalCode {
     /// L1: a byte that begins no token.
     UnexpectedByte,
     /// L2: a string that its line or the text ends.
@@ -39,39 +39,48 @@ pub enum Code {
     OutOfMemory,
 }
 
-impl fmt::Display for Code {
-    ghost output = { λ code. Some (code_text code) };
-
+impl RefusalCode {
     /// The code and its text, such as `L1: unexpected byte`.
-    fn fmt<W: fmt::Write>(&self, f: &mut fmt::Formatter<W>) -> fmt::Result {
+    fn text(self) -> &'static str
+        ensures { result.now ≡ code_text self }
+    {
         match self {
-            Code::UnexpectedByte => write!(f, "L1: unexpected byte"),
-            Code::OpenString => write!(f, "L2: open string"),
-            Code::EscapeRefused => write!(f, "L3: escape refused"),
-            Code::OpenPattern => write!(f, "L4: open pattern"),
-            Code::NumberRefused => write!(f, "L5: number refused"),
-            Code::ProgramTooLong => write!(f, "L6: program too long"),
-            Code::NotAProgram => write!(f, "S1: not a program"),
-            Code::NestedTooDeep => write!(f, "S2: nested too deep"),
-            Code::PatternIllFormed => write!(f, "P1: pattern ill-formed"),
-            Code::PatternCountRefused => write!(f, "P2: interval or range refused"),
-            Code::PatternTooLarge => write!(f, "P3: pattern too large"),
-            Code::ArrayAndScalar => write!(f, "K1: array and scalar"),
-            Code::NameLeftOut => write!(f, "K7: name left out"),
-            Code::OutOfMemory => write!(f, "M0: out of memory"),
+            RefusalCode::UnexpectedByte => "L1: unexpected byte",
+            RefusalCode::OpenString => "L2: open string",
+            RefusalCode::EscapeRefused => "L3: escape refused",
+            RefusalCode::OpenPattern => "L4: open pattern",
+            RefusalCode::NumberRefused => "L5: number refused",
+            RefusalCode::ProgramTooLong => "L6: program too long",
+            RefusalCode::NotAProgram => "S1: not a program",
+            RefusalCode::NestedTooDeep => "S2: nested too deep",
+            RefusalCode::PatternIllFormed => "P1: pattern ill-formed",
+            RefusalCode::PatternCountRefused => "P2: interval or range refused",
+            RefusalCode::PatternTooLarge => "P3: pattern too large",
+            RefusalCode::ArrayAndScalar => "K1: array and scalar",
+            RefusalCode::NameLeftOut => "K7: name left out",
+            RefusalCode::OutOfMemory => "M0: out of memory",
         }
     }
 }
 
+impl fmt::Display for RefusalCode {
+    ghost output = { λ code. Some (code_text code) };
+
+    /// The code and its text, such as `L1: unexpected byte`.
+    fn fmt<W: fmt::Write>(&self, f: &mut fmt::Formatter<W>) -> fmt::Result {
+        f.write_str(self.text())
+    }
+}
+
 /// A refused text: why, and on which line (from 1).
-#[derive(Clone, Copy, Debug, PartialEq, Eq)]
+#[derive(Clone, Copy, PartialEq, Eq)]
 pub struct Refusal {
-    pub code: Code,
+    pub code: RefusalCode,
     pub line: u64,
 }
 
 const OUT_OF_MEMORY: Refusal = Refusal {
-    code: Code::OutOfMemory,
+    code: RefusalCode::OutOfMemory,
     line: 1,
 };
 

@@ -1,9 +1,9 @@
-// What a program text is made of.
+// The tokens of a program text (POSIX awk, Grammar).
 
 use awk_value::Bytes;
 
 /// An operator between two operands. Plus and minus may also stand before one.
-#[derive(Clone, Copy, Debug, PartialEq, Eq)]
+#[derive(Clone, Copy)]
 pub enum Operator {
     /// `^`
     Power,
@@ -40,8 +40,8 @@ pub enum Operator {
 }
 
 /// How an assignment makes the new value.
-#[derive(Clone, Copy, Debug, PartialEq, Eq)]
-pub enum Assignment {
+#[derive(Clone, Copy)]
+pub enum AssignmentOperator {
     /// `=`
     Plain,
     /// `+=`
@@ -58,9 +58,9 @@ pub enum Assignment {
     Power,
 }
 
-/// A step of a variable by one, before or behind its use.
-#[derive(Clone, Copy, Debug, PartialEq, Eq)]
-pub enum Step {
+/// Adds 1 to a variable or takes 1 from it, before or behind its use.
+#[derive(Clone, Copy)]
+pub enum IncrementOperator {
     /// `++`
     Increment,
     /// `--`
@@ -68,7 +68,7 @@ pub enum Step {
 }
 
 /// A keyword, which is no name.
-#[derive(Clone, Copy, Debug, PartialEq, Eq)]
+#[derive(Clone, Copy)]
 pub enum Keyword {
     Begin,
     End,
@@ -90,8 +90,8 @@ pub enum Keyword {
     Printf,
 }
 
-/// A built-in function.
-#[derive(Clone, Copy, Debug, PartialEq, Eq)]
+/// A built-in function, by its BUILTIN_FUNC_NAME.
+#[derive(Clone, Copy)]
 pub enum BuiltIn {
     Length,
     Substr,
@@ -109,7 +109,7 @@ pub enum BuiltIn {
 }
 
 /// What a token is.
-#[derive(Debug, Drop)]
+#[derive(Drop)]
 pub enum Kind {
     /// A number, from 0 to 2^127 - 1.
     Number(i128),
@@ -119,13 +119,13 @@ pub enum Kind {
     Ere(Bytes),
     /// A name that is no keyword and no built-in.
     Name(Bytes),
-    /// A name with `(` directly behind it: a function's.
+    /// A FUNC_NAME: a name with `(` directly behind it.
     Called(Bytes),
     Keyword(Keyword),
     BuiltIn(BuiltIn),
     Operator(Operator),
-    Assign(Assignment),
-    Step(Step),
+    Assign(AssignmentOperator),
+    Increment(IncrementOperator),
     /// `!`
     Not,
     Dollar,
@@ -148,7 +148,7 @@ pub enum Kind {
 }
 
 /// A token, the line on which it begins (from 1), and its stretch of the text.
-#[derive(Debug, Drop)]
+#[derive(Drop)]
 pub struct Token {
     pub kind: Kind,
     pub line: u64,

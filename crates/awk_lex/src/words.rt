@@ -3,8 +3,8 @@
 ghost use Rattle.std.specs.Prelude.{◌≡◌, bytes_eq, find};
 ghost use Rattle.std.specs.List.{list_all, list_any};
 ghost use Rattle.std.specs.Option.{option_map};
-ghost use Rattle.awk_lex.specs.Tables.{keywords, built_ins, reserved, kind_in};
-ghost use Rattle.awk_lex.specs.Words.{is_letter, is_word_byte, is_word, is_reserved, is_left_out};
+ghost use Rattle.awk_lex.specs.definitions.Tables.{keywords, built_ins, reserved, kind_in};
+ghost use Rattle.awk_lex.specs.definitions.Words.{is_name_start, is_word_byte, is_word, is_reserved, is_left_out};
 
 use crate::token::{BuiltIn, Keyword, Kind};
 
@@ -59,8 +59,8 @@ const LEFT_OUT: [&[u8]; 11] = [
     b"fflush",
 ];
 
-pub(crate) fn is_letter(byte: u8) -> bool
-    ensures { result ≡ is_letter byte }
+pub(crate) fn is_name_start(byte: u8) -> bool
+    ensures { result ≡ is_name_start byte }
 {
     byte.is_ascii_alphabetic() || byte == b'_'
 }
@@ -69,7 +69,7 @@ pub(crate) fn is_letter(byte: u8) -> bool
 pub fn is_word_byte(byte: u8) -> bool
     ensures { result ≡ is_word_byte byte }
 {
-    is_letter(byte) || byte.is_ascii_digit()
+    is_name_start(byte) || byte.is_ascii_digit()
 }
 
 fn are_word_bytes(bytes: &[u8]) -> bool
@@ -83,7 +83,7 @@ pub fn is_name(word: &[u8]) -> bool
     ensures { result ≡ is_word word.now }
 {
     match word {
-        [first, others @ ..] => is_letter(*first) && are_word_bytes(others),
+        [first, others @ ..] => is_name_start(*first) && are_word_bytes(others),
         [] => false,
     }
 }

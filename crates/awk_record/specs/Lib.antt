@@ -1,4 +1,6 @@
-pub mod Cut
-pub mod Buffer
-pub mod Place
-pub mod Record
+pub mod definitions
+pub mod support
+pub use Rattle.awk_record.specs.definitions.Buffer
+pub use Rattle.awk_record.specs.definitions.Cut
+pub use Rattle.awk_record.specs.definitions.Record
+pub use Rattle.awk_record.specs.support.Boundary

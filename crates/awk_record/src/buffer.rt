@@ -1,11 +1,11 @@
 // The bytes of an input that were read and not yet taken, cut into records.
 ghost use Rattle.std.specs.Prelude.{◌≡◌, ◌≢◌, ◌++◌, ◌≤◌, [], length, drop, vec_len, Some, None, OnOk, OnErr, IfErr, Err, Ok};
 ghost use Rattle.awk_record.specs.Cut.{AtEnd, AtBreak, longest};
-ghost use Rattle.awk_record.specs.Place.{end_if, ending_or_break};
+ghost use Rattle.awk_record.specs.Boundary.{end_if, ending_or_break};
 
+use crate::boundary::{Boundary, first_boundary};
 use crate::fault::RecordFault;
-use crate::place::{Place, place_cut};
-use crate::search::Search;
+use crate::separator_search::ResumedSearch;
 use awk_value::Bytes;
 use std::alloc::Global;
 use std::marker::Model;
@@ -23,7 +23,7 @@ pub enum Step {
 }
 
 // What is known of the bytes that follow those at hand.
-#[derive(Clone, Copy, Debug, PartialEq, Eq)]
+#[derive(Clone, Copy)]
 enum Supply {
     Open,
     Ended,
@@ -57,13 +57,13 @@ pub struct RecordBuffer {
     // how many of the bytes were taken
     start: usize,
     supply: Supply,
-    search: Search,
+    search: ResumedSearch,
 }
 
 impl Model for RecordBuffer {
     ghost use Rattle.std.specs.Prelude.{drop};
     ghost use Rattle.awk_record.specs.Buffer.{Pending};
-    ghost use Rattle.awk_record.specs.Place.{ending_of, IsSearched};
+    ghost use Rattle.awk_record.specs.Boundary.{ending_of, IsSearched};
 
     ghost Value = { Pending };
 
@@ -85,7 +85,7 @@ impl RecordBuffer {
             bytes: Vec::new(alloc),
             start: 0,
             supply: Supply::Open,
-            search: Search::NONE,
+            search: ResumedSearch::NONE,
         }
     }
 
@@ -107,7 +107,7 @@ impl RecordBuffer {
         ensures ending { self.new.ending ≡ self.old.ending }
     {
         self.start = self.bytes.len();
-        self.search = Search::NONE;
+        self.search = ResumedSearch::NONE;
     }
 
     /// Adds the next bytes of the input. The only error is `Memory`, and it
@@ -153,20 +153,20 @@ impl RecordBuffer {
     {
         let held = &self.bytes[self.start..];
         let searched = self.search.searched_for(separator);
-        match place_cut(separator, held, searched, at_end(self.supply)) {
-            Place::Stretch { from, to, next } => {
+        match first_boundary(separator, held, searched, at_end(self.supply)) {
+            Boundary::Stretch { from, to, next } => {
                 let record = Bytes::from_slice(self.alloc, &held[from..to])?;
                 self.start += next;
-                self.search = Search::NONE;
+                self.search = ResumedSearch::NONE;
                 Ok(Step::Record(record))
             }
-            Place::Empty => {
+            Boundary::Empty => {
                 self.take_all();
                 Ok(Step::End)
             }
-            Place::Unfinished => match self.supply {
+            Boundary::Unfinished => match self.supply {
                 Supply::Open => {
-                    self.search = Search::of(separator, held.len());
+                    self.search = ResumedSearch::of(separator, held.len());
                     Ok(Step::NeedMore)
                 }
                 Supply::Ended | Supply::Broke => {
@@ -174,8 +174,8 @@ impl RecordBuffer {
                     Ok(Step::Broken)
                 }
             },
-            Place::Over => Err(RecordFault::RecordTooLong),
-            Place::NoSeparator => Err(RecordFault::SeparatorTooLong),
+            Boundary::Over => Err(RecordFault::RecordTooLong),
+            Boundary::NoSeparator => Err(RecordFault::SeparatorTooLong),
         }
     }
 }

@@ -5,11 +5,11 @@ ghost use Rattle.std.specs.Prelude.{◌≡◌, ◌≢◌, ◌↔◌, ℕ, ◌<�
 ghost use Rattle.std.specs.List.{All};
 ghost use Rattle.awk_record.specs.Cut.{Ending, AtEnd, AtBreak, Found, BrokenOff, longest, cut_of, IsDecided};
 
+mod boundary;
 mod buffer;
 mod fault;
-mod place;
 mod record;
-mod search;
+mod separator_search;
 
 pub use buffer::{RecordBuffer, Step};
 pub use fault::RecordFault;

@@ -39,7 +39,7 @@ pub struct Record {
 }
 
 impl Model for Record {
-    ghost use Rattle.awk_text.specs.Span.{AreSpansOf};
+    ghost use Rattle.awk_text.specs.Pieces.{AreSpansOf};
     ghost use Rattle.awk_record.specs.Record.{RecordPair, spanned};
 
     ghost Value = { RecordPair };

@@ -7,7 +7,7 @@ use Rattle.awk_record.specs.declared.buffer.Step.{Step}
 use Rattle.awk_record.specs.declared.buffer.Step.TheVariants.{NeedMore}
 use Rattle.awk_record.specs.declared.fault.RecordFault.{RecordFault}
 use Rattle.awk_record.specs.declared.fault.RecordFault.TheVariants.{Memory, FieldNumber}
-use Rattle.awk_record.proofs.CutLemmas.{IsDecided_law}
+use Rattle.awk_record.proofs.CutIsDecided.{IsDecided_law}
 use Rattle.awk_streams.specs.Oracle.{Oracle, Source, IsConsistent}
 use Rattle.awk_streams.specs.Inputs.{Reaches, Pulls}
 use Rattle.awk_streams.specs.Rest.{Rest}

@@ -1,56 +1,57 @@
-// What the reader keeps of an operand, and the nodes that it has begun.
+// What the parser keeps of an operand, and the nodes that it has begun.
 
 ghost use Rattle.std.specs.Prelude.{◌≡◌, IfOk};
-ghost use Rattle.awk_syntax.specs.Machine as machine;
-ghost use Rattle.awk_syntax.specs.Frames.{part_of, frame_of};
-ghost use Rattle.awk_syntax.specs.Roles.{role_of};
+ghost use Rattle.awk_tree.specs.Height.{max_height};
+ghost use Rattle.awk_syntax.specs.support.Parser as parser;
+ghost use Rattle.awk_syntax.specs.support.ParserView.{operand_of, frame_of, role_of};
 
-use crate::build::{assign, binary, field, group, unary};
-use crate::kept::{LowExpr, LowExprs, LowItems, LowStatements};
-use crate::role::Role;
-use crate::tree::{BinaryOperator, Ere, Expr, UnaryOperator};
+use crate::infix_role::InfixRole;
+use awk_tree::checked::{CheckedExpr, CheckedExprs, CheckedItems, CheckedStatements};
+use awk_tree::nodes::{assign, binary, field, group, unary};
+use awk_tree::precedence::{ASSIGNMENT, FIELD_REFERENCE, PRIMARY, UNARY};
+use awk_tree::tree::{BinaryOperator, Ere, Expr, UnaryOperator};
 use awk_value::Bytes;
 use std::alloc::{AllocError, Global};
 
-/// An expression: its level, and its tree unless that is too high.
+/// An expression: its precedence, and its tree unless that is too high.
 #[derive(Drop)]
-pub struct Part {
-    pub rank: u8,
-    pub tree: Option<LowExpr>,
+pub struct Operand {
+    pub precedence: u8,
+    pub tree: Option<CheckedExpr>,
 }
 
 /// What stands before an action.
 #[derive(Drop)]
 pub enum Head {
     Begin,
-    All,
-    Rule(Part),
+    NoPattern,
+    Pattern(Operand),
 }
 
 /// A node that has begun, with what is read of it. Lists are none once they are too high.
 #[derive(Drop)]
 pub enum Frame {
-    /// Parentheses, and whether they stand in a bare print list.
+    /// Parentheses, and whether they stand in the list of a `print`.
     Group(bool),
     Unary(UnaryOperator),
-    Binary(BinaryOperator, Part),
+    Binary(BinaryOperator, Operand),
     Assign(Bytes),
     Statement,
-    Print(Option<LowExprs>),
-    Block(Option<LowStatements>),
+    Print(Option<CheckedExprs>),
+    Block(Option<CheckedStatements>),
     Pattern,
-    Action(Head, Option<LowStatements>),
-    Program(Option<LowItems>),
+    Action(Head, Option<CheckedStatements>),
+    Program(Option<CheckedItems>),
 }
 
-impl Part {
+impl Operand {
     /// A number.
-    pub fn number(n: i128) -> Part
-        ensures { part_of result ≡ machine.number 200 n }
+    pub fn number(n: i128) -> Operand
+        ensures { operand_of result ≡ parser.number max_height n }
     {
-        Part {
-            rank: 0,
-            tree: Some(LowExpr {
+        Operand {
+            precedence: PRIMARY,
+            tree: Some(CheckedExpr {
                 expr: Expr::Number(n),
                 height: 1,
             }),
@@ -58,12 +59,12 @@ impl Part {
     }
 
     /// A string.
-    pub fn string(bytes: Bytes) -> Part
-        ensures { part_of result ≡ machine.string 200 bytes }
+    pub fn string(bytes: Bytes) -> Operand
+        ensures { operand_of result ≡ parser.string max_height bytes }
     {
-        Part {
-            rank: 0,
-            tree: Some(LowExpr {
+        Operand {
+            precedence: PRIMARY,
+            tree: Some(CheckedExpr {
                 expr: Expr::String(bytes),
                 height: 1,
             }),
@@ -71,12 +72,12 @@ impl Part {
     }
 
     /// An ERE.
-    pub fn ere(ere: Ere) -> Part
-        ensures { part_of result ≡ machine.ere 200 ere.text }
+    pub fn ere(ere: Ere) -> Operand
+        ensures { operand_of result ≡ parser.ere max_height ere.text }
     {
-        Part {
-            rank: 0,
-            tree: Some(LowExpr {
+        Operand {
+            precedence: PRIMARY,
+            tree: Some(CheckedExpr {
                 expr: Expr::Ere(ere),
                 height: 1,
             }),
@@ -84,12 +85,12 @@ impl Part {
     }
 
     /// A name.
-    pub fn name(name: Bytes) -> Part
-        ensures { part_of result ≡ machine.name 200 name }
+    pub fn name(name: Bytes) -> Operand
+        ensures { operand_of result ≡ parser.name max_height name }
     {
-        Part {
-            rank: 0,
-            tree: Some(LowExpr {
+        Operand {
+            precedence: PRIMARY,
+            tree: Some(CheckedExpr {
                 expr: Expr::Name(name),
                 height: 1,
             }),
@@ -97,73 +98,74 @@ impl Part {
     }
 
     /// `$` and this number.
-    pub fn into_field(self, alloc: Global) -> Result<Part, AllocError>
-        ensures { IfOk result (λ p. part_of p ≡ machine.field 200 (part_of self)) }
+    pub fn into_field(self, alloc: Global) -> Result<Operand, AllocError>
+        ensures { IfOk result (λ p. operand_of p ≡ parser.field max_height (operand_of self)) }
     {
-        Ok(Part {
-            rank: 1,
+        Ok(Operand {
+            precedence: FIELD_REFERENCE,
             tree: field(alloc, self.tree)?,
         })
     }
 
     /// This expression in parentheses.
-    pub fn into_group(self, alloc: Global) -> Result<Part, AllocError>
-        ensures { IfOk result (λ p. part_of p ≡ machine.group 200 (part_of self)) }
+    pub fn into_group(self, alloc: Global) -> Result<Operand, AllocError>
+        ensures { IfOk result (λ p. operand_of p ≡ parser.group max_height (operand_of self)) }
     {
-        Ok(Part {
-            rank: 0,
+        Ok(Operand {
+            precedence: PRIMARY,
             tree: group(alloc, self.tree)?,
         })
     }
 
-    /// Whether this operand, standing where at most the level `hole` may stand, goes on with the next token.
-    pub fn takes(&self, role: Role, hole: u8) -> bool
-        ensures { result ≡ machine.takes (role_of role) (part_of self.now) hole }
+    /// Whether this operand goes on with the next token, where `greatest_allowed` is the greatest precedence allowed.
+    pub fn continues(&self, role: InfixRole, greatest_allowed: u8) -> bool
+        ensures { result ≡ parser.continues (role_of role) (operand_of self.now) greatest_allowed }
     {
         match role {
-            Role::Infix(operator) => self.rank <= operator.left() && operator.level() <= hole,
-            Role::Ends => false,
+            InfixRole::Joins(operator) => self.precedence <= operator.greatest_left()
+                && operator.precedence() <= greatest_allowed,
+            InfixRole::Ends => false,
         }
     }
 }
 
 impl Frame {
-    /// The loosest level that may stand as the next child.
-    pub fn hole(&self) -> u8
-        ensures { result ≡ machine.hole (frame_of self.now) }
+    /// The greatest precedence that may stand as the next child.
+    pub fn greatest_allowed(&self) -> u8
+        ensures { result ≡ parser.greatest_allowed (frame_of self.now) }
     {
         match self {
-            Frame::Unary(_) => 5,
-            Frame::Binary(operator, _) => operator.right(),
-            _ => 16,
+            Frame::Unary(_) => UNARY,
+            Frame::Binary(operator, _) => operator.greatest_right(),
+            _ => ASSIGNMENT,
         }
     }
 
     /// Whether a token of its own ends the node.
-    pub fn keeps(&self) -> bool
-        ensures { result ≡ machine.keeps (frame_of self.now) }
+    pub fn has_closing_token(&self) -> bool
+        ensures { result ≡ parser.has_closing_token (frame_of self.now) }
     {
         !matches!(self, Frame::Unary(_) | Frame::Binary(..) | Frame::Assign(_))
     }
 
     /// The node, made of its last child.
-    pub fn fill(self, alloc: Global, part: Part) -> Result<Part, AllocError>
-        ensures { IfOk result (λ p. part_of p ≡ machine.fill 200 (frame_of self) (part_of part)) }
+    pub fn finish_node(self, alloc: Global, operand: Operand) -> Result<Operand, AllocError>
+        ensures { IfOk result (λ p. operand_of p ≡ parser.finish_node max_height (frame_of self) (operand_of operand)) }
     {
         match self {
-            Frame::Unary(operator) => Ok(Part {
-                rank: 5,
-                tree: unary(alloc, operator, part.tree)?,
+            Frame::Unary(operator) => Ok(Operand {
+                precedence: UNARY,
+                tree: unary(alloc, operator, operand.tree)?,
             }),
-            Frame::Binary(operator, left) => Ok(Part {
-                rank: operator.level(),
-                tree: binary(alloc, operator, left.tree, part.tree)?,
+            Frame::Binary(operator, left) => Ok(Operand {
+                precedence: operator.precedence(),
+                tree: binary(alloc, operator, left.tree, operand.tree)?,
             }),
-            Frame::Assign(name) => Ok(Part {
-                rank: 16,
-                tree: assign(alloc, name, part.tree)?,
+            Frame::Assign(name) => Ok(Operand {
+                precedence: ASSIGNMENT,
+                tree: assign(alloc, name, operand.tree)?,
             }),
-            _ => Ok(part),
+            _ => Ok(operand),
         }
     }
 }

@@ -1,17 +1,13 @@
-//! Syntax trees, and reading them from tokens.
+//! Reading the tokens of a program as its syntax tree.
 #![tactic(auto)]
 
-mod build;
 mod frame;
-mod kept;
-mod level;
-mod machine;
+mod infix_role;
 mod operands;
 pub mod parse;
+mod parser;
 mod patterns;
-mod role;
 mod state;
 mod statements;
-#[cfg(test)]
-mod tests;
-pub mod tree;
+
+pub use awk_tree::tree;

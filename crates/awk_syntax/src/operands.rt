@@ -1,174 +1,206 @@
 // Reading operands.
 
 ghost use Rattle.std.specs.Prelude.{◌≡◌, false, ◌∷◌, IfOk};
-ghost use Rattle.awk_syntax.specs.Machine as machine;
-ghost use Rattle.awk_syntax.specs.Roles.{role_of};
-ghost use Rattle.awk_syntax.specs.Frames.{part_of, frame_of, stack_of, held};
-ghost use Rattle.awk_syntax.specs.Level as level;
-ghost use Rattle.awk_lex.specs.declared.token.Assignment.TheVariants.{Plain};
+ghost use Rattle.awk_tree.specs.Height.{max_height};
+ghost use Rattle.awk_syntax.specs.support.Parser as parser;
+ghost use Rattle.awk_syntax.specs.support.ParserView.{role_of, operand_of, frame_of, stack_of, reduced, next_of};
+ghost use Rattle.awk_tree.specs.Precedence as precedence;
+ghost use Rattle.awk_lex.specs.declared.token.AssignmentOperator.TheVariants.{Plain};
 ghost use Rattle.awk_lex.specs.declared.token.Kind.TheVariants.{Assign};
-ghost use Rattle.awk_syntax.specs.States.{next_of};
 
-use crate::frame::{Frame, Part};
-use crate::role::Role;
-use crate::state::{Next, Now};
-use crate::tree::{BinaryOperator, Ere, UnaryOperator};
+use crate::frame::{Frame, Operand};
+use crate::infix_role::InfixRole;
+use crate::state::{NextToken, ParserState};
 use awk_lex::token::{Kind, Operator};
+use awk_tree::precedence::ASSIGNMENT;
+use awk_tree::tree::{BinaryOperator, Ere, UnaryOperator};
 use awk_value::Bytes;
 use std::alloc::{AllocError, Global};
 
-/// The loosest level that may stand next.
-pub fn hole_of(stack: &Vec<Frame>) -> u8
-    ensures { result ≡ machine.hole_of (stack_of stack.now.items) }
+/// The greatest precedence that may stand next.
+pub fn greatest_allowed_on(stack: &Vec<Frame>) -> u8
+    ensures { result ≡ parser.greatest_allowed_on (stack_of stack.now.items) }
 {
     match stack.last() {
-        Some(frame) => frame.hole(),
-        None => 16,
+        Some(frame) => frame.greatest_allowed(),
+        None => ASSIGNMENT,
     }
 }
 
 /// A node begins, and an operand in it.
-fn descend(frame: Frame, bare: bool, stack: &mut Vec<Frame>) -> Result<Option<Now>, AllocError>
-    ensures { IfOk result (λ now. next_of now stack.new.items
-        ≡ machine.Expect false bare (frame_of frame ∷ stack_of stack.old.items)) }
+fn push_frame(
+    frame: Frame,
+    in_print_list: bool,
+    stack: &mut Vec<Frame>,
+) -> Result<Option<ParserState>, AllocError>
+    ensures { IfOk result (λ state. next_of state stack.new.items
+        ≡ parser.BeforeOperand false in_print_list (frame_of frame ∷ stack_of stack.old.items)) }
 {
     stack.push(frame)?;
-    Ok(Some(Now::Expect { skips: false, bare }))
+    Ok(Some(ParserState::BeforeOperand {
+        skips_newlines: false,
+        in_print_list,
+    }))
 }
 
-/// The token at the beginning of an operand: where the reader stands then, or none if it can't be taken.
-pub fn enter(
-    next: Next,
-    skips: bool,
-    bare: bool,
+/// The token at the beginning of an operand: where the parser stands then, or none if it can't be taken.
+pub fn start_operand(
+    next: NextToken,
+    skips_newlines: bool,
+    in_print_list: bool,
     stack: &mut Vec<Frame>,
-) -> Result<Option<Now>, AllocError>
-    ensures { IfOk result (λ now. next_of now stack.new.items
-        ≡ machine.enter 200 next.entry.kind.now skips bare (stack_of stack.old.items)) }
+) -> Result<Option<ParserState>, AllocError>
+    ensures { IfOk result (λ state. next_of state stack.new.items
+        ≡ parser.start_operand max_height next.entry.kind.now skips_newlines in_print_list (stack_of stack.old.items)) }
 {
     match next.kind {
-        Kind::Number(n) => Ok(Some(Now::Ready {
-            bare,
-            part: Part::number(*n),
+        Kind::Number(n) => Ok(Some(ParserState::AfterOperand {
+            in_print_list,
+            operand: Operand::number(*n),
         })),
-        Kind::String(bytes) => Ok(Some(Now::Ready {
-            bare,
-            part: Part::string(bytes.clone()?),
+        Kind::String(bytes) => Ok(Some(ParserState::AfterOperand {
+            in_print_list,
+            operand: Operand::string(bytes.clone()?),
         })),
-        Kind::Ere(text) => Ok(Some(Now::Ready {
-            bare,
-            part: Part::ere(Ere {
+        Kind::Ere(text) => Ok(Some(ParserState::AfterOperand {
+            in_print_list,
+            operand: Operand::ere(Ere {
                 text: text.clone()?,
                 number: next.eres,
             }),
         })),
-        Kind::Name(name) => Ok(Some(Now::Named {
-            bare,
+        Kind::Name(name) => Ok(Some(ParserState::AfterName {
+            in_print_list,
             name: name.clone()?,
         })),
-        Kind::OpenParenthesis => descend(Frame::Group(bare), false, stack),
-        Kind::Not => descend(Frame::Unary(UnaryOperator::Not), bare, stack),
-        Kind::Operator(Operator::Plus) => descend(Frame::Unary(UnaryOperator::Plus), bare, stack),
-        Kind::Operator(Operator::Minus) => descend(Frame::Unary(UnaryOperator::Minus), bare, stack),
-        Kind::Dollar => Ok(Some(Now::Selects { bare })),
-        Kind::Newline if skips => Ok(Some(Now::Expect { skips, bare })),
+        Kind::OpenParenthesis => push_frame(Frame::Group(in_print_list), false, stack),
+        Kind::Not => push_frame(Frame::Unary(UnaryOperator::Not), in_print_list, stack),
+        Kind::Operator(Operator::Plus) => push_frame(
+            Frame::Unary(UnaryOperator::Plus),
+            in_print_list,
+            stack,
+        ),
+        Kind::Operator(Operator::Minus) => push_frame(
+            Frame::Unary(UnaryOperator::Minus),
+            in_print_list,
+            stack,
+        ),
+        Kind::Dollar => Ok(Some(ParserState::AfterDollar { in_print_list })),
+        Kind::Newline if skips_newlines => Ok(Some(ParserState::BeforeOperand {
+            skips_newlines,
+            in_print_list,
+        })),
         _ => Ok(None),
     }
 }
 
 /// The token behind `$`.
-pub fn select(
+pub fn after_dollar(
     alloc: Global,
-    next: Next,
-    bare: bool,
+    next: NextToken,
+    in_print_list: bool,
     stack: &Vec<Frame>,
-) -> Result<Option<Now>, AllocError>
-    ensures { IfOk result (λ now. next_of now stack.now.items
-        ≡ machine.select 200 bare (stack_of stack.now.items) next.entry.kind.now) }
+) -> Result<Option<ParserState>, AllocError>
+    ensures { IfOk result (λ state. next_of state stack.now.items
+        ≡ parser.after_dollar max_height in_print_list (stack_of stack.now.items) next.entry.kind.now) }
 {
     let Kind::Number(n) = next.kind else {
         return Ok(None);
     };
-    let part = Part::number(*n).into_field(alloc)?;
-    Ok(Some(Now::Ready { bare, part }))
+    let operand = Operand::number(*n).into_field(alloc)?;
+    Ok(Some(ParserState::AfterOperand {
+        in_print_list,
+        operand,
+    }))
 }
 
 /// Whether the name may be assigned.
 fn is_assignable(name: &Bytes) -> bool
-    ensures { result ≡ level.is_assignable name.now }
+    ensures { result ≡ precedence.is_assignable name.now }
 {
     name.as_slice() != b"NF".as_slice()
 }
 
 /// A name and the `=` behind it.
-pub fn assign(bare: bool, name: Bytes, stack: &mut Vec<Frame>) -> Result<Option<Now>, AllocError>
-    ensures { IfOk result (λ now. next_of now stack.new.items
-        ≡ machine.named 200 name bare (stack_of stack.old.items) (Assign Plain)) }
+pub fn start_assignment(
+    in_print_list: bool,
+    name: Bytes,
+    stack: &mut Vec<Frame>,
+) -> Result<Option<ParserState>, AllocError>
+    ensures { IfOk result (λ state. next_of state stack.new.items
+        ≡ parser.after_name max_height name in_print_list (stack_of stack.old.items) (Assign Plain)) }
 {
-    if is_assignable(&name) && hole_of(stack) >= 16 {
-        return descend(Frame::Assign(name), bare, stack);
+    if is_assignable(&name) && greatest_allowed_on(stack) >= ASSIGNMENT {
+        return push_frame(Frame::Assign(name), in_print_list, stack);
     }
     Ok(None)
 }
 
 /// The token behind an expression in parentheses.
-pub fn close_group(
+pub fn close_parenthesis(
     alloc: Global,
-    next: Next,
+    next: NextToken,
     outer: bool,
-    part: Part,
+    operand: Operand,
     stack: &Vec<Frame>,
-) -> Result<Option<Now>, AllocError>
-    ensures { IfOk result (λ now. next_of now stack.now.items
-        ≡ machine.close_group 200 next.entry.kind.now outer (part_of part) (stack_of stack.now.items)) }
+) -> Result<Option<ParserState>, AllocError>
+    ensures { IfOk result (λ state. next_of state stack.now.items
+        ≡ parser.close_parenthesis max_height next.entry.kind.now outer (operand_of operand) (stack_of stack.now.items)) }
 {
     let Kind::CloseParenthesis = next.kind else {
         return Ok(None);
     };
-    let part = part.into_group(alloc)?;
-    Ok(Some(Now::Ready { bare: outer, part }))
+    let operand = operand.into_group(alloc)?;
+    Ok(Some(ParserState::AfterOperand {
+        in_print_list: outer,
+        operand,
+    }))
 }
 
 /// Makes the nodes that the next token ends.
-pub fn settle(
+pub fn reduce(
     alloc: Global,
-    role: Role,
-    part: Part,
+    role: InfixRole,
+    operand: Operand,
     stack: &mut Vec<Frame>,
-) -> Result<Part, AllocError>
-    ensures { IfOk result (λ p. held p stack.new.items
-        ≡ machine.settle 200 (role_of role) (part_of part) (stack_of stack.old.items)) }
+) -> Result<Operand, AllocError>
+    ensures { IfOk result (λ p. reduced p stack.new.items
+        ≡ parser.reduce max_height (role_of role) (operand_of operand) (stack_of stack.old.items)) }
 {
-    let mut part = part;
+    let mut operand = operand;
     while let Some(top) = stack.last() {
-        if part.takes(role, top.hole()) || top.keeps() {
+        if operand.continues(role, top.greatest_allowed()) || top.has_closing_token() {
             break;
         }
         let Some(frame) = stack.pop() else {
             break;
         };
-        part = frame.fill(alloc, part)?;
+        operand = frame.finish_node(alloc, operand)?;
     }
-    Ok(part)
+    Ok(operand)
 }
 
-/// Goes on with an operand that is settled.
-pub fn go_on(
-    role: Role,
-    next: Next,
-    bare: bool,
-    part: Part,
+/// Goes on with an operand that is reduced.
+pub fn shift(
+    role: InfixRole,
+    next: NextToken,
+    in_print_list: bool,
+    operand: Operand,
     stack: &mut Vec<Frame>,
-) -> Result<Option<Now>, AllocError>
-    ensures { IfOk result (λ now. next_of now stack.new.items
-        ≡ machine.go_on 200 (role_of role) next.entry.kind.now bare (part_of part) (stack_of stack.old.items)) }
+) -> Result<Option<ParserState>, AllocError>
+    ensures { IfOk result (λ state. next_of state stack.new.items
+        ≡ parser.shift max_height (role_of role) next.entry.kind.now in_print_list (operand_of operand) (stack_of stack.old.items)) }
 {
     match role {
-        Role::Infix(BinaryOperator::Concatenate) => {
-            stack.push(Frame::Binary(BinaryOperator::Concatenate, part))?;
-            enter(next, false, bare, stack)
+        InfixRole::Joins(BinaryOperator::Concatenate) => {
+            stack.push(Frame::Binary(BinaryOperator::Concatenate, operand))?;
+            start_operand(next, false, in_print_list, stack)
         }
-        Role::Infix(operator) => descend(Frame::Binary(operator, part), bare, stack),
-        Role::Ends => Ok(None),
+        InfixRole::Joins(operator) => push_frame(
+            Frame::Binary(operator, operand),
+            in_print_list,
+            stack,
+        ),
+        InfixRole::Ends => Ok(None),
     }
 }

@@ -1,53 +1,56 @@
-// Reading a whole text.
+// Parses all tokens of a program, and then checks its EREs.
 
 ghost use Rattle.std.specs.Prelude.{◌≡◌, List, IfOk, OnOk, IfErr};
-ghost use Rattle.awk_syntax.specs.Tree as t;
+ghost use Rattle.awk_tree.specs.Tree as t;
 ghost use Rattle.awk_lex.specs.Told.{kinds_of};
-ghost use Rattle.awk_syntax.specs.Spelling.{IsProgram};
-ghost use Rattle.awk_syntax.specs.View.{tree_of};
-ghost use Rattle.awk_syntax.specs.Patterns.{AreReadable};
-ghost use Rattle.awk_syntax.specs.Outcome.{IsLowProgram, Reads, Justifies};
-ghost use Rattle.awk_syntax.specs.Machine as machine;
-ghost use Rattle.awk_syntax.specs.Verdict.{Gives};
+ghost use Rattle.awk_tree.specs.Spelling.{IsProgram};
+ghost use Rattle.awk_tree.specs.View.{tree_of};
+ghost use Rattle.awk_syntax.specs.definitions.Patterns.{AreReadable};
+ghost use Rattle.awk_syntax.specs.definitions.Outcome.{IsProgramWithinHeight, Reads, Justifies};
+ghost use Rattle.awk_tree.specs.Height.{max_height};
+ghost use Rattle.awk_syntax.specs.support.Parser as parser;
+ghost use Rattle.awk_syntax.specs.support.ParserView.{Gives};
 
 use crate::frame::Frame;
-use crate::kept::LowItems;
-use crate::machine::{finish, step};
+use crate::parser::{finish, step};
 use crate::patterns::check_patterns;
-use crate::state::{Next, Now};
-use crate::tree::Tree;
-use awk_lex::refusal::{Code, Refusal};
+use crate::state::{NextToken, ParserState};
+use awk_lex::refusal::{Refusal, RefusalCode};
 use awk_lex::token::{Kind, Token};
+use awk_tree::checked::CheckedItems;
+use awk_tree::tree::Tree;
 use std::alloc::Global;
 
 fn read(alloc: Global, tokens: &[Token]) -> Result<Tree, Refusal>
-    ensures { Gives result (machine.read 200 (kinds_of tokens.now)) }
+    ensures { Gives result (parser.read max_height (kinds_of tokens.now)) }
 {
     let mut stack = Vec::new(alloc);
-    stack.push(Frame::Program(Some(LowItems::new(alloc))))?;
-    let mut now = Now::Between;
+    stack.push(Frame::Program(Some(CheckedItems::new(alloc))))?;
+    let mut state = ParserState::BetweenItems;
     let mut eres = 0;
     for token in tokens {
         let kind = &token.kind;
-        let Some(then) = step(alloc, now, Next { kind, eres }, &mut stack)? else {
+        let Some(then) = step(alloc, state, NextToken { kind, eres }, &mut stack)? else {
             return Err(Refusal {
-                code: Code::NotAProgram,
+                code: RefusalCode::NotAProgram,
                 line: token.line,
             });
         };
-        now = then;
+        state = then;
         if matches!(kind, Kind::Ere(_)) {
             eres += 1;
         }
     }
-    match finish(alloc, now, &mut stack)? {
-        Some(Some(kept)) => Ok(Tree { items: kept.items }),
+    match finish(alloc, state, &mut stack)? {
+        Some(Some(checked)) => Ok(Tree {
+            items: checked.items,
+        }),
         Some(None) => Err(Refusal {
-            code: Code::NestedTooDeep,
+            code: RefusalCode::NestedTooDeep,
             line: 1,
         }),
         None => Err(Refusal {
-            code: Code::NotAProgram,
+            code: RefusalCode::NotAProgram,
             line: last_line(tokens),
         }),
     }
@@ -69,11 +72,11 @@ fn last_line(tokens: &[Token]) -> u64 {
 /// name the line on which it begins. The time is linear in the number of tokens and in what reading
 /// the EREs takes, and no nesting of the text is a nesting of calls.
 pub fn parse(alloc: Global, tokens: &[Token]) -> Result<Tree, Refusal>
-    // What is read is spelled so and leveled, and not too high. Its EREs are patterns.
-    ensures found { IfOk result (λ tree. IsLowProgram (kinds_of tokens.now) (tree_of tree)) }
+    // What is read is spelled so and keeps_precedence, and not too high. Its EREs are patterns.
+    ensures found { IfOk result (λ tree. IsProgramWithinHeight (kinds_of tokens.now) (tree_of tree)) }
     ensures readable { OnOk result (AreReadable (kinds_of tokens.now)) }
     // Every such program is read, unless memory is refused.
-    ensures only { (items : List t.Item) → IsLowProgram (kinds_of tokens.now) items
+    ensures only { (items : List t.Item) → IsProgramWithinHeight (kinds_of tokens.now) items
         → AreReadable (kinds_of tokens.now) → Reads result items }
     // S1 only where no tree spells the tokens at all, S2 only where one does that is too high, and a
     // P code only where one does that is not, for the leftmost ERE that is no pattern.

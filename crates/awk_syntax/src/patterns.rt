@@ -5,11 +5,11 @@ ghost use Rattle.awk_ere.specs.Tree.{Tree};
 ghost use Rattle.awk_ere.specs.Limits.{SpellsWithin};
 ghost use Rattle.awk_lex.specs.Told.{kinds_of};
 ghost use Rattle.awk_lex.specs.Refused.{IsOutOfMemory};
-ghost use Rattle.awk_syntax.specs.Patterns.{AreReadable, PatternFails, IsLeftmostRefused};
+ghost use Rattle.awk_syntax.specs.definitions.Patterns.{AreReadable, PatternFails, IsLeftmostRefused};
 
 use awk_ere::fault::PatternFault;
 use awk_ere::pattern::Pattern;
-use awk_lex::refusal::{Code, Refusal};
+use awk_lex::refusal::{Refusal, RefusalCode};
 use awk_lex::token::{Kind, Token};
 use std::alloc::{AllocError, Global};
 
@@ -22,9 +22,9 @@ fn check_pattern(alloc: Global, text: &[u8], line: u64) -> Result<(), Refusal>
     let code = match Pattern::read(alloc, text) {
         Ok(_) => return Ok(()),
         Err(PatternFault::Memory) => return Err(Refusal::from(AllocError)),
-        Err(PatternFault::IllFormed) => Code::PatternIllFormed,
-        Err(PatternFault::BadCount) => Code::PatternCountRefused,
-        Err(PatternFault::TooLarge) => Code::PatternTooLarge,
+        Err(PatternFault::IllFormed) => RefusalCode::PatternIllFormed,
+        Err(PatternFault::BadCount) => RefusalCode::PatternCountRefused,
+        Err(PatternFault::TooLarge) => RefusalCode::PatternTooLarge,
     };
     Err(Refusal { code, line })
 }

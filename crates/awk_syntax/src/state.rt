@@ -1,36 +1,47 @@
-// Where the reader stands.
+// Where the parser stands.
 
-use crate::frame::Part;
-use crate::kept::LowStatement;
+use crate::frame::Operand;
 use awk_lex::token::Kind;
+use awk_tree::checked::CheckedStatement;
 use awk_value::Bytes;
 
 /// The token that is read next, and how many EREs of the program stand before it.
 #[derive(Clone, Copy)]
-pub struct Next<'a> {
+pub struct NextToken<'a> {
     pub kind: &'a Kind,
     pub eres: usize,
 }
 
-/// Where the reader stands, above what it has begun.
+/// Where the parser stands, above what it has begun.
 #[derive(Drop)]
-pub enum Now {
+pub enum ParserState {
     /// Before an operand; newlines may stand first.
-    Expect { skips: bool, bare: bool },
+    BeforeOperand {
+        skips_newlines: bool,
+        in_print_list: bool,
+    },
     /// After an operand.
-    Ready { bare: bool, part: Part },
+    AfterOperand {
+        in_print_list: bool,
+        operand: Operand,
+    },
     /// After a name, which may be assigned.
-    Named { bare: bool, name: Bytes },
+    AfterName {
+        in_print_list: bool,
+        name: Bytes,
+    },
     /// After `$`.
-    Selects { bare: bool },
+    AfterDollar {
+        in_print_list: bool,
+    },
     /// After the word `print`.
-    Prints,
+    AfterPrint,
     /// Before a statement or the end of a block.
-    Begins,
+    BeforeStatement,
     /// After a statement, none if it is too high.
-    Done(Option<LowStatement>),
+    AfterStatement(Option<CheckedStatement>),
     /// After the word `BEGIN`.
-    Opens,
-    /// Between items.
-    Between,
+    AfterBegin,
+    /// BetweenItems items.
+    BetweenItems,
 }

@@ -1,98 +1,106 @@
 // Reading statements and items.
 
 ghost use Rattle.std.specs.Prelude.{◌≡◌, ◌∷◌, IfOk};
-ghost use Rattle.awk_syntax.specs.Machine as machine;
-ghost use Rattle.awk_syntax.specs.Frames.{part_of, head_of, stack_of};
-ghost use Rattle.awk_syntax.specs.Kept.{kept_exprs, kept_statement, kept_statements, kept_item};
-ghost use Rattle.awk_syntax.specs.States.{next_of};
+ghost use Rattle.awk_tree.specs.Height.{max_height};
+ghost use Rattle.awk_syntax.specs.support.Parser as parser;
+ghost use Rattle.awk_syntax.specs.support.ParserView.{operand_of, head_of, stack_of, next_of};
+ghost use Rattle.awk_tree.specs.Checked.{checked_exprs, checked_statement, checked_statements, checked_item};
 
-use crate::build::{
-    always, begin_item, block, one_more_item, one_more_statement, pattern, print, rule,
-};
-use crate::frame::{Frame, Head, Part};
-use crate::kept::{LowExprs, LowItem, LowStatement, LowStatements};
-use crate::operands::enter;
-use crate::state::{Next, Now};
+use crate::frame::{Frame, Head, Operand};
+use crate::operands::start_operand;
+use crate::state::{NextToken, ParserState};
 use awk_lex::token::{Keyword, Kind};
+use awk_tree::checked::{CheckedExprs, CheckedItem, CheckedStatement, CheckedStatements};
+use awk_tree::nodes::{
+    action_item, begin_item, block, one_more_item, one_more_statement, pattern_action_item,
+    pattern_item, print,
+};
 use std::alloc::{AllocError, Global};
 
 /// The item of a head and its action.
-pub fn item_of(head: Head, action: Option<LowStatements>) -> Option<LowItem>
-    ensures { kept_item result ≡ machine.item_of 200 (head_of head) (kept_statements action) }
+pub fn make_item(head: Head, action: Option<CheckedStatements>) -> Option<CheckedItem>
+    ensures { checked_item result ≡ parser.make_item max_height (head_of head) (checked_statements action) }
 {
     match head {
         Head::Begin => begin_item(action),
-        Head::All => always(action),
-        Head::Rule(part) => rule(part.tree, action),
+        Head::NoPattern => action_item(action),
+        Head::Pattern(operand) => pattern_action_item(operand.tree, action),
     }
 }
 
 /// An item is read.
-pub fn between(item: Option<LowItem>, stack: &mut Vec<Frame>) -> Result<Option<Now>, AllocError>
-    ensures { IfOk result (λ now. next_of now stack.new.items
-        ≡ machine.between 200 (kept_item item) (stack_of stack.old.items)) }
+pub fn end_item(
+    item: Option<CheckedItem>,
+    stack: &mut Vec<Frame>,
+) -> Result<Option<ParserState>, AllocError>
+    ensures { IfOk result (λ state. next_of state stack.new.items
+        ≡ parser.end_item max_height (checked_item item) (stack_of stack.old.items)) }
 {
     let Some(Frame::Program(items)) = stack.pop() else {
         return Ok(None);
     };
     stack.push(Frame::Program(one_more_item(items, item)?))?;
-    Ok(Some(Now::Between))
+    Ok(Some(ParserState::BetweenItems))
 }
 
 /// An action begins.
-fn begin_action(
+fn start_action(
     alloc: Global,
     head: Head,
     stack: &mut Vec<Frame>,
-) -> Result<Option<Now>, AllocError>
-    ensures { IfOk result (λ now. next_of now stack.new.items
-        ≡ machine.Begins (machine.InAction (head_of head) (machine.no_statements 200) ∷ stack_of stack.old.items)) }
+) -> Result<Option<ParserState>, AllocError>
+    ensures { IfOk result (λ state. next_of state stack.new.items
+        ≡ parser.BeforeStatement (parser.InAction (head_of head) (parser.no_statements max_height) ∷ stack_of stack.old.items)) }
 {
-    stack.push(Frame::Action(head, Some(LowStatements::new(alloc))))?;
-    Ok(Some(Now::Begins))
+    stack.push(Frame::Action(head, Some(CheckedStatements::new(alloc))))?;
+    Ok(Some(ParserState::BeforeStatement))
 }
 
 /// The `}` of a block or an action.
-pub fn close_block(stack: &mut Vec<Frame>) -> Result<Option<Now>, AllocError>
-    ensures { IfOk result (λ now. next_of now stack.new.items
-        ≡ machine.close_block 200 (stack_of stack.old.items)) }
+pub fn close_brace(stack: &mut Vec<Frame>) -> Result<Option<ParserState>, AllocError>
+    ensures { IfOk result (λ state. next_of state stack.new.items
+        ≡ parser.close_brace max_height (stack_of stack.old.items)) }
 {
     match stack.pop() {
-        Some(Frame::Block(all)) => Ok(Some(Now::Done(block(all)))),
-        Some(Frame::Action(head, all)) => between(item_of(head, all), stack),
+        Some(Frame::Block(all)) => Ok(Some(ParserState::AfterStatement(block(all)))),
+        Some(Frame::Action(head, all)) => end_item(make_item(head, all), stack),
         _ => Ok(None),
     }
 }
 
 /// The token where a statement or the end of a block stands.
-pub fn begin(alloc: Global, next: Next, stack: &mut Vec<Frame>) -> Result<Option<Now>, AllocError>
-    ensures { IfOk result (λ now. next_of now stack.new.items
-        ≡ machine.begin 200 next.entry.kind.now (stack_of stack.old.items)) }
+pub fn start_statement(
+    alloc: Global,
+    next: NextToken,
+    stack: &mut Vec<Frame>,
+) -> Result<Option<ParserState>, AllocError>
+    ensures { IfOk result (λ state. next_of state stack.new.items
+        ≡ parser.start_statement max_height next.entry.kind.now (stack_of stack.old.items)) }
 {
     match next.kind {
-        Kind::Newline => Ok(Some(Now::Begins)),
+        Kind::Newline => Ok(Some(ParserState::BeforeStatement)),
         Kind::OpenBrace => {
-            stack.push(Frame::Block(Some(LowStatements::new(alloc))))?;
-            Ok(Some(Now::Begins))
+            stack.push(Frame::Block(Some(CheckedStatements::new(alloc))))?;
+            Ok(Some(ParserState::BeforeStatement))
         }
-        Kind::CloseBrace => close_block(stack),
-        Kind::Keyword(Keyword::Print) => Ok(Some(Now::Prints)),
+        Kind::CloseBrace => close_brace(stack),
+        Kind::Keyword(Keyword::Print) => Ok(Some(ParserState::AfterPrint)),
         _ => {
             stack.push(Frame::Statement)?;
-            enter(next, false, false, stack)
+            start_operand(next, false, false, stack)
         }
     }
 }
 
 /// The token behind a statement, no newline.
-pub fn pass(
+pub fn end_statement(
     alloc: Global,
-    next: Next,
-    statement: Option<LowStatement>,
+    next: NextToken,
+    statement: Option<CheckedStatement>,
     stack: &mut Vec<Frame>,
-) -> Result<Option<Now>, AllocError>
-    ensures { IfOk result (λ now. next_of now stack.new.items
-        ≡ machine.pass 200 next.entry.kind.now (kept_statement statement) (stack_of stack.old.items)) }
+) -> Result<Option<ParserState>, AllocError>
+    ensures { IfOk result (λ state. next_of state stack.new.items
+        ≡ parser.end_statement max_height next.entry.kind.now (checked_statement statement) (stack_of stack.old.items)) }
 {
     let frame = match stack.pop() {
         Some(Frame::Block(all)) => Frame::Block(one_more_statement(all, statement)?),
@@ -100,119 +108,131 @@ pub fn pass(
         _ => return Ok(None),
     };
     stack.push(frame)?;
-    begin(alloc, next, stack)
+    start_statement(alloc, next, stack)
 }
 
 /// The token behind a simple statement.
-pub fn end_with(
+pub fn end_simple_statement(
     alloc: Global,
-    next: Next,
-    statement: Option<LowStatement>,
+    next: NextToken,
+    statement: Option<CheckedStatement>,
     stack: &mut Vec<Frame>,
-) -> Result<Option<Now>, AllocError>
-    ensures { IfOk result (λ now. next_of now stack.new.items
-        ≡ machine.end_with 200 next.entry.kind.now (kept_statement statement) (stack_of stack.old.items)) }
+) -> Result<Option<ParserState>, AllocError>
+    ensures { IfOk result (λ state. next_of state stack.new.items
+        ≡ parser.end_simple_statement max_height next.entry.kind.now (checked_statement statement) (stack_of stack.old.items)) }
 {
     match next.kind {
-        Kind::Semicolon | Kind::Newline => Ok(Some(Now::Done(statement))),
-        Kind::CloseBrace => pass(alloc, next, statement, stack),
+        Kind::Semicolon | Kind::Newline => Ok(Some(ParserState::AfterStatement(statement))),
+        Kind::CloseBrace => end_statement(alloc, next, statement, stack),
         _ => Ok(None),
     }
 }
 
 /// The token behind an expression of a print's list.
-pub fn close_print(
+pub fn after_print_expr(
     alloc: Global,
-    next: Next,
-    list: Option<LowExprs>,
+    next: NextToken,
+    list: Option<CheckedExprs>,
     stack: &mut Vec<Frame>,
-) -> Result<Option<Now>, AllocError>
-    ensures { IfOk result (λ now. next_of now stack.new.items
-        ≡ machine.close_print 200 next.entry.kind.now (kept_exprs list) (stack_of stack.old.items)) }
+) -> Result<Option<ParserState>, AllocError>
+    ensures { IfOk result (λ state. next_of state stack.new.items
+        ≡ parser.after_print_expr max_height next.entry.kind.now (checked_exprs list) (stack_of stack.old.items)) }
 {
     if matches!(next.kind, Kind::Comma) {
         stack.push(Frame::Print(list))?;
-        return Ok(Some(Now::Expect {
-            skips: true,
-            bare: true,
+        return Ok(Some(ParserState::BeforeOperand {
+            skips_newlines: true,
+            in_print_list: true,
         }));
     }
-    end_with(alloc, next, print(list), stack)
+    end_simple_statement(alloc, next, print(list), stack)
 }
 
 /// The token behind the expression of an item.
-pub fn close_pattern(
+pub fn after_pattern(
     alloc: Global,
-    next: Next,
-    part: Part,
+    next: NextToken,
+    operand: Operand,
     stack: &mut Vec<Frame>,
-) -> Result<Option<Now>, AllocError>
-    ensures { IfOk result (λ now. next_of now stack.new.items
-        ≡ machine.close_pattern 200 next.entry.kind.now (part_of part) (stack_of stack.old.items)) }
+) -> Result<Option<ParserState>, AllocError>
+    ensures { IfOk result (λ state. next_of state stack.new.items
+        ≡ parser.after_pattern max_height next.entry.kind.now (operand_of operand) (stack_of stack.old.items)) }
 {
     match next.kind {
-        Kind::OpenBrace => begin_action(alloc, Head::Rule(part), stack),
-        Kind::Semicolon | Kind::Newline => between(pattern(part.tree), stack),
+        Kind::OpenBrace => start_action(alloc, Head::Pattern(operand), stack),
+        Kind::Semicolon | Kind::Newline => end_item(pattern_item(operand.tree), stack),
         _ => Ok(None),
     }
 }
 
 /// The token behind the word `print`.
-pub fn prints(alloc: Global, next: Next, stack: &mut Vec<Frame>) -> Result<Option<Now>, AllocError>
-    ensures { IfOk result (λ now. next_of now stack.new.items
-        ≡ machine.prints 200 (stack_of stack.old.items) next.entry.kind.now) }
+pub fn after_print(
+    alloc: Global,
+    next: NextToken,
+    stack: &mut Vec<Frame>,
+) -> Result<Option<ParserState>, AllocError>
+    ensures { IfOk result (λ state. next_of state stack.new.items
+        ≡ parser.after_print max_height (stack_of stack.old.items) next.entry.kind.now) }
 {
-    let none = Some(LowExprs::new(alloc));
+    let none = Some(CheckedExprs::new(alloc));
     match next.kind {
         Kind::Semicolon | Kind::Newline | Kind::CloseBrace => {
-            end_with(alloc, next, print(none), stack)
+            end_simple_statement(alloc, next, print(none), stack)
         }
         _ => {
             stack.push(Frame::Print(none))?;
-            enter(next, false, true, stack)
+            start_operand(next, false, true, stack)
         }
     }
 }
 
 /// The token behind a statement.
-pub fn next_statement(
+pub fn after_statement(
     alloc: Global,
-    next: Next,
-    statement: Option<LowStatement>,
+    next: NextToken,
+    statement: Option<CheckedStatement>,
     stack: &mut Vec<Frame>,
-) -> Result<Option<Now>, AllocError>
-    ensures { IfOk result (λ now. next_of now stack.new.items
-        ≡ machine.next_statement 200 (kept_statement statement) (stack_of stack.old.items) next.entry.kind.now) }
+) -> Result<Option<ParserState>, AllocError>
+    ensures { IfOk result (λ state. next_of state stack.new.items
+        ≡ parser.after_statement max_height (checked_statement statement) (stack_of stack.old.items) next.entry.kind.now) }
 {
     if matches!(next.kind, Kind::Newline) {
-        return Ok(Some(Now::Done(statement)));
+        return Ok(Some(ParserState::AfterStatement(statement)));
     }
-    pass(alloc, next, statement, stack)
+    end_statement(alloc, next, statement, stack)
 }
 
 /// The token behind the word `BEGIN`.
-pub fn open(alloc: Global, next: Next, stack: &mut Vec<Frame>) -> Result<Option<Now>, AllocError>
-    ensures { IfOk result (λ now. next_of now stack.new.items
-        ≡ machine.opens 200 (stack_of stack.old.items) next.entry.kind.now) }
+pub fn after_begin(
+    alloc: Global,
+    next: NextToken,
+    stack: &mut Vec<Frame>,
+) -> Result<Option<ParserState>, AllocError>
+    ensures { IfOk result (λ state. next_of state stack.new.items
+        ≡ parser.after_begin max_height (stack_of stack.old.items) next.entry.kind.now) }
 {
     match next.kind {
-        Kind::OpenBrace => begin_action(alloc, Head::Begin, stack),
+        Kind::OpenBrace => start_action(alloc, Head::Begin, stack),
         _ => Ok(None),
     }
 }
 
 /// The token between items.
-pub fn item(alloc: Global, next: Next, stack: &mut Vec<Frame>) -> Result<Option<Now>, AllocError>
-    ensures { IfOk result (λ now. next_of now stack.new.items
-        ≡ machine.item 200 (stack_of stack.old.items) next.entry.kind.now) }
+pub fn start_item(
+    alloc: Global,
+    next: NextToken,
+    stack: &mut Vec<Frame>,
+) -> Result<Option<ParserState>, AllocError>
+    ensures { IfOk result (λ state. next_of state stack.new.items
+        ≡ parser.start_item max_height (stack_of stack.old.items) next.entry.kind.now) }
 {
     match next.kind {
-        Kind::Semicolon | Kind::Newline => Ok(Some(Now::Between)),
-        Kind::Keyword(Keyword::Begin) => Ok(Some(Now::Opens)),
-        Kind::OpenBrace => begin_action(alloc, Head::All, stack),
+        Kind::Semicolon | Kind::Newline => Ok(Some(ParserState::BetweenItems)),
+        Kind::Keyword(Keyword::Begin) => Ok(Some(ParserState::AfterBegin)),
+        Kind::OpenBrace => start_action(alloc, Head::NoPattern, stack),
         _ => {
             stack.push(Frame::Pattern)?;
-            enter(next, false, false, stack)
+            start_operand(next, false, false, stack)
         }
     }
 }

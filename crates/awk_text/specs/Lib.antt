@@ -1,3 +1,2 @@
-pub mod Span
-pub mod Pieces
-pub mod Separator
+pub mod definitions
+pub use Rattle.awk_text.specs.definitions.Pieces

@@ -2,7 +2,7 @@
 #![tactic(auto)]
 
 ghost use Rattle.std.specs.Prelude.{◌≡◌, ◌≢◌, ℕ, List, [], ◌∷◌, ◌++◌, true};
-ghost use Rattle.awk_text.specs.Pieces.{AreBlank, IsPiece, IsNotIn, is_blank, pieces_of};
+ghost use Rattle.awk_text.specs.Pieces.{AreBlank, IsPiece, IsNotIn, is_blank_or_newline, pieces_of};
 
 mod fault;
 mod separator;
@@ -23,7 +23,7 @@ pub fn pieces_law()
     ensures last { (gap piece : List ℕ) → AreBlank gap → IsPiece piece →
         pieces_of Separator.Blanks (gap ++ piece) ≡ piece ∷ [] }
     ensures next { (gap piece : List ℕ) (blank : ℕ) (rest : List ℕ) →
-        AreBlank gap → IsPiece piece → is_blank blank ≡ true →
+        AreBlank gap → IsPiece piece → is_blank_or_newline blank ≡ true →
         pieces_of Separator.Blanks (gap ++ (piece ++ blank ∷ rest))
         ≡ piece ∷ pieces_of Separator.Blanks rest }
 {}

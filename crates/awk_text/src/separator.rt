@@ -1,6 +1,6 @@
 // What separates the fields of a text.
 ghost use Rattle.std.specs.Prelude.{◌≡◌};
-ghost use Rattle.awk_text.specs.Separator.{separator_of};
+ghost use Rattle.awk_text.specs.Pieces.{separator_of};
 
 use crate::fault::TextFault;
 

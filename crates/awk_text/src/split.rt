@@ -1,22 +1,22 @@
 // Splitting a text at its separators.
-ghost use Rattle.std.specs.Prelude.{◌≡◌, ◌≤◌, ◌++◌, OnOk, IfErr};
-ghost use Rattle.awk_text.specs.Span.{stretches_at, AreSpansOf, full_span};
-ghost use Rattle.awk_text.specs.Pieces.{is_blank, blank_pieces, byte_pieces, pieces_of};
+ghost use Rattle.std.specs.Prelude.{◌≡◌, ◌≤◌, ◌==◌, if◌then◌else◌, [], ◌∷◌, ◌++◌, OnOk, IfErr};
+ghost use Rattle.awk_text.specs.Pieces.{is_blank_or_newline as blank_or_newline, blank_pieces, byte_pieces, pieces_of, stretches_at, AreSpansOf};
 
 use crate::fault::TextFault;
 use crate::separator::Separator;
 use crate::span::Span;
 use memchr::memchr;
 
-fn is_blank_byte(byte: u8) -> bool
-    ensures { result ≡ is_blank byte }
+fn is_blank_or_newline(byte: u8) -> bool
+    ensures { result ≡ blank_or_newline byte }
 {
     byte <= b' ' && (byte == b' ' || byte == b'\t' || byte == b'\n')
 }
 
 // Adds the stretch, unless it is empty.
 fn add_full(spans: &mut Vec<Span>, start: usize, end: usize) -> Result<(), TextFault>
-    ensures added { OnOk result (spans.new.items ≡ spans.old.items ++ full_span start end) }
+    ensures added { OnOk result (spans.new.items
+        ≡ spans.old.items ++ (if start == end then [] else record { start = start; end = end } ∷ [])) }
     ensures memory { IfErr result (λ e. e ≡ TextFault.Memory) }
 {
     if start != end {
@@ -34,7 +34,7 @@ fn split_blanks(text: &[u8], spans: &mut Vec<Span>) -> Result<(), TextFault>
     spans.clear();
     let mut start = 0;
     for i in 0..text.len() {
-        if !is_blank_byte(text[i]) {
+        if !is_blank_or_newline(text[i]) {
             continue;
         }
         add_full(spans, start, i)?;

@@ -1,3 +1,3 @@
-pub mod Cuts
-pub mod Digits
-pub mod Ranges
+pub mod CutOfCut
+pub mod DigitsPastRange
+pub mod RangeIsInt128

@@ -3,7 +3,7 @@
 ghost use Rattle.std.specs.Prelude.{◌≡◌, ℕ, ◌+◌, ◌*◌, ◌^◌, ◌<◌, ◌≤◌, length, MatchOption};
 ghost use Rattle.awk_value.specs.Arithmetic.{range_checked};
 ghost use Rattle.awk_value.specs.Numbers.{after_blanks, has_minus, after_sign, digits_value, after_digits, signed_number, text_number, numeric_text};
-ghost use Rattle.awk_value.specs.Numbers.{is_blank as is_blank_byte};
+ghost use Rattle.awk_value.specs.Numbers.{is_blank_or_newline as blank_or_newline};
 
 use crate::fault::ValueFault;
 
@@ -17,8 +17,8 @@ const LAST_TENTH: u128 = 17_014_118_346_046_923_173_168_730_371_588_410_572;
 const LEAST_SIZE: u128 = 0x8000_0000_0000_0000_0000_0000_0000_0000;
 
 #[inline]
-fn is_blank(byte: u8) -> bool
-    ensures { result ≡ is_blank_byte byte }
+fn is_blank_or_newline(byte: u8) -> bool
+    ensures { result ≡ blank_or_newline byte }
 {
     byte == b' ' || byte == b'\t' || byte == b'\n'
 }
@@ -30,7 +30,7 @@ fn skip_blanks(text: &[u8]) -> &[u8]
 {
     let mut rest = text;
     while let Some((first, others)) = rest.split_first() {
-        if !is_blank(*first) {
+        if !is_blank_or_newline(*first) {
             break;
         }
         rest = others;
@@ -81,7 +81,7 @@ fn read_short(text: &[u8]) -> (u64, &[u8])
 
 /// Reads on after digits of the value `start`: the value of all of them, and what is left; or
 /// nothing where the value passes 2^127.
-#[tactic(auto, using(crate::proofs::Digits::digits_pass))]
+#[tactic(auto, using(crate::proofs::DigitsPastRange::digits_pass))]
 fn read_long(start: u64, text: &[u8]) -> Option<(u128, &[u8])>
     ensures { MatchOption result
         (2 ^ 127 < digits_value start text.now)
@@ -118,7 +118,7 @@ fn with_sign(negative: bool, size: u128) -> Result<i128, ValueFault>
 }
 
 /// The number that the text begins with, or 0; the fault is `Range`.
-#[tactic(auto, using(crate::proofs::Ranges::far_out_of_range))]
+#[tactic(auto, using(crate::proofs::RangeIsInt128::far_out_of_range))]
 pub(crate) fn number_of_text(text: &[u8]) -> Result<i128, ValueFault>
     ensures { result ≡ text_number text.now }
 {
@@ -132,7 +132,7 @@ pub(crate) fn number_of_text(text: &[u8]) -> Result<i128, ValueFault>
 }
 
 /// The number that the text is, where it is a number and nothing else, and in range.
-#[tactic(auto, using(crate::proofs::Ranges::far_out_of_range))]
+#[tactic(auto, using(crate::proofs::RangeIsInt128::far_out_of_range))]
 pub(crate) fn numeric_of_text(text: &[u8]) -> Option<i128>
     ensures { result ≡ numeric_text text.now }
 {

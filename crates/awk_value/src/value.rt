@@ -6,7 +6,7 @@ use crate::bytes::Bytes;
 use std::alloc::AllocError;
 
 /// A value of the language.
-#[derive(Debug, Drop)]
+#[derive(Drop)]
 pub enum Value {
     /// The value of what was never assigned: 0, and the empty text.
     Nothing,

@@ -1,4 +1,4 @@
-use Rattle.awk_record.proofs.CutLemmas.{IsDecided_law}
+use Rattle.awk_record.proofs.CutIsDecided.{IsDecided_law}
 use Rattle.awk_record.proofs.decided_law.Goals as goal
 
 pub returns : goal.returns

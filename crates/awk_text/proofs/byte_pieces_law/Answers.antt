@@ -1,5 +1,5 @@
 use Rattle.std.proofs.Common.{refl}
-use Rattle.awk_text.proofs.PiecesLemmas.{byte_pieces-last, byte_pieces-next, byte_pieces-end}
+use Rattle.awk_text.proofs.PiecesFromFront.{byte_pieces-last, byte_pieces-next, byte_pieces-end}
 use Rattle.awk_text.proofs.byte_pieces_law.Goals as goal
 
 pub returns : goal.returns

@@ -1,4 +1,4 @@
-use Rattle.awk_text.proofs.PiecesLemmas.{blank_pieces-none, blank_pieces-last, blank_pieces-next}
+use Rattle.awk_text.proofs.PiecesFromFront.{blank_pieces-none, blank_pieces-last, blank_pieces-next}
 use Rattle.awk_text.proofs.pieces_law.Goals as goal
 
 pub returns : goal.returns

@@ -1,6 +1,6 @@
 use Rattle.std.proofs.Common.{length, ◌-◌, ◌≡◌, ◌≤◌, ◌++◌, drop}
 use Rattle.std.specs.Option.{option_map}
-use Rattle.awk_lex.specs.Escapes.{unescaped}
+use Rattle.awk_lex.specs.definitions.Escapes.{unescaped}
 use Rattle.awk_lex.proofs.escapes.unescape.Given as goal
 
 -- the bytes so far and what is left of the text are the whole

@@ -3,10 +3,10 @@ use mir.Val.{bool_byte}
 use Rattle.std.specs.Prelude.{All}
 use Rattle.std.proofs.lemmas.List.{map_push}
 use Rattle.std.proofs.lemmas.List.Elements.{All-push}
-use Rattle.awk_lex.specs.Told.{kinds_of, StandsAt, InTurn}
+use Rattle.awk_lex.specs.definitions.Told.{kinds_of, StandsAt, InTurn}
 use Rattle.awk_lex.specs.declared.token.Token.{Token}
 use Rattle.awk_lex.proofs.Unique.{one_lexing}
-use Rattle.awk_lex.proofs.Progress.{IsRead, front_there, gap_takes, token_takes, none_read, after_gap, after_token, all_read, refused, no_other, too_long_only, fault_only, none_refused}
+use Rattle.awk_lex.proofs.Progress.{IsRead, lexeme_there, gap_takes, token_takes, none_read, after_gap, after_token, all_read, refused, no_other, too_long_only, fault_only, none_refused}
 use Rattle.awk_lex.proofs.Lines.{gap_line, token_line}
 use Rattle.awk_lex.proofs.Places.{stands_at, further, one_more, fault_stands}
 use Rattle.awk_lex.proofs.lexer.tokens.Goals as goal
@@ -26,7 +26,7 @@ loop-at-init c =
 
 pub loop-at-preserved-in-Gap : goal.loop-at-preserved-in-Gap
 loop-at-preserved-in-Gap c =
-    let there = front_there c.in_ok-shared.shared c.args.text.now c.loop-at.at c.loop-at.divides c.in_ok-len.field-0 _ c.in_ok-shared.ensures c.in_ok-len.ensures c.in-Gap.is in
+    let there = lexeme_there c.in_ok-shared.shared c.args.text.now c.loop-at.at c.loop-at.divides c.in_ok-len.field-0 _ c.in_ok-shared.ensures c.in_ok-len.ensures c.in-Gap.is in
     let t = gap_takes c.loop-at.divides c.args.text.now c.loop-at.at c.in-Gap.len c.loop-at-test.true there in
     record {
       within = t.1;
@@ -40,31 +40,31 @@ loop-at-preserved-in-Gap c =
 
 pub overflow_add-at : goal.overflow_add-at
 overflow_add-at c =
-    let there = front_there c.in_ok-shared.shared c.args.text.now c.loop-at.at c.loop-at.divides c.in_ok-len.field-0 _ c.in_ok-shared.ensures c.in_ok-len.ensures c.in-Gap.is in
+    let there = lexeme_there c.in_ok-shared.shared c.args.text.now c.loop-at.at c.loop-at.divides c.in_ok-len.field-0 _ c.in_ok-shared.ensures c.in_ok-len.ensures c.in-Gap.is in
     let t = gap_takes c.loop-at.divides c.args.text.now c.loop-at.at c.in-Gap.len c.loop-at-test.true there in
     omega arith
 
 pub loop-at-smaller-in-Gap : goal.loop-at-smaller-in-Gap
 loop-at-smaller-in-Gap c =
-    let there = front_there c.in_ok-shared.shared c.args.text.now c.loop-at.at c.loop-at.divides c.in_ok-len.field-0 _ c.in_ok-shared.ensures c.in_ok-len.ensures c.in-Gap.is in
+    let there = lexeme_there c.in_ok-shared.shared c.args.text.now c.loop-at.at c.loop-at.divides c.in_ok-len.field-0 _ c.in_ok-shared.ensures c.in_ok-len.ensures c.in-Gap.is in
     let t = gap_takes c.loop-at.divides c.args.text.now c.loop-at.at c.in-Gap.len c.loop-at-test.true there in
     omega arith
 
 pub overflow_add-end : goal.overflow_add-end
 overflow_add-end c =
-    let there = front_there c.in_ok-shared.shared c.args.text.now c.loop-at.at c.loop-at.divides c.in_ok-len.field-0 _ c.in_ok-shared.ensures c.in_ok-len.ensures c.in-Token.is in
+    let there = lexeme_there c.in_ok-shared.shared c.args.text.now c.loop-at.at c.loop-at.divides c.in_ok-len.field-0 _ c.in_ok-shared.ensures c.in_ok-len.ensures c.in-Token.is in
     let t = token_takes c.loop-at.divides c.args.text.now c.loop-at.at c.in-Token.kind c.in-Token.len c.loop-at-test.true there in
     omega arith
 
 pub loop-at-smaller : goal.loop-at-smaller
 loop-at-smaller c =
-    let there = front_there c.in_ok-shared.shared c.args.text.now c.loop-at.at c.loop-at.divides c.in_ok-len.field-0 _ c.in_ok-shared.ensures c.in_ok-len.ensures c.in-Token.is in
+    let there = lexeme_there c.in_ok-shared.shared c.args.text.now c.loop-at.at c.loop-at.divides c.in_ok-len.field-0 _ c.in_ok-shared.ensures c.in_ok-len.ensures c.in-Token.is in
     let t = token_takes c.loop-at.divides c.args.text.now c.loop-at.at c.in-Token.kind c.in-Token.len c.loop-at-test.true there in
     omega arith
 
 pub loop-at-preserved : goal.loop-at-preserved
 loop-at-preserved c =
-    let there = front_there c.in_ok-shared.shared c.args.text.now c.loop-at.at c.loop-at.divides c.in_ok-len.field-0 _ c.in_ok-shared.ensures c.in_ok-len.ensures c.in-Token.is in
+    let there = lexeme_there c.in_ok-shared.shared c.args.text.now c.loop-at.at c.loop-at.divides c.in_ok-len.field-0 _ c.in_ok-shared.ensures c.in_ok-len.ensures c.in-Token.is in
     let t = token_takes c.loop-at.divides c.args.text.now c.loop-at.at c.in-Token.kind c.in-Token.len c.loop-at-test.true there in
     let pushed = c.in_ok-push-in-Token.ensures.items in
     let kinds = ap kinds_of pushed ∙ map_push (λ token. token.kind) c.loop-at.tokens.items _ in
@@ -93,25 +93,28 @@ loop-at-preserved c =
 
 pub returns-in-Fault-clause-only : goal.returns-in-Fault-clause-only
 returns-in-Fault-clause-only c = λ ts lexes short.
-    let there = front_there c.in_ok-shared.shared c.args.text.now c.loop-at.at c.loop-at.divides c.in_ok-len.field-0 _ c.in_ok-shared.ensures c.in_ok-len.ensures c.in-Fault.is in
+    let there = lexeme_there c.in_ok-shared.shared c.args.text.now c.loop-at.at c.loop-at.divides c.in_ok-len.field-0 _ c.in_ok-shared.ensures c.in_ok-len.ensures c.in-Fault.is in
     absurd (no_other (kinds_of c.loop-at.tokens.items) ts c.loop-at.divides c.args.text.now c.loop-at.at c.in-Fault.code c.loop-at-test.true c.loop-at.invariant.read there lexes)
 
 pub returns-in-Fault-clause-refused : goal.returns-in-Fault-clause-refused
 returns-in-Fault-clause-refused c =
-    let there = front_there c.in_ok-shared.shared c.args.text.now c.loop-at.at c.loop-at.divides c.in_ok-len.field-0 _ c.in_ok-shared.ensures c.in_ok-len.ensures c.in-Fault.is in
+    let there = lexeme_there c.in_ok-shared.shared c.args.text.now c.loop-at.at c.loop-at.divides c.in_ok-len.field-0 _ c.in_ok-shared.ensures c.in_ok-len.ensures c.in-Fault.is in
     inr (refused (kinds_of c.loop-at.tokens.items) c.loop-at.divides c.args.text.now c.loop-at.at c.in-Fault.code c.if-text-gt-LIMIT.false c.loop-at-test.true c.loop-at.invariant.read there)
 
 pub returns-in-Fault-clause-broken : goal.returns-in-Fault-clause-broken
 returns-in-Fault-clause-broken c = λ code refused.
-    let there = front_there c.in_ok-shared.shared c.args.text.now c.loop-at.at c.loop-at.divides c.in_ok-len.field-0 _ c.in_ok-shared.ensures c.in_ok-len.ensures c.in-Fault.is in
+    let there = lexeme_there c.in_ok-shared.shared c.args.text.now c.loop-at.at c.loop-at.divides c.in_ok-len.field-0 _ c.in_ok-shared.ensures c.in_ok-len.ensures c.in-Fault.is in
     inr (fault_only (kinds_of c.loop-at.tokens.items) c.loop-at.divides c.args.text.now c.loop-at.at c.in-Fault.code code c.if-text-gt-LIMIT.false c.loop-at-test.true
     c.loop-at.invariant.read there refused)
 
 pub returns-in-Fault-clause-fault_line : goal.returns-in-Fault-clause-fault_line
 returns-in-Fault-clause-fault_line c = λ short.
-    let there = front_there c.in_ok-shared.shared c.args.text.now c.loop-at.at c.loop-at.divides c.in_ok-len.field-0 _ c.in_ok-shared.ensures c.in_ok-len.ensures c.in-Fault.is in
+    let there = lexeme_there c.in_ok-shared.shared c.args.text.now c.loop-at.at c.loop-at.divides c.in_ok-len.field-0 _ c.in_ok-shared.ensures c.in_ok-len.ensures c.in-Fault.is in
     inr (fault_stands (kinds_of c.loop-at.tokens.items) c.loop-at.divides c.args.text.now c.loop-at.at _ c.in-Fault.code c.loop-at-test.true c.loop-at.invariant.read there refl
     c.loop-at.invariant.line)
+
+pub returns-clause-found : goal.returns-clause-found
+returns-clause-found c = all_read (kinds_of c.loop-at.tokens.items) c.loop-at.divides c.args.text.now c.loop-at.at c.loop-at-test.false c.loop-at.invariant.read
 
 pub returns-clause-only : goal.returns-clause-only
 returns-clause-only c = λ ts lexes short.

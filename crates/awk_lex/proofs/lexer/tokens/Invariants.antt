@@ -1,6 +1,6 @@
 use Rattle.std.proofs.Common.{length, ◌+◌, ◌-◌, ◌≤◌, ◌≡◌}
 use Rattle.std.specs.Prelude.{All}
-use Rattle.awk_lex.specs.Told.{kinds_of, line_at, StandsAt, InTurn}
+use Rattle.awk_lex.specs.definitions.Told.{kinds_of, line_at, StandsAt, InTurn}
 use Rattle.awk_lex.proofs.Progress.{IsRead}
 use Rattle.awk_lex.proofs.lexer.tokens.Given as goal
 

@@ -1,6 +1,6 @@
 use Rattle.std.proofs.Common.{sym, ap, ◌∙◌}
 use Rattle.std.specs.Option.{option_map}
-use Rattle.awk_lex.specs.Tables.{keywords, built_ins}
+use Rattle.awk_lex.specs.definitions.Tables.{keywords, built_ins}
 use Rattle.awk_lex.specs.declared.token.Kind.TheVariants.{Keyword}
 use Rattle.awk_lex.proofs.Tables.{in_first}
 use Rattle.awk_lex.proofs.words.reserved_kind.Goals as goal

@@ -1,4 +1,4 @@
-use Rattle.awk_syntax.proofs.Program.{one_tree}
+use Rattle.awk_syntax.proofs.ProgramsComplete.{one_tree}
 use Rattle.awk_syntax.proofs.parse.one_tree.Goals as goal
 
 pub returns : goal.returns

@@ -1,7 +1,7 @@
 use Rattle.std.proofs.lemmas.Result.{err_from_is_err_and}
 use Rattle.std.proofs.Common.{Ok, Err}
 use Rattle.awk_lex.specs.Told.{kinds_of}
-use Rattle.awk_syntax.proofs.Verdicts.{found, only, refused, pattern_only, pattern_refused}
+use Rattle.awk_syntax.proofs.AnswersJustified.{found, only, refused, pattern_only, pattern_refused}
 use Rattle.awk_syntax.proofs.parse.parse.Goals as goal
 
 pub returns-clause-found : goal.returns-clause-found

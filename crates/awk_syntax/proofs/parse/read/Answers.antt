@@ -1,6 +1,6 @@
 use Rattle.std.proofs.Common.{arith}
 use Rattle.std.proofs.lemmas.Grind.{common_steps}
-use Rattle.awk_syntax.proofs.Verdicts.{failed}
+use Rattle.awk_syntax.proofs.AnswersJustified.{failed}
 use Rattle.awk_syntax.proofs.parse.read.Goals as goal
 
 pub returns-in_default : goal.returns-in_default

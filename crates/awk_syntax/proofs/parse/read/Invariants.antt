@@ -1,12 +1,13 @@
 use Rattle.std.proofs.Common.{◌≡◌, ◌≤◌, drop}
 use Rattle.awk_lex.specs.Told.{kinds_of}
-use Rattle.awk_syntax.specs.Machine as machine
-use Rattle.awk_syntax.specs.States.{state_of}
+use Rattle.awk_tree.specs.Height.{max_height}
+use Rattle.awk_syntax.specs.support.Parser as parser
+use Rattle.awk_syntax.specs.support.ParserView.{state_of}
 use Rattle.awk_syntax.proofs.parse.read.Given as goal
 
 abbrev pub invariant-loop-token : goal.invariant-loop-token
 invariant-loop-token l =
     record {
-      read : machine.answer 200 (state_of l.now l.stack.items) (kinds_of (drop l.token-index l.tokens)) ≡ machine.read 200 (kinds_of l.tokens);
+      read : parser.answer max_height (state_of l.state l.stack.items) (kinds_of (drop l.token-index l.tokens)) ≡ parser.read max_height (kinds_of l.tokens);
       counted : l.eres ≤ l.token-index;
     }

@@ -1,8 +1,8 @@
 use Rattle.std.proofs.Common.{◌⊎◌, ◌≡◌, subst}
 use Rattle.std.proofs.lemmas.Result.{err_from_is_err_and}
 use Rattle.awk_lex.specs.Refused.{IsOutOfMemory}
-use Rattle.awk_syntax.specs.Patterns.{PatternFails}
-use Rattle.awk_syntax.proofs.Readable.{first_refused, readable_next, ere_readable, other_readable}
+use Rattle.awk_syntax.specs.definitions.Patterns.{PatternFails}
+use Rattle.awk_syntax.proofs.LeftmostRefused.{first_refused, readable_next, ere_readable, other_readable}
 use Rattle.awk_syntax.proofs.patterns.check_patterns.Goals.{in-Ere+in_ok-check_pattern, in_default}
 use Rattle.awk_syntax.proofs.patterns.check_patterns.Goals as goal
 

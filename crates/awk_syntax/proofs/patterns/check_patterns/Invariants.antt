@@ -1,6 +1,6 @@
 use Rattle.std.proofs.Common.{take}
 use Rattle.awk_lex.specs.Told.{kinds_of}
-use Rattle.awk_syntax.specs.Patterns.{AreReadable}
+use Rattle.awk_syntax.specs.definitions.Patterns.{AreReadable}
 use Rattle.awk_syntax.proofs.patterns.check_patterns.Given as goal
 
 abbrev pub invariant-loop-token : goal.invariant-loop-token

@@ -2,9 +2,9 @@ use Rattle.std.proofs.Common.{ℕ, List, Some, None, length, ◌+◌, ◌<◌, s
 use Rattle.std.proofs.lemmas.List.{take_rest, length-drop}
 use Rattle.std.proofs.lemmas.List.Elements.{All-push}
 use Rattle.memchr.specs.Find.{IsFirstByte, is_byte}
-use Rattle.awk_text.specs.Span.{stretches_at, IsSpanOf, AreSpansOf}
+use Rattle.awk_text.specs.Pieces.{stretches_at, IsSpanOf, AreSpansOf}
 use Rattle.awk_text.specs.Pieces.{byte_pieces}
-use Rattle.awk_text.proofs.SplitLemmas.{byte_separator, byte_end, stretches_pushed}
+use Rattle.awk_text.proofs.SplitFindsPieces.{byte_separator, byte_end, stretches_pushed}
 use Rattle.awk_text.proofs.split.split_byte.Goals as goal
 
 pub loop-len-preserved : goal.loop-len-preserved

@@ -1,7 +1,7 @@
 use Rattle.std.proofs.Common.{◌≡◌, ◌≤◌, ◌-◌, ◌++◌, drop, length}
 use Rattle.std.specs.List.{slice_split}
 use Rattle.memchr.specs.Find.{is_byte}
-use Rattle.awk_text.specs.Span.{stretches_at, AreSpansOf}
+use Rattle.awk_text.specs.Pieces.{stretches_at, AreSpansOf}
 use Rattle.awk_text.specs.Pieces.{byte_pieces}
 use Rattle.awk_text.proofs.split.split_byte.Given as goal
 

@@ -2,14 +2,14 @@ use Rattle.std.proofs.Common.{◌≡◌, ◌∙◌, Ok, refl, sym, ap, subst, Li
 use Rattle.std.proofs.lemmas.List.{length-drop}
 use Rattle.awk_record.specs.Buffer.{Pending, Steps}
 use Rattle.awk_record.specs.Cut.{BrokenOff, NoMore, TooLong}
-use Rattle.awk_record.specs.Place.{IsNotAmong}
+use Rattle.awk_record.specs.Boundary.{IsNotAmong}
 use Rattle.awk_record.specs.declared.buffer.Step.TheVariants.{Record, NeedMore}
-use Rattle.awk_record.proofs.BufferLemmas.{Steps-seen, Steps-waits, Steps-breaks, found_unbroken, held_is, drop_behind, something_met}
-use Rattle.awk_record.proofs.SearchLemmas.{unfinished_searched}
+use Rattle.awk_record.proofs.NextAnswersSteps.{Steps-seen, Steps-waits, Steps-breaks, found_unbroken, held_is, drop_behind, something_met}
+use Rattle.awk_record.proofs.SearchFindsFirst.{unfinished_searched}
 use Rattle.awk_record.proofs.buffer.RecordBuffer.next.Goals as goal
 
-pub place_cut-requires-clause-none : goal.place_cut-requires-clause-none
-place_cut-requires-clause-none c = λ byte is.
+pub first_boundary-requires-clause-none : goal.first_boundary-requires-clause-none
+first_boundary-requires-clause-none c = λ byte is.
     let b = c.self.inside in
     let held = held_is c.deref.result.now b.bytes.items b.start c.deref.ensures.value in
     subst (λ (bytes : List ℕ). IsNotAmong byte c.searched_for-searched.result bytes) (sym held) (c.searched_for-searched.ensures.none (drop b.start b.bytes.items) byte c.self.invariant.none is)

@@ -2,11 +2,11 @@ use Rattle.std.proofs.Common.{◌≡◌, ℕ, pos, ◌<ℤ◌, ◌∙◌, ap, ar
 use Rattle.std.specs.Prelude.{slice_get}
 use Rattle.std.proofs.lemmas.Int.{ints, to_z-of_z}
 use mir.Syntax.{w128}
-use Rattle.awk_text.specs.Span.{IsSpanOf}
+use Rattle.awk_text.specs.Pieces.{IsSpanOf}
 use Rattle.awk_text.specs.declared.span.Span.{Span}
 use Rattle.awk_value.specs.declared.value.Value.TheVariants.{Input}
 use Rattle.awk_record.specs.Record.{RecordPair, field_of, spanned}
-use Rattle.awk_record.proofs.RecordLemmas.{IsSpanAt, found_within, field_found, field_missing}
+use Rattle.awk_record.proofs.FieldOfSpan.{IsSpanAt, found_within, field_found, field_missing}
 use Rattle.awk_record.proofs.record.Record.field.Goals as goal
 use Rattle.awk_record.proofs.record.Record.field.Goals.{in-Some+in_ok-cut-in-Some, in-None}
 

@@ -1,6 +1,6 @@
 use Rattle.std.proofs.Common.{◌≡◌, ◌+◌, ◌≤◌, take, drop, sym, arith}
 use Rattle.std.proofs.lemmas.List.{length-take, length-drop}
-use Rattle.awk_value.proofs.Cuts.{cut_of_cut}
+use Rattle.awk_value.proofs.CutOfCut.{cut_of_cut}
 use Rattle.awk_value.proofs.bytes.Bytes.cut.Goals as goal
 
 pub returns : goal.returns

@@ -1,0 +1,2 @@
+-- What only serves the proofs.
+pub mod Lexeme

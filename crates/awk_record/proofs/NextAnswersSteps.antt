@@ -1,0 +1,117 @@
+-- An answer of the buffer, from the cut that it looked at.
+use Rattle.std.proofs.Common.{◌≡◌, ◌≢◌, ◌⊎◌, inl, inr, ℕ, List, [], Option, Some, None, Result, Ok, refl, sym, ◌∙◌, ap, subst, append-nil, take, drop, length, ◌+◌, ◌-◌}
+use Rattle.std.proofs.lemmas.List.{take_rest, drop-drop}
+use Rattle.awk_record.specs.Cut.{Ending, AtEnd, AtBreak, Cut, Found, NoMore, BrokenOff, TooLong, BadSeparator, cut_of}
+use Rattle.awk_record.specs.Buffer.{Pending, IsAnswerOf, Steps}
+use Rattle.awk_record.specs.Boundary.{ending_of, ending_or_break}
+use Rattle.awk_record.specs.declared.buffer.Step.{Step}
+use Rattle.awk_record.specs.declared.buffer.Step.TheVariants.{NeedMore, Broken}
+use Rattle.awk_record.specs.declared.buffer.Supply.{Supply}
+use Rattle.awk_record.specs.declared.buffer.Supply.TheVariants.{Open, Ended, Broke}
+use Rattle.awk_record.specs.declared.fault.RecordFault.{RecordFault}
+use Rattle.awk_record.proofs.CutIsDecided.{IsDecided_law, cut-found, cut-too_long, cut-bad, cut-never_none}
+
+-- what is settled is so for each ending
+same_for_each : (separator bytes : List ℕ) (c : Cut) → cut_of separator bytes AtBreak ≡ c → c ≢ BrokenOff → (ending : Ending) → cut_of separator bytes ending ≡ c
+same_for_each separator bytes (Found first rest) is other ending =
+    ap (λ b. cut_of separator b ending) (sym (append-nil bytes)) ∙ (cut-found separator bytes [] ending first rest is ∙ ap (Found first) (append-nil rest))
+same_for_each separator bytes TooLong is other ending =
+    ap (λ b. cut_of separator b ending) (sym (append-nil bytes)) ∙ cut-too_long separator bytes [] ending is
+same_for_each separator bytes BadSeparator is other ending =
+    ap (λ b. cut_of separator b ending) (sym (append-nil bytes)) ∙ cut-bad separator bytes [] ending is
+same_for_each separator bytes BrokenOff is other ending = absurd (other refl)
+same_for_each separator bytes NoMore is other ending = absurd (cut-never_none separator bytes is)
+
+no_more_asked : (c : Cut) (ending : Option Ending) (result : Result Step RecordFault) (old new : Pending) → IsAnswerOf c ending result old new → result ≡ Ok NeedMore → ⊥
+no_more_asked (Found first rest) ending result old new (answer, rest_is, ending_is) e = cc
+no_more_asked NoMore ending result old new (answer, rest_is, ending_is) e = cc
+no_more_asked BrokenOff ending result old new (answer, rest_is, ending_is) e = cc
+no_more_asked TooLong ending result old new (answer, same) e = cc
+no_more_asked BadSeparator ending result old new (answer, same) e = cc
+
+pub Steps-more : (separator : List ℕ) (old : Pending) → old.ending ≡ None → cut_of separator old.bytes AtBreak ≡ BrokenOff → Steps separator old (Ok NeedMore) old
+Steps-more separator old none is = record {
+  needs_more = λ _ _. (refl, refl);
+  only_then = λ _. (none, λ decided. (IsDecided_law separator old.bytes).0 decided is);
+  decided = λ _ decided ending. absurd ((IsDecided_law separator old.bytes).0 decided is);
+  ended = λ ending some. let bad : None ≡ Some ending = sym none ∙ some in cc;
+}
+
+pub Steps-open : (separator : List ℕ) (old new : Pending) (result : Result Step RecordFault) (c : Cut) → old.ending ≡ None → cut_of separator old.bytes AtBreak ≡ c → c ≢ BrokenOff →
+    IsAnswerOf c None result old new → Steps separator old result new
+Steps-open separator old new result c none is other answers = record {
+  needs_more = λ _ undecided. absurd (undecided ((IsDecided_law separator old.bytes).1 (λ (broken : cut_of separator old.bytes AtBreak ≡ BrokenOff). other (sym is ∙ broken))));
+  only_then = λ e. absurd (no_more_asked c None result old new answers e);
+  decided = λ _ decided ending. subst (λ (x : Cut). IsAnswerOf x None result old new) (sym (same_for_each separator old.bytes c is other ending)) answers;
+  ended = λ ending some. let bad : None ≡ Some ending = sym none ∙ some in cc;
+}
+
+pub Steps-ended : (separator : List ℕ) (old new : Pending) (result : Result Step RecordFault) (ending : Ending) (c : Cut) → old.ending ≡ Some ending → cut_of separator old.bytes ending ≡ c →
+    IsAnswerOf c (Some ending) result old new → Steps separator old result new
+Steps-ended separator old new result ending c some is answers = record {
+  needs_more = λ none _. let bad : None ≡ Some ending = sym none ∙ some in cc;
+  only_then = λ e. absurd (no_more_asked c (Some ending) result old new answers e);
+  decided = λ none _ _. let bad : None ≡ Some ending = sym none ∙ some in cc;
+  ended = λ other is_other.
+      let same : other ≡ ending = cc in
+      subst (λ (e : Ending). IsAnswerOf (cut_of separator old.bytes e) (Some e) result old new) (sym same) (subst (λ (x : Cut). IsAnswerOf x (Some ending) result old new) (sym is) answers);
+}
+
+-- by what was supply
+pub Steps-at : (separator : List ℕ) (supply : Supply) (old new : Pending) (result : Result Step RecordFault) (c : Cut) → old.ending ≡ ending_of supply →
+    cut_of separator old.bytes (ending_or_break supply) ≡ c → c ≢ BrokenOff → IsAnswerOf c (ending_of supply) result old new → Steps separator old result new
+Steps-at separator Open old new result c ending is other answers = Steps-open separator old new result c ending is other answers
+Steps-at separator Ended old new result c ending is other answers = Steps-ended separator old new result AtEnd c ending is answers
+Steps-at separator Broke old new result c ending is other answers = Steps-ended separator old new result AtBreak c ending is answers
+
+-- what is left, as a slice of what is held
+pub held_is : (xs items : List ℕ) (start : ℕ) → xs ≡ items → take (length xs - start) (drop start xs) ≡ drop start items
+held_is xs items start same = take_rest xs start ∙ ap (drop start) same
+
+-- from what a look at the bytes behind `start` showed
+pub Steps-seen : (separator xs items : List ℕ) (start : ℕ) (supply : Supply) (e : Ending) (old new : Pending) (result : Result Step RecordFault) (c : Cut) →
+    c ≡ cut_of separator (take (length xs - start) (drop start xs)) e → e ≡ ending_or_break supply → xs ≡ items → record { bytes = drop start items; ending = ending_of supply } ≡ old →
+    c ≢ BrokenOff → IsAnswerOf c (ending_of supply) result old new → Steps separator old result new
+Steps-seen separator xs items start supply e old new result c is same_e same view other answers =
+    let bytes_are : drop start items ≡ old.bytes = ap (λ (p : Pending). p.bytes) view in
+    let ending_is : ending_of supply ≡ old.ending = ap (λ (p : Pending). p.ending) view in
+    let held : take (length xs - start) (drop start xs) ≡ old.bytes = held_is xs items start same ∙ bytes_are in
+    let cuts : cut_of separator old.bytes (ending_or_break supply) ≡ c = sym (is ∙ (ap (λ b. cut_of separator b e) held ∙ ap (cut_of separator old.bytes) same_e)) in
+    Steps-at separator supply old new result c (sym ending_is) cuts other answers
+
+pub Steps-waits : (separator xs items : List ℕ) (start : ℕ) (supply : Supply) (e : Ending) (old : Pending) →
+    BrokenOff ≡ cut_of separator (take (length xs - start) (drop start xs)) e → e ≡ ending_or_break supply → xs ≡ items → record { bytes = drop start items; ending = ending_of supply } ≡ old →
+    supply ≡ Open → Steps separator old (Ok NeedMore) old
+Steps-waits separator xs items start supply e old is same_e same view nothing =
+    let bytes_are : drop start items ≡ old.bytes = ap (λ (p : Pending). p.bytes) view in
+    let ending_is : ending_of supply ≡ old.ending = ap (λ (p : Pending). p.ending) view in
+    let held : take (length xs - start) (drop start xs) ≡ old.bytes = held_is xs items start same ∙ bytes_are in
+    let cuts : cut_of separator old.bytes AtBreak ≡ BrokenOff = sym (is ∙ (ap (λ b. cut_of separator b e) held ∙ ap (cut_of separator old.bytes) (same_e ∙ ap ending_or_break nothing))) in
+    Steps-more separator old (sym ending_is ∙ ap ending_of nothing) cuts
+
+pub Steps-breaks : (separator xs items : List ℕ) (start : ℕ) (supply : Supply) (e : Ending) (old new : Pending) →
+    BrokenOff ≡ cut_of separator (take (length xs - start) (drop start xs)) e → e ≡ ending_or_break supply → xs ≡ items → record { bytes = drop start items; ending = ending_of supply } ≡ old →
+    supply ≢ Open → new.bytes ≡ [] → new.ending ≡ ending_of supply → Steps separator old (Ok Broken) new
+Steps-breaks separator xs items start Open e old new is same_e same view some empty kept = absurd (some refl)
+Steps-breaks separator xs items start Ended e old new is same_e same view some empty kept =
+    let bytes_are : drop start items ≡ old.bytes = ap (λ (p : Pending). p.bytes) view in
+    let ending_is : Some AtEnd ≡ old.ending = ap (λ (p : Pending). p.ending) view in
+    let held : take (length xs - start) (drop start xs) ≡ old.bytes = held_is xs items start same ∙ bytes_are in
+    let cuts : cut_of separator old.bytes AtEnd ≡ BrokenOff = sym (is ∙ (ap (λ b. cut_of separator b e) held ∙ ap (cut_of separator old.bytes) same_e)) in
+    Steps-ended separator old new (Ok Broken) AtEnd BrokenOff (sym ending_is) cuts (refl, empty, kept)
+Steps-breaks separator xs items start Broke e old new is same_e same view some empty kept =
+    let bytes_are : drop start items ≡ old.bytes = ap (λ (p : Pending). p.bytes) view in
+    let ending_is : Some AtBreak ≡ old.ending = ap (λ (p : Pending). p.ending) view in
+    let held : take (length xs - start) (drop start xs) ≡ old.bytes = held_is xs items start same ∙ bytes_are in
+    let cuts : cut_of separator old.bytes AtBreak ≡ BrokenOff = sym (is ∙ (ap (λ b. cut_of separator b e) held ∙ ap (cut_of separator old.bytes) same_e)) in
+    Steps-ended separator old new (Ok Broken) AtBreak BrokenOff (sym ending_is) cuts (refl, empty, kept)
+
+pub found_unbroken : (first rest : List ℕ) → Found first rest ≡ BrokenOff → ⊥
+found_unbroken first rest bad = cc
+
+pub drop_behind : (items xs : List ℕ) (start next : ℕ) → xs ≡ items → drop (start + next) items ≡ drop next (take (length xs - start) (drop start xs))
+drop_behind items xs start next same = sym (ap (drop next) (held_is xs items start same) ∙ drop-drop next start items)
+
+pub something_met : (supply : Supply) → (supply ≡ Ended) ⊎ (supply ≡ Broke) → supply ≢ Open
+something_met supply (inl e) n = let bad : Open ≡ Ended = sym n ∙ e in cc
+something_met supply (inr e) n = let bad : Open ≡ Broke = sym n ∙ e in cc

@@ -1,0 +1,4 @@
+-- What a reader has to believe.
+pub mod Buffer
+pub mod Cut
+pub mod Record

@@ -1,0 +1,41 @@
+-- The tree of a program, without where it lies in memory (POSIX awk, Grammar).
+use Rattle.std.specs.Prelude.{ℕ, ℤ, List}
+use Rattle.awk_tree.specs.declared.tree.UnaryOperator.{UnaryOperator}
+use Rattle.awk_tree.specs.declared.tree.BinaryOperator.{BinaryOperator}
+
+pub data Expr : Type 0 where
+  Number : (n : ℤ) → Expr
+  -- a string, by the bytes that it stands for
+  String : (bytes : List ℕ) → Expr
+  -- an extended regular expression, by the text between its slashes
+  Ere : (text : List ℕ) → Expr
+  Name : (name : List ℕ) → Expr
+  -- an expression in parentheses
+  Group : (e : Expr) → Expr
+  Field : (e : Expr) → Expr
+  Unary : (o : UnaryOperator) (e : Expr) → Expr
+  Binary : (o : BinaryOperator) (a b : Expr) → Expr
+  Assign : (name : List ℕ) (e : Expr) → Expr
+
+pub data Exprs : Type 0 where
+  Nil : Exprs
+  Cons : (e : Expr) (rest : Exprs) → Exprs
+
+mutual
+  pub data Statement : Type 0 where
+    Block : (all : Statements) → Statement
+    -- an expression as a statement
+    Expression : (e : Expr) → Statement
+    -- `print`; an empty list is none
+    Print : (list : Exprs) → Statement
+
+  pub data Statements : Type 0 where
+    NoMore : Statements
+    Then : (s : Statement) (rest : Statements) → Statements
+
+pub data Item : Type 0 where
+  Begin : (block : Statements) → Item
+  Action : (block : Statements) → Item
+  -- a pattern without an action
+  Pattern : (e : Expr) → Item
+  PatternAction : (e : Expr) (block : Statements) → Item

@@ -1,0 +1,91 @@
+// The syntax tree.
+
+use awk_value::Bytes;
+
+/// What stands before an operand.
+#[derive(Clone, Copy)]
+pub enum UnaryOperator {
+    Not,
+    Plus,
+    Minus,
+}
+
+/// What joins two operands.
+#[derive(Clone, Copy, PartialEq, Eq)]
+pub enum BinaryOperator {
+    Times,
+    Divide,
+    Remainder,
+    Plus,
+    Minus,
+    /// No token stands between the operands.
+    Concatenate,
+    Less,
+    LessEqual,
+    Equal,
+    NotEqual,
+    Greater,
+    GreaterEqual,
+    /// `~`
+    Matches,
+    /// `!~`
+    NotMatches,
+}
+
+/// An extended regular expression as it stands in a program.
+#[derive(Drop)]
+pub struct Ere {
+    /// The text between the slashes.
+    pub text: Bytes,
+    /// Which of the program's EREs it is, in the order of the text, from 0.
+    pub number: usize,
+}
+
+/// An expression.
+#[derive(Drop)]
+pub enum Expr {
+    /// A number, from 0 to 2^127 - 1.
+    Number(i128),
+    /// A string: the bytes that it stands for.
+    String(Bytes),
+    Ere(Ere),
+    Name(Bytes),
+    /// An expression in parentheses.
+    Group(Box<Expr>),
+    /// `$` and the field's number.
+    Field(Box<Expr>),
+    Unary(UnaryOperator, Box<Expr>),
+    Binary(BinaryOperator, Box<Expr>, Box<Expr>),
+    /// `name = expr`.
+    Assign(Bytes, Box<Expr>),
+}
+
+/// A statement.
+#[derive(Drop)]
+pub enum Statement {
+    /// A block in braces.
+    Block(Vec<Statement>),
+    /// An expression, whose value is of no use.
+    Expression(Expr),
+    /// `print` with its list, or with none.
+    Print(Vec<Expr>),
+}
+
+/// An item of a program, with its action.
+#[derive(Drop)]
+pub enum Item {
+    /// An action before all records.
+    Begin(Vec<Statement>),
+    /// An action for every record.
+    Action(Vec<Statement>),
+    /// The records on which the expression is true are printed.
+    Pattern(Expr),
+    /// An action for the records on which the expression is true.
+    PatternAction(Expr, Vec<Statement>),
+}
+
+/// A program.
+#[derive(Drop)]
+pub struct Tree {
+    pub items: Vec<Item>,
+}
