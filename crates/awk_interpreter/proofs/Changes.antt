@@ -2,7 +2,7 @@
 use Rattle.std.proofs.Common.{◌≡◌, ℕ, ℤ, pos, suc, Bool, true, false, List, [], Option, Some, None, Result, Ok, Err, IfOk, IfErr, OnErr, ◌⊎◌, inl, inr, length, unwrap_or, slice_get, int_lt, refl, sym, ap, ◌∙◌, subst, arith}
 use Rattle.std.specs.Prelude.{codes, bytes_eq, if◌then◌else◌, IfSome, IfNone}
 use Rattle.awk_text.specs.declared.separator.Separator.{Separator}
-use Rattle.awk_text.specs.Separator.{separator_of}
+use Rattle.awk_text.specs.Pieces.{separator_of}
 use Rattle.awk_value.specs.declared.value.Value.{Value}
 use Rattle.awk_value.specs.declared.value.Value.TheVariants as value
 use Rattle.awk_value.specs.declared.fault.ValueFault.{ValueFault}

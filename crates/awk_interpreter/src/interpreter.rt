@@ -15,7 +15,7 @@ use awk_operands::Arguments;
 use awk_operators::{Patterns, make_line, raise};
 use awk_record::Record;
 use awk_streams::{Streams, World};
-use awk_syntax::tree::{BinaryOperator, Ere};
+use awk_tree::tree::{BinaryOperator, Ere};
 use awk_value::{Bytes, Value};
 use awk_variables::{Special, Variables};
 use std::alloc::Global;

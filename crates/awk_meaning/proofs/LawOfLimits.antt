@@ -10,8 +10,8 @@ use Rattle.awk_record.specs.Cut.{Cut, Found, NoMore, BrokenOff, TooLong, BadSepa
 use Rattle.awk_streams.specs.declared.world.InputKind.{InputKind}
 use Rattle.awk_streams.specs.declared.world.InputKind.TheVariants.{Standard, File}
 use Rattle.awk_streams.specs.Oracle.{Source, Oracle}
-use Rattle.awk_syntax.specs.declared.tree.BinaryOperator.TheVariants.{Matches}
-use Rattle.awk_syntax.specs.Tree.{Expr, Number, String, Ere, Name, Group, Field, Unary, Binary, Assign, Exprs, Nil, Cons, Statement, Block, Evaluate, Print, Statements, NoMore as NoStatement, Then, Item, Begin, Always, Short, Rule}
+use Rattle.awk_tree.specs.declared.tree.BinaryOperator.TheVariants.{Matches}
+use Rattle.awk_tree.specs.Tree.{Expr, Number, String, Ere, Name, Group, Field, Unary, Binary, Assign, Exprs, Nil, Cons, Statement, Block, Expression, Print, Statements, NoMore as NoStatement, Then, Item, Begin, Action, Pattern, PatternAction}
 use Rattle.awk_meaning.specs.declared.outcome.Outcome.TheVariants.{Ended, Fault, Stopped}
 use Rattle.awk_meaning.specs.definitions.State.{Output, TheEnd, Effect, Printed, Requested, State, Out, Run, go_on, ◌>>=◌, lift}
 use Rattle.awk_meaning.specs.declared.halt.Halt.{Halt}
@@ -279,7 +279,7 @@ mutual
 
   exec_larger : (s : Statement) → Larger (exec s) (exec s)
   exec_larger (Block all) = exec_all_larger all
-  exec_larger (Evaluate e) = then_larger _ _ spend_larger (λ _. then_larger _ _ (eval_larger e) (λ v. lift_larger (Ok tt)))
+  exec_larger (Expression e) = then_larger _ _ spend_larger (λ _. then_larger _ _ (eval_larger e) (λ v. lift_larger (Ok tt)))
   exec_larger (Print list) = then_larger _ _ spend_larger (λ _. then_larger _ _ (printed_larger list) (λ vs. show_larger vs))
 
   exec_all_larger : (all : Statements) → Larger (exec_all all) (exec_all all)
@@ -293,9 +293,9 @@ if_larger false m h = lift_larger (Ok tt)
 item_larger : (x : Item) → Larger (try_item x) (try_item x)
 unfolding try_item
 item_larger (Begin block) = lift_larger (Ok tt)
-item_larger (Always block) = exec_all_larger block
-item_larger (Short e) = then_larger _ _ (eval_larger e) (λ v. if_larger (truth_of v) _ (exec_larger (Print Nil)))
-item_larger (Rule e block) = then_larger _ _ (eval_larger e) (λ v. if_larger (truth_of v) _ (exec_all_larger block))
+item_larger (Action block) = exec_all_larger block
+item_larger (Pattern e) = then_larger _ _ (eval_larger e) (λ v. if_larger (truth_of v) _ (exec_larger (Print Nil)))
+item_larger (PatternAction e block) = then_larger _ _ (eval_larger e) (λ v. if_larger (truth_of v) _ (exec_all_larger block))
 
 items_larger : (xs : List Item) → Larger (try_items xs) (try_items xs)
 unfolding try_items
@@ -325,9 +325,9 @@ records_larger action y = record { covers = λ s d. (each_larger (suc s.steps) (
 begin_item_larger : (x : Item) → Larger (begin_item x) (begin_item x)
 unfolding begin_item
 begin_item_larger (Begin block) = exec_all_larger block
-begin_item_larger (Always block) = lift_larger (Ok tt)
-begin_item_larger (Short e) = lift_larger (Ok tt)
-begin_item_larger (Rule e block) = lift_larger (Ok tt)
+begin_item_larger (Action block) = lift_larger (Ok tt)
+begin_item_larger (Pattern e) = lift_larger (Ok tt)
+begin_item_larger (PatternAction e block) = lift_larger (Ok tt)
 
 begin_items_larger : (xs : List Item) → Larger (begin_items xs) (begin_items xs)
 unfolding begin_items

@@ -10,7 +10,7 @@ ghost use Rattle.awk_meaning.specs.Results.{Yields};
 use crate::patterns::Patterns;
 use awk_meaning::Halt;
 use awk_record::Record;
-use awk_syntax::tree::{BinaryOperator, Ere, UnaryOperator};
+use awk_tree::tree::{BinaryOperator, Ere, UnaryOperator};
 use awk_value::{
     Value, add, compare, concatenate, divide, is_true, minus, multiply, negate, number_of, plus,
     remainder, text_of, to_number,

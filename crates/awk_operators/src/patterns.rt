@@ -5,7 +5,7 @@ ghost use Rattle.awk_meaning.specs.Results.{Yields};
 
 use crate::compiled::Compiled;
 use awk_meaning::Halt;
-use awk_syntax::tree::Ere;
+use awk_tree::tree::Ere;
 use awk_value::Bytes;
 use lru::LruCache;
 use std::alloc::{AllocError, AllocFailed, Global};

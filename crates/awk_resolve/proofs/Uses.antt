@@ -4,12 +4,12 @@ use Rattle.std.proofs.Math.Bool.{cond, or_assoc, or-false, and_assoc}
 use Rattle.std.proofs.lemmas.Bool.{not-true, not-false}
 use Rattle.std.proofs.lemmas.List.{drop_all, map-append}
 use Rattle.awk_lex.specs.Words.{is_left_out}
-use Rattle.awk_lex.specs.declared.refusal.Code.TheVariants.{ArrayAndScalar, NameLeftOut}
-use Rattle.awk_syntax.specs.declared.tree.Expr.{Expr as CodeExpr}
-use Rattle.awk_syntax.specs.declared.tree.Statement.{Statement as CodeStatement, Row_of-Statement, end_of-Statement, more_of-Statement, items-the_row-Statement}
-use Rattle.awk_syntax.specs.declared.tree.Item.{Item as CodeItem}
-use Rattle.awk_syntax.specs.Tree.{Expr, Number, String, Ere, Name, Group, Field, Unary, Binary, Assign, Exprs, Nil, Cons, Statement, Block, Evaluate, Print, Statements, NoMore, Then, Item, Begin, Always, Short, Rule}
-use Rattle.awk_syntax.specs.View.{expr_of, exprs_of, statement_of, statements_of, statements_of_row, item_of, items_of}
+use Rattle.awk_lex.specs.declared.refusal.RefusalCode.TheVariants.{ArrayAndScalar, NameLeftOut}
+use Rattle.awk_tree.specs.declared.tree.Expr.{Expr as CodeExpr}
+use Rattle.awk_tree.specs.declared.tree.Statement.{Statement as CodeStatement, Row_of-Statement, end_of-Statement, more_of-Statement, items-the_row-Statement}
+use Rattle.awk_tree.specs.declared.tree.Item.{Item as CodeItem}
+use Rattle.awk_tree.specs.Tree.{Expr, Number, String, Ere, Name, Group, Field, Unary, Binary, Assign, Exprs, Nil, Cons, Statement, Block, Expression, Print, Statements, NoMore, Then, Item, Begin, Action, Pattern, PatternAction}
+use Rattle.awk_tree.specs.View.{expr_of, exprs_of, statement_of, statements_of, statements_of_row, item_of, items_of}
 use Rattle.awk_resolve.specs.declared.names.Misuse.{Misuse}
 use Rattle.awk_resolve.specs.definitions.Names.{Use, uses_in_expr, uses_in_list, uses_in_statement, uses_in_block, uses_in_item, uses_in, uses_left_out, special_scalars, special_arrays, scalar_names, array_names, is_absent, are_apart}
 use Rattle.awk_resolve.specs.support.Misuse.{names_of, Adds}
@@ -71,7 +71,7 @@ scalars_in_list (Cons e es) = are_scalar-append _ _ (scalars_in_expr e) (scalars
 mutual
   scalars_in_statement : (s : Statement) → AreScalar (uses_in_statement s)
   scalars_in_statement (Block all) = scalars_in_block all
-  scalars_in_statement (Evaluate e) = scalars_in_expr e
+  scalars_in_statement (Expression e) = scalars_in_expr e
   scalars_in_statement (Print list) = scalars_in_list list
 
   scalars_in_block : (all : Statements) → AreScalar (uses_in_block all)
@@ -80,9 +80,9 @@ mutual
 
 scalars_in_item : (x : Item) → AreScalar (uses_in_item x)
 scalars_in_item (Begin block) = scalars_in_block block
-scalars_in_item (Always block) = scalars_in_block block
-scalars_in_item (Short e) = scalars_in_expr e
-scalars_in_item (Rule e block) = are_scalar-append _ _ (scalars_in_expr e) (scalars_in_block block)
+scalars_in_item (Action block) = scalars_in_block block
+scalars_in_item (Pattern e) = scalars_in_expr e
+scalars_in_item (PatternAction e block) = are_scalar-append _ _ (scalars_in_expr e) (scalars_in_block block)
 
 scalars_in : (items : List Item) → AreScalar (uses_in items)
 scalars_in [] = tt

@@ -1,14 +1,14 @@
 // What keeps the names of a program from being what they are used as.
 
 ghost use Rattle.std.specs.Prelude.{◌≡◌, [], ◌∷◌};
-ghost use Rattle.awk_syntax.specs.View.{expr_of, exprs_of, statement_of, statements_of, item_of, items_of};
+ghost use Rattle.awk_tree.specs.View.{expr_of, exprs_of, statement_of, statements_of, item_of, items_of};
 ghost use Rattle.awk_resolve.specs.definitions.Names.{scalar, uses_in_expr, uses_in_list, uses_in_statement, uses_in_block, uses_in_item, uses_in};
 ghost use Rattle.awk_resolve.specs.support.Misuse.{is_special_array, Adds};
 ghost use Rattle.awk_resolve.specs.definitions.Names.{name_refusal};
 
-use awk_lex::refusal::Code;
+use awk_lex::refusal::RefusalCode;
 use awk_lex::words::is_left_out;
-use awk_syntax::tree::{Expr, Item, Statement};
+use awk_tree::tree::{Expr, Item, Statement};
 
 /// The special variables that are arrays (POSIX awk, Variables and Special Variables).
 const SPECIAL_ARRAYS: [&[u8]; 2] = [b"ARGV", b"ENVIRON"];
@@ -87,9 +87,9 @@ impl Misuse {
         ensures { Adds self.old self.new (uses_in_item (item_of item.now)) }
     {
         match item {
-            Item::Begin(block) | Item::Always(block) => self.add_block(block),
+            Item::Begin(block) | Item::Action(block) => self.add_block(block),
             Item::Pattern(e) => self.add_expr(e),
-            Item::Rule(e, block) => {
+            Item::PatternAction(e, block) => {
                 self.add_expr(e);
                 self.add_block(block);
             }
@@ -107,7 +107,7 @@ impl Misuse {
 
 /// Why the names of a program are refused, if they are: one of them is left out (K7), or else one
 /// is used as an array and as a scalar (K1). (POSIX awk, Variables and Special Variables)
-pub fn name_refusal(items: &[Item]) -> Option<Code>
+pub fn name_refusal(items: &[Item]) -> Option<RefusalCode>
     ensures { result ≡ name_refusal (items_of items.now) }
 {
     let mut misuse = Misuse {
@@ -116,9 +116,9 @@ pub fn name_refusal(items: &[Item]) -> Option<Code>
     };
     misuse.add_items(items);
     if misuse.left_out {
-        Some(Code::NameLeftOut)
+        Some(RefusalCode::NameLeftOut)
     } else if misuse.array {
-        Some(Code::ArrayAndScalar)
+        Some(RefusalCode::ArrayAndScalar)
     } else {
         None
     }

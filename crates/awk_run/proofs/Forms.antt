@@ -5,17 +5,17 @@ use Rattle.std.proofs.lemmas.Bool.Decides.{nat_tests}
 use Rattle.awk_value.specs.declared.value.Value.{Value}
 use Rattle.awk_value.specs.declared.value.Value.TheVariants as value
 use Rattle.awk_streams.specs.Streams.{AreOpen, IsSoundMain}
-use Rattle.awk_syntax.specs.declared.tree.UnaryOperator.{UnaryOperator}
-use Rattle.awk_syntax.specs.declared.tree.BinaryOperator.{BinaryOperator}
-use Rattle.awk_syntax.specs.declared.tree.BinaryOperator.TheVariants.{Matches as MatchOperator}
+use Rattle.awk_tree.specs.declared.tree.UnaryOperator.{UnaryOperator}
+use Rattle.awk_tree.specs.declared.tree.BinaryOperator.{BinaryOperator}
+use Rattle.awk_tree.specs.declared.tree.BinaryOperator.TheVariants.{Matches as MatchOperator}
 use Rattle.awk_meaning.specs.State.{Run, lift}
-use Rattle.awk_syntax.specs.declared.tree.Expr.{Expr as Code}
-use Rattle.awk_syntax.specs.declared.tree.Statement.{Statement as CodeStatement, Row_of-Statement, end_of-Statement, more_of-Statement, items-the_row-Statement}
-use Rattle.awk_syntax.specs.declared.tree.Item.{Item as CodeItem}
-use Rattle.awk_syntax.specs.declared.tree.Item.TheVariants as items
+use Rattle.awk_tree.specs.declared.tree.Expr.{Expr as Code}
+use Rattle.awk_tree.specs.declared.tree.Statement.{Statement as CodeStatement, Row_of-Statement, end_of-Statement, more_of-Statement, items-the_row-Statement}
+use Rattle.awk_tree.specs.declared.tree.Item.{Item as CodeItem}
+use Rattle.awk_tree.specs.declared.tree.Item.TheVariants as items
 use Rattle.std.specs.Global.{Vec}
-use Rattle.awk_syntax.specs.Tree.{Expr, Number, String, Ere, Name, Group, Field, Unary, Binary, Assign, Exprs, Nil, Cons, Statement, Block, Evaluate, Print, Statements, NoMore, Then, Item, Begin, Always, Short, Rule}
-use Rattle.awk_syntax.specs.View.{expr_of, exprs_of, statement_of, statements_of, statements_of_row, item_of, items_of}
+use Rattle.awk_tree.specs.Tree.{Expr, Number, String, Ere, Name, Group, Field, Unary, Binary, Assign, Exprs, Nil, Cons, Statement, Block, Expression, Print, Statements, NoMore, Then, Item, Begin, Action, Pattern, PatternAction}
+use Rattle.awk_tree.specs.View.{expr_of, exprs_of, statement_of, statements_of, statements_of_row, item_of, items_of}
 use Rattle.awk_interpreter.specs.declared.interpreter.Interpreter.{Interpreter}
 use Rattle.awk_run.specs.declared.start.Assignment.{Assignment}
 use Rattle.awk_run.specs.definitions.Start.{pair_of}
@@ -168,17 +168,17 @@ pub print_shows : {is_logged : Type 0} {es : Exprs} {m m1 m2 m3 : Interpreter} {
 unfolding exec
 print_shows p q s = record { simulates = then_simulates _ (change_simulates p.simulates) (then_simulates _ (change_simulates q.simulates) s.simulates) }
 
-pub evaluate_stops : {is_logged : Type 0} {e : Expr} {m m1 : Interpreter} {k : WorldState} {h : Halt} → Spends m m1 (Err h) → Executes is_logged (Evaluate e) m k m1 k (Err h)
+pub expression_stops : {is_logged : Type 0} {e : Expr} {m m1 : Interpreter} {k : WorldState} {h : Halt} → Spends m m1 (Err h) → Executes is_logged (Expression e) m k m1 k (Err h)
 unfolding exec
-evaluate_stops p = record { simulates = ends_simulates _ (change_simulates p.simulates) }
+expression_stops p = record { simulates = ends_simulates _ (change_simulates p.simulates) }
 
-pub evaluate_ends : {is_logged : Type 0} {e : Expr} {m m1 m2 : Interpreter} {k : WorldState} {h : Halt} → Spends m m1 (Ok tt) → Evaluates e m1 m2 (Err h) → Executes is_logged (Evaluate e) m k m2 k (Err h)
+pub expression_ends : {is_logged : Type 0} {e : Expr} {m m1 m2 : Interpreter} {k : WorldState} {h : Halt} → Spends m m1 (Ok tt) → Evaluates e m1 m2 (Err h) → Executes is_logged (Expression e) m k m2 k (Err h)
 unfolding exec
-evaluate_ends p q = record { simulates = then_simulates _ (change_simulates p.simulates) (ends_simulates _ (change_simulates q.simulates)) }
+expression_ends p q = record { simulates = then_simulates _ (change_simulates p.simulates) (ends_simulates _ (change_simulates q.simulates)) }
 
-pub evaluate_executes : {is_logged : Type 0} {e : Expr} {m m1 m2 : Interpreter} {k : WorldState} {v : Value} → Spends m m1 (Ok tt) → Evaluates e m1 m2 (Ok v) → Executes is_logged (Evaluate e) m k m2 k (Ok tt)
+pub expression_executes : {is_logged : Type 0} {e : Expr} {m m1 m2 : Interpreter} {k : WorldState} {v : Value} → Spends m m1 (Ok tt) → Evaluates e m1 m2 (Ok v) → Executes is_logged (Expression e) m k m2 k (Ok tt)
 unfolding exec
-evaluate_executes {m2 = m2} {k = k} p q = record { simulates = then_simulates _ (change_simulates p.simulates) (then_simulates _ (change_simulates q.simulates) (lift_simulates _ m2 k refl)) }
+expression_executes {m2 = m2} {k = k} p q = record { simulates = then_simulates _ (change_simulates p.simulates) (then_simulates _ (change_simulates q.simulates) (lift_simulates _ m2 k refl)) }
 
 pub block_executes : {is_logged : Type 0} {all : Statements} {m m1 : Interpreter} {k k1 : WorldState} {r : Result (Unit {0}) Halt} → ExecutesAll is_logged all m k m1 k1 r → Executes is_logged (Block all) m k m1 k1 r
 unfolding exec
@@ -202,33 +202,33 @@ pub begin_tries : {is_logged : Type 0} {all : Statements} {m : Interpreter} {k :
 unfolding try_item
 begin_tries {m = m} {k = k} = record { simulates = lift_simulates _ m k refl }
 
-pub short_halts : {is_logged : Type 0} {e : Expr} {m m1 : Interpreter} {k : WorldState} {h : Halt} → Tests e m m1 (Err h) → Tries is_logged (Short e) m k m1 k (Err h)
+pub pattern_halts : {is_logged : Type 0} {e : Expr} {m m1 : Interpreter} {k : WorldState} {h : Halt} → Tests e m m1 (Err h) → Tries is_logged (Pattern e) m k m1 k (Err h)
 unfolding try_item
-short_halts p = record { simulates = ends_simulates _ (change_simulates p.tests.simulates) }
+pattern_halts p = record { simulates = ends_simulates _ (change_simulates p.tests.simulates) }
 
-pub short_holds : {is_logged : Type 0} {e : Expr} {m m1 m2 : Interpreter} {k k2 : WorldState} {r : Result (Unit {0}) Halt} → Tests e m m1 (Ok true) → Executes is_logged (Print Nil) m1 k m2 k2 r → Tries is_logged (Short e) m k m2 k2 r
+pub pattern_holds : {is_logged : Type 0} {e : Expr} {m m1 m2 : Interpreter} {k k2 : WorldState} {r : Result (Unit {0}) Halt} → Tests e m m1 (Ok true) → Executes is_logged (Print Nil) m1 k m2 k2 r → Tries is_logged (Pattern e) m k m2 k2 r
 unfolding try_item
-short_holds {is_logged = is_logged} {m1 = m1} {m2 = m2} {k = k} {k2 = k2} {r = r} p q = record { simulates = then_simulates _ (change_simulates p.tests.1.simulates) (subst (λ (b : Bool). Simulates is_logged m1 k m2 k2 r (run_if b (exec (Print Nil)))) p.tests.2 q.simulates) }
+pattern_holds {is_logged = is_logged} {m1 = m1} {m2 = m2} {k = k} {k2 = k2} {r = r} p q = record { simulates = then_simulates _ (change_simulates p.tests.1.simulates) (subst (λ (b : Bool). Simulates is_logged m1 k m2 k2 r (run_if b (exec (Print Nil)))) p.tests.2 q.simulates) }
 
-pub short_fails : {is_logged : Type 0} {e : Expr} {m m1 : Interpreter} {k : WorldState} → Tests e m m1 (Ok false) → Tries is_logged (Short e) m k m1 k (Ok tt)
+pub pattern_fails : {is_logged : Type 0} {e : Expr} {m m1 : Interpreter} {k : WorldState} → Tests e m m1 (Ok false) → Tries is_logged (Pattern e) m k m1 k (Ok tt)
 unfolding try_item
-short_fails {is_logged = is_logged} {m1 = m1} {k = k} p = record { simulates = then_simulates _ (change_simulates p.tests.1.simulates) (subst (λ (b : Bool). Simulates is_logged m1 k m1 k (Ok tt) (run_if b (exec (Print Nil)))) p.tests.2 (lift_simulates _ m1 k refl)) }
+pattern_fails {is_logged = is_logged} {m1 = m1} {k = k} p = record { simulates = then_simulates _ (change_simulates p.tests.1.simulates) (subst (λ (b : Bool). Simulates is_logged m1 k m1 k (Ok tt) (run_if b (exec (Print Nil)))) p.tests.2 (lift_simulates _ m1 k refl)) }
 
-pub always_tries : {is_logged : Type 0} {all : Statements} {m m1 : Interpreter} {k k1 : WorldState} {r : Result (Unit {0}) Halt} → ExecutesAll is_logged all m k m1 k1 r → Tries is_logged (Always all) m k m1 k1 r
+pub action_tries : {is_logged : Type 0} {all : Statements} {m m1 : Interpreter} {k k1 : WorldState} {r : Result (Unit {0}) Halt} → ExecutesAll is_logged all m k m1 k1 r → Tries is_logged (Action all) m k m1 k1 r
 unfolding try_item
-always_tries p = record { simulates = p.simulates }
+action_tries p = record { simulates = p.simulates }
 
-pub rule_halts : {is_logged : Type 0} {e : Expr} {all : Statements} {m m1 : Interpreter} {k : WorldState} {h : Halt} → Tests e m m1 (Err h) → Tries is_logged (Rule e all) m k m1 k (Err h)
+pub pattern_action_halts : {is_logged : Type 0} {e : Expr} {all : Statements} {m m1 : Interpreter} {k : WorldState} {h : Halt} → Tests e m m1 (Err h) → Tries is_logged (PatternAction e all) m k m1 k (Err h)
 unfolding try_item
-rule_halts p = record { simulates = ends_simulates _ (change_simulates p.tests.simulates) }
+pattern_action_halts p = record { simulates = ends_simulates _ (change_simulates p.tests.simulates) }
 
-pub rule_holds : {is_logged : Type 0} {e : Expr} {all : Statements} {m m1 m2 : Interpreter} {k k2 : WorldState} {r : Result (Unit {0}) Halt} → Tests e m m1 (Ok true) → ExecutesAll is_logged all m1 k m2 k2 r → Tries is_logged (Rule e all) m k m2 k2 r
+pub pattern_action_holds : {is_logged : Type 0} {e : Expr} {all : Statements} {m m1 m2 : Interpreter} {k k2 : WorldState} {r : Result (Unit {0}) Halt} → Tests e m m1 (Ok true) → ExecutesAll is_logged all m1 k m2 k2 r → Tries is_logged (PatternAction e all) m k m2 k2 r
 unfolding try_item
-rule_holds {is_logged = is_logged} {all = all} {m1 = m1} {m2 = m2} {k = k} {k2 = k2} {r = r} p q = record { simulates = then_simulates _ (change_simulates p.tests.1.simulates) (subst (λ (b : Bool). Simulates is_logged m1 k m2 k2 r (run_if b (exec_all all))) p.tests.2 q.simulates) }
+pattern_action_holds {is_logged = is_logged} {all = all} {m1 = m1} {m2 = m2} {k = k} {k2 = k2} {r = r} p q = record { simulates = then_simulates _ (change_simulates p.tests.1.simulates) (subst (λ (b : Bool). Simulates is_logged m1 k m2 k2 r (run_if b (exec_all all))) p.tests.2 q.simulates) }
 
-pub rule_fails : {is_logged : Type 0} {e : Expr} {all : Statements} {m m1 : Interpreter} {k : WorldState} → Tests e m m1 (Ok false) → Tries is_logged (Rule e all) m k m1 k (Ok tt)
+pub pattern_action_fails : {is_logged : Type 0} {e : Expr} {all : Statements} {m m1 : Interpreter} {k : WorldState} → Tests e m m1 (Ok false) → Tries is_logged (PatternAction e all) m k m1 k (Ok tt)
 unfolding try_item
-rule_fails {is_logged = is_logged} {all = all} {m1 = m1} {k = k} p = record { simulates = then_simulates _ (change_simulates p.tests.1.simulates) (subst (λ (b : Bool). Simulates is_logged m1 k m1 k (Ok tt) (run_if b (exec_all all))) p.tests.2 (lift_simulates _ m1 k refl)) }
+pattern_action_fails {is_logged = is_logged} {all = all} {m1 = m1} {k = k} p = record { simulates = then_simulates _ (change_simulates p.tests.1.simulates) (subst (λ (b : Bool). Simulates is_logged m1 k m1 k (Ok tt) (run_if b (exec_all all))) p.tests.2 (lift_simulates _ m1 k refl)) }
 
 pub items_end : {is_logged : Type 0} {m : Interpreter} {k : WorldState} → TriesAll is_logged [] m k m k (Ok tt)
 unfolding try_items
@@ -305,9 +305,9 @@ begin_runs p = record { simulates = p.simulates }
 pub begin_skips : {is_logged : Type 0} {x : Item} {m : Interpreter} {k : WorldState} → is_rule x ≡ true → BeginsItem is_logged x m k m k (Ok tt)
 unfolding begin_item
 begin_skips {x = Begin all} e = absurd (cc)
-begin_skips {x = Always all} {m = m} {k = k} e = record { simulates = lift_simulates _ m k refl }
-begin_skips {x = Short e1} {m = m} {k = k} e = record { simulates = lift_simulates _ m k refl }
-begin_skips {x = Rule e1 all} {m = m} {k = k} e = record { simulates = lift_simulates _ m k refl }
+begin_skips {x = Action all} {m = m} {k = k} e = record { simulates = lift_simulates _ m k refl }
+begin_skips {x = Pattern e1} {m = m} {k = k} e = record { simulates = lift_simulates _ m k refl }
+begin_skips {x = PatternAction e1 all} {m = m} {k = k} e = record { simulates = lift_simulates _ m k refl }
 
 pub begins_end : {is_logged : Type 0} {m : Interpreter} {k : WorldState} → BeginsAll is_logged [] m k m k (Ok tt)
 unfolding begin_items
@@ -386,9 +386,9 @@ row_of_statements n (more_of-Statement s rest) = ap (λ x. Then (statement_of s)
 -- what is no action before all records is a rule
 pub rule_of : (x : CodeItem) → ((block : Vec CodeStatement) → x ≡ items.Begin block → ⊥) → is_rule (item_of x) ≡ true
 rule_of (items.Begin block) other = absurd (other block refl)
-rule_of (items.Always block) other = refl
+rule_of (items.Action block) other = refl
 rule_of (items.Pattern e) other = refl
-rule_of (items.Rule e block) other = refl
+rule_of (items.PatternAction e block) other = refl
 
 -- assignments, from a place on
 

@@ -3,19 +3,19 @@ use Rattle.std.proofs.Common.{◌≡◌, ◌⊎◌, inl, inr, ℕ, ◌≤◌, Li
 use Rattle.std.proofs.lemmas.Bool.{cases_Bool}
 use Rattle.awk_lex.specs.declared.token.Kind.{Kind}
 use Rattle.awk_lex.specs.declared.refusal.Refusal.{Refusal}
-use Rattle.awk_lex.specs.declared.refusal.Code.{Code}
-use Rattle.awk_lex.specs.declared.refusal.Code.TheVariants.{UnexpectedByte, OpenString, OpenPattern, EscapeRefused, NumberRefused, ProgramTooLong, NotAProgram, NestedTooDeep, PatternIllFormed, PatternCountRefused, PatternTooLarge, ArrayAndScalar, NameLeftOut, OutOfMemory}
+use Rattle.awk_lex.specs.declared.refusal.RefusalCode.{RefusalCode}
+use Rattle.awk_lex.specs.declared.refusal.RefusalCode.TheVariants.{UnexpectedByte, OpenString, OpenPattern, EscapeRefused, NumberRefused, ProgramTooLong, NotAProgram, NestedTooDeep, PatternIllFormed, PatternCountRefused, PatternTooLarge, ArrayAndScalar, NameLeftOut, OutOfMemory}
 use Rattle.awk_lex.specs.Refused.{IsOutOfMemory}
 use Rattle.awk_lex.specs.Lexes.{Lexes}
 use Rattle.awk_lex.specs.Told.{Refuses, kinds_of}
 use Rattle.awk_lex.specs.declared.token.Token.{Token}
-use Rattle.awk_syntax.specs.Tree.{Item}
-use Rattle.awk_syntax.specs.Height.{height_of_program}
-use Rattle.awk_syntax.specs.Spelling.{IsProgram}
-use Rattle.awk_syntax.specs.Outcome.{Reads, IsLowProgram, RefusesPattern, Justifies}
+use Rattle.awk_tree.specs.Tree.{Item}
+use Rattle.awk_tree.specs.Height.{height_of_program}
+use Rattle.awk_tree.specs.Spelling.{IsProgram}
+use Rattle.awk_syntax.specs.Outcome.{Reads, IsProgramWithinHeight, RefusesPattern, Justifies}
 use Rattle.awk_syntax.specs.Patterns.{AreReadable, IsLeftmostRefused}
-use Rattle.awk_syntax.specs.View.{tree_of}
-use Rattle.awk_syntax.specs.declared.tree.Tree.{Tree}
+use Rattle.awk_tree.specs.View.{tree_of}
+use Rattle.awk_tree.specs.declared.tree.Tree.{Tree}
 use Rattle.awk_resolve.specs.Names.{uses_in, uses_left_out, scalar_names, array_names, are_apart, Fits}
 use Rattle.awk_resolve.specs.Names.{name_refusal}
 use Rattle.awk_run.specs.definitions.Accepted.{longest_text, greatest_height, IsSpelled, RefusesEre, HasBadEre, Accepted, RefusedFor}
@@ -24,7 +24,7 @@ use Rattle.awk_run.specs.support.Verdict.{ReadsOnly}
 -- the tree of a text
 
 -- what is read of the tokens is what the text spells
-pub spelled : (r : Result Tree Refusal) (text : List ℕ) (tokens : List Kind) → length text ≤ longest_text → Lexes tokens text → IfOk r (λ tree. IsLowProgram tokens (tree_of tree)) → OnOk r (AreReadable tokens) → IfOk r (λ tree. IsSpelled text (tree_of tree))
+pub spelled : (r : Result Tree Refusal) (text : List ℕ) (tokens : List Kind) → length text ≤ longest_text → Lexes tokens text → IfOk r (λ tree. IsProgramWithinHeight tokens (tree_of tree)) → OnOk r (AreReadable tokens) → IfOk r (λ tree. IsSpelled text (tree_of tree))
 spelled (Ok tree) text tokens short lexes found readable = record { tokens = tokens; has = record { short = short; lexes = lexes }; spells = found.0; low = found.1; readable = readable }
 spelled (Err refusal) text tokens short lexes found readable = tt
 
@@ -35,13 +35,13 @@ reads_only (Err refusal) items h = h
 -- what the text spells is read of its tokens
 pub only_spelled : (r : Result Tree Refusal) (text : List ℕ) (tokens : List Kind)
     → ((ts : List Kind) → Lexes ts text → length text ≤ longest_text → tokens ≡ ts)
-    → ((items : List Item) → IsLowProgram tokens items → AreReadable tokens → Reads r items)
+    → ((items : List Item) → IsProgramWithinHeight tokens items → AreReadable tokens → Reads r items)
     → (items : List Item) → IsSpelled text items → ReadsOnly r items
 only_spelled r text tokens one only items s =
     let same : s.tokens ≡ tokens = sym (one s.tokens s.has.lexes s.has.short) in
-    reads_only r items (only items (subst (λ ts. IsLowProgram ts items) same (s.spells, s.low)) (subst AreReadable same s.readable))
+    reads_only r items (only items (subst (λ ts. IsProgramWithinHeight ts items) same (s.spells, s.low)) (subst AreReadable same s.readable))
 
-refused_as : (code : Code) (text : List ℕ) → Refuses code text → RefusedFor code text
+refused_as : (code : RefusalCode) (text : List ℕ) → Refuses code text → RefusedFor code text
 refused_as ProgramTooLong text why = why
 refused_as UnexpectedByte text why = why
 refused_as OpenString text why = why
@@ -57,7 +57,7 @@ refused_as ArrayAndScalar text why = absurd why.1.fault
 refused_as NameLeftOut text why = absurd why.1.fault
 refused_as OutOfMemory text why = tt
 
-of_memory : (code : Code) (text : List ℕ) → code ≡ OutOfMemory → RefusedFor code text
+of_memory : (code : RefusalCode) (text : List ℕ) → code ≡ OutOfMemory → RefusedFor code text
 of_memory code text e = subst (λ c. RefusedFor c text) (sym e) tt
 
 pub lexing_refused : (refusal : Refusal) (text : List ℕ) → (IsOutOfMemory refusal ⊎ Refuses refusal.code text) → RefusedFor refusal.code text
@@ -69,7 +69,7 @@ kinds_append : (ts us : List Token) → kinds_of (ts ++ us) ≡ kinds_of ts ++ k
 kinds_append [] us = refl
 kinds_append (t ∷ ts) us = ap (λ l. t.kind ∷ l) (kinds_append ts us)
 
-refuses_ere : (code : Code) (line : ℕ) (tokens : List Token) → IsLeftmostRefused code line tokens → RefusesEre code (kinds_of tokens)
+refuses_ere : (code : RefusalCode) (line : ℕ) (tokens : List Token) → IsLeftmostRefused code line tokens → RefusesEre code (kinds_of tokens)
 refuses_ere code line tokens r = record {
   before = kinds_of r.before;
   ere = r.text;
@@ -82,11 +82,11 @@ refuses_ere code line tokens r = record {
 abbrev Refusing : List ℕ → List Token → Type 0
 Refusing text tokens = (length text ≤ longest_text) × Lexes (kinds_of tokens) text
 
-has_bad_ere : (code : Code) (line : ℕ) (text : List ℕ) (tokens : List Token) → Refusing text tokens → RefusesPattern code line tokens → HasBadEre code text
+has_bad_ere : (code : RefusalCode) (line : ℕ) (text : List ℕ) (tokens : List Token) → Refusing text tokens → RefusesPattern code line tokens → HasBadEre code text
 has_bad_ere code line text tokens h why =
     (kinds_of tokens, record { short = h.0; lexes = h.1 }, (why.0.0, why.0.1.0, why.0.1.1), refuses_ere code line tokens why.1)
 
-justified : (code : Code) (line : ℕ) (text : List ℕ) (tokens : List Token) → Refusing text tokens → Justifies code line tokens → RefusedFor code text
+justified : (code : RefusalCode) (line : ℕ) (text : List ℕ) (tokens : List Token) → Refusing text tokens → Justifies code line tokens → RefusedFor code text
 justified NotAProgram line text tokens h why = (kinds_of tokens, record { short = h.0; lexes = h.1 }, why)
 justified NestedTooDeep line text tokens h why = (kinds_of tokens, record { short = h.0; lexes = h.1 }, why)
 justified PatternIllFormed line text tokens h why = has_bad_ere PatternIllFormed line text tokens h why
@@ -128,7 +128,7 @@ fitting : (items : List Item) → Fits items → name_refusal items ≡ None
 fitting items f = rw (f.kept, f.apart) refl
 
 -- a text whose tree has names that are refused is no program
-pub none_accepted : (text : List ℕ) (items : List Item) (code : Code) → name_refusal items ≡ Some code → ((xs : List Item) → IsSpelled text xs → items ≡ xs) → (xs : List Item) → Accepted text xs → ⊥
+pub none_accepted : (text : List ℕ) (items : List Item) (code : RefusalCode) → name_refusal items ≡ Some code → ((xs : List Item) → IsSpelled text xs → items ≡ xs) → (xs : List Item) → Accepted text xs → ⊥
 none_accepted text items code e only xs a =
     let same : items ≡ xs = only xs (is_spelled a) in
     let none : name_refusal xs ≡ None = fitting xs a.fits in
@@ -136,7 +136,7 @@ none_accepted text items code e only xs a =
     let clash : None ≡ Some code = sym none ∙ some in
     cc
 
-pub names_refused : (text : List ℕ) (items : List Item) (code : Code) → IsSpelled text items → name_refusal items ≡ Some code → RefusedFor code text
+pub names_refused : (text : List ℕ) (items : List Item) (code : RefusalCode) → IsSpelled text items → name_refusal items ≡ Some code → RefusedFor code text
 names_refused text items code s e = elim (cases_Bool (uses_left_out (uses_in items))) [
   | inl bad ↦
       let is : name_refusal items ≡ Some NameLeftOut = rw bad refl in

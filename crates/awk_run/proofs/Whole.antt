@@ -6,7 +6,7 @@ use Rattle.awk_streams.specs.Oracle.{Oracle, IsConsistent, how_many, opens_input
 use Rattle.awk_streams.specs.Orderly.{IsOrderly, IsInOrder}
 use Rattle.awk_streams.specs.Writes.{received}
 use Rattle.awk_streams.specs.Streams.{StreamsView, AreOpen, AreSound, IsMainRest, IsSoundMain, IsOpenMain, Finishes}
-use Rattle.awk_syntax.specs.Tree.{Item}
+use Rattle.awk_tree.specs.Tree.{Item}
 use Rattle.awk_interpreter.specs.declared.interpreter.Interpreter.{Interpreter}
 use Rattle.awk_meaning.specs.declared.halt.Halt.{Halt}
 use Rattle.awk_meaning.specs.declared.halt.Halt.TheVariants as halt

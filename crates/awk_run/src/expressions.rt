@@ -1,15 +1,15 @@
 // The values of expressions.
 
 ghost use Rattle.std.specs.Prelude.{[], option_map};
-ghost use Rattle.awk_syntax.specs.View.{expr_of, exprs_of};
-ghost use Rattle.awk_syntax.specs.Tree.{Assign, Ere as Pattern};
+ghost use Rattle.awk_tree.specs.View.{expr_of, exprs_of};
+ghost use Rattle.awk_tree.specs.Tree.{Assign, Ere as Pattern};
 ghost use Rattle.awk_meaning.specs.Operators.{takes_pattern};
 ghost use Rattle.awk_run.specs.support.Evaluation.{IsPatternOperand, Evaluates, EvaluatesAll, Lists, Tests, viewed};
 
 use awk_interpreter::Interpreter;
 use awk_meaning::Halt;
 use awk_operators::{change, takes_pattern};
-use awk_syntax::tree::{BinaryOperator, Ere, Expr};
+use awk_tree::tree::{BinaryOperator, Ere, Expr};
 use awk_value::{Value, is_true};
 
 /// Whether the record has a match of a pattern that stands in the program, as 1 or 0.

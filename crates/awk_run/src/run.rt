@@ -2,8 +2,8 @@
 
 ghost use Rattle.std.specs.Prelude.{◌≡◌, ◌⊎◌, List, ℕ, map, IfOk, IfErr, OnErr};
 ghost use Rattle.awk_lex.specs.Refused.{IsOutOfMemory};
-ghost use Rattle.awk_syntax.specs.Tree.{Item as ItemTree};
-ghost use Rattle.awk_syntax.specs.View.{tree_of, items_of};
+ghost use Rattle.awk_tree.specs.Tree.{Item as ItemTree};
+ghost use Rattle.awk_tree.specs.View.{tree_of, items_of};
 ghost use Rattle.awk_run.specs.definitions.Accepted.{IsSpelled, Accepted, RefusedFor};
 ghost use Rattle.awk_run.specs.definitions.Start.{start_values, pair_of};
 ghost use Rattle.awk_streams.specs.Streams.{AreOpen, IsSoundMain};
@@ -20,7 +20,7 @@ use awk_meaning::{Fault, Halt, Outcome};
 use awk_resolve::name_refusal;
 use awk_streams::{StreamFault, World, some_oracle_is_consistent};
 use awk_syntax::parse::parse;
-use awk_syntax::tree::{Item, Tree};
+use awk_tree::tree::{Item, Tree};
 use std::alloc::Global;
 
 /// How a run ended: a failure of its end counts unless a fault came before it.

@@ -2,8 +2,8 @@
 
 ghost use Rattle.awk_streams.specs.Streams.{AreOpen, IsSoundMain};
 ghost use Rattle.std.specs.Prelude.{◌≡◌};
-ghost use Rattle.awk_syntax.specs.Tree.{Evaluate, Print, Short};
-ghost use Rattle.awk_syntax.specs.View.{expr_of, exprs_of, statement_of, statements_of, item_of, items_of};
+ghost use Rattle.awk_tree.specs.Tree.{Expression, Print, Pattern};
+ghost use Rattle.awk_tree.specs.View.{expr_of, exprs_of, statement_of, statements_of, item_of, items_of};
 ghost use Rattle.awk_run.specs.support.Evaluation.{Executes, ExecutesAll, Tries, TriesAll, BeginsItem, BeginsAll, ReadsAll, RunsItems};
 ghost use Rattle.awk_meaning.specs.Semantics.{is_rule, has_rule};
 
@@ -11,7 +11,7 @@ use crate::expressions::{eval, holds, printed_values};
 use awk_interpreter::Interpreter;
 use awk_meaning::Halt;
 use awk_streams::World;
-use awk_syntax::tree::{Expr, Item, Statement};
+use awk_tree::tree::{Expr, Item, Statement};
 
 /// Prints the values of a list, or without one the record (POSIX awk, Output Statements).
 fn print<W: World>(list: &[Expr], interpreter: &mut Interpreter, world: &mut W) -> Result<(), Halt>
@@ -25,7 +25,7 @@ fn print<W: World>(list: &[Expr], interpreter: &mut Interpreter, world: &mut W) 
 
 /// Evaluates an expression, whose value is of no use.
 fn evaluate<W: World>(e: &Expr, interpreter: &mut Interpreter, world: &mut W) -> Result<(), Halt>
-    ensures { Executes W.is_logged (Evaluate (expr_of e.now)) interpreter.old (W.state world.old)
+    ensures { Executes W.is_logged (Expression (expr_of e.now)) interpreter.old (W.state world.old)
         interpreter.new (W.state world.new) result }
 {
     interpreter.spend()?;
@@ -68,7 +68,7 @@ pub fn exec_all<W: World>(
 
 /// Prints the record at hand where an expression is true (POSIX awk, Patterns).
 fn try_pattern<W: World>(e: &Expr, interpreter: &mut Interpreter, world: &mut W) -> Result<(), Halt>
-    ensures { Tries W.is_logged (Short (expr_of e.now)) interpreter.old (W.state world.old) interpreter.new
+    ensures { Tries W.is_logged (Pattern (expr_of e.now)) interpreter.old (W.state world.old) interpreter.new
         (W.state world.new) result }
 {
     if holds(e, interpreter)? {
@@ -85,9 +85,9 @@ fn try_item<W: World>(item: &Item, interpreter: &mut Interpreter, world: &mut W)
 {
     match item {
         Item::Begin(_) => Ok(()),
-        Item::Always(block) => exec_all(block, interpreter, world),
+        Item::Action(block) => exec_all(block, interpreter, world),
         Item::Pattern(e) => try_pattern(e, interpreter, world),
-        Item::Rule(e, block) => {
+        Item::PatternAction(e, block) => {
             if holds(e, interpreter)? {
                 exec_all(block, interpreter, world)
             } else {

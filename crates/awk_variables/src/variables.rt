@@ -2,7 +2,7 @@
 ghost use Rattle.std.specs.Prelude.{◌≡◌, ◌↔◌, ℕ, List, true, false, IfOk, IfErr, OnOk, OnErr, Some, None, bytes_eq, if◌then◌else◌};
 ghost use Rattle.awk_value.specs.Values.{str_of};
 ghost use Rattle.awk_value.specs.declared.value.Value.TheVariants.{Nothing};
-ghost use Rattle.awk_text.specs.Separator.{separator_of};
+ghost use Rattle.awk_text.specs.Pieces.{separator_of};
 ghost use Rattle.awk_variables.specs.support.Storage.{kept_at};
 
 use crate::fault::VariableFault;
@@ -61,7 +61,7 @@ pub struct Variables {
 impl Model for Variables {
     ghost use Rattle.std.specs.Prelude.{◌≡◌, ◌++◌, Ok};
     ghost use Rattle.awk_value.specs.Values.{str_of};
-    ghost use Rattle.awk_text.specs.Separator.{separator_of};
+    ghost use Rattle.awk_text.specs.Pieces.{separator_of};
     ghost use Rattle.awk_variables.specs.definitions.Variables.{Pairs};
     ghost use Rattle.awk_variables.specs.support.Storage.{special_pairs, other_pairs, value_at};
     ghost use Rattle.awk_variables.specs.declared.special.Special.TheVariants.{Fs};

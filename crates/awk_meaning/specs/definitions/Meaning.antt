@@ -1,7 +1,7 @@
 -- The meaning of a program: its outcome, the bytes of each output, and what it demands of the outside.
 use Rattle.std.specs.Prelude.{◌≡◌, ◌≢◌, ℕ, ◌+◌, suc, List, [], ◌∷◌, ◌++◌, length, codes, Bool, true, false, None, Result, Ok, Err, if◌then◌else◌}
 use Rattle.awk_streams.specs.Oracle.{Oracle}
-use Rattle.awk_syntax.specs.Tree.{Item}
+use Rattle.awk_tree.specs.Tree.{Item}
 use Rattle.awk_meaning.specs.declared.outcome.Outcome.{Outcome}
 use Rattle.awk_meaning.specs.declared.outcome.Outcome.TheVariants.{Ended, Fault, Stopped}
 use Rattle.awk_meaning.specs.definitions.State.{Output, StandardOutput, StandardError, Request, TheEnd, Effect, Printed, Requested, State, Out, Run, ◌>>=◌, ret}

@@ -10,10 +10,10 @@ use Rattle.awk_value.specs.Values.{num_of, str_of, truth_of, order_of, number_va
 use Rattle.awk_ere.specs.Tree.{Tree}
 use Rattle.awk_ere.specs.Decided.{pattern_of, occurs}
 use Rattle.awk_record.specs.Record.{RecordPair, field_of}
-use Rattle.awk_syntax.specs.declared.tree.UnaryOperator.{UnaryOperator}
-use Rattle.awk_syntax.specs.declared.tree.UnaryOperator.TheVariants as unary
-use Rattle.awk_syntax.specs.declared.tree.BinaryOperator.{BinaryOperator}
-use Rattle.awk_syntax.specs.declared.tree.BinaryOperator.TheVariants.{Times, Divide, Remainder, Plus, Minus, Concatenate, Less, LessEqual, Equal, NotEqual, Greater, GreaterEqual, Matches, NotMatches}
+use Rattle.awk_tree.specs.declared.tree.UnaryOperator.{UnaryOperator}
+use Rattle.awk_tree.specs.declared.tree.UnaryOperator.TheVariants as unary
+use Rattle.awk_tree.specs.declared.tree.BinaryOperator.{BinaryOperator}
+use Rattle.awk_tree.specs.declared.tree.BinaryOperator.TheVariants.{Times, Divide, Remainder, Plus, Minus, Concatenate, Less, LessEqual, Equal, NotEqual, Greater, GreaterEqual, Matches, NotMatches}
 use Rattle.awk_meaning.specs.declared.fault.Fault.TheVariants.{PatternRefused}
 use Rattle.awk_meaning.specs.declared.halt.Halt.{Halt}
 use Rattle.awk_meaning.specs.declared.halt.Halt.TheVariants as halt

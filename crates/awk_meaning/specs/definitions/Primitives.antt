@@ -2,7 +2,7 @@
 use Rattle.std.specs.Prelude.{ℕ, zero, suc, ◌+◌, pos, ℤ, int_lt, Bool, true, false, ◌&&◌, List, [], ◌∷◌, length, slice_get, Option, Some, None, unwrap_or, Result, Ok, Err, codes, bytes_eq, if◌then◌else◌}
 use Rattle.awk_text.specs.declared.separator.Separator.{Separator}
 use Rattle.awk_text.specs.declared.fault.TextFault.{TextFault}
-use Rattle.awk_text.specs.Separator.{separator_of}
+use Rattle.awk_text.specs.Pieces.{separator_of}
 use Rattle.awk_value.specs.declared.value.Value.{Value}
 use Rattle.awk_value.specs.declared.value.Value.TheVariants.{Number, Input}
 use Rattle.awk_value.specs.declared.fault.ValueFault.{ValueFault}

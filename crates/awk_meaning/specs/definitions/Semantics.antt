@@ -3,8 +3,8 @@ use Rattle.std.specs.Prelude.{ℕ, zero, suc, Bool, true, false, ◌||◌, List,
 use Rattle.awk_value.specs.declared.value.Value.{Value}
 use Rattle.awk_value.specs.declared.value.Value.TheVariants as value
 use Rattle.awk_value.specs.Values.{truth_of}
-use Rattle.awk_syntax.specs.Tree.{Expr, Number, String, Ere, Name, Group, Field, Unary, Binary, Assign, Exprs, Nil, Cons, Statement, Block, Evaluate, Print, Statements, NoMore, Then, Item, Begin, Always, Short, Rule}
-use Rattle.awk_syntax.specs.declared.tree.BinaryOperator.TheVariants.{Matches}
+use Rattle.awk_tree.specs.Tree.{Expr, Number, String, Ere, Name, Group, Field, Unary, Binary, Assign, Exprs, Nil, Cons, Statement, Block, Expression, Print, Statements, NoMore, Then, Item, Begin, Action, Pattern, PatternAction}
+use Rattle.awk_tree.specs.declared.tree.BinaryOperator.TheVariants.{Matches}
 use Rattle.awk_meaning.specs.declared.halt.Halt.TheVariants as halt
 use Rattle.awk_meaning.specs.definitions.State.{Run, ◌>>=◌, lift, ret}
 use Rattle.awk_variables.specs.declared.special.Special.TheVariants.{Nr, Fnr}
@@ -44,7 +44,7 @@ printed_values (Cons e es) = eval_all [] (Cons e es)
 unfoldable mutual
   pub exec : Statement → Run (Unit {0})
   exec (Block all) = exec_all all
-  exec (Evaluate e) = spend >>= λ _. eval e >>= λ v. ret tt
+  exec (Expression e) = spend >>= λ _. eval e >>= λ v. ret tt
   exec (Print list) = spend >>= λ _. printed_values list >>= λ vs. print_line vs
 
   pub exec_all : Statements → Run (Unit {0})
@@ -58,9 +58,9 @@ run_if false action = ret tt
 -- an item on a record; a pattern without an action prints the record
 unfoldable pub try_item : Item → Run (Unit {0})
 try_item (Begin block) = ret tt
-try_item (Always block) = exec_all block
-try_item (Short e) = eval e >>= λ v. run_if (truth_of v) (exec (Print Nil))
-try_item (Rule e block) = eval e >>= λ v. run_if (truth_of v) (exec_all block)
+try_item (Action block) = exec_all block
+try_item (Pattern e) = eval e >>= λ v. run_if (truth_of v) (exec (Print Nil))
+try_item (PatternAction e block) = eval e >>= λ v. run_if (truth_of v) (exec_all block)
 
 unfoldable pub try_items : List Item → Run (Unit {0})
 try_items [] = ret tt

@@ -1,10 +1,10 @@
 -- The names of a program: over all of it each is an array or a scalar
 -- (POSIX awk, Variables and Special Variables).
 use Rattle.std.specs.Prelude.{ℕ, Bool, true, false, ◌&&◌, ◌||◌, not, ◌≡◌, List, [], ◌∷◌, ◌++◌, map, filter, codes, bytes_eq, Option, Some, None, if◌then◌else◌}
-use Rattle.awk_lex.specs.declared.refusal.Code.{Code}
-use Rattle.awk_lex.specs.declared.refusal.Code.TheVariants.{ArrayAndScalar, NameLeftOut}
+use Rattle.awk_lex.specs.declared.refusal.RefusalCode.{RefusalCode}
+use Rattle.awk_lex.specs.declared.refusal.RefusalCode.TheVariants.{ArrayAndScalar, NameLeftOut}
 use Rattle.awk_lex.specs.Words.{is_left_out}
-use Rattle.awk_syntax.specs.Tree.{Expr, Number, String, Ere, Name, Group, Field, Unary, Binary, Assign, Exprs, Nil, Cons, Statement, Block, Evaluate, Print, Statements, NoMore, Then, Item, Begin, Always, Short, Rule}
+use Rattle.awk_tree.specs.Tree.{Expr, Number, String, Ere, Name, Group, Field, Unary, Binary, Assign, Exprs, Nil, Cons, Statement, Block, Expression, Print, Statements, NoMore, Then, Item, Begin, Action, Pattern, PatternAction}
 
 -- a name, and whether it is used as an array there or as a scalar
 pub record Use : Type 0 where
@@ -34,7 +34,7 @@ uses_in_list (Cons e es) = uses_in_expr e ++ uses_in_list es
 abbrev mutual
   pub uses_in_statement : Statement → List Use
   uses_in_statement (Block all) = uses_in_block all
-  uses_in_statement (Evaluate e) = uses_in_expr e
+  uses_in_statement (Expression e) = uses_in_expr e
   uses_in_statement (Print list) = uses_in_list list
 
   pub uses_in_block : Statements → List Use
@@ -43,9 +43,9 @@ abbrev mutual
 
 abbrev pub uses_in_item : Item → List Use
 uses_in_item (Begin block) = uses_in_block block
-uses_in_item (Always block) = uses_in_block block
-uses_in_item (Short e) = uses_in_expr e
-uses_in_item (Rule e block) = uses_in_expr e ++ uses_in_block block
+uses_in_item (Action block) = uses_in_block block
+uses_in_item (Pattern e) = uses_in_expr e
+uses_in_item (PatternAction e block) = uses_in_expr e ++ uses_in_block block
 
 abbrev pub uses_in : List Item → List Use
 uses_in [] = []
@@ -85,7 +85,7 @@ pub record Fits (items : List Item) : Type 0 where
   pub apart : are_apart (scalar_names items) (array_names items) ≡ true
 
 -- why the names of a program are refused: the first cause that holds
-abbrev pub name_refusal : List Item → Option Code
+abbrev pub name_refusal : List Item → Option RefusalCode
 name_refusal items =
     if uses_left_out (uses_in items) then Some NameLeftOut
     else (if are_apart (scalar_names items) (array_names items) then None else Some ArrayAndScalar)

@@ -2,12 +2,12 @@
 use Rattle.std.specs.Prelude.{◌≡◌, ◌≤◌, ◌<◌, ℕ, true, false, List, ◌∷◌, ◌++◌, length}
 use Rattle.awk_lex.specs.declared.token.Kind.{Kind}
 use Rattle.awk_lex.specs.declared.token.Kind.TheVariants.{Ere}
-use Rattle.awk_lex.specs.declared.refusal.Code.{Code}
-use Rattle.awk_lex.specs.declared.refusal.Code.TheVariants.{UnexpectedByte, OpenString, OpenPattern, EscapeRefused, NumberRefused, ProgramTooLong, NotAProgram, NestedTooDeep, PatternIllFormed, PatternCountRefused, PatternTooLarge, ArrayAndScalar, NameLeftOut, OutOfMemory}
+use Rattle.awk_lex.specs.declared.refusal.RefusalCode.{RefusalCode}
+use Rattle.awk_lex.specs.declared.refusal.RefusalCode.TheVariants.{UnexpectedByte, OpenString, OpenPattern, EscapeRefused, NumberRefused, ProgramTooLong, NotAProgram, NestedTooDeep, PatternIllFormed, PatternCountRefused, PatternTooLarge, ArrayAndScalar, NameLeftOut, OutOfMemory}
 use Rattle.awk_lex.specs.Lexes.{Lexes, Breaks}
-use Rattle.awk_syntax.specs.Tree.{Item}
-use Rattle.awk_syntax.specs.Height.{height_of_program}
-use Rattle.awk_syntax.specs.Spelling.{IsProgram}
+use Rattle.awk_tree.specs.Tree.{Item}
+use Rattle.awk_tree.specs.Height.{height_of_program}
+use Rattle.awk_tree.specs.Spelling.{IsProgram}
 use Rattle.awk_syntax.specs.Patterns.{AreReadable, PatternFails}
 use Rattle.awk_resolve.specs.Names.{uses_in, uses_left_out, scalar_names, array_names, are_apart, Fits}
 
@@ -42,7 +42,7 @@ pub record IsSpelled (text : List ℕ) (items : List Item) : Type 0 where
   pub readable : AreReadable tokens
 
 -- the leftmost ERE that is no pattern is refused so
-pub record RefusesEre (code : Code) (tokens : List Kind) : Type 0 where
+pub record RefusesEre (code : RefusalCode) (tokens : List Kind) : Type 0 where
   pub before : List Kind
   pub ere : List ℕ
   pub after : List Kind
@@ -51,13 +51,13 @@ pub record RefusesEre (code : Code) (tokens : List Kind) : Type 0 where
   pub fails : PatternFails code ere
 
 -- the text is a program but for its EREs and its names, and an ERE is refused
-abbrev pub HasBadEre : Code → List ℕ → Type 0
+abbrev pub HasBadEre : RefusalCode → List ℕ → Type 0
 HasBadEre code text =
     (tokens : List Kind) × HasTokens text tokens
     × ((items : List Item) × IsProgram tokens items × (height_of_program items ≤ greatest_height)) × RefusesEre code tokens
 
 -- why a text is refused with this code: the first of these that holds
-abbrev pub RefusedFor : Code → List ℕ → Type 0
+abbrev pub RefusedFor : RefusalCode → List ℕ → Type 0
 RefusedFor ProgramTooLong text = longest_text < length text
 RefusedFor UnexpectedByte text = (length text ≤ longest_text) × Breaks UnexpectedByte text
 RefusedFor OpenString text = (length text ≤ longest_text) × Breaks OpenString text

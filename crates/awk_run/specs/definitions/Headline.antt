@@ -4,7 +4,7 @@ use Rattle.awk_lex.specs.declared.refusal.Refusal.{Refusal}
 use Rattle.awk_lex.specs.Refused.{IsOutOfMemory}
 use Rattle.awk_streams.specs.Oracle.{Oracle, IsConsistent}
 use Rattle.awk_streams.specs.Writes.{received}
-use Rattle.awk_syntax.specs.Tree.{Item}
+use Rattle.awk_tree.specs.Tree.{Item}
 use Rattle.awk_meaning.specs.declared.outcome.Outcome.{Outcome}
 use Rattle.awk_meaning.specs.declared.outcome.Outcome.TheVariants.{Fault}
 use Rattle.awk_meaning.specs.declared.fault.Fault.TheVariants.{OutOfMemory}

@@ -3,7 +3,7 @@ use Rattle.std.specs.Prelude.{◌≡◌, ℕ, ◌≤◌, Bool, true, List, Optio
 use Rattle.awk_value.specs.declared.value.Value.{Value}
 use Rattle.awk_value.specs.Values.{truth_of}
 use Rattle.awk_streams.specs.WorldState.{WorldState}
-use Rattle.awk_syntax.specs.Tree.{Expr, Ere, Exprs, Statement, Statements, Item}
+use Rattle.awk_tree.specs.Tree.{Expr, Ere, Exprs, Statement, Statements, Item}
 use Rattle.awk_meaning.specs.declared.halt.Halt.{Halt}
 use Rattle.awk_meaning.specs.State.{Run}
 use Rattle.awk_meaning.specs.Semantics.{right_operand, eval, eval_all, printed_values, exec, exec_all, try_item, try_items, each_record, run_records, begin_item, begin_items, run_items}

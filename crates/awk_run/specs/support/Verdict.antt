@@ -3,9 +3,9 @@ use Rattle.std.specs.Prelude.{◌≡◌, ℕ, List, Result, Ok, Err}
 use Rattle.awk_lex.specs.declared.refusal.Refusal.{Refusal}
 use Rattle.awk_lex.specs.Refused.{IsOutOfMemory}
 use Rattle.awk_streams.specs.declared.fault.StreamFault.{StreamFault}
-use Rattle.awk_syntax.specs.Tree.{Item}
-use Rattle.awk_syntax.specs.View.{tree_of}
-use Rattle.awk_syntax.specs.declared.tree.Tree.{Tree}
+use Rattle.awk_tree.specs.Tree.{Item}
+use Rattle.awk_tree.specs.View.{tree_of}
+use Rattle.awk_tree.specs.declared.tree.Tree.{Tree}
 use Rattle.awk_meaning.specs.declared.halt.Halt.{Halt}
 use Rattle.awk_meaning.specs.declared.halt.Halt.TheVariants as halt
 use Rattle.awk_meaning.specs.declared.outcome.Outcome.{Outcome}

@@ -1,5 +1,5 @@
 use Rattle.std.proofs.Common.{sym}
-use Rattle.awk_syntax.specs.View.{items_of}
+use Rattle.awk_tree.specs.View.{items_of}
 use Rattle.awk_resolve.proofs.Uses.{refuses_array, refuses_none}
 use Rattle.awk_resolve.proofs.names.name_refusal.Goals as goal
 

@@ -1,6 +1,6 @@
 use Rattle.std.proofs.Common.{List, [], drop, Result}
 use Rattle.awk_value.specs.declared.value.Value.{Value}
-use Rattle.awk_syntax.specs.View.{exprs_of}
+use Rattle.awk_tree.specs.View.{exprs_of}
 use Rattle.awk_meaning.specs.declared.halt.Halt.{Halt}
 use Rattle.awk_interpreter.specs.declared.interpreter.Interpreter.{Interpreter}
 use Rattle.awk_run.specs.support.Evaluation.{EvaluatesAll}

@@ -1,5 +1,5 @@
 use Rattle.std.proofs.Common.{sym, ap, ◌∙◌}
-use Rattle.awk_syntax.specs.View.{tree_of, items_of}
+use Rattle.awk_tree.specs.View.{tree_of, items_of}
 use Rattle.awk_resolve.specs.Names.{name_refusal}
 use Rattle.awk_run.proofs.Programs.{accepts, is_spelled, none_accepted, names_refused}
 use Rattle.awk_run.proofs.run.read_program.Goals as goal

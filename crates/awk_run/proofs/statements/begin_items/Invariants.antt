@@ -1,5 +1,5 @@
 use Rattle.std.proofs.Common.{drop, Result}
-use Rattle.awk_syntax.specs.View.{items_of}
+use Rattle.awk_tree.specs.View.{items_of}
 use Rattle.awk_interpreter.specs.declared.interpreter.Interpreter.{Interpreter}
 use Rattle.awk_meaning.specs.declared.halt.Halt.{Halt}
 use Rattle.awk_streams.specs.WorldState.{WorldState}

@@ -1,5 +1,5 @@
 use Rattle.std.proofs.Common.{ap}
-use Rattle.awk_syntax.specs.View.{expr_of}
+use Rattle.awk_tree.specs.View.{expr_of}
 use Rattle.awk_resolve.proofs.Uses.{adds_both}
 use Rattle.awk_resolve.proofs.names.Misuse.+add_expr.Goals as goal
 

@@ -1,5 +1,5 @@
 use Rattle.std.proofs.Common.{drop}
-use Rattle.awk_syntax.specs.View.{statements_of}
+use Rattle.awk_tree.specs.View.{statements_of}
 use Rattle.awk_resolve.specs.definitions.Names.{uses_in_block}
 use Rattle.awk_resolve.specs.support.Misuse.{Adds}
 use Rattle.awk_resolve.specs.declared.names.Misuse.{Misuse}

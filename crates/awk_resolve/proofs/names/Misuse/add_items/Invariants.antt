@@ -1,5 +1,5 @@
 use Rattle.std.proofs.Common.{drop}
-use Rattle.awk_syntax.specs.View.{items_of}
+use Rattle.awk_tree.specs.View.{items_of}
 use Rattle.awk_resolve.specs.definitions.Names.{uses_in}
 use Rattle.awk_resolve.specs.support.Misuse.{Adds}
 use Rattle.awk_resolve.specs.declared.names.Misuse.{Misuse}

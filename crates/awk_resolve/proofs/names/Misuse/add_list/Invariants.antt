@@ -1,5 +1,5 @@
 use Rattle.std.proofs.Common.{drop}
-use Rattle.awk_syntax.specs.View.{exprs_of}
+use Rattle.awk_tree.specs.View.{exprs_of}
 use Rattle.awk_resolve.specs.definitions.Names.{uses_in_list}
 use Rattle.awk_resolve.specs.support.Misuse.{Adds}
 use Rattle.awk_resolve.specs.declared.names.Misuse.{Misuse}
