@@ -1,4 +1,4 @@
--- What the words that touch the code's own state alone do to it.
+-- What the primitives that touch the code's own state alone do to it.
 use Rattle.std.proofs.Common.{◌≡◌, ℕ, ℤ, pos, suc, Bool, true, false, List, [], Option, Some, None, Result, Ok, Err, IfOk, IfErr, OnErr, ◌⊎◌, inl, inr, length, unwrap_or, slice_get, int_lt, refl, sym, ap, ◌∙◌, subst, arith}
 use Rattle.std.specs.Prelude.{codes, bytes_eq, if◌then◌else◌, IfSome, IfNone}
 use Rattle.awk_text.specs.declared.separator.Separator.{Separator}
@@ -135,9 +135,9 @@ pub input_begins : (name : List ℕ) {old mid later new : Interpreter} {r : Resu
 unfolding begin_input
 input_begins name p q r = then_changes _ p (then_changes _ q r)
 
-pub served_changes : {old new : Interpreter} → new.current ≡ old.current → new.variables ≡ old.variables → new.arguments.words ≡ old.arguments.words → new.arguments.next ≡ old.arguments.next → new.arguments.input_seen ≡ true → new.streams ≡ old.streams → new.steps ≡ old.steps → Changes note_input old new (Ok tt)
+pub input_changes : {old new : Interpreter} → new.current ≡ old.current → new.variables ≡ old.variables → new.arguments.words ≡ old.arguments.words → new.arguments.next ≡ old.arguments.next → new.arguments.input_seen ≡ true → new.streams ≡ old.streams → new.steps ≡ old.steps → Changes note_input old new (Ok tt)
 unfolding note_input
-served_changes {old = old} {new = new} current variables words next input_seen streams steps =
+input_changes {old = old} {new = new} current variables words next input_seen streams steps =
     own_changes _ streams (omega (arith, steps)) (λ s h. record {
       result = Ok tt;
       state = record s { input_seen = true };
@@ -298,9 +298,9 @@ argument_takes old (Ok found) count is words input_seen none some word next stil
 argument_takes old (Err h) count is words input_seen none some word next still err fault same =
     argument_not_taken old h (rw is at fault) words err input_seen same
 
-pub served_changes_nothing : (m : Interpreter) → Changes is_input_seen m m (Ok m.arguments.input_seen)
+pub input_changes_nothing : (m : Interpreter) → Changes is_input_seen m m (Ok m.arguments.input_seen)
 unfolding is_input_seen
-served_changes_nothing m = reads_changes _ (λ s. Ok s.input_seen) (λ s. refl) (still m) (λ s h. ap (λ b. Ok b) h.input_seen)
+input_changes_nothing m = reads_changes _ (λ s. Ok s.input_seen) (λ s. refl) (still m) (λ s h. ap (λ b. Ok b) h.input_seen)
 
 -- beginning a record
 

@@ -1,4 +1,4 @@
 pub mod Changes
 pub mod Composition
-pub mod Outside
-pub mod Seeking
+pub mod WorldCalls
+pub mod Seeks

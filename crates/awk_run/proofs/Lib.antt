@@ -1,3 +1,3 @@
-mod Forms
-mod Programs
-mod Whole
+mod Accepted
+mod Evaluation
+mod RunsFrom

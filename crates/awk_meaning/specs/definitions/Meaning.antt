@@ -1,4 +1,4 @@
--- The meaning of a program: its outcome, the bytes of each output, and what it demands of the outside.
+-- The meaning of a program: its outcome, the bytes of each output, and what it requests of the outside.
 use Rattle.std.specs.Prelude.{◌≡◌, ◌≢◌, ℕ, ◌+◌, suc, List, [], ◌∷◌, ◌++◌, length, codes, Bool, true, false, None, Result, Ok, Err, if◌then◌else◌}
 use Rattle.awk_streams.specs.Oracle.{Oracle}
 use Rattle.awk_tree.specs.Tree.{Item}

@@ -33,7 +33,7 @@ pub record Runs (items : List Item) (start : StartValues) (limit : ℕ) (world :
   pub standard_error : IsUndisturbed world result → (oracle : Oracle) → IsConsistent oracle world.log → received 1 world.log ≡ (meaning_of items start oracle limit).printed StandardError
 
 -- A text is refused for a cause other than memory exactly where it is no program, by the first cause that
--- holds; else its one program was run, from a world that tells what was done in it.
+-- holds; else its one program was run, from a world that is logged.
 pub record Executed (is_logged : Type 0) (text : List ℕ) (start : StartValues) (limit : ℕ) (before after : WorldState) (result : Result Outcome Refusal) : Type 0 where
   pub cause : IfErr result (λ refusal. RefusedFor refusal.code text)
   pub refused : IfErr result (λ refusal. (IsOutOfMemory refusal → ⊥) → (items : List Item) → Accepted text items → ⊥)

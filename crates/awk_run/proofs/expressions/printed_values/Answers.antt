@@ -1,6 +1,6 @@
 use Rattle.std.proofs.Common.{sym, ◌∙◌}
 use Rattle.std.proofs.lemmas.Result.{err_from_is_err_and}
-use Rattle.awk_run.proofs.Forms.{list_of_some, list_of_text, list_text_ends, list_text_full, exprs_of_none}
+use Rattle.awk_run.proofs.Evaluation.{list_of_some, list_of_text, list_text_ends, list_text_full, exprs_of_none}
 use Rattle.awk_run.proofs.expressions.printed_values.Goals as goal
 
 pub returns-then-not-is_empty : goal.returns-then-not-is_empty

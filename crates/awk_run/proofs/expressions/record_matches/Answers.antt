@@ -1,5 +1,5 @@
 use Rattle.std.proofs.lemmas.Result.{err_from_is_err_and}
-use Rattle.awk_run.proofs.Forms.{ere_ends, ere_gives}
+use Rattle.awk_run.proofs.Evaluation.{ere_ends, ere_gives}
 use Rattle.awk_run.proofs.expressions.record_matches.Goals as goal
 
 pub returns-in_err-record : goal.returns-in_err-record

@@ -1,5 +1,5 @@
 use Rattle.std.proofs.lemmas.Result.{err_from_is_err_and}
-use Rattle.awk_run.proofs.Programs.{spelled, only_spelled, lexing_refused, parsing_refused}
+use Rattle.awk_run.proofs.Accepted.{spelled, only_spelled, lexing_refused, parsing_refused}
 use Rattle.awk_run.proofs.run.parse_text.Goals as goal
 
 pub returns-clause-spelled : goal.returns-clause-spelled

@@ -1,7 +1,7 @@
 use Rattle.std.proofs.Common.{sym, ap, ◌∙◌}
 use Rattle.awk_tree.specs.View.{tree_of, items_of}
 use Rattle.awk_resolve.specs.Names.{name_refusal}
-use Rattle.awk_run.proofs.Programs.{accepts, is_spelled, none_accepted, names_refused}
+use Rattle.awk_run.proofs.Accepted.{accepts, is_spelled, none_accepted, names_refused}
 use Rattle.awk_run.proofs.run.read_program.Goals as goal
 
 pub returns-in-None-clause-accepted : goal.returns-in-None-clause-accepted

@@ -1,4 +1,4 @@
-use Rattle.awk_run.proofs.Whole.{runs_from}
+use Rattle.awk_run.proofs.RunsFrom.{runs_from}
 use Rattle.awk_run.proofs.run.run_program.Goals as goal
 
 pub returns : goal.returns

@@ -1,5 +1,5 @@
 use Rattle.std.proofs.lemmas.Result.{err_from_is_err_and}
-use Rattle.awk_run.proofs.Forms.{expression_stops, expression_ends, expression_executes}
+use Rattle.awk_run.proofs.Evaluation.{expression_stops, expression_ends, expression_executes}
 use Rattle.awk_run.proofs.statements.evaluate.Goals as goal
 
 pub returns-in_err-spend : goal.returns-in_err-spend

@@ -1,5 +1,5 @@
 use Rattle.std.proofs.lemmas.Result.{err_from_is_err_and}
-use Rattle.awk_run.proofs.Forms.{print_stops, print_ends, print_shows}
+use Rattle.awk_run.proofs.Evaluation.{print_stops, print_ends, print_shows}
 use Rattle.awk_run.proofs.statements.print.Goals as goal
 
 pub returns-in_err-spend : goal.returns-in_err-spend

@@ -1,7 +1,7 @@
 use Rattle.std.proofs.Common.{ap}
 use Rattle.std.proofs.lemmas.Result.{err_from_is_err_and}
 use Rattle.awk_tree.specs.View.{item_of}
-use Rattle.awk_run.proofs.Forms.{begin_tries, action_tries, pattern_action_halts, pattern_action_holds, pattern_action_fails}
+use Rattle.awk_run.proofs.Evaluation.{begin_tries, action_tries, pattern_action_halts, pattern_action_holds, pattern_action_fails}
 use Rattle.awk_run.proofs.statements.try_item.Goals as goal
 
 pub returns-in-Action : goal.returns-in-Action

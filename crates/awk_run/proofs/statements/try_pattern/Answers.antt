@@ -1,5 +1,5 @@
 use Rattle.std.proofs.lemmas.Result.{err_from_is_err_and}
-use Rattle.awk_run.proofs.Forms.{pattern_halts, pattern_holds, pattern_fails}
+use Rattle.awk_run.proofs.Evaluation.{pattern_halts, pattern_holds, pattern_fails}
 use Rattle.awk_run.proofs.statements.try_pattern.Goals as goal
 
 pub returns-in_err-holds : goal.returns-in_err-holds

@@ -1,5 +1,5 @@
 use Rattle.std.proofs.Common.{refl}
-use Rattle.awk_interpreter.proofs.Outside.{closes_simulates}
+use Rattle.awk_interpreter.proofs.WorldCalls.{closes_simulates}
 use Rattle.awk_interpreter.proofs.interpreter.Interpreter.close_main.Goals as goal
 
 pub returns : goal.returns

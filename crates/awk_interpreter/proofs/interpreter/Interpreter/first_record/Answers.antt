@@ -1,5 +1,5 @@
 use Rattle.std.proofs.lemmas.Result.{err_from_is_err_and}
-use Rattle.awk_interpreter.proofs.Seeking.{first_unopened, first_unnamed, first_seeks}
+use Rattle.awk_interpreter.proofs.Seeks.{first_unopened, first_unnamed, first_seeks}
 use Rattle.awk_interpreter.proofs.interpreter.Interpreter.first_record.Goals as goal
 
 pub returns-in_err-open_main : goal.returns-in_err-open_main

@@ -1,5 +1,5 @@
 use Rattle.std.proofs.lemmas.Result.{err_from_is_err_and}
-use Rattle.awk_interpreter.proofs.Seeking.{main_ends, main_gives, main_closes}
+use Rattle.awk_interpreter.proofs.Seeks.{main_ends, main_gives, main_closes}
 use Rattle.awk_interpreter.proofs.interpreter.Interpreter.main_record.Goals as goal
 
 pub returns-in_err-text : goal.returns-in_err-text

@@ -1,5 +1,5 @@
 use Rattle.std.proofs.lemmas.Result.{err_from_is_err_and}
-use Rattle.awk_interpreter.proofs.Seeking.{next_ends, next_gives, next_seeks}
+use Rattle.awk_interpreter.proofs.Seeks.{next_ends, next_gives, next_seeks}
 use Rattle.awk_interpreter.proofs.interpreter.Interpreter.next_record.Goals as goal
 
 pub returns-in_err-text : goal.returns-in_err-text

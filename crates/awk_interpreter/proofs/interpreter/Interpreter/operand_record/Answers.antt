@@ -1,6 +1,6 @@
 use Rattle.std.proofs.Common.{add-one}
 use Rattle.std.proofs.lemmas.Result.{err_from_is_err_and}
-use Rattle.awk_interpreter.proofs.Seeking.{nothing_seeks, assignment_ends, assignment_seeks, standard_seeks, file_seeks, slice_rest}
+use Rattle.awk_interpreter.proofs.Seeks.{nothing_seeks, assignment_ends, assignment_seeks, standard_seeks, file_seeks, slice_rest}
 use Rattle.awk_interpreter.proofs.interpreter.Interpreter.operand_record.Goals as goal
 
 pub returns-in-Nothing : goal.returns-in-Nothing

@@ -1,10 +1,10 @@
 use Rattle.std.proofs.lemmas.Result.{err_from_is_err_and}
 use Rattle.awk_interpreter.proofs.Composition.{memory_simulates}
-use Rattle.awk_interpreter.proofs.Seeking.{want_served, want_unnamed, want_seeks}
+use Rattle.awk_interpreter.proofs.Seeks.{want_seen, want_unnamed, want_seeks}
 use Rattle.awk_interpreter.proofs.interpreter.Interpreter.standard_record.Goals as goal
 
 pub returns-then-self : goal.returns-then-self
-returns-then-self g c = want_served c.if-self.true c.requires.none
+returns-then-self g c = want_seen c.if-self.true c.requires.none
 
 pub returns-in_err-name : goal.returns-in_err-name
 returns-in_err-name g c =

@@ -1,7 +1,7 @@
 use Rattle.std.proofs.Common.{refl, sym, ap, ◌∙◌}
 use Rattle.std.proofs.lemmas.Result.{err_from_is_err_and}
 use Rattle.awk_value.specs.Values.{str_of}
-use Rattle.awk_interpreter.proofs.Outside.{asks_simulates, takes_none, takes_refused, none_of, empty_of, full_of}
+use Rattle.awk_interpreter.proofs.WorldCalls.{asks_simulates, takes_none, takes_refused, none_of, empty_of, full_of}
 use Rattle.awk_interpreter.proofs.interpreter.Interpreter.take_record.Goals as goal
 
 pub returns-then-not-has_main : goal.returns-then-not-has_main

@@ -16,7 +16,7 @@ use Rattle.awk_streams.specs.WorldState.{WorldState}
 use Rattle.awk_interpreter.specs.support.Simulation.{Simulates, Changes, Spends, Follows, ClosesMainInput, OpensMainInput, ClosedUnless, Seeks, SearchesOn}
 use Rattle.awk_meaning.specs.Results.{Yields}
 use Rattle.awk_interpreter.proofs.Composition.{then_changes, ends_changes, lift_changes, then_simulates, ends_simulates, lift_simulates, change_simulates}
-use Rattle.awk_interpreter.proofs.Changes.{served_changes_nothing}
+use Rattle.awk_interpreter.proofs.Changes.{input_changes_nothing}
 
 -- assignments on the command line
 
@@ -84,11 +84,11 @@ file_seeks word e p = record { simulates = by_argument word _ e p.simulates; clo
 -- standard input for want of a file
 
 served_is : {m : Interpreter} {b : Bool} → m.arguments.input_seen ≡ b → Changes is_input_seen m m (Ok b)
-served_is {m = m} {b = b} e = subst (λ x. Changes is_input_seen m m (Ok x)) e (served_changes_nothing m)
+served_is {m = m} {b = b} e = subst (λ x. Changes is_input_seen m m (Ok x)) e (input_changes_nothing m)
 
-pub want_served : {is_logged : Type 0} {m : Interpreter} {k : WorldState} → m.arguments.input_seen ≡ true → m.streams.main ≡ None → Seeks is_logged standard_record m k m k (Ok None)
+pub want_seen : {is_logged : Type 0} {m : Interpreter} {k : WorldState} → m.arguments.input_seen ≡ true → m.streams.main ≡ None → Seeks is_logged standard_record m k m k (Ok None)
 unfolding standard_record
-want_served {m = m} {k = k} e none = record { simulates = then_simulates _ (change_simulates (served_is e)) (lift_simulates _ m k refl); closed = none }
+want_seen {m = m} {k = k} e none = record { simulates = then_simulates _ (change_simulates (served_is e)) (lift_simulates _ m k refl); closed = none }
 
 pub want_unnamed : {is_logged : Type 0} {m : Interpreter} {k : WorldState} {h : Halt} → Simulates is_logged m k m k (Err h) standard_record → Seeks is_logged standard_record m k m k (Err h)
 want_unnamed p = record { simulates = p; closed = tt }

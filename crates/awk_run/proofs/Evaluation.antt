@@ -349,13 +349,13 @@ pub assigns_step : {a : List ℕ × List ℕ} {all : List (List ℕ × List ℕ)
 unfolding assign_all
 assigns_step p q = record { simulates = then_changes _ p q.simulates }
 
-pub whole_halts : {is_logged : Type 0} {xs : List Item} {pre : List (List ℕ × List ℕ)} {m m1 : Interpreter} {k : WorldState} {h : Halt} → Assigns pre m m1 (Err h) → AssignsAndRuns is_logged xs pre m k m1 k (Err h)
+pub assigned_halts : {is_logged : Type 0} {xs : List Item} {pre : List (List ℕ × List ℕ)} {m m1 : Interpreter} {k : WorldState} {h : Halt} → Assigns pre m m1 (Err h) → AssignsAndRuns is_logged xs pre m k m1 k (Err h)
 unfolding assign_and_run
-whole_halts p = record { simulates = ends_simulates _ (change_simulates p.simulates) }
+assigned_halts p = record { simulates = ends_simulates _ (change_simulates p.simulates) }
 
-pub whole_runs : {is_logged : Type 0} {xs : List Item} {pre : List (List ℕ × List ℕ)} {m m1 m2 : Interpreter} {k k2 : WorldState} {r : Result (Unit {0}) Halt} → Assigns pre m m1 (Ok tt) → RunsItems is_logged xs m1 k m2 k2 r → AssignsAndRuns is_logged xs pre m k m2 k2 r
+pub assigned_runs : {is_logged : Type 0} {xs : List Item} {pre : List (List ℕ × List ℕ)} {m m1 m2 : Interpreter} {k k2 : WorldState} {r : Result (Unit {0}) Halt} → Assigns pre m m1 (Ok tt) → RunsItems is_logged xs m1 k m2 k2 r → AssignsAndRuns is_logged xs pre m k m2 k2 r
 unfolding assign_and_run
-whole_runs p q = record { simulates = then_simulates _ (change_simulates p.simulates) q.simulates }
+assigned_runs p q = record { simulates = then_simulates _ (change_simulates p.simulates) q.simulates }
 
 -- lists of code, from a place on
 

@@ -35,8 +35,8 @@ at_main m s openings main h = record { current = h.current; variables = h.variab
 -- printing
 
 -- the line that the code prints of values
-abbrev pub machine_line : Interpreter → List Value → List ℕ
-machine_line m vs = line_of (str_of (value_of m.variables (name_of Ofs))) (str_of (value_of m.variables (name_of Ors))) vs
+abbrev pub interpreter_line : Interpreter → List Value → List ℕ
+interpreter_line m vs = line_of (str_of (value_of m.variables (name_of Ofs))) (str_of (value_of m.variables (name_of Ors))) vs
 
 shown : (oracle : Oracle) (old new : Interpreter) (before after : WorldState) (s : State) (past : List Effect) (bytes : List ℕ) → Beside old new
     → Prints bytes before old.streams (Ok tt) after new.streams
@@ -52,40 +52,40 @@ shown oracle old new before after s past bytes beside told stands = record {
 }
 
 -- the line is that of the code's variables
-shown_values : (vs : List Value) (m : Interpreter) (s : State) → OwnRelation m s → print_line vs s ≡ print_bytes (machine_line m vs) s
+shown_values : (vs : List Value) (m : Interpreter) (s : State) → OwnRelation m s → print_line vs s ≡ print_bytes (interpreter_line m vs) s
 unfolding print_line
 shown_values vs m s h = ap (λ between. print_bytes (line_of between (str_of (s.variables (name_of Ors))) vs) s) (ap str_of (h.variables (name_of Ofs))) ∙ ap (λ behind. print_bytes (line_of (str_of (value_of m.variables (name_of Ofs))) behind vs) s) (ap str_of (h.variables (name_of Ors)))
 
-show_comes : (vs : List Value) {old new : Interpreter} {before after : WorldState} → Beside old new
-    → Prints (machine_line old vs) before old.streams (Ok tt) after new.streams
-    → (oracle : Oracle) (s : State) (past : List Effect) → StateRelation oracle old before s past → ResultRelation oracle new after (Ok tt) (print_bytes (machine_line old vs) s) past
+print_comes : (vs : List Value) {old new : Interpreter} {before after : WorldState} → Beside old new
+    → Prints (interpreter_line old vs) before old.streams (Ok tt) after new.streams
+    → (oracle : Oracle) (s : State) (past : List Effect) → StateRelation oracle old before s past → ResultRelation oracle new after (Ok tt) (print_bytes (interpreter_line old vs) s) past
 unfolding print_bytes
-show_comes vs {old = old} {new = new} {before = before} {after = after} beside told oracle s past stands = (refl, shown oracle old new before after s past (machine_line old vs) beside told stands)
+print_comes vs {old = old} {new = new} {before = before} {after = after} beside told oracle s past stands = (refl, shown oracle old new before after s past (interpreter_line old vs) beside told stands)
 
-show_logged : (r : Result (Unit {0}) StreamFault) (vs : List Value) {old new : Interpreter} {before after : WorldState} → Beside old new
-    → Prints (machine_line old vs) before old.streams r after new.streams
+print_logged : (r : Result (Unit {0}) StreamFault) (vs : List Value) {old new : Interpreter} {before after : WorldState} → Beside old new
+    → Prints (interpreter_line old vs) before old.streams r after new.streams
     → IfErr r IsOutputFault → SimulatesLogged old before new after (halted r) (print_line vs)
-show_logged (Ok tt) vs {old = old} {new = new} {before = before} {after = after} beside told fault = record {
+print_logged (Ok tt) vs {old = old} {new = new} {before = before} {after = after} beside told fault = record {
   grows = told.grows;
   keeps = told.sound;
   keeps_main = told.main;
-  means = λ oracle s past consistent stands. subst (λ (o : Out (Unit {0})). ResultRelation oracle new after (Ok tt) o past) (sym (shown_values vs old s stands.holds)) (show_comes vs beside told oracle s past stands);
+  means = λ oracle s past consistent stands. subst (λ (o : Out (Unit {0})). ResultRelation oracle new after (Ok tt) o past) (sym (shown_values vs old s stands.holds)) (print_comes vs beside told oracle s past stands);
 }
-show_logged (Err Memory) vs beside told fault = record { grows = told.grows; keeps = told.sound; keeps_main = told.main; means = λ oracle s past consistent stands. tt }
-show_logged (Err WriteFailed) vs beside told fault = record { grows = told.grows; keeps = told.sound; keeps_main = told.main; means = λ oracle s past consistent stands. told.failure }
-show_logged (Err InputNotReadable) vs beside told fault = absurd (elim fault [ inl e ↦ (cc) | inr e ↦ (cc) ])
-show_logged (Err SeparatorTooLong) vs beside told fault = absurd (elim fault [ inl e ↦ (cc) | inr e ↦ (cc) ])
-show_logged (Err RecordTooLong) vs beside told fault = absurd (elim fault [ inl e ↦ (cc) | inr e ↦ (cc) ])
+print_logged (Err Memory) vs beside told fault = record { grows = told.grows; keeps = told.sound; keeps_main = told.main; means = λ oracle s past consistent stands. tt }
+print_logged (Err WriteFailed) vs beside told fault = record { grows = told.grows; keeps = told.sound; keeps_main = told.main; means = λ oracle s past consistent stands. told.failure }
+print_logged (Err InputNotReadable) vs beside told fault = absurd (elim fault [ inl e ↦ (cc) | inr e ↦ (cc) ])
+print_logged (Err SeparatorTooLong) vs beside told fault = absurd (elim fault [ inl e ↦ (cc) | inr e ↦ (cc) ])
+print_logged (Err RecordTooLong) vs beside told fault = absurd (elim fault [ inl e ↦ (cc) | inr e ↦ (cc) ])
 
-pub show_follows : {is_logged : Type 0} (r : Result (Unit {0}) StreamFault) (vs : List Value) (bytes : List ℕ) {old new : Interpreter} {before after : WorldState} → bytes ≡ machine_line old vs → Beside old new
+pub print_follows : {is_logged : Type 0} (r : Result (Unit {0}) StreamFault) (vs : List Value) (bytes : List ℕ) {old new : Interpreter} {before after : WorldState} → bytes ≡ interpreter_line old vs → Beside old new
     → (AreOpen before old.streams → AreOpen after new.streams)
     → (is_logged → Prints bytes before old.streams r after new.streams)
     → IfErr r IsOutputFault → Follows is_logged (print_line vs) old before new after (halted r)
-show_follows r vs bytes {old = old} {new = new} {before = before} {after = after} line beside stays told fault = record {
+print_follows r vs bytes {old = old} {new = new} {before = before} {after = after} line beside stays told fault = record {
   simulates = record {
     steps = omega (arith, beside.steps);
     kept_open = stays;
-    told = λ t. show_logged r vs beside (subst (λ (l : List ℕ). Prints l before old.streams r after new.streams) line (told t)) fault;
+    told = λ t. print_logged r vs beside (subst (λ (l : List ℕ). Prints l before old.streams r after new.streams) line (told t)) fault;
   };
 }
 
