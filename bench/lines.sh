@@ -17,9 +17,11 @@ trap 'rm -rf "$work"' EXIT
 # The program: its first word is the pattern, and its input's lines are counted.
 program=$work/crates/count_lines
 mkdir -p "$program/src"
-cp -R "$root/crates/awk_ere" "$work/crates/awk_ere"
+for crate in awk_ere_syntax awk_ere_compile awk_ere; do
+    cp -R "$root/crates/$crate" "$work/crates/$crate"
+done
 cp "$root/HANDLES" "$work/HANDLES"
-printf 'awk_ere: memchr\ncount_lines: awk_ere memchr\n' >"$work/crates.txt"
+printf 'awk_ere_syntax:\nawk_ere_compile: awk_ere_syntax\nawk_ere: awk_ere_syntax awk_ere_compile memchr\ncount_lines: awk_ere memchr\n' >"$work/crates.txt"
 cat >"$program/src/main.rt" <<'PROGRAM'
 //! Counts the lines of standard input that the pattern, its first word, matches somewhere.
 #![tactic(auto)]

@@ -1,31 +1,24 @@
-//! Extended regular expressions over bytes: reading a pattern, and the leftmost, then longest match.
+//! Extended regular expressions over bytes: reading a pattern, and the leftmost, then longest match (XBD 9).
+//!
+//! - A pattern is a straight program (`awk_ere_compile`), and its positions are those of Glushkov ("The abstract theory
+//!   of automata", 1961): a set of them tells which matches that have begun may go on.
+//! - One step of the simulation runs the program once for a byte, and makes the next set of positions, as in Thompson
+//!   ("Regular expression search algorithm", 1968).
+//! - Sets that were met are the states of a deterministic automaton, which is made while it runs and kept in a table of
+//!   bounded room (Cox, "Regular expression matching in the wild", 2010).
+//! - A pattern that is a text and nothing else is searched for as that text.
+//! - Where the leftmost match begins is found by halving the places where it may.
 #![tactic(auto)]
 
-mod bracket;
-mod build;
-mod builder;
-mod check;
-pub mod class;
-mod emit;
-mod escape;
-pub mod fault;
-mod frame;
-mod interval;
+mod dfa;
 pub mod laws;
-pub mod learn;
-mod literal;
-mod machine;
 pub mod newline;
 pub mod pattern;
-pub mod program;
-mod read;
-mod scan;
+mod prefilter;
 pub mod scratch;
 pub mod search;
-mod table;
-mod walk;
-pub mod word;
+mod simulation;
 
-pub use fault::PatternFault;
+pub use awk_ere_syntax::{ClassName, PatternFault, fault};
 pub use pattern::Pattern;
 pub use scratch::Scratch;

@@ -1,13 +1,12 @@
 // A pattern with a newline as one more branch.
 
 ghost use Rattle.std.specs.Prelude.{◌≡◌, ◌==◌, MatchResult};
-ghost use Rattle.awk_ere.specs.Classes.{class_of};
-ghost use Rattle.awk_ere.specs.Tree.{Tree, class, branches, none, next};
-ghost use Rattle.awk_ere.specs.Means.{Means};
+ghost use Rattle.awk_ere_syntax.specs.definitions.Tree.{class_of, Tree, class, branches, none, next};
+ghost use Rattle.awk_ere.specs.definitions.Means.{Means};
 
-use crate::fault::PatternFault;
 use crate::pattern::Pattern;
-use crate::program::Op;
+use awk_ere_compile::program::{Instruction, Program};
+use awk_ere_syntax::fault::PatternFault;
 use std::alloc::Global;
 
 impl Pattern {
@@ -18,11 +17,22 @@ impl Pattern {
             (λ p. Means (branches t (next (class (class_of (λ x. x == 10))) none)) p)
             (λ fault. fault ≡ PatternFault.Memory) }
     {
-        let Pattern { ops, classes } = self;
-        let mut all = Vec::with_capacity(alloc, ops.len() + 4)?;
-        all.push(Op::Fork)?;
-        all.extend_from_slice(&ops)?;
-        all.extend_from_slice(&[Op::Swap, Op::Byte(b'\n'), Op::Join])?;
-        Ok(Pattern { ops: all, classes })
+        let Program {
+            instructions,
+            classes,
+        } = self.program;
+        let mut all = Vec::with_capacity(alloc, instructions.len() + 4)?;
+        all.push(Instruction::Fork)?;
+        all.extend_from_slice(&instructions)?;
+        all.extend_from_slice(&[
+            Instruction::Swap,
+            Instruction::Byte(b'\n'),
+            Instruction::Join,
+        ])?;
+        let program = Program {
+            instructions: all,
+            classes,
+        };
+        Ok(Pattern { program })
     }
 }

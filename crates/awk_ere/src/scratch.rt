@@ -1,16 +1,81 @@
-// The memory of a search.
+// The cache of a search: a position set, the transition table, and what is known of the pattern.
 
-use crate::machine::Marks;
-use crate::table::Table;
+ghost use Rattle.std.specs.Prelude.{◌≡◌, true, MatchResult};
+ghost use Rattle.awk_ere.specs.support.SimulationStep.{IsStill, AreFor};
+ghost use Rattle.awk_ere.specs.support.Table.{IsFor};
+
+use crate::dfa::table::Table;
+use crate::pattern::Pattern;
+use crate::simulation::{Input, PositionSet, Signal};
+use awk_ere_compile::program::Instruction;
+use awk_ere_syntax::fault::PatternFault;
 use memchr::memmem::Finder;
+use std::alloc::Global;
 
 /// The memory that searches for one pattern use, and use again.
 #[derive(Drop)]
 pub struct Scratch {
-    pub(crate) marks: Marks,
+    pub(crate) position_set: PositionSet,
     pub(crate) table: Table,
     /// Whether it is known that no match begins behind the text's start.
-    pub(crate) anchored: bool,
+    pub(crate) anchored_at_start: bool,
     /// A search for the text that the pattern is, where it is one.
     pub(crate) literal: Option<Finder<'static>>,
+}
+
+impl Scratch {
+    /// The memory for searches for this pattern: at most some megabyte, and little for a small pattern.
+    pub fn for_pattern(alloc: Global, pattern: &Pattern) -> Result<Scratch, PatternFault>
+        ensures { MatchResult result (λ scratch. IsFor scratch pattern.now) (λ fault. fault ≡ PatternFault.Memory) }
+    {
+        let count = pattern.program.instructions.len();
+        let none = Signal {
+            before: false,
+            after: false,
+        };
+        let mut position_set = PositionSet {
+            positions: vec![in alloc; false; count]?,
+            kept: vec![in alloc; none; count]?,
+        };
+        let table = Table::for_count(alloc, count)?;
+        let anchored_at_start = pattern.is_anchored_at_start(&mut position_set);
+        let literal = pattern.literal_finder(alloc)?;
+        Ok(Scratch {
+            position_set,
+            table,
+            anchored_at_start,
+            literal,
+        })
+    }
+}
+
+// How many instructions a program may have for all bytes to be tried.
+const FEW: usize = 256;
+
+impl Pattern {
+    // Whether it is known that no match begins behind the text's start: the program is short, it begins
+    // with the text's start, and no byte leads on.
+    fn is_anchored_at_start(&self, position_set: &mut PositionSet) -> bool
+        requires { AreFor position_set.old self.now }
+        ensures still { result ≡ true → IsStill self.now true }
+        ensures same { AreFor position_set.new self.now }
+    {
+        if self.program.instructions.first() != Some(&Instruction::Start)
+            || self.program.instructions.len() > FEW
+        {
+            return false;
+        }
+        for byte in 0..=255 {
+            position_set.clear();
+            let input = Input {
+                byte,
+                start: false,
+                end: false,
+            };
+            if self.step(position_set, true, input) || !position_set.are_dead() {
+                return false;
+            }
+        }
+        true
+    }
 }

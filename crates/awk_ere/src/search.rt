@@ -1,17 +1,16 @@
-// Searches for a pattern by walks over a text.
+// Searches for a pattern by cursors over a text. The leftmost start is sought in blocks of places that double, and then
+// by halving the block where it lies.
 
 ghost use Rattle.std.specs.Prelude.{◌≡◌, ◌↔◌, ℕ, ◌≤◌, true, false, length, IfSome, OnSome};
-ghost use Rattle.awk_ere.specs.Tree.{Tree};
-ghost use Rattle.awk_ere.specs.Finds.{NoneFrom, Finds, Occurs};
-ghost use Rattle.awk_ere.specs.Means.{Means};
-ghost use Rattle.awk_ere.specs.Decided.{occurs};
-ghost use Rattle.awk_ere.specs.Table.{IsFor};
-ghost use Rattle.awk_ere.specs.Found.{EndsBetween, Longest, OccursBetween, EndsAt, Begins};
+ghost use Rattle.awk_ere_syntax.specs.definitions.Tree.{Tree, NoneFrom, Finds, Occurs};
+ghost use Rattle.awk_ere.specs.definitions.Means.{Means};
+ghost use Rattle.awk_ere.specs.definitions.Decided.{occurs};
+ghost use Rattle.awk_ere.specs.support.Table.{IsFor};
+ghost use Rattle.awk_ere.specs.support.Found.{is_first, EndsBetween, Longest, OccursBetween, EndsAt, Begins};
 
+use crate::dfa::cursor::{Cursor, End};
 use crate::pattern::Pattern;
 use crate::scratch::Scratch;
-use crate::table::IDLE;
-use crate::walk::{Walk, first_state};
 
 impl Pattern {
     // The last end of a match that begins at a place from `low` up to `high`, or the first one that is met.
@@ -20,30 +19,31 @@ impl Pattern {
         text: &[u8],
         low: usize,
         high: usize,
-        first: bool,
+        wanted: End,
         scratch: &mut Scratch,
     ) -> Option<usize>
         requires same { IsFor scratch.old self.now }
         requires order { low ≤ high }
         requires within { high ≤ length text.now }
-        ensures found { (t : Tree) → Means t self.now → EndsBetween first t text.now low high result }
+        ensures found { (t : Tree) → Means t self.now → EndsBetween (is_first wanted) t text.now low high result }
         ensures same { IsFor scratch.new self.now }
     {
+        let first = wanted.is_first();
         let len = text.len();
         let stop = len.min(high + 1);
         let entering = high == len;
-        let walk = self.sweep(scratch, true, first, text, stop, Walk::begin(low));
-        if first && walk.end.is_some() {
-            return walk.end;
+        let cursor = self.scan(scratch, true, wanted, text, stop, Cursor::begin(low));
+        if first && cursor.end.is_some() {
+            return cursor.end;
         }
-        let walk = self.sweep(scratch, entering, first, text, len, walk);
-        if first && walk.end.is_some() {
-            return walk.end;
+        let cursor = self.scan(scratch, entering, wanted, text, len, cursor);
+        if first && cursor.end.is_some() {
+            return cursor.end;
         }
-        if self.leaves_at_end(scratch, walk.state, entering) {
+        if self.leaves_at_end(scratch, cursor.state, entering) {
             return Some(len);
         }
-        walk.end
+        cursor.end
     }
 
     // The end of the longest match that begins at `from`.
@@ -53,7 +53,7 @@ impl Pattern {
         ensures found { (t : Tree) → Means t self.now → Longest t text.now from result }
         ensures same { IsFor scratch.new self.now }
     {
-        self.ends(text, from, from, false, scratch)
+        self.ends(text, from, from, End::Last, scratch)
     }
 
     // Where a match ends that begins at a place from `low` up to `high`.
@@ -70,24 +70,7 @@ impl Pattern {
         ensures found { (t : Tree) → Means t self.now → EndsAt t text.now low high result }
         ensures same { IsFor scratch.new self.now }
     {
-        self.ends(text, low, high, true, scratch)
-    }
-
-    // The first place at or behind `from` where a match may begin, or the text's end.
-    fn candidate(&self, text: &[u8], from: usize, scratch: &Scratch) -> usize
-        requires same { IsFor scratch.now self.now }
-        requires within { from ≤ length text.now }
-        ensures order { from ≤ result }
-        ensures within { result ≤ length text.now }
-        ensures none { (t : Tree) → Means t self.now → NoneFrom t text.now from result }
-    {
-        let steps = scratch.table.on.as_slice();
-        for k in from..text.len() {
-            if steps[first_state(k) as usize + text[k] as usize] != IDLE {
-                return k;
-            }
-        }
-        text.len()
+        self.ends(text, low, high, End::First, scratch)
     }
 
     // Where the leftmost match at or behind `from` begins. It is sought in blocks of places that double.
@@ -102,7 +85,7 @@ impl Pattern {
         let mut low = from;
         let mut width: usize = 1;
         'blocks: while low <= len {
-            low = self.candidate(text, low, scratch);
+            low = self.next_candidate(text, low, scratch);
             let high = len.min(low.saturating_add(width));
             if let Some(end) = self.end_between(text, low, high, scratch) {
                 return Some(self.first_between(text, low, high.min(end), scratch));
@@ -162,7 +145,7 @@ impl Pattern {
         ensures found { (t : Tree) → Means t self.now → Finds t text.now from result }
         ensures same { IsFor scratch.new self.now }
     {
-        let start = self.candidate(text, from, scratch);
+        let start = self.next_candidate(text, from, scratch);
         if let Some(end) = self.longest_from(text, start, scratch) {
             return Some((start, end));
         }
@@ -174,6 +157,3 @@ impl Pattern {
         Some((start, end))
     }
 }
-
-#[cfg(test)]
-mod tests;

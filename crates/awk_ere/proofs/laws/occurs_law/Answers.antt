@@ -1,5 +1,5 @@
 -- A text has a match where it is said to have one.
-use Rattle.awk_ere.proofs.Occurring.{occurs_sound, occurs_complete}
+use Rattle.awk_ere.proofs.OccursDecided.{occurs_sound, occurs_complete}
 use Rattle.awk_ere.proofs.laws.occurs_law.Goals as goal
 
 pub returns : goal.returns

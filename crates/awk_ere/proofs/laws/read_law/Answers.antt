@@ -1,4 +1,4 @@
-use Rattle.awk_ere.proofs.Deciding.{read_as}
+use Rattle.awk_ere.proofs.ReadDecided.{read_as}
 use Rattle.awk_ere.proofs.laws.read_law.Goals as goal
 
 pub returns : goal.returns

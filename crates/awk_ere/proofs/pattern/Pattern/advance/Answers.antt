@@ -1,8 +1,8 @@
 use Rattle.std.proofs.Common.{◌-◌, sym, subst, ⊎_elim}
 use Rattle.std.proofs.lemmas.Bool.{cases_lt}
-use Rattle.awk_ere.specs.Known.{IsKnown}
-use Rattle.awk_ere.proofs.Tables.{state_of}
-use Rattle.awk_ere.proofs.Walks.{known_of, stood_miss, stood_hit}
+use Rattle.awk_ere.specs.support.Table.{IsKnown}
+use Rattle.awk_ere.proofs.TableKept.{state_of}
+use Rattle.awk_ere.proofs.CursorKept.{known_of, stood_miss, stood_hit}
 use Rattle.awk_ere.proofs.pattern.Pattern.advance.Goals as goal
 
 pub returns-clause-known : goal.returns-clause-known
@@ -10,7 +10,7 @@ returns-clause-known c =
     let p = c.args.self.now in
     let tb = c.entry-entry.new.scratch.table in
     let v = c.entry-entry.result in
-    let e = c.entry-entry.ensures.entry _ _ (state_of p c.args.scratch.now.table c.args.walk.state c.requires.known) in
+    let e = c.entry-entry.ensures.entry _ _ (state_of p c.args.scratch.now.table c.args.cursor.state c.requires.known) in
     ⊎_elim
     (λ small. subst (IsKnown tb) (sym (c.onto.ensures.miss small).0) (known_of p tb v _ _ (e.goes c.entry-entry.ensures.some small)))
     (λ large. subst (IsKnown tb) (sym (c.onto.ensures.hit large).0) (known_of p tb (v - 2147483648) _ _ (e.leads large)))
@@ -22,12 +22,12 @@ returns-clause-stood c = λ t from means enters h.
     let old = c.args.scratch.now.table in
     let tb = c.entry-entry.new.scratch.table in
     let v = c.entry-entry.result in
-    let e = c.entry-entry.ensures.entry h.start h.cells h.state in
+    let e = c.entry-entry.ensures.entry h.start h.positions h.state in
     ⊎_elim
     (λ small.
     let n = c.onto.ensures.miss small in
-    stood_miss p old tb c.args.text.now t means from c.args.walk h c.args.entering enters c.requires.within v e c.onto.result c.onto.ensures.place c.entry-entry.ensures.some small n.0 n.1)
+    stood_miss p old tb c.args.text.now t means from c.args.cursor h c.args.entering enters c.requires.within v e c.onto.result c.onto.ensures.place c.entry-entry.ensures.some small n.0 n.1)
     (λ large.
     let n = c.onto.ensures.hit large in
-    stood_hit p old tb c.args.text.now t means from c.args.walk h c.args.entering enters c.requires.within v e c.onto.result c.onto.ensures.place large n.0 n.1)
+    stood_hit p old tb c.args.text.now t means from c.args.cursor h c.args.entering enters c.requires.within v e c.onto.result c.onto.ensures.place large n.0 n.1)
     (cases_lt v 2147483648)

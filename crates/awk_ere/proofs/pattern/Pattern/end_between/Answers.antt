@@ -1,5 +1,5 @@
 use Rattle.std.proofs.Common.{true}
-use Rattle.awk_ere.proofs.Ends.{ends_at}
+use Rattle.awk_ere.proofs.LastEnd.{ends_at}
 use Rattle.awk_ere.proofs.pattern.Pattern.end_between.Goals as goal
 
 pub returns-clause-found : goal.returns-clause-found

@@ -1,16 +1,15 @@
 use Rattle.std.proofs.Common.{◌≡◌, ◌+◌, sym, subst, ⊎_elim, arith}
 use Rattle.std.proofs.lemmas.Bool.{cases_lt}
-use Rattle.awk_ere.specs.Tree.{Matches}
-use Rattle.awk_ere.specs.Finds.{Finds}
+use Rattle.awk_ere_syntax.specs.definitions.Tree.{Matches, Finds}
 use Rattle.awk_ere.proofs.pattern.Pattern.find_from.Goals as goal
 
 pub returns-in_err-start-clause-found : goal.returns-in_err-start-clause-found
 returns-in_err-start-clause-found c = λ t means.
     let s = c.args.text.now in
-    let start = c.candidate-start.result in
+    let start = c.next_candidate-start.result in
     subst (Finds t s c.args.from) (sym c.from_residual.ensures)
     (λ i j ge le m.
-    ⊎_elim (λ below. c.candidate-start.ensures.none t means i j ge below m)
+    ⊎_elim (λ below. c.next_candidate-start.ensures.none t means i j ge below m)
     (λ at.
     ⊎_elim
     (λ here. let same : i ≡ start = omega (arith, at, here) in c.in_default.ensures.found t means j (subst (λ a. Matches s t a j) same m))

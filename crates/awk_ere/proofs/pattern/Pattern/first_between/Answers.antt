@@ -1,7 +1,7 @@
 use Rattle.std.proofs.Common.{◌≡◌, ◌+◌, ◌-◌, ◌/◌, subst, ⊎_elim, arith}
 use Rattle.std.proofs.lemmas.Bool.{cases_lt}
-use Rattle.awk_ere.specs.Tree.{Matches}
-use Rattle.awk_ere.proofs.Searches.{match_le}
+use Rattle.awk_ere_syntax.specs.definitions.Tree.{Matches}
+use Rattle.awk_ere.proofs.StepTellsMatches.{match_le}
 use Rattle.awk_ere.proofs.pattern.Pattern.first_between.Goals as goal
 
 pub halves-preserved-in-Some : goal.halves-preserved-in-Some

@@ -1,8 +1,7 @@
 use Rattle.std.proofs.Common.{◌≤◌, ◌+◌, ◌-◌, length}
-use Rattle.awk_ere.specs.Tree.{Tree}
-use Rattle.awk_ere.specs.Finds.{NoneFrom}
-use Rattle.awk_ere.specs.Means.{Means}
-use Rattle.awk_ere.specs.Table.{IsFor}
+use Rattle.awk_ere_syntax.specs.definitions.Tree.{Tree, NoneFrom}
+use Rattle.awk_ere.specs.definitions.Means.{Means}
+use Rattle.awk_ere.specs.support.Table.{IsFor}
 use Rattle.awk_ere.proofs.pattern.Pattern.first_start.Given as goal
 
 abbrev pub invariant-blocks-2 : goal.invariant-blocks-2

@@ -1,7 +1,7 @@
 -- A match is found where one is decided to be.
 use Rattle.std.proofs.Common.{sym, ◌∙◌}
-use Rattle.awk_ere.proofs.Occurring.{occurs_sound, occurs_complete, tells_ends}
-use Rattle.awk_ere.proofs.Literals.{literal_tells}
+use Rattle.awk_ere.proofs.OccursDecided.{occurs_sound, occurs_complete, tells_ends}
+use Rattle.awk_ere.proofs.LiteralOccurs.{literal_tells}
 use Rattle.awk_ere.proofs.pattern.Pattern.is_match.Goals as goal
 
 pub returns-in-Some-clause-decided : goal.returns-in-Some-clause-decided

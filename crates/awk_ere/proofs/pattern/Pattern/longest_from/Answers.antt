@@ -1,4 +1,4 @@
-use Rattle.awk_ere.proofs.Ends.{ends_longest}
+use Rattle.awk_ere.proofs.LastEnd.{ends_longest}
 use Rattle.awk_ere.proofs.pattern.Pattern.longest_from.Goals as goal
 
 pub returns-clause-found : goal.returns-clause-found

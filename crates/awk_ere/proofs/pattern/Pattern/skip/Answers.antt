@@ -1,21 +1,21 @@
 use Rattle.std.proofs.Common.{◌+◌, ◌-◌, ◌<◌, true, refl, sym, ap, ◌∙◌, subst, arith, get_or}
-use Rattle.awk_ere.specs.Pass.{IsStill}
-use Rattle.awk_ere.specs.Table.{IsEntry}
-use Rattle.awk_ere.specs.declared.walk.Walk.{Walk}
-use Rattle.awk_ere.proofs.Searches.{still_off}
-use Rattle.awk_ere.proofs.Walks.{entry_of, stood_miss, stood_still}
+use Rattle.awk_ere.specs.support.SimulationStep.{IsStill}
+use Rattle.awk_ere.specs.support.Table.{IsEntry}
+use Rattle.awk_ere.specs.declared.dfa.cursor.Cursor.{Cursor}
+use Rattle.awk_ere.proofs.StepTellsMatches.{still_off}
+use Rattle.awk_ere.proofs.CursorKept.{entry_of, stood_miss, stood_still}
 use Rattle.awk_ere.proofs.pattern.Pattern.skip.Goals as goal
 use Rattle.awk_ere.proofs.pattern.Pattern.skip.Goals.{then-not-entering-via-then-not-entering, then-not-entering-via-else-not-entering+then-scratch}
 
 pub returns-then-not-entering-clause-stood : goal.returns-then-not-entering-clause-stood
 returns-then-not-entering-clause-stood c = λ t from means enters h.
     let p = c.args.self.now in
-    let w = c.args.walk in
-    let idle = c.if-walk-ne-IDLE.false in
+    let w = c.args.cursor in
+    let idle = c.if-cursor-ne-DEAD.false in
     let still : IsStill p c.args.entering =
     elim c.then-not-entering.branch [
       | then-not-entering-via-then-not-entering w ↦ subst (IsStill p) (sym w.if-not-entering.true) (still_off t p means)
-      | then-not-entering-via-else-not-entering+then-scratch w ↦ subst (IsStill p) (sym w.if-not-entering.false) (c.requires.same.anchored w.if-scratch.true)
+      | then-not-entering-via-else-not-entering+then-scratch w ↦ subst (IsStill p) (sym w.if-not-entering.false) (c.requires.same.anchored_at_start w.if-scratch.true)
     ] in
     stood_still p c.args.scratch.now.table c.requires.same.table c.args.text.now (λ k. omega (arith, c.type_inv.text k)) t means from c.args.entering still
     (c.args.to - w.place) w _ h idle idle refl (omega (arith, c.requires.order)) c.requires.within enters
@@ -26,12 +26,12 @@ loop-k-preserved c = λ t from means enters h0.
     let tb = c.args.scratch.now.table in
     let s = c.args.text.now in
     let k = c.loop-k.k in
-    let v = c.args.walk.state in
+    let v = c.args.cursor.state in
     let x = get_or s k 0 in
     let byte : x < 256 = omega (arith, c.type_inv.text k) in
     let h = c.loop-k.invariant t from means enters h0 in
-    let w : Walk = record { place = k; state = v; end = c.args.walk.end } in
-    let w' : Walk = record { place = k + 1; state = v; end = c.args.walk.end } in
-    let same = ap (λ u. get_or tb.on.items (u + x) 0) c.if-walk-ne-IDLE.false ∙ ap (λ l. get_or l (514 + x) 0) (sym c.as_slice-steps.ensures.value) ∙ c.if-steps-text-ne-IDLE.false in
+    let w : Cursor = record { place = k; state = v; end = c.args.cursor.end } in
+    let w' : Cursor = record { place = k + 1; state = v; end = c.args.cursor.end } in
+    let same = ap (λ u. get_or tb.unanchored.items (u + x) 0) c.if-cursor-ne-DEAD.false ∙ ap (λ l. get_or l (514 + x) 0) (sym c.as_slice-transitions.ensures.value) ∙ c.if-transitions-text-ne-DEAD.false in
     stood_miss p tb tb s t means from w h true (sym c.if-not-entering.false ∙ enters k c.loop-k.auto.k c.loop-k-test.true) (omega (arith, c.loop-k-test.true, c.requires.within)) 514
-    (subst (IsEntry p tb h.start true h.cells x) same (entry_of p tb true c.requires.same.table v h.start h.cells h.state x byte)) w' refl (omega arith) (omega arith) c.if-walk-ne-IDLE.false refl
+    (subst (IsEntry p tb h.start true h.positions x) same (entry_of p tb true c.requires.same.table v h.start h.positions h.state x byte)) w' refl (omega arith) (omega arith) c.if-cursor-ne-DEAD.false refl

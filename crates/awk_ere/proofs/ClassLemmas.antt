@@ -1,7 +1,0 @@
--- A class of the bytes that pass has the bytes that pass.
-use Rattle.std.proofs.Common.{◌≡◌, ℕ, ◌<◌, Bool, false, arith}
-use Rattle.std.proofs.lemmas.List.FromFn.{get_or-map-range_with_len}
-use Rattle.awk_ere.specs.Classes.{has, class_of}
-
-pub has-class_of : (p : ℕ → Bool) (b : ℕ) → b < 256 → has (class_of p) b ≡ p b
-has-class_of p b lt = get_or-map-range_with_len p 0 256 b b false lt (omega arith)

@@ -1,0 +1,184 @@
+-- A pattern that is a text matches where the text stands.
+use Rattle.std.proofs.Common.{◌≡◌, ℕ, zero, suc, ◌+◌, ◌<◌, ◌≤◌, Bool, true, false, List, [], ◌∷◌, ◌++◌, length, map, drop, Option, Some, None, refl, sym, ap, subst, ◌∙◌, append_assoc, append-nil, ⊎_elim, arith}
+use Rattle.std.specs.Prelude.{◌==◌, slice_get, slice_index}
+use Rattle.std.specs.List.{All}
+use Rattle.std.specs.Option.{is_some, option_map}
+use Rattle.std.proofs.lemmas.Bool.{false≢true, eq-eqb, eqb-true, cases_lt}
+use Rattle.std.proofs.lemmas.List.{get_or_past}
+use Rattle.std.proofs.lemmas.Option.{slice_get_within, get_or_from_slice_get, slice_get-get_or}
+use Rattle.std.proofs.lemmas.List.FromFn.{length-map-range_with_len}
+use Rattle.memchr.specs.Find.{OccursAt, FindsNeedle}
+use Rattle.awk_ere_syntax.specs.definitions.Tree.{Class, has, class_of, Tree, Matches}
+use Rattle.awk_ere_compile.specs.definitions.Desugared.{Re, eps, one, first, last, cat, alt, plus, MatchesRe, desugar}
+use Rattle.awk_ere_compile.specs.definitions.Program.{ResolvedInstruction, read, resolve, code}
+use Rattle.awk_ere.specs.support.Found.{EndsAt}
+use Rattle.awk_ere.specs.definitions.Means.{Means}
+use Rattle.awk_ere.specs.support.Table.{ReadsBytes}
+use Rattle.awk_ere.specs.declared.pattern.Pattern.{Pattern}
+use Rattle.awk_ere_compile.specs.declared.program.Instruction.TheVariants as instructions
+use Rattle.awk_ere.proofs.ClassMembership.{has-class_of}
+use Rattle.awk_ere.specs.definitions.Decided.{occurs}
+use Rattle.awk_ere.proofs.OccursDecided.{tells_ends}
+use Rattle.awk_ere.proofs.DesugaredMatches.{desugar_to, desugar_from}
+
+-- ---- a text in a text
+
+-- the bytes stand in s from i up to j
+abbrev Stands : List ℕ → List ℕ → ℕ → ℕ → Type 0
+Stands s [] i j = i ≡ j
+Stands s (b ∷ l) i j = (slice_get s i ≡ Some b) × Stands s l (suc i) j
+
+stands_append : (s l1 l2 : List ℕ) (i k j : ℕ) → Stands s l1 i k → Stands s l2 k j → Stands s (l1 ++ l2) i j
+stands_append s [] l2 i k j e h = subst (λ a. Stands s l2 a j) (sym e) h
+stands_append s (b ∷ l) l2 i k j h g = (h.0, stands_append s l l2 (suc i) k j h.1 g)
+
+stands_split : (s l1 l2 : List ℕ) (i j : ℕ) → Stands s (l1 ++ l2) i j → (k : ℕ) × Stands s l1 i k × Stands s l2 k j
+stands_split s [] l2 i j h = (i, refl, h)
+stands_split s (b ∷ l) l2 i j h = let r = stands_split s l l2 (suc i) j h.1 in (r.0, (h.0, r.1), r.2)
+
+abbrev Small : List ℕ → Type 0
+Small [] = Unit {0}
+Small (b ∷ l) = (b < 256) × Small l
+
+small_bytes : (l : List ℕ) → All (λ b. b < 256) l → Small l
+small_bytes [] a = tt
+small_bytes (b ∷ l) a = (a 0 0 (omega arith), small_bytes l (λ i d lt. a (suc i) d (omega (arith, lt))))
+
+small_left : (l1 l2 : List ℕ) → Small (l1 ++ l2) → Small l1
+small_left [] l2 a = tt
+small_left (b ∷ l) l2 a = (a.0, small_left l l2 a.1)
+
+small_right : (l1 l2 : List ℕ) → Small (l1 ++ l2) → Small l2
+small_right [] l2 a = a
+small_right (b ∷ l) l2 a = small_right l l2 a.1
+
+front_reads : (s : List ℕ) (b : ℕ) (l : List ℕ) (i : ℕ) → slice_index s i ≡ b → ((k : ℕ) → k < length l → slice_index s (suc i + k) ≡ slice_index l k) → (k : ℕ) → k < length (b ∷ l) → slice_index s (i + k) ≡ slice_index (b ∷ l) k
+front_reads s b l i here later zero lt = ap (slice_index s) (omega arith) ∙ here
+front_reads s b l i here later (suc k) lt = ap (slice_index s) (omega arith) ∙ later k (omega (arith, lt))
+
+stands_occurs : (s l : List ℕ) (i j : ℕ) → i ≤ length s → Stands s l i j → OccursAt s l i × (j ≡ i + length l)
+stands_occurs s [] i j le e = (record { fits = omega (arith, le); reads = λ k lt. absurd (omega (arith, lt)) }, omega (arith, e))
+stands_occurs s (b ∷ l) i j le h =
+    let r = stands_occurs s l (suc i) j (slice_get_within s i b h.0) h.1 in
+    (record { fits = omega (arith, r.0.fits); reads = front_reads s b l i (get_or_from_slice_get s i b 0 h.0) r.0.reads }, omega (arith, r.1))
+
+occurs_stands : (s l : List ℕ) (i : ℕ) → OccursAt s l i → Stands s l i (i + length l)
+occurs_stands s [] i o = omega arith
+occurs_stands s (b ∷ l) i o =
+    let here : slice_index s i ≡ b = ap (slice_index s) (omega arith) ∙ o.reads 0 (omega arith) in
+    let next : OccursAt s l (suc i) = record {
+      fits = omega (arith, o.fits);
+      reads = λ k lt. ap (slice_index s) (omega arith) ∙ o.reads (suc k) (omega (arith, lt));
+    } in
+    (slice_get-get_or s i 0 (omega (arith, o.fits)) ∙ ap Some here, subst (λ n. Stands s l (suc i) n) (omega arith) (occurs_stands s l (suc i) next))
+
+-- ---- the instructions that read bytes
+
+abbrev byte_read : ℕ → ResolvedInstruction
+byte_read b = read (class_of (λ x. x == b))
+
+seen_bytes : (cs : List Class) (l : List ℕ) → map (resolve cs) (map instructions.Byte l) ≡ map byte_read l
+seen_bytes cs [] = refl
+seen_bytes cs (b ∷ l) = ap (λ r. byte_read b ∷ r) (seen_bytes cs l)
+
+abbrev none_left : List ResolvedInstruction → Bool
+none_left [] = true
+none_left (x ∷ rest) = false
+
+abbrev reads_one : List ResolvedInstruction → Bool
+reads_one (read c ∷ rest) = true
+reads_one rest = false
+
+abbrev class_read : List ResolvedInstruction → Class
+class_read (read c ∷ rest) = c
+class_read rest = []
+
+has_byte : (b x : ℕ) → has (class_of (λ y. y == b)) x ≡ true → x ≡ b
+has_byte b x h =
+    ⊎_elim (λ lt. eqb-true x b (sym (has-class_of (λ y. y == b) x lt) ∙ h))
+    (λ ge. absurd (false≢true (sym (get_or_past (class_of (λ y. y == b)) x false (omega (arith, ge, length-map-range_with_len (λ y. y == b) 0 256))) ∙ h)))
+    (cases_lt x 256)
+
+record Reads (r : Re) (rest : List ResolvedInstruction) (l : List ℕ) : Type 0 where
+  bytes : List ℕ
+  others : List ℕ
+  split : l ≡ bytes ++ others
+  left : rest ≡ map byte_read others
+  sound : (s : List ℕ) (i j : ℕ) → MatchesRe s r i j → Stands s bytes i j
+  complete : (s : List ℕ) (i j : ℕ) → Small bytes → Stands s bytes i j → MatchesRe s r i j
+
+reads_byte : (c : Class) (rest : List ResolvedInstruction) (b : ℕ) (l : List ℕ) → read c ∷ rest ≡ byte_read b ∷ map byte_read l → Reads (one c) rest (b ∷ l)
+reads_byte c rest b l e =
+    let same : c ≡ class_of (λ x. x == b) = ap class_read e in
+    record {
+      bytes = b ∷ [];
+      others = l;
+      split = refl;
+      left = ap (drop 1) e;
+      sound = λ s i j m. (m.1 ∙ ap Some (has_byte b m.0 (subst (λ k. has k m.0 ≡ true) same m.2)), sym m.3);
+      complete = λ s i j small h. (b, h.0, subst (λ k. has k b ≡ true) (sym same) (has-class_of (λ x. x == b) b small.0 ∙ eq-eqb b b refl), sym h.1);
+    }
+
+reads : (r : Re) (rest : List ResolvedInstruction) (l : List ℕ) → code r rest ≡ map byte_read l → Reads r rest l
+reads eps rest l e = record { bytes = []; others = l; split = refl; left = e; sound = λ s i j m. m; complete = λ s i j small h. h }
+reads (one c) rest [] e = absurd (false≢true (ap none_left e))
+reads (one c) rest (b ∷ l) e = reads_byte c rest b l e
+reads first rest [] e = absurd (false≢true (ap none_left e))
+reads first rest (b ∷ l) e = absurd (false≢true (ap reads_one e))
+reads last rest [] e = absurd (false≢true (ap none_left e))
+reads last rest (b ∷ l) e = absurd (false≢true (ap reads_one e))
+reads (cat a b) rest l e =
+    let x = reads a (code b rest) l e in
+    let y = reads b rest x.others x.left in
+    record {
+      bytes = x.bytes ++ y.bytes;
+      others = y.others;
+      split = x.split ∙ ap (λ o. x.bytes ++ o) y.split ∙ sym (append_assoc x.bytes y.bytes y.others);
+      left = y.left;
+      sound = λ s i j m. stands_append s x.bytes y.bytes i m.0 j (x.sound s i m.0 m.1) (y.sound s m.0 j m.2);
+      complete = λ s i j small h.
+          let k = stands_split s x.bytes y.bytes i j h in
+          (k.0, x.complete s i k.0 (small_left x.bytes y.bytes small) k.1, y.complete s k.0 j (small_right x.bytes y.bytes small) k.2);
+    }
+reads (alt a b) rest [] e = absurd (false≢true (ap none_left e))
+reads (alt a b) rest (x ∷ l) e = absurd (false≢true (ap reads_one e))
+reads (plus a) rest [] e = absurd (false≢true (ap none_left e))
+reads (plus a) rest (x ∷ l) e = absurd (false≢true (ap reads_one e))
+
+-- ---- the pattern
+
+no_bytes : (l : List ℕ) → [] ≡ map byte_read l → l ≡ []
+no_bytes [] e = refl
+no_bytes (b ∷ l) e = absurd (false≢true (sym (ap none_left e)))
+
+record Whole (t : Tree) (l : List ℕ) : Type 0 where
+  sound : (s : List ℕ) (i j : ℕ) → Matches s t i j → Stands s l i j
+  complete : (s : List ℕ) (i j : ℕ) → Stands s l i j → Matches s t i j
+
+whole : (t : Tree) (p : Pattern) (l : List ℕ) → Means t p → ReadsBytes l p → Whole t l
+whole t p l means literal =
+    let cs = p.program.classes.items in
+    let e : code (desugar t) [] ≡ map byte_read l = sym means.1 ∙ ap (map (resolve cs)) literal.each ∙ seen_bytes cs l in
+    let r = reads (desugar t) [] l e in
+    let all : l ≡ r.bytes = r.split ∙ ap (λ o. r.bytes ++ o) (no_bytes r.others r.left) ∙ append-nil r.bytes in
+    let small = subst Small all (small_bytes l literal.small) in
+    record {
+      sound = λ s i j m. subst (λ b. Stands s b i j) (sym all) (r.sound s i j (desugar_to s t i j m));
+      complete = λ s i j h. desugar_from s t i j means.0 (r.complete s i j small (subst (λ b. Stands s b i j) all h));
+    }
+
+-- a search for the text finds where a match ends
+literal_ends : (t : Tree) (p : Pattern) (s l : List ℕ) (r : Option ℕ) → Means t p → ReadsBytes l p → FindsNeedle s l 0 r → EndsAt t s 0 (length s) (option_map (λ i. i + length l) r)
+literal_ends t p s l None means literal none =
+    λ m. none m.0 m.2 (omega (arith, m.3)) (stands_occurs s l m.0 m.1 m.3 ((whole t p l means literal).sound s m.0 m.1 m.4)).0
+literal_ends t p s l (Some k) means literal found =
+    (k, omega arith, omega (arith, found.1.fits), (whole t p l means literal).complete s k (k + length l) (occurs_stands s l k found.1))
+
+is_some_mapped : (f : ℕ → ℕ) (r : Option ℕ) → is_some r ≡ is_some (option_map f r)
+is_some_mapped f None = refl
+is_some_mapped f (Some k) = refl
+
+-- whether the search finds the text tells whether the pattern matches somewhere
+pub literal_tells : (t : Tree) (p : Pattern) (s l : List ℕ) (r : Option ℕ) → Means t p → ReadsBytes l p → FindsNeedle s l 0 r → is_some r ≡ occurs t s
+literal_tells t p s l r means literal found =
+    is_some_mapped (λ i. i + length l) r ∙ tells_ends t s _ means.0 (literal_ends t p s l r means literal found)

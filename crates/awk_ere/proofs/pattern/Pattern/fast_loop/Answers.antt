@@ -1,0 +1,39 @@
+use Rattle.std.proofs.Common.{◌+◌, ◌<◌, length, refl, sym, ap, subst, arith, get_or}
+use Rattle.awk_ere.specs.support.Table.{IsEntry}
+use Rattle.awk_ere.specs.declared.dfa.cursor.Cursor.{Cursor}
+use Rattle.awk_ere.proofs.TableKept.{state_of}
+use Rattle.awk_ere.proofs.CursorKept.{entry_of, entry_within, known_of, stood_miss}
+use Rattle.awk_ere.proofs.pattern.Pattern.fast_loop.Goals as goal
+
+pub bounds-transitions-state : goal.bounds-transitions-state
+bounds-transitions-state c =
+    let x = get_or c.args.text.now c.loop-k.k 0 in
+    let byte : x < 257 = omega (arith, c.type_inv.text c.loop-k.k) in
+    subst (λ l. c.loop-k.state + x < length l) (sym c.transitions-transitions.ensures)
+    (entry_within c.args.self.now c.args.table.now c.args.entering c.requires.table c.loop-k.state x c.loop-k.invariant.known byte)
+
+pub loop-k-preserved : goal.loop-k-preserved
+loop-k-preserved c =
+    let p = c.args.self.now in
+    let tb = c.args.table.now in
+    let s = c.args.text.now in
+    let m = c.args.entering in
+    let k = c.loop-k.k in
+    let v = c.loop-k.state in
+    let x = get_or s k 0 in
+    let byte : x < 256 = omega (arith, c.type_inv.text k) in
+    let u = get_or c.transitions-transitions.result.now (v + x) 0 in
+    let some : 0 < u = omega (arith, c.if-entry-floor.false) in
+    let small : u < 2147483648 = omega (arith, c.if-entry-ge-MATCH_FLAG.false) in
+    let same = ap (λ l. get_or l (v + x) 0) (sym c.transitions-transitions.ensures) in
+    record {
+      known =
+          let h = state_of p tb v c.loop-k.invariant.known in
+          known_of p tb u _ _ ((subst (IsEntry p tb _ m _ x) same (entry_of p tb m c.requires.table v _ _ h x byte)).goes some small);
+      stood = λ t from means enters h0.
+          let h = c.loop-k.invariant.stood t from means enters h0 in
+          let w : Cursor = record { place = k; state = v; end = c.args.cursor.end } in
+          let w' : Cursor = record { place = k + 1; state = u; end = c.args.cursor.end } in
+          stood_miss p tb tb s t means from w h m (enters k c.loop-k.auto.k c.loop-k-test.true) (omega (arith, c.loop-k-test.true, c.requires.within)) u
+          (subst (IsEntry p tb h.start m h.positions x) same (entry_of p tb m c.requires.table v h.start h.positions h.state x byte)) w' refl some small refl refl;
+    }

@@ -1,8 +1,0 @@
-use Rattle.std.proofs.Common.{rules, ◌≡◌, get_or, sym, ◌∙◌}
-use Rattle.awk_ere.proofs.Seeing.{word_bracket}
-use Rattle.awk_ere.proofs.scan.word_at.Goals as goal
-
-pub returns-in-91-clause-set : goal.returns-in-91-clause-set
-returns-in-91-clause-set c =
-    let front : get_or c.args.bytes.now 0 0 ≡ 91 = search rules in
-    λ k rest e. c.bracket_at.ensures.set k rest (sym (word_bracket c.args.bytes.now c.in-91.len_at_least front) ∙ e)

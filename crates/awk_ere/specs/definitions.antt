@@ -1,0 +1,3 @@
+pub mod Decided
+pub mod Means
+pub mod Refused

@@ -1,0 +1,6 @@
+pub mod CursorState
+pub mod Found
+pub mod Marked
+pub mod Simulation
+pub mod SimulationStep
+pub mod Table

@@ -1,0 +1,237 @@
+// A cursor over a text, which the transition table moves on.
+
+ghost use Rattle.std.specs.Prelude.{◌≡◌, ◌⊎◌, ℕ, ◌+◌, ◌<◌, ◌≤◌, Bool, List, true, length, Option, None, Some, IsSome, nat_eq, if◌then◌else◌, ◌-◌, ◌^◌};
+ghost use Rattle.awk_ere_syntax.specs.definitions.Tree.{Tree};
+ghost use Rattle.awk_ere.specs.definitions.Means.{Means};
+ghost use Rattle.awk_ere.specs.support.Table.{IsKnown, IsState, IsEntry, IsTable, IsFor};
+ghost use Rattle.awk_ere.specs.support.CursorState.{Stood, Enters};
+ghost use Rattle.awk_ere.specs.support.Found.{is_first};
+
+use crate::dfa::table::{DEAD, MATCH_FLAG, START, Table};
+use crate::pattern::Pattern;
+use crate::scratch::Scratch;
+
+/// How far a text is read: up to a place, in a state, and where the last match ended before the place.
+#[derive(Clone, Copy)]
+pub(crate) struct Cursor {
+    pub(crate) place: usize,
+    pub(crate) state: u32,
+    pub(crate) end: Option<usize>,
+}
+
+// How many bytes the fast loop reads before `skip` is tried again.
+const BLOCK: usize = 32;
+
+/// The state at a place before which no match has begun.
+pub(crate) fn first_state(place: usize) -> u32
+    ensures { result ≡ (if nat_eq place 0 then 257 else 514) }
+{
+    if place == 0 { START } else { DEAD }
+}
+
+/// Which end of a match is looked for.
+#[derive(Clone, Copy)]
+pub(crate) enum End {
+    /// The first that is met.
+    First,
+    /// The last.
+    Last,
+}
+
+impl End {
+    pub(crate) fn is_first(self) -> bool
+        ensures { result ≡ is_first self }
+    {
+        matches!(self, End::First)
+    }
+}
+
+impl Cursor {
+    /// At a place, before which no match has begun.
+    pub(crate) fn begin(place: usize) -> Cursor
+        ensures place { result.place ≡ place }
+        ensures state { result.state ≡ (if nat_eq place 0 then 257 else 514) }
+        ensures end { result.end ≡ None }
+    {
+        Cursor {
+            place,
+            state: first_state(place),
+            end: None,
+        }
+    }
+
+    // One byte further, by an entry.
+    fn onto(self, entry: u32) -> Cursor
+        requires { self.place + 1 < 2 ^ 64 }
+        ensures place { result.place ≡ self.place + 1 }
+        ensures miss { entry < 2147483648 → (result.state ≡ entry) × (result.end ≡ self.end) }
+        ensures hit { 2147483648 ≤ entry → (result.state ≡ entry - 2147483648) × (result.end ≡ Some self.place) }
+    {
+        let place = self.place + 1;
+        if entry < MATCH_FLAG {
+            Cursor {
+                place,
+                state: entry,
+                end: self.end,
+            }
+        } else {
+            Cursor {
+                place,
+                state: entry - MATCH_FLAG,
+                end: Some(self.place),
+            }
+        }
+    }
+}
+
+impl Pattern {
+    // Where a byte leads from a state.
+    fn entry(&self, scratch: &mut Scratch, state: u32, entering: bool, byte: u8) -> u32
+        requires same { IsFor scratch.old self.now }
+        requires known { IsKnown scratch.old.table state }
+        ensures some { 0 < result }
+        ensures entry { (st : Bool) (cs : List Bool) → IsState self.now scratch.old.table state st cs →
+            IsEntry self.now scratch.new.table st entering cs byte result }
+        ensures same { IsFor scratch.new self.now }
+    {
+        let known = scratch.table.transitions(entering)[state as usize + byte as usize];
+        if known != 0 {
+            return known;
+        }
+        self.compute_transition(scratch, state, entering, byte)
+    }
+
+    // Reads one byte.
+    fn advance(&self, scratch: &mut Scratch, entering: bool, text: &[u8], cursor: Cursor) -> Cursor
+        requires same { IsFor scratch.old self.now }
+        requires known { IsKnown scratch.old.table cursor.state }
+        requires within { cursor.place < length text.now }
+        ensures place { result.place ≡ cursor.place + 1 }
+        ensures known { IsKnown scratch.new.table result.state }
+        ensures stood { (t : Tree) (from : ℕ → Bool) → Means t self.now → entering ≡ from cursor.place →
+            Stood self.now scratch.old.table text.now t from cursor → Stood self.now scratch.new.table text.now t from result }
+        ensures same { IsFor scratch.new self.now }
+    {
+        let entry = self.entry(scratch, cursor.state, entering, text[cursor.place]);
+        cursor.onto(entry)
+    }
+
+    // Skips bytes up to a place, as long as no match has begun and none begins.
+    fn skip(
+        &self,
+        scratch: &Scratch,
+        entering: bool,
+        text: &[u8],
+        to: usize,
+        cursor: Cursor,
+    ) -> Cursor
+        requires same { IsFor scratch.now self.now }
+        requires known { IsKnown scratch.now.table cursor.state }
+        requires order { cursor.place ≤ to }
+        requires within { to ≤ length text.now }
+        ensures order { cursor.place ≤ result.place }
+        ensures within { result.place ≤ to }
+        ensures state { result.state ≡ cursor.state }
+        ensures stood { (t : Tree) (from : ℕ → Bool) → Means t self.now → Enters from entering cursor.place to →
+            Stood self.now scratch.now.table text.now t from cursor → Stood self.now scratch.now.table text.now t from result }
+    {
+        if cursor.state != DEAD {
+            return cursor;
+        }
+        if !entering || scratch.anchored_at_start {
+            return Cursor {
+                place: to,
+                ..cursor
+            };
+        }
+        let transitions = scratch.table.unanchored.as_slice();
+        for k in cursor.place..to {
+            if transitions[DEAD as usize + text[k] as usize] != DEAD {
+                return Cursor { place: k, ..cursor };
+            }
+        }
+        Cursor {
+            place: to,
+            ..cursor
+        }
+    }
+
+    // The fast loop: reads on up to a place, as long as the entries are known and no match ends. It stops at a state where
+    // no match has begun if none is to come.
+    fn fast_loop(
+        &self,
+        table: &Table,
+        entering: bool,
+        stops: bool,
+        text: &[u8],
+        to: usize,
+        cursor: Cursor,
+    ) -> Cursor
+        requires table { IsTable self.now table.now }
+        requires known { IsKnown table.now cursor.state }
+        requires order { cursor.place ≤ to }
+        requires within { to ≤ length text.now }
+        ensures order { cursor.place ≤ result.place }
+        ensures within { result.place ≤ to }
+        ensures known { IsKnown table.now result.state }
+        ensures stood { (t : Tree) (from : ℕ → Bool) → Means t self.now → Enters from entering cursor.place to →
+            Stood self.now table.now text.now t from cursor → Stood self.now table.now text.now t from result }
+    {
+        let transitions = table.transitions(entering);
+        let floor = if stops { DEAD } else { 0 };
+        let mut state = cursor.state;
+        for k in cursor.place..to {
+            let entry = transitions[state as usize + text[k] as usize];
+            if entry <= floor || entry >= MATCH_FLAG {
+                return Cursor {
+                    place: k,
+                    state,
+                    end: cursor.end,
+                };
+            }
+            state = entry;
+        }
+        Cursor {
+            place: to,
+            state,
+            end: cursor.end,
+        }
+    }
+
+    // Reads on up to a place, or if the first end of a match is wanted up to it.
+    pub(crate) fn scan(
+        &self,
+        scratch: &mut Scratch,
+        entering: bool,
+        wanted: End,
+        text: &[u8],
+        to: usize,
+        cursor: Cursor,
+    ) -> Cursor
+        requires same { IsFor scratch.old self.now }
+        requires known { IsKnown scratch.old.table cursor.state }
+        requires order { cursor.place ≤ to }
+        requires within { to ≤ length text.now }
+        ensures order { cursor.place ≤ result.place }
+        ensures within { result.place ≤ to }
+        ensures reached { (result.place ≡ to) ⊎ ((is_first wanted ≡ true) × IsSome result.end) }
+        ensures known { IsKnown scratch.new.table result.state }
+        ensures stood { (t : Tree) (from : ℕ → Bool) → Means t self.now → Enters from entering cursor.place to →
+            Stood self.now scratch.old.table text.now t from cursor → Stood self.now scratch.new.table text.now t from result }
+        ensures same { IsFor scratch.new self.now }
+    {
+        let first = wanted.is_first();
+        let stops = !entering || scratch.anchored_at_start;
+        let mut cursor = cursor;
+        'bytes: while cursor.place < to {
+            cursor = self.advance(scratch, entering, text, cursor);
+            if first && cursor.end.is_some() {
+                return cursor;
+            }
+            cursor = self.skip(scratch, entering, text, to, cursor);
+            let near = to.min(cursor.place.saturating_add(BLOCK));
+            cursor = self.fast_loop(&scratch.table, entering, stops, text, near, cursor);
+        }
+        cursor
+    }
+}

@@ -1,0 +1,258 @@
+// The transition table: the states that are known, and where each byte leads from them.
+
+ghost use Rattle.std.specs.Prelude.{◌≡◌, ℕ, suc, ◌+◌, ◌*◌, ◌<◌, ◌≤◌, length, take, drop, slice_index, slice_set, true, IfSome, IfOk, IfErr, replicate, false, if◌then◌else◌};
+ghost use Rattle.awk_ere.specs.support.SimulationStep.{count_of};
+ghost use Rattle.awk_ere.specs.support.Table.{Grows, positions_at};
+
+use crate::pattern::Pattern;
+use awk_ere_syntax::fault::PatternFault;
+use std::alloc::Global;
+
+/// The states that are known, and where each byte leads from them.
+#[derive(Drop)]
+pub(crate) struct Table {
+    /// The positions of the states, one state behind another. In the first two states no position is reached: they
+    /// are that at the text's start, and the dead state behind it.
+    pub(crate) rows: Vec<bool>,
+    /// The entries of an unanchored search, where matches may begin, a row for each state, and one before them.
+    pub(crate) unanchored: Vec<u32>,
+    /// The entries of an anchored search, where none may.
+    pub(crate) anchored: Vec<u32>,
+    /// How many states there are.
+    pub(crate) count: usize,
+    /// How many states there may be.
+    pub(crate) limit: usize,
+    /// For a hash of positions the number of the last state that was added under it.
+    slots: Vec<u32>,
+}
+
+/// How many entries a state has: one for each byte, and one for the end of the text.
+pub(crate) const STRIDE: usize = 257;
+
+/// The state at the text's start.
+pub(crate) const START: u32 = 257;
+
+/// The dead state: no match has begun, behind the text's start.
+pub(crate) const DEAD: u32 = 514;
+
+/// What is added to an entry where a match ends before the byte.
+pub(crate) const MATCH_FLAG: u32 = 0x8000_0000;
+
+// Writes a row among rows of one length.
+fn write_row(rows: &mut [bool], number: usize, row: &[bool])
+    requires { number * length row.now + length row.now ≤ length rows.old }
+    ensures row { take (length row.now) (drop (number * length row.now) rows.new) ≡ row.now }
+    ensures others { (d : ℕ) → d < number →
+        take (length row.now) (drop (d * length row.now) rows.new) ≡ take (length row.now) (drop (d * length row.now) rows.old) }
+    ensures len { length rows.new ≡ length rows.old }
+{
+    let n = row.len();
+    let at = number * n;
+    rows[at..at + n].copy_from_slice(row);
+}
+
+// What the states of a table may take.
+const BUDGET: usize = 1 << 20;
+
+// How many states a table for a program of this length may have.
+fn limit_for(count: usize) -> usize
+    ensures least { 3 ≤ result }
+    ensures most { result < 1000000 }
+{
+    let wanted = count.saturating_mul(8).saturating_add(8);
+    let fits = BUDGET / count.saturating_add(8 * STRIDE);
+    wanted.min(fits).max(3)
+}
+
+// How many bits a slot's number has.
+const SLOT_BITS: u32 = 10;
+
+// The slot of a state's positions: the upper bits of their hash, by Fowler, Noll and Vo.
+fn slot_of(positions: &[bool]) -> usize {
+    let mut hash: u64 = 0xcbf2_9ce4_8422_2325;
+    for position in positions {
+        hash = (hash ^ u64::from(*position)).wrapping_mul(0x0000_0100_0000_01b3);
+    }
+    (hash >> (u64::BITS - SLOT_BITS)) as usize
+}
+
+// The entry that leads to the state with a number, where the flow leaves before the byte or not.
+pub(crate) fn entry_to(number: usize, hit: bool) -> u32
+    requires { number < 1000000 }
+    ensures { result ≡ 257 * suc number + (if hit then 2147483648 else 0) }
+{
+    let name = (STRIDE * (number + 1)) as u32;
+    if hit { name + MATCH_FLAG } else { name }
+}
+
+impl Table {
+    /// A table of the first two states, for a program of this length.
+    pub(crate) fn for_count(alloc: Global, count: usize) -> Result<Table, PatternFault>
+        ensures least { IfOk result (λ tb. 3 ≤ tb.limit) }
+        ensures most { IfOk result (λ tb. tb.limit < 1000000) }
+        ensures count { IfOk result (λ tb. tb.count ≡ 2) }
+        ensures rows { IfOk result (λ tb. tb.rows.items ≡ replicate (tb.limit * count) false) }
+        ensures unanchored { IfOk result (λ tb. tb.unanchored.items ≡ replicate (257 * suc tb.limit) 0) }
+        ensures anchored { IfOk result (λ tb. tb.anchored.items ≡ replicate (257 * suc tb.limit) 0) }
+        ensures fault { IfErr result (λ fault. fault ≡ PatternFault.Memory) }
+    {
+        let limit = limit_for(count);
+        let row = vec![in alloc; false; count]?;
+        let mut rows = Vec::new(alloc);
+        for _ in 0..limit {
+            rows.extend_from_slice(&row)?;
+        }
+        let unanchored = vec![in alloc; 0; STRIDE * (limit + 1)]?;
+        let anchored = vec![in alloc; 0; STRIDE * (limit + 1)]?;
+        let slots = vec![in alloc; 0; 1 << SLOT_BITS]?;
+        Ok(Table {
+            rows,
+            unanchored,
+            anchored,
+            count: 2,
+            limit,
+            slots,
+        })
+    }
+
+    // The entries where matches may begin, or where none may.
+    pub(crate) fn transitions(&self, entering: bool) -> &[u32]
+        ensures { result.now ≡ (if entering then self.now.unanchored.items else self.now.anchored.items) }
+    {
+        if entering {
+            self.unanchored.as_slice()
+        } else {
+            self.anchored.as_slice()
+        }
+    }
+
+    // Writes an entry.
+    pub(crate) fn set(&mut self, entering: bool, at: usize, entry: u32)
+        requires { at < length (if entering then self.old.unanchored.items else self.old.anchored.items) }
+        ensures unanchored { self.new.unanchored.items ≡ (if entering then slice_set self.old.unanchored.items at entry else self.old.unanchored.items) }
+        ensures anchored { self.new.anchored.items ≡ (if entering then self.old.anchored.items else slice_set self.old.anchored.items at entry) }
+        ensures rows { self.new.rows.items ≡ self.old.rows.items }
+        ensures count { self.new.count ≡ self.old.count }
+        ensures limit { self.new.limit ≡ self.old.limit }
+    {
+        if entering {
+            self.unanchored[at] = entry;
+        } else {
+            self.anchored[at] = entry;
+        }
+    }
+
+    // The positions of the state with a number.
+    pub(crate) fn load(&self, number: usize, positions: &mut [bool])
+        requires { number * length positions.old + length positions.old ≤ length self.now.rows.items }
+        ensures { positions.new ≡ take (length positions.old) (drop (number * length positions.old) self.now.rows.items) }
+    {
+        let n = positions.len();
+        let at = number * n;
+        positions.copy_from_slice(&self.rows.as_slice()[at..at + n]);
+    }
+
+    // Writes the positions of the state with a number.
+    pub(crate) fn store(&mut self, number: usize, positions: &[bool])
+        requires within { number * length positions.now + length positions.now ≤ length self.old.rows.items }
+        requires few { number < 1000000 }
+        ensures row { take (length positions.now) (drop (number * length positions.now) self.new.rows.items) ≡ positions.now }
+        ensures others { (d : ℕ) → d < number →
+            take (length positions.now) (drop (d * length positions.now) self.new.rows.items)
+            ≡ take (length positions.now) (drop (d * length positions.now) self.old.rows.items) }
+        ensures len { length self.new.rows.items ≡ length self.old.rows.items }
+        ensures unanchored { self.new.unanchored.items ≡ self.old.unanchored.items }
+        ensures anchored { self.new.anchored.items ≡ self.old.anchored.items }
+        ensures count { self.new.count ≡ self.old.count }
+        ensures limit { self.new.limit ≡ self.old.limit }
+    {
+        write_row(self.rows.as_mut_slice(), number, positions);
+        if let Some(slot) = self.slots.get_mut(slot_of(positions)) {
+            *slot = number as u32;
+        }
+    }
+
+    // Whether the state with a number has these positions.
+    fn has_row(&self, number: usize, positions: &[bool]) -> bool
+        requires { number * length positions.now + length positions.now ≤ length self.now.rows.items }
+        ensures { result ≡ true → take (length positions.now) (drop (number * length positions.now) self.now.rows.items) ≡ positions.now }
+    {
+        let n = positions.len();
+        let at = number * n;
+        let row = &self.rows.as_slice()[at..at + n];
+        row == positions
+    }
+
+    // The number of a state with these positions, but for the first. Others than the second are looked for in
+    // one slot, so they may be missed.
+    pub(crate) fn find(&self, positions: &[bool]) -> Option<usize>
+        requires { self.now.count * length positions.now ≤ length self.now.rows.items }
+        ensures { IfSome result (λ d. (0 < d) × (d < self.now.count)
+            × (take (length positions.now) (drop (d * length positions.now) self.now.rows.items) ≡ positions.now)) }
+    {
+        if 1 < self.count && self.has_row(1, positions) {
+            return Some(1);
+        }
+        let number = *self.slots.get(slot_of(positions))? as usize;
+        if number == 0 || self.count <= number {
+            return None;
+        }
+        if self.has_row(number, positions) {
+            Some(number)
+        } else {
+            None
+        }
+    }
+
+    // Forgets all states but the first two.
+    pub(crate) fn clear(&mut self)
+        ensures unanchored { (i : ℕ) → slice_index self.new.unanchored.items i ≡ 0 }
+        ensures anchored { (i : ℕ) → slice_index self.new.anchored.items i ≡ 0 }
+        ensures unanchored_len { length self.new.unanchored.items ≡ length self.old.unanchored.items }
+        ensures anchored_len { length self.new.anchored.items ≡ length self.old.anchored.items }
+        ensures rows { self.new.rows.items ≡ self.old.rows.items }
+        ensures count { self.new.count ≡ 2 }
+        ensures limit { self.new.limit ≡ self.old.limit }
+    {
+        self.unanchored.as_mut_slice().fill(0);
+        self.anchored.as_mut_slice().fill(0);
+        self.count = 2;
+    }
+
+    // The number of the state of these positions, where there is one or room for one.
+    pub(crate) fn find_or_add(&mut self, positions: &[bool]) -> Option<usize>
+        requires some { 0 < self.old.count }
+        requires count { self.old.count ≤ self.old.limit }
+        requires few { self.old.limit < 1000000 }
+        requires rows { self.old.limit * length positions.now ≤ length self.old.rows.items }
+        ensures known { IfSome result (λ d. (0 < d) × (d < self.new.count)) }
+        ensures positions { IfSome result (λ d. (p : Pattern) → length positions.now ≡ count_of p → positions_at p self.new.rows.items d ≡ positions.now) }
+        ensures grows { (p : Pattern) → length positions.now ≡ count_of p → Grows p self.old self.new }
+        ensures unanchored { self.new.unanchored.items ≡ self.old.unanchored.items }
+        ensures anchored { self.new.anchored.items ≡ self.old.anchored.items }
+    {
+        match self.find(positions) {
+            Some(number) => Some(number),
+            None if self.count < self.limit => Some(self.add(positions)),
+            None => None,
+        }
+    }
+
+    // A new state of these positions.
+    pub(crate) fn add(&mut self, positions: &[bool]) -> usize
+        requires room { self.old.count < self.old.limit }
+        requires few { self.old.limit < 1000000 }
+        requires rows { self.old.limit * length positions.now ≤ length self.old.rows.items }
+        ensures number { result ≡ self.old.count }
+        ensures positions { (p : Pattern) → length positions.now ≡ count_of p → positions_at p self.new.rows.items result ≡ positions.now }
+        ensures grows { (p : Pattern) → length positions.now ≡ count_of p → Grows p self.old self.new }
+        ensures count { self.new.count ≡ self.old.count + 1 }
+        ensures unanchored { self.new.unanchored.items ≡ self.old.unanchored.items }
+        ensures anchored { self.new.anchored.items ≡ self.old.anchored.items }
+    {
+        let number = self.count;
+        self.store(number, positions);
+        self.count += 1;
+        number
+    }
+}

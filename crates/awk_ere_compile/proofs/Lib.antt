@@ -1,0 +1,14 @@
+pub mod BarKeepsProgram
+pub mod CompileAnswers
+pub mod CompilerMakesProgram
+pub mod CountsOrdered
+pub mod GroupKeepsProgram
+pub mod PieceKeepsProgram
+pub mod ProgramLength
+pub mod ProgramOfFrames
+pub mod RepeatKeepsProgram
+pub mod RepeatProgram
+pub mod RepeatSize
+pub mod RoundsAppend
+pub mod StateIsProgram
+pub mod TokenKeepsProgram

@@ -1,0 +1,2 @@
+pub mod Desugared
+pub mod Program

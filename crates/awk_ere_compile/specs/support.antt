@@ -1,0 +1,3 @@
+pub mod CompilerResult
+pub mod CompilerState
+pub mod RepeatInstructions

@@ -1,0 +1,14 @@
+pub mod BracketRoundTrip
+pub mod BracketValue
+pub mod CheckDecidesText
+pub mod CheckFollowsParser
+pub mod Choices
+pub mod ClassNameRoundTrip
+pub mod EscapeRoundTrip
+pub mod IntervalRoundTrip
+pub mod IntervalValue
+pub mod OneTree
+pub mod ParseRoundTrip
+pub mod PatternDecided
+pub mod RefusalsExclusive
+pub mod TokenRoundTrip

@@ -1,0 +1,14 @@
+use Rattle.std.proofs.Common.{◌∙◌}
+use Rattle.std.proofs.lemmas.Bool.Decides.{Decides-eqb}
+use Rattle.std.proofs.lemmas.Slice.Eq.{strip_prefix_is}
+use Rattle.std.specs.Prelude.{None}
+use Rattle.awk_ere_syntax.specs.declared.class_name.ClassName.TheVariants.{Alnum}
+use Rattle.awk_ere_syntax.proofs.ClassNameRoundTrip.{name_passed}
+use Rattle.awk_ere_syntax.proofs.class_name.name_at.Goals as goal
+
+pub loop-name-preserved : goal.loop-name-preserved
+loop-name-preserved c =
+    let text = c.args.bytes.now in
+    let name = c.text.result.now in
+    name_passed c.loop-name.name-index Alnum name text c.loop-name-test.true c.text.ensures (strip_prefix_is Decides-eqb text name None c.in_default.ensures.cases)
+    ∙ c.loop-name.invariant

@@ -1,0 +1,5 @@
+pub mod Checks
+pub mod Lexer
+pub mod Parser
+pub mod PatternOf
+pub mod TokenValues

@@ -1,0 +1,162 @@
+// Bracket expressions (XBD 9.3.5).
+
+ghost use Rattle.std.specs.Prelude.{◌≡◌, ◌||◌, ◌<◌, ℕ, List, not, true, false, length, Some, slice_index_or};
+ghost use Rattle.std.specs.Option.{option_map};
+ghost use Rattle.awk_ere_syntax.specs.definitions.Tree.{class_of};
+ghost use Rattle.awk_ere_syntax.specs.definitions.Brackets.{Item as ItemForm, any_has, is_barred, Bracket, bracket_has};
+ghost use Rattle.awk_ere_syntax.specs.definitions.Tokens.{atom, bracket};
+ghost use Rattle.awk_ere_syntax.specs.support.Lexer.{mark_at, items_at, bracket_token};
+ghost use Rattle.awk_ere_syntax.specs.support.TokenValues.{seen_mark, descends, holds, range_seen, item_seen, end_at, seen_items, seen_front};
+
+use crate::class_name::{ClassName, name_at};
+use crate::reading::escape::escape_at;
+use crate::token::Token;
+
+/// An item of a bracket.
+#[derive(Clone, Copy)]
+enum Item {
+    Single(u8),
+    Range(u8, u8),
+    Class(ClassName),
+}
+
+impl Item {
+    /// Whether the byte is one of its bytes.
+    fn has(self, byte: u8) -> bool
+        ensures { result ≡ holds self byte }
+    {
+        match self {
+            Item::Single(single) => single == byte,
+            Item::Range(low, high) => low <= byte && byte <= high,
+            Item::Class(name) => name.has(byte),
+        }
+    }
+
+    /// Whether it is a range that descends.
+    fn descends(self) -> bool
+        ensures { result ≡ descends self }
+    {
+        matches!(self, Item::Range(low, high) if low > high)
+    }
+
+    /// Sets the flags of its bytes, and leaves the others.
+    fn add_to(self, set: &mut [bool; 256])
+        ensures { (b : ℕ) → b < 256 → slice_index_or set.new b false ≡ (slice_index_or set.old b false || holds self b) }
+    {
+        if let Item::Single(byte) = self {
+            set[usize::from(byte)] = true;
+            return;
+        }
+        for byte in 0..=255 {
+            if self.has(byte) {
+                set[usize::from(byte)] = true;
+            }
+        }
+    }
+}
+
+/// A byte in a bracket, plain or escaped.
+fn mark_at(bytes: &[u8]) -> Option<(u8, &[u8])>
+    ensures { option_map (λ r. (r.0, r.1.now)) result ≡ option_map seen_mark (mark_at bytes.now) }
+{
+    match bytes {
+        [] => None,
+        [b'\\', rest @ ..] => escape_at(rest),
+        [b'[', b':' | b'.' | b'=', ..] => None,
+        [byte, rest @ ..] => Some((*byte, rest)),
+    }
+}
+
+/// What goes on from a byte: a range, or nothing more.
+fn range_at(low: u8, rest: &[u8]) -> Option<(Item, &[u8])>
+    ensures { option_map (λ r. (r.0, r.1.now)) result ≡ range_seen low rest.now }
+{
+    match rest {
+        [b'-'] | [b'-', b']', ..] => Some((Item::Single(low), rest)),
+        [b'-', end @ ..] => {
+            let (high, rest) = mark_at(end)?;
+            Some((Item::Range(low, high), rest))
+        }
+        _ => Some((Item::Single(low), rest)),
+    }
+}
+
+/// Whether the byte closes the bracket, or is a `-` that is neither first nor last.
+fn is_barred(first: bool, byte: u8, rest: &[u8]) -> bool
+    ensures { result ≡ is_barred first byte rest.now }
+{
+    !first && (byte == b']' || byte == b'-' && !matches!(rest, [b']', ..]))
+}
+
+/// The item in front, which is the first or not, and what follows it.
+fn item_at(first: bool, bytes: &[u8]) -> Option<(Item, &[u8])>
+    ensures { option_map (λ r. (r.0, r.1.now)) result ≡ item_seen first bytes.now }
+{
+    match bytes {
+        [] => None,
+        [b'[', b':', rest @ ..] => {
+            let (name, rest) = name_at(rest)?;
+            Some((Item::Class(name), rest))
+        }
+        [byte, rest @ ..] if is_barred(first, *byte, rest) => None,
+        _ => {
+            let (byte, rest) = mark_at(bytes)?;
+            range_at(byte, rest)
+        }
+    }
+}
+
+/// What follows the `]` in front, where it closes the bracket.
+fn end_at(first: bool, bytes: &[u8]) -> Option<&[u8]>
+    ensures { option_map (λ rest. rest.now) result ≡ end_at first bytes.now }
+{
+    match bytes {
+        [b']', rest @ ..] if !first => Some(rest),
+        _ => None,
+    }
+}
+
+/// The items of a bracket and the `]` behind them, and what follows. Their bytes are left in `set`.
+fn items_at<'a>(bytes: &'a [u8], set: &mut [bool; 256]) -> Option<(Token, &'a [u8])>
+    requires { (b : ℕ) → b < 256 → slice_index_or set.old b false ≡ false }
+    ensures found { option_map (λ r. (r.0, r.1.now)) result ≡ option_map seen_items (items_at (length bytes.now) true bytes.now) }
+    ensures set { (r : List ItemForm × List ℕ) → items_at (length bytes.now) true bytes.now ≡ Some r → (b : ℕ) → b < 256 → slice_index_or set.new b false ≡ any_has r.0 b }
+{
+    let mut rest = bytes;
+    let mut first = true;
+    let mut descends = false;
+    loop {
+        if let Some(behind) = end_at(first, rest) {
+            return Some((Token::Bracket(!descends), behind));
+        }
+        let (item, behind) = item_at(first, rest)?;
+        item.add_to(set);
+        descends |= item.descends();
+        rest = behind;
+        first = false;
+    }
+}
+
+/// Turns each flag round.
+fn flip(set: &mut [bool; 256])
+    ensures { (b : ℕ) → b < 256 → slice_index_or set.new b false ≡ not (slice_index_or set.old b false) }
+{
+    for byte in 0..256 {
+        set[byte] = !set[byte];
+    }
+}
+
+/// A bracket behind its `[`, and what follows it. Its class is left in `set`.
+pub fn bracket_at<'a>(bytes: &'a [u8], set: &mut [bool; 256]) -> Option<(Token, &'a [u8])>
+    ensures found { option_map (λ r. (r.0, r.1.now)) result ≡ option_map seen_front (bracket_token bytes.now) }
+    ensures set { (k : Bracket) (rest : List ℕ) → bracket_token bytes.now ≡ Some (atom (bracket k), rest) → set.new ≡ class_of (bracket_has k) }
+{
+    *set = [false; 256];
+    if let Some(rest) = bytes.strip_prefix(b"^") {
+        let found = items_at(rest, set);
+        flip(set);
+        found
+    } else {
+        items_at(bytes, set)
+    }
+}
