@@ -42,7 +42,7 @@ impl Interpreter {
         self.arguments.take(self.alloc, count)
     }
 
-    /// OpensMainInput a main input; standard input has no path.
+    /// Opens a main input; standard input has no path.
     fn open_main<W: World>(
         &mut self,
         world: &mut W,
@@ -58,7 +58,7 @@ impl Interpreter {
         Ok(self.streams.open_main(world, kind, path)?)
     }
 
-    /// ClosesMainInput the main input, if one is open.
+    /// Closes the main input, if one is open.
     fn close_main<W: World>(&mut self, world: &mut W)
         requires open { AreOpen (W.state world.old) self.old.streams }
         requires sound { W.is_logged → IsSoundMain (W.state world.old).log self.old.streams.main }
@@ -98,7 +98,7 @@ impl Interpreter {
         }
     }
 
-    /// OpensMainInput a main input under a name, and takes its first record.
+    /// Opens a main input under a name, and takes its first record.
     fn first_record<W: World>(
         &mut self,
         world: &mut W,

@@ -4,8 +4,8 @@ use Rattle.awk_ere.specs.Tree.{Tree}
 use Rattle.awk_ere.specs.Decided.{pattern_of}
 use Rattle.awk_ere.specs.Refused.{ReadsAs}
 use Rattle.awk_ere.specs.declared.pattern.Pattern.{Pattern}
-use Rattle.awk_ere.specs.declared.fault.PatternFault.{PatternFault}
-use Rattle.awk_ere.specs.declared.fault.PatternFault.TheVariants.{Memory, IllFormed, BadCount, TooLarge}
+use Rattle.awk_ere_syntax.specs.declared.fault.PatternFault.{PatternFault}
+use Rattle.awk_ere_syntax.specs.declared.fault.PatternFault.TheVariants.{Memory, IllFormed, BadCount, TooLarge}
 use Rattle.awk_meaning.specs.declared.halt.Halt.{Halt}
 use Rattle.awk_meaning.specs.declared.halt.Halt.TheVariants as halt
 use Rattle.awk_meaning.specs.Faults.{pattern_fault}

@@ -13,12 +13,12 @@ use Rattle.awk_tree.specs.Tree.{Item}
 use Rattle.awk_tree.specs.Height.{height_of_program}
 use Rattle.awk_tree.specs.Spelling.{IsProgram}
 use Rattle.awk_syntax.specs.Outcome.{Reads, IsProgramWithinHeight, RefusesPattern, Justifies}
-use Rattle.awk_syntax.specs.Patterns.{AreReadable, IsLeftmostRefused}
+use Rattle.awk_syntax.specs.Patterns.{AreReadable}
 use Rattle.awk_tree.specs.View.{tree_of}
 use Rattle.awk_tree.specs.declared.tree.Tree.{Tree}
 use Rattle.awk_resolve.specs.Names.{uses_in, uses_left_out, scalar_names, array_names, are_apart, Fits}
 use Rattle.awk_resolve.specs.Names.{name_refusal}
-use Rattle.awk_run.specs.definitions.Accepted.{longest_text, greatest_height, IsSpelled, RefusesEre, HasBadEre, Accepted, RefusedFor}
+use Rattle.awk_run.specs.definitions.Accepted.{longest_text, greatest_height, IsSpelled, HasBadEre, Accepted, RefusedFor}
 use Rattle.awk_run.specs.support.Verdict.{ReadsOnly}
 
 -- the tree of a text
@@ -64,27 +64,12 @@ pub lexing_refused : (refusal : Refusal) (text : List ℕ) → (IsOutOfMemory re
 lexing_refused refusal text (inl e) = of_memory refusal.code text e
 lexing_refused refusal text (inr why) = refused_as refusal.code text why
 
--- a refused ERE among the tokens, without their places
-kinds_append : (ts us : List Token) → kinds_of (ts ++ us) ≡ kinds_of ts ++ kinds_of us
-kinds_append [] us = refl
-kinds_append (t ∷ ts) us = ap (λ l. t.kind ∷ l) (kinds_append ts us)
-
-refuses_ere : (code : RefusalCode) (line : ℕ) (tokens : List Token) → IsLeftmostRefused code line tokens → RefusesEre code (kinds_of tokens)
-refuses_ere code line tokens r = record {
-  before = kinds_of r.before;
-  ere = r.text;
-  after = kinds_of r.after;
-  stand = ap kinds_of r.stand ∙ kinds_append r.before (r.token ∷ r.after) ∙ ap (λ k. kinds_of r.before ++ k ∷ kinds_of r.after) r.is_ere;
-  readable = r.readable;
-  fails = r.fails;
-}
-
 abbrev Refusing : List ℕ → List Token → Type 0
 Refusing text tokens = (length text ≤ longest_text) × Lexes (kinds_of tokens) text
 
 has_bad_ere : (code : RefusalCode) (line : ℕ) (text : List ℕ) (tokens : List Token) → Refusing text tokens → RefusesPattern code line tokens → HasBadEre code text
 has_bad_ere code line text tokens h why =
-    (kinds_of tokens, record { short = h.0; lexes = h.1 }, (why.0.0, why.0.1.0, why.0.1.1), refuses_ere code line tokens why.1)
+    (kinds_of tokens, record { short = h.0; lexes = h.1 }, (why.0.0, why.0.1.0, why.0.1.1), why.1.refuses)
 
 justified : (code : RefusalCode) (line : ℕ) (text : List ℕ) (tokens : List Token) → Refusing text tokens → Justifies code line tokens → RefusedFor code text
 justified NotAProgram line text tokens h why = (kinds_of tokens, record { short = h.0; lexes = h.1 }, why)

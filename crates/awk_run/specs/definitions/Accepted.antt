@@ -1,14 +1,13 @@
 -- Which texts are programs, and why the others are refused (POSIX awk, Lexical Conventions; Grammar).
-use Rattle.std.specs.Prelude.{◌≡◌, ◌≤◌, ◌<◌, ℕ, true, false, List, ◌∷◌, ◌++◌, length}
+use Rattle.std.specs.Prelude.{◌≡◌, ◌≤◌, ◌<◌, ℕ, true, false, List, length}
 use Rattle.awk_lex.specs.declared.token.Kind.{Kind}
-use Rattle.awk_lex.specs.declared.token.Kind.TheVariants.{Ere}
 use Rattle.awk_lex.specs.declared.refusal.RefusalCode.{RefusalCode}
 use Rattle.awk_lex.specs.declared.refusal.RefusalCode.TheVariants.{UnexpectedByte, OpenString, OpenPattern, EscapeRefused, NumberRefused, ProgramTooLong, NotAProgram, NestedTooDeep, PatternIllFormed, PatternCountRefused, PatternTooLarge, ArrayAndScalar, NameLeftOut, OutOfMemory}
 use Rattle.awk_lex.specs.Lexes.{Lexes, Breaks}
 use Rattle.awk_tree.specs.Tree.{Item}
 use Rattle.awk_tree.specs.Height.{height_of_program}
 use Rattle.awk_tree.specs.Spelling.{IsProgram}
-use Rattle.awk_syntax.specs.Patterns.{AreReadable, PatternFails}
+use Rattle.awk_syntax.specs.Patterns.{AreReadable, RefusesEre}
 use Rattle.awk_resolve.specs.Names.{uses_in, uses_left_out, scalar_names, array_names, are_apart, Fits}
 
 -- the most bytes of a program text, and the greatest height of its tree
@@ -40,15 +39,6 @@ pub record IsSpelled (text : List ℕ) (items : List Item) : Type 0 where
   pub spells : IsProgram tokens items
   pub low : height_of_program items ≤ greatest_height
   pub readable : AreReadable tokens
-
--- the leftmost ERE that is no pattern is refused so
-pub record RefusesEre (code : RefusalCode) (tokens : List Kind) : Type 0 where
-  pub before : List Kind
-  pub ere : List ℕ
-  pub after : List Kind
-  pub stand : tokens ≡ before ++ Ere ere ∷ after
-  pub readable : AreReadable before
-  pub fails : PatternFails code ere
 
 -- the text is a program but for its EREs and its names, and an ERE is refused
 abbrev pub HasBadEre : RefusalCode → List ℕ → Type 0
