@@ -2,40 +2,26 @@
 
 ghost use Rattle.std.specs.Prelude.{◌≡◌, ◌⊎◌, List, ℕ, map, IfOk, IfErr, OnErr};
 ghost use Rattle.awk_lex.specs.Refused.{IsOutOfMemory};
-ghost use Rattle.awk_syntax.specs.Tree.{Item as ItemTree};
-ghost use Rattle.awk_syntax.specs.View.{tree_of, items_of};
-ghost use Rattle.awk_run.specs.Accepted.{IsSpelled, Accepted, RefusedFor};
-ghost use Rattle.awk_run.specs.Start.{start_values, pair_of};
+ghost use Rattle.awk_tree.specs.Tree.{Item as ItemTree};
+ghost use Rattle.awk_tree.specs.View.{tree_of, items_of};
+ghost use Rattle.awk_run.specs.definitions.Accepted.{IsSpelled, Accepted, RefusedFor};
+ghost use Rattle.awk_run.specs.definitions.Start.{start_values, pair_of};
 ghost use Rattle.awk_streams.specs.Streams.{AreOpen, IsSoundMain};
-ghost use Rattle.awk_run.specs.Does.{seen, Assigns, RunsWhole};
-ghost use Rattle.awk_run.specs.Verdict.{outcome_after as outcome_at, ReadsOnly, RunsFrom};
-ghost use Rattle.awk_run.specs.Headline.{Executed};
+ghost use Rattle.awk_run.specs.support.Evaluation.{Assigns, AssignsAndRuns};
+ghost use Rattle.awk_run.specs.support.Verdict.{outcome_after as outcome_at, ReadsOnly, RunsFrom};
+ghost use Rattle.awk_run.specs.definitions.Headline.{Executed};
 
-use crate::halt::Halt;
-use crate::kinds::name_refusal;
-use crate::machine::Machine;
-use crate::outcome::{Fault, Outcome};
 use crate::start::{Assignment, Start};
 use crate::statements::run_items;
+use awk_interpreter::Interpreter;
 use awk_lex::lexer::tokens;
 use awk_lex::refusal::Refusal;
-use awk_streams::{StreamFault, World, some_answers_agree};
+use awk_meaning::{Fault, Halt, Outcome};
+use awk_resolve::name_refusal;
+use awk_streams::{StreamFault, World, some_oracle_is_consistent};
 use awk_syntax::parse::parse;
-use awk_syntax::tree::{Item, Tree};
+use awk_tree::tree::{Item, Tree};
 use std::alloc::Global;
-
-/// The fault of a run that a fault of the streams is.
-fn stream_fault(fault: StreamFault) -> Fault
-    ensures { result ≡ fault_of fault }
-{
-    match fault {
-        StreamFault::Memory => Fault::OutOfMemory,
-        StreamFault::WriteFailed => Fault::WriteFailed,
-        StreamFault::InputNotReadable => Fault::InputNotReadable,
-        StreamFault::SeparatorTooLong => Fault::RecordSeparatorTooLong,
-        StreamFault::RecordTooLong => Fault::RecordTooLong,
-    }
-}
 
 /// How a run ended: a failure of its end counts unless a fault came before it.
 fn outcome_after(ended: Result<(), Halt>, finished: Result<(), StreamFault>) -> Outcome
@@ -48,51 +34,59 @@ fn outcome_after(ended: Result<(), Halt>, finished: Result<(), StreamFault>) -> 
     };
     match finished {
         Ok(()) => outcome,
-        Err(fault) => Outcome::Fault(stream_fault(fault)),
+        Err(fault) => Outcome::Fault(Fault::from(fault)),
     }
 }
 
 /// Makes the assignments in turn.
-fn assign_all(assignments: &[Assignment], machine: &mut Machine) -> Result<(), Halt>
-    ensures { Assigns (map pair_of assignments.now) machine.old machine.new result }
+fn assign_all(assignments: &[Assignment], interpreter: &mut Interpreter) -> Result<(), Halt>
+    ensures { Assigns (map pair_of assignments.now) interpreter.old interpreter.new result }
 {
     for assignment in assignments {
-        machine.assign_text(&assignment.name, &assignment.text)?;
+        interpreter.assign_text(&assignment.name, &assignment.text)?;
     }
     Ok(())
 }
 
 /// Makes the assignments before a run, and runs the items.
-fn run_whole<W: World>(
+fn assign_and_run<W: World>(
     items: &[Item],
     assignments: &[Assignment],
-    machine: &mut Machine,
+    interpreter: &mut Interpreter,
     world: &mut W,
 ) -> Result<(), Halt>
-    requires open { AreOpen (W.is_open world.old) machine.old.streams }
-    requires sound { W.tells → IsSoundMain (W.log world.old) machine.old.streams.main }
-    ensures { RunsWhole W.tells (items_of items.now) (map pair_of assignments.now) machine.old (seen (W.is_open world.old) (W.log world.old) (W.mark world.old)) machine.new (seen (W.is_open world.new) (W.log world.new) (W.mark world.new)) result }
+    requires open { AreOpen (W.state world.old) interpreter.old.streams }
+    requires sound { W.is_logged → IsSoundMain (W.state world.old).log interpreter.old.streams.main }
+    ensures { AssignsAndRuns W.is_logged (items_of items.now) (map pair_of assignments.now) interpreter.old
+        (W.state world.old) interpreter.new (W.state world.new) result }
 {
-    assign_all(assignments, machine)?;
-    run_items(items, machine, world)
+    assign_all(assignments, interpreter)?;
+    run_items(items, interpreter, world)
 }
 
 /// Runs the items from the start values, with at most so many steps (POSIX awk, Overall Program
 /// Structure).
-fn run<W: World>(alloc: Global, items: &[Item], start: &Start, limit: u64, world: &mut W) -> Outcome
-    ensures { RunsFrom W.tells (items_of items.now) (start_values start.now) limit (seen (W.is_open world.old) (W.log world.old) (W.mark world.old)) (seen (W.is_open world.new) (W.log world.new) (W.mark world.new)) result }
+fn run_program<W: World>(
+    alloc: Global,
+    items: &[Item],
+    start: &Start,
+    limit: u64,
+    world: &mut W,
+) -> Outcome
+    ensures { RunsFrom W.is_logged (items_of items.now) (start_values start.now) limit (W.state world.old)
+        (W.state world.new) result }
 {
-    some_answers_agree();
-    let Ok(mut machine) = Machine::new(alloc, start, limit) else {
+    some_oracle_is_consistent();
+    let Ok(mut interpreter) = Interpreter::new(alloc, &start.operands, limit) else {
         return Outcome::Fault(Fault::OutOfMemory);
     };
-    let ended = run_whole(items, &start.pre, &mut machine, world);
-    let finished = machine.streams.finish(world);
+    let ended = assign_and_run(items, &start.pre, &mut interpreter, world);
+    let finished = interpreter.streams.finish(world);
     outcome_after(ended, finished)
 }
 
 /// The tree of a text.
-fn tree_of_text(alloc: Global, text: &[u8]) -> Result<Tree, Refusal>
+fn parse_text(alloc: Global, text: &[u8]) -> Result<Tree, Refusal>
     ensures spelled { IfOk result (λ tree. IsSpelled text.now (tree_of tree)) }
     ensures only { (items : List ItemTree) → IsSpelled text.now items → ReadsOnly result items }
     ensures cause { IfErr result (λ refusal. RefusedFor refusal.code text.now) }
@@ -102,12 +96,12 @@ fn tree_of_text(alloc: Global, text: &[u8]) -> Result<Tree, Refusal>
 }
 
 /// The program of a text: a tree whose names fit.
-fn program(alloc: Global, text: &[u8]) -> Result<Tree, Refusal>
+fn read_program(alloc: Global, text: &[u8]) -> Result<Tree, Refusal>
     ensures accepted { IfOk result (λ tree. Accepted text.now (tree_of tree)) }
     ensures only { (items : List ItemTree) → Accepted text.now items → ReadsOnly result items }
     ensures cause { IfErr result (λ refusal. RefusedFor refusal.code text.now) }
 {
-    let tree = tree_of_text(alloc, text)?;
+    let tree = parse_text(alloc, text)?;
     match name_refusal(&tree.items) {
         Some(code) => Err(Refusal { code, line: 1 }),
         None => Ok(tree),
@@ -125,11 +119,12 @@ pub fn execute<W: World>(
     limit: u64,
     world: &mut W,
 ) -> Result<Outcome, Refusal>
-    ensures executed { Executed W.tells text.now (start_values start.now) limit (seen (W.is_open world.old) (W.log world.old) (W.mark world.old)) (seen (W.is_open world.new) (W.log world.new) (W.mark world.new)) result }
+    ensures executed { Executed W.is_logged text.now (start_values start.now) limit (W.state world.old)
+        (W.state world.new) result }
     ensures untouched { OnErr result (world.new ≡ world.old) }
 {
-    let tree = program(alloc, text)?;
-    Ok(run(alloc, &tree.items, start, limit, world))
+    let tree = read_program(alloc, text)?;
+    Ok(run_program(alloc, &tree.items, start, limit, world))
 }
 
 /// A text is at most one program.
@@ -139,5 +134,3 @@ pub fn one_program()
     awk_lex::lexer::one_lexing();
     awk_syntax::parse::one_tree();
 }
-
-ghost use Rattle.awk_run.specs.Operators.{stream_fault as fault_of};

@@ -1,6 +1,6 @@
 // What a run is started with.
 
-ghost use Rattle.awk_run.specs.Start.{IsPlain};
+ghost use Rattle.awk_run.specs.definitions.Start.{IsPlain};
 
 use std::alloc::Global;
 

@@ -2,44 +2,51 @@
 
 ghost use Rattle.awk_streams.specs.Streams.{AreOpen, IsSoundMain};
 ghost use Rattle.std.specs.Prelude.{◌≡◌};
-ghost use Rattle.awk_syntax.specs.Tree.{Evaluate, Print, Short};
-ghost use Rattle.awk_syntax.specs.View.{expr_of, exprs_of, statement_of, statements_of, item_of, items_of};
-ghost use Rattle.awk_run.specs.Does.{seen, Executes, ExecutesAll, Tries, TriesAll, BeginsItem, BeginsAll, ReadsAll, RunsItems};
-ghost use Rattle.awk_run.specs.Effect.{is_rule, has_rule};
+ghost use Rattle.awk_tree.specs.Tree.{Expression, Print, Pattern};
+ghost use Rattle.awk_tree.specs.View.{expr_of, exprs_of, statement_of, statements_of, item_of, items_of};
+ghost use Rattle.awk_run.specs.support.Evaluation.{Executes, ExecutesAll, Tries, TriesAll, BeginsItem, BeginsAll, ReadsAll, RunsItems};
+ghost use Rattle.awk_meaning.specs.Semantics.{is_rule, has_rule};
 
-use crate::expressions::{eval, holds, listed};
-use crate::halt::Halt;
-use crate::machine::Machine;
+use crate::expressions::{eval, holds, printed_values};
+use awk_interpreter::Interpreter;
+use awk_meaning::Halt;
 use awk_streams::World;
-use awk_syntax::tree::{Expr, Item, Statement};
+use awk_tree::tree::{Expr, Item, Statement};
 
 /// Prints the values of a list, or without one the record (POSIX awk, Output Statements).
-fn print<W: World>(list: &[Expr], machine: &mut Machine, world: &mut W) -> Result<(), Halt>
-    ensures { Executes W.tells (Print (exprs_of list.now)) machine.old (seen (W.is_open world.old) (W.log world.old) (W.mark world.old)) machine.new (seen (W.is_open world.new) (W.log world.new) (W.mark world.new)) result }
+fn print<W: World>(list: &[Expr], interpreter: &mut Interpreter, world: &mut W) -> Result<(), Halt>
+    ensures { Executes W.is_logged (Print (exprs_of list.now)) interpreter.old (W.state world.old)
+        interpreter.new (W.state world.new) result }
 {
-    machine.spend()?;
-    let values = listed(list, machine)?;
-    machine.show_values(world, &values)
+    interpreter.spend()?;
+    let values = printed_values(list, interpreter)?;
+    interpreter.print_line(world, &values)
 }
 
 /// Evaluates an expression, whose value is of no use.
-fn evaluate<W: World>(e: &Expr, machine: &mut Machine, world: &mut W) -> Result<(), Halt>
-    ensures { Executes W.tells (Evaluate (expr_of e.now)) machine.old (seen (W.is_open world.old) (W.log world.old) (W.mark world.old)) machine.new (seen (W.is_open world.new) (W.log world.new) (W.mark world.new)) result }
+fn evaluate<W: World>(e: &Expr, interpreter: &mut Interpreter, world: &mut W) -> Result<(), Halt>
+    ensures { Executes W.is_logged (Expression (expr_of e.now)) interpreter.old (W.state world.old)
+        interpreter.new (W.state world.new) result }
 {
-    machine.spend()?;
-    eval(e, machine)?;
+    interpreter.spend()?;
+    eval(e, interpreter)?;
     Ok(())
 }
 
 /// Executes a statement (POSIX awk, Actions).
 #[cycle(execution)]
-pub fn exec<W: World>(s: &Statement, machine: &mut Machine, world: &mut W) -> Result<(), Halt>
-    ensures { Executes W.tells (statement_of s.now) machine.old (seen (W.is_open world.old) (W.log world.old) (W.mark world.old)) machine.new (seen (W.is_open world.new) (W.log world.new) (W.mark world.new)) result }
+pub fn exec<W: World>(
+    s: &Statement,
+    interpreter: &mut Interpreter,
+    world: &mut W,
+) -> Result<(), Halt>
+    ensures { Executes W.is_logged (statement_of s.now) interpreter.old (W.state world.old) interpreter.new
+        (W.state world.new) result }
 {
     match s {
-        Statement::Block(all) => exec_all(all, machine, world),
-        Statement::Expression(e) => evaluate(e, machine, world),
-        Statement::Print(list) => print(list, machine, world),
+        Statement::Block(all) => exec_all(all, interpreter, world),
+        Statement::Expression(e) => evaluate(e, interpreter, world),
+        Statement::Print(list) => print(list, interpreter, world),
     }
 }
 
@@ -47,39 +54,42 @@ pub fn exec<W: World>(s: &Statement, machine: &mut Machine, world: &mut W) -> Re
 #[cycle(execution)]
 pub fn exec_all<W: World>(
     all: &[Statement],
-    machine: &mut Machine,
+    interpreter: &mut Interpreter,
     world: &mut W,
 ) -> Result<(), Halt>
-    ensures { ExecutesAll W.tells (statements_of all.now) machine.old (seen (W.is_open world.old) (W.log world.old) (W.mark world.old)) machine.new (seen (W.is_open world.new) (W.log world.new) (W.mark world.new)) result }
+    ensures { ExecutesAll W.is_logged (statements_of all.now) interpreter.old (W.state world.old)
+        interpreter.new (W.state world.new) result }
 {
     for s in all {
-        exec(s, machine, world)?;
+        exec(s, interpreter, world)?;
     }
     Ok(())
 }
 
 /// Prints the record at hand where an expression is true (POSIX awk, Patterns).
-fn try_pattern<W: World>(e: &Expr, machine: &mut Machine, world: &mut W) -> Result<(), Halt>
-    ensures { Tries W.tells (Short (expr_of e.now)) machine.old (seen (W.is_open world.old) (W.log world.old) (W.mark world.old)) machine.new (seen (W.is_open world.new) (W.log world.new) (W.mark world.new)) result }
+fn try_pattern<W: World>(e: &Expr, interpreter: &mut Interpreter, world: &mut W) -> Result<(), Halt>
+    ensures { Tries W.is_logged (Pattern (expr_of e.now)) interpreter.old (W.state world.old) interpreter.new
+        (W.state world.new) result }
 {
-    if holds(e, machine)? {
-        print(&[], machine, world)
+    if holds(e, interpreter)? {
+        print(&[], interpreter, world)
     } else {
         Ok(())
     }
 }
 
 /// Tries an item on the record at hand (POSIX awk, Patterns).
-fn try_item<W: World>(item: &Item, machine: &mut Machine, world: &mut W) -> Result<(), Halt>
-    ensures { Tries W.tells (item_of item.now) machine.old (seen (W.is_open world.old) (W.log world.old) (W.mark world.old)) machine.new (seen (W.is_open world.new) (W.log world.new) (W.mark world.new)) result }
+fn try_item<W: World>(item: &Item, interpreter: &mut Interpreter, world: &mut W) -> Result<(), Halt>
+    ensures { Tries W.is_logged (item_of item.now) interpreter.old (W.state world.old) interpreter.new
+        (W.state world.new) result }
 {
     match item {
         Item::Begin(_) => Ok(()),
-        Item::Always(block) => exec_all(block, machine, world),
-        Item::Pattern(e) => try_pattern(e, machine, world),
-        Item::Rule(e, block) => {
-            if holds(e, machine)? {
-                exec_all(block, machine, world)
+        Item::Action(block) => exec_all(block, interpreter, world),
+        Item::Pattern(e) => try_pattern(e, interpreter, world),
+        Item::PatternAction(e, block) => {
+            if holds(e, interpreter)? {
+                exec_all(block, interpreter, world)
             } else {
                 Ok(())
             }
@@ -88,46 +98,66 @@ fn try_item<W: World>(item: &Item, machine: &mut Machine, world: &mut W) -> Resu
 }
 
 /// Tries each item in turn.
-fn try_items<W: World>(items: &[Item], machine: &mut Machine, world: &mut W) -> Result<(), Halt>
-    ensures { TriesAll W.tells (items_of items.now) machine.old (seen (W.is_open world.old) (W.log world.old) (W.mark world.old)) machine.new (seen (W.is_open world.new) (W.log world.new) (W.mark world.new)) result }
+fn try_items<W: World>(
+    items: &[Item],
+    interpreter: &mut Interpreter,
+    world: &mut W,
+) -> Result<(), Halt>
+    ensures { TriesAll W.is_logged (items_of items.now) interpreter.old (W.state world.old) interpreter.new
+        (W.state world.new) result }
 {
     for item in items {
-        try_item(item, machine, world)?;
+        try_item(item, interpreter, world)?;
     }
     Ok(())
 }
 
 /// Runs the action of an item that comes before all records (POSIX awk, Patterns: BEGIN).
-fn begin_item<W: World>(item: &Item, machine: &mut Machine, world: &mut W) -> Result<(), Halt>
-    ensures { BeginsItem W.tells (item_of item.now) machine.old (seen (W.is_open world.old) (W.log world.old) (W.mark world.old)) machine.new (seen (W.is_open world.new) (W.log world.new) (W.mark world.new)) result }
+fn begin_item<W: World>(
+    item: &Item,
+    interpreter: &mut Interpreter,
+    world: &mut W,
+) -> Result<(), Halt>
+    ensures { BeginsItem W.is_logged (item_of item.now) interpreter.old (W.state world.old) interpreter.new
+        (W.state world.new) result }
 {
     match item {
-        Item::Begin(block) => exec_all(block, machine, world),
+        Item::Begin(block) => exec_all(block, interpreter, world),
         _ => Ok(()),
     }
 }
 
 /// Runs the actions that come before all records, in turn.
-fn begin_items<W: World>(items: &[Item], machine: &mut Machine, world: &mut W) -> Result<(), Halt>
-    ensures { BeginsAll W.tells (items_of items.now) machine.old (seen (W.is_open world.old) (W.log world.old) (W.mark world.old)) machine.new (seen (W.is_open world.new) (W.log world.new) (W.mark world.new)) result }
+fn begin_items<W: World>(
+    items: &[Item],
+    interpreter: &mut Interpreter,
+    world: &mut W,
+) -> Result<(), Halt>
+    ensures { BeginsAll W.is_logged (items_of items.now) interpreter.old (W.state world.old) interpreter.new
+        (W.state world.new) result }
 {
     for item in items {
-        begin_item(item, machine, world)?;
+        begin_item(item, interpreter, world)?;
     }
     Ok(())
 }
 
 /// Reads the main records to their end, and tries the items on each (POSIX awk, Overall Program
 /// Structure).
-fn run_records<W: World>(items: &[Item], machine: &mut Machine, world: &mut W) -> Result<(), Halt>
-    requires open { AreOpen (W.is_open world.old) machine.old.streams }
-    requires sound { W.tells → IsSoundMain (W.log world.old) machine.old.streams.main }
-    ensures { ReadsAll W.tells (items_of items.now) machine.old (seen (W.is_open world.old) (W.log world.old) (W.mark world.old)) machine.new (seen (W.is_open world.new) (W.log world.new) (W.mark world.new)) result }
+fn run_records<W: World>(
+    items: &[Item],
+    interpreter: &mut Interpreter,
+    world: &mut W,
+) -> Result<(), Halt>
+    requires open { AreOpen (W.state world.old) interpreter.old.streams }
+    requires sound { W.is_logged → IsSoundMain (W.state world.old).log interpreter.old.streams.main }
+    ensures { ReadsAll W.is_logged (items_of items.now) interpreter.old (W.state world.old) interpreter.new
+        (W.state world.new) result }
 {
-    while let Some(text) = machine.next_record(world)? {
-        machine.spend()?;
-        machine.begin_record(text)?;
-        try_items(items, machine, world)?;
+    while let Some(text) = interpreter.next_record(world)? {
+        interpreter.spend()?;
+        interpreter.begin_record(text)?;
+        try_items(items, interpreter, world)?;
     }
     Ok(())
 }
@@ -147,14 +177,19 @@ fn has_rule(items: &[Item]) -> bool
 
 /// Runs the actions before all records, and then the items on the main records; where there is no
 /// rule, none is read. (POSIX awk, Overall Program Structure)
-pub fn run_items<W: World>(items: &[Item], machine: &mut Machine, world: &mut W) -> Result<(), Halt>
-    requires open { AreOpen (W.is_open world.old) machine.old.streams }
-    requires sound { W.tells → IsSoundMain (W.log world.old) machine.old.streams.main }
-    ensures { RunsItems W.tells (items_of items.now) machine.old (seen (W.is_open world.old) (W.log world.old) (W.mark world.old)) machine.new (seen (W.is_open world.new) (W.log world.new) (W.mark world.new)) result }
+pub fn run_items<W: World>(
+    items: &[Item],
+    interpreter: &mut Interpreter,
+    world: &mut W,
+) -> Result<(), Halt>
+    requires open { AreOpen (W.state world.old) interpreter.old.streams }
+    requires sound { W.is_logged → IsSoundMain (W.state world.old).log interpreter.old.streams.main }
+    ensures { RunsItems W.is_logged (items_of items.now) interpreter.old (W.state world.old) interpreter.new
+        (W.state world.new) result }
 {
-    begin_items(items, machine, world)?;
+    begin_items(items, interpreter, world)?;
     if has_rule(items) {
-        run_records(items, machine, world)?;
+        run_records(items, interpreter, world)?;
     }
     Ok(())
 }

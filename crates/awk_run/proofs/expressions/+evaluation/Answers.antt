@@ -1,7 +1,7 @@
 use Rattle.std.proofs.Common.{rules, ap}
 use Rattle.std.proofs.lemmas.Result.{err_from_is_err_and}
-use Rattle.awk_syntax.specs.View.{expr_of}
-use Rattle.awk_run.proofs.Forms.{number_evaluates, string_evaluates, name_evaluates, group_evaluates, unary_ends, unary_gives, assign_ends, assign_not_put, assign_gives, field_ends, field_gives, binary_ends, binary_ends_right, binary_gives, binary_takes}
+use Rattle.awk_tree.specs.View.{expr_of}
+use Rattle.awk_run.proofs.Evaluation.{number_evaluates, string_evaluates, name_evaluates, group_evaluates, unary_ends, unary_gives, assign_ends, assign_not_put, assign_gives, field_ends, field_gives, binary_ends, binary_ends_right, binary_gives, binary_takes}
 use Rattle.awk_run.proofs.expressions.+evaluation.Goals as goal
 
 pub eval-returns-in-Number : goal.eval-returns-in-Number

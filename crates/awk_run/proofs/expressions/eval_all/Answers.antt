@@ -1,6 +1,6 @@
 use Rattle.std.proofs.Common.{sym, arith}
 use Rattle.std.proofs.lemmas.Result.{err_from_is_err_and}
-use Rattle.awk_run.proofs.Forms.{values_end, values_step, values_halt, values_full, expr_at, exprs_end}
+use Rattle.awk_run.proofs.Evaluation.{values_end, values_step, values_halt, values_full, expr_at, exprs_end}
 use Rattle.awk_run.proofs.expressions.eval_all.Goals as goal
 
 pub loop-e-preserved : goal.loop-e-preserved

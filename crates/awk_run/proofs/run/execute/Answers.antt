@@ -1,5 +1,5 @@
 use Rattle.std.proofs.lemmas.Result.{err_from_is_err_and}
-use Rattle.awk_syntax.specs.View.{tree_of}
+use Rattle.awk_tree.specs.View.{tree_of}
 use Rattle.awk_run.proofs.run.execute.Goals as goal
 
 pub returns-in_err-tree-clause-executed : goal.returns-in_err-tree-clause-executed
@@ -13,7 +13,7 @@ returns-in_err-tree-clause-executed g c =
 
 pub returns-clause-executed : goal.returns-clause-executed
 returns-clause-executed g c =
-    let ran = rw c.deref.ensures.value at c.run.ensures in
+    let ran = rw c.deref.ensures.value at c.run_program.ensures in
     record {
       cause = tt;
       refused = tt;

@@ -1,9 +1,9 @@
 use Rattle.std.proofs.Common.{◌≡◌, rules, sym, arith}
 use Rattle.std.proofs.lemmas.Result.{err_from_is_err_and}
-use Rattle.awk_syntax.specs.declared.tree.Statement.TheViews.{the_lemmas}
-use Rattle.awk_syntax.specs.View.{statement_of, statements_of}
-use Rattle.awk_syntax.specs.Tree.{Block}
-use Rattle.awk_run.proofs.Forms.{block_executes, all_end, all_halt, all_step, statement_at, statements_end, row_of_statements}
+use Rattle.awk_tree.specs.declared.tree.Statement.TheViews.{the_lemmas}
+use Rattle.awk_tree.specs.View.{statement_of, statements_of}
+use Rattle.awk_tree.specs.Tree.{Block}
+use Rattle.awk_run.proofs.Evaluation.{block_executes, all_end, all_halt, all_step, statement_at, statements_end, row_of_statements}
 use Rattle.awk_run.proofs.statements.+execution.Goals as goal
 
 pub exec-returns-in-Block : goal.exec-returns-in-Block

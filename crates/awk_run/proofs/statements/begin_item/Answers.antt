@@ -1,6 +1,6 @@
 use Rattle.std.proofs.Common.{ap}
-use Rattle.awk_syntax.specs.View.{item_of}
-use Rattle.awk_run.proofs.Forms.{begin_runs, begin_skips, rule_of}
+use Rattle.awk_tree.specs.View.{item_of}
+use Rattle.awk_run.proofs.Evaluation.{begin_runs, begin_skips, rule_of}
 use Rattle.awk_run.proofs.statements.begin_item.Goals as goal
 
 pub returns-in-Begin : goal.returns-in-Begin

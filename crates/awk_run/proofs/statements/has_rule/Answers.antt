@@ -2,9 +2,9 @@ use Rattle.std.proofs.Common.{rules, tests, ◌≡◌, ◌||◌, List, [], ◌�
 use Rattle.std.proofs.lemmas.Iterator.{YieldsList-from_slice}
 use Rattle.std.proofs.lemmas.Iterator.Search.{any_from_yields_List}
 use Rattle.std.specs.List.{list_any}
-use Rattle.awk_syntax.specs.declared.tree.Item.{Item}
-use Rattle.awk_syntax.specs.View.{item_of, items_of}
-use Rattle.awk_run.specs.Effect.{is_rule, has_rule}
+use Rattle.awk_tree.specs.declared.tree.Item.{Item}
+use Rattle.awk_tree.specs.View.{item_of, items_of}
+use Rattle.awk_meaning.specs.Semantics.{is_rule, has_rule}
 use Rattle.awk_run.proofs.statements.has_rule.Goals as goal
 
 list_any-has_rule : (items : List Item) → list_any (λ item. is_rule (item_of item)) items ≡ has_rule (items_of items)

@@ -1,5 +1,5 @@
 use Rattle.std.proofs.lemmas.Result.{err_from_is_err_and}
-use Rattle.awk_run.proofs.Forms.{print_stops, print_ends, print_shows}
+use Rattle.awk_run.proofs.Evaluation.{print_stops, print_ends, print_shows}
 use Rattle.awk_run.proofs.statements.print.Goals as goal
 
 pub returns-in_err-spend : goal.returns-in_err-spend
@@ -13,4 +13,4 @@ returns-in_err-values g c =
     rw (p.1, p.2) (print_ends c.in_ok-spend.ensures c.in_err-values.ensures)
 
 pub returns : goal.returns
-returns g c = print_shows c.in_ok-spend.ensures c.in_ok-values.ensures (rw c.deref.ensures.value at c.show_values.ensures)
+returns g c = print_shows c.in_ok-spend.ensures c.in_ok-values.ensures (rw c.deref.ensures.value at c.print_line.ensures)

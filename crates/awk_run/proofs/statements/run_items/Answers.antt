@@ -1,6 +1,6 @@
 use Rattle.std.proofs.Common.{sym, ◌∙◌}
 use Rattle.std.proofs.lemmas.Result.{err_from_is_err_and}
-use Rattle.awk_run.proofs.Forms.{runs_halts, runs_none, runs_some}
+use Rattle.awk_run.proofs.Evaluation.{runs_halts, runs_none, runs_some}
 use Rattle.awk_run.proofs.statements.run_items.Goals as goal
 
 pub returns-in_err-begin_items : goal.returns-in_err-begin_items

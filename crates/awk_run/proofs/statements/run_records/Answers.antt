@@ -1,5 +1,5 @@
 use Rattle.std.proofs.lemmas.Result.{err_from_is_err_and}
-use Rattle.awk_run.proofs.Forms.{reading_ends, reading_over, reading_stops, reading_unset, reading_halts, reading_goes, reading_open, reading_sound, reads_all}
+use Rattle.awk_run.proofs.Evaluation.{reading_ends, reading_over, reading_stops, reading_unset, reading_halts, reading_goes, reading_open, reading_sound, reads_all}
 use Rattle.awk_run.proofs.statements.run_records.Goals as goal
 
 pub returns-in_err-text : goal.returns-in_err-text

@@ -1,6 +1,6 @@
 use Rattle.std.proofs.Common.{sym, arith}
 use Rattle.std.proofs.lemmas.Result.{err_from_is_err_and}
-use Rattle.awk_run.proofs.Forms.{items_end, items_halt, items_step, item_at, items_over}
+use Rattle.awk_run.proofs.Evaluation.{items_end, items_halt, items_step, item_at, items_over}
 use Rattle.awk_run.proofs.statements.try_items.Goals as goal
 
 pub loop-item-preserved : goal.loop-item-preserved

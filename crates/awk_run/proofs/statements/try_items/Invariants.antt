@@ -1,13 +1,14 @@
 use Rattle.std.proofs.Common.{drop, Result}
-use Rattle.awk_syntax.specs.View.{items_of}
-use Rattle.awk_run.specs.declared.machine.Machine.{Machine}
-use Rattle.awk_run.specs.declared.halt.Halt.{Halt}
-use Rattle.awk_run.specs.Does.{Seen, seen, TriesAll}
+use Rattle.awk_tree.specs.View.{items_of}
+use Rattle.awk_interpreter.specs.declared.interpreter.Interpreter.{Interpreter}
+use Rattle.awk_meaning.specs.declared.halt.Halt.{Halt}
+use Rattle.awk_streams.specs.WorldState.{WorldState}
+use Rattle.awk_run.specs.support.Evaluation.{TriesAll}
 use Rattle.awk_run.proofs.statements.try_items.Given as goal
 
 abbrev pub invariant-loop-item : goal.invariant-loop-item
 invariant-loop-item g l =
     let w = g.W.World in
-    (new : Machine) (after : Seen) (r : Result (Unit {0}) Halt) →
-    TriesAll w.tells (items_of (drop l.item-index l.items)) l.machine (seen (w.is_open l.world) (w.log l.world) (w.mark l.world)) new after r →
-    TriesAll w.tells (items_of l.items) l.fn.machine (seen (w.is_open l.fn.world) (w.log l.fn.world) (w.mark l.fn.world)) new after r
+    (new : Interpreter) (after : WorldState) (r : Result (Unit {0}) Halt) →
+    TriesAll w.is_logged (items_of (drop l.item-index l.items)) l.interpreter (w.state l.world) new after r →
+    TriesAll w.is_logged (items_of l.items) l.fn.interpreter (w.state l.fn.world) new after r

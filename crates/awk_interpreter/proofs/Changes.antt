@@ -1,0 +1,323 @@
+-- What the primitives that touch the code's own state alone do to it.
+use Rattle.std.proofs.Common.{◌≡◌, ℕ, ℤ, pos, suc, Bool, true, false, List, [], Option, Some, None, Result, Ok, Err, IfOk, IfErr, OnErr, ◌⊎◌, inl, inr, length, unwrap_or, slice_get, int_lt, refl, sym, ap, ◌∙◌, subst, arith}
+use Rattle.std.specs.Prelude.{codes, bytes_eq, if◌then◌else◌, IfSome, IfNone}
+use Rattle.awk_text.specs.declared.separator.Separator.{Separator}
+use Rattle.awk_text.specs.Pieces.{separator_of}
+use Rattle.awk_value.specs.declared.value.Value.{Value}
+use Rattle.awk_value.specs.declared.value.Value.TheVariants as value
+use Rattle.awk_value.specs.declared.fault.ValueFault.{ValueFault}
+use Rattle.awk_value.specs.declared.fault.ValueFault.TheVariants as values
+use Rattle.awk_value.specs.Values.{num_of, str_of}
+use Rattle.awk_record.specs.Record.{split_by}
+use Rattle.awk_interpreter.specs.declared.interpreter.Interpreter.{Interpreter}
+use Rattle.awk_operands.specs.declared.arguments.Arguments.{Arguments}
+use Rattle.awk_meaning.specs.declared.halt.Halt.{Halt}
+use Rattle.awk_meaning.specs.declared.halt.Halt.TheVariants as halt
+use Rattle.awk_meaning.specs.declared.fault.Fault.TheVariants.{PatternRefused}
+use Rattle.awk_variables.specs.declared.special.Special.{Special}
+use Rattle.awk_variables.specs.declared.special.Special.TheVariants.{Argc, Convfmt, Filename, Fnr, Fs, Nr, Ofmt, Ofs, Ors, Rlength, Rs, Rstart, Subsep}
+use Rattle.awk_variables.specs.declared.fault.VariableFault.{VariableFault}
+use Rattle.awk_variables.specs.declared.fault.VariableFault.TheVariants.{Memory, Pattern}
+use Rattle.awk_meaning.specs.State.{State, lift}
+use Rattle.awk_variables.specs.Variables.{value_of, name_of, with_value, is_refused}
+use Rattle.awk_meaning.specs.Operators.{field_value, raised}
+use Rattle.awk_meaning.specs.Faults.{variable_fault, value_fault}
+use Rattle.awk_meaning.specs.Primitives.{value_in, read_name, put, put_unless, count_in, field_at, record_text, split_as, set_record, note_input, begin_input, argument_if, argument_below, take_argument, is_input_seen}
+use Rattle.awk_meaning.specs.Semantics.{begin_record}
+use Rattle.awk_operands.specs.Operands.{is_below, IsFaultOf}
+use Rattle.awk_interpreter.specs.support.Simulation.{OwnRelation, Changes, SameState}
+use Rattle.awk_meaning.specs.Results.{Yields, IsWantOfMemory}
+use Rattle.awk_interpreter.proofs.Composition.{same_part, own_changes, beside_holds, reads_changes, then_changes, ends_changes, lift_changes, memory_changes}
+
+-- reading names
+
+value_by : (x : List ℕ) (b : Bool) → bytes_eq x (codes "NF") ≡ b → (s : State) → value_in s x ≡ (if b then value.Number (pos (length s.current.fields)) else s.variables x)
+value_by x b e s = rw e refl
+
+pub read_count : (x : List ℕ) {old new : Interpreter} {v : Value} → bytes_eq x (codes "NF") ≡ true → SameState old new → v ≡ value.Number (pos (length old.current.fields)) → Changes (read_name x) old new (Ok v)
+unfolding read_name
+read_count x {v = v} is same e =
+    reads_changes _ (λ s. Ok (value_in s x)) (λ s. refl) same (λ s h. ap (λ w. Ok w) (value_by x true is s ∙ ap (λ r. value.Number (pos (length r.fields))) h.current ∙ sym e))
+
+pub read_value : (x : List ℕ) {old new : Interpreter} {v : Value} → bytes_eq x (codes "NF") ≡ false → SameState old new → v ≡ value_of old.variables x → Changes (read_name x) old new (Ok v)
+unfolding read_name
+read_value x {v = v} is same e =
+    reads_changes _ (λ s. Ok (value_in s x)) (λ s. refl) same (λ s h. ap (λ w. Ok w) (value_by x false is s ∙ h.variables x ∙ sym e))
+
+-- giving names values
+
+pub record IsPut (x : List ℕ) (v : Value) (old new : Interpreter) : Type 0 where
+  pub variables : (y : List ℕ) → value_of new.variables y ≡ with_value (value_of old.variables) x v y
+  pub current : new.current ≡ old.current
+  pub arguments : new.arguments ≡ old.arguments
+  pub streams : new.streams ≡ old.streams
+  pub steps : new.steps ≡ old.steps
+
+put_holds : (x : List ℕ) (v : Value) {old new : Interpreter} (s : State) → IsPut x v old new → OwnRelation old s → OwnRelation new (record s { variables = with_value s.variables x v })
+put_holds x v {old = old} s is h = record {
+  current = h.current ∙ sym is.current;
+  variables = λ y. with_same x v s.variables (value_of old.variables) y (h.variables y) ∙ sym (is.variables y);
+  arguments = h.arguments ∙ ap (λ a. a.words.items) (sym is.arguments);
+  next = h.next ∙ ap (λ a. a.next) (sym is.arguments);
+  input_seen = h.input_seen ∙ ap (λ a. a.input_seen) (sym is.arguments);
+  steps = h.steps ∙ sym is.steps;
+}
+  where
+    chosen : (b : Bool) (v a c : Value) → a ≡ c → (if b then v else a) ≡ (if b then v else c)
+    chosen b v a c e = ap (λ z. if b then v else z) e
+
+    with_same : (x : List ℕ) (v : Value) (f g : List ℕ → Value) (y : List ℕ) → f y ≡ g y → with_value f x v y ≡ with_value g x v y
+    with_same x v f g y e = chosen (bytes_eq x y) v (f y) (g y) e
+
+pub put_changes : (x : List ℕ) (v : Value) {old new : Interpreter} → is_refused x v ≡ false → IsPut x v old new → Changes (put x v) old new (Ok tt)
+unfolding put
+put_changes x v taken is =
+    own_changes _ is.streams (omega (arith, is.steps)) (λ s h. record {
+      result = Ok tt;
+      state = record s { variables = with_value s.variables x v };
+      is = ap (λ b. put_unless b x v s) taken;
+      part = record { outside = refl; openings = refl; main = refl };
+      matches = refl;
+      holds = put_holds x v s is h;
+    })
+
+pub put_refused : (x : List ℕ) (v : Value) {old new : Interpreter} → is_refused x v ≡ true → SameState old new → Changes (put x v) old new (Err (halt.Fault PatternRefused))
+unfolding put
+put_refused x v refused same =
+    reads_changes _ (λ s. Err (halt.Fault PatternRefused)) (λ s. ap (λ b. put_unless b x v s) refused) same (λ s h. refl)
+
+abbrev pub failed : VariableFault → Result (Unit {0}) VariableFault
+failed e = Err e
+
+pub put_fails : (x : List ℕ) (v : Value) (e : VariableFault) {old new : Interpreter} → (e ≡ Pattern → is_refused x v ≡ true) → SameState old new → Changes (put x v) old new (Err (halt.Fault (variable_fault e)))
+put_fails x v Memory why same = memory_changes _ same.streams (omega (arith, same.beside.steps))
+put_fails x v Pattern why same = put_refused x v (why refl) same
+
+-- counting
+
+not_nf : (x : Special) → bytes_eq (name_of x) (codes "NF") ≡ false
+not_nf Argc = refl
+not_nf Convfmt = refl
+not_nf Filename = refl
+not_nf Fnr = refl
+not_nf Fs = refl
+not_nf Nr = refl
+not_nf Ofmt = refl
+not_nf Ofs = refl
+not_nf Ors = refl
+not_nf Rlength = refl
+not_nf Rs = refl
+not_nf Rstart = refl
+not_nf Subsep = refl
+
+pub still : (m : Interpreter) → SameState m m
+still m = record { beside = record { current = refl; variables = refl; arguments = refl; steps = refl }; streams = refl }
+
+pub count_ends : (x : Special) {m : Interpreter} {h : Halt} → Yields {A = Value} (Err h) (raised (value_of m.variables (name_of x))) → Changes (count_in x) m m (Err h)
+unfolding count_in
+count_ends x {m = m} e = then_changes _ (read_value (name_of x) (not_nf x) (still m) refl) (ends_changes _ (lift_changes _ m e))
+
+pub count_gives : (x : Special) {old new : Interpreter} {w : Value} {r : Result (Unit {0}) Halt} → Yields (Ok w) (raised (value_of old.variables (name_of x))) → Changes (put (name_of x) w) old new r → Changes (count_in x) old new r
+unfolding count_in
+count_gives x {old = old} e p = then_changes _ (read_value (name_of x) (not_nf x) (still old) refl) (then_changes _ (lift_changes _ old e) p)
+
+-- beginning an input
+
+pub input_ends : (name : List ℕ) {old new : Interpreter} {h : Halt} → Changes (put (name_of Filename) (value.Input name)) old new (Err h) → Changes (begin_input name) old new (Err h)
+unfolding begin_input
+input_ends name p = ends_changes _ p
+
+pub input_ends_later : (name : List ℕ) {old mid new : Interpreter} {h : Halt} → Changes (put (name_of Filename) (value.Input name)) old mid (Ok tt) → Changes (put (name_of Fnr) (value.Number (pos 0))) mid new (Err h) → Changes (begin_input name) old new (Err h)
+unfolding begin_input
+input_ends_later name p q = then_changes _ p (ends_changes _ q)
+
+pub input_begins : (name : List ℕ) {old mid later new : Interpreter} {r : Result (Unit {0}) Halt} → Changes (put (name_of Filename) (value.Input name)) old mid (Ok tt) → Changes (put (name_of Fnr) (value.Number (pos 0))) mid later (Ok tt) → Changes note_input later new r → Changes (begin_input name) old new r
+unfolding begin_input
+input_begins name p q r = then_changes _ p (then_changes _ q r)
+
+pub input_changes : {old new : Interpreter} → new.current ≡ old.current → new.variables ≡ old.variables → new.arguments.words ≡ old.arguments.words → new.arguments.next ≡ old.arguments.next → new.arguments.input_seen ≡ true → new.streams ≡ old.streams → new.steps ≡ old.steps → Changes note_input old new (Ok tt)
+unfolding note_input
+input_changes {old = old} {new = new} current variables words next input_seen streams steps =
+    own_changes _ streams (omega (arith, steps)) (λ s h. record {
+      result = Ok tt;
+      state = record s { input_seen = true };
+      is = refl;
+      part = record { outside = refl; openings = refl; main = refl };
+      matches = refl;
+      holds = record {
+        current = h.current ∙ sym current;
+        variables = λ x. h.variables x ∙ ap (λ v. value_of v x) (sym variables);
+        arguments = h.arguments ∙ ap (λ w. w.items) (sym words);
+        next = h.next ∙ sym next;
+        input_seen = sym input_seen;
+        steps = h.steps ∙ sym steps;
+      };
+    })
+
+-- the record
+
+pub field_changes : (v : Value) {old new : Interpreter} {c : Result Value Halt} → SameState old new → Yields c (field_value old.current v) → Changes (field_at v) old new c
+unfolding field_at
+field_changes v {c = c} same e =
+    reads_changes _ (λ s. field_value s.current v) (λ s. refl) same (λ s h. subst (λ r. Yields c (field_value r v)) (sym h.current) e)
+
+pub text_changes : {old new : Interpreter} {v : Value} → SameState old new → v ≡ value.Input old.current.text → Changes record_text old new (Ok v)
+unfolding record_text
+text_changes {v = v} same e =
+    reads_changes _ (λ s. Ok (value.Input s.current.text)) (λ s. refl) same (λ s h. ap (λ r. Ok (value.Input r.text)) h.current ∙ ap (λ w. Ok w) (sym e))
+
+pub record_changes : (text : List ℕ) (separator : Separator) {old new : Interpreter} → separator_of (str_of (value_of old.variables (name_of Fs))) ≡ Ok separator → new.current ≡ split_by separator text → new.variables ≡ old.variables → new.arguments ≡ old.arguments → new.streams ≡ old.streams → new.steps ≡ old.steps → Changes (set_record text) old new (Ok tt)
+unfolding set_record
+record_changes text separator {old = old} {new = new} sep is variables arguments streams steps =
+    own_changes _ streams (omega (arith, steps)) (λ s h. record {
+      result = Ok tt;
+      state = record s { current = split_by separator text };
+      is = ap (λ v. split_as (separator_of (str_of v)) text s) (h.variables (name_of Fs)) ∙ ap (λ r. split_as r text s) sep;
+      part = record { outside = refl; openings = refl; main = refl };
+      matches = refl;
+      holds = record {
+        current = sym is;
+        variables = λ x. h.variables x ∙ ap (λ v. value_of v x) (sym variables);
+        arguments = h.arguments ∙ ap (λ a. a.words.items) (sym arguments);
+        next = h.next ∙ ap (λ a. a.next) (sym arguments);
+        input_seen = h.input_seen ∙ ap (λ a. a.input_seen) (sym arguments);
+        steps = h.steps ∙ sym steps;
+      };
+    })
+
+-- the elements of ARGV
+
+below_of : (m : Interpreter) (s : State) (n : Result ℤ ValueFault) → OwnRelation m s → num_of (value_of m.variables (name_of Argc)) ≡ n → take_argument s ≡ argument_below n s
+unfolding take_argument
+below_of m s n h e = ap (λ v. argument_below (num_of v) s) (h.variables (name_of Argc)) ∙ ap (λ r. argument_below r s) e
+
+matches_fault : (fault : ValueFault) → Yields {A = Option (List ℕ)} (Err (halt.Fault (value_fault fault))) (Err (halt.Fault (value_fault fault)))
+matches_fault values.Memory = tt
+matches_fault values.Range = refl
+matches_fault values.ZeroDivisor = refl
+
+argument_ends : (m : Interpreter) {new : Interpreter} (fault : ValueFault) → num_of (value_of m.variables (name_of Argc)) ≡ Err fault → SameState m new → Changes take_argument m new (Err (halt.Fault (value_fault fault)))
+argument_ends m fault e same =
+    own_changes _ same.streams (omega (arith, same.beside.steps)) (λ s holds. record {
+      result = Err (halt.Fault (value_fault fault));
+      state = s;
+      is = below_of m s (Err fault) holds e;
+      part = same_part s;
+      matches = matches_fault fault;
+      holds = beside_holds same.beside holds;
+    })
+
+argument_none : (m : Interpreter) {new : Interpreter} (n : ℤ) → num_of (value_of m.variables (name_of Argc)) ≡ Ok n → int_lt m.arguments.next n ≡ false → SameState m new → Changes take_argument m new (Ok None)
+argument_none m n e past same =
+    own_changes _ same.streams (omega (arith, same.beside.steps)) (λ s holds. record {
+      result = Ok None;
+      state = s;
+      is = below_of m s (Ok n) holds e ∙ ap (λ i. argument_if (int_lt i n) s) holds.next ∙ ap (λ b. argument_if b s) past;
+      part = same_part s;
+      matches = refl;
+      holds = beside_holds same.beside holds;
+    })
+
+argument_some : (old : Interpreter) {new : Interpreter} (n : ℤ) {word : List ℕ} → num_of (value_of old.variables (name_of Argc)) ≡ Ok n → int_lt old.arguments.next n ≡ true
+    → ((i : ℕ) → old.arguments.next ≡ pos i → word ≡ unwrap_or (slice_get old.arguments.words.items i) [])
+    → ((i : ℕ) → old.arguments.next ≡ pos i → new.arguments.next ≡ pos (suc i))
+    → new.current ≡ old.current → new.variables ≡ old.variables → new.arguments.words ≡ old.arguments.words → new.arguments.input_seen ≡ old.arguments.input_seen → new.streams ≡ old.streams → new.steps ≡ old.steps
+    → Changes take_argument old new (Ok (Some word))
+argument_some old {new = new} n {word = word} e more is next current variables words input_seen streams steps =
+    own_changes _ streams (omega (arith, steps)) (λ s h. record {
+      result = Ok (Some (unwrap_or (slice_get s.arguments s.next) []));
+      state = record s { next = suc s.next };
+      is = below_of old s (Ok n) h e ∙ ap (λ i. argument_if (int_lt i n) s) h.next ∙ ap (λ b. argument_if b s) more;
+      part = record { outside = refl; openings = refl; main = refl };
+      matches = ap (λ w. Ok (Some w)) (ap (λ l. unwrap_or (slice_get l s.next) []) h.arguments ∙ sym (is s.next (sym h.next)));
+      holds = record {
+        current = h.current ∙ sym current;
+        variables = λ x. h.variables x ∙ ap (λ v. value_of v x) (sym variables);
+        arguments = h.arguments ∙ ap (λ w. w.items) (sym words);
+        next = sym (next s.next (sym h.next));
+        input_seen = h.input_seen ∙ sym input_seen;
+        steps = h.steps ∙ sym steps;
+      };
+    })
+
+-- what the taking of an element tells
+pub record TakesWord (old new : Interpreter) (n : Result ℤ ValueFault) (found : Option (List ℕ)) : Type 0 where
+  pub words : new.arguments.words ≡ old.arguments.words
+  pub input_seen : new.arguments.input_seen ≡ old.arguments.input_seen
+  pub none : IfNone found (is_below old.arguments.next n ≡ Ok false)
+  pub some : IfSome found (λ word. is_below old.arguments.next n ≡ Ok true)
+  pub word : IfSome found (λ word. (i : ℕ) → old.arguments.next ≡ pos i → word ≡ unwrap_or (slice_get old.arguments.words.items i) [])
+  pub next : IfSome found (λ word. (i : ℕ) → old.arguments.next ≡ pos i → new.arguments.next ≡ pos (suc i))
+  pub still : IfNone found (new.arguments.next ≡ old.arguments.next)
+
+same_arguments : (a b : Arguments) → a.words ≡ b.words → a.next ≡ b.next → a.input_seen ≡ b.input_seen → a ≡ b
+same_arguments a b words next input_seen = ap (λ w. record { words = w; next = a.next; input_seen = a.input_seen }) words ∙ ap (λ n. record { words = b.words; next = n; input_seen = a.input_seen }) next ∙ ap (λ v. record { words = b.words; next = b.next; input_seen = v }) input_seen
+
+-- all but the elements is the same
+pub record SameButArguments (old new : Interpreter) : Type 0 where
+  pub current : new.current ≡ old.current
+  pub variables : new.variables ≡ old.variables
+  pub streams : new.streams ≡ old.streams
+  pub steps : new.steps ≡ old.steps
+
+with_arguments : {old new : Interpreter} → SameButArguments old new → new.arguments.words ≡ old.arguments.words → new.arguments.next ≡ old.arguments.next → new.arguments.input_seen ≡ old.arguments.input_seen → SameState old new
+with_arguments {old = old} {new = new} same words next input_seen = record { beside = record { current = same.current; variables = same.variables; arguments = same_arguments new.arguments old.arguments words next input_seen; steps = same.steps }; streams = same.streams }
+
+count_below : (next : ℤ) (r : Result ℤ ValueFault) (b : Bool) → is_below next r ≡ Ok b → (n : ℤ) × (r ≡ Ok n) × (int_lt next n ≡ b)
+count_below next (Ok n) b e = (n, refl, (cc))
+count_below next (Err fault) b e = absurd (cc)
+
+pub argument_taken : (old : Interpreter) {new : Interpreter} (found : Option (List ℕ)) → TakesWord old new (num_of (value_of old.variables (name_of Argc))) found → SameButArguments old new → Changes take_argument old new (Ok found)
+argument_taken old None told same =
+    let n = count_below _ _ false told.none in
+    argument_none old n.0 n.1 n.2 (with_arguments same told.words told.still told.input_seen)
+argument_taken old (Some word) told same =
+    let n = count_below _ _ true told.some in
+    argument_some old n.0 n.1 n.2 told.word told.next same.current same.variables told.words told.input_seen same.streams same.steps
+
+argument_faults : (old : Interpreter) {new : Interpreter} (r : Result ℤ ValueFault) (h : Halt) → num_of (value_of old.variables (name_of Argc)) ≡ r → IsFaultOf r h → SameState old new → Changes take_argument old new (Err h)
+argument_faults old (Ok n) h is e same = absurd e
+argument_faults old (Err fault) h is e same = rw e (argument_ends old fault is same)
+
+pub argument_not_taken : (old : Interpreter) {new : Interpreter} (h : Halt) → IsWantOfMemory h ⊎ IsFaultOf (num_of (value_of old.variables (name_of Argc))) h → new.arguments.words ≡ old.arguments.words → new.arguments.next ≡ old.arguments.next → new.arguments.input_seen ≡ old.arguments.input_seen → SameButArguments old new → Changes take_argument old new (Err h)
+argument_not_taken old h (inl e) words next input_seen same = rw e (memory_changes _ same.streams (omega (arith, same.steps)))
+argument_not_taken old h (inr e) words next input_seen same = argument_faults old _ h refl e (with_arguments same words next input_seen)
+
+pub argument_takes : (old : Interpreter) {new : Interpreter} (r : Result (Option (List ℕ)) Halt) (count : Value) → count ≡ value_of old.variables (name_of Argc)
+    → new.arguments.words ≡ old.arguments.words → new.arguments.input_seen ≡ old.arguments.input_seen
+    → IfOk r (λ found. IfNone found (is_below old.arguments.next (num_of count) ≡ Ok false))
+    → IfOk r (λ found. IfSome found (λ word. is_below old.arguments.next (num_of count) ≡ Ok true))
+    → IfOk r (λ found. IfSome found (λ word. (i : ℕ) → old.arguments.next ≡ pos i → word ≡ unwrap_or (slice_get old.arguments.words.items i) []))
+    → IfOk r (λ found. IfSome found (λ word. (i : ℕ) → old.arguments.next ≡ pos i → new.arguments.next ≡ pos (suc i)))
+    → IfOk r (λ found. IfNone found (new.arguments.next ≡ old.arguments.next))
+    → OnErr r (new.arguments.next ≡ old.arguments.next)
+    → IfErr r (λ h. IsWantOfMemory h ⊎ IsFaultOf (num_of count) h)
+    → SameButArguments old new → Changes take_argument old new r
+argument_takes old (Ok found) count is words input_seen none some word next still err fault same =
+    argument_taken old found (rw (← is) (record { words = words; input_seen = input_seen; none = none; some = some; word = word; next = next; still = still })) same
+argument_takes old (Err h) count is words input_seen none some word next still err fault same =
+    argument_not_taken old h (rw is at fault) words err input_seen same
+
+pub input_changes_nothing : (m : Interpreter) → Changes is_input_seen m m (Ok m.arguments.input_seen)
+unfolding is_input_seen
+input_changes_nothing m = reads_changes _ (λ s. Ok s.input_seen) (λ s. refl) (still m) (λ s h. ap (λ b. Ok b) h.input_seen)
+
+-- beginning a record
+
+pub record_ends : (text : List ℕ) {old new : Interpreter} {h : Halt} → Changes (set_record text) old new (Err h) → Changes (begin_record text) old new (Err h)
+unfolding begin_record
+record_ends text p = ends_changes _ p
+
+pub record_ends_later : (text : List ℕ) {old mid new : Interpreter} {h : Halt} → Changes (set_record text) old mid (Ok tt) → Changes (count_in Nr) mid new (Err h) → Changes (begin_record text) old new (Err h)
+unfolding begin_record
+record_ends_later text p q = then_changes _ p (ends_changes _ q)
+
+pub record_begins : (text : List ℕ) {old mid later new : Interpreter} {r : Result (Unit {0}) Halt} → Changes (set_record text) old mid (Ok tt) → Changes (count_in Nr) mid later (Ok tt) → Changes (count_in Fnr) later new r → Changes (begin_record text) old new r
+unfolding begin_record
+record_begins text p q r = then_changes _ p (then_changes _ q r)
+
+-- what takes values and kept patterns alone
+
+pub applied_changes : (v : Result Value Halt) {old new : Interpreter} {c : Result Value Halt} → SameState old new → Yields c v → Changes (lift v) old new c
+unfolding lift
+applied_changes v same e = reads_changes _ (λ s. v) (λ s. refl) same (λ s h. e)

@@ -1,0 +1,4 @@
+pub mod Changes
+pub mod Composition
+pub mod WorldCalls
+pub mod Seeks

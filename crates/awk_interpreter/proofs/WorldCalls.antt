@@ -1,0 +1,355 @@
+-- What the calls of the streams do to the state of a run.
+use Rattle.std.proofs.lemmas.Bool.Decides.{nat_tests}
+use Rattle.std.proofs.Common.{length, ◌==◌, ◌≡◌, ◌≢◌, ℕ, ◌+◌, true, false, ◌&&◌, List, [], ◌∷◌, ◌++◌, Option, Some, None, is_some, Result, Ok, Err, IfErr, ◌⊎◌, inl, inr, refl, sym, ap, ◌∙◌, subst, append-nil, arith}
+use Rattle.std.specs.Prelude.{bytes_eq}
+use Rattle.awk_value.specs.declared.value.Value.{Value}
+use Rattle.awk_value.specs.Values.{str_of}
+use Rattle.awk_record.specs.Cut.{Cut, Found, NoMore, BrokenOff, TooLong, BadSeparator, cut_of}
+use Rattle.awk_streams.specs.declared.world.InputKind.{InputKind}
+use Rattle.awk_streams.specs.declared.fault.StreamFault.{StreamFault}
+use Rattle.awk_streams.specs.declared.fault.StreamFault.TheVariants.{Memory, WriteFailed, InputNotReadable, SeparatorTooLong, RecordTooLong}
+use Rattle.awk_streams.specs.Log as log
+use Rattle.awk_streams.specs.Oracle.{Oracle, Source, IsConsistent, one_if, same_input, how_many, opens_input}
+use Rattle.awk_streams.specs.Writes.{received}
+use Rattle.awk_streams.specs.Told.{NextTold}
+use Rattle.awk_streams.specs.Streams.{InputView, AreOpen, IsMainRest, IsFreshMain, OpensMain, AsksMain, EndsMain, Prints}
+use Rattle.awk_streams.specs.Outputs.{IsOutputFault}
+use Rattle.awk_interpreter.specs.declared.interpreter.Interpreter.{Interpreter}
+use Rattle.awk_meaning.specs.declared.halt.Halt.TheVariants as halt
+use Rattle.awk_meaning.specs.declared.fault.Fault.TheVariants as faults
+use Rattle.awk_meaning.specs.State.{StandardOutput, StandardError, AnOpening, ARecord, Effect, Printed, Requested, State, Out, lift}
+use Rattle.awk_variables.specs.declared.special.Special.TheVariants.{Ofs, Ors, Rs}
+use Rattle.awk_variables.specs.Variables.{value_of, name_of}
+use Rattle.awk_meaning.specs.Operators.{line_of}
+use Rattle.awk_meaning.specs.Primitives.{print_bytes, print_line, counted, opened, open_main, with_rest, taken, taken_of, take_record, close_main}
+use Rattle.awk_meaning.specs.Meaning.{printed_to}
+use Rattle.awk_streams.specs.WorldState.{WorldState}
+use Rattle.awk_interpreter.specs.support.Simulation.{OwnRelation, StateRelation, ResultRelation, SimulatesLogged, Simulates, Follows, ClosesMainInput, Beside, halted}
+use Rattle.awk_interpreter.proofs.Composition.{beside_holds, grows_refl}
+use Rattle.awk_meaning.proofs.LawOfLimits.{printed_to-append}
+
+-- a state whose main input alone is another stands for the same
+at_main : (m : Interpreter) (s : State) (openings : InputKind → List ℕ → ℕ) (main : Option Source) → OwnRelation m s → OwnRelation m (record s { openings = openings; main = main })
+at_main m s openings main h = record { current = h.current; variables = h.variables; arguments = h.arguments; next = h.next; input_seen = h.input_seen; steps = h.steps }
+
+-- printing
+
+-- the line that the code prints of values
+abbrev pub interpreter_line : Interpreter → List Value → List ℕ
+interpreter_line m vs = line_of (str_of (value_of m.variables (name_of Ofs))) (str_of (value_of m.variables (name_of Ors))) vs
+
+shown : (oracle : Oracle) (old new : Interpreter) (before after : WorldState) (s : State) (past : List Effect) (bytes : List ℕ) → Beside old new
+    → Prints bytes before old.streams (Ok tt) after new.streams
+    → StateRelation oracle old before s past → StateRelation oracle new after s (past ++ Printed StandardOutput bytes ∷ [])
+shown oracle old new before after s past bytes beside told stands = record {
+  clear = told.no_failure ∙ stands.clear;
+  outside = stands.outside;
+  openings = λ kind name. stands.openings kind name ∙ sym (told.counts.inputs kind name);
+  main = told.rest oracle s.main stands.main;
+  holds = beside_holds beside stands.holds;
+  output = told.printed ∙ ap (λ l. l ++ bytes) stands.output ∙ ap (λ l. printed_to StandardOutput past ++ l) (sym (append-nil bytes)) ∙ sym (printed_to-append StandardOutput past (Printed StandardOutput bytes ∷ []));
+  error = told.others 1 (λ (e : 1 ≡ 0). absurd (omega (arith, e))) ∙ stands.error ∙ sym (append-nil (printed_to StandardError past)) ∙ sym (printed_to-append StandardError past (Printed StandardOutput bytes ∷ []));
+}
+
+-- the line is that of the code's variables
+shown_values : (vs : List Value) (m : Interpreter) (s : State) → OwnRelation m s → print_line vs s ≡ print_bytes (interpreter_line m vs) s
+unfolding print_line
+shown_values vs m s h = ap (λ between. print_bytes (line_of between (str_of (s.variables (name_of Ors))) vs) s) (ap str_of (h.variables (name_of Ofs))) ∙ ap (λ behind. print_bytes (line_of (str_of (value_of m.variables (name_of Ofs))) behind vs) s) (ap str_of (h.variables (name_of Ors)))
+
+print_comes : (vs : List Value) {old new : Interpreter} {before after : WorldState} → Beside old new
+    → Prints (interpreter_line old vs) before old.streams (Ok tt) after new.streams
+    → (oracle : Oracle) (s : State) (past : List Effect) → StateRelation oracle old before s past → ResultRelation oracle new after (Ok tt) (print_bytes (interpreter_line old vs) s) past
+unfolding print_bytes
+print_comes vs {old = old} {new = new} {before = before} {after = after} beside told oracle s past stands = (refl, shown oracle old new before after s past (interpreter_line old vs) beside told stands)
+
+print_logged : (r : Result (Unit {0}) StreamFault) (vs : List Value) {old new : Interpreter} {before after : WorldState} → Beside old new
+    → Prints (interpreter_line old vs) before old.streams r after new.streams
+    → IfErr r IsOutputFault → SimulatesLogged old before new after (halted r) (print_line vs)
+print_logged (Ok tt) vs {old = old} {new = new} {before = before} {after = after} beside told fault = record {
+  grows = told.grows;
+  keeps = told.sound;
+  keeps_main = told.main;
+  means = λ oracle s past consistent stands. subst (λ (o : Out (Unit {0})). ResultRelation oracle new after (Ok tt) o past) (sym (shown_values vs old s stands.holds)) (print_comes vs beside told oracle s past stands);
+}
+print_logged (Err Memory) vs beside told fault = record { grows = told.grows; keeps = told.sound; keeps_main = told.main; means = λ oracle s past consistent stands. tt }
+print_logged (Err WriteFailed) vs beside told fault = record { grows = told.grows; keeps = told.sound; keeps_main = told.main; means = λ oracle s past consistent stands. told.failure }
+print_logged (Err InputNotReadable) vs beside told fault = absurd (elim fault [ inl e ↦ (cc) | inr e ↦ (cc) ])
+print_logged (Err SeparatorTooLong) vs beside told fault = absurd (elim fault [ inl e ↦ (cc) | inr e ↦ (cc) ])
+print_logged (Err RecordTooLong) vs beside told fault = absurd (elim fault [ inl e ↦ (cc) | inr e ↦ (cc) ])
+
+pub print_follows : {is_logged : Type 0} (r : Result (Unit {0}) StreamFault) (vs : List Value) (bytes : List ℕ) {old new : Interpreter} {before after : WorldState} → bytes ≡ interpreter_line old vs → Beside old new
+    → (AreOpen before old.streams → AreOpen after new.streams)
+    → (is_logged → Prints bytes before old.streams r after new.streams)
+    → IfErr r IsOutputFault → Follows is_logged (print_line vs) old before new after (halted r)
+print_follows r vs bytes {old = old} {new = new} {before = before} {after = after} line beside stays told fault = record {
+  simulates = record {
+    steps = omega (arith, beside.steps);
+    kept_open = stays;
+    told = λ t. print_logged r vs beside (subst (λ (l : List ℕ). Prints l before old.streams r after new.streams) line (told t)) fault;
+  };
+}
+
+-- opening the main input
+
+abbrev pub IsOpeningFault : StreamFault → Type 0
+IsOpeningFault e = (e ≡ Memory) ⊎ (e ≡ InputNotReadable)
+
+pub fresh_some : (o : Option InputView) → IsFreshMain o → is_some o ≡ true
+fresh_some o fresh = ap is_some fresh.1
+
+no_rest : (a : Oracle) (l : List log.Event) (rest : Option Source) → IsMainRest a l None rest → rest ≡ None
+no_rest a l None stands = refl
+no_rest a l (Some source) stands = absurd stands
+
+opens_stands : (oracle : Oracle) (old new : Interpreter) (before after : WorldState) (s : State) (kind : InputKind) (path : List ℕ) (rest : Option Source) (past : List Effect) → Beside old new
+    → (after.first_failure ≡ before.first_failure) → ((k : InputKind) (n : List ℕ) → how_many (opens_input k n) after.log ≡ one_if (same_input k kind && bytes_eq n path) + how_many (opens_input k n) before.log)
+    → ((j : ℕ) → received j after.log ≡ received j before.log)
+    → IsMainRest oracle after.log new.streams.main rest
+    → StateRelation oracle old before s past → StateRelation oracle new after (record (counted kind path s) { main = rest }) (past ++ Requested (AnOpening kind path) ∷ [])
+opens_stands oracle old new before after s kind path rest past beside first_failure counts outputs main stands = record {
+  clear = first_failure ∙ stands.clear;
+  outside = stands.outside;
+  openings = λ k name. ap (λ n. one_if (same_input k kind && bytes_eq name path) + n) (stands.openings k name) ∙ sym (counts k name);
+  main = main;
+  holds = at_main new s _ rest (beside_holds beside stands.holds);
+  output = outputs 0 ∙ stands.output ∙ sym (append-nil (printed_to StandardOutput past)) ∙ sym (printed_to-append StandardOutput past (Requested (AnOpening kind path) ∷ []));
+  error = outputs 1 ∙ stands.error ∙ sym (append-nil (printed_to StandardError past)) ∙ sym (printed_to-append StandardError past (Requested (AnOpening kind path) ∷ []));
+}
+
+-- what the model opens, by what the outside answers
+opens_as : (kind : InputKind) (path : List ℕ) (s : State) (oracle : Oracle) (l : List log.Event) (given : Option Source) → s.outside ≡ oracle → s.openings kind path ≡ how_many (opens_input kind path) l
+    → oracle.input kind path (how_many (opens_input kind path) l) ≡ given → open_main kind path s ≡ opened kind path given s
+unfolding open_main
+opens_as kind path s oracle l given outside count is =
+    ap (λ (o : Option Source). opened kind path o s) (ap (λ (a : Oracle). a.input kind path (s.openings kind path)) outside ∙ ap (λ n. oracle.input kind path n) count ∙ is)
+
+opens_logged : (kind : InputKind) (path : List ℕ) (r : Result (Unit {0}) StreamFault) {old new : Interpreter} {before after : WorldState} → Beside old new → old.streams.main ≡ None
+    → (r ≡ Err InputNotReadable → new.streams ≡ old.streams)
+    → OpensMain kind path before old.streams r after new.streams
+    → IfErr r IsOpeningFault → SimulatesLogged old before new after (halted r) (open_main kind path)
+opens_logged kind path (Ok tt) {old = old} {new = new} {before = before} {after = after} beside none same told fault = record {
+  grows = told.grows;
+  keeps = told.sound;
+  keeps_main = told.main;
+  means = λ oracle s past consistent stands.
+      let given = told.granted oracle consistent in
+      subst (λ (o : Out (Unit {0})). ResultRelation oracle new after (Ok tt) o past) (sym (opens_as kind path s oracle before.log (Some given.0) stands.outside (stands.openings kind path) given.1))
+      (refl, opens_stands oracle old new before after s kind path (Some given.0) past beside (told.no_failure (λ (e : Ok tt ≡ Err Memory). absurd (cc))) (told.counts (λ (e : Ok tt ≡ Err Memory). absurd (cc))).inputs told.outputs given.2 stands);
+}
+opens_logged kind path (Err InputNotReadable) {old = old} {new = new} {before = before} {after = after} beside none same told fault = record {
+  grows = told.grows;
+  keeps = told.sound;
+  keeps_main = told.main;
+  means = λ oracle s past consistent stands.
+      let no_main = no_rest oracle before.log s.main (subst (λ m. IsMainRest oracle before.log m s.main) none stands.main) in
+      let still : new.streams.main ≡ None = ap (λ v. v.main) (same refl) ∙ none in
+      let closed : IsMainRest oracle after.log new.streams.main None = subst (λ m. IsMainRest oracle after.log m None) (sym still) tt in
+      let unopened = opens_stands oracle old new before after s kind path None past beside (told.no_failure (λ (e : Err InputNotReadable ≡ Err Memory). absurd (cc))) (told.counts (λ (e : Err InputNotReadable ≡ Err Memory). absurd (cc))).inputs told.outputs closed stands in
+      subst (λ (o : Out (Unit {0})). ResultRelation oracle new after (Err (halt.Fault faults.InputNotReadable)) o past) (sym (opens_as kind path s oracle before.log None stands.outside (stands.openings kind path) (told.refused refl oracle consistent)))
+      (refl, subst (λ rest. StateRelation oracle new after (record (counted kind path s) { main = rest }) (past ++ Requested (AnOpening kind path) ∷ [])) (sym no_main) unopened);
+}
+opens_logged kind path (Err Memory) beside none same told fault = record { grows = told.grows; keeps = told.sound; keeps_main = told.main; means = λ oracle s past consistent stands. tt }
+opens_logged kind path (Err WriteFailed) beside none same told fault = absurd (elim fault [ inl e ↦ (cc) | inr e ↦ (cc) ])
+opens_logged kind path (Err SeparatorTooLong) beside none same told fault = absurd (elim fault [ inl e ↦ (cc) | inr e ↦ (cc) ])
+opens_logged kind path (Err RecordTooLong) beside none same told fault = absurd (elim fault [ inl e ↦ (cc) | inr e ↦ (cc) ])
+
+pub opens_simulates : {is_logged : Type 0} (kind : InputKind) (path : List ℕ) (r : Result (Unit {0}) StreamFault) {old new : Interpreter} {before after : WorldState} → Beside old new → old.streams.main ≡ None
+    → (r ≡ Err InputNotReadable → new.streams ≡ old.streams)
+    → (AreOpen before old.streams → AreOpen after new.streams)
+    → (is_logged → OpensMain kind path before old.streams r after new.streams)
+    → IfErr r IsOpeningFault → Simulates is_logged old before new after (halted r) (open_main kind path)
+opens_simulates kind path r beside none same stays told fault = record {
+  steps = omega (arith, beside.steps);
+  kept_open = stays;
+  told = λ t. opens_logged kind path r beside none same (told t) fault;
+}
+
+-- asking for a record
+
+asked_stands : (oracle : Oracle) (old new : Interpreter) (before after : WorldState) (s : State) (whole : Source) (left : List ℕ) (past : List Effect) → Beside old new
+    → (after.first_failure ≡ before.first_failure) → ((k : InputKind) (n : List ℕ) → how_many (opens_input k n) after.log ≡ how_many (opens_input k n) before.log)
+    → ((j : ℕ) → received j after.log ≡ received j before.log)
+    → IsMainRest oracle after.log new.streams.main (Some (record { bytes = left; ending = whole.ending }))
+    → StateRelation oracle old before s past → StateRelation oracle new after (with_rest s left whole.ending) (past ++ Requested ARecord ∷ [])
+asked_stands oracle old new before after s whole left past beside first_failure counts outputs main stands = record {
+  clear = first_failure ∙ stands.clear;
+  outside = stands.outside;
+  openings = λ kind name. stands.openings kind name ∙ sym (counts kind name);
+  main = main;
+  holds = at_main new s _ _ (beside_holds beside stands.holds);
+  output = outputs 0 ∙ stands.output ∙ sym (append-nil (printed_to StandardOutput past)) ∙ sym (printed_to-append StandardOutput past (Requested ARecord ∷ []));
+  error = outputs 1 ∙ stands.error ∙ sym (append-nil (printed_to StandardError past)) ∙ sym (printed_to-append StandardError past (Requested ARecord ∷ []));
+}
+
+-- what is taken of a rest, by its cut and what the streams told of it
+asked_comes : (c : Cut) (oracle : Oracle) (new : Interpreter) (after : WorldState) (r : Result (Option (List ℕ)) StreamFault) (whole : Source) (left : List ℕ) (s : State) (past : List Effect)
+    → NextTold c r whole.bytes left → StateRelation oracle new after (with_rest s left whole.ending) (past ++ Requested ARecord ∷ [])
+    → ResultRelation oracle new after (halted r) (taken c whole s) past
+asked_comes (Found first rest) oracle new after r whole left s past told stands =
+    subst (λ x. ResultRelation oracle new after (halted x) (taken (Found first rest) whole s) past) (sym told.0)
+    (refl, subst (λ l. StateRelation oracle new after (with_rest s l whole.ending) (past ++ Requested ARecord ∷ [])) told.1 stands)
+asked_comes NoMore oracle new after r whole left s past told stands =
+    subst (λ x. ResultRelation oracle new after (halted x) (taken NoMore whole s) past) (sym told.0)
+    (refl, subst (λ l. StateRelation oracle new after (with_rest s l whole.ending) (past ++ Requested ARecord ∷ [])) told.1 stands)
+asked_comes BrokenOff oracle new after r whole left s past told stands =
+    subst (λ x. ResultRelation oracle new after (halted x) (taken BrokenOff whole s) past) (sym told.0)
+    (refl, subst (λ l. StateRelation oracle new after (with_rest s l whole.ending) (past ++ Requested ARecord ∷ [])) told.1 stands)
+asked_comes TooLong oracle new after r whole left s past told stands =
+    subst (λ x. ResultRelation oracle new after (halted x) (taken TooLong whole s) past) (sym told.0)
+    (refl, subst (λ l. StateRelation oracle new after (with_rest s l whole.ending) (past ++ Requested ARecord ∷ [])) told.1 stands)
+asked_comes BadSeparator oracle new after r whole left s past told stands =
+    subst (λ x. ResultRelation oracle new after (halted x) (taken BadSeparator whole s) past) (sym told.0)
+    (refl, subst (λ l. StateRelation oracle new after (with_rest s l whole.ending) (past ++ Requested ARecord ∷ [])) told.1 stands)
+
+-- there is a rest in the model where the code has a main input
+taken_comes : (separator : List ℕ) (rest : Option Source) (main : Option InputView) (oracle : Oracle) (old new : Interpreter) (before after : WorldState) (r : Result (Option (List ℕ)) StreamFault) (s : State) (past : List Effect)
+    → Beside old new → main ≡ old.streams.main → is_some main ≡ true → separator ≢ [] → r ≢ Err Memory
+    → AsksMain separator before old.streams r after new.streams
+    → IsConsistent oracle after.log → StateRelation oracle old before s past → IsMainRest oracle before.log main rest
+    → ResultRelation oracle new after (halted r) (taken_of rest separator s) past
+taken_comes separator rest None oracle old new before after r s past beside is there some kept told consistent stands main = absurd (cc)
+taken_comes separator None (Some v) oracle old new before after r s past beside is there some kept told consistent stands main = absurd main
+taken_comes [] (Some whole) (Some v) oracle old new before after r s past beside is there some kept told consistent stands main = absurd (some refl)
+taken_comes (b ∷ separator) (Some whole) (Some v) oracle old new before after r s past beside is there some kept told consistent stands main =
+    let gives = told.answered kept oracle whole consistent (subst (λ m. IsMainRest oracle before.log m (Some whole)) is main) in
+    asked_comes (cut_of (b ∷ separator) whole.bytes whole.ending) oracle new after r whole gives.0 s past gives.1
+    (asked_stands oracle old new before after s whole gives.0 past beside (told.no_failure kept) told.counts.inputs told.outputs gives.2 stands)
+
+-- what the model takes, by the code's RS
+takes_as : (m : Interpreter) (s : State) → OwnRelation m s → take_record s ≡ taken_of s.main (str_of (value_of m.variables (name_of Rs))) s
+unfolding take_record
+takes_as m s h = ap (λ v. taken_of s.main (str_of v) s) (h.variables (name_of Rs))
+
+asks_logged : (separator : List ℕ) (r : Result (Option (List ℕ)) StreamFault) {old new : Interpreter} {before after : WorldState} → separator ≡ str_of (value_of old.variables (name_of Rs)) → Beside old new → is_some old.streams.main ≡ true → separator ≢ [] → r ≢ Err Memory
+    → AsksMain separator before old.streams r after new.streams
+    → SimulatesLogged old before new after (halted r) take_record
+asks_logged separator r {old = old} {new = new} {before = before} {after = after} rs beside there some kept told = record {
+  grows = told.grows;
+  keeps = told.sound;
+  keeps_main = λ sound. told.main;
+  means = λ oracle s past consistent stands.
+      subst (λ (o : Out (Option (List ℕ))). ResultRelation oracle new after (halted r) o past) (ap (λ l. taken_of s.main l s) rs ∙ sym (takes_as old s stands.holds))
+      (taken_comes separator s.main old.streams.main oracle old new before after r s past beside refl there some kept told consistent stands stands.main);
+}
+
+asks_by : (separator : List ℕ) (r : Result (Option (List ℕ)) StreamFault) {old new : Interpreter} {before after : WorldState} → separator ≡ str_of (value_of old.variables (name_of Rs)) → Beside old new → is_some old.streams.main ≡ true → separator ≢ []
+    → AsksMain separator before old.streams r after new.streams
+    → SimulatesLogged old before new after (halted r) take_record
+asks_by separator (Ok found) rs beside there some told = asks_logged separator (Ok found) rs beside there some (λ (e : Ok found ≡ Err Memory). absurd (cc)) told
+asks_by separator (Err Memory) rs beside there some told = record { grows = told.grows; keeps = told.sound; keeps_main = λ sound. told.main; means = λ oracle s past consistent stands. tt }
+asks_by separator (Err WriteFailed) rs beside there some told = asks_logged separator (Err WriteFailed) rs beside there some (λ (e : Err WriteFailed ≡ Err Memory). absurd (cc)) told
+asks_by separator (Err InputNotReadable) rs beside there some told = asks_logged separator (Err InputNotReadable) rs beside there some (λ (e : Err InputNotReadable ≡ Err Memory). absurd (cc)) told
+asks_by separator (Err SeparatorTooLong) rs beside there some told = asks_logged separator (Err SeparatorTooLong) rs beside there some (λ (e : Err SeparatorTooLong ≡ Err Memory). absurd (cc)) told
+asks_by separator (Err RecordTooLong) rs beside there some told = asks_logged separator (Err RecordTooLong) rs beside there some (λ (e : Err RecordTooLong ≡ Err Memory). absurd (cc)) told
+
+pub asks_simulates : {is_logged : Type 0} (separator : List ℕ) (r : Result (Option (List ℕ)) StreamFault) {old new : Interpreter} {before after : WorldState} → separator ≡ str_of (value_of old.variables (name_of Rs)) → Beside old new → is_some old.streams.main ≡ true → separator ≢ []
+    → (AreOpen before old.streams → AreOpen after new.streams)
+    → (is_logged → AsksMain separator before old.streams r after new.streams)
+    → Simulates is_logged old before new after (halted r) take_record
+asks_simulates separator r rs beside there some stays told = record {
+  steps = omega (arith, beside.steps);
+  kept_open = stays;
+  told = λ t. asks_by separator r rs beside there some (told t);
+}
+
+-- where no main input is open, none is taken
+none_comes : (oracle : Oracle) (m : Interpreter) (k : WorldState) (s : State) (past : List Effect) (main : Option InputView) (rest : Option Source) (separator : List ℕ) → main ≡ None → IsMainRest oracle k.log main rest → StateRelation oracle m k s past → ResultRelation oracle m k (Ok None) (taken_of rest separator s) past
+unfolding lift
+none_comes oracle m k s past None None separator e main stands = (refl, subst (λ (l : List Effect). StateRelation oracle m k s l) (sym (append-nil past)) stands)
+none_comes oracle m k s past None (Some source) separator e main stands = absurd main
+none_comes oracle m k s past (Some v) rest separator e main stands = absurd (cc)
+
+takes_none_logged : {m : Interpreter} {k : WorldState} → m.streams.main ≡ None → SimulatesLogged m k m k (Ok None) take_record
+takes_none_logged {m = m} {k = k} none = record {
+  grows = grows_refl k;
+  keeps = λ sound. sound;
+  keeps_main = λ sound. sound;
+  means = λ oracle s past consistent stands.
+      subst (λ (o : Out (Option (List ℕ))). ResultRelation oracle m k (Ok None) o past) (sym (takes_as m s stands.holds))
+      (none_comes oracle m k s past m.streams.main s.main _ none stands.main stands);
+}
+
+pub takes_none : {is_logged : Type 0} {m : Interpreter} {k : WorldState} → m.streams.main ≡ None → Simulates is_logged m k m k (Ok None) take_record
+takes_none none = record { steps = omega arith; kept_open = λ h. h; told = λ t. takes_none_logged none }
+
+-- an empty separator is refused before a byte is read
+refuses_comes : (oracle : Oracle) (m : Interpreter) (k : WorldState) (s : State) (past : List Effect) (main : Option InputView) (rest : Option Source) → main ≡ m.streams.main → is_some main ≡ true → IsMainRest oracle k.log main rest → s.main ≡ rest → StateRelation oracle m k s past → ResultRelation oracle m k (Err (halt.Fault faults.RecordSeparatorTooLong)) (taken_of rest [] s) past
+refuses_comes oracle m k s past None rest is there main same stands = absurd (cc)
+refuses_comes oracle m k s past (Some v) None is there main same stands = absurd main
+refuses_comes oracle m k s past (Some v) (Some source) is there main same stands = (
+  refl,
+  record {
+    clear = stands.clear;
+    outside = stands.outside;
+    openings = stands.openings;
+    main = subst (λ x. IsMainRest oracle k.log x (Some source)) is main;
+    holds = at_main m s s.openings _ stands.holds;
+    output = stands.output ∙ sym (append-nil (printed_to StandardOutput past)) ∙ sym (printed_to-append StandardOutput past (Requested ARecord ∷ []));
+    error = stands.error ∙ sym (append-nil (printed_to StandardError past)) ∙ sym (printed_to-append StandardError past (Requested ARecord ∷ []));
+  },
+)
+
+refuses_logged : {m : Interpreter} {k : WorldState} → str_of (value_of m.variables (name_of Rs)) ≡ [] → is_some m.streams.main ≡ true → SimulatesLogged m k m k (Err (halt.Fault faults.RecordSeparatorTooLong)) take_record
+refuses_logged {m = m} {k = k} empty there = record {
+  grows = grows_refl k;
+  keeps = λ sound. sound;
+  keeps_main = λ sound. sound;
+  means = λ oracle s past consistent stands.
+      subst (λ (o : Out (Option (List ℕ))). ResultRelation oracle m k (Err (halt.Fault faults.RecordSeparatorTooLong)) o past) (sym (takes_as m s stands.holds ∙ ap (λ l. taken_of s.main l s) empty))
+      (refuses_comes oracle m k s past m.streams.main s.main refl there stands.main refl stands);
+}
+
+pub takes_refused : {is_logged : Type 0} {m : Interpreter} {k : WorldState} → str_of (value_of m.variables (name_of Rs)) ≡ [] → is_some m.streams.main ≡ true → Simulates is_logged m k m k (Err (halt.Fault faults.RecordSeparatorTooLong)) take_record
+takes_refused empty there = record { steps = omega arith; kept_open = λ h. h; told = λ t. refuses_logged empty there }
+
+-- closing the main input
+
+closes_stands : (oracle : Oracle) (old new : Interpreter) (before after : WorldState) (s : State) (past : List Effect) → Beside old new → new.streams.main ≡ None
+    → EndsMain before old.streams after new.streams
+    → StateRelation oracle old before s past → StateRelation oracle new after (record s { main = None }) (past ++ [])
+closes_stands oracle old new before after s past beside none told stands = record {
+  clear = told.no_failure ∙ stands.clear;
+  outside = stands.outside;
+  openings = λ kind name. stands.openings kind name ∙ sym (told.counts.inputs kind name);
+  main = subst (λ x. IsMainRest oracle after.log x None) (sym none) tt;
+  holds = at_main new s s.openings None (beside_holds beside stands.holds);
+  output = told.outputs 0 ∙ stands.output ∙ ap (printed_to StandardOutput) (sym (append-nil past));
+  error = told.outputs 1 ∙ stands.error ∙ ap (printed_to StandardError) (sym (append-nil past));
+}
+
+closes_logged : {old new : Interpreter} {before after : WorldState} → Beside old new → new.streams.main ≡ None
+    → EndsMain before old.streams after new.streams
+    → SimulatesLogged old before new after (Ok tt) close_main
+unfolding close_main
+closes_logged {old = old} {new = new} {before = before} {after = after} beside none told = record {
+  grows = told.grows;
+  keeps = told.sound;
+  keeps_main = λ sound. told.main;
+  means = λ oracle s past consistent stands. (refl, closes_stands oracle old new before after s past beside none told stands);
+}
+
+pub closes_simulates : {is_logged : Type 0} {old new : Interpreter} {before after : WorldState} → Beside old new → new.streams.main ≡ None
+    → (AreOpen before old.streams → AreOpen after new.streams)
+    → (is_logged → EndsMain before old.streams after new.streams)
+    → ClosesMainInput is_logged old before new after
+closes_simulates beside none stays told = record {
+  simulates = record { steps = omega (arith, beside.steps); kept_open = stays; told = λ t. closes_logged beside none (told t) };
+  main = none;
+}
+
+-- tests of the code
+
+pub none_of : (o : Option InputView) → is_some o ≡ false → o ≡ None
+none_of None e = refl
+none_of (Some v) e = absurd (cc)
+
+pub empty_of : (l : List ℕ) → (length l == 0) ≡ true → l ≡ []
+empty_of [] e = refl
+empty_of (b ∷ l) e = absurd (grind (arith, nat_tests))
+
+pub full_of : (l : List ℕ) → (length l == 0) ≡ false → l ≢ []
+full_of [] e = λ is. absurd (cc)
+full_of (b ∷ l) e = λ is. absurd (cc)
+
+pub line_same : (between between' behind behind' : Value) (vs : List Value) → between ≡ between' → behind ≡ behind' → line_of (str_of between) (str_of behind) vs ≡ line_of (str_of between') (str_of behind') vs
+line_same between between' behind behind' vs e f = ap (λ v. line_of (str_of v) (str_of behind) vs) e ∙ ap (λ v. line_of (str_of between') (str_of v) vs) f

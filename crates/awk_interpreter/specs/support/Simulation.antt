@@ -1,0 +1,129 @@
+-- How the code's state and world stand for the state of the definitions, and what a part of the code does.
+use Rattle.std.specs.Prelude.{◌≡◌, ℕ, pos, ◌≤◌, ◌<◌, Bool, true, false, List, [], ◌++◌, length, Option, Some, None, is_some, suc, Result, Ok, Err, OnOk}
+use Rattle.awk_value.specs.declared.value.Value.{Value}
+use Rattle.awk_streams.specs.declared.world.InputKind.{InputKind}
+use Rattle.awk_streams.specs.declared.fault.StreamFault.{StreamFault}
+use Rattle.awk_streams.specs.WorldState.{WorldState}
+use Rattle.awk_streams.specs.Oracle.{Oracle, IsConsistent, how_many, opens_input}
+use Rattle.awk_streams.specs.Writes.{received}
+use Rattle.awk_streams.specs.Streams.{AreOpen, AreSound, IsSoundMain, Grows, IsMainRest}
+use Rattle.awk_variables.specs.Variables.{value_of, initial_value}
+use Rattle.awk_meaning.specs.declared.halt.Halt.{Halt}
+use Rattle.awk_meaning.specs.declared.halt.Halt.TheVariants as halt
+use Rattle.awk_meaning.specs.State.{StandardOutput, StandardError, Effect, State, Out, Run}
+use Rattle.awk_meaning.specs.Results.{Sort, WantOfMemory, FailedWrite, OfLanguage, sort_of}
+use Rattle.awk_meaning.specs.Primitives.{spend, open_main, close_main}
+use Rattle.awk_meaning.specs.Inputs.{search_operands_within}
+use Rattle.awk_meaning.specs.Faults.{stream_fault}
+use Rattle.awk_meaning.specs.Meaning.{arguments_of, printed_to}
+use Rattle.awk_interpreter.specs.declared.interpreter.Interpreter.{Interpreter}
+
+-- the code's own state is the one of the definitions; its streams are left aside
+pub record OwnRelation (m : Interpreter) (s : State) : Type 0 where
+  pub current : s.current ≡ m.current
+  pub variables : (x : List ℕ) → s.variables x ≡ value_of m.variables x
+  pub arguments : s.arguments ≡ m.arguments.words.items
+  pub next : pos s.next ≡ m.arguments.next
+  pub input_seen : s.input_seen ≡ m.arguments.input_seen
+  pub steps : s.steps ≡ m.steps
+
+-- the code's state and world stand for the state s after these effects
+pub record StateRelation (oracle : Oracle) (m : Interpreter) (k : WorldState) (s : State) (past : List Effect) : Type 0 where
+  pub clear : k.first_failure ≡ None
+  pub outside : s.outside ≡ oracle
+  pub openings : (kind : InputKind) (name : List ℕ) → s.openings kind name ≡ how_many (opens_input kind name) k.log
+  pub main : IsMainRest oracle k.log m.streams.main s.main
+  pub holds : OwnRelation m s
+  pub output : received 0 k.log ≡ printed_to StandardOutput past
+  pub error : received 1 k.log ≡ printed_to StandardError past
+
+-- what a part came to: after a failed write the world's first failure is set; unless memory was refused or a
+-- write failed, the result is the meaning's, and the code's state stands for the meaning's
+abbrev pub ResultRelationBy : {A : Type 0} → Oracle → Interpreter → WorldState → Sort → Out A → List Effect → Type 0
+ResultRelationBy oracle m k WantOfMemory o past = Unit {0}
+ResultRelationBy oracle m k FailedWrite o past = is_some k.first_failure ≡ true
+ResultRelationBy oracle m k (OfLanguage reason) o past = (o.result ≡ Err reason) × StateRelation oracle m k o.state (past ++ o.effects)
+
+abbrev pub ResultRelation : {A : Type 0} → Oracle → Interpreter → WorldState → Result A Halt → Out A → List Effect → Type 0
+ResultRelation oracle m k (Ok a) o past = (o.result ≡ Ok a) × StateRelation oracle m k o.state (past ++ o.effects)
+ResultRelation oracle m k (Err h) o past = ResultRelationBy oracle m k (sort_of h) o past
+
+-- from the old state and a world that is logged to the new ones, with this result, the code does what the run says
+pub record SimulatesLogged {A : Type 0} (old : Interpreter) (before : WorldState) (new : Interpreter) (after : WorldState) (r : Result A Halt) (run : Run A) : Type 0 where
+  pub grows : Grows before after
+  pub keeps : AreSound before old.streams → AreSound after new.streams
+  pub keeps_main : IsSoundMain before.log old.streams.main → IsSoundMain after.log new.streams.main
+  pub means : (oracle : Oracle) (s : State) (past : List Effect) → IsConsistent oracle after.log → StateRelation oracle old before s past → ResultRelation oracle new after r (run s) past
+
+-- the same of any world, of which it holds where the world is logged
+pub record Simulates {A : Type 0} (is_logged : Type 0) (old : Interpreter) (before : WorldState) (new : Interpreter) (after : WorldState) (r : Result A Halt) (run : Run A) : Type 0 where
+  pub steps : new.steps ≤ old.steps
+  pub kept_open : AreOpen before old.streams → AreOpen after new.streams
+  pub told : is_logged → SimulatesLogged old before new after r run
+
+-- a change of the code's state alone, whatever world stands beside it
+pub record Changes {A : Type 0} (run : Run A) (old new : Interpreter) (r : Result A Halt) : Type 0 where
+  pub steps : new.steps ≤ old.steps
+  pub streams : new.streams ≡ old.streams
+  pub means : (k : WorldState) → SimulatesLogged old k new k r run
+
+-- a step is spent, or there is none
+pub record Spends (old new : Interpreter) (r : Result (Unit {0}) Halt) : Type 0 where
+  pub simulates : Changes spend old new r
+  pub falls : OnOk r (new.steps < old.steps)
+
+-- nothing is changed that the definitions know, but perhaps the streams
+pub record Beside (old new : Interpreter) : Type 0 where
+  pub current : new.current ≡ old.current
+  pub variables : new.variables ≡ old.variables
+  pub arguments : new.arguments ≡ old.arguments
+  pub steps : new.steps ≡ old.steps
+
+-- nothing is changed that the definitions know
+pub record SameState (old new : Interpreter) : Type 0 where
+  pub beside : Beside old new
+  pub streams : new.streams ≡ old.streams
+
+pub record Follows {A : Type 0} (is_logged : Type 0) (run : Run A) (old : Interpreter) (before : WorldState) (new : Interpreter) (after : WorldState) (r : Result A Halt) : Type 0 where
+  pub simulates : Simulates is_logged old before new after r run
+
+-- a fault of the streams, as a halt
+abbrev pub halted : {A : Type 0} → Result A StreamFault → Result A Halt
+halted (Ok a) = Ok a
+halted (Err f) = Err (halt.Fault (stream_fault f))
+
+-- no main input is open, unless a record was found
+abbrev pub ClosedUnless : {A : Type 0} → Result (Option A) Halt → Interpreter → Type 0
+ClosedUnless (Ok None) m = m.streams.main ≡ None
+ClosedUnless (Ok (Some a)) m = Unit {0}
+ClosedUnless (Err h) m = Unit {0}
+
+-- a record is looked for, and where none is found no main input is left open
+pub record Seeks (is_logged : Type 0) (run : Run (Option (List ℕ))) (old : Interpreter) (before : WorldState) (new : Interpreter) (after : WorldState) (r : Result (Option (List ℕ)) Halt) : Type 0 where
+  pub simulates : Simulates is_logged old before new after r run
+  pub closed : ClosedUnless r new
+
+-- the elements of ARGV that are left, at any bound above the steps
+pub record SearchesOn (is_logged : Type 0) (old : Interpreter) (before : WorldState) (new : Interpreter) (after : WorldState) (r : Result (Option (List ℕ)) Halt) : Type 0 where
+  pub simulates : (n : ℕ) → old.steps ≤ n → Simulates is_logged old before new after r (search_operands_within (suc n))
+
+-- the main input is closed, and then there is none
+pub record ClosesMainInput (is_logged : Type 0) (old : Interpreter) (before : WorldState) (new : Interpreter) (after : WorldState) : Type 0 where
+  pub simulates : Simulates is_logged old before new after (Ok tt) close_main
+  pub main : new.streams.main ≡ None
+
+-- a main input is opened, and then there is one
+pub record OpensMainInput (is_logged : Type 0) (kind : InputKind) (path : List ℕ) (old : Interpreter) (before : WorldState) (new : Interpreter) (after : WorldState) (r : Result (Unit {0}) Halt) : Type 0 where
+  pub simulates : Simulates is_logged old before new after r (open_main kind path)
+  pub main : OnOk r (is_some new.streams.main ≡ true)
+
+-- the code's state before a run
+pub record IsStart (operands : List (List ℕ)) (limit : ℕ) (m : Interpreter) : Type 0 where
+  pub text : m.current.text ≡ []
+  pub fields : m.current.fields ≡ []
+  pub variables : (x : List ℕ) → value_of m.variables x ≡ initial_value (suc (length operands)) x
+  pub words : m.arguments.words.items ≡ arguments_of operands
+  pub next : m.arguments.next ≡ pos 1
+  pub input_seen : m.arguments.input_seen ≡ false
+  pub main : m.streams.main ≡ None
+  pub steps : m.steps ≡ limit

@@ -1,0 +1,186 @@
+// Where the main records come from.
+
+ghost use Rattle.std.specs.Prelude.{◌≡◌, ◌≢◌, [], None, true, is_some};
+ghost use Rattle.awk_streams.specs.Streams.{AreOpen, IsSoundMain};
+ghost use Rattle.awk_meaning.specs.Primitives.{take_record, close_main, take_argument};
+ghost use Rattle.awk_meaning.specs.Inputs.{assign_text, path_of, main_record, first_record, operand_record, standard_record, search_operands, next_record};
+ghost use Rattle.awk_interpreter.specs.support.Simulation.{Changes, Follows, ClosesMainInput, OpensMainInput, Seeks};
+
+use crate::interpreter::Interpreter;
+use awk_meaning::{Fault, Halt};
+use awk_operands::{OperandForm, assigned_text, form_of};
+use awk_streams::{InputKind, World};
+use awk_value::{Bytes, Value, text_of};
+use awk_variables::Special;
+
+/// The path of an input; standard input has none.
+fn path_of(kind: InputKind, name: &Bytes) -> &[u8]
+    ensures path { result.now ≡ path_of kind name.now }
+    ensures standard { kind ≡ InputKind.Standard → result.now ≡ [] }
+{
+    match kind {
+        InputKind::Standard => b"",
+        InputKind::File | InputKind::Command => name.as_slice(),
+    }
+}
+
+impl Interpreter {
+    /// Gives a name a text from the command line, in which the escapes of a string stand for their
+    /// bytes. (POSIX awk, OPTIONS: -v; OPERANDS)
+    pub fn assign_text(&mut self, name: &[u8], text: &[u8]) -> Result<(), Halt>
+        ensures { Changes (assign_text name.now text.now) self.old self.new result }
+    {
+        let text = assigned_text(self.alloc, name, text)?;
+        self.put(name, Value::Input(text))
+    }
+
+    /// The next element of ARGV, if it is below the number of ARGC.
+    fn take_argument(&mut self) -> Result<Option<Bytes>, Halt>
+        ensures { Changes take_argument self.old self.new result }
+    {
+        let count = self.variables.special(Special::Argc);
+        self.arguments.take(self.alloc, count)
+    }
+
+    /// Opens a main input; standard input has no path.
+    fn open_main<W: World>(
+        &mut self,
+        world: &mut W,
+        kind: InputKind,
+        path: &[u8],
+    ) -> Result<(), Halt>
+        requires none { self.old.streams.main ≡ None }
+        requires plain { kind ≢ InputKind.Command }
+        requires named { kind ≡ InputKind.Standard → path.now ≡ [] }
+        ensures { OpensMainInput W.is_logged kind path.now self.old (W.state world.old) self.new
+            (W.state world.new) result }
+    {
+        Ok(self.streams.open_main(world, kind, path)?)
+    }
+
+    /// Closes the main input, if one is open.
+    fn close_main<W: World>(&mut self, world: &mut W)
+        requires open { AreOpen (W.state world.old) self.old.streams }
+        requires sound { W.is_logged → IsSoundMain (W.state world.old).log self.old.streams.main }
+        ensures { ClosesMainInput W.is_logged self.old (W.state world.old) self.new (W.state world.new) }
+    {
+        self.streams.close_main(world);
+    }
+
+    /// The next record of the main input, by RS. `None` at its end, and where none is open.
+    fn take_record<W: World>(&mut self, world: &mut W) -> Result<Option<Bytes>, Halt>
+        requires open { AreOpen (W.state world.old) self.old.streams }
+        requires sound { W.is_logged → IsSoundMain (W.state world.old).log self.old.streams.main }
+        ensures { Follows W.is_logged take_record self.old (W.state world.old) self.new (W.state world.new) result }
+    {
+        if !self.streams.has_main() {
+            return Ok(None);
+        }
+        let separator = text_of(self.alloc, self.variables.special(Special::Rs))?;
+        if separator.is_empty() {
+            return Err(Halt::Fault(Fault::RecordSeparatorTooLong));
+        }
+        Ok(self.streams.next_main(world, separator.as_slice())?)
+    }
+
+    /// The next record of the main input, which is closed at its end.
+    fn main_record<W: World>(&mut self, world: &mut W) -> Result<Option<Bytes>, Halt>
+        requires open { AreOpen (W.state world.old) self.old.streams }
+        requires sound { W.is_logged → IsSoundMain (W.state world.old).log self.old.streams.main }
+        ensures { Seeks W.is_logged main_record self.old (W.state world.old) self.new (W.state world.new) result }
+    {
+        match self.take_record(world)? {
+            Some(text) => Ok(Some(text)),
+            None => {
+                self.close_main(world);
+                Ok(None)
+            }
+        }
+    }
+
+    /// Opens a main input under a name, and takes its first record.
+    fn first_record<W: World>(
+        &mut self,
+        world: &mut W,
+        kind: InputKind,
+        name: Bytes,
+    ) -> Result<Option<Bytes>, Halt>
+        requires none { self.old.streams.main ≡ None }
+        requires plain { kind ≢ InputKind.Command }
+        requires open { AreOpen (W.state world.old) self.old.streams }
+        requires sound { W.is_logged → IsSoundMain (W.state world.old).log self.old.streams.main }
+        ensures { Seeks W.is_logged (first_record kind name) self.old (W.state world.old) self.new
+            (W.state world.new) result }
+    {
+        self.open_main(world, kind, path_of(kind, &name))?;
+        self.begin_input(name)?;
+        self.main_record(world)
+    }
+
+    /// The first record that an element of ARGV leads to, if it leads to one.
+    fn operand_record<W: World>(
+        &mut self,
+        world: &mut W,
+        word: Bytes,
+    ) -> Result<Option<Bytes>, Halt>
+        requires none { self.old.streams.main ≡ None }
+        requires open { AreOpen (W.state world.old) self.old.streams }
+        requires sound { W.is_logged → IsSoundMain (W.state world.old).log self.old.streams.main }
+        ensures { Seeks W.is_logged (operand_record word) self.old (W.state world.old) self.new
+            (W.state world.new) result }
+    {
+        let bytes = word.as_slice();
+        match form_of(bytes) {
+            OperandForm::Nothing => Ok(None),
+            OperandForm::Assignment(len) => {
+                self.assign_text(&bytes[..len], &bytes[len + 1..])?;
+                Ok(None)
+            }
+            OperandForm::StandardInput => self.first_record(world, InputKind::Standard, word),
+            OperandForm::File => self.first_record(world, InputKind::File, word),
+        }
+    }
+
+    /// The first record of standard input, unless a main input was found.
+    fn standard_record<W: World>(&mut self, world: &mut W) -> Result<Option<Bytes>, Halt>
+        requires none { self.old.streams.main ≡ None }
+        requires open { AreOpen (W.state world.old) self.old.streams }
+        requires sound { W.is_logged → IsSoundMain (W.state world.old).log self.old.streams.main }
+        ensures { Seeks W.is_logged standard_record self.old (W.state world.old) self.new (W.state world.new) result }
+    {
+        if self.arguments.input_seen {
+            return Ok(None);
+        }
+        let name = Bytes::from_slice(self.alloc, b"")?;
+        self.first_record(world, InputKind::Standard, name)
+    }
+
+    /// Looks at the elements of ARGV in turn, until one leads to a record.
+    fn search_operands<W: World>(&mut self, world: &mut W) -> Result<Option<Bytes>, Halt>
+        requires none { self.old.streams.main ≡ None }
+        requires open { AreOpen (W.state world.old) self.old.streams }
+        requires sound { W.is_logged → IsSoundMain (W.state world.old).log self.old.streams.main }
+        ensures { Seeks W.is_logged search_operands self.old (W.state world.old) self.new (W.state world.new) result }
+    {
+        while let Some(word) = self.take_argument()? {
+            self.spend()?;
+            if let Some(text) = self.operand_record(world, word)? {
+                return Ok(Some(text));
+            }
+        }
+        self.standard_record(world)
+    }
+
+    /// The next main record, from the elements of ARGV in turn, or from standard input for want of
+    /// a file operand. `None` where no record is left. (POSIX awk, OPERANDS and INPUT FILES)
+    pub fn next_record<W: World>(&mut self, world: &mut W) -> Result<Option<Bytes>, Halt>
+        requires open { AreOpen (W.state world.old) self.old.streams }
+        requires sound { W.is_logged → IsSoundMain (W.state world.old).log self.old.streams.main }
+        ensures { Follows W.is_logged next_record self.old (W.state world.old) self.new (W.state world.new) result }
+    {
+        match self.main_record(world)? {
+            Some(text) => Ok(Some(text)),
+            None => self.search_operands(world),
+        }
+    }
+}

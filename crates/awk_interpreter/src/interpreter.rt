@@ -1,0 +1,199 @@
+// The interpreter: the state of a run, and what it can do by itself.
+
+ghost use Rattle.std.specs.Prelude.{◌≡◌, pos, true, codes, bytes_eq, map, IfOk, IfErr};
+ghost use Rattle.awk_value.specs.declared.value.Value.TheVariants.{Text};
+ghost use Rattle.awk_meaning.specs.State.{lift};
+ghost use Rattle.awk_variables.specs.Variables.{name_of};
+ghost use Rattle.awk_meaning.specs.Primitives.{read_name, put, count_in, field_at, record_text, set_record, print_line, note_input, begin_input};
+ghost use Rattle.awk_meaning.specs.Semantics.{begin_record};
+ghost use Rattle.awk_meaning.specs.Operators.{applied, takes_pattern};
+ghost use Rattle.awk_interpreter.specs.support.Simulation.{Spends, Changes, Follows, IsStart};
+ghost use Rattle.awk_meaning.specs.Results.{IsWantOfMemory};
+
+use awk_meaning::Halt;
+use awk_operands::Arguments;
+use awk_operators::{Patterns, make_line, raise};
+use awk_record::Record;
+use awk_streams::{Streams, World};
+use awk_tree::tree::{BinaryOperator, Ere};
+use awk_value::{Bytes, Value};
+use awk_variables::{Special, Variables};
+use std::alloc::Global;
+
+/// The state of a run.
+#[derive(Drop)]
+pub struct Interpreter {
+    pub alloc: Global,
+    /// The record at hand.
+    pub current: Record,
+    pub variables: Variables,
+    pub arguments: Arguments,
+    pub streams: Streams,
+    pub patterns: Patterns,
+    /// The steps left.
+    pub steps: u64,
+    /// The line that a print makes, kept for its room.
+    pub line: Vec<u8>,
+}
+
+/// Whether a name is NF, which is counted in the record.
+fn is_field_count(name: &[u8]) -> bool
+    ensures { result ≡ bytes_eq name.now (codes "NF") }
+{
+    matches!(name, b"NF")
+}
+
+/// A count, as a value.
+fn count_value(count: usize) -> Value
+    ensures { result ≡ Value.Number (pos count) }
+{
+    Value::Number(count as i128)
+}
+
+impl Interpreter {
+    /// The state before a run of these operands, with so many steps. The only fault is want of memory.
+    pub fn new(alloc: Global, operands: &[Vec<u8>], limit: u64) -> Result<Interpreter, Halt>
+        ensures start { IfOk result (λ m. IsStart (map (λ word. word.items) operands.now) limit m) }
+        ensures memory { IfErr result IsWantOfMemory }
+    {
+        let arguments = Arguments::new(alloc, operands)?;
+        let variables = Variables::new(alloc, arguments.words.len())?;
+        let current = Record::new(alloc)?;
+        let patterns = Patterns::new(alloc)?;
+        Ok(Interpreter {
+            alloc,
+            current,
+            variables,
+            arguments,
+            streams: Streams::new(alloc),
+            patterns,
+            steps: limit,
+            line: Vec::new(alloc),
+        })
+    }
+
+    /// Spends a step, or says that none is left.
+    #[tactic(auto, unfolding(awk_meaning::specs::definitions::Primitives::spend))]
+    pub fn spend(&mut self) -> Result<(), Halt>
+        ensures { Spends self.old self.new result }
+    {
+        if self.steps == 0 {
+            return Err(Halt::OutOfSteps);
+        }
+        self.steps -= 1;
+        Ok(())
+    }
+
+    /// The value of a name. (POSIX awk, Variables and Special Variables)
+    pub fn read_name(&mut self, name: &[u8]) -> Result<Value, Halt>
+        ensures { Changes (read_name name.now) self.old self.new result }
+    {
+        if is_field_count(name) {
+            return Ok(count_value(self.current.count()?));
+        }
+        Ok(self.variables.get(name)?)
+    }
+
+    /// Gives a name a value.
+    pub fn put(&mut self, name: &[u8], value: Value) -> Result<(), Halt>
+        ensures { Changes (put name.now value) self.old self.new result }
+    {
+        Ok(self.variables.set(name, value)?)
+    }
+
+    /// Gives a special variable a value.
+    fn put_special(&mut self, special: Special, value: Value) -> Result<(), Halt>
+        ensures { Changes (put (name_of special) value) self.old self.new result }
+    {
+        Ok(self.variables.set_special(special, value)?)
+    }
+
+    /// Raises a special variable's number by 1.
+    fn count_in(&mut self, special: Special) -> Result<(), Halt>
+        ensures { Changes (count_in special) self.old self.new result }
+    {
+        let count = raise(self.variables.special(special))?;
+        self.put_special(special, count)
+    }
+
+    /// Begins an input: FILENAME is its name, and FNR 0.
+    pub(crate) fn begin_input(&mut self, name: Bytes) -> Result<(), Halt>
+        ensures { Changes (begin_input name) self.old self.new result }
+    {
+        self.put_special(Special::Filename, Value::Input(name))?;
+        self.put_special(Special::Fnr, Value::Number(0))?;
+        self.note_input()
+    }
+
+    /// Notes that a main input was found.
+    #[tactic(auto, unfolding(awk_meaning::specs::definitions::Primitives::note_input))]
+    fn note_input(&mut self) -> Result<(), Halt>
+        ensures { Changes note_input self.old self.new result }
+    {
+        self.arguments.input_seen = true;
+        Ok(())
+    }
+
+    /// The field whose number is the value's.
+    pub fn field_at(&mut self, at: &Value) -> Result<Value, Halt>
+        ensures { Changes (field_at at.now) self.old self.new result }
+    {
+        awk_operators::field_at(&mut self.current, at)
+    }
+
+    /// The record's text, as a value.
+    pub fn record_text(&mut self) -> Result<Value, Halt>
+        ensures { Changes record_text self.old self.new result }
+    {
+        Ok(Value::Input(self.current.text()?))
+    }
+
+    /// What an operator makes of two values.
+    pub fn apply(&mut self, operator: BinaryOperator, x: &Value, y: &Value) -> Result<Value, Halt>
+        ensures { Changes (lift (applied operator x.now y.now)) self.old self.new result }
+    {
+        awk_operators::apply(operator, x, y, &mut self.patterns, self.alloc)
+    }
+
+    /// What `~` and `!~` make of a value and of a pattern that stands in the program.
+    pub fn apply_ere(
+        &mut self,
+        operator: BinaryOperator,
+        x: &Value,
+        ere: &Ere,
+    ) -> Result<Value, Halt>
+        requires { takes_pattern operator ≡ true }
+        ensures { Changes (lift (applied operator x.now (Text ere.now.text))) self.old self.new result }
+    {
+        awk_operators::apply_ere(operator, x, ere, &mut self.patterns, self.alloc)
+    }
+
+    /// Makes the text the record at hand.
+    fn set_record(&mut self, text: Bytes) -> Result<(), Halt>
+        ensures { Changes (set_record text) self.old self.new result }
+    {
+        let separator = self.variables.separator();
+        Ok(self.current.set_text(text, separator)?)
+    }
+
+    /// Makes the text the record at hand, and counts it in NR and FNR.
+    pub fn begin_record(&mut self, text: Bytes) -> Result<(), Halt>
+        ensures { Changes (begin_record text) self.old self.new result }
+    {
+        self.set_record(text)?;
+        self.count_in(Special::Nr)?;
+        self.count_in(Special::Fnr)
+    }
+
+    /// Prints the values as a line to standard output, by OFS and ORS. (POSIX awk, Output
+    /// Statements)
+    pub fn print_line<W: World>(&mut self, world: &mut W, values: &[Value]) -> Result<(), Halt>
+        ensures { Follows W.is_logged (print_line values.now) self.old (W.state world.old) self.new
+            (W.state world.new) result }
+    {
+        let between = self.variables.special(Special::Ofs);
+        let behind = self.variables.special(Special::Ors);
+        make_line(&mut self.line, values, between, behind)?;
+        Ok(self.streams.print(world, &self.line)?)
+    }
+}

@@ -1,0 +1,11 @@
+pub mod definitions
+pub mod support
+pub use Rattle.awk_meaning.specs.definitions.Faults
+pub use Rattle.awk_meaning.specs.definitions.Outcome
+pub use Rattle.awk_meaning.specs.definitions.State
+pub use Rattle.awk_meaning.specs.definitions.Operators
+pub use Rattle.awk_meaning.specs.definitions.Primitives
+pub use Rattle.awk_meaning.specs.definitions.Inputs
+pub use Rattle.awk_meaning.specs.definitions.Semantics
+pub use Rattle.awk_meaning.specs.definitions.Meaning
+pub use Rattle.awk_meaning.specs.support.Results

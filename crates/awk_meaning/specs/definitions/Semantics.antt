@@ -1,0 +1,105 @@
+-- The semantics of expressions, statements and items (POSIX awk, Expressions in awk; Actions; Output Statements).
+use Rattle.std.specs.Prelude.{ℕ, zero, suc, Bool, true, false, ◌||◌, List, [], ◌∷◌, ◌++◌, Option, Some, None, Err}
+use Rattle.awk_value.specs.declared.value.Value.{Value}
+use Rattle.awk_value.specs.declared.value.Value.TheVariants as value
+use Rattle.awk_value.specs.Values.{truth_of}
+use Rattle.awk_tree.specs.Tree.{Expr, Number, String, Ere, Name, Group, Field, Unary, Binary, Assign, Exprs, Nil, Cons, Statement, Block, Expression, Print, Statements, NoMore, Then, Item, Begin, Action, Pattern, PatternAction}
+use Rattle.awk_tree.specs.declared.tree.BinaryOperator.TheVariants.{Matches}
+use Rattle.awk_meaning.specs.declared.halt.Halt.TheVariants as halt
+use Rattle.awk_meaning.specs.definitions.State.{Run, ◌>>=◌, lift, ret}
+use Rattle.awk_variables.specs.declared.special.Special.TheVariants.{Nr, Fnr}
+use Rattle.awk_meaning.specs.definitions.Primitives.{spend, read_name, put, count_in, field_at, record_text, set_record, print_line}
+use Rattle.awk_meaning.specs.definitions.Inputs.{next_record}
+use Rattle.awk_meaning.specs.definitions.Operators.{changed, applied, takes_pattern}
+
+-- an ERE right of `~` and `!~` is that pattern; any other operand there is evaluated
+abbrev pub right_operand : Bool → Expr → Run Value → Run Value
+right_operand true (Ere text) evaluated = ret (value.Text text)
+right_operand takes e evaluated = evaluated
+
+-- an expression gives a value; operands go from left to right. An ERE alone is whether the record has a match of it
+unfoldable pub eval : Expr → Run Value
+eval (Number n) = ret (value.Number n)
+eval (String bytes) = ret (value.Text bytes)
+eval (Ere text) = record_text >>= λ v. lift (applied Matches v (value.Text text))
+eval (Name x) = read_name x
+eval (Group e) = eval e
+eval (Field e) = eval e >>= λ v. field_at v
+eval (Unary o e) = eval e >>= λ v. lift (changed o v)
+eval (Binary o a b) = eval a >>= λ x. right_operand (takes_pattern o) b (eval b) >>= λ y. lift (applied o x y)
+-- what an assignment gives is what its name then has
+eval (Assign x e) = eval e >>= λ v. put x v >>= λ _. read_name x
+
+-- the values of a list, behind those that are there
+unfoldable pub eval_all : List Value → Exprs → Run (List Value)
+eval_all front Nil = ret front
+eval_all front (Cons e es) = eval e >>= λ v. eval_all (front ++ v ∷ []) es
+
+-- what a print prints: its list, or the record
+unfoldable pub printed_values : Exprs → Run (List Value)
+printed_values Nil = record_text >>= λ v. ret (v ∷ [])
+printed_values (Cons e es) = eval_all [] (Cons e es)
+
+-- a statement; one that is no block spends a step as it begins
+unfoldable mutual
+  pub exec : Statement → Run (Unit {0})
+  exec (Block all) = exec_all all
+  exec (Expression e) = spend >>= λ _. eval e >>= λ v. ret tt
+  exec (Print list) = spend >>= λ _. printed_values list >>= λ vs. print_line vs
+
+  pub exec_all : Statements → Run (Unit {0})
+  exec_all NoMore = ret tt
+  exec_all (Then s all) = exec s >>= λ _. exec_all all
+
+abbrev pub run_if : Bool → Run (Unit {0}) → Run (Unit {0})
+run_if true action = action
+run_if false action = ret tt
+
+-- an item on a record; a pattern without an action prints the record
+unfoldable pub try_item : Item → Run (Unit {0})
+try_item (Begin block) = ret tt
+try_item (Action block) = exec_all block
+try_item (Pattern e) = eval e >>= λ v. run_if (truth_of v) (exec (Print Nil))
+try_item (PatternAction e block) = eval e >>= λ v. run_if (truth_of v) (exec_all block)
+
+unfoldable pub try_items : List Item → Run (Unit {0})
+try_items [] = ret tt
+try_items (x ∷ xs) = try_item x >>= λ _. try_items xs
+
+-- a record that was found is at hand, and counted
+unfoldable pub begin_record : List ℕ → Run (Unit {0})
+begin_record text = set_record text >>= λ _. count_in Nr >>= λ _. count_in Fnr
+
+abbrev pub on_record : Option (List ℕ) → (List ℕ → Run (Unit {0})) → Run (Unit {0})
+on_record None rest = ret tt
+on_record (Some text) rest = rest text
+
+-- at most n records, each of which spends a step
+unfoldable pub each_record : ℕ → Run (Unit {0}) → Run (Unit {0})
+each_record zero action = lift (Err halt.OutOfSteps)
+each_record (suc n) action = next_record >>= λ found. on_record found (λ text. spend >>= λ _. begin_record text >>= λ _. action >>= λ _. each_record n action)
+
+-- all records: no more than there are steps
+unfoldable pub run_records : Run (Unit {0}) → Run (Unit {0})
+run_records action s = each_record (suc s.steps) action s
+
+-- the actions that come before all records, in the order of the text
+unfoldable pub begin_item : Item → Run (Unit {0})
+begin_item (Begin block) = exec_all block
+begin_item x = ret tt
+
+unfoldable pub begin_items : List Item → Run (Unit {0})
+begin_items [] = ret tt
+begin_items (x ∷ xs) = begin_item x >>= λ _. begin_items xs
+
+abbrev pub is_rule : Item → Bool
+is_rule (Begin block) = false
+is_rule x = true
+
+abbrev pub has_rule : List Item → Bool
+has_rule [] = false
+has_rule (x ∷ xs) = is_rule x || has_rule xs
+
+-- records are read where there is a rule for them
+unfoldable pub run_items : List Item → Run (Unit {0})
+run_items xs = begin_items xs >>= λ _. run_if (has_rule xs) (run_records (try_items xs))

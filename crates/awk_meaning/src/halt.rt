@@ -1,0 +1,77 @@
+// Why a run ends before its end.
+
+ghost use Rattle.std.specs.Prelude.{◌≡◌};
+ghost use Rattle.awk_meaning.specs.definitions.Faults.{value_fault, record_fault, stream_fault, pattern_fault, variable_fault};
+ghost use Rattle.awk_meaning.specs.declared.halt.Halt.TheVariants.{Fault as FaultHalt};
+ghost use Rattle.awk_meaning.specs.declared.fault.Fault.TheVariants.{OutOfMemory};
+
+use crate::fault::Fault;
+use awk_ere::PatternFault;
+use awk_record::RecordFault;
+use awk_streams::StreamFault;
+use awk_value::ValueFault;
+use awk_variables::VariableFault;
+use std::alloc::{AllocError, AllocFailed};
+
+/// Why a run ends before its end.
+#[derive(Clone, Copy)]
+pub enum Halt {
+    Fault(Fault),
+    OutOfSteps,
+}
+
+impl From<AllocError> for Halt {
+    ghost from_gives = { λ _ h. h ≡ FaultHalt OutOfMemory };
+
+    fn from(_error: AllocError) -> Halt {
+        Halt::Fault(Fault::OutOfMemory)
+    }
+}
+
+impl<T: Drop> From<AllocFailed<T>> for Halt {
+    ghost from_gives = { λ _ h. h ≡ FaultHalt OutOfMemory };
+
+    fn from(_error: AllocFailed<T>) -> Halt {
+        Halt::Fault(Fault::OutOfMemory)
+    }
+}
+
+impl From<ValueFault> for Halt {
+    ghost from_gives = { λ fault h. h ≡ FaultHalt (value_fault fault) };
+
+    fn from(fault: ValueFault) -> Halt {
+        Halt::Fault(Fault::from(fault))
+    }
+}
+
+impl From<RecordFault> for Halt {
+    ghost from_gives = { λ fault h. h ≡ FaultHalt (record_fault fault) };
+
+    fn from(fault: RecordFault) -> Halt {
+        Halt::Fault(Fault::from(fault))
+    }
+}
+
+impl From<PatternFault> for Halt {
+    ghost from_gives = { λ fault h. h ≡ FaultHalt (pattern_fault fault) };
+
+    fn from(fault: PatternFault) -> Halt {
+        Halt::Fault(Fault::from(fault))
+    }
+}
+
+impl From<VariableFault> for Halt {
+    ghost from_gives = { λ fault h. h ≡ FaultHalt (variable_fault fault) };
+
+    fn from(fault: VariableFault) -> Halt {
+        Halt::Fault(Fault::from(fault))
+    }
+}
+
+impl From<StreamFault> for Halt {
+    ghost from_gives = { λ fault h. h ≡ FaultHalt (stream_fault fault) };
+
+    fn from(fault: StreamFault) -> Halt {
+        Halt::Fault(Fault::from(fault))
+    }
+}

@@ -1,0 +1,2 @@
+pub mod support
+pub use Rattle.awk_operands.specs.support.Operands

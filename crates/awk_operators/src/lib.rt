@@ -1,0 +1,11 @@
+//! What operators make of values, the patterns of a run, and the line of a print.
+#![tactic(auto)]
+
+mod compiled;
+mod line;
+mod operators;
+mod patterns;
+
+pub use line::make_line;
+pub use operators::{apply, apply_ere, change, field_at, raise, takes_pattern};
+pub use patterns::Patterns;

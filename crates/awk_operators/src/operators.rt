@@ -1,0 +1,141 @@
+// What operators make of values.
+
+ghost use Rattle.std.specs.Prelude.{◌≡◌, true, if◌then◌else◌};
+ghost use Rattle.std.specs.declared.cmp.Ordering.{Ordering as Order};
+ghost use Rattle.awk_value.specs.Values.{str_of};
+ghost use Rattle.awk_value.specs.declared.value.Value.TheVariants.{Text};
+ghost use Rattle.awk_meaning.specs.Operators.{applied, changed, field_value, matched, raised, relates as related, takes_pattern, truth_value};
+ghost use Rattle.awk_meaning.specs.Results.{Yields};
+
+use crate::patterns::Patterns;
+use awk_meaning::Halt;
+use awk_record::Record;
+use awk_tree::tree::{BinaryOperator, Ere, UnaryOperator};
+use awk_value::{
+    Value, add, compare, concatenate, divide, is_true, minus, multiply, negate, number_of, plus,
+    remainder, text_of, to_number,
+};
+use std::alloc::Global;
+use std::cmp::Ordering;
+
+/// The number 1 or 0.
+fn truth_value(is_true: bool) -> Value
+    ensures { result ≡ truth_value is_true }
+{
+    Value::Number(i128::from(is_true))
+}
+
+/// Whether two values in this order are so related.
+fn relates(operator: BinaryOperator, order: Ordering) -> bool
+    ensures { result ≡ related operator order }
+{
+    match operator {
+        BinaryOperator::Times
+        | BinaryOperator::Divide
+        | BinaryOperator::Remainder
+        | BinaryOperator::Plus
+        | BinaryOperator::Minus
+        | BinaryOperator::Concatenate
+        | BinaryOperator::Matches
+        | BinaryOperator::NotMatches => false,
+        BinaryOperator::Less => order == Ordering::Less,
+        BinaryOperator::LessEqual => order != Ordering::Greater,
+        BinaryOperator::Equal => order == Ordering::Equal,
+        BinaryOperator::NotEqual => order != Ordering::Equal,
+        BinaryOperator::Greater => order == Ordering::Greater,
+        BinaryOperator::GreaterEqual => order != Ordering::Less,
+    }
+}
+
+/// What an operator makes of the value behind it.
+pub fn change(operator: UnaryOperator, value: &Value) -> Result<Value, Halt>
+    ensures { Yields result (changed operator value.now) }
+{
+    match operator {
+        UnaryOperator::Not => Ok(truth_value(!is_true(value))),
+        UnaryOperator::Plus => Ok(to_number(value)?),
+        UnaryOperator::Minus => Ok(negate(value)?),
+    }
+}
+
+/// Whether the text right of this operator is read as a pattern.
+pub fn takes_pattern(operator: BinaryOperator) -> bool
+    ensures { result ≡ takes_pattern operator }
+{
+    matches!(
+        operator,
+        BinaryOperator::Matches | BinaryOperator::NotMatches
+    )
+}
+
+/// Whether the pattern of one value's text matches somewhere in that of another.
+fn matches_value(patterns: &mut Patterns, alloc: Global, x: &Value, y: &Value) -> Result<bool, Halt>
+    ensures { Yields result (matched (str_of y.now) (str_of x.now)) }
+{
+    let pattern = text_of(alloc, y)?;
+    let text = text_of(alloc, x)?;
+    patterns.matches(alloc, &pattern, text.as_slice())
+}
+
+/// What an operator makes of two values.
+pub fn apply(
+    operator: BinaryOperator,
+    x: &Value,
+    y: &Value,
+    patterns: &mut Patterns,
+    alloc: Global,
+) -> Result<Value, Halt>
+    ensures { Yields result (applied operator x.now y.now) }
+{
+    match operator {
+        BinaryOperator::Matches => Ok(truth_value(matches_value(patterns, alloc, x, y)?)),
+        BinaryOperator::NotMatches => Ok(truth_value(!matches_value(patterns, alloc, x, y)?)),
+        BinaryOperator::Concatenate => Ok(concatenate(alloc, x, y)?),
+        BinaryOperator::Divide => Ok(divide(x, y)?),
+        BinaryOperator::Times => Ok(multiply(x, y)?),
+        BinaryOperator::Remainder => Ok(remainder(x, y)?),
+        BinaryOperator::Plus => Ok(plus(x, y)?),
+        BinaryOperator::Minus => Ok(minus(x, y)?),
+        BinaryOperator::Less
+        | BinaryOperator::LessEqual
+        | BinaryOperator::Equal
+        | BinaryOperator::NotEqual
+        | BinaryOperator::Greater
+        | BinaryOperator::GreaterEqual => {
+            let order = compare(x, y)?;
+            Ok(truth_value(relates(operator, order)))
+        }
+    }
+}
+
+/// What an operator makes of a value and of a pattern that stands in the program.
+pub fn apply_ere(
+    operator: BinaryOperator,
+    x: &Value,
+    ere: &Ere,
+    patterns: &mut Patterns,
+    alloc: Global,
+) -> Result<Value, Halt>
+    requires { takes_pattern operator ≡ true }
+    ensures { Yields result (applied operator x.now (Text ere.now.text)) }
+{
+    let text = text_of(alloc, x)?;
+    let found = patterns.matches_ere(alloc, ere, text.as_slice())?;
+    Ok(truth_value(found == (operator == BinaryOperator::Matches)))
+}
+
+/// The field of the record whose number is the value's.
+pub fn field_at(current: &mut Record, at: &Value) -> Result<Value, Halt>
+    ensures value { Yields result (field_value current.old at.now) }
+    ensures same { current.new ≡ current.old }
+{
+    let number = number_of(at)?;
+    Ok(current.field(number)?)
+}
+
+/// A count, raised by 1.
+pub fn raise(count: &Value) -> Result<Value, Halt>
+    ensures { Yields result (raised count.now) }
+{
+    Ok(Value::Number(add(number_of(count)?, 1)?))
+}

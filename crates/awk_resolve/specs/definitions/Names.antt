@@ -1,0 +1,91 @@
+-- The names of a program: over all of it each is an array or a scalar
+-- (POSIX awk, Variables and Special Variables).
+use Rattle.std.specs.Prelude.{ℕ, Bool, true, false, ◌&&◌, ◌||◌, not, ◌≡◌, List, [], ◌∷◌, ◌++◌, map, filter, codes, bytes_eq, Option, Some, None, if◌then◌else◌}
+use Rattle.awk_lex.specs.declared.refusal.RefusalCode.{RefusalCode}
+use Rattle.awk_lex.specs.declared.refusal.RefusalCode.TheVariants.{ArrayAndScalar, NameLeftOut}
+use Rattle.awk_lex.specs.Words.{is_left_out}
+use Rattle.awk_tree.specs.Tree.{Expr, Number, String, Ere, Name, Group, Field, Unary, Binary, Assign, Exprs, Nil, Cons, Statement, Block, Expression, Print, Statements, NoMore, Then, Item, Begin, Action, Pattern, PatternAction}
+
+-- a name, and whether it is used as an array there or as a scalar
+pub record Use : Type 0 where
+  pub name : List ℕ
+  pub is_array : Bool
+
+-- a name used as a scalar
+abbrev pub scalar : List ℕ → Use
+scalar x = record { name = x; is_array = false }
+
+-- the uses of names in a form; none of the forms so far uses one as an array
+abbrev pub uses_in_expr : Expr → List Use
+uses_in_expr (Number n) = []
+uses_in_expr (String bytes) = []
+uses_in_expr (Ere text) = []
+uses_in_expr (Name x) = scalar x ∷ []
+uses_in_expr (Group e) = uses_in_expr e
+uses_in_expr (Field e) = uses_in_expr e
+uses_in_expr (Unary o e) = uses_in_expr e
+uses_in_expr (Binary o a b) = uses_in_expr a ++ uses_in_expr b
+uses_in_expr (Assign x e) = scalar x ∷ uses_in_expr e
+
+abbrev pub uses_in_list : Exprs → List Use
+uses_in_list Nil = []
+uses_in_list (Cons e es) = uses_in_expr e ++ uses_in_list es
+
+abbrev mutual
+  pub uses_in_statement : Statement → List Use
+  uses_in_statement (Block all) = uses_in_block all
+  uses_in_statement (Expression e) = uses_in_expr e
+  uses_in_statement (Print list) = uses_in_list list
+
+  pub uses_in_block : Statements → List Use
+  uses_in_block NoMore = []
+  uses_in_block (Then s all) = uses_in_statement s ++ uses_in_block all
+
+abbrev pub uses_in_item : Item → List Use
+uses_in_item (Begin block) = uses_in_block block
+uses_in_item (Action block) = uses_in_block block
+uses_in_item (Pattern e) = uses_in_expr e
+uses_in_item (PatternAction e block) = uses_in_expr e ++ uses_in_block block
+
+abbrev pub uses_in : List Item → List Use
+uses_in [] = []
+uses_in (x ∷ xs) = uses_in_item x ++ uses_in xs
+
+-- the special variables that are arrays, and those that are scalars
+abbrev pub special_arrays : List (List ℕ)
+special_arrays = codes "ARGV" ∷ codes "ENVIRON" ∷ []
+
+abbrev pub special_scalars : List (List ℕ)
+special_scalars =
+    codes "ARGC" ∷ codes "CONVFMT" ∷ codes "FILENAME" ∷ codes "FNR" ∷ codes "FS" ∷ codes "NF" ∷ codes "NR"
+    ∷ codes "OFMT" ∷ codes "OFS" ∷ codes "ORS" ∷ codes "RLENGTH" ∷ codes "RS" ∷ codes "RSTART" ∷ codes "SUBSEP" ∷ []
+
+abbrev pub array_names : List Item → List (List ℕ)
+array_names items = special_arrays ++ map (λ (u : Use). u.name) (filter (λ (u : Use). u.is_array) (uses_in items))
+
+abbrev pub scalar_names : List Item → List (List ℕ)
+scalar_names items = special_scalars ++ map (λ (u : Use). u.name) (filter (λ (u : Use). not u.is_array) (uses_in items))
+
+abbrev pub is_absent : List ℕ → List (List ℕ) → Bool
+is_absent name [] = true
+is_absent name (x ∷ xs) = not (bytes_eq name x) && is_absent name xs
+
+abbrev pub are_apart : List (List ℕ) → List (List ℕ) → Bool
+are_apart [] ys = true
+are_apart (x ∷ xs) ys = is_absent x ys && are_apart xs ys
+
+-- some name is one that this profile leaves out
+abbrev pub uses_left_out : List Use → Bool
+uses_left_out [] = false
+uses_left_out (u ∷ us) = is_left_out u.name || uses_left_out us
+
+-- no name is left out, and none is both an array and a scalar
+pub record Fits (items : List Item) : Type 0 where
+  pub kept : uses_left_out (uses_in items) ≡ false
+  pub apart : are_apart (scalar_names items) (array_names items) ≡ true
+
+-- why the names of a program are refused: the first cause that holds
+abbrev pub name_refusal : List Item → Option RefusalCode
+name_refusal items =
+    if uses_left_out (uses_in items) then Some NameLeftOut
+    else (if are_apart (scalar_names items) (array_names items) then None else Some ArrayAndScalar)

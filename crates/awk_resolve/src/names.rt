@@ -1,0 +1,125 @@
+// What keeps the names of a program from being what they are used as.
+
+ghost use Rattle.std.specs.Prelude.{◌≡◌, [], ◌∷◌};
+ghost use Rattle.awk_tree.specs.View.{expr_of, exprs_of, statement_of, statements_of, item_of, items_of};
+ghost use Rattle.awk_resolve.specs.definitions.Names.{scalar, uses_in_expr, uses_in_list, uses_in_statement, uses_in_block, uses_in_item, uses_in};
+ghost use Rattle.awk_resolve.specs.support.Misuse.{is_special_array, Adds};
+ghost use Rattle.awk_resolve.specs.definitions.Names.{name_refusal};
+
+use awk_lex::refusal::RefusalCode;
+use awk_lex::words::is_left_out;
+use awk_tree::tree::{Expr, Item, Statement};
+
+/// The special variables that are arrays (POSIX awk, Variables and Special Variables).
+const SPECIAL_ARRAYS: [&[u8]; 2] = [b"ARGV", b"ENVIRON"];
+
+fn is_special_array(name: &[u8]) -> bool
+    ensures { result ≡ is_special_array name.now }
+{
+    SPECIAL_ARRAYS.iter().any(|row| *row == name)
+}
+
+/// What the names met so far have against them.
+#[derive(Clone, Copy)]
+struct Misuse {
+    /// One of them is left out.
+    left_out: bool,
+    /// One of them is both an array and a scalar.
+    array: bool,
+}
+
+impl Misuse {
+    /// Adds a name that is used as a scalar.
+    fn add_scalar(&mut self, name: &[u8])
+        ensures { Adds self.old self.new (scalar name.now ∷ []) }
+    {
+        self.left_out |= is_left_out(name);
+        self.array |= is_special_array(name);
+    }
+
+    fn add_expr(&mut self, e: &Expr)
+        ensures { Adds self.old self.new (uses_in_expr (expr_of e.now)) }
+    {
+        match e {
+            Expr::Number(_) | Expr::String(_) | Expr::Ere(_) => {}
+            Expr::Name(name) => self.add_scalar(name.as_slice()),
+            Expr::Group(e) | Expr::Field(e) | Expr::Unary(_, e) => self.add_expr(e),
+            Expr::Binary(_, a, b) => {
+                self.add_expr(a);
+                self.add_expr(b);
+            }
+            Expr::Assign(name, e) => {
+                self.add_scalar(name.as_slice());
+                self.add_expr(e);
+            }
+        }
+    }
+
+    fn add_list(&mut self, list: &[Expr])
+        ensures { Adds self.old self.new (uses_in_list (exprs_of list.now)) }
+    {
+        for e in list {
+            self.add_expr(e);
+        }
+    }
+
+    #[cycle(statements)]
+    fn add_statement(&mut self, s: &Statement)
+        ensures { Adds self.old self.new (uses_in_statement (statement_of s.now)) }
+    {
+        match s {
+            Statement::Block(all) => self.add_block(all),
+            Statement::Expression(e) => self.add_expr(e),
+            Statement::Print(list) => self.add_list(list),
+        }
+    }
+
+    #[cycle(statements)]
+    fn add_block(&mut self, all: &[Statement])
+        ensures { Adds self.old self.new (uses_in_block (statements_of all.now)) }
+    {
+        for s in all {
+            self.add_statement(s);
+        }
+    }
+
+    fn add_item(&mut self, item: &Item)
+        ensures { Adds self.old self.new (uses_in_item (item_of item.now)) }
+    {
+        match item {
+            Item::Begin(block) | Item::Action(block) => self.add_block(block),
+            Item::Pattern(e) => self.add_expr(e),
+            Item::PatternAction(e, block) => {
+                self.add_expr(e);
+                self.add_block(block);
+            }
+        }
+    }
+
+    fn add_items(&mut self, items: &[Item])
+        ensures { Adds self.old self.new (uses_in (items_of items.now)) }
+    {
+        for item in items {
+            self.add_item(item);
+        }
+    }
+}
+
+/// Why the names of a program are refused, if they are: one of them is left out (K7), or else one
+/// is used as an array and as a scalar (K1). (POSIX awk, Variables and Special Variables)
+pub fn name_refusal(items: &[Item]) -> Option<RefusalCode>
+    ensures { result ≡ name_refusal (items_of items.now) }
+{
+    let mut misuse = Misuse {
+        left_out: false,
+        array: false,
+    };
+    misuse.add_items(items);
+    if misuse.left_out {
+        Some(RefusalCode::NameLeftOut)
+    } else if misuse.array {
+        Some(RefusalCode::ArrayAndScalar)
+    } else {
+        None
+    }
+}

@@ -1,8 +1,0 @@
-use Rattle.std.proofs.Common.{ap}
-use Rattle.awk_syntax.specs.View.{expr_of}
-use Rattle.awk_run.proofs.Uses.{adds_both}
-use Rattle.awk_run.proofs.kinds.Misuse.+add_expr.Goals as goal
-
-pub returns-in-Binary : goal.returns-in-Binary
-returns-in-Binary t c =
-    rw (ap expr_of c.in-Binary.is) (adds_both (rw c.deref.ensures at c.add_expr.ensures) (rw c.deref-in-Binary.ensures at c.add_expr-in-Binary.ensures))

@@ -1,6 +1,0 @@
-use Rattle.std.proofs.Common.{refl}
-use Rattle.awk_run.proofs.Changes.{applied_changes}
-use Rattle.awk_run.proofs.machine.Machine.apply.Goals as goal
-
-pub returns : goal.returns
-returns c = applied_changes _ (record { beside = record { current = refl; variables = refl; arguments = refl; steps = refl }; streams = refl }) c.apply.ensures

@@ -1,6 +1,0 @@
-use Rattle.std.proofs.Common.{refl}
-use Rattle.awk_run.proofs.Outside.{closes_does}
-use Rattle.awk_run.proofs.machine.Machine.close_main.Goals as goal
-
-pub returns : goal.returns
-returns g c = closes_does (record { current = refl; variables = refl; arguments = refl; steps = refl }) c.close_main.ensures.none (λ _. c.close_main.ensures.open) c.close_main.ensures.told

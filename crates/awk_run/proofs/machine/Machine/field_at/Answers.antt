@@ -1,6 +1,0 @@
-use Rattle.std.proofs.Common.{refl}
-use Rattle.awk_run.proofs.Changes.{field_changes}
-use Rattle.awk_run.proofs.machine.Machine.field_at.Goals as goal
-
-pub returns : goal.returns
-returns c = field_changes _ (record { beside = record { current = c.field_at.ensures.same; variables = refl; arguments = refl; steps = refl }; streams = refl }) c.field_at.ensures.value

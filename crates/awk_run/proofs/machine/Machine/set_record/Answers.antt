@@ -1,6 +1,0 @@
-use Rattle.std.proofs.Common.{refl}
-use Rattle.awk_run.proofs.Changes.{record_changes}
-use Rattle.awk_run.proofs.machine.Machine.set_record.Goals as goal
-
-pub returns : goal.returns
-returns c = record_changes _ _ c.separator-separator.ensures c.in_ok-set_text.ensures.ok refl refl refl refl

@@ -1,8 +1,0 @@
-use Rattle.std.proofs.Common.{refl, ◌∙◌}
-use Rattle.awk_run.proofs.Outside.{show_follows, line_same}
-use Rattle.awk_run.proofs.machine.Machine.show_values.Goals as goal
-
-pub returns : goal.returns
-returns g c =
-    show_follows _ c.args.values.now _ (c.deref.ensures.value ∙ c.in_ok-make_line.ensures.text ∙ line_same _ _ _ _ c.args.values.now c.special-between.ensures c.special-behind.ensures)
-    (record { current = refl; variables = refl; arguments = refl; steps = refl }) c.in_ok-print.ensures.open c.in_ok-print.ensures.told c.in_ok-print.ensures.fault

@@ -1,6 +1,0 @@
-use Rattle.awk_run.proofs.Whole.{runs_from}
-use Rattle.awk_run.proofs.run.run.Goals as goal
-
-pub returns : goal.returns
-returns g c =
-    runs_from _ _ _ c.some_answers_agree.ensures.some (c.some_answers_agree.ensures.start _) c.in-Ok.ensures.start (rw c.deref.ensures.value at c.run_whole-ended.ensures) c.finish-finished.ensures.told c.outcome_after.ensures

@@ -1,0 +1,33 @@
+-- What the parts of a whole run answer.
+use Rattle.std.specs.Prelude.{◌≡◌, ℕ, List, Result, Ok, Err}
+use Rattle.awk_lex.specs.declared.refusal.Refusal.{Refusal}
+use Rattle.awk_lex.specs.Refused.{IsOutOfMemory}
+use Rattle.awk_streams.specs.declared.fault.StreamFault.{StreamFault}
+use Rattle.awk_tree.specs.Tree.{Item}
+use Rattle.awk_tree.specs.View.{tree_of}
+use Rattle.awk_tree.specs.declared.tree.Tree.{Tree}
+use Rattle.awk_meaning.specs.declared.halt.Halt.{Halt}
+use Rattle.awk_meaning.specs.declared.halt.Halt.TheVariants as halt
+use Rattle.awk_meaning.specs.declared.outcome.Outcome.{Outcome}
+use Rattle.awk_meaning.specs.declared.outcome.Outcome.TheVariants.{Ended, Fault, Stopped}
+use Rattle.awk_meaning.specs.Faults.{stream_fault}
+use Rattle.awk_meaning.specs.Meaning.{StartValues}
+use Rattle.awk_streams.specs.WorldState.{WorldState}
+use Rattle.awk_run.specs.definitions.Headline.{IsUntouched, Runs}
+
+-- a failure of the end of a run counts unless a fault came before it
+abbrev pub outcome_after : Result (Unit {0}) Halt → Result (Unit {0}) StreamFault → Outcome
+outcome_after (Err (halt.Fault f)) finished = Fault f
+outcome_after (Ok u) (Ok v) = Ended 0
+outcome_after (Ok u) (Err f) = Fault (stream_fault f)
+outcome_after (Err halt.OutOfSteps) (Ok v) = Stopped
+outcome_after (Err halt.OutOfSteps) (Err f) = Fault (stream_fault f)
+
+-- this program is read, unless memory is refused
+abbrev pub ReadsOnly : Result Tree Refusal → List Item → Type 0
+ReadsOnly (Ok tree) items = tree_of tree ≡ items
+ReadsOnly (Err refusal) items = IsOutOfMemory refusal
+
+-- from a world in which nothing was done, a run leaves what the items mean
+pub record RunsFrom (is_logged : Type 0) (items : List Item) (start : StartValues) (limit : ℕ) (before after : WorldState) (result : Outcome) : Type 0 where
+  pub runs : is_logged → IsUntouched before → Runs items start limit after result

@@ -1,0 +1,225 @@
+-- What the kept variables are, name by name.
+use Rattle.std.proofs.Common.{◌≡◌, ◌≢◌, ◌↔◌, ℕ, ◌<◌, Bool, true, false, cond, List, [], ◌∷◌, ◌++◌, map, length, get_or, set, Option, Some, None, unwrap_or, if◌then◌else◌, refl, sym, ap, ◌∙◌, true≢false, arith, get_or-set_same, get_or-set_other}
+use Rattle.std.specs.Prelude.{Result, Ok, Err, OnOk, OnErr}
+use Rattle.std.specs.Global.{Vec}
+use Rattle.std.specs.Str.{bytes_eq}
+use Rattle.std.specs.Option.{option_map}
+use Rattle.std.specs.Map.{lookup, KeepsOthers, IsKeyTest, AreApart}
+use Rattle.std.proofs.lemmas.Bool.{false_from_ne_true}
+use Rattle.std.proofs.lemmas.Slice.Eq.{bytes_eq-Decides}
+use Rattle.awk_value.specs.declared.value.Value.{Value}
+use Rattle.awk_value.specs.declared.value.Value.TheVariants.{Nothing}
+use Rattle.awk_variables.specs.declared.special.Special.{Special}
+use Rattle.awk_variables.specs.declared.special.Special.TheVariants.{Argc, Convfmt, Filename, Fnr, Fs, Nr, Ofmt, Ofs, Ors, Rlength, Rs, Rstart, Subsep}
+use Rattle.awk_variables.specs.definitions.Variables.{Pairs, value_of, name_of, with_value}
+use Rattle.awk_variables.specs.support.Storage.{all_specials, index_of, special_named, value_at, special_pairs, other_pairs, kept_at}
+
+-- a choice that is mapped
+pub option_map-if : {A B : Type 0} (f : A → B) (b : Bool) (x y : Option A) → option_map f (if b then x else y) ≡ (if b then option_map f x else option_map f y)
+option_map-if f true x y = refl
+option_map-if f false x y = refl
+
+-- texts
+
+same : (s t : List ℕ) → bytes_eq s t ≡ true → s ≡ t
+same s t e = (bytes_eq-Decides s t).0 e
+
+itself : (s t : List ℕ) → s ≡ t → bytes_eq s t ≡ true
+itself s t e = (bytes_eq-Decides s t).1 e
+
+other : (s t : List ℕ) → (s ≡ t → ⊥) → bytes_eq s t ≡ false
+other s t ne = false_from_ne_true (bytes_eq s t) (λ e. ne (same s t e))
+
+differs : (s t : List ℕ) → bytes_eq s t ≡ false → s ≡ t → ⊥
+differs s t apart e = true≢false (sym (itself s t e) ∙ apart)
+
+none_or_some : {A : Type 0} {x : A} → None ≡ Some x → ⊥
+none_or_some e = cc
+
+same_some : {A : Type 0} {x y : A} → Some x ≡ Some y → x ≡ y
+same_some e = cc
+
+pub on_ok : {T E P Q : Type 0} (r : Result T E) → OnOk r P → (P → Q) → OnOk r Q
+on_ok (Ok x) p f = f p
+on_ok (Err e) p f = p
+
+pub on_err : {T E P Q : Type 0} (r : Result T E) → OnErr r P → (P → Q) → OnErr r Q
+on_err (Ok x) p f = p
+on_err (Err e) p f = f p
+
+-- names of special variables
+
+pub special_named-name_of : (s : Special) → special_named (name_of s) ≡ Some s
+special_named-name_of Argc = refl
+special_named-name_of Convfmt = refl
+special_named-name_of Filename = refl
+special_named-name_of Fnr = refl
+special_named-name_of Fs = refl
+special_named-name_of Nr = refl
+special_named-name_of Ofmt = refl
+special_named-name_of Ofs = refl
+special_named-name_of Ors = refl
+special_named-name_of Rlength = refl
+special_named-name_of Rs = refl
+special_named-name_of Rstart = refl
+special_named-name_of Subsep = refl
+
+named_among : (name : List ℕ) (s : Special) (all : List Special) → lookup (bytes_eq name) (map (λ t. (name_of t, t)) all) ≡ Some s → name ≡ name_of s
+named_among name s [] e = absurd (none_or_some e)
+named_among name s (t ∷ all) e = by (bytes_eq name (name_of t)) refl (λ f. named_among name s all f) e
+  where
+    by : (b : Bool) → bytes_eq name (name_of t) ≡ b → (lookup (bytes_eq name) (map (λ t. (name_of t, t)) all) ≡ Some s → name ≡ name_of s) → cond b (Some t) (lookup (bytes_eq name) (map (λ t. (name_of t, t)) all)) ≡ Some s → name ≡ name_of s
+    by true is rest f = same name (name_of t) is ∙ ap name_of (same_some f)
+    by false is rest f = rest f
+
+pub name_of_named : (name : List ℕ) (s : Special) → special_named name ≡ Some s → name ≡ name_of s
+name_of_named name s e = named_among name s all_specials e
+
+-- what a look-up of a special variable's name says of the name
+pub named-names : (name : List ℕ) (found : Option Special) → found ≡ special_named name → (s : Special) → (found ≡ Some s) ↔ (name ≡ name_of s)
+named-names name found is s = (λ e. name_of_named name s (sym is ∙ e), λ e. is ∙ ap special_named e ∙ special_named-name_of s)
+
+-- places
+
+abbrev special_at : ℕ → Special
+special_at n = get_or all_specials n Subsep
+
+special_at-index_of : (s : Special) → special_at (index_of s) ≡ s
+special_at-index_of Argc = refl
+special_at-index_of Convfmt = refl
+special_at-index_of Filename = refl
+special_at-index_of Fnr = refl
+special_at-index_of Fs = refl
+special_at-index_of Nr = refl
+special_at-index_of Ofmt = refl
+special_at-index_of Ofs = refl
+special_at-index_of Ors = refl
+special_at-index_of Rlength = refl
+special_at-index_of Rs = refl
+special_at-index_of Rstart = refl
+special_at-index_of Subsep = refl
+
+index_within : (s : Special) → index_of s < 13
+index_within Argc = omega arith
+index_within Convfmt = omega arith
+index_within Filename = omega arith
+index_within Fnr = omega arith
+index_within Fs = omega arith
+index_within Nr = omega arith
+index_within Ofmt = omega arith
+index_within Ofs = omega arith
+index_within Ors = omega arith
+index_within Rlength = omega arith
+index_within Rs = omega arith
+index_within Rstart = omega arith
+index_within Subsep = omega arith
+
+same_special : (s t : Special) → index_of s ≡ index_of t → s ≡ t
+same_special s t e = sym (special_at-index_of s) ∙ ap special_at e ∙ special_at-index_of t
+
+-- look-ups
+
+-- a look-up among the special variables, with a value for each
+lookup_specials : (f : Special → Value) (name : List ℕ) (all : List Special) → lookup (bytes_eq name) (map (λ s. (name_of s, f s)) all) ≡ option_map f (lookup (bytes_eq name) (map (λ s. (name_of s, s)) all))
+lookup_specials f name [] = refl
+lookup_specials f name (t ∷ all) = by (bytes_eq name (name_of t)) (lookup_specials f name all)
+  where
+    by : (b : Bool) → lookup (bytes_eq name) (map (λ s. (name_of s, f s)) all) ≡ option_map f (lookup (bytes_eq name) (map (λ s. (name_of s, s)) all)) → cond b (Some (f t)) (lookup (bytes_eq name) (map (λ s. (name_of s, f s)) all)) ≡ option_map f (cond b (Some t) (lookup (bytes_eq name) (map (λ s. (name_of s, s)) all)))
+    by true rest = refl
+    by false rest = rest
+
+lookup_first : (name : List ℕ) (v : Value) (ps qs : Pairs) → lookup (bytes_eq name) ps ≡ Some v → lookup (bytes_eq name) (ps ++ qs) ≡ Some v
+lookup_first name v [] qs e = absurd (none_or_some e)
+lookup_first name v (p ∷ ps) qs e = by (bytes_eq name p.0) (lookup_first name v ps qs) e
+  where
+    by : (b : Bool) → (lookup (bytes_eq name) ps ≡ Some v → lookup (bytes_eq name) (ps ++ qs) ≡ Some v) → cond b (Some p.1) (lookup (bytes_eq name) ps) ≡ Some v → cond b (Some p.1) (lookup (bytes_eq name) (ps ++ qs)) ≡ Some v
+    by true rest f = f
+    by false rest f = rest f
+
+lookup_second : (name : List ℕ) (ps qs : Pairs) → lookup (bytes_eq name) ps ≡ None → lookup (bytes_eq name) (ps ++ qs) ≡ lookup (bytes_eq name) qs
+lookup_second name [] qs e = refl
+lookup_second name (p ∷ ps) qs e = by (bytes_eq name p.0) (lookup_second name ps qs) e
+  where
+    by : (b : Bool) → (lookup (bytes_eq name) ps ≡ None → lookup (bytes_eq name) (ps ++ qs) ≡ lookup (bytes_eq name) qs) → cond b (Some p.1) (lookup (bytes_eq name) ps) ≡ None → cond b (Some p.1) (lookup (bytes_eq name) (ps ++ qs)) ≡ lookup (bytes_eq name) qs
+    by true rest f = absurd (none_or_some (sym f))
+    by false rest f = rest f
+
+lookup_others : (name : List ℕ) (es : List (Vec ℕ × Value)) → lookup (bytes_eq name) (other_pairs es) ≡ kept_at es name
+lookup_others name [] = refl
+lookup_others name (e ∷ es) = ap (λ r. cond (bytes_eq name e.0.items) (Some e.1) r) (lookup_others name es)
+
+-- the kept variables
+
+abbrev pub kept : List Value → List (Vec ℕ × Value) → Pairs
+kept values es = special_pairs values ++ other_pairs es
+
+pub value_of-special : (values : List Value) (es : List (Vec ℕ × Value)) (name : List ℕ) (s : Special) → special_named name ≡ Some s → value_of (kept values es) name ≡ value_at values s
+value_of-special values es name s is =
+    let found : lookup (bytes_eq name) (special_pairs values) ≡ Some (value_at values s) = lookup_specials (value_at values) name all_specials ∙ ap (option_map (value_at values)) is in
+    ap (λ r. unwrap_or r Nothing) (lookup_first name (value_at values s) (special_pairs values) (other_pairs es) found)
+
+pub value_of-other : (values : List Value) (es : List (Vec ℕ × Value)) (name : List ℕ) → special_named name ≡ None → value_of (kept values es) name ≡ unwrap_or (kept_at es name) Nothing
+value_of-other values es name is =
+    let missed : lookup (bytes_eq name) (special_pairs values) ≡ None = lookup_specials (value_at values) name all_specials ∙ ap (option_map (value_at values)) is in
+    ap (λ r. unwrap_or r Nothing) (lookup_second name (special_pairs values) (other_pairs es) missed ∙ lookup_others name es)
+
+-- changes
+
+changed : (values : List ℕ → Value) (name : List ℕ) (v : Value) (x : List ℕ) → name ≡ x → with_value values name v x ≡ v
+changed values name v x e = ap (λ b. if b then v else values x) (itself name x e)
+
+unchanged : (values : List ℕ → Value) (name : List ℕ) (v : Value) (x : List ℕ) → (name ≡ x → ⊥) → with_value values name v x ≡ values x
+unchanged values name v x ne = ap (λ b. if b then v else values x) (other name x ne)
+
+-- a special variable takes a value
+pub value_of-set_special : (values : List Value) (es : List (Vec ℕ × Value)) (s : Special) (v : Value) → length values ≡ 13 → (x : List ℕ) → value_of (kept (set values (index_of s) v) es) x ≡ with_value (value_of (kept values es)) (name_of s) v x
+value_of-set_special values es s v len x = by (special_named x) refl
+  where
+    by_name : (t : Special) → special_named x ≡ Some t → (b : Bool) → bytes_eq (name_of s) x ≡ b → value_at (set values (index_of s) v) t ≡ with_value (value_of (kept values es)) (name_of s) v x
+    by_name t is true e =
+        let here : name_of s ≡ x = same (name_of s) x e in
+        let one : t ≡ s = same_some (sym is ∙ ap special_named (sym here) ∙ special_named-name_of s) in
+        let within : index_of s < length values = omega (arith, index_within s) in
+        ap (λ r. get_or (set values (index_of s) v) (index_of r) Nothing) one ∙ get_or-set_same values (index_of s) v Nothing within ∙ sym (changed (value_of (kept values es)) (name_of s) v x here)
+    by_name t is false e =
+        let elsewhere : name_of s ≡ x → ⊥ = differs (name_of s) x e in
+        let apart : index_of t ≢ index_of s = λ p. elsewhere (ap name_of (sym (same_special t s p)) ∙ sym (name_of_named x t is)) in
+        get_or-set_other values (index_of s) (index_of t) v Nothing apart ∙ sym (unchanged (value_of (kept values es)) (name_of s) v x elsewhere ∙ value_of-special values es x t is)
+
+    by : (r : Option Special) → special_named x ≡ r → value_of (kept (set values (index_of s) v) es) x ≡ with_value (value_of (kept values es)) (name_of s) v x
+    by None is =
+        let elsewhere : name_of s ≡ x → ⊥ = λ e. none_or_some (sym is ∙ ap special_named (sym e) ∙ special_named-name_of s) in
+        value_of-other (set values (index_of s) v) es x is ∙ sym (unchanged (value_of (kept values es)) (name_of s) v x elsewhere ∙ value_of-other values es x is)
+    by (Some t) is = value_of-special (set values (index_of s) v) es x t is ∙ by_name t is (bytes_eq (name_of s) x) refl
+
+-- the map gives the name the value, and leaves all others
+abbrev pub Puts : List (Vec ℕ × Value) → List (Vec ℕ × Value) → List ℕ → Value → Type 0
+Puts old new name v = (x : List ℕ) → kept_at new x ≡ (if bytes_eq name x then Some v else kept_at old x)
+
+-- another variable takes a value
+pub value_of-put : (values : List Value) (old new : List (Vec ℕ × Value)) (name : List ℕ) (v : Value) → special_named name ≡ None → Puts old new name v → (x : List ℕ) → value_of (kept values new) x ≡ with_value (value_of (kept values old)) name v x
+value_of-put values old new name v is_other puts x = by (special_named x) refl
+  where
+    by_name : special_named x ≡ None → (b : Bool) → bytes_eq name x ≡ b → unwrap_or (if b then Some v else kept_at old x) Nothing ≡ with_value (value_of (kept values old)) name v x
+    by_name is true e = sym (changed (value_of (kept values old)) name v x (same name x e))
+    by_name is false e = sym (unchanged (value_of (kept values old)) name v x (differs name x e) ∙ value_of-other values old x is)
+
+    by : (r : Option Special) → special_named x ≡ r → value_of (kept values new) x ≡ with_value (value_of (kept values old)) name v x
+    by None is = value_of-other values new x is ∙ ap (λ r. unwrap_or r Nothing) (puts x) ∙ by_name is (bytes_eq name x) refl
+    by (Some t) is =
+        let elsewhere : name ≡ x → ⊥ = λ e. none_or_some (sym is_other ∙ ap special_named e ∙ is) in
+        value_of-special values new x t is ∙ sym (unchanged (value_of (kept values old)) name v x elsewhere ∙ value_of-special values old x t is)
+
+-- a map that keeps the others, where the name has the value, is so changed
+pub puts : (old new : List (Vec ℕ × Value)) (name : List ℕ) (v : Value) → KeepsOthers (λ k l. bytes_eq k.items l.items) (λ k. bytes_eq name k.items) old new → kept_at new name ≡ Some v → Puts old new name v
+unfolding KeepsOthers
+puts old new name v keeps has x = by (bytes_eq name x) refl
+  where
+    tests : IsKeyTest (λ k l. bytes_eq k.items l.items) (λ (k : Vec ℕ). bytes_eq x k.items)
+    tests k l e = ap (λ t. bytes_eq t l.items) (same x k.items e)
+
+    by : (b : Bool) → bytes_eq name x ≡ b → kept_at new x ≡ (if b then Some v else kept_at old x)
+    by true e = ap (kept_at new) (sym (same name x e)) ∙ has
+    by false e =
+        let apart : AreApart (λ (k : Vec ℕ). bytes_eq name k.items) (λ (k : Vec ℕ). bytes_eq x k.items) = λ k is. other x k.items (λ h. differs name x e (same name k.items is ∙ sym h)) in
+        keeps (λ (k : Vec ℕ). bytes_eq x k.items) tests apart

@@ -1,0 +1,4 @@
+pub mod definitions
+pub mod support
+pub use Rattle.awk_variables.specs.definitions.Variables
+pub use Rattle.awk_variables.specs.support.Storage

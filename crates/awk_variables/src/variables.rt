@@ -1,0 +1,190 @@
+// The variables of a run.
+ghost use Rattle.std.specs.Prelude.{◌≡◌, ◌↔◌, ℕ, List, true, false, IfOk, IfErr, OnOk, OnErr, Some, None, bytes_eq, if◌then◌else◌};
+ghost use Rattle.awk_value.specs.Values.{str_of};
+ghost use Rattle.awk_value.specs.declared.value.Value.TheVariants.{Nothing};
+ghost use Rattle.awk_text.specs.Pieces.{separator_of};
+ghost use Rattle.awk_variables.specs.support.Storage.{kept_at};
+
+use crate::fault::VariableFault;
+use crate::special::Special;
+use awk_text::{Separator, TextFault};
+use awk_value::{Bytes, Value};
+use indexmap::IndexMap;
+use itoa::Buffer;
+use std::alloc::Global;
+use std::marker::Model;
+
+// The separator that the text of a value stands for.
+fn separator_in(value: &Value) -> Result<Separator, TextFault>
+    ensures { result ≡ separator_of (str_of value.now) }
+{
+    match value {
+        Value::Nothing => Separator::of(b""),
+        Value::Number(n) => Separator::of(Buffer::new().format(*n).as_bytes()),
+        Value::Text(text) | Value::Input(text) => Separator::of(text.as_slice()),
+    }
+}
+
+// Gives a name a value among the others. Only a new name takes memory.
+fn put(
+    others: &mut IndexMap<Vec<u8>, Value>,
+    alloc: Global,
+    name: &[u8],
+    value: Value,
+) -> Result<(), VariableFault>
+    ensures put { OnOk result ((x : List ℕ) → kept_at others.new.entries x
+        ≡ (if bytes_eq name.now x then Some value else kept_at others.old.entries x)) }
+    ensures err { OnErr result (others.new.entries ≡ others.old.entries) }
+    ensures absent { OnErr result (kept_at others.old.entries name.now ≡ None) }
+    ensures memory { IfErr result (λ e. e ≡ VariableFault.Memory) }
+{
+    if let Some(place) = others.get_mut(name) {
+        *place = value;
+        return Ok(());
+    }
+    let name = Vec::from_slice(alloc, name)?;
+    others.insert(name, value)?;
+    Ok(())
+}
+
+/// The variables of a run: the values of all names, of which most were never
+/// assigned.
+#[derive(Drop)]
+pub struct Variables {
+    specials: [Value; 13],
+    others: IndexMap<Vec<u8>, Value>,
+    // what FS stands for
+    separator: Separator,
+    alloc: Global,
+}
+
+impl Model for Variables {
+    ghost use Rattle.std.specs.Prelude.{◌≡◌, ◌++◌, Ok};
+    ghost use Rattle.awk_value.specs.Values.{str_of};
+    ghost use Rattle.awk_text.specs.Pieces.{separator_of};
+    ghost use Rattle.awk_variables.specs.definitions.Variables.{Pairs};
+    ghost use Rattle.awk_variables.specs.support.Storage.{special_pairs, other_pairs, value_at};
+    ghost use Rattle.awk_variables.specs.declared.special.Special.TheVariants.{Fs};
+
+    ghost Value = { Pairs };
+
+    ghost view = { λ v. special_pairs v.specials ++ other_pairs v.others.entries };
+
+    ghost invariant = { λ v. separator_of (str_of (value_at v.specials Fs)) ≡ Ok v.separator };
+}
+
+impl Variables {
+    ghost use Rattle.awk_variables.specs.support.Storage.{special_named};
+    ghost use Rattle.awk_variables.specs.definitions.Variables.{value_of, name_of, initial_value, with_value, is_refused};
+
+    /// The variables before the run, where ARGV has so many elements. The
+    /// only fault is `Memory`.
+    pub fn new(alloc: Global, arguments: usize) -> Result<Variables, VariableFault>
+        ensures start { IfOk result (λ v. (x : List ℕ) → value_of v x ≡ initial_value arguments x) }
+        ensures memory { IfErr result (λ e. e ≡ VariableFault.Memory) }
+    {
+        let convfmt = Bytes::from_slice(alloc, b"%.6g")?;
+        let fs = Bytes::from_slice(alloc, b" ")?;
+        let ofmt = Bytes::from_slice(alloc, b"%.6g")?;
+        let ofs = Bytes::from_slice(alloc, b" ")?;
+        let ors = Bytes::from_slice(alloc, b"\n")?;
+        let rs = Bytes::from_slice(alloc, b"\n")?;
+        let subsep = Bytes::from_slice(alloc, b"\x1c")?;
+        let specials = [
+            Value::Number(arguments as i128), // ARGC
+            Value::Text(convfmt),
+            Value::Nothing, // FILENAME
+            Value::Number(0), // FNR
+            Value::Text(fs),
+            Value::Number(0), // NR
+            Value::Text(ofmt),
+            Value::Text(ofs),
+            Value::Text(ors),
+            Value::Nothing, // RLENGTH
+            Value::Text(rs),
+            Value::Nothing, // RSTART
+            Value::Text(subsep),
+        ];
+        Ok(Variables {
+            specials,
+            others: IndexMap::new(alloc),
+            separator: Separator::Blanks,
+            alloc,
+        })
+    }
+
+    /// The value of a name. The only fault is `Memory`.
+    pub fn get(&self, name: &[u8]) -> Result<Value, VariableFault>
+        ensures value { IfOk result (λ v. v ≡ value_of self.now name.now) }
+        ensures memory { IfErr result (λ e. e ≡ VariableFault.Memory) }
+    {
+        match Special::named(name) {
+            Some(special) => Ok(self.special(special).clone()?),
+            None => match self.others.get(name) {
+                Some(value) => Ok(value.clone()?),
+                None => Ok(Value::Nothing),
+            },
+        }
+    }
+
+    /// The value of a special variable.
+    pub fn special(&self, special: Special) -> &Value
+        ensures { result.now ≡ value_of self.now (name_of special) }
+    {
+        &self.specials[special.index()]
+    }
+
+    /// Gives a name a value. An `Err` changes nothing: it is `Pattern` where
+    /// the name is FS and the value's text is no separator, and else
+    /// `Memory`. Only a name that was never assigned takes memory.
+    pub fn set(&mut self, name: &[u8], value: Value) -> Result<(), VariableFault>
+        ensures set { OnOk result ((x : List ℕ) → value_of self.new x
+            ≡ with_value (value_of self.old) name.now value x) }
+        ensures accepted { OnOk result (is_refused name.now value ≡ false) }
+        ensures err { OnErr result (self.new ≡ self.old) }
+        ensures absent { result ≡ Err VariableFault.Memory → value_of self.old name.now ≡ Nothing }
+        ensures refused { (result ≡ Err VariableFault.Pattern) ↔ (is_refused name.now value ≡ true) }
+    {
+        match Special::named(name) {
+            Some(special) => self.set_special(special, value),
+            None => self.set_other(name, value),
+        }
+    }
+
+    // Gives a name that isn't special a value.
+    fn set_other(&mut self, name: &[u8], value: Value) -> Result<(), VariableFault>
+        requires { special_named name.now ≡ None }
+        ensures set { OnOk result ((x : List ℕ) → value_of self.new x
+            ≡ with_value (value_of self.old) name.now value x) }
+        ensures err { OnErr result (self.new ≡ self.old) }
+        ensures absent { OnErr result (value_of self.old name.now ≡ Nothing) }
+        ensures memory { IfErr result (λ e. e ≡ VariableFault.Memory) }
+    {
+        put(&mut self.others, self.alloc, name, value)
+    }
+
+    /// Gives a special variable a value. An `Err` changes nothing: it is
+    /// `Pattern`, where the variable is FS and the value's text is no
+    /// separator. Takes no memory.
+    pub fn set_special(&mut self, special: Special, value: Value) -> Result<(), VariableFault>
+        ensures set { OnOk result ((x : List ℕ) → value_of self.new x
+            ≡ with_value (value_of self.old) (name_of special) value x) }
+        ensures accepted { OnOk result (is_refused (name_of special) value ≡ false) }
+        ensures err { OnErr result (self.new ≡ self.old) }
+        ensures refused { IfErr result (λ e. (e ≡ VariableFault.Pattern) ×
+            (is_refused (name_of special) value ≡ true)) }
+    {
+        if let Special::Fs = special {
+            self.separator = separator_in(&value)?;
+        }
+        self.specials[special.index()] = value;
+        Ok(())
+    }
+
+    /// The separator that FS stands for.
+    pub fn separator(&self) -> Separator
+        ensures { separator_of (str_of (value_of self.now (name_of Special.Fs))) ≡ Ok result }
+    {
+        self.separator
+    }
+}
