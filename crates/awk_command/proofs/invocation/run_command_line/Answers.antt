@@ -1,0 +1,16 @@
+use Rattle.std.proofs.Common.{ap, Ok}
+use Rattle.std.proofs.lemmas.Result.{err_from_is_err_and}
+use Rattle.awk_run.specs.Does.{seen}
+use Rattle.awk_command.proofs.invocation.run_command_line.Goals as goal
+
+pub returns-in_err-execute : goal.returns-in_err-execute
+returns-in_err-execute g c =
+    let w = g.W.World in
+    let p = err_from_is_err_and c.from_residual-in_err-execute.result c.from_residual-in_err-execute.ensures.1 in
+    let executed = rw (c.deref.ensures.value, c.in_ok-environ.ensures) at c.in_err-execute.ensures.executed in
+    rw (p.1, p.2) (record {
+      text = Ok c.in_ok-text.text;
+      between = seen (w.is_open c.program_text.new.world) (w.log c.program_text.new.world) (w.mark c.program_text.new.world);
+      provided = c.in_ok-text.ensures;
+      ran = (executed, ap (λ v. seen (w.is_open v) (w.log v) (w.mark v)) c.in_err-execute.ensures.untouched);
+    })
