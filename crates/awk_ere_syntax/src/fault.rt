@@ -23,12 +23,12 @@ pub enum PatternFault {
 impl fmt::Display for PatternFault {
     ghost output = { λ fault. Some (fault_text fault) };
 
-    /// The code and its text, such as `P1: not a pattern`.
+    /// The code and its text, such as `P1: pattern ill-formed`.
     fn fmt<W: fmt::Write>(&self, f: &mut fmt::Formatter<W>) -> fmt::Result {
         match self {
             PatternFault::Memory => write!(f, "P0: out of memory"),
-            PatternFault::IllFormed => write!(f, "P1: not a pattern"),
-            PatternFault::BadCount => write!(f, "P2: count or range refused"),
+            PatternFault::IllFormed => write!(f, "P1: pattern ill-formed"),
+            PatternFault::BadCount => write!(f, "P2: interval or range refused"),
             PatternFault::TooLarge => write!(f, "P3: pattern too large"),
         }
     }

@@ -11,7 +11,7 @@ use Rattle.awk_streams.specs.declared.fault.StreamFault.TheVariants.{Memory, Wri
 use Rattle.awk_streams.specs.Log as log
 use Rattle.awk_streams.specs.Oracle.{Oracle, Source, IsConsistent, one_if, same_input, how_many, opens_input}
 use Rattle.awk_streams.specs.Writes.{received}
-use Rattle.awk_streams.specs.Told.{NextTold}
+use Rattle.awk_streams.specs.Inputs.{NextTold}
 use Rattle.awk_streams.specs.Streams.{InputView, AreOpen, IsMainRest, IsFreshMain, OpensMain, AsksMain, EndsMain, Prints}
 use Rattle.awk_streams.specs.Outputs.{IsOutputFault}
 use Rattle.awk_interpreter.specs.declared.interpreter.Interpreter.{Interpreter}

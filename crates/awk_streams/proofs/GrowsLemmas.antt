@@ -1,6 +1,6 @@
 -- Logs that go on, one call after another.
-use Rattle.awk_streams.specs.WorldState.{WorldState}
-use Rattle.awk_streams.specs.Streams.{Grows}
+use Rattle.awk_streams.specs.definitions.WorldState.{WorldState}
+use Rattle.awk_streams.specs.definitions.Streams.{Grows}
 
 pub Grows-self : (world : WorldState) → Grows world world
 Grows-self world = record { consistent = λ a h. h; clear = λ none. none }

@@ -1,9 +1,10 @@
 use Rattle.std.proofs.Common.{◌≡◌, ◌⊎◌, inl, inr, ℕ, List, [], ◌∷◌, ◌++◌, Option, Some, None, Result, Ok, Err, refl, sym, ◌∙◌, ap, subst}
-use Rattle.awk_streams.specs.Log.{Event, Read, Ended, Broke}
+use Rattle.awk_streams.specs.definitions.Log.{Event, Read, Ended, Broke}
 use Rattle.awk_record.specs.Cut.{Ending, IsDecided}
 use Rattle.awk_record.specs.Buffer.{Pending}
-use Rattle.awk_streams.specs.Writes.{with_events}
-use Rattle.awk_streams.specs.Inputs.{NeededReads, Reaches, Brings, Pulls}
+use Rattle.awk_streams.specs.definitions.Writes.{with_events}
+use Rattle.awk_streams.specs.definitions.Inputs.{NeededReads, Reaches}
+use Rattle.awk_streams.specs.support.Pulls.{Brings, Pulls}
 use Rattle.awk_record.specs.Cut.{Cut, Found, NoMore, BrokenOff, TooLong, BadSeparator, cut_of}
 use Rattle.awk_record.specs.Buffer.{Steps, IsAnswerOf}
 use Rattle.awk_record.specs.declared.buffer.Step.{Step}

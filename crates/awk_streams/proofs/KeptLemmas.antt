@@ -1,14 +1,15 @@
 -- Stretches of a log that keep it in order, and what they leave as it was.
 use Rattle.std.proofs.Common.{◌≡◌, ◌≢◌, ℕ, ◌+◌, List, [], ◌∷◌, ◌++◌, Bool, true, false, Option, None, refl, sym, ◌∙◌, ap, subst, arith}
 use Rattle.std.proofs.lemmas.Bool.{cond-true, cond-false, ne_eqb, eq-eqb}
-use Rattle.awk_streams.specs.Log.{Event, Read, Ended, Broke, Wrote, Flushed}
+use Rattle.awk_streams.specs.definitions.Log.{Event, Read, Ended, Broke, Wrote, Flushed}
 use Rattle.awk_record.specs.Cut.{Ending}
-use Rattle.awk_streams.specs.Oracle.{reading_of, read_on}
-use Rattle.awk_streams.specs.Orderly.{IsReadable, IsOrderly, IsInOrder}
+use Rattle.awk_streams.specs.definitions.Oracle.{reading_of, read_on}
+use Rattle.awk_streams.specs.definitions.Orderly.{IsReadable, IsOrderly, IsInOrder}
 use Rattle.std.specs.Prelude.{is_some}
-use Rattle.awk_streams.specs.Writes.{with_events, Writes, OnlyWritesTo, received}
-use Rattle.awk_streams.specs.Inputs.{NeededReads}
-use Rattle.awk_streams.specs.Kept.{IsOutput, IsQuiet, SameCounts, SameStreams}
+use Rattle.awk_streams.specs.definitions.Writes.{with_events, Writes, OnlyWritesTo, received}
+use Rattle.awk_streams.specs.definitions.Inputs.{NeededReads}
+use Rattle.awk_streams.specs.support.Kept.{IsOutput, IsQuiet, SameStreams}
+use Rattle.awk_streams.specs.definitions.Oracle.{SameCounts}
 
 none_more : (n : ℕ) → 0 + n ≡ n
 none_more n = omega arith

@@ -1,12 +1,15 @@
 // Inputs: records out of the bytes that a world hands over.
 ghost use Rattle.std.specs.Prelude.{◌≡◌, ◌≢◌, ◌≤◌, ◌<◌, ◌⊎◌, ℕ, List, ◌∷◌, length, IsTrue, ◌↔◌, OnOk, OnErr, IfErr, None, Err, Ok};
 ghost use Rattle.awk_record.specs.Cut.{longest};
-ghost use Rattle.awk_streams.specs.WorldState.{SameOpen};
-ghost use Rattle.awk_streams.specs.Log.{Event, Read};
-ghost use Rattle.awk_streams.specs.Inputs.{Brings, Pulls, room_of};
+ghost use Rattle.awk_streams.specs.definitions.WorldState.{SameOpen};
+ghost use Rattle.awk_streams.specs.definitions.Log.{Event, Read};
+ghost use Rattle.awk_streams.specs.support.Pulls.{Brings, Pulls, room_of};
 
 use crate::world::{World, WorldFault};
 use awk_record::{RecordBuffer, RecordFault, Step};
+
+/// The most bytes of one reading.
+const CHUNK: usize = 8_192;
 
 /// An input that is open: its number in the world, and what was read of it and not yet taken.
 #[derive(Drop)]
@@ -17,14 +20,8 @@ pub struct Input {
 
 // One reading, into the buffer. `Memory` is the only error; it leaves the buffer as it was, and may
 // lose what was read.
-fn read_more<W: World>(
-    world: &mut W,
-    id: u64,
-    buffer: &mut RecordBuffer,
-    chunk: &mut [u8],
-) -> Result<(), RecordFault>
+fn read_more<W: World>(world: &mut W, id: u64, buffer: &mut RecordBuffer) -> Result<(), RecordFault>
     requires open { IsTrue ((W.state world.old).is_open id) }
-    requires room { 0 < length chunk.old }
     requires unended { buffer.old.ending ≡ None }
     requires short { length buffer.old.bytes ≤ longest }
     ensures open { SameOpen (W.state world.old) (W.state world.new) }
@@ -36,7 +33,8 @@ fn read_more<W: World>(
     ensures no_failure { OnOk result (W.is_logged → (W.state world.new).first_failure ≡ (W.state world.old).first_failure) }
     ensures clear { W.is_logged → (W.state world.new).first_failure ≡ None → (W.state world.old).first_failure ≡ None }
 {
-    match world.read(id, chunk) {
+    let mut chunk = [0u8; CHUNK];
+    match world.read(id, &mut chunk) {
         Ok(0) => buffer.end(),
         Ok(n) => buffer.feed(&chunk[..n])?,
         Err(WorldFault::Failed) => buffer.broken(),
@@ -60,10 +58,8 @@ pub fn next_from<W: World>(
     id: u64,
     buffer: &mut RecordBuffer,
     separator: &[u8],
-    chunk: &mut [u8],
 ) -> Result<Step, RecordFault>
     requires open { IsTrue ((W.state world.old).is_open id) }
-    requires room { 0 < length chunk.old }
     ensures open { SameOpen (W.state world.old) (W.state world.new) }
     ensures step { result ≢ Ok Step.NeedMore }
     ensures fault { result ≢ Err RecordFault.FieldNumber }
@@ -76,6 +72,6 @@ pub fn next_from<W: World>(
         if !is_need_more(&step) {
             return Ok(step);
         }
-        read_more(world, id, buffer, chunk)?;
+        read_more(world, id, buffer)?;
     }
 }

@@ -5,16 +5,14 @@ mod fault;
 mod input;
 mod laws;
 mod output;
-mod script;
-mod stream;
+mod script_stream;
+mod script_world;
 mod streams;
-#[cfg(test)]
-mod tests;
 mod world;
 
 pub use fault::StreamFault;
 pub use laws::{is_consistent_with_less, some_oracle_is_consistent};
 pub use output::print_error;
-pub use script::{Answer, Entry, ScriptWorld};
+pub use script_world::{Answer, Entry, ScriptWorld};
 pub use streams::Streams;
 pub use world::{InputKind, Mode, OutputKind, World, WorldFault};

@@ -1,7 +1,7 @@
 // Outputs: bytes reach the world in order, all of them or a beginning.
 ghost use Rattle.std.specs.Prelude.{◌≡◌, IsTrue, IfErr};
-ghost use Rattle.awk_streams.specs.WorldState.{SameOpen};
-ghost use Rattle.awk_streams.specs.Outputs.{output_fault_of, IsOutputFault, WritesAll, Flushes};
+ghost use Rattle.awk_streams.specs.definitions.WorldState.{SameOpen};
+ghost use Rattle.awk_streams.specs.definitions.Outputs.{output_fault_of, IsOutputFault, WritesAll, Flushes};
 
 use crate::fault::StreamFault;
 use crate::world::{World, WorldFault};

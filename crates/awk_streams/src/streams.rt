@@ -1,9 +1,9 @@
 // The streams of a run: its main input and its standard outputs.
 ghost use Rattle.std.specs.Prelude.{◌≡◌, ◌≢◌, ◌⊎◌, ℕ, ℤ, [], Some, None, is_some, IsTrue, OnOk, OnErr, IfErr, Ok, Err};
-ghost use Rattle.awk_streams.specs.WorldState.{SameOpen};
-ghost use Rattle.awk_streams.specs.Outputs.{IsOutputFault};
-ghost use Rattle.awk_streams.specs.Streams.{AreOpen, IsSoundMain, StandsAsMain, IsOpenMain, view_of, main_of, IsFreshMain, IsSameMain, ClosesMain, closed_main, OpensMain, AsksMain, Prints, EndsMain, Finishes};
-ghost use Rattle.awk_streams.specs.Told.{IsToldAs};
+ghost use Rattle.awk_streams.specs.definitions.WorldState.{SameOpen};
+ghost use Rattle.awk_streams.specs.definitions.Outputs.{IsOutputFault};
+ghost use Rattle.awk_streams.specs.definitions.Streams.{AreOpen, IsSoundMain, StandsAsMain, IsOpenMain, view_of, main_of, IsFreshMain, IsSameMain, ClosesMain, closed_main, OpensMain, AsksMain, Prints, EndsMain, Finishes};
+ghost use Rattle.awk_streams.specs.support.Pulls.{IsToldAs};
 
 use crate::fault::StreamFault;
 use crate::input::{Input, next_from};
@@ -32,9 +32,6 @@ fn told(step: Result<Step, RecordFault>) -> Result<Option<Bytes>, StreamFault>
     }
 }
 
-/// The most bytes of one reading.
-const CHUNK: usize = 1_024;
-
 // The next record of the main input.
 fn next_of<W: World>(
     input: &mut Input,
@@ -48,8 +45,7 @@ fn next_of<W: World>(
     ensures told { W.is_logged → StandsAsMain (W.state world.old).log (view_of input.old) →
         AsksMain separator.now (W.state world.old) (record { main = Some (view_of input.old) }) result (W.state world.new) (record { main = Some (view_of input.new) }) }
 {
-    let mut chunk = [0u8; CHUNK];
-    told(next_from(world, input.id, &mut input.buffer, separator, &mut chunk))
+    told(next_from(world, input.id, &mut input.buffer, separator))
 }
 
 // Closes the input, if there is one.
@@ -73,7 +69,7 @@ pub struct Streams {
 }
 
 impl Model for Streams {
-    ghost use Rattle.awk_streams.specs.Streams.{StreamsView, main_of};
+    ghost use Rattle.awk_streams.specs.definitions.Streams.{StreamsView, main_of};
 
     ghost Value = { StreamsView };
 

@@ -1,5 +1,5 @@
 -- Bracket expressions (XBD 9.3.5).
-use Rattle.std.specs.Prelude.{ℕ, Bool, true, false, ◌&&◌, ◌||◌, not, ◌==◌, List, [], ◌∷◌, ◌++◌}
+use Rattle.std.specs.Prelude.{ℕ, Bool, true, false, ◌&&◌, ◌||◌, not, ◌==◌, List, [], ◌∷◌, ◌++◌, codes}
 use Rattle.awk_ere_syntax.specs.definitions.Escapes.{within, is_digit, is_letter, among, starts, Escape, escape_bytes, escape_value, escape_fits}
 use Rattle.awk_ere_syntax.specs.declared.class_name.ClassName.{ClassName}
 use Rattle.awk_ere_syntax.specs.declared.class_name.ClassName.TheVariants.{Alnum, Alpha, Blank, Cntrl, Digit, Graph, Lower, Print, Punct, Space, Upper, Xdigit}
@@ -17,9 +17,8 @@ abbrev pub mark_value : Mark → ℕ
 mark_value (plain b) = b
 mark_value (escaped e) = escape_value e
 
--- : . =
 abbrev pub is_name_mark : ℕ → Bool
-is_name_mark b = among (58 ∷ 46 ∷ 61 ∷ []) b
+is_name_mark b = among (codes ":.=") b
 
 -- a [ is itself unless one of : . = follows
 abbrev pub mark_fits : Mark → List ℕ → Bool

@@ -1,5 +1,5 @@
 -- The escapes of a pattern: what stands behind a backslash (XBD 9.4 and awk, Lexical Conventions).
-use Rattle.std.specs.Prelude.{ℕ, ◌+◌, ◌-◌, ◌*◌, Bool, false, ◌&&◌, ◌||◌, not, nat_le, ◌==◌, List, [], ◌∷◌, if◌then◌else◌}
+use Rattle.std.specs.Prelude.{ℕ, ◌+◌, ◌-◌, ◌*◌, Bool, false, ◌&&◌, ◌||◌, not, nat_le, ◌==◌, List, [], ◌∷◌, codes, if◌then◌else◌}
 
 abbrev pub within : ℕ → ℕ → ℕ → Bool
 within low high b = nat_le low b && nat_le b high
@@ -22,9 +22,8 @@ abbrev pub starts : (ℕ → Bool) → List ℕ → Bool
 starts p [] = false
 starts p (b ∷ bs) = p b
 
--- a b f n r t v
 abbrev pub names_byte : ℕ → Bool
-names_byte b = among (97 ∷ 98 ∷ 102 ∷ 110 ∷ 114 ∷ 116 ∷ 118 ∷ []) b
+names_byte b = among (codes "abfnrtv") b
 
 -- \a \b \f \n \r \t \v
 abbrev pub named : ℕ → ℕ

@@ -7,6 +7,16 @@ use Rattle.awk_ere_syntax.specs.definitions.Written.{Whole, whole_tokens, tree_o
 use Rattle.awk_ere_syntax.specs.declared.fault.PatternFault.{PatternFault}
 use Rattle.awk_ere_syntax.specs.declared.fault.PatternFault.TheVariants.{Memory, IllFormed, BadCount, TooLarge}
 
+-- the greatest count of a repeat, how many parentheses may be open at once, and how large a pattern may be
+abbrev pub greatest_count : ℕ
+greatest_count = 255
+
+abbrev pub most_opened : ℕ
+most_opened = 200
+
+abbrev pub greatest_size : ℕ
+greatest_size = 10000
+
 -- a range that descends
 abbrev pub any_descends : List Item → Bool
 any_descends [] = false
@@ -29,9 +39,9 @@ abbrev pub repeat_is_bad : Repeat → Bool
 repeat_is_bad star = false
 repeat_is_bad plus = false
 repeat_is_bad option = false
-repeat_is_bad (exactly ds) = not (nat_le (number 0 ds) 255)
-repeat_is_bad (at_least ds) = not (nat_le (number 0 ds) 255)
-repeat_is_bad (between ds es) = not (nat_le (number 0 es) 255) || not (nat_le (number 0 ds) (number 0 es))
+repeat_is_bad (exactly ds) = not (nat_le (number 0 ds) greatest_count)
+repeat_is_bad (at_least ds) = not (nat_le (number 0 ds) greatest_count)
+repeat_is_bad (between ds es) = not (nat_le (number 0 es) greatest_count) || not (nat_le (number 0 ds) (number 0 es))
 
 abbrev pub token_is_bad : Token → Bool
 token_is_bad (atom a) = atom_is_bad a
@@ -58,12 +68,12 @@ HasBadCount text = (w : Whole) × IsWritten w text × (any_bad (whole_tokens w) 
 abbrev pub IsTooLarge : List ℕ → Type 0
 IsTooLarge text =
     (w : Whole) × IsWritten w text × (any_bad (whole_tokens w) ≡ false)
-    × ((200 < whole_opened w) ⊎ (10000 < size (tree_of w)))
+    × ((most_opened < whole_opened w) ⊎ (greatest_size < size (tree_of w)))
 
 -- the text is written so, and within the limits
 abbrev pub IsGood : Whole → List ℕ → Type 0
 IsGood w text =
-    IsWritten w text × (any_bad (whole_tokens w) ≡ false) × (whole_opened w ≤ 200) × (size (tree_of w) ≤ 10000)
+    IsWritten w text × (any_bad (whole_tokens w) ≡ false) × (whole_opened w ≤ most_opened) × (size (tree_of w) ≤ greatest_size)
 
 -- the text spells the pattern within the limits
 abbrev pub SpellsWithin : Tree → List ℕ → Type 0
@@ -82,6 +92,6 @@ Refused TooLarge text = IsTooLarge text
 
 abbrev pub fault_text : PatternFault → List ℕ
 fault_text Memory = codes "P0: out of memory"
-fault_text IllFormed = codes "P1: not a pattern"
-fault_text BadCount = codes "P2: count or range refused"
+fault_text IllFormed = codes "P1: pattern ill-formed"
+fault_text BadCount = codes "P2: interval or range refused"
 fault_text TooLarge = codes "P3: pattern too large"

@@ -1,5 +1,5 @@
 -- The tokens of a pattern, and how a text is written in them (XBD 9.4).
-use Rattle.std.specs.Prelude.{◌≡◌, ℕ, ◌+◌, ◌-◌, ◌*◌, Bool, true, false, ◌&&◌, not, ◌==◌, List, [], ◌∷◌, ◌++◌}
+use Rattle.std.specs.Prelude.{◌≡◌, ℕ, ◌+◌, ◌-◌, ◌*◌, Bool, true, false, ◌&&◌, not, ◌==◌, List, [], ◌∷◌, ◌++◌, codes}
 use Rattle.awk_ere_syntax.specs.definitions.Tree.{Class, class_of, Count, star as many, some as some_of, option as option_of, exactly as exactly_of, at_least as at_least_of, between as between_of}
 use Rattle.awk_ere_syntax.specs.definitions.Escapes.{is_digit, among, Escape, escape_bytes, escape_value, escape_fits}
 use Rattle.awk_ere_syntax.specs.definitions.Brackets.{Bracket, bracket_bytes, bracket_fits, bracket_has}
@@ -22,7 +22,7 @@ pub data Atom : Type 0 where
 
 -- \ ^ $ . [ ( ) | * + ? {
 abbrev pub is_special : ℕ → Bool
-is_special b = among (92 ∷ 91 ∷ 123 ∷ 46 ∷ 94 ∷ 36 ∷ 40 ∷ 41 ∷ 124 ∷ 42 ∷ 43 ∷ 63 ∷ []) b
+is_special b = among (92 ∷ codes "[{.^$()|*+?") b
 
 abbrev pub atom_bytes : Atom → List ℕ
 atom_bytes (ordinary b) = b ∷ []

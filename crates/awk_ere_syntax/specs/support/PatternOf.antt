@@ -3,7 +3,7 @@ use Rattle.std.specs.Prelude.{ℕ, zero, suc, Bool, ◌&&◌, not, nat_le, List,
 use Rattle.awk_ere_syntax.specs.definitions.Tree.{Tree, size}
 use Rattle.awk_ere_syntax.specs.definitions.Tokens.{Token}
 use Rattle.awk_ere_syntax.specs.definitions.Written.{Whole, nothing, whole, whole_tokens, tree_of, whole_opened}
-use Rattle.awk_ere_syntax.specs.definitions.Limits.{any_bad}
+use Rattle.awk_ere_syntax.specs.definitions.Limits.{most_opened, greatest_size, any_bad}
 use Rattle.awk_ere_syntax.specs.support.Lexer.{◌>>=◌, token_at}
 use Rattle.awk_ere_syntax.specs.support.Parser.{parse}
 
@@ -21,7 +21,7 @@ whole_of [] = Some nothing
 whole_of (w ∷ ws) = option_map whole (parse (w ∷ ws))
 
 abbrev pub is_within : Whole → Bool
-is_within w = not (any_bad (whole_tokens w)) && (nat_le (whole_opened w) 200 && nat_le (size (tree_of w)) 10000)
+is_within w = not (any_bad (whole_tokens w)) && (nat_le (whole_opened w) most_opened && nat_le (size (tree_of w)) greatest_size)
 
 abbrev pub within_limits : Whole → Option Tree
 within_limits w = if is_within w then Some (tree_of w) else None

@@ -1,16 +1,48 @@
 // The escapes of a pattern.
 
-ghost use Rattle.std.specs.Prelude.{◌≡◌, ◌-◌, ◌≤◌};
+ghost use Rattle.std.specs.Prelude.{◌≡◌, ◌≤◌};
 ghost use Rattle.std.specs.Option.{option_map};
-ghost use Rattle.awk_ere_syntax.specs.support.Lexer.{escape_at};
+ghost use Rattle.awk_ere_syntax.specs.definitions.Escapes.{octal};
+ghost use Rattle.awk_ere_syntax.specs.support.Lexer.{escape_at, octal_at, octal_more};
 ghost use Rattle.awk_ere_syntax.specs.support.TokenValues.{named_byte, seen_escape};
 
-fn octal(digit: u8) -> u16
-    requires low { 48 ≤ digit }
-    requires high { digit ≤ 55 }
-    ensures { result ≡ digit - 48 }
+/// The value of three octal digits.
+fn octal(a: u8, b: u8, c: u8) -> u16
+    requires a_low { 48 ≤ a }
+    requires a_high { a ≤ 55 }
+    requires b_low { 48 ≤ b }
+    requires b_high { b ≤ 55 }
+    requires c_low { 48 ≤ c }
+    requires c_high { c ≤ 55 }
+    ensures { result ≡ octal a b c }
 {
-    u16::from(digit - b'0')
+    64 * u16::from(a - b'0') + (8 * u16::from(b - b'0') + u16::from(c - b'0'))
+}
+
+/// An escape behind its second octal digit.
+fn octal_more(a: u8, b: u8, bytes: &[u8]) -> Option<(u8, &[u8])>
+    requires a_low { 48 ≤ a }
+    requires a_high { a ≤ 55 }
+    requires b_low { 48 ≤ b }
+    requires b_high { b ≤ 55 }
+    ensures { option_map (λ r. (r.0, r.1.now)) result ≡ option_map seen_escape (octal_more a b bytes.now) }
+{
+    match bytes {
+        [c @ b'0'..=b'7', rest @ ..] => Some((u8::try_from(octal(a, b, *c)).ok()?, rest)),
+        _ => Some((8 * (a - b'0') + (b - b'0'), bytes)),
+    }
+}
+
+/// An escape behind its first octal digit.
+fn octal_at(a: u8, bytes: &[u8]) -> Option<(u8, &[u8])>
+    requires low { 48 ≤ a }
+    requires high { a ≤ 55 }
+    ensures { option_map (λ r. (r.0, r.1.now)) result ≡ option_map seen_escape (octal_at a bytes.now) }
+{
+    match bytes {
+        [b @ b'0'..=b'7', rest @ ..] => octal_more(a, *b, rest),
+        _ => Some((a - b'0', bytes)),
+    }
 }
 
 /// The byte that a backslash and a byte that is no octal digit stand for.
@@ -38,12 +70,7 @@ pub fn escape_at(bytes: &[u8]) -> Option<(u8, &[u8])>
 {
     match bytes {
         [] => None,
-        [a @ b'0'..=b'7', b @ b'0'..=b'7', c @ b'0'..=b'7', rest @ ..] => {
-            let value = octal(*a) * 64 + octal(*b) * 8 + octal(*c);
-            Some((u8::try_from(value).ok()?, rest))
-        }
-        [a @ b'0'..=b'7', b @ b'0'..=b'7', rest @ ..] => Some(((a - b'0') * 8 + (b - b'0'), rest)),
-        [a @ b'0'..=b'7', rest @ ..] => Some((a - b'0', rest)),
+        [digit @ b'0'..=b'7', rest @ ..] => octal_at(*digit, rest),
         [byte, rest @ ..] => Some((named(*byte)?, rest)),
     }
 }

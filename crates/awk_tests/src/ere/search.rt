@@ -268,7 +268,7 @@ fn faults_have_codes_and_texts(rt: HostRuntime) -> Result<(), Fail> {
     )?;
     assert_eq!(rt;
         texts.as_str(),
-        "P0: out of memory, P1: not a pattern, P2: count or range refused, P3: pattern too large"
+        "P0: out of memory, P1: pattern ill-formed, P2: interval or range refused, P3: pattern too large"
     );
     Ok(())
 }

@@ -3,7 +3,7 @@ use Rattle.awk_record.specs.Buffer.{Pending}
 use Rattle.awk_record.specs.declared.buffer.Step.{Step}
 use Rattle.awk_record.specs.declared.buffer.Step.TheVariants.{NeedMore}
 use Rattle.awk_record.specs.declared.fault.RecordFault.{RecordFault}
-use Rattle.awk_streams.specs.Inputs.{Brings, Pulls}
+use Rattle.awk_streams.specs.support.Pulls.{Brings, Pulls}
 use Rattle.awk_streams.proofs.InputLemmas.{Reaches-more, ok_err, memory_no_field, step_ending, pulls_lost}
 use Rattle.awk_streams.proofs.ToldLemmas.{steps_no_field}
 use Rattle.awk_streams.proofs.input.next_from.Goals as goal
@@ -11,7 +11,6 @@ use Rattle.awk_streams.proofs.input.next_from.Goals as goal
 pub loop-step-preserved : goal.loop-step-preserved
 loop-step-preserved g c = record {
   same_open = λ j. c.in_ok-read_more.ensures.open j ∙ c.loop-step.invariant.same_open j;
-  has_room = search rules;
   reaches = λ t.
       let more : c.in_ok-step.step ≡ NeedMore = c.is_need_more.ensures.0 c.if-not-is_need_more.false in
       let steps = c.in_ok-step.ensures.steps (ok_err _ _) in

@@ -1,16 +1,16 @@
 use Rattle.std.proofs.Common.{◌≡◌, ◌<◌, length}
-use Rattle.awk_streams.specs.WorldState.{SameOpen}
-use Rattle.awk_streams.specs.Inputs.{Reaches, room_of}
+use Rattle.awk_streams.specs.definitions.WorldState.{SameOpen}
+use Rattle.awk_streams.specs.definitions.Inputs.{Reaches}
+use Rattle.awk_streams.specs.support.Pulls.{room_of}
 use Rattle.awk_streams.proofs.input.next_from.Given as goal
 
-pub record SoFar (same room reached failed : Type 0) : Type 0 where
+pub record SoFar (same reached failed : Type 0) : Type 0 where
   pub same_open : same
-  pub has_room : room
   pub reaches : reached
   pub no_failure : failed
 
 abbrev pub invariant-loop-step : goal.invariant-loop-step
-invariant-loop-step g l = let w = g.W.World in SoFar (SameOpen (w.state l.fn.world) (w.state l.world)) (0 < length l.chunk)
+invariant-loop-step g l = let w = g.W.World in SoFar (SameOpen (w.state l.fn.world) (w.state l.world))
     (w.is_logged → Reaches l.id l.separator l.fn.buffer (w.state l.fn.world).log l.buffer (w.state l.world).log)
     (w.is_logged → (w.state l.world).first_failure ≡ (w.state l.fn.world).first_failure)
 

@@ -1,5 +1,5 @@
 use Rattle.std.proofs.Common.{ap, sym, pos}
-use Rattle.awk_streams.specs.Streams.{closed_main, main_of}
+use Rattle.awk_streams.specs.definitions.Streams.{closed_main, main_of}
 use Rattle.awk_streams.proofs.streams.close.Goals as goal
 
 -- where there is no input nothing is closed

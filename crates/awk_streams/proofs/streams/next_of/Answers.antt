@@ -1,4 +1,4 @@
-use Rattle.awk_streams.specs.Streams.{view_of}
+use Rattle.awk_streams.specs.definitions.Streams.{view_of}
 use Rattle.awk_streams.proofs.MainLemmas.{asks_main}
 use Rattle.awk_streams.proofs.streams.next_of.Goals as goal
 

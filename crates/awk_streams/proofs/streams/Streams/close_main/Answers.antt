@@ -1,5 +1,5 @@
 use Rattle.std.proofs.Common.{◌≡◌, ◌∙◌, ap, Option, subst}
-use Rattle.awk_streams.specs.Streams.{InputView, StreamsView, ClosesMain, closed_main, main_of}
+use Rattle.awk_streams.specs.definitions.Streams.{InputView, StreamsView, ClosesMain, closed_main, main_of}
 use Rattle.awk_streams.proofs.OutputLemmas.{ends_main}
 use Rattle.awk_streams.proofs.streams.Streams.close_main.Goals as goal
 

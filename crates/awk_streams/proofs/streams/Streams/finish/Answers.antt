@@ -1,5 +1,5 @@
 use Rattle.std.proofs.Common.{◌≡◌, ◌∙◌, ap, sym}
-use Rattle.awk_streams.specs.Streams.{StreamsView, main_of}
+use Rattle.awk_streams.specs.definitions.Streams.{StreamsView, main_of}
 use Rattle.awk_streams.proofs.OutputLemmas.{finishes}
 use Rattle.awk_streams.proofs.streams.Streams.finish.Goals as goal
 

@@ -1,7 +1,0 @@
-use Rattle.std.proofs.Common.{◌≡◌, take}
-use Rattle.awk_streams.specs.Script.{events}
-use Rattle.awk_streams.specs.Writes.{received}
-use Rattle.awk_streams.proofs.script.ScriptWorld.received.Given as goal
-
-abbrev pub invariant-loop-entry : goal.invariant-loop-entry
-invariant-loop-entry l = l.bytes.items ≡ received l.output (events (take l.entry-index l.self.log.items))

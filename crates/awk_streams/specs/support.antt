@@ -1,0 +1,3 @@
+pub mod Pulls
+pub mod Kept
+pub mod ScriptStreams

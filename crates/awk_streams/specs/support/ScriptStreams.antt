@@ -1,0 +1,19 @@
+-- Which streams of a world in memory are open, and how many.
+use Rattle.std.specs.Prelude.{◌≡◌, ℕ, Bool, true, false, ◌<◌, List, Option, Some, None, slice_get, sum_by, if◌then◌else◌, ◌-◌, nat_lt, ◌||◌}
+use Rattle.std.proofs.Common.{ap}
+use Rattle.std.proofs.lemmas.Bool.{lt-ltb}
+use Rattle.awk_streams.specs.declared.script_stream.ScriptStream.{ScriptStream}
+
+abbrev pub open_at : Option ScriptStream → Bool
+open_at (Some s) = s.open
+open_at None = false
+
+-- the standard outputs, and the streams that were opened and not closed
+abbrev pub is_open_in : List ScriptStream → ℕ → Bool
+is_open_in streams id = nat_lt id 2 || open_at (slice_get streams (id - 2))
+
+abbrev pub open_count : List ScriptStream → ℕ
+open_count streams = sum_by (λ s. if s.open then 1 else 0) streams
+
+pub standard_outputs_open : (streams : List ScriptStream) (id : ℕ) → id < 2 → is_open_in streams id ≡ true
+standard_outputs_open streams id below = ap (λ b. b || open_at (slice_get streams (id - 2))) (lt-ltb id 2 below)

@@ -1,0 +1,2 @@
+pub mod HeldOutput
+pub mod Opened

@@ -1,0 +1,54 @@
+// Reads and writes of the system, begun again where a signal interrupts them, and what their errors are to a world.
+
+ghost use Rattle.std.specs.Prelude.{◌≡◌, ◌≤◌, ◌↔◌, IfOk, length};
+ghost use Rattle.std.specs.IoError.{error_kind};
+ghost use Rattle.std.specs.Io.KnownBytes.{ReadConsumes, WriteAppends};
+
+use awk_streams::WorldFault;
+use std::io::{self, ErrorKind, Read, Write};
+
+/// Refused memory is told from every other failure.
+pub fn fault_of(error: io::Error) -> WorldFault
+    ensures { result ≡ WorldFault.Memory ↔ (error_kind error ≡ ErrorKind.OutOfMemory) }
+{
+    match error.kind() {
+        ErrorKind::OutOfMemory => WorldFault::Memory,
+        _ => WorldFault::Failed,
+    }
+}
+
+/// One read, begun again where a signal interrupts it.
+pub fn read_from<R: Read>(reader: &mut R, into: &mut [u8]) -> Result<usize, WorldFault>
+    ensures count { IfOk result (λ n. n ≤ length into.old) }
+    ensures bytes { ReadConsumes (R.remaining reader.old) (R.remaining reader.new) result into.new }
+{
+    for _ in 0..u64::MAX {
+        match reader.read(into) {
+            Ok(count) => return Ok(count),
+            Err(error) => {
+                if error.kind() != ErrorKind::Interrupted {
+                    return Err(fault_of(error));
+                }
+            }
+        }
+    }
+    Err(WorldFault::Failed)
+}
+
+/// One write, begun again where a signal interrupts it.
+pub fn write_to<W: Write>(writer: &mut W, bytes: &[u8]) -> Result<usize, WorldFault>
+    ensures count { IfOk result (λ n. n ≤ length bytes.now) }
+    ensures bytes { WriteAppends (W.contents writer.old) (W.contents writer.new) result bytes.now }
+{
+    for _ in 0..u64::MAX {
+        match writer.write(bytes) {
+            Ok(count) => return Ok(count),
+            Err(error) => {
+                if error.kind() != ErrorKind::Interrupted {
+                    return Err(fault_of(error));
+                }
+            }
+        }
+    }
+    Err(WorldFault::Failed)
+}

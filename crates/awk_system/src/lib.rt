@@ -1,0 +1,8 @@
+//! The system as the outside of a run: its standard streams and its files.
+#![tactic(auto)]
+
+mod calls;
+mod held_output;
+mod system_world;
+
+pub use system_world::SysWorld;
