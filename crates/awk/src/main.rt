@@ -1,18 +1,14 @@
 //! awk of POSIX.1-2017 over whole numbers and byte texts: the program.
 #![tactic(auto)]
 
-mod fault;
-mod held;
-mod system;
-
 pub use awk_command::main_words;
 use awk_command::{given_environment, given_words};
 use awk_run::{Fault, fault_line};
+use awk_system::SysWorld;
 use std::env::Env;
 use std::fs::{File, Files};
 use std::io::{self, Stderr, Stdin, Stdout};
 use std::process::ExitCode;
-use system::SysWorld;
 
 /// The status where there is no memory to begin.
 const NOT_RUN: u8 = 2;
