@@ -1,25 +1,14 @@
 //! awk of POSIX.1-2017 over whole numbers and byte texts: the program.
 #![tactic(auto)]
 
-mod command;
-mod entries;
-mod fault;
-mod held;
-mod program;
-mod report;
-mod system;
-#[cfg(test)]
-mod tests;
-mod words;
-
+pub use awk_command::main_words;
+use awk_command::{given_environment, given_words};
 use awk_run::{Fault, fault_line};
-use entries::{given_environment, given_words};
+use awk_system::SysWorld;
 use std::env::Env;
 use std::fs::{File, Files};
 use std::io::{self, Stderr, Stdin, Stdout};
 use std::process::ExitCode;
-use system::SysWorld;
-use words::main_words;
 
 /// The status where there is no memory to begin.
 const NOT_RUN: u8 = 2;

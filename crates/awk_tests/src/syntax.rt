@@ -10,7 +10,7 @@ mod trees;
 use awk_lex::lexer::tokens;
 use awk_lex::refusal::Refusal;
 use awk_syntax::parse::parse;
-use awk_syntax::tree::Tree;
+use awk_tree::tree::Tree;
 use std::alloc::Global;
 
 fn read(alloc: Global, text: &[u8]) -> Result<Tree, Refusal> {

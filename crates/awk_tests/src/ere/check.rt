@@ -189,7 +189,10 @@ fn groups_that_are_open_at_once(rt: HostRuntime) -> Result<(), Fail> {
 fn expect_class(rt: &impl Abort, text: &[u8], members: &[u8], others: &[u8]) {
     let mut set = [false; 256];
     let token = token_at(text, &mut set);
-    assert!(rt; matches!(token, Some((Token::Bracket(true), _))), "{text:?}");
+    assert!(rt;
+        matches!(token, Some((Token::Bracket(true), _))),
+        "{text:?}"
+    );
     for byte in members {
         assert!(rt; set[usize::from(*byte)], "{text:?}: {byte}");
     }

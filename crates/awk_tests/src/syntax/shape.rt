@@ -1,6 +1,6 @@
 // Trees as text: operands and their operator in brackets, statements behind one another, items with a blank between.
 
-use awk_syntax::tree::{BinaryOperator, Expr, Item, Statement, Tree, UnaryOperator};
+use awk_tree::tree::{BinaryOperator, Expr, Item, Statement, Tree, UnaryOperator};
 use std::alloc::{AllocError, Global};
 
 fn operator_text(operator: BinaryOperator) -> &'static [u8] {

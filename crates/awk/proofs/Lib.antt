@@ -1,4 +1,0 @@
-pub mod CommandLemmas
-pub mod InvocationLemmas
-pub mod ProgramLemmas
-pub mod ReportLemmas

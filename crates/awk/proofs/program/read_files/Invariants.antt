@@ -1,7 +1,0 @@
-use Rattle.std.proofs.Common.{take}
-use Rattle.awk.specs.Program.{ReadsFiles}
-use Rattle.awk.specs.View.{texts}
-use Rattle.awk.proofs.program.read_files.Given as goal
-
-abbrev pub invariant-loop-name : goal.invariant-loop-name
-invariant-loop-name g l = let w = g.W.World in w.tells → ReadsFiles (take l.name-index (texts l.names)) l.text.items (w.log l.fn.world) (w.log l.world)

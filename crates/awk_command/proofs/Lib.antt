@@ -1,0 +1,4 @@
+pub mod CommandLineLemmas
+pub mod InvocationLemmas
+pub mod ProgramTextLemmas
+pub mod ReportLemmas

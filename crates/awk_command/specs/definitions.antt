@@ -1,0 +1,4 @@
+pub mod CommandLine
+pub mod Invocation
+pub mod ProgramText
+pub mod Report

@@ -1,0 +1,15 @@
+//! The command line of awk: options and operands, program files, what a process is started with, and the
+//! run of the program that the words after `awk` ask for, in any world.
+#![tactic(auto)]
+
+mod command_line;
+mod invocation;
+mod options;
+mod process;
+mod program_text;
+mod report;
+
+pub use command_line::{CommandLine, ProgramSource, read_command_line};
+pub use invocation::main_words;
+pub use options::CommandFault;
+pub use process::{given_environment, given_words};

@@ -1,0 +1,5 @@
+// Whole programs over a world in memory: what they print, and which texts are none.
+
+mod accepted;
+mod execute;
+mod refused;

@@ -1,0 +1,101 @@
+// Texts that are no programs.
+
+use crate::rows::expect_rows;
+use std::test::Fail;
+
+const REFUSALS: &str = r#"
+$ {print 1.5}
+! awk: line 1: refusal L5: number refused
+= 2
+$ {print 1 < 2 < 3}
+! awk: line 1: refusal S1: not a program
+= 2
+$ {print}
+. {print "x}
+! awk: line 2: refusal L2: open string
+= 2
+$ {x = "\q"}
+! awk: line 1: refusal L3: escape refused
+= 2
+$ {print $$1}
+! awk: line 1: refusal S1: not a program
+= 2
+$ {NF = 1}
+! awk: line 1: refusal S1: not a program
+= 2
+$ {!x = 1}
+! awk: line 1: refusal S1: not a program
+= 2
+$ {x = cos}
+! awk: line 1: refusal K7: name left out
+= 2
+$ {cos = ARGV}
+! awk: line 1: refusal K7: name left out
+= 2
+$ {print ENVIRON}
+! awk: line 1: refusal K1: array and scalar
+= 2
+$ {ARGV = 1}
+! awk: line 1: refusal K1: array and scalar
+= 2
+$ {print 1 > 2}
+! awk: line 1: refusal S1: not a program
+= 2
+$ BEGIN
+. {print}
+! awk: line 1: refusal S1: not a program
+= 2
+$ {print}
+. {print [x]}
+! awk: line 2: refusal S1: not a program
+= 2
+$ BEGIN{print "a
+! awk: line 1: refusal L2: open string
+= 2
+$ BEGIN{x="\q"}
+! awk: line 1: refusal L3: escape refused
+= 2
+$ /a
+! awk: line 1: refusal L4: open pattern
+= 2
+$ BEGIN{x=1.5}
+! awk: line 1: refusal L5: number refused
+= 2
+$ {print}
+. /(/
+! awk: line 2: refusal P1: pattern ill-formed
+= 2
+$ /a{2,1}/
+! awk: line 1: refusal P2: interval or range refused
+= 2
+$ /a{256}/
+! awk: line 1: refusal P2: interval or range refused
+= 2
+$ /[z-a]/
+! awk: line 1: refusal P2: interval or range refused
+= 2
+$ /(a{100}){100}/
+! awk: line 1: refusal P3: pattern too large
+= 2
+$ /(a{100}){99}/
+= 0
+$ BEGIN{x=2**3}
+! awk: line 1: refusal S1: not a program
+= 2
+$ {print $-1}
+! awk: line 1: refusal S1: not a program
+= 2
+$ BEGIN{print "a" ~ "b" ~ "c"}
+! awk: line 1: refusal S1: not a program
+= 2
+$ BEGIN{x = cos ~ /(/}
+! awk: line 1: refusal P1: pattern ill-formed
+= 2
+"#;
+
+#[test]
+fn refusals(rt: HostRuntime) -> Result<(), Fail> {
+    let alloc = rt.alloc();
+    expect_rows(&rt, alloc, REFUSALS)?;
+    Ok(())
+}

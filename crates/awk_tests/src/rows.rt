@@ -1,0 +1,144 @@
+// Rows of text, each a call of the program. A line of a row is one of
+//   $ WORD      a word after `awk`; nothing behind the mark: an empty word
+//   . TEXT      a further line of that word
+//   < TEXT      a line of standard input
+//   <- TEXT     the same, with no newline behind it
+//   [f] TEXT    a line of the file f; the lines of one opening stand together
+//   > TEXT      a line that is left on standard output
+//   ! TEXT      a line that is left on standard error
+//   = N         the status, and the end of the row
+
+use awk_command::main_words;
+use awk_streams::{Answer, InputKind, ScriptWorld};
+use std::alloc::{AllocError, Global};
+use std::process::Abort;
+
+#[derive(Drop)]
+struct Row {
+    words: Vec<Vec<u8>>,
+    answers: Vec<Answer>,
+    output: Vec<u8>,
+    errors: Vec<u8>,
+}
+
+impl Row {
+    fn new(alloc: Global) -> Row {
+        Row {
+            words: Vec::new(alloc),
+            answers: Vec::new(alloc),
+            output: Vec::new(alloc),
+            errors: Vec::new(alloc),
+        }
+    }
+
+    fn go_on(&mut self, text: &[u8]) -> Result<(), AllocError> {
+        if let Some(word) = self.words.last_mut() {
+            word.push(b'\n')?;
+            word.extend_from_slice(text)?;
+        }
+        Ok(())
+    }
+
+    // One line of the row, but the last.
+    fn take_in(&mut self, alloc: Global, line: &[u8]) -> Result<(), AllocError> {
+        match line {
+            [b'$'] => self.words.push(Vec::new(alloc))?,
+            [b'$', b' ', word @ ..] => self.words.push(word.to_vec(alloc)?)?,
+            [b'.', b' ', text @ ..] => self.go_on(text)?,
+            [b'<'] => self.give(alloc, b"", b"", b"\n")?,
+            [b'<', b' ', text @ ..] => self.give(alloc, b"", text, b"\n")?,
+            [b'<', b'-', b' ', text @ ..] => self.give(alloc, b"", text, b"")?,
+            [b'[', name, b']', b' ', text @ ..] => self.give(alloc, &[*name], text, b"\n")?,
+            [b'>'] => self.output.push(b'\n')?,
+            [b'>', b' ', text @ ..] => add_line(&mut self.output, text)?,
+            [b'!', b' ', text @ ..] => add_line(&mut self.errors, text)?,
+            _ => {}
+        }
+        Ok(())
+    }
+
+    // More bytes of an input that stands last, or a new one.
+    fn give(
+        &mut self,
+        alloc: Global,
+        name: &[u8],
+        text: &[u8],
+        end: &[u8],
+    ) -> Result<(), AllocError> {
+        let is_same = match self.answers.last() {
+            Some(answer) => answer.name.as_slice() == name,
+            None => false,
+        };
+        if !is_same {
+            let kind = if name.is_empty() {
+                InputKind::Standard
+            } else {
+                InputKind::File
+            };
+            self.answers.push(Answer {
+                kind,
+                name: name.to_vec(alloc)?,
+                refused: false,
+                bytes: Vec::new(alloc),
+                breaks: false,
+            })?;
+        }
+        if let Some(answer) = self.answers.last_mut() {
+            answer.bytes.extend_from_slice(text)?;
+            answer.bytes.extend_from_slice(end)?;
+        }
+        Ok(())
+    }
+}
+
+fn add_line(lines: &mut Vec<u8>, text: &[u8]) -> Result<(), AllocError> {
+    lines.extend_from_slice(text)?;
+    lines.push(b'\n')?;
+    Ok(())
+}
+
+// That the row, which ends on this line of the text, leaves what it says.
+fn expect(
+    rt: &impl Abort,
+    alloc: Global,
+    row: Row,
+    status: &[u8],
+    line: usize,
+) -> Result<(), AllocError> {
+    let Row {
+        words,
+        answers,
+        output,
+        errors,
+    } = row;
+    let mut world = ScriptWorld::new(alloc, answers);
+    let answered = main_words(alloc, &words, Vec::new(alloc), &mut world);
+    let left = world.received(0)?;
+    assert!(rt;
+        left.as_slice() == output.as_slice(),
+        "row that ends on line {line}"
+    );
+    let told = world.received(1)?;
+    assert!(rt;
+        told.as_slice() == errors.as_slice(),
+        "row that ends on line {line}"
+    );
+    let said = answered.to_string(alloc)?;
+    assert!(rt; said.as_bytes() == status, "row that ends on line {line}");
+    Ok(())
+}
+
+// That each row of the text leaves what it says.
+pub fn expect_rows(rt: &impl Abort, alloc: Global, rows: &str) -> Result<(), AllocError> {
+    let mut row = Row::new(alloc);
+    for (i, line) in rows.lines().enumerate() {
+        match line.as_bytes() {
+            [b'=', b' ', status @ ..] => {
+                expect(rt, alloc, row, status, i)?;
+                row = Row::new(alloc);
+            }
+            line => row.take_in(alloc, line)?,
+        }
+    }
+    Ok(())
+}
