@@ -4,16 +4,6 @@
 #[cfg(test)]
 mod command;
 #[cfg(test)]
-mod ere;
-#[cfg(test)]
-mod lex;
-#[cfg(test)]
 mod programs;
 #[cfg(test)]
 mod rows;
-#[cfg(test)]
-mod streams;
-#[cfg(test)]
-mod syntax;
-#[cfg(test)]
-mod system;
