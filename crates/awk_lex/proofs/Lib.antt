@@ -13,4 +13,5 @@ pub mod Unique
 pub mod Progress
 pub mod Lines
 pub mod Places
+pub mod Answered
 pub mod ScannerLexemes

@@ -1,20 +1,16 @@
 -- How far a text is read.
 use Rattle.std.proofs.Common.{◌≡◌, ℕ, zero, suc, ◌+◌, ◌≤◌, ◌<◌, Bool, false, List, [], ◌∷◌, ◌++◌, length, drop, refl, sym, ap, ◌∙◌, subst, arith, drop-drop, length-drop, length-append}
 use Rattle.awk_lex.specs.definitions.Words.{divides_after}
-use Rattle.awk_lex.specs.definitions.Lexes.{Reads, Lexes, divides_behind, Fault, Breaks}
+use Rattle.awk_lex.specs.definitions.Lexes.{Reads, Lexes, divides_behind, Fault}
 use Rattle.awk_lex.specs.support.Lexeme.{lexeme_of}
-use Rattle.awk_lex.specs.definitions.Told.{Refuses}
 use Rattle.awk_lex.specs.declared.token.Kind.{Kind}
 use Rattle.awk_lex.specs.declared.refusal.RefusalCode.{RefusalCode}
-use Rattle.awk_lex.specs.declared.refusal.RefusalCode.TheVariants.{UnexpectedByte, OpenString, EscapeRefused, OpenPattern, NumberRefused, ProgramTooLong}
-use Rattle.awk_lex.specs.declared.lexer.TheConstants.{LIMIT}
 use Rattle.awk_lex.specs.declared.lexeme.Lexeme.{Lexeme}
 use Rattle.awk_lex.specs.declared.lexeme.Lexeme.TheVariants as lexeme
 use Rattle.awk_lex.proofs.Spelled.{spelled}
 use Rattle.awk_lex.proofs.Gaps.{part_of, skip_none}
 use Rattle.awk_lex.proofs.Read.{token_is, gap_is, reads_gap, reads_token, divides_behind-append}
 use Rattle.awk_lex.proofs.Faults.{fault_is}
-use Rattle.awk_lex.proofs.Unique.{no_break, one_break}
 
 -- the text is read up to a place, and a slash there divides or not
 pub record IsRead (ts : List Kind) (d : Bool) (text : List ℕ) (at : ℕ) : Type 0 where
@@ -85,26 +81,6 @@ pub fault_here : (ts : List Kind) (d : Bool) (text : List ℕ) (at : ℕ) (c : R
 fault_here ts d text at c inside r h =
     subst (λ x. Fault x c (drop at text)) r.divides (fault_is d (drop at text) c (not_at_end text at inside) h)
 
-broken : (ts : List Kind) (d : Bool) (text : List ℕ) (at : ℕ) (c : RefusalCode) → at < length text → IsRead ts d text at → lexeme_of d (drop at text) ≡ lexeme.Fault c
-    → Breaks c text
-broken ts d text at c inside r h = record { tokens = ts; place = drop at text; reads = r.reads; fault = fault_here ts d text at c inside r h }
-
-refuses : (c : RefusalCode) (text : List ℕ) → length text ≤ LIMIT → (b : Breaks c text) → Refuses c text
-refuses UnexpectedByte text short b = (short, b)
-refuses OpenString text short b = (short, b)
-refuses EscapeRefused text short b = (short, b)
-refuses OpenPattern text short b = (short, b)
-refuses NumberRefused text short b = (short, b)
-refuses _ text short b = absurd b.fault
-
-pub refused : (ts : List Kind) (d : Bool) (text : List ℕ) (at : ℕ) (c : RefusalCode) → length text ≤ LIMIT → at < length text → IsRead ts d text at
-    → lexeme_of d (drop at text) ≡ lexeme.Fault c → Refuses c text
-refused ts d text at c short inside r h = refuses c text short (broken ts d text at c inside r h)
-
-pub no_other : (ts us : List Kind) (d : Bool) (text : List ℕ) (at : ℕ) (c : RefusalCode) → at < length text → IsRead ts d text at
-    → lexeme_of d (drop at text) ≡ lexeme.Fault c → Lexes us text → ⊥
-no_other ts us d text at c inside r h l = no_break us c text l (broken ts d text at c inside r h)
-
 at_end : (text : List ℕ) (at : ℕ) → length text ≤ at → drop at text ≡ []
 at_end [] zero h = refl
 at_end [] (suc n) h = refl
@@ -113,19 +89,3 @@ at_end (x ∷ xs) (suc n) h = at_end xs n (omega arith)
 
 pub all_read : (ts : List Kind) (d : Bool) (text : List ℕ) (at : ℕ) → length text ≤ at → IsRead ts d text at → Lexes ts text
 all_read ts d text at h r = subst (Reads false ts text) (at_end text at h) r.reads
-
--- a text that is not too long breaks where it is refused
-breaks : (c : RefusalCode) (text : List ℕ) → length text ≤ LIMIT → Refuses c text → Breaks c text
-breaks ProgramTooLong text short r = absurd (omega arith)
-breaks _ text short r = r.1
-
-pub too_long_only : (c : RefusalCode) (text : List ℕ) → LIMIT < length text → Refuses c text → ProgramTooLong ≡ c
-too_long_only ProgramTooLong text long r = refl
-too_long_only _ text long r = absurd (omega arith)
-
-pub fault_only : (ts : List Kind) (b : Bool) (text : List ℕ) (at : ℕ) (c d : RefusalCode) → length text ≤ LIMIT → at < length text → IsRead ts b text at
-    → lexeme_of b (drop at text) ≡ lexeme.Fault c → Refuses d text → c ≡ d
-fault_only ts b text at c d short inside r h refused = one_break c d text (broken ts b text at c inside r h) (breaks d text short refused)
-
-pub none_refused : (ts : List Kind) (text : List ℕ) (c : RefusalCode) → length text ≤ LIMIT → Lexes ts text → Refuses c text → ⊥
-none_refused ts text c short lexes refused = no_break ts c text lexes (breaks c text short refused)

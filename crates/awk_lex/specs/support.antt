@@ -1,2 +1,3 @@
 -- What only serves the proofs.
 pub mod Lexeme
+pub mod Reading

@@ -1,19 +1,17 @@
 // The bytes that a text with escapes stands for.
-ghost use Rattle.std.specs.Prelude.{◌≡◌, ◌+◌, ◌≤◌, ◌++◌, None, Some, Err, OnOk, IfSome, length};
+ghost use Rattle.std.specs.Prelude.{◌≡◌, ◌+◌, ◌-◌, ◌<◌, ◌≤◌, ◌∷◌, ◌++◌, true, None, Some, Err, OnOk, IfSome, length};
 ghost use Rattle.std.specs.Option.{option_map};
-ghost use Rattle.awk_lex.specs.definitions.Escapes.{letter, is_octal, octal, escape, first_symbol, unescaped};
+ghost use Rattle.awk_lex.specs.definitions.Escapes.{letter, is_octal, octal_digits, octal, octal_escape};
+ghost use Rattle.awk_lex.specs.definitions.Escapes.{escape, first_symbol, unescaped};
 
 use std::alloc::{AllocError, AllocFailed};
-use thiserror::Error;
 
 /// Why the escapes of a text were not replaced.
-#[derive(Clone, Copy, Debug, PartialEq, Eq, Error)]
+#[derive(Clone, Copy)]
 pub enum EscapeFault {
     /// F1.
-    #[error("out of memory")]
     Memory,
     /// An escape that isn't one of the table: L3 in a program, F14 in an assignment before a file.
-    #[error("bad escape")]
     BadEscape,
 }
 
@@ -77,32 +75,52 @@ fn octal(value: u16, digits: usize) -> Option<Symbol>
     })
 }
 
+fn is_octal(byte: u8) -> bool
+    ensures { result ≡ is_octal byte }
+{
+    matches!(byte, b'0'..=b'7')
+}
+
 // The value of an octal digit.
 fn digit(byte: u8) -> u16
-    requires low { 48 ≤ byte }
-    requires high { byte ≤ 55 }
-    ensures { result + 48 ≡ byte }
+    requires { is_octal byte ≡ true }
+    ensures is { result ≡ byte - 48 }
+    ensures small { result < 8 }
 {
     u16::from(byte - b'0')
+}
+
+// What a backslash in front of an octal digit and a text stands for: a number of three digits at the most.
+fn octal_escape(first: u8, text: &[u8]) -> Option<Symbol>
+    requires { is_octal first ≡ true }
+    ensures is { result ≡ octal_escape (octal_digits (first ∷ text.now)) }
+    ensures within { IfSome result (λ symbol. symbol.behind ≤ 1 + length text.now) }
+{
+    let value = digit(first);
+    match text {
+        [second, third, ..] if is_octal(*second) && is_octal(*third) => {
+            octal((value * 8 + digit(*second)) * 8 + digit(*third), 3)
+        }
+        [second, ..] if is_octal(*second) => octal(value * 8 + digit(*second), 2),
+        _ => octal(value, 1),
+    }
 }
 
 // What a backslash in front of the text stands for.
 fn escape(text: &[u8]) -> Option<Symbol>
     ensures is { result ≡ escape text.now }
-    ensures within { IfSome result (λ first. first.behind ≤ length text.now) }
+    ensures within { IfSome result (λ symbol. symbol.behind ≤ length text.now) }
 {
     match text {
         [] => Some(Symbol {
             byte: b'\\',
             behind: 0,
         }),
-        [a @ b'0'..=b'7', b @ b'0'..=b'7', c @ b'0'..=b'7', ..] => octal(
-            digit(*a) * 64 + digit(*b) * 8 + digit(*c),
-            3,
-        ),
-        [a @ b'0'..=b'7', b @ b'0'..=b'7', ..] => octal(digit(*a) * 8 + digit(*b), 2),
-        [a @ b'0'..=b'7', ..] => octal(digit(*a), 1),
-        [first, ..] => letter(*first).map(|byte| Symbol { byte, behind: 1 }),
+        [first, others @ ..] if is_octal(*first) => octal_escape(*first, others),
+        [first, ..] => Some(Symbol {
+            byte: letter(*first)?,
+            behind: 1,
+        }),
     }
 }
 

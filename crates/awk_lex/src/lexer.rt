@@ -7,6 +7,7 @@ ghost use Rattle.awk_lex.specs.definitions.Refused.{IsOutOfMemory};
 ghost use Rattle.awk_lex.specs.support.Lexeme.{is_newline};
 ghost use Rattle.awk_lex.specs.definitions.Told.{kinds_of, StandsAt, InTurn};
 ghost use Rattle.awk_lex.specs.definitions.Told.{FaultStands, GivesOnly, Refuses, RefusesOnly};
+ghost use Rattle.awk_lex.specs.support.Reading.{AreTokens};
 
 use crate::lexeme::Lexeme;
 use crate::refusal::{Refusal, RefusalCode};
@@ -40,6 +41,43 @@ fn divides_after(kind: &Kind) -> bool
             | Kind::CloseBracket
             | Kind::CloseParenthesis
     )
+}
+
+/// The tokens of a text that isn't too long.
+fn read_tokens(alloc: Global, text: &[u8]) -> Result<Vec<Token>, Refusal>
+    requires { length text.now ≤ LIMIT }
+    ensures whole { IfOk result (λ tokens. AreTokens text.now tokens.items) }
+    ensures fault { IfErr result (λ refusal. IsOutOfMemory refusal ⊎ FaultStands text.now refusal) }
+{
+    let shared = Bytes::from_slice(alloc, text)?;
+    let mut tokens = Vec::new(alloc);
+    let mut at = 0;
+    let mut line = 1;
+    let mut divides = false;
+    while at < text.len() {
+        match lexeme_at(alloc, &shared, at, divides)? {
+            Lexeme::Gap(len) => {
+                let hidden = u64::from(text[at] == b'\\');
+                line += hidden;
+                at += len;
+            }
+            Lexeme::Token(kind, len) => {
+                divides = divides_after(&kind);
+                let newlines = u64::from(is_newline(&kind));
+                let end = at + len;
+                tokens.push(Token {
+                    kind,
+                    line,
+                    start: at,
+                    end,
+                })?;
+                line += newlines;
+                at = end;
+            }
+            Lexeme::Fault(code) => return Err(Refusal { code, line }),
+        }
+    }
+    Ok(tokens)
 }
 
 /// The tokens of a program text, each the longest at its place, with gaps between them.
@@ -76,35 +114,7 @@ pub fn tokens(alloc: Global, text: &[u8]) -> Result<Vec<Token>, Refusal>
             line: 1,
         });
     }
-    let shared = Bytes::from_slice(alloc, text)?;
-    let mut tokens = Vec::new(alloc);
-    let mut at = 0;
-    let mut line = 1;
-    let mut divides = false;
-    while at < text.len() {
-        match lexeme_at(alloc, &shared, at, divides)? {
-            Lexeme::Gap(len) => {
-                let hidden = u64::from(text[at] == b'\\');
-                line += hidden;
-                at += len;
-            }
-            Lexeme::Token(kind, len) => {
-                divides = divides_after(&kind);
-                let newlines = u64::from(is_newline(&kind));
-                let end = at + len;
-                tokens.push(Token {
-                    kind,
-                    line,
-                    start: at,
-                    end,
-                })?;
-                line += newlines;
-                at = end;
-            }
-            Lexeme::Fault(code) => return Err(Refusal { code, line }),
-        }
-    }
-    Ok(tokens)
+    read_tokens(alloc, text)
 }
 
 /// A text has at most one list of tokens.

@@ -31,11 +31,15 @@ octal_value digits = fold (λ value digit. value * 8 + (digit - 48)) 0 digits
 abbrev pub octal : (value digits : ℕ) → Option Symbol
 octal value digits = if nat_lt value 256 then Some (record { byte = value; behind = digits }) else None
 
+-- what a backslash in front of octal digits stands for
+abbrev pub octal_escape : List ℕ → Option Symbol
+octal_escape digits = octal (octal_value digits) (length digits)
+
 -- what a backslash stands for, by the text behind it: itself at the end, and else an octal number or a letter's byte
 abbrev pub escape : List ℕ → Option Symbol
 escape [] = Some (record { byte = 92; behind = 0 })
 escape (byte ∷ text) =
-    if is_octal byte then octal (octal_value (octal_digits (byte ∷ text))) (length (octal_digits (byte ∷ text)))
+    if is_octal byte then octal_escape (octal_digits (byte ∷ text))
     else option_map (λ stands. record { byte = stands; behind = 1 }) (letter byte)
 
 -- the symbol that begins with a byte: what it stands for, and how many of the bytes behind the first it takes

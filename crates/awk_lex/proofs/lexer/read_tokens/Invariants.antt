@@ -2,7 +2,7 @@ use Rattle.std.proofs.Common.{length, ◌+◌, ◌-◌, ◌≤◌, ◌≡◌}
 use Rattle.std.specs.Prelude.{All}
 use Rattle.awk_lex.specs.definitions.Told.{kinds_of, line_at, StandsAt, InTurn}
 use Rattle.awk_lex.proofs.Progress.{IsRead}
-use Rattle.awk_lex.proofs.lexer.tokens.Given as goal
+use Rattle.awk_lex.proofs.lexer.read_tokens.Given as goal
 
 abbrev pub invariant-loop-at : goal.invariant-loop-at
 invariant-loop-at l = record {
