@@ -38,7 +38,7 @@ too_long_only _ text long r = absurd (omega arith)
 pub record IsAnswer (text : List ℕ) (result : Result (Vec Token) Refusal) : Type 0 where
   pub found : IfOk result (λ tokens. Lexes (kinds_of tokens.items) text)
   pub short : OnOk result (length text ≤ LIMIT)
-  pub in_turn : IfOk result (λ tokens. InTurn 0 tokens.items (length text))
+  pub in_turn : IfOk result (λ tokens. InTurn text 0 tokens.items (length text))
   pub within : IfOk result (λ tokens. All (λ token. (token.start ≤ token.end) × (token.end ≤ length text)) tokens.items)
   pub placed : IfOk result (λ tokens. All (StandsAt text) tokens.items)
   pub only : (ts : List Kind) → Lexes ts text → length text ≤ LIMIT → GivesOnly result ts

@@ -90,8 +90,8 @@ pub fn tokens(alloc: Global, text: &[u8]) -> Result<Vec<Token>, Refusal>
     ensures found { IfOk result (λ tokens. Lexes (kinds_of tokens.items) text.now) }
     ensures short { OnOk result (length text.now ≤ LIMIT) }
 
-    // Each token has a stretch of the text, in turn, and stands there on its line.
-    ensures in_turn { IfOk result (λ tokens. InTurn 0 tokens.items (length text.now)) }
+    // Each token has a stretch of the text, in turn, with nothing but gaps between, and stands there on its line.
+    ensures in_turn { IfOk result (λ tokens. InTurn text.now 0 tokens.items (length text.now)) }
     ensures within { IfOk result (λ tokens.
         All (λ token. (token.start ≤ token.end) × (token.end ≤ length text.now)) tokens.items) }
     ensures placed { IfOk result (λ tokens. All (StandsAt text.now) tokens.items) }

@@ -1,7 +1,7 @@
 -- What reading the tokens of a text answers.
 use Rattle.std.specs.Prelude.{◌≡◌, ◌⊎◌, ℕ, ◌<◌, ◌≤◌, ◌+◌, ◌==◌, Bool, false, List, [], ◌∷◌, map, count_by, length, take, drop, Result, Ok, Err}
 use Rattle.std.specs.Global.{Vec}
-use Rattle.awk_lex.specs.definitions.Lexes.{Stands, Reads, divides_behind, Fault, Breaks}
+use Rattle.awk_lex.specs.definitions.Lexes.{Skips, Stands, Reads, divides_behind, Fault, Breaks}
 use Rattle.awk_lex.specs.definitions.Refused.{IsOutOfMemory}
 use Rattle.awk_lex.specs.declared.token.Kind.{Kind}
 use Rattle.awk_lex.specs.declared.token.Token.{Token}
@@ -24,10 +24,16 @@ pub record StandsAt (text : List ℕ) (token : Token) : Type 0 where
   pub stands : Stands divides token.kind (drop token.start text) (drop token.end text)
   pub line : token.line ≡ line_at text token.start
 
--- the stretches of the tokens stand in turn, none of them empty, from one place to another
-abbrev pub InTurn : ℕ → List Token → ℕ → Type 0
-InTurn place [] end = place ≤ end
-InTurn place (t ∷ ts) end = (place ≤ t.start) × (t.start < t.end) × InTurn t.end ts end
+-- what stands from one place of the text to another is a gap, which may be empty
+pub record GapBetween (text : List ℕ) (from to : ℕ) : Type 0 where
+  pub ordered : from ≤ to
+  pub skips : Skips (drop from text) (drop to text)
+
+-- The stretches of the tokens stand in turn, none of them empty, from one place of the text to another, with nothing
+-- but gaps before, between and behind them.
+abbrev pub InTurn : List ℕ → ℕ → List Token → ℕ → Type 0
+InTurn text place [] end = GapBetween text place end
+InTurn text place (t ∷ ts) end = GapBetween text place t.start × (t.start < t.end) × InTurn text t.end ts end
 
 -- the text is gaps and tokens up to a place on the refusal's line, and there stands its fault
 pub record FaultStands (text : List ℕ) (refusal : Refusal) : Type 0 where

@@ -7,7 +7,7 @@ use Rattle.awk_lex.specs.definitions.Told.{kinds_of, StandsAt, InTurn}
 use Rattle.awk_lex.specs.declared.token.Token.{Token}
 use Rattle.awk_lex.proofs.Progress.{IsRead, lexeme_there, gap_takes, token_takes, none_read, after_gap, after_token, all_read}
 use Rattle.awk_lex.proofs.Lines.{gap_line, token_line}
-use Rattle.awk_lex.proofs.Places.{stands_at, further, one_more, fault_stands}
+use Rattle.awk_lex.proofs.Places.{stands_at, none_between, further, one_more, fault_stands}
 use Rattle.awk_lex.proofs.lexer.read_tokens.Goals as goal
 
 pub loop-at-init : goal.loop-at-init
@@ -19,7 +19,7 @@ loop-at-init c =
       line = refl;
       read = subst (λ items. IsRead (kinds_of items) false c.args.text.now 0) empty (none_read c.args.text.now);
       placed = subst (All (StandsAt c.args.text.now)) empty (search rules);
-      in_turn = subst (λ items. InTurn 0 items 0) empty (omega arith);
+      in_turn = subst (λ items. InTurn c.args.text.now 0 items 0) empty (none_between c.args.text.now 0);
       stretches = search rules;
     }
 
@@ -33,7 +33,7 @@ loop-at-preserved-in-Gap c =
       line = gap_line c.loop-at.divides c.args.text.now c.loop-at.at c.in-Gap.len c.loop-at.line c.from-hidden.result there c.loop-at.invariant.line c.from-hidden.ensures;
       read = after_gap (kinds_of c.loop-at.tokens.items) c.loop-at.divides c.args.text.now c.loop-at.at c.in-Gap.len c.loop-at.invariant.read there;
       placed = c.loop-at.invariant.placed;
-      in_turn = further 0 c.loop-at.tokens.items c.loop-at.at (c.loop-at.at + c.in-Gap.len) c.loop-at.invariant.in_turn (omega arith);
+      in_turn = further c.loop-at.divides c.args.text.now 0 c.loop-at.tokens.items c.loop-at.at c.in-Gap.len c.loop-at.invariant.in_turn there;
       stretches = c.loop-at.invariant.stretches;
     }
 
@@ -84,8 +84,8 @@ loop-at-preserved c =
           subst (All (StandsAt c.args.text.now)) (sym pushed) (All-push (StandsAt c.args.text.now) c.loop-at.tokens.items token c.loop-at.invariant.placed
           (stands_at c.loop-at.divides c.args.text.now c.loop-at.at c.in-Token.len c.loop-at.line c.in-Token.kind c.loop-at.invariant.line there));
       in_turn =
-          subst (λ items. InTurn 0 items end) (sym pushed)
-          (one_more 0 c.loop-at.tokens.items c.loop-at.at token c.loop-at.invariant.in_turn (omega arith) (omega arith));
+          subst (λ items. InTurn c.args.text.now 0 items end) (sym pushed)
+          (one_more c.args.text.now 0 c.loop-at.tokens.items token c.loop-at.invariant.in_turn (omega arith));
       stretches =
           subst (All Inside) (sym pushed) (All-push Inside c.loop-at.tokens.items token c.loop-at.invariant.stretches (omega arith, t.1));
     }
@@ -101,7 +101,7 @@ returns-clause-whole c =
     let end : c.loop-at.at ≡ length c.args.text.now = omega arith in
     record {
       lexes = all_read (kinds_of c.loop-at.tokens.items) c.loop-at.divides c.args.text.now c.loop-at.at c.loop-at-test.false c.loop-at.invariant.read;
-      in_turn = subst (InTurn 0 c.loop-at.tokens.items) end c.loop-at.invariant.in_turn;
+      in_turn = subst (InTurn c.args.text.now 0 c.loop-at.tokens.items) end c.loop-at.invariant.in_turn;
       within = c.loop-at.invariant.stretches;
       placed = c.loop-at.invariant.placed;
     }

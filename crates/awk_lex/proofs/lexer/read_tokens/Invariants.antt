@@ -11,7 +11,7 @@ invariant-loop-at l = record {
   line : l.line ≡ line_at l.text l.at;
   read : IsRead (kinds_of l.tokens.items) l.divides l.text l.at;
   placed : All (StandsAt l.text) l.tokens.items;
-  in_turn : InTurn 0 l.tokens.items l.at;
+  in_turn : InTurn l.text 0 l.tokens.items l.at;
   stretches : All (λ token. (token.start ≤ token.end) × (token.end ≤ length l.text)) l.tokens.items;
 }
 
