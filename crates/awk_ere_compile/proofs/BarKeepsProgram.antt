@@ -9,7 +9,7 @@ use Rattle.awk_ere_compile.specs.declared.program.Instruction.{Instruction}
 use Rattle.awk_ere_compile.specs.declared.program.Instruction.TheVariants as instruction
 use Rattle.awk_ere_compile.specs.declared.compiler.checkpoint.Last.TheVariants.{Nothing}
 use Rattle.awk_ere_compile.specs.definitions.Program.{fork, swap, resolve}
-use Rattle.awk_ere_syntax.specs.definitions.Limits.{any_bad}
+use Rattle.awk_ere_syntax.specs.definitions.Limits.{greatest_size, any_bad}
 use Rattle.awk_ere_syntax.specs.definitions.Written.{Pattern, Branch, Piece, piece_tree}
 use Rattle.awk_ere_syntax.specs.support.Parser.{Frame, fresh, row, ParserState, branch_of, pattern_of, closed, next_branch as spec_next}
 use Rattle.awk_ere_compile.specs.support.CompilerState.{CompilerState, limited, is_small, next_branch}
@@ -81,7 +81,7 @@ barred_holds d x b y fs true e good h =
     let size = h.whole.size in
     let next : limited (d.size + 1) ≡ limited (n + 1) = omega arith in
     let small = small_size (limited (d.size + 1)) (n + 1) next e in
-    let before : all_size fs + done_size x ≤ 10000 = omega arith in
+    let before : all_size fs + done_size x ≤ greatest_size = omega arith in
     let parts = append_assoc (all_code fs) (done_code x) back in
     let sees : Sees d.classes instructions' (front ++ fork ∷ (back ++ swap ∷ [])) =
     sees_bar d.classes d.instructions d.group.branch front back (subst (λ k. Sees d.classes d.instructions k) (sym parts) (h.whole.sees (omega arith))) (h.group.branch before) in

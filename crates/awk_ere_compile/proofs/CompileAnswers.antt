@@ -4,7 +4,7 @@ use Rattle.std.specs.Prelude.{◌==◌, IfOk, IfErr}
 use Rattle.std.proofs.lemmas.Bool.{false≢true, eqb-true}
 use Rattle.awk_ere_syntax.specs.definitions.Tree.{Tree, empty, none, size}
 use Rattle.awk_ere_compile.specs.definitions.Program.{resolve, Compiles}
-use Rattle.awk_ere_syntax.specs.definitions.Limits.{any_bad, SpellsWithin, Refused}
+use Rattle.awk_ere_syntax.specs.definitions.Limits.{most_opened, any_bad, SpellsWithin, Refused}
 use Rattle.awk_ere_syntax.specs.definitions.Written.{Pattern, Whole, nothing, whole, whole_tokens, tree_of, whole_opened, pattern_tree, IsWritten}
 use Rattle.awk_ere_compile.specs.support.CompilerResult.{IsCleanText, Makes, Builds}
 use Rattle.awk_ere_syntax.specs.support.Checks.{Checked}
@@ -24,13 +24,13 @@ IsRead text p = (t : Tree) × SpellsWithin t text × Compiles t p
 pub record IsFine (w : Whole) (text : List ℕ) : Type 0 where
   pub written : IsWritten w text
   pub good : any_bad (whole_tokens w) ≡ false
-  pub opened : whole_opened w ≤ 200
+  pub opened : whole_opened w ≤ most_opened
 
 -- what the check tells of such a text
 abbrev pub IsFineText : List ℕ → Type 0
 IsFineText text = (w : Whole) × IsFine w text
 
-pub fine_text : (text : List ℕ) (f : Facts) → Checked text (Some f) → f.bad ≡ false → f.opened ≤ 200 → IsFineText text
+pub fine_text : (text : List ℕ) (f : Facts) → Checked text (Some f) → f.bad ≡ false → f.opened ≤ most_opened → IsFineText text
 fine_text text f c good few = (c.0, record { written = c.1; good = c.2 ∙ good; opened = let e = c.3 in omega arith })
 
 clean : (w : Whole) (text : List ℕ) → 0 < length text → IsFine w text → IsCleanText text

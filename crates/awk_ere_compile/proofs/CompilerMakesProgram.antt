@@ -8,7 +8,7 @@ use Rattle.awk_ere_syntax.specs.definitions.Tree.{Class, class_of, none, size}
 use Rattle.awk_ere_compile.specs.definitions.Program.{resolve}
 use Rattle.awk_ere_syntax.specs.definitions.Brackets.{Bracket, bracket_has}
 use Rattle.awk_ere_syntax.specs.definitions.Tokens.{Token, atom, bracket, token_bytes, token_fits, text_of, tokens_fit, AreSpelt}
-use Rattle.awk_ere_syntax.specs.definitions.Limits.{token_is_bad, any_bad}
+use Rattle.awk_ere_syntax.specs.definitions.Limits.{greatest_size, token_is_bad, any_bad}
 use Rattle.awk_ere_syntax.specs.definitions.Written.{Pattern, tokens, pattern_tree}
 use Rattle.awk_ere_syntax.specs.support.Parser.{ParserState, take_in, ended, run, begun}
 use Rattle.awk_ere_syntax.specs.support.Lexer.{token_at}
@@ -120,7 +120,7 @@ makes : (d : CompilerState) (s : ParserState) (p : Pattern) (result : Result Pro
 makes d s p (Ok made) end good h f =
     let e = made_size d s p end h in
     let small = f.0 in
-    let fits : size (pattern_tree p none) ≤ 10000 = omega arith in (
+    let fits : size (pattern_tree p none) ≤ greatest_size = omega arith in (
       fits,
       (
         ordered_pattern p none good tt,

@@ -9,10 +9,10 @@ use Rattle.awk_ere_compile.specs.declared.program.Instruction.TheVariants as ins
 use Rattle.awk_ere_compile.specs.declared.compiler.checkpoint.Group.{Group}
 use Rattle.awk_ere_compile.specs.declared.compiler.checkpoint.Last.TheVariants.{Part as part_at}
 use Rattle.awk_ere_compile.specs.definitions.Program.{join, resolve}
-use Rattle.awk_ere_syntax.specs.definitions.Limits.{any_bad}
+use Rattle.awk_ere_syntax.specs.definitions.Limits.{greatest_size, any_bad}
 use Rattle.awk_ere_syntax.specs.definitions.Written.{Pattern, Branch, Piece, part, group as group_of, piece_tree}
 use Rattle.awk_ere_syntax.specs.support.Parser.{Frame, fresh, row, ParserState, branch_of, pattern_of, add, closed, close}
-use Rattle.awk_ere_compile.specs.support.CompilerState.{CompilerState, is_small, open_group, ended_instructions, close_into}
+use Rattle.awk_ere_compile.specs.support.CompilerState.{most_instructions, CompilerState, is_small, open_group, ended_instructions, close_into}
 use Rattle.awk_ere_syntax.proofs.ParseRoundTrip.{state_tokens}
 use Rattle.awk_ere_compile.proofs.ProgramOfFrames.{Code, tree_code, done_code, done_bars, done_of, pieces_code, settled_code, settled_size, frame_code, all_code, all_size, more_pieces, more_size, whole_code, whole_size, code_added, size_added, settled_code_added, settled_size_added, done_added}
 use Rattle.awk_ere_compile.proofs.StateIsProgram.{IsProgram, IsGroup, AreGroups, IsPart, Holds, Stays, same_program, sees_length, large_size, short_program, group_stays, groups_stay}
@@ -28,7 +28,7 @@ open_holds d s h good =
     let fs = s.now ∷ s.outer in
     let n : all_size fs ≡ all_size (fresh None ∷ fs) = omega arith in
     let k : all_code fs ≡ all_code (fresh None ∷ fs) = sym (append-nil (all_code fs)) in
-    let end : all_size fs + 0 ≤ 10000 → length d.instructions ≡ length (all_code fs ++ []) = λ small.
+    let end : all_size fs + 0 ≤ greatest_size → length d.instructions ≡ length (all_code fs ++ []) = λ small.
     ap length (sym (take-length d.instructions)) ∙ (ap length (take-length d.instructions) ∙ sees_length d.classes d.instructions (all_code fs) (h.whole.sees (omega arith))) ∙ ap length k in record {
       whole = same_program d.size d.instructions d.classes _ _ _ _ n k h.whole;
       group = record {
@@ -59,7 +59,7 @@ see_joins cs (suc n) = ap (λ (l : Code). join ∷ l) (see_joins cs n)
 abbrev pub joined : ℕ → List Instruction → Bool → List Instruction
 joined n instructions b = cond b (instructions ++ replicate n instruction.Join) instructions
 
-pub program_end : (m : ℕ) (instructions : List Instruction) (cs : List Class) (n count : ℕ) (k : Code) (bars : ℕ) (b : Bool) → is_small m ≡ b → (n ≤ 10000 → bars ≡ count) → IsProgram m instructions cs n k → IsProgram m (joined bars instructions b) cs n (k ++ replicate count join)
+pub program_end : (m : ℕ) (instructions : List Instruction) (cs : List Class) (n count : ℕ) (k : Code) (bars : ℕ) (b : Bool) → is_small m ≡ b → (n ≤ greatest_size → bars ≡ count) → IsProgram m instructions cs n k → IsProgram m (joined bars instructions b) cs n (k ++ replicate count join)
 program_end m instructions cs n count k bars true e same h = record {
   size = h.size;
   sees = λ small more.
@@ -95,7 +95,7 @@ size_close x b y f fs =
     let a = size_added f (part (group_of (pattern_of x (branch_of b y)))) in
     omega arith
 
-closed_bounds : (d : CompilerState) (s : ParserState) (b : Bool) (f : Frame) (fs : List Frame) → Holds d s → is_small d.size ≡ b → IsProgram d.size (joined d.group.bars d.instructions b) d.classes (all_size (f ∷ fs)) (all_code (f ∷ fs)) → any_bad (state_tokens f fs) ≡ false → length (joined d.group.bars d.instructions b) ≤ 60000
+closed_bounds : (d : CompilerState) (s : ParserState) (b : Bool) (f : Frame) (fs : List Frame) → Holds d s → is_small d.size ≡ b → IsProgram d.size (joined d.group.bars d.instructions b) d.classes (all_size (f ∷ fs)) (all_code (f ∷ fs)) → any_bad (state_tokens f fs) ≡ false → length (joined d.group.bars d.instructions b) ≤ most_instructions
 closed_bounds d s true f fs h e w good = (short_program d.size (d.instructions ++ replicate d.group.bars instruction.Join) d.classes f fs w good e).0
 closed_bounds d s false f fs h e w good = h.short
 

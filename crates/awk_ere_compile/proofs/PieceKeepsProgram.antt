@@ -12,10 +12,10 @@ use Rattle.awk_ere_compile.specs.declared.compiler.checkpoint.Last.{Last}
 use Rattle.awk_ere_compile.specs.declared.compiler.checkpoint.Last.TheVariants.{Anchor, Part as part_at}
 use Rattle.awk_ere_compile.specs.definitions.Program.{ResolvedInstruction, read, at_start, at_end, resolve}
 use Rattle.awk_ere_syntax.specs.definitions.Tokens.{Atom, atom_class}
-use Rattle.awk_ere_syntax.specs.definitions.Limits.{any_bad}
+use Rattle.awk_ere_syntax.specs.definitions.Limits.{greatest_size, any_bad}
 use Rattle.awk_ere_syntax.specs.definitions.Written.{Piece, the_start, the_end, part, Part, one, piece_tree}
 use Rattle.awk_ere_syntax.specs.support.Parser.{Frame, fresh, row, ParserState, add}
-use Rattle.awk_ere_compile.specs.support.CompilerState.{CompilerState, limited, is_small, checkpoint_of, push, push_class}
+use Rattle.awk_ere_compile.specs.support.CompilerState.{most_instructions, CompilerState, limited, is_small, checkpoint_of, push, push_class}
 use Rattle.awk_ere_syntax.proofs.ParseRoundTrip.{state_tokens}
 use Rattle.awk_ere_compile.proofs.ProgramOfFrames.{Code, tree_code, done_of, settled_code, settled_size, frame_code, all_code, all_size, code_added, size_added, settled_code_added, settled_size_added, done_added}
 use Rattle.awk_ere_compile.proofs.StateIsProgram.{Sees, IsProgram, IsGroup, IsPart, IsLast, Holds, Stays, same_program, sees_more, large_size, short_program, group_stays, groups_stay}
@@ -30,7 +30,7 @@ sees_push cs ds instructions o k i h is more =
 program_push : (m : ℕ) (instructions : List Instruction) (cs ds : List Class) (n : ℕ) (k : Code) (o : Instruction) (i : ResolvedInstruction) (b : Bool) → is_small (limited (m + 1)) ≡ b → length ds ≤ 1 → ((more : List Class) → resolve ((cs ++ ds) ++ more) o ≡ i) → IsProgram m instructions cs n k → IsProgram (limited (m + 1)) (cond b (instructions ++ o ∷ []) instructions) (cond b (cs ++ ds) cs) (n + 1) (k ++ i ∷ [])
 program_push m instructions cs ds n k o i true e l is h =
     let s = h.size in
-    let small : n ≤ 10000 = let t = leb-true (limited (m + 1)) 10000 e in omega arith in
+    let small : n ≤ greatest_size = let t = leb-true (limited (m + 1)) greatest_size e in omega arith in
     let f = h.few small in record {
       size = omega arith;
       sees = λ _. sees_push cs ds instructions o k i (h.sees small) is;
@@ -73,7 +73,7 @@ with_piece d b o ds l = record {
   size = limited (d.size + 1);
 }
 
-bounds : (d : CompilerState) (s : ParserState) (b : Bool) (o : Instruction) (ds : List Class) (f : Frame) → Holds d s → is_small (limited (d.size + 1)) ≡ b → IsProgram (limited (d.size + 1)) (cond b (d.instructions ++ o ∷ []) d.instructions) (cond b (d.classes ++ ds) d.classes) (all_size (f ∷ s.outer)) (all_code (f ∷ s.outer)) → any_bad (state_tokens f s.outer) ≡ false → (length (cond b (d.instructions ++ o ∷ []) d.instructions) ≤ 60000) × (length (cond b (d.classes ++ ds) d.classes) ≤ 10000)
+bounds : (d : CompilerState) (s : ParserState) (b : Bool) (o : Instruction) (ds : List Class) (f : Frame) → Holds d s → is_small (limited (d.size + 1)) ≡ b → IsProgram (limited (d.size + 1)) (cond b (d.instructions ++ o ∷ []) d.instructions) (cond b (d.classes ++ ds) d.classes) (all_size (f ∷ s.outer)) (all_code (f ∷ s.outer)) → any_bad (state_tokens f s.outer) ≡ false → (length (cond b (d.instructions ++ o ∷ []) d.instructions) ≤ most_instructions) × (length (cond b (d.classes ++ ds) d.classes) ≤ greatest_size)
 bounds d s true o ds f h e w good = short_program (limited (d.size + 1)) (d.instructions ++ o ∷ []) (d.classes ++ ds) f s.outer w good e
 bounds d s false o ds f h e w good = (h.short, h.few)
 

@@ -10,7 +10,7 @@ use Rattle.awk_ere_compile.specs.declared.compiler.checkpoint.Last.{Last}
 use Rattle.awk_ere_compile.specs.declared.compiler.checkpoint.Last.TheVariants.{Part as part_at}
 use Rattle.awk_ere_compile.specs.definitions.Program.{resolve}
 use Rattle.awk_ere_syntax.specs.definitions.Tokens.{Repeat}
-use Rattle.awk_ere_syntax.specs.definitions.Limits.{repeat_is_bad, any_bad}
+use Rattle.awk_ere_syntax.specs.definitions.Limits.{greatest_size, repeat_is_bad, any_bad}
 use Rattle.awk_ere_syntax.specs.definitions.Written.{Pattern, Branch, Part, the_start, the_end, part, repeated, part_tree}
 use Rattle.awk_ere_syntax.specs.support.Parser.{Frame, fresh, row, ParserState, repeat_last as spec_repeat}
 use Rattle.awk_ere_syntax.specs.support.TokenValues.{seen_repeat}
@@ -49,7 +49,7 @@ program_repeat : (m : ℕ) (instructions : List Instruction) (cs : List Class) (
     → repeat_is_bad r ≡ false → is_never (seen_repeat r) ≡ never → p.instructions ≤ length instructions
     → IsProgram m instructions cs (all_size (row x b (part c) ∷ fs)) (all_code (row x b (part c) ∷ fs))
     → IsProgram p.size (take p.instructions instructions) (take p.classes cs) (all_size fs + settled_size (row x b (part c))) (all_code fs ++ settled_code (row x b (part c)))
-    → all_size (row x b (part (repeated c r)) ∷ fs) ≤ 10000
+    → all_size (row x b (part (repeated c r)) ∷ fs) ≤ greatest_size
     → Sees (kept cs p never) (with_repeat instructions p r) (all_code (row x b (part (repeated c r)) ∷ fs)) × (length (kept cs p never) ≤ all_size (row x b (part (repeated c r)) ∷ fs))
 program_repeat m instructions cs p x b c fs r true bad e i h before small =
     let front = all_code fs ++ (done_code x ++ pieces_code b) in

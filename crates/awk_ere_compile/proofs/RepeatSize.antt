@@ -6,7 +6,7 @@ use Rattle.awk_ere_syntax.specs.definitions.Tree.{Class, repeated_size}
 use Rattle.awk_ere_compile.specs.definitions.Desugared.{Re, copies, up_to, repeated}
 use Rattle.awk_ere_compile.specs.definitions.Program.{resolve, code}
 use Rattle.awk_ere_syntax.specs.definitions.Tokens.{Repeat, star, plus, option, exactly, at_least, between, number, count_of}
-use Rattle.awk_ere_syntax.specs.definitions.Limits.{repeat_is_bad}
+use Rattle.awk_ere_syntax.specs.definitions.Limits.{greatest_size, greatest_count, repeat_is_bad}
 use Rattle.awk_ere_compile.specs.declared.program.Instruction.{Instruction}
 use Rattle.awk_ere_syntax.specs.support.TokenValues.{seen_count, seen_repeat}
 use Rattle.awk_ere_compile.specs.support.RepeatInstructions.{rounds, any_rounds, up_to_rounds, repeat_instructions}
@@ -14,19 +14,19 @@ use Rattle.awk_ere_compile.specs.support.CompilerState.{limited, seen_size, is_n
 use Rattle.awk_ere_compile.proofs.RepeatProgram.{see_rounds, see_some, see_any, see_up_to, behind}
 
 -- a count that is not above 255 is itself
-same_count : (ds : List ℕ) → number 0 ds ≤ 255 → seen_count ds ≡ number 0 ds
+same_count : (ds : List ℕ) → number 0 ds ≤ greatest_count → seen_count ds ≡ number 0 ds
 same_count ds h = omega arith
 
 exact_count : (ds : List ℕ) → repeat_is_bad (exactly ds) ≡ false → seen_count ds ≡ number 0 ds
-exact_count ds e = same_count ds (leb-true (number 0 ds) 255 (not-false (nat_le (number 0 ds) 255) e))
+exact_count ds e = same_count ds (leb-true (number 0 ds) greatest_count (not-false (nat_le (number 0 ds) greatest_count) e))
 
 least_count : (ds : List ℕ) → repeat_is_bad (at_least ds) ≡ false → seen_count ds ≡ number 0 ds
-least_count ds e = same_count ds (leb-true (number 0 ds) 255 (not-false (nat_le (number 0 ds) 255) e))
+least_count ds e = same_count ds (leb-true (number 0 ds) greatest_count (not-false (nat_le (number 0 ds) greatest_count) e))
 
 two_counts : (ds es : List ℕ) → repeat_is_bad (between ds es) ≡ false → (seen_count ds ≡ number 0 ds) × (seen_count es ≡ number 0 es) × (number 0 ds ≤ number 0 es)
 two_counts ds es e =
     let parts = or_parts _ _ e in
-    let most = leb-true (number 0 es) 255 (not-false (nat_le (number 0 es) 255) parts.0) in
+    let most = leb-true (number 0 es) greatest_count (not-false (nat_le (number 0 es) greatest_count) parts.0) in
     let order = leb-true (number 0 ds) (number 0 es) (not-false (nat_le (number 0 ds) (number 0 es)) parts.1) in
     (same_count ds (omega arith), same_count es most, order)
 
@@ -36,7 +36,7 @@ two_counts ds es e =
 scaled : (m a n : ℕ) → limited (limited a + (m * (limited (a + n) - limited a) + 1)) ≡ limited (a + (m * n + 1))
 scaled zero a n = omega arith
 scaled (suc m) a n =
-    elim (leb_tells (a + n) 10000) [
+    elim (leb_tells (a + n) greatest_size) [
       | inl small ↦
           let l = small.1 in
           let e : limited (a + n) - limited a ≡ n = omega arith in
@@ -45,7 +45,7 @@ scaled (suc m) a n =
       | inr large ↦
           let l = large.1 in
           let k = limited (a + n) - limited a in
-          let e : 10001 ≤ limited a + k = omega arith in
+          let e : suc greatest_size ≤ limited a + k = omega arith in
           let left : suc m * k ≡ m * k + k = omega arith in
           let right : suc m * n ≡ m * n + n = omega arith in
           omega arith

@@ -10,10 +10,10 @@ use Rattle.awk_ere_compile.specs.declared.compiler.checkpoint.Last.{Last}
 use Rattle.awk_ere_compile.specs.declared.compiler.checkpoint.Last.TheVariants.{Nothing, Anchor, Part}
 use Rattle.awk_ere_compile.specs.definitions.Program.{resolve}
 use Rattle.awk_ere_syntax.specs.definitions.Tokens.{Token}
-use Rattle.awk_ere_syntax.specs.definitions.Limits.{token_is_bad, any_bad}
+use Rattle.awk_ere_syntax.specs.definitions.Limits.{greatest_size, token_is_bad, any_bad}
 use Rattle.awk_ere_syntax.specs.definitions.Written.{Pattern, the_start, the_end, part}
 use Rattle.awk_ere_syntax.specs.support.Parser.{Frame, fresh, row, ParserState, take_in}
-use Rattle.awk_ere_compile.specs.support.CompilerState.{CompilerState, limited, is_small, IsWithin, IsSound}
+use Rattle.awk_ere_compile.specs.support.CompilerState.{most_instructions, CompilerState, limited, is_small, IsWithin, IsSound}
 use Rattle.awk_ere_syntax.proofs.ParseRoundTrip.{state_tokens, step-tokens}
 use Rattle.awk_ere_compile.proofs.CountsOrdered.{any_bad_append}
 use Rattle.awk_ere_compile.proofs.ProgramOfFrames.{Code, done_code, done_bars, done_size, done_of, settled_code, settled_size, all_code, all_size}
@@ -26,15 +26,15 @@ Sees cs instructions k = (more : List Class) → map (resolve (cs ++ more)) inst
 -- the program of something of this size, or what is too large
 pub record IsProgram (m : ℕ) (instructions : List Instruction) (cs : List Class) (n : ℕ) (k : Code) : Type 0 where
   pub size : m ≡ limited n
-  pub sees : n ≤ 10000 → Sees cs instructions k
-  pub few : n ≤ 10000 → length cs ≤ n
+  pub sees : n ≤ greatest_size → Sees cs instructions k
+  pub few : n ≤ greatest_size → length cs ≤ n
 
 -- a group behind the groups that are around it
 pub record IsGroup (g : Group) (d : Option Pattern) (fs : List Frame) (instructions : List Instruction) (cs : List Class) : Type 0 where
   pub begin : IsProgram g.begin.size (take g.begin.instructions instructions) (take g.begin.classes cs) (all_size fs) (all_code fs)
-  pub branch : all_size fs + done_size d ≤ 10000 → g.branch ≡ length (all_code fs ++ done_code d)
-  pub bars : all_size fs + done_size d ≤ 10000 → g.bars ≡ done_bars d
-  pub few_bars : g.bars ≤ 10000
+  pub branch : all_size fs + done_size d ≤ greatest_size → g.branch ≡ length (all_code fs ++ done_code d)
+  pub bars : all_size fs + done_size d ≤ greatest_size → g.bars ≡ done_bars d
+  pub few_bars : g.bars ≤ greatest_size
   pub forward : g.begin.instructions ≤ g.branch
   pub in_instructions : g.branch ≤ length instructions
   pub in_classes : g.begin.classes ≤ length cs
@@ -66,8 +66,8 @@ pub record Holds (d : CompilerState) (s : ParserState) : Type 0 where
   pub groups : AreGroups d.outer s.outer (take d.group.begin.instructions d.instructions) (take d.group.begin.classes d.classes)
   pub last : IsLast d.last s.now d.group s.outer d.instructions d.classes
   pub good : any_bad (state_tokens s.now s.outer) ≡ false
-  pub short : length d.instructions ≤ 60000
-  pub few : length d.classes ≤ 10000
+  pub short : length d.instructions ≤ most_instructions
+  pub few : length d.classes ≤ greatest_size
 
 -- ---- programs
 
@@ -91,14 +91,14 @@ sees_back cs instructions j a b h e more =
 pub sees_more : (cs ds : List Class) (instructions : List Instruction) (k : Code) → Sees cs instructions k → Sees (cs ++ ds) instructions k
 sees_more cs ds instructions k h more = ap (λ l. map (resolve l) instructions) (append_assoc cs ds more) ∙ h (ds ++ more)
 
-pub small_size : (m n : ℕ) → m ≡ limited n → is_small m ≡ true → n ≤ 10000
-small_size m n e t = let h = leb-true m 10000 t in omega arith
+pub small_size : (m n : ℕ) → m ≡ limited n → is_small m ≡ true → n ≤ greatest_size
+small_size m n e t = let h = leb-true m greatest_size t in omega arith
 
-pub large_size : (m n : ℕ) → m ≡ limited n → is_small m ≡ false → 10000 < n
-large_size m n e t = let h = leb-false m 10000 t in omega arith
+pub large_size : (m n : ℕ) → m ≡ limited n → is_small m ≡ false → greatest_size < n
+large_size m n e t = let h = leb-false m greatest_size t in omega arith
 
 -- a program that is small is short
-pub short_program : (m : ℕ) (instructions : List Instruction) (cs : List Class) (f : Frame) (fs : List Frame) → IsProgram m instructions cs (all_size (f ∷ fs)) (all_code (f ∷ fs)) → any_bad (state_tokens f fs) ≡ false → is_small m ≡ true → (length instructions ≤ 60000) × (length cs ≤ 10000)
+pub short_program : (m : ℕ) (instructions : List Instruction) (cs : List Class) (f : Frame) (fs : List Frame) → IsProgram m instructions cs (all_size (f ∷ fs)) (all_code (f ∷ fs)) → any_bad (state_tokens f fs) ≡ false → is_small m ≡ true → (length instructions ≤ most_instructions) × (length cs ≤ greatest_size)
 short_program m instructions cs f fs h good t =
     let n = small_size m (all_size (f ∷ fs)) h.size t in
     let l = sees_length cs instructions (all_code (f ∷ fs)) (h.sees n) in

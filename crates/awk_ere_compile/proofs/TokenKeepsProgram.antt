@@ -8,7 +8,7 @@ use Rattle.awk_ere_compile.specs.declared.program.Instruction.TheVariants as ins
 use Rattle.awk_ere_compile.specs.declared.compiler.checkpoint.Last.TheVariants.{Anchor, Part}
 use Rattle.awk_ere_compile.specs.definitions.Program.{resolve, join}
 use Rattle.awk_ere_syntax.specs.definitions.Tokens.{Atom, ordinary, any, escape, bracket, Token, atom, at_start, at_end, opening, closing, bar, again}
-use Rattle.awk_ere_syntax.specs.definitions.Limits.{token_is_bad, any_bad}
+use Rattle.awk_ere_syntax.specs.definitions.Limits.{greatest_size, token_is_bad, any_bad}
 use Rattle.awk_ere_syntax.specs.definitions.Written.{Pattern, Branch, Piece, the_start, the_end, part, one, piece_tree, pattern_tree}
 use Rattle.awk_ere_syntax.specs.support.Parser.{Frame, fresh, row, ParserState, branch_of, pattern_of, add, take_in, ended, begun}
 use Rattle.awk_ere_syntax.specs.support.TokenValues.{seen_token}
@@ -146,6 +146,6 @@ ended_program d (row x b y) [] p t h =
 pub made_size : (d : CompilerState) (s : ParserState) (p : Pattern) → ended s.now s.outer ≡ Some p → Holds d s → d.size ≡ limited (pattern_size p)
 made_size d s p t h = (ended_program d s.now s.outer p t h).size
 
-pub made_code : (d : CompilerState) (s : ParserState) (p : Pattern) → ended s.now s.outer ≡ Some p → Holds d s → pattern_size p ≤ 10000 → map (resolve d.classes) (ended_instructions d) ≡ tree_code (pattern_tree p none)
+pub made_code : (d : CompilerState) (s : ParserState) (p : Pattern) → ended s.now s.outer ≡ Some p → Holds d s → pattern_size p ≤ greatest_size → map (resolve d.classes) (ended_instructions d) ≡ tree_code (pattern_tree p none)
 made_code d s p t h small =
     ap (λ l. map (resolve l) (ended_instructions d)) (sym (append-nil d.classes)) ∙ (ended_program d s.now s.outer p t h).sees small []

@@ -1,8 +1,9 @@
 // A program that is being made, token by token.
 
-ghost use Rattle.std.specs.Prelude.{◌≡◌, ◌≤◌, ◌+◌, ◌-◌, ◌*◌, ◌++◌, ◌∷◌, [], replicate, reverse, length, nat_le, OnOk, IfOk, Some, if◌then◌else◌};
+ghost use Rattle.std.specs.Prelude.{◌≡◌, suc, ◌≤◌, ◌+◌, ◌-◌, ◌*◌, ◌++◌, ◌∷◌, [], replicate, reverse, length, nat_le, OnOk, IfOk, Some, if◌then◌else◌};
+ghost use Rattle.awk_ere_syntax.specs.definitions.Limits.{greatest_size};
 ghost use Rattle.awk_ere_compile.specs.support.CompilerState as compiler;
-ghost use Rattle.awk_ere_compile.specs.support.CompilerState.{IsSound, IsWithin, taken, limited, is_small, state_of};
+ghost use Rattle.awk_ere_compile.specs.support.CompilerState.{IsSound, IsWithin, taken, limited, is_small, most_instructions, state_of};
 ghost use Rattle.awk_ere_compile.specs.support.CompilerResult.{Finishes};
 
 pub mod checkpoint;
@@ -15,7 +16,7 @@ use awk_ere_syntax::token::{Repeat, Token};
 use std::alloc::{AllocError, Global};
 
 /// The greatest size of a pattern.
-const MOST: usize = 10_000;
+const GREATEST_SIZE: usize = 10_000;
 
 /// A program that is being made. A size above the greatest counts as one more than that, and what leads there has no
 /// instructions: either the pattern is too large, or a repeat that allows no round takes it away.
@@ -32,7 +33,7 @@ pub struct Compiler {
 
 /// The size of a repeat whose body has this size.
 fn repeated_size(repeat: Repeat, size: usize) -> usize
-    requires { size ≤ 10001 }
+    requires { size ≤ suc greatest_size }
     ensures { result ≡ compiler.seen_size repeat size }
 {
     match repeat {
@@ -88,13 +89,13 @@ impl Compiler {
         ensures small { result ≡ is_small (limited size) }
         ensures rest { state_of self.new ≡ record (state_of self.old) { size = limited size } }
     {
-        self.size = size.min(MOST + 1);
-        self.size <= MOST
+        self.size = size.min(GREATEST_SIZE + 1);
+        self.size <= GREATEST_SIZE
     }
 
     /// A piece of one instruction.
     fn push(&mut self, last: Last, instruction: Instruction) -> Result<(), AllocError>
-        requires { self.old.size ≤ 10001 }
+        requires { self.old.size ≤ suc greatest_size }
         ensures { OnOk result (state_of self.new ≡ compiler.push last instruction (state_of self.old)) }
     {
         self.last = last;
@@ -106,8 +107,8 @@ impl Compiler {
 
     /// A bracket of this class.
     fn push_class(&mut self, class: &[bool; 256]) -> Result<(), AllocError>
-        requires size { self.old.size ≤ 10001 }
-        requires few { length self.old.classes.items ≤ 10000 }
+        requires size { self.old.size ≤ suc greatest_size }
+        requires few { length self.old.classes.items ≤ greatest_size }
         ensures { OnOk result (state_of self.new ≡ compiler.push_class class.now (state_of self.old)) }
     {
         self.last = Last::Part(self.checkpoint());
@@ -134,11 +135,11 @@ impl Compiler {
 
     /// Ends the branches of the present group.
     fn end(&mut self) -> Result<(), AllocError>
-        requires short { length self.old.instructions.items ≤ 60000 }
-        requires bars { self.old.group.bars ≤ 10000 }
+        requires short { length self.old.instructions.items ≤ most_instructions }
+        requires bars { self.old.group.bars ≤ greatest_size }
         ensures { OnOk result (state_of self.new ≡ record (state_of self.old) { instructions = compiler.ended_instructions (state_of self.old) }) }
     {
-        if self.size <= MOST {
+        if self.size <= GREATEST_SIZE {
             self.instructions.resize(self.instructions.len() + self.group.bars, Instruction::Join)?;
         }
         Ok(())
@@ -159,10 +160,10 @@ impl Compiler {
     }
 
     fn next_branch(&mut self) -> Result<(), AllocError>
-        requires size { self.old.size ≤ 10001 }
+        requires size { self.old.size ≤ suc greatest_size }
         requires branch { self.old.group.branch ≤ length self.old.instructions.items }
-        requires bars { self.old.group.bars ≤ 10000 }
-        requires short { length self.old.instructions.items ≤ 60000 }
+        requires bars { self.old.group.bars ≤ greatest_size }
+        requires short { length self.old.instructions.items ≤ most_instructions }
         ensures { OnOk result (state_of self.new ≡ compiler.next_branch (state_of self.old)) }
     {
         self.last = Last::Nothing;
@@ -178,9 +179,9 @@ impl Compiler {
 
     fn repeat_from(&mut self, repeat: Repeat, place: Checkpoint) -> Result<(), AllocError>
         requires sizes { place.size ≤ self.old.size }
-        requires size { self.old.size ≤ 10001 }
+        requires size { self.old.size ≤ suc greatest_size }
         requires within { place.instructions ≤ length self.old.instructions.items }
-        requires short { length self.old.instructions.items ≤ 60000 }
+        requires short { length self.old.instructions.items ≤ most_instructions }
         ensures { OnOk result (state_of self.new ≡ compiler.repeat_from repeat place (state_of self.old)) }
     {
         let body = self.size - place.size;
@@ -232,7 +233,7 @@ impl Compiler {
         ensures { Finishes (state_of self) result }
     {
         self.end()?;
-        if self.size > MOST {
+        if self.size > GREATEST_SIZE {
             return Err(PatternFault::TooLarge);
         }
         let Compiler {

@@ -1,6 +1,6 @@
 -- The check of a text follows its tokens.
 use Rattle.std.proofs.Common.{◌≡◌, ℕ, ◌≤◌, ◌<◌, Bool, true, false, List, [], ◌∷◌, ◌++◌, length, Option, Some, None, refl, sym, ap, subst, ◌∙◌, append_assoc, append-nil, arith, inl, inr}
-use Rattle.std.specs.Prelude.{max, min, ◌||◌, not, nat_le, ◌==◌}
+use Rattle.std.specs.Prelude.{max, ◌||◌, not, nat_le, ◌==◌}
 use Rattle.std.specs.Option.{option_map, is_some}
 use Rattle.std.proofs.Math.Bool.{or-false, or_assoc}
 use Rattle.std.proofs.lemmas.List.{length-append}
@@ -11,10 +11,10 @@ use Rattle.awk_ere_syntax.specs.declared.check.CheckState.{CheckState}
 use Rattle.awk_ere_syntax.specs.declared.token.Token.{Token as SeenToken}
 use Rattle.awk_ere_syntax.specs.definitions.Tokens.{ordinary, any, escape, bracket, star, plus, option, exactly, at_least, between, number, Token, atom, at_start, at_end, opening, closing, bar, again, token_bytes, token_fits, text_of, AreSpelt}
 use Rattle.awk_ere_syntax.specs.definitions.Written.{Pattern, tokens, opened, Whole, nothing, whole, IsWritten}
-use Rattle.awk_ere_syntax.specs.definitions.Limits.{token_is_bad, bracket_is_bad, any_bad}
+use Rattle.awk_ere_syntax.specs.definitions.Limits.{greatest_count, token_is_bad, bracket_is_bad, any_bad}
 use Rattle.awk_ere_syntax.specs.support.Parser.{Frame, ParserState, take_in, ended, and_then, run, begun, parse}
 use Rattle.awk_ere_syntax.specs.support.Lexer.{token_at}
-use Rattle.awk_ere_syntax.specs.support.TokenValues.{seen_token, seen_front}
+use Rattle.awk_ere_syntax.specs.support.TokenValues.{capped, seen_token, seen_front}
 use Rattle.awk_ere_syntax.specs.support.Checks.{place, place_behind, may_stop, is_bad, Checked}
 use Rattle.awk_ere_syntax.proofs.TokenRoundTrip.{token_takes, token_again, token_long}
 use Rattle.awk_ere_syntax.proofs.ParseRoundTrip.{parse_tokens, tokens_parse}
@@ -73,19 +73,19 @@ same_order a b c d f g =
       | inr le ↦ le-leb a b le ∙ sym (le-leb c d (f le))
     ]
 
-count_follows : (n : ℕ) → nat_le (min n 256) 255 ≡ nat_le n 255
-count_follows n = same_order (min n 256) 255 n 255 (λ h. omega (arith, h)) (λ h. omega (arith, h))
+count_follows : (n : ℕ) → nat_le (capped n) greatest_count ≡ nat_le n greatest_count
+count_follows n = same_order (capped n) greatest_count n greatest_count (λ h. omega (arith, h)) (λ h. omega (arith, h))
 
-counts_follow : (m n : ℕ) → (not (nat_le (min n 256) 255) || not (nat_le (min m 256) (min n 256))) ≡ (not (nat_le n 255) || not (nat_le m n))
+counts_follow : (m n : ℕ) → (not (nat_le (capped n) greatest_count) || not (nat_le (capped m) (capped n))) ≡ (not (nat_le n greatest_count) || not (nat_le m n))
 counts_follow m n =
-    elim (cases_lt 255 n) [
+    elim (cases_lt greatest_count n) [
       | inl more ↦
-          let capped : 255 < min n 256 = omega (arith, more) in
-          ap (λ (b : Bool). not b || not (nat_le (min m 256) (min n 256))) (lt-leb (min n 256) 255 capped)
-          ∙ sym (ap (λ (b : Bool). not b || not (nat_le m n)) (lt-leb n 255 more))
+          let above : greatest_count < capped n = omega (arith, more) in
+          ap (λ (b : Bool). not b || not (nat_le (capped m) (capped n))) (lt-leb (capped n) greatest_count above)
+          ∙ sym (ap (λ (b : Bool). not b || not (nat_le m n)) (lt-leb n greatest_count more))
       | inr le ↦
-          ap (λ (b : Bool). not b || not (nat_le (min m 256) (min n 256))) (count_follows n)
-          ∙ ap (λ (b : Bool). not (nat_le n 255) || not b) (same_order (min m 256) (min n 256) m n (λ h. omega (arith, le, h)) (λ h. omega (arith, le, h)))
+          ap (λ (b : Bool). not b || not (nat_le (capped m) (capped n))) (count_follows n)
+          ∙ ap (λ (b : Bool). not (nat_le n greatest_count) || not b) (same_order (capped m) (capped n) m n (λ h. omega (arith, le, h)) (λ h. omega (arith, le, h)))
     ]
 
 not_not : (b : Bool) → not (not b) ≡ b

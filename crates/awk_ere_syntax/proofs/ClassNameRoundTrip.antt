@@ -2,7 +2,7 @@
 use Rattle.std.proofs.Common.{◌≡◌, ℕ, zero, suc, ◌+◌, ◌<◌, List, [], ◌∷◌, ◌++◌, length, drop, get_or, Option, Some, None, refl, sym, ap, subst, ◌∙◌, arith, inl, inr}
 use Rattle.std.specs.Prelude.{◌⊎◌, ◌==◌}
 use Rattle.std.proofs.lemmas.Option.{same_Some, none-some}
-use Rattle.std.proofs.lemmas.Bool.{eqb-true}
+use Rattle.std.proofs.lemmas.Bool.{eqb-true, eq-eqb, cond-true}
 use Rattle.awk_ere_syntax.specs.declared.class_name.ClassName.{ClassName}
 use Rattle.awk_ere_syntax.specs.declared.class_name.ClassName.TheVariants.{Alnum, Alpha, Blank, Cntrl, Digit, Graph, Lower, Print, Punct, Space, Upper, Xdigit}
 use Rattle.awk_ere_syntax.specs.definitions.Brackets.{name_bytes}
@@ -15,6 +15,10 @@ strip_takes (p ∷ ps) [] rest h = absurd (none-some rest h)
 strip_takes (p ∷ ps) (b ∷ bs) rest h =
     let x = chosen_some (p == b) (strip ps bs) rest h in
     ap (λ q. q ∷ bs) (sym (eqb-true p b x.0)) ∙ ap (λ (l : List ℕ). p ∷ l) (strip_takes ps bs rest x.1)
+
+strip_again : (ps rest : List ℕ) → strip ps (ps ++ rest) ≡ Some rest
+strip_again [] rest = refl
+strip_again (p ∷ ps) rest = cond-true (p == p) (strip ps (ps ++ rest)) None (eq-eqb p p refl) ∙ strip_again ps rest
 
 abbrev pub TakesName : List ℕ → ClassName × List ℕ → Type 0
 TakesName text n = text ≡ name_bytes n.0 ++ n.1
@@ -63,6 +67,17 @@ next_name : (ns : List ClassName) (i : ℕ) (d : ClassName) (text : List ℕ) �
 next_name [] i d text lt e = absurd (omega arith)
 next_name (n ∷ ns) zero d text lt e = sym (ap (λ o. or_else (o >>= λ rest. Some (n, rest)) (first_name ns text)) e)
 next_name (n ∷ ns) (suc i) d text lt e = next_name ns i d text (omega arith) e
+
+this_name_first : (ns : List ClassName) (i : ℕ) (d : ClassName) (text rest : List ℕ) → i < length ns → strip (name_bytes (get_or ns i d)) text ≡ Some rest → Some (get_or ns i d, rest) ≡ first_name (drop i ns) text
+this_name_first [] i d text rest lt e = absurd (omega arith)
+this_name_first (n ∷ ns) zero d text rest lt e = sym (ap (λ o. or_else (o >>= λ r. Some (n, r)) (first_name ns text)) e)
+this_name_first (n ∷ ns) (suc i) d text rest lt e = this_name_first ns i d text rest (omega arith) e
+
+-- a text with this name in front has it as the first of the names that are left
+pub name_found : (i : ℕ) (d : ClassName) (p text rest : List ℕ) → i < 12 → p ≡ name_bytes (get_or all_names i d) → text ≡ p ++ rest → Some (get_or all_names i d, rest) ≡ first_name (drop i all_names) text
+name_found i d p text rest lt e front =
+    this_name_first all_names i d text rest lt
+    (ap (λ (l : List ℕ). strip l text) (sym e) ∙ ap (strip p) front ∙ strip_again p rest)
 
 -- a text without this name has the names that are left
 pub name_passed : (i : ℕ) (d : ClassName) (p text : List ℕ) → i < 12 → p ≡ name_bytes (get_or all_names i d) → ((rest : List ℕ) → text ≡ p ++ rest → ⊥) → first_name (drop (i + 1) all_names) text ≡ first_name (drop i all_names) text

@@ -1,26 +1,26 @@
 -- The code counts the digits of an interval.
-use Rattle.std.proofs.Common.{◌≡◌, ℕ, ◌+◌, ◌-◌, ◌*◌, ◌≤◌, ◌<◌, true, List, [], ◌∷◌, length, Some, None, refl, sym, ap, ◌∙◌, arith, inl, inr}
-use Rattle.std.specs.Prelude.{min}
+use Rattle.std.proofs.Common.{◌≡◌, ℕ, suc, ◌+◌, ◌-◌, ◌*◌, ◌≤◌, ◌<◌, true, List, [], ◌∷◌, length, Some, None, refl, sym, ap, ◌∙◌, arith, inl, inr}
 use Rattle.std.proofs.lemmas.Option.{none-some}
 use Rattle.std.proofs.lemmas.Bool.{cond-true, cond-false}
 use Rattle.awk_ere_syntax.specs.definitions.Escapes.{is_digit}
 use Rattle.awk_ere_syntax.specs.definitions.Tokens.{some_bytes, number}
+use Rattle.awk_ere_syntax.specs.definitions.Limits.{greatest_count}
 use Rattle.awk_ere_syntax.specs.support.Lexer.{digits, after_digits}
-use Rattle.awk_ere_syntax.specs.support.TokenValues.{seen_count, digit_seen, number_seen}
+use Rattle.awk_ere_syntax.specs.support.TokenValues.{capped, seen_count, digit_seen, number_seen}
 use Rattle.awk_ere_syntax.proofs.Choices.{chosen}
 
--- the number of the digits behind a number, at most 256 at each step
+-- the number of the digits behind a number, capped at each step
 abbrev counted : ℕ → List ℕ → ℕ
 counted n [] = n
-counted n (d ∷ ds) = counted (min (10 * n + (d - 48)) 256) ds
+counted n (d ∷ ds) = counted (capped (10 * n + (d - 48))) ds
 
-counted_is : (n m : ℕ) (ds : List ℕ) → n ≡ min m 256 → counted n ds ≡ min (number m ds) 256
+counted_is : (n m : ℕ) (ds : List ℕ) → n ≡ capped m → counted n ds ≡ capped (number m ds)
 counted_is n m [] h = h
-counted_is n m (d ∷ ds) h = counted_is (min (10 * n + (d - 48)) 256) (10 * m + (d - 48)) ds (omega (arith, h))
+counted_is n m (d ∷ ds) h = counted_is (capped (10 * n + (d - 48))) (10 * m + (d - 48)) ds (omega (arith, h))
 
 -- the digits before the rest have been counted
 pub record Counts (text rest : List ℕ) (n : ℕ) : Type 0 where
-  pub small : n ≤ 256
+  pub small : n ≤ suc greatest_count
   pub short : length rest ≤ length text
   pub value : counted n (digits rest) ≡ counted 0 (digits text)
   pub behind : after_digits rest ≡ after_digits text

@@ -7,7 +7,7 @@ use Rattle.std.proofs.lemmas.Bool.{and_parts, and_from, not-true, not_from_false
 use Rattle.awk_ere_syntax.specs.definitions.Tree.{Tree, size}
 use Rattle.awk_ere_syntax.specs.definitions.Tokens.{Token, token_bytes, token_fits, text_of, tokens_fit, AreSpelt}
 use Rattle.awk_ere_syntax.specs.definitions.Written.{Pattern, tokens, Whole, nothing, whole, whole_tokens, tree_of, whole_opened}
-use Rattle.awk_ere_syntax.specs.definitions.Limits.{any_bad, SpellsWithin}
+use Rattle.awk_ere_syntax.specs.definitions.Limits.{most_opened, greatest_size, any_bad, SpellsWithin}
 use Rattle.awk_ere_syntax.specs.support.Lexer.{◌>>=◌, token_at}
 use Rattle.awk_ere_syntax.specs.support.Parser.{parse}
 use Rattle.awk_ere_syntax.specs.support.PatternOf.{in_front, tokens_of, whole_of, is_within, within_limits, pattern_of}
@@ -63,18 +63,18 @@ whole_complete (whole p) = some_whole (tokens p) p (parse_tokens p)
 -- ---- the limits
 
 abbrev Within : Whole → Type 0
-Within w = (any_bad (whole_tokens w) ≡ false) × (whole_opened w ≤ 200) × (size (tree_of w) ≤ 10000)
+Within w = (any_bad (whole_tokens w) ≡ false) × (whole_opened w ≤ most_opened) × (size (tree_of w) ≤ greatest_size)
 
 within_sound : (w : Whole) → is_within w ≡ true → Within w
 within_sound w e =
     let h = and_parts (not (any_bad (whole_tokens w))) _ e in
-    let k = and_parts (nat_le (whole_opened w) 200) (nat_le (size (tree_of w)) 10000) h.1 in
-    (not-true (any_bad (whole_tokens w)) h.0, leb-true (whole_opened w) 200 k.0, leb-true (size (tree_of w)) 10000 k.1)
+    let k = and_parts (nat_le (whole_opened w) most_opened) (nat_le (size (tree_of w)) greatest_size) h.1 in
+    (not-true (any_bad (whole_tokens w)) h.0, leb-true (whole_opened w) most_opened k.0, leb-true (size (tree_of w)) greatest_size k.1)
 
 within_complete : (w : Whole) → Within w → is_within w ≡ true
 within_complete w h =
     and_from (not (any_bad (whole_tokens w))) _ (not_from_false (any_bad (whole_tokens w)) h.0)
-    (and_from (nat_le (whole_opened w) 200) (nat_le (size (tree_of w)) 10000) (le-leb (whole_opened w) 200 h.1) (le-leb (size (tree_of w)) 10000 h.2))
+    (and_from (nat_le (whole_opened w) most_opened) (nat_le (size (tree_of w)) greatest_size) (le-leb (whole_opened w) most_opened h.1) (le-leb (size (tree_of w)) greatest_size h.2))
 
 -- ---- the pattern of a text
 

@@ -4,7 +4,7 @@ ghost use Rattle.std.specs.Prelude.{◌≡◌, ◌+◌, ◌<◌, ◌≤◌, ◌^
 ghost use Rattle.awk_ere_syntax.specs.support.Checks.{place_behind, may_stop, is_bad, Checked};
 
 use crate::reading::lexer::token_at;
-use crate::token::{Repeat, Token};
+use crate::token::{GREATEST_COUNT, Repeat, Token};
 
 /// What stands directly before, in the innermost open group.
 #[derive(Clone, Copy)]
@@ -66,8 +66,8 @@ fn is_bad(token: Token) -> bool
 {
     match token {
         Token::Bracket(ordered) => !ordered,
-        Token::Again(Repeat::Exactly(count) | Repeat::AtLeast(count)) => count > 255,
-        Token::Again(Repeat::Between(least, most)) => most > 255 || least > most,
+        Token::Again(Repeat::Exactly(count) | Repeat::AtLeast(count)) => count > GREATEST_COUNT,
+        Token::Again(Repeat::Between(least, most)) => most > GREATEST_COUNT || least > most,
         _ => false,
     }
 }

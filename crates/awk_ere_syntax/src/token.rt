@@ -1,6 +1,9 @@
 // The tokens of a pattern.
 
-/// A repeat. A count above 255 stands as 256.
+/// The greatest count of a repeat, `RE_DUP_MAX` in XBD 9.4.6.
+pub const GREATEST_COUNT: u16 = 255;
+
+/// A repeat. A count above the greatest stands as one more than that.
 #[derive(Clone, Copy)]
 pub enum Repeat {
     Star,

@@ -2,7 +2,7 @@
 use Rattle.std.specs.Prelude.{◌≡◌, ◌<◌, ◌≤◌, ℕ, false, List, Result, Ok, Err}
 use Rattle.awk_ere_syntax.specs.definitions.Tree.{Tree, none, size}
 use Rattle.awk_ere_syntax.specs.definitions.Tokens.{AreSpelt}
-use Rattle.awk_ere_syntax.specs.definitions.Limits.{any_bad}
+use Rattle.awk_ere_syntax.specs.definitions.Limits.{greatest_size, any_bad}
 use Rattle.awk_ere_syntax.specs.definitions.Written.{Pattern, tokens, pattern_tree}
 use Rattle.awk_ere_compile.specs.definitions.Program.{Compiles}
 use Rattle.awk_ere_compile.specs.support.CompilerState.{CompilerState, ended_instructions}
@@ -19,11 +19,11 @@ IsCleanText text = (p : Pattern) × IsClean p text
 
 -- either the tree's program is made, or the tree is too large
 abbrev pub Makes : Tree → Result Program PatternFault → Type 0
-Makes t (Ok made) = (size t ≤ 10000) × Compiles t made
+Makes t (Ok made) = (size t ≤ greatest_size) × Compiles t made
 Makes t (Err Memory) = Unit {0}
 Makes t (Err IllFormed) = ⊥
 Makes t (Err BadCount) = ⊥
-Makes t (Err TooLarge) = 10000 < size t
+Makes t (Err TooLarge) = greatest_size < size t
 
 -- the same for whatever pattern the text is written as
 abbrev pub Builds : List ℕ → Result Program PatternFault → Type 0
@@ -31,8 +31,8 @@ Builds text result = (p : Pattern) → IsClean p text → Makes (pattern_tree p 
 
 -- the end of a compiler state
 abbrev pub Finishes : CompilerState → Result Program PatternFault → Type 0
-Finishes d (Ok made) = (d.size ≤ 10000) × (made.instructions.items ≡ ended_instructions d) × (made.classes.items ≡ d.classes)
+Finishes d (Ok made) = (d.size ≤ greatest_size) × (made.instructions.items ≡ ended_instructions d) × (made.classes.items ≡ d.classes)
 Finishes d (Err Memory) = Unit {0}
 Finishes d (Err IllFormed) = ⊥
 Finishes d (Err BadCount) = ⊥
-Finishes d (Err TooLarge) = 10000 < d.size
+Finishes d (Err TooLarge) = greatest_size < d.size

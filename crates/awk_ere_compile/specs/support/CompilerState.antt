@@ -1,5 +1,6 @@
 -- A program that is being made, as the code keeps it.
-use Rattle.std.specs.Prelude.{ℕ, ◌+◌, ◌-◌, ◌*◌, ◌≤◌, min, Bool, true, false, nat_le, List, [], ◌∷◌, ◌++◌, length, take, drop, replicate, insert, Option, Some, None, if◌then◌else◌, reverse}
+use Rattle.std.specs.Prelude.{ℕ, suc, ◌+◌, ◌-◌, ◌*◌, ◌≤◌, min, Bool, true, false, nat_le, List, [], ◌∷◌, ◌++◌, length, take, drop, replicate, insert, Option, Some, None, if◌then◌else◌, reverse}
+use Rattle.awk_ere_syntax.specs.definitions.Limits.{greatest_size}
 use Rattle.awk_ere_syntax.specs.definitions.Tree.{Class}
 use Rattle.awk_ere_compile.specs.support.RepeatInstructions.{repeat_instructions}
 use Rattle.awk_ere_compile.specs.declared.program.Instruction.{Instruction}
@@ -14,8 +15,8 @@ use Rattle.awk_ere_compile.specs.declared.compiler.checkpoint.Last.{Last}
 use Rattle.awk_ere_compile.specs.declared.compiler.checkpoint.Last.TheVariants.{Nothing, Anchor, Part}
 use Rattle.awk_ere_compile.specs.declared.compiler.Compiler.{Compiler}
 
--- The size is that of all tokens so far. What makes it larger than 10,000 is counted as 10,001, and has no instructions:
--- either the whole is too large, or a repeat that allows no round takes it away.
+-- The size is that of all tokens so far. What makes it larger than the greatest is counted as one more than that, and has
+-- no instructions: either the whole is too large, or a repeat that allows no round takes it away.
 pub record CompilerState : Type 0 where
   pub instructions : List Instruction
   pub classes : List Class
@@ -24,11 +25,15 @@ pub record CompilerState : Type 0 where
   pub last : Last
   pub size : ℕ
 
+-- a program has at most six instructions for each 1 of its pattern's size
+abbrev pub most_instructions : ℕ
+most_instructions = 6 * greatest_size
+
 abbrev pub limited : ℕ → ℕ
-limited n = min n 10001
+limited n = min n (suc greatest_size)
 
 abbrev pub is_small : ℕ → Bool
-is_small n = nat_le n 10000
+is_small n = nat_le n greatest_size
 
 -- the size of a repeat
 abbrev pub seen_size : Repeat → ℕ → ℕ
@@ -136,11 +141,11 @@ IsWithin Anchor d = Unit {0}
 IsWithin (Part p) d = (p.instructions ≤ length d.instructions) × (p.size ≤ d.size)
 
 pub record IsSound (d : CompilerState) : Type 0 where
-  pub size : d.size ≤ 10001
-  pub few : length d.classes ≤ 10000
-  pub short : length d.instructions ≤ 60000
+  pub size : d.size ≤ suc greatest_size
+  pub few : length d.classes ≤ greatest_size
+  pub short : length d.instructions ≤ most_instructions
   pub branch : d.group.branch ≤ length d.instructions
-  pub bars : d.group.bars ≤ 10000
+  pub bars : d.group.bars ≤ greatest_size
   pub last : IsWithin d.last d
 
 -- the compiler state, if the token could be taken

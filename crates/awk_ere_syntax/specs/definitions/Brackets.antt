@@ -27,18 +27,18 @@ mark_fits (escaped e) rest = escape_fits e rest
 
 -- the name of a class, with the :] behind it
 abbrev pub name_bytes : ClassName → List ℕ
-name_bytes Alnum = 97 ∷ 108 ∷ 110 ∷ 117 ∷ 109 ∷ 58 ∷ 93 ∷ []
-name_bytes Alpha = 97 ∷ 108 ∷ 112 ∷ 104 ∷ 97 ∷ 58 ∷ 93 ∷ []
-name_bytes Blank = 98 ∷ 108 ∷ 97 ∷ 110 ∷ 107 ∷ 58 ∷ 93 ∷ []
-name_bytes Cntrl = 99 ∷ 110 ∷ 116 ∷ 114 ∷ 108 ∷ 58 ∷ 93 ∷ []
-name_bytes Digit = 100 ∷ 105 ∷ 103 ∷ 105 ∷ 116 ∷ 58 ∷ 93 ∷ []
-name_bytes Graph = 103 ∷ 114 ∷ 97 ∷ 112 ∷ 104 ∷ 58 ∷ 93 ∷ []
-name_bytes Lower = 108 ∷ 111 ∷ 119 ∷ 101 ∷ 114 ∷ 58 ∷ 93 ∷ []
-name_bytes Print = 112 ∷ 114 ∷ 105 ∷ 110 ∷ 116 ∷ 58 ∷ 93 ∷ []
-name_bytes Punct = 112 ∷ 117 ∷ 110 ∷ 99 ∷ 116 ∷ 58 ∷ 93 ∷ []
-name_bytes Space = 115 ∷ 112 ∷ 97 ∷ 99 ∷ 101 ∷ 58 ∷ 93 ∷ []
-name_bytes Upper = 117 ∷ 112 ∷ 112 ∷ 101 ∷ 114 ∷ 58 ∷ 93 ∷ []
-name_bytes Xdigit = 120 ∷ 100 ∷ 105 ∷ 103 ∷ 105 ∷ 116 ∷ 58 ∷ 93 ∷ []
+name_bytes Alnum = codes "alnum:]"
+name_bytes Alpha = codes "alpha:]"
+name_bytes Blank = codes "blank:]"
+name_bytes Cntrl = codes "cntrl:]"
+name_bytes Digit = codes "digit:]"
+name_bytes Graph = codes "graph:]"
+name_bytes Lower = codes "lower:]"
+name_bytes Print = codes "print:]"
+name_bytes Punct = codes "punct:]"
+name_bytes Space = codes "space:]"
+name_bytes Upper = codes "upper:]"
+name_bytes Xdigit = codes "xdigit:]"
 
 -- the bytes of a class
 abbrev pub named_class : ClassName → ℕ → Bool

@@ -8,7 +8,7 @@ use Rattle.awk_ere_syntax.specs.declared.token.Repeat.TheVariants as repeats
 use Rattle.awk_ere_syntax.specs.declared.token.Token.{Token}
 use Rattle.awk_ere_syntax.specs.declared.token.Token.TheVariants as tokens
 use Rattle.awk_ere_syntax.specs.definitions.Written.{Whole, whole_tokens, whole_opened, IsWritten}
-use Rattle.awk_ere_syntax.specs.definitions.Limits.{any_bad, IsIllFormed}
+use Rattle.awk_ere_syntax.specs.definitions.Limits.{greatest_count, any_bad, IsIllFormed}
 
 -- ---- the tokens of the code one after another
 
@@ -68,9 +68,9 @@ is_bad tokens.Bar = false
 is_bad (tokens.Again repeats.Star) = false
 is_bad (tokens.Again repeats.Plus) = false
 is_bad (tokens.Again repeats.Option) = false
-is_bad (tokens.Again (repeats.Exactly m)) = not (nat_le m 255)
-is_bad (tokens.Again (repeats.AtLeast m)) = not (nat_le m 255)
-is_bad (tokens.Again (repeats.Between m n)) = not (nat_le n 255) || not (nat_le m n)
+is_bad (tokens.Again (repeats.Exactly m)) = not (nat_le m greatest_count)
+is_bad (tokens.Again (repeats.AtLeast m)) = not (nat_le m greatest_count)
+is_bad (tokens.Again (repeats.Between m n)) = not (nat_le n greatest_count) || not (nat_le m n)
 
 -- ---- what the check says
 

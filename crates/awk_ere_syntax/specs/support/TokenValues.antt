@@ -1,5 +1,5 @@
 -- What the code keeps of a token.
-use Rattle.std.specs.Prelude.{ℕ, ◌-◌, min, Bool, false, ◌&&◌, ◌||◌, not, nat_le, ◌==◌, List, [], ◌∷◌, Option, Some, None, if◌then◌else◌}
+use Rattle.std.specs.Prelude.{ℕ, suc, ◌-◌, min, Bool, false, ◌&&◌, ◌||◌, not, nat_le, ◌==◌, List, [], ◌∷◌, Option, Some, None, if◌then◌else◌}
 use Rattle.std.specs.Option.{option_map}
 use Rattle.awk_ere_syntax.specs.declared.class_name.ClassName.{ClassName}
 use Rattle.awk_ere_syntax.specs.declared.reading.bracket.Item.{Item as SeenItem}
@@ -11,7 +11,7 @@ use Rattle.awk_ere_syntax.specs.declared.token.Token.TheVariants as seen
 use Rattle.awk_ere_syntax.specs.definitions.Escapes.{within, starts, names_byte, named, is_letter, is_digit, Escape, escape_value}
 use Rattle.awk_ere_syntax.specs.definitions.Brackets.{Mark, mark_value, named_class, Item, single, range, class, begins_range, is_barred}
 use Rattle.awk_ere_syntax.specs.definitions.Tokens.{some_bytes, Atom, ordinary, any, escape, bracket, Repeat, star, plus, option, exactly, at_least, between, number, Token, atom, at_start, at_end, opening, closing, bar, again}
-use Rattle.awk_ere_syntax.specs.definitions.Limits.{any_descends, bracket_is_bad}
+use Rattle.awk_ere_syntax.specs.definitions.Limits.{greatest_count, any_descends, bracket_is_bad}
 use Rattle.awk_ere_syntax.specs.support.Lexer.{tail, mark_at, name_at, closes, digits, after_digits}
 
 -- the value of a byte or an escape, and of a bracket whether none of its ranges descends
@@ -21,9 +21,12 @@ seen_atom any = seen.Any
 seen_atom (escape e) = seen.Byte (escape_value e)
 seen_atom (bracket k) = seen.Bracket (not (bracket_is_bad k))
 
--- a count, or 256 where it is above 255
+-- a count, or one more than the greatest where it is above that
+abbrev pub capped : ℕ → ℕ
+capped n = min n (suc greatest_count)
+
 abbrev pub seen_count : List ℕ → ℕ
-seen_count ds = min (number 0 ds) 256
+seen_count ds = capped (number 0 ds)
 
 abbrev pub seen_repeat : Repeat → SeenRepeat
 seen_repeat star = repeats.Star

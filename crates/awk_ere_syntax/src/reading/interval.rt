@@ -5,7 +5,7 @@ ghost use Rattle.std.specs.Option.{option_map};
 ghost use Rattle.awk_ere_syntax.specs.support.Lexer.{interval_token};
 ghost use Rattle.awk_ere_syntax.specs.support.TokenValues.{digit_seen, number_seen, seen_front};
 
-use crate::token::{Repeat, Token};
+use crate::token::{GREATEST_COUNT, Repeat, Token};
 
 /// The value of the digit in front, and what follows it.
 fn digit_at(bytes: &[u8]) -> Option<(u8, &[u8])>
@@ -17,14 +17,14 @@ fn digit_at(bytes: &[u8]) -> Option<(u8, &[u8])>
     }
 }
 
-/// The digits in front as a number, 256 where it is above 255, and what follows them.
+/// The digits in front as a number, or one more than the greatest count where it is above that, and what follows them.
 fn number_at(bytes: &[u8]) -> Option<(u16, &[u8])>
     ensures { option_map (λ r. (r.0, r.1.now)) result ≡ number_seen bytes.now }
 {
     let mut rest = bytes;
     let mut number = 0;
     while let Some((digit, behind)) = digit_at(rest) {
-        number = u16::min(10 * number + u16::from(digit), 256);
+        number = u16::min(10 * number + u16::from(digit), GREATEST_COUNT + 1);
         rest = behind;
     }
     if rest.len() < bytes.len() {
