@@ -5,6 +5,7 @@ use Rattle.std.proofs.lemmas.Bool.{cases_lt, false≢true, leb-true, le-leb, and
 use Rattle.std.proofs.lemmas.List.{get_or-replicate, length-replicate}
 use Rattle.std.proofs.Math.ListN.{get_or-eq_default}
 use Rattle.awk_ere_syntax.specs.definitions.Tree.{Tree, Matches}
+use Rattle.awk_ere.specs.support.Layout.{byte_count, stride, start_state, dead_state, first_state, match_flag}
 use Rattle.awk_ere.specs.definitions.Means.{Means}
 use Rattle.awk_ere.specs.support.SimulationStep.{count_of, leaves, behind, dead_positions, IsStill}
 use Rattle.awk_ere.specs.support.Table.{IsKnown, state_number, IsState, IsEntry, AreTransitions, IsTable, positions_at}
@@ -24,7 +25,7 @@ started k = ((λ e. absurd (false≢true e)), (λ e. absurd (omega (arith, e))))
 -- one byte further, by an entry
 module _ (p : Pattern) (tb tb' : Table) (s : List ℕ) (t : Tree) (means : Means t p) (from : ℕ → Bool) (w : Cursor) (h : Stood p tb s t from w)
     (m : Bool) (enters : m ≡ from w.place) (within : w.place < length s) (v : ℕ) (e : IsEntry p tb' h.start m h.positions (get_or s w.place 0) v) (w' : Cursor) (place : w'.place ≡ w.place + 1) where
-  pub stood_miss : 0 < v → v < 2147483648 → w'.state ≡ v → w'.end ≡ w.end → Stood p tb' s t from w'
+  pub stood_miss : 0 < v → v < match_flag → w'.state ≡ v → w'.end ≡ w.end → Stood p tb' s t from w'
   stood_miss some small state end = record {
     start = false;
     positions = behind p h.positions h.start m false (get_or s w.place 0);
@@ -37,7 +38,7 @@ module _ (p : Pattern) (tb tb' : Table) (s : List ℕ) (t : Tree) (means : Means
         (λ b. absurd (omega (arith, b, within))) (e.miss some small) h.last));
   }
 
-  pub stood_hit : 2147483648 ≤ v → w'.state ≡ v - 2147483648 → w'.end ≡ Some w.place → Stood p tb' s t from w'
+  pub stood_hit : match_flag ≤ v → w'.state ≡ v - match_flag → w'.end ≡ Some w.place → Stood p tb' s t from w'
   stood_hit large state end = record {
     start = false;
     positions = behind p h.positions h.start m false (get_or s w.place 0);
@@ -55,7 +56,7 @@ table_steps : (p : Pattern) (tb : Table) (m : Bool) → IsTable p tb → AreTran
 table_steps p tb true h = h.unanchored
 table_steps p tb false h = h.anchored
 
-pub entry_of : (p : Pattern) (tb : Table) (m : Bool) → IsTable p tb → (v : ℕ) (st : Bool) (cs : List Bool) → IsState p tb v st cs → (x : ℕ) → x < 256 → IsEntry p tb st m cs x (get_or (if m then tb.unanchored.items else tb.anchored.items) (v + x) 0)
+pub entry_of : (p : Pattern) (tb : Table) (m : Bool) → IsTable p tb → (v : ℕ) (st : Bool) (cs : List Bool) → IsState p tb v st cs → (x : ℕ) → x < byte_count → IsEntry p tb st m cs x (get_or (if m then tb.unanchored.items else tb.anchored.items) (v + x) 0)
 entry_of p tb m h v st cs k x lt =
     let transitions = if m then tb.unanchored.items else tb.anchored.items in
     let d = state_number v in
@@ -68,7 +69,7 @@ pub known_of : (p : Pattern) (tb : Table) (v : ℕ) (st : Bool) (cs : List Bool)
 known_of p tb v st cs h = record { number = state_number v; known = h.known; named = h.named }
 
 -- within the table
-pub entry_within : (p : Pattern) (tb : Table) (m : Bool) → IsTable p tb → (v x : ℕ) → IsKnown tb v → x < 257 → v + x < length (if m then tb.unanchored.items else tb.anchored.items)
+pub entry_within : (p : Pattern) (tb : Table) (m : Bool) → IsTable p tb → (v x : ℕ) → IsKnown tb v → x < stride → v + x < length (if m then tb.unanchored.items else tb.anchored.items)
 entry_within p tb m h v x k lt = let room = (table_steps p tb m h).room in omega (arith, room, lt, k.named, k.known, h.most)
 
 pub stood_same : (p : Pattern) (tb : Table) (s : List ℕ) (t : Tree) (from : ℕ → Bool) (w w' : Cursor) → Stood p tb s t from w → w'.place ≡ w.place → w'.state ≡ w.state → w'.end ≡ w.end → Stood p tb s t from w'
@@ -82,8 +83,8 @@ stood_same p tb s t from w w' h place state end = record {
 }
 
 -- where nothing begins, the state stays
-module _ (p : Pattern) (tb : Table) (table : IsTable p tb) (s : List ℕ) (bytes : (k : ℕ) → get_or s k 0 < 256) (t : Tree) (means : Means t p) (from : ℕ → Bool) (m : Bool) where
-  idle_entry : IsStill p m → (w : Cursor) (h : Stood p tb s t from w) → w.state ≡ 514 → IsEntry p tb h.start m h.positions (get_or s w.place 0) 514
+module _ (p : Pattern) (tb : Table) (table : IsTable p tb) (s : List ℕ) (bytes : (k : ℕ) → get_or s k 0 < byte_count) (t : Tree) (means : Means t p) (from : ℕ → Bool) (m : Bool) where
+  idle_entry : IsStill p m → (w : Cursor) (h : Stood p tb s t from w) → w.state ≡ dead_state → IsEntry p tb h.start m h.positions (get_or s w.place 0) dead_state
   idle_entry still w h e =
       let one : state_number w.state ≡ 1 = omega (arith, e) in
       let start : h.start ≡ false = h.state.start ∙ ap (λ d. nat_eq d 0) one in
@@ -92,34 +93,34 @@ module _ (p : Pattern) (tb : Table) (table : IsTable p tb) (s : List ℕ) (bytes
       let stays = still x (bytes w.place) in
       record {
         miss = λ _ _. ap (λ b. leaves p h.positions b m false x) start ∙ ap (λ l. leaves p l false m false x) positions ∙ stays.0;
-        goes = λ _ _. subst (IsState p tb 514 false) (sym (ap (λ b. behind p h.positions b m false x) start ∙ ap (λ l. behind p l false m false x) positions ∙ stays.1))
+        goes = λ _ _. subst (IsState p tb dead_state false) (sym (ap (λ b. behind p h.positions b m false x) start ∙ ap (λ l. behind p l false m false x) positions ∙ stays.1))
             (state_named p tb 1 (dead_positions p) (omega arith) (omega (arith, table.least)) table.idle);
         hit = λ a. absurd (omega (arith, a));
         leads = λ a. absurd (omega (arith, a));
       }
 
-  pub stood_still : IsStill p m → (n : ℕ) (w w' : Cursor) → Stood p tb s t from w → w.state ≡ 514 → w'.state ≡ 514 → w'.end ≡ w.end → w'.place ≡ w.place + n → w'.place ≤ length s → Enters from m w.place w'.place → Stood p tb s t from w'
+  pub stood_still : IsStill p m → (n : ℕ) (w w' : Cursor) → Stood p tb s t from w → w.state ≡ dead_state → w'.state ≡ dead_state → w'.end ≡ w.end → w'.place ≡ w.place + n → w'.place ≤ length s → Enters from m w.place w'.place → Stood p tb s t from w'
   stood_still still zero w w' h e e' end place within enters =
       stood_same p tb s t from w w' h (omega (arith, place)) (omega (arith, e, e')) end
   stood_still still (suc n) w w' h e e' end place within enters =
-      let further : Cursor = record { place = w.place + 1; state = 514; end = w.end } in
-      let one = stood_miss p tb tb s t means from w h m (enters w.place (omega arith) (omega (arith, place))) (omega (arith, place, within)) 514 (idle_entry still w h e) further refl (omega arith) (omega arith) refl refl in
+      let further : Cursor = record { place = w.place + 1; state = dead_state; end = w.end } in
+      let one = stood_miss p tb tb s t means from w h m (enters w.place (omega arith) (omega (arith, place))) (omega (arith, place, within)) dead_state (idle_entry still w h e) further refl (omega arith) (omega arith) refl refl in
       stood_still still n further w' one refl e' end (omega (arith, place)) within (λ k ge lt. enters k (omega (arith, ge)) lt)
 
 -- at the first place nothing has begun
-pub stood_begin : (p : Pattern) (tb : Table) → IsTable p tb → (s : List ℕ) (t : Tree) → Means t p → (from : ℕ → Bool) (w : Cursor) → ((i : ℕ) → from i ≡ true → w.place ≤ i) → w.state ≡ (if nat_eq w.place 0 then 257 else 514) → w.end ≡ None → Stood p tb s t from w
+pub stood_begin : (p : Pattern) (tb : Table) → IsTable p tb → (s : List ℕ) (t : Tree) → Means t p → (from : ℕ → Bool) (w : Cursor) → ((i : ℕ) → from i ≡ true → w.place ≤ i) → w.state ≡ first_state w.place → w.end ≡ None → Stood p tb s t from w
 stood_begin p tb table s t means from w begun state end = record {
   start = nat_eq w.place 0;
   positions = dead_positions p;
-  state = subst (λ v. IsState p tb v (nat_eq w.place 0) (dead_positions p)) (sym state) (first_state (nat_eq w.place 0));
+  state = subst (λ v. IsState p tb v (nat_eq w.place 0) (dead_positions p)) (sym state) (at_first (nat_eq w.place 0));
   starts = at_start w.place;
   runs = runs_fresh s t p means from w.place (dead_positions p) refl (λ i f lt. let le = begun i f in omega (arith, le, lt));
   last = subst (LastEnd t s from w.place) (sym end) (λ i j f lt m. let le = begun i f in let up = match_le s t i j m in omega (arith, le, lt, up));
 }
   where
-    first_state : (b : Bool) → IsState p tb (if b then 257 else 514) b (dead_positions p)
-    first_state true = state_at p tb 257 true (dead_positions p) 0 (omega (arith, table.least)) refl refl table.start
-    first_state false = state_at p tb 514 false (dead_positions p) 1 (omega (arith, table.least)) refl refl table.idle
+    at_first : (b : Bool) → IsState p tb (if b then start_state else dead_state) b (dead_positions p)
+    at_first true = state_at p tb start_state true (dead_positions p) 0 (omega (arith, table.least)) refl refl table.start
+    at_first false = state_at p tb dead_state false (dead_positions p) 1 (omega (arith, table.least)) refl refl table.idle
 
 zeros : (n i : ℕ) → get_or (replicate n false) i false ≡ false
 zeros n i =
@@ -128,15 +129,15 @@ zeros n i =
     (cases_lt i n)
 
 -- where a byte leads nowhere, no match begins before it
-pub none_at : (p : Pattern) (tb : Table) → IsTable p tb → (s : List ℕ) (t : Tree) → Means t p → (k : ℕ) → k < length s → get_or s k 0 < 256 → get_or tb.unanchored.items ((if nat_eq k 0 then 257 else 514) + get_or s k 0) 0 ≡ 514 → (j : ℕ) → Matches s t k j → ⊥
+pub none_at : (p : Pattern) (tb : Table) → IsTable p tb → (s : List ℕ) (t : Tree) → Means t p → (k : ℕ) → k < length s → get_or s k 0 < byte_count → get_or tb.unanchored.items (first_state k + get_or s k 0) 0 ≡ dead_state → (j : ℕ) → Matches s t k j → ⊥
 none_at p tb table s t means k within byte e j mt =
     let only = between k k in
     let here : true ≡ only k = sym (and_from _ _ (le-leb k k (omega arith)) (le-leb k k (omega arith))) in
-    let w : Cursor = record { place = k; state = (if nat_eq k 0 then 257 else 514); end = None } in
-    let w' : Cursor = record { place = k + 1; state = 514; end = None } in
+    let w : Cursor = record { place = k; state = first_state k; end = None } in
+    let w' : Cursor = record { place = k + 1; state = dead_state; end = None } in
     let h = stood_begin p tb table s t means only w (λ i f. leb-true k i (and_parts _ _ f).0) refl refl in
     let entry = subst (IsEntry p tb h.start true h.positions (get_or s k 0)) e (entry_of p tb true table w.state h.start h.positions h.state (get_or s k 0) byte) in
-    let h' = stood_miss p tb tb s t means only w h true here within 514 entry w' refl (omega arith) (omega arith) refl refl in
+    let h' = stood_miss p tb tb s t means only w h true here within dead_state entry w' refl (omega arith) (omega arith) refl refl in
     let idle = sym h'.state.positions ∙ table.idle in
     let up = match_le s t k j mt in
     last_idle s t p means only (k + 1) h'.positions h'.runs (j + 1) None (λ n. ap (λ l. get_or l n false) idle ∙ zeros (count_of p) n)

@@ -11,6 +11,7 @@ use Rattle.memchr.specs.Find.{OccursAt, FindsNeedle}
 use Rattle.awk_ere_syntax.specs.definitions.Tree.{Class, has, class_of, Tree, Matches}
 use Rattle.awk_ere_compile.specs.definitions.Desugared.{Re, eps, one, first, last, cat, alt, plus, MatchesRe, desugar}
 use Rattle.awk_ere_compile.specs.definitions.Program.{ResolvedInstruction, read, resolve, code}
+use Rattle.awk_ere.specs.support.Layout.{byte_count}
 use Rattle.awk_ere.specs.support.Found.{EndsAt}
 use Rattle.awk_ere.specs.definitions.Means.{Means}
 use Rattle.awk_ere.specs.support.Table.{ReadsBytes}
@@ -38,9 +39,9 @@ stands_split s (b ∷ l) l2 i j h = let r = stands_split s l l2 (suc i) j h.1 in
 
 abbrev Small : List ℕ → Type 0
 Small [] = Unit {0}
-Small (b ∷ l) = (b < 256) × Small l
+Small (b ∷ l) = (b < byte_count) × Small l
 
-small_bytes : (l : List ℕ) → All (λ b. b < 256) l → Small l
+small_bytes : (l : List ℕ) → All (λ b. b < byte_count) l → Small l
 small_bytes [] a = tt
 small_bytes (b ∷ l) a = (a 0 0 (omega arith), small_bytes l (λ i d lt. a (suc i) d (omega (arith, lt))))
 
@@ -96,8 +97,8 @@ class_read rest = []
 has_byte : (b x : ℕ) → has (class_of (λ y. y == b)) x ≡ true → x ≡ b
 has_byte b x h =
     ⊎_elim (λ lt. eqb-true x b (sym (has-class_of (λ y. y == b) x lt) ∙ h))
-    (λ ge. absurd (false≢true (sym (get_or_past (class_of (λ y. y == b)) x false (omega (arith, ge, length-map-range_with_len (λ y. y == b) 0 256))) ∙ h)))
-    (cases_lt x 256)
+    (λ ge. absurd (false≢true (sym (get_or_past (class_of (λ y. y == b)) x false (omega (arith, ge, length-map-range_with_len (λ y. y == b) 0 byte_count))) ∙ h)))
+    (cases_lt x byte_count)
 
 record Reads (r : Re) (rest : List ResolvedInstruction) (l : List ℕ) : Type 0 where
   bytes : List ℕ

@@ -5,6 +5,7 @@ use Rattle.std.proofs.lemmas.List.{length-set, take-replicate, drop-replicate, g
 use Rattle.std.proofs.Math.Nat.{mul-le-mul_right}
 use Rattle.std.proofs.Math.ListN.{get_or-eq_default}
 use Rattle.std.proofs.lemmas.Bool.{cases_lt, cases_eq, ne_eqb}
+use Rattle.awk_ere.specs.support.Layout.{byte_count, end_of_text, stride, dead_state, match_flag, state_bound, fixed_states, least_limit}
 use Rattle.awk_ere.specs.support.SimulationStep.{count_of, leaves, behind, dead_positions}
 use Rattle.awk_ere.specs.support.Table.{IsKnown, positions_at, state_number, IsState, IsEntry, IsEnding, AreTransitions, IsTable, Grows}
 use Rattle.awk_ere.specs.declared.pattern.Pattern.{Pattern}
@@ -35,21 +36,21 @@ ending_zero p st m cs v z = record {
   hit = λ a. absurd (omega (arith, a, z));
 }
 
-pub steps_blank : (p : Pattern) (tb : Table) (m : Bool) (transitions : List ℕ) → 257 * suc tb.limit ≤ length transitions → ((i : ℕ) → get_or transitions i 0 ≡ 0) → AreTransitions p tb m transitions
+pub steps_blank : (p : Pattern) (tb : Table) (m : Bool) (transitions : List ℕ) → stride * suc tb.limit ≤ length transitions → ((i : ℕ) → get_or transitions i 0 ≡ 0) → AreTransitions p tb m transitions
 steps_blank p tb m transitions room zero = record {
   room = room;
-  entries = λ d x _ _. entry_zero p tb (nat_eq d 0) m _ x _ (zero (257 * suc d + x));
-  endings = λ d _. ending_zero p (nat_eq d 0) m _ _ (zero (257 * suc d + 256));
+  entries = λ d x _ _. entry_zero p tb (nat_eq d 0) m _ x _ (zero (stride * suc d + x));
+  endings = λ d _. ending_zero p (nat_eq d 0) m _ _ (zero (stride * suc d + end_of_text));
   blank = λ i _. zero i;
 }
 
 -- one more entry
-pub steps_set : (p : Pattern) (tb : Table) (m : Bool) (transitions : List ℕ) (d x v : ℕ) → AreTransitions p tb m transitions → tb.count ≤ tb.limit → d < tb.count → x < 256 → IsEntry p tb (nat_eq d 0) m (positions_at p tb.rows.items d) x v → AreTransitions p tb m (set transitions (257 * suc d + x) v)
+pub steps_set : (p : Pattern) (tb : Table) (m : Bool) (transitions : List ℕ) (d x v : ℕ) → AreTransitions p tb m transitions → tb.count ≤ tb.limit → d < tb.count → x < byte_count → IsEntry p tb (nat_eq d 0) m (positions_at p tb.rows.items d) x v → AreTransitions p tb m (set transitions (stride * suc d + x) v)
 steps_set p tb m transitions d x v t most known byte h =
-    let at = 257 * suc d + x in
+    let at = stride * suc d + x in
     let within : at < length transitions = omega (arith, t.room, known, byte, most) in
     record {
-      room = subst (λ n. 257 * suc tb.limit ≤ n) (sym (length-set transitions at v)) t.room;
+      room = subst (λ n. stride * suc tb.limit ≤ n) (sym (length-set transitions at v)) t.room;
       entries = λ e y el yl.
           ⊎_elim
           (λ same.
@@ -57,32 +58,32 @@ steps_set p tb m transitions d x v t most known byte h =
           let ey : x ≡ y = omega (arith, same, byte, yl) in
           subst (λ n. IsEntry p tb (nat_eq e 0) m (positions_at p tb.rows.items e) y n) (sym (get_or-set_same transitions at v 0 within) ∙ ap (λ i. get_or (set transitions at v) i 0) (sym same))
           (subst (λ n. IsEntry p tb (nat_eq e 0) m (positions_at p tb.rows.items e) n v) ey (subst (λ n. IsEntry p tb (nat_eq n 0) m (positions_at p tb.rows.items n) x v) ed h)))
-          (λ other. subst (λ n. IsEntry p tb (nat_eq e 0) m (positions_at p tb.rows.items e) y n) (sym (get_or-set_other transitions at (257 * suc e + y) v 0 other)) (t.entries e y el yl))
-          (cases_eq (257 * suc e + y) at);
+          (λ other. subst (λ n. IsEntry p tb (nat_eq e 0) m (positions_at p tb.rows.items e) y n) (sym (get_or-set_other transitions at (stride * suc e + y) v 0 other)) (t.entries e y el yl))
+          (cases_eq (stride * suc e + y) at);
       endings = λ e el.
           subst (λ n. IsEnding p (nat_eq e 0) m (positions_at p tb.rows.items e) n)
-          (sym (get_or-set_other transitions at (257 * suc e + 256) v 0 (λ same. absurd (omega (arith, same, byte))))) (t.endings e el);
+          (sym (get_or-set_other transitions at (stride * suc e + end_of_text) v 0 (λ same. absurd (omega (arith, same, byte))))) (t.endings e el);
       blank = λ i le. get_or-set_other transitions at i v 0 (λ same. absurd (omega (arith, same, le, byte, known))) ∙ t.blank i le;
     }
 
 -- the answer at the text's end
-pub steps_end : (p : Pattern) (tb : Table) (m : Bool) (transitions : List ℕ) (d v : ℕ) → AreTransitions p tb m transitions → tb.count ≤ tb.limit → d < tb.count → IsEnding p (nat_eq d 0) m (positions_at p tb.rows.items d) v → AreTransitions p tb m (set transitions (257 * suc d + 256) v)
+pub steps_end : (p : Pattern) (tb : Table) (m : Bool) (transitions : List ℕ) (d v : ℕ) → AreTransitions p tb m transitions → tb.count ≤ tb.limit → d < tb.count → IsEnding p (nat_eq d 0) m (positions_at p tb.rows.items d) v → AreTransitions p tb m (set transitions (stride * suc d + end_of_text) v)
 steps_end p tb m transitions d v t most known h =
-    let at = 257 * suc d + 256 in
+    let at = stride * suc d + end_of_text in
     let within : at < length transitions = omega (arith, t.room, known, most) in
     record {
-      room = subst (λ n. 257 * suc tb.limit ≤ n) (sym (length-set transitions at v)) t.room;
+      room = subst (λ n. stride * suc tb.limit ≤ n) (sym (length-set transitions at v)) t.room;
       entries = λ e y el yl.
           subst (λ n. IsEntry p tb (nat_eq e 0) m (positions_at p tb.rows.items e) y n)
-          (sym (get_or-set_other transitions at (257 * suc e + y) v 0 (λ same. absurd (omega (arith, same, yl))))) (t.entries e y el yl);
+          (sym (get_or-set_other transitions at (stride * suc e + y) v 0 (λ same. absurd (omega (arith, same, yl))))) (t.entries e y el yl);
       endings = λ e el.
           ⊎_elim
           (λ same.
           let ed : d ≡ e = omega (arith, same) in
           subst (λ n. IsEnding p (nat_eq e 0) m (positions_at p tb.rows.items e) n) (sym (get_or-set_same transitions at v 0 within) ∙ ap (λ i. get_or (set transitions at v) i 0) (sym same))
           (subst (λ n. IsEnding p (nat_eq n 0) m (positions_at p tb.rows.items n) v) ed h))
-          (λ other. subst (λ n. IsEnding p (nat_eq e 0) m (positions_at p tb.rows.items e) n) (sym (get_or-set_other transitions at (257 * suc e + 256) v 0 other)) (t.endings e el))
-          (cases_eq (257 * suc e + 256) at);
+          (λ other. subst (λ n. IsEnding p (nat_eq e 0) m (positions_at p tb.rows.items e) n) (sym (get_or-set_other transitions at (stride * suc e + end_of_text) v 0 other)) (t.endings e el))
+          (cases_eq (stride * suc e + end_of_text) at);
       blank = λ i le. get_or-set_other transitions at i v 0 (λ same. absurd (omega (arith, same, le, known))) ∙ t.blank i le;
     }
 
@@ -101,22 +102,22 @@ module _ (p : Pattern) (tb tb' : Table) (g : Grows p tb tb') where
     miss = h.miss;
     goes = λ a b. state_more v false (behind p cs st m false x) (h.goes a b);
     hit = h.hit;
-    leads = λ a. state_more (v - 2147483648) false (behind p cs st m false x) (h.leads a);
+    leads = λ a. state_more (v - match_flag) false (behind p cs st m false x) (h.leads a);
   }
 
   -- of one more state nothing is known
   steps_more : (m : Bool) (transitions : List ℕ) → AreTransitions p tb m transitions → AreTransitions p tb' m transitions
   steps_more m transitions t = record {
-    room = subst (λ n. 257 * suc n ≤ length transitions) (sym g.limit) t.room;
+    room = subst (λ n. stride * suc n ≤ length transitions) (sym g.limit) t.room;
     entries = λ d x dl xl.
         ⊎_elim
-        (λ old. subst (λ cs. IsEntry p tb' (nat_eq d 0) m cs x (get_or transitions (257 * suc d + x) 0)) (sym (g.same d old)) (entry_more (nat_eq d 0) m _ x _ (t.entries d x old xl)))
-        (λ new. entry_zero p tb' (nat_eq d 0) m _ x _ (t.blank (257 * suc d + x) (omega (arith, new))))
+        (λ old. subst (λ cs. IsEntry p tb' (nat_eq d 0) m cs x (get_or transitions (stride * suc d + x) 0)) (sym (g.same d old)) (entry_more (nat_eq d 0) m _ x _ (t.entries d x old xl)))
+        (λ new. entry_zero p tb' (nat_eq d 0) m _ x _ (t.blank (stride * suc d + x) (omega (arith, new))))
         (cases_lt d tb.count);
     endings = λ d dl.
         ⊎_elim
-        (λ old. subst (λ cs. IsEnding p (nat_eq d 0) m cs (get_or transitions (257 * suc d + 256) 0)) (sym (g.same d old)) (t.endings d old))
-        (λ new. ending_zero p (nat_eq d 0) m _ _ (t.blank (257 * suc d + 256) (omega (arith, new))))
+        (λ old. subst (λ cs. IsEnding p (nat_eq d 0) m cs (get_or transitions (stride * suc d + end_of_text) 0)) (sym (g.same d old)) (t.endings d old))
+        (λ new. ending_zero p (nat_eq d 0) m _ _ (t.blank (stride * suc d + end_of_text) (omega (arith, new))))
         (cases_lt d tb.count);
     blank = λ i le. t.blank i (omega (arith, le, g.up));
   }
@@ -135,7 +136,7 @@ module _ (p : Pattern) (tb tb' : Table) (g : Grows p tb tb') where
   }
 
 -- a table of the first two states
-pub table_first : (p : Pattern) (tb : Table) → tb.count ≡ 2 → 3 ≤ tb.limit → tb.limit < 1000000 → tb.limit * count_of p ≤ length tb.rows.items → positions_at p tb.rows.items 0 ≡ dead_positions p → positions_at p tb.rows.items 1 ≡ dead_positions p → 257 * suc tb.limit ≤ length tb.unanchored.items → 257 * suc tb.limit ≤ length tb.anchored.items → ((i : ℕ) → get_or tb.unanchored.items i 0 ≡ 0) → ((i : ℕ) → get_or tb.anchored.items i 0 ≡ 0) → IsTable p tb
+pub table_first : (p : Pattern) (tb : Table) → tb.count ≡ fixed_states → least_limit ≤ tb.limit → tb.limit < state_bound → tb.limit * count_of p ≤ length tb.rows.items → positions_at p tb.rows.items 0 ≡ dead_positions p → positions_at p tb.rows.items 1 ≡ dead_positions p → stride * suc tb.limit ≤ length tb.unanchored.items → stride * suc tb.limit ≤ length tb.anchored.items → ((i : ℕ) → get_or tb.unanchored.items i 0 ≡ 0) → ((i : ℕ) → get_or tb.anchored.items i 0 ≡ 0) → IsTable p tb
 table_first p tb two room few rows start idle on off on0 off0 = record {
   least = omega (arith, two);
   most = omega (arith, two, room);
@@ -154,21 +155,21 @@ zeros n i =
     (λ ge. get_or-eq_default (replicate n 0) 0 {n = i} (subst (λ m. m ≤ i) (sym (length-replicate n 0)) ge))
     (cases_lt i n)
 
-pub table_begun : (p : Pattern) (tb : Table) (n : ℕ) → n ≡ count_of p → tb.count ≡ 2 → 3 ≤ tb.limit → tb.limit < 1000000 → tb.rows.items ≡ replicate (tb.limit * n) false → tb.unanchored.items ≡ replicate (257 * suc tb.limit) 0 → tb.anchored.items ≡ replicate (257 * suc tb.limit) 0 → IsTable p tb
+pub table_begun : (p : Pattern) (tb : Table) (n : ℕ) → n ≡ count_of p → tb.count ≡ fixed_states → least_limit ≤ tb.limit → tb.limit < state_bound → tb.rows.items ≡ replicate (tb.limit * n) false → tb.unanchored.items ≡ replicate (stride * suc tb.limit) 0 → tb.anchored.items ≡ replicate (stride * suc tb.limit) 0 → IsTable p tb
 table_begun p tb n e two room few rows on off =
     let blank = rows ∙ ap (λ k. replicate (tb.limit * k) false) e in
     let rows_len = ap length blank ∙ length-replicate (tb.limit * count_of p) false in
-    let unanchored_len = ap length on ∙ length-replicate (257 * suc tb.limit) 0 in
-    let anchored_len = ap length off ∙ length-replicate (257 * suc tb.limit) 0 in
+    let unanchored_len = ap length on ∙ length-replicate (stride * suc tb.limit) 0 in
+    let anchored_len = ap length off ∙ length-replicate (stride * suc tb.limit) 0 in
     table_first p tb two room few (omega (arith, rows_len))
     (ap (λ l. positions_at p l 0) blank ∙ positions_blank p tb.limit 0 (omega (arith, room)))
     (ap (λ l. positions_at p l 1) blank ∙ positions_blank p tb.limit 1 (omega (arith, room)))
     (omega (arith, unanchored_len)) (omega (arith, anchored_len))
-    (λ i. ap (λ l. get_or l i 0) on ∙ zeros (257 * suc tb.limit) i)
-    (λ i. ap (λ l. get_or l i 0) off ∙ zeros (257 * suc tb.limit) i)
+    (λ i. ap (λ l. get_or l i 0) on ∙ zeros (stride * suc tb.limit) i)
+    (λ i. ap (λ l. get_or l i 0) off ∙ zeros (stride * suc tb.limit) i)
 
 -- a state by its number
-pub state_at : (p : Pattern) (tb : Table) (v : ℕ) (st : Bool) (cs : List Bool) (d : ℕ) → d < tb.count → v ≡ 257 * suc d → st ≡ nat_eq d 0 → positions_at p tb.rows.items d ≡ cs → IsState p tb v st cs
+pub state_at : (p : Pattern) (tb : Table) (v : ℕ) (st : Bool) (cs : List Bool) (d : ℕ) → d < tb.count → v ≡ stride * suc d → st ≡ nat_eq d 0 → positions_at p tb.rows.items d ≡ cs → IsState p tb v st cs
 state_at p tb v st cs d known named start positions =
     let e : d ≡ state_number v = omega (arith, named) in
     record {
@@ -183,15 +184,15 @@ pub state_of : (p : Pattern) (tb : Table) (v : ℕ) (k : IsKnown tb v) → IsSta
 state_of p tb v k = state_at p tb v _ _ k.number k.known k.named refl refl
 
 -- a state, and an entry that leads to it
-pub state_named : (p : Pattern) (tb : Table) (d : ℕ) (cs : List Bool) → 0 < d → d < tb.count → positions_at p tb.rows.items d ≡ cs → IsState p tb (257 * suc d) false cs
-state_named p tb d cs pos lt e = state_at p tb (257 * suc d) false cs d lt refl (sym (ne_eqb d 0 (λ z. omega (arith, z, pos)))) e
+pub state_named : (p : Pattern) (tb : Table) (d : ℕ) (cs : List Bool) → 0 < d → d < tb.count → positions_at p tb.rows.items d ≡ cs → IsState p tb (stride * suc d) false cs
+state_named p tb d cs pos lt e = state_at p tb (stride * suc d) false cs d lt refl (sym (ne_eqb d 0 (λ z. omega (arith, z, pos)))) e
 
-pub entry_made : (p : Pattern) (tb : Table) (st m : Bool) (cs : List Bool) (x : ℕ) (left : Bool) (v : ℕ) → left ≡ leaves p cs st m false x → 0 < v → v < 2147483648 → IsState p tb v false (behind p cs st m false x) → IsEntry p tb st m cs x (v + (if left then 2147483648 else 0))
+pub entry_made : (p : Pattern) (tb : Table) (st m : Bool) (cs : List Bool) (x : ℕ) (left : Bool) (v : ℕ) → left ≡ leaves p cs st m false x → 0 < v → v < match_flag → IsState p tb v false (behind p cs st m false x) → IsEntry p tb st m cs x (v + (if left then match_flag else 0))
 entry_made p tb st m cs x true v l some small s = record {
   miss = λ a b. absurd (omega (arith, b));
   goes = λ a b. absurd (omega (arith, b));
   hit = λ a. sym l;
-  leads = λ a. let e : v ≡ v + 2147483648 - 2147483648 = omega arith in subst (λ n. IsState p tb n false (behind p cs st m false x)) e s;
+  leads = λ a. let e : v ≡ v + match_flag - match_flag = omega arith in subst (λ n. IsState p tb n false (behind p cs st m false x)) e s;
 }
 entry_made p tb st m cs x false v l some small s = record {
   miss = λ a b. sym l;
@@ -225,13 +226,13 @@ table_set p tb tb' true transitions t rows count limit on off h =
 table_set p tb tb' false transitions t rows count limit on off h =
     table_more p tb tb' (grows_same p tb tb' rows count limit) t (subst (AreTransitions p tb true) (sym on) t.unanchored) (subst (AreTransitions p tb false) (sym off) (h tb.anchored.items t.anchored))
 
-pub end_table : (p : Pattern) (tb tb' : Table) (state : ℕ) (m left : Bool) (at v : ℕ) → IsTable p tb → IsKnown tb state → ((st : Bool) (cs : List Bool) → IsState p tb state st cs → left ≡ leaves p cs st m true 0) → at ≡ state + 257 - 1 → v ≡ (if left then 2147483648 else 514) → tb'.rows.items ≡ tb.rows.items → tb'.count ≡ tb.count → tb'.limit ≡ tb.limit → tb'.unanchored.items ≡ (if m then set tb.unanchored.items at v else tb.unanchored.items) → tb'.anchored.items ≡ (if m then tb.anchored.items else set tb.anchored.items at v) → IsTable p tb'
+pub end_table : (p : Pattern) (tb tb' : Table) (state : ℕ) (m left : Bool) (at v : ℕ) → IsTable p tb → IsKnown tb state → ((st : Bool) (cs : List Bool) → IsState p tb state st cs → left ≡ leaves p cs st m true 0) → at ≡ state + end_of_text → v ≡ (if left then match_flag else dead_state) → tb'.rows.items ≡ tb.rows.items → tb'.count ≡ tb.count → tb'.limit ≡ tb.limit → tb'.unanchored.items ≡ (if m then set tb.unanchored.items at v else tb.unanchored.items) → tb'.anchored.items ≡ (if m then tb.anchored.items else set tb.anchored.items at v) → IsTable p tb'
 end_table p tb tb' state m left at v t k left_is at_is v_is rows count limit on off =
-    let same : at ≡ 257 * suc k.number + 256 = omega (arith, at_is, k.named) in
+    let same : at ≡ stride * suc k.number + end_of_text = omega (arith, at_is, k.named) in
     table_set p tb tb' m (λ l. set l at v) t rows count limit on off
     (λ l a. subst (λ i. AreTransitions p tb m (set l i v)) (sym same) (steps_end p tb m l k.number v a t.most k.known (ending left v v_is (left_is _ _ (state_of p tb state k)))))
   where
-    ending : (left : Bool) (v : ℕ) → v ≡ (if left then 2147483648 else 514) → left ≡ leaves p (positions_at p tb.rows.items k.number) (nat_eq k.number 0) m true 0 → IsEnding p (nat_eq k.number 0) m (positions_at p tb.rows.items k.number) v
+    ending : (left : Bool) (v : ℕ) → v ≡ (if left then match_flag else dead_state) → left ≡ leaves p (positions_at p tb.rows.items k.number) (nat_eq k.number 0) m true 0 → IsEnding p (nat_eq k.number 0) m (positions_at p tb.rows.items k.number) v
     ending true v e l = record { miss = λ _ b. absurd (omega (arith, b, e)); hit = λ _. sym l }
     ending false v e l = record { miss = λ _ _. sym l; hit = λ b. absurd (omega (arith, b, e)) }
 
@@ -241,24 +242,24 @@ module _ (p : Pattern) (tb : Table) (t : IsTable p tb) (state x : ℕ) (m left :
     (positions_is : (st : Bool) (cs : List Bool) → IsState p tb state st cs → positions ≡ behind p cs st m false x)
     (number : ℕ) (pos : 0 < number) where
   -- leads to a state of a table
-  made : (to : Table) → IsTable p to → number < to.count → positions_at p to.rows.items number ≡ positions → (st : Bool) (cs : List Bool) → IsState p tb state st cs → IsEntry p to st m cs x (257 * suc number + (if left then 2147483648 else 0))
+  made : (to : Table) → IsTable p to → number < to.count → positions_at p to.rows.items number ≡ positions → (st : Bool) (cs : List Bool) → IsState p tb state st cs → IsEntry p to st m cs x (stride * suc number + (if left then match_flag else 0))
   made to h lt e st cs s =
-      entry_made p to st m cs x left (257 * suc number) (left_is st cs s) (omega arith) (omega (arith, lt, h.most, h.few))
-      (subst (IsState p to (257 * suc number) false) (positions_is st cs s) (state_named p to number positions pos lt e))
+      entry_made p to st m cs x left (stride * suc number) (left_is st cs s) (omega arith) (omega (arith, lt, h.most, h.few))
+      (subst (IsState p to (stride * suc number) false) (positions_is st cs s) (state_named p to number positions pos lt e))
 
   module _ (tb2 tb3 : Table) (g : Grows p tb tb2) (on2 : tb2.unanchored.items ≡ tb.unanchored.items) (off2 : tb2.anchored.items ≡ tb.anchored.items) where
     grown : IsTable p tb2
     grown = table_more p tb tb2 g t (subst (AreTransitions p tb true) (sym on2) t.unanchored) (subst (AreTransitions p tb false) (sym off2) t.anchored)
 
     -- that is there, or was added
-    module _ (lt : number < tb2.count) (e : positions_at p tb2.rows.items number ≡ positions) (v : ℕ) (v_is : v ≡ 257 * suc number + (if left then 2147483648 else 0))
+    module _ (lt : number < tb2.count) (e : positions_at p tb2.rows.items number ≡ positions) (v : ℕ) (v_is : v ≡ stride * suc number + (if left then match_flag else 0))
         (rows : tb3.rows.items ≡ tb2.rows.items) (count : tb3.count ≡ tb2.count) (limit : tb3.limit ≡ tb2.limit) where
       pub learn_entry : (st : Bool) (cs : List Bool) → IsState p tb state st cs → IsEntry p tb3 st m cs x v
       learn_entry st cs s =
           entry_more p tb2 tb3 (grows_same p tb2 tb3 rows count limit) st m cs x v
           (subst (IsEntry p tb2 st m cs x) (sym v_is) (made tb2 grown lt e st cs s))
 
-      pub learn_table : IsKnown tb state → x < 256 → tb3.unanchored.items ≡ (if m then set tb2.unanchored.items (state + x) v else tb2.unanchored.items) → tb3.anchored.items ≡ (if m then tb2.anchored.items else set tb2.anchored.items (state + x) v) → IsTable p tb3
+      pub learn_table : IsKnown tb state → x < byte_count → tb3.unanchored.items ≡ (if m then set tb2.unanchored.items (state + x) v else tb2.unanchored.items) → tb3.anchored.items ≡ (if m then tb2.anchored.items else set tb2.anchored.items (state + x) v) → IsTable p tb3
       learn_table k byte on off =
           let here = subst (IsEntry p tb2 (nat_eq k.number 0) m (positions_at p tb.rows.items k.number) x) (sym v_is) (made tb2 grown lt e _ _ (state_of p tb state k)) in
           let entry = subst (λ l. IsEntry p tb2 (nat_eq k.number 0) m l x v) (sym (g.same k.number k.known)) here in
@@ -266,7 +267,7 @@ module _ (p : Pattern) (tb : Table) (t : IsTable p tb) (state x : ℕ) (m left :
           (λ l a. subst (λ i. AreTransitions p tb2 m (set l (i + x) v)) (sym k.named) (steps_set p tb2 m l k.number x v a grown.most (omega (arith, k.known, g.up)) byte entry))
 
     -- that is added to the first two
-    module _ (tb4 : Table) (rows : tb3.rows.items ≡ tb2.rows.items) (two : tb3.count ≡ 2) (limit : tb3.limit ≡ tb2.limit)
+    module _ (tb4 : Table) (rows : tb3.rows.items ≡ tb2.rows.items) (two : tb3.count ≡ fixed_states) (limit : tb3.limit ≡ tb2.limit)
         (unanchored_len : length tb3.unanchored.items ≡ length tb2.unanchored.items) (anchored_len : length tb3.anchored.items ≡ length tb2.anchored.items)
         (on0 : (i : ℕ) → get_or tb3.unanchored.items i 0 ≡ 0) (off0 : (i : ℕ) → get_or tb3.anchored.items i 0 ≡ 0)
         (g4 : Grows p tb3 tb4) (on4 : tb4.unanchored.items ≡ tb3.unanchored.items) (off4 : tb4.anchored.items ≡ tb3.anchored.items) where
@@ -280,5 +281,5 @@ module _ (p : Pattern) (tb : Table) (t : IsTable p tb) (state x : ℕ) (m left :
       pub begun_table : IsTable p tb4
       begun_table = table_more p tb3 tb4 g4 cleared (subst (AreTransitions p tb3 true) (sym on4) cleared.unanchored) (subst (AreTransitions p tb3 false) (sym off4) cleared.anchored)
 
-      pub begun_entry : number < tb4.count → positions_at p tb4.rows.items number ≡ positions → (st : Bool) (cs : List Bool) → IsState p tb state st cs → IsEntry p tb4 st m cs x (257 * suc number + (if left then 2147483648 else 0))
+      pub begun_entry : number < tb4.count → positions_at p tb4.rows.items number ≡ positions → (st : Bool) (cs : List Bool) → IsState p tb state st cs → IsEntry p tb4 st m cs x (stride * suc number + (if left then match_flag else 0))
       begun_entry lt e st cs s = made tb4 begun_table lt e st cs s

@@ -1,5 +1,5 @@
-// A deterministic automaton that is made while it runs: its states are position sets, and its transitions are kept in a
-// table of bounded room.
+// A lazy DFA: its states are the position sets that were met, and its transitions are computed as they are needed and kept
+// in a table of bounded room.
 
 pub(crate) mod cursor;
 pub(crate) mod table;

@@ -49,8 +49,8 @@ impl Scratch {
     }
 }
 
-// How many instructions a program may have for all bytes to be tried.
-const FEW: usize = 256;
+// How long a program may be for each byte to be tried on it.
+const SHORT: usize = 256;
 
 impl Pattern {
     // Whether it is known that no match begins behind the text's start: the program is short, it begins
@@ -61,7 +61,7 @@ impl Pattern {
         ensures same { AreFor position_set.new self.now }
     {
         if self.program.instructions.first() != Some(&Instruction::Start)
-            || self.program.instructions.len() > FEW
+            || self.program.instructions.len() > SHORT
         {
             return false;
         }
@@ -72,7 +72,7 @@ impl Pattern {
                 start: false,
                 end: false,
             };
-            if self.step(position_set, true, input) || !position_set.are_dead() {
+            if self.step(position_set, true, input) || !position_set.is_dead() {
                 return false;
             }
         }

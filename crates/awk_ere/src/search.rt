@@ -13,7 +13,8 @@ use crate::pattern::Pattern;
 use crate::scratch::Scratch;
 
 impl Pattern {
-    // The last end of a match that begins at a place from `low` up to `high`, or the first one that is met.
+    // The last end of a match that begins at a place from `low` up to `high`, or the first one that is met. The text is read
+    // unanchored up to `high`, where the last match may begin, and anchored from there to its end.
     fn ends(
         &self,
         text: &[u8],

@@ -1,4 +1,6 @@
-// One step of the simulation: for one byte, the program of a pattern is run from its first to its last instruction.
+// One step of the simulation: for one byte, the program of a pattern is run from its first to its last instruction. A signal
+// flows through it, which tells of each point of the program whether a match has come there. Forks keep the signal for their
+// second branch on a stack.
 
 ghost use Rattle.std.specs.Prelude.{◌≡◌, ℕ, ◌+◌, ◌<◌, ◌≤◌, ◌&&◌, ◌||◌, false, true, [], ◌∷◌, length, drop, replicate, slice_set, slice_index_or};
 ghost use Rattle.awk_ere_syntax.specs.definitions.Tree.{has};
@@ -9,14 +11,14 @@ ghost use Rattle.awk_ere.specs.support.SimulationStep.{AreFor, leaves, behind};
 use crate::pattern::Pattern;
 use awk_ere_compile::program::Instruction;
 
-/// What flows through the program: before the byte that is read, and after it.
+/// Whether a match has come to a point of the program: before the byte that is read, and after it.
 #[derive(Clone, Copy)]
 pub(crate) struct Signal {
     pub(crate) before: bool,
     pub(crate) after: bool,
 }
 
-/// What flows, and where the signals begin that forks keep.
+/// What flows, and the top of the stack of signals that forks keep. The stack grows towards the front of its slice.
 #[derive(Clone, Copy)]
 pub(crate) struct Flow {
     pub(crate) now: Signal,
@@ -48,7 +50,8 @@ fn is_in(classes: &[[bool; 256]], number: u32, byte: u8) -> bool
     }
 }
 
-// Reads a byte that passes or doesn't: the position behind it goes on, and a new one is made.
+// Reads a byte that passes or doesn't. A match that has read the byte before here goes on, and one that comes here before
+// this byte reaches the position where the byte passes.
 fn read(positions: &mut [bool], i: usize, at: Flow, passes: bool) -> Flow
     requires { i < length positions.old }
     ensures flow { result ≡ record { now = record { before = slice_index_or positions.old i false; after = at.now.before && passes }; kept = at.kept } }
@@ -63,7 +66,7 @@ fn read(positions: &mut [bool], i: usize, at: Flow, passes: bool) -> Flow
     }
 }
 
-// Only what flows before the byte goes on, and only where the test holds.
+// An anchor: only what flows before the byte goes on, and only where the test holds.
 fn guard(at: Flow, holds: bool) -> Flow
     ensures { result ≡ record { now = record { before = at.now.before && holds; after = at.now.after && false }; kept = at.kept } }
 {
@@ -188,7 +191,7 @@ impl PositionSet {
     }
 
     /// Whether no match that has begun goes on.
-    pub(crate) fn are_dead(&self) -> bool
+    pub(crate) fn is_dead(&self) -> bool
         ensures { result ≡ true → self.now.positions.items ≡ replicate (length self.now.positions.items) false }
     {
         !self.positions.as_slice().contains(&true)

@@ -1,6 +1,7 @@
 -- One step over the program of a compiled pattern, at the start of the text or not.
 use Rattle.std.specs.Prelude.{◌≡◌, ℕ, ◌<◌, Bool, false, List, [], map, length, replicate}
 use Rattle.awk_ere_compile.specs.definitions.Program.{ResolvedInstruction, resolve}
+use Rattle.awk_ere.specs.support.Layout.{byte_count}
 use Rattle.awk_ere.specs.support.Simulation.{registers, exec}
 use Rattle.awk_ere.specs.declared.pattern.Pattern.{Pattern}
 use Rattle.awk_ere.specs.declared.simulation.PositionSet.{PositionSet}
@@ -27,7 +28,7 @@ dead_positions p = replicate (count_of p) false
 -- behind the text's start, nothing begins where m enters
 abbrev pub IsStill : Pattern → Bool → Type 0
 IsStill p m =
-    (x : ℕ) → x < 256 → (leaves p (dead_positions p) false m false x ≡ false) × (behind p (dead_positions p) false m false x ≡ dead_positions p)
+    (x : ℕ) → x < byte_count → (leaves p (dead_positions p) false m false x ≡ false) × (behind p (dead_positions p) false m false x ≡ dead_positions p)
 
 -- there is a position and room for a signal for each instruction
 pub record AreFor (position_set : PositionSet) (p : Pattern) : Type 0 where

@@ -1,6 +1,7 @@
 -- The transition table: the states that are known, and where each byte leads from them. A state is a list of positions,
--- and is named by the place where its entries begin: 257 of them, one for each byte and one for the end of the text.
+-- and is named by the place where its entries begin: one for each byte and one for the end of the text.
 use Rattle.std.specs.Prelude.{◌≡◌, ℕ, suc, ◌*◌, ◌<◌, List, map, Option, Some, ◌+◌, ◌-◌, ◌/◌, ◌≤◌, Bool, true, false, nat_eq, length, take, drop, slice_index}
+use Rattle.awk_ere.specs.support.Layout.{byte_count, end_of_text, stride, match_flag, state_bound, fixed_states, least_limit}
 use Rattle.awk_ere.specs.declared.dfa.table.Table.{Table}
 use Rattle.std.specs.List.{All}
 use Rattle.awk_ere_compile.specs.declared.program.Instruction.TheVariants as instructions
@@ -13,7 +14,7 @@ use Rattle.awk_ere.specs.declared.scratch.Scratch.{Scratch}
 -- the pattern reads these bytes one after another, and does nothing else
 pub record ReadsBytes (bytes : List ℕ) (p : Pattern) : Type 0 where
   pub each : p.program.instructions.items ≡ map instructions.Byte bytes
-  pub small : All (λ b. b < 256) bytes
+  pub small : All (λ b. b < byte_count) bytes
 
 -- the bytes are such, if there are any
 abbrev pub IsLiteral : Option (List ℕ) → Pattern → Type 0
@@ -25,7 +26,7 @@ IsLiteral found p = (bytes : List ℕ) → found ≡ Some bytes → ReadsBytes b
 pub record IsKnown (tb : Table) (v : ℕ) : Type 0 where
   pub number : ℕ
   pub known : number < tb.count
-  pub named : v ≡ 257 * suc number
+  pub named : v ≡ stride * suc number
 
 -- the positions of the state with this number
 abbrev pub positions_at : Pattern → List Bool → ℕ → List Bool
@@ -33,39 +34,39 @@ positions_at p rows d = take (count_of p) (drop (d * count_of p) rows)
 
 -- the number of the state with this name
 abbrev pub state_number : ℕ → ℕ
-state_number v = v / 257 - 1
+state_number v = v / stride - 1
 
 -- a state that is in the table. The first one is the start of the text.
 pub record IsState (p : Pattern) (tb : Table) (v : ℕ) (st : Bool) (cs : List Bool) : Type 0 where
   pub known : state_number v < tb.count
-  pub named : v ≡ 257 * suc (state_number v)
+  pub named : v ≡ stride * suc (state_number v)
   pub start : st ≡ nat_eq (state_number v) 0
   pub positions : positions_at p tb.rows.items (state_number v) ≡ cs
 
--- an entry: 0 is unknown, and else it is a state, with 2^31 added where the flow leaves before the byte x
+-- an entry: 0 is unknown, and else it is a state, with the match flag added where the flow leaves before the byte x
 pub record IsEntry (p : Pattern) (tb : Table) (st m : Bool) (cs : List Bool) (x v : ℕ) : Type 0 where
-  pub miss : 0 < v → v < 2147483648 → leaves p cs st m false x ≡ false
-  pub goes : 0 < v → v < 2147483648 → IsState p tb v false (behind p cs st m false x)
-  pub hit : 2147483648 ≤ v → leaves p cs st m false x ≡ true
-  pub leads : 2147483648 ≤ v → IsState p tb (v - 2147483648) false (behind p cs st m false x)
+  pub miss : 0 < v → v < match_flag → leaves p cs st m false x ≡ false
+  pub goes : 0 < v → v < match_flag → IsState p tb v false (behind p cs st m false x)
+  pub hit : match_flag ≤ v → leaves p cs st m false x ≡ true
+  pub leads : match_flag ≤ v → IsState p tb (v - match_flag) false (behind p cs st m false x)
 
 -- the entry for the end of the text
 pub record IsEnding (p : Pattern) (st m : Bool) (cs : List Bool) (v : ℕ) : Type 0 where
-  pub miss : 0 < v → v < 2147483648 → leaves p cs st m true 0 ≡ false
-  pub hit : 2147483648 ≤ v → leaves p cs st m true 0 ≡ true
+  pub miss : 0 < v → v < match_flag → leaves p cs st m true 0 ≡ false
+  pub hit : match_flag ≤ v → leaves p cs st m true 0 ≡ true
 
 -- the entries of all states, where m enters
 pub record AreTransitions (p : Pattern) (tb : Table) (m : Bool) (transitions : List ℕ) : Type 0 where
-  pub room : 257 * suc tb.limit ≤ length transitions
-  pub entries : (d x : ℕ) → d < tb.count → x < 256 → IsEntry p tb (nat_eq d 0) m (positions_at p tb.rows.items d) x (slice_index transitions (257 * suc d + x))
-  pub endings : (d : ℕ) → d < tb.count → IsEnding p (nat_eq d 0) m (positions_at p tb.rows.items d) (slice_index transitions (257 * suc d + 256))
-  pub blank : (i : ℕ) → 257 * suc tb.count ≤ i → slice_index transitions i ≡ 0
+  pub room : stride * suc tb.limit ≤ length transitions
+  pub entries : (d x : ℕ) → d < tb.count → x < byte_count → IsEntry p tb (nat_eq d 0) m (positions_at p tb.rows.items d) x (slice_index transitions (stride * suc d + x))
+  pub endings : (d : ℕ) → d < tb.count → IsEnding p (nat_eq d 0) m (positions_at p tb.rows.items d) (slice_index transitions (stride * suc d + end_of_text))
+  pub blank : (i : ℕ) → stride * suc tb.count ≤ i → slice_index transitions i ≡ 0
 
 pub record IsTable (p : Pattern) (tb : Table) : Type 0 where
-  pub least : 2 ≤ tb.count
+  pub least : fixed_states ≤ tb.count
   pub most : tb.count ≤ tb.limit
-  pub room : 3 ≤ tb.limit
-  pub few : tb.limit < 1000000
+  pub room : least_limit ≤ tb.limit
+  pub few : tb.limit < state_bound
   pub rows : tb.limit * count_of p ≤ length tb.rows.items
   pub start : positions_at p tb.rows.items 0 ≡ dead_positions p
   pub idle : positions_at p tb.rows.items 1 ≡ dead_positions p

@@ -1,13 +1,14 @@
 // A cursor over a text, which the transition table moves on.
 
-ghost use Rattle.std.specs.Prelude.{◌≡◌, ◌⊎◌, ℕ, ◌+◌, ◌<◌, ◌≤◌, Bool, List, true, length, Option, None, Some, IsSome, nat_eq, if◌then◌else◌, ◌-◌, ◌^◌};
+ghost use Rattle.std.specs.Prelude.{◌≡◌, ◌⊎◌, ℕ, ◌+◌, ◌<◌, ◌≤◌, Bool, List, true, length, Option, None, Some, IsSome, ◌-◌, ◌^◌};
 ghost use Rattle.awk_ere_syntax.specs.definitions.Tree.{Tree};
 ghost use Rattle.awk_ere.specs.definitions.Means.{Means};
+ghost use Rattle.awk_ere.specs.support.Layout.{first_state, match_flag};
 ghost use Rattle.awk_ere.specs.support.Table.{IsKnown, IsState, IsEntry, IsTable, IsFor};
 ghost use Rattle.awk_ere.specs.support.CursorState.{Stood, Enters};
 ghost use Rattle.awk_ere.specs.support.Found.{is_first};
 
-use crate::dfa::table::{DEAD, MATCH_FLAG, START, Table};
+use crate::dfa::table::{DEAD, MATCH_FLAG, START, Table, UNKNOWN};
 use crate::pattern::Pattern;
 use crate::scratch::Scratch;
 
@@ -24,7 +25,7 @@ const BLOCK: usize = 32;
 
 /// The state at a place before which no match has begun.
 pub(crate) fn first_state(place: usize) -> u32
-    ensures { result ≡ (if nat_eq place 0 then 257 else 514) }
+    ensures { result ≡ first_state place }
 {
     if place == 0 { START } else { DEAD }
 }
@@ -50,7 +51,7 @@ impl Cursor {
     /// At a place, before which no match has begun.
     pub(crate) fn begin(place: usize) -> Cursor
         ensures place { result.place ≡ place }
-        ensures state { result.state ≡ (if nat_eq place 0 then 257 else 514) }
+        ensures state { result.state ≡ first_state place }
         ensures end { result.end ≡ None }
     {
         Cursor {
@@ -64,8 +65,8 @@ impl Cursor {
     fn onto(self, entry: u32) -> Cursor
         requires { self.place + 1 < 2 ^ 64 }
         ensures place { result.place ≡ self.place + 1 }
-        ensures miss { entry < 2147483648 → (result.state ≡ entry) × (result.end ≡ self.end) }
-        ensures hit { 2147483648 ≤ entry → (result.state ≡ entry - 2147483648) × (result.end ≡ Some self.place) }
+        ensures miss { entry < match_flag → (result.state ≡ entry) × (result.end ≡ self.end) }
+        ensures hit { match_flag ≤ entry → (result.state ≡ entry - match_flag) × (result.end ≡ Some self.place) }
     {
         let place = self.place + 1;
         if entry < MATCH_FLAG {
@@ -95,7 +96,7 @@ impl Pattern {
         ensures same { IsFor scratch.new self.now }
     {
         let known = scratch.table.transitions(entering)[state as usize + byte as usize];
-        if known != 0 {
+        if known != UNKNOWN {
             return known;
         }
         self.compute_transition(scratch, state, entering, byte)
@@ -178,7 +179,7 @@ impl Pattern {
             Stood self.now table.now text.now t from cursor → Stood self.now table.now text.now t from result }
     {
         let transitions = table.transitions(entering);
-        let floor = if stops { DEAD } else { 0 };
+        let floor = if stops { DEAD } else { UNKNOWN };
         let mut state = cursor.state;
         for k in cursor.place..to {
             let entry = transitions[state as usize + text[k] as usize];

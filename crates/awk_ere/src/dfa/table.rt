@@ -1,6 +1,7 @@
 // The transition table: the states that are known, and where each byte leads from them.
 
 ghost use Rattle.std.specs.Prelude.{◌≡◌, ℕ, suc, ◌+◌, ◌*◌, ◌<◌, ◌≤◌, length, take, drop, slice_index, slice_set, true, IfSome, IfOk, IfErr, replicate, false, if◌then◌else◌};
+ghost use Rattle.awk_ere.specs.support.Layout.{stride, match_flag, state_bound, fixed_states, least_limit};
 ghost use Rattle.awk_ere.specs.support.SimulationStep.{count_of};
 ghost use Rattle.awk_ere.specs.support.Table.{Grows, positions_at};
 
@@ -26,17 +27,26 @@ pub(crate) struct Table {
     slots: Vec<u32>,
 }
 
-/// How many entries a state has: one for each byte, and one for the end of the text.
-pub(crate) const STRIDE: usize = 257;
+/// The entry for the end of the text, behind those for the 256 bytes.
+pub(crate) const END_OF_TEXT: usize = 256;
 
-/// The state at the text's start.
-pub(crate) const START: u32 = 257;
+/// How many entries a state has. A state is named by the place where they begin.
+pub(crate) const STRIDE: usize = END_OF_TEXT + 1;
 
-/// The dead state: no match has begun, behind the text's start.
-pub(crate) const DEAD: u32 = 514;
+/// An entry that has not been computed yet. No state begins at this place.
+pub(crate) const UNKNOWN: u32 = 0;
 
-/// What is added to an entry where a match ends before the byte.
-pub(crate) const MATCH_FLAG: u32 = 0x8000_0000;
+/// The state at the text's start, the first one.
+pub(crate) const START: u32 = STRIDE as u32;
+
+/// The dead state: no match has begun, behind the text's start. It is the second one.
+pub(crate) const DEAD: u32 = 2 * STRIDE as u32;
+
+/// What is added to an entry where a match ends before the byte: a bit that no state's name has.
+pub(crate) const MATCH_FLAG: u32 = 1 << 31;
+
+// The states that a table always has: that at the text's start, and the dead one.
+const FIXED_STATES: usize = 2;
 
 // Writes a row among rows of one length.
 fn write_row(rows: &mut [bool], number: usize, row: &[bool])
@@ -51,35 +61,48 @@ fn write_row(rows: &mut [bool], number: usize, row: &[bool])
     rows[at..at + n].copy_from_slice(row);
 }
 
-// What the states of a table may take.
+// How many bytes the states of a table may take.
 const BUDGET: usize = 1 << 20;
+
+// How many bytes the entries of one state take, in both tables.
+const ENTRIES_SIZE: usize = 2 * STRIDE * size_of::<u32>();
+
+// How many states there may be for each instruction, where the budget allows them.
+const STATES_PER_INSTRUCTION: usize = 8;
 
 // How many states a table for a program of this length may have.
 fn limit_for(count: usize) -> usize
-    ensures least { 3 ≤ result }
-    ensures most { result < 1000000 }
+    ensures least { least_limit ≤ result }
+    ensures most { result < state_bound }
 {
-    let wanted = count.saturating_mul(8).saturating_add(8);
-    let fits = BUDGET / count.saturating_add(8 * STRIDE);
-    wanted.min(fits).max(3)
+    let wanted = count
+        .saturating_add(1)
+        .saturating_mul(STATES_PER_INSTRUCTION);
+    let fits = BUDGET / count.saturating_add(ENTRIES_SIZE);
+    wanted.min(fits).max(FIXED_STATES + 1)
 }
 
 // How many bits a slot's number has.
 const SLOT_BITS: u32 = 10;
 
-// The slot of a state's positions: the upper bits of their hash, by Fowler, Noll and Vo.
+// The numbers of the hash by Fowler, Noll and Vo (FNV-1a) of 64 bits.
+const FNV_OFFSET_BASIS: u64 = 0xcbf2_9ce4_8422_2325;
+
+const FNV_PRIME: u64 = 0x0000_0100_0000_01b3;
+
+// The slot of a state's positions: the upper bits of their hash.
 fn slot_of(positions: &[bool]) -> usize {
-    let mut hash: u64 = 0xcbf2_9ce4_8422_2325;
+    let mut hash = FNV_OFFSET_BASIS;
     for position in positions {
-        hash = (hash ^ u64::from(*position)).wrapping_mul(0x0000_0100_0000_01b3);
+        hash = (hash ^ u64::from(*position)).wrapping_mul(FNV_PRIME);
     }
     (hash >> (u64::BITS - SLOT_BITS)) as usize
 }
 
 // The entry that leads to the state with a number, where the flow leaves before the byte or not.
 pub(crate) fn entry_to(number: usize, hit: bool) -> u32
-    requires { number < 1000000 }
-    ensures { result ≡ 257 * suc number + (if hit then 2147483648 else 0) }
+    requires { number < state_bound }
+    ensures { result ≡ stride * suc number + (if hit then match_flag else 0) }
 {
     let name = (STRIDE * (number + 1)) as u32;
     if hit { name + MATCH_FLAG } else { name }
@@ -88,12 +111,12 @@ pub(crate) fn entry_to(number: usize, hit: bool) -> u32
 impl Table {
     /// A table of the first two states, for a program of this length.
     pub(crate) fn for_count(alloc: Global, count: usize) -> Result<Table, PatternFault>
-        ensures least { IfOk result (λ tb. 3 ≤ tb.limit) }
-        ensures most { IfOk result (λ tb. tb.limit < 1000000) }
-        ensures count { IfOk result (λ tb. tb.count ≡ 2) }
+        ensures least { IfOk result (λ tb. least_limit ≤ tb.limit) }
+        ensures most { IfOk result (λ tb. tb.limit < state_bound) }
+        ensures count { IfOk result (λ tb. tb.count ≡ fixed_states) }
         ensures rows { IfOk result (λ tb. tb.rows.items ≡ replicate (tb.limit * count) false) }
-        ensures unanchored { IfOk result (λ tb. tb.unanchored.items ≡ replicate (257 * suc tb.limit) 0) }
-        ensures anchored { IfOk result (λ tb. tb.anchored.items ≡ replicate (257 * suc tb.limit) 0) }
+        ensures unanchored { IfOk result (λ tb. tb.unanchored.items ≡ replicate (stride * suc tb.limit) 0) }
+        ensures anchored { IfOk result (λ tb. tb.anchored.items ≡ replicate (stride * suc tb.limit) 0) }
         ensures fault { IfErr result (λ fault. fault ≡ PatternFault.Memory) }
     {
         let limit = limit_for(count);
@@ -102,14 +125,14 @@ impl Table {
         for _ in 0..limit {
             rows.extend_from_slice(&row)?;
         }
-        let unanchored = vec![in alloc; 0; STRIDE * (limit + 1)]?;
-        let anchored = vec![in alloc; 0; STRIDE * (limit + 1)]?;
+        let unanchored = vec![in alloc; UNKNOWN; STRIDE * (limit + 1)]?;
+        let anchored = vec![in alloc; UNKNOWN; STRIDE * (limit + 1)]?;
         let slots = vec![in alloc; 0; 1 << SLOT_BITS]?;
         Ok(Table {
             rows,
             unanchored,
             anchored,
-            count: 2,
+            count: FIXED_STATES,
             limit,
             slots,
         })
@@ -155,7 +178,7 @@ impl Table {
     // Writes the positions of the state with a number.
     pub(crate) fn store(&mut self, number: usize, positions: &[bool])
         requires within { number * length positions.now + length positions.now ≤ length self.old.rows.items }
-        requires few { number < 1000000 }
+        requires few { number < state_bound }
         ensures row { take (length positions.now) (drop (number * length positions.now) self.new.rows.items) ≡ positions.now }
         ensures others { (d : ℕ) → d < number →
             take (length positions.now) (drop (d * length positions.now) self.new.rows.items)
@@ -183,8 +206,8 @@ impl Table {
         row == positions
     }
 
-    // The number of a state with these positions, but for the first. Others than the second are looked for in
-    // one slot, so they may be missed.
+    // The number of a state with these positions, but for the first. The dead state is always found, so it has one name.
+    // Others are looked for in one slot, so they may be missed.
     pub(crate) fn find(&self, positions: &[bool]) -> Option<usize>
         requires { self.now.count * length positions.now ≤ length self.now.rows.items }
         ensures { IfSome result (λ d. (0 < d) × (d < self.now.count)
@@ -211,19 +234,19 @@ impl Table {
         ensures unanchored_len { length self.new.unanchored.items ≡ length self.old.unanchored.items }
         ensures anchored_len { length self.new.anchored.items ≡ length self.old.anchored.items }
         ensures rows { self.new.rows.items ≡ self.old.rows.items }
-        ensures count { self.new.count ≡ 2 }
+        ensures count { self.new.count ≡ fixed_states }
         ensures limit { self.new.limit ≡ self.old.limit }
     {
-        self.unanchored.as_mut_slice().fill(0);
-        self.anchored.as_mut_slice().fill(0);
-        self.count = 2;
+        self.unanchored.as_mut_slice().fill(UNKNOWN);
+        self.anchored.as_mut_slice().fill(UNKNOWN);
+        self.count = FIXED_STATES;
     }
 
     // The number of the state of these positions, where there is one or room for one.
     pub(crate) fn find_or_add(&mut self, positions: &[bool]) -> Option<usize>
         requires some { 0 < self.old.count }
         requires count { self.old.count ≤ self.old.limit }
-        requires few { self.old.limit < 1000000 }
+        requires few { self.old.limit < state_bound }
         requires rows { self.old.limit * length positions.now ≤ length self.old.rows.items }
         ensures known { IfSome result (λ d. (0 < d) × (d < self.new.count)) }
         ensures positions { IfSome result (λ d. (p : Pattern) → length positions.now ≡ count_of p → positions_at p self.new.rows.items d ≡ positions.now) }
@@ -241,7 +264,7 @@ impl Table {
     // A new state of these positions.
     pub(crate) fn add(&mut self, positions: &[bool]) -> usize
         requires room { self.old.count < self.old.limit }
-        requires few { self.old.limit < 1000000 }
+        requires few { self.old.limit < state_bound }
         requires rows { self.old.limit * length positions.now ≤ length self.old.rows.items }
         ensures number { result ≡ self.old.count }
         ensures positions { (p : Pattern) → length positions.now ≡ count_of p → positions_at p self.new.rows.items result ≡ positions.now }

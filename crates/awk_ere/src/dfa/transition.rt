@@ -4,7 +4,7 @@ ghost use Rattle.std.specs.Prelude.{◌≡◌, ◌≤◌, ◌+◌, ◌*◌, Bool
 ghost use Rattle.awk_ere.specs.support.SimulationStep.{AreFor, leaves, behind};
 ghost use Rattle.awk_ere.specs.support.Table.{IsKnown, IsState, IsEntry, IsFor};
 
-use crate::dfa::table::{DEAD, MATCH_FLAG, STRIDE, Table, entry_to};
+use crate::dfa::table::{DEAD, END_OF_TEXT, MATCH_FLAG, STRIDE, Table, UNKNOWN, entry_to};
 use crate::pattern::Pattern;
 use crate::scratch::Scratch;
 use crate::simulation::{Input, PositionSet};
@@ -77,9 +77,9 @@ impl Pattern {
             result ≡ leaves self.now cs st entering true 0 }
         ensures same { IsFor scratch.new self.now }
     {
-        let at = state as usize + STRIDE - 1;
+        let at = state as usize + END_OF_TEXT;
         let known = scratch.table.transitions(entering)[at];
-        if known != 0 {
+        if known != UNKNOWN {
             return known >= MATCH_FLAG;
         }
         let leaves = self.step_from(scratch, state, entering, 0, true);

@@ -1,5 +1,6 @@
 use Rattle.std.proofs.Common.{◌-◌, sym, subst, ⊎_elim}
 use Rattle.std.proofs.lemmas.Bool.{cases_lt}
+use Rattle.awk_ere.specs.support.Layout.{match_flag}
 use Rattle.awk_ere.specs.support.Table.{IsKnown}
 use Rattle.awk_ere.proofs.TableKept.{state_of}
 use Rattle.awk_ere.proofs.CursorKept.{known_of, stood_miss, stood_hit}
@@ -13,8 +14,8 @@ returns-clause-known c =
     let e = c.entry-entry.ensures.entry _ _ (state_of p c.args.scratch.now.table c.args.cursor.state c.requires.known) in
     ⊎_elim
     (λ small. subst (IsKnown tb) (sym (c.onto.ensures.miss small).0) (known_of p tb v _ _ (e.goes c.entry-entry.ensures.some small)))
-    (λ large. subst (IsKnown tb) (sym (c.onto.ensures.hit large).0) (known_of p tb (v - 2147483648) _ _ (e.leads large)))
-    (cases_lt v 2147483648)
+    (λ large. subst (IsKnown tb) (sym (c.onto.ensures.hit large).0) (known_of p tb (v - match_flag) _ _ (e.leads large)))
+    (cases_lt v match_flag)
 
 pub returns-clause-stood : goal.returns-clause-stood
 returns-clause-stood c = λ t from means enters h.
@@ -30,4 +31,4 @@ returns-clause-stood c = λ t from means enters h.
     (λ large.
     let n = c.onto.ensures.hit large in
     stood_hit p old tb c.args.text.now t means from c.args.cursor h c.args.entering enters c.requires.within v e c.onto.result c.onto.ensures.place large n.0 n.1)
-    (cases_lt v 2147483648)
+    (cases_lt v match_flag)

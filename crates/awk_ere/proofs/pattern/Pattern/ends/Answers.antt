@@ -1,6 +1,7 @@
 use Rattle.std.proofs.Common.{◌≡◌, ◌+◌, length, min, sym, ap, ◌∙◌, ⊎_elim, arith}
 use Rattle.std.specs.Prelude.{nat_eq, if◌then◌else◌}
 use Rattle.std.proofs.lemmas.Bool.{false≢true, leb-true, and_parts}
+use Rattle.awk_ere.specs.support.Layout.{first_state}
 use Rattle.awk_ere.specs.support.Found.{between, is_first}
 use Rattle.awk_ere.proofs.LastEnd.{enters_on, enters_end}
 use Rattle.awk_ere.proofs.CursorKept.{stood_begin, end_first, end_hit, end_miss}
@@ -15,7 +16,7 @@ returns-then-is_some-clause-found c = λ t means.
     let high = c.args.high in
     let begun = stood_begin p c.args.scratch.now.table c.requires.same.table s t means (between low high) c.begin.result
     (λ i f. let le = leb-true low i (and_parts _ _ f).0 in omega (arith, le, c.begin.ensures.place))
-    (c.begin.ensures.state ∙ ap (λ k. if nat_eq k 0 then 257 else 514) (sym c.begin.ensures.place)) c.begin.ensures.end in
+    (c.begin.ensures.state ∙ ap first_state (sym c.begin.ensures.place)) c.begin.ensures.end in
     let one = c.scan-cursor.ensures.stood t (between low high) means
     (λ k a b. enters_on low high (length s) k (omega (arith, a, c.begin.ensures.place)) (omega (arith, b, c.min-stop.ensures))) begun in
     end_first (is_first c.args.wanted) p c.scan-cursor.new.scratch.table s t means low high c.scan-cursor.result one (sym c.is_first-first.ensures ∙ c.if-first.true) (sym c.is_some.ensures ∙ c.if-is_some.true)
@@ -28,7 +29,7 @@ returns-then-is_some-2-clause-found c = λ t means.
     let high = c.args.high in
     let begun = stood_begin p c.args.scratch.now.table c.requires.same.table s t means (between low high) c.begin.result
     (λ i f. let le = leb-true low i (and_parts _ _ f).0 in omega (arith, le, c.begin.ensures.place))
-    (c.begin.ensures.state ∙ ap (λ k. if nat_eq k 0 then 257 else 514) (sym c.begin.ensures.place)) c.begin.ensures.end in
+    (c.begin.ensures.state ∙ ap first_state (sym c.begin.ensures.place)) c.begin.ensures.end in
     let one = c.scan-cursor.ensures.stood t (between low high) means
     (λ k a b. enters_on low high (length s) k (omega (arith, a, c.begin.ensures.place)) (omega (arith, b, c.min-stop.ensures))) begun in
     let stopped : c.scan-cursor.result.place ≡ min (length s) (high + 1) =
@@ -49,7 +50,7 @@ returns-then-leaves_at_end-clause-found c = λ t means.
     let high = c.args.high in
     let begun = stood_begin p c.args.scratch.now.table c.requires.same.table s t means (between low high) c.begin.result
     (λ i f. let le = leb-true low i (and_parts _ _ f).0 in omega (arith, le, c.begin.ensures.place))
-    (c.begin.ensures.state ∙ ap (λ k. if nat_eq k 0 then 257 else 514) (sym c.begin.ensures.place)) c.begin.ensures.end in
+    (c.begin.ensures.state ∙ ap first_state (sym c.begin.ensures.place)) c.begin.ensures.end in
     let one = c.scan-cursor.ensures.stood t (between low high) means
     (λ k a b. enters_on low high (length s) k (omega (arith, a, c.begin.ensures.place)) (omega (arith, b, c.min-stop.ensures))) begun in
     let stopped : c.scan-cursor.result.place ≡ min (length s) (high + 1) =
@@ -78,7 +79,7 @@ returns-clause-found c = λ t means.
     let high = c.args.high in
     let begun = stood_begin p c.args.scratch.now.table c.requires.same.table s t means (between low high) c.begin.result
     (λ i f. let le = leb-true low i (and_parts _ _ f).0 in omega (arith, le, c.begin.ensures.place))
-    (c.begin.ensures.state ∙ ap (λ k. if nat_eq k 0 then 257 else 514) (sym c.begin.ensures.place)) c.begin.ensures.end in
+    (c.begin.ensures.state ∙ ap first_state (sym c.begin.ensures.place)) c.begin.ensures.end in
     let one = c.scan-cursor.ensures.stood t (between low high) means
     (λ k a b. enters_on low high (length s) k (omega (arith, a, c.begin.ensures.place)) (omega (arith, b, c.min-stop.ensures))) begun in
     let stopped : c.scan-cursor.result.place ≡ min (length s) (high + 1) =

@@ -1,4 +1,5 @@
 use Rattle.std.proofs.Common.{◌+◌, ◌<◌, length, refl, sym, ap, subst, arith, get_or}
+use Rattle.awk_ere.specs.support.Layout.{byte_count, stride, match_flag}
 use Rattle.awk_ere.specs.support.Table.{IsEntry}
 use Rattle.awk_ere.specs.declared.dfa.cursor.Cursor.{Cursor}
 use Rattle.awk_ere.proofs.TableKept.{state_of}
@@ -8,7 +9,7 @@ use Rattle.awk_ere.proofs.pattern.Pattern.fast_loop.Goals as goal
 pub bounds-transitions-state : goal.bounds-transitions-state
 bounds-transitions-state c =
     let x = get_or c.args.text.now c.loop-k.k 0 in
-    let byte : x < 257 = omega (arith, c.type_inv.text c.loop-k.k) in
+    let byte : x < stride = omega (arith, c.type_inv.text c.loop-k.k) in
     subst (λ l. c.loop-k.state + x < length l) (sym c.transitions-transitions.ensures)
     (entry_within c.args.self.now c.args.table.now c.args.entering c.requires.table c.loop-k.state x c.loop-k.invariant.known byte)
 
@@ -21,10 +22,10 @@ loop-k-preserved c =
     let k = c.loop-k.k in
     let v = c.loop-k.state in
     let x = get_or s k 0 in
-    let byte : x < 256 = omega (arith, c.type_inv.text k) in
+    let byte : x < byte_count = omega (arith, c.type_inv.text k) in
     let u = get_or c.transitions-transitions.result.now (v + x) 0 in
     let some : 0 < u = omega (arith, c.if-entry-floor.false) in
-    let small : u < 2147483648 = omega (arith, c.if-entry-ge-MATCH_FLAG.false) in
+    let small : u < match_flag = omega (arith, c.if-entry-ge-MATCH_FLAG.false) in
     let same = ap (λ l. get_or l (v + x) 0) (sym c.transitions-transitions.ensures) in
     record {
       known =

@@ -1,4 +1,5 @@
 use Rattle.std.proofs.Common.{◌+◌, ◌-◌, ◌<◌, true, refl, sym, ap, ◌∙◌, subst, arith, get_or}
+use Rattle.awk_ere.specs.support.Layout.{byte_count, dead_state}
 use Rattle.awk_ere.specs.support.SimulationStep.{IsStill}
 use Rattle.awk_ere.specs.support.Table.{IsEntry}
 use Rattle.awk_ere.specs.declared.dfa.cursor.Cursor.{Cursor}
@@ -28,10 +29,10 @@ loop-k-preserved c = λ t from means enters h0.
     let k = c.loop-k.k in
     let v = c.args.cursor.state in
     let x = get_or s k 0 in
-    let byte : x < 256 = omega (arith, c.type_inv.text k) in
+    let byte : x < byte_count = omega (arith, c.type_inv.text k) in
     let h = c.loop-k.invariant t from means enters h0 in
     let w : Cursor = record { place = k; state = v; end = c.args.cursor.end } in
     let w' : Cursor = record { place = k + 1; state = v; end = c.args.cursor.end } in
-    let same = ap (λ u. get_or tb.unanchored.items (u + x) 0) c.if-cursor-ne-DEAD.false ∙ ap (λ l. get_or l (514 + x) 0) (sym c.as_slice-transitions.ensures.value) ∙ c.if-transitions-text-ne-DEAD.false in
-    stood_miss p tb tb s t means from w h true (sym c.if-not-entering.false ∙ enters k c.loop-k.auto.k c.loop-k-test.true) (omega (arith, c.loop-k-test.true, c.requires.within)) 514
+    let same = ap (λ u. get_or tb.unanchored.items (u + x) 0) c.if-cursor-ne-DEAD.false ∙ ap (λ l. get_or l (dead_state + x) 0) (sym c.as_slice-transitions.ensures.value) ∙ c.if-transitions-text-ne-DEAD.false in
+    stood_miss p tb tb s t means from w h true (sym c.if-not-entering.false ∙ enters k c.loop-k.auto.k c.loop-k-test.true) (omega (arith, c.loop-k-test.true, c.requires.within)) dead_state
     (subst (IsEntry p tb h.start true h.positions x) same (entry_of p tb true c.requires.same.table v h.start h.positions h.state x byte)) w' refl (omega arith) (omega arith) c.if-cursor-ne-DEAD.false refl

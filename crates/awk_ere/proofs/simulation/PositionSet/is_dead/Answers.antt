@@ -1,7 +1,7 @@
 use Rattle.std.proofs.Common.{◌≡◌, Bool, true, false, List, [], ◌∷◌, length, replicate, refl, sym, ap, ◌∙◌}
 use Rattle.std.specs.List.{list_any}
 use Rattle.std.proofs.Math.Bool.{beq, not}
-use Rattle.awk_ere.proofs.simulation.PositionSet.are_dead.Goals as goal
+use Rattle.awk_ere.proofs.simulation.PositionSet.is_dead.Goals as goal
 
 none_true : (cs : List Bool) → not (list_any (λ c. beq c true) cs) ≡ true → cs ≡ replicate (length cs) false
 none_true [] e = refl
