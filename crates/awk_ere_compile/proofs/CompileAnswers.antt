@@ -1,19 +1,17 @@
 -- What compiling a text answers.
-use Rattle.std.proofs.Common.{◌≡◌, ◌≤◌, ◌<◌, ℕ, true, false, List, [], ◌∷◌, length, map, Some, Result, Ok, Err, refl, sym, ap, ◌∙◌, inl, inr, arith}
+use Rattle.std.proofs.Common.{◌≡◌, ◌≤◌, ◌<◌, ℕ, true, false, List, [], ◌∷◌, length, map, Some, Result, Ok, Err, refl, sym, ap, ◌∙◌, inr, arith}
 use Rattle.std.specs.Prelude.{◌==◌, IfOk, IfErr}
 use Rattle.std.proofs.lemmas.Bool.{false≢true, eqb-true}
-use Rattle.awk_ere_syntax.specs.definitions.Tree.{Tree, empty, none, size}
+use Rattle.awk_ere_syntax.specs.definitions.Tree.{Tree, empty, none}
 use Rattle.awk_ere_compile.specs.definitions.Program.{resolve, Compiles}
 use Rattle.awk_ere_syntax.specs.definitions.Limits.{most_opened, any_bad, SpellsWithin, Refused}
-use Rattle.awk_ere_syntax.specs.definitions.Written.{Pattern, Whole, nothing, whole, whole_tokens, tree_of, whole_opened, pattern_tree, IsWritten}
+use Rattle.awk_ere_syntax.specs.definitions.Written.{Pattern, Whole, nothing, whole, whole_tokens, whole_opened, pattern_tree, IsWritten}
 use Rattle.awk_ere_compile.specs.support.CompilerResult.{IsCleanText, Makes, Builds}
 use Rattle.awk_ere_syntax.specs.support.Checks.{Checked}
 use Rattle.awk_ere_syntax.specs.declared.check.Facts.{Facts}
 use Rattle.awk_ere_compile.specs.declared.program.Program.{Program}
 use Rattle.awk_ere_syntax.specs.declared.fault.PatternFault.{PatternFault}
 use Rattle.awk_ere_syntax.specs.declared.fault.PatternFault.TheVariants.{Memory, IllFormed, BadCount, TooLarge}
-use Rattle.awk_ere_syntax.proofs.TokenRoundTrip.{one_spelling}
-use Rattle.awk_ere_syntax.proofs.OneTree.{one_whole}
 
 -- ---- what is read
 

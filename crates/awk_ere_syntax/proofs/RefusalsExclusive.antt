@@ -1,5 +1,5 @@
 -- A text that is spelled within the limits is refused for want of memory alone.
-use Rattle.std.proofs.Common.{◌≡◌, ◌≤◌, ◌<◌, ℕ, true, false, List, refl, sym, ap, ◌∙◌, inl, inr, arith}
+use Rattle.std.proofs.Common.{◌≡◌, ℕ, false, List, refl, sym, ap, ◌∙◌, inl, inr, arith}
 use Rattle.std.proofs.lemmas.Bool.{false≢true}
 use Rattle.awk_ere_syntax.specs.definitions.Tree.{Tree, size}
 use Rattle.awk_ere_syntax.specs.definitions.Limits.{any_bad, SpellsWithin, Refused}

@@ -5,8 +5,8 @@ ghost use Rattle.std.specs.Option.{option_map};
 ghost use Rattle.awk_ere_syntax.specs.definitions.Tree.{class_of};
 ghost use Rattle.awk_ere_syntax.specs.definitions.Brackets.{Item as ItemForm, any_has, is_barred, Bracket, bracket_has};
 ghost use Rattle.awk_ere_syntax.specs.definitions.Tokens.{atom, bracket};
-ghost use Rattle.awk_ere_syntax.specs.support.Lexer.{mark_at, items_at, bracket_token};
-ghost use Rattle.awk_ere_syntax.specs.support.TokenValues.{seen_mark, descends, holds, range_seen, item_seen, end_at, seen_items, seen_front};
+ghost use Rattle.awk_ere_syntax.specs.support.Lexer.{mark_at, name_at, items_at, bracket_token};
+ghost use Rattle.awk_ere_syntax.specs.support.TokenValues.{seen_mark, descends, holds, range_seen, class_seen, mark_seen, item_seen, end_at, seen_items, seen_front};
 
 use crate::class_name::{ClassName, name_at};
 use crate::reading::escape::escape_at;
@@ -81,6 +81,22 @@ fn range_at(low: u8, rest: &[u8]) -> Option<(Item, &[u8])>
     }
 }
 
+/// A byte, or a range that it begins, and what follows.
+fn single_or_range_at(bytes: &[u8]) -> Option<(Item, &[u8])>
+    ensures { option_map (λ r. (r.0, r.1.now)) result ≡ mark_seen (option_map seen_mark (mark_at bytes.now)) }
+{
+    let (byte, rest) = mark_at(bytes)?;
+    range_at(byte, rest)
+}
+
+/// The class whose name stands behind a `[:`, and what follows.
+fn class_at(bytes: &[u8]) -> Option<(Item, &[u8])>
+    ensures { option_map (λ r. (r.0, r.1.now)) result ≡ class_seen (name_at bytes.now) }
+{
+    let (name, rest) = name_at(bytes)?;
+    Some((Item::Class(name), rest))
+}
+
 /// Whether the byte closes the bracket, or is a `-` that is neither first nor last.
 fn is_barred(first: bool, byte: u8, rest: &[u8]) -> bool
     ensures { result ≡ is_barred first byte rest.now }
@@ -94,15 +110,9 @@ fn item_at(first: bool, bytes: &[u8]) -> Option<(Item, &[u8])>
 {
     match bytes {
         [] => None,
-        [b'[', b':', rest @ ..] => {
-            let (name, rest) = name_at(rest)?;
-            Some((Item::Class(name), rest))
-        }
+        [b'[', b':', rest @ ..] => class_at(rest),
         [byte, rest @ ..] if is_barred(first, *byte, rest) => None,
-        _ => {
-            let (byte, rest) = mark_at(bytes)?;
-            range_at(byte, rest)
-        }
+        _ => single_or_range_at(bytes),
     }
 }
 
