@@ -18,7 +18,7 @@ use Rattle.awk_tree.specs.View.{tree_of}
 use Rattle.awk_tree.specs.declared.tree.Tree.{Tree}
 use Rattle.awk_resolve.specs.Names.{uses_in, uses_left_out, scalar_names, array_names, are_apart, Fits}
 use Rattle.awk_resolve.specs.Names.{name_refusal}
-use Rattle.awk_run.specs.definitions.Accepted.{longest_text, greatest_height, IsSpelled, HasBadEre, Accepted, RefusedFor}
+use Rattle.awk_run.specs.definitions.Accepted.{longest_text, IsSpelled, HasBadEre, Accepted, RefusedFor}
 use Rattle.awk_run.specs.support.Verdict.{ReadsOnly}
 
 -- the tree of a text

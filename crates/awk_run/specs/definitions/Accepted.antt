@@ -5,17 +5,14 @@ use Rattle.awk_lex.specs.declared.refusal.RefusalCode.{RefusalCode}
 use Rattle.awk_lex.specs.declared.refusal.RefusalCode.TheVariants.{UnexpectedByte, OpenString, OpenPattern, EscapeRefused, NumberRefused, ProgramTooLong, NotAProgram, NestedTooDeep, PatternIllFormed, PatternCountRefused, PatternTooLarge, ArrayAndScalar, NameLeftOut, OutOfMemory}
 use Rattle.awk_lex.specs.Lexes.{Lexes, Breaks}
 use Rattle.awk_tree.specs.Tree.{Item}
-use Rattle.awk_tree.specs.Height.{height_of_program}
+use Rattle.awk_tree.specs.Height.{max_height, height_of_program}
 use Rattle.awk_tree.specs.Spelling.{IsProgram}
 use Rattle.awk_syntax.specs.Patterns.{AreReadable, RefusesEre}
 use Rattle.awk_resolve.specs.Names.{uses_in, uses_left_out, scalar_names, array_names, are_apart, Fits}
 
--- the most bytes of a program text, and the greatest height of its tree
+-- the most bytes of a program text
 abbrev pub longest_text : ℕ
 longest_text = 1048576
-
-abbrev pub greatest_height : ℕ
-greatest_height = 200
 
 -- the text is tokens
 pub record HasTokens (text : List ℕ) (tokens : List Kind) : Type 0 where
@@ -28,7 +25,7 @@ pub record Accepted (text : List ℕ) (items : List Item) : Type 0 where
   pub tokens : List Kind
   pub has : HasTokens text tokens
   pub spells : IsProgram tokens items
-  pub low : height_of_program items ≤ greatest_height
+  pub low : height_of_program items ≤ max_height
   pub readable : AreReadable tokens
   pub fits : Fits items
 
@@ -37,14 +34,14 @@ pub record IsSpelled (text : List ℕ) (items : List Item) : Type 0 where
   pub tokens : List Kind
   pub has : HasTokens text tokens
   pub spells : IsProgram tokens items
-  pub low : height_of_program items ≤ greatest_height
+  pub low : height_of_program items ≤ max_height
   pub readable : AreReadable tokens
 
 -- the text is a program but for its EREs and its names, and an ERE is refused
 abbrev pub HasBadEre : RefusalCode → List ℕ → Type 0
 HasBadEre code text =
     (tokens : List Kind) × HasTokens text tokens
-    × ((items : List Item) × IsProgram tokens items × (height_of_program items ≤ greatest_height)) × RefusesEre code tokens
+    × ((items : List Item) × IsProgram tokens items × (height_of_program items ≤ max_height)) × RefusesEre code tokens
 
 -- why a text is refused with this code: the first of these that holds
 abbrev pub RefusedFor : RefusalCode → List ℕ → Type 0
@@ -55,7 +52,7 @@ RefusedFor OpenPattern text = (length text ≤ longest_text) × Breaks OpenPatte
 RefusedFor EscapeRefused text = (length text ≤ longest_text) × Breaks EscapeRefused text
 RefusedFor NumberRefused text = (length text ≤ longest_text) × Breaks NumberRefused text
 RefusedFor NotAProgram text = (tokens : List Kind) × HasTokens text tokens × ((items : List Item) → IsProgram tokens items → ⊥)
-RefusedFor NestedTooDeep text = (tokens : List Kind) × HasTokens text tokens × ((items : List Item) × IsProgram tokens items × (greatest_height < height_of_program items))
+RefusedFor NestedTooDeep text = (tokens : List Kind) × HasTokens text tokens × ((items : List Item) × IsProgram tokens items × (max_height < height_of_program items))
 RefusedFor PatternIllFormed text = HasBadEre PatternIllFormed text
 RefusedFor PatternCountRefused text = HasBadEre PatternCountRefused text
 RefusedFor PatternTooLarge text = HasBadEre PatternTooLarge text
