@@ -4,6 +4,10 @@
 #[cfg(test)]
 mod command;
 #[cfg(test)]
+mod lex;
+#[cfg(test)]
 mod programs;
 #[cfg(test)]
 mod rows;
+#[cfg(test)]
+mod tables;
