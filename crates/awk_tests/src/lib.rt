@@ -4,6 +4,8 @@
 #[cfg(test)]
 mod command;
 #[cfg(test)]
+mod ere;
+#[cfg(test)]
 mod lex;
 #[cfg(test)]
 mod programs;
