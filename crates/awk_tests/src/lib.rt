@@ -12,4 +12,6 @@ mod programs;
 #[cfg(test)]
 mod rows;
 #[cfg(test)]
+mod syntax;
+#[cfg(test)]
 mod tables;

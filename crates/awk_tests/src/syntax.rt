@@ -1,0 +1,181 @@
+// Texts and their trees, and which texts have none: what no clause says is that parsing finds memory, which line an S1
+// names, and how the EREs are numbered.
+
+mod trees;
+
+use crate::tables::{bytes_of, expect_table};
+use awk_lex::lexer::tokens;
+use awk_lex::refusal::Refusal;
+use awk_syntax::parse::{one_tree, parse};
+use awk_tree::tree::Tree;
+use std::alloc::Global;
+use std::test::Fail;
+use trees::tree_text;
+
+fn read(alloc: Global, text: &[u8]) -> Result<Tree, Refusal> {
+    let tokens = tokens(alloc, text)?;
+    parse(alloc, &tokens)
+}
+
+// The tree of a text, or why it has none.
+fn tree_of(alloc: Global, input: &str) -> Result<String, Fail> {
+    match read(alloc, &bytes_of(alloc, input)?) {
+        Ok(tree) => Ok(tree_text(alloc, &tree)?),
+        Err(refusal) => Ok(refusal.to_string(alloc)?),
+    }
+}
+
+const TREES: &str = r#"
+{} → (action)
+1 {} → (rule 1)
+{ print } { print }; ␊{ print } → (action (print)) (action (print)) (action (print))
+{␊␊print 1,␊␊2;␊print␊} → (action (print 1 2) (print))
+{ { print }␊ {} {␊} print } → (action (block (print)) (block) (block) (print))
+# a comment␊{ print 1; # and one more␊} → (action (print 1))
+1; x; {}␊"a"␊{} → (pattern 1) (pattern x) (action) (pattern "a") (action)
+BEGIN {} BEGIN { x = 1 } x␊BEGIN {} → (BEGIN) (BEGIN (= x 1)) (pattern x) (BEGIN)
+BEGIN { x = y = 1; print x = 1, (x = 1) + 1; 1 < 2␊x } → (BEGIN (= x (= y 1)) (print (= x 1) (+ (group (= x 1)) 1)) (< 1 2) x)
+x = NF; NF → (pattern (= x NF)) (pattern NF)
+-1 * 2 * $3 < 2 { print x = 1 - 2 - (3) } → (rule (< (* (* (- 1) 2) ($ 3)) 2) (print (= x (- (- 1 2) (group 3)))))
+{ print 1 < 2, 2 == 3, 1 != 2, 1 >= 2, 1 <= 2 } → (action (print (< 1 2) (== 2 3) (!= 1 2) (>= 1 2) (<= 1 2)))
+1 > 2 { print (1 > 2), - - 1, !x == !y, -1 % +2 - 3 } → (rule (> 1 2) (print (group (> 1 2)) (- (- 1)) (== (! x) (! y)) (- (% (- 1) (+ 2)) 3)))
+(x = "a") == "b" { print ((1)) } → (rule (== (group (= x "a")) "b") (print (group (group 1))))
+{ print 1 " " -1 } → (action (print (cat 1 (- " " 1))))
+{ print 1 " " 2 * 3 + 4 "a" } → (action (print (cat (cat (cat 1 " ") (+ (* 2 3) 4)) "a")))
+{ print 1 !x, $1$2, (1)(2), x (y), "a" "b" == "c" } → (action (print (cat 1 (! x)) (cat ($ 1) ($ 2)) (cat (group 1) (group 2)) (cat x (group y)) (== (cat "a" "b") "c")))
+{ print -1 " " -1 " " } → (action (print (cat (cat (- 1) (- " " 1)) " ")))
+x y !z { x = 1 2 } → (rule (cat (cat x y) (! z)) (= x (cat 1 2)))
+x ~ y { print 1 < 2 ~ 1, a ~ b < c, a !~ b " " c } → (rule (~ x y) (print (~ (< 1 2) 1) (~ a (< b c)) (!~ a (cat (cat b " ") c))))
+x = y ~ /a/ { print 6 / 3 / 2 * 1 % 2, x / y + 1 } → (rule (= x (~ y /a/0)) (print (% (* (/ (/ 6 3) 2) 1) 2) (+ (/ x y) 1)))
+/a/; !/b/ { print /c\/d/ "x", 1 /2/ 3, (/e/) ~ x }␊/f/ !/g/ { x = /h/ } → (pattern /a/0) (rule (! /b/1) (print (cat /c\/d/2 "x") (/ (/ 1 2) 3) (~ (group /e/3) x))) (rule (cat /f/4 (! /g/5)) (= x /h/6))
+/(a{100}){99}/ → (pattern /(a{100}){99}/0)
+"#;
+
+const STATEMENTS: &str = r#"
+{ → line 1: refusal S1: not a program
+{␊print␊ → line 2: refusal S1: not a program
+} → line 1: refusal S1: not a program
+{ print␊, 1 } → line 2: refusal S1: not a program
+{ print 1 print 2 } → line 1: refusal S1: not a program
+{ ; } → line 1: refusal S1: not a program
+print → line 1: refusal S1: not a program
+{} , {} → line 1: refusal S1: not a program
+{ print 1␊}␊␊2 * → line 4: refusal S1: not a program
+1 {} } → line 1: refusal S1: not a program
+1 BEGIN {} → line 1: refusal S1: not a program
+x␊y BEGIN {} → line 2: refusal S1: not a program
+BEGIN → line 1: refusal S1: not a program
+BEGIN␊{} → line 1: refusal S1: not a program
+BEGIN 1 {} → line 1: refusal S1: not a program
+BEGIN; {} → line 1: refusal S1: not a program
+{ (1 } → line 1: refusal S1: not a program
+"#;
+
+const EXPRESSIONS: &str = r#"
+␊{ print 1␊< 2 } → line 3: refusal S1: not a program
+BEGIN{print 1 < 2 < 3} → line 1: refusal S1: not a program
+1 == 2 != 3 {} → line 1: refusal S1: not a program
+{ print 1 > 2 } → line 1: refusal S1: not a program
+{ print 1, } → line 1: refusal S1: not a program
+{ print 1 * } → line 1: refusal S1: not a program
+{ print * 1 } → line 1: refusal S1: not a program
+{ print $ } → line 1: refusal S1: not a program
+{print $-1} → line 1: refusal S1: not a program
+{ print $$1 } → line 1: refusal S1: not a program
+{ print $x } → line 1: refusal S1: not a program
+{ print␊$(1) } → line 2: refusal S1: not a program
+BEGIN{x=2**3} → line 1: refusal S1: not a program
+{ print (1, 2) } → line 1: refusal S1: not a program
+{ print (␊1) } → line 1: refusal S1: not a program
+() → line 1: refusal S1: not a program
+␊(1␊) → line 2: refusal S1: not a program
+(1] → line 1: refusal S1: not a program
+f(1) → line 1: refusal S1: not a program
+! ; → line 1: refusal S1: not a program
+1 % % 2 → line 1: refusal S1: not a program
+BEGIN{!x=1} → line 1: refusal S1: not a program
+BEGIN{␊␊-x=1} → line 3: refusal S1: not a program
+1 + x = 2 → line 1: refusal S1: not a program
+x == y = 1 → line 1: refusal S1: not a program
+(x) = 1 → line 1: refusal S1: not a program
+$1 = 2 → line 1: refusal S1: not a program
+1 = 2 → line 1: refusal S1: not a program
+{␊x =␊1 } → line 2: refusal S1: not a program
+{ x = NF = 1 } → line 1: refusal S1: not a program
+x = ; → line 1: refusal S1: not a program
+x ~ y !~ z → line 1: refusal S1: not a program
+1; x ~ y␊~ z → line 2: refusal S1: not a program
+x ~ ; → line 1: refusal S1: not a program
+{ x = y " " z = 1 } → line 1: refusal S1: not a program
+{ print 1 x = 2 } → line 1: refusal S1: not a program
+{ print 1 > 2 "a" } → line 1: refusal S1: not a program
+"#;
+
+// What the parser doesn't take so far.
+const UNREAD: &str = r#"
+1 ^ 2 → line 1: refusal S1: not a program
+1 && 2 → line 1: refusal S1: not a program
+1 || 2 → line 1: refusal S1: not a program
+1 ? 2 : 3 → line 1: refusal S1: not a program
+x in y → line 1: refusal S1: not a program
+x++ → line 1: refusal S1: not a program
+1 ++x → line 1: refusal S1: not a program
+x[1] → line 1: refusal S1: not a program
+x += 1 → line 1: refusal S1: not a program
+length → line 1: refusal S1: not a program
+{ getline } → line 1: refusal S1: not a program
+{ print 1 | "c" } → line 1: refusal S1: not a program
+{ print >> "f" } → line 1: refusal S1: not a program
+{ printf "x" } → line 1: refusal S1: not a program
+END {} → line 1: refusal S1: not a program
+{ if (1) x } → line 1: refusal S1: not a program
+"#;
+
+const ERES: &str = r#"
+{ print 1 / / 2 } → line 1: refusal L4: open pattern
+/(/ → line 1: refusal P1: pattern ill-formed
+{}␊/a{2,1}/ → line 2: refusal P2: interval or range refused
+/a{256}/ → line 1: refusal P2: interval or range refused
+/[z-a]/ → line 1: refusal P2: interval or range refused
+/(a{100}){100}/ → line 1: refusal P3: pattern too large
+/a/ {␊x ~ /(/ }␊/a{2,1}/ → line 2: refusal P1: pattern ill-formed
+/a{2,1}/␊/(/ → line 1: refusal P2: interval or range refused
+/(/ {␊}␊} → line 3: refusal S1: not a program
+⟨198 !⟩/(/ → line 1: refusal P1: pattern ill-formed
+⟨199 !⟩/(/ → line 1: refusal S2: nested too deep
+"#;
+
+// An item, its block, 196 more, a print and a number are 200 nodes.
+const HEIGHTS: &str = r#"
+⟨197 {⟩print 1⟨197 }⟩ → (action ⟨196 (block ⟩(print 1)⟨197 )⟩
+⟨198 {⟩print 1⟨198 }⟩ → line 1: refusal S2: nested too deep
+⟨198 !⟩1 → (pattern ⟨198 (! ⟩1⟨199 )⟩
+⟨199 !⟩1 {} → line 1: refusal S2: nested too deep
+⟨300 - ⟩1 { → line 1: refusal S1: not a program
+⟨198 x=⟩1 → (pattern ⟨198 (= x ⟩1⟨199 )⟩
+⟨199 x=⟩1 → line 1: refusal S2: nested too deep
+⟨198 1*⟩1 {} → (rule ⟨198 (* ⟩1⟨198  1)⟩)
+⟨300 1*⟩1 {} → line 1: refusal S2: nested too deep
+⟨300 1*⟩1 { → line 1: refusal S1: not a program
+⟨199 1 ⟩ → (pattern ⟨198 (cat ⟩1⟨198  1)⟩)
+⟨200 1 ⟩ → line 1: refusal S2: nested too deep
+⟨1000 {print}⟩ → (action (print))⟨999  (action (print))⟩
+BEGIN{print ⟨196 (⟩1⟨196 )⟩} → (BEGIN (print ⟨196 (group ⟩1⟨198 )⟩
+BEGIN{print ⟨197 (⟩1⟨197 )⟩} → line 1: refusal S2: nested too deep
+⟨500000 {⟩print⟨500000 }⟩ → line 1: refusal S2: nested too deep
+⟨500000 {⟩print⟨499999 }⟩ → line 1: refusal S1: not a program
+⟨500000 {⟩ → line 1: refusal S1: not a program
+⟨500000 (⟩1⟨500000 )⟩ → line 1: refusal S2: nested too deep
+⟨500000 (⟩1⟨499999 )⟩ → line 1: refusal S1: not a program
+⟨500000 (⟩ → line 1: refusal S1: not a program
+"#;
+
+#[test]
+fn texts_and_their_trees(rt: HostRuntime) -> Result<(), Fail> {
+    let alloc = rt.alloc();
+    for table in [TREES, STATEMENTS, EXPRESSIONS, UNREAD, ERES, HEIGHTS] {
+        expect_table(&rt, alloc, table, tree_of)?;
+    }
+    one_tree();
+    Ok(())
+}
