@@ -12,6 +12,8 @@ mod programs;
 #[cfg(test)]
 mod rows;
 #[cfg(test)]
+mod streams;
+#[cfg(test)]
 mod syntax;
 #[cfg(test)]
 mod tables;
