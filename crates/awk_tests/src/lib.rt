@@ -16,4 +16,6 @@ mod streams;
 #[cfg(test)]
 mod syntax;
 #[cfg(test)]
+mod system;
+#[cfg(test)]
 mod tables;
