@@ -8,7 +8,7 @@ use Rattle.awk_meaning.specs.declared.halt.Halt.{Halt}
 use Rattle.awk_meaning.specs.declared.halt.Halt.TheVariants as halt
 use Rattle.awk_meaning.specs.declared.fault.Fault.TheVariants.{OutOfMemory}
 use Rattle.awk_meaning.specs.Meaning.{printed_to}
-use Rattle.awk_streams.specs.declared.world.InputKind.{InputKind}
+use Rattle.awk_world.specs.declared.world.InputKind.{InputKind}
 use Rattle.awk_meaning.specs.State.{Effect, State, Out, Run, go_on, ◌>>=◌, lift}
 use Rattle.awk_variables.specs.Variables.{value_of}
 use Rattle.awk_streams.specs.WorldState.{WorldState}

@@ -3,8 +3,8 @@ use Rattle.std.proofs.Math.Seq.{take-length}
 use Rattle.std.proofs.lemmas.List.{length-drop}
 use Rattle.std.proofs.Common.{take, drop, length, ◌-◌, ◌≡◌, ℕ, ◌≤◌, ◌<◌, zero, suc, Bool, true, false, List, [], Option, Some, None, Result, Ok, Err, refl, sym, ap, ◌∙◌, subst, arith}
 use Rattle.awk_value.specs.declared.value.Value.TheVariants.{Input}
-use Rattle.awk_streams.specs.declared.world.InputKind.{InputKind}
-use Rattle.awk_streams.specs.declared.world.InputKind.TheVariants.{Standard, File}
+use Rattle.awk_world.specs.declared.world.InputKind.{InputKind}
+use Rattle.awk_world.specs.declared.world.InputKind.TheVariants.{Standard, File}
 use Rattle.awk_streams.specs.Log as log
 use Rattle.awk_streams.specs.Streams.{AreOpen, IsSoundMain}
 use Rattle.awk_interpreter.specs.declared.interpreter.Interpreter.{Interpreter}

@@ -1,5 +1,5 @@
 -- Logs that go on, one call after another.
-use Rattle.awk_streams.specs.definitions.WorldState.{WorldState}
+use Rattle.awk_world.specs.definitions.WorldState.{WorldState}
 use Rattle.awk_streams.specs.definitions.Streams.{Grows}
 
 pub Grows-self : (world : WorldState) → Grows world world

@@ -1,8 +1,8 @@
 use Rattle.std.proofs.Common.{◌≡◌, ◌⊎◌, inl, inr, ℕ, List, [], ◌∷◌, ◌++◌, Option, Some, None, Result, Ok, Err, refl, sym, ◌∙◌, ap, subst}
-use Rattle.awk_streams.specs.definitions.Log.{Event, Read, Ended, Broke}
+use Rattle.awk_world.specs.definitions.Log.{Event, Read, Ended, Broke}
 use Rattle.awk_record.specs.Cut.{Ending, IsDecided}
 use Rattle.awk_record.specs.Buffer.{Pending}
-use Rattle.awk_streams.specs.definitions.Writes.{with_events}
+use Rattle.awk_world.specs.definitions.Writes.{with_events}
 use Rattle.awk_streams.specs.definitions.Inputs.{NeededReads, Reaches}
 use Rattle.awk_streams.specs.support.Pulls.{Brings, Pulls}
 use Rattle.awk_record.specs.Cut.{Cut, Found, NoMore, BrokenOff, TooLong, BadSeparator, cut_of}

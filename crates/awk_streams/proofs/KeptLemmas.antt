@@ -1,15 +1,15 @@
 -- Stretches of a log that keep it in order, and what they leave as it was.
 use Rattle.std.proofs.Common.{◌≡◌, ◌≢◌, ℕ, ◌+◌, List, [], ◌∷◌, ◌++◌, Bool, true, false, Option, None, refl, sym, ◌∙◌, ap, subst, arith}
 use Rattle.std.proofs.lemmas.Bool.{cond-true, cond-false, ne_eqb, eq-eqb}
-use Rattle.awk_streams.specs.definitions.Log.{Event, Read, Ended, Broke, Wrote, Flushed}
+use Rattle.awk_world.specs.definitions.Log.{Event, Read, Ended, Broke, Wrote, Flushed}
 use Rattle.awk_record.specs.Cut.{Ending}
-use Rattle.awk_streams.specs.definitions.Oracle.{reading_of, read_on}
-use Rattle.awk_streams.specs.definitions.Orderly.{IsReadable, IsOrderly, IsInOrder}
+use Rattle.awk_world.specs.definitions.Oracle.{reading_of, read_on}
+use Rattle.awk_world.specs.definitions.Orderly.{IsReadable, IsOrderly, IsInOrder}
 use Rattle.std.specs.Prelude.{is_some}
-use Rattle.awk_streams.specs.definitions.Writes.{with_events, Writes, OnlyWritesTo, received}
+use Rattle.awk_world.specs.definitions.Writes.{with_events, Writes, OnlyWritesTo, received}
 use Rattle.awk_streams.specs.definitions.Inputs.{NeededReads}
 use Rattle.awk_streams.specs.support.Kept.{IsOutput, IsQuiet, SameStreams}
-use Rattle.awk_streams.specs.definitions.Oracle.{SameCounts}
+use Rattle.awk_world.specs.definitions.Oracle.{SameCounts}
 
 none_more : (n : ℕ) → 0 + n ≡ n
 none_more n = omega arith
@@ -122,12 +122,6 @@ pub output_in_order : (old new : ℕ → Bool) (es log : List Event) → ((j : �
 output_in_order old new es log same h order = record {
   orderly = output_orderly es log h order.orderly;
   known = λ id some. same id ∙ order.known id (ap is_some (sym ((quiet_streams es log (output_quiet es h)).stands id)) ∙ some);
-}
-
-pub in_order-start : (is_open : ℕ → Bool) → IsInOrder is_open []
-in_order-start is_open = record {
-  orderly = tt;
-  known = λ id some. let bad : false ≡ true = some in cc;
 }
 
 -- a log that goes on by writes to one output alone

@@ -1,5 +1,3 @@
-pub mod ConsistencyLemmas
-pub mod Exist
 pub mod KeptLemmas
 pub mod RestLemmas
 pub mod InputLemmas
@@ -8,4 +6,3 @@ pub mod WritesLemmas
 pub mod GrowsLemmas
 pub mod MainLemmas
 pub mod OutputLemmas
-pub mod ScriptLemmas

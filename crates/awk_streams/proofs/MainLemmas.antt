@@ -8,23 +8,23 @@ use Rattle.awk_record.specs.declared.buffer.Step.{Step}
 use Rattle.awk_record.specs.declared.buffer.Step.TheVariants.{NeedMore}
 use Rattle.awk_record.specs.declared.fault.RecordFault.{RecordFault}
 use Rattle.awk_record.specs.declared.fault.RecordFault.TheVariants.{Memory as BufferMemory}
-use Rattle.awk_streams.specs.declared.world.InputKind.{InputKind}
-use Rattle.awk_streams.specs.declared.world.InputKind.TheVariants.{Command}
+use Rattle.awk_world.specs.declared.world.InputKind.{InputKind}
+use Rattle.awk_world.specs.declared.world.InputKind.TheVariants.{Command}
 use Rattle.awk_streams.specs.declared.fault.StreamFault.{StreamFault}
 use Rattle.awk_streams.specs.declared.fault.StreamFault.TheVariants.{Memory, InputNotReadable}
-use Rattle.awk_streams.specs.definitions.WorldState.{WorldState, IsFresh, Opens, SameOpen}
-use Rattle.awk_streams.specs.definitions.Log.{Event, OpenedInput}
-use Rattle.awk_streams.specs.definitions.Oracle.{Oracle, IsConsistent, Standing, new_reading, how_many, opens_input, standing}
-use Rattle.awk_streams.specs.definitions.Orderly.{IsReadable, IsOrderly, IsInOrder}
-use Rattle.awk_streams.specs.definitions.Writes.{received}
+use Rattle.awk_world.specs.definitions.WorldState.{WorldState, IsFresh, Opens, SameOpen}
+use Rattle.awk_world.specs.definitions.Log.{Event, OpenedInput}
+use Rattle.awk_world.specs.definitions.Oracle.{Oracle, IsConsistent, Standing, new_reading, how_many, opens_input, standing}
+use Rattle.awk_world.specs.definitions.Orderly.{IsReadable, IsOrderly, IsInOrder}
+use Rattle.awk_world.specs.definitions.Writes.{received}
 use Rattle.awk_streams.specs.definitions.Inputs.{Reaches}
 use Rattle.awk_streams.specs.support.Pulls.{Pulls}
 use Rattle.awk_streams.specs.support.Kept.{SameStreams}
 use Rattle.awk_streams.specs.support.Pulls.{Tells, IsToldAs}
 use Rattle.awk_streams.specs.definitions.Inputs.{NextTold}
 use Rattle.awk_streams.specs.definitions.Streams.{InputView, StreamsView, StandsAsMain, CountsInput, OpensMain, AsksMain}
-use Rattle.awk_streams.proofs.ConsistencyLemmas.{consistent-before}
-use Rattle.awk_streams.proofs.Exist.{opens_input-self}
+use Rattle.awk_world.proofs.ConsistencyLemmas.{consistent-before}
+use Rattle.awk_world.proofs.Exist.{opens_input-self}
 use Rattle.awk_streams.proofs.KeptLemmas.{same_counts-self, quiet_streams, reads_orderly, reads_readable, reads_quiet, reads_received}
 use Rattle.awk_streams.proofs.ToldLemmas.{told_next}
 

@@ -5,18 +5,18 @@ use Rattle.std.specs.Result.{is_ok, result_and}
 use Rattle.std.proofs.lemmas.Bool.{cond-true, cond-false, ne_eqb, eq-eqb, cases_eq}
 use Rattle.std.proofs.Math.Seq.{take-length}
 use Rattle.awk_streams.specs.declared.fault.StreamFault.{StreamFault}
-use Rattle.awk_streams.specs.declared.world.InputKind.{InputKind}
-use Rattle.awk_streams.specs.declared.world.InputKind.TheVariants.{Standard, File, Command}
-use Rattle.awk_streams.specs.definitions.WorldState.{WorldState, SameOpen}
-use Rattle.awk_streams.specs.definitions.Log.{Event, Flushed, Closed}
-use Rattle.awk_streams.specs.definitions.Oracle.{Oracle, Source, IsConsistent, AnInput, one_if, how_many, closes_command, is_command, reading_of, standing}
-use Rattle.awk_streams.specs.definitions.Orderly.{IsReadable, IsInOrder}
-use Rattle.awk_streams.specs.definitions.Writes.{OnlyWritesTo, received, flushed_if}
+use Rattle.awk_world.specs.declared.world.InputKind.{InputKind}
+use Rattle.awk_world.specs.declared.world.InputKind.TheVariants.{Standard, File, Command}
+use Rattle.awk_world.specs.definitions.WorldState.{WorldState, SameOpen}
+use Rattle.awk_world.specs.definitions.Log.{Event, Flushed, Closed}
+use Rattle.awk_world.specs.definitions.Oracle.{Oracle, Source, IsConsistent, AnInput, one_if, how_many, closes_command, is_command, reading_of, standing}
+use Rattle.awk_world.specs.definitions.Orderly.{IsReadable, IsInOrder}
+use Rattle.awk_world.specs.definitions.Writes.{OnlyWritesTo, received, flushed_if}
 use Rattle.awk_streams.specs.definitions.Outputs.{WritesAll, Flushes}
-use Rattle.awk_streams.specs.definitions.Oracle.{SameCounts}
+use Rattle.awk_world.specs.definitions.Oracle.{SameCounts}
 use Rattle.awk_streams.specs.support.Kept.{SameStreams}
 use Rattle.awk_streams.specs.definitions.Streams.{InputView, StreamsView, StandsAsMain, IsSoundMain, IsMainRest, ClosesMain, Prints, closed_main, EndsMain, Finishes}
-use Rattle.awk_streams.proofs.ConsistencyLemmas.{consistent-before}
+use Rattle.awk_world.proofs.ConsistencyLemmas.{consistent-before}
 use Rattle.awk_streams.proofs.KeptLemmas.{same_counts-self, writes_order, writes_streams, writes_reading, writes_received}
 use Rattle.awk_streams.proofs.WritesLemmas.{received-writes}
 

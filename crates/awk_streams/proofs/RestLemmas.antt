@@ -2,13 +2,13 @@
 use Rattle.std.proofs.Common.{◌≡◌, ℕ, List, [], ◌∷◌, ◌++◌, true, Option, Some, None, sym, ◌∙◌, ap, subst, append_assoc, append-nil}
 use Rattle.std.proofs.lemmas.Bool.{cond-true, eq-eqb}
 use Rattle.std.proofs.lemmas.List.{append_cancel_left}
-use Rattle.awk_streams.specs.definitions.Log.{Event, Read, Ended, Broke}
+use Rattle.awk_world.specs.definitions.Log.{Event, Read, Ended, Broke}
 use Rattle.awk_record.specs.Cut.{Ending, AtEnd, AtBreak}
-use Rattle.awk_streams.specs.definitions.Writes.{with_events}
+use Rattle.awk_world.specs.definitions.Writes.{with_events}
 use Rattle.awk_streams.specs.definitions.Inputs.{NeededReads}
 use Rattle.awk_streams.specs.definitions.Inputs.{Rest}
-use Rattle.awk_streams.proofs.ConsistencyLemmas.{consistent-before}
-use Rattle.awk_streams.specs.definitions.Oracle.{Oracle, Source, Reading, IsConsistent, Gives, EndsWith, reading_of, read_on, over}
+use Rattle.awk_world.proofs.ConsistencyLemmas.{consistent-before}
+use Rattle.awk_world.specs.definitions.Oracle.{Oracle, Source, Reading, IsConsistent, Gives, EndsWith, reading_of, read_on, over}
 
 same_some : {T : Type 0} (x y : T) → Some x ≡ Some y → x ≡ y
 same_some x y e = cc

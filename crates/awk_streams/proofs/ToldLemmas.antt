@@ -1,6 +1,6 @@
 -- The record that an asking answers is what the cut of the whole rest gives.
 use Rattle.std.proofs.Common.{◌≡◌, ◌≢◌, ◌⊎◌, inl, inr, ◌↔◌, ℕ, List, [], ◌++◌, Option, Some, None, Result, Ok, Err, refl, sym, ◌∙◌, ap, subst, append-nil}
-use Rattle.awk_streams.specs.definitions.Log.{Event}
+use Rattle.awk_world.specs.definitions.Log.{Event}
 use Rattle.awk_record.specs.Cut.{Ending, AtEnd, AtBreak, Cut, Found, NoMore, BrokenOff, TooLong, BadSeparator, cut_of, IsDecided}
 use Rattle.awk_record.specs.Buffer.{Pending, Steps, IsAnswerOf}
 use Rattle.awk_record.specs.declared.buffer.Step.{Step}
@@ -8,7 +8,7 @@ use Rattle.awk_record.specs.declared.buffer.Step.TheVariants.{NeedMore}
 use Rattle.awk_record.specs.declared.fault.RecordFault.{RecordFault}
 use Rattle.awk_record.specs.declared.fault.RecordFault.TheVariants.{Memory, FieldNumber}
 use Rattle.awk_record.proofs.CutIsDecided.{IsDecided_law}
-use Rattle.awk_streams.specs.definitions.Oracle.{Oracle, Source, IsConsistent}
+use Rattle.awk_world.specs.definitions.Oracle.{Oracle, Source, IsConsistent}
 use Rattle.awk_streams.specs.definitions.Inputs.{Reaches}
 use Rattle.awk_streams.specs.support.Pulls.{Pulls}
 use Rattle.awk_streams.specs.definitions.Inputs.{Rest}

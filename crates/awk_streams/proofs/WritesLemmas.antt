@@ -1,8 +1,8 @@
 use Rattle.std.proofs.Common.{◌≡◌, ℕ, ◌+◌, ◌<◌, ◌-◌, List, [], ◌∷◌, ◌++◌, length, take, drop, Some, refl, sym, ◌∙◌, ap, arith, append_assoc, append-nil}
 use Rattle.std.proofs.lemmas.Bool.{cond-true, cond-false, ne_eqb, eq-eqb}
 use Rattle.std.proofs.lemmas.List.{take_rest, take-take, drop-take, take-append-drop}
-use Rattle.awk_streams.specs.definitions.Log.{Event, Wrote, taken_or_none}
-use Rattle.awk_streams.specs.definitions.Writes.{with_events, GoesOn, Writes, received}
+use Rattle.awk_world.specs.definitions.Log.{Event, Wrote, taken_or_none}
+use Rattle.awk_world.specs.definitions.Writes.{with_events, GoesOn, Writes, received}
 
 pub with_events-push : (es : List Event) (e : Event) (log : List Event) → with_events (es ++ e ∷ []) log ≡ e ∷ with_events es log
 with_events-push [] e log = refl

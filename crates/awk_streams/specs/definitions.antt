@@ -1,9 +1,3 @@
-pub mod Log
-pub mod WorldState
-pub mod Oracle
-pub mod Orderly
-pub mod Writes
 pub mod Outputs
 pub mod Inputs
 pub mod Streams
-pub mod Script

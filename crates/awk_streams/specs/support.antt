@@ -1,3 +1,2 @@
 pub mod Pulls
 pub mod Kept
-pub mod ScriptStreams

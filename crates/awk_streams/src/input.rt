@@ -1,12 +1,12 @@
 // Inputs: records out of the bytes that a world hands over.
 ghost use Rattle.std.specs.Prelude.{◌≡◌, ◌≢◌, ◌≤◌, ◌<◌, ◌⊎◌, ℕ, List, ◌∷◌, length, IsTrue, ◌↔◌, OnOk, OnErr, IfErr, None, Err, Ok};
 ghost use Rattle.awk_record.specs.Cut.{longest};
-ghost use Rattle.awk_streams.specs.definitions.WorldState.{SameOpen};
-ghost use Rattle.awk_streams.specs.definitions.Log.{Event, Read};
+ghost use Rattle.awk_world.specs.definitions.WorldState.{SameOpen};
+ghost use Rattle.awk_world.specs.definitions.Log.{Event, Read};
 ghost use Rattle.awk_streams.specs.support.Pulls.{Brings, Pulls, room_of};
 
-use crate::world::{World, WorldFault};
 use awk_record::{RecordBuffer, RecordFault, Step};
+use awk_world::{World, WorldFault};
 
 /// The most bytes of one reading.
 const CHUNK: usize = 8_192;

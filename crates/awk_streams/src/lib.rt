@@ -1,18 +1,15 @@
-//! The world that a run reads and writes, and the streams over it.
+//! The streams of a run over any world: its main input and its standard outputs.
 #![tactic(auto)]
 
 mod fault;
 mod input;
-mod laws;
 mod output;
-mod script_stream;
-mod script_world;
 mod streams;
-mod world;
 
+pub use awk_world::{
+    Answer, Entry, InputKind, Mode, OutputKind, ScriptWorld, World, WorldFault,
+    is_consistent_with_less, some_oracle_is_consistent,
+};
 pub use fault::StreamFault;
-pub use laws::{is_consistent_with_less, some_oracle_is_consistent};
 pub use output::print_error;
-pub use script_world::{Answer, Entry, ScriptWorld};
 pub use streams::Streams;
-pub use world::{InputKind, Mode, OutputKind, World, WorldFault};

@@ -1,10 +1,10 @@
 // Outputs: bytes reach the world in order, all of them or a beginning.
 ghost use Rattle.std.specs.Prelude.{◌≡◌, IsTrue, IfErr};
-ghost use Rattle.awk_streams.specs.definitions.WorldState.{SameOpen};
+ghost use Rattle.awk_world.specs.definitions.WorldState.{SameOpen};
 ghost use Rattle.awk_streams.specs.definitions.Outputs.{output_fault_of, IsOutputFault, WritesAll, Flushes};
 
 use crate::fault::StreamFault;
-use crate::world::{World, WorldFault};
+use awk_world::{World, WorldFault};
 
 /// The number of standard output, which is always open.
 pub const STANDARD_OUTPUT: u64 = 0;

@@ -1,6 +1,6 @@
 // The streams of a run: its main input and its standard outputs.
 ghost use Rattle.std.specs.Prelude.{◌≡◌, ◌≢◌, ◌⊎◌, ℕ, ℤ, [], Some, None, is_some, IsTrue, OnOk, OnErr, IfErr, Ok, Err};
-ghost use Rattle.awk_streams.specs.definitions.WorldState.{SameOpen};
+ghost use Rattle.awk_world.specs.definitions.WorldState.{SameOpen};
 ghost use Rattle.awk_streams.specs.definitions.Outputs.{IsOutputFault};
 ghost use Rattle.awk_streams.specs.definitions.Streams.{AreOpen, IsSoundMain, StandsAsMain, IsOpenMain, view_of, main_of, IsFreshMain, IsSameMain, ClosesMain, closed_main, OpensMain, AsksMain, Prints, EndsMain, Finishes};
 ghost use Rattle.awk_streams.specs.support.Pulls.{IsToldAs};
@@ -8,9 +8,9 @@ ghost use Rattle.awk_streams.specs.support.Pulls.{IsToldAs};
 use crate::fault::StreamFault;
 use crate::input::{Input, next_from};
 use crate::output::{STANDARD_ERROR, STANDARD_OUTPUT, flush, write_all};
-use crate::world::{InputKind, World, WorldFault};
 use awk_record::{RecordBuffer, RecordFault, Step};
 use awk_value::Bytes;
+use awk_world::{InputKind, World, WorldFault};
 use std::alloc::Global;
 use std::marker::Model;
 

@@ -4,7 +4,7 @@ ghost use Rattle.std.specs.Prelude.{◌≡◌, ◌≤◌, ◌↔◌, IfOk, lengt
 ghost use Rattle.std.specs.IoError.{error_kind};
 ghost use Rattle.std.specs.Io.KnownBytes.{ReadConsumes, WriteAppends};
 
-use awk_streams::WorldFault;
+use awk_world::WorldFault;
 use std::io::{self, ErrorKind, Read, Write};
 
 /// Refused memory is told from every other failure.

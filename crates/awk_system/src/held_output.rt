@@ -5,7 +5,7 @@ ghost use Rattle.std.specs.Io.KnownBytes.{Keeps, Appends, WriteAppends};
 ghost use Rattle.awk_system.specs.HeldOutput.{held_contents, IsEmptyHeld};
 
 use crate::calls::{fault_of, write_to};
-use awk_streams::WorldFault;
+use awk_world::WorldFault;
 use std::alloc::Global;
 use std::io::{self, BufWriter, Write};
 

@@ -4,13 +4,13 @@ ghost use Rattle.std.specs.Ordering.{nat_cmp};
 ghost use Rattle.std.specs.BTreeMap.{get};
 ghost use Rattle.std.specs.Io.Buffered.{reader_remaining};
 ghost use Rattle.std.specs.Io.KnownBytes.{Keeps, Appends, ReadConsumes, WriteAppends};
-ghost use Rattle.awk_streams.specs.WorldState.{IsFresh, Opens, SameOpen};
+ghost use Rattle.awk_world.specs.WorldState.{IsFresh, Opens, SameOpen};
 ghost use Rattle.awk_system.specs.HeldOutput.{held_contents, IsEmptyHeld};
 ghost use Rattle.awk_system.specs.Opened.{is_open_in, standard_outputs_open};
 
 use crate::calls::{fault_of, read_from, write_to};
 use crate::held_output::HeldOutput;
-use awk_streams::{InputKind, Mode, OutputKind, World, WorldFault};
+use awk_world::{InputKind, Mode, OutputKind, World, WorldFault};
 use std::alloc::Global;
 use std::collections::BTreeMap;
 use std::fs::{File, Files, OpenOptions};

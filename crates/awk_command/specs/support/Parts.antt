@@ -1,7 +1,7 @@
 -- What the parts of the code do: the options that were read, and one reading of a program file.
 use Rattle.std.specs.Prelude.{◌≡◌, ℕ, Bool, true, false, List, ◌∷◌, ◌++◌, map}
-use Rattle.awk_streams.specs.declared.world.WorldFault.{WorldFault}
-use Rattle.awk_streams.specs.declared.world.WorldFault.TheVariants as fault
+use Rattle.awk_world.specs.declared.world.WorldFault.{WorldFault}
+use Rattle.awk_world.specs.declared.world.WorldFault.TheVariants as fault
 use Rattle.awk_streams.specs.Log.{Event, Read, Ended}
 use Rattle.awk_run.specs.Start.{pair_of}
 use Rattle.awk_command.specs.declared.options.Settings.{Settings as CodeSettings}

@@ -1,7 +1,7 @@
 -- How the code's state and world stand for the state of the definitions, and what a part of the code does.
 use Rattle.std.specs.Prelude.{◌≡◌, ℕ, pos, ◌≤◌, ◌<◌, Bool, true, false, List, [], ◌++◌, length, Option, Some, None, is_some, suc, Result, Ok, Err, OnOk}
 use Rattle.awk_value.specs.declared.value.Value.{Value}
-use Rattle.awk_streams.specs.declared.world.InputKind.{InputKind}
+use Rattle.awk_world.specs.declared.world.InputKind.{InputKind}
 use Rattle.awk_streams.specs.declared.fault.StreamFault.{StreamFault}
 use Rattle.awk_streams.specs.WorldState.{WorldState}
 use Rattle.awk_streams.specs.Oracle.{Oracle, IsConsistent, how_many, opens_input}

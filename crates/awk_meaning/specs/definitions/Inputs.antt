@@ -5,8 +5,8 @@ use Rattle.std.specs.List.{take_while, prefix_len}
 use Rattle.awk_value.specs.declared.value.Value.TheVariants.{Input}
 use Rattle.awk_lex.specs.Words.{is_word, is_word_byte, is_reserved, is_left_out}
 use Rattle.awk_lex.specs.Escapes.{unescaped}
-use Rattle.awk_streams.specs.declared.world.InputKind.{InputKind}
-use Rattle.awk_streams.specs.declared.world.InputKind.TheVariants.{Standard, File}
+use Rattle.awk_world.specs.declared.world.InputKind.{InputKind}
+use Rattle.awk_world.specs.declared.world.InputKind.TheVariants.{Standard, File}
 use Rattle.awk_meaning.specs.declared.fault.Fault.TheVariants.{AssignmentRefused}
 use Rattle.awk_meaning.specs.declared.halt.Halt.{Halt}
 use Rattle.awk_meaning.specs.declared.halt.Halt.TheVariants as halt

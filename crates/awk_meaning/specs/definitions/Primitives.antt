@@ -9,7 +9,7 @@ use Rattle.awk_value.specs.declared.fault.ValueFault.{ValueFault}
 use Rattle.awk_value.specs.Values.{num_of, str_of}
 use Rattle.awk_record.specs.Cut.{Ending, Cut, Found, NoMore, BrokenOff, TooLong, BadSeparator, cut_of}
 use Rattle.awk_record.specs.Record.{split_by}
-use Rattle.awk_streams.specs.declared.world.InputKind.{InputKind}
+use Rattle.awk_world.specs.declared.world.InputKind.{InputKind}
 use Rattle.awk_streams.specs.Oracle.{Source, same_input, one_if}
 use Rattle.awk_meaning.specs.declared.fault.Fault.TheVariants.{InputNotReadable, RecordTooLong, RecordSeparatorTooLong, PatternRefused}
 use Rattle.awk_meaning.specs.definitions.State.{StandardOutput, AnOpening, ARecord, Printed, Requested, State, Run, ◌>>=◌, lift, ret}

@@ -5,9 +5,9 @@ use Rattle.awk_record.specs.Cut.{Ending, AtEnd, AtBreak, IsDecided, Cut, Found, 
 use Rattle.awk_record.specs.Buffer.{Pending}
 use Rattle.awk_streams.specs.declared.fault.StreamFault.{StreamFault}
 use Rattle.awk_streams.specs.declared.fault.StreamFault.TheVariants.{InputNotReadable, SeparatorTooLong, RecordTooLong}
-use Rattle.awk_streams.specs.definitions.Log.{Event, Read, Ended, Broke}
-use Rattle.awk_streams.specs.definitions.Oracle.{Oracle, Source, Reading, reading_of}
-use Rattle.awk_streams.specs.definitions.Writes.{GoesOn}
+use Rattle.awk_world.specs.definitions.Log.{Event, Read, Ended, Broke}
+use Rattle.awk_world.specs.definitions.Oracle.{Oracle, Source, Reading, reading_of}
+use Rattle.awk_world.specs.definitions.Writes.{GoesOn}
 
 -- these events, the oldest first, each read the input while the bytes at hand don't decide its record;
 -- they lead from the bytes b to b', and to the ending that was met: the last of them, if any

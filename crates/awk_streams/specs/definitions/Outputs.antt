@@ -3,10 +3,10 @@ use Rattle.std.specs.Prelude.{◌≡◌, ◌⊎◌, ◌≤◌, ℕ, true, List, 
 use Rattle.std.specs.Result.{is_ok}
 use Rattle.awk_streams.specs.declared.fault.StreamFault.{StreamFault}
 use Rattle.awk_streams.specs.declared.fault.StreamFault.TheVariants.{Memory, WriteFailed}
-use Rattle.awk_streams.specs.declared.world.WorldFault.{WorldFault}
-use Rattle.awk_streams.specs.declared.world.WorldFault.TheVariants.{Memory as WorldMemory, Failed}
-use Rattle.awk_streams.specs.definitions.WorldState.{WorldState}
-use Rattle.awk_streams.specs.definitions.Writes.{GoesOn, Writes, flushed_if}
+use Rattle.awk_world.specs.declared.world.WorldFault.{WorldFault}
+use Rattle.awk_world.specs.declared.world.WorldFault.TheVariants.{Memory as WorldMemory, Failed}
+use Rattle.awk_world.specs.definitions.WorldState.{WorldState}
+use Rattle.awk_world.specs.definitions.Writes.{GoesOn, Writes, flushed_if}
 
 abbrev pub output_fault_of : WorldFault → StreamFault
 output_fault_of WorldMemory = Memory

@@ -1,21 +1,21 @@
 -- The streams of a run as one value, and what each call tells of a world's log.
 -- (POSIX awk, INPUT FILES and STDOUT; Variables and Special Variables: RS)
 use Rattle.std.specs.Prelude.{◌≡◌, ◌≢◌, ◌≤◌, ℕ, ℤ, ◌+◌, Bool, true, false, ◌&&◌, List, [], ◌∷◌, ◌++◌, length, take, Option, Some, None, is_some, Result, Ok, Err, OnOk, OnErr, bytes_eq}
-use Rattle.awk_streams.specs.declared.world.InputKind.{InputKind}
-use Rattle.awk_streams.specs.declared.world.InputKind.TheVariants.{Command}
-use Rattle.awk_streams.specs.declared.world.OutputKind.{OutputKind}
+use Rattle.awk_world.specs.declared.world.InputKind.{InputKind}
+use Rattle.awk_world.specs.declared.world.InputKind.TheVariants.{Command}
+use Rattle.awk_world.specs.declared.world.OutputKind.{OutputKind}
 use Rattle.awk_streams.specs.declared.input.Input.{Input}
 use Rattle.awk_streams.specs.declared.fault.StreamFault.{StreamFault}
 use Rattle.awk_streams.specs.declared.fault.StreamFault.TheVariants.{Memory, InputNotReadable}
-use Rattle.awk_streams.specs.definitions.WorldState.{WorldState, Closes, SameOpen}
-use Rattle.awk_streams.specs.definitions.Log.{Event, OpenedInput, Closed, logged}
+use Rattle.awk_world.specs.definitions.WorldState.{WorldState, Closes, SameOpen}
+use Rattle.awk_world.specs.definitions.Log.{Event, OpenedInput, Closed, logged}
 use Rattle.awk_record.specs.Cut.{cut_of}
 use Rattle.awk_record.specs.Buffer.{Pending}
-use Rattle.awk_streams.specs.definitions.Oracle.{Oracle, Source, IsConsistent, one_if, how_many, opens_input, opens_output, closes_command, runs, same_input, AnInput, standing}
-use Rattle.awk_streams.specs.definitions.Orderly.{IsReadable, IsInOrder}
-use Rattle.awk_streams.specs.definitions.Writes.{OnlyWritesTo, received, flushed_if}
+use Rattle.awk_world.specs.definitions.Oracle.{Oracle, Source, IsConsistent, one_if, how_many, opens_input, opens_output, closes_command, runs, same_input, AnInput, standing}
+use Rattle.awk_world.specs.definitions.Orderly.{IsReadable, IsInOrder}
+use Rattle.awk_world.specs.definitions.Writes.{OnlyWritesTo, received, flushed_if}
 use Rattle.awk_streams.specs.definitions.Inputs.{ReadsAsNeeded, Rest}
-pub use Rattle.awk_streams.specs.definitions.Oracle.{SameCounts}
+pub use Rattle.awk_world.specs.definitions.Oracle.{SameCounts}
 pub use Rattle.awk_streams.specs.definitions.Inputs.{NextTold}
 
 -- an input that is open: its number in the world, and what was read of it and not yet taken

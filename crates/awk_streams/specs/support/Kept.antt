@@ -1,7 +1,7 @@
 -- What a stretch of a log leaves as it was.
 use Rattle.std.specs.Prelude.{◌≡◌, ℕ, List, [], ◌∷◌}
-use Rattle.awk_streams.specs.definitions.Log.{Event, Read, Ended, Broke, Wrote, Flushed}
-use Rattle.awk_streams.specs.definitions.Oracle.{SameCounts, standing}
+use Rattle.awk_world.specs.definitions.Log.{Event, Read, Ended, Broke, Wrote, Flushed}
+use Rattle.awk_world.specs.definitions.Oracle.{SameCounts, standing}
 
 -- these events only bring bytes to outputs
 abbrev pub IsOutput : List Event → Type 0

@@ -9,8 +9,8 @@ use Rattle.awk_record.specs.declared.fault.RecordFault.TheVariants.{Memory as Bu
 use Rattle.awk_streams.specs.declared.fault.StreamFault.{StreamFault}
 use Rattle.awk_streams.specs.declared.fault.StreamFault.TheVariants.{Memory, InputNotReadable, SeparatorTooLong, RecordTooLong}
 use Rattle.awk_streams.specs.definitions.Inputs.{Reaches, Rest}
-use Rattle.awk_streams.specs.definitions.Log.{Event, Read, Ended, Broke}
-use Rattle.awk_streams.specs.definitions.Oracle.{Oracle, Source, IsConsistent}
+use Rattle.awk_world.specs.definitions.Log.{Event, Read, Ended, Broke}
+use Rattle.awk_world.specs.definitions.Oracle.{Oracle, Source, IsConsistent}
 
 -- one asking for a record: needed readings, and then what the buffer answers of the bytes at hand;
 -- where memory is refused the buffer may lack the bytes of the last reading

@@ -1,5 +1,5 @@
 use Rattle.std.proofs.Common.{◌≡◌, ◌<◌, length}
-use Rattle.awk_streams.specs.definitions.WorldState.{SameOpen}
+use Rattle.awk_world.specs.definitions.WorldState.{SameOpen}
 use Rattle.awk_streams.specs.definitions.Inputs.{Reaches}
 use Rattle.awk_streams.specs.support.Pulls.{room_of}
 use Rattle.awk_streams.proofs.input.next_from.Given as goal

@@ -1,7 +1,7 @@
 use Rattle.std.proofs.Common.{◌≡◌, ◌<◌, ℕ, ◌-◌, List, ◌∷◌, length, take, drop, ap, subst, ◌∙◌, arith}
 use Rattle.std.proofs.lemmas.List.{take_rest, length-drop}
-use Rattle.awk_streams.specs.definitions.Log.{Wrote, logged, failure_after}
-use Rattle.awk_streams.specs.definitions.Writes.{GoesOn, Writes}
+use Rattle.awk_world.specs.definitions.Log.{Wrote, logged, failure_after}
+use Rattle.awk_world.specs.definitions.Writes.{GoesOn, Writes}
 use Rattle.awk_streams.proofs.WritesLemmas.{taken-some, GoesOn-write, take_on}
 use Rattle.awk_streams.proofs.output.write_all.Goals as goal
 

@@ -1,6 +1,6 @@
 use Rattle.std.proofs.Common.{◌≡◌, ◌≤◌, ◌-◌, length, take}
-use Rattle.awk_streams.specs.definitions.WorldState.{SameOpen}
-use Rattle.awk_streams.specs.definitions.Writes.{GoesOn, Writes}
+use Rattle.awk_world.specs.definitions.WorldState.{SameOpen}
+use Rattle.awk_world.specs.definitions.Writes.{GoesOn, Writes}
 use Rattle.awk_streams.proofs.output.write_all.Given as goal
 
 pub record SoFar (bound same logged failed : Type 0) : Type 0 where

@@ -1,8 +1,8 @@
 -- What is consistent with a log is consistent with its beginnings.
 use Rattle.std.proofs.Common.{List, [], ◌∷◌, ◌++◌}
-use Rattle.awk_streams.specs.definitions.Log.{Event}
-use Rattle.awk_streams.specs.definitions.Oracle.{Oracle, IsConsistent}
-use Rattle.awk_streams.specs.definitions.Writes.{with_events}
+use Rattle.awk_world.specs.definitions.Log.{Event}
+use Rattle.awk_world.specs.definitions.Oracle.{Oracle, IsConsistent}
+use Rattle.awk_world.specs.definitions.Writes.{with_events}
 
 pub consistent-older : (a : Oracle) (newer older : List Event) → IsConsistent a (newer ++ older) → IsConsistent a older
 consistent-older a [] older h = h

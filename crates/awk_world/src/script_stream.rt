@@ -1,8 +1,8 @@
 // The streams of a world in memory. A stream's number is its place plus two, behind the standard
 // outputs; a closed one keeps its place, so that no number is granted twice.
 ghost use Rattle.std.specs.Prelude.{◌≡◌, ◌≤◌, ◌<◌, ◌+◌, ◌-◌, ◌^◌, ◌⊎◌, ◌==◌, if◌then◌else◌, true, false, ℕ, min, take, drop, slice_index_or, IsNone, vec_len, vec_capacity, OnOk, OnErr, IsTrue, IsOk, IfSome, length, slice_get};
-ghost use Rattle.awk_streams.specs.declared.script_stream.ScriptStream.{ScriptStream as StreamValue};
-ghost use Rattle.awk_streams.specs.support.ScriptStreams.{is_open_in, open_at, open_count};
+ghost use Rattle.awk_world.specs.declared.script_stream.ScriptStream.{ScriptStream as StreamValue};
+ghost use Rattle.awk_world.specs.support.ScriptStreams.{is_open_in, open_at, open_count};
 
 use std::alloc::AllocError;
 

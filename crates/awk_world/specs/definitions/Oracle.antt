@@ -1,10 +1,10 @@
 -- What the outside of a run would answer, and which logs are consistent with that. All logs have the newest event first.
 use Rattle.std.specs.Prelude.{◌≡◌, ◌+◌, ℕ, ℤ, Bool, true, false, ◌&&◌, ◌==◌, if◌then◌else◌, List, [], ◌∷◌, ◌++◌, Option, Some, None, bytes_eq}
-use Rattle.awk_streams.specs.declared.world.InputKind.{InputKind}
-use Rattle.awk_streams.specs.declared.world.InputKind.TheVariants.{Standard, File, Command}
-use Rattle.awk_streams.specs.declared.world.OutputKind.{OutputKind}
-use Rattle.awk_streams.specs.declared.world.OutputKind.TheVariants.{File as ToFile, Command as ToCommand}
-use Rattle.awk_streams.specs.definitions.Log.{Event, OpenedInput, OpenedOutput, Read, Ended, Broke, Wrote, Flushed, Closed, Ran}
+use Rattle.awk_world.specs.declared.world.InputKind.{InputKind}
+use Rattle.awk_world.specs.declared.world.InputKind.TheVariants.{Standard, File, Command}
+use Rattle.awk_world.specs.declared.world.OutputKind.{OutputKind}
+use Rattle.awk_world.specs.declared.world.OutputKind.TheVariants.{File as ToFile, Command as ToCommand}
+use Rattle.awk_world.specs.definitions.Log.{Event, OpenedInput, OpenedOutput, Read, Ended, Broke, Wrote, Flushed, Closed, Ran}
 use Rattle.awk_record.specs.Cut.{Ending, AtEnd, AtBreak}
 
 -- all the bytes that an opening of an input gives, and its ending

@@ -1,8 +1,8 @@
 -- The streams of a world in memory, and how many of them are open.
 use Rattle.std.proofs.Common.{◌≡◌, ℕ, zero, suc, ◌+◌, ◌<◌, true, false, IsTrue, List, [], ◌∷◌, length, get_or, slice_get, slice_set, arith, ap, if◌then◌else◌}
 use Rattle.std.proofs.lemmas.List.Sums.{sum_by-set}
-use Rattle.awk_streams.specs.declared.script_stream.ScriptStream.{ScriptStream}
-use Rattle.awk_streams.specs.support.ScriptStreams.{open_at, open_count}
+use Rattle.awk_world.specs.declared.script_stream.ScriptStream.{ScriptStream}
+use Rattle.awk_world.specs.support.ScriptStreams.{open_at, open_count}
 
 open_read : (xs : List ScriptStream) (i : ℕ) (d : ScriptStream) → IsTrue (open_at (slice_get xs i)) → (i < length xs) × ((get_or xs i d).open ≡ true)
 open_read [] i d h = cc

@@ -1,15 +1,15 @@
 -- To a log in order there are oracles that are consistent: those that the log itself shows.
 use Rattle.std.proofs.Common.{◌≡◌, inl, inr, ℕ, ℤ, ◌+◌, ◌<◌, ◌==◌, ◌&&◌, if◌then◌else◌, pos, Bool, true, false, List, [], ◌∷◌, ◌++◌, Option, Some, None, refl, sym, ◌∙◌, ap, subst, arith, append_assoc, append-nil, bytes_eq}
 use Rattle.std.proofs.lemmas.Bool.{cond-true, cond-false, ne_eqb, eq-eqb, cases_eq}
-use Rattle.awk_streams.specs.declared.world.InputKind.{InputKind}
-use Rattle.awk_streams.specs.declared.world.InputKind.TheVariants.{Standard, File, Command}
-use Rattle.awk_streams.specs.declared.world.OutputKind.{OutputKind}
-use Rattle.awk_streams.specs.declared.world.OutputKind.TheVariants.{File as ToFile, Command as ToCommand}
-use Rattle.awk_streams.specs.definitions.Log.{Event, OpenedInput, OpenedOutput, Read, Ended, Broke, Wrote, Flushed, Closed, Ran}
+use Rattle.awk_world.specs.declared.world.InputKind.{InputKind}
+use Rattle.awk_world.specs.declared.world.InputKind.TheVariants.{Standard, File, Command}
+use Rattle.awk_world.specs.declared.world.OutputKind.{OutputKind}
+use Rattle.awk_world.specs.declared.world.OutputKind.TheVariants.{File as ToFile, Command as ToCommand}
+use Rattle.awk_world.specs.definitions.Log.{Event, OpenedInput, OpenedOutput, Read, Ended, Broke, Wrote, Flushed, Closed, Ran}
 use Rattle.awk_record.specs.Cut.{AtEnd, AtBreak}
-use Rattle.awk_streams.specs.definitions.Oracle.{Source, Oracle, same_input, same_output, one_if, how_many, opens_input, opens_output, closes_command, runs, Reading, read_on, over, new_reading, reading_of, Gives, EndsWith, IsConsistentAt, IsConsistent}
-use Rattle.awk_streams.specs.definitions.Writes.{with_events}
-use Rattle.awk_streams.specs.definitions.Orderly.{IsOrderlyAt, IsOrderly}
+use Rattle.awk_world.specs.definitions.Oracle.{Source, Oracle, same_input, same_output, one_if, how_many, opens_input, opens_output, closes_command, runs, Reading, read_on, over, new_reading, reading_of, Gives, EndsWith, IsConsistentAt, IsConsistent}
+use Rattle.awk_world.specs.definitions.Writes.{with_events}
+use Rattle.awk_world.specs.definitions.Orderly.{IsOrderlyAt, IsOrderly}
 
 -- what is made of the k-th event of a sort and of the events after it, the oldest of them first
 abbrev pick : {T : Type 0} → (Event → List Event → Bool) → (Event → List Event → T) → T → ℕ → List Event → List Event → T

@@ -1,6 +1,6 @@
 -- What is known of a world: its open streams, its log, and its first failure; and how calls change it.
 use Rattle.std.specs.Prelude.{◌≡◌, ◌≤◌, ℕ, Bool, true, false, List, Option, ◌==◌, if◌then◌else◌}
-use Rattle.awk_streams.specs.definitions.Log.{Event, logged, failure_after}
+use Rattle.awk_world.specs.definitions.Log.{Event, logged, failure_after}
 
 pub record WorldState : Type 0 where
   pub is_open : ℕ → Bool

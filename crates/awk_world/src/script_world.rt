@@ -1,10 +1,10 @@
 // A world in memory that follows a list of answers and stores its log.
 ghost use Rattle.std.specs.Prelude.{◌≡◌, ◌≤◌, ◌<◌, ◌+◌, ◌∷◌, ◌++◌, [], vec_len, vec_capacity, OnOk, OnErr, Some, None, IsTrue, IfOk, IfSome, Err, length, slice_get, pos};
-ghost use Rattle.awk_streams.specs.definitions.WorldState.{IsFresh, Opens, Closes, SameOpen};
-ghost use Rattle.awk_streams.specs.definitions.Log.{Event, failure_after, logged, input_opening, reading};
-ghost use Rattle.awk_streams.specs.definitions.Writes.{received, received_after};
-ghost use Rattle.awk_streams.specs.definitions.Script.{event_of, events};
-ghost use Rattle.awk_streams.specs.support.ScriptStreams.{is_open_in, open_at, open_count, standard_outputs_open};
+ghost use Rattle.awk_world.specs.definitions.WorldState.{IsFresh, Opens, Closes, SameOpen};
+ghost use Rattle.awk_world.specs.definitions.Log.{Event, failure_after, logged, input_opening, reading};
+ghost use Rattle.awk_world.specs.definitions.Writes.{received, received_after};
+ghost use Rattle.awk_world.specs.definitions.Script.{event_of, events};
+ghost use Rattle.awk_world.specs.support.ScriptStreams.{is_open_in, open_at, open_count, standard_outputs_open};
 
 use crate::script_stream::{ScriptStream, add, advance, give, place_of, shut};
 use crate::world::{InputKind, Mode, OutputKind, World, WorldFault};

@@ -1,7 +1,7 @@
 -- What the log of a world has in order, whatever the outside answers.
 use Rattle.std.specs.Prelude.{◌≡◌, ◌≤◌, ℕ, Bool, true, false, List, [], ◌∷◌, Some, None, is_some}
-use Rattle.awk_streams.specs.definitions.Log.{Event, OpenedInput, OpenedOutput, Read, Ended, Broke, Closed}
-use Rattle.awk_streams.specs.definitions.Oracle.{Reading, reading_of, standing}
+use Rattle.awk_world.specs.definitions.Log.{Event, OpenedInput, OpenedOutput, Read, Ended, Broke, Closed}
+use Rattle.awk_world.specs.definitions.Oracle.{Reading, reading_of, standing}
 
 -- an input stands open under this number, and its ending was not met
 pub record IsReadable (id : ℕ) (log : List Event) : Type 0 where

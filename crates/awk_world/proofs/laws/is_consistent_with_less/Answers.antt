@@ -1,5 +1,5 @@
-use Rattle.awk_streams.proofs.ConsistencyLemmas.{consistent-older, consistent-before}
-use Rattle.awk_streams.proofs.laws.is_consistent_with_less.Goals as goal
+use Rattle.awk_world.proofs.ConsistencyLemmas.{consistent-older, consistent-before}
+use Rattle.awk_world.proofs.laws.is_consistent_with_less.Goals as goal
 
 pub returns-clause-front : goal.returns-clause-front
 returns-clause-front c = consistent-older

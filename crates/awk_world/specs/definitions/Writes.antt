@@ -1,6 +1,6 @@
 -- How a log goes on, and what an output has received.
 use Rattle.std.specs.Prelude.{◌≡◌, ℕ, Bool, List, [], ◌∷◌, ◌++◌, Some, ◌==◌, if◌then◌else◌}
-use Rattle.awk_streams.specs.definitions.Log.{Event, OpenedOutput, Wrote, Flushed}
+use Rattle.awk_world.specs.definitions.Log.{Event, OpenedOutput, Wrote, Flushed}
 
 -- the log after these events, the oldest of them first
 abbrev pub with_events : List Event → List Event → List Event

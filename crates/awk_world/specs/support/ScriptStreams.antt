@@ -2,7 +2,7 @@
 use Rattle.std.specs.Prelude.{◌≡◌, ℕ, Bool, true, false, ◌<◌, List, Option, Some, None, slice_get, sum_by, if◌then◌else◌, ◌-◌, nat_lt, ◌||◌}
 use Rattle.std.proofs.Common.{ap}
 use Rattle.std.proofs.lemmas.Bool.{lt-ltb}
-use Rattle.awk_streams.specs.declared.script_stream.ScriptStream.{ScriptStream}
+use Rattle.awk_world.specs.declared.script_stream.ScriptStream.{ScriptStream}
 
 abbrev pub open_at : Option ScriptStream → Bool
 open_at (Some s) = s.open

@@ -1,11 +1,11 @@
 -- The log of a world, and what each call adds to it.
 -- (POSIX awk, INPUT FILES, STDOUT, OUTPUT FILES; Input/Output and General Functions: getline, close, system)
 use Rattle.std.specs.Prelude.{ℕ, ℤ, List, [], ◌∷◌, length, take, Option, Some, None, Result, Ok, Err, ◌==◌, if◌then◌else◌}
-use Rattle.awk_streams.specs.declared.world.InputKind.{InputKind}
-use Rattle.awk_streams.specs.declared.world.OutputKind.{OutputKind}
-use Rattle.awk_streams.specs.declared.world.Mode.{Mode}
-use Rattle.awk_streams.specs.declared.world.WorldFault.{WorldFault}
-use Rattle.awk_streams.specs.declared.world.WorldFault.TheVariants.{Memory, Failed}
+use Rattle.awk_world.specs.declared.world.InputKind.{InputKind}
+use Rattle.awk_world.specs.declared.world.OutputKind.{OutputKind}
+use Rattle.awk_world.specs.declared.world.Mode.{Mode}
+use Rattle.awk_world.specs.declared.world.WorldFault.{WorldFault}
+use Rattle.awk_world.specs.declared.world.WorldFault.TheVariants.{Memory, Failed}
 
 pub data Event : Type 0 where
   -- an opening, and the number of the stream; no number: refused

@@ -1,10 +1,10 @@
 // The calls by which a run reaches the outside, and what they leave in the log.
 ghost use Rattle.std.specs.Prelude.{◌≡◌, ◌≤◌, ◌<◌, ℕ, true, [], Some, IfOk, OnErr, length, IsTrue};
-ghost use Rattle.awk_streams.specs.declared.world.InputKind.TheVariants.{Standard};
-ghost use Rattle.awk_streams.specs.declared.world.OutputKind.TheVariants.{Command as OutputCommand};
-ghost use Rattle.awk_streams.specs.declared.world.Mode.TheVariants.{Truncate};
-ghost use Rattle.awk_streams.specs.definitions.Log.{input_opening, output_opening, reading, writing, flushing, Closed, running};
-ghost use Rattle.awk_streams.specs.definitions.WorldState.{WorldState, Logs, IsFresh, Opens, Closes, SameOpen};
+ghost use Rattle.awk_world.specs.declared.world.InputKind.TheVariants.{Standard};
+ghost use Rattle.awk_world.specs.declared.world.OutputKind.TheVariants.{Command as OutputCommand};
+ghost use Rattle.awk_world.specs.declared.world.Mode.TheVariants.{Truncate};
+ghost use Rattle.awk_world.specs.definitions.Log.{input_opening, output_opening, reading, writing, flushing, Closed, running};
+ghost use Rattle.awk_world.specs.definitions.WorldState.{WorldState, Logs, IsFresh, Opens, Closes, SameOpen};
 
 /// What an input reads: standard input, the file of a name, or what a command writes.
 #[derive(Clone, Copy, Debug, PartialEq, Eq)]

@@ -1,9 +1,9 @@
 // What holds of oracles and logs, whatever the world.
 ghost use Rattle.std.specs.Prelude.{List, ℕ, Bool, [], ◌++◌};
-ghost use Rattle.awk_streams.specs.definitions.Log.{Event};
-ghost use Rattle.awk_streams.specs.definitions.Oracle.{Oracle, IsConsistent};
-ghost use Rattle.awk_streams.specs.definitions.Orderly.{IsOrderly, IsInOrder};
-ghost use Rattle.awk_streams.specs.definitions.Writes.{with_events};
+ghost use Rattle.awk_world.specs.definitions.Log.{Event};
+ghost use Rattle.awk_world.specs.definitions.Oracle.{Oracle, IsConsistent};
+ghost use Rattle.awk_world.specs.definitions.Orderly.{IsOrderly, IsInOrder};
+ghost use Rattle.awk_world.specs.definitions.Writes.{with_events};
 
 /// With a log in order some oracle is consistent; the empty log of any world is in order.
 pub fn some_oracle_is_consistent()

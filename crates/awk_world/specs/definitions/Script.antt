@@ -1,9 +1,9 @@
 -- What the stored log of a world in memory says.
 use Rattle.std.specs.Prelude.{List, map, reverse}
-use Rattle.awk_streams.specs.declared.script_world.Entry.{Entry}
-use Rattle.awk_streams.specs.declared.script_world.Entry.TheVariants.{OpenedInput, OpenedOutput, Read, Ended, Broke, Wrote, Flushed, Closed, Ran}
-use Rattle.awk_streams.specs.definitions.Log as log
-use Rattle.awk_streams.specs.definitions.Log.{Event}
+use Rattle.awk_world.specs.declared.script_world.Entry.{Entry}
+use Rattle.awk_world.specs.declared.script_world.Entry.TheVariants.{OpenedInput, OpenedOutput, Read, Ended, Broke, Wrote, Flushed, Closed, Ran}
+use Rattle.awk_world.specs.definitions.Log as log
+use Rattle.awk_world.specs.definitions.Log.{Event}
 
 abbrev pub event_of : Entry → Event
 event_of (OpenedInput kind name id) = log.OpenedInput kind name.items id

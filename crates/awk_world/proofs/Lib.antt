@@ -1,0 +1,3 @@
+pub mod ConsistencyLemmas
+pub mod Exist
+pub mod ScriptLemmas

@@ -1,0 +1,7 @@
+-- What a reader has to believe.
+pub mod Log
+pub mod WorldState
+pub mod Oracle
+pub mod Orderly
+pub mod Writes
+pub mod Script

@@ -1,0 +1,11 @@
+//! The outside of a run: what is known of any world, what an oracle of it would answer, and a world in memory.
+#![tactic(auto)]
+
+mod laws;
+mod script_stream;
+mod script_world;
+mod world;
+
+pub use laws::{is_consistent_with_less, some_oracle_is_consistent};
+pub use script_world::{Answer, Entry, ScriptWorld};
+pub use world::{InputKind, Mode, OutputKind, World, WorldFault};
