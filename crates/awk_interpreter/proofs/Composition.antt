@@ -1,25 +1,74 @@
 -- How what the parts of the code do is put together.
-use Rattle.std.proofs.Common.{◌≡◌, ℕ, ◌≤◌, List, [], ◌++◌, Option, Result, Ok, Err, refl, sym, ap, ◌∙◌, subst, append_assoc, append-nil, arith}
-use Rattle.awk_streams.specs.Log as log
+use Rattle.std.proofs.Common.{◌≡◌, inl, ℕ, ◌≤◌, List, [], ◌∷◌, ◌++◌, length, Option, Some, None, Result, Ok, Err, refl, sym, ap, ◌∙◌, subst, append_assoc, append-nil, arith}
+use Rattle.awk_streams.specs.Log.{Event}
+use Rattle.awk_streams.specs.Writes.{with_events}
+use Rattle.awk_streams.specs.Openings.{outputs_of}
 use Rattle.awk_streams.specs.Oracle.{Oracle}
 use Rattle.awk_streams.specs.Streams.{StreamsView, AreOpen, AreSound, IsSoundMain, Grows, IsMainRest}
 use Rattle.awk_interpreter.specs.declared.interpreter.Interpreter.{Interpreter}
 use Rattle.awk_meaning.specs.declared.halt.Halt.{Halt}
 use Rattle.awk_meaning.specs.declared.halt.Halt.TheVariants as halt
 use Rattle.awk_meaning.specs.declared.fault.Fault.TheVariants.{OutOfMemory}
-use Rattle.awk_meaning.specs.Meaning.{printed_to}
+use Rattle.awk_meaning.specs.Meaning.{requests_after}
+use Rattle.awk_meaning.specs.Order.{MeetsAll, first_stage}
 use Rattle.awk_world.specs.declared.world.InputKind.{InputKind}
 use Rattle.awk_meaning.specs.State.{Effect, State, Out, Run, go_on, ◌>>=◌, lift}
 use Rattle.awk_variables.specs.Variables.{value_of}
 use Rattle.awk_streams.specs.WorldState.{WorldState}
-use Rattle.awk_interpreter.specs.support.Simulation.{OwnRelation, StateRelation, ResultRelationBy, ResultRelation, SimulatesLogged, Simulates, Changes, Beside, SameState}
+use Rattle.awk_interpreter.specs.support.Simulation.{OwnRelation, stage_of, standard_openings, StateRelation, FailureRelation, ResultRelationBy, ResultRelation, SimulatesLogged, Simulates, Changes, Beside, SameState}
 use Rattle.awk_meaning.specs.Results.{Sort, WantOfMemory, FailedWrite, OfLanguage, sort_of, YieldsBy, Yields}
+use Rattle.awk_interpreter.proofs.OrderLemmas.{begins_still, begins_same, begins-longer}
+
+none_some : {P : Type 0} (n : ℕ) → None ≡ Some n → P
+none_some n e = absurd cc
+
+same_some : (m n : ℕ) → Some m ≡ Some n → m ≡ n
+same_some m n e = cc
 
 pub grows_refl : (k : WorldState) → Grows k k
-grows_refl k = record { consistent = λ a h. h; clear = λ e. e }
+grows_refl k = record {
+  events = [];
+  log = refl;
+  consistent = λ a h. h;
+  kept = λ n e. e;
+  met = λ none n some. none_some n (sym none ∙ some);
+}
+
+with_events-append : (xs ys log : List Event) → with_events (xs ++ ys) log ≡ with_events ys (with_events xs log)
+with_events-append [] ys log = refl
+with_events-append (x ∷ xs) ys log = with_events-append xs ys (x ∷ log)
+
+with_events-longer : (es log : List Event) → length log ≤ length (with_events es log)
+with_events-longer [] log = omega arith
+with_events-longer (e ∷ es) log = omega (arith, with_events-longer es (e ∷ log))
+
+met_then : (a b c : WorldState) (o : Option ℕ) → b.first_failure ≡ o → Grows a b → Grows b c → a.first_failure ≡ None → (n : ℕ) → c.first_failure ≡ Some n → (length a.log ≤ n) × (n ≤ length c.log)
+met_then a b c None is x y none n some =
+    let long : length b.log ≡ length (with_events x.events a.log) = ap length x.log in
+    let between = y.met is n some in
+    (omega (arith, long, with_events-longer x.events a.log, between.0), between.1)
+met_then a b c (Some m) is x y none n some =
+    let between = x.met none m is in
+    let at : m ≡ n = same_some m n (sym (y.kept m is) ∙ some) in
+    let long : length c.log ≡ length (with_events y.events b.log) = ap length y.log in
+    (omega (arith, at, between.0), omega (arith, at, between.1, long, with_events-longer y.events b.log))
 
 pub grows_trans : {a b c : WorldState} → Grows a b → Grows b c → Grows a c
-grows_trans x y = record { consistent = λ a h. x.consistent a (y.consistent a h); clear = λ e. x.clear (y.clear e) }
+grows_trans {a = a} {b = b} {c = c} x y = record {
+  events = x.events ++ y.events;
+  log = y.log ∙ (ap (with_events y.events) x.log ∙ sym (with_events-append x.events y.events a.log));
+  consistent = λ oracle h. x.consistent oracle (y.consistent oracle h);
+  kept = λ n e. y.kept n (x.kept n e);
+  met = met_then a b c b.first_failure refl x y;
+}
+
+-- what a failure left still begins with what is printed, and with more
+failure_longer : {failure : Type 0} {k : WorldState} (past xs ys : List Effect) → FailureRelation failure k (past ++ xs) → FailureRelation failure k (past ++ (xs ++ ys))
+failure_longer {k = k} past xs ys h = record { begins = begins-longer (outputs_of k.log) past xs ys h.begins; failure = h.failure }
+
+-- want of memory where all is as the meaning has it
+unfailed : {failure : Type 0} (oracle : Oracle) (m : Interpreter) (k : WorldState) (s : State) (past more : List Effect) → StateRelation oracle m k s past → ((k.first_failure ≡ None) → failure) → FailureRelation failure k (past ++ more)
+unfailed oracle m k s past more stands failure = record { begins = begins_still k.log past more stands.outputs; failure = failure stands.clear }
 
 -- what lies outside the code's own part is the same
 pub record OwnPart (s t : State) : Type 0 where
@@ -29,8 +78,8 @@ pub record OwnPart (s t : State) : Type 0 where
 
 -- effects that came before
 shift_by : {A : Type 0} (oracle : Oracle) (m : Interpreter) (k : WorldState) (h : Sort) (o : Out A) (past first : List Effect) → ResultRelationBy oracle m k h o (past ++ first) → ResultRelationBy oracle m k h (record { result = o.result; state = o.state; effects = first ++ o.effects }) past
-shift_by oracle m k WantOfMemory o past first c = tt
-shift_by oracle m k FailedWrite o past first c = c
+shift_by oracle m k WantOfMemory o past first c = rw (← append_assoc past first o.effects) c
+shift_by oracle m k FailedWrite o past first c = rw (← append_assoc past first o.effects) c
 shift_by oracle m k (OfLanguage reason) o past first c = rw (← append_assoc past first o.effects) c
 
 shift : {A : Type 0} (oracle : Oracle) (m : Interpreter) (k : WorldState) (r : Result A Halt) (o : Out A) (past first : List Effect) → ResultRelation oracle m k r o (past ++ first) → ResultRelation oracle m k r (record { result = o.result; state = o.state; effects = first ++ o.effects }) past
@@ -43,8 +92,10 @@ bound_ok oracle m k r past f a o t effects e c = rw e (shift oracle m k r (f a t
 
 err_on : {A B : Type 0} (oracle : Oracle) (m : Interpreter) (k : WorldState) (h : Sort) (past : List Effect) (f : A → Run B) (o : Result A Halt) (t : State) (effects : List Effect) → ResultRelationBy oracle m k h (record { result = o; state = t; effects = effects }) past → ResultRelationBy oracle m k h (go_on o t effects f) past
 unfolding go_on
-err_on oracle m k WantOfMemory past f o t effects c = tt
-err_on oracle m k FailedWrite past f o t effects c = c
+err_on oracle m k WantOfMemory past f (Ok a) t effects c = failure_longer past effects (f a t).effects c
+err_on oracle m k WantOfMemory past f (Err e) t effects c = c
+err_on oracle m k FailedWrite past f (Ok a) t effects c = failure_longer past effects (f a t).effects c
+err_on oracle m k FailedWrite past f (Err e) t effects c = c
 err_on oracle m k (OfLanguage reason) past f (Ok a) t effects c = let e : Ok a ≡ Err reason = c.0 in absurd (cc)
 err_on oracle m k (OfLanguage reason) past f (Err e) t effects c = let q : Err e ≡ Err reason = c.0 in ((cc), c.1)
 
@@ -78,14 +129,14 @@ memory_logged m k run = record {
   grows = grows_refl k;
   keeps = λ sound. sound;
   keeps_main = λ sound. sound;
-  means = λ oracle s past consistent stands. tt;
+  means = λ oracle s past consistent stands. unfailed oracle m k s past (run s).effects stands (λ none. inl none);
 }
 
 stands_still : {oracle : Oracle} {m : Interpreter} {k : WorldState} {s : State} {past : List Effect} → StateRelation oracle m k s past → StateRelation oracle m k s (past ++ [])
 stands_still {oracle = oracle} {m = m} {k = k} {s = s} {past = past} h = subst (λ (l : List Effect). StateRelation oracle m k s l) (sym (append-nil past)) h
 
 lifted_by : {A : Type 0} (oracle : Oracle) (m : Interpreter) (k : WorldState) (h : Sort) (r : Result A Halt) (s : State) (past : List Effect) → YieldsBy h r → StateRelation oracle m k s past → ResultRelationBy oracle m k h (record { result = r; state = s; effects = [] }) past
-lifted_by oracle m k WantOfMemory r s past e stands = tt
+lifted_by oracle m k WantOfMemory r s past e stands = unfailed oracle m k s past [] stands (λ none. inl none)
 lifted_by oracle m k FailedWrite r s past e stands = absurd e
 lifted_by oracle m k (OfLanguage reason) r s past e stands = (e, stands_still stands)
 
@@ -151,7 +202,7 @@ pub memory_changes : {A : Type 0} (run : Run A) {old new : Interpreter} → new.
 memory_changes run same low = record {
   steps = low;
   streams = same;
-  means = λ k. record { grows = grows_refl k; keeps = sound_same k _ _ same; keeps_main = main_same k _ _ same; means = λ oracle s past consistent stands. tt };
+  means = λ k. record { grows = grows_refl k; keeps = sound_same k _ _ same; keeps_main = main_same k _ _ same; means = λ oracle s past consistent stands. unfailed oracle _ k s past (run s).effects stands (λ none. inl none) };
 }
 
 -- a state that differs in the code's own part alone stands after the same effects
@@ -159,15 +210,16 @@ stands_own : {oracle : Oracle} {old new : Interpreter} {k : WorldState} {s t : S
 stands_own {oracle = oracle} {old = old} {k = k} {s = s} {t = t} {past = past} same own holds stands = record {
   clear = stands.clear;
   outside = own.outside ∙ stands.outside;
-  openings = λ kind name. ap (λ (f : InputKind → List ℕ → ℕ). f kind name) own.openings ∙ stands.openings kind name;
+  inputs = λ kind name. ap (λ (f : InputKind → List ℕ → ℕ). f kind name) own.openings ∙ stands.inputs kind name;
   main = subst (λ x. IsMainRest oracle k.log x.main t.main) (sym same) (subst (λ rest. IsMainRest oracle k.log old.streams.main rest) (sym own.main) stands.main);
   holds = holds;
-  output = stands.output ∙ ap (printed_to _) (sym (append-nil past));
-  error = stands.error ∙ ap (printed_to _) (sym (append-nil past));
+  outputs = stands.outputs ∙ ap standard_openings (sym (append-nil past));
+  turn = subst (λ x. MeetsAll oracle (requests_after [] (past ++ [])) first_stage (stage_of k.log x.main)) (sym same)
+      (subst (λ (l : List Effect). MeetsAll oracle (requests_after [] l) first_stage (stage_of k.log old.streams.main)) (sym (append-nil past)) stands.turn);
 }
 
 own_by : {A : Type 0} (oracle : Oracle) (m : Interpreter) (k : WorldState) (h : Sort) (r : Result A Halt) (t : State) (past : List Effect) → YieldsBy h r → StateRelation oracle m k t (past ++ []) → ResultRelationBy oracle m k h (record { result = r; state = t; effects = [] }) past
-own_by oracle m k WantOfMemory r t past e stands = tt
+own_by oracle m k WantOfMemory r t past e stands = record { begins = begins_same k.log (past ++ []) stands.outputs; failure = inl stands.clear }
 own_by oracle m k FailedWrite r t past e stands = absurd e
 own_by oracle m k (OfLanguage reason) r t past e stands = (e, stands)
 

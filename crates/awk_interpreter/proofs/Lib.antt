@@ -1,3 +1,4 @@
+pub mod OrderLemmas
 pub mod Changes
 pub mod Composition
 pub mod WorldCalls

@@ -1,6 +1,6 @@
 -- What the calls of the streams do to the state of a run.
 use Rattle.std.proofs.lemmas.Bool.Decides.{nat_tests}
-use Rattle.std.proofs.Common.{length, ◌==◌, ◌≡◌, ◌≢◌, ℕ, ◌+◌, true, false, ◌&&◌, List, [], ◌∷◌, ◌++◌, Option, Some, None, is_some, Result, Ok, Err, IfErr, ◌⊎◌, inl, inr, refl, sym, ap, ◌∙◌, subst, append-nil, arith}
+use Rattle.std.proofs.Common.{length, ◌==◌, ◌≡◌, ◌≢◌, ℕ, ℤ, ◌+◌, true, false, ◌&&◌, List, [], ◌∷◌, ◌++◌, Option, Some, None, is_some, Result, Ok, Err, IfErr, ◌⊎◌, inl, inr, refl, sym, ap, ◌∙◌, subst, append-nil, arith}
 use Rattle.std.specs.Prelude.{bytes_eq}
 use Rattle.awk_value.specs.declared.value.Value.{Value}
 use Rattle.awk_value.specs.Values.{str_of}
@@ -10,23 +10,23 @@ use Rattle.awk_streams.specs.declared.fault.StreamFault.{StreamFault}
 use Rattle.awk_streams.specs.declared.fault.StreamFault.TheVariants.{Memory, WriteFailed, InputNotReadable, SeparatorTooLong, RecordTooLong}
 use Rattle.awk_streams.specs.Log as log
 use Rattle.awk_streams.specs.Oracle.{Oracle, Source, IsConsistent, one_if, same_input, how_many, opens_input}
-use Rattle.awk_streams.specs.Writes.{received}
+use Rattle.awk_streams.specs.Openings.{StandardOutput, receives, openings}
 use Rattle.awk_streams.specs.Inputs.{NextTold}
-use Rattle.awk_streams.specs.Streams.{InputView, AreOpen, IsMainRest, IsFreshMain, OpensMain, AsksMain, EndsMain, Prints}
+use Rattle.awk_streams.specs.Streams.{InputView, StreamsView, AreOpen, IsMainRest, IsSameMain, IsFreshMain, main_opening, OpensMain, ReadsMain, ReadsOpen, AsksMain, closed_main, EndsMain, Prints}
 use Rattle.awk_streams.specs.Outputs.{IsOutputFault}
 use Rattle.awk_interpreter.specs.declared.interpreter.Interpreter.{Interpreter}
 use Rattle.awk_meaning.specs.declared.halt.Halt.TheVariants as halt
 use Rattle.awk_meaning.specs.declared.fault.Fault.TheVariants as faults
-use Rattle.awk_meaning.specs.State.{StandardOutput, StandardError, AnOpening, ARecord, Effect, Printed, Requested, State, Out, lift}
+use Rattle.awk_meaning.specs.State.{AnOpening, ARecord, Effect, Printed, Requested, State, Out, lift}
 use Rattle.awk_variables.specs.declared.special.Special.TheVariants.{Ofs, Ors, Rs}
 use Rattle.awk_variables.specs.Variables.{value_of, name_of}
 use Rattle.awk_meaning.specs.Operators.{line_of}
 use Rattle.awk_meaning.specs.Primitives.{print_bytes, print_line, counted, opened, open_main, with_rest, taken, taken_of, take_record, close_main}
-use Rattle.awk_meaning.specs.Meaning.{printed_to}
+use Rattle.awk_meaning.specs.Order.{AreBetween, GoesBetween, ReadsMainAsRequested, Meets, first_stage}
 use Rattle.awk_streams.specs.WorldState.{WorldState}
-use Rattle.awk_interpreter.specs.support.Simulation.{OwnRelation, StateRelation, ResultRelation, SimulatesLogged, Simulates, Follows, ClosesMainInput, Beside, halted}
+use Rattle.awk_interpreter.specs.support.Simulation.{OwnRelation, number_of, stage_of, standard_openings, StateRelation, FailureRelation, FailedLast, ResultRelation, SimulatesLogged, Simulates, Follows, ClosesMainInput, Beside, halted}
 use Rattle.awk_interpreter.proofs.Composition.{beside_holds, grows_refl}
-use Rattle.awk_meaning.proofs.LawOfLimits.{printed_to-append}
+use Rattle.awk_interpreter.proofs.OrderLemmas.{turn_between, turn_requested, writes_between, main_as_requested, standard_requested, standard_printed, begins_still, begins_partly}
 
 -- a state whose main input alone is another stands for the same
 at_main : (m : Interpreter) (s : State) (openings : InputKind → List ℕ → ℕ) (main : Option Source) → OwnRelation m s → OwnRelation m (record s { openings = openings; main = main })
@@ -38,17 +38,25 @@ at_main m s openings main h = record { current = h.current; variables = h.variab
 abbrev pub interpreter_line : Interpreter → List Value → List ℕ
 interpreter_line m vs = line_of (str_of (value_of m.variables (name_of Ofs))) (str_of (value_of m.variables (name_of Ors))) vs
 
+-- what is written to an output meets no request
+writes_go : (bytes : List ℕ) (before after : WorldState) (old new : StreamsView) (r : Result (Unit {0}) StreamFault) → Prints bytes before old r after new → GoesBetween (stage_of before.log old.main) (stage_of after.log new.main)
+writes_go bytes before after old new r told = record {
+  events = told.only.1.events;
+  log = told.only.1.log;
+  between = subst (λ (v : StreamsView). AreBetween (number_of old.main) told.only.1.events (number_of v.main)) (sym told.same) (writes_between 0 (number_of old.main) told.only.0 told.only.1.events told.only.1.each);
+}
+
 shown : (oracle : Oracle) (old new : Interpreter) (before after : WorldState) (s : State) (past : List Effect) (bytes : List ℕ) → Beside old new
     → Prints bytes before old.streams (Ok tt) after new.streams
     → StateRelation oracle old before s past → StateRelation oracle new after s (past ++ Printed StandardOutput bytes ∷ [])
 shown oracle old new before after s past bytes beside told stands = record {
   clear = told.no_failure ∙ stands.clear;
   outside = stands.outside;
-  openings = λ kind name. stands.openings kind name ∙ sym (told.counts.inputs kind name);
+  inputs = λ kind name. stands.inputs kind name ∙ sym (told.counts.inputs kind name);
   main = told.rest oracle s.main stands.main;
   holds = beside_holds beside stands.holds;
-  output = told.printed ∙ ap (λ l. l ++ bytes) stands.output ∙ ap (λ l. printed_to StandardOutput past ++ l) (sym (append-nil bytes)) ∙ sym (printed_to-append StandardOutput past (Printed StandardOutput bytes ∷ []));
-  error = told.others 1 (λ (e : 1 ≡ 0). absurd (omega (arith, e))) ∙ stands.error ∙ sym (append-nil (printed_to StandardError past)) ∙ sym (printed_to-append StandardError past (Printed StandardOutput bytes ∷ []));
+  outputs = told.printed ∙ (ap (receives 0 bytes) stands.outputs ∙ standard_printed past bytes);
+  turn = turn_between oracle past (Printed StandardOutput bytes ∷ []) first_stage (stage_of before.log old.streams.main) (stage_of after.log new.streams.main) refl stands.turn (writes_go bytes before after old.streams new.streams (Ok tt) told);
 }
 
 -- the line is that of the code's variables
@@ -62,6 +70,16 @@ print_comes : (vs : List Value) {old new : Interpreter} {before after : WorldSta
 unfolding print_bytes
 print_comes vs {old = old} {new = new} {before = before} {after = after} beside told oracle s past stands = (refl, shown oracle old new before after s past (interpreter_line old vs) beside told stands)
 
+-- a print that a failure broke off
+print_fails : {failure : Type 0} (vs : List Value) {old : Interpreter} {before after : WorldState} {last : StreamsView} → (FailedLast after → failure) → (fault : StreamFault)
+    → Prints (interpreter_line old vs) before old.streams (Err fault) after last
+    → (oracle : Oracle) (s : State) (past : List Effect) → StateRelation oracle old before s past → FailureRelation failure after (past ++ (print_bytes (interpreter_line old vs) s).effects)
+unfolding print_bytes
+print_fails vs {old = old} {before = before} {after = after} failed fault told oracle s past stands = record {
+  begins = begins_partly told.partly.0 (interpreter_line old vs) past before.log after.log stands.outputs told.partly.2;
+  failure = failed (told.failure stands.clear);
+}
+
 print_logged : (r : Result (Unit {0}) StreamFault) (vs : List Value) {old new : Interpreter} {before after : WorldState} → Beside old new
     → Prints (interpreter_line old vs) before old.streams r after new.streams
     → IfErr r IsOutputFault → SimulatesLogged old before new after (halted r) (print_line vs)
@@ -71,8 +89,22 @@ print_logged (Ok tt) vs {old = old} {new = new} {before = before} {after = after
   keeps_main = told.main;
   means = λ oracle s past consistent stands. subst (λ (o : Out (Unit {0})). ResultRelation oracle new after (Ok tt) o past) (sym (shown_values vs old s stands.holds)) (print_comes vs beside told oracle s past stands);
 }
-print_logged (Err Memory) vs beside told fault = record { grows = told.grows; keeps = told.sound; keeps_main = told.main; means = λ oracle s past consistent stands. tt }
-print_logged (Err WriteFailed) vs beside told fault = record { grows = told.grows; keeps = told.sound; keeps_main = told.main; means = λ oracle s past consistent stands. told.failure }
+print_logged (Err Memory) vs {old = old} {new = new} {before = before} {after = after} beside told fault = record {
+  grows = told.grows;
+  keeps = told.sound;
+  keeps_main = told.main;
+  means = λ oracle s past consistent stands.
+      subst (λ (o : Out (Unit {0})). ResultRelation oracle new after (Err (halt.Fault faults.OutOfMemory)) o past) (sym (shown_values vs old s stands.holds))
+      (print_fails vs (λ last. inr last) Memory told oracle s past stands);
+}
+print_logged (Err WriteFailed) vs {old = old} {new = new} {before = before} {after = after} beside told fault = record {
+  grows = told.grows;
+  keeps = told.sound;
+  keeps_main = told.main;
+  means = λ oracle s past consistent stands.
+      subst (λ (o : Out (Unit {0})). ResultRelation oracle new after (Err (halt.Fault faults.WriteFailed)) o past) (sym (shown_values vs old s stands.holds))
+      (print_fails vs (λ last. last) WriteFailed told oracle s past stands);
+}
 print_logged (Err InputNotReadable) vs beside told fault = absurd (elim fault [ inl e ↦ (cc) | inr e ↦ (cc) ])
 print_logged (Err SeparatorTooLong) vs beside told fault = absurd (elim fault [ inl e ↦ (cc) | inr e ↦ (cc) ])
 print_logged (Err RecordTooLong) vs beside told fault = absurd (elim fault [ inl e ↦ (cc) | inr e ↦ (cc) ])
@@ -101,20 +133,33 @@ no_rest : (a : Oracle) (l : List log.Event) (rest : Option Source) → IsMainRes
 no_rest a l None stands = refl
 no_rest a l (Some source) stands = absurd stands
 
+-- an opening that the streams tell is the one that is requested
+opening_meets : (oracle : Oracle) (kind : InputKind) (path : List ℕ) (before after : WorldState) (old new : StreamsView) (r : Result (Unit {0}) StreamFault) (id : Option ℕ) → old.main ≡ None → number_of new.main ≡ id
+    → after.log ≡ log.OpenedInput kind path id ∷ before.log → Meets oracle (AnOpening kind path) (stage_of before.log old.main) (stage_of after.log new.main)
+opening_meets oracle kind path before after old new r id none number is =
+    (ap number_of none, (id, ap (λ (l : List log.Event). record { log = l; main = number_of new.main }) is ∙ ap (λ (main : Option ℕ). record { log = log.OpenedInput kind path id ∷ before.log; main = main }) number))
+
 opens_stands : (oracle : Oracle) (old new : Interpreter) (before after : WorldState) (s : State) (kind : InputKind) (path : List ℕ) (rest : Option Source) (past : List Effect) → Beside old new
     → (after.first_failure ≡ before.first_failure) → ((k : InputKind) (n : List ℕ) → how_many (opens_input k n) after.log ≡ one_if (same_input k kind && bytes_eq n path) + how_many (opens_input k n) before.log)
-    → ((j : ℕ) → received j after.log ≡ received j before.log)
+    → openings after.log ≡ openings before.log
     → IsMainRest oracle after.log new.streams.main rest
+    → Meets oracle (AnOpening kind path) (stage_of before.log old.streams.main) (stage_of after.log new.streams.main)
     → StateRelation oracle old before s past → StateRelation oracle new after (record (counted kind path s) { main = rest }) (past ++ Requested (AnOpening kind path) ∷ [])
-opens_stands oracle old new before after s kind path rest past beside first_failure counts outputs main stands = record {
+opens_stands oracle old new before after s kind path rest past beside first_failure counts outputs main meets stands = record {
   clear = first_failure ∙ stands.clear;
   outside = stands.outside;
-  openings = λ k name. ap (λ n. one_if (same_input k kind && bytes_eq name path) + n) (stands.openings k name) ∙ sym (counts k name);
+  inputs = λ k name. ap (λ n. one_if (same_input k kind && bytes_eq name path) + n) (stands.inputs k name) ∙ sym (counts k name);
   main = main;
   holds = at_main new s _ rest (beside_holds beside stands.holds);
-  output = outputs 0 ∙ stands.output ∙ sym (append-nil (printed_to StandardOutput past)) ∙ sym (printed_to-append StandardOutput past (Requested (AnOpening kind path) ∷ []));
-  error = outputs 1 ∙ stands.error ∙ sym (append-nil (printed_to StandardError past)) ∙ sym (printed_to-append StandardError past (Requested (AnOpening kind path) ∷ []));
+  outputs = outputs ∙ (stands.outputs ∙ standard_requested past (AnOpening kind path));
+  turn = turn_requested oracle past (AnOpening kind path) first_stage (stage_of before.log old.streams.main) (stage_of after.log new.streams.main) stands.turn meets;
 }
+
+-- a granted opening tells its number
+granted_number : (kind : InputKind) (path : List ℕ) (a : Oracle) (l l' : List log.Event) (main : Option InputView) (source : Source) → IsMainRest a l' main (Some source) → l' ≡ log.logged (main_opening kind path (Ok tt) main) l
+    → (id : Option ℕ) × (number_of main ≡ id) × (l' ≡ log.OpenedInput kind path id ∷ l)
+granted_number kind path a l l' None source rest is = absurd rest
+granted_number kind path a l l' (Some v) source rest is = (Some v.id, refl, is)
 
 -- what the model opens, by what the outside answers
 opens_as : (kind : InputKind) (path : List ℕ) (s : State) (oracle : Oracle) (l : List log.Event) (given : Option Source) → s.outside ≡ oracle → s.openings kind path ≡ how_many (opens_input kind path) l
@@ -133,8 +178,10 @@ opens_logged kind path (Ok tt) {old = old} {new = new} {before = before} {after 
   keeps_main = told.main;
   means = λ oracle s past consistent stands.
       let given = told.granted oracle consistent in
-      subst (λ (o : Out (Unit {0})). ResultRelation oracle new after (Ok tt) o past) (sym (opens_as kind path s oracle before.log (Some given.0) stands.outside (stands.openings kind path) given.1))
-      (refl, opens_stands oracle old new before after s kind path (Some given.0) past beside (told.no_failure (λ (e : Ok tt ≡ Err Memory). absurd (cc))) (told.counts (λ (e : Ok tt ≡ Err Memory). absurd (cc))).inputs told.outputs given.2 stands);
+      let number = granted_number kind path oracle before.log after.log new.streams.main given.0 given.2 told.adds in
+      let meets = opening_meets oracle kind path before after old.streams new.streams (Ok tt) number.0 none number.1 number.2 in
+      subst (λ (o : Out (Unit {0})). ResultRelation oracle new after (Ok tt) o past) (sym (opens_as kind path s oracle before.log (Some given.0) stands.outside (stands.inputs kind path) given.1))
+      (refl, opens_stands oracle old new before after s kind path (Some given.0) past beside (told.no_failure (λ (e : Ok tt ≡ Err Memory). absurd (cc))) (told.counts (λ (e : Ok tt ≡ Err Memory). absurd (cc))).inputs told.outputs given.2 meets stands);
 }
 opens_logged kind path (Err InputNotReadable) {old = old} {new = new} {before = before} {after = after} beside none same told fault = record {
   grows = told.grows;
@@ -144,11 +191,20 @@ opens_logged kind path (Err InputNotReadable) {old = old} {new = new} {before = 
       let no_main = no_rest oracle before.log s.main (subst (λ m. IsMainRest oracle before.log m s.main) none stands.main) in
       let still : new.streams.main ≡ None = ap (λ v. v.main) (same refl) ∙ none in
       let closed : IsMainRest oracle after.log new.streams.main None = subst (λ m. IsMainRest oracle after.log m None) (sym still) tt in
-      let unopened = opens_stands oracle old new before after s kind path None past beside (told.no_failure (λ (e : Err InputNotReadable ≡ Err Memory). absurd (cc))) (told.counts (λ (e : Err InputNotReadable ≡ Err Memory). absurd (cc))).inputs told.outputs closed stands in
-      subst (λ (o : Out (Unit {0})). ResultRelation oracle new after (Err (halt.Fault faults.InputNotReadable)) o past) (sym (opens_as kind path s oracle before.log None stands.outside (stands.openings kind path) (told.refused refl oracle consistent)))
+      let meets = opening_meets oracle kind path before after old.streams new.streams (Err InputNotReadable) None none (ap number_of still) told.adds in
+      let unopened = opens_stands oracle old new before after s kind path None past beside (told.no_failure (λ (e : Err InputNotReadable ≡ Err Memory). absurd (cc))) (told.counts (λ (e : Err InputNotReadable ≡ Err Memory). absurd (cc))).inputs told.outputs closed meets stands in
+      subst (λ (o : Out (Unit {0})). ResultRelation oracle new after (Err (halt.Fault faults.InputNotReadable)) o past) (sym (opens_as kind path s oracle before.log None stands.outside (stands.inputs kind path) (told.refused refl oracle consistent)))
       (refl, subst (λ rest. StateRelation oracle new after (record (counted kind path s) { main = rest }) (past ++ Requested (AnOpening kind path) ∷ [])) (sym no_main) unopened);
 }
-opens_logged kind path (Err Memory) beside none same told fault = record { grows = told.grows; keeps = told.sound; keeps_main = told.main; means = λ oracle s past consistent stands. tt }
+opens_logged kind path (Err Memory) {before = before} {after = after} beside none same told fault = record {
+  grows = told.grows;
+  keeps = told.sound;
+  keeps_main = told.main;
+  means = λ oracle s past consistent stands. record {
+    begins = begins_still after.log past (open_main kind path s).effects (told.outputs ∙ stands.outputs);
+    failure = inr (told.failure refl stands.clear);
+  };
+}
 opens_logged kind path (Err WriteFailed) beside none same told fault = absurd (elim fault [ inl e ↦ (cc) | inr e ↦ (cc) ])
 opens_logged kind path (Err SeparatorTooLong) beside none same told fault = absurd (elim fault [ inl e ↦ (cc) | inr e ↦ (cc) ])
 opens_logged kind path (Err RecordTooLong) beside none same told fault = absurd (elim fault [ inl e ↦ (cc) | inr e ↦ (cc) ])
@@ -166,40 +222,56 @@ opens_simulates kind path r beside none same stays told fault = record {
 
 -- asking for a record
 
-asked_stands : (oracle : Oracle) (old new : Interpreter) (before after : WorldState) (s : State) (whole : Source) (left : List ℕ) (past : List Effect) → Beside old new
+-- the main input keeps its number
+number_kept : (old new : Option InputView) → IsSameMain old new → number_of new ≡ number_of old
+number_kept None None same = refl
+number_kept (Some v) (Some w) same = ap (λ (id : ℕ). Some id) same
+number_kept None (Some w) same = absurd same
+number_kept (Some v) None same = absurd same
+
+asking_meets : (oracle : Oracle) (separator : List ℕ) (before after : WorldState) (main : Option InputView) (old new : StreamsView) (whole : Source) → main ≡ old.main → IsSameMain old.main new.main → IsMainRest oracle before.log main (Some whole)
+    → ReadsMain separator main before.log after.log → ReadsOpen main before.log after.log → Meets oracle (ARecord separator whole.bytes) (stage_of before.log old.main) (stage_of after.log new.main)
+asking_meets oracle separator before after None old new whole is same rest reads readable = absurd rest
+asking_meets oracle separator before after (Some v) old new whole is same rest reads readable = (
+  number_kept old.main new.main same,
+  subst (λ (o : Option InputView). ReadsMainAsRequested oracle separator whole.bytes (number_of o) before.log after.log) is (main_as_requested oracle separator before.log after.log v whole rest reads readable),
+)
+
+asked_stands : (oracle : Oracle) (old new : Interpreter) (before after : WorldState) (s : State) (separator : List ℕ) (whole : Source) (left : List ℕ) (past : List Effect) → Beside old new
     → (after.first_failure ≡ before.first_failure) → ((k : InputKind) (n : List ℕ) → how_many (opens_input k n) after.log ≡ how_many (opens_input k n) before.log)
-    → ((j : ℕ) → received j after.log ≡ received j before.log)
+    → openings after.log ≡ openings before.log
     → IsMainRest oracle after.log new.streams.main (Some (record { bytes = left; ending = whole.ending }))
-    → StateRelation oracle old before s past → StateRelation oracle new after (with_rest s left whole.ending) (past ++ Requested ARecord ∷ [])
-asked_stands oracle old new before after s whole left past beside first_failure counts outputs main stands = record {
+    → Meets oracle (ARecord separator whole.bytes) (stage_of before.log old.streams.main) (stage_of after.log new.streams.main)
+    → StateRelation oracle old before s past → StateRelation oracle new after (with_rest s left whole.ending) (past ++ Requested (ARecord separator whole.bytes) ∷ [])
+asked_stands oracle old new before after s separator whole left past beside first_failure counts outputs main meets stands = record {
   clear = first_failure ∙ stands.clear;
   outside = stands.outside;
-  openings = λ kind name. stands.openings kind name ∙ sym (counts kind name);
+  inputs = λ kind name. stands.inputs kind name ∙ sym (counts kind name);
   main = main;
   holds = at_main new s _ _ (beside_holds beside stands.holds);
-  output = outputs 0 ∙ stands.output ∙ sym (append-nil (printed_to StandardOutput past)) ∙ sym (printed_to-append StandardOutput past (Requested ARecord ∷ []));
-  error = outputs 1 ∙ stands.error ∙ sym (append-nil (printed_to StandardError past)) ∙ sym (printed_to-append StandardError past (Requested ARecord ∷ []));
+  outputs = outputs ∙ (stands.outputs ∙ standard_requested past (ARecord separator whole.bytes));
+  turn = turn_requested oracle past (ARecord separator whole.bytes) first_stage (stage_of before.log old.streams.main) (stage_of after.log new.streams.main) stands.turn meets;
 }
 
 -- what is taken of a rest, by its cut and what the streams told of it
-asked_comes : (c : Cut) (oracle : Oracle) (new : Interpreter) (after : WorldState) (r : Result (Option (List ℕ)) StreamFault) (whole : Source) (left : List ℕ) (s : State) (past : List Effect)
-    → NextTold c r whole.bytes left → StateRelation oracle new after (with_rest s left whole.ending) (past ++ Requested ARecord ∷ [])
-    → ResultRelation oracle new after (halted r) (taken c whole s) past
-asked_comes (Found first rest) oracle new after r whole left s past told stands =
-    subst (λ x. ResultRelation oracle new after (halted x) (taken (Found first rest) whole s) past) (sym told.0)
-    (refl, subst (λ l. StateRelation oracle new after (with_rest s l whole.ending) (past ++ Requested ARecord ∷ [])) told.1 stands)
-asked_comes NoMore oracle new after r whole left s past told stands =
-    subst (λ x. ResultRelation oracle new after (halted x) (taken NoMore whole s) past) (sym told.0)
-    (refl, subst (λ l. StateRelation oracle new after (with_rest s l whole.ending) (past ++ Requested ARecord ∷ [])) told.1 stands)
-asked_comes BrokenOff oracle new after r whole left s past told stands =
-    subst (λ x. ResultRelation oracle new after (halted x) (taken BrokenOff whole s) past) (sym told.0)
-    (refl, subst (λ l. StateRelation oracle new after (with_rest s l whole.ending) (past ++ Requested ARecord ∷ [])) told.1 stands)
-asked_comes TooLong oracle new after r whole left s past told stands =
-    subst (λ x. ResultRelation oracle new after (halted x) (taken TooLong whole s) past) (sym told.0)
-    (refl, subst (λ l. StateRelation oracle new after (with_rest s l whole.ending) (past ++ Requested ARecord ∷ [])) told.1 stands)
-asked_comes BadSeparator oracle new after r whole left s past told stands =
-    subst (λ x. ResultRelation oracle new after (halted x) (taken BadSeparator whole s) past) (sym told.0)
-    (refl, subst (λ l. StateRelation oracle new after (with_rest s l whole.ending) (past ++ Requested ARecord ∷ [])) told.1 stands)
+asked_comes : (c : Cut) (oracle : Oracle) (new : Interpreter) (after : WorldState) (r : Result (Option (List ℕ)) StreamFault) (separator : List ℕ) (whole : Source) (left : List ℕ) (s : State) (past : List Effect)
+    → NextTold c r whole.bytes left → StateRelation oracle new after (with_rest s left whole.ending) (past ++ Requested (ARecord separator whole.bytes) ∷ [])
+    → ResultRelation oracle new after (halted r) (taken c separator whole s) past
+asked_comes (Found first rest) oracle new after r separator whole left s past told stands =
+    subst (λ x. ResultRelation oracle new after (halted x) (taken (Found first rest) separator whole s) past) (sym told.0)
+    (refl, subst (λ l. StateRelation oracle new after (with_rest s l whole.ending) (past ++ Requested (ARecord separator whole.bytes) ∷ [])) told.1 stands)
+asked_comes NoMore oracle new after r separator whole left s past told stands =
+    subst (λ x. ResultRelation oracle new after (halted x) (taken NoMore separator whole s) past) (sym told.0)
+    (refl, subst (λ l. StateRelation oracle new after (with_rest s l whole.ending) (past ++ Requested (ARecord separator whole.bytes) ∷ [])) told.1 stands)
+asked_comes BrokenOff oracle new after r separator whole left s past told stands =
+    subst (λ x. ResultRelation oracle new after (halted x) (taken BrokenOff separator whole s) past) (sym told.0)
+    (refl, subst (λ l. StateRelation oracle new after (with_rest s l whole.ending) (past ++ Requested (ARecord separator whole.bytes) ∷ [])) told.1 stands)
+asked_comes TooLong oracle new after r separator whole left s past told stands =
+    subst (λ x. ResultRelation oracle new after (halted x) (taken TooLong separator whole s) past) (sym told.0)
+    (refl, subst (λ l. StateRelation oracle new after (with_rest s l whole.ending) (past ++ Requested (ARecord separator whole.bytes) ∷ [])) told.1 stands)
+asked_comes BadSeparator oracle new after r separator whole left s past told stands =
+    subst (λ x. ResultRelation oracle new after (halted x) (taken BadSeparator separator whole s) past) (sym told.0)
+    (refl, subst (λ l. StateRelation oracle new after (with_rest s l whole.ending) (past ++ Requested (ARecord separator whole.bytes) ∷ [])) told.1 stands)
 
 -- there is a rest in the model where the code has a main input
 taken_comes : (separator : List ℕ) (rest : Option Source) (main : Option InputView) (oracle : Oracle) (old new : Interpreter) (before after : WorldState) (r : Result (Option (List ℕ)) StreamFault) (s : State) (past : List Effect)
@@ -212,8 +284,11 @@ taken_comes separator None (Some v) oracle old new before after r s past beside 
 taken_comes [] (Some whole) (Some v) oracle old new before after r s past beside is there some kept told consistent stands main = absurd (some refl)
 taken_comes (b ∷ separator) (Some whole) (Some v) oracle old new before after r s past beside is there some kept told consistent stands main =
     let gives = told.answered kept oracle whole consistent (subst (λ m. IsMainRest oracle before.log m (Some whole)) is main) in
-    asked_comes (cut_of (b ∷ separator) whole.bytes whole.ending) oracle new after r whole gives.0 s past gives.1
-    (asked_stands oracle old new before after s whole gives.0 past beside (told.no_failure kept) told.counts.inputs told.outputs gives.2 stands)
+    let reads = subst (λ m. ReadsMain (b ∷ separator) m before.log after.log) (sym is) told.request in
+    let readable = subst (λ m. ReadsOpen m before.log after.log) (sym is) told.readable in
+    let meets = asking_meets oracle (b ∷ separator) before after (Some v) old.streams new.streams whole is told.same main reads readable in
+    asked_comes (cut_of (b ∷ separator) whole.bytes whole.ending) oracle new after r (b ∷ separator) whole gives.0 s past gives.1
+    (asked_stands oracle old new before after s (b ∷ separator) whole gives.0 past beside (told.no_failure kept) told.counts.inputs told.outputs gives.2 meets stands)
 
 -- what the model takes, by the code's RS
 takes_as : (m : Interpreter) (s : State) → OwnRelation m s → take_record s ≡ taken_of s.main (str_of (value_of m.variables (name_of Rs))) s
@@ -236,7 +311,15 @@ asks_by : (separator : List ℕ) (r : Result (Option (List ℕ)) StreamFault) {o
     → AsksMain separator before old.streams r after new.streams
     → SimulatesLogged old before new after (halted r) take_record
 asks_by separator (Ok found) rs beside there some told = asks_logged separator (Ok found) rs beside there some (λ (e : Ok found ≡ Err Memory). absurd (cc)) told
-asks_by separator (Err Memory) rs beside there some told = record { grows = told.grows; keeps = told.sound; keeps_main = λ sound. told.main; means = λ oracle s past consistent stands. tt }
+asks_by separator (Err Memory) {before = before} {after = after} rs beside there some told = record {
+  grows = told.grows;
+  keeps = told.sound;
+  keeps_main = λ sound. told.main;
+  means = λ oracle s past consistent stands. record {
+    begins = begins_still after.log past (take_record s).effects (told.outputs ∙ stands.outputs);
+    failure = told.failure refl stands.clear;
+  };
+}
 asks_by separator (Err WriteFailed) rs beside there some told = asks_logged separator (Err WriteFailed) rs beside there some (λ (e : Err WriteFailed ≡ Err Memory). absurd (cc)) told
 asks_by separator (Err InputNotReadable) rs beside there some told = asks_logged separator (Err InputNotReadable) rs beside there some (λ (e : Err InputNotReadable ≡ Err Memory). absurd (cc)) told
 asks_by separator (Err SeparatorTooLong) rs beside there some told = asks_logged separator (Err SeparatorTooLong) rs beside there some (λ (e : Err SeparatorTooLong ≡ Err Memory). absurd (cc)) told
@@ -276,18 +359,24 @@ takes_none none = record { steps = omega arith; kept_open = λ h. h; told = λ t
 refuses_comes : (oracle : Oracle) (m : Interpreter) (k : WorldState) (s : State) (past : List Effect) (main : Option InputView) (rest : Option Source) → main ≡ m.streams.main → is_some main ≡ true → IsMainRest oracle k.log main rest → s.main ≡ rest → StateRelation oracle m k s past → ResultRelation oracle m k (Err (halt.Fault faults.RecordSeparatorTooLong)) (taken_of rest [] s) past
 refuses_comes oracle m k s past None rest is there main same stands = absurd (cc)
 refuses_comes oracle m k s past (Some v) None is there main same stands = absurd main
-refuses_comes oracle m k s past (Some v) (Some source) is there main same stands = (
-  refl,
-  record {
-    clear = stands.clear;
-    outside = stands.outside;
-    openings = stands.openings;
-    main = subst (λ x. IsMainRest oracle k.log x (Some source)) is main;
-    holds = at_main m s s.openings _ stands.holds;
-    output = stands.output ∙ sym (append-nil (printed_to StandardOutput past)) ∙ sym (printed_to-append StandardOutput past (Requested ARecord ∷ []));
-    error = stands.error ∙ sym (append-nil (printed_to StandardError past)) ∙ sym (printed_to-append StandardError past (Requested ARecord ∷ []));
-  },
-)
+refuses_comes oracle m k s past (Some v) (Some source) is there main same stands =
+    let unread : ReadsMain [] (Some v) k.log k.log = (v.pending, inl (refl, refl)) in
+    let meets : Meets oracle (ARecord [] source.bytes) (stage_of k.log m.streams.main) (stage_of k.log m.streams.main) = (
+      refl,
+      subst (λ (o : Option InputView). ReadsMainAsRequested oracle [] source.bytes (number_of o) k.log k.log) is (main_as_requested oracle [] k.log k.log v source main unread (inl refl)),
+    ) in
+    (
+      refl,
+      record {
+        clear = stands.clear;
+        outside = stands.outside;
+        inputs = stands.inputs;
+        main = subst (λ x. IsMainRest oracle k.log x (Some source)) is main;
+        holds = at_main m s s.openings _ stands.holds;
+        outputs = stands.outputs ∙ standard_requested past (ARecord [] source.bytes);
+        turn = turn_requested oracle past (ARecord [] source.bytes) first_stage (stage_of k.log m.streams.main) (stage_of k.log m.streams.main) stands.turn meets;
+      },
+    )
 
 refuses_logged : {m : Interpreter} {k : WorldState} → str_of (value_of m.variables (name_of Rs)) ≡ [] → is_some m.streams.main ≡ true → SimulatesLogged m k m k (Err (halt.Fault faults.RecordSeparatorTooLong)) take_record
 refuses_logged {m = m} {k = k} empty there = record {
@@ -304,17 +393,22 @@ takes_refused empty there = record { steps = omega arith; kept_open = λ h. h; t
 
 -- closing the main input
 
+-- the closing of the main input meets no request
+closing_goes : (before after : WorldState) (main main' : Option InputView) (answer : ℤ) → main' ≡ None → after.log ≡ closed_main main answer before.log → GoesBetween (stage_of before.log main) (stage_of after.log main')
+closing_goes before after None main' answer none is = record { events = []; log = is; between = ap number_of none }
+closing_goes before after (Some v) main' answer none is = record { events = log.Closed v.id answer ∷ []; log = is; between = (refl, ap number_of none) }
+
 closes_stands : (oracle : Oracle) (old new : Interpreter) (before after : WorldState) (s : State) (past : List Effect) → Beside old new → new.streams.main ≡ None
     → EndsMain before old.streams after new.streams
     → StateRelation oracle old before s past → StateRelation oracle new after (record s { main = None }) (past ++ [])
 closes_stands oracle old new before after s past beside none told stands = record {
   clear = told.no_failure ∙ stands.clear;
   outside = stands.outside;
-  openings = λ kind name. stands.openings kind name ∙ sym (told.counts.inputs kind name);
+  inputs = λ kind name. stands.inputs kind name ∙ sym (told.counts.inputs kind name);
   main = subst (λ x. IsMainRest oracle after.log x None) (sym none) tt;
   holds = at_main new s s.openings None (beside_holds beside stands.holds);
-  output = told.outputs 0 ∙ stands.output ∙ ap (printed_to StandardOutput) (sym (append-nil past));
-  error = told.outputs 1 ∙ stands.error ∙ ap (printed_to StandardError) (sym (append-nil past));
+  outputs = told.outputs ∙ (stands.outputs ∙ ap standard_openings (sym (append-nil past)));
+  turn = turn_between oracle past [] first_stage (stage_of before.log old.streams.main) (stage_of after.log new.streams.main) refl stands.turn (closing_goes before after old.streams.main new.streams.main told.adds.0 none told.adds.1);
 }
 
 closes_logged : {old new : Interpreter} {before after : WorldState} → Beside old new → new.streams.main ≡ None

@@ -10,10 +10,11 @@ use Rattle.awk_record.specs.Cut.{Cut, Found, NoMore, BrokenOff, TooLong, BadSepa
 use Rattle.awk_world.specs.declared.world.InputKind.{InputKind}
 use Rattle.awk_world.specs.declared.world.InputKind.TheVariants.{Standard, File}
 use Rattle.awk_streams.specs.Oracle.{Source, Oracle}
+use Rattle.awk_streams.specs.Openings.{Output, StandardOutput, StandardError, IsBeginning, Begins}
 use Rattle.awk_tree.specs.declared.tree.BinaryOperator.TheVariants.{Matches}
 use Rattle.awk_tree.specs.Tree.{Expr, Number, String, Ere, Name, Group, Field, Unary, Binary, Assign, Exprs, Nil, Cons, Statement, Block, Expression, Print, Statements, NoMore as NoStatement, Then, Item, Begin, Action, Pattern, PatternAction}
 use Rattle.awk_meaning.specs.declared.outcome.Outcome.TheVariants.{Ended, Fault, Stopped}
-use Rattle.awk_meaning.specs.definitions.State.{Output, TheEnd, Effect, Printed, Requested, State, Out, Run, go_on, ◌>>=◌, lift}
+use Rattle.awk_meaning.specs.definitions.State.{Effect, Printed, Requested, State, Out, Run, go_on, ◌>>=◌, lift}
 use Rattle.awk_meaning.specs.declared.halt.Halt.{Halt}
 use Rattle.awk_meaning.specs.declared.halt.Halt.TheVariants as halt
 use Rattle.awk_variables.specs.declared.special.Special.{Special}
@@ -25,7 +26,7 @@ use Rattle.awk_meaning.specs.definitions.Inputs.{assigned_text, assign_text, Ope
 use Rattle.awk_meaning.specs.definitions.Operators.{takes_pattern}
 use Rattle.awk_meaning.specs.definitions.Semantics.{right_operand, eval, eval_all, printed_values, exec, exec_all, run_if, try_item, try_items, begin_record, on_record, each_record, run_records, begin_item, begin_items, has_rule, run_items}
 use Rattle.awk_meaning.specs.definitions.Meaning.{StartValues, Meaning, start_state, assign_all, assign_and_run, run_program, outcome_of, printed_to, requests_after, same_output}
-use Rattle.awk_meaning.specs.definitions.Meaning.{IsBeginning, Begins, LawOfLimits}
+use Rattle.awk_meaning.specs.definitions.Meaning.{LawOfLimits, outputs_after}
 
 abbrev richer_state : ℕ → State → State
 richer_state d s = record s { steps = s.steps + d }
@@ -137,16 +138,16 @@ input_larger : (name : List ℕ) → Larger (begin_input name) (begin_input name
 unfolding begin_input
 input_larger name = then_larger _ _ (put_larger (name_of Filename) (value.Input name)) (λ _. then_larger _ _ (put_larger (name_of Fnr) (value.Number (pos 0))) (λ _. served_larger))
 
-taken_covers : (c : Cut) (source : Source) (s : State) (d : ℕ) → Covers (taken c source s).result d (taken c source s) (taken c source (richer_state d s))
-taken_covers (Found first left) source s d = refl
-taken_covers NoMore source s d = refl
-taken_covers BrokenOff source s d = refl
-taken_covers TooLong source s d = refl
-taken_covers BadSeparator source s d = refl
+taken_covers : (c : Cut) (separator : List ℕ) (source : Source) (s : State) (d : ℕ) → Covers (taken c separator source s).result d (taken c separator source s) (taken c separator source (richer_state d s))
+taken_covers (Found first left) separator source s d = refl
+taken_covers NoMore separator source s d = refl
+taken_covers BrokenOff separator source s d = refl
+taken_covers TooLong separator source s d = refl
+taken_covers BadSeparator separator source s d = refl
 
 taken_of_covers : (o : Option Source) (separator : List ℕ) (s : State) (d : ℕ) → Covers (taken_of o separator s).result d (taken_of o separator s) (taken_of o separator (richer_state d s))
 taken_of_covers None separator s d = (lift_larger (Ok None)).covers s d
-taken_of_covers (Some source) separator s d = taken_covers _ source s d
+taken_of_covers (Some source) separator s d = taken_covers _ separator source s d
 
 take_larger : Larger take_record take_record
 unfolding take_record
@@ -364,17 +365,17 @@ shows_begins : (output : Output) (xs ys more : List Effect) → ys ≡ xs ++ mor
 shows_begins output xs ys more e = record { more = printed_to output more; is = ap (printed_to output) e ∙ printed_to-append output xs more }
 
 abbrev read_off : Out (Unit {0}) → Meaning
-read_off o = record { outcome = outcome_of o.result; printed = λ output. printed_to output o.effects; requests = requests_after [] (o.effects ++ Requested TheEnd ∷ []) }
+read_off o = record { outcome = outcome_of o.result; outputs = outputs_after o.effects; requests = requests_after [] o.effects }
 
 settled_of : (r : Result (Unit {0}) Halt) (d : ℕ) (x y : Out (Unit {0})) → x.result ≡ r → Covers r d x y → outcome_of x.result ≢ Stopped → read_off y ≡ read_off x
 settled_of (Ok a) d x y e c other = ap read_off c
 settled_of (Err (halt.Fault f)) d x y e c other = ap read_off c
 settled_of (Err halt.OutOfSteps) d x y e c other = absurd (other (ap outcome_of e))
 
-stopped_of : (r : Result (Unit {0}) Halt) (d : ℕ) (x y : Out (Unit {0})) → x.result ≡ r → Covers r d x y → outcome_of x.result ≡ Stopped → Begins (read_off x) (read_off y)
+stopped_of : (r : Result (Unit {0}) Halt) (d : ℕ) (x y : Out (Unit {0})) → x.result ≡ r → Covers r d x y → outcome_of x.result ≡ Stopped → Begins (read_off x).outputs (read_off y).outputs
 stopped_of (Ok a) d x y e c stops = let never : Ended 0 ≡ Stopped = sym (ap outcome_of e) ∙ stops in absurd (cc)
 stopped_of (Err (halt.Fault f)) d x y e c stops = let never : Fault f ≡ Stopped = sym (ap outcome_of e) ∙ stops in absurd (cc)
-stopped_of (Err halt.OutOfSteps) d x y e c stops = λ output. shows_begins output x.effects y.effects c.more c.is
+stopped_of (Err halt.OutOfSteps) d x y e c stops = (refl, shows_begins StandardOutput x.effects y.effects c.more c.is, (refl, shows_begins StandardError x.effects y.effects c.more c.is, tt))
 
 pub law_of_limits : LawOfLimits
 law_of_limits items start oracle limit more = record {

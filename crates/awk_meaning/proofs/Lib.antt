@@ -1,1 +1,3 @@
 pub mod LawOfLimits
+pub mod Requests
+pub mod OwnOutcomes

@@ -8,4 +8,6 @@ pub use Rattle.awk_meaning.specs.definitions.Primitives
 pub use Rattle.awk_meaning.specs.definitions.Inputs
 pub use Rattle.awk_meaning.specs.definitions.Semantics
 pub use Rattle.awk_meaning.specs.definitions.Meaning
+pub use Rattle.awk_meaning.specs.definitions.Order
+pub use Rattle.awk_meaning.specs.definitions.Failure
 pub use Rattle.awk_meaning.specs.support.Results

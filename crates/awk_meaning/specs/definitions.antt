@@ -6,3 +6,5 @@ pub mod Primitives
 pub mod Inputs
 pub mod Semantics
 pub mod Meaning
+pub mod Order
+pub mod Failure

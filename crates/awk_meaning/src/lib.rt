@@ -9,5 +9,5 @@ mod outcome;
 
 pub use fault::{Fault, fault_line};
 pub use halt::Halt;
-pub use laws::law_of_limits;
+pub use laws::{law_of_limits, law_of_outcomes, law_of_turns};
 pub use outcome::{Outcome, status};

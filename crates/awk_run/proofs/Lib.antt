@@ -1,3 +1,4 @@
 mod Accepted
 mod Evaluation
+mod RunEnds
 mod RunsFrom

@@ -1,11 +1,13 @@
 -- From the parts of a run to the whole.
-use Rattle.std.proofs.Common.{◌≡◌, ◌≢◌, ℕ, Bool, true, List, [], Option, None, Some, is_some, Result, Ok, Err, refl, sym, ap, ◌∙◌, subst}
+use Rattle.std.proofs.Common.{◌≡◌, ◌≢◌, ℕ, Bool, true, List, [], length, Option, None, Some, ◌⊎◌, inl, inr, Result, Ok, Err, refl, sym, ap, ◌∙◌, subst}
+use Rattle.std.specs.Prelude.{IfErr}
 use Rattle.awk_streams.specs.declared.fault.StreamFault.{StreamFault}
+use Rattle.awk_streams.specs.Outputs.{IsOutputFault}
 use Rattle.awk_streams.specs.Log as log
 use Rattle.awk_streams.specs.Oracle.{Oracle, IsConsistent, how_many, opens_input}
 use Rattle.awk_streams.specs.Orderly.{IsOrderly, IsInOrder}
-use Rattle.awk_streams.specs.Writes.{received}
-use Rattle.awk_streams.specs.Streams.{StreamsView, AreOpen, AreSound, IsMainRest, IsSoundMain, IsOpenMain, Finishes}
+use Rattle.awk_streams.specs.Openings.{openings, in_order, outputs_of, Begins}
+use Rattle.awk_streams.specs.Streams.{InputView, StreamsView, AreOpen, AreSound, IsMainRest, IsSoundMain, IsOpenMain, Finishes}
 use Rattle.awk_tree.specs.Tree.{Item}
 use Rattle.awk_interpreter.specs.declared.interpreter.Interpreter.{Interpreter}
 use Rattle.awk_meaning.specs.declared.halt.Halt.{Halt}
@@ -13,12 +15,14 @@ use Rattle.awk_meaning.specs.declared.halt.Halt.TheVariants as halt
 use Rattle.awk_meaning.specs.declared.outcome.Outcome.{Outcome}
 use Rattle.awk_meaning.specs.declared.outcome.Outcome.TheVariants.{Fault}
 use Rattle.awk_meaning.specs.declared.fault.Fault.TheVariants as faults
-use Rattle.awk_meaning.specs.State.{StandardOutput, StandardError, Out}
-use Rattle.awk_meaning.specs.Meaning.{StartValues, start_state, assign_and_run, run_program, outcome_of, printed_to}
+use Rattle.awk_meaning.specs.State.{Out}
+use Rattle.awk_meaning.specs.Meaning.{StartValues, start_state, assign_and_run, run_program, outcome_of, outputs_after}
+use Rattle.awk_meaning.specs.Order.{IsInTurn}
+use Rattle.awk_meaning.specs.Failure.{FailsAt}
 use Rattle.awk_streams.specs.WorldState.{WorldState}
-use Rattle.awk_interpreter.specs.Simulation.{StateRelation, ResultRelation, ResultRelationBy, IsStart}
+use Rattle.awk_interpreter.specs.Simulation.{number_of, StateRelation, IsStart}
 use Rattle.awk_run.specs.support.Evaluation.{AssignsAndRuns}
-use Rattle.awk_meaning.specs.Results.{Sort, WantOfMemory, FailedWrite, OfLanguage, sort_of}
+use Rattle.awk_run.proofs.RunEnds.{read_off, IsMeant, Came, came, in_turn, no_failure_before, halted_by, fails_at, begins_at_end}
 use Rattle.awk_run.specs.definitions.Headline.{IsUntouched, IsUndisturbed}
 use Rattle.awk_run.specs.support.Verdict.{outcome_after, RunsFrom}
 
@@ -40,7 +44,7 @@ start_stands : (start : StartValues) (oracle : Oracle) (limit : ℕ) (m : Interp
 start_stands start oracle limit m k is fresh = record {
   clear = fresh.first_failure;
   outside = refl;
-  openings = λ kind name. ap (λ l. how_many (opens_input kind name) l) (sym fresh.log);
+  inputs = λ kind name. ap (λ l. how_many (opens_input kind name) l) (sym fresh.log);
   main = subst (λ x. IsMainRest oracle k.log x None) (sym is.main) tt;
   holds = record {
     current = ap (λ (t : List ℕ). record { text = t; fields = [] }) (sym is.text) ∙ ap (λ fields. record { text = m.current.text; fields = fields }) (sym is.fields);
@@ -50,92 +54,84 @@ start_stands start oracle limit m k is fresh = record {
     input_seen = sym is.input_seen;
     steps = sym is.steps;
   };
-  output = ap (λ l. received 0 l) fresh.log;
-  error = ap (λ l. received 1 l) fresh.log;
+  outputs = ap openings fresh.log;
+  turn = record { events = []; log = fresh.log; between = ap number_of is.main };
 }
-
--- what a run came to, where it is neither for want of memory nor by a failed write
-pub record IsMeant (oracle : Oracle) (k : WorldState) (o : Out (Unit {0})) (result : Outcome) : Type 0 where
-  pub outcome : outcome_of o.result ≡ result
-  pub output : received 0 k.log ≡ printed_to StandardOutput o.effects
-  pub error : received 1 k.log ≡ printed_to StandardError o.effects
-
--- the outcome of a halt, by what the language knows of it
-outcome_by : (h : Halt) (reason : Halt) → sort_of h ≡ OfLanguage reason → outcome_of (Err reason) ≡ outcome_after (Err h) (Ok tt)
-outcome_by halt.OutOfSteps reason e = let s : halt.OutOfSteps ≡ reason = cc in ap (λ (x : Halt). outcome_of (Err x)) (sym s)
-outcome_by (halt.Fault faults.OutOfMemory) reason e = absurd (cc)
-outcome_by (halt.Fault faults.WriteFailed) reason e = absurd (cc)
-outcome_by (halt.Fault f) reason e = let s : halt.Fault f ≡ reason = cc in ap (λ (x : Halt). outcome_of (Err x)) (sym s)
-
-not_some : (first_failure : Option ℕ) → first_failure ≡ None → is_some first_failure ≡ true → ⊥
-not_some None e s = absurd (cc)
-not_some (Some n) e s = absurd (cc)
-
-meant_by : (oracle : Oracle) (m : Interpreter) (k : WorldState) (h : Halt) (s : Sort) (o : Out (Unit {0})) → sort_of h ≡ s → h ≢ halt.Fault faults.OutOfMemory → k.first_failure ≡ None → ResultRelationBy oracle m k s o [] → IsMeant oracle k o (outcome_after (Err h) (Ok tt))
-meant_by oracle m k h WantOfMemory o e memory clear comes = absurd (memory (memory_sort h e))
-  where
-    memory_sort : (h : Halt) → sort_of h ≡ WantOfMemory → h ≡ halt.Fault faults.OutOfMemory
-    memory_sort (halt.Fault faults.OutOfMemory) e = refl
-    memory_sort (halt.Fault faults.WriteFailed) e = absurd (cc)
-    memory_sort (halt.Fault f) e = absurd (cc)
-    memory_sort halt.OutOfSteps e = absurd (cc)
-meant_by oracle m k h FailedWrite o e memory clear comes = absurd (not_some k.first_failure clear comes)
-meant_by oracle m k h (OfLanguage reason) o e memory clear comes = record {
-  outcome = ap outcome_of comes.0 ∙ outcome_by h reason e;
-  output = comes.1.output;
-  error = comes.1.error;
-}
-
-meant : (oracle : Oracle) (m : Interpreter) (k : WorldState) (r : Result (Unit {0}) Halt) (o : Out (Unit {0})) → r ≢ Err (halt.Fault faults.OutOfMemory) → k.first_failure ≡ None → ResultRelation oracle m k r o [] → IsMeant oracle k o (outcome_after r (Ok tt))
-meant oracle m k (Ok u) o memory clear comes = record { outcome = ap outcome_of comes.0; output = comes.1.output; error = comes.1.error }
-meant oracle m k (Err h) o memory clear comes = meant_by oracle m k h (sort_of h) o refl (λ e. memory (ap (λ (x : Halt). Err x) e)) clear comes
 
 -- the law that some oracle is consistent with an orderly log, as the streams give it
 abbrev pub SomeIsConsistent : Type 0
 SomeIsConsistent = (l : List log.Event) → IsOrderly l → (a : Oracle) × IsConsistent a l
 
-no_failure_before : (f : Result (Unit {0}) StreamFault) {k k' : WorldState} {old new : StreamsView} → Finishes k old f k' new → k'.first_failure ≡ None → (f ≡ Ok tt) × (k.first_failure ≡ None)
-no_failure_before (Ok u) told clear = (refl, sym told.no_failure ∙ clear)
-no_failure_before (Err e) {k' = k'} told clear = absurd (not_some k'.first_failure clear told.failure)
+-- an undisturbed run came to what the meaning has
+calm_meant : (oracle : Oracle) (k1 k2 : WorldState) (main : Option InputView) (r : Result (Unit {0}) Halt) (f : Result (Unit {0}) StreamFault) (o : Out (Unit {0})) {result : Outcome} → result ≡ outcome_after r f → k1.first_failure ≡ None → IsUndisturbed k2 result → Came oracle k1 main r o →
+    IsMeant oracle k1 main o (outcome_after r (Ok tt))
+calm_meant oracle k1 k2 main r f o is clear calm (inl meant) = meant
+calm_meant oracle k1 k2 main r f o is clear calm (inr cut) = elim cut.cause [
+  | inl memory ↦ absurd (calm.memory (is ∙ halted_by faults.OutOfMemory r f memory))
+  | inr write ↦ let bad : None ≡ Some (length k1.log) = sym clear ∙ write.1 in absurd cc
+]
 
-halted_by_memory : (r : Result (Unit {0}) Halt) (f : Result (Unit {0}) StreamFault) → r ≡ Err (halt.Fault faults.OutOfMemory) → outcome_after r f ≡ Fault faults.OutOfMemory
-halted_by_memory r f e = ap (λ x. outcome_after x f) e
+-- a run that was undisturbed
+pub record IsWhole (oracle : Oracle) (k2 : WorldState) (o : Out (Unit {0})) (result : Outcome) : Type 0 where
+  pub outcome : outcome_of o.result ≡ result
+  pub turn : IsInTurn oracle (read_off o) k2.log
 
-ends_as_meant : (items : List Item) (start : StartValues) (oracle : Oracle) (limit : ℕ) {is_logged : Type 0} {m m1 : Interpreter} {k k1 k2 : WorldState} {r : Result (Unit {0}) Halt} {f : Result (Unit {0}) StreamFault} {last : StreamsView} {result : Outcome} → IsStart start.operands limit m → IsUntouched k → is_logged
-    → AssignsAndRuns is_logged items start.pre m k m1 k1 r → Finishes k1 m1.streams f k2 last → result ≡ outcome_after r f
-    → IsUndisturbed k2 result → IsConsistent oracle k2.log → IsMeant oracle k2 (run_program items start oracle limit) result
-unfolding run_program
-ends_as_meant items start oracle limit {m = m} {m1 = m1} {k = k} {k1 = k1} {k2 = k2} {r = r} {f = f} {result = result} began fresh t ran told is calm consistent =
-    let clear = no_failure_before f told calm.first_failure in
-    let part = ran.simulates.told t in
-    let comes = part.means oracle (start_state start oracle limit) [] (told.grows.consistent oracle consistent) (start_stands start oracle limit m k began fresh) in
-    let kept : r ≢ Err (halt.Fault faults.OutOfMemory) = λ e. calm.memory (is ∙ halted_by_memory r f e) in
-    let came = meant oracle m1 k1 r (assign_and_run items start.pre (start_state start oracle limit)) kept clear.1 comes in
+calm_whole : (oracle : Oracle) (k1 k2 : WorldState) (streams last : StreamsView) (r : Result (Unit {0}) Halt) (f : Result (Unit {0}) StreamFault) (o : Out (Unit {0})) {result : Outcome} → Finishes k1 streams f k2 last → result ≡ outcome_after r f → IsUndisturbed k2 result → Came oracle k1 streams.main r o → IsWhole oracle k2 o result
+calm_whole oracle k1 k2 streams last r f o told is calm body =
+    let before = no_failure_before f told calm.first_failure in
+    let meant = calm_meant oracle k1 k2 streams.main r f o is before.1 calm body in
     record {
-      outcome = came.outcome ∙ ap (λ x. outcome_after r x) (sym clear.0) ∙ sym is;
-      output = told.outputs 0 ∙ came.output;
-      error = told.outputs 1 ∙ came.error;
+      outcome = meant.outcome ∙ (ap (λ x. outcome_after r x) (sym before.0) ∙ sym is);
+      turn = in_turn oracle k1 k2 streams last r o (subst (λ x. Finishes k1 streams x k2 last) before.0 told) meant;
     }
 
+-- the body of a run, for each oracle
+body_came : (items : List Item) (start : StartValues) (limit : ℕ) {is_logged : Type 0} {m m1 : Interpreter} {k k1 k2 : WorldState} {r : Result (Unit {0}) Halt} {f : Result (Unit {0}) StreamFault} {last : StreamsView} → IsStart start.operands limit m → IsUntouched k → is_logged
+    → AssignsAndRuns is_logged items start.pre m k m1 k1 r → Finishes k1 m1.streams f k2 last → (oracle : Oracle) → IsConsistent oracle k2.log → Came oracle k1 m1.streams.main r (run_program items start oracle limit)
+unfolding run_program
+body_came items start limit {m = m} {m1 = m1} {k = k} {k1 = k1} {r = r} began fresh t ran told oracle consistent =
+    came oracle m1 k1 r (assign_and_run items start.pre (start_state start oracle limit))
+    ((ran.simulates.told t).means oracle (start_state start oracle limit) [] (told.grows.consistent oracle consistent) (start_stands start oracle limit m k began fresh))
+
 pub runs_from : (items : List Item) (start : StartValues) (limit : ℕ) {is_logged : Type 0} {m m1 : Interpreter} {k k1 k2 : WorldState} {r : Result (Unit {0}) Halt} {f : Result (Unit {0}) StreamFault} {last : StreamsView} {result : Outcome} → SomeIsConsistent → IsInOrder k.is_open [] → IsStart start.operands limit m
-    → AssignsAndRuns is_logged items start.pre m k m1 k1 r → (is_logged → Finishes k1 m1.streams f k2 last) → result ≡ outcome_after r f
+    → AssignsAndRuns is_logged items start.pre m k m1 k1 r → (is_logged → Finishes k1 m1.streams f k2 last) → IfErr f IsOutputFault → result ≡ outcome_after r f
     → RunsFrom is_logged items start limit k k2 result
-runs_from items start limit {k = k} {k2 = k2} law order began ran told is = record {
-  runs = λ t fresh. record {
-    some = law k2.log ((told t).sound ((ran.simulates.told t).keeps (start_sound k began fresh.log order))).order.orderly;
-    outcome = λ calm oracle consistent. (ends_as_meant items start oracle limit began fresh t ran (told t) is calm consistent).outcome;
-    standard_output = λ calm oracle consistent. (ends_as_meant items start oracle limit began fresh t ran (told t) is calm consistent).output;
-    standard_error = λ calm oracle consistent. (ends_as_meant items start oracle limit began fresh t ran (told t) is calm consistent).error;
-  };
+runs_from items start limit {m1 = m1} {k = k} {k1 = k1} {k2 = k2} {r = r} {f = f} {last = last} law order began ran told fault is = record {
+  runs = λ t fresh.
+      let orderly = ((told t).sound ((ran.simulates.told t).keeps (start_sound k began fresh.log order))).order.orderly in
+      let body = body_came items start limit began fresh t ran (told t) in
+      let out_by = λ (oracle : Oracle). run_program items start oracle limit in
+      record {
+        some = law k2.log orderly;
+        orderly = orderly;
+        outcome = λ calm oracle consistent. (calm_whole oracle k1 k2 m1.streams last r f (out_by oracle) (told t) is calm (body oracle consistent)).outcome;
+        outputs = λ calm oracle consistent. (calm_whole oracle k1 k2 m1.streams last r f (out_by oracle) (told t) is calm (body oracle consistent)).turn.brought.received;
+        turn = λ calm oracle consistent. (calm_whole oracle k1 k2 m1.streams last r f (out_by oracle) (told t) is calm (body oracle consistent)).turn;
+        failure = record {
+          begins = λ cause oracle consistent. begins_at_end oracle k1 k2 m1.streams last r f (out_by oracle) (told t) (body oracle consistent);
+          at = λ n some. subst (λ x. FailsAt (λ oracle. read_off (out_by oracle)) n k2.log x) (sym is) (fails_at out_by k1 k2 m1.streams last r f n (told t) fault (law k2.log orderly) body some);
+        };
+      };
 }
+
+-- before a run nothing is printed
+none_begins : (l : List log.Event) (o : Out (Unit {0})) → l ≡ [] → Begins (outputs_of l) (outputs_after o.effects)
+none_begins l o empty = subst (λ (x : List log.Event). Begins (outputs_of x) (outputs_after o.effects)) (sym empty) (refl, record { more = _; is = refl }, (refl, record { more = _; is = refl }, tt))
 
 -- a run that found no memory before it began
 pub runs_not : (items : List Item) (start : StartValues) (limit : ℕ) {is_logged : Type 0} {k : WorldState} → SomeIsConsistent → RunsFrom is_logged items start limit k k (Fault faults.OutOfMemory)
 runs_not items start limit {k = k} law = record {
-  runs = λ t fresh. record {
-    some = law k.log (subst (λ (l : List log.Event). IsOrderly l) (sym fresh.log) tt);
-    outcome = λ calm oracle consistent. absurd (calm.memory refl);
-    standard_output = λ calm oracle consistent. absurd (calm.memory refl);
-    standard_error = λ calm oracle consistent. absurd (calm.memory refl);
-  };
+  runs = λ t fresh.
+      let orderly = subst (λ (l : List log.Event). IsOrderly l) (sym fresh.log) tt in
+      record {
+        some = law k.log orderly;
+        orderly = orderly;
+        outcome = λ calm oracle consistent. absurd (calm.memory refl);
+        outputs = λ calm oracle consistent. absurd (calm.memory refl);
+        turn = λ calm oracle consistent. absurd (calm.memory refl);
+        failure = record {
+          begins = λ cause oracle consistent. none_begins k.log (run_program items start oracle limit) fresh.log;
+          at = λ n some. let bad : None ≡ Some n = sym fresh.first_failure ∙ some in absurd cc;
+        };
+      };
 }

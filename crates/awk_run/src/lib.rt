@@ -6,6 +6,8 @@ mod run;
 mod start;
 mod statements;
 
-pub use awk_meaning::{Fault, Outcome, fault_line, law_of_limits, status};
+pub use awk_meaning::{
+    Fault, Outcome, fault_line, law_of_limits, law_of_outcomes, law_of_turns, status,
+};
 pub use run::{execute, one_program};
 pub use start::{Assignment, Start};

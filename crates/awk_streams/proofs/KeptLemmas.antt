@@ -1,12 +1,12 @@
 -- Stretches of a log that keep it in order, and what they leave as it was.
-use Rattle.std.proofs.Common.{◌≡◌, ◌≢◌, ℕ, ◌+◌, List, [], ◌∷◌, ◌++◌, Bool, true, false, Option, None, refl, sym, ◌∙◌, ap, subst, arith}
+use Rattle.std.proofs.Common.{◌≡◌, ℕ, ◌+◌, List, [], ◌∷◌, ◌++◌, Bool, true, false, Option, None, refl, sym, ◌∙◌, ap, subst, arith}
 use Rattle.std.proofs.lemmas.Bool.{cond-true, cond-false, ne_eqb, eq-eqb}
 use Rattle.awk_world.specs.definitions.Log.{Event, Read, Ended, Broke, Wrote, Flushed}
 use Rattle.awk_record.specs.Cut.{Ending}
 use Rattle.awk_world.specs.definitions.Oracle.{reading_of, read_on}
 use Rattle.awk_world.specs.definitions.Orderly.{IsReadable, IsOrderly, IsInOrder}
 use Rattle.std.specs.Prelude.{is_some}
-use Rattle.awk_world.specs.definitions.Writes.{with_events, Writes, OnlyWritesTo, received}
+use Rattle.awk_world.specs.definitions.Writes.{with_events, Writes, OnlyWritesTo}
 use Rattle.awk_streams.specs.definitions.Inputs.{NeededReads}
 use Rattle.awk_streams.specs.support.Kept.{IsOutput, IsQuiet, SameStreams}
 use Rattle.awk_world.specs.definitions.Oracle.{SameCounts}
@@ -135,16 +135,3 @@ writes_streams id log log' (bytes, goes) =
 
 pub writes_reading : (id : ℕ) (log log' : List Event) → OnlyWritesTo id log log' → (j : ℕ) → reading_of j log' ≡ reading_of j log
 writes_reading id log log' (bytes, goes) j = ap (reading_of j) goes.log ∙ output_reading j goes.events log (writes_output id bytes goes.events goes.each)
-
-pub reads_received : (id j : ℕ) (separator b b' : List ℕ) (ending : Option Ending) (es log : List Event) → NeededReads id separator b b' ending es → received j (with_events es log) ≡ received j log
-reads_received id j separator b b' ending [] log h = refl
-reads_received id j separator b b' ending (Read i bs ∷ es) log (same, undecided, later) = reads_received id j separator (b ++ bs) b' ending es (Read i bs ∷ log) later
-reads_received id j separator b b' ending (Ended i ∷ es) log (same, undecided, last, bytes, met) = ap (λ (x : List Event). received j (with_events x (Ended i ∷ log))) last
-reads_received id j separator b b' ending (Broke i ∷ es) log (same, undecided, last, bytes, met) = ap (λ (x : List Event). received j (with_events x (Broke i ∷ log))) last
-reads_received id j separator b b' ending (e ∷ es) log h = absurd h
-
-pub writes_received : (id j : ℕ) (bytes : List ℕ) (es log : List Event) → j ≢ id → Writes id bytes es → received j (with_events es log) ≡ received j log
-writes_received id j bytes [] log apart h = refl
-writes_received id j bytes (Wrote i bs ∷ es) log apart (same, (rest, is, later)) =
-    writes_received id j rest es (Wrote i bs ∷ log) apart later ∙ cond-false _ _ _ (ne_eqb i j (λ (e : i ≡ j). apart (sym e ∙ same)))
-writes_received id j bytes (e ∷ es) log apart h = absurd h

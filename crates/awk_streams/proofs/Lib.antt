@@ -3,6 +3,8 @@ pub mod RestLemmas
 pub mod InputLemmas
 pub mod ToldLemmas
 pub mod WritesLemmas
+pub mod OpeningsLemmas
 pub mod GrowsLemmas
+pub mod SameMain
 pub mod MainLemmas
 pub mod OutputLemmas

@@ -1,5 +1,5 @@
 -- What printing and the end of a run come to.
-use Rattle.std.proofs.Common.{◌≡◌, ◌≢◌, ◌≤◌, ◌+◌, arith, inl, inr, ℕ, ℤ, Bool, true, false, ◌&&◌, List, ◌∷◌, ◌++◌, length, take, Option, Some, None, Result, Ok, Err, refl, sym, ◌∙◌, ap, subst}
+use Rattle.std.proofs.Common.{◌≡◌, ◌≢◌, ◌≤◌, ◌+◌, arith, inl, inr, ℕ, ℤ, Bool, true, false, ◌&&◌, List, [], ◌∷◌, ◌++◌, length, take, Option, Some, None, Result, Ok, Err, refl, sym, ◌∙◌, ap, subst}
 use Rattle.std.specs.Prelude.{is_some, OnOk, OnErr}
 use Rattle.std.specs.Result.{is_ok, result_and}
 use Rattle.std.proofs.lemmas.Bool.{cond-true, cond-false, ne_eqb, eq-eqb, cases_eq}
@@ -7,58 +7,86 @@ use Rattle.std.proofs.Math.Seq.{take-length}
 use Rattle.awk_streams.specs.declared.fault.StreamFault.{StreamFault}
 use Rattle.awk_world.specs.declared.world.InputKind.{InputKind}
 use Rattle.awk_world.specs.declared.world.InputKind.TheVariants.{Standard, File, Command}
-use Rattle.awk_world.specs.definitions.WorldState.{WorldState, SameOpen}
+use Rattle.awk_world.specs.definitions.WorldState.{WorldState, Logs, FailsNow, SameOpen}
 use Rattle.awk_world.specs.definitions.Log.{Event, Flushed, Closed}
 use Rattle.awk_world.specs.definitions.Oracle.{Oracle, Source, IsConsistent, AnInput, one_if, how_many, closes_command, is_command, reading_of, standing}
 use Rattle.awk_world.specs.definitions.Orderly.{IsReadable, IsInOrder}
-use Rattle.awk_world.specs.definitions.Writes.{OnlyWritesTo, received, flushed_if}
+use Rattle.awk_world.specs.definitions.Writes.{GoesOn, Writes, OnlyWritesTo, with_events, flushed_if}
+use Rattle.awk_world.specs.definitions.Openings.{Opening, receives, openings}
+use Rattle.awk_world.specs.definitions.Grows.{Grows}
 use Rattle.awk_streams.specs.definitions.Outputs.{WritesAll, Flushes}
 use Rattle.awk_world.specs.definitions.Oracle.{SameCounts}
 use Rattle.awk_streams.specs.support.Kept.{SameStreams}
 use Rattle.awk_streams.specs.definitions.Streams.{InputView, StreamsView, StandsAsMain, IsSoundMain, IsMainRest, ClosesMain, Prints, closed_main, EndsMain, Finishes}
-use Rattle.awk_world.proofs.ConsistencyLemmas.{consistent-before}
-use Rattle.awk_streams.proofs.KeptLemmas.{same_counts-self, writes_order, writes_streams, writes_reading, writes_received}
-use Rattle.awk_streams.proofs.WritesLemmas.{received-writes}
-
-readable_same : (id : ℕ) (log log' : List Event) → reading_of id log' ≡ reading_of id log → IsReadable id log → IsReadable id log'
-readable_same id log log' same r = record { reading = r.reading; stands = same ∙ r.stands; unended = r.unended }
-
--- where what stands and what was read is the same, the main input is as it was
-main_same : (log log' : List Event) (main : Option InputView) → ((j : ℕ) → standing j log' ≡ standing j log) → ((j : ℕ) → reading_of j log' ≡ reading_of j log) → IsSoundMain log main → IsSoundMain log' main
-main_same log log' None stands reading h = h
-main_same log log' (Some v) stands reading h = record {
-  kind = h.kind;
-  plain = h.plain;
-  stands = stands v.id ∙ h.stands;
-  readable = λ none. readable_same v.id log log' (reading v.id) (h.readable none);
-}
-
-rest_same : (a : Oracle) (log log' : List Event) (main : Option InputView) (r : Option Source) → ((j : ℕ) → reading_of j log' ≡ reading_of j log) → IsMainRest a log main r → IsMainRest a log' main r
-rest_same a log log' None None reading h = h
-rest_same a log log' None (Some whole) reading h = h
-rest_same a log log' (Some v) None reading h = h
-rest_same a log log' (Some v) (Some whole) reading h = (
-  h.0,
-  h.1,
-  record {
-    reading = h.2.reading;
-    stands = reading v.id ∙ h.2.stands;
-    answer = h.2.answer;
-    more = h.2.more;
-    begins = h.2.begins;
-    same = h.2.same;
-    over = h.2.over;
-  },
-)
+use Rattle.awk_streams.proofs.SameMain.{main_same, rest_same}
+use Rattle.awk_streams.proofs.GrowsLemmas.{grows_on, Grows-then, logs_grow, fails_now, fails_later}
+use Rattle.awk_streams.proofs.OpeningsLemmas.{openings-writes, openings-flush, openings-close}
+use Rattle.awk_streams.proofs.KeptLemmas.{same_counts-self, writes_order, writes_streams, writes_reading}
 
 -- what was written in all, where all of it was
-all_received : (r : Result (Unit {0}) StreamFault) (old new bytes : List ℕ) (count : ℕ) → OnOk r (count ≡ length bytes) → new ≡ old ++ take count bytes → OnOk r (new ≡ old ++ bytes)
-all_received (Ok u) old new bytes count all is = is ∙ ap (λ b. old ++ b) (ap (λ n. take n bytes) all ∙ take-length bytes)
+all_received : (r : Result (Unit {0}) StreamFault) (old new : List (ℕ × Opening)) (bytes : List ℕ) (count : ℕ) → OnOk r (count ≡ length bytes) → new ≡ receives 0 (take count bytes) old → OnOk r (new ≡ receives 0 bytes old)
+all_received (Ok u) old new bytes count all is = is ∙ ap (λ b. receives 0 b old) (ap (λ n. take n bytes) all ∙ take-length bytes)
 all_received (Err e) old new bytes count all is = tt
 
-some_received : (r : Result (Unit {0}) StreamFault) (old new bytes : List ℕ) (count : ℕ) → count ≤ length bytes → new ≡ old ++ take count bytes → OnErr r ((n : ℕ) × (n ≤ length bytes) × (new ≡ old ++ take n bytes))
+some_received : (r : Result (Unit {0}) StreamFault) (old new : List (ℕ × Opening)) (bytes : List ℕ) (count : ℕ) → count ≤ length bytes → new ≡ receives 0 (take count bytes) old → OnErr r ((n : ℕ) × (n ≤ length bytes) × (new ≡ receives 0 (take n bytes) old))
 some_received (Ok u) old new bytes count within is = tt
 some_received (Err e) old new bytes count within is = (count, within, is)
+
+-- the writing of all bytes, done or broken off by a failure
+pub writes_done : (id : ℕ) (bytes : List ℕ) (count : ℕ) (before after : WorldState) (u : Unit {0}) → count ≡ length bytes → GoesOn (Writes id (take count bytes)) before.log after.log → after.first_failure ≡ before.first_failure → Grows before after →
+    WritesAll id bytes before (Ok u) after
+writes_done id bytes count before after u all writes same grows = record {
+  count = count;
+  within = omega (arith, all);
+  writes = writes;
+  all = all;
+  no_failure = same;
+  failure = tt;
+  fails = tt;
+  grows = grows;
+}
+
+failure_set : (before after : WorldState) (o : Option ℕ) → before.first_failure ≡ o → FailsNow before after → Grows before after → is_some after.first_failure ≡ true
+failure_set before after None is fails grows = ap is_some (fails is)
+failure_set before after (Some n) is fails grows = ap is_some (grows.kept n is)
+
+pub writes_failed : (id : ℕ) (bytes : List ℕ) (count : ℕ) (before mid after : WorldState) (e : StreamFault) → count ≤ length bytes → GoesOn (Writes id (take count bytes)) before.log mid.log → mid.first_failure ≡ before.first_failure → Grows before mid → Logs None mid after →
+    WritesAll id bytes before (Err e) after
+writes_failed id bytes count before mid after e within writes same grows logs =
+    let all : Grows before after = Grows-then grows (logs_grow None mid after logs) in
+    let fails : FailsNow before after = fails_later before mid after same (fails_now mid after logs) in
+    record {
+      count = count;
+      within = within;
+      writes = record { events = writes.events; log = logs.0 ∙ writes.log; each = writes.each };
+      all = tt;
+      no_failure = tt;
+      failure = failure_set before after before.first_failure refl fails all;
+      fails = fails;
+      grows = all;
+    }
+
+-- a flush, done or not
+pub flush_done : (id : ℕ) (before after : WorldState) (u : Unit {0}) → Logs (Some (Flushed id)) before after → Flushes id before (Ok u) after
+flush_done id before after u logs = record {
+  adds = logs.0;
+  no_failure = logs.1;
+  failure = tt;
+  fails = tt;
+  grows = logs_grow (Some (Flushed id)) before after logs;
+}
+
+pub flush_failed : (id : ℕ) (before after : WorldState) (e : StreamFault) → Logs None before after → Flushes id before (Err e) after
+flush_failed id before after e logs =
+    let grows : Grows before after = logs_grow None before after logs in
+    let fails : FailsNow before after = fails_now before after logs in
+    record {
+      adds = logs.0;
+      no_failure = tt;
+      failure = failure_set before after before.first_failure refl fails grows;
+      fails = fails;
+      grows = grows;
+    }
 
 pub prints : (bytes : List ℕ) (before after : WorldState) (streams : StreamsView) (result : Result (Unit {0}) StreamFault) → SameOpen before after → WritesAll 0 bytes before result after →
     Prints bytes before streams result after streams
@@ -67,19 +95,19 @@ prints bytes before after streams result same writes =
     let log' : List Event = after.log in
     let only : OnlyWritesTo 0 log log' = (take writes.count bytes, writes.writes) in
     let kept : SameStreams log log' = writes_streams 0 log log' only in
-    let gains : received 0 log' ≡ received 0 log ++ take writes.count bytes = received-writes 0 (take writes.count bytes) log log' writes.writes in
+    let gains : openings log' ≡ receives 0 (take writes.count bytes) (openings log) = openings-writes 0 (take writes.count bytes) log log' writes.writes in
     record {
       sound = λ s. record { order = writes_order 0 before.is_open after.is_open log log' same only s.order; main = main_same log log' streams.main kept.stands (writes_reading 0 log log' only) s.main };
       main = main_same log log' streams.main kept.stands (writes_reading 0 log log' only);
-      grows = record { consistent = λ a consistent. consistent-before a writes.writes.events log (subst (λ (l : List Event). IsConsistent a l) writes.writes.log consistent); clear = writes.clear };
+      grows = writes.grows;
+      same = refl;
       only = only;
-      printed = all_received result (received 0 log) (received 0 log') bytes writes.count writes.all gains;
-      partly = some_received result (received 0 log) (received 0 log') bytes writes.count writes.within gains;
-      others = λ j apart. ap (received j) writes.writes.log ∙ writes_received 0 j (take writes.count bytes) writes.writes.events log apart writes.writes.each;
+      printed = all_received result (openings log) (openings log') bytes writes.count writes.all gains;
+      partly = some_received result (openings log) (openings log') bytes writes.count writes.within gains;
       counts = kept.counts;
       rest = λ a r h. rest_same a log log' streams.main r (writes_reading 0 log log' only) h;
       no_failure = writes.no_failure;
-      failure = writes.failure;
+      failure = writes.fails;
     }
 
 -- one flush, done or not
@@ -90,14 +118,6 @@ flush_order false id before after log same order = record { orderly = order.orde
 flush_main : (done : Bool) (id : ℕ) (log : List Event) (main : Option InputView) → IsSoundMain log main → IsSoundMain (flushed_if done id log) main
 flush_main true id log main h = main_same log (Flushed id ∷ log) main (λ j. refl) (λ j. refl) h
 flush_main false id log main h = h
-
-flush_consistent : (done : Bool) (id : ℕ) (log : List Event) (a : Oracle) → IsConsistent a (flushed_if done id log) → IsConsistent a log
-flush_consistent true id log a h = h.1
-flush_consistent false id log a h = h
-
-flush_received : (done : Bool) (id j : ℕ) (log : List Event) → received j (flushed_if done id log) ≡ received j log
-flush_received true id j log = refl
-flush_received false id j log = refl
 
 -- the closing of the main input
 false_true : false ≡ true → ⊥
@@ -117,13 +137,14 @@ close_order (Some v) n before after log closes order h = record {
   ];
 }
 
-close_consistent : (main : Option InputView) (n : ℤ) (log : List Event) (a : Oracle) → IsConsistent a (closed_main main n log) → IsConsistent a log
-close_consistent None n log a h = h
-close_consistent (Some v) n log a h = h.1
+-- what the closing logs
+abbrev closing : Option InputView → ℤ → List Event
+closing None n = []
+closing (Some v) n = Closed v.id n ∷ []
 
-close_received : (main : Option InputView) (n : ℤ) (j : ℕ) (log : List Event) → received j (closed_main main n log) ≡ received j log
-close_received None n j log = refl
-close_received (Some v) n j log = refl
+closing_is : (main : Option InputView) (n : ℤ) (log : List Event) → closed_main main n log ≡ with_events (closing main n) log
+closing_is None n log = refl
+closing_is (Some v) n log = refl
 
 plain_input : (kind : InputKind) → kind ≢ Command → is_command (Some (AnInput kind)) ≡ false
 plain_input Standard plain = refl
@@ -158,10 +179,10 @@ ends_main before after old new answer none sound closes adds same_failure =
     subst (λ (l : List Event). EndsMain before old record after { log = l } new) (sym adds) record {
       sound = λ s. record { order = close_order old.main answer before after log closes s.order s.main; main = main };
       main = main;
-      grows = record { consistent = λ a. close_consistent old.main answer log a; clear = λ none. sym same_failure ∙ none };
+      grows = grows_on (closing old.main answer) before record after { log = closed } (closing_is old.main answer log) same_failure;
       consistent = λ a. closed_consistent old.main answer log a sound;
       adds = (answer, refl);
-      outputs = λ j. close_received old.main answer j log;
+      outputs = openings-close old.main answer log;
       counts = close_counts old.main answer log sound;
       no_failure = same_failure;
     }
@@ -182,17 +203,14 @@ no_failure_after (Ok u) (Ok v) failure failure1 failure2 p q = q ∙ p
 no_failure_after (Ok u) (Err e) failure failure1 failure2 p q = tt
 no_failure_after (Err e) second failure failure1 failure2 p q = tt
 
-some_none : (failure : Option ℕ) → is_some failure ≡ true → failure ≡ None → ⊥
-some_none failure some none = false_true (sym (ap is_some none) ∙ some)
+still_set : (failure1 failure2 : Option ℕ) → is_some failure1 ≡ true → ((n : ℕ) → failure1 ≡ Some n → failure2 ≡ Some n) → is_some failure2 ≡ true
+still_set None failure2 some kept = absurd (false_true some)
+still_set (Some n) failure2 some kept = ap is_some (kept n refl)
 
-is_set : (failure : Option ℕ) → (failure ≡ None → ⊥) → is_some failure ≡ true
-is_set None some = absurd (some refl)
-is_set (Some n) some = refl
-
-some_failure_after : (first second : Result (Unit {0}) StreamFault) (failure1 failure2 : Option ℕ) → OnErr first (is_some failure1 ≡ true) → OnErr second (is_some failure2 ≡ true) → (failure2 ≡ None → failure1 ≡ None) → OnErr (result_and first second) (is_some failure2 ≡ true)
-some_failure_after (Ok u) (Ok v) failure1 failure2 p q clear = tt
-some_failure_after (Ok u) (Err e) failure1 failure2 p q clear = q
-some_failure_after (Err e) second failure1 failure2 p q clear = is_set failure2 (λ none. some_none failure1 p (clear none))
+some_failure_after : (first second : Result (Unit {0}) StreamFault) (failure1 failure2 : Option ℕ) → OnErr first (is_some failure1 ≡ true) → OnErr second (is_some failure2 ≡ true) → ((n : ℕ) → failure1 ≡ Some n → failure2 ≡ Some n) → OnErr (result_and first second) (is_some failure2 ≡ true)
+some_failure_after (Ok u) (Ok v) failure1 failure2 p q kept = tt
+some_failure_after (Ok u) (Err e) failure1 failure2 p q kept = q
+some_failure_after (Err e) second failure1 failure2 p q kept = still_set failure1 failure2 p kept
 
 pub finishes : (before middle later after : WorldState) (old new : StreamsView) (main : Option InputView) (first second result : Result (Unit {0}) StreamFault) (answer : ℤ) →
     result ≡ result_and first second → old.main ≡ main → new.main ≡ None → SameOpen before middle → SameOpen middle later → ClosesMain later after main → Flushes 0 before first middle → Flushes 1 middle second later →
@@ -213,14 +231,11 @@ finishes before middle later after old new main first second result answer is ol
             order = close_order old.main answer later after last closes order2 main2;
             main = subst (λ (m : Option InputView). IsSoundMain (closed_main old.main answer last) m) (sym none) tt;
           };
-      grows = record {
-        consistent = λ a consistent. flush_consistent (is_ok first) 0 log a (flush_consistent (is_ok second) 1 mid a (close_consistent old.main answer last a consistent));
-        clear = λ e. flush.clear (flush1.clear (sym same_failure ∙ e));
-      };
+      grows = subst (λ (l : List Event). Grows before record after { log = l }) adds (Grows-then flush.grows (Grows-then flush1.grows (grows_on (closing main answer) later after (closed_it ∙ closing_is main answer later.log) same_failure)));
       ends = record { first = is_ok first; second = is_ok second; answer = answer; adds = refl; flushed = both_ok first second; failed = one_failed first second };
-      outputs = λ j. close_received old.main answer j last ∙ (flush_received (is_ok second) 1 j mid ∙ flush_received (is_ok first) 0 j log);
+      outputs = openings-close old.main answer last ∙ (openings-flush (is_ok second) 1 mid ∙ openings-flush (is_ok first) 0 log);
       no_failure = subst (λ (m : Option ℕ). OnOk (result_and first second) (m ≡ before.first_failure)) (sym same_failure) (no_failure_after first second before.first_failure middle.first_failure later.first_failure flush.no_failure flush1.no_failure);
-      failure = subst (λ (m : Option ℕ). OnErr (result_and first second) (is_some m ≡ true)) (sym same_failure) (some_failure_after first second middle.first_failure later.first_failure flush.failure flush1.failure flush1.clear);
+      failure = subst (λ (m : Option ℕ). OnErr (result_and first second) (is_some m ≡ true)) (sym same_failure) (some_failure_after first second middle.first_failure later.first_failure flush.failure flush1.failure flush1.grows.kept);
     } in
     let with_log : Finishes before old (result_and first second) after new = subst (λ (l : List Event). Finishes before old (result_and first second) record after { log = l } new) (sym adds) whole in
     subst (λ (r : Result (Unit {0}) StreamFault). Finishes before old r after new) (sym is) with_log

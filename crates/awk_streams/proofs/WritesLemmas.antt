@@ -1,8 +1,8 @@
-use Rattle.std.proofs.Common.{◌≡◌, ℕ, ◌+◌, ◌<◌, ◌-◌, List, [], ◌∷◌, ◌++◌, length, take, drop, Some, refl, sym, ◌∙◌, ap, arith, append_assoc, append-nil}
+use Rattle.std.proofs.Common.{◌≡◌, ℕ, ◌+◌, ◌<◌, ◌-◌, List, [], ◌∷◌, ◌++◌, length, take, drop, Some, None, refl, sym, ◌∙◌, ap, arith, append_assoc, append-nil}
 use Rattle.std.proofs.lemmas.Bool.{cond-true, cond-false, ne_eqb, eq-eqb}
 use Rattle.std.proofs.lemmas.List.{take_rest, take-take, drop-take, take-append-drop}
 use Rattle.awk_world.specs.definitions.Log.{Event, Wrote, taken_or_none}
-use Rattle.awk_world.specs.definitions.Writes.{with_events, GoesOn, Writes, received}
+use Rattle.awk_world.specs.definitions.Writes.{with_events, GoesOn, Writes}
 
 pub with_events-push : (es : List Event) (e : Event) (log : List Event) → with_events (es ++ e ∷ []) log ≡ e ∷ with_events es log
 with_events-push [] e log = refl
@@ -18,6 +18,10 @@ pub taken-some : (id n : ℕ) (bs : List ℕ) → 0 < n → 0 < length bs → ta
 taken-some id n [] some room = absurd (omega arith)
 taken-some id n (b ∷ bs) some room = cond-false _ _ _ (ne_eqb n 0 (λ (e : n ≡ 0). omega arith))
 
+pub taken-none : (id n : ℕ) (bs : List ℕ) → n ≡ 0 → 0 < length bs → taken_or_none id n bs ≡ None
+taken-none id n [] none room = absurd (omega (arith, room))
+taken-none id n (b ∷ bs) none room = cond-true _ _ _ (eq-eqb n 0 none)
+
 pub GoesOn-write : (id : ℕ) (bytes bs : List ℕ) (old mid new : List Event) → GoesOn (Writes id bytes) old mid → new ≡ Wrote id bs ∷ mid → GoesOn (Writes id (bytes ++ bs)) old new
 GoesOn-write id bytes bs old mid new so_far is = record {
   events = so_far.events ++ Wrote id bs ∷ [];
@@ -31,13 +35,3 @@ take_on bytes done n =
     let front : take done (take (done + n) bytes) ≡ take done bytes = take-take done (done + n) bytes (omega arith) in
     let back : drop done (take (done + n) bytes) ≡ take n (drop done bytes) = drop-take done n bytes in
     ap (λ b. take done bytes ++ take n b) (take_rest bytes done) ∙ (ap (λ b. b ++ take n (drop done bytes)) (sym front) ∙ (ap (λ b. take done (take (done + n) bytes) ++ b) (sym back) ∙ take-append-drop done (take (done + n) bytes)))
-
-pub received-with : (id : ℕ) (es : List Event) (bytes : List ℕ) (log : List Event) → Writes id bytes es → received id (with_events es log) ≡ received id log ++ bytes
-received-with id [] bytes log none = sym (append-nil (received id log)) ∙ ap (λ b. received id log ++ b) (sym none)
-received-with id (Wrote i bs ∷ es) bytes log (same, (rest, is, later)) =
-    let here : received id (Wrote i bs ∷ log) ≡ received id log ++ bs = cond-true _ _ _ (eq-eqb i id same) in
-    received-with id es rest (Wrote i bs ∷ log) later ∙ (ap (λ b. b ++ rest) here ∙ (append_assoc (received id log) bs rest ∙ ap (λ b. received id log ++ b) (sym is)))
-received-with id (e ∷ es) bytes log h = absurd h
-
-pub received-writes : (id : ℕ) (bytes : List ℕ) (old new : List Event) → GoesOn (Writes id bytes) old new → received id new ≡ received id old ++ bytes
-received-writes id bytes old new h = ap (received id) h.log ∙ received-with id h.events bytes old h.each

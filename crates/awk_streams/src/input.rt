@@ -1,7 +1,8 @@
 // Inputs: records out of the bytes that a world hands over.
 ghost use Rattle.std.specs.Prelude.{◌≡◌, ◌≢◌, ◌≤◌, ◌<◌, ◌⊎◌, ℕ, List, ◌∷◌, length, IsTrue, ◌↔◌, OnOk, OnErr, IfErr, None, Err, Ok};
 ghost use Rattle.awk_record.specs.Cut.{longest};
-ghost use Rattle.awk_world.specs.definitions.WorldState.{SameOpen};
+ghost use Rattle.awk_world.specs.definitions.WorldState.{SameOpen, MayFailNow};
+ghost use Rattle.awk_world.specs.definitions.Grows.{Grows};
 ghost use Rattle.awk_world.specs.definitions.Log.{Event, Read};
 ghost use Rattle.awk_streams.specs.support.Pulls.{Brings, Pulls, room_of};
 
@@ -31,7 +32,8 @@ fn read_more<W: World>(world: &mut W, id: u64, buffer: &mut RecordBuffer) -> Res
     ensures memory { IfErr result (λ e. e ≡ RecordFault.Memory) }
     ensures less { OnOk result (room_of buffer.new.ending (length buffer.new.bytes) < room_of buffer.old.ending (length buffer.old.bytes)) }
     ensures no_failure { OnOk result (W.is_logged → (W.state world.new).first_failure ≡ (W.state world.old).first_failure) }
-    ensures clear { W.is_logged → (W.state world.new).first_failure ≡ None → (W.state world.old).first_failure ≡ None }
+    ensures failure { OnErr result (W.is_logged → MayFailNow (W.state world.old) (W.state world.new)) }
+    ensures grows { W.is_logged → Grows (W.state world.old) (W.state world.new) }
 {
     let mut chunk = [0u8; CHUNK];
     match world.read(id, &mut chunk) {
@@ -65,7 +67,8 @@ pub fn next_from<W: World>(
     ensures fault { result ≢ Err RecordFault.FieldNumber }
     ensures pulls { W.is_logged → Pulls id separator.now buffer.old (W.state world.old).log result buffer.new (W.state world.new).log }
     ensures no_failure { W.is_logged → result ≢ Err RecordFault.Memory → (W.state world.new).first_failure ≡ (W.state world.old).first_failure }
-    ensures clear { W.is_logged → (W.state world.new).first_failure ≡ None → (W.state world.old).first_failure ≡ None }
+    ensures failure { W.is_logged → result ≡ Err RecordFault.Memory → MayFailNow (W.state world.old) (W.state world.new) }
+    ensures grows { W.is_logged → Grows (W.state world.old) (W.state world.new) }
 {
     loop {
         let step = buffer.next(separator)?;

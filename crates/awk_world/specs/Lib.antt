@@ -5,4 +5,6 @@ pub use Rattle.awk_world.specs.definitions.WorldState
 pub use Rattle.awk_world.specs.definitions.Oracle
 pub use Rattle.awk_world.specs.definitions.Orderly
 pub use Rattle.awk_world.specs.definitions.Writes
+pub use Rattle.awk_world.specs.definitions.Openings
+pub use Rattle.awk_world.specs.definitions.Grows
 pub use Rattle.awk_world.specs.definitions.Script

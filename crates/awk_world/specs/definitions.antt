@@ -4,4 +4,6 @@ pub mod WorldState
 pub mod Oracle
 pub mod Orderly
 pub mod Writes
+pub mod Openings
+pub mod Grows
 pub mod Script

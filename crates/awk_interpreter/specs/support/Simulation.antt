@@ -1,21 +1,23 @@
 -- How the code's state and world stand for the state of the definitions, and what a part of the code does.
-use Rattle.std.specs.Prelude.{◌≡◌, ℕ, pos, ◌≤◌, ◌<◌, Bool, true, false, List, [], ◌++◌, length, Option, Some, None, is_some, suc, Result, Ok, Err, OnOk}
+use Rattle.std.specs.Prelude.{◌≡◌, ◌⊎◌, ℕ, pos, ◌≤◌, ◌<◌, Bool, true, false, List, [], ◌∷◌, ◌++◌, length, Option, Some, None, is_some, suc, Result, Ok, Err, OnOk}
 use Rattle.awk_value.specs.declared.value.Value.{Value}
 use Rattle.awk_world.specs.declared.world.InputKind.{InputKind}
 use Rattle.awk_streams.specs.declared.fault.StreamFault.{StreamFault}
 use Rattle.awk_streams.specs.WorldState.{WorldState}
 use Rattle.awk_streams.specs.Oracle.{Oracle, IsConsistent, how_many, opens_input}
-use Rattle.awk_streams.specs.Writes.{received}
-use Rattle.awk_streams.specs.Streams.{AreOpen, AreSound, IsSoundMain, Grows, IsMainRest}
+use Rattle.awk_streams.specs.Log.{Event}
+use Rattle.awk_streams.specs.Openings.{StandardOutput, StandardError, Opening, openings, outputs_of, Begins}
+use Rattle.awk_streams.specs.Streams.{InputView, AreOpen, AreSound, IsSoundMain, Grows, IsMainRest}
 use Rattle.awk_variables.specs.Variables.{value_of, initial_value}
 use Rattle.awk_meaning.specs.declared.halt.Halt.{Halt}
 use Rattle.awk_meaning.specs.declared.halt.Halt.TheVariants as halt
-use Rattle.awk_meaning.specs.State.{StandardOutput, StandardError, Effect, State, Out, Run}
+use Rattle.awk_meaning.specs.State.{Effect, State, Out, Run}
 use Rattle.awk_meaning.specs.Results.{Sort, WantOfMemory, FailedWrite, OfLanguage, sort_of}
 use Rattle.awk_meaning.specs.Primitives.{spend, open_main, close_main}
 use Rattle.awk_meaning.specs.Inputs.{search_operands_within}
 use Rattle.awk_meaning.specs.Faults.{stream_fault}
-use Rattle.awk_meaning.specs.Meaning.{arguments_of, printed_to}
+use Rattle.awk_meaning.specs.Meaning.{arguments_of, printed_to, outputs_after, requests_after}
+use Rattle.awk_meaning.specs.Order.{Stage, MeetsAll, first_stage}
 use Rattle.awk_interpreter.specs.declared.interpreter.Interpreter.{Interpreter}
 
 -- the code's own state is the one of the definitions; its streams are left aside
@@ -27,21 +29,42 @@ pub record OwnRelation (m : Interpreter) (s : State) : Type 0 where
   pub input_seen : s.input_seen ≡ m.arguments.input_seen
   pub steps : s.steps ≡ m.steps
 
--- the code's state and world stand for the state s after these effects
+-- the number of the main input, if there is one
+abbrev pub number_of : Option InputView → Option ℕ
+number_of None = None
+number_of (Some v) = Some v.id
+
+abbrev pub stage_of : List Event → Option InputView → Stage
+stage_of log main = record { log = log; main = number_of main }
+
+-- the openings of the standard outputs, with their numbers, after these effects
+abbrev pub standard_openings : List Effect → List (ℕ × Opening)
+standard_openings effects = (1, record { output = StandardError; bytes = printed_to StandardError effects }) ∷ (0, record { output = StandardOutput; bytes = printed_to StandardOutput effects }) ∷ []
+
+-- the code's state and world stand for the state s after these effects, whose requests were met in turn
 pub record StateRelation (oracle : Oracle) (m : Interpreter) (k : WorldState) (s : State) (past : List Effect) : Type 0 where
   pub clear : k.first_failure ≡ None
   pub outside : s.outside ≡ oracle
-  pub openings : (kind : InputKind) (name : List ℕ) → s.openings kind name ≡ how_many (opens_input kind name) k.log
+  pub inputs : (kind : InputKind) (name : List ℕ) → s.openings kind name ≡ how_many (opens_input kind name) k.log
   pub main : IsMainRest oracle k.log m.streams.main s.main
   pub holds : OwnRelation m s
-  pub output : received 0 k.log ≡ printed_to StandardOutput past
-  pub error : received 1 k.log ≡ printed_to StandardError past
+  pub outputs : openings k.log ≡ standard_openings past
+  pub turn : MeetsAll oracle (requests_after [] past) first_stage (stage_of k.log m.streams.main)
 
--- what a part came to: after a failed write the world's first failure is set; unless memory was refused or a
--- write failed, the result is the meaning's, and the code's state stands for the meaning's
+-- a part that a failure ended: the outputs begin with what these effects print, and the world's first failure stands so
+pub record FailureRelation (stands : Type 0) (k : WorldState) (effects : List Effect) : Type 0 where
+  pub begins : Begins (outputs_of k.log) (outputs_after effects)
+  pub failure : stands
+
+-- the world's first failure stands where its log ended
+abbrev pub FailedLast : WorldState → Type 0
+FailedLast k = k.first_failure ≡ Some (length k.log)
+
+-- what a part came to: a failed write was the world's first failure, and where memory was refused, by the world or not, it had none before;
+-- else the result is the meaning's, and the code's state stands for the meaning's
 abbrev pub ResultRelationBy : {A : Type 0} → Oracle → Interpreter → WorldState → Sort → Out A → List Effect → Type 0
-ResultRelationBy oracle m k WantOfMemory o past = Unit {0}
-ResultRelationBy oracle m k FailedWrite o past = is_some k.first_failure ≡ true
+ResultRelationBy oracle m k WantOfMemory o past = FailureRelation ((k.first_failure ≡ None) ⊎ FailedLast k) k (past ++ o.effects)
+ResultRelationBy oracle m k FailedWrite o past = FailureRelation (FailedLast k) k (past ++ o.effects)
 ResultRelationBy oracle m k (OfLanguage reason) o past = (o.result ≡ Err reason) × StateRelation oracle m k o.state (past ++ o.effects)
 
 abbrev pub ResultRelation : {A : Type 0} → Oracle → Interpreter → WorldState → Result A Halt → Out A → List Effect → Type 0

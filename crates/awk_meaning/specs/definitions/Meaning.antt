@@ -1,10 +1,11 @@
 -- The meaning of a program: its outcome, the bytes of each output, and what it requests of the outside.
 use Rattle.std.specs.Prelude.{◌≡◌, ◌≢◌, ℕ, ◌+◌, suc, List, [], ◌∷◌, ◌++◌, length, codes, Bool, true, false, None, Result, Ok, Err, if◌then◌else◌}
 use Rattle.awk_streams.specs.Oracle.{Oracle}
+use Rattle.awk_streams.specs.Openings.{Output, StandardOutput, StandardError, Opening, Begins}
 use Rattle.awk_tree.specs.Tree.{Item}
 use Rattle.awk_meaning.specs.declared.outcome.Outcome.{Outcome}
 use Rattle.awk_meaning.specs.declared.outcome.Outcome.TheVariants.{Ended, Fault, Stopped}
-use Rattle.awk_meaning.specs.definitions.State.{Output, StandardOutput, StandardError, Request, TheEnd, Effect, Printed, Requested, State, Out, Run, ◌>>=◌, ret}
+use Rattle.awk_meaning.specs.definitions.State.{Request, Effect, Printed, Requested, State, Out, Run, ◌>>=◌, ret}
 use Rattle.awk_meaning.specs.declared.halt.Halt.{Halt}
 use Rattle.awk_meaning.specs.declared.halt.Halt.TheVariants as halt
 use Rattle.awk_variables.specs.Variables.{initial_value}
@@ -64,43 +65,40 @@ printed_to output [] = []
 printed_to output (Printed to bytes ∷ effects) = (if same_output to output then bytes else []) ++ printed_to output effects
 printed_to output (Requested what ∷ effects) = printed_to output effects
 
--- a request, and what was printed to each output before it
+-- the openings of outputs, in their order: so far only the two standard ones are printed to
+abbrev pub outputs_after : List Effect → List Opening
+outputs_after effects = record { output = StandardOutput; bytes = printed_to StandardOutput effects } ∷ record { output = StandardError; bytes = printed_to StandardError effects } ∷ []
+
+-- a request, and what was printed before it
 pub record Asked : Type 0 where
   pub what : Request
-  pub printed : Output → List ℕ
+  pub outputs : List Opening
 
 abbrev pub requests_after : List Effect → List Effect → List Asked
 requests_after past [] = []
 requests_after past (Printed to bytes ∷ effects) = requests_after (past ++ Printed to bytes ∷ []) effects
-requests_after past (Requested what ∷ effects) = record { what = what; printed = λ output. printed_to output past } ∷ requests_after (past ++ Requested what ∷ []) effects
+requests_after past (Requested what ∷ effects) = record { what = what; outputs = outputs_after past } ∷ requests_after (past ++ Requested what ∷ []) effects
 
+-- what a program comes to: its outcome, the bytes of each opening of an output, and what it requests before its end
 pub record Meaning : Type 0 where
   pub outcome : Outcome
-  pub printed : Output → List ℕ
+  pub outputs : List Opening
   pub requests : List Asked
 
--- the meaning of the program with these answers of the outside and this many steps; the end is the last request
+-- the meaning of the program with these answers of the outside and this many steps
 abbrev pub meaning_of : List Item → StartValues → Oracle → ℕ → Meaning
 meaning_of items start oracle limit = record {
   outcome = outcome_of (run_program items start oracle limit).result;
-  printed = λ output. printed_to output (run_program items start oracle limit).effects;
-  requests = requests_after [] ((run_program items start oracle limit).effects ++ Requested TheEnd ∷ []);
+  outputs = outputs_after (run_program items start oracle limit).effects;
+  requests = requests_after [] (run_program items start oracle limit).effects;
 }
 
 -- What a larger limit of steps changes: nothing but where a run stops.
 
-pub record IsBeginning (x y : List ℕ) : Type 0 where
-  pub more : List ℕ
-  pub is : y ≡ x ++ more
-
--- each output has a beginning of what the other meaning prints to it
-abbrev pub Begins : Meaning → Meaning → Type 0
-Begins x y = (output : Output) → IsBeginning (x.printed output) (y.printed output)
-
 -- a meaning that isn't stopped at a limit is the same at a larger one, and what is stopped begins it
 pub record KeepsToLimits (items : List Item) (start : StartValues) (oracle : Oracle) (limit more : ℕ) : Type 0 where
   pub settled : (meaning_of items start oracle limit).outcome ≢ Stopped → meaning_of items start oracle (limit + more) ≡ meaning_of items start oracle limit
-  pub stopped : (meaning_of items start oracle limit).outcome ≡ Stopped → Begins (meaning_of items start oracle limit) (meaning_of items start oracle (limit + more))
+  pub stopped : (meaning_of items start oracle limit).outcome ≡ Stopped → Begins (meaning_of items start oracle limit).outputs (meaning_of items start oracle (limit + more)).outputs
 
 abbrev pub LawOfLimits : Type 0
 LawOfLimits = (items : List Item) (start : StartValues) (oracle : Oracle) (limit more : ℕ) → KeepsToLimits items start oracle limit more

@@ -11,8 +11,9 @@ use Rattle.awk_record.specs.Cut.{Ending, Cut, Found, NoMore, BrokenOff, TooLong,
 use Rattle.awk_record.specs.Record.{split_by}
 use Rattle.awk_world.specs.declared.world.InputKind.{InputKind}
 use Rattle.awk_streams.specs.Oracle.{Source, same_input, one_if}
+use Rattle.awk_streams.specs.Openings.{StandardOutput}
 use Rattle.awk_meaning.specs.declared.fault.Fault.TheVariants.{InputNotReadable, RecordTooLong, RecordSeparatorTooLong, PatternRefused}
-use Rattle.awk_meaning.specs.definitions.State.{StandardOutput, AnOpening, ARecord, Printed, Requested, State, Run, ◌>>=◌, lift, ret}
+use Rattle.awk_meaning.specs.definitions.State.{AnOpening, ARecord, Printed, Requested, State, Run, ◌>>=◌, lift, ret}
 use Rattle.awk_meaning.specs.declared.halt.Halt.TheVariants as halt
 use Rattle.awk_variables.specs.declared.special.Special.{Special}
 use Rattle.awk_variables.specs.declared.special.Special.TheVariants.{Argc, Filename, Fnr, Fs, Ofs, Ors, Rs}
@@ -111,12 +112,12 @@ begin_input name = put (name_of Filename) (Input name) >>= λ _. put (name_of Fn
 abbrev pub with_rest : State → List ℕ → Ending → State
 with_rest s left ending = record s { main = Some (record { bytes = left; ending = ending }) }
 
-abbrev pub taken : Cut → Source → Run (Option (List ℕ))
-taken (Found first left) source s = record { result = Ok (Some first); state = with_rest s left source.ending; effects = Requested ARecord ∷ [] }
-taken NoMore source s = record { result = Ok None; state = with_rest s [] source.ending; effects = Requested ARecord ∷ [] }
-taken BrokenOff source s = record { result = Err (halt.Fault InputNotReadable); state = with_rest s [] source.ending; effects = Requested ARecord ∷ [] }
-taken TooLong source s = record { result = Err (halt.Fault RecordTooLong); state = with_rest s source.bytes source.ending; effects = Requested ARecord ∷ [] }
-taken BadSeparator source s = record { result = Err (halt.Fault RecordSeparatorTooLong); state = with_rest s source.bytes source.ending; effects = Requested ARecord ∷ [] }
+abbrev pub taken : Cut → (separator : List ℕ) → Source → Run (Option (List ℕ))
+taken (Found first left) separator source s = record { result = Ok (Some first); state = with_rest s left source.ending; effects = Requested (ARecord separator source.bytes) ∷ [] }
+taken NoMore separator source s = record { result = Ok None; state = with_rest s [] source.ending; effects = Requested (ARecord separator source.bytes) ∷ [] }
+taken BrokenOff separator source s = record { result = Err (halt.Fault InputNotReadable); state = with_rest s [] source.ending; effects = Requested (ARecord separator source.bytes) ∷ [] }
+taken TooLong separator source s = record { result = Err (halt.Fault RecordTooLong); state = with_rest s source.bytes source.ending; effects = Requested (ARecord separator source.bytes) ∷ [] }
+taken BadSeparator separator source s = record { result = Err (halt.Fault RecordSeparatorTooLong); state = with_rest s source.bytes source.ending; effects = Requested (ARecord separator source.bytes) ∷ [] }
 
 -- a rest cut by a record separator; an empty one isn't built
 abbrev pub cut_by : List ℕ → Source → Cut
@@ -125,7 +126,7 @@ cut_by (c ∷ separator) source = cut_of (c ∷ separator) source.bytes source.e
 
 abbrev pub taken_of : Option Source → List ℕ → Run (Option (List ℕ))
 taken_of None separator = ret None
-taken_of (Some source) separator = taken (cut_by separator source) source
+taken_of (Some source) separator = taken (cut_by separator source) separator source
 
 -- the next record of the open main input, by the RS of this moment; none at its end, and where none is open
 unfoldable pub take_record : Run (Option (List ℕ))

@@ -4,18 +4,14 @@ use Rattle.awk_value.specs.declared.value.Value.{Value}
 use Rattle.awk_record.specs.Record.{RecordPair}
 use Rattle.awk_world.specs.declared.world.InputKind.{InputKind}
 use Rattle.awk_streams.specs.Oracle.{Source, Oracle}
+use Rattle.awk_streams.specs.Openings.{Output}
 use Rattle.awk_meaning.specs.declared.halt.Halt.{Halt}
 
--- what is printed to: standard output and standard error are one opening each
-pub data Output : Type 0 where
-  StandardOutput : Output
-  StandardError : Output
-
--- what a run asks of the outside
+-- what a run asks of the outside before its end: a main input of a kind and name; or the next record of the open main input,
+-- by this separator, where this is left of its bytes
 pub data Request : Type 0 where
   AnOpening : (kind : InputKind) (name : List ℕ) → Request
-  ARecord : Request
-  TheEnd : Request
+  ARecord : (separator left : List ℕ) → Request
 
 -- what a run shows, in its order
 pub data Effect : Type 0 where

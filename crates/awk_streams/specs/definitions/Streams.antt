@@ -1,19 +1,21 @@
 -- The streams of a run as one value, and what each call tells of a world's log.
 -- (POSIX awk, INPUT FILES and STDOUT; Variables and Special Variables: RS)
-use Rattle.std.specs.Prelude.{◌≡◌, ◌≢◌, ◌≤◌, ℕ, ℤ, ◌+◌, Bool, true, false, ◌&&◌, List, [], ◌∷◌, ◌++◌, length, take, Option, Some, None, is_some, Result, Ok, Err, OnOk, OnErr, bytes_eq}
+use Rattle.std.specs.Prelude.{◌≡◌, ◌≢◌, ◌⊎◌, ◌≤◌, ℕ, ℤ, ◌+◌, Bool, true, false, ◌&&◌, List, [], ◌∷◌, ◌++◌, length, take, Option, Some, None, is_some, Result, Ok, Err, OnOk, OnErr, bytes_eq}
 use Rattle.awk_world.specs.declared.world.InputKind.{InputKind}
 use Rattle.awk_world.specs.declared.world.InputKind.TheVariants.{Command}
 use Rattle.awk_world.specs.declared.world.OutputKind.{OutputKind}
 use Rattle.awk_streams.specs.declared.input.Input.{Input}
 use Rattle.awk_streams.specs.declared.fault.StreamFault.{StreamFault}
 use Rattle.awk_streams.specs.declared.fault.StreamFault.TheVariants.{Memory, InputNotReadable}
-use Rattle.awk_world.specs.definitions.WorldState.{WorldState, Closes, SameOpen}
+use Rattle.awk_world.specs.definitions.WorldState.{WorldState, Closes, SameOpen, FailsNow, MayFailNow}
 use Rattle.awk_world.specs.definitions.Log.{Event, OpenedInput, Closed, logged}
 use Rattle.awk_record.specs.Cut.{cut_of}
 use Rattle.awk_record.specs.Buffer.{Pending}
 use Rattle.awk_world.specs.definitions.Oracle.{Oracle, Source, IsConsistent, one_if, how_many, opens_input, opens_output, closes_command, runs, same_input, AnInput, standing}
 use Rattle.awk_world.specs.definitions.Orderly.{IsReadable, IsInOrder}
-use Rattle.awk_world.specs.definitions.Writes.{OnlyWritesTo, received, flushed_if}
+use Rattle.awk_world.specs.definitions.Writes.{OnlyWritesTo, flushed_if}
+use Rattle.awk_world.specs.definitions.Openings.{openings, receives}
+pub use Rattle.awk_world.specs.definitions.Grows.{Grows}
 use Rattle.awk_streams.specs.definitions.Inputs.{ReadsAsNeeded, Rest}
 pub use Rattle.awk_world.specs.definitions.Oracle.{SameCounts}
 pub use Rattle.awk_streams.specs.definitions.Inputs.{NextTold}
@@ -75,11 +77,6 @@ pub record AreSound (world : WorldState) (streams : StreamsView) : Type 0 where
   pub order : IsInOrder world.is_open world.log
   pub main : IsSoundMain world.log streams.main
 
--- the log goes on: what is consistent with what it became is consistent with what it was; and no failure is forgotten
-pub record Grows (before after : WorldState) : Type 0 where
-  pub consistent : (a : Oracle) → IsConsistent a after.log → IsConsistent a before.log
-  pub clear : after.first_failure ≡ None → before.first_failure ≡ None
-
 -- what is left of the main input, as the oracle gives it: all bytes not yet taken, and the ending behind them
 abbrev pub IsMainRest : Oracle → List Event → Option InputView → Option Source → Type 0
 IsMainRest a log None None = Unit {0}
@@ -107,43 +104,51 @@ pub record OpensMain (kind : InputKind) (name : List ℕ) (before : WorldState) 
   pub main : IsSoundMain before.log old.main → IsSoundMain after.log new.main
   pub grows : Grows before after
   pub adds : after.log ≡ logged (main_opening kind name result new.main) before.log
-  pub outputs : (j : ℕ) → received j after.log ≡ received j before.log
+  pub outputs : openings after.log ≡ openings before.log
   pub counts : result ≢ Err Memory → CountsInput kind name before.log after.log
   pub granted : OnOk result ((a : Oracle) → IsConsistent a after.log → (s : Source) × (a.input kind name (how_many (opens_input kind name) before.log) ≡ Some s) × IsMainRest a after.log new.main (Some s))
   pub refused : result ≡ Err InputNotReadable → (a : Oracle) → IsConsistent a after.log → a.input kind name (how_many (opens_input kind name) before.log) ≡ None
   pub no_failure : result ≢ Err Memory → after.first_failure ≡ before.first_failure
-  pub failure : result ≡ Err Memory → is_some after.first_failure ≡ true
+  pub failure : result ≡ Err Memory → FailsNow before after
 
 -- the main input is read only while what is at hand doesn't decide its next record, and never behind its ending
 abbrev pub ReadsMain : List ℕ → Option InputView → List Event → List Event → Type 0
 ReadsMain separator None log log' = log' ≡ log
 ReadsMain separator (Some v) log log' = ReadsAsNeeded v.id separator v.pending log log'
 
+-- where anything is read, the main input's ending was not met before
+abbrev pub ReadsOpen : Option InputView → List Event → List Event → Type 0
+ReadsOpen None log log' = Unit {0}
+ReadsOpen (Some v) log log' = (log' ≡ log) ⊎ IsReadable v.id log
+
 -- an asking for the next record of the main input
 pub record AsksMain (separator : List ℕ) (before : WorldState) (old : StreamsView) (result : Result (Option (List ℕ)) StreamFault) (after : WorldState) (new : StreamsView) : Type 0 where
   pub sound : AreSound before old → AreSound after new
   pub main : IsSoundMain after.log new.main
   pub grows : Grows before after
+  pub same : IsSameMain old.main new.main
   pub request : ReadsMain separator old.main before.log after.log
-  pub outputs : (j : ℕ) → received j after.log ≡ received j before.log
+  pub readable : ReadsOpen old.main before.log after.log
+  pub outputs : openings after.log ≡ openings before.log
   pub counts : SameCounts before.log after.log
   pub answered : result ≢ Err Memory → (a : Oracle) (whole : Source) → IsConsistent a after.log → IsMainRest a before.log old.main (Some whole) →
       (left : List ℕ) × NextTold (cut_of separator whole.bytes whole.ending) result whole.bytes left × IsMainRest a after.log new.main (Some record { bytes = left; ending = whole.ending })
   pub no_failure : result ≢ Err Memory → after.first_failure ≡ before.first_failure
+  pub failure : result ≡ Err Memory → MayFailNow before after
 
 -- a print of bytes to standard output
 pub record Prints (bytes : List ℕ) (before : WorldState) (old : StreamsView) (result : Result (Unit {0}) StreamFault) (after : WorldState) (new : StreamsView) : Type 0 where
   pub sound : AreSound before old → AreSound after new
   pub main : IsSoundMain before.log old.main → IsSoundMain after.log new.main
   pub grows : Grows before after
+  pub same : new ≡ old
   pub only : OnlyWritesTo 0 before.log after.log
-  pub printed : OnOk result (received 0 after.log ≡ received 0 before.log ++ bytes)
-  pub partly : OnErr result ((n : ℕ) × (n ≤ length bytes) × (received 0 after.log ≡ received 0 before.log ++ take n bytes))
-  pub others : (j : ℕ) → j ≢ 0 → received j after.log ≡ received j before.log
+  pub printed : OnOk result (openings after.log ≡ receives 0 bytes (openings before.log))
+  pub partly : OnErr result ((n : ℕ) × (n ≤ length bytes) × (openings after.log ≡ receives 0 (take n bytes) (openings before.log)))
   pub counts : SameCounts before.log after.log
   pub rest : (a : Oracle) (r : Option Source) → IsMainRest a before.log old.main r → IsMainRest a after.log new.main r
   pub no_failure : OnOk result (after.first_failure ≡ before.first_failure)
-  pub failure : OnErr result (is_some after.first_failure ≡ true)
+  pub failure : OnErr result (FailsNow before after)
 
 abbrev pub closed_main : Option InputView → ℤ → List Event → List Event
 closed_main None answer log = log
@@ -156,7 +161,7 @@ pub record EndsMain (before : WorldState) (old : StreamsView) (after : WorldStat
   pub grows : Grows before after
   pub consistent : (a : Oracle) → IsConsistent a before.log → IsConsistent a after.log
   pub adds : (answer : ℤ) × (after.log ≡ closed_main old.main answer before.log)
-  pub outputs : (j : ℕ) → received j after.log ≡ received j before.log
+  pub outputs : openings after.log ≡ openings before.log
   pub counts : SameCounts before.log after.log
   pub no_failure : after.first_failure ≡ before.first_failure
 
@@ -174,6 +179,6 @@ pub record Finishes (before : WorldState) (old : StreamsView) (result : Result (
   pub sound : AreSound before old → AreSound after new
   pub grows : Grows before after
   pub ends : EndsLog old.main result before.log after.log
-  pub outputs : (j : ℕ) → received j after.log ≡ received j before.log
+  pub outputs : openings after.log ≡ openings before.log
   pub no_failure : OnOk result (after.first_failure ≡ before.first_failure)
   pub failure : OnErr result (is_some after.first_failure ≡ true)

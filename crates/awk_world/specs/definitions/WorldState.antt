@@ -1,5 +1,5 @@
 -- What is known of a world: its open streams, its log, and its first failure; and how calls change it.
-use Rattle.std.specs.Prelude.{◌≡◌, ◌≤◌, ℕ, Bool, true, false, List, Option, ◌==◌, if◌then◌else◌}
+use Rattle.std.specs.Prelude.{◌≡◌, ◌⊎◌, ◌≤◌, ℕ, Bool, true, false, List, length, Option, Some, None, ◌==◌, if◌then◌else◌}
 use Rattle.awk_world.specs.definitions.Log.{Event, logged, failure_after}
 
 pub record WorldState : Type 0 where
@@ -26,3 +26,11 @@ Closes old new id = (j : ℕ) → new.is_open j ≡ (if j == id then false else 
 
 abbrev pub SameOpen : WorldState → WorldState → Type 0
 SameOpen old new = (j : ℕ) → new.is_open j ≡ old.is_open j
+
+-- this ended with the world's first failure, unless there was one before
+abbrev pub FailsNow : WorldState → WorldState → Type 0
+FailsNow before after = before.first_failure ≡ None → after.first_failure ≡ Some (length after.log)
+
+-- this may have ended with the world's first failure
+abbrev pub MayFailNow : WorldState → WorldState → Type 0
+MayFailNow before after = before.first_failure ≡ None → (after.first_failure ≡ None) ⊎ (after.first_failure ≡ Some (length after.log))

@@ -1,7 +1,7 @@
 use Rattle.std.proofs.Common.{rules, ap}
 use Rattle.std.proofs.lemmas.Result.{err_from_is_err_and}
 use Rattle.awk_tree.specs.View.{expr_of}
-use Rattle.awk_run.proofs.Evaluation.{number_evaluates, string_evaluates, name_evaluates, group_evaluates, unary_ends, unary_gives, assign_ends, assign_not_put, assign_gives, field_ends, field_gives, binary_ends, binary_ends_right, binary_gives, binary_takes}
+use Rattle.awk_run.proofs.Evaluation.{number_evaluates, string_evaluates, string_unread, name_evaluates, group_evaluates, unary_ends, unary_gives, assign_ends, assign_not_put, assign_gives, field_ends, field_gives, binary_ends, binary_ends_right, binary_gives, binary_takes}
 use Rattle.awk_run.proofs.expressions.+evaluation.Goals as goal
 
 pub eval-returns-in-Number : goal.eval-returns-in-Number
@@ -71,3 +71,8 @@ assign-returns-in_err-put t c =
 
 pub assign-returns : goal.assign-returns
 assign-returns t c = assign_gives c.in_ok-value.ensures c.in_ok-put.ensures c.read_name.ensures
+
+pub eval-returns-in_err-clone-in-String : goal.eval-returns-in_err-clone-in-String
+eval-returns-in_err-clone-in-String t c =
+    let p = err_from_is_err_and c.from_residual.result c.from_residual.ensures.1 in
+    rw (p.1, p.2, ap expr_of c.in-String.is) string_unread

@@ -6,6 +6,7 @@ use Rattle.awk_record.specs.declared.fault.RecordFault.{RecordFault}
 use Rattle.awk_streams.specs.support.Pulls.{Brings, Pulls}
 use Rattle.awk_streams.proofs.InputLemmas.{Reaches-more, ok_err, memory_no_field, step_ending, pulls_lost}
 use Rattle.awk_streams.proofs.ToldLemmas.{steps_no_field}
+use Rattle.awk_streams.proofs.GrowsLemmas.{Grows-then, not_failing, may_fail_later}
 use Rattle.awk_streams.proofs.input.next_from.Goals as goal
 
 pub loop-step-preserved : goal.loop-step-preserved
@@ -20,6 +21,7 @@ loop-step-preserved g c = record {
       Reaches-more c.args.id c.args.separator.now c.args.buffer.now c.loop-step.buffer c.read_more.new.buffer _ _ _ event.0
       (c.loop-step.invariant.reaches t) waits.0 waits.1 event.1 (subst (λ (p : Pending). Brings c.args.id event.0 p c.read_more.new.buffer) same event.2);
   no_failure = λ t. c.in_ok-read_more.ensures.no_failure t ∙ c.loop-step.invariant.no_failure t;
+  grows = λ t. Grows-then (c.loop-step.invariant.grows t) (c.in_ok-read_more.ensures.grows t);
 }
 
 pub returns-then-not-is_need_more-clause-pulls : goal.returns-then-not-is_need_more-clause-pulls
@@ -54,3 +56,18 @@ returns-in_err-read_more-clause-pulls g c = λ t.
     let waits = steps.only_then (ap Ok more) in
     pulls_lost c.args.id c.args.separator.now c.args.buffer.now c.loop-step.buffer c.read_more.new.buffer _ _ _ _ (c.loop-step.invariant.reaches t) waits.0 waits.1 (c.in_err-read_more.ensures.lost t)
     (is ∙ ap Err c.in_err-read_more.ensures.memory)
+
+pub returns-then-not-is_need_more-clause-grows : goal.returns-then-not-is_need_more-clause-grows
+returns-then-not-is_need_more-clause-grows g c = c.loop-step.invariant.grows
+
+pub returns-in_err-step-clause-grows : goal.returns-in_err-step-clause-grows
+returns-in_err-step-clause-grows g c = c.loop-step.invariant.grows
+
+pub returns-in_err-step-clause-failure : goal.returns-in_err-step-clause-failure
+returns-in_err-step-clause-failure g c = λ t memory. not_failing (g.W.World.state c.args.world.now) (g.W.World.state c.loop-step.world) (c.loop-step.invariant.no_failure t)
+
+pub returns-in_err-read_more-clause-grows : goal.returns-in_err-read_more-clause-grows
+returns-in_err-read_more-clause-grows g c = λ t. Grows-then (c.loop-step.invariant.grows t) (c.in_err-read_more.ensures.grows t)
+
+pub returns-in_err-read_more-clause-failure : goal.returns-in_err-read_more-clause-failure
+returns-in_err-read_more-clause-failure g c = λ t memory. may_fail_later (g.W.World.state c.args.world.now) (g.W.World.state c.loop-step.world) (g.W.World.state c.read_more.new.world) (c.loop-step.invariant.no_failure t) (c.in_err-read_more.ensures.failure t)

@@ -1,6 +1,8 @@
-use Rattle.std.proofs.Common.{pos, refl, sym, ap, ◌∙◌}
+use Rattle.std.proofs.Common.{pos, refl, sym, ap, ◌∙◌, arith}
 use Rattle.awk_value.specs.declared.value.Value.TheVariants.{Number}
 use Rattle.awk_interpreter.proofs.Changes.{read_count, read_value, still}
+use Rattle.std.proofs.lemmas.Result.{err_from_is_err_and}
+use Rattle.awk_interpreter.proofs.Composition.{memory_changes}
 use Rattle.awk_interpreter.proofs.interpreter.Interpreter.read_name.Goals as goal
 
 pub returns-then-is_field_count : goal.returns-then-is_field_count
@@ -8,3 +10,13 @@ returns-then-is_field_count c = read_count _ (sym c.is_field_count.ensures ∙ c
 
 pub returns : goal.returns
 returns c = read_value _ (sym c.is_field_count.ensures ∙ c.if-is_field_count.false) (still c.args.self.now) (c.in_ok-get.ensures.value)
+
+pub returns-in_err-count : goal.returns-in_err-count
+returns-in_err-count c =
+    let p = err_from_is_err_and c.from_residual.result c.from_residual.ensures.1 in
+    rw (p.1, p.2, c.in_err-count.ensures.memory) (memory_changes _ refl (omega arith))
+
+pub returns-in_err-get : goal.returns-in_err-get
+returns-in_err-get c =
+    let p = err_from_is_err_and c.from_residual-in_err-get.result c.from_residual-in_err-get.ensures.1 in
+    rw (p.1, p.2, c.in_err-get.ensures.memory) (memory_changes _ refl (omega arith))

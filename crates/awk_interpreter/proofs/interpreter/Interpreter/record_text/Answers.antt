@@ -1,7 +1,14 @@
-use Rattle.std.proofs.Common.{refl, ap}
+use Rattle.std.proofs.Common.{refl, ap, arith}
 use Rattle.awk_value.specs.declared.value.Value.TheVariants.{Input}
 use Rattle.awk_interpreter.proofs.Changes.{text_changes}
+use Rattle.std.proofs.lemmas.Result.{err_from_is_err_and}
+use Rattle.awk_interpreter.proofs.Composition.{memory_changes}
 use Rattle.awk_interpreter.proofs.interpreter.Interpreter.record_text.Goals as goal
 
 pub returns : goal.returns
 returns c = text_changes (record { beside = record { current = c.in_ok-text.ensures.same; variables = refl; arguments = refl; steps = refl }; streams = refl }) (ap (λ t. Input t) c.in_ok-text.ensures.text)
+
+pub returns-in_err-text : goal.returns-in_err-text
+returns-in_err-text c =
+    let p = err_from_is_err_and c.from_residual.result c.from_residual.ensures.1 in
+    rw (p.1, p.2, c.in_err-text.ensures.memory) (memory_changes _ refl (omega arith))

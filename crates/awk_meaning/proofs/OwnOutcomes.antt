@@ -1,0 +1,450 @@
+-- The meaning of a program is never want of memory nor a failed write: these come from a run of the code alone.
+use Rattle.std.proofs.Common.{◌≡◌, ◌≢◌, ℕ, zero, suc, ℤ, pos, negsuc, Bool, true, false, if◌then◌else◌, List, [], ◌∷◌, ◌++◌, Option, Some, None, Result, Ok, Err, refl, sym, ap, ◌∙◌, subst}
+use Rattle.std.specs.Prelude.{neg_ℤ, ◌+ℤ◌, ◌-ℤ◌, ◌*ℤ◌, int_div, int_rem}
+use Rattle.awk_text.specs.declared.separator.Separator.{Separator}
+use Rattle.awk_text.specs.declared.fault.TextFault.{TextFault}
+use Rattle.awk_value.specs.declared.value.Value.{Value}
+use Rattle.awk_value.specs.declared.value.Value.TheVariants as value
+use Rattle.awk_value.specs.declared.fault.ValueFault.{ValueFault}
+use Rattle.awk_value.specs.declared.fault.ValueFault.TheVariants as values
+use Rattle.awk_value.specs.Values.{num_of, truth_of, number_value, from_numbers, from_number}
+use Rattle.awk_value.specs.Arithmetic.{is_in_range, is_zero, range_checked, product_of, sum_of, difference_of, quotient_of, remainder_of, negative_of}
+use Rattle.awk_value.specs.Numbers.{spelled_number}
+use Rattle.awk_record.specs.Cut.{Cut, Found, NoMore, BrokenOff, TooLong, BadSeparator}
+use Rattle.awk_record.specs.Record.{RecordPair, field_of}
+use Rattle.awk_record.specs.declared.fault.RecordFault.{RecordFault}
+use Rattle.awk_record.specs.declared.fault.RecordFault.TheVariants as fields
+use Rattle.awk_world.specs.declared.world.InputKind.{InputKind}
+use Rattle.awk_world.specs.declared.world.InputKind.TheVariants.{Standard, File}
+use Rattle.awk_streams.specs.Oracle.{Source, Oracle}
+use Rattle.awk_ere.specs.Tree.{Tree}
+use Rattle.awk_tree.specs.declared.tree.UnaryOperator.{UnaryOperator}
+use Rattle.awk_tree.specs.declared.tree.UnaryOperator.TheVariants as unary
+use Rattle.awk_tree.specs.declared.tree.BinaryOperator.{BinaryOperator}
+use Rattle.awk_tree.specs.declared.tree.BinaryOperator.TheVariants.{Times, Divide, Remainder, Plus, Minus, Concatenate, Less, LessEqual, Equal, NotEqual, Greater, GreaterEqual, Matches, NotMatches}
+use Rattle.awk_tree.specs.Tree.{Expr, Number, String, Ere, Name, Group, Field, Unary, Binary, Assign, Exprs, Nil, Cons, Statement, Block, Expression, Print, Statements, NoMore as NoStatement, Then, Item, Begin, Action, Pattern, PatternAction}
+use Rattle.awk_meaning.specs.declared.outcome.Outcome.{Outcome}
+use Rattle.awk_meaning.specs.declared.outcome.Outcome.TheVariants.{Ended, Fault, Stopped}
+use Rattle.awk_meaning.specs.declared.fault as declared
+use Rattle.awk_meaning.specs.declared.fault.Fault.TheVariants as faults
+use Rattle.awk_meaning.specs.definitions.State.{State, Out, Run, go_on, ◌>>=◌, lift, Effect}
+use Rattle.awk_meaning.specs.declared.halt.Halt.{Halt}
+use Rattle.awk_meaning.specs.declared.halt.Halt.TheVariants as halt
+use Rattle.awk_variables.specs.declared.special.Special.{Special}
+use Rattle.awk_variables.specs.declared.special.Special.TheVariants.{Argc, Filename, Nr, Fnr}
+use Rattle.awk_variables.specs.Variables.{name_of, is_refused}
+use Rattle.awk_lex.specs.Escapes.{unescaped}
+use Rattle.awk_meaning.specs.definitions.Primitives.{spend, spend_of, read_name, put_unless, put, count_in, field_at, record_text, split_as, set_record, print_bytes, print_line, opened, open_main, note_input, begin_input, taken, taken_of, take_record, close_main, argument_if, argument_below, take_argument, is_input_seen}
+use Rattle.awk_meaning.specs.definitions.Operators.{changed, matched_by, of_match, matched, applied, raised, field_by, field_value, takes_pattern}
+use Rattle.awk_meaning.specs.definitions.Faults.{value_fault, of_values, of_record}
+use Rattle.awk_meaning.specs.definitions.Inputs.{is_unassignable, text_or_fault, assigned_text, assign_text, Operand, Nothing, Assignment, StandardInput, AFile, operand_of, at_end, main_record, path_of, first_record, record_by, operand_record, standard_unless, standard_record, or_else, search_by, search_operands_within, search_operands, next_record}
+use Rattle.awk_meaning.specs.definitions.Semantics.{right_operand, eval, eval_all, printed_values, exec, exec_all, run_if, try_item, try_items, begin_record, on_record, each_record, run_records, begin_item, begin_items, has_rule, run_items}
+use Rattle.awk_meaning.specs.definitions.Meaning.{StartValues, start_state, assign_all, assign_and_run, run_program, outcome_of, meaning_of}
+
+-- a halt that the language itself has
+abbrev OwnHalt : Halt → Type 0
+OwnHalt halt.OutOfSteps = Unit {0}
+OwnHalt (halt.Fault faults.OutOfMemory) = ⊥
+OwnHalt (halt.Fault faults.WriteFailed) = ⊥
+OwnHalt (halt.Fault f) = Unit {0}
+
+abbrev Own : {A : Type 0} → Result A Halt → Type 0
+Own (Ok a) = Unit {0}
+Own (Err h) = OwnHalt h
+
+record Settles {A : Type 0} (m : Run A) : Type 0 where
+  own : (s : State) → Own (m s).result
+
+go_own : {A B : Type 0} (f : A → Run B) → ((a : A) → Settles (f a)) → (r : Result A Halt) (t : State) (effects : List Effect) → Own r → Own (go_on r t effects f).result
+unfolding go_on
+go_own f h (Ok a) t effects own = (h a).own t
+go_own f h (Err e) t effects own = own
+
+then_settles : {A B : Type 0} {m : Run A} (f : A → Run B) → Settles m → ((a : A) → Settles (f a)) → Settles (m >>= f)
+unfolding ◌>>=◌
+then_settles {m = m} f x h = record { own = λ s. go_own f h (m s).result (m s).state (m s).effects (x.own s) }
+
+lift_settles : {A : Type 0} (r : Result A Halt) → Own r → Settles (lift r)
+unfolding lift
+lift_settles r own = record { own = λ s. own }
+
+-- values
+
+-- a number's fault is no want of memory
+abbrev OwnNumber : {A : Type 0} → Result A ValueFault → Type 0
+OwnNumber (Ok a) = Unit {0}
+OwnNumber (Err values.Memory) = ⊥
+OwnNumber (Err f) = Unit {0}
+
+range_own : (b : Bool) (z : ℤ) → OwnNumber (if b then Ok z else Err values.Range)
+range_own true z = tt
+range_own false z = tt
+
+checked_own : (z : ℤ) → OwnNumber (range_checked z)
+checked_own z = range_own (is_in_range z) z
+
+quotient_by : (b : Bool) (z : ℤ) → OwnNumber (if b then Err values.ZeroDivisor else range_checked z)
+quotient_by true z = tt
+quotient_by false z = checked_own z
+
+remainder_by : (b : Bool) (z : ℤ) → OwnNumber (if b then Err values.ZeroDivisor else Ok z)
+remainder_by true z = tt
+remainder_by false z = tt
+
+num_own : (v : Value) → OwnNumber (num_of v)
+num_own value.Nothing = tt
+num_own (value.Number n) = tt
+num_own (value.Text t) = checked_own (spelled_number t)
+num_own (value.Input t) = checked_own (spelled_number t)
+
+valued_own : (r : Result ℤ ValueFault) → OwnNumber r → OwnNumber (number_value r)
+valued_own (Ok n) own = tt
+valued_own (Err f) own = own
+
+one_own : (operation : ℤ → Result ℤ ValueFault) → ((n : ℤ) → OwnNumber (operation n)) → (r : Result ℤ ValueFault) → OwnNumber r → OwnNumber (from_number operation r)
+one_own operation h (Ok n) own = valued_own (operation n) (h n)
+one_own operation h (Err f) own = own
+
+two_own : (operation : ℤ → ℤ → Result ℤ ValueFault) → ((m n : ℤ) → OwnNumber (operation m n)) → (l r : Result ℤ ValueFault) → OwnNumber l → OwnNumber r → OwnNumber (from_numbers operation l r)
+two_own operation h (Ok m) (Ok n) a b = valued_own (operation m n) (h m n)
+two_own operation h (Ok m) (Err f) a b = b
+two_own operation h (Err f) r a b = a
+
+fault_own : (f : ValueFault) → OwnNumber {A = ℤ} (Err f) → OwnHalt (halt.Fault (value_fault f))
+fault_own values.Memory own = absurd own
+fault_own values.Range own = tt
+fault_own values.ZeroDivisor own = tt
+
+of_values_own : {A : Type 0} (r : Result A ValueFault) → OwnNumber r → Own (of_values r)
+of_values_own (Ok a) own = tt
+of_values_own (Err values.Memory) own = absurd own
+of_values_own (Err values.Range) own = tt
+of_values_own (Err values.ZeroDivisor) own = tt
+
+changed_own : (o : UnaryOperator) (v : Value) → Own (changed o v)
+changed_own unary.Not v = tt
+changed_own unary.Plus v = of_values_own _ (valued_own (num_of v) (num_own v))
+changed_own unary.Minus v = of_values_own _ (one_own negative_of (λ n. checked_own (neg_ℤ n)) (num_of v) (num_own v))
+
+match_own : (f : Bool → Bool) (t : Option Tree) (text : List ℕ) → Own (of_match f (matched_by t text))
+match_own f None text = tt
+match_own f (Some t) text = tt
+
+applied_own : (o : BinaryOperator) (x y : Value) → Own (applied o x y)
+applied_own Times x y = of_values_own _ (two_own product_of (λ m n. checked_own (m *ℤ n)) (num_of x) (num_of y) (num_own x) (num_own y))
+applied_own Divide x y = of_values_own _ (two_own quotient_of (λ m n. quotient_by (is_zero n) (int_div m n)) (num_of x) (num_of y) (num_own x) (num_own y))
+applied_own Remainder x y = of_values_own _ (two_own remainder_of (λ m n. remainder_by (is_zero n) (int_rem m n)) (num_of x) (num_of y) (num_own x) (num_own y))
+applied_own Plus x y = of_values_own _ (two_own sum_of (λ m n. checked_own (m +ℤ n)) (num_of x) (num_of y) (num_own x) (num_own y))
+applied_own Minus x y = of_values_own _ (two_own difference_of (λ m n. checked_own (m -ℤ n)) (num_of x) (num_of y) (num_own x) (num_own y))
+applied_own Concatenate x y = tt
+applied_own Less x y = tt
+applied_own LessEqual x y = tt
+applied_own Equal x y = tt
+applied_own NotEqual x y = tt
+applied_own Greater x y = tt
+applied_own GreaterEqual x y = tt
+applied_own Matches x y = match_own _ _ _
+applied_own NotMatches x y = match_own _ _ _
+
+raised_own : (v : Value) → Own (raised v)
+raised_own v = of_values_own _ (two_own sum_of (λ m n. checked_own (m +ℤ n)) (num_of v) (Ok (pos 1)) (num_own v) tt)
+
+field_own : (r : RecordPair) (i : ℤ) → Own (of_record (field_of r i))
+field_own r (pos zero) = tt
+field_own r (pos (suc i)) = tt
+field_own r (negsuc n) = tt
+
+field_by_own : (r : RecordPair) (n : Result ℤ ValueFault) → OwnNumber n → Own (field_by r n)
+field_by_own r (Ok i) own = field_own r i
+field_by_own r (Err f) own = fault_own f own
+
+-- the primitives
+
+spend_by : (n : ℕ) (s : State) → Own (spend_of n s).result
+spend_by zero s = tt
+spend_by (suc n) s = tt
+
+spend_settles : Settles spend
+unfolding spend
+spend_settles = record { own = λ s. spend_by s.steps s }
+
+name_settles : (x : List ℕ) → Settles (read_name x)
+unfolding read_name
+name_settles x = record { own = λ s. tt }
+
+put_by : (refused : Bool) (x : List ℕ) (v : Value) (s : State) → Own (put_unless refused x v s).result
+put_by true x v s = tt
+put_by false x v s = tt
+
+put_settles : (x : List ℕ) (v : Value) → Settles (put x v)
+unfolding put
+put_settles x v = record { own = λ s. put_by (is_refused x v) x v s }
+
+count_settles : (x : Special) → Settles (count_in x)
+unfolding count_in
+count_settles x = then_settles _ (name_settles (name_of x)) (λ v. then_settles _ (lift_settles (raised v) (raised_own v)) (λ w. put_settles (name_of x) w))
+
+field_settles : (v : Value) → Settles (field_at v)
+unfolding field_at
+field_settles v = record { own = λ s. field_by_own s.current (num_of v) (num_own v) }
+
+text_settles : Settles record_text
+unfolding record_text
+text_settles = record { own = λ s. tt }
+
+split_by_own : (r : Result Separator TextFault) (text : List ℕ) (s : State) → Own (split_as r text s).result
+split_by_own (Ok separator) text s = tt
+split_by_own (Err fault) text s = tt
+
+set_settles : (text : List ℕ) → Settles (set_record text)
+unfolding set_record
+set_settles text = record { own = λ s. split_by_own _ text s }
+
+show_settles : (vs : List Value) → Settles (print_line vs)
+unfolding print_line print_bytes
+show_settles vs = record { own = λ s. tt }
+
+opened_own : (kind : InputKind) (name : List ℕ) (o : Option Source) (s : State) → Own (opened kind name o s).result
+opened_own kind name None s = tt
+opened_own kind name (Some source) s = tt
+
+open_settles : (kind : InputKind) (name : List ℕ) → Settles (open_main kind name)
+unfolding open_main
+open_settles kind name = record { own = λ s. opened_own kind name _ s }
+
+note_settles : Settles note_input
+unfolding note_input
+note_settles = record { own = λ s. tt }
+
+input_settles : (name : List ℕ) → Settles (begin_input name)
+unfolding begin_input
+input_settles name = then_settles _ (put_settles (name_of Filename) (value.Input name)) (λ _. then_settles _ (put_settles (name_of Fnr) (value.Number (pos 0))) (λ _. note_settles))
+
+taken_own : (c : Cut) (separator : List ℕ) (source : Source) (s : State) → Own (taken c separator source s).result
+taken_own (Found first left) separator source s = tt
+taken_own NoMore separator source s = tt
+taken_own BrokenOff separator source s = tt
+taken_own TooLong separator source s = tt
+taken_own BadSeparator separator source s = tt
+
+taken_of_own : (o : Option Source) (separator : List ℕ) (s : State) → Own (taken_of o separator s).result
+taken_of_own None separator s = (lift_settles (Ok None) tt).own s
+taken_of_own (Some source) separator s = taken_own _ separator source s
+
+take_settles : Settles take_record
+unfolding take_record
+take_settles = record { own = λ s. taken_of_own s.main _ s }
+
+close_settles : Settles close_main
+unfolding close_main
+close_settles = record { own = λ s. tt }
+
+argument_if_own : (b : Bool) (s : State) → Own (argument_if b s).result
+argument_if_own true s = tt
+argument_if_own false s = tt
+
+argument_below_own : (r : Result ℤ ValueFault) (s : State) → OwnNumber r → Own (argument_below r s).result
+argument_below_own (Ok n) s own = argument_if_own _ s
+argument_below_own (Err f) s own = fault_own f own
+
+argument_settles : Settles take_argument
+unfolding take_argument
+argument_settles = record { own = λ s. argument_below_own _ s (num_own (s.variables (name_of Argc))) }
+
+is_seen_settles : Settles is_input_seen
+unfolding is_input_seen
+is_seen_settles = record { own = λ s. tt }
+
+-- the main input
+
+text_or_own : (o : Option (List ℕ)) → Own (text_or_fault o)
+text_or_own None = tt
+text_or_own (Some text) = tt
+
+assigned_by : (b : Bool) (o : Option (List ℕ)) → Own (if b then Err (halt.Fault faults.AssignmentRefused) else text_or_fault o)
+assigned_by true o = tt
+assigned_by false o = text_or_own o
+
+assign_settles : (x text : List ℕ) → Settles (assign_text x text)
+unfolding assign_text
+assign_settles x text = then_settles _ (lift_settles (assigned_text x text) (assigned_by (is_unassignable x) (unescaped text))) (λ t. put_settles x (value.Input t))
+
+at_end_settles : (found : Option (List ℕ)) → Settles (at_end found)
+at_end_settles None = then_settles _ close_settles (λ _. lift_settles (Ok None) tt)
+at_end_settles (Some text) = lift_settles (Ok (Some text)) tt
+
+main_settles : Settles main_record
+unfolding main_record
+main_settles = then_settles _ take_settles (λ found. at_end_settles found)
+
+first_settles : (kind : InputKind) (name : List ℕ) → Settles (first_record kind name)
+unfolding first_record
+first_settles kind name = then_settles _ (open_settles kind (path_of kind name)) (λ _. then_settles _ (input_settles name) (λ _. main_settles))
+
+record_by_settles : (a : Operand) (word : List ℕ) → Settles (record_by a word)
+record_by_settles Nothing word = lift_settles (Ok None) tt
+record_by_settles (Assignment x text) word = then_settles _ (assign_settles x text) (λ _. lift_settles (Ok None) tt)
+record_by_settles StandardInput word = first_settles Standard word
+record_by_settles AFile word = first_settles File word
+
+operand_settles : (word : List ℕ) → Settles (operand_record word)
+unfolding operand_record
+operand_settles word = record_by_settles (operand_of word) word
+
+standard_unless_settles : (input_seen : Bool) → Settles (standard_unless input_seen)
+standard_unless_settles true = lift_settles (Ok None) tt
+standard_unless_settles false = first_settles Standard []
+
+standard_settles : Settles standard_record
+unfolding standard_record
+standard_settles = then_settles _ is_seen_settles (λ input_seen. standard_unless_settles input_seen)
+
+or_else_settles : (found : Option (List ℕ)) {m : Run (Option (List ℕ))} → Settles m → Settles (or_else found m)
+or_else_settles (Some text) h = lift_settles (Ok (Some text)) tt
+or_else_settles None h = h
+
+search_by_settles : (word : Option (List ℕ)) {m : Run (Option (List ℕ))} → Settles m → Settles (search_by word m)
+search_by_settles (Some word) h = then_settles _ spend_settles (λ _. then_settles _ (operand_settles word) (λ found. or_else_settles found h))
+search_by_settles None h = standard_settles
+
+search_settles : (n : ℕ) → Settles (search_operands_within n)
+unfolding search_operands_within
+search_settles zero = lift_settles (Err halt.OutOfSteps) tt
+search_settles (suc n) = then_settles _ argument_settles (λ word. search_by_settles word (search_settles n))
+
+search_all_settles : Settles search_operands
+unfolding search_operands
+search_all_settles = record { own = λ s. (search_settles (suc s.steps)).own s }
+
+next_settles : Settles next_record
+unfolding next_record
+next_settles = then_settles _ main_settles (λ found. or_else_settles found search_all_settles)
+
+-- the forms
+
+right_settles : (takes : Bool) (e : Expr) {run : Run Value} → Settles run → Settles (right_operand takes e run)
+right_settles true (Ere text) h = lift_settles (Ok (value.Text text)) tt
+right_settles true (Number n) h = h
+right_settles true (String bytes) h = h
+right_settles true (Name x) h = h
+right_settles true (Group e) h = h
+right_settles true (Field e) h = h
+right_settles true (Unary o e) h = h
+right_settles true (Binary o a b) h = h
+right_settles true (Assign x e) h = h
+right_settles false e h = h
+
+eval_settles : (e : Expr) → Settles (eval e)
+unfolding eval
+eval_settles (Number n) = lift_settles (Ok (value.Number n)) tt
+eval_settles (String bytes) = lift_settles (Ok (value.Text bytes)) tt
+eval_settles (Ere text) = then_settles _ text_settles (λ v. lift_settles (applied Matches v (value.Text text)) (applied_own Matches v (value.Text text)))
+eval_settles (Name x) = name_settles x
+eval_settles (Group e) = eval_settles e
+eval_settles (Field e) = then_settles _ (eval_settles e) field_settles
+eval_settles (Unary o e) = then_settles _ (eval_settles e) (λ v. lift_settles (changed o v) (changed_own o v))
+eval_settles (Binary o a b) = then_settles _ (eval_settles a) (λ x. then_settles _ (right_settles (takes_pattern o) b (eval_settles b)) (λ y. lift_settles (applied o x y) (applied_own o x y)))
+eval_settles (Assign x e) = then_settles _ (eval_settles e) (λ v. then_settles _ (put_settles x v) (λ _. name_settles x))
+
+values_settles : (front : List Value) (es : Exprs) → Settles (eval_all front es)
+unfolding eval_all
+values_settles front Nil = lift_settles (Ok front) tt
+values_settles front (Cons e es) = then_settles _ (eval_settles e) (λ v. values_settles (front ++ v ∷ []) es)
+
+printed_settles : (es : Exprs) → Settles (printed_values es)
+unfolding printed_values
+printed_settles Nil = then_settles _ text_settles (λ v. lift_settles (Ok (v ∷ [])) tt)
+printed_settles (Cons e es) = values_settles [] (Cons e es)
+
+mutual
+  unfolding exec
+
+  exec_settles : (s : Statement) → Settles (exec s)
+  exec_settles (Block all) = exec_all_settles all
+  exec_settles (Expression e) = then_settles _ spend_settles (λ _. then_settles _ (eval_settles e) (λ v. lift_settles (Ok tt) tt))
+  exec_settles (Print list) = then_settles _ spend_settles (λ _. then_settles _ (printed_settles list) (λ vs. show_settles vs))
+
+  exec_all_settles : (all : Statements) → Settles (exec_all all)
+  exec_all_settles NoStatement = lift_settles (Ok tt) tt
+  exec_all_settles (Then s all) = then_settles _ (exec_settles s) (λ _. exec_all_settles all)
+
+if_settles : (b : Bool) {m : Run (Unit {0})} → Settles m → Settles (run_if b m)
+if_settles true h = h
+if_settles false h = lift_settles (Ok tt) tt
+
+item_settles : (x : Item) → Settles (try_item x)
+unfolding try_item
+item_settles (Begin block) = lift_settles (Ok tt) tt
+item_settles (Action block) = exec_all_settles block
+item_settles (Pattern e) = then_settles _ (eval_settles e) (λ v. if_settles (truth_of v) (exec_settles (Print Nil)))
+item_settles (PatternAction e block) = then_settles _ (eval_settles e) (λ v. if_settles (truth_of v) (exec_all_settles block))
+
+items_settles : (xs : List Item) → Settles (try_items xs)
+unfolding try_items
+items_settles [] = lift_settles (Ok tt) tt
+items_settles (x ∷ xs) = then_settles _ (item_settles x) (λ _. items_settles xs)
+
+begin_settles : (text : List ℕ) → Settles (begin_record text)
+unfolding begin_record
+begin_settles text = then_settles _ (set_settles text) (λ _. then_settles _ (count_settles Nr) (λ _. count_settles Fnr))
+
+on_settles : (found : Option (List ℕ)) {f : List ℕ → Run (Unit {0})} → ((text : List ℕ) → Settles (f text)) → Settles (on_record found f)
+on_settles None h = lift_settles (Ok tt) tt
+on_settles (Some text) h = h text
+
+each_settles : (n : ℕ) {action : Run (Unit {0})} → Settles action → Settles (each_record n action)
+unfolding each_record
+each_settles zero y = lift_settles (Err halt.OutOfSteps) tt
+each_settles (suc n) y = then_settles _ next_settles (λ found. on_settles found (λ text. then_settles _ spend_settles (λ _. then_settles _ (begin_settles text) (λ _. then_settles _ y (λ _. each_settles n y)))))
+
+records_settles : {action : Run (Unit {0})} → Settles action → Settles (run_records action)
+unfolding run_records
+records_settles y = record { own = λ s. (each_settles (suc s.steps) y).own s }
+
+begin_item_settles : (x : Item) → Settles (begin_item x)
+unfolding begin_item
+begin_item_settles (Begin block) = exec_all_settles block
+begin_item_settles (Action block) = lift_settles (Ok tt) tt
+begin_item_settles (Pattern e) = lift_settles (Ok tt) tt
+begin_item_settles (PatternAction e block) = lift_settles (Ok tt) tt
+
+begin_items_settles : (xs : List Item) → Settles (begin_items xs)
+unfolding begin_items
+begin_items_settles [] = lift_settles (Ok tt) tt
+begin_items_settles (x ∷ xs) = then_settles _ (begin_item_settles x) (λ _. begin_items_settles xs)
+
+run_settles : (items : List Item) → Settles (run_items items)
+unfolding run_items
+run_settles items = then_settles _ (begin_items_settles items) (λ _. if_settles (has_rule items) (records_settles (items_settles items)))
+
+assign_all_settles : (pre : List (List ℕ × List ℕ)) → Settles (assign_all pre)
+unfolding assign_all
+assign_all_settles [] = lift_settles (Ok tt) tt
+assign_all_settles (a ∷ all) = then_settles _ (assign_settles a.0 a.1) (λ _. assign_all_settles all)
+
+whole_settles : (items : List Item) (pre : List (List ℕ × List ℕ)) → Settles (assign_and_run items pre)
+unfolding assign_and_run
+whole_settles items pre = then_settles _ (assign_all_settles pre) (λ _. run_settles items)
+
+-- outcomes
+
+no_memory : (r : Result (Unit {0}) Halt) → Own r → outcome_of r ≢ Fault faults.OutOfMemory
+no_memory (Ok u) own is = absurd (cc)
+no_memory (Err halt.OutOfSteps) own is = absurd (cc)
+no_memory (Err (halt.Fault faults.OutOfMemory)) own is = own
+no_memory (Err (halt.Fault f)) own is = let same : Fault f ≡ Fault faults.OutOfMemory = is in absurd (cc)
+
+no_write : (r : Result (Unit {0}) Halt) → Own r → outcome_of r ≢ Fault faults.WriteFailed
+no_write (Ok u) own is = absurd (cc)
+no_write (Err halt.OutOfSteps) own is = absurd (cc)
+no_write (Err (halt.Fault faults.WriteFailed)) own is = own
+no_write (Err (halt.Fault f)) own is = let same : Fault f ≡ Fault faults.WriteFailed = is in absurd (cc)
+
+run_own : (items : List Item) (start : StartValues) (oracle : Oracle) (limit : ℕ) → Own (run_program items start oracle limit).result
+unfolding run_program
+run_own items start oracle limit = (whole_settles items start.pre).own (start_state start oracle limit)
+
+pub law_of_outcomes : (items : List Item) (start : StartValues) (oracle : Oracle) (limit : ℕ) → ((meaning_of items start oracle limit).outcome ≢ Fault faults.OutOfMemory) × ((meaning_of items start oracle limit).outcome ≢ Fault faults.WriteFailed)
+law_of_outcomes items start oracle limit =
+    let own = run_own items start oracle limit in
+    (no_memory (run_program items start oracle limit).result own, no_write (run_program items start oracle limit).result own)

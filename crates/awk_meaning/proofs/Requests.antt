@@ -1,0 +1,50 @@
+-- Requests that are met one after the other.
+use Rattle.std.proofs.Common.{◌≡◌, ℕ, List, [], ◌∷◌, ◌++◌, Option, Some, None, refl, sym, ap, ◌∙◌, subst, append_assoc, append-nil}
+use Rattle.awk_streams.specs.Log.{Event, OpenedInput, OpenedOutput, Read, Ended, Broke, Wrote, Flushed, Closed, Ran}
+use Rattle.awk_streams.specs.Oracle.{Oracle}
+use Rattle.awk_streams.specs.Writes.{with_events}
+use Rattle.awk_meaning.specs.definitions.State.{Effect, Printed, Requested}
+use Rattle.awk_meaning.specs.definitions.Meaning.{Asked, outputs_after, requests_after}
+use Rattle.awk_meaning.specs.definitions.Order.{Stage, AreBetween, GoesBetween, MeetsAll}
+
+pub with_events-append : (xs ys log : List Event) → with_events (xs ++ ys) log ≡ with_events ys (with_events xs log)
+with_events-append [] ys log = refl
+with_events-append (x ∷ xs) ys log = with_events-append xs ys (x ∷ log)
+
+pub between-append : (m n o : Option ℕ) (xs ys : List Event) → AreBetween m xs n → AreBetween n ys o → AreBetween m (xs ++ ys) o
+between-append m n o [] ys h k = subst (λ (x : Option ℕ). AreBetween x ys o) h k
+between-append m n o (Wrote id bytes ∷ xs) ys h k = between-append m n o xs ys h k
+between-append m n o (Flushed id ∷ xs) ys h k = between-append m n o xs ys h k
+between-append None n o (Closed id x ∷ xs) ys h k = absurd h
+between-append (Some i) n o (Closed id x ∷ xs) ys h k = (h.0, between-append None n o xs ys h.1 k)
+between-append m n o (OpenedInput kind name id ∷ xs) ys h k = absurd h
+between-append m n o (OpenedOutput kind name mode id ∷ xs) ys h k = absurd h
+between-append m n o (Read id bytes ∷ xs) ys h k = absurd h
+between-append m n o (Ended id ∷ xs) ys h k = absurd h
+between-append m n o (Broke id ∷ xs) ys h k = absurd h
+between-append m n o (Ran command x ∷ xs) ys h k = absurd h
+
+pub goes-self : (a : Stage) → GoesBetween a a
+goes-self a = record { events = []; log = refl; between = refl }
+
+pub goes-append : (a b c : Stage) → GoesBetween a b → GoesBetween b c → GoesBetween a c
+goes-append a b c x y = record {
+  events = x.events ++ y.events;
+  log = y.log ∙ (ap (with_events y.events) x.log ∙ sym (with_events-append x.events y.events a.log));
+  between = between-append a.main b.main c.main x.events y.events x.between y.between;
+}
+
+pub goes_first : (oracle : Oracle) (ys : List Asked) (a b c : Stage) → GoesBetween a b → MeetsAll oracle ys b c → MeetsAll oracle ys a c
+goes_first oracle [] a b c x y = goes-append a b c x y
+goes_first oracle (asked ∷ more) a b c x y = (y.0, y.1, goes-append a b y.0 x y.2, y.3, y.4)
+
+pub meets_append : (oracle : Oracle) (xs ys : List Asked) (a b c : Stage) → MeetsAll oracle xs a b → MeetsAll oracle ys b c → MeetsAll oracle (xs ++ ys) a c
+meets_append oracle [] ys a b c h k = goes_first oracle ys a b c h k
+meets_append oracle (asked ∷ more) ys a b c h k = (h.0, h.1, h.2, h.3, meets_append oracle more ys h.1 b c h.4 k)
+
+pub requests-append : (past xs ys : List Effect) → requests_after past (xs ++ ys) ≡ requests_after past xs ++ requests_after (past ++ xs) ys
+requests-append past [] ys = ap (λ l. requests_after l ys) (sym (append-nil past))
+requests-append past (Printed to bytes ∷ xs) ys =
+    requests-append (past ++ Printed to bytes ∷ []) xs ys ∙ ap (λ l. requests_after (past ++ Printed to bytes ∷ []) xs ++ requests_after l ys) (append_assoc past (Printed to bytes ∷ []) xs)
+requests-append past (Requested what ∷ xs) ys =
+    ap (λ l. record { what = what; outputs = outputs_after past } ∷ l) (requests-append (past ++ Requested what ∷ []) xs ys ∙ ap (λ l. requests_after (past ++ Requested what ∷ []) xs ++ requests_after l ys) (append_assoc past (Requested what ∷ []) xs))

@@ -1,0 +1,282 @@
+-- What the end of a run leaves, after a body that ended well or by a failure.
+use Rattle.std.proofs.Common.{◌≡◌, ◌≢◌, ◌⊎◌, inl, inr, ℕ, zero, suc, ◌+◌, ◌-◌, ◌≤◌, ℤ, Bool, true, false, if◌then◌else◌, List, [], ◌∷◌, ◌++◌, length, take, drop, Option, None, Some, is_some, Result, Ok, Err, refl, sym, ap, ◌∙◌, subst, append-nil, arith}
+use Rattle.std.specs.Prelude.{IfErr, ◌&&◌}
+use Rattle.std.proofs.lemmas.List.{take-append-drop, length-take-le}
+use Rattle.awk_streams.specs.declared.fault.StreamFault.{StreamFault}
+use Rattle.awk_streams.specs.Log.{Event, OpenedInput, OpenedOutput, Read, Ended, Broke, Wrote, Flushed, Closed, Ran}
+use Rattle.awk_streams.specs.Oracle.{Oracle, IsConsistent}
+use Rattle.awk_streams.specs.Writes.{with_events, flushed_if}
+use Rattle.awk_streams.specs.Openings.{openings, in_order, outputs_of, is_flushed, AreFlushed, Begins, AreBrought}
+use Rattle.awk_streams.specs.Outputs.{IsOutputFault}
+use Rattle.awk_streams.specs.Streams.{InputView, StreamsView, Grows, closed_main, EndsLog, Finishes}
+use Rattle.awk_streams.specs.WorldState.{WorldState}
+use Rattle.awk_meaning.specs.declared.halt.Halt.{Halt}
+use Rattle.awk_meaning.specs.declared.halt.Halt.TheVariants as halt
+use Rattle.awk_meaning.specs.declared.outcome.Outcome.{Outcome}
+use Rattle.awk_meaning.specs.declared.outcome.Outcome.TheVariants.{Fault}
+use Rattle.awk_meaning.specs.declared.fault as declared
+use Rattle.awk_meaning.specs.declared.fault.Fault.TheVariants as faults
+use Rattle.awk_meaning.specs.State.{Out}
+use Rattle.awk_meaning.specs.Meaning.{Asked, Meaning, outcome_of, outputs_after, requests_after}
+use Rattle.awk_meaning.specs.Order.{AreBetween, GoesBetween, MeetsAll, first_stage, IsInTurn}
+use Rattle.awk_meaning.specs.Failure.{AreOfTheEnd, FailsAs, FailsAt}
+use Rattle.awk_meaning.specs.Faults.{stream_fault}
+use Rattle.awk_meaning.specs.Results.{Sort, WantOfMemory, FailedWrite, OfLanguage, sort_of}
+use Rattle.awk_meaning.proofs.Requests.{with_events-append, meets_append}
+use Rattle.awk_interpreter.specs.declared.interpreter.Interpreter.{Interpreter}
+use Rattle.awk_interpreter.specs.Simulation.{number_of, stage_of, standard_openings, FailedLast, ResultRelation, ResultRelationBy}
+use Rattle.awk_interpreter.proofs.OrderLemmas.{begins_same}
+use Rattle.awk_run.specs.support.Verdict.{outcome_after}
+
+-- a meaning, read off what a run of the definitions comes to
+abbrev pub read_off : Out (Unit {0}) → Meaning
+read_off o = record { outcome = outcome_of o.result; outputs = outputs_after o.effects; requests = requests_after [] o.effects }
+
+-- the body of a run came to what the meaning has
+pub record IsMeant (oracle : Oracle) (k : WorldState) (main : Option InputView) (o : Out (Unit {0})) (result : Outcome) : Type 0 where
+  pub clear : k.first_failure ≡ None
+  pub outcome : outcome_of o.result ≡ result
+  pub outputs : openings k.log ≡ standard_openings o.effects
+  pub turn : MeetsAll oracle (requests_after [] o.effects) first_stage (stage_of k.log main)
+
+-- the body was ended by want of memory or a failed write
+pub record IsCut (k : WorldState) (r : Result (Unit {0}) Halt) (o : Out (Unit {0})) : Type 0 where
+  pub begins : Begins (outputs_of k.log) (outputs_after o.effects)
+  pub failure : (k.first_failure ≡ None) ⊎ FailedLast k
+  pub cause : (r ≡ Err (halt.Fault faults.OutOfMemory)) ⊎ ((r ≡ Err (halt.Fault faults.WriteFailed)) × FailedLast k)
+
+abbrev pub Came : Oracle → WorldState → Option InputView → Result (Unit {0}) Halt → Out (Unit {0}) → Type 0
+Came oracle k main r o = IsMeant oracle k main o (outcome_after r (Ok tt)) ⊎ IsCut k r o
+
+-- the outcome of a halt, by what the language knows of it
+outcome_by : (h : Halt) (reason : Halt) → sort_of h ≡ OfLanguage reason → outcome_of (Err reason) ≡ outcome_after (Err h) (Ok tt)
+outcome_by halt.OutOfSteps reason e = let s : halt.OutOfSteps ≡ reason = cc in ap (λ (x : Halt). outcome_of (Err x)) (sym s)
+outcome_by (halt.Fault faults.OutOfMemory) reason e = absurd (cc)
+outcome_by (halt.Fault faults.WriteFailed) reason e = absurd (cc)
+outcome_by (halt.Fault f) reason e = let s : halt.Fault f ≡ reason = cc in ap (λ (x : Halt). outcome_of (Err x)) (sym s)
+
+memory_sort : (h : Halt) → sort_of h ≡ WantOfMemory → h ≡ halt.Fault faults.OutOfMemory
+memory_sort (halt.Fault faults.OutOfMemory) e = refl
+memory_sort (halt.Fault faults.WriteFailed) e = absurd (cc)
+memory_sort (halt.Fault f) e = absurd (cc)
+memory_sort halt.OutOfSteps e = absurd (cc)
+
+write_sort : (h : Halt) → sort_of h ≡ FailedWrite → h ≡ halt.Fault faults.WriteFailed
+write_sort (halt.Fault faults.OutOfMemory) e = absurd (cc)
+write_sort (halt.Fault faults.WriteFailed) e = refl
+write_sort (halt.Fault f) e = absurd (cc)
+write_sort halt.OutOfSteps e = absurd (cc)
+
+came_by : (oracle : Oracle) (m : Interpreter) (k : WorldState) (h : Halt) (s : Sort) (o : Out (Unit {0})) → sort_of h ≡ s → ResultRelationBy oracle m k s o [] → Came oracle k m.streams.main (Err h) o
+came_by oracle m k h WantOfMemory o e comes = inr record { begins = comes.begins; failure = comes.failure; cause = inl (ap (λ (x : Halt). Err x) (memory_sort h e)) }
+came_by oracle m k h FailedWrite o e comes = inr record { begins = comes.begins; failure = inr comes.failure; cause = inr (ap (λ (x : Halt). Err x) (write_sort h e), comes.failure) }
+came_by oracle m k h (OfLanguage reason) o e comes = inl record { clear = comes.1.clear; outcome = ap outcome_of comes.0 ∙ outcome_by h reason e; outputs = comes.1.outputs; turn = comes.1.turn }
+
+pub came : (oracle : Oracle) (m : Interpreter) (k : WorldState) (r : Result (Unit {0}) Halt) (o : Out (Unit {0})) → ResultRelation oracle m k r o [] → Came oracle k m.streams.main r o
+came oracle m k (Ok u) o comes = inl record { clear = comes.1.clear; outcome = ap outcome_of comes.0; outputs = comes.1.outputs; turn = comes.1.turn }
+came oracle m k (Err h) o comes = came_by oracle m k h (sort_of h) o refl comes
+
+-- the events of the end, the oldest first
+
+abbrev end_closing : Option InputView → ℤ → List Event
+end_closing None answer = []
+end_closing (Some v) answer = Closed v.id answer ∷ []
+
+abbrev end_flushed : Bool → Bool → List Event → List Event
+end_flushed true true es = Flushed 0 ∷ Flushed 1 ∷ es
+end_flushed true false es = Flushed 0 ∷ es
+end_flushed false true es = Flushed 1 ∷ es
+end_flushed false false es = es
+
+end_log : (first second : Bool) (main : Option InputView) (answer : ℤ) (log : List Event) → closed_main main answer (flushed_if second 1 (flushed_if first 0 log)) ≡ with_events (end_flushed first second (end_closing main answer)) log
+end_log true true None answer log = refl
+end_log true false None answer log = refl
+end_log false true None answer log = refl
+end_log false false None answer log = refl
+end_log true true (Some v) answer log = refl
+end_log true false (Some v) answer log = refl
+end_log false true (Some v) answer log = refl
+end_log false false (Some v) answer log = refl
+
+end_between : (first second : Bool) (main : Option InputView) (answer : ℤ) → AreBetween (number_of main) (end_flushed first second (end_closing main answer)) None
+end_between true true None answer = refl
+end_between true false None answer = refl
+end_between false true None answer = refl
+end_between false false None answer = refl
+end_between true true (Some v) answer = (refl, refl)
+end_between true false (Some v) answer = (refl, refl)
+end_between false true (Some v) answer = (refl, refl)
+end_between false false (Some v) answer = (refl, refl)
+
+end_ends : (first second : Bool) (main : Option InputView) (answer : ℤ) → AreOfTheEnd (end_flushed first second (end_closing main answer))
+end_ends true true None answer = tt
+end_ends true false None answer = tt
+end_ends false true None answer = tt
+end_ends false false None answer = tt
+end_ends true true (Some v) answer = tt
+end_ends true false (Some v) answer = tt
+end_ends false true (Some v) answer = tt
+end_ends false false (Some v) answer = tt
+
+-- a part of the end
+
+between_take : (main : Option ℕ) (es : List Event) (main' : Option ℕ) (m : ℕ) → AreBetween main es main' → (last : Option ℕ) × AreBetween main (take m es) last
+between_take main es main' zero h = (main, refl)
+between_take main [] main' (suc m) h = (main, refl)
+between_take main (Wrote id bytes ∷ es) main' (suc m) h = between_take main es main' m h
+between_take main (Flushed id ∷ es) main' (suc m) h = between_take main es main' m h
+between_take None (Closed id answer ∷ es) main' (suc m) h = absurd h
+between_take (Some i) (Closed id answer ∷ es) main' (suc m) h = let rest = between_take None es main' m h.1 in (rest.0, (h.0, rest.1))
+between_take main (OpenedInput kind name id ∷ es) main' (suc m) h = absurd h
+between_take main (OpenedOutput kind name mode id ∷ es) main' (suc m) h = absurd h
+between_take main (Read id bytes ∷ es) main' (suc m) h = absurd h
+between_take main (Ended id ∷ es) main' (suc m) h = absurd h
+between_take main (Broke id ∷ es) main' (suc m) h = absurd h
+between_take main (Ran command answer ∷ es) main' (suc m) h = absurd h
+
+end_drop : (es : List Event) (m : ℕ) → AreOfTheEnd es → AreOfTheEnd (drop m es)
+end_drop es zero h = h
+end_drop [] (suc m) h = tt
+end_drop (Wrote id bytes ∷ es) (suc m) h = end_drop es m h
+end_drop (Flushed id ∷ es) (suc m) h = end_drop es m h
+end_drop (Closed id answer ∷ es) (suc m) h = end_drop es m h
+end_drop (e ∷ es) (suc m) h = absurd h
+
+with_events-length : (es log : List Event) → length (with_events es log) ≡ length es + length log
+with_events-length [] log = omega arith
+with_events-length (e ∷ es) log = let rest = with_events-length es (e ∷ log) in omega (arith, rest)
+
+-- meets on, by what lies between
+meets_on : (oracle : Oracle) (xs : List Asked) (log log' : List Event) (main : Option InputView) (last : Option ℕ) (es : List Event) → MeetsAll oracle xs first_stage (stage_of log main) → log' ≡ with_events es log → AreBetween (number_of main) es last →
+    MeetsAll oracle xs first_stage (record { log = log'; main = last })
+meets_on oracle xs log log' main last es met is between =
+    subst (λ (l : List Asked). MeetsAll oracle l first_stage (record { log = log'; main = last })) (append-nil xs)
+    (meets_append oracle xs [] first_stage (stage_of log main) (record { log = log'; main = last }) met (record { events = es; log = is; between = between }))
+
+-- an end that did all
+
+either_true : (b : Bool) → (if b then true else true) ≡ true
+either_true true = refl
+either_true false = refl
+
+both_true : (a b : Bool) → (a && b) ≡ true → (a ≡ true) × (b ≡ true)
+both_true true b e = (refl, e)
+both_true false b e = absurd cc
+
+flushed_1 : (main : Option InputView) (answer : ℤ) (log : List Event) → is_flushed 1 (closed_main main answer (Flushed 1 ∷ log)) ≡ true
+flushed_1 None answer log = refl
+flushed_1 (Some v) answer log = either_true _
+
+flushed_0 : (main : Option InputView) (answer : ℤ) (log : List Event) → is_flushed 0 (closed_main main answer (Flushed 1 ∷ Flushed 0 ∷ log)) ≡ true
+flushed_0 None answer log = refl
+flushed_0 (Some v) answer log = either_true _
+
+abbrev EndOf : WorldState → WorldState → StreamsView → Result (Unit {0}) StreamFault → Type 0
+EndOf k1 k2 streams f = (last : StreamsView) × Finishes k1 streams f k2 last
+
+all_flushed : (main : Option InputView) (log log' : List Event) → EndsLog main (Ok tt) log log' → (answer : ℤ) × (log' ≡ closed_main main answer (Flushed 1 ∷ Flushed 0 ∷ log))
+all_flushed main log log' ends =
+    let both = both_true ends.first ends.second ends.flushed in
+    (ends.answer, ends.adds ∙ (ap (λ b. closed_main main ends.answer (flushed_if ends.second 1 (flushed_if b 0 log))) both.0 ∙ ap (λ b. closed_main main ends.answer (flushed_if b 1 (Flushed 0 ∷ log))) both.1))
+
+brought : (k1 k2 : WorldState) (streams last : StreamsView) (o : Out (Unit {0})) → Finishes k1 streams (Ok tt) k2 last → openings k1.log ≡ standard_openings o.effects → AreBrought (outputs_after o.effects) k2.log
+brought k1 k2 streams last o told outputs =
+    let all = all_flushed streams.main k1.log k2.log told.ends in
+    let is : openings k2.log ≡ standard_openings o.effects = told.outputs ∙ outputs in
+    record {
+      received = ap in_order is;
+      flushed = subst (λ os. AreFlushed os k2.log) (sym is) (ap (is_flushed 1) all.1 ∙ flushed_1 streams.main all.0 (Flushed 0 ∷ k1.log), (ap (is_flushed 0) all.1 ∙ flushed_0 streams.main all.0 k1.log, tt));
+    }
+
+pub in_turn : (oracle : Oracle) (k1 k2 : WorldState) (streams last : StreamsView) (r : Result (Unit {0}) Halt) (o : Out (Unit {0})) → Finishes k1 streams (Ok tt) k2 last → IsMeant oracle k1 streams.main o (outcome_after r (Ok tt)) → IsInTurn oracle (read_off o) k2.log
+in_turn oracle k1 k2 streams last r o told meant =
+    let ends = told.ends in
+    record {
+      main = None;
+      meets = meets_on oracle (requests_after [] o.effects) k1.log k2.log streams.main None (end_flushed ends.first ends.second (end_closing streams.main ends.answer)) meant.turn (ends.adds ∙ end_log ends.first ends.second streams.main ends.answer k1.log) (end_between ends.first ends.second streams.main ends.answer);
+      brought = brought k1 k2 streams last o told meant.outputs;
+    }
+
+-- an end that failed, or a body
+
+not_some : (failure : Option ℕ) → failure ≡ None → is_some failure ≡ true → ⊥
+not_some None e s = absurd (cc)
+not_some (Some n) e s = absurd (cc)
+
+same_some : (m n : ℕ) → Some m ≡ Some n → m ≡ n
+same_some m n e = cc
+
+pub no_failure_before : (f : Result (Unit {0}) StreamFault) {k k' : WorldState} {old new : StreamsView} → Finishes k old f k' new → k'.first_failure ≡ None → (f ≡ Ok tt) × (k.first_failure ≡ None)
+no_failure_before (Ok u) told clear = (refl, sym told.no_failure ∙ clear)
+no_failure_before (Err e) {k' = k'} told clear = absurd (not_some k'.first_failure clear told.failure)
+
+pub halted_by : (fault : declared.Fault.Fault) (r : Result (Unit {0}) Halt) (f : Result (Unit {0}) StreamFault) → r ≡ Err (halt.Fault fault) → outcome_after r f ≡ Fault fault
+halted_by fault r f e = ap (λ x. outcome_after x f) e
+
+-- the code's own failure of the end
+own_failure : (oracle : Oracle) (meaning : Meaning) (l : List Event) (e : StreamFault) → IsOutputFault e → FailsAs oracle meaning l (Fault (stream_fault e))
+own_failure oracle meaning l e (inl is) = inl (ap (λ x. Fault (stream_fault x)) is)
+own_failure oracle meaning l e (inr is) = inr (inl (ap (λ x. Fault (stream_fault x)) is))
+
+-- the end failed, after a body that is as the meaning has it
+end_fails : (oracle : Oracle) (meaning : Meaning) (l : List Event) (r : Result (Unit {0}) Halt) (e : StreamFault) → IsOutputFault e → meaning.outcome ≡ outcome_after r (Ok tt) → (main : Option ℕ) → MeetsAll oracle meaning.requests first_stage (record { log = l; main = main }) →
+    FailsAs oracle meaning l (outcome_after r (Err e))
+end_fails oracle meaning l (Ok u) e fault outcome main met = own_failure oracle meaning l e fault
+end_fails oracle meaning l (Err halt.OutOfSteps) e fault outcome main met = own_failure oracle meaning l e fault
+end_fails oracle meaning l (Err (halt.Fault f)) e fault outcome main met = inr (inr record { fault = f; is = refl; outcome = outcome; main = main; meets = met })
+
+fails_by : (oracle : Oracle) (meaning : Meaning) (l : List Event) (r : Result (Unit {0}) Halt) (f : Result (Unit {0}) StreamFault) {k k' : WorldState} {old new : StreamsView} (n : ℕ) → Finishes k old f k' new → IfErr f IsOutputFault → k.first_failure ≡ None → k'.first_failure ≡ Some n →
+    meaning.outcome ≡ outcome_after r (Ok tt) → (main : Option ℕ) → MeetsAll oracle meaning.requests first_stage (record { log = l; main = main }) → FailsAs oracle meaning l (outcome_after r f)
+fails_by oracle meaning l r (Ok u) {k' = k'} n told fault clear some outcome main met = absurd (not_some k'.first_failure (told.no_failure ∙ clear) (ap is_some some))
+fails_by oracle meaning l r (Err e) n told fault clear some outcome main met = end_fails oracle meaning l r e fault outcome main met
+
+-- the failure stands at the end of the body or later
+bounds : (k1 k2 : WorldState) (n : ℕ) → Grows k1 k2 → (k1.first_failure ≡ None) ⊎ FailedLast k1 → k2.first_failure ≡ Some n → (length k1.log ≤ n) × (n ≤ length k2.log)
+bounds k1 k2 n grows (inl none) some = grows.met none n some
+bounds k1 k2 n grows (inr last) some =
+    let at : length k1.log ≡ n = same_some (length k1.log) n (sym (grows.kept (length k1.log) last) ∙ some) in
+    let long : length k2.log ≡ length grows.events + length k1.log = ap length grows.log ∙ with_events-length grows.events k1.log in
+    (omega (arith, at), omega (arith, at, long))
+
+stood : (oracle : Oracle) (k1 : WorldState) (main : Option InputView) (r : Result (Unit {0}) Halt) (o : Out (Unit {0})) → Came oracle k1 main r o → (k1.first_failure ≡ None) ⊎ FailedLast k1
+stood oracle k1 main r o (inl meant) = inl meant.clear
+stood oracle k1 main r o (inr cut) = cut.failure
+
+cause : (oracle : Oracle) (k1 k2 : WorldState) (streams last : StreamsView) (r : Result (Unit {0}) Halt) (f : Result (Unit {0}) StreamFault) (o : Out (Unit {0})) (n m : ℕ) (es : List Event) → Finishes k1 streams f k2 last → IfErr f IsOutputFault → k2.first_failure ≡ Some n →
+    AreBetween (number_of streams.main) es None → Came oracle k1 streams.main r o → FailsAs oracle (read_off o) (with_events (take m es) k1.log) (outcome_after r f)
+cause oracle k1 k2 streams last r f o n m es told fault some between (inl meant) =
+    let part = between_take (number_of streams.main) es None m between in
+    fails_by oracle (read_off o) (with_events (take m es) k1.log) r f n told fault meant.clear some meant.outcome part.0
+    (meets_on oracle (requests_after [] o.effects) k1.log (with_events (take m es) k1.log) streams.main part.0 (take m es) meant.turn refl part.1)
+cause oracle k1 k2 streams last r f o n m es told fault some between (inr cut) = elim cut.cause [
+  | inl memory ↦ inl (halted_by faults.OutOfMemory r f memory)
+  | inr write ↦ inr (inl (halted_by faults.WriteFailed r f write.0))
+]
+
+pub fails_at : (out_by : Oracle → Out (Unit {0})) (k1 k2 : WorldState) (streams last : StreamsView) (r : Result (Unit {0}) Halt) (f : Result (Unit {0}) StreamFault) (n : ℕ) → Finishes k1 streams f k2 last → IfErr f IsOutputFault →
+    ((oracle : Oracle) × IsConsistent oracle k2.log) → ((oracle : Oracle) → IsConsistent oracle k2.log → Came oracle k1 streams.main r (out_by oracle)) → k2.first_failure ≡ Some n →
+    FailsAt (λ oracle. read_off (out_by oracle)) n k2.log (outcome_after r f)
+fails_at out_by k1 k2 streams last r f n told fault some_oracle body some =
+    let ends = told.ends in
+    let es : List Event = end_flushed ends.first ends.second (end_closing streams.main ends.answer) in
+    let is : k2.log ≡ with_events es k1.log = ends.adds ∙ end_log ends.first ends.second streams.main ends.answer k1.log in
+    let between : AreBetween (number_of streams.main) es None = end_between ends.first ends.second streams.main ends.answer in
+    let at = bounds k1 k2 n told.grows (stood some_oracle.0 k1 streams.main r (out_by some_oracle.0) (body some_oracle.0 some_oracle.1)) some in
+    let long : length k2.log ≡ length es + length k1.log = ap length is ∙ with_events-length es k1.log in
+    let m : ℕ = n - length k1.log in
+    let within : m ≤ length es = omega (arith, at.0, at.1, long) in
+    record {
+      earlier = with_events (take m es) k1.log;
+      later = drop m es;
+      parts = is ∙ (ap (λ l. with_events l k1.log) (sym (take-append-drop m es)) ∙ with_events-append (take m es) (drop m es) k1.log);
+      count =
+          let some_of : length (take m es) ≡ m = length-take-le m es within in
+          let all = with_events-length (take m es) k1.log in
+          omega (arith, all, some_of, at.0);
+      ends = end_drop es m (end_ends ends.first ends.second streams.main ends.answer);
+      fails = λ oracle consistent. cause oracle k1 k2 streams last r f (out_by oracle) n m es told fault some between (body oracle consistent);
+    }
+
+pub begins_at_end : (oracle : Oracle) (k1 k2 : WorldState) (streams last : StreamsView) (r : Result (Unit {0}) Halt) (f : Result (Unit {0}) StreamFault) (o : Out (Unit {0})) → Finishes k1 streams f k2 last → Came oracle k1 streams.main r o → Begins (outputs_of k2.log) (outputs_after o.effects)
+begins_at_end oracle k1 k2 streams last r f o told (inl meant) = begins_same k2.log o.effects (told.outputs ∙ meant.outputs)
+begins_at_end oracle k1 k2 streams last r f o told (inr cut) = subst (λ os. Begins os (outputs_after o.effects)) (ap in_order (sym told.outputs)) cut.begins

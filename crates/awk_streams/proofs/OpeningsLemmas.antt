@@ -1,0 +1,57 @@
+-- What stretches of a log bring to the openings of outputs.
+use Rattle.std.proofs.Common.{◌≡◌, ℕ, List, [], ◌∷◌, ◌++◌, refl, sym, ◌∙◌, ap, append_assoc, append-nil}
+use Rattle.std.proofs.lemmas.Bool.{cond-true, cond-false, ne_eqb, eq-eqb, cases_eq}
+use Rattle.std.specs.Prelude.{◌==◌, if◌then◌else◌}
+use Rattle.std.proofs.Common.{inl, inr}
+use Rattle.awk_record.specs.Cut.{Ending}
+use Rattle.std.specs.Prelude.{Option}
+use Rattle.awk_world.specs.definitions.Log.{Event, Read, Ended, Broke, Wrote, Flushed}
+use Rattle.awk_world.specs.definitions.Writes.{with_events, GoesOn, Writes, flushed_if}
+use Rattle.awk_world.specs.definitions.Openings.{Opening, receives, openings}
+use Rattle.awk_streams.specs.definitions.Inputs.{NeededReads}
+use Rattle.std.specs.Prelude.{Bool, true, false, ℤ, Some, None}
+use Rattle.awk_streams.specs.definitions.Streams.{InputView, closed_main}
+
+-- no bytes more change nothing
+pub receives-none : (id : ℕ) (os : List (ℕ × Opening)) → receives id [] os ≡ os
+receives-none id [] = refl
+receives-none id ((i, o) ∷ older) = elim (cases_eq i id) [
+  | inl same ↦ cond-true _ _ _ (eq-eqb i id same) ∙ ap (λ bytes. (i, record { output = o.output; bytes = bytes }) ∷ older) (append-nil o.bytes)
+  | inr differs ↦ cond-false _ _ _ (ne_eqb i id differs) ∙ ap (λ more. (i, o) ∷ more) (receives-none id older)
+]
+
+-- bytes after bytes
+pub receives-more : (id : ℕ) (xs ys : List ℕ) (os : List (ℕ × Opening)) → receives id ys (receives id xs os) ≡ receives id (xs ++ ys) os
+receives-more id xs ys [] = refl
+receives-more id xs ys ((i, o) ∷ older) = elim (cases_eq i id) [
+  | inl same ↦
+      let here = eq-eqb i id same in
+      ap (receives id ys) (cond-true _ _ _ here) ∙ (cond-true _ _ _ here ∙ (ap (λ bytes. (i, record { output = o.output; bytes = bytes }) ∷ older) (append_assoc o.bytes xs ys) ∙ sym (cond-true _ _ _ here)))
+  | inr differs ↦
+      let here = ne_eqb i id differs in
+      ap (receives id ys) (cond-false _ _ _ here) ∙ (cond-false _ _ _ here ∙ (ap (λ more. (i, o) ∷ more) (receives-more id xs ys older) ∙ sym (cond-false _ _ _ here)))
+]
+
+openings-with : (id : ℕ) (bytes : List ℕ) (es log : List Event) → Writes id bytes es → openings (with_events es log) ≡ receives id bytes (openings log)
+openings-with id bytes [] log none = sym (receives-none id (openings log)) ∙ ap (λ b. receives id b (openings log)) (sym none)
+openings-with id bytes (Wrote i bs ∷ es) log (same, (rest, is, later)) =
+    openings-with id rest es (Wrote i bs ∷ log) later ∙ (ap (λ j. receives id rest (receives j bs (openings log))) same ∙ (receives-more id bs rest (openings log) ∙ ap (λ b. receives id b (openings log)) (sym is)))
+openings-with id bytes (e ∷ es) log h = absurd h
+
+pub openings-writes : (id : ℕ) (bytes : List ℕ) (old new : List Event) → GoesOn (Writes id bytes) old new → openings new ≡ receives id bytes (openings old)
+openings-writes id bytes old new h = ap openings h.log ∙ openings-with id bytes h.events old h.each
+
+pub openings-reads : (id : ℕ) (separator b b' : List ℕ) (ending : Option Ending) (es log : List Event) → NeededReads id separator b b' ending es → openings (with_events es log) ≡ openings log
+openings-reads id separator b b' ending [] log h = refl
+openings-reads id separator b b' ending (Read i bs ∷ es) log (same, undecided, later) = openings-reads id separator (b ++ bs) b' ending es (Read i bs ∷ log) later
+openings-reads id separator b b' ending (Ended i ∷ es) log (same, undecided, last, bytes, met) = ap (λ (x : List Event). openings (with_events x (Ended i ∷ log))) last
+openings-reads id separator b b' ending (Broke i ∷ es) log (same, undecided, last, bytes, met) = ap (λ (x : List Event). openings (with_events x (Broke i ∷ log))) last
+openings-reads id separator b b' ending (e ∷ es) log h = absurd h
+
+pub openings-flush : (done : Bool) (id : ℕ) (log : List Event) → openings (flushed_if done id log) ≡ openings log
+openings-flush true id log = refl
+openings-flush false id log = refl
+
+pub openings-close : (main : Option InputView) (n : ℤ) (log : List Event) → openings (closed_main main n log) ≡ openings log
+openings-close None n log = refl
+openings-close (Some v) n log = refl
