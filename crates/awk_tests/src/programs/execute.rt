@@ -2,7 +2,8 @@
 
 use awk_lex::refusal::{Refusal, RefusalCode};
 use awk_run::{
-    Assignment, Fault, Outcome, Start, execute, fault_line, law_of_limits, one_program, status,
+    Assignment, Fault, Outcome, Start, execute, fault_line, law_of_limits, law_of_outcomes,
+    law_of_turns, one_program, status,
 };
 use awk_streams::{Answer, InputKind, ScriptWorld};
 use std::alloc::{AllocError, Global};
@@ -37,6 +38,8 @@ fn a_run(rt: HostRuntime) -> Result<(), Fail> {
     assert!(rt; world.received(0)?.as_slice() == b"a 20 a\tb\n".as_slice());
     assert!(rt; world.received(1)?.is_empty());
     law_of_limits();
+    law_of_outcomes();
+    law_of_turns();
     one_program();
     Ok(())
 }
