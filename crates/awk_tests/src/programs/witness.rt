@@ -10,6 +10,8 @@ use awk_lex::refusal::Refusal;
 use awk_run::{Outcome, Start, execute};
 use awk_streams::{Answer, ScriptWorld, World};
 use std::alloc::Global;
+use std::process::Abort;
+use std::test::Fail;
 
 /// What a run over a fresh world leaves.
 pub struct Run {
@@ -31,4 +33,13 @@ pub fn run_in_memory(
     let mut world = ScriptWorld::new(alloc, answers);
     let outcome = execute(alloc, text, start, limit, &mut world);
     Run { world, outcome }
+}
+
+#[test]
+fn a_run_in_memory(rt: HostRuntime) -> Result<(), Fail> {
+    let alloc = rt.alloc();
+    let run = run_in_memory(alloc, Vec::new(alloc), b"BEGIN { print 1 }", &Start::new(alloc), 1);
+    assert!(rt; run.outcome == Ok(Outcome::Ended(0)));
+    assert!(rt; run.world.received(0)?.as_slice() == b"1\n".as_slice());
+    Ok(())
 }
