@@ -99,6 +99,15 @@ fn slot_of(positions: &[bool]) -> usize {
     (hash >> (u64::BITS - SLOT_BITS)) as usize
 }
 
+// Keeps the number of a state in the slot of its positions, in the place of what was there.
+fn remember(slots: &mut [u32], number: usize, positions: &[bool])
+    requires { number < state_bound }
+{
+    if let Some(slot) = slots.get_mut(slot_of(positions)) {
+        *slot = number as u32;
+    }
+}
+
 // The entry that leads to the state with a number, where the flow leaves before the byte or not.
 pub(crate) fn entry_to(number: usize, hit: bool) -> u32
     requires { number < state_bound }
@@ -120,11 +129,10 @@ impl Table {
         ensures fault { IfErr result (λ fault. fault ≡ PatternFault.Memory) }
     {
         let limit = limit_for(count);
-        let row = vec![in alloc; false; count]?;
-        let mut rows = Vec::new(alloc);
-        for _ in 0..limit {
-            rows.extend_from_slice(&row)?;
-        }
+        let Some(len) = limit.checked_mul(count) else {
+            return Err(PatternFault::Memory);
+        };
+        let rows = vec![in alloc; false; len]?;
         let unanchored = vec![in alloc; UNKNOWN; STRIDE * (limit + 1)]?;
         let anchored = vec![in alloc; UNKNOWN; STRIDE * (limit + 1)]?;
         let slots = vec![in alloc; 0; 1 << SLOT_BITS]?;
@@ -190,9 +198,7 @@ impl Table {
         ensures limit { self.new.limit ≡ self.old.limit }
     {
         write_row(self.rows.as_mut_slice(), number, positions);
-        if let Some(slot) = self.slots.get_mut(slot_of(positions)) {
-            *slot = number as u32;
-        }
+        remember(self.slots.as_mut_slice(), number, positions);
     }
 
     // Whether the state with a number has these positions.
