@@ -26,6 +26,13 @@ one_limited m i h f a p = elim (cases_lt m i) [
   | inr x ↦ ap (over_one m h f) (low m i a x)
 ]
 
+-- a node that is low enough, of one tree and of two
+pub one_made : {A B : Type 0} (m : ℕ) (h : B → ℕ) (f : A → B) (o : Option A) (a : A) → o ≡ Some a → h (f a) ≤ m → Some (f a) ≡ over_one m h f o
+one_made m h f o a e l = sym (ap (over_one m h f) e ∙ low m (h (f a)) (f a) l)
+
+pub two_made : {A B C : Type 0} (m : ℕ) (h : C → ℕ) (f : A → B → C) (o : Option A) (p : Option B) (a : A) (b : B) → o ≡ Some a → p ≡ Some b → h (f a b) ≤ m → Some (f a b) ≡ over_two m h f o p
+two_made m h f o p a b d e l = sym (ap (λ z. over_two m h f z p) d ∙ ap (λ z. over_two m h f (Some a) z) e ∙ low m (h (f a b)) (f a b) l)
+
 two_none : {A B C : Type 0} (m : ℕ) (h : C → ℕ) (f : A → B → C) (o : Option A) → over_two m h f o None ≡ None
 two_none m h f None = refl
 two_none m h f (Some a) = refl

@@ -71,13 +71,15 @@ impl BinaryOperator {
             BinaryOperator::Times | BinaryOperator::Divide | BinaryOperator::Remainder => UNARY,
             BinaryOperator::Plus | BinaryOperator::Minus => PRODUCT,
             BinaryOperator::Concatenate => SUM,
+            // These don't join: what may stand on one side may stand on the other.
             BinaryOperator::Less
             | BinaryOperator::LessEqual
             | BinaryOperator::Equal
             | BinaryOperator::NotEqual
             | BinaryOperator::Greater
-            | BinaryOperator::GreaterEqual => PIPE,
-            BinaryOperator::Matches | BinaryOperator::NotMatches => COMPARISON,
+            | BinaryOperator::GreaterEqual
+            | BinaryOperator::Matches
+            | BinaryOperator::NotMatches => self.greatest_left(),
         }
     }
 }
