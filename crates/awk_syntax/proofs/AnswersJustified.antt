@@ -16,9 +16,9 @@ use Rattle.awk_syntax.specs.definitions.Patterns.{AreReadable, IsLeftmostRefused
 use Rattle.awk_tree.specs.View.{tree_of}
 use Rattle.awk_tree.specs.declared.tree.Tree.{Tree}
 use Rattle.awk_tree.specs.Nodes.{limited}
-use Rattle.awk_syntax.specs.support.Parser.{Failed, answer, read}
+use Rattle.awk_expressions.specs.support.Parser.{Failed, answer, read}
 use Rattle.awk_syntax.specs.definitions.Outcome.{IsProgramWithinHeight, Reads, Justifies}
-use Rattle.awk_syntax.specs.support.ParserView.{Gives, Fails}
+use Rattle.awk_syntax.specs.support.Answered.{Gives, Fails}
 use Rattle.awk_tree.proofs.LimitedNodes.{low, high}
 use Rattle.awk_syntax.proofs.ProgramsComplete.{reads}
 use Rattle.awk_syntax.proofs.LeftmostRefused.{leftmost_unreadable}

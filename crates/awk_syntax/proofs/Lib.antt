@@ -1,9 +1,6 @@
-pub mod PrunedNodes
-pub mod ExpressionsComplete
 pub mod ProgramsComplete
-pub mod ParserInvariant
-pub mod OperandsSound
 pub mod StatementsSound
 pub mod ParserSound
 pub mod LeftmostRefused
 pub mod AnswersJustified
+pub mod TokensInTurn

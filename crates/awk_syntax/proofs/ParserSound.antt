@@ -7,10 +7,10 @@ use Rattle.awk_lex.specs.declared.token.Kind.TheVariants as t
 use Rattle.awk_tree.specs.Tree.{Item}
 use Rattle.awk_tree.specs.Precedence.{is_assignable, KeepsPrecedence}
 use Rattle.awk_tree.specs.Spelling.{SpellsProgram, IsProgram}
-use Rattle.awk_syntax.specs.support.Parser.{Operand, name, one_more, Ends, role, pattern_item, Frame, InGroup, InAssign, InStatement, InPrint, InPattern, InProgram, greatest_allowed_on, continues, Reduced, reduce, ParserState, BeforeOperand, AfterOperand, AfterName, AfterDollar, AfterPrint, BeforeStatement, AfterStatement, AfterBegin, BetweenItems, Failed, end_item, end_operand, shift, after_reduced, after_operand, after_name, step, items, whole, finish, answer, start, read}
-use Rattle.awk_syntax.proofs.PrunedNodes.{pruned_list, pruned_items, one_more-pruned}
-use Rattle.awk_syntax.proofs.ParserInvariant.{Stacked, OperandRead, Holds}
-use Rattle.awk_syntax.proofs.OperandsSound.{by_test, reduces, enters, selects, goes_on, closes_group, when_so, lone}
+use Rattle.awk_expressions.specs.support.Parser.{Operand, name, one_more, Ends, role, pattern_item, Frame, InGroup, InAssign, InStatement, InPrint, InPattern, InProgram, greatest_allowed_on, continues, Reduced, reduce, ParserState, BeforeOperand, AfterOperand, AfterName, AfterDollar, AfterPrint, BeforeStatement, AfterStatement, AfterBegin, BetweenItems, Failed, end_item, end_operand, shift, after_reduced, after_operand, after_name, step, items, whole, finish, answer, start, read}
+use Rattle.awk_expressions.proofs.PrunedNodes.{pruned_list, pruned_items, one_more-pruned}
+use Rattle.awk_expressions.proofs.ParserInvariant.{Stacked, OperandRead, Holds}
+use Rattle.awk_expressions.proofs.OperandsSound.{by_test, reduces, enters, selects, goes_on, closes_group, when_so, lone}
 use Rattle.awk_syntax.proofs.StatementsSound.{list_snoc, list_leveled, betweens, begins, closes_print, closes_statement, made_short, closes_pattern, prints_so, next_so, opens_so, item_so}
 
 closes : (m : ℕ) (y : Kind) (g : Bool) (e : Operand) (k : List Frame) (all rest : List Kind) → OperandRead m g e k all (y ∷ rest) → Holds m (end_operand m y e k) all rest

@@ -8,10 +8,10 @@ use Rattle.awk_tree.specs.Height.{height_of_program}
 use Rattle.awk_tree.specs.Precedence.{KeepsPrecedence, AllKeepPrecedence, StatementKeepsPrecedence, StatementsKeepPrecedence, ItemKeepsPrecedence, ProgramKeepsPrecedence}
 use Rattle.awk_tree.specs.Spelling.{newlines, SpellsList, SpellsStatement, SpellsAll, Ended, BySemicolon, ByNewline, ByBrace, is_closed, SpellsItem, separators, SpellsProgram, Spells, IsProgram}
 use Rattle.awk_tree.specs.Nodes.{push, add}
-use Rattle.awk_syntax.specs.support.Parser.{Head, OfBegin, OfNoPattern, OfPattern, make_item, pattern_item, no_statements, one_more_statement, one_more_item, Frame, InStatement, InBlock, InPattern, InAction, InProgram, BeforeOperand, AfterOperand, BeforeStatement, AfterStatement, AfterBegin, BetweenItems, evaluated, block, answer, read}
-use Rattle.awk_syntax.proofs.PrunedNodes.{pruned, pruned_statement, pruned_all, pruned_item, pruned_items, one_more_statement-pruned, one_more_item-pruned, evaluated-pruned, block-pruned, begin-pruned, always-pruned, short-pruned, rule-pruned}
+use Rattle.awk_expressions.specs.support.Parser.{Head, OfBegin, OfNoPattern, OfPattern, make_item, pattern_item, no_statements, one_more_statement, one_more_item, Frame, InStatement, InBlock, InPattern, InAction, InProgram, BeforeOperand, AfterOperand, BeforeStatement, AfterStatement, AfterBegin, BetweenItems, evaluated, block, answer, read}
+use Rattle.awk_expressions.proofs.PrunedNodes.{pruned, pruned_statement, pruned_all, pruned_item, pruned_items, one_more_statement-pruned, one_more_item-pruned, evaluated-pruned, block-pruned, begin-pruned, always-pruned, short-pruned, rule-pruned}
 use Rattle.awk_tree.proofs.LimitedNodes.{low}
-use Rattle.awk_syntax.proofs.ExpressionsComplete.{stops_end, precedence_most, complete, AtSemicolon, AtNewline, AtBrace, print_read, started, starts_so}
+use Rattle.awk_expressions.proofs.ExpressionsComplete.{stops_end, precedence_most, complete, AtSemicolon, AtNewline, AtBrace, print_read, started, starts_so}
 
 begin_newlines : (m n : ℕ) (k : List Frame) (ts : List Kind) → answer m (BeforeStatement k) (newlines n ts) ≡ answer m (BeforeStatement k) ts
 begin_newlines m zero k ts = refl

@@ -7,10 +7,10 @@ use Rattle.awk_tree.specs.Tree.{Expr, Exprs, Nil, Cons, Statement, Block, Expres
 use Rattle.awk_tree.specs.Precedence.{KeepsPrecedence, AllKeepPrecedence, StatementKeepsPrecedence, StatementsKeepPrecedence, ItemKeepsPrecedence, ProgramKeepsPrecedence}
 use Rattle.awk_tree.specs.Spelling.{newlines, Spells, SpellsMore, SpellsList, Ended, BySemicolon, ByNewline, ByBrace, SpellsStatement, SpellsAll, is_closed, SpellsItem, separators, SpellsProgram}
 use Rattle.awk_tree.specs.Nodes.{append, push, add}
-use Rattle.awk_syntax.specs.support.Parser.{Operand, no_exprs, one_more_statement, one_more_item, evaluated, printed, block, Head, OfBegin, OfNoPattern, OfPattern, make_item, pattern_item, Frame, InStatement, InPrint, InBlock, InPattern, InAction, InProgram, AfterPrint, BeforeStatement, AfterBegin, BetweenItems, end_item, close_brace, start_statement, end_statement, end_simple_statement, after_print_expr, after_pattern, after_begin, after_print, after_statement, start_item}
-use Rattle.awk_syntax.proofs.PrunedNodes.{pruned_list, pruned_statement, pruned_all, pruned_item, pruned_items, one_more_statement-pruned, one_more_item-pruned, evaluated-pruned, printed-pruned, block-pruned, begin-pruned, always-pruned, short-pruned, rule-pruned}
-use Rattle.awk_syntax.proofs.ParserInvariant.{SpellsBefore, Stacked, OperandRead, Made, Waits, MadeItem, Holds}
-use Rattle.awk_syntax.proofs.OperandsSound.{enters}
+use Rattle.awk_expressions.specs.support.Parser.{Operand, no_exprs, one_more_statement, one_more_item, evaluated, printed, block, Head, OfBegin, OfNoPattern, OfPattern, make_item, pattern_item, Frame, InStatement, InPrint, InBlock, InPattern, InAction, InProgram, AfterPrint, BeforeStatement, AfterBegin, BetweenItems, end_item, close_brace, start_statement, end_statement, end_simple_statement, after_print_expr, after_pattern, after_begin, after_print, after_statement, start_item}
+use Rattle.awk_expressions.proofs.PrunedNodes.{pruned_list, pruned_statement, pruned_all, pruned_item, pruned_items, one_more_statement-pruned, one_more_item-pruned, evaluated-pruned, printed-pruned, block-pruned, begin-pruned, always-pruned, short-pruned, rule-pruned}
+use Rattle.awk_expressions.proofs.ParserInvariant.{SpellsBefore, Stacked, OperandRead, Made, Waits, MadeItem, Holds}
+use Rattle.awk_expressions.proofs.OperandsSound.{enters}
 
 all_snoc : (made : Statements) (x : Statement) (w u rest : List Kind) → SpellsAll made w u → SpellsStatement x u rest → SpellsAll (push made x) w rest
 all_snoc NoMore x w u rest p q = (rest, subst (λ z. SpellsStatement x z rest) (sym p) q, refl)

@@ -1,2 +1,1 @@
-pub mod Parser
-pub mod ParserView
+pub mod Answered

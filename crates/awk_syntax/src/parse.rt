@@ -8,13 +8,13 @@ ghost use Rattle.awk_tree.specs.View.{tree_of};
 ghost use Rattle.awk_syntax.specs.definitions.Patterns.{AreReadable};
 ghost use Rattle.awk_syntax.specs.definitions.Outcome.{IsProgramWithinHeight, Reads, Justifies};
 ghost use Rattle.awk_tree.specs.Height.{max_height};
-ghost use Rattle.awk_syntax.specs.support.Parser as parser;
-ghost use Rattle.awk_syntax.specs.support.ParserView.{Gives};
+ghost use Rattle.awk_expressions.specs.support.Parser as parser;
+ghost use Rattle.awk_syntax.specs.support.Answered.{Gives};
 
-use crate::frame::Frame;
 use crate::parser::{finish, step};
 use crate::patterns::check_patterns;
-use crate::state::{NextToken, ParserState};
+use awk_expressions::frame::Frame;
+use awk_expressions::state::{NextToken, ParserState};
 use awk_lex::refusal::{Refusal, RefusalCode};
 use awk_lex::token::{Kind, Token};
 use awk_tree::checked::CheckedItems;

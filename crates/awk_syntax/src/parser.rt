@@ -2,20 +2,21 @@
 
 ghost use Rattle.std.specs.Prelude.{◌≡◌, IfOk};
 ghost use Rattle.awk_tree.specs.Height.{max_height};
-ghost use Rattle.awk_syntax.specs.support.Parser as parser;
-ghost use Rattle.awk_syntax.specs.support.ParserView.{role_of, operand_of, stack_of, reduced, state_of, next_of, found_of};
+ghost use Rattle.awk_expressions.specs.support.Parser as parser;
+ghost use Rattle.awk_expressions.specs.support.ParserView.{role_of, operand_of, stack_of, reduced, state_of, next_of};
+ghost use Rattle.awk_syntax.specs.support.Answered.{found_of};
 
-use crate::frame::{Frame, Operand};
-use crate::infix_role::InfixRole;
-use crate::operands::{
-    after_dollar, close_parenthesis, greatest_allowed_on, reduce, shift, start_assignment,
-    start_operand,
-};
-use crate::state::{NextToken, ParserState};
 use crate::statements::{
     after_begin, after_pattern, after_print, after_print_expr, after_statement,
     end_simple_statement, start_item, start_statement,
 };
+use awk_expressions::frame::{Frame, Operand};
+use awk_expressions::infix_role::InfixRole;
+use awk_expressions::operands::{
+    after_dollar, close_parenthesis, greatest_allowed_on, reduce, shift, start_assignment,
+    start_operand,
+};
+use awk_expressions::state::{NextToken, ParserState};
 use awk_lex::token::{AssignmentOperator, Kind};
 use awk_tree::checked::CheckedItems;
 use awk_tree::nodes::{evaluate, one_more_expr};

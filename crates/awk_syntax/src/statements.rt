@@ -2,13 +2,13 @@
 
 ghost use Rattle.std.specs.Prelude.{◌≡◌, ◌∷◌, IfOk};
 ghost use Rattle.awk_tree.specs.Height.{max_height};
-ghost use Rattle.awk_syntax.specs.support.Parser as parser;
-ghost use Rattle.awk_syntax.specs.support.ParserView.{operand_of, head_of, stack_of, next_of};
+ghost use Rattle.awk_expressions.specs.support.Parser as parser;
+ghost use Rattle.awk_expressions.specs.support.ParserView.{operand_of, head_of, stack_of, next_of};
 ghost use Rattle.awk_tree.specs.Checked.{checked_exprs, checked_statement, checked_statements, checked_item};
 
-use crate::frame::{Frame, Head, Operand};
-use crate::operands::start_operand;
-use crate::state::{NextToken, ParserState};
+use awk_expressions::frame::{Frame, Head, Operand};
+use awk_expressions::operands::start_operand;
+use awk_expressions::state::{NextToken, ParserState};
 use awk_lex::token::{Keyword, Kind};
 use awk_tree::checked::{CheckedExprs, CheckedItem, CheckedStatement, CheckedStatements};
 use awk_tree::nodes::{

@@ -1,8 +1,8 @@
 use Rattle.std.proofs.Common.{◌≡◌, ◌≤◌, drop}
 use Rattle.awk_lex.specs.Told.{kinds_of}
 use Rattle.awk_tree.specs.Height.{max_height}
-use Rattle.awk_syntax.specs.support.Parser as parser
-use Rattle.awk_syntax.specs.support.ParserView.{state_of}
+use Rattle.awk_expressions.specs.support.Parser as parser
+use Rattle.awk_expressions.specs.support.ParserView.{state_of}
 use Rattle.awk_syntax.proofs.parse.read.Given as goal
 
 abbrev pub invariant-loop-token : goal.invariant-loop-token

@@ -1,23 +1,16 @@
--- The code's parser, seen as the parser over lists: operands, frames, states, and what it answers.
-use Rattle.std.specs.Prelude.{◌≡◌, List, map, reverse, Option, Some, None, Result, Ok, Err}
-use Rattle.awk_lex.specs.declared.refusal.Refusal.{Refusal}
-use Rattle.awk_lex.specs.declared.refusal.RefusalCode.{RefusalCode}
-use Rattle.awk_lex.specs.declared.refusal.RefusalCode.TheVariants.{NotAProgram, NestedTooDeep, OutOfMemory}
-use Rattle.awk_tree.specs.Tree as t
-use Rattle.awk_tree.specs.View.{tree_of}
+-- The code's parser, seen as the parser over lists: operands, frames and states.
+use Rattle.std.specs.Prelude.{List, map, reverse, Option, Some, None}
 use Rattle.awk_tree.specs.Checked.{checked_expr, checked_exprs, checked_statement, checked_statements, checked_items}
-use Rattle.awk_tree.specs.declared.tree.Tree.{Tree}
-use Rattle.awk_tree.specs.declared.checked.CheckedItems.{CheckedItems}
-use Rattle.awk_syntax.specs.support.Parser as parser
-use Rattle.awk_syntax.specs.declared.infix_role.InfixRole.{InfixRole}
-use Rattle.awk_syntax.specs.declared.infix_role.InfixRole.TheVariants.{Joins, Ends}
-use Rattle.awk_syntax.specs.declared.frame.Operand.{Operand}
-use Rattle.awk_syntax.specs.declared.frame.Head.{Head}
-use Rattle.awk_syntax.specs.declared.frame.Head.TheVariants as head
-use Rattle.awk_syntax.specs.declared.frame.Frame.{Frame}
-use Rattle.awk_syntax.specs.declared.frame.Frame.TheVariants.{Group, Unary, Binary, Assign, Statement, Print, Block, Pattern, Action, Program}
-use Rattle.awk_syntax.specs.declared.state.ParserState.{ParserState}
-use Rattle.awk_syntax.specs.declared.state.ParserState.TheVariants.{BeforeOperand, AfterOperand, AfterName, AfterDollar, AfterPrint, BeforeStatement, AfterStatement, AfterBegin, BetweenItems}
+use Rattle.awk_expressions.specs.support.Parser as parser
+use Rattle.awk_expressions.specs.declared.infix_role.InfixRole.{InfixRole}
+use Rattle.awk_expressions.specs.declared.infix_role.InfixRole.TheVariants.{Joins, Ends}
+use Rattle.awk_expressions.specs.declared.frame.Operand.{Operand}
+use Rattle.awk_expressions.specs.declared.frame.Head.{Head}
+use Rattle.awk_expressions.specs.declared.frame.Head.TheVariants as head
+use Rattle.awk_expressions.specs.declared.frame.Frame.{Frame}
+use Rattle.awk_expressions.specs.declared.frame.Frame.TheVariants.{Group, Unary, Binary, Assign, Statement, Print, Block, Pattern, Action, Program}
+use Rattle.awk_expressions.specs.declared.state.ParserState.{ParserState}
+use Rattle.awk_expressions.specs.declared.state.ParserState.TheVariants.{BeforeOperand, AfterOperand, AfterName, AfterDollar, AfterPrint, BeforeStatement, AfterStatement, AfterBegin, BetweenItems}
 
 abbrev pub role_of : InfixRole → parser.InfixRole
 role_of (Joins o) = parser.Joins o
@@ -65,19 +58,3 @@ state_of BetweenItems fs = parser.BetweenItems (stack_of fs)
 abbrev pub next_of : Option ParserState → List Frame → parser.ParserState
 next_of None fs = parser.Failed
 next_of (Some state) fs = state_of state fs
-
--- what is read of a whole text
-abbrev pub found_of : Option (Option CheckedItems) → Option (Option (List t.Item))
-found_of None = None
-found_of (Some x) = Some (checked_items x)
-
--- what the code answers where the parser over lists answers this
-abbrev pub Fails : RefusalCode → Option (Option (List t.Item)) → Type 0
-Fails NotAProgram r = r ≡ None
-Fails NestedTooDeep r = r ≡ Some None
-Fails OutOfMemory r = Unit {0}
-Fails code r = ⊥
-
-abbrev pub Gives : Result Tree Refusal → Option (Option (List t.Item)) → Type 0
-Gives (Ok tree) r = r ≡ Some (Some (tree_of tree))
-Gives (Err refusal) r = Fails refusal.code r

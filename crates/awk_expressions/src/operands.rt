@@ -2,8 +2,8 @@
 
 ghost use Rattle.std.specs.Prelude.{◌≡◌, false, ◌∷◌, IfOk};
 ghost use Rattle.awk_tree.specs.Height.{max_height};
-ghost use Rattle.awk_syntax.specs.support.Parser as parser;
-ghost use Rattle.awk_syntax.specs.support.ParserView.{role_of, operand_of, frame_of, stack_of, reduced, next_of};
+ghost use Rattle.awk_expressions.specs.support.Parser as parser;
+ghost use Rattle.awk_expressions.specs.support.ParserView.{role_of, operand_of, frame_of, stack_of, reduced, next_of};
 ghost use Rattle.awk_tree.specs.Precedence as precedence;
 ghost use Rattle.awk_lex.specs.declared.token.AssignmentOperator.TheVariants.{Plain};
 ghost use Rattle.awk_lex.specs.declared.token.Kind.TheVariants.{Assign};

@@ -7,7 +7,7 @@ use Rattle.awk_tree.specs.declared.tree.BinaryOperator.{BinaryOperator}
 use Rattle.awk_tree.specs.Tree.{Expr, Group, Field, Unary, Binary, Assign, Exprs, Nil, Cons, Statement, Block, Expression, Print, Statements, NoMore, Then, Item, Begin, Action, Pattern, PatternAction}
 use Rattle.awk_tree.specs.Height.{height_of, tallest, height_of_statement, tallest_of, height_of_item, height_of_program}
 use Rattle.awk_tree.specs.Precedence.{expr_precedence, operator_precedence}
-use Rattle.awk_syntax.specs.support.Parser.{Operand, group, field, prefixed, joined, assigned, one_more, one_more_statement, one_more_item, evaluated, printed, block, OfBegin, OfNoPattern, OfPattern, make_item, pattern_item}
+use Rattle.awk_expressions.specs.support.Parser.{Operand, group, field, prefixed, joined, assigned, one_more, one_more_statement, one_more_item, evaluated, printed, block, OfBegin, OfNoPattern, OfPattern, make_item, pattern_item}
 
 abbrev pub pruned : ℕ → Expr → Operand
 pruned m e = record { precedence = expr_precedence e; tree = limited m (height_of e) e }

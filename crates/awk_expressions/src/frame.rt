@@ -2,8 +2,8 @@
 
 ghost use Rattle.std.specs.Prelude.{◌≡◌, IfOk};
 ghost use Rattle.awk_tree.specs.Height.{max_height};
-ghost use Rattle.awk_syntax.specs.support.Parser as parser;
-ghost use Rattle.awk_syntax.specs.support.ParserView.{operand_of, frame_of, role_of};
+ghost use Rattle.awk_expressions.specs.support.Parser as parser;
+ghost use Rattle.awk_expressions.specs.support.ParserView.{operand_of, frame_of, role_of};
 
 use crate::infix_role::InfixRole;
 use awk_tree::checked::{CheckedExpr, CheckedExprs, CheckedItems, CheckedStatements};
@@ -46,7 +46,7 @@ pub enum Frame {
 
 impl Operand {
     /// A number.
-    pub fn number(n: i128) -> Operand
+    pub(crate) fn number(n: i128) -> Operand
         ensures { operand_of result ≡ parser.number max_height n }
     {
         Operand {
@@ -59,7 +59,7 @@ impl Operand {
     }
 
     /// A string.
-    pub fn string(bytes: Bytes) -> Operand
+    pub(crate) fn string(bytes: Bytes) -> Operand
         ensures { operand_of result ≡ parser.string max_height bytes }
     {
         Operand {
@@ -72,7 +72,7 @@ impl Operand {
     }
 
     /// An ERE.
-    pub fn ere(ere: Ere) -> Operand
+    pub(crate) fn ere(ere: Ere) -> Operand
         ensures { operand_of result ≡ parser.ere max_height ere.text }
     {
         Operand {
@@ -98,7 +98,7 @@ impl Operand {
     }
 
     /// `$` and this number.
-    pub fn into_field(self, alloc: Global) -> Result<Operand, AllocError>
+    pub(crate) fn into_field(self, alloc: Global) -> Result<Operand, AllocError>
         ensures { IfOk result (λ p. operand_of p ≡ parser.field max_height (operand_of self)) }
     {
         Ok(Operand {
@@ -108,7 +108,7 @@ impl Operand {
     }
 
     /// This expression in parentheses.
-    pub fn into_group(self, alloc: Global) -> Result<Operand, AllocError>
+    pub(crate) fn into_group(self, alloc: Global) -> Result<Operand, AllocError>
         ensures { IfOk result (λ p. operand_of p ≡ parser.group max_height (operand_of self)) }
     {
         Ok(Operand {
@@ -131,7 +131,7 @@ impl Operand {
 
 impl Frame {
     /// The greatest precedence that may stand as the next child.
-    pub fn greatest_allowed(&self) -> u8
+    pub(crate) fn greatest_allowed(&self) -> u8
         ensures { result ≡ parser.greatest_allowed (frame_of self.now) }
     {
         match self {
@@ -142,14 +142,14 @@ impl Frame {
     }
 
     /// Whether a token of its own ends the node.
-    pub fn has_closing_token(&self) -> bool
+    pub(crate) fn has_closing_token(&self) -> bool
         ensures { result ≡ parser.has_closing_token (frame_of self.now) }
     {
         !matches!(self, Frame::Unary(_) | Frame::Binary(..) | Frame::Assign(_))
     }
 
     /// The node, made of its last child.
-    pub fn finish_node(self, alloc: Global, operand: Operand) -> Result<Operand, AllocError>
+    pub(crate) fn finish_node(self, alloc: Global, operand: Operand) -> Result<Operand, AllocError>
         ensures { IfOk result (λ p. operand_of p ≡ parser.finish_node max_height (frame_of self) (operand_of operand)) }
     {
         match self {

@@ -1,8 +1,8 @@
 // What a token does after an operand.
 
 ghost use Rattle.std.specs.Prelude.{◌≡◌};
-ghost use Rattle.awk_syntax.specs.support.Parser as parser;
-ghost use Rattle.awk_syntax.specs.support.ParserView.{role_of};
+ghost use Rattle.awk_expressions.specs.support.Parser as parser;
+ghost use Rattle.awk_expressions.specs.support.ParserView.{role_of};
 
 use awk_lex::token::{Kind, Operator};
 use awk_tree::tree::BinaryOperator;

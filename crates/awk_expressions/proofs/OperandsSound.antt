@@ -12,9 +12,9 @@ use Rattle.awk_tree.specs.declared.tree.BinaryOperator.TheVariants as o
 use Rattle.awk_tree.specs.Tree.{Number, String, Ere, Name, Group, Field, Unary, Binary, Assign}
 use Rattle.awk_tree.specs.Precedence.{operator_precedence, greatest_left, greatest_right, is_greater, expr_precedence}
 use Rattle.awk_tree.specs.Spelling.{operator_of, prefix_of, is_signed, Joined}
-use Rattle.awk_syntax.specs.support.Parser.{Operand, name, group, prefixed, joined, assigned, InfixRole, Joins, Ends, operate, role, Frame, InGroup, InUnary, InBinary, InAssign, greatest_allowed, greatest_allowed_on, has_closing_token, finish_node, continues, Reduced, reduce, ParserState, BeforeOperand, AfterName, AfterDollar, when, start_operand, after_dollar, close_parenthesis, shift}
-use Rattle.awk_syntax.proofs.PrunedNodes.{pruned, group-pruned, field-pruned, prefixed-pruned, joined-pruned, assigned-pruned}
-use Rattle.awk_syntax.proofs.ParserInvariant.{Stacked, OperandRead, Holds, stacked}
+use Rattle.awk_expressions.specs.support.Parser.{Operand, name, group, prefixed, joined, assigned, InfixRole, Joins, Ends, operate, role, Frame, InGroup, InUnary, InBinary, InAssign, greatest_allowed, greatest_allowed_on, has_closing_token, finish_node, continues, Reduced, reduce, ParserState, BeforeOperand, AfterName, AfterDollar, when, start_operand, after_dollar, close_parenthesis, shift}
+use Rattle.awk_expressions.proofs.PrunedNodes.{pruned, group-pruned, field-pruned, prefixed-pruned, joined-pruned, assigned-pruned}
+use Rattle.awk_expressions.proofs.ParserInvariant.{Stacked, OperandRead, Holds, stacked}
 
 pub by_test : {A : Type 0} (P : A → Type 0) (b : Bool) (x y : A) → (b ≡ true → P x) → (b ≡ false → P y) → P (cond b x y)
 by_test P true x y f g = f refl

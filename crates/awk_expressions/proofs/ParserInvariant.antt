@@ -7,8 +7,8 @@ use Rattle.awk_lex.specs.declared.token.Kind.TheVariants as t
 use Rattle.awk_tree.specs.Tree.{Expr, Exprs, Nil, Cons, Statement, Statements, Item}
 use Rattle.awk_tree.specs.Precedence.{operator_precedence, greatest_left, is_greater, expr_precedence, is_assignable, KeepsPrecedence, AllKeepPrecedence, StatementKeepsPrecedence, StatementsKeepPrecedence, ItemKeepsPrecedence, ProgramKeepsPrecedence}
 use Rattle.awk_tree.specs.Spelling.{newlines, operator_of, prefix_of, Joined, Spells, SpellsList, Ended, SpellsStatement, SpellsAll, SpellsItem, separators, SpellsProgram}
-use Rattle.awk_syntax.specs.support.Parser.{Operand, Head, OfBegin, OfNoPattern, OfPattern, Frame, InGroup, InUnary, InBinary, InAssign, InStatement, InPrint, InBlock, InPattern, InAction, InProgram, greatest_allowed_on, ParserState, BeforeOperand, AfterOperand, AfterName, AfterDollar, AfterPrint, BeforeStatement, AfterStatement, AfterBegin, BetweenItems, Failed}
-use Rattle.awk_syntax.proofs.PrunedNodes.{pruned, pruned_list, pruned_statement, pruned_all, pruned_item, pruned_items}
+use Rattle.awk_expressions.specs.support.Parser.{Operand, Head, OfBegin, OfNoPattern, OfPattern, Frame, InGroup, InUnary, InBinary, InAssign, InStatement, InPrint, InBlock, InPattern, InAction, InProgram, greatest_allowed_on, ParserState, BeforeOperand, AfterOperand, AfterName, AfterDollar, AfterPrint, BeforeStatement, AfterStatement, AfterBegin, BetweenItems, Failed}
+use Rattle.awk_expressions.proofs.PrunedNodes.{pruned, pruned_list, pruned_statement, pruned_all, pruned_item, pruned_items}
 
 -- a list, and a comma with newlines behind it unless the list is empty
 abbrev pub SpellsBefore : Exprs → List Kind → List Kind → Type 0

@@ -15,8 +15,8 @@ use Rattle.awk_tree.specs.Tree.{Expr, Number, String, Ere, Name, Group, Field, U
 use Rattle.awk_tree.specs.Precedence.{operator_precedence, greatest_left, greatest_right, is_greater, expr_precedence, is_assignable, KeepsPrecedence, AllKeepPrecedence}
 use Rattle.awk_tree.specs.Spelling.{newlines, operator_of, prefix_of, is_signed, Joined, Spells, SpellsList}
 use Rattle.awk_tree.specs.Nodes.{append}
-use Rattle.awk_syntax.specs.support.Parser.{Operand, name, no_exprs, one_more, printed, InfixRole, Joins, Ends, role, Frame, InGroup, InUnary, InBinary, InAssign, InPrint, greatest_allowed, greatest_allowed_on, has_closing_token, finish_node, continues, reduce, when, BeforeOperand, AfterOperand, AfterName, AfterDollar, AfterPrint, end_simple_statement, shift, after_reduced, step, whole, answer}
-use Rattle.awk_syntax.proofs.PrunedNodes.{pruned, pruned_list, pruned_statement, group-pruned, field-pruned, prefixed-pruned, joined-pruned, assigned-pruned, one_more-pruned, printed-pruned}
+use Rattle.awk_expressions.specs.support.Parser.{Operand, name, no_exprs, one_more, printed, InfixRole, Joins, Ends, role, Frame, InGroup, InUnary, InBinary, InAssign, InPrint, greatest_allowed, greatest_allowed_on, has_closing_token, finish_node, continues, reduce, when, BeforeOperand, AfterOperand, AfterName, AfterDollar, AfterPrint, end_simple_statement, shift, after_reduced, step, whole, answer}
+use Rattle.awk_expressions.proofs.PrunedNodes.{pruned, pruned_list, pruned_statement, group-pruned, field-pruned, prefixed-pruned, joined-pruned, assigned-pruned, one_more-pruned, printed-pruned}
 use Rattle.awk_tree.proofs.LimitedNodes.{test_true, test_false}
 
 -- what the next token does

@@ -1,0 +1,4 @@
+pub mod PrunedNodes
+pub mod ExpressionsComplete
+pub mod ParserInvariant
+pub mod OperandsSound

@@ -1,0 +1,25 @@
+-- What is left to read, one token after the other.
+use Rattle.std.proofs.Common.{◌≡◌, ℕ, zero, suc, ◌+◌, ◌<◌, List, [], ◌∷◌, length, drop, get_or, add-one, Option, None, sym, ap, ◌∙◌, arith}
+use Rattle.awk_lex.specs.Told.{kinds_of}
+use Rattle.awk_lex.specs.declared.token.Kind.{Kind}
+use Rattle.awk_lex.specs.declared.token.Token.{Token}
+use Rattle.awk_tree.specs.Tree.{Item}
+use Rattle.awk_expressions.specs.support.Parser.{ParserState, Failed, step, answer}
+use Rattle.awk_syntax.proofs.AnswersJustified.{failed}
+
+kinds_behind : (tokens : List Token) (i : ℕ) (x : Token) → i < length tokens → x ≡ get_or tokens i x → kinds_of (drop i tokens) ≡ x.kind ∷ kinds_of (drop (suc i) tokens)
+kinds_behind [] i x h e = absurd (omega arith)
+kinds_behind (y ∷ tokens) zero x h e = ap (λ (z : Token). z.kind ∷ kinds_of tokens) (sym e)
+kinds_behind (y ∷ tokens) (suc i) x h e = kinds_behind tokens i x (omega arith) e
+
+kinds_at : (tokens : List Token) (i : ℕ) (x : Token) → i < length tokens → x ≡ get_or tokens i x → kinds_of (drop i tokens) ≡ x.kind ∷ kinds_of (drop (i + 1) tokens)
+kinds_at tokens i x h e = rw add-one (kinds_behind tokens i x h e)
+
+-- a token is taken
+pub read_on : (m : ℕ) (a b : ParserState) (r : Option (Option (List Item))) (tokens : List Token) (i : ℕ) (x : Token) → i < length tokens → x ≡ get_or tokens i x → answer m a (kinds_of (drop i tokens)) ≡ r → b ≡ step m a x.kind → answer m b (kinds_of (drop (i + 1) tokens)) ≡ r
+read_on m a b r tokens i x h e q s =
+    ap (λ z. answer m z (kinds_of (drop (i + 1) tokens))) s ∙ ap (answer m a) (sym (kinds_at tokens i x h e)) ∙ q
+
+-- a token can't be taken
+pub refused_at : (m : ℕ) (a : ParserState) (r : Option (Option (List Item))) (tokens : List Token) (i : ℕ) (x : Token) → i < length tokens → x ≡ get_or tokens i x → answer m a (kinds_of (drop i tokens)) ≡ r → Failed ≡ step m a x.kind → r ≡ None
+refused_at m a r tokens i x h e q s = sym (read_on m a Failed r tokens i x h e q s) ∙ failed m (kinds_of (drop (i + 1) tokens))
