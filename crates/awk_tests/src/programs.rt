@@ -3,4 +3,3 @@
 mod accepted;
 mod execute;
 mod refused;
-mod witness;
