@@ -1,7 +1,7 @@
 // Texts and their tokens by the terminals of the grammar (POSIX awk, Grammar), escapes, and what words mean.
 
 use crate::tables::{add_bytes, bytes_of, expect_table};
-use awk_lex::escapes::unescape;
+use awk_lex::escapes::{EscapeFault, unescape};
 use awk_lex::lexer::tokens;
 use awk_lex::refusal::{Refusal, RefusalCode};
 use awk_lex::token::{AssignmentOperator, BuiltIn, IncrementOperator, Keyword, Kind, Operator};
@@ -343,7 +343,8 @@ fn unescaped(alloc: Global, input: &str) -> Result<String, Fail> {
     let mut text = String::new(alloc);
     match unescape(&bytes_of(alloc, input)?, &mut bytes) {
         Ok(()) => add_bytes(&mut text, &bytes)?,
-        Err(fault) => write!(text, "{fault}")?,
+        Err(EscapeFault::BadEscape) => text.push_str("bad escape")?,
+        Err(EscapeFault::Memory) => text.push_str("out of memory")?,
     }
     Ok(text)
 }
