@@ -116,8 +116,7 @@ begins_same log past is = subst (λ (l : List Effect). Begins (outputs_of log) (
 pub begins_partly : (n : ℕ) (bytes : List ℕ) (past : List Effect) (log log' : List Event) → openings log ≡ standard_openings past → openings log' ≡ receives 0 (take n bytes) (openings log) → Begins (outputs_of log') (outputs_after (past ++ Printed StandardOutput bytes ∷ []))
 begins_partly n bytes past log log' is partly =
     let print : Effect = Printed StandardOutput bytes in
-    subst (λ (os : List Opening). Begins os (outputs_after (past ++ print ∷ []))) (ap in_order (sym (partly ∙ ap (receives 0 (take n bytes)) is)))
-    (
+    subst (λ (os : List Opening). Begins os (outputs_after (past ++ print ∷ []))) (ap in_order (sym (partly ∙ ap (receives 0 (take n bytes)) is))) (
       refl,
       record {
         more = drop n bytes;

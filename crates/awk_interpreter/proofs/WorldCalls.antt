@@ -364,8 +364,7 @@ refuses_comes oracle m k s past (Some v) (Some source) is there main same stands
     let meets : Meets oracle (ARecord [] source.bytes) (stage_of k.log m.streams.main) (stage_of k.log m.streams.main) = (
       refl,
       subst (λ (o : Option InputView). ReadsMainAsRequested oracle [] source.bytes (number_of o) k.log k.log) is (main_as_requested oracle [] k.log k.log v source main unread (inl refl)),
-    ) in
-    (
+    ) in (
       refl,
       record {
         clear = stands.clear;

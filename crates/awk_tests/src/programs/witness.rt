@@ -38,7 +38,13 @@ pub fn run_in_memory(
 #[test]
 fn a_run_in_memory(rt: HostRuntime) -> Result<(), Fail> {
     let alloc = rt.alloc();
-    let run = run_in_memory(alloc, Vec::new(alloc), b"BEGIN { print 1 }", &Start::new(alloc), 1);
+    let run = run_in_memory(
+        alloc,
+        Vec::new(alloc),
+        b"BEGIN { print 1 }",
+        &Start::new(alloc),
+        1,
+    );
     assert!(rt; run.outcome == Ok(Outcome::Ended(0)));
     assert!(rt; run.world.received(0)?.as_slice() == b"1\n".as_slice());
     Ok(())
