@@ -1,2 +1,4 @@
-pub mod HeldOutput
-pub mod Opened
+pub mod definitions
+pub mod support
+pub use Rattle.awk_system.specs.definitions.HeldOutput
+pub use Rattle.awk_system.specs.definitions.Opened

@@ -2,7 +2,7 @@
 
 ghost use Rattle.std.specs.Prelude.{◌≡◌, ◌≤◌, [], Some, IfOk, IfErr, OnOk, length, take};
 ghost use Rattle.std.specs.Io.KnownBytes.{Keeps, Appends, WriteAppends};
-ghost use Rattle.awk_system.specs.HeldOutput.{held_contents, IsEmptyHeld};
+ghost use Rattle.awk_system.specs.definitions.HeldOutput.{held_contents, IsEmptyHeld};
 
 use crate::calls::{fault_of, write_to};
 use awk_world::WorldFault;

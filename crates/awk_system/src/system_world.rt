@@ -5,8 +5,9 @@ ghost use Rattle.std.specs.BTreeMap.{get};
 ghost use Rattle.std.specs.Io.Buffered.{reader_remaining};
 ghost use Rattle.std.specs.Io.KnownBytes.{Keeps, Appends, ReadConsumes, WriteAppends};
 ghost use Rattle.awk_world.specs.WorldState.{IsFresh, Opens, SameOpen};
-ghost use Rattle.awk_system.specs.HeldOutput.{held_contents, IsEmptyHeld};
-ghost use Rattle.awk_system.specs.Opened.{is_open_in, standard_outputs_open};
+ghost use Rattle.awk_system.specs.definitions.HeldOutput.{held_contents, IsEmptyHeld};
+ghost use Rattle.awk_system.specs.definitions.Opened.{is_open_in};
+ghost use Rattle.awk_system.specs.support.StandardOutputs.{standard_outputs_open};
 
 use crate::calls::{fault_of, read_from, write_to};
 use crate::held_output::HeldOutput;
