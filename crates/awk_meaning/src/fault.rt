@@ -90,8 +90,6 @@ impl From<RecordFault> for Fault {
         match fault {
             RecordFault::Memory => Fault::OutOfMemory,
             RecordFault::FieldNumber => Fault::FieldNumberOutOfRange,
-            RecordFault::SeparatorTooLong => Fault::RecordSeparatorTooLong,
-            RecordFault::RecordTooLong => Fault::RecordTooLong,
         }
     }
 }

@@ -8,7 +8,7 @@ use Rattle.awk_record.specs.declared.buffer.Step.{Step}
 use Rattle.awk_record.specs.declared.buffer.Step.TheVariants.{NeedMore, Broken}
 use Rattle.awk_record.specs.declared.buffer.Supply.{Supply}
 use Rattle.awk_record.specs.declared.buffer.Supply.TheVariants.{Open, Ended, Broke}
-use Rattle.awk_record.specs.declared.fault.RecordFault.{RecordFault}
+use Rattle.awk_record.specs.declared.fault.BufferFault.{BufferFault}
 use Rattle.awk_record.proofs.CutIsDecided.{IsDecided_law, cut-found, cut-too_long, cut-bad, cut-never_none}
 
 -- what is settled is so for each ending
@@ -22,7 +22,7 @@ same_for_each separator bytes BadSeparator is other ending =
 same_for_each separator bytes BrokenOff is other ending = absurd (other refl)
 same_for_each separator bytes NoMore is other ending = absurd (cut-never_none separator bytes is)
 
-no_more_asked : (c : Cut) (ending : Option Ending) (result : Result Step RecordFault) (old new : Pending) → IsAnswerOf c ending result old new → result ≡ Ok NeedMore → ⊥
+no_more_asked : (c : Cut) (ending : Option Ending) (result : Result Step BufferFault) (old new : Pending) → IsAnswerOf c ending result old new → result ≡ Ok NeedMore → ⊥
 no_more_asked (Found first rest) ending result old new (answer, rest_is, ending_is) e = cc
 no_more_asked NoMore ending result old new (answer, rest_is, ending_is) e = cc
 no_more_asked BrokenOff ending result old new (answer, rest_is, ending_is) e = cc
@@ -37,7 +37,7 @@ Steps-more separator old none is = record {
   ended = λ ending some. let bad : None ≡ Some ending = sym none ∙ some in cc;
 }
 
-pub Steps-open : (separator : List ℕ) (old new : Pending) (result : Result Step RecordFault) (c : Cut) → old.ending ≡ None → cut_of separator old.bytes AtBreak ≡ c → c ≢ BrokenOff →
+pub Steps-open : (separator : List ℕ) (old new : Pending) (result : Result Step BufferFault) (c : Cut) → old.ending ≡ None → cut_of separator old.bytes AtBreak ≡ c → c ≢ BrokenOff →
     IsAnswerOf c None result old new → Steps separator old result new
 Steps-open separator old new result c none is other answers = record {
   needs_more = λ _ undecided. absurd (undecided ((IsDecided_law separator old.bytes).1 (λ (broken : cut_of separator old.bytes AtBreak ≡ BrokenOff). other (sym is ∙ broken))));
@@ -46,7 +46,7 @@ Steps-open separator old new result c none is other answers = record {
   ended = λ ending some. let bad : None ≡ Some ending = sym none ∙ some in cc;
 }
 
-pub Steps-ended : (separator : List ℕ) (old new : Pending) (result : Result Step RecordFault) (ending : Ending) (c : Cut) → old.ending ≡ Some ending → cut_of separator old.bytes ending ≡ c →
+pub Steps-ended : (separator : List ℕ) (old new : Pending) (result : Result Step BufferFault) (ending : Ending) (c : Cut) → old.ending ≡ Some ending → cut_of separator old.bytes ending ≡ c →
     IsAnswerOf c (Some ending) result old new → Steps separator old result new
 Steps-ended separator old new result ending c some is answers = record {
   needs_more = λ none _. let bad : None ≡ Some ending = sym none ∙ some in cc;
@@ -58,7 +58,7 @@ Steps-ended separator old new result ending c some is answers = record {
 }
 
 -- by what was supply
-pub Steps-at : (separator : List ℕ) (supply : Supply) (old new : Pending) (result : Result Step RecordFault) (c : Cut) → old.ending ≡ ending_of supply →
+pub Steps-at : (separator : List ℕ) (supply : Supply) (old new : Pending) (result : Result Step BufferFault) (c : Cut) → old.ending ≡ ending_of supply →
     cut_of separator old.bytes (ending_or_break supply) ≡ c → c ≢ BrokenOff → IsAnswerOf c (ending_of supply) result old new → Steps separator old result new
 Steps-at separator Open old new result c ending is other answers = Steps-open separator old new result c ending is other answers
 Steps-at separator Ended old new result c ending is other answers = Steps-ended separator old new result AtEnd c ending is answers
@@ -69,7 +69,7 @@ pub held_is : (xs items : List ℕ) (start : ℕ) → xs ≡ items → take (len
 held_is xs items start same = take_rest xs start ∙ ap (drop start) same
 
 -- from what a look at the bytes behind `start` showed
-pub Steps-seen : (separator xs items : List ℕ) (start : ℕ) (supply : Supply) (e : Ending) (old new : Pending) (result : Result Step RecordFault) (c : Cut) →
+pub Steps-seen : (separator xs items : List ℕ) (start : ℕ) (supply : Supply) (e : Ending) (old new : Pending) (result : Result Step BufferFault) (c : Cut) →
     c ≡ cut_of separator (take (length xs - start) (drop start xs)) e → e ≡ ending_or_break supply → xs ≡ items → record { bytes = drop start items; ending = ending_of supply } ≡ old →
     c ≢ BrokenOff → IsAnswerOf c (ending_of supply) result old new → Steps separator old result new
 Steps-seen separator xs items start supply e old new result c is same_e same view other answers =

@@ -4,7 +4,7 @@ ghost use Rattle.awk_record.specs.Cut.{AtEnd, AtBreak, longest};
 ghost use Rattle.awk_record.specs.Boundary.{end_if, ending_or_break};
 
 use crate::boundary::{Boundary, first_boundary};
-use crate::fault::RecordFault;
+use crate::fault::BufferFault;
 use crate::separator_search::ResumedSearch;
 use awk_value::Bytes;
 use std::alloc::Global;
@@ -112,12 +112,12 @@ impl RecordBuffer {
 
     /// Adds the next bytes of the input. The only error is `Memory`, and it
     /// changes nothing.
-    pub fn feed(&mut self, piece: &[u8]) -> Result<(), RecordFault>
+    pub fn feed(&mut self, piece: &[u8]) -> Result<(), BufferFault>
         requires { self.old.ending ≡ None }
         ensures ok { OnOk result (self.new.bytes ≡ self.old.bytes ++ piece.now) }
         ensures ending { self.new.ending ≡ None }
         ensures err { OnErr result (self.new ≡ self.old) }
-        ensures memory { IfErr result (λ e. e ≡ RecordFault.Memory) }
+        ensures memory { IfErr result (λ e. e ≡ BufferFault.Memory) }
     {
         self.drop_taken();
         self.bytes.extend_from_slice(piece)?;
@@ -145,9 +145,9 @@ impl RecordBuffer {
     /// The next record by this separator: one byte, or none, where blank lines
     /// separate. After `End` or `Broken` no bytes are left. An `Err` changes
     /// nothing.
-    pub fn next(&mut self, separator: &[u8]) -> Result<Step, RecordFault>
-        ensures steps { result ≢ Err RecordFault.Memory → Steps separator.now self.old result self.new }
-        ensures memory { result ≡ Err RecordFault.Memory → self.new ≡ self.old }
+    pub fn next(&mut self, separator: &[u8]) -> Result<Step, BufferFault>
+        ensures steps { result ≢ Err BufferFault.Memory → Steps separator.now self.old result self.new }
+        ensures memory { result ≡ Err BufferFault.Memory → self.new ≡ self.old }
         ensures ending { self.new.ending ≡ self.old.ending }
         ensures short { result ≡ Ok Step.NeedMore → length self.old.bytes ≤ longest }
     {
@@ -174,8 +174,8 @@ impl RecordBuffer {
                     Ok(Step::Broken)
                 }
             },
-            Boundary::Over => Err(RecordFault::RecordTooLong),
-            Boundary::NoSeparator => Err(RecordFault::SeparatorTooLong),
+            Boundary::Over => Err(BufferFault::RecordTooLong),
+            Boundary::NoSeparator => Err(BufferFault::SeparatorTooLong),
         }
     }
 }

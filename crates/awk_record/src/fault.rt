@@ -1,6 +1,6 @@
 // Why a record can't be had.
 
-use std::alloc::{AllocError, AllocFailed};
+use std::alloc::AllocError;
 use thiserror::Error;
 
 /// Why a record, a field or room for them was refused.
@@ -12,6 +12,14 @@ pub enum RecordFault {
     /// F8.
     #[error("field number out of range")]
     FieldNumber,
+}
+
+/// Why a buffer gives no next record.
+#[derive(Clone, Copy, Debug, PartialEq, Eq, Error)]
+pub enum BufferFault {
+    /// F1.
+    #[error("out of memory")]
+    Memory,
     /// F15.
     #[error("record separator too long")]
     SeparatorTooLong,
@@ -31,13 +39,13 @@ impl From<AllocError> for RecordFault {
     }
 }
 
-impl<T: Drop> From<AllocFailed<T>> for RecordFault {
+impl From<AllocError> for BufferFault {
     ghost use Rattle.std.specs.Prelude.{◌≡◌};
-    ghost use Rattle.awk_record.specs.declared.fault.RecordFault.TheVariants.{Memory};
+    ghost use Rattle.awk_record.specs.declared.fault.BufferFault.TheVariants.{Memory};
 
     ghost from_gives = { λ _ e. e ≡ Memory };
 
-    fn from(_: AllocFailed<T>) -> Self {
-        RecordFault::Memory
+    fn from(_: AllocError) -> Self {
+        BufferFault::Memory
     }
 }

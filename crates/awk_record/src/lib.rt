@@ -12,7 +12,7 @@ mod record;
 mod separator_search;
 
 pub use buffer::{RecordBuffer, Step};
-pub use fault::RecordFault;
+pub use fault::{BufferFault, RecordFault};
 pub use record::Record;
 
 /// Bytes decide the first record exactly where their cut would find one, or

@@ -3,7 +3,7 @@
 use super::*;
 use awk_text::Separator;
 use awk_value::{Bytes, Value};
-use std::alloc::Global;
+use std::alloc::{AllocError, Global};
 use std::test::Fail;
 
 /// An input, and the records that it is cut into.
@@ -74,7 +74,7 @@ const CUTTINGS: [Cutting; 9] = [
     },
 ];
 
-fn add_step(answers: &mut Vec<u8>, step: Step) -> Result<(), RecordFault> {
+fn add_step(answers: &mut Vec<u8>, step: Step) -> Result<(), AllocError> {
     match step {
         Step::Record(record) => {
             answers.extend_from_slice(record.as_slice())?;
@@ -89,7 +89,7 @@ fn add_step(answers: &mut Vec<u8>, step: Step) -> Result<(), RecordFault> {
 
 /// What a buffer answers that is fed byte by byte and asked after each byte,
 /// and three times more at the end.
-fn answers_of(alloc: Global, cutting: &Cutting) -> Result<Vec<u8>, RecordFault> {
+fn answers_of(alloc: Global, cutting: &Cutting) -> Result<Vec<u8>, BufferFault> {
     let separator = cutting.separator.as_bytes();
     let mut buffer = RecordBuffer::new(alloc);
     let mut answers = Vec::new(alloc);
@@ -119,7 +119,7 @@ fn cuts_inputs_into_records(rt: HostRuntime) -> Result<(), Fail> {
         );
     }
     let mut buffer = RecordBuffer::new(rt.alloc());
-    let refused = matches!(buffer.next(b"ab"), Err(RecordFault::SeparatorTooLong));
+    let refused = matches!(buffer.next(b"ab"), Err(BufferFault::SeparatorTooLong));
     assert!(rt; refused);
     Ok(())
 }

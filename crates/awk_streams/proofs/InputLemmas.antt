@@ -8,8 +8,8 @@ use Rattle.awk_streams.specs.support.Pulls.{Brings, Pulls}
 use Rattle.awk_record.specs.Cut.{Cut, Found, NoMore, BrokenOff, TooLong, BadSeparator, cut_of}
 use Rattle.awk_record.specs.Buffer.{Steps, IsAnswerOf}
 use Rattle.awk_record.specs.declared.buffer.Step.{Step}
-use Rattle.awk_record.specs.declared.fault.RecordFault.{RecordFault}
-use Rattle.awk_record.specs.declared.fault.RecordFault.TheVariants.{Memory, FieldNumber, SeparatorTooLong, RecordTooLong}
+use Rattle.awk_record.specs.declared.fault.BufferFault.{BufferFault}
+use Rattle.awk_record.specs.declared.fault.BufferFault.TheVariants.{Memory, SeparatorTooLong, RecordTooLong}
 
 with_events-push : (es : List Event) (e : Event) (log : List Event) → with_events (es ++ e ∷ []) log ≡ e ∷ with_events es log
 with_events-push [] e log = refl
@@ -49,10 +49,7 @@ Reaches-more id separator old mid new log log1 log2 e (inr (began, goes)) none o
 pub ok_err : {T E : Type 0} (x : T) (e : E) → Ok x ≡ Err e → ⊥
 ok_err x e is = cc
 
-pub memory_no_field : (result : Result Step RecordFault) → result ≡ Err Memory → result ≡ Err FieldNumber → ⊥
-memory_no_field result memory field = let bad = sym memory ∙ field in cc
-
-kept_ending : (c : Cut) (e : Ending) (result : Result Step RecordFault) (old new : Pending) → old.ending ≡ Some e → IsAnswerOf c (Some e) result old new → new.ending ≡ Some e
+kept_ending : (c : Cut) (e : Ending) (result : Result Step BufferFault) (old new : Pending) → old.ending ≡ Some e → IsAnswerOf c (Some e) result old new → new.ending ≡ Some e
 kept_ending (Found first rest) e result old new is h = h.2
 kept_ending NoMore e result old new is h = h.2
 kept_ending BrokenOff e result old new is h = h.2
@@ -62,19 +59,18 @@ kept_ending BadSeparator e result old new is h = ap (λ (p : Pending). p.ending)
 some_none : {T : Type 0} {P : Type 0} (x : T) → Some x ≡ None → P
 some_none x e = cc
 
-steps_at : (o : Option Ending) (separator : List ℕ) (result : Result Step RecordFault) (old new : Pending) → old.ending ≡ o → Steps separator old result new → new.ending ≡ None → old.ending ≡ None
+steps_at : (o : Option Ending) (separator : List ℕ) (result : Result Step BufferFault) (old new : Pending) → old.ending ≡ o → Steps separator old result new → new.ending ≡ None → old.ending ≡ None
 steps_at None separator result old new is steps none = is
 steps_at (Some e) separator result old new is steps none = some_none e (sym (kept_ending (cut_of separator old.bytes e) e result old new is (steps.ended e is)) ∙ none)
 
 -- an ending that was met stays
-pub steps_ending : (separator : List ℕ) (result : Result Step RecordFault) (old new : Pending) → Steps separator old result new → new.ending ≡ None → old.ending ≡ None
+pub steps_ending : (separator : List ℕ) (result : Result Step BufferFault) (old new : Pending) → Steps separator old result new → new.ending ≡ None → old.ending ≡ None
 steps_ending separator result old new steps none = steps_at old.ending separator result old new refl steps none
 
 -- whatever the buffer answers, an ending that was met stays
-pub step_ending : (separator : List ℕ) (result : Result Step RecordFault) (old new : Pending) → ((result ≡ Err Memory → ⊥) → Steps separator old result new) → (result ≡ Err Memory → new ≡ old) → new.ending ≡ None → old.ending ≡ None
+pub step_ending : (separator : List ℕ) (result : Result Step BufferFault) (old new : Pending) → ((result ≡ Err Memory → ⊥) → Steps separator old result new) → (result ≡ Err Memory → new ≡ old) → new.ending ≡ None → old.ending ≡ None
 step_ending separator (Err Memory) old new steps memory none = ap (λ (p : Pending). p.ending) (sym (memory refl)) ∙ none
 step_ending separator (Ok s) old new steps memory none = steps_ending separator (Ok s) old new (steps (λ (e : Ok s ≡ Err Memory). cc)) none
-step_ending separator (Err FieldNumber) old new steps memory none = steps_ending separator (Err FieldNumber) old new (steps (λ (e : Err FieldNumber ≡ Err Memory). cc)) none
 step_ending separator (Err SeparatorTooLong) old new steps memory none = steps_ending separator (Err SeparatorTooLong) old new (steps (λ (e : Err SeparatorTooLong ≡ Err Memory). cc)) none
 step_ending separator (Err RecordTooLong) old new steps memory none = steps_ending separator (Err RecordTooLong) old new (steps (λ (e : Err RecordTooLong ≡ Err Memory). cc)) none
 
@@ -86,7 +82,7 @@ Reaches-lost id separator old mid log log1 log2 reaches none undecided (inr (byt
     let seen : Pending = record { bytes = mid.bytes ++ bytes; ending = None } in
     (seen, Reaches-more id separator old mid seen log log1 log2 (Read id bytes) reaches none undecided is (refl, refl, refl), refl)
 
-pub pulls_lost : (id : ℕ) (separator : List ℕ) (old mid new : Pending) (log log1 log2 : List Event) (result : Result Step RecordFault) → Reaches id separator old log mid log1 → mid.ending ≡ None → (IsDecided separator mid.bytes → ⊥) →
+pub pulls_lost : (id : ℕ) (separator : List ℕ) (old mid new : Pending) (log log1 log2 : List Event) (result : Result Step BufferFault) → Reaches id separator old log mid log1 → mid.ending ≡ None → (IsDecided separator mid.bytes → ⊥) →
     (log2 ≡ log1) ⊎ ((bytes : List ℕ) × (log2 ≡ Read id bytes ∷ log1)) → result ≡ Err Memory → Pulls id separator old log result new log2
 pulls_lost id separator old mid new log log1 log2 result reaches none undecided lost is =
     let found = Reaches-lost id separator old mid log log1 log2 reaches none undecided lost in

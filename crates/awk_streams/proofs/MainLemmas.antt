@@ -6,8 +6,8 @@ use Rattle.awk_record.specs.Cut.{Ending, Cut, Found, NoMore, BrokenOff, TooLong,
 use Rattle.awk_record.specs.Buffer.{Pending}
 use Rattle.awk_record.specs.declared.buffer.Step.{Step}
 use Rattle.awk_record.specs.declared.buffer.Step.TheVariants.{Record, NeedMore, End, Broken}
-use Rattle.awk_record.specs.declared.fault.RecordFault.{RecordFault}
-use Rattle.awk_record.specs.declared.fault.RecordFault.TheVariants.{Memory as BufferMemory, FieldNumber, SeparatorTooLong as BufferSeparatorTooLong, RecordTooLong as BufferRecordTooLong}
+use Rattle.awk_record.specs.declared.fault.BufferFault.{BufferFault}
+use Rattle.awk_record.specs.declared.fault.BufferFault.TheVariants.{Memory as BufferMemory, SeparatorTooLong as BufferSeparatorTooLong, RecordTooLong as BufferRecordTooLong}
 use Rattle.awk_world.specs.declared.world.InputKind.{InputKind}
 use Rattle.awk_world.specs.declared.world.InputKind.TheVariants.{Command}
 use Rattle.awk_streams.specs.declared.fault.StreamFault.{StreamFault}
@@ -166,15 +166,15 @@ opens_nothing kind name before after streams same (is, fails) = record {
 }
 
 -- from one asking of the buffer to what the streams tell
-next_told : (c : Cut) (step : Result Step RecordFault) (result : Result (Option (List ℕ)) StreamFault) (whole left : List ℕ) → IsToldAs step result → Tells c step whole left → NextTold c result whole left
-next_told (Found first rest) step result whole left says tells = (subst (λ (r : Result Step RecordFault). IsToldAs r result) tells.0 says, tells.1)
-next_told NoMore step result whole left says tells = (subst (λ (r : Result Step RecordFault). IsToldAs r result) tells.0 says, tells.1)
-next_told BrokenOff step result whole left says tells = (subst (λ (r : Result Step RecordFault). IsToldAs r result) tells.0 says, tells.1)
-next_told TooLong step result whole left says tells = (subst (λ (r : Result Step RecordFault). IsToldAs r result) tells.0 says, tells.1)
-next_told BadSeparator step result whole left says tells = (subst (λ (r : Result Step RecordFault). IsToldAs r result) tells.0 says, tells.1)
+next_told : (c : Cut) (step : Result Step BufferFault) (result : Result (Option (List ℕ)) StreamFault) (whole left : List ℕ) → IsToldAs step result → Tells c step whole left → NextTold c result whole left
+next_told (Found first rest) step result whole left says tells = (subst (λ (r : Result Step BufferFault). IsToldAs r result) tells.0 says, tells.1)
+next_told NoMore step result whole left says tells = (subst (λ (r : Result Step BufferFault). IsToldAs r result) tells.0 says, tells.1)
+next_told BrokenOff step result whole left says tells = (subst (λ (r : Result Step BufferFault). IsToldAs r result) tells.0 says, tells.1)
+next_told TooLong step result whole left says tells = (subst (λ (r : Result Step BufferFault). IsToldAs r result) tells.0 says, tells.1)
+next_told BadSeparator step result whole left says tells = (subst (λ (r : Result Step BufferFault). IsToldAs r result) tells.0 says, tells.1)
 
 -- a want of memory alone is told so
-told_memory : (step : Result Step RecordFault) (result : Result (Option (List ℕ)) StreamFault) → IsToldAs step result → result ≡ Err Memory → step ≡ Err BufferMemory
+told_memory : (step : Result Step BufferFault) (result : Result (Option (List ℕ)) StreamFault) → IsToldAs step result → result ≡ Err Memory → step ≡ Err BufferMemory
 told_memory (Ok (Record first)) result says is = let bad = sym says ∙ is in absurd cc
 told_memory (Ok End) result says is = let bad = sym says ∙ is in absurd cc
 told_memory (Ok Broken) result says is = let bad = sym says ∙ is in absurd cc
@@ -182,11 +182,10 @@ told_memory (Ok NeedMore) result says is = absurd says
 told_memory (Err BufferMemory) result says is = refl
 told_memory (Err BufferSeparatorTooLong) result says is = let bad = sym says ∙ is in absurd cc
 told_memory (Err BufferRecordTooLong) result says is = let bad = sym says ∙ is in absurd cc
-told_memory (Err FieldNumber) result says is = absurd says
 
 -- a want of memory is told as such
-memory_told : (step : Result Step RecordFault) (result : Result (Option (List ℕ)) StreamFault) → IsToldAs step result → step ≡ Err BufferMemory → result ≡ Err Memory
-memory_told step result says is = subst (λ (r : Result Step RecordFault). IsToldAs r result) is says
+memory_told : (step : Result Step BufferFault) (result : Result (Option (List ℕ)) StreamFault) → IsToldAs step result → step ≡ Err BufferMemory → result ≡ Err Memory
+memory_told step result says is = subst (λ (r : Result Step BufferFault). IsToldAs r result) is says
 
 reaches_openings : (id : ℕ) (separator : List ℕ) (old seen : Pending) (log log' : List Event) → Reaches id separator old log seen log' → openings log' ≡ openings log
 reaches_openings id separator old seen log log' (inl (same, still)) = ap openings still
@@ -216,7 +215,7 @@ reaches_open id separator old seen log log' (inl (same, still)) readable = inl s
 reaches_open id separator old seen log log' (inr (began, goes)) readable = inr (readable began)
 
 -- one asking for a record of the main input
-pub asks_main : (separator : List ℕ) (before after : WorldState) (v : InputView) (new : Pending) (step : Result Step RecordFault) (result : Result (Option (List ℕ)) StreamFault) →
+pub asks_main : (separator : List ℕ) (before after : WorldState) (v : InputView) (new : Pending) (step : Result Step BufferFault) (result : Result (Option (List ℕ)) StreamFault) →
     SameOpen before after → StandsAsMain before.log v → Pulls v.id separator v.pending before.log step new after.log → step ≢ Ok NeedMore → IsToldAs step result →
     (step ≢ Err BufferMemory → after.first_failure ≡ before.first_failure) → (step ≡ Err BufferMemory → MayFailNow before after) → Grows before after →
     AsksMain separator before record { main = Some v } result after record { main = Some record { id = v.id; pending = new } }

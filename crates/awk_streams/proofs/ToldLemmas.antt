@@ -5,8 +5,8 @@ use Rattle.awk_record.specs.Cut.{Ending, AtEnd, AtBreak, Cut, Found, NoMore, Bro
 use Rattle.awk_record.specs.Buffer.{Pending, Steps, IsAnswerOf}
 use Rattle.awk_record.specs.declared.buffer.Step.{Step}
 use Rattle.awk_record.specs.declared.buffer.Step.TheVariants.{NeedMore}
-use Rattle.awk_record.specs.declared.fault.RecordFault.{RecordFault}
-use Rattle.awk_record.specs.declared.fault.RecordFault.TheVariants.{Memory, FieldNumber}
+use Rattle.awk_record.specs.declared.fault.BufferFault.{BufferFault}
+use Rattle.awk_record.specs.declared.fault.BufferFault.TheVariants.{Memory}
 use Rattle.awk_record.proofs.CutIsDecided.{IsDecided_law}
 use Rattle.awk_world.specs.definitions.Oracle.{Oracle, Source, IsConsistent}
 use Rattle.awk_streams.specs.definitions.Inputs.{Reaches}
@@ -34,7 +34,7 @@ rest_with r left b' ending' same over = record {
   over = over;
 }
 
-told_ended : (c : Cut) (a : Oracle) (id : ℕ) (log : List Event) (s : Source) (whole : List ℕ) (e : Ending) (seen new : Pending) (result : Result Step RecordFault) (r : Rest a id log s whole seen.bytes seen.ending) →
+told_ended : (c : Cut) (a : Oracle) (id : ℕ) (log : List Event) (s : Source) (whole : List ℕ) (e : Ending) (seen new : Pending) (result : Result Step BufferFault) (r : Rest a id log s whole seen.bytes seen.ending) →
     r.more ≡ [] → s.ending ≡ e → IsAnswerOf c (Some e) result seen new → (left : List ℕ) × Tells c result whole left × Rest a id log s left new.bytes new.ending
 told_ended (Found first rest) a id log s whole e seen new result r none ends h =
     (rest, (h.0, refl), rest_with r rest new.bytes new.ending (sym h.1 ∙ (sym (append-nil new.bytes) ∙ ap (λ m. new.bytes ++ m) (sym none))) (λ e' is. (none, ends ∙ same_some e e' (sym h.2 ∙ is))))
@@ -49,7 +49,7 @@ told_ended BadSeparator a id log s whole e seen new result r none ends h = (whol
 alone : (separator b : List ℕ) (c : Cut) (e : Ending) → cut_of separator (b ++ []) e ≡ c → cut_of separator b e ≡ c
 alone separator b c e is = ap (λ x. cut_of separator x e) (sym (append-nil b)) ∙ is
 
-told_decided : (separator : List ℕ) (a : Oracle) (id : ℕ) (log : List Event) (s : Source) (whole : List ℕ) (seen new : Pending) (result : Result Step RecordFault) (r : Rest a id log s whole seen.bytes seen.ending) →
+told_decided : (separator : List ℕ) (a : Oracle) (id : ℕ) (log : List Event) (s : Source) (whole : List ℕ) (seen new : Pending) (result : Result Step BufferFault) (r : Rest a id log s whole seen.bytes seen.ending) →
     IsDecided separator seen.bytes → IsAnswerOf (cut_of separator seen.bytes s.ending) None result seen new →
     (left : List ℕ) × Tells (cut_of separator whole s.ending) result whole left × Rest a id log s left new.bytes new.ending
 told_decided separator a id log s whole seen new result r (inl (first, rest, decides)) h =
@@ -85,7 +85,7 @@ ending_is (Some e) = inr (e, refl)
 abbrev pub DecidedLaw : Type 0
 DecidedLaw = (separator bytes : List ℕ) → IsDecided separator bytes ↔ (cut_of separator bytes AtBreak ≢ BrokenOff)
 
-told_steps : DecidedLaw → (separator : List ℕ) (a : Oracle) (id : ℕ) (log : List Event) (s : Source) (whole : List ℕ) (seen new : Pending) (result : Result Step RecordFault) →
+told_steps : DecidedLaw → (separator : List ℕ) (a : Oracle) (id : ℕ) (log : List Event) (s : Source) (whole : List ℕ) (seen new : Pending) (result : Result Step BufferFault) →
     Rest a id log s whole seen.bytes seen.ending → Steps separator seen result new → result ≢ Ok NeedMore →
     (left : List ℕ) × Tells (cut_of separator whole s.ending) result whole left × Rest a id log s left new.bytes new.ending
 told_steps law separator a id log s whole seen new result r steps told = elim (ending_is seen.ending) [
@@ -110,31 +110,11 @@ rest_reaches id separator old seen log log' a s whole (inr (began, goes)) consis
     subst (λ (l : List Event). Rest a id l s whole seen.bytes seen.ending) (sym goes.log)
     (reads_rest id separator old.bytes seen.bytes seen.ending goes.events a log r.reading s r.more whole goes.each (subst (λ (l : List Event). IsConsistent a l) goes.log consistent) r.stands r.answer r.begins r.same)
 
-told_pulls : DecidedLaw → (id : ℕ) (separator : List ℕ) (old new : Pending) (log log' : List Event) (result : Result Step RecordFault) →
+told_pulls : DecidedLaw → (id : ℕ) (separator : List ℕ) (old new : Pending) (log log' : List Event) (result : Result Step BufferFault) →
     Pulls id separator old log result new log' → result ≢ Ok NeedMore → result ≢ Err Memory → TellsNext id separator old log result new log'
 told_pulls law id separator old new log log' result pulls told differs a s whole consistent r =
     told_steps law separator a id log' s whole pulls.seen new result (rest_reaches id separator old pulls.seen log log' a s whole pulls.reads consistent r) (pulls.steps differs) told
 
-pub told_next : (id : ℕ) (separator : List ℕ) (old new : Pending) (log log' : List Event) (result : Result Step RecordFault) →
+pub told_next : (id : ℕ) (separator : List ℕ) (old new : Pending) (log log' : List Event) (result : Result Step BufferFault) →
     Pulls id separator old log result new log' → result ≢ Ok NeedMore → result ≢ Err Memory → TellsNext id separator old log result new log'
 told_next = told_pulls IsDecided_law
-
--- the buffer never speaks of a field's number
-answer_no_field : (c : Cut) (ending : Option Ending) (result : Result Step RecordFault) (old new : Pending) → IsAnswerOf c ending result old new → result ≡ Err FieldNumber → ⊥
-answer_no_field (Found first rest) ending result old new h is = let bad = sym h.0 ∙ is in cc
-answer_no_field NoMore ending result old new h is = let bad = sym h.0 ∙ is in cc
-answer_no_field BrokenOff ending result old new h is = let bad = sym h.0 ∙ is in cc
-answer_no_field TooLong ending result old new h is = let bad = sym h.0 ∙ is in cc
-answer_no_field BadSeparator ending result old new h is = let bad = sym h.0 ∙ is in cc
-
-more_no_field : (result : Result Step RecordFault) → result ≡ Ok NeedMore → result ≡ Err FieldNumber → ⊥
-more_no_field result more is = let bad = sym more ∙ is in cc
-
-pub steps_no_field : (separator : List ℕ) (old new : Pending) (result : Result Step RecordFault) → Steps separator old result new → result ≡ Err FieldNumber → ⊥
-steps_no_field separator old new result steps is = elim (ending_is old.ending) [
-  | inl none ↦ elim (is_broken_off (cut_of separator old.bytes AtBreak)) [
-    | inl broken ↦ more_no_field result (steps.needs_more none (λ decided. (IsDecided_law separator old.bytes).0 decided broken)).0 is
-    | inr other ↦ answer_no_field (cut_of separator old.bytes AtEnd) None result old new (steps.decided none ((IsDecided_law separator old.bytes).1 other) AtEnd) is
-  ]
-  | inr (e, met) ↦ answer_no_field (cut_of separator old.bytes e) (Some e) result old new (steps.ended e met) is
-]

@@ -1,5 +1,6 @@
 // Why a stream can't go on.
 
+use awk_record::BufferFault;
 use thiserror::Error;
 
 /// Why a stream can't go on.
@@ -20,4 +21,19 @@ pub enum StreamFault {
     /// F16.
     #[error("record too long")]
     RecordTooLong,
+}
+
+impl From<BufferFault> for StreamFault {
+    ghost use Rattle.std.specs.Prelude.{◌≡◌};
+    ghost use Rattle.awk_streams.specs.definitions.Inputs.{input_fault_of};
+
+    ghost from_gives = { λ fault e. e ≡ input_fault_of fault };
+
+    fn from(fault: BufferFault) -> Self {
+        match fault {
+            BufferFault::Memory => StreamFault::Memory,
+            BufferFault::SeparatorTooLong => StreamFault::SeparatorTooLong,
+            BufferFault::RecordTooLong => StreamFault::RecordTooLong,
+        }
+    }
 }

@@ -6,7 +6,7 @@ ghost use Rattle.awk_world.specs.definitions.Grows.{Grows};
 ghost use Rattle.awk_world.specs.definitions.Log.{Event, Read};
 ghost use Rattle.awk_streams.specs.support.Pulls.{Brings, Pulls, room_of};
 
-use awk_record::{RecordBuffer, RecordFault, Step};
+use awk_record::{BufferFault, RecordBuffer, Step};
 use awk_world::{World, WorldFault};
 
 /// The most bytes of one reading.
@@ -21,7 +21,7 @@ pub struct Input {
 
 // One reading, into the buffer. `Memory` is the only error; it leaves the buffer as it was, and may
 // lose what was read.
-fn read_more<W: World>(world: &mut W, id: u64, buffer: &mut RecordBuffer) -> Result<(), RecordFault>
+fn read_more<W: World>(world: &mut W, id: u64, buffer: &mut RecordBuffer) -> Result<(), BufferFault>
     requires open { IsTrue ((W.state world.old).is_open id) }
     requires unended { buffer.old.ending ≡ None }
     requires short { length buffer.old.bytes ≤ longest }
@@ -29,7 +29,7 @@ fn read_more<W: World>(world: &mut W, id: u64, buffer: &mut RecordBuffer) -> Res
     ensures read { OnOk result (W.is_logged → ((e : Event) × ((W.state world.new).log ≡ e ∷ (W.state world.old).log) × Brings id e buffer.old buffer.new)) }
     ensures lost { OnErr result (W.is_logged → ((W.state world.new).log ≡ (W.state world.old).log) ⊎ ((bytes : List ℕ) × ((W.state world.new).log ≡ Read id bytes ∷ (W.state world.old).log))) }
     ensures err { OnErr result (buffer.new ≡ buffer.old) }
-    ensures memory { IfErr result (λ e. e ≡ RecordFault.Memory) }
+    ensures memory { IfErr result (λ e. e ≡ BufferFault.Memory) }
     ensures less { OnOk result (room_of buffer.new.ending (length buffer.new.bytes) < room_of buffer.old.ending (length buffer.old.bytes)) }
     ensures no_failure { OnOk result (W.is_logged → (W.state world.new).first_failure ≡ (W.state world.old).first_failure) }
     ensures failure { OnErr result (W.is_logged → MayFailNow (W.state world.old) (W.state world.new)) }
@@ -40,7 +40,7 @@ fn read_more<W: World>(world: &mut W, id: u64, buffer: &mut RecordBuffer) -> Res
         Ok(0) => buffer.end(),
         Ok(n) => buffer.feed(&chunk[..n])?,
         Err(WorldFault::Failed) => buffer.broken(),
-        Err(WorldFault::Memory) => return Err(RecordFault::Memory),
+        Err(WorldFault::Memory) => return Err(BufferFault::Memory),
     }
     Ok(())
 }
@@ -60,14 +60,13 @@ pub fn next_from<W: World>(
     id: u64,
     buffer: &mut RecordBuffer,
     separator: &[u8],
-) -> Result<Step, RecordFault>
+) -> Result<Step, BufferFault>
     requires open { IsTrue ((W.state world.old).is_open id) }
     ensures open { SameOpen (W.state world.old) (W.state world.new) }
     ensures step { result ≢ Ok Step.NeedMore }
-    ensures fault { result ≢ Err RecordFault.FieldNumber }
     ensures pulls { W.is_logged → Pulls id separator.now buffer.old (W.state world.old).log result buffer.new (W.state world.new).log }
-    ensures no_failure { W.is_logged → result ≢ Err RecordFault.Memory → (W.state world.new).first_failure ≡ (W.state world.old).first_failure }
-    ensures failure { W.is_logged → result ≡ Err RecordFault.Memory → MayFailNow (W.state world.old) (W.state world.new) }
+    ensures no_failure { W.is_logged → result ≢ Err BufferFault.Memory → (W.state world.new).first_failure ≡ (W.state world.old).first_failure }
+    ensures failure { W.is_logged → result ≡ Err BufferFault.Memory → MayFailNow (W.state world.old) (W.state world.new) }
     ensures grows { W.is_logged → Grows (W.state world.old) (W.state world.new) }
 {
     loop {

@@ -8,27 +8,22 @@ ghost use Rattle.awk_streams.specs.support.Pulls.{IsToldAs};
 use crate::fault::StreamFault;
 use crate::input::{Input, next_from};
 use crate::output::{STANDARD_ERROR, STANDARD_OUTPUT, flush, write_all};
-use awk_record::{RecordBuffer, RecordFault, Step};
+use awk_record::{BufferFault, RecordBuffer, Step};
 use awk_value::Bytes;
 use awk_world::{InputKind, World, WorldFault};
 use std::alloc::Global;
 use std::marker::Model;
 
 // What the buffer answers, in the words of the streams.
-fn told(step: Result<Step, RecordFault>) -> Result<Option<Bytes>, StreamFault>
-    requires step { step ≢ Ok Step.NeedMore }
-    requires fault { step ≢ Err RecordFault.FieldNumber }
+fn told(step: Result<Step, BufferFault>) -> Result<Option<Bytes>, StreamFault>
+    requires { step ≢ Ok Step.NeedMore }
     ensures { IsToldAs step result }
 {
-    match step {
-        Ok(Step::Record(record)) => Ok(Some(record)),
-        Ok(Step::End) => Ok(None),
-        Ok(Step::Broken) => Err(StreamFault::InputNotReadable),
-        Ok(Step::NeedMore) => unreachable!(),
-        Err(RecordFault::Memory) => Err(StreamFault::Memory),
-        Err(RecordFault::SeparatorTooLong) => Err(StreamFault::SeparatorTooLong),
-        Err(RecordFault::RecordTooLong) => Err(StreamFault::RecordTooLong),
-        Err(RecordFault::FieldNumber) => unreachable!(),
+    match step? {
+        Step::Record(record) => Ok(Some(record)),
+        Step::End => Ok(None),
+        Step::Broken => Err(StreamFault::InputNotReadable),
+        Step::NeedMore => unreachable!(),
     }
 }
 

@@ -23,8 +23,6 @@ value_fault value.ZeroDivisor = fault.DivisionByZero
 abbrev pub record_fault : RecordFault → Fault
 record_fault fields.Memory = fault.OutOfMemory
 record_fault fields.FieldNumber = fault.FieldNumberOutOfRange
-record_fault fields.SeparatorTooLong = fault.RecordSeparatorTooLong
-record_fault fields.RecordTooLong = fault.RecordTooLong
 
 abbrev pub stream_fault : StreamFault → Fault
 stream_fault streams.Memory = fault.OutOfMemory

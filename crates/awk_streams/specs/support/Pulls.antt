@@ -4,17 +4,17 @@ use Rattle.awk_record.specs.Buffer.{Pending, Steps}
 use Rattle.awk_record.specs.Cut.{Ending, AtEnd, AtBreak, longest, cut_of, Cut, Found, NoMore, BrokenOff, TooLong, BadSeparator}
 use Rattle.awk_record.specs.declared.buffer.Step.{Step}
 use Rattle.awk_record.specs.declared.buffer.Step.TheVariants.{Record, NeedMore, End, Broken}
-use Rattle.awk_record.specs.declared.fault.RecordFault.{RecordFault}
-use Rattle.awk_record.specs.declared.fault.RecordFault.TheVariants.{Memory as BufferMemory, FieldNumber, SeparatorTooLong as BufferSeparatorTooLong, RecordTooLong as BufferRecordTooLong}
+use Rattle.awk_record.specs.declared.fault.BufferFault.{BufferFault}
+use Rattle.awk_record.specs.declared.fault.BufferFault.TheVariants.{Memory as BufferMemory, SeparatorTooLong as BufferSeparatorTooLong, RecordTooLong as BufferRecordTooLong}
 use Rattle.awk_streams.specs.declared.fault.StreamFault.{StreamFault}
-use Rattle.awk_streams.specs.declared.fault.StreamFault.TheVariants.{Memory, InputNotReadable, SeparatorTooLong, RecordTooLong}
-use Rattle.awk_streams.specs.definitions.Inputs.{Reaches, Rest}
+use Rattle.awk_streams.specs.declared.fault.StreamFault.TheVariants.{InputNotReadable}
+use Rattle.awk_streams.specs.definitions.Inputs.{Reaches, Rest, input_fault_of}
 use Rattle.awk_world.specs.definitions.Log.{Event, Read, Ended, Broke}
 use Rattle.awk_world.specs.definitions.Oracle.{Oracle, Source, IsConsistent}
 
 -- one asking for a record: needed readings, and then what the buffer answers of the bytes at hand;
 -- where memory is refused the buffer may lack the bytes of the last reading
-pub record Pulls (id : ℕ) (separator : List ℕ) (old : Pending) (log : List Event) (result : Result Step RecordFault) (new : Pending) (log' : List Event) : Type 0 where
+pub record Pulls (id : ℕ) (separator : List ℕ) (old : Pending) (log : List Event) (result : Result Step BufferFault) (new : Pending) (log' : List Event) : Type 0 where
   pub seen : Pending
   pub reads : Reaches id separator old log seen log'
   pub ending : new.ending ≡ None → seen.ending ≡ None
@@ -33,7 +33,7 @@ room_of None len = 1 + (longest + 1 - len)
 room_of (Some ending) len = 0
 
 -- the buffer answers what the cut of the whole rest gives, and this is left of it
-abbrev pub Tells : Cut → Result Step RecordFault → List ℕ → List ℕ → Type 0
+abbrev pub Tells : Cut → Result Step BufferFault → List ℕ → List ℕ → Type 0
 Tells (Found first rest) result whole left = (result ≡ Ok (Record first)) × (left ≡ rest)
 Tells NoMore result whole left = (result ≡ Ok End) × (left ≡ [])
 Tells BrokenOff result whole left = (result ≡ Ok Broken) × (left ≡ [])
@@ -41,17 +41,14 @@ Tells TooLong result whole left = (result ≡ Err BufferRecordTooLong) × (left 
 Tells BadSeparator result whole left = (result ≡ Err BufferSeparatorTooLong) × (left ≡ whole)
 
 -- for all oracles that are consistent: from the whole rest to what is left of it, by its first cut
-abbrev pub TellsNext : ℕ → List ℕ → Pending → List Event → Result Step RecordFault → Pending → List Event → Type 0
+abbrev pub TellsNext : ℕ → List ℕ → Pending → List Event → Result Step BufferFault → Pending → List Event → Type 0
 TellsNext id separator old log result new log' = (a : Oracle) (s : Source) (whole : List ℕ) → IsConsistent a log' → Rest a id log s whole old.bytes old.ending →
     (left : List ℕ) × Tells (cut_of separator whole s.ending) result whole left × Rest a id log' s left new.bytes new.ending
 
 -- what the buffer answers, as the streams answer it; no step that is told asks for more
-abbrev pub IsToldAs : Result Step RecordFault → Result (Option (List ℕ)) StreamFault → Type 0
+abbrev pub IsToldAs : Result Step BufferFault → Result (Option (List ℕ)) StreamFault → Type 0
 IsToldAs (Ok (Record first)) result = result ≡ Ok (Some first)
 IsToldAs (Ok End) result = result ≡ Ok None
 IsToldAs (Ok Broken) result = result ≡ Err InputNotReadable
 IsToldAs (Ok NeedMore) result = ⊥
-IsToldAs (Err BufferMemory) result = result ≡ Err Memory
-IsToldAs (Err BufferSeparatorTooLong) result = result ≡ Err SeparatorTooLong
-IsToldAs (Err BufferRecordTooLong) result = result ≡ Err RecordTooLong
-IsToldAs (Err FieldNumber) result = ⊥
+IsToldAs (Err fault) result = result ≡ Err (input_fault_of fault)

@@ -2,10 +2,9 @@ use Rattle.std.proofs.Common.{◌≡◌, sym, ap, subst, Result, ◌∙◌, rule
 use Rattle.awk_record.specs.Buffer.{Pending}
 use Rattle.awk_record.specs.declared.buffer.Step.{Step}
 use Rattle.awk_record.specs.declared.buffer.Step.TheVariants.{NeedMore}
-use Rattle.awk_record.specs.declared.fault.RecordFault.{RecordFault}
+use Rattle.awk_record.specs.declared.fault.BufferFault.{BufferFault}
 use Rattle.awk_streams.specs.support.Pulls.{Brings, Pulls}
-use Rattle.awk_streams.proofs.InputLemmas.{Reaches-more, ok_err, memory_no_field, step_ending, pulls_lost}
-use Rattle.awk_streams.proofs.ToldLemmas.{steps_no_field}
+use Rattle.awk_streams.proofs.InputLemmas.{Reaches-more, ok_err, step_ending, pulls_lost}
 use Rattle.awk_streams.proofs.GrowsLemmas.{Grows-then, not_failing, may_fail_later}
 use Rattle.awk_streams.proofs.input.next_from.Goals as goal
 
@@ -32,11 +31,6 @@ returns-then-not-is_need_more-clause-pulls g c = λ t. record {
   steps = c.in_ok-step.ensures.steps;
 }
 
-pub returns-in_err-step-clause-fault : goal.returns-in_err-step-clause-fault
-returns-in_err-step-clause-fault g c = λ bad.
-    let is : c.from_residual.result ≡ Err c.in_err-step.field-0.0 = search rules in
-    steps_no_field c.args.separator.now c.loop-step.buffer c.next.new.self _ (c.in_err-step.ensures.steps (λ memory. memory_no_field _ memory (sym is ∙ bad))) (sym is ∙ bad)
-
 pub returns-in_err-step-clause-pulls : goal.returns-in_err-step-clause-pulls
 returns-in_err-step-clause-pulls g c = λ t.
     let is : c.from_residual.result ≡ Err c.in_err-step.field-0.0 = search rules in
@@ -46,7 +40,7 @@ returns-in_err-step-clause-pulls g c = λ t.
       ending = λ none. step_ending c.args.separator.now _ c.loop-step.buffer c.next.new.self c.in_err-step.ensures.steps c.in_err-step.ensures.memory none;
       steps = c.in_err-step.ensures.steps;
     } in
-    subst (λ (r : Result Step RecordFault). Pulls c.args.id c.args.separator.now c.args.buffer.now (g.W.World.state c.args.world.now).log r c.next.new.self (g.W.World.state c.loop-step.world).log) (sym is) here
+    subst (λ (r : Result Step BufferFault). Pulls c.args.id c.args.separator.now c.args.buffer.now (g.W.World.state c.args.world.now).log r c.next.new.self (g.W.World.state c.loop-step.world).log) (sym is) here
 
 pub returns-in_err-read_more-clause-pulls : goal.returns-in_err-read_more-clause-pulls
 returns-in_err-read_more-clause-pulls g c = λ t.

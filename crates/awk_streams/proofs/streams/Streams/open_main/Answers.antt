@@ -13,3 +13,6 @@ returns-in-Err-Failed-clause-told g c = λ t.
 pub returns-in-Err-Memory-clause-told : goal.returns-in-Err-Memory-clause-told
 returns-in-Err-Memory-clause-told g c = λ t.
     opens_nothing c.args.kind c.args.name.now (g.W.World.state c.args.world.now) (g.W.World.state c.open_input.new.self) c.args.self.now c.in-Err-Memory.ensures.err (rw c.in-Err-Memory.field-0-is at (c.in-Err-Memory.ensures.logs t))
+
+pub returns-in-Err-Failed-clause-opened : goal.returns-in-Err-Failed-clause-opened
+returns-in-Err-Failed-clause-opened g c = tt
