@@ -8,3 +8,5 @@ pub use Rattle.awk_world.specs.definitions.Writes
 pub use Rattle.awk_world.specs.definitions.Openings
 pub use Rattle.awk_world.specs.definitions.Grows
 pub use Rattle.awk_world.specs.definitions.Script
+pub use Rattle.awk_world.specs.definitions.ScriptAnswers
+pub use Rattle.awk_world.specs.definitions.ScriptOf

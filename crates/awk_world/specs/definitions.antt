@@ -7,3 +7,5 @@ pub mod Writes
 pub mod Openings
 pub mod Grows
 pub mod Script
+pub mod ScriptAnswers
+pub mod ScriptOf

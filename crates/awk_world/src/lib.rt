@@ -1,11 +1,16 @@
 //! The outside of a run: what is known of any world, what an oracle of it would answer, and a world in memory.
 #![tactic(auto)]
 
+mod answer;
+mod entry;
 mod laws;
+mod planned_faults;
 mod script_stream;
 mod script_world;
 mod world;
 
+pub use answer::Answer;
+pub use entry::Entry;
 pub use laws::{is_consistent_with_less, some_oracle_is_consistent};
-pub use script_world::{Answer, Entry, ScriptWorld};
+pub use script_world::ScriptWorld;
 pub use world::{InputKind, Mode, OutputKind, World, WorldFault};

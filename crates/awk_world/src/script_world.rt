@@ -1,50 +1,31 @@
-// A world in memory that follows a list of answers and stores its log.
-ghost use Rattle.std.specs.Prelude.{◌≡◌, ◌≤◌, ◌<◌, ◌+◌, ◌∷◌, ◌++◌, [], vec_len, vec_capacity, OnOk, OnErr, Some, None, IsTrue, IfOk, IfSome, Err, length, slice_get, pos};
-ghost use Rattle.awk_world.specs.definitions.WorldState.{IsFresh, Opens, Closes, SameOpen};
-ghost use Rattle.awk_world.specs.definitions.Log.{Event, failure_after, logged, input_opening, reading};
-ghost use Rattle.awk_world.specs.definitions.Writes.{received, received_after};
-ghost use Rattle.awk_world.specs.definitions.Script.{event_of, events};
+// A world in memory that follows a script and stores its log.
+ghost use Rattle.std.specs.Prelude.{◌≡◌, ◌≤◌, ◌<◌, ◌+◌, [], ◌∷◌, vec_len, vec_capacity, OnErr, Some, None, IsTrue, IfOk, Ok, Err, length, take, slice_get, pos};
+ghost use Rattle.awk_world.specs.definitions.WorldState.{Logs, IsFresh, Opens, Closes, SameOpen};
+ghost use Rattle.awk_world.specs.definitions.Log.{Event, Closed, failure_after, logged, input_opening, output_opening, reading, writing, flushing, running};
+ghost use Rattle.awk_world.specs.definitions.Writes.{received};
+ghost use Rattle.awk_world.specs.definitions.Script.{events};
+ghost use Rattle.awk_world.specs.definitions.ScriptAnswers.{IsAnswer, no_faults, refusing_memory, failing_write, failing_flush, writing_at_most, with_plan, in_pieces, after_call, after_write, after_flush, unless_refused, write_answer, flush_answer, opening_answer, after_opening, reading_answer, after_reading, input_under, unread};
 ghost use Rattle.awk_world.specs.support.ScriptStreams.{is_open_in, open_at, open_count, standard_outputs_open};
 
-use crate::script_stream::{ScriptStream, add, advance, give, place_of, shut};
+use crate::answer::{Answer, take_answer};
+use crate::entry::{Entry, add_entry, push_entry, receive};
+use crate::planned_faults::PlannedFaults;
+use crate::script_stream::{Portion, ScriptStream, add, advance, read_next, shut};
 use crate::world::{InputKind, Mode, OutputKind, World, WorldFault};
 use std::alloc::{AllocError, Global};
 
-/// What was done, and what came of it. Numbers are those of the streams; a refused opening has
-/// none.
-#[derive(Debug, Drop, PartialEq, Eq)]
-pub enum Entry {
-    OpenedInput(InputKind, Vec<u8>, Option<u64>),
-    OpenedOutput(OutputKind, Vec<u8>, Mode, Option<u64>),
-    Read(u64, Vec<u8>),
-    Ended(u64),
-    Broke(u64),
-    Wrote(u64, Vec<u8>),
-    Flushed(u64),
-    Closed(u64, i128),
-    Ran(Vec<u8>, i128),
-}
-
-/// What the next opening of an input of this kind and name gives: its bytes, and then its end, or a
-/// break.
-#[derive(Drop)]
-pub struct Answer {
-    pub kind: InputKind,
-    pub name: Vec<u8>,
-    pub refused: bool,
-    pub bytes: Vec<u8>,
-    pub breaks: bool,
-}
-
 /// A world in memory. An opening of an input takes the first answer that is listed for its kind
 /// and name. Where none is listed, standard input is empty, and any other opening is refused; a
-/// closing and a run give 0.
+/// closing and a run give 0. Calls fail where that was planned, and a reading gives all the bytes
+/// that it has room for, unless an input is handed over in pieces.
 #[derive(Drop)]
 pub struct ScriptWorld {
     alloc: Global,
     answers: Vec<Answer>,
     streams: Vec<ScriptStream>,
+    piece_ends: Vec<usize>,
     still_open: usize,
+    faults: PlannedFaults,
     log: Vec<Entry>,
     first_failure: Option<usize>,
     // Room for the closing of each open stream.
@@ -52,64 +33,23 @@ pub struct ScriptWorld {
     ghost counted: { still_open ≡ open_count streams.items },
 }
 
-// Adds an entry, and keeps room for so many closings.
-fn add_entry(log: &mut Vec<Entry>, closings: usize, entry: Entry) -> Result<(), AllocError>
-    requires { vec_len log.old + closings ≤ vec_capacity log.old }
-    ensures ok { OnOk result (log.new.items ≡ log.old.items ++ entry ∷ []) }
-    ensures err { OnErr result (log.new.items ≡ log.old.items) }
-    ensures room { vec_len log.new + closings ≤ vec_capacity log.new }
-{
-    let room = closings.checked_add(1).ok_or(AllocError)?;
-    log.reserve(room)?;
-    log.push(entry)?;
-    Ok(())
-}
-
-// What an output has received after one more entry.
-fn receive(bytes: &mut Vec<u8>, entry: &Entry, output: u64) -> Result<(), AllocError>
-    ensures { OnOk result (bytes.new.items ≡ received_after output (event_of entry.now) bytes.old.items) }
-{
-    match entry {
-        Entry::Wrote(id, part) => {
-            if *id == output {
-                bytes.extend_from_slice(part)?;
-            }
-        }
-        Entry::OpenedOutput(_, _, _, Some(id)) => {
-            if *id == output {
-                bytes.clear();
-            }
-        }
-        Entry::OpenedOutput(_, _, _, None)
-        | Entry::OpenedInput(_, _, _)
-        | Entry::Read(_, _)
-        | Entry::Ended(_)
-        | Entry::Broke(_)
-        | Entry::Flushed(_)
-        | Entry::Closed(_, _)
-        | Entry::Ran(_, _) => {}
-    }
-    Ok(())
-}
-
-// The first answer that is listed for an input.
-fn answer_for(answers: &[Answer], kind: InputKind, name: &[u8]) -> Option<usize>
-    ensures { IfSome result (λ place. place < length answers.now) }
-{
-    answers.iter().position(|answer| answer.kind == kind && answer.name.as_slice() == name)
-}
-
 impl ScriptWorld {
-    /// A world of these answers, in which nothing was done. Takes no memory.
+    ghost use Rattle.awk_world.specs.definitions.ScriptOf.{script_of};
+
+    /// A world of these answers, in which nothing was done and no failure is planned. Takes no
+    /// memory.
     pub fn new(alloc: Global, answers: Vec<Answer>) -> Self
         ensures log { (⟦<ScriptWorld as World>⟧.state result).log ≡ [] }
         ensures first_failure { (⟦<ScriptWorld as World>⟧.state result).first_failure ≡ None }
+        ensures script { script_of result ≡ record { answers = answers.items; inputs = []; piece_ends = []; faults = no_faults } }
     {
         ScriptWorld {
             alloc,
             answers,
             streams: Vec::new(alloc),
+            piece_ends: Vec::new(alloc),
             still_open: 0,
+            faults: PlannedFaults::none(),
             log: Vec::new(alloc),
             first_failure: None,
         }
@@ -134,37 +74,49 @@ impl ScriptWorld {
         Ok(bytes)
     }
 
-    // What the next opening of this input grants; `None` where it is refused.
-    fn take_answer(&mut self, kind: InputKind, name: &[u8]) -> Option<ScriptStream>
-        ensures open { IfSome result (λ stream. IsTrue stream.open) }
-        ensures log { self.new.log ≡ self.old.log }
-        ensures first_failure { self.new.first_failure ≡ self.old.first_failure }
-        ensures count { self.new.still_open ≡ self.old.still_open }
-        ensures streams { self.new.streams ≡ self.old.streams }
+    /// Inputs are handed over in pieces from now on: no reading goes on behind one of these numbers
+    /// of bytes from the start of its input.
+    pub fn give_in_pieces(&mut self, piece_ends: Vec<usize>)
+        ensures script { script_of self.new ≡ in_pieces piece_ends.items (script_of self.old) }
+        ensures state { ⟦<ScriptWorld as World>⟧.state self.new ≡ ⟦<ScriptWorld as World>⟧.state self.old }
     {
-        let Some(place) = answer_for(&self.answers, kind, name) else {
-            let empty = ScriptStream {
-                open: true,
-                bytes: Vec::new(self.alloc),
-                at: 0,
-                breaks: false,
-            };
-            return if kind == InputKind::Standard {
-                Some(empty)
-            } else {
-                None
-            };
-        };
-        let answer = self.answers.remove(place);
-        if answer.refused {
-            return None;
-        }
-        Some(ScriptStream {
-            open: true,
-            bytes: answer.bytes,
-            at: 0,
-            breaks: answer.breaks,
-        })
+        self.piece_ends = piece_ends;
+    }
+
+    /// The k-th of the calls from now on that can answer `Memory`, from 1, answers it.
+    pub fn refuse_memory(&mut self, k: u64)
+        requires { 1 ≤ k }
+        ensures script { let script = script_of self.old in script_of self.new ≡ with_plan (refusing_memory k script.faults) script }
+        ensures state { ⟦<ScriptWorld as World>⟧.state self.new ≡ ⟦<ScriptWorld as World>⟧.state self.old }
+    {
+        self.faults.calls_before_refusal = Some(k - 1);
+    }
+
+    /// The k-th write from now on, from 1, fails.
+    pub fn fail_write(&mut self, k: u64)
+        requires { 1 ≤ k }
+        ensures script { let script = script_of self.old in script_of self.new ≡ with_plan (failing_write k script.faults) script }
+        ensures state { ⟦<ScriptWorld as World>⟧.state self.new ≡ ⟦<ScriptWorld as World>⟧.state self.old }
+    {
+        self.faults.writes_before_failure = Some(k - 1);
+    }
+
+    /// The k-th flush from now on, from 1, fails.
+    pub fn fail_flush(&mut self, k: u64)
+        requires { 1 ≤ k }
+        ensures script { let script = script_of self.old in script_of self.new ≡ with_plan (failing_flush k script.faults) script }
+        ensures state { ⟦<ScriptWorld as World>⟧.state self.new ≡ ⟦<ScriptWorld as World>⟧.state self.old }
+    {
+        self.faults.flushes_before_failure = Some(k - 1);
+    }
+
+    /// Each write takes at most n bytes. Where n is 0 it takes none, which is a failure if there
+    /// are some.
+    pub fn short_writes(&mut self, n: usize)
+        ensures script { let script = script_of self.old in script_of self.new ≡ with_plan (writing_at_most n script.faults) script }
+        ensures state { ⟦<ScriptWorld as World>⟧.state self.new ≡ ⟦<ScriptWorld as World>⟧.state self.old }
+    {
+        self.faults.longest_write = Some(n);
     }
 
     // A failure, unless there was one before.
@@ -172,120 +124,144 @@ impl ScriptWorld {
         ensures first_failure { self.new.first_failure ≡ failure_after None (events self.old.log.items) self.old.first_failure }
         ensures log { self.new.log.items ≡ self.old.log.items }
         ensures streams { self.new.streams.items ≡ self.old.streams.items }
+        ensures script { script_of self.new ≡ script_of self.old }
     {
         if self.first_failure.is_none() {
             self.first_failure = Some(self.log.len());
         }
     }
 
-    // An opening, unless memory is refused. The answer is taken once all the room is made.
-    fn try_open_input(
-        &mut self,
-        kind: InputKind,
-        name: &[u8],
-    ) -> Result<Result<u64, WorldFault>, AllocError>
-        ensures log { IfOk result (λ r. events self.new.log.items ≡ logged (input_opening kind name.now r) (events self.old.log.items)) }
-        ensures not_memory { IfOk result (λ r. r ≡ Err WorldFault.Memory → ⊥) }
-        ensures fresh { IfOk result (λ r. IfOk r (IsFresh (⟦<ScriptWorld as World>⟧.state self.old))) }
-        ensures opens { IfOk result (λ r. IfOk r (Opens (⟦<ScriptWorld as World>⟧.state self.old) (⟦<ScriptWorld as World>⟧.state self.new))) }
-        ensures refused { IfOk result (λ r. OnErr r (self.new.streams.items ≡ self.old.streams.items)) }
-        ensures err { OnErr result ((self.new.log.items ≡ self.old.log.items) × (self.new.streams.items ≡ self.old.streams.items)) }
+    // Once an answer is taken there is room for all that follows.
+    fn try_open_input(&mut self, kind: InputKind, name: &[u8]) -> Result<u64, WorldFault>
+        ensures log { events self.new.log.items ≡ logged (input_opening kind name.now result) (events self.old.log.items) }
+        ensures fresh { IfOk result (IsFresh (⟦<ScriptWorld as World>⟧.state self.old)) }
+        ensures opens { IfOk result (Opens (⟦<ScriptWorld as World>⟧.state self.old) (⟦<ScriptWorld as World>⟧.state self.new)) }
+        ensures refused { OnErr result (self.new.streams.items ≡ self.old.streams.items) }
+        ensures answer { IsAnswer (opening_answer kind name.now (script_of self.old)) result }
+        ensures script { script_of self.new ≡ after_opening kind name.now result (script_of self.old) }
         ensures first_failure { self.new.first_failure ≡ self.old.first_failure }
     {
+        if self.faults.refuses_call() {
+            return Err(WorldFault::Memory);
+        }
         let name_copy = name.to_vec(self.alloc)?;
-        let still_open = self.still_open.checked_add(1).ok_or(AllocError)?;
-        let id = self.streams.len().checked_add(2).ok_or(AllocError)?;
-        let room = still_open.checked_add(1).ok_or(AllocError)?;
+        let still_open = self.still_open.checked_add(1).ok_or(WorldFault::Memory)?;
+        let id = self.streams.len().checked_add(2).ok_or(WorldFault::Memory)?;
+        let room = still_open.checked_add(1).ok_or(WorldFault::Memory)?;
         self.streams.reserve(1)?;
         self.log.reserve(room)?;
-        let Some(stream) = self.take_answer(kind, name) else {
-            add_entry(
-                &mut self.log,
-                self.still_open,
-                Entry::OpenedInput(kind, name_copy, None),
-            )?;
-            return Ok(Err(WorldFault::Failed));
+        let Some(stream) = take_answer(self.alloc, &mut self.answers, kind, name) else {
+            push_entry(&mut self.log, Entry::OpenedInput(kind, name_copy, None));
+            return Err(WorldFault::Failed);
         };
-        add_entry(
+        push_entry(
             &mut self.log,
-            still_open,
             Entry::OpenedInput(kind, name_copy, Some(id as u64)),
-        )?;
+        );
         self.still_open = still_open;
-        add(&mut self.streams, stream)?;
-        Ok(Ok(id as u64))
+        add(&mut self.streams, stream);
+        Ok(id as u64)
     }
 
-    // A reading, unless memory is refused; of a number that is no input it breaks.
-    fn try_read(
-        &mut self,
-        id: u64,
-        into: &mut [u8],
-    ) -> Result<Result<usize, WorldFault>, AllocError>
-        ensures log { IfOk result (λ r. events self.new.log.items ≡ logged (reading id r into.new) (events self.old.log.items)) }
-        ensures not_memory { IfOk result (λ r. r ≡ Err WorldFault.Memory → ⊥) }
-        ensures count { IfOk result (λ r. IfOk r (λ n. n ≤ length into.old)) }
+    // Of a number that is no input a reading breaks.
+    fn try_read(&mut self, id: u64, into: &mut [u8]) -> Result<usize, WorldFault>
+        ensures log { events self.new.log.items ≡ logged (reading id result into.new) (events self.old.log.items) }
+        ensures count { IfOk result (λ n. n ≤ length into.old) }
         ensures open { SameOpen (⟦<ScriptWorld as World>⟧.state self.old) (⟦<ScriptWorld as World>⟧.state self.new) }
-        ensures err { OnErr result (self.new.log.items ≡ self.old.log.items) }
+        ensures answer { IsAnswer (reading_answer id (length into.old) (script_of self.old)) result }
+        ensures bytes { IfOk result (λ n. take n into.new ≡ take n (unread (input_under id (script_of self.old).inputs))) }
+        ensures script { script_of self.new ≡ after_reading id (length into.old) result (script_of self.old) }
         ensures first_failure { self.new.first_failure ≡ self.old.first_failure }
     {
-        let Some(place) = place_of(&self.streams, id) else {
-            add_entry(&mut self.log, self.still_open, Entry::Broke(id))?;
-            return Ok(Err(WorldFault::Failed));
-        };
-        let count = give(&self.streams[place], into);
-        if count == 0 && !into.is_empty() {
-            if self.streams[place].breaks {
-                add_entry(&mut self.log, self.still_open, Entry::Broke(id))?;
-                return Ok(Err(WorldFault::Failed));
-            }
-            add_entry(&mut self.log, self.still_open, Entry::Ended(id))?;
-            return Ok(Ok(0));
+        if self.faults.refuses_call() {
+            return Err(WorldFault::Memory);
         }
-        let copy = into[..count].to_vec(self.alloc)?;
-        add_entry(&mut self.log, self.still_open, Entry::Read(id, copy))?;
-        advance(&mut self.streams, place, count);
-        Ok(Ok(count))
+        match read_next(&self.streams, &self.piece_ends, id, into) {
+            Portion::Bytes(count) => {
+                let copy = into[..count].to_vec(self.alloc)?;
+                add_entry(&mut self.log, self.still_open, Entry::Read(id, copy))?;
+                advance(&mut self.streams, id, count);
+                Ok(count)
+            }
+            Portion::End => {
+                add_entry(&mut self.log, self.still_open, Entry::Ended(id))?;
+                Ok(0)
+            }
+            Portion::Break => {
+                add_entry(&mut self.log, self.still_open, Entry::Broke(id))?;
+                Err(WorldFault::Failed)
+            }
+        }
     }
 
-    // No answer is listed for an output, so that its opening is refused, unless memory is.
+    // No answer is listed for an output, so that its opening is refused.
     fn try_open_output(
         &mut self,
         kind: OutputKind,
         name: &[u8],
         mode: Mode,
-    ) -> Result<(), AllocError>
-        ensures log { OnOk result (events self.new.log.items ≡ Event.OpenedOutput kind name.now mode None ∷ events self.old.log.items) }
-        ensures err { OnErr result (self.new.log.items ≡ self.old.log.items) }
+    ) -> Result<u64, WorldFault>
+        ensures log { events self.new.log.items ≡ logged (output_opening kind name.now mode result) (events self.old.log.items) }
+        ensures answer { IsAnswer (unless_refused self.old.faults (Err WorldFault.Failed)) result }
+        ensures script { script_of self.new ≡ with_plan (after_call self.old.faults) (script_of self.old) }
         ensures streams { self.new.streams.items ≡ self.old.streams.items }
         ensures first_failure { self.new.first_failure ≡ self.old.first_failure }
     {
+        if self.faults.refuses_call() {
+            return Err(WorldFault::Memory);
+        }
         let copy = name.to_vec(self.alloc)?;
         add_entry(
             &mut self.log,
             self.still_open,
             Entry::OpenedOutput(kind, copy, mode, None),
-        )
+        )?;
+        Err(WorldFault::Failed)
     }
 
-    fn try_write(&mut self, id: u64, bytes: &[u8]) -> Result<(), AllocError>
-        ensures log { OnOk result (events self.new.log.items ≡ Event.Wrote id bytes.now ∷ events self.old.log.items) }
-        ensures err { OnErr result (self.new.log.items ≡ self.old.log.items) }
+    fn try_write(&mut self, id: u64, bytes: &[u8]) -> Result<usize, WorldFault>
+        ensures log { events self.new.log.items ≡ logged (writing id result bytes.now) (events self.old.log.items) }
+        ensures count { IfOk result (λ n. n ≤ length bytes.now) }
+        ensures answer { IsAnswer (write_answer (length bytes.now) self.old.faults) result }
+        ensures script { script_of self.new ≡ with_plan (after_write self.old.faults) (script_of self.old) }
         ensures streams { self.new.streams.items ≡ self.old.streams.items }
         ensures first_failure { self.new.first_failure ≡ self.old.first_failure }
     {
-        let copy = bytes.to_vec(self.alloc)?;
-        add_entry(&mut self.log, self.still_open, Entry::Wrote(id, copy))
+        let count = self.faults.write(bytes.len())?;
+        if count == 0 && !bytes.is_empty() {
+            return Ok(0);
+        }
+        let copy = bytes[..count].to_vec(self.alloc)?;
+        add_entry(&mut self.log, self.still_open, Entry::Wrote(id, copy))?;
+        Ok(count)
     }
 
-    fn try_run(&mut self, command: &[u8]) -> Result<(), AllocError>
-        ensures log { OnOk result (events self.new.log.items ≡ Event.Ran command.now (pos 0) ∷ events self.old.log.items) }
-        ensures err { OnErr result (self.new.log.items ≡ self.old.log.items) }
+    fn try_flush(&mut self, id: u64) -> Result<(), WorldFault>
+        ensures log { events self.new.log.items ≡ logged (flushing id result) (events self.old.log.items) }
+        ensures answer { IsAnswer (flush_answer self.old.faults) result }
+        ensures script { script_of self.new ≡ with_plan (after_flush self.old.faults) (script_of self.old) }
         ensures streams { self.new.streams.items ≡ self.old.streams.items }
         ensures first_failure { self.new.first_failure ≡ self.old.first_failure }
     {
+        self.faults.flush()?;
+        add_entry(&mut self.log, self.still_open, Entry::Flushed(id))?;
+        Ok(())
+    }
+
+    fn try_run(&mut self, command: &[u8]) -> Result<i128, WorldFault>
+        ensures log { events self.new.log.items ≡ logged (running command.now result) (events self.old.log.items) }
+        ensures never_failed { result ≡ Err WorldFault.Failed → ⊥ }
+        ensures answer { IsAnswer (unless_refused self.old.faults (Ok (pos 0))) result }
+        ensures script { script_of self.new ≡ with_plan (after_call self.old.faults) (script_of self.old) }
+        ensures streams { self.new.streams.items ≡ self.old.streams.items }
+        ensures first_failure { self.new.first_failure ≡ self.old.first_failure }
+    {
+        if self.faults.refuses_call() {
+            return Err(WorldFault::Memory);
+        }
         let copy = command.to_vec(self.alloc)?;
-        add_entry(&mut self.log, self.still_open, Entry::Ran(copy, 0))
+        add_entry(&mut self.log, self.still_open, Entry::Ran(copy, 0))?;
+        Ok(0)
     }
 
     // The stream's opening made the room for this entry.
@@ -293,87 +269,137 @@ impl ScriptWorld {
         requires { IsTrue (open_at (slice_get self.old.streams.items place)) }
         ensures log { events self.new.log.items ≡ Event.Closed (place + 2) (pos 0) ∷ events self.old.log.items }
         ensures closes { Closes (⟦<ScriptWorld as World>⟧.state self.old) (⟦<ScriptWorld as World>⟧.state self.new) (place + 2) }
+        ensures script { script_of self.new ≡ script_of self.old }
         ensures first_failure { self.new.first_failure ≡ self.old.first_failure }
     {
         shut(&mut self.streams, place);
-        let _pushed = self.log.push(Entry::Closed(place as u64 + 2, 0));
+        push_entry(&mut self.log, Entry::Closed(place as u64 + 2, 0));
         self.still_open -= 1;
     }
 }
 
 impl World for ScriptWorld {
+    ghost use Rattle.awk_world.specs.definitions.ScriptOf.{script_of};
+
     ghost is_logged = { Unit {0} };
 
     ghost state = { λ w. record { is_open = is_open_in w.streams.items; log = events w.log.items; first_failure = w.first_failure } };
 
     ghost standard_open = { λ w id h. standard_outputs_open w.streams.items id h };
 
-    fn open_input(&mut self, kind: InputKind, name: &[u8]) -> Result<u64, WorldFault> {
+    fn open_input(&mut self, kind: InputKind, name: &[u8]) -> Result<u64, WorldFault>
+        ensures fresh { IfOk result (IsFresh (⟦<ScriptWorld as World>⟧.state self.old)) }
+        ensures opens { IfOk result (Opens (⟦<ScriptWorld as World>⟧.state self.old) (⟦<ScriptWorld as World>⟧.state self.new)) }
+        ensures err { OnErr result (SameOpen (⟦<ScriptWorld as World>⟧.state self.old) (⟦<ScriptWorld as World>⟧.state self.new)) }
+        ensures logs { Logs (input_opening kind name.now result) (⟦<ScriptWorld as World>⟧.state self.old) (⟦<ScriptWorld as World>⟧.state self.new) }
+        ensures answer { IsAnswer (opening_answer kind name.now (script_of self.old)) result }
+        ensures script { script_of self.new ≡ after_opening kind name.now result (script_of self.old) }
+    {
         match self.try_open_input(kind, name) {
-            Ok(outcome) => outcome,
-            Err(_) => {
+            Ok(id) => Ok(id),
+            Err(WorldFault::Failed) => Err(WorldFault::Failed),
+            Err(WorldFault::Memory) => {
                 self.note_failure();
                 Err(WorldFault::Memory)
             }
         }
     }
 
-    fn read(&mut self, id: u64, into: &mut [u8]) -> Result<usize, WorldFault> {
+    fn read(&mut self, id: u64, into: &mut [u8]) -> Result<usize, WorldFault>
+        ensures count { IfOk result (λ n. n ≤ length into.old) }
+        ensures open { SameOpen (⟦<ScriptWorld as World>⟧.state self.old) (⟦<ScriptWorld as World>⟧.state self.new) }
+        ensures logs { Logs (reading id result into.new) (⟦<ScriptWorld as World>⟧.state self.old) (⟦<ScriptWorld as World>⟧.state self.new) }
+        ensures answer { IsAnswer (reading_answer id (length into.old) (script_of self.old)) result }
+        ensures bytes { IfOk result (λ n. take n into.new ≡ take n (unread (input_under id (script_of self.old).inputs))) }
+        ensures script { script_of self.new ≡ after_reading id (length into.old) result (script_of self.old) }
+    {
         match self.try_read(id, into) {
-            Ok(outcome) => outcome,
-            Err(_) => {
+            Ok(count) => Ok(count),
+            Err(WorldFault::Failed) => Err(WorldFault::Failed),
+            Err(WorldFault::Memory) => {
                 self.note_failure();
                 Err(WorldFault::Memory)
             }
         }
     }
 
-    fn open_output(
-        &mut self,
-        kind: OutputKind,
-        name: &[u8],
-        mode: Mode,
-    ) -> Result<u64, WorldFault> {
+    fn open_output(&mut self, kind: OutputKind, name: &[u8], mode: Mode) -> Result<u64, WorldFault>
+        ensures fresh { IfOk result (IsFresh (⟦<ScriptWorld as World>⟧.state self.old)) }
+        ensures opens { IfOk result (Opens (⟦<ScriptWorld as World>⟧.state self.old) (⟦<ScriptWorld as World>⟧.state self.new)) }
+        ensures err { OnErr result (SameOpen (⟦<ScriptWorld as World>⟧.state self.old) (⟦<ScriptWorld as World>⟧.state self.new)) }
+        ensures logs { Logs (output_opening kind name.now mode result) (⟦<ScriptWorld as World>⟧.state self.old) (⟦<ScriptWorld as World>⟧.state self.new) }
+        ensures answer { IsAnswer (unless_refused (script_of self.old).faults (Err WorldFault.Failed)) result }
+        ensures script { script_of self.new ≡ with_plan (after_call (script_of self.old).faults) (script_of self.old) }
+    {
         match self.try_open_output(kind, name, mode) {
-            Ok(()) => Err(WorldFault::Failed),
-            Err(_) => {
+            Ok(id) => Ok(id),
+            Err(WorldFault::Failed) => Err(WorldFault::Failed),
+            Err(WorldFault::Memory) => {
                 self.note_failure();
                 Err(WorldFault::Memory)
             }
         }
     }
 
-    fn write(&mut self, id: u64, bytes: &[u8]) -> Result<usize, WorldFault> {
+    fn write(&mut self, id: u64, bytes: &[u8]) -> Result<usize, WorldFault>
+        ensures count { IfOk result (λ n. n ≤ length bytes.now) }
+        ensures open { SameOpen (⟦<ScriptWorld as World>⟧.state self.old) (⟦<ScriptWorld as World>⟧.state self.new) }
+        ensures logs { Logs (writing id result bytes.now) (⟦<ScriptWorld as World>⟧.state self.old) (⟦<ScriptWorld as World>⟧.state self.new) }
+        ensures answer { IsAnswer (write_answer (length bytes.now) (script_of self.old).faults) result }
+        ensures script { script_of self.new ≡ with_plan (after_write (script_of self.old).faults) (script_of self.old) }
+    {
         match self.try_write(id, bytes) {
-            Ok(()) => Ok(bytes.len()),
-            Err(_) => {
+            Ok(0) if !bytes.is_empty() => {
                 self.note_failure();
-                Err(WorldFault::Memory)
+                Ok(0)
+            }
+            Ok(count) => Ok(count),
+            Err(fault) => {
+                self.note_failure();
+                Err(fault)
             }
         }
     }
 
-    fn flush(&mut self, id: u64) -> Result<(), WorldFault> {
-        match add_entry(&mut self.log, self.still_open, Entry::Flushed(id)) {
+    fn flush(&mut self, id: u64) -> Result<(), WorldFault>
+        ensures open { SameOpen (⟦<ScriptWorld as World>⟧.state self.old) (⟦<ScriptWorld as World>⟧.state self.new) }
+        ensures logs { Logs (flushing id result) (⟦<ScriptWorld as World>⟧.state self.old) (⟦<ScriptWorld as World>⟧.state self.new) }
+        ensures answer { IsAnswer (flush_answer (script_of self.old).faults) result }
+        ensures script { script_of self.new ≡ with_plan (after_flush (script_of self.old).faults) (script_of self.old) }
+    {
+        match self.try_flush(id) {
             Ok(()) => Ok(()),
-            Err(_) => {
+            Err(fault) => {
                 self.note_failure();
-                Err(WorldFault::Memory)
+                Err(fault)
             }
         }
     }
 
-    fn close(&mut self, id: u64) -> i128 {
+    fn close(&mut self, id: u64) -> i128
+        requires open { IsTrue ((⟦<ScriptWorld as World>⟧.state self.old).is_open id) }
+        requires opened { 2 ≤ id }
+        ensures closes { Closes (⟦<ScriptWorld as World>⟧.state self.old) (⟦<ScriptWorld as World>⟧.state self.new) id }
+        ensures logs { Logs (Some (Closed id result)) (⟦<ScriptWorld as World>⟧.state self.old) (⟦<ScriptWorld as World>⟧.state self.new) }
+        ensures answer { result ≡ pos 0 }
+        ensures script { script_of self.new ≡ script_of self.old }
+    {
         self.note_closing(id as usize - 2);
         0
     }
 
-    fn run(&mut self, command: &[u8]) -> Result<i128, WorldFault> {
+    fn run(&mut self, command: &[u8]) -> Result<i128, WorldFault>
+        ensures open { SameOpen (⟦<ScriptWorld as World>⟧.state self.old) (⟦<ScriptWorld as World>⟧.state self.new) }
+        ensures never_failed { result ≡ Err WorldFault.Failed → ⊥ }
+        ensures logs { Logs (running command.now result) (⟦<ScriptWorld as World>⟧.state self.old) (⟦<ScriptWorld as World>⟧.state self.new) }
+        ensures answer { IsAnswer (unless_refused (script_of self.old).faults (Ok (pos 0))) result }
+        ensures script { script_of self.new ≡ with_plan (after_call (script_of self.old).faults) (script_of self.old) }
+    {
         match self.try_run(command) {
-            Ok(()) => Ok(0),
-            Err(_) => {
+            Ok(answer) => Ok(answer),
+            Err(fault) => {
                 self.note_failure();
-                Err(WorldFault::Memory)
+                Err(fault)
             }
         }
     }

@@ -6,6 +6,8 @@ ghost use Rattle.awk_world.specs.declared.world.Mode.TheVariants.{Truncate};
 ghost use Rattle.awk_world.specs.definitions.Log.{input_opening, output_opening, reading, writing, flushing, Closed, running};
 ghost use Rattle.awk_world.specs.definitions.WorldState.{WorldState, Logs, IsFresh, Opens, Closes, SameOpen};
 
+use std::alloc::AllocError;
+
 /// What an input reads: standard input, the file of a name, or what a command writes.
 #[derive(Clone, Copy, Debug, PartialEq, Eq)]
 pub enum InputKind {
@@ -33,6 +35,16 @@ pub enum Mode {
 pub enum WorldFault {
     Memory,
     Failed,
+}
+
+impl From<AllocError> for WorldFault {
+    ghost use Rattle.awk_world.specs.declared.world.WorldFault.TheVariants.{Memory};
+
+    ghost from_gives = { λ _ e. e ≡ Memory };
+
+    fn from(_: AllocError) -> Self {
+        WorldFault::Memory
+    }
 }
 
 /// The outside of a run. Streams have numbers; 0 and 1 are standard output and standard error,

@@ -1,7 +1,10 @@
--- What the stored log of a world in memory says.
-use Rattle.std.specs.Prelude.{List, map, reverse}
-use Rattle.awk_world.specs.declared.script_world.Entry.{Entry}
-use Rattle.awk_world.specs.declared.script_world.Entry.TheVariants.{OpenedInput, OpenedOutput, Read, Ended, Broke, Wrote, Flushed, Closed, Ran}
+-- What the stored log of a world in memory says, and its script: what it is still to answer.
+use Rattle.std.specs.Prelude.{ℕ, Bool, List, map, reverse}
+use Rattle.awk_world.specs.declared.answer.Answer.{Answer}
+use Rattle.awk_world.specs.declared.entry.Entry.{Entry}
+use Rattle.awk_world.specs.declared.entry.Entry.TheVariants.{OpenedInput, OpenedOutput, Read, Ended, Broke, Wrote, Flushed, Closed, Ran}
+use Rattle.awk_world.specs.declared.planned_faults.PlannedFaults.{PlannedFaults}
+use Rattle.awk_world.specs.declared.script_stream.ScriptStream.{ScriptStream}
 use Rattle.awk_world.specs.definitions.Log as log
 use Rattle.awk_world.specs.definitions.Log.{Event}
 
@@ -19,3 +22,23 @@ event_of (Ran command answer) = log.Ran command.items answer
 -- entries stand the oldest first, events the newest first
 abbrev pub events : List Entry → List Event
 events entries = reverse (map event_of entries)
+
+-- an input that was granted: its bytes, whether it breaks behind them, and how many were read
+pub record GrantedInput : Type 0 where
+  pub bytes : List ℕ
+  pub breaks : Bool
+  pub at : ℕ
+
+-- the answers that no opening took yet; the inputs that were granted, the first of them under the number 2; where the
+-- pieces end in which each input is handed over; and the failures that are planned
+pub record Script : Type 0 where
+  pub answers : List Answer
+  pub inputs : List GrantedInput
+  pub piece_ends : List ℕ
+  pub faults : PlannedFaults
+
+abbrev pub input_of : ScriptStream → GrantedInput
+input_of s = record { bytes = s.bytes.items; breaks = s.breaks; at = s.at }
+
+abbrev pub inputs_of : List ScriptStream → List GrantedInput
+inputs_of streams = map input_of streams
