@@ -12,8 +12,6 @@ use Rattle.awk_value.specs.Arithmetic.{is_in_range, is_zero, range_checked, prod
 use Rattle.awk_value.specs.Numbers.{spelled_number}
 use Rattle.awk_record.specs.Cut.{Cut, Found, NoMore, BrokenOff, TooLong, BadSeparator}
 use Rattle.awk_record.specs.Record.{RecordPair, field_of}
-use Rattle.awk_record.specs.declared.fault.RecordFault.{RecordFault}
-use Rattle.awk_record.specs.declared.fault.RecordFault.TheVariants as fields
 use Rattle.awk_world.specs.declared.world.InputKind.{InputKind}
 use Rattle.awk_world.specs.declared.world.InputKind.TheVariants.{Standard, File}
 use Rattle.awk_streams.specs.Oracle.{Source, Oracle}
