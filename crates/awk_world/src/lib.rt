@@ -13,4 +13,4 @@ pub use answer::Answer;
 pub use entry::Entry;
 pub use laws::{is_consistent_with_less, some_oracle_is_consistent};
 pub use script_world::ScriptWorld;
-pub use world::{InputKind, Mode, OutputKind, World, WorldFault};
+pub use world::{InputKind, Mode, OUTPUT_BUFFER_SIZE, OutputKind, World, WorldFault};

@@ -4,14 +4,14 @@ ghost use Rattle.awk_world.specs.definitions.WorldState.{Logs, IsFresh, Opens, C
 ghost use Rattle.awk_world.specs.definitions.Log.{Event, Closed, failure_after, logged, input_opening, output_opening, reading, writing, flushing, running};
 ghost use Rattle.awk_world.specs.definitions.Writes.{received};
 ghost use Rattle.awk_world.specs.definitions.Script.{events};
-ghost use Rattle.awk_world.specs.definitions.ScriptAnswers.{IsAnswer, no_faults, refusing_memory, failing_write, failing_flush, writing_at_most, with_plan, in_pieces, after_call, after_write, after_flush, unless_refused, write_answer, flush_answer, opening_answer, after_opening, reading_answer, after_reading, input_under, unread};
+ghost use Rattle.awk_world.specs.definitions.ScriptAnswers.{IsAnswer, no_faults, refusing_memory, failing_write, failing_flush, writing_at_most, with_plan, in_pieces, buffering, after_call, after_write, after_flush, unless_refused, write_answer, flush_answer, opening_answer, after_opening, reading_answer, after_reading, input_under, unread};
 ghost use Rattle.awk_world.specs.support.ScriptStreams.{is_open_in, open_at, open_count, standard_outputs_open};
 
 use crate::answer::{Answer, take_answer};
 use crate::entry::{Entry, add_entry, push_entry, receive};
 use crate::planned_faults::PlannedFaults;
 use crate::script_stream::{Portion, ScriptStream, add, advance, read_next, shut};
-use crate::world::{InputKind, Mode, OutputKind, World, WorldFault};
+use crate::world::{InputKind, Mode, OUTPUT_BUFFER_SIZE, OutputKind, World, WorldFault};
 use std::alloc::{AllocError, Global};
 
 /// A world in memory. An opening of an input takes the first answer that is listed for its kind
@@ -24,6 +24,7 @@ pub struct ScriptWorld {
     answers: Vec<Answer>,
     streams: Vec<ScriptStream>,
     piece_ends: Vec<usize>,
+    buffer_size: usize,
     still_open: usize,
     faults: PlannedFaults,
     log: Vec<Entry>,
@@ -41,13 +42,14 @@ impl ScriptWorld {
     pub fn new(alloc: Global, answers: Vec<Answer>) -> Self
         ensures log { (⟦<ScriptWorld as World>⟧.state result).log ≡ [] }
         ensures first_failure { (⟦<ScriptWorld as World>⟧.state result).first_failure ≡ None }
-        ensures script { script_of result ≡ record { answers = answers.items; inputs = []; piece_ends = []; faults = no_faults } }
+        ensures script { script_of result ≡ record { answers = answers.items; inputs = []; piece_ends = []; buffer_size = 65536; faults = no_faults } }
     {
         ScriptWorld {
             alloc,
             answers,
             streams: Vec::new(alloc),
             piece_ends: Vec::new(alloc),
+            buffer_size: OUTPUT_BUFFER_SIZE,
             still_open: 0,
             faults: PlannedFaults::none(),
             log: Vec::new(alloc),
@@ -81,6 +83,14 @@ impl ScriptWorld {
         ensures state { ⟦<ScriptWorld as World>⟧.state self.new ≡ ⟦<ScriptWorld as World>⟧.state self.old }
     {
         self.piece_ends = piece_ends;
+    }
+
+    /// A run may hold back so many bytes of an output from now on.
+    pub fn buffer_outputs(&mut self, size: usize)
+        ensures script { script_of self.new ≡ buffering size (script_of self.old) }
+        ensures state { ⟦<ScriptWorld as World>⟧.state self.new ≡ ⟦<ScriptWorld as World>⟧.state self.old }
+    {
+        self.buffer_size = size;
     }
 
     /// The k-th of the calls from now on that can answer `Memory`, from 1, answers it.
@@ -359,6 +369,12 @@ impl World for ScriptWorld {
                 Err(fault)
             }
         }
+    }
+
+    fn output_buffer_size(&self) -> usize
+        ensures { result ≡ (script_of self.now).buffer_size }
+    {
+        self.buffer_size
     }
 
     fn flush(&mut self, id: u64) -> Result<(), WorldFault>

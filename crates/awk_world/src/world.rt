@@ -23,6 +23,9 @@ pub enum OutputKind {
     Command,
 }
 
+/// The size of the buffer that a run keeps for an output, unless the world asks for less.
+pub const OUTPUT_BUFFER_SIZE: usize = 65_536;
+
 /// Whether an output file starts empty or goes on behind what it holds.
 #[derive(Clone, Copy, Debug, PartialEq, Eq)]
 pub enum Mode {
@@ -91,6 +94,13 @@ pub trait World {
         ensures count { IfOk result (λ n. n ≤ length bytes.now) }
         ensures open { SameOpen (state self.old) (state self.new) }
         ensures logs { is_logged → Logs (writing id result bytes.now) (state self.old) (state self.new) };
+
+    /// How many bytes of an output a run may hold back before it writes them: less than
+    /// `OUTPUT_BUFFER_SIZE` where what is printed is to be seen sooner, as on a terminal. It is a wish,
+    /// on which no clause rests.
+    fn output_buffer_size(&self) -> usize {
+        OUTPUT_BUFFER_SIZE
+    }
 
     /// Sees that what was written reaches its receiver.
     fn flush(&mut self, id: u64) -> Result<(), WorldFault>

@@ -30,11 +30,12 @@ pub record GrantedInput : Type 0 where
   pub at : ℕ
 
 -- the answers that no opening took yet; the inputs that were granted, the first of them under the number 2; where the
--- pieces end in which each input is handed over; and the failures that are planned
+-- pieces end in which each input is handed over; the size of an output's buffer; and the failures that are planned
 pub record Script : Type 0 where
   pub answers : List Answer
   pub inputs : List GrantedInput
   pub piece_ends : List ℕ
+  pub buffer_size : ℕ
   pub faults : PlannedFaults
 
 abbrev pub input_of : ScriptStream → GrantedInput

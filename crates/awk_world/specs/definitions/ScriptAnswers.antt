@@ -120,6 +120,9 @@ after_opening kind name result script = record script {
 abbrev pub in_pieces : List ℕ → Script → Script
 in_pieces ends script = record script { piece_ends = ends }
 
+abbrev pub buffering : ℕ → Script → Script
+buffering size script = record script { buffer_size = size }
+
 abbrev pub nearer : ℕ → ℕ → ℕ → ℕ
 nearer at end other = if nat_lt at other && nat_lt other end then other else end
 
