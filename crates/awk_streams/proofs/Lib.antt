@@ -8,3 +8,4 @@ pub mod GrowsLemmas
 pub mod SameMain
 pub mod MainLemmas
 pub mod OutputLemmas
+pub mod BufferedLemmas

@@ -17,7 +17,7 @@ use Rattle.awk_world.specs.definitions.Grows.{Grows}
 use Rattle.awk_world.specs.definitions.Log.{Event, OpenedInput}
 use Rattle.awk_world.specs.definitions.Oracle.{Oracle, IsConsistent, Standing, new_reading, how_many, opens_input, standing}
 use Rattle.awk_world.specs.definitions.Orderly.{IsReadable, IsOrderly, IsInOrder}
-use Rattle.awk_world.specs.definitions.Openings.{openings}
+use Rattle.awk_world.specs.definitions.Openings.{openings, receives}
 use Rattle.awk_streams.specs.definitions.Inputs.{Reaches}
 use Rattle.awk_streams.specs.support.Pulls.{Pulls}
 use Rattle.awk_streams.specs.support.Kept.{SameStreams}
@@ -78,11 +78,11 @@ opened_counts kind name id log = record {
 
 -- a granted opening
 pub opens_granted : (kind : InputKind) (name : List ℕ) (before after : WorldState) (old : StreamsView) (id : ℕ) (p : Pending) (u : Unit {0}) → kind ≢ Command → p.bytes ≡ [] → p.ending ≡ None →
-    IsFresh before id → Opens before after id → after.log ≡ OpenedInput kind name (Some id) ∷ before.log → after.first_failure ≡ before.first_failure →
-    OpensMain kind name before old (Ok u) after record { main = Some record { id = id; pending = p } }
-opens_granted kind name before after old id p u plain empty unended fresh opens is same_failure =
+    IsFresh before id → Opens before after id → after.log ≡ OpenedInput kind name (Some id) ∷ before.log → after.first_failure ≡ before.first_failure → (held : List ℕ) → held ≡ old.held →
+    OpensMain kind name before old (Ok u) after record { main = Some record { id = id; pending = p }; held = held }
+opens_granted kind name before after old id p u plain empty unended fresh opens is same_failure held same_held =
     let log : List Event = before.log in
-    let view : StreamsView = record { main = Some record { id = id; pending = p } } in
+    let view : StreamsView = record { main = Some record { id = id; pending = p }; held = held } in
     let stands : StandsAsMain (OpenedInput kind name (Some id) ∷ log) record { id = id; pending = p } = record {
       kind = kind;
       plain = plain;
@@ -97,7 +97,7 @@ opens_granted kind name before after old id p u plain empty unended fresh opens 
       main = λ s. stands;
       grows = grows_on (OpenedInput kind name (Some id) ∷ []) before record after { log = OpenedInput kind name (Some id) ∷ log } refl same_failure;
       adds = refl;
-      outputs = refl;
+      outputs = ap (λ b. receives 0 b (openings log)) same_held;
       counts = λ differs. opened_counts kind name (Some id) log;
       granted = λ a consistent.
           let source = consistent.0 in (
@@ -157,7 +157,7 @@ opens_nothing kind name before after streams same (is, fails) = record {
   main = λ s. subst (λ (l : List Event). IsSoundMain l streams.main) (sym is) s;
   grows = logs_grow None before after (is, fails);
   adds = is;
-  outputs = ap openings is;
+  outputs = ap (λ (l : List Event). receives 0 streams.held (openings l)) is;
   counts = λ differs. absurd (differs refl);
   granted = tt;
   refused = λ e. let bad : Err Memory ≡ Err InputNotReadable = e in absurd cc;
@@ -217,9 +217,9 @@ reaches_open id separator old seen log log' (inr (began, goes)) readable = inr (
 -- one asking for a record of the main input
 pub asks_main : (separator : List ℕ) (before after : WorldState) (v : InputView) (new : Pending) (step : Result Step BufferFault) (result : Result (Option (List ℕ)) StreamFault) →
     SameOpen before after → StandsAsMain before.log v → Pulls v.id separator v.pending before.log step new after.log → step ≢ Ok NeedMore → IsToldAs step result →
-    (step ≢ Err BufferMemory → after.first_failure ≡ before.first_failure) → (step ≡ Err BufferMemory → MayFailNow before after) → Grows before after →
-    AsksMain separator before record { main = Some v } result after record { main = Some record { id = v.id; pending = new } }
-asks_main separator before after v new step result same main pulls told says no_failure failure grows =
+    (step ≢ Err BufferMemory → after.first_failure ≡ before.first_failure) → (step ≡ Err BufferMemory → MayFailNow before after) → Grows before after → (held : List ℕ) →
+    AsksMain separator before record { main = Some v; held = held } result after record { main = Some record { id = v.id; pending = new }; held = held }
+asks_main separator before after v new step result same main pulls told says no_failure failure grows held =
     let log : List Event = before.log in
     let log' : List Event = after.log in
     let streams : SameStreams log log' = reaches_streams v.id separator v.pending pulls.seen log log' pulls.reads in
@@ -237,7 +237,7 @@ asks_main separator before after v new step result same main pulls told says no_
       same = refl;
       request = (pulls.seen, pulls.reads);
       readable = reaches_open v.id separator v.pending pulls.seen log log' pulls.reads main.readable;
-      outputs = reaches_openings v.id separator v.pending pulls.seen log log' pulls.reads;
+      outputs = ap (receives 0 held) (reaches_openings v.id separator v.pending pulls.seen log log' pulls.reads);
       counts = streams.counts;
       answered = λ differs a whole consistent rest.
           let next = told_next v.id separator v.pending new log log' step pulls told (λ is. differs (memory_told step result says is)) a rest.0 whole.bytes consistent rest.2 in

@@ -4,6 +4,7 @@ use Rattle.std.specs.Prelude.{is_some, OnOk, OnErr}
 use Rattle.std.specs.Result.{is_ok, result_and}
 use Rattle.std.proofs.lemmas.Bool.{cond-true, cond-false, ne_eqb, eq-eqb, cases_eq}
 use Rattle.std.proofs.Math.Seq.{take-length}
+use Rattle.std.proofs.lemmas.List.{length-append, take-append-le}
 use Rattle.awk_streams.specs.declared.fault.StreamFault.{StreamFault}
 use Rattle.awk_world.specs.declared.world.InputKind.{InputKind}
 use Rattle.awk_world.specs.declared.world.InputKind.TheVariants.{Standard, File, Command}
@@ -20,17 +21,9 @@ use Rattle.awk_streams.specs.support.Kept.{SameStreams}
 use Rattle.awk_streams.specs.definitions.Streams.{InputView, StreamsView, StandsAsMain, IsSoundMain, IsMainRest, ClosesMain, Prints, closed_main, EndsMain, Finishes}
 use Rattle.awk_streams.proofs.SameMain.{main_same, rest_same}
 use Rattle.awk_streams.proofs.GrowsLemmas.{grows_on, Grows-then, logs_grow, fails_now, fails_later}
-use Rattle.awk_streams.proofs.OpeningsLemmas.{openings-writes, openings-flush, openings-close}
+use Rattle.awk_streams.specs.support.Buffered.{PrintsOrHolds, WritesAndFlushes}
+use Rattle.awk_streams.proofs.OpeningsLemmas.{receives-more, openings-writes, openings-flush, openings-close}
 use Rattle.awk_streams.proofs.KeptLemmas.{same_counts-self, writes_order, writes_streams, writes_reading}
-
--- what was written in all, where all of it was
-all_received : (r : Result (Unit {0}) StreamFault) (old new : List (ℕ × Opening)) (bytes : List ℕ) (count : ℕ) → OnOk r (count ≡ length bytes) → new ≡ receives 0 (take count bytes) old → OnOk r (new ≡ receives 0 bytes old)
-all_received (Ok u) old new bytes count all is = is ∙ ap (λ b. receives 0 b old) (ap (λ n. take n bytes) all ∙ take-length bytes)
-all_received (Err e) old new bytes count all is = tt
-
-some_received : (r : Result (Unit {0}) StreamFault) (old new : List (ℕ × Opening)) (bytes : List ℕ) (count : ℕ) → count ≤ length bytes → new ≡ receives 0 (take count bytes) old → OnErr r ((n : ℕ) × (n ≤ length bytes) × (new ≡ receives 0 (take n bytes) old))
-some_received (Ok u) old new bytes count within is = tt
-some_received (Err e) old new bytes count within is = (count, within, is)
 
 -- the writing of all bytes, done or broken off by a failure
 pub writes_done : (id : ℕ) (bytes : List ℕ) (count : ℕ) (before after : WorldState) (u : Unit {0}) → count ≡ length bytes → GoesOn (Writes id (take count bytes)) before.log after.log → after.first_failure ≡ before.first_failure → Grows before after →
@@ -88,24 +81,43 @@ flush_failed id before after e logs =
       grows = grows;
     }
 
-pub prints : (bytes : List ℕ) (before after : WorldState) (streams : StreamsView) (result : Result (Unit {0}) StreamFault) → SameOpen before after → WritesAll 0 bytes before result after →
-    Prints bytes before streams result after streams
-prints bytes before after streams result same writes =
+-- what is received and held after a print, where all of it is
+all_printed : (r : Result (Unit {0}) StreamFault) (old new : List (ℕ × Opening)) (held bytes held' written more : List ℕ) (count : ℕ) → held ++ bytes ≡ written ++ more → OnOk r (held' ≡ more) → OnOk r (count ≡ length written) →
+    new ≡ receives 0 (take count written) old → OnOk r (receives 0 held' new ≡ receives 0 bytes (receives 0 held old))
+all_printed (Ok u) old new held bytes held' written more count parts holds all is =
+    let received : new ≡ receives 0 written old = is ∙ ap (λ b. receives 0 b old) (ap (λ n. take n written) all ∙ take-length written) in
+    ap (λ b. receives 0 b new) holds ∙ (ap (receives 0 more) received ∙ (receives-more 0 written more old ∙ (ap (λ b. receives 0 b old) (sym parts) ∙ sym (receives-more 0 held bytes old))))
+all_printed (Err e) old new held bytes held' written more count parts holds all is = tt
+
+some_printed : (r : Result (Unit {0}) StreamFault) (old new : List (ℕ × Opening)) (held bytes held' written more : List ℕ) (count : ℕ) → held ++ bytes ≡ written ++ more → OnErr r (held' ≡ []) → count ≤ length written →
+    new ≡ receives 0 (take count written) old → OnErr r ((held' ≡ []) × ((n : ℕ) × (n ≤ length (held ++ bytes)) × (new ≡ receives 0 (take n (held ++ bytes)) old)))
+some_printed (Ok u) old new held bytes held' written more count parts empty within is = tt
+some_printed (Err e) old new held bytes held' written more count parts empty within is =
+    let long : length (held ++ bytes) ≡ length written + length more = ap length parts ∙ length-append written more in
+    (empty, (count, omega (arith, within, long), is ∙ ap (λ b. receives 0 b old) (sym (take-append-le count written more within) ∙ ap (take count) (sym parts))))
+
+pub prints : (bytes : List ℕ) (before after : WorldState) (old new : StreamsView) (held : List ℕ) (result : Result (Unit {0}) StreamFault) → old.held ≡ held → new.main ≡ old.main → SameOpen before after → PrintsOrHolds 0 held bytes before result new.held after →
+    Prints bytes before old result after new
+prints bytes before after old new held result held_is main same held_did =
+    let did : PrintsOrHolds 0 old.held bytes before result new.held after = subst (λ b. PrintsOrHolds 0 b bytes before result new.held after) (sym held_is) held_did in
     let log : List Event = before.log in
     let log' : List Event = after.log in
-    let only : OnlyWritesTo 0 log log' = (take writes.count bytes, writes.writes) in
+    let writes : WritesAll 0 did.written before result after = did.writes in
+    let some : List ℕ = take writes.count did.written in
+    let only : OnlyWritesTo 0 log log' = (some, writes.writes) in
     let kept : SameStreams log log' = writes_streams 0 log log' only in
-    let gains : openings log' ≡ receives 0 (take writes.count bytes) (openings log) = openings-writes 0 (take writes.count bytes) log log' writes.writes in
+    let sound : IsSoundMain log old.main → IsSoundMain log' new.main = λ h. subst (λ (m : Option InputView). IsSoundMain log' m) (sym main) (main_same log log' old.main kept.stands (writes_reading 0 log log' only) h) in
+    let gains : openings log' ≡ receives 0 some (openings log) = openings-writes 0 some log log' writes.writes in
     record {
-      sound = λ s. record { order = writes_order 0 before.is_open after.is_open log log' same only s.order; main = main_same log log' streams.main kept.stands (writes_reading 0 log log' only) s.main };
-      main = main_same log log' streams.main kept.stands (writes_reading 0 log log' only);
+      sound = λ s. record { order = writes_order 0 before.is_open after.is_open log log' same only s.order; main = sound s.main };
+      main = sound;
       grows = writes.grows;
-      same = refl;
+      same = main;
       only = only;
-      printed = all_received result (openings log) (openings log') bytes writes.count writes.all gains;
-      partly = some_received result (openings log) (openings log') bytes writes.count writes.within gains;
+      printed = all_printed result (openings log) (openings log') old.held bytes new.held did.written did.more writes.count did.parts did.holds writes.all gains;
+      partly = some_printed result (openings log) (openings log') old.held bytes new.held did.written did.more writes.count did.parts did.empty writes.within gains;
       counts = kept.counts;
-      rest = λ a r h. rest_same a log log' streams.main r (writes_reading 0 log log' only) h;
+      rest = λ a r h. subst (λ (m : Option InputView). IsMainRest a log' m r) (sym main) (rest_same a log log' old.main r (writes_reading 0 log log' only) h);
       no_failure = writes.no_failure;
       failure = writes.fails;
     }
@@ -171,8 +183,8 @@ closed_consistent None n log a h consistent = consistent
 closed_consistent (Some v) n log a h consistent = (λ command. absurd (false_true (sym (no_command log v h) ∙ command)), consistent)
 
 pub ends_main : (before after : WorldState) (old new : StreamsView) (answer : ℤ) →
-    new.main ≡ None → IsSoundMain before.log old.main → ClosesMain before after old.main → after.log ≡ closed_main old.main answer before.log → after.first_failure ≡ before.first_failure → EndsMain before old after new
-ends_main before after old new answer none sound closes adds same_failure =
+    new.main ≡ None → new.held ≡ old.held → IsSoundMain before.log old.main → ClosesMain before after old.main → after.log ≡ closed_main old.main answer before.log → after.first_failure ≡ before.first_failure → EndsMain before old after new
+ends_main before after old new answer none held sound closes adds same_failure =
     let log : List Event = before.log in
     let closed : List Event = closed_main old.main answer log in
     let main : IsSoundMain closed new.main = subst (λ (m : Option InputView). IsSoundMain closed m) (sym none) tt in
@@ -182,7 +194,7 @@ ends_main before after old new answer none sound closes adds same_failure =
       grows = grows_on (closing old.main answer) before record after { log = closed } (closing_is old.main answer log) same_failure;
       consistent = λ a. closed_consistent old.main answer log a sound;
       adds = (answer, refl);
-      outputs = openings-close old.main answer log;
+      outputs = ap (λ b. receives 0 b (openings closed)) held ∙ ap (receives 0 old.held) (openings-close old.main answer log);
       counts = close_counts old.main answer log sound;
       no_failure = same_failure;
     }
@@ -212,28 +224,43 @@ some_failure_after (Ok u) (Ok v) failure1 failure2 p q kept = tt
 some_failure_after (Ok u) (Err e) failure1 failure2 p q kept = q
 some_failure_after (Err e) second failure1 failure2 p q kept = still_set failure1 failure2 p kept
 
-pub finishes : (before middle later after : WorldState) (old new : StreamsView) (main : Option InputView) (first second result : Result (Unit {0}) StreamFault) (answer : ℤ) →
-    result ≡ result_and first second → old.main ≡ main → new.main ≡ None → SameOpen before middle → SameOpen middle later → ClosesMain later after main → Flushes 0 before first middle → Flushes 1 middle second later →
+-- all that was held is received, where nothing failed
+all_brought : (first second : Result (Unit {0}) StreamFault) (old new : List (ℕ × Opening)) (held : List ℕ) (count : ℕ) → OnOk first (count ≡ length held) → new ≡ receives 0 (take count held) old → OnOk (result_and first second) (new ≡ receives 0 held old)
+all_brought (Ok u) (Ok v) old new held count all is = is ∙ ap (λ b. receives 0 b old) (ap (λ n. take n held) all ∙ take-length held)
+all_brought (Ok u) (Err e) old new held count all is = tt
+all_brought (Err e) second old new held count all is = tt
+
+pub finishes : (before middle later after : WorldState) (old new : StreamsView) (main : Option InputView) (held : List ℕ) (first second result : Result (Unit {0}) StreamFault) (answer : ℤ) →
+    result ≡ result_and first second → old.main ≡ main → old.held ≡ held → new.main ≡ None → SameOpen before middle → SameOpen middle later → ClosesMain later after main → WritesAndFlushes 0 held before first middle → Flushes 1 middle second later →
     after.log ≡ closed_main main answer later.log → after.first_failure ≡ later.first_failure → Finishes before old result after new
-finishes before middle later after old new main first second result answer is old_is none same same1 closes_it flush flush1 closed_it same_failure =
+finishes before middle later after old new main held first second result answer is old_is held_is none same same1 closes_it held_flush flush1 closed_it same_failure =
+    let flush : WritesAndFlushes 0 old.held before first middle = subst (λ b. WritesAndFlushes 0 b before first middle) (sym held_is) held_flush in
     let log : List Event = before.log in
+    let written : List Event = flush.written in
+    let some : List ℕ = take flush.count old.held in
+    let only : OnlyWritesTo 0 log written = (some, flush.writes) in
+    let kept : SameStreams log written = writes_streams 0 log written only in
     let closes : ClosesMain later after old.main = subst (λ (m : Option InputView). ClosesMain later after m) (sym old_is) closes_it in
     let closed : after.log ≡ closed_main old.main answer later.log = closed_it ∙ ap (λ m. closed_main m answer later.log) (sym old_is) in
-    let adds : after.log ≡ closed_main old.main answer (flushed_if (is_ok second) 1 (flushed_if (is_ok first) 0 log)) = closed ∙ (ap (closed_main old.main answer) flush1.adds ∙ ap (λ l. closed_main old.main answer (flushed_if (is_ok second) 1 l)) flush.adds) in
-    let mid : List Event = flushed_if (is_ok first) 0 log in
+    let adds : after.log ≡ closed_main old.main answer (flushed_if (is_ok second) 1 (flushed_if (is_ok first) 0 written)) = closed ∙ (ap (closed_main old.main answer) flush1.adds ∙ ap (λ l. closed_main old.main answer (flushed_if (is_ok second) 1 l)) flush.adds) in
+    let mid : List Event = flushed_if (is_ok first) 0 written in
     let last : List Event = flushed_if (is_ok second) 1 mid in
+    let gains : openings (closed_main old.main answer last) ≡ receives 0 some (openings log) = openings-close old.main answer last ∙ (openings-flush (is_ok second) 1 mid ∙ (openings-flush (is_ok first) 0 written ∙ openings-writes 0 some log written flush.writes)) in
     let whole : Finishes before old (result_and first second) record after { log = closed_main old.main answer last } new = record {
       sound = λ s.
-          let order1 = flush_order (is_ok first) 0 before middle log same s.order in
+          let order0 = writes_order 0 before.is_open before.is_open log written (λ j. refl) only s.order in
+          let main0 = main_same log written old.main kept.stands (writes_reading 0 log written only) s.main in
+          let order1 = flush_order (is_ok first) 0 before middle written same order0 in
           let order2 = flush_order (is_ok second) 1 middle later mid same1 order1 in
-          let main2 = flush_main (is_ok second) 1 mid old.main (flush_main (is_ok first) 0 log old.main s.main) in
+          let main2 = flush_main (is_ok second) 1 mid old.main (flush_main (is_ok first) 0 written old.main main0) in
           record {
             order = close_order old.main answer later after last closes order2 main2;
             main = subst (λ (m : Option InputView). IsSoundMain (closed_main old.main answer last) m) (sym none) tt;
           };
       grows = subst (λ (l : List Event). Grows before record after { log = l }) adds (Grows-then flush.grows (Grows-then flush1.grows (grows_on (closing main answer) later after (closed_it ∙ closing_is main answer later.log) same_failure)));
-      ends = record { first = is_ok first; second = is_ok second; answer = answer; adds = refl; flushed = both_ok first second; failed = one_failed first second };
-      outputs = openings-close old.main answer last ∙ (openings-flush (is_ok second) 1 mid ∙ openings-flush (is_ok first) 0 log);
+      ends = record { written = written; writes = only; first = is_ok first; second = is_ok second; answer = answer; adds = refl; flushed = both_ok first second; failed = one_failed first second };
+      outputs = all_brought first second (openings log) (openings (closed_main old.main answer last)) old.held flush.count flush.all gains;
+      partly = (flush.count, flush.within, gains);
       no_failure = subst (λ (m : Option ℕ). OnOk (result_and first second) (m ≡ before.first_failure)) (sym same_failure) (no_failure_after first second before.first_failure middle.first_failure later.first_failure flush.no_failure flush1.no_failure);
       failure = subst (λ (m : Option ℕ). OnErr (result_and first second) (is_some m ≡ true)) (sym same_failure) (some_failure_after first second middle.first_failure later.first_failure flush.failure flush1.failure flush1.grows.kept);
     } in

@@ -1,6 +1,7 @@
 // Why a stream can't go on.
 
 use awk_record::BufferFault;
+use std::alloc::AllocError;
 use thiserror::Error;
 
 /// Why a stream can't go on.
@@ -35,5 +36,16 @@ impl From<BufferFault> for StreamFault {
             BufferFault::SeparatorTooLong => StreamFault::SeparatorTooLong,
             BufferFault::RecordTooLong => StreamFault::RecordTooLong,
         }
+    }
+}
+
+impl From<AllocError> for StreamFault {
+    ghost use Rattle.std.specs.Prelude.{◌≡◌};
+    ghost use Rattle.awk_streams.specs.declared.fault.StreamFault.TheVariants.{Memory};
+
+    ghost from_gives = { λ _ e. e ≡ Memory };
+
+    fn from(_: AllocError) -> Self {
+        StreamFault::Memory
     }
 }

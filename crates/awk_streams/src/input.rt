@@ -8,9 +8,10 @@ ghost use Rattle.awk_streams.specs.support.Pulls.{Brings, Pulls, room_of};
 
 use awk_record::{BufferFault, RecordBuffer, Step};
 use awk_world::{World, WorldFault};
+use std::alloc::AllocError;
 
 /// The most bytes of one reading.
-const CHUNK: usize = 8_192;
+const CHUNK: usize = 65_536;
 
 /// An input that is open: its number in the world, and what was read of it and not yet taken.
 #[derive(Drop)]
@@ -19,9 +20,54 @@ pub struct Input {
     pub buffer: RecordBuffer,
 }
 
-// One reading, into the buffer. `Memory` is the only error; it leaves the buffer as it was, and may
-// lose what was read.
-fn read_more<W: World>(world: &mut W, id: u64, buffer: &mut RecordBuffer) -> Result<(), BufferFault>
+// The slice of a reading has its length from the first one on.
+fn prepare(chunk: &mut Vec<u8>) -> Result<(), AllocError>
+    ensures { OnOk result (1 ≤ length chunk.new.items) }
+{
+    if chunk.is_empty() {
+        return chunk.resize(CHUNK, 0);
+    }
+    Ok(())
+}
+
+// One reading through a slice, into the buffer. `Memory` is the only error; it leaves the buffer as it
+// was, and may lose what was read.
+fn read_into<W: World>(
+    world: &mut W,
+    id: u64,
+    buffer: &mut RecordBuffer,
+    chunk: &mut [u8],
+) -> Result<(), BufferFault>
+    requires open { IsTrue ((W.state world.old).is_open id) }
+    requires slice { 1 ≤ length chunk.old }
+    requires unended { buffer.old.ending ≡ None }
+    requires short { length buffer.old.bytes ≤ longest }
+    ensures open { SameOpen (W.state world.old) (W.state world.new) }
+    ensures read { OnOk result (W.is_logged → ((e : Event) × ((W.state world.new).log ≡ e ∷ (W.state world.old).log) × Brings id e buffer.old buffer.new)) }
+    ensures lost { OnErr result (W.is_logged → ((W.state world.new).log ≡ (W.state world.old).log) ⊎ ((bytes : List ℕ) × ((W.state world.new).log ≡ Read id bytes ∷ (W.state world.old).log))) }
+    ensures err { OnErr result (buffer.new ≡ buffer.old) }
+    ensures memory { IfErr result (λ e. e ≡ BufferFault.Memory) }
+    ensures less { OnOk result (room_of buffer.new.ending (length buffer.new.bytes) < room_of buffer.old.ending (length buffer.old.bytes)) }
+    ensures no_failure { OnOk result (W.is_logged → (W.state world.new).first_failure ≡ (W.state world.old).first_failure) }
+    ensures failure { OnErr result (W.is_logged → MayFailNow (W.state world.old) (W.state world.new)) }
+    ensures grows { W.is_logged → Grows (W.state world.old) (W.state world.new) }
+{
+    match world.read(id, chunk) {
+        Ok(0) => buffer.end(),
+        Ok(n) => buffer.feed(&chunk[..n])?,
+        Err(WorldFault::Failed) => buffer.broken(),
+        Err(WorldFault::Memory) => return Err(BufferFault::Memory),
+    }
+    Ok(())
+}
+
+// One reading, into the buffer.
+fn read_more<W: World>(
+    world: &mut W,
+    id: u64,
+    buffer: &mut RecordBuffer,
+    chunk: &mut Vec<u8>,
+) -> Result<(), BufferFault>
     requires open { IsTrue ((W.state world.old).is_open id) }
     requires unended { buffer.old.ending ≡ None }
     requires short { length buffer.old.bytes ≤ longest }
@@ -35,14 +81,8 @@ fn read_more<W: World>(world: &mut W, id: u64, buffer: &mut RecordBuffer) -> Res
     ensures failure { OnErr result (W.is_logged → MayFailNow (W.state world.old) (W.state world.new)) }
     ensures grows { W.is_logged → Grows (W.state world.old) (W.state world.new) }
 {
-    let mut chunk = [0u8; CHUNK];
-    match world.read(id, &mut chunk) {
-        Ok(0) => buffer.end(),
-        Ok(n) => buffer.feed(&chunk[..n])?,
-        Err(WorldFault::Failed) => buffer.broken(),
-        Err(WorldFault::Memory) => return Err(BufferFault::Memory),
-    }
-    Ok(())
+    prepare(chunk)?;
+    read_into(world, id, buffer, chunk)
 }
 
 fn is_need_more(step: &Step) -> bool
@@ -59,6 +99,7 @@ pub fn next_from<W: World>(
     world: &mut W,
     id: u64,
     buffer: &mut RecordBuffer,
+    chunk: &mut Vec<u8>,
     separator: &[u8],
 ) -> Result<Step, BufferFault>
     requires open { IsTrue ((W.state world.old).is_open id) }
@@ -74,6 +115,6 @@ pub fn next_from<W: World>(
         if !is_need_more(&step) {
             return Ok(step);
         }
-        read_more(world, id, buffer)?;
+        read_more(world, id, buffer, chunk)?;
     }
 }

@@ -1,7 +1,9 @@
-// Outputs: bytes reach the world in order, all of them or a beginning.
-ghost use Rattle.std.specs.Prelude.{◌≡◌, IsTrue, IfErr};
+// Outputs: bytes reach the world in order, all of them or a beginning. What is printed is held back as long as a
+// buffer of the size that the world asks for has room.
+ghost use Rattle.std.specs.Prelude.{◌≡◌, ◌++◌, [], IsTrue, IfErr, if◌then◌else◌};
 ghost use Rattle.awk_world.specs.definitions.WorldState.{SameOpen};
 ghost use Rattle.awk_streams.specs.definitions.Outputs.{output_fault_of, IsOutputFault, WritesAll, Flushes};
+ghost use Rattle.awk_streams.specs.support.Buffered.{PrintsOrHolds, WritesAndFlushes};
 
 use crate::fault::StreamFault;
 use awk_world::{World, WorldFault};
@@ -62,4 +64,62 @@ pub fn flush<W: World>(world: &mut W, id: u64) -> Result<(), StreamFault>
         Ok(()) => Ok(()),
         Err(fault) => Err(output_fault(fault)),
     }
+}
+
+// Holds the bytes back behind what is held, where a buffer of this size has room for them and no
+// memory is needed.
+fn hold(held: &mut Vec<u8>, size: usize, bytes: &[u8]) -> bool
+    ensures { held.new.items ≡ (if result then held.old.items ++ bytes.now else held.old.items) }
+{
+    let room = size.min(held.capacity()).saturating_sub(held.len());
+    bytes.len() <= room && held.extend_from_slice(bytes).is_ok()
+}
+
+// Writes what is held back. Then nothing is, also after an `Err`: an output whose write failed gets no
+// more bytes.
+fn write_held<W: World>(world: &mut W, id: u64, held: &mut Vec<u8>) -> Result<(), StreamFault>
+    requires { IsTrue ((W.state world.old).is_open id) }
+    ensures empty { held.new.items ≡ [] }
+    ensures open { SameOpen (W.state world.old) (W.state world.new) }
+    ensures fault { IfErr result IsOutputFault }
+    ensures told { W.is_logged → WritesAll id held.old.items (W.state world.old) result (W.state world.new) }
+{
+    let written = write_all(world, id, held);
+    held.clear();
+    written
+}
+
+// Prints the bytes: holds them back, or writes what is held and then holds back or writes them.
+pub fn print_held<W: World>(
+    world: &mut W,
+    id: u64,
+    held: &mut Vec<u8>,
+    bytes: &[u8],
+) -> Result<(), StreamFault>
+    requires { IsTrue ((W.state world.old).is_open id) }
+    ensures open { SameOpen (W.state world.old) (W.state world.new) }
+    ensures fault { IfErr result IsOutputFault }
+    ensures told { W.is_logged → PrintsOrHolds id held.old.items bytes.now (W.state world.old) result held.new.items (W.state world.new) }
+{
+    let size = world.output_buffer_size();
+    if hold(held, size, bytes) {
+        return Ok(());
+    }
+    write_held(world, id, held)?;
+    if hold(held, size, bytes) {
+        return Ok(());
+    }
+    write_all(world, id, bytes)
+}
+
+// Writes what is held back, and flushes the output.
+pub fn flush_held<W: World>(world: &mut W, id: u64, held: &mut Vec<u8>) -> Result<(), StreamFault>
+    requires { IsTrue ((W.state world.old).is_open id) }
+    ensures empty { held.new.items ≡ [] }
+    ensures open { SameOpen (W.state world.old) (W.state world.new) }
+    ensures fault { IfErr result IsOutputFault }
+    ensures told { W.is_logged → WritesAndFlushes id held.old.items (W.state world.old) result (W.state world.new) }
+{
+    write_held(world, id, held)?;
+    flush(world, id)
 }

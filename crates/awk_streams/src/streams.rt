@@ -1,5 +1,5 @@
 // The streams of a run: its main input and its standard outputs.
-ghost use Rattle.std.specs.Prelude.{◌≡◌, ◌≢◌, ◌⊎◌, ℕ, ℤ, [], Some, None, is_some, IsTrue, OnOk, OnErr, IfErr, Ok, Err};
+ghost use Rattle.std.specs.Prelude.{◌≡◌, ◌≢◌, ◌⊎◌, ℕ, ℤ, [], Some, None, is_some, IsTrue, OnOk, OnErr, IfErr, Ok, Err, List};
 ghost use Rattle.awk_world.specs.definitions.WorldState.{SameOpen};
 ghost use Rattle.awk_streams.specs.definitions.Outputs.{IsOutputFault};
 ghost use Rattle.awk_streams.specs.definitions.Streams.{AreOpen, IsSoundMain, StandsAsMain, IsOpenMain, view_of, main_of, IsFreshMain, IsSameMain, ClosesMain, closed_main, OpensMain, AsksMain, Prints, EndsMain, Finishes};
@@ -7,10 +7,10 @@ ghost use Rattle.awk_streams.specs.support.Pulls.{IsToldAs};
 
 use crate::fault::StreamFault;
 use crate::input::{Input, next_from};
-use crate::output::{STANDARD_ERROR, STANDARD_OUTPUT, flush, write_all};
+use crate::output::{STANDARD_ERROR, STANDARD_OUTPUT, flush, flush_held, print_held};
 use awk_record::{BufferFault, RecordBuffer, Step};
 use awk_value::Bytes;
-use awk_world::{InputKind, World, WorldFault};
+use awk_world::{InputKind, OUTPUT_BUFFER_SIZE, World, WorldFault};
 use std::alloc::Global;
 use std::marker::Model;
 
@@ -30,6 +30,7 @@ fn told(step: Result<Step, BufferFault>) -> Result<Option<Bytes>, StreamFault>
 // The next record of the main input.
 fn next_of<W: World>(
     input: &mut Input,
+    chunk: &mut Vec<u8>,
     world: &mut W,
     separator: &[u8],
 ) -> Result<Option<Bytes>, StreamFault>
@@ -37,10 +38,10 @@ fn next_of<W: World>(
     ensures same { input.new.id ≡ input.old.id }
     ensures open { SameOpen (W.state world.old) (W.state world.new) }
     ensures fault { result ≢ Err StreamFault.WriteFailed }
-    ensures told { W.is_logged → StandsAsMain (W.state world.old).log (view_of input.old) →
-        AsksMain separator.now (W.state world.old) (record { main = Some (view_of input.old) }) result (W.state world.new) (record { main = Some (view_of input.new) }) }
+    ensures told { W.is_logged → StandsAsMain (W.state world.old).log (view_of input.old) → (held : List ℕ) →
+        AsksMain separator.now (W.state world.old) (record { main = Some (view_of input.old); held = held }) result (W.state world.new) (record { main = Some (view_of input.new); held = held }) }
 {
-    told(next_from(world, input.id, &mut input.buffer, separator))
+    told(next_from(world, input.id, &mut input.buffer, chunk, separator))
 }
 
 // Closes the input, if there is one.
@@ -61,6 +62,10 @@ fn close<W: World>(world: &mut W, input: Option<Input>)
 pub struct Streams {
     alloc: Global,
     main: Option<Input>,
+    // What was printed to standard output and is not yet written.
+    held: Vec<u8>,
+    // The slice of each reading.
+    chunk: Vec<u8>,
 }
 
 impl Model for Streams {
@@ -68,15 +73,30 @@ impl Model for Streams {
 
     ghost Value = { StreamsView };
 
-    ghost view = { λ s. record { main = main_of s.main } };
+    ghost view = { λ s. record { main = main_of s.main; held = s.held.items } };
 }
 
 impl Streams {
-    /// No main input. Takes no memory.
+    /// No main input, and nothing is held back. Takes no memory: before `make_room` each print is
+    /// written at once.
     pub fn new(alloc: Global) -> Self
-        ensures { result.main ≡ None }
+        ensures { result ≡ record { main = None; held = [] } }
     {
-        Streams { alloc, main: None }
+        Streams {
+            alloc,
+            main: None,
+            held: Vec::new(alloc),
+            chunk: Vec::new(alloc),
+        }
+    }
+
+    /// Makes the room in which standard output is held back, so that no print takes memory. Fails
+    /// with `Memory` (F1).
+    pub fn make_room(&mut self) -> Result<(), StreamFault>
+        ensures same { self.new ≡ self.old }
+        ensures memory { IfErr result (λ e. e ≡ StreamFault.Memory) }
+    {
+        Ok(self.held.reserve(OUTPUT_BUFFER_SIZE)?)
     }
 
     /// Whether a main input is open.
@@ -134,7 +154,7 @@ impl Streams {
         ensures told { W.is_logged → AsksMain separator.now (W.state world.old) self.old result (W.state world.new) self.new }
     {
         match &mut self.main {
-            Some(input) => next_of(input, world, separator),
+            Some(input) => next_of(input, &mut self.chunk, world, separator),
             None => unreachable!(),
         }
     }
@@ -152,28 +172,29 @@ impl Streams {
         close(world, input);
     }
 
-    /// Prints the bytes to standard output. Fails with `Memory` (F1) or `WriteFailed` (F2); then a
-    /// beginning of them was written. (POSIX awk, STDOUT)
+    /// Prints the bytes to standard output: holds them back while there is room for them, and else
+    /// writes what is held. Fails with `Memory` (F1) or `WriteFailed` (F2); then a beginning of what was
+    /// held and of the bytes was written, and nothing is held. (POSIX awk, STDOUT)
     pub fn print<W: World>(&mut self, world: &mut W, bytes: &[u8]) -> Result<(), StreamFault>
-        ensures same { self.new ≡ self.old }
+        ensures same { self.new.main ≡ self.old.main }
         ensures open { AreOpen (W.state world.old) self.old → AreOpen (W.state world.new) self.new }
         ensures fault { IfErr result IsOutputFault }
         ensures told { W.is_logged → Prints bytes.now (W.state world.old) self.old result (W.state world.new) self.new }
     {
-        write_all(world, STANDARD_OUTPUT, bytes)
+        print_held(world, STANDARD_OUTPUT, &mut self.held, bytes)
     }
 
-    /// Ends a run: flushes the standard outputs, the second also where the first flush fails, and
-    /// closes the main input. The first failure is answered, `Memory` (F1) or `WriteFailed` (F2).
-    /// Takes no memory of its own.
+    /// Ends a run: writes what is held back and flushes the standard outputs, the second also where
+    /// this fails for the first, and closes the main input. The first failure is answered, `Memory`
+    /// (F1) or `WriteFailed` (F2). Takes no memory of its own.
     pub fn finish<W: World>(&mut self, world: &mut W) -> Result<(), StreamFault>
         requires { AreOpen (W.state world.old) self.old }
-        ensures none { self.new.main ≡ None }
+        ensures none { self.new ≡ record { main = None; held = [] } }
         ensures open { AreOpen (W.state world.new) self.new }
         ensures fault { IfErr result IsOutputFault }
         ensures told { W.is_logged → Finishes (W.state world.old) self.old result (W.state world.new) self.new }
     {
-        let output = flush(world, STANDARD_OUTPUT);
+        let output = flush_held(world, STANDARD_OUTPUT, &mut self.held);
         let error = flush(world, STANDARD_ERROR);
         close(world, self.main.take());
         output.and(error)

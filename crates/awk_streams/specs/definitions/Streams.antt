@@ -14,7 +14,7 @@ use Rattle.awk_record.specs.Buffer.{Pending}
 use Rattle.awk_world.specs.definitions.Oracle.{Oracle, Source, IsConsistent, one_if, how_many, opens_input, opens_output, closes_command, runs, same_input, AnInput, standing}
 use Rattle.awk_world.specs.definitions.Orderly.{IsReadable, IsInOrder}
 use Rattle.awk_world.specs.definitions.Writes.{OnlyWritesTo, flushed_if}
-use Rattle.awk_world.specs.definitions.Openings.{openings, receives}
+use Rattle.awk_world.specs.definitions.Openings.{Opening, openings, receives}
 pub use Rattle.awk_world.specs.definitions.Grows.{Grows}
 use Rattle.awk_streams.specs.definitions.Inputs.{ReadsAsNeeded, Rest}
 pub use Rattle.awk_world.specs.definitions.Oracle.{SameCounts}
@@ -27,6 +27,8 @@ pub record InputView : Type 0 where
 
 pub record StreamsView : Type 0 where
   pub main : Option InputView
+  -- what was printed to standard output and is not yet written
+  pub held : List ℕ
 
 abbrev pub view_of : Input → InputView
 view_of input = record { id = input.id; pending = input.buffer }
@@ -61,6 +63,10 @@ ClosesMain old new None = SameOpen old new
 ClosesMain old new (Some v) = Closes old new v.id
 
 -- What is known of a world that tells its log.
+
+-- the openings of outputs, as they are once what is held back is written
+abbrev pub printed_openings : WorldState → StreamsView → List (ℕ × Opening)
+printed_openings world streams = receives 0 streams.held (openings world.log)
 
 -- in the log the main input stands open, is no command, and can be read on unless its ending was met
 pub record StandsAsMain (log : List Event) (v : InputView) : Type 0 where
@@ -104,7 +110,7 @@ pub record OpensMain (kind : InputKind) (name : List ℕ) (before : WorldState) 
   pub main : IsSoundMain before.log old.main → IsSoundMain after.log new.main
   pub grows : Grows before after
   pub adds : after.log ≡ logged (main_opening kind name result new.main) before.log
-  pub outputs : openings after.log ≡ openings before.log
+  pub outputs : printed_openings after new ≡ printed_openings before old
   pub counts : result ≢ Err Memory → CountsInput kind name before.log after.log
   pub granted : OnOk result ((a : Oracle) → IsConsistent a after.log → (s : Source) × (a.input kind name (how_many (opens_input kind name) before.log) ≡ Some s) × IsMainRest a after.log new.main (Some s))
   pub refused : result ≡ Err InputNotReadable → (a : Oracle) → IsConsistent a after.log → a.input kind name (how_many (opens_input kind name) before.log) ≡ None
@@ -129,22 +135,22 @@ pub record AsksMain (separator : List ℕ) (before : WorldState) (old : StreamsV
   pub same : IsSameMain old.main new.main
   pub request : ReadsMain separator old.main before.log after.log
   pub readable : ReadsOpen old.main before.log after.log
-  pub outputs : openings after.log ≡ openings before.log
+  pub outputs : printed_openings after new ≡ printed_openings before old
   pub counts : SameCounts before.log after.log
   pub answered : result ≢ Err Memory → (a : Oracle) (whole : Source) → IsConsistent a after.log → IsMainRest a before.log old.main (Some whole) →
       (left : List ℕ) × NextTold (cut_of separator whole.bytes whole.ending) result whole.bytes left × IsMainRest a after.log new.main (Some record { bytes = left; ending = whole.ending })
   pub no_failure : result ≢ Err Memory → after.first_failure ≡ before.first_failure
   pub failure : result ≡ Err Memory → MayFailNow before after
 
--- a print of bytes to standard output
+-- a print of bytes to standard output: they are received or held back behind what was; or a beginning of both is received, and there was a failure
 pub record Prints (bytes : List ℕ) (before : WorldState) (old : StreamsView) (result : Result (Unit {0}) StreamFault) (after : WorldState) (new : StreamsView) : Type 0 where
   pub sound : AreSound before old → AreSound after new
   pub main : IsSoundMain before.log old.main → IsSoundMain after.log new.main
   pub grows : Grows before after
-  pub same : new ≡ old
+  pub same : new.main ≡ old.main
   pub only : OnlyWritesTo 0 before.log after.log
-  pub printed : OnOk result (openings after.log ≡ receives 0 bytes (openings before.log))
-  pub partly : OnErr result ((n : ℕ) × (n ≤ length bytes) × (openings after.log ≡ receives 0 (take n bytes) (openings before.log)))
+  pub printed : OnOk result (printed_openings after new ≡ receives 0 bytes (printed_openings before old))
+  pub partly : OnErr result ((new.held ≡ []) × ((n : ℕ) × (n ≤ length (old.held ++ bytes)) × (openings after.log ≡ receives 0 (take n (old.held ++ bytes)) (openings before.log))))
   pub counts : SameCounts before.log after.log
   pub rest : (a : Oracle) (r : Option Source) → IsMainRest a before.log old.main r → IsMainRest a after.log new.main r
   pub no_failure : OnOk result (after.first_failure ≡ before.first_failure)
@@ -161,16 +167,18 @@ pub record EndsMain (before : WorldState) (old : StreamsView) (after : WorldStat
   pub grows : Grows before after
   pub consistent : (a : Oracle) → IsConsistent a before.log → IsConsistent a after.log
   pub adds : (answer : ℤ) × (after.log ≡ closed_main old.main answer before.log)
-  pub outputs : openings after.log ≡ openings before.log
+  pub outputs : printed_openings after new ≡ printed_openings before old
   pub counts : SameCounts before.log after.log
   pub no_failure : after.first_failure ≡ before.first_failure
 
--- both standard outputs are flushed, the second also where the first flush fails; then the main input is closed
+-- what is held back is written; both standard outputs are flushed, the second also where the first has failed; then the main input is closed
 pub record EndsLog (main : Option InputView) (result : Result (Unit {0}) StreamFault) (log log' : List Event) : Type 0 where
+  pub written : List Event
+  pub writes : OnlyWritesTo 0 log written
   pub first : Bool
   pub second : Bool
   pub answer : ℤ
-  pub adds : log' ≡ closed_main main answer (flushed_if second 1 (flushed_if first 0 log))
+  pub adds : log' ≡ closed_main main answer (flushed_if second 1 (flushed_if first 0 written))
   pub flushed : OnOk result ((first && second) ≡ true)
   pub failed : OnErr result ((first && second) ≡ false)
 
@@ -179,6 +187,7 @@ pub record Finishes (before : WorldState) (old : StreamsView) (result : Result (
   pub sound : AreSound before old → AreSound after new
   pub grows : Grows before after
   pub ends : EndsLog old.main result before.log after.log
-  pub outputs : openings after.log ≡ openings before.log
+  pub outputs : OnOk result (openings after.log ≡ printed_openings before old)
+  pub partly : (n : ℕ) × (n ≤ length old.held) × (openings after.log ≡ receives 0 (take n old.held) (openings before.log))
   pub no_failure : OnOk result (after.first_failure ≡ before.first_failure)
   pub failure : OnErr result (is_some after.first_failure ≡ true)

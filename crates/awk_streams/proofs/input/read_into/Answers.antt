@@ -1,7 +1,7 @@
 use Rattle.std.proofs.Common.{Some, Ok}
 use Rattle.awk_world.specs.definitions.Log.{Broke, reading}
 use Rattle.awk_streams.proofs.GrowsLemmas.{logs_grow}
-use Rattle.awk_streams.proofs.input.read_more.Goals as goal
+use Rattle.awk_streams.proofs.input.read_into.Goals as goal
 
 pub returns-in_err-feed-in-Ok-clause-grows : goal.returns-in_err-feed-in-Ok-clause-grows
 returns-in_err-feed-in-Ok-clause-grows g c = λ t. logs_grow (reading c.args.id (Ok c.in-Ok.n) c.read.new.into) (g.W.World.state c.args.world.now) (g.W.World.state c.read.new.self) (c.in-Ok.ensures.logs t)
