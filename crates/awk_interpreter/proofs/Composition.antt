@@ -2,9 +2,9 @@
 use Rattle.std.proofs.Common.{◌≡◌, inl, ℕ, ◌≤◌, List, [], ◌∷◌, ◌++◌, length, Option, Some, None, Result, Ok, Err, refl, sym, ap, ◌∙◌, subst, append_assoc, append-nil, arith}
 use Rattle.awk_streams.specs.Log.{Event}
 use Rattle.awk_streams.specs.Writes.{with_events}
-use Rattle.awk_streams.specs.Openings.{outputs_of}
+use Rattle.awk_streams.specs.Openings.{in_order}
 use Rattle.awk_streams.specs.Oracle.{Oracle}
-use Rattle.awk_streams.specs.Streams.{StreamsView, AreOpen, AreSound, IsSoundMain, Grows, IsMainRest}
+use Rattle.awk_streams.specs.Streams.{StreamsView, AreOpen, AreSound, IsSoundMain, Grows, IsMainRest, printed_openings}
 use Rattle.awk_interpreter.specs.declared.interpreter.Interpreter.{Interpreter}
 use Rattle.awk_meaning.specs.declared.halt.Halt.{Halt}
 use Rattle.awk_meaning.specs.declared.halt.Halt.TheVariants as halt
@@ -63,12 +63,12 @@ grows_trans {a = a} {b = b} {c = c} x y = record {
 }
 
 -- what a failure left still begins with what is printed, and with more
-failure_longer : {failure : Type 0} {k : WorldState} (past xs ys : List Effect) → FailureRelation failure k (past ++ xs) → FailureRelation failure k (past ++ (xs ++ ys))
-failure_longer {k = k} past xs ys h = record { begins = begins-longer (outputs_of k.log) past xs ys h.begins; failure = h.failure }
+failure_longer : {failure : Type 0} {m : Interpreter} {k : WorldState} (past xs ys : List Effect) → FailureRelation failure m k (past ++ xs) → FailureRelation failure m k (past ++ (xs ++ ys))
+failure_longer {m = m} {k = k} past xs ys h = record { begins = begins-longer (in_order (printed_openings k m.streams)) past xs ys h.begins; failure = h.failure }
 
 -- want of memory where all is as the meaning has it
-unfailed : {failure : Type 0} (oracle : Oracle) (m : Interpreter) (k : WorldState) (s : State) (past more : List Effect) → StateRelation oracle m k s past → ((k.first_failure ≡ None) → failure) → FailureRelation failure k (past ++ more)
-unfailed oracle m k s past more stands failure = record { begins = begins_still k.log past more stands.outputs; failure = failure stands.clear }
+unfailed : {failure : Type 0} (oracle : Oracle) (m : Interpreter) (k : WorldState) (s : State) (past more : List Effect) → StateRelation oracle m k s past → ((k.first_failure ≡ None) → failure) → FailureRelation failure m k (past ++ more)
+unfailed oracle m k s past more stands failure = record { begins = begins_still (printed_openings k m.streams) past more stands.outputs; failure = failure stands.clear }
 
 -- what lies outside the code's own part is the same
 pub record OwnPart (s t : State) : Type 0 where
@@ -213,13 +213,13 @@ stands_own {oracle = oracle} {old = old} {k = k} {s = s} {t = t} {past = past} s
   inputs = λ kind name. ap (λ (f : InputKind → List ℕ → ℕ). f kind name) own.openings ∙ stands.inputs kind name;
   main = subst (λ x. IsMainRest oracle k.log x.main t.main) (sym same) (subst (λ rest. IsMainRest oracle k.log old.streams.main rest) (sym own.main) stands.main);
   holds = holds;
-  outputs = stands.outputs ∙ ap standard_openings (sym (append-nil past));
+  outputs = ap (printed_openings k) same ∙ (stands.outputs ∙ ap standard_openings (sym (append-nil past)));
   turn = subst (λ x. MeetsAll oracle (requests_after [] (past ++ [])) first_stage (stage_of k.log x.main)) (sym same)
       (subst (λ (l : List Effect). MeetsAll oracle (requests_after [] l) first_stage (stage_of k.log old.streams.main)) (sym (append-nil past)) stands.turn);
 }
 
 own_by : {A : Type 0} (oracle : Oracle) (m : Interpreter) (k : WorldState) (h : Sort) (r : Result A Halt) (t : State) (past : List Effect) → YieldsBy h r → StateRelation oracle m k t (past ++ []) → ResultRelationBy oracle m k h (record { result = r; state = t; effects = [] }) past
-own_by oracle m k WantOfMemory r t past e stands = record { begins = begins_same k.log (past ++ []) stands.outputs; failure = inl stands.clear }
+own_by oracle m k WantOfMemory r t past e stands = record { begins = begins_same (printed_openings k m.streams) (past ++ []) stands.outputs; failure = inl stands.clear }
 own_by oracle m k FailedWrite r t past e stands = absurd e
 own_by oracle m k (OfLanguage reason) r t past e stands = (e, stands)
 

@@ -1,6 +1,5 @@
 -- Requests that are met one after the other, and outputs that begin with what is printed.
-use Rattle.std.proofs.Common.{◌≡◌, ◌⊎◌, inl, inr, ℕ, List, [], ◌∷◌, ◌++◌, take, drop, Option, Some, None, refl, sym, ap, ◌∙◌, subst, append_assoc, append-nil}
-use Rattle.std.proofs.lemmas.List.{take-append-drop}
+use Rattle.std.proofs.Common.{◌≡◌, ◌⊎◌, inl, inr, ℕ, List, [], ◌∷◌, ◌++◌, Option, Some, None, refl, sym, ap, ◌∙◌, subst, append_assoc, append-nil}
 use Rattle.awk_record.specs.Cut.{Ending}
 use Rattle.awk_record.specs.Buffer.{Pending}
 use Rattle.awk_streams.specs.Log.{Event, Wrote}
@@ -8,7 +7,7 @@ use Rattle.awk_streams.specs.Oracle.{Oracle, Source}
 use Rattle.awk_streams.specs.Orderly.{IsReadable}
 use Rattle.awk_streams.specs.Writes.{Writes}
 use Rattle.awk_streams.specs.Inputs.{Reaches, ReadsAsNeeded, Rest}
-use Rattle.awk_streams.specs.Openings.{StandardOutput, StandardError, Output, Opening, IsBeginning, Begins, receives, openings, in_order, outputs_of}
+use Rattle.awk_streams.specs.Openings.{StandardOutput, StandardError, Output, Opening, IsBeginning, Begins, receives, in_order}
 use Rattle.awk_streams.specs.Streams.{InputView, IsMainRest}
 use Rattle.awk_meaning.specs.State.{Request, Effect, Printed, Requested}
 use Rattle.awk_meaning.specs.Meaning.{printed_to, outputs_after, Asked, requests_after}
@@ -106,21 +105,8 @@ pub begins-longer : (os : List Opening) (past xs ys : List Effect) → Begins os
 begins-longer os past xs ys h = begins-then os (outputs_after (past ++ xs)) (outputs_after (past ++ (xs ++ ys))) h (subst (λ (l : List Effect). Begins (outputs_after (past ++ xs)) (outputs_after l)) (append_assoc past xs ys) (begins-more (past ++ xs) ys))
 
 -- outputs that have all that was printed begin with what is printed after it
-pub begins_still : (log : List Event) (past more : List Effect) → openings log ≡ standard_openings past → Begins (outputs_of log) (outputs_after (past ++ more))
-begins_still log past more is = subst (λ (os : List Opening). Begins os (outputs_after (past ++ more))) (ap in_order (sym is)) (begins-more past more)
+pub begins_still : (os : List (ℕ × Opening)) (past more : List Effect) → os ≡ standard_openings past → Begins (in_order os) (outputs_after (past ++ more))
+begins_still os past more is = subst (λ (xs : List Opening). Begins xs (outputs_after (past ++ more))) (ap in_order (sym is)) (begins-more past more)
 
-pub begins_same : (log : List Event) (past : List Effect) → openings log ≡ standard_openings past → Begins (outputs_of log) (outputs_after past)
-begins_same log past is = subst (λ (l : List Effect). Begins (outputs_of log) (outputs_after l)) (append-nil past) (begins_still log past [] is)
-
--- a print that was broken off
-pub begins_partly : (n : ℕ) (bytes : List ℕ) (past : List Effect) (log log' : List Event) → openings log ≡ standard_openings past → openings log' ≡ receives 0 (take n bytes) (openings log) → Begins (outputs_of log') (outputs_after (past ++ Printed StandardOutput bytes ∷ []))
-begins_partly n bytes past log log' is partly =
-    let print : Effect = Printed StandardOutput bytes in
-    subst (λ (os : List Opening). Begins os (outputs_after (past ++ print ∷ []))) (ap in_order (sym (partly ∙ ap (receives 0 (take n bytes)) is))) (
-      refl,
-      record {
-        more = drop n bytes;
-        is = printed_to-append StandardOutput past (print ∷ []) ∙ (ap (λ l. printed_to StandardOutput past ++ l) (append-nil bytes ∙ sym (take-append-drop n bytes)) ∙ sym (append_assoc (printed_to StandardOutput past) (take n bytes) (drop n bytes)));
-      },
-      (refl, beginning_more StandardError past (print ∷ []), tt),
-    )
+pub begins_same : (os : List (ℕ × Opening)) (past : List Effect) → os ≡ standard_openings past → Begins (in_order os) (outputs_after past)
+begins_same os past is = subst (λ (l : List Effect). Begins (in_order os) (outputs_after l)) (append-nil past) (begins_still os past [] is)

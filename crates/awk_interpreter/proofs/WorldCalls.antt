@@ -10,9 +10,9 @@ use Rattle.awk_streams.specs.declared.fault.StreamFault.{StreamFault}
 use Rattle.awk_streams.specs.declared.fault.StreamFault.TheVariants.{Memory, WriteFailed, InputNotReadable, SeparatorTooLong, RecordTooLong}
 use Rattle.awk_streams.specs.Log as log
 use Rattle.awk_streams.specs.Oracle.{Oracle, Source, IsConsistent, one_if, same_input, how_many, opens_input}
-use Rattle.awk_streams.specs.Openings.{StandardOutput, receives, openings}
+use Rattle.awk_streams.specs.Openings.{StandardOutput, Opening, in_order, receives, Begins}
 use Rattle.awk_streams.specs.Inputs.{NextTold}
-use Rattle.awk_streams.specs.Streams.{InputView, StreamsView, AreOpen, IsMainRest, IsSameMain, IsFreshMain, main_opening, OpensMain, ReadsMain, ReadsOpen, AsksMain, closed_main, EndsMain, Prints}
+use Rattle.awk_streams.specs.Streams.{InputView, StreamsView, AreOpen, IsMainRest, IsSameMain, IsFreshMain, main_opening, printed_openings, OpensMain, ReadsMain, ReadsOpen, AsksMain, closed_main, EndsMain, Prints}
 use Rattle.awk_streams.specs.Outputs.{IsOutputFault}
 use Rattle.awk_interpreter.specs.declared.interpreter.Interpreter.{Interpreter}
 use Rattle.awk_meaning.specs.declared.halt.Halt.TheVariants as halt
@@ -26,7 +26,7 @@ use Rattle.awk_meaning.specs.Order.{AreBetween, GoesBetween, ReadsMainAsRequeste
 use Rattle.awk_streams.specs.WorldState.{WorldState}
 use Rattle.awk_interpreter.specs.support.Simulation.{OwnRelation, number_of, stage_of, standard_openings, StateRelation, FailureRelation, FailedLast, ResultRelation, SimulatesLogged, Simulates, Follows, ClosesMainInput, Beside, halted}
 use Rattle.awk_interpreter.proofs.Composition.{beside_holds, grows_refl}
-use Rattle.awk_interpreter.proofs.OrderLemmas.{turn_between, turn_requested, writes_between, main_as_requested, standard_requested, standard_printed, begins_still, begins_partly}
+use Rattle.awk_interpreter.proofs.OrderLemmas.{turn_between, turn_requested, writes_between, main_as_requested, standard_requested, standard_printed, begins_still}
 
 -- a state whose main input alone is another stands for the same
 at_main : (m : Interpreter) (s : State) (openings : InputKind → List ℕ → ℕ) (main : Option Source) → OwnRelation m s → OwnRelation m (record s { openings = openings; main = main })
@@ -43,7 +43,7 @@ writes_go : (bytes : List ℕ) (before after : WorldState) (old new : StreamsVie
 writes_go bytes before after old new r told = record {
   events = told.only.1.events;
   log = told.only.1.log;
-  between = subst (λ (v : StreamsView). AreBetween (number_of old.main) told.only.1.events (number_of v.main)) (sym told.same) (writes_between 0 (number_of old.main) told.only.0 told.only.1.events told.only.1.each);
+  between = subst (λ (m : Option InputView). AreBetween (number_of old.main) told.only.1.events (number_of m)) (sym told.same) (writes_between 0 (number_of old.main) told.only.0 told.only.1.events told.only.1.each);
 }
 
 shown : (oracle : Oracle) (old new : Interpreter) (before after : WorldState) (s : State) (past : List Effect) (bytes : List ℕ) → Beside old new
@@ -71,12 +71,14 @@ unfolding print_bytes
 print_comes vs {old = old} {new = new} {before = before} {after = after} beside told oracle s past stands = (refl, shown oracle old new before after s past (interpreter_line old vs) beside told stands)
 
 -- a print that a failure broke off
-print_fails : {failure : Type 0} (vs : List Value) {old : Interpreter} {before after : WorldState} {last : StreamsView} → (FailedLast after → failure) → (fault : StreamFault)
-    → Prints (interpreter_line old vs) before old.streams (Err fault) after last
-    → (oracle : Oracle) (s : State) (past : List Effect) → StateRelation oracle old before s past → FailureRelation failure after (past ++ (print_bytes (interpreter_line old vs) s).effects)
+print_fails : {failure : Type 0} (vs : List Value) {old new : Interpreter} {before after : WorldState} → (FailedLast after → failure) → (fault : StreamFault)
+    → Prints (interpreter_line old vs) before old.streams (Err fault) after new.streams
+    → (oracle : Oracle) (s : State) (past : List Effect) → StateRelation oracle old before s past → FailureRelation failure new after (past ++ (print_bytes (interpreter_line old vs) s).effects)
 unfolding print_bytes
-print_fails vs {old = old} {before = before} {after = after} failed fault told oracle s past stands = record {
-  begins = begins_partly told.partly.0 (interpreter_line old vs) past before.log after.log stands.outputs told.partly.2;
+print_fails vs {old = old} {new = new} {before = before} {after = after} failed fault told oracle s past stands = record {
+  begins =
+      let line : List ℕ = interpreter_line old vs in
+      subst (λ (os : List (ℕ × Opening)). Begins (in_order (printed_openings after new.streams)) (in_order os)) (ap (receives 0 line) stands.outputs ∙ standard_printed past line) told.partly.1;
   failure = failed (told.failure stands.clear);
 }
 
@@ -141,7 +143,7 @@ opening_meets oracle kind path before after old new r id none number is =
 
 opens_stands : (oracle : Oracle) (old new : Interpreter) (before after : WorldState) (s : State) (kind : InputKind) (path : List ℕ) (rest : Option Source) (past : List Effect) → Beside old new
     → (after.first_failure ≡ before.first_failure) → ((k : InputKind) (n : List ℕ) → how_many (opens_input k n) after.log ≡ one_if (same_input k kind && bytes_eq n path) + how_many (opens_input k n) before.log)
-    → openings after.log ≡ openings before.log
+    → printed_openings after new.streams ≡ printed_openings before old.streams
     → IsMainRest oracle after.log new.streams.main rest
     → Meets oracle (AnOpening kind path) (stage_of before.log old.streams.main) (stage_of after.log new.streams.main)
     → StateRelation oracle old before s past → StateRelation oracle new after (record (counted kind path s) { main = rest }) (past ++ Requested (AnOpening kind path) ∷ [])
@@ -196,12 +198,12 @@ opens_logged kind path (Err InputNotReadable) {old = old} {new = new} {before = 
       subst (λ (o : Out (Unit {0})). ResultRelation oracle new after (Err (halt.Fault faults.InputNotReadable)) o past) (sym (opens_as kind path s oracle before.log None stands.outside (stands.inputs kind path) (told.refused refl oracle consistent)))
       (refl, subst (λ rest. StateRelation oracle new after (record (counted kind path s) { main = rest }) (past ++ Requested (AnOpening kind path) ∷ [])) (sym no_main) unopened);
 }
-opens_logged kind path (Err Memory) {before = before} {after = after} beside none same told fault = record {
+opens_logged kind path (Err Memory) {new = new} {before = before} {after = after} beside none same told fault = record {
   grows = told.grows;
   keeps = told.sound;
   keeps_main = told.main;
   means = λ oracle s past consistent stands. record {
-    begins = begins_still after.log past (open_main kind path s).effects (told.outputs ∙ stands.outputs);
+    begins = begins_still (printed_openings after new.streams) past (open_main kind path s).effects (told.outputs ∙ stands.outputs);
     failure = inr (told.failure refl stands.clear);
   };
 }
@@ -239,7 +241,7 @@ asking_meets oracle separator before after (Some v) old new whole is same rest r
 
 asked_stands : (oracle : Oracle) (old new : Interpreter) (before after : WorldState) (s : State) (separator : List ℕ) (whole : Source) (left : List ℕ) (past : List Effect) → Beside old new
     → (after.first_failure ≡ before.first_failure) → ((k : InputKind) (n : List ℕ) → how_many (opens_input k n) after.log ≡ how_many (opens_input k n) before.log)
-    → openings after.log ≡ openings before.log
+    → printed_openings after new.streams ≡ printed_openings before old.streams
     → IsMainRest oracle after.log new.streams.main (Some (record { bytes = left; ending = whole.ending }))
     → Meets oracle (ARecord separator whole.bytes) (stage_of before.log old.streams.main) (stage_of after.log new.streams.main)
     → StateRelation oracle old before s past → StateRelation oracle new after (with_rest s left whole.ending) (past ++ Requested (ARecord separator whole.bytes) ∷ [])
@@ -311,12 +313,12 @@ asks_by : (separator : List ℕ) (r : Result (Option (List ℕ)) StreamFault) {o
     → AsksMain separator before old.streams r after new.streams
     → SimulatesLogged old before new after (halted r) take_record
 asks_by separator (Ok found) rs beside there some told = asks_logged separator (Ok found) rs beside there some (λ (e : Ok found ≡ Err Memory). absurd (cc)) told
-asks_by separator (Err Memory) {before = before} {after = after} rs beside there some told = record {
+asks_by separator (Err Memory) {new = new} {before = before} {after = after} rs beside there some told = record {
   grows = told.grows;
   keeps = told.sound;
   keeps_main = λ sound. told.main;
   means = λ oracle s past consistent stands. record {
-    begins = begins_still after.log past (take_record s).effects (told.outputs ∙ stands.outputs);
+    begins = begins_still (printed_openings after new.streams) past (take_record s).effects (told.outputs ∙ stands.outputs);
     failure = told.failure refl stands.clear;
   };
 }

@@ -60,12 +60,14 @@ impl Interpreter {
         let variables = Variables::new(alloc, arguments.words.len())?;
         let current = Record::new(alloc)?;
         let patterns = Patterns::new(alloc)?;
+        let mut streams = Streams::new(alloc);
+        streams.make_room()?;
         Ok(Interpreter {
             alloc,
             current,
             variables,
             arguments,
-            streams: Streams::new(alloc),
+            streams,
             patterns,
             steps: limit,
             line: Vec::new(alloc),

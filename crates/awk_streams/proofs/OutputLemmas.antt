@@ -4,7 +4,7 @@ use Rattle.std.specs.Prelude.{is_some, OnOk, OnErr}
 use Rattle.std.specs.Result.{is_ok, result_and}
 use Rattle.std.proofs.lemmas.Bool.{cond-true, cond-false, ne_eqb, eq-eqb, cases_eq}
 use Rattle.std.proofs.Math.Seq.{take-length}
-use Rattle.std.proofs.lemmas.List.{length-append, take-append-le}
+use Rattle.std.proofs.lemmas.List.{take-append-le}
 use Rattle.awk_streams.specs.declared.fault.StreamFault.{StreamFault}
 use Rattle.awk_world.specs.declared.world.InputKind.{InputKind}
 use Rattle.awk_world.specs.declared.world.InputKind.TheVariants.{Standard, File, Command}
@@ -13,7 +13,7 @@ use Rattle.awk_world.specs.definitions.Log.{Event, Flushed, Closed}
 use Rattle.awk_world.specs.definitions.Oracle.{Oracle, Source, IsConsistent, AnInput, one_if, how_many, closes_command, is_command, reading_of, standing}
 use Rattle.awk_world.specs.definitions.Orderly.{IsReadable, IsInOrder}
 use Rattle.awk_world.specs.definitions.Writes.{GoesOn, Writes, OnlyWritesTo, with_events, flushed_if}
-use Rattle.awk_world.specs.definitions.Openings.{Opening, receives, openings}
+use Rattle.awk_world.specs.definitions.Openings.{Opening, receives, openings, in_order, Begins}
 use Rattle.awk_world.specs.definitions.Grows.{Grows}
 use Rattle.awk_streams.specs.definitions.Outputs.{WritesAll, Flushes}
 use Rattle.awk_world.specs.definitions.Oracle.{SameCounts}
@@ -22,7 +22,7 @@ use Rattle.awk_streams.specs.definitions.Streams.{InputView, StreamsView, Stands
 use Rattle.awk_streams.proofs.SameMain.{main_same, rest_same}
 use Rattle.awk_streams.proofs.GrowsLemmas.{grows_on, Grows-then, logs_grow, fails_now, fails_later}
 use Rattle.awk_streams.specs.support.Buffered.{PrintsOrHolds, WritesAndFlushes}
-use Rattle.awk_streams.proofs.OpeningsLemmas.{receives-more, openings-writes, openings-flush, openings-close}
+use Rattle.awk_streams.proofs.OpeningsLemmas.{receives-none, receives-more, begins_part, openings-writes, openings-flush, openings-close}
 use Rattle.awk_streams.proofs.KeptLemmas.{same_counts-self, writes_order, writes_streams, writes_reading}
 
 -- the writing of all bytes, done or broken off by a failure
@@ -90,11 +90,13 @@ all_printed (Ok u) old new held bytes held' written more count parts holds all i
 all_printed (Err e) old new held bytes held' written more count parts holds all is = tt
 
 some_printed : (r : Result (Unit {0}) StreamFault) (old new : List (ℕ × Opening)) (held bytes held' written more : List ℕ) (count : ℕ) → held ++ bytes ≡ written ++ more → OnErr r (held' ≡ []) → count ≤ length written →
-    new ≡ receives 0 (take count written) old → OnErr r ((held' ≡ []) × ((n : ℕ) × (n ≤ length (held ++ bytes)) × (new ≡ receives 0 (take n (held ++ bytes)) old)))
+    new ≡ receives 0 (take count written) old → OnErr r ((held' ≡ []) × Begins (in_order (receives 0 held' new)) (in_order (receives 0 bytes (receives 0 held old))))
 some_printed (Ok u) old new held bytes held' written more count parts empty within is = tt
 some_printed (Err e) old new held bytes held' written more count parts empty within is =
-    let long : length (held ++ bytes) ≡ length written + length more = ap length parts ∙ length-append written more in
-    (empty, (count, omega (arith, within, long), is ∙ ap (λ b. receives 0 b old) (sym (take-append-le count written more within) ∙ ap (take count) (sym parts))))
+    let part : take count written ≡ take count (held ++ bytes) = sym (take-append-le count written more within) ∙ ap (take count) (sym parts) in
+    let now : receives 0 held' new ≡ receives 0 (take count (held ++ bytes)) old = ap (λ b. receives 0 b new) empty ∙ (receives-none 0 new ∙ (is ∙ ap (λ b. receives 0 b old) part)) in
+    let all : receives 0 (held ++ bytes) old ≡ receives 0 bytes (receives 0 held old) = sym (receives-more 0 held bytes old) in
+    (empty, subst (λ l. Begins (in_order l) (in_order (receives 0 bytes (receives 0 held old)))) (sym now) (subst (λ l. Begins (in_order (receives 0 (take count (held ++ bytes)) old)) (in_order l)) all (begins_part 0 count (held ++ bytes) old)))
 
 pub prints : (bytes : List ℕ) (before after : WorldState) (old new : StreamsView) (held : List ℕ) (result : Result (Unit {0}) StreamFault) → old.held ≡ held → new.main ≡ old.main → SameOpen before after → PrintsOrHolds 0 held bytes before result new.held after →
     Prints bytes before old result after new
@@ -260,7 +262,7 @@ finishes before middle later after old new main held first second result answer 
       grows = subst (λ (l : List Event). Grows before record after { log = l }) adds (Grows-then flush.grows (Grows-then flush1.grows (grows_on (closing main answer) later after (closed_it ∙ closing_is main answer later.log) same_failure)));
       ends = record { written = written; writes = only; first = is_ok first; second = is_ok second; answer = answer; adds = refl; flushed = both_ok first second; failed = one_failed first second };
       outputs = all_brought first second (openings log) (openings (closed_main old.main answer last)) old.held flush.count flush.all gains;
-      partly = (flush.count, flush.within, gains);
+      partly = subst (λ l. Begins (in_order l) (in_order (receives 0 old.held (openings log)))) (sym gains) (begins_part 0 flush.count old.held (openings log));
       no_failure = subst (λ (m : Option ℕ). OnOk (result_and first second) (m ≡ before.first_failure)) (sym same_failure) (no_failure_after first second before.first_failure middle.first_failure later.first_failure flush.no_failure flush1.no_failure);
       failure = subst (λ (m : Option ℕ). OnErr (result_and first second) (is_some m ≡ true)) (sym same_failure) (some_failure_after first second middle.first_failure later.first_failure flush.failure flush1.failure flush1.grows.kept);
     } in

@@ -6,8 +6,8 @@ use Rattle.awk_streams.specs.declared.fault.StreamFault.{StreamFault}
 use Rattle.awk_streams.specs.WorldState.{WorldState}
 use Rattle.awk_streams.specs.Oracle.{Oracle, IsConsistent, how_many, opens_input}
 use Rattle.awk_streams.specs.Log.{Event}
-use Rattle.awk_streams.specs.Openings.{StandardOutput, StandardError, Opening, openings, outputs_of, Begins}
-use Rattle.awk_streams.specs.Streams.{InputView, AreOpen, AreSound, IsSoundMain, Grows, IsMainRest}
+use Rattle.awk_streams.specs.Openings.{StandardOutput, StandardError, Opening, in_order, Begins}
+use Rattle.awk_streams.specs.Streams.{InputView, AreOpen, AreSound, IsSoundMain, Grows, IsMainRest, printed_openings}
 use Rattle.awk_variables.specs.Variables.{value_of, initial_value}
 use Rattle.awk_meaning.specs.declared.halt.Halt.{Halt}
 use Rattle.awk_meaning.specs.declared.halt.Halt.TheVariants as halt
@@ -41,19 +41,19 @@ stage_of log main = record { log = log; main = number_of main }
 abbrev pub standard_openings : List Effect → List (ℕ × Opening)
 standard_openings effects = (1, record { output = StandardError; bytes = printed_to StandardError effects }) ∷ (0, record { output = StandardOutput; bytes = printed_to StandardOutput effects }) ∷ []
 
--- the code's state and world stand for the state s after these effects, whose requests were met in turn
+-- the code's state and world stand for the state s after these effects, whose requests were met in turn; what they print is received or held back
 pub record StateRelation (oracle : Oracle) (m : Interpreter) (k : WorldState) (s : State) (past : List Effect) : Type 0 where
   pub clear : k.first_failure ≡ None
   pub outside : s.outside ≡ oracle
   pub inputs : (kind : InputKind) (name : List ℕ) → s.openings kind name ≡ how_many (opens_input kind name) k.log
   pub main : IsMainRest oracle k.log m.streams.main s.main
   pub holds : OwnRelation m s
-  pub outputs : openings k.log ≡ standard_openings past
+  pub outputs : printed_openings k m.streams ≡ standard_openings past
   pub turn : MeetsAll oracle (requests_after [] past) first_stage (stage_of k.log m.streams.main)
 
--- a part that a failure ended: the outputs begin with what these effects print, and the world's first failure stands so
-pub record FailureRelation (stands : Type 0) (k : WorldState) (effects : List Effect) : Type 0 where
-  pub begins : Begins (outputs_of k.log) (outputs_after effects)
+-- a part that a failure ended: the outputs, with what is held back, begin with what these effects print, and the world's first failure stands so
+pub record FailureRelation (stands : Type 0) (m : Interpreter) (k : WorldState) (effects : List Effect) : Type 0 where
+  pub begins : Begins (in_order (printed_openings k m.streams)) (outputs_after effects)
   pub failure : stands
 
 -- the world's first failure stands where its log ended
@@ -63,8 +63,8 @@ FailedLast k = k.first_failure ≡ Some (length k.log)
 -- what a part came to: a failed write was the world's first failure, and where memory was refused, by the world or not, it had none before;
 -- else the result is the meaning's, and the code's state stands for the meaning's
 abbrev pub ResultRelationBy : {A : Type 0} → Oracle → Interpreter → WorldState → Sort → Out A → List Effect → Type 0
-ResultRelationBy oracle m k WantOfMemory o past = FailureRelation ((k.first_failure ≡ None) ⊎ FailedLast k) k (past ++ o.effects)
-ResultRelationBy oracle m k FailedWrite o past = FailureRelation (FailedLast k) k (past ++ o.effects)
+ResultRelationBy oracle m k WantOfMemory o past = FailureRelation ((k.first_failure ≡ None) ⊎ FailedLast k) m k (past ++ o.effects)
+ResultRelationBy oracle m k FailedWrite o past = FailureRelation (FailedLast k) m k (past ++ o.effects)
 ResultRelationBy oracle m k (OfLanguage reason) o past = (o.result ≡ Err reason) × StateRelation oracle m k o.state (past ++ o.effects)
 
 abbrev pub ResultRelation : {A : Type 0} → Oracle → Interpreter → WorldState → Result A Halt → Out A → List Effect → Type 0
@@ -149,4 +149,5 @@ pub record IsStart (operands : List (List ℕ)) (limit : ℕ) (m : Interpreter) 
   pub next : m.arguments.next ≡ pos 1
   pub input_seen : m.arguments.input_seen ≡ false
   pub main : m.streams.main ≡ None
+  pub held : m.streams.held ≡ []
   pub steps : m.steps ≡ limit

@@ -14,7 +14,7 @@ use Rattle.awk_record.specs.Buffer.{Pending}
 use Rattle.awk_world.specs.definitions.Oracle.{Oracle, Source, IsConsistent, one_if, how_many, opens_input, opens_output, closes_command, runs, same_input, AnInput, standing}
 use Rattle.awk_world.specs.definitions.Orderly.{IsReadable, IsInOrder}
 use Rattle.awk_world.specs.definitions.Writes.{OnlyWritesTo, flushed_if}
-use Rattle.awk_world.specs.definitions.Openings.{Opening, openings, receives}
+use Rattle.awk_world.specs.definitions.Openings.{Opening, openings, in_order, outputs_of, receives, Begins}
 pub use Rattle.awk_world.specs.definitions.Grows.{Grows}
 use Rattle.awk_streams.specs.definitions.Inputs.{ReadsAsNeeded, Rest}
 pub use Rattle.awk_world.specs.definitions.Oracle.{SameCounts}
@@ -150,7 +150,7 @@ pub record Prints (bytes : List ℕ) (before : WorldState) (old : StreamsView) (
   pub same : new.main ≡ old.main
   pub only : OnlyWritesTo 0 before.log after.log
   pub printed : OnOk result (printed_openings after new ≡ receives 0 bytes (printed_openings before old))
-  pub partly : OnErr result ((new.held ≡ []) × ((n : ℕ) × (n ≤ length (old.held ++ bytes)) × (openings after.log ≡ receives 0 (take n (old.held ++ bytes)) (openings before.log))))
+  pub partly : OnErr result ((new.held ≡ []) × Begins (in_order (printed_openings after new)) (in_order (receives 0 bytes (printed_openings before old))))
   pub counts : SameCounts before.log after.log
   pub rest : (a : Oracle) (r : Option Source) → IsMainRest a before.log old.main r → IsMainRest a after.log new.main r
   pub no_failure : OnOk result (after.first_failure ≡ before.first_failure)
@@ -188,6 +188,6 @@ pub record Finishes (before : WorldState) (old : StreamsView) (result : Result (
   pub grows : Grows before after
   pub ends : EndsLog old.main result before.log after.log
   pub outputs : OnOk result (openings after.log ≡ printed_openings before old)
-  pub partly : (n : ℕ) × (n ≤ length old.held) × (openings after.log ≡ receives 0 (take n old.held) (openings before.log))
+  pub partly : Begins (outputs_of after.log) (in_order (printed_openings before old))
   pub no_failure : OnOk result (after.first_failure ≡ before.first_failure)
   pub failure : OnErr result (is_some after.first_failure ≡ true)
