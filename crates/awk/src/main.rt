@@ -23,7 +23,7 @@ fn serve<R: Env + Files<File = File> + AllocGlobal>(
     let alloc = rt.alloc();
     let words = given_words(rt, alloc)?;
     let environ = given_environment(rt, alloc)?;
-    let mut world = SysWorld::new(alloc, rt, stdin, stdout, stderr)?;
+    let mut world = SysWorld::new(alloc, rt, stdin, stdout, stderr);
     Ok(main_words(alloc, &words, environ, &mut world))
 }
 

@@ -67,8 +67,8 @@ failure_longer : {failure : Type 0} {m : Interpreter} {k : WorldState} (past xs 
 failure_longer {m = m} {k = k} past xs ys h = record { begins = begins-longer (in_order (printed_openings k m.streams)) past xs ys h.begins; failure = h.failure }
 
 -- want of memory where all is as the meaning has it
-unfailed : {failure : Type 0} (oracle : Oracle) (m : Interpreter) (k : WorldState) (s : State) (past more : List Effect) → StateRelation oracle m k s past → ((k.first_failure ≡ None) → failure) → FailureRelation failure m k (past ++ more)
-unfailed oracle m k s past more stands failure = record { begins = begins_still (printed_openings k m.streams) past more stands.outputs; failure = failure stands.clear }
+unfailed : {failure : Type 0} (oracle : Oracle) (m new : Interpreter) (k : WorldState) (s : State) (past more : List Effect) → new.streams ≡ m.streams → StateRelation oracle m k s past → ((k.first_failure ≡ None) → failure) → FailureRelation failure new k (past ++ more)
+unfailed oracle m new k s past more same stands failure = record { begins = begins_still (printed_openings k new.streams) past more (ap (printed_openings k) same ∙ stands.outputs); failure = failure stands.clear }
 
 -- what lies outside the code's own part is the same
 pub record OwnPart (s t : State) : Type 0 where
@@ -129,14 +129,14 @@ memory_logged m k run = record {
   grows = grows_refl k;
   keeps = λ sound. sound;
   keeps_main = λ sound. sound;
-  means = λ oracle s past consistent stands. unfailed oracle m k s past (run s).effects stands (λ none. inl none);
+  means = λ oracle s past consistent stands. unfailed oracle m m k s past (run s).effects refl stands (λ none. inl none);
 }
 
 stands_still : {oracle : Oracle} {m : Interpreter} {k : WorldState} {s : State} {past : List Effect} → StateRelation oracle m k s past → StateRelation oracle m k s (past ++ [])
 stands_still {oracle = oracle} {m = m} {k = k} {s = s} {past = past} h = subst (λ (l : List Effect). StateRelation oracle m k s l) (sym (append-nil past)) h
 
 lifted_by : {A : Type 0} (oracle : Oracle) (m : Interpreter) (k : WorldState) (h : Sort) (r : Result A Halt) (s : State) (past : List Effect) → YieldsBy h r → StateRelation oracle m k s past → ResultRelationBy oracle m k h (record { result = r; state = s; effects = [] }) past
-lifted_by oracle m k WantOfMemory r s past e stands = unfailed oracle m k s past [] stands (λ none. inl none)
+lifted_by oracle m k WantOfMemory r s past e stands = unfailed oracle m m k s past [] refl stands (λ none. inl none)
 lifted_by oracle m k FailedWrite r s past e stands = absurd e
 lifted_by oracle m k (OfLanguage reason) r s past e stands = (e, stands_still stands)
 
@@ -202,7 +202,7 @@ pub memory_changes : {A : Type 0} (run : Run A) {old new : Interpreter} → new.
 memory_changes run same low = record {
   steps = low;
   streams = same;
-  means = λ k. record { grows = grows_refl k; keeps = sound_same k _ _ same; keeps_main = main_same k _ _ same; means = λ oracle s past consistent stands. unfailed oracle _ k s past (run s).effects stands (λ none. inl none) };
+  means = λ k. record { grows = grows_refl k; keeps = sound_same k _ _ same; keeps_main = main_same k _ _ same; means = λ oracle s past consistent stands. unfailed oracle _ _ k s past (run s).effects same stands (λ none. inl none) };
 }
 
 -- a state that differs in the code's own part alone stands after the same effects

@@ -5,10 +5,10 @@ use Rattle.std.proofs.lemmas.List.{take-append-drop, length-take-le}
 use Rattle.awk_streams.specs.declared.fault.StreamFault.{StreamFault}
 use Rattle.awk_streams.specs.Log.{Event, OpenedInput, OpenedOutput, Read, Ended, Broke, Wrote, Flushed, Closed, Ran}
 use Rattle.awk_streams.specs.Oracle.{Oracle, IsConsistent}
-use Rattle.awk_streams.specs.Writes.{with_events, flushed_if}
-use Rattle.awk_streams.specs.Openings.{openings, in_order, outputs_of, is_flushed, AreFlushed, Begins, AreBrought}
+use Rattle.awk_streams.specs.Writes.{with_events, flushed_if, Writes}
+use Rattle.awk_streams.specs.Openings.{Opening, openings, in_order, outputs_of, is_flushed, AreFlushed, Begins, AreBrought}
 use Rattle.awk_streams.specs.Outputs.{IsOutputFault}
-use Rattle.awk_streams.specs.Streams.{InputView, StreamsView, Grows, closed_main, EndsLog, Finishes}
+use Rattle.awk_streams.specs.Streams.{InputView, StreamsView, Grows, closed_main, printed_openings, EndsLog, Finishes}
 use Rattle.awk_streams.specs.WorldState.{WorldState}
 use Rattle.awk_meaning.specs.declared.halt.Halt.{Halt}
 use Rattle.awk_meaning.specs.declared.halt.Halt.TheVariants as halt
@@ -22,10 +22,10 @@ use Rattle.awk_meaning.specs.Order.{AreBetween, GoesBetween, MeetsAll, first_sta
 use Rattle.awk_meaning.specs.Failure.{AreOfTheEnd, FailsAs, FailsAt}
 use Rattle.awk_meaning.specs.Faults.{stream_fault}
 use Rattle.awk_meaning.specs.Results.{Sort, WantOfMemory, FailedWrite, OfLanguage, sort_of}
-use Rattle.awk_meaning.proofs.Requests.{with_events-append, meets_append}
+use Rattle.awk_meaning.proofs.Requests.{with_events-append, between-append, meets_append}
 use Rattle.awk_interpreter.specs.declared.interpreter.Interpreter.{Interpreter}
 use Rattle.awk_interpreter.specs.Simulation.{number_of, stage_of, standard_openings, FailedLast, ResultRelation, ResultRelationBy}
-use Rattle.awk_interpreter.proofs.OrderLemmas.{begins_same}
+use Rattle.awk_interpreter.proofs.OrderLemmas.{begins-then, writes_between}
 use Rattle.awk_run.specs.support.Verdict.{outcome_after}
 
 -- a meaning, read off what a run of the definitions comes to
@@ -33,20 +33,20 @@ abbrev pub read_off : Out (Unit {0}) → Meaning
 read_off o = record { outcome = outcome_of o.result; outputs = outputs_after o.effects; requests = requests_after [] o.effects }
 
 -- the body of a run came to what the meaning has
-pub record IsMeant (oracle : Oracle) (k : WorldState) (main : Option InputView) (o : Out (Unit {0})) (result : Outcome) : Type 0 where
+pub record IsMeant (oracle : Oracle) (k : WorldState) (streams : StreamsView) (o : Out (Unit {0})) (result : Outcome) : Type 0 where
   pub clear : k.first_failure ≡ None
   pub outcome : outcome_of o.result ≡ result
-  pub outputs : openings k.log ≡ standard_openings o.effects
-  pub turn : MeetsAll oracle (requests_after [] o.effects) first_stage (stage_of k.log main)
+  pub outputs : printed_openings k streams ≡ standard_openings o.effects
+  pub turn : MeetsAll oracle (requests_after [] o.effects) first_stage (stage_of k.log streams.main)
 
 -- the body was ended by want of memory or a failed write
-pub record IsCut (k : WorldState) (r : Result (Unit {0}) Halt) (o : Out (Unit {0})) : Type 0 where
-  pub begins : Begins (outputs_of k.log) (outputs_after o.effects)
+pub record IsCut (k : WorldState) (streams : StreamsView) (r : Result (Unit {0}) Halt) (o : Out (Unit {0})) : Type 0 where
+  pub begins : Begins (in_order (printed_openings k streams)) (outputs_after o.effects)
   pub failure : (k.first_failure ≡ None) ⊎ FailedLast k
   pub cause : (r ≡ Err (halt.Fault faults.OutOfMemory)) ⊎ ((r ≡ Err (halt.Fault faults.WriteFailed)) × FailedLast k)
 
-abbrev pub Came : Oracle → WorldState → Option InputView → Result (Unit {0}) Halt → Out (Unit {0}) → Type 0
-Came oracle k main r o = IsMeant oracle k main o (outcome_after r (Ok tt)) ⊎ IsCut k r o
+abbrev pub Came : Oracle → WorldState → StreamsView → Result (Unit {0}) Halt → Out (Unit {0}) → Type 0
+Came oracle k streams r o = IsMeant oracle k streams o (outcome_after r (Ok tt)) ⊎ IsCut k streams r o
 
 -- the outcome of a halt, by what the language knows of it
 outcome_by : (h : Halt) (reason : Halt) → sort_of h ≡ OfLanguage reason → outcome_of (Err reason) ≡ outcome_after (Err h) (Ok tt)
@@ -67,12 +67,12 @@ write_sort (halt.Fault faults.WriteFailed) e = refl
 write_sort (halt.Fault f) e = absurd (cc)
 write_sort halt.OutOfSteps e = absurd (cc)
 
-came_by : (oracle : Oracle) (m : Interpreter) (k : WorldState) (h : Halt) (s : Sort) (o : Out (Unit {0})) → sort_of h ≡ s → ResultRelationBy oracle m k s o [] → Came oracle k m.streams.main (Err h) o
+came_by : (oracle : Oracle) (m : Interpreter) (k : WorldState) (h : Halt) (s : Sort) (o : Out (Unit {0})) → sort_of h ≡ s → ResultRelationBy oracle m k s o [] → Came oracle k m.streams (Err h) o
 came_by oracle m k h WantOfMemory o e comes = inr record { begins = comes.begins; failure = comes.failure; cause = inl (ap (λ (x : Halt). Err x) (memory_sort h e)) }
 came_by oracle m k h FailedWrite o e comes = inr record { begins = comes.begins; failure = inr comes.failure; cause = inr (ap (λ (x : Halt). Err x) (write_sort h e), comes.failure) }
 came_by oracle m k h (OfLanguage reason) o e comes = inl record { clear = comes.1.clear; outcome = ap outcome_of comes.0 ∙ outcome_by h reason e; outputs = comes.1.outputs; turn = comes.1.turn }
 
-pub came : (oracle : Oracle) (m : Interpreter) (k : WorldState) (r : Result (Unit {0}) Halt) (o : Out (Unit {0})) → ResultRelation oracle m k r o [] → Came oracle k m.streams.main r o
+pub came : (oracle : Oracle) (m : Interpreter) (k : WorldState) (r : Result (Unit {0}) Halt) (o : Out (Unit {0})) → ResultRelation oracle m k r o [] → Came oracle k m.streams r o
 came oracle m k (Ok u) o comes = inl record { clear = comes.1.clear; outcome = ap outcome_of comes.0; outputs = comes.1.outputs; turn = comes.1.turn }
 came oracle m k (Err h) o comes = came_by oracle m k h (sort_of h) o refl comes
 
@@ -117,6 +117,30 @@ end_ends true true (Some v) answer = tt
 end_ends true false (Some v) answer = tt
 end_ends false true (Some v) answer = tt
 end_ends false false (Some v) answer = tt
+
+-- all events of the end: what is held back is written first
+
+abbrev end_events : (main : Option InputView) (f : Result (Unit {0}) StreamFault) (log log' : List Event) → EndsLog main f log log' → List Event
+end_events main f log log' ends = ends.writes.1.events ++ end_flushed ends.first ends.second (end_closing main ends.answer)
+
+end_is : (main : Option InputView) (f : Result (Unit {0}) StreamFault) (log log' : List Event) (ends : EndsLog main f log log') → log' ≡ with_events (end_events main f log log' ends) log
+end_is main f log log' ends =
+    let es : List Event = end_flushed ends.first ends.second (end_closing main ends.answer) in
+    ends.adds ∙ (end_log ends.first ends.second main ends.answer ends.written ∙ (ap (with_events es) ends.writes.1.log ∙ sym (with_events-append ends.writes.1.events es log)))
+
+all_between : (main : Option InputView) (f : Result (Unit {0}) StreamFault) (log log' : List Event) (ends : EndsLog main f log log') → AreBetween (number_of main) (end_events main f log log' ends) None
+all_between main f log log' ends =
+    between-append (number_of main) (number_of main) None ends.writes.1.events (end_flushed ends.first ends.second (end_closing main ends.answer)) (writes_between 0 (number_of main) ends.writes.0 ends.writes.1.events ends.writes.1.each)
+    (end_between ends.first ends.second main ends.answer)
+
+writes_end : (id : ℕ) (bytes : List ℕ) (es fs : List Event) → Writes id bytes es → AreOfTheEnd fs → AreOfTheEnd (es ++ fs)
+writes_end id bytes [] fs h end = end
+writes_end id bytes (Wrote i bs ∷ es) fs h end = writes_end id h.1.0 es fs h.1.2 end
+writes_end id bytes (e ∷ es) fs h end = absurd h
+
+all_end : (main : Option InputView) (f : Result (Unit {0}) StreamFault) (log log' : List Event) (ends : EndsLog main f log log') → AreOfTheEnd (end_events main f log log' ends)
+all_end main f log log' ends =
+    writes_end 0 ends.writes.0 ends.writes.1.events (end_flushed ends.first ends.second (end_closing main ends.answer)) ends.writes.1.each (end_ends ends.first ends.second main ends.answer)
 
 -- a part of the end
 
@@ -174,26 +198,26 @@ flushed_0 (Some v) answer log = either_true _
 abbrev EndOf : WorldState → WorldState → StreamsView → Result (Unit {0}) StreamFault → Type 0
 EndOf k1 k2 streams f = (last : StreamsView) × Finishes k1 streams f k2 last
 
-all_flushed : (main : Option InputView) (log log' : List Event) → EndsLog main (Ok tt) log log' → (answer : ℤ) × (log' ≡ closed_main main answer (Flushed 1 ∷ Flushed 0 ∷ log))
+all_flushed : (main : Option InputView) (log log' : List Event) (ends : EndsLog main (Ok tt) log log') → log' ≡ closed_main main ends.answer (Flushed 1 ∷ Flushed 0 ∷ ends.written)
 all_flushed main log log' ends =
     let both = both_true ends.first ends.second ends.flushed in
-    (ends.answer, ends.adds ∙ (ap (λ b. closed_main main ends.answer (flushed_if ends.second 1 (flushed_if b 0 log))) both.0 ∙ ap (λ b. closed_main main ends.answer (flushed_if b 1 (Flushed 0 ∷ log))) both.1))
+    ends.adds ∙ (ap (λ b. closed_main main ends.answer (flushed_if ends.second 1 (flushed_if b 0 ends.written))) both.0 ∙ ap (λ b. closed_main main ends.answer (flushed_if b 1 (Flushed 0 ∷ ends.written))) both.1)
 
-brought : (k1 k2 : WorldState) (streams last : StreamsView) (o : Out (Unit {0})) → Finishes k1 streams (Ok tt) k2 last → openings k1.log ≡ standard_openings o.effects → AreBrought (outputs_after o.effects) k2.log
+brought : (k1 k2 : WorldState) (streams last : StreamsView) (o : Out (Unit {0})) → Finishes k1 streams (Ok tt) k2 last → printed_openings k1 streams ≡ standard_openings o.effects → AreBrought (outputs_after o.effects) k2.log
 brought k1 k2 streams last o told outputs =
     let all = all_flushed streams.main k1.log k2.log told.ends in
     let is : openings k2.log ≡ standard_openings o.effects = told.outputs ∙ outputs in
     record {
       received = ap in_order is;
-      flushed = subst (λ os. AreFlushed os k2.log) (sym is) (ap (is_flushed 1) all.1 ∙ flushed_1 streams.main all.0 (Flushed 0 ∷ k1.log), (ap (is_flushed 0) all.1 ∙ flushed_0 streams.main all.0 k1.log, tt));
+      flushed = subst (λ os. AreFlushed os k2.log) (sym is) (ap (is_flushed 1) all ∙ flushed_1 streams.main told.ends.answer (Flushed 0 ∷ told.ends.written), (ap (is_flushed 0) all ∙ flushed_0 streams.main told.ends.answer told.ends.written, tt));
     }
 
-pub in_turn : (oracle : Oracle) (k1 k2 : WorldState) (streams last : StreamsView) (r : Result (Unit {0}) Halt) (o : Out (Unit {0})) → Finishes k1 streams (Ok tt) k2 last → IsMeant oracle k1 streams.main o (outcome_after r (Ok tt)) → IsInTurn oracle (read_off o) k2.log
+pub in_turn : (oracle : Oracle) (k1 k2 : WorldState) (streams last : StreamsView) (r : Result (Unit {0}) Halt) (o : Out (Unit {0})) → Finishes k1 streams (Ok tt) k2 last → IsMeant oracle k1 streams o (outcome_after r (Ok tt)) → IsInTurn oracle (read_off o) k2.log
 in_turn oracle k1 k2 streams last r o told meant =
     let ends = told.ends in
     record {
       main = None;
-      meets = meets_on oracle (requests_after [] o.effects) k1.log k2.log streams.main None (end_flushed ends.first ends.second (end_closing streams.main ends.answer)) meant.turn (ends.adds ∙ end_log ends.first ends.second streams.main ends.answer k1.log) (end_between ends.first ends.second streams.main ends.answer);
+      meets = meets_on oracle (requests_after [] o.effects) k1.log k2.log streams.main None (end_events streams.main (Ok tt) k1.log k2.log ends) meant.turn (end_is streams.main (Ok tt) k1.log k2.log ends) (all_between streams.main (Ok tt) k1.log k2.log ends);
       brought = brought k1 k2 streams last o told meant.outputs;
     }
 
@@ -238,12 +262,12 @@ bounds k1 k2 n grows (inr last) some =
     let long : length k2.log ≡ length grows.events + length k1.log = ap length grows.log ∙ with_events-length grows.events k1.log in
     (omega (arith, at), omega (arith, at, long))
 
-stood : (oracle : Oracle) (k1 : WorldState) (main : Option InputView) (r : Result (Unit {0}) Halt) (o : Out (Unit {0})) → Came oracle k1 main r o → (k1.first_failure ≡ None) ⊎ FailedLast k1
-stood oracle k1 main r o (inl meant) = inl meant.clear
-stood oracle k1 main r o (inr cut) = cut.failure
+stood : (oracle : Oracle) (k1 : WorldState) (streams : StreamsView) (r : Result (Unit {0}) Halt) (o : Out (Unit {0})) → Came oracle k1 streams r o → (k1.first_failure ≡ None) ⊎ FailedLast k1
+stood oracle k1 streams r o (inl meant) = inl meant.clear
+stood oracle k1 streams r o (inr cut) = cut.failure
 
 cause : (oracle : Oracle) (k1 k2 : WorldState) (streams last : StreamsView) (r : Result (Unit {0}) Halt) (f : Result (Unit {0}) StreamFault) (o : Out (Unit {0})) (n m : ℕ) (es : List Event) → Finishes k1 streams f k2 last → IfErr f IsOutputFault → k2.first_failure ≡ Some n →
-    AreBetween (number_of streams.main) es None → Came oracle k1 streams.main r o → FailsAs oracle (read_off o) (with_events (take m es) k1.log) (outcome_after r f)
+    AreBetween (number_of streams.main) es None → Came oracle k1 streams r o → FailsAs oracle (read_off o) (with_events (take m es) k1.log) (outcome_after r f)
 cause oracle k1 k2 streams last r f o n m es told fault some between (inl meant) =
     let part = between_take (number_of streams.main) es None m between in
     fails_by oracle (read_off o) (with_events (take m es) k1.log) r f n told fault meant.clear some meant.outcome part.0
@@ -254,14 +278,14 @@ cause oracle k1 k2 streams last r f o n m es told fault some between (inr cut) =
 ]
 
 pub fails_at : (out_by : Oracle → Out (Unit {0})) (k1 k2 : WorldState) (streams last : StreamsView) (r : Result (Unit {0}) Halt) (f : Result (Unit {0}) StreamFault) (n : ℕ) → Finishes k1 streams f k2 last → IfErr f IsOutputFault →
-    ((oracle : Oracle) × IsConsistent oracle k2.log) → ((oracle : Oracle) → IsConsistent oracle k2.log → Came oracle k1 streams.main r (out_by oracle)) → k2.first_failure ≡ Some n →
+    ((oracle : Oracle) × IsConsistent oracle k2.log) → ((oracle : Oracle) → IsConsistent oracle k2.log → Came oracle k1 streams r (out_by oracle)) → k2.first_failure ≡ Some n →
     FailsAt (λ oracle. read_off (out_by oracle)) n k2.log (outcome_after r f)
 fails_at out_by k1 k2 streams last r f n told fault some_oracle body some =
     let ends = told.ends in
-    let es : List Event = end_flushed ends.first ends.second (end_closing streams.main ends.answer) in
-    let is : k2.log ≡ with_events es k1.log = ends.adds ∙ end_log ends.first ends.second streams.main ends.answer k1.log in
-    let between : AreBetween (number_of streams.main) es None = end_between ends.first ends.second streams.main ends.answer in
-    let at = bounds k1 k2 n told.grows (stood some_oracle.0 k1 streams.main r (out_by some_oracle.0) (body some_oracle.0 some_oracle.1)) some in
+    let es : List Event = end_events streams.main f k1.log k2.log ends in
+    let is : k2.log ≡ with_events es k1.log = end_is streams.main f k1.log k2.log ends in
+    let between : AreBetween (number_of streams.main) es None = all_between streams.main f k1.log k2.log ends in
+    let at = bounds k1 k2 n told.grows (stood some_oracle.0 k1 streams r (out_by some_oracle.0) (body some_oracle.0 some_oracle.1)) some in
     let long : length k2.log ≡ length es + length k1.log = ap length is ∙ with_events-length es k1.log in
     let m : ℕ = n - length k1.log in
     let within : m ≤ length es = omega (arith, at.0, at.1, long) in
@@ -273,10 +297,10 @@ fails_at out_by k1 k2 streams last r f n told fault some_oracle body some =
           let some_of : length (take m es) ≡ m = length-take-le m es within in
           let all = with_events-length (take m es) k1.log in
           omega (arith, all, some_of, at.0);
-      ends = end_drop es m (end_ends ends.first ends.second streams.main ends.answer);
+      ends = end_drop es m (all_end streams.main f k1.log k2.log ends);
       fails = λ oracle consistent. cause oracle k1 k2 streams last r f (out_by oracle) n m es told fault some between (body oracle consistent);
     }
 
-pub begins_at_end : (oracle : Oracle) (k1 k2 : WorldState) (streams last : StreamsView) (r : Result (Unit {0}) Halt) (f : Result (Unit {0}) StreamFault) (o : Out (Unit {0})) → Finishes k1 streams f k2 last → Came oracle k1 streams.main r o → Begins (outputs_of k2.log) (outputs_after o.effects)
-begins_at_end oracle k1 k2 streams last r f o told (inl meant) = begins_same k2.log o.effects (told.outputs ∙ meant.outputs)
-begins_at_end oracle k1 k2 streams last r f o told (inr cut) = subst (λ os. Begins os (outputs_after o.effects)) (ap in_order (sym told.outputs)) cut.begins
+pub begins_at_end : (oracle : Oracle) (k1 k2 : WorldState) (streams last : StreamsView) (r : Result (Unit {0}) Halt) (f : Result (Unit {0}) StreamFault) (o : Out (Unit {0})) → Finishes k1 streams f k2 last → Came oracle k1 streams r o → Begins (outputs_of k2.log) (outputs_after o.effects)
+begins_at_end oracle k1 k2 streams last r f o told (inl meant) = subst (λ (os : List (ℕ × Opening)). Begins (outputs_of k2.log) (in_order os)) meant.outputs told.partly
+begins_at_end oracle k1 k2 streams last r f o told (inr cut) = begins-then (outputs_of k2.log) (in_order (printed_openings k1 streams)) (outputs_after o.effects) told.partly cut.begins

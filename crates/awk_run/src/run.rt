@@ -18,7 +18,7 @@ use awk_lex::lexer::tokens;
 use awk_lex::refusal::Refusal;
 use awk_meaning::{Fault, Halt, Outcome};
 use awk_resolve::name_refusal;
-use awk_streams::{StreamFault, World, some_oracle_is_consistent};
+use awk_streams::{StreamFault, Streams, World, some_oracle_is_consistent};
 use awk_syntax::parse::parse;
 use awk_tree::tree::{Item, Tree};
 use std::alloc::Global;
@@ -78,6 +78,7 @@ fn run_program<W: World>(
 {
     some_oracle_is_consistent();
     let Ok(mut interpreter) = Interpreter::new(alloc, &start.operands, limit) else {
+        let _ = Streams::new(alloc).finish(world);
         return Outcome::Fault(Fault::OutOfMemory);
     };
     let ended = assign_and_run(items, &start.pre, &mut interpreter, world);

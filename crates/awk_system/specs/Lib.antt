@@ -1,4 +1,3 @@
 pub mod definitions
 pub mod support
-pub use Rattle.awk_system.specs.definitions.HeldOutput
 pub use Rattle.awk_system.specs.definitions.Opened

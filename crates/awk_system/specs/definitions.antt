@@ -1,3 +1,2 @@
 -- What a reader has to believe.
-pub mod HeldOutput
 pub mod Opened

@@ -1,8 +1,8 @@
-// Reads and writes of the system, begun again where a signal interrupts them, and what their errors are to a world.
+// Reads, writes and flushes of the system, begun again where a signal interrupts them, and what their errors are to a world.
 
 ghost use Rattle.std.specs.Prelude.{◌≡◌, ◌≤◌, ◌↔◌, IfOk, length};
 ghost use Rattle.std.specs.IoError.{error_kind};
-ghost use Rattle.std.specs.Io.KnownBytes.{ReadConsumes, WriteAppends};
+ghost use Rattle.std.specs.Io.KnownBytes.{Keeps, ReadConsumes, WriteAppends};
 
 use awk_world::WorldFault;
 use std::io::{self, ErrorKind, Read, Write};
@@ -43,6 +43,23 @@ pub fn write_to<W: Write>(writer: &mut W, bytes: &[u8]) -> Result<usize, WorldFa
     for _ in 0..u64::MAX {
         match writer.write(bytes) {
             Ok(count) => return Ok(count),
+            Err(error) => {
+                if error.kind() != ErrorKind::Interrupted {
+                    return Err(fault_of(error));
+                }
+            }
+        }
+    }
+    Err(WorldFault::Failed)
+}
+
+/// One flush, begun again where a signal interrupts it.
+pub fn flush_of<W: Write>(writer: &mut W) -> Result<(), WorldFault>
+    ensures bytes { Keeps (W.contents writer.old) (W.contents writer.new) }
+{
+    for _ in 0..u64::MAX {
+        match writer.flush() {
+            Ok(()) => return Ok(()),
             Err(error) => {
                 if error.kind() != ErrorKind::Interrupted {
                     return Err(fault_of(error));

@@ -2,7 +2,6 @@
 #![tactic(auto)]
 
 mod calls;
-mod held_output;
 mod system_world;
 
 pub use system_world::SysWorld;

@@ -1,21 +1,18 @@
 // The system as the outside of a run.
-ghost use Rattle.std.specs.Prelude.{◌≡◌, ◌≤◌, ◌⊎◌, ℕ, Ok, Err, [], None, Some, IfOk, OnOk, OnErr, IsTrue, false, is_some, length, nat_lt, take};
+ghost use Rattle.std.specs.Prelude.{◌≡◌, ◌≤◌, ◌⊎◌, ℕ, Ok, Err, [], None, Some, IfOk, OnErr, IsTrue, false, is_some, length, nat_lt, if◌then◌else◌};
 ghost use Rattle.std.specs.Ordering.{nat_cmp};
 ghost use Rattle.std.specs.BTreeMap.{get};
-ghost use Rattle.std.specs.Io.Buffered.{reader_remaining};
-ghost use Rattle.std.specs.Io.KnownBytes.{Keeps, Appends, ReadConsumes, WriteAppends};
+ghost use Rattle.std.specs.Io.KnownBytes.{Keeps, ReadConsumes, WriteAppends};
 ghost use Rattle.awk_world.specs.WorldState.{IsFresh, Opens, SameOpen};
-ghost use Rattle.awk_system.specs.definitions.HeldOutput.{held_contents, IsEmptyHeld};
 ghost use Rattle.awk_system.specs.definitions.Opened.{is_open_in};
 ghost use Rattle.awk_system.specs.support.StandardOutputs.{standard_outputs_open};
 
-use crate::calls::{fault_of, read_from, write_to};
-use crate::held_output::HeldOutput;
-use awk_world::{InputKind, Mode, OutputKind, World, WorldFault};
+use crate::calls::{fault_of, flush_of, read_from, write_to};
+use awk_world::{InputKind, Mode, OUTPUT_BUFFER_SIZE, OutputKind, World, WorldFault};
 use std::alloc::Global;
 use std::collections::BTreeMap;
 use std::fs::{File, Files, OpenOptions};
-use std::io::{self, BufReader, IsTerminal, Read, Write};
+use std::io::{IsTerminal, Read, Write};
 
 const STANDARD_OUTPUT: u64 = 0;
 
@@ -26,9 +23,6 @@ const FIRST_OPENED: u64 = 2;
 
 /// The number that a shell answers for a command that can't be started.
 const NOT_STARTED: i128 = 127;
-
-/// The most bytes of an input that are read ahead.
-const AHEAD: usize = 65_536;
 
 /// The name of a file that is standard input.
 const STANDARD_INPUT_NAME: &[u8] = b"/dev/stdin";
@@ -42,9 +36,9 @@ pub enum Opened {
 }
 
 /// The system as the outside of a run: standard input and files can be opened, and no command is
-/// started. Standard output is held back until it is flushed, 65,536 bytes are held, or something
-/// is written to standard error; where it is a terminal, also until standard input is read, be it
-/// as a file of the name `/dev/stdin`. It is not logged.
+/// started. Each call is one of the system's, begun again where a signal interrupts it: nothing is
+/// held back here, and nothing read ahead. Where standard output is a terminal, the world asks that
+/// what is printed be written at once. It is not logged.
 #[derive(Drop)]
 pub struct SysWorld<
     R: Files<File = File> + Drop,
@@ -54,11 +48,11 @@ pub struct SysWorld<
 > {
     alloc: Global,
     files: R,
-    stdin: BufReader<I>,
-    stdout: HeldOutput<O>,
+    stdin: I,
+    stdout: O,
     stderr: E,
     /// Whether standard output is a terminal.
-    is_watched: bool,
+    is_terminal: bool,
     opened: BTreeMap<u64, Opened>,
     /// The number of the next opening: above those of all that was opened.
     next: u64,
@@ -73,25 +67,25 @@ impl<R: Files<File = File> + Drop, I: Read + Drop, O: Write + Drop, E: Write + D
     E,
 > {
     /// The system as it stands before a run: of its streams the two standard outputs are open.
-    /// Fails only for want of memory.
-    pub fn new(alloc: Global, files: R, stdin: I, stdout: O, stderr: E) -> io::Result<Self>
+    /// Takes no memory.
+    pub fn new(alloc: Global, files: R, stdin: I, stdout: O, stderr: E) -> Self
     where
         O: IsTerminal,
-        ensures open { IfOk result (λ world. (id : ℕ) → is_open_in world.opened id ≡ nat_lt id 2) }
-        ensures input { IfOk result (λ world. Keeps (I.remaining stdin) (reader_remaining I.remaining world.stdin)) }
-        ensures output { IfOk result (λ world. Keeps (O.contents stdout) (held_contents O.contents world.stdout.writer)) }
-        ensures error { IfOk result (λ world. world.stderr ≡ stderr) }
+        ensures open { (id : ℕ) → is_open_in result.opened id ≡ nat_lt id 2 }
+        ensures input { result.stdin ≡ stdin }
+        ensures output { result.stdout ≡ stdout }
+        ensures error { result.stderr ≡ stderr }
     {
-        Ok(SysWorld {
+        SysWorld {
             alloc,
             files,
-            stdin: BufReader::with_capacity(alloc, AHEAD, stdin)?,
-            is_watched: stdout.is_terminal(),
-            stdout: HeldOutput::new(alloc, stdout)?,
+            stdin,
+            is_terminal: stdout.is_terminal(),
+            stdout,
             stderr,
             opened: BTreeMap::new(alloc),
             next: FIRST_OPENED,
-        })
+        }
     }
 
     /// Keeps what was opened, and answers its number. `Failed`: no number is left.
@@ -160,15 +154,10 @@ impl<R: Files<File = File> + Drop, I: Read + Drop, O: Write + Drop, E: Write + D
     fn read(&mut self, id: u64, into: &mut [u8]) -> Result<usize, WorldFault>
         ensures count { IfOk result (λ n. n ≤ length into.old) }
         ensures open { SameOpen (⟦<SysWorld<R, I, O, E> as World>⟧.state self.old) (⟦<SysWorld<R, I, O, E> as World>⟧.state self.new) }
-        ensures standard { get nat_cmp self.old.opened id ≡ Some Opened.StandardInput → ReadConsumes (reader_remaining I.remaining self.old.stdin) (reader_remaining I.remaining self.new.stdin) result into.new }
+        ensures standard { get nat_cmp self.old.opened id ≡ Some Opened.StandardInput → ReadConsumes (I.remaining self.old.stdin) (I.remaining self.new.stdin) result into.new }
     {
         match self.opened.get(&id) {
-            Some(Opened::StandardInput) => {
-                if self.is_watched {
-                    let _ = self.stdout.flush();
-                }
-                read_from(&mut self.stdin, into)
-            }
+            Some(Opened::StandardInput) => read_from(&mut self.stdin, into),
             Some(Opened::Input(file)) => {
                 let mut file: &File = file;
                 read_from(&mut file, into)
@@ -195,15 +184,12 @@ impl<R: Files<File = File> + Drop, I: Read + Drop, O: Write + Drop, E: Write + D
     fn write(&mut self, id: u64, bytes: &[u8]) -> Result<usize, WorldFault>
         ensures count { IfOk result (λ n. n ≤ length bytes.now) }
         ensures open { SameOpen (⟦<SysWorld<R, I, O, E> as World>⟧.state self.old) (⟦<SysWorld<R, I, O, E> as World>⟧.state self.new) }
-        ensures output { id ≡ 0 → IfOk result (λ n. Appends (held_contents O.contents self.old.stdout.writer) (held_contents O.contents self.new.stdout.writer) (take n bytes.now)) }
+        ensures output { id ≡ 0 → WriteAppends (O.contents self.old.stdout) (O.contents self.new.stdout) result bytes.now }
         ensures error { id ≡ 1 → WriteAppends (E.contents self.old.stderr) (E.contents self.new.stderr) result bytes.now }
     {
         match id {
-            STANDARD_OUTPUT => self.stdout.write(bytes),
-            STANDARD_ERROR => {
-                let _ = self.stdout.flush();
-                write_to(&mut self.stderr, bytes)
-            }
+            STANDARD_OUTPUT => write_to(&mut self.stdout, bytes),
+            STANDARD_ERROR => write_to(&mut self.stderr, bytes),
             _ => match self.opened.get(&id) {
                 Some(Opened::Output(file)) => {
                     let mut file: &File = file;
@@ -214,13 +200,24 @@ impl<R: Files<File = File> + Drop, I: Read + Drop, O: Write + Drop, E: Write + D
         }
     }
 
+    fn output_buffer_size(&self) -> usize
+        ensures { result ≡ (if self.now.is_terminal then 0 else 65536) }
+    {
+        if self.is_terminal {
+            0
+        } else {
+            OUTPUT_BUFFER_SIZE
+        }
+    }
+
     fn flush(&mut self, id: u64) -> Result<(), WorldFault>
         ensures open { SameOpen (⟦<SysWorld<R, I, O, E> as World>⟧.state self.old) (⟦<SysWorld<R, I, O, E> as World>⟧.state self.new) }
-        ensures output { id ≡ 0 → OnOk result (Keeps (held_contents O.contents self.old.stdout.writer) (held_contents O.contents self.new.stdout.writer)) }
-        ensures empty { id ≡ 0 → OnOk result (IsEmptyHeld self.new.stdout.writer) }
+        ensures output { Keeps (O.contents self.old.stdout) (O.contents self.new.stdout) }
+        ensures error { Keeps (E.contents self.old.stderr) (E.contents self.new.stderr) }
     {
         match id {
-            STANDARD_OUTPUT => self.stdout.flush(),
+            STANDARD_OUTPUT => flush_of(&mut self.stdout),
+            STANDARD_ERROR => flush_of(&mut self.stderr),
             _ => Ok(()),
         }
     }

@@ -34,7 +34,7 @@ fn standard_input_has_two_names(rt: HostRuntime) -> Result<(), Fail> {
     let screen = Screen {
         bytes: Vec::new(alloc),
     };
-    let mut world = SysWorld::new(alloc, &rt, b"abc".as_slice(), screen, rt.stderr())?;
+    let mut world = SysWorld::new(alloc, &rt, b"abc".as_slice(), screen, rt.stderr());
     let mut into = [0u8; 2];
     let named = world.open_input(InputKind::File, b"/dev/stdin")?;
     assert_eq!(rt; world.read(named, &mut into), Ok(2));
@@ -52,7 +52,7 @@ fn what_the_system_refuses(rt: HostRuntime) -> Result<(), Fail> {
     let screen = Screen {
         bytes: Vec::new(alloc),
     };
-    let mut world = SysWorld::new(alloc, &rt, b"".as_slice(), screen, rt.stderr())?;
+    let mut world = SysWorld::new(alloc, &rt, b"".as_slice(), screen, rt.stderr());
     let refused = Err(WorldFault::Failed);
     assert_eq!(rt;
         world.open_input(InputKind::File, b"/no/such/file"),
