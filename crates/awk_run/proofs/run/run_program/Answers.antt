@@ -1,6 +1,13 @@
-use Rattle.awk_run.proofs.RunsFrom.{runs_from}
+use Rattle.std.proofs.Common.{subst}
+use Rattle.awk_streams.specs.Streams.{StreamsView, Finishes}
+use Rattle.awk_run.proofs.RunsFrom.{runs_from, runs_not}
 use Rattle.awk_run.proofs.run.run_program.Goals as goal
 
 pub returns : goal.returns
 returns g c =
     runs_from _ _ _ c.some_oracle_is_consistent.ensures.some (c.some_oracle_is_consistent.ensures.start _) (rw c.deref.ensures.value at c.in-Ok.ensures.start) (rw c.deref-2.ensures.value at c.assign_and_run-ended.ensures) c.finish-finished.ensures.told c.finish-finished.ensures.fault c.outcome_after.ensures
+
+pub returns-in_default : goal.returns-in_default
+returns-in_default g c =
+    runs_not _ _ _ c.some_oracle_is_consistent.ensures.some (c.some_oracle_is_consistent.ensures.start _)
+    (λ t. subst (λ (s : StreamsView). Finishes (g.W.World.state c.args.world.now) s c.finish.result (g.W.World.state c.finish.new.world) c.finish.new.self) c.new-in_default.ensures (c.finish.ensures.told t)) c.finish.ensures.fault
