@@ -1,5 +1,5 @@
 -- Stretches of a log that keep it in order, and what they leave as it was.
-use Rattle.std.proofs.Common.{◌≡◌, ℕ, ◌+◌, List, [], ◌∷◌, ◌++◌, Bool, true, false, Option, None, refl, sym, ◌∙◌, ap, subst, arith}
+use Rattle.std.proofs.Common.{◌≡◌, ◌<◌, inl, ℕ, ◌+◌, List, [], ◌∷◌, ◌++◌, Bool, true, false, Option, None, refl, sym, ◌∙◌, ap, subst, arith}
 use Rattle.std.proofs.lemmas.Bool.{cond-true, cond-false, ne_eqb, eq-eqb}
 use Rattle.awk_world.specs.definitions.Log.{Event, Read, Ended, Broke, Wrote, Flushed}
 use Rattle.awk_record.specs.Cut.{Ending}
@@ -17,26 +17,26 @@ none_more n = omega arith
 -- events of outputs
 pub output_orderly : (es log : List Event) → IsOutput es → IsOrderly log → IsOrderly (with_events es log)
 output_orderly [] log h orderly = orderly
-output_orderly (Wrote id bytes ∷ es) log h orderly = output_orderly es (Wrote id bytes ∷ log) h (tt, orderly)
-output_orderly (Flushed id ∷ es) log h orderly = output_orderly es (Flushed id ∷ log) h (tt, orderly)
+output_orderly (Wrote id bytes ∷ es) log h orderly = output_orderly es (Wrote id bytes ∷ log) h.1 (inl h.0, orderly)
+output_orderly (Flushed id ∷ es) log h orderly = output_orderly es (Flushed id ∷ log) h.1 (inl h.0, orderly)
 output_orderly (e ∷ es) log h orderly = absurd h
 
 pub output_reading : (id : ℕ) (es log : List Event) → IsOutput es → reading_of id (with_events es log) ≡ reading_of id log
 output_reading id [] log h = refl
-output_reading id (Wrote i bytes ∷ es) log h = output_reading id es (Wrote i bytes ∷ log) h
-output_reading id (Flushed i ∷ es) log h = output_reading id es (Flushed i ∷ log) h
+output_reading id (Wrote i bytes ∷ es) log h = output_reading id es (Wrote i bytes ∷ log) h.1
+output_reading id (Flushed i ∷ es) log h = output_reading id es (Flushed i ∷ log) h.1
 output_reading id (e ∷ es) log h = absurd h
 
 pub output_quiet : (es : List Event) → IsOutput es → IsQuiet es
 output_quiet [] h = tt
-output_quiet (Wrote id bytes ∷ es) h = output_quiet es h
-output_quiet (Flushed id ∷ es) h = output_quiet es h
+output_quiet (Wrote id bytes ∷ es) h = output_quiet es h.1
+output_quiet (Flushed id ∷ es) h = output_quiet es h.1
 output_quiet (e ∷ es) h = absurd h
 
-pub writes_output : (id : ℕ) (bytes : List ℕ) (es : List Event) → Writes id bytes es → IsOutput es
-writes_output id bytes [] h = tt
-writes_output id bytes (Wrote i bs ∷ es) (same, (rest, is, later)) = writes_output id rest es later
-writes_output id bytes (e ∷ es) h = absurd h
+pub writes_output : (id : ℕ) (bytes : List ℕ) (es : List Event) → id < 2 → Writes id bytes es → IsOutput es
+writes_output id bytes [] low h = tt
+writes_output id bytes (Wrote i bs ∷ es) low (same, (rest, is, later)) = (omega (arith, same, low), writes_output id rest es low later)
+writes_output id bytes (e ∷ es) low h = absurd h
 
 -- events that open, close and run nothing
 pub same_counts-self : (log : List Event) → SameCounts log log
@@ -125,13 +125,13 @@ output_in_order old new es log same h order = record {
 }
 
 -- a log that goes on by writes to one output alone
-pub writes_order : (id : ℕ) (old new : ℕ → Bool) (log log' : List Event) → ((j : ℕ) → new j ≡ old j) → OnlyWritesTo id log log' → IsInOrder old log → IsInOrder new log'
-writes_order id old new log log' same (bytes, goes) order =
-    subst (λ (l : List Event). IsInOrder new l) (sym goes.log) (output_in_order old new goes.events log same (writes_output id bytes goes.events goes.each) order)
+pub writes_order : (id : ℕ) (old new : ℕ → Bool) (log log' : List Event) → id < 2 → ((j : ℕ) → new j ≡ old j) → OnlyWritesTo id log log' → IsInOrder old log → IsInOrder new log'
+writes_order id old new log log' low same (bytes, goes) order =
+    subst (λ (l : List Event). IsInOrder new l) (sym goes.log) (output_in_order old new goes.events log same (writes_output id bytes goes.events low goes.each) order)
 
-pub writes_streams : (id : ℕ) (log log' : List Event) → OnlyWritesTo id log log' → SameStreams log log'
-writes_streams id log log' (bytes, goes) =
-    subst (λ (l : List Event). SameStreams log l) (sym goes.log) (quiet_streams goes.events log (output_quiet goes.events (writes_output id bytes goes.events goes.each)))
+pub writes_streams : (id : ℕ) (log log' : List Event) → id < 2 → OnlyWritesTo id log log' → SameStreams log log'
+writes_streams id log log' low (bytes, goes) =
+    subst (λ (l : List Event). SameStreams log l) (sym goes.log) (quiet_streams goes.events log (output_quiet goes.events (writes_output id bytes goes.events low goes.each)))
 
-pub writes_reading : (id : ℕ) (log log' : List Event) → OnlyWritesTo id log log' → (j : ℕ) → reading_of j log' ≡ reading_of j log
-writes_reading id log log' (bytes, goes) j = ap (reading_of j) goes.log ∙ output_reading j goes.events log (writes_output id bytes goes.events goes.each)
+pub writes_reading : (id : ℕ) (log log' : List Event) → id < 2 → OnlyWritesTo id log log' → (j : ℕ) → reading_of j log' ≡ reading_of j log
+writes_reading id log log' low (bytes, goes) j = ap (reading_of j) goes.log ∙ output_reading j goes.events log (writes_output id bytes goes.events low goes.each)

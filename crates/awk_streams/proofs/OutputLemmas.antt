@@ -1,5 +1,5 @@
 -- What printing and the end of a run come to.
-use Rattle.std.proofs.Common.{◌≡◌, ◌≢◌, ◌≤◌, ◌+◌, arith, inl, inr, ℕ, ℤ, Bool, true, false, ◌&&◌, List, [], ◌∷◌, ◌++◌, length, take, Option, Some, None, Result, Ok, Err, refl, sym, ◌∙◌, ap, subst}
+use Rattle.std.proofs.Common.{◌≡◌, ◌≢◌, ◌≤◌, ◌<◌, ◌+◌, arith, inl, inr, ℕ, ℤ, Bool, true, false, ◌&&◌, List, [], ◌∷◌, ◌++◌, length, take, Option, Some, None, Result, Ok, Err, refl, sym, ◌∙◌, ap, subst}
 use Rattle.std.specs.Prelude.{is_some, OnOk, OnErr}
 use Rattle.std.specs.Result.{is_ok, result_and}
 use Rattle.std.proofs.lemmas.Bool.{cond-true, cond-false, ne_eqb, eq-eqb, cases_eq}
@@ -107,11 +107,12 @@ prints bytes before after old new held result held_is main same held_did =
     let writes : WritesAll 0 did.written before result after = did.writes in
     let some : List ℕ = take writes.count did.written in
     let only : OnlyWritesTo 0 log log' = (some, writes.writes) in
-    let kept : SameStreams log log' = writes_streams 0 log log' only in
-    let sound : IsSoundMain log old.main → IsSoundMain log' new.main = λ h. subst (λ (m : Option InputView). IsSoundMain log' m) (sym main) (main_same log log' old.main kept.stands (writes_reading 0 log log' only) h) in
+    let low : 0 < 2 = omega arith in
+    let kept : SameStreams log log' = writes_streams 0 log log' low only in
+    let sound : IsSoundMain log old.main → IsSoundMain log' new.main = λ h. subst (λ (m : Option InputView). IsSoundMain log' m) (sym main) (main_same log log' old.main kept.stands (writes_reading 0 log log' low only) h) in
     let gains : openings log' ≡ receives 0 some (openings log) = openings-writes 0 some log log' writes.writes in
     record {
-      sound = λ s. record { order = writes_order 0 before.is_open after.is_open log log' same only s.order; main = sound s.main };
+      sound = λ s. record { order = writes_order 0 before.is_open after.is_open log log' low same only s.order; main = sound s.main };
       main = sound;
       grows = writes.grows;
       same = main;
@@ -119,15 +120,15 @@ prints bytes before after old new held result held_is main same held_did =
       printed = all_printed result (openings log) (openings log') old.held bytes new.held did.written did.more writes.count did.parts did.holds writes.all gains;
       partly = some_printed result (openings log) (openings log') old.held bytes new.held did.written did.more writes.count did.parts did.empty writes.within gains;
       counts = kept.counts;
-      rest = λ a r h. subst (λ (m : Option InputView). IsMainRest a log' m r) (sym main) (rest_same a log log' old.main r (writes_reading 0 log log' only) h);
+      rest = λ a r h. subst (λ (m : Option InputView). IsMainRest a log' m r) (sym main) (rest_same a log log' old.main r (writes_reading 0 log log' low only) h);
       no_failure = writes.no_failure;
       failure = writes.fails;
     }
 
 -- one flush, done or not
-flush_order : (done : Bool) (id : ℕ) (before after : WorldState) (log : List Event) → SameOpen before after → IsInOrder before.is_open log → IsInOrder after.is_open (flushed_if done id log)
-flush_order true id before after log same order = record { orderly = (tt, order.orderly); known = λ j some. same j ∙ order.known j some }
-flush_order false id before after log same order = record { orderly = order.orderly; known = λ j some. same j ∙ order.known j some }
+flush_order : (done : Bool) (id : ℕ) (before after : WorldState) (log : List Event) → id < 2 → SameOpen before after → IsInOrder before.is_open log → IsInOrder after.is_open (flushed_if done id log)
+flush_order true id before after log low same order = record { orderly = (inl low, order.orderly); known = λ j some. same j ∙ order.known j some }
+flush_order false id before after log low same order = record { orderly = order.orderly; known = λ j some. same j ∙ order.known j some }
 
 flush_main : (done : Bool) (id : ℕ) (log : List Event) (main : Option InputView) → IsSoundMain log main → IsSoundMain (flushed_if done id log) main
 flush_main true id log main h = main_same log (Flushed id ∷ log) main (λ j. refl) (λ j. refl) h
@@ -241,7 +242,8 @@ finishes before middle later after old new main held first second result answer 
     let written : List Event = flush.written in
     let some : List ℕ = take flush.count old.held in
     let only : OnlyWritesTo 0 log written = (some, flush.writes) in
-    let kept : SameStreams log written = writes_streams 0 log written only in
+    let low : 0 < 2 = omega arith in
+    let kept : SameStreams log written = writes_streams 0 log written low only in
     let closes : ClosesMain later after old.main = subst (λ (m : Option InputView). ClosesMain later after m) (sym old_is) closes_it in
     let closed : after.log ≡ closed_main old.main answer later.log = closed_it ∙ ap (λ m. closed_main m answer later.log) (sym old_is) in
     let adds : after.log ≡ closed_main old.main answer (flushed_if (is_ok second) 1 (flushed_if (is_ok first) 0 written)) = closed ∙ (ap (closed_main old.main answer) flush1.adds ∙ ap (λ l. closed_main old.main answer (flushed_if (is_ok second) 1 l)) flush.adds) in
@@ -250,10 +252,10 @@ finishes before middle later after old new main held first second result answer 
     let gains : openings (closed_main old.main answer last) ≡ receives 0 some (openings log) = openings-close old.main answer last ∙ (openings-flush (is_ok second) 1 mid ∙ (openings-flush (is_ok first) 0 written ∙ openings-writes 0 some log written flush.writes)) in
     let whole : Finishes before old (result_and first second) record after { log = closed_main old.main answer last } new = record {
       sound = λ s.
-          let order0 = writes_order 0 before.is_open before.is_open log written (λ j. refl) only s.order in
-          let main0 = main_same log written old.main kept.stands (writes_reading 0 log written only) s.main in
-          let order1 = flush_order (is_ok first) 0 before middle written same order0 in
-          let order2 = flush_order (is_ok second) 1 middle later mid same1 order1 in
+          let order0 = writes_order 0 before.is_open before.is_open log written low (λ j. refl) only s.order in
+          let main0 = main_same log written old.main kept.stands (writes_reading 0 log written low only) s.main in
+          let order1 = flush_order (is_ok first) 0 before middle written low same order0 in
+          let order2 = flush_order (is_ok second) 1 middle later mid (omega arith) same1 order1 in
           let main2 = flush_main (is_ok second) 1 mid old.main (flush_main (is_ok first) 0 written old.main main0) in
           record {
             order = close_order old.main answer later after last closes order2 main2;

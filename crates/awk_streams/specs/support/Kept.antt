@@ -1,13 +1,13 @@
 -- What a stretch of a log leaves as it was.
-use Rattle.std.specs.Prelude.{◌≡◌, ℕ, List, [], ◌∷◌}
+use Rattle.std.specs.Prelude.{◌≡◌, ◌<◌, ℕ, List, [], ◌∷◌}
 use Rattle.awk_world.specs.definitions.Log.{Event, Read, Ended, Broke, Wrote, Flushed}
 use Rattle.awk_world.specs.definitions.Oracle.{SameCounts, standing}
 
--- these events only bring bytes to outputs
+-- these events only bring bytes to the standard outputs
 abbrev pub IsOutput : List Event → Type 0
 IsOutput [] = Unit {0}
-IsOutput (Wrote id bytes ∷ es) = IsOutput es
-IsOutput (Flushed id ∷ es) = IsOutput es
+IsOutput (Wrote id bytes ∷ es) = (id < 2) × IsOutput es
+IsOutput (Flushed id ∷ es) = (id < 2) × IsOutput es
 IsOutput (e ∷ es) = ⊥
 
 -- these events open, close and run nothing
