@@ -3,3 +3,4 @@
 mod accepted;
 mod execute;
 mod refused;
+mod witness;
