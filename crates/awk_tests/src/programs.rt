@@ -1,5 +1,7 @@
 // Whole programs over a world in memory: what they print, and which texts are none.
 
 mod accepted;
+mod disturbed;
 mod execute;
 mod refused;
+mod witness;

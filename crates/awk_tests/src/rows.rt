@@ -2,8 +2,10 @@
 //   $ WORD      a word after `awk`; nothing behind the mark: an empty word
 //   . TEXT      a further line of that word
 //   < TEXT      a line of standard input
-//   <- TEXT     the same, with no newline behind it
+//   - TEXT      the same, with no newline behind it
+//   | TEXT      the same, and then standard input breaks
 //   [f] TEXT    a line of the file f; the lines of one opening stand together
+//   *           the first write fails
 //   > TEXT      a line that is left on standard output
 //   ! TEXT      a line that is left on standard error
 //   = N         the status, and the end of the row
@@ -13,12 +15,16 @@ use awk_streams::{Answer, InputKind, ScriptWorld};
 use std::alloc::{AllocError, Global};
 use std::process::Abort;
 
+/// A call of the program, and what it leaves.
 #[derive(Drop)]
-struct Row {
-    words: Vec<Vec<u8>>,
-    answers: Vec<Answer>,
+pub struct Row {
+    pub words: Vec<Vec<u8>>,
+    pub answers: Vec<Answer>,
+    is_full: bool,
     output: Vec<u8>,
     errors: Vec<u8>,
+    status: Vec<u8>,
+    pub line: usize,
 }
 
 impl Row {
@@ -26,8 +32,11 @@ impl Row {
         Row {
             words: Vec::new(alloc),
             answers: Vec::new(alloc),
+            is_full: false,
             output: Vec::new(alloc),
             errors: Vec::new(alloc),
+            status: Vec::new(alloc),
+            line: 0,
         }
     }
 
@@ -41,20 +50,34 @@ impl Row {
 
     // One line of the row, but the last.
     fn take_in(&mut self, alloc: Global, line: &[u8]) -> Result<(), AllocError> {
-        match line {
-            [b'$'] => self.words.push(Vec::new(alloc))?,
-            [b'$', b' ', word @ ..] => self.words.push(word.to_vec(alloc)?)?,
-            [b'.', b' ', text @ ..] => self.go_on(text)?,
-            [b'<'] => self.give(alloc, b"", b"", b"\n")?,
-            [b'<', b' ', text @ ..] => self.give(alloc, b"", text, b"\n")?,
-            [b'<', b'-', b' ', text @ ..] => self.give(alloc, b"", text, b"")?,
-            [b'[', name, b']', b' ', text @ ..] => self.give(alloc, &[*name], text, b"\n")?,
-            [b'>'] => self.output.push(b'\n')?,
-            [b'>', b' ', text @ ..] => add_line(&mut self.output, text)?,
-            [b'!', b' ', text @ ..] => add_line(&mut self.errors, text)?,
+        let (mark, text) = match line {
+            [b'[', name, b']', b' ', text @ ..] => return self.give(alloc, &[*name], text, b"\n"),
+            [mark, b' ', text @ ..] => (*mark, text),
+            [mark] => (*mark, b"".as_slice()),
+            _ => return Ok(()),
+        };
+        match mark {
+            b'$' => self.words.push(text.to_vec(alloc)?)?,
+            b'.' => self.go_on(text)?,
+            b'<' => self.give(alloc, b"", text, b"\n")?,
+            b'-' => self.give(alloc, b"", text, b"")?,
+            b'|' => {
+                self.give(alloc, b"", text, b"")?;
+                self.break_off();
+            }
+            b'*' => self.is_full = true,
+            b'>' => add_line(&mut self.output, text)?,
+            b'!' => add_line(&mut self.errors, text)?,
             _ => {}
         }
         Ok(())
+    }
+
+    // The input that stands last breaks behind its bytes.
+    fn break_off(&mut self) {
+        if let Some(answer) = self.answers.last_mut() {
+            answer.breaks = true;
+        }
     }
 
     // More bytes of an input that stands last, or a new one.
@@ -97,21 +120,39 @@ fn add_line(lines: &mut Vec<u8>, text: &[u8]) -> Result<(), AllocError> {
     Ok(())
 }
 
-// That the row, which ends on this line of the text, leaves what it says.
-fn expect(
-    rt: &impl Abort,
-    alloc: Global,
-    row: Row,
-    status: &[u8],
-    line: usize,
-) -> Result<(), AllocError> {
+/// The rows of a text.
+pub fn rows_of(alloc: Global, text: &str) -> Result<Vec<Row>, AllocError> {
+    let mut rows = Vec::new(alloc);
+    let mut row = Row::new(alloc);
+    for (i, line) in text.lines().enumerate() {
+        match line.as_bytes() {
+            [b'=', b' ', status @ ..] => {
+                row.status.extend_from_slice(status)?;
+                row.line = i;
+                rows.push(row)?;
+                row = Row::new(alloc);
+            }
+            line => row.take_in(alloc, line)?,
+        }
+    }
+    Ok(rows)
+}
+
+// That the row leaves what it says.
+fn expect(rt: &impl Abort, alloc: Global, row: Row) -> Result<(), AllocError> {
     let Row {
         words,
         answers,
+        is_full,
         output,
         errors,
+        status,
+        line,
     } = row;
     let mut world = ScriptWorld::new(alloc, answers);
+    if is_full {
+        world.fail_write(1);
+    }
     let answered = main_words(alloc, &words, Vec::new(alloc), &mut world);
     let left = world.received(0)?;
     assert!(rt;
@@ -124,21 +165,17 @@ fn expect(
         "row that ends on line {line}"
     );
     let said = answered.to_string(alloc)?;
-    assert!(rt; said.as_bytes() == status, "row that ends on line {line}");
+    assert!(rt;
+        said.as_bytes() == status.as_slice(),
+        "row that ends on line {line}"
+    );
     Ok(())
 }
 
-// That each row of the text leaves what it says.
+/// That each row of the text leaves what it says.
 pub fn expect_rows(rt: &impl Abort, alloc: Global, rows: &str) -> Result<(), AllocError> {
-    let mut row = Row::new(alloc);
-    for (i, line) in rows.lines().enumerate() {
-        match line.as_bytes() {
-            [b'=', b' ', status @ ..] => {
-                expect(rt, alloc, row, status, i)?;
-                row = Row::new(alloc);
-            }
-            line => row.take_in(alloc, line)?,
-        }
+    for row in rows_of(alloc, rows)? {
+        expect(rt, alloc, row)?;
     }
     Ok(())
 }

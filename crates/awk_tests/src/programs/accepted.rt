@@ -179,7 +179,7 @@ $ { FS = ":"; print $1 }
 > d
 = 0
 $ BEGIN { RS = ";" } { print NR, $1 }
-<- a;b;;c
+- a;b;;c
 > 1 a
 > 2 b
 > 3 
@@ -391,14 +391,13 @@ $ f
 = 2
 "#;
 
+/// Each program of the tables above, with what comes of it.
+pub const PROGRAMS: [&str; 6] = [EXPRESSIONS, PATTERNS, JOINED, VARIABLES, OPERANDS, FAULTS];
+
 #[test]
 fn programs(rt: HostRuntime) -> Result<(), Fail> {
-    let alloc = rt.alloc();
-    expect_rows(&rt, alloc, EXPRESSIONS)?;
-    expect_rows(&rt, alloc, PATTERNS)?;
-    expect_rows(&rt, alloc, JOINED)?;
-    expect_rows(&rt, alloc, VARIABLES)?;
-    expect_rows(&rt, alloc, OPERANDS)?;
-    expect_rows(&rt, alloc, FAULTS)?;
+    for table in PROGRAMS {
+        expect_rows(&rt, rt.alloc(), table)?;
+    }
     Ok(())
 }

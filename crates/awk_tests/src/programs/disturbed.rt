@@ -1,0 +1,306 @@
+// Runs in which a call of the world fails, an input breaks or comes in pieces, writes are short or steps are few: what
+// they leave, beside what the same programs leave undisturbed.
+ghost use Rattle.std.specs.Prelude.{◌≤◌};
+
+use super::accepted::PROGRAMS;
+use crate::rows::{Row, expect_rows, rows_of};
+use awk_command::{CommandLine, ProgramSource, read_command_line};
+use awk_run::{Fault, Outcome, Start, execute};
+use awk_streams::{Answer, Entry, ScriptWorld};
+use std::alloc::{AllocError, Global};
+use std::process::Abort;
+use std::test::Fail;
+
+const FAILED: &str = r#"
+$ BEGIN{print 1}
+*
+! awk: fault 2: write failed
+= 2
+$ {print}
+|
+! awk: fault 9: input not readable
+= 2
+$ {print}
+| a
+! awk: fault 9: input not readable
+= 2
+$ {print}
+< a
+|
+> a
+! awk: fault 9: input not readable
+= 2
+$ {print}
+< a
+| b
+> a
+! awk: fault 9: input not readable
+= 2
+$ {print}
+< a
+< b
+|
+> a
+> b
+! awk: fault 9: input not readable
+= 2
+"#;
+
+// A program with all that its run depends on, and where its row ends.
+#[derive(Drop)]
+struct Program {
+    text: Vec<u8>,
+    start: Start,
+    limit: u64,
+    answers: Vec<Answer>,
+    line: usize,
+}
+
+// What a run left.
+#[derive(Drop)]
+struct Left {
+    outcome: Outcome,
+    output: Vec<u8>,
+    world: ScriptWorld,
+}
+
+fn text_of(source: ProgramSource) -> Result<Vec<u8>, Fail> {
+    match source {
+        ProgramSource::Text(text) => Ok(text),
+        ProgramSource::Files(_) => Err(Fail::new("a program file")),
+    }
+}
+
+fn program_of(alloc: Global, row: Row) -> Result<Program, Fail> {
+    let Ok(command) = read_command_line(alloc, &row.words) else {
+        return Err(Fail::new("no command line"));
+    };
+    let CommandLine {
+        pre,
+        limit,
+        source,
+        operands,
+    } = command;
+    Ok(Program {
+        text: text_of(source)?,
+        start: Start {
+            pre,
+            operands,
+            environ: Vec::new(alloc),
+        },
+        limit,
+        answers: row.answers,
+        line: row.line,
+    })
+}
+
+impl Program {
+    // A fresh world of its answers.
+    fn world(&self, alloc: Global) -> Result<ScriptWorld, AllocError> {
+        self.world_that_breaks(alloc, self.answers.len(), 0)
+    }
+
+    // The same, where the input at a place breaks behind so many bytes.
+    fn world_that_breaks(
+        &self,
+        alloc: Global,
+        place: usize,
+        bytes: usize,
+    ) -> Result<ScriptWorld, AllocError> {
+        let mut answers = Vec::new(alloc);
+        for (i, answer) in self.answers.iter().enumerate() {
+            let mut copy = Answer {
+                kind: answer.kind,
+                name: answer.name.to_vec(alloc)?,
+                refused: answer.refused,
+                bytes: answer.bytes.to_vec(alloc)?,
+                breaks: answer.breaks || i == place,
+            };
+            if i == place {
+                copy.bytes.truncate(bytes);
+            }
+            answers.push(copy)?;
+        }
+        Ok(ScriptWorld::new(alloc, answers))
+    }
+
+    // Runs it with at most so many steps.
+    fn run(&self, alloc: Global, limit: u64, mut world: ScriptWorld) -> Result<Left, Fail> {
+        let Ok(outcome) = execute(alloc, &self.text, &self.start, limit, &mut world) else {
+            return Err(Fail::new("no program"));
+        };
+        let output = world.received(0)?;
+        Ok(Left {
+            outcome,
+            output,
+            world,
+        })
+    }
+}
+
+impl Left {
+    fn is_same(&self, whole: &Left) -> bool {
+        self.outcome == whole.outcome && self.output.as_slice() == whole.output.as_slice()
+    }
+
+    // Whether it ended so, and printed a beginning of what the undisturbed run prints.
+    fn broke_off(&self, outcome: Outcome, whole: &Left) -> bool {
+        self.outcome == outcome && whole.output.starts_with(&self.output)
+    }
+}
+
+// A call of the world that fails.
+#[derive(Clone, Copy)]
+enum Failure {
+    Write,
+    Flush,
+    Memory,
+}
+
+impl Failure {
+    // Whether the call of this entry can fail so.
+    fn can_meet(self, entry: &Entry) -> bool {
+        match self {
+            Failure::Write => matches!(entry, Entry::Wrote(_, _)),
+            Failure::Flush => matches!(entry, Entry::Flushed(_)),
+            Failure::Memory => !matches!(entry, Entry::Closed(_, _)),
+        }
+    }
+
+    // The k-th such call of the world is to fail.
+    fn plan(self, k: u64, world: &mut ScriptWorld)
+        requires { 1 ≤ k }
+    {
+        match self {
+            Failure::Write => world.fail_write(k),
+            Failure::Flush => world.fail_flush(k),
+            Failure::Memory => world.refuse_memory(k),
+        }
+    }
+
+    fn outcome(self) -> Outcome {
+        Outcome::Fault(match self {
+            Failure::Write | Failure::Flush => Fault::WriteFailed,
+            Failure::Memory => Fault::OutOfMemory,
+        })
+    }
+}
+
+// That a run which meets a failure ends with its fault, or with the one that the undisturbed run ends with.
+fn expect_failures(
+    rt: &impl Abort,
+    alloc: Global,
+    program: &Program,
+    whole: &Left,
+    failure: Failure,
+) -> Result<(), Fail> {
+    let calls = whole
+        .world
+        .entries()
+        .iter()
+        .filter(|entry| failure.can_meet(entry))
+        .count();
+    let is_fault = matches!(whole.outcome, Outcome::Fault(_));
+    for k in 1..=calls as u64 {
+        let mut world = program.world(alloc)?;
+        failure.plan(k, &mut world);
+        let left = program.run(alloc, program.limit, world)?;
+        let line = program.line;
+        assert!(rt;
+            left.broke_off(failure.outcome(), whole)
+                || is_fault && left.broke_off(whole.outcome, whole),
+            "call {k} fails in the row that ends on line {line}"
+        );
+    }
+    Ok(())
+}
+
+// That a run whose input breaks ends with fault 9, unless it doesn't come to the break.
+fn expect_breaks(
+    rt: &impl Abort,
+    alloc: Global,
+    program: &Program,
+    whole: &Left,
+) -> Result<(), Fail> {
+    let broken = Outcome::Fault(Fault::InputNotReadable);
+    for (place, answer) in program.answers.iter().enumerate() {
+        for bytes in 0..=answer.bytes.len() {
+            let world = program.world_that_breaks(alloc, place, bytes)?;
+            let left = program.run(alloc, program.limit, world)?;
+            let line = program.line;
+            assert!(rt;
+                left.broke_off(broken, whole) || left.is_same(whole),
+                "input {place} breaks behind {bytes} bytes in the row that ends on line {line}"
+            );
+        }
+    }
+    Ok(())
+}
+
+// That single bytes, of inputs and of writes, change nothing.
+fn expect_pieces(
+    rt: &impl Abort,
+    alloc: Global,
+    program: &Program,
+    whole: &Left,
+) -> Result<(), Fail> {
+    let mut ends = Vec::new(alloc);
+    for answer in &program.answers {
+        for end in 1..answer.bytes.len() {
+            ends.push(end)?;
+        }
+    }
+    let mut world = program.world(alloc)?;
+    world.give_in_pieces(ends);
+    world.short_writes(1);
+    let left = program.run(alloc, program.limit, world)?;
+    let line = program.line;
+    assert!(rt;
+        left.is_same(whole),
+        "pieces in the row that ends on line {line}"
+    );
+    Ok(())
+}
+
+// That fewer steps stop a run, until they are enough.
+fn expect_limits(
+    rt: &impl Abort,
+    alloc: Global,
+    program: &Program,
+    whole: &Left,
+) -> Result<(), Fail> {
+    for limit in 0..=program.limit {
+        let left = program.run(alloc, limit, program.world(alloc)?)?;
+        let line = program.line;
+        assert!(rt;
+            left.broke_off(Outcome::Stopped, whole) || left.is_same(whole),
+            "{limit} steps in the row that ends on line {line}"
+        );
+        if left.outcome != Outcome::Stopped {
+            break;
+        }
+    }
+    Ok(())
+}
+
+fn expect_disturbances(rt: &impl Abort, alloc: Global, row: Row) -> Result<(), Fail> {
+    let program = program_of(alloc, row)?;
+    let whole = program.run(alloc, program.limit, program.world(alloc)?)?;
+    for failure in [Failure::Write, Failure::Flush, Failure::Memory] {
+        expect_failures(rt, alloc, &program, &whole, failure)?;
+    }
+    expect_breaks(rt, alloc, &program, &whole)?;
+    expect_pieces(rt, alloc, &program, &whole)?;
+    expect_limits(rt, alloc, &program, &whole)
+}
+
+#[test]
+fn disturbed_programs(rt: HostRuntime) -> Result<(), Fail> {
+    expect_rows(&rt, rt.alloc(), FAILED)?;
+    for table in PROGRAMS {
+        for row in rows_of(rt.alloc(), table)? {
+            expect_disturbances(&rt, rt.alloc(), row)?;
+        }
+    }
+    Ok(())
+}
