@@ -9,6 +9,7 @@ use Rattle.std.proofs.lemmas.Option.{none-some, same_Some, some_pair_parts, cond
 use Rattle.std.proofs.lemmas.Bool.{false≢true, ne_eqb, cond-true, cond-false}
 use Rattle.awk_ere_syntax.specs.declared.class_name.ClassName.{ClassName}
 use Rattle.awk_ere_syntax.specs.declared.reading.bracket.Item.{Item as SeenItem}
+use Rattle.awk_ere_syntax.specs.declared.reading.bracket.Item.TheVariants as parts
 use Rattle.awk_ere_syntax.specs.definitions.Tree.{class_of}
 use Rattle.awk_ere_syntax.specs.definitions.Escapes.{starts}
 use Rattle.awk_ere_syntax.specs.definitions.Brackets.{Mark, Item, single, range, class, begins_range, is_barred, item_bytes, item_has, any_has, Bracket, these, others, bracket_has}
@@ -32,6 +33,13 @@ mapped_cond f false x y u v p q = q
 range_follows : (m : Mark × List ℕ) → option_map seen_item (range_at m) ≡ range_seen (seen_mark m).0 m.1
 range_follows m =
     mapped_cond seen_item (begins_range m.1) (mark_at (tail m.1) >>= as_range m.0) (Some (single m.0, m.1)) _ _ (end_follows m (mark_at (tail m.1))) refl
+
+-- what goes on, as the code reads it
+pub range_goes : (x : ℕ) (text : List ℕ) (o : Option (ℕ × List ℕ)) → 1 ≤ length text → begins_range text ≡ true → o ≡ option_map seen_mark (mark_at (take (length text - 1) (drop 1 text))) → range_to x o ≡ range_seen x text
+range_goes x [] o le begins e = absurd (omega arith)
+range_goes x (b ∷ bs) o le begins e =
+    ap (range_to x) (e ∙ ap (λ (l : List ℕ). option_map seen_mark (mark_at l)) (take_all (length (b ∷ bs) - 1) bs (omega arith)))
+    ∙ sym (cond-true (begins_range (b ∷ bs)) (range_to x (option_map seen_mark (mark_at bs))) (Some (parts.Single x, b ∷ bs)) begins)
 
 marked_follows : (o : Option (Mark × List ℕ)) → option_map seen_item (o >>= range_at) ≡ mark_seen (option_map seen_mark o)
 marked_follows None = refl

@@ -122,3 +122,13 @@ digit_seen (b ∷ bs) = if is_digit b then Some (b - 48, bs) else None
 -- the digits at the front as a count, and what follows them
 abbrev pub number_seen : List ℕ → Option (ℕ × List ℕ)
 number_seen text = if some_bytes (digits text) then Some (seen_count (digits text), after_digits text) else None
+
+-- the end of an interval behind its comma, by its counts
+abbrev pub most_seen : ℕ → Option (ℕ × List ℕ) → Option (SeenToken × List ℕ)
+most_seen least None = None
+most_seen least (Some most) =
+    if starts (λ b. b == 125) most.1 then Some (seen.Again (repeats.Between least most.0), tail most.1) else None
+
+abbrev pub end_seen : ℕ → List ℕ → Option (SeenToken × List ℕ)
+end_seen least text =
+    if starts (λ b. b == 125) text then Some (seen.Again (repeats.AtLeast least), tail text) else most_seen least (number_seen text)

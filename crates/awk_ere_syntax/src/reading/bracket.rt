@@ -3,7 +3,7 @@
 ghost use Rattle.std.specs.Prelude.{◌≡◌, ◌||◌, ◌<◌, ℕ, List, not, true, false, length, Some, slice_index_or};
 ghost use Rattle.std.specs.Option.{option_map};
 ghost use Rattle.awk_ere_syntax.specs.definitions.Tree.{class_of};
-ghost use Rattle.awk_ere_syntax.specs.definitions.Brackets.{Item as ItemForm, any_has, is_barred, Bracket, bracket_has};
+ghost use Rattle.awk_ere_syntax.specs.definitions.Brackets.{Item as ItemForm, any_has, begins_range, is_barred, Bracket, bracket_has};
 ghost use Rattle.awk_ere_syntax.specs.definitions.Tokens.{atom, bracket};
 ghost use Rattle.awk_ere_syntax.specs.support.Lexer.{mark_at, name_at, items_at, bracket_token};
 ghost use Rattle.awk_ere_syntax.specs.support.TokenValues.{seen_mark, descends, holds, range_seen, class_seen, mark_seen, item_seen, end_at, seen_items, seen_front};
@@ -67,13 +67,19 @@ fn mark_at(bytes: &[u8]) -> Option<(u8, &[u8])>
     }
 }
 
+/// Whether a range goes on here: a `-` that isn't the last of the bracket.
+fn begins_range(rest: &[u8]) -> bool
+    ensures { result ≡ begins_range rest.now }
+{
+    matches!(rest, [b'-', end, ..] if *end != b']')
+}
+
 /// What goes on from a byte: a range, or nothing more.
 fn range_at(low: u8, rest: &[u8]) -> Option<(Item, &[u8])>
     ensures { option_map (λ r. (r.0, r.1.now)) result ≡ range_seen low rest.now }
 {
     match rest {
-        [b'-'] | [b'-', b']', ..] => Some((Item::Single(low), rest)),
-        [b'-', end @ ..] => {
+        [_, end @ ..] if begins_range(rest) => {
             let (high, rest) = mark_at(end)?;
             Some((Item::Range(low, high), rest))
         }

@@ -3,7 +3,7 @@
 ghost use Rattle.std.specs.Prelude.{◌≡◌};
 ghost use Rattle.std.specs.Option.{option_map};
 ghost use Rattle.awk_ere_syntax.specs.support.Lexer.{interval_token};
-ghost use Rattle.awk_ere_syntax.specs.support.TokenValues.{digit_seen, number_seen, seen_front};
+ghost use Rattle.awk_ere_syntax.specs.support.TokenValues.{digit_seen, end_seen, number_seen, seen_front};
 
 use crate::token::{GREATEST_COUNT, Repeat, Token};
 
@@ -34,18 +34,26 @@ fn number_at(bytes: &[u8]) -> Option<(u16, &[u8])>
     }
 }
 
+/// The end of an interval behind its comma, where this is its least count: a closing brace or a second number.
+fn end_at(least: u16, bytes: &[u8]) -> Option<(Token, &[u8])>
+    ensures { option_map (λ r. (r.0, r.1.now)) result ≡ end_seen least bytes.now }
+{
+    if let [b'}', rest @ ..] = bytes {
+        return Some((Token::Again(Repeat::AtLeast(least)), rest));
+    }
+    match number_at(bytes)? {
+        (most, [b'}', rest @ ..]) => Some((Token::Again(Repeat::Between(least, most)), rest)),
+        _ => None,
+    }
+}
+
 /// An interval behind its `{`, and what follows it: a number, a number and a comma, or two numbers with a comma.
 pub fn interval_at(bytes: &[u8]) -> Option<(Token, &[u8])>
     ensures { option_map (λ r. (r.0, r.1.now)) result ≡ option_map seen_front (interval_token bytes.now) }
 {
-    let (least, rest) = number_at(bytes)?;
-    match rest {
-        [b'}', rest @ ..] => Some((Token::Again(Repeat::Exactly(least)), rest)),
-        [b',', b'}', rest @ ..] => Some((Token::Again(Repeat::AtLeast(least)), rest)),
-        [b',', rest @ ..] => match number_at(rest)? {
-            (most, [b'}', rest @ ..]) => Some((Token::Again(Repeat::Between(least, most)), rest)),
-            _ => None,
-        },
+    match number_at(bytes)? {
+        (least, [b'}', rest @ ..]) => Some((Token::Again(Repeat::Exactly(least)), rest)),
+        (least, [b',', rest @ ..]) => end_at(least, rest),
         _ => None,
     }
 }
