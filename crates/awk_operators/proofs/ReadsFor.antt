@@ -1,5 +1,5 @@
 -- What reading the text of a pattern came to.
-use Rattle.std.proofs.Common.{◌≡◌, ℕ, ◌⊎◌, inl, inr, List, Option, Some, None, Result, Ok, Err, refl, ap, ◌∙◌}
+use Rattle.std.proofs.Common.{◌≡◌, ℕ, inl, inr, List, Option, Some, None, Result, Ok, Err, refl, ap, ◌∙◌}
 use Rattle.awk_ere.specs.Tree.{Tree}
 use Rattle.awk_ere.specs.Decided.{pattern_of}
 use Rattle.awk_ere.specs.Refused.{ReadsAs}

@@ -1,2 +1,3 @@
 pub mod support
 pub use Rattle.awk_operators.specs.support.Compiled
+pub use Rattle.awk_operators.specs.support.Kept

@@ -1,7 +1,9 @@
 // The patterns of a run, each of which is read once.
 
+ghost use Rattle.std.specs.Prelude.{◌≡◌, ◌<◌, vec_len, option_map, Some, Ok, IfOk, IfErr, OnOk, IfSome, OnSome};
 ghost use Rattle.awk_meaning.specs.Operators.{matched};
-ghost use Rattle.awk_meaning.specs.Results.{Yields};
+ghost use Rattle.awk_meaning.specs.Results.{Yields, IsWantOfMemory};
+ghost use Rattle.awk_operators.specs.support.Kept.{IsFresh, spelling, fixed_at, cached_for};
 
 use crate::compiled::Compiled;
 use awk_meaning::Halt;
@@ -18,11 +20,26 @@ const CACHED: usize = 64;
 fn reserve_place<T: Drop>(
     places: &mut Vec<Option<T>>,
     number: usize,
-) -> Result<(), AllocFailed<Option<T>>> {
-    for _ in places.len()..=number {
+) -> Result<(), AllocFailed<Option<T>>>
+    ensures { OnOk result (number < vec_len places.new) }
+{
+    while places.len() <= number {
         places.push(None)?;
     }
     Ok(())
+}
+
+/// Whether the pattern that is kept matches somewhere in the text, if it is this one.
+fn match_kept(kept: &mut Option<Compiled>, ere: &Ere, text: &[u8]) -> Option<bool>
+    ensures matched { IfSome result (λ found. matched ere.now.text text.now ≡ Ok found) }
+    ensures kept { OnSome result (option_map spelling kept.new ≡ Some ere.now.text) }
+{
+    if let Some(compiled) = kept {
+        if compiled.text.as_slice() == ere.text.as_slice() {
+            return Some(compiled.is_match(text));
+        }
+    }
+    None
 }
 
 /// The patterns that were read in a run.
@@ -35,7 +52,10 @@ pub struct Patterns {
 }
 
 impl Patterns {
-    pub fn new(alloc: Global) -> Result<Patterns, AllocError> {
+    /// No pattern is kept at first. The only error is want of memory.
+    pub fn new(alloc: Global) -> Result<Patterns, AllocError>
+        ensures { IfOk result (λ patterns. IsFresh patterns CACHED) }
+    {
         let room = NonZeroUsize::new(CACHED).unwrap_or(NonZeroUsize::MIN);
         Ok(Patterns {
             fixed: Vec::new(alloc),
@@ -44,37 +64,49 @@ impl Patterns {
     }
 
     /// Keeps a pattern of the program under its number.
-    fn keep(
+    fn keep_fixed(
         &mut self,
         number: usize,
         compiled: Compiled,
-    ) -> Result<(), AllocFailed<Option<Compiled>>> {
+    ) -> Result<(), AllocFailed<Option<Compiled>>>
+        ensures { OnOk result (fixed_at self.new number ≡ Some compiled.text) }
+    {
         reserve_place(&mut self.fixed, number)?;
-        if let Some(place) = self.fixed.get_mut(number) {
-            *place = Some(compiled);
-        }
+        self.fixed[number] = Some(compiled);
+        Ok(())
+    }
+
+    /// Keeps a pattern for its text. Where there is no room, the one that was used least lately goes.
+    fn keep_cached(&mut self, alloc: Global, compiled: Compiled) -> Result<(), Halt>
+        ensures kept { OnOk result (cached_for self.new compiled.text ≡ Some compiled.text) }
+        ensures fault { IfErr result IsWantOfMemory }
+    {
+        let text = compiled.text.as_slice().to_vec(alloc)?;
+        self.cached.put(text, compiled)?;
         Ok(())
     }
 
     /// Whether a pattern of the program matches somewhere in the text.
     pub fn matches_ere(&mut self, alloc: Global, ere: &Ere, text: &[u8]) -> Result<bool, Halt>
-        ensures { Yields result (matched ere.now.text text.now) }
+        ensures matched { Yields result (matched ere.now.text text.now) }
+        ensures kept { OnOk result (fixed_at self.new ere.now.number ≡ Some ere.now.text) }
     {
-        if let Some(Some(compiled)) = self.fixed.get_mut(ere.number) {
-            if compiled.text.as_slice() == ere.text.as_slice() {
-                return Ok(compiled.is_match(text));
+        if let Some(kept) = self.fixed.get_mut(ere.number) {
+            if let Some(found) = match_kept(kept, ere, text) {
+                return Ok(found);
             }
         }
         let mut compiled = Compiled::read(alloc, &ere.text)?;
         let found = compiled.is_match(text);
-        self.keep(ere.number, compiled)?;
+        self.keep_fixed(ere.number, compiled)?;
         Ok(found)
     }
 
     /// Whether the pattern that a text spells matches somewhere in another. One that spells none is
     /// the fault F6. (POSIX awk, Regular Expressions)
     pub fn matches(&mut self, alloc: Global, pattern: &Bytes, text: &[u8]) -> Result<bool, Halt>
-        ensures { Yields result (matched pattern.now text.now) }
+        ensures matched { Yields result (matched pattern.now text.now) }
+        ensures kept { OnOk result (cached_for self.new pattern.now ≡ Some pattern.now) }
     {
         if let Some(compiled) = self.cached.get_mut(pattern.as_slice()) {
             if compiled.text.as_slice() == pattern.as_slice() {
@@ -83,8 +115,7 @@ impl Patterns {
         }
         let mut compiled = Compiled::read(alloc, pattern)?;
         let found = compiled.is_match(text);
-        self.cached
-            .put(pattern.as_slice().to_vec(alloc)?, compiled)?;
+        self.keep_cached(alloc, compiled)?;
         Ok(found)
     }
 }
