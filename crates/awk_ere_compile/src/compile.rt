@@ -11,6 +11,7 @@ use crate::program::Program;
 use awk_ere_syntax::check::check;
 use awk_ere_syntax::fault::PatternFault;
 use awk_ere_syntax::reading::lexer::token_at;
+use awk_ere_syntax::token::BYTE_COUNT;
 use std::alloc::Global;
 
 /// How many parentheses may be open at once.
@@ -22,7 +23,7 @@ fn compile_checked(alloc: Global, text: &[u8]) -> Result<Program, PatternFault>
     ensures { Builds text.now result }
 {
     let mut compiler = Compiler::new(alloc);
-    let mut class = [false; 256];
+    let mut class = [false; BYTE_COUNT];
     let mut rest = text;
     while let Some((token, behind)) = token_at(rest, &mut class) {
         if !compiler.take_in(token, &class)? {

@@ -12,7 +12,7 @@ use crate::compiler::checkpoint::{Checkpoint, Group, Last};
 use crate::program::{Instruction, Program};
 use crate::repeat::repeat_from;
 use awk_ere_syntax::fault::PatternFault;
-use awk_ere_syntax::token::{Repeat, Token};
+use awk_ere_syntax::token::{BYTE_COUNT, Repeat, Token};
 use std::alloc::{AllocError, Global};
 
 /// The greatest size of a pattern.
@@ -23,7 +23,7 @@ const GREATEST_SIZE: usize = 10_000;
 #[derive(Drop)]
 pub struct Compiler {
     pub instructions: Vec<Instruction>,
-    pub classes: Vec<[bool; 256]>,
+    pub classes: Vec<[bool; BYTE_COUNT]>,
     /// The groups around the present one, the outermost first.
     pub outer: Vec<Group>,
     pub group: Group,
@@ -106,7 +106,7 @@ impl Compiler {
     }
 
     /// A bracket of this class.
-    fn push_class(&mut self, class: &[bool; 256]) -> Result<(), AllocError>
+    fn push_class(&mut self, class: &[bool; BYTE_COUNT]) -> Result<(), AllocError>
         requires size { self.old.size ≤ suc greatest_size }
         requires few { length self.old.classes.items ≤ greatest_size }
         ensures { OnOk result (state_of self.new ≡ compiler.push_class class.now (state_of self.old)) }
@@ -207,7 +207,7 @@ impl Compiler {
     }
 
     /// Takes in one token more, and tells whether it may stand there. The class is that of a bracket.
-    pub fn take_in(&mut self, token: Token, class: &[bool; 256]) -> Result<bool, AllocError>
+    pub fn take_in(&mut self, token: Token, class: &[bool; BYTE_COUNT]) -> Result<bool, AllocError>
         requires { IsSound (state_of self.old) }
         ensures { IfOk result (λ ok. taken ok (state_of self.new)
             ≡ compiler.take_in token class.now (state_of self.old)) }

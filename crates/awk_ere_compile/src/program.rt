@@ -1,5 +1,7 @@
 // The straight program of a pattern.
 
+use awk_ere_syntax::token::BYTE_COUNT;
+
 /// One instruction. A program is run from its first to its last instruction once for each byte of a text.
 #[derive(Clone, Copy, PartialEq, Eq)]
 pub enum Instruction {
@@ -30,5 +32,5 @@ pub enum Instruction {
 pub struct Program {
     pub instructions: Vec<Instruction>,
     /// The classes that instructions name by their number: for each byte whether it is in the class.
-    pub classes: Vec<[bool; 256]>,
+    pub classes: Vec<[bool; BYTE_COUNT]>,
 }

@@ -4,7 +4,7 @@ ghost use Rattle.std.specs.Prelude.{◌≡◌, ◌+◌, ◌<◌, ◌≤◌, ◌^
 ghost use Rattle.awk_ere_syntax.specs.support.Checks.{place_behind, may_stop, is_bad, Checked};
 
 use crate::reading::lexer::token_at;
-use crate::token::{GREATEST_COUNT, Repeat, Token};
+use crate::token::{BYTE_COUNT, GREATEST_COUNT, Repeat, Token};
 
 /// What stands directly before, in the innermost open group.
 #[derive(Clone, Copy)]
@@ -82,7 +82,7 @@ pub fn check(text: &[u8]) -> Option<Facts>
     if text.is_empty() {
         return Some(Facts { bad, opened });
     }
-    let mut set = [false; 256];
+    let mut set = [false; BYTE_COUNT];
     let mut place = CheckState {
         before: Before::Nothing,
         groups: 0,

@@ -1,5 +1,8 @@
 // The tokens of a pattern.
 
+/// How many bytes there are. A class of bytes has a flag for each.
+pub const BYTE_COUNT: usize = 256;
+
 /// The greatest count of a repeat, `RE_DUP_MAX` in XBD 9.4.6.
 pub const GREATEST_COUNT: u16 = 255;
 

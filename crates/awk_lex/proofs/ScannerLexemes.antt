@@ -1,5 +1,5 @@
 -- What the scanner answers by the first byte.
-use Rattle.std.proofs.Common.{◌≡◌, ℕ, ◌+◌, Bool, true, false, eqb, inl, inr, List, length, take, drop, Option, Some, None, refl, sym, ap, ◌∙◌, subst, drop-drop}
+use Rattle.std.proofs.Common.{◌≡◌, ℕ, ◌+◌, ◌≤◌, ◌<◌, Bool, true, false, eqb, inl, inr, List, [], ◌∷◌, length, get_or, take, drop, Option, Some, None, refl, sym, ap, ◌∙◌, subst, drop-drop, arith}
 use Rattle.std.specs.Prelude.{slice_index, take_while, unwrap_or}
 use Rattle.std.specs.List.{prefix_len}
 use Rattle.std.specs.Char.{is_ascii_digit}
@@ -9,14 +9,14 @@ use Rattle.std.proofs.lemmas.List.Folds.{length-prefix_len}
 use Rattle.awk_lex.specs.definitions.Escapes.{unescaped}
 use Rattle.awk_lex.specs.definitions.Tables.{reserved, punctuators, kind_in}
 use Rattle.awk_lex.specs.definitions.Words.{is_name_start, is_word_byte, opens, is_allowed}
-use Rattle.awk_lex.specs.support.Lexeme.{gap_len, body_len, named, kind_of, found_word, closed_string, found_string, found_ere, punctuator_at, token_lexeme, lexeme_of}
+use Rattle.awk_lex.specs.support.Lexeme.{gap_len, body_len, named, kind_of, found_word, closed_string, found_string, found_ere, short_punctuator, long_punctuator, punctuator_at, token_lexeme, lexeme_of}
 use Rattle.awk_lex.specs.declared.token.Kind.{Kind}
 use Rattle.awk_lex.specs.declared.token.Kind.TheVariants.{String, Ere, Name, Called}
-use Rattle.awk_lex.specs.declared.refusal.RefusalCode.TheVariants.{EscapeRefused}
+use Rattle.awk_lex.specs.declared.refusal.RefusalCode.TheVariants.{EscapeRefused, NumberRefused, UnexpectedByte}
 use Rattle.awk_lex.specs.declared.lexeme.Lexeme.{Lexeme}
 use Rattle.awk_lex.specs.declared.lexeme.Lexeme.TheVariants as lexeme
 use Rattle.awk_lex.proofs.Prefixes.{if_true, if_false}
-use Rattle.awk_lex.proofs.Tables.{word_allowed}
+use Rattle.awk_lex.proofs.Tables.{word_allowed, punctuators_are, row_is}
 use Rattle.awk_lex.proofs.Read.{lexeme_without_gap}
 
 named_allowed : (w rest x : List ℕ) → is_allowed (named w rest) x ≡ true
@@ -101,3 +101,38 @@ punctuator_first d text s g letter digit no_quote no_slash e =
     let b = slice_index text 0 in
     e ∙ ap (token_lexeme text) (sym (if_false (is_name_start b) _ _ letter ∙ if_false (is_ascii_digit b) _ _ digit
     ∙ if_false (eqb b 34) _ _ (ne_eqb b 34 no_quote) ∙ if_false (eqb b 47) _ _ (ne_eqb b 47 no_slash))) ∙ sym (lexeme_without_gap d text g)
+
+-- ---- punctuators
+
+-- the first byte alone
+abbrev short_here : ℕ → List ℕ → Lexeme
+short_here b rest = token_lexeme (b ∷ rest) (short_punctuator (kind_in punctuators (b ∷ [])))
+
+pub short_token : (b : ℕ) (rest : List ℕ) (k : Kind) → Some k ≡ kind_in punctuators (b ∷ []) → lexeme.Token k 1 ≡ short_here b rest
+short_token b rest k e =
+    sym (if_true (is_allowed k rest) (lexeme.Token k 1) (lexeme.Fault NumberRefused) ((row_is punctuators (b ∷ []) k punctuators_are (sym e)).allowed rest))
+    ∙ ap (λ (o : Option Kind). token_lexeme (b ∷ rest) (short_punctuator o)) e
+
+pub short_fault : (b : ℕ) (rest : List ℕ) → None ≡ kind_in punctuators (b ∷ []) → lexeme.Fault UnexpectedByte ≡ short_here b rest
+short_fault b rest e = ap (λ (o : Option Kind). token_lexeme (b ∷ rest) (short_punctuator o)) e
+
+pub one_byte : (text : List ℕ) (l : Lexeme) → 1 ≤ length text → length text < 2 → ((rest : List ℕ) → l ≡ short_here (get_or text 0 0) rest) → l ≡ token_lexeme text (punctuator_at punctuators text)
+one_byte [] l ge lt short = absurd (omega arith)
+one_byte (a ∷ []) l ge lt short = short []
+one_byte (a ∷ b ∷ rest) l ge lt short = absurd (omega arith)
+
+-- the first two bytes
+abbrev long_here : ℕ → ℕ → List ℕ → Option Kind → Lexeme
+long_here a b rest o = token_lexeme (a ∷ b ∷ rest) (long_punctuator o (kind_in punctuators (a ∷ [])))
+
+pub long_token : (text : List ℕ) (k : Kind) → 2 ≤ length text → Some k ≡ kind_in punctuators (get_or text 0 0 ∷ get_or text 1 0 ∷ []) → lexeme.Token k 2 ≡ token_lexeme text (punctuator_at punctuators text)
+long_token [] k le e = absurd (omega arith)
+long_token (a ∷ []) k le e = absurd (omega arith)
+long_token (a ∷ b ∷ rest) k le e =
+    sym (if_true (is_allowed k rest) (lexeme.Token k 2) (lexeme.Fault NumberRefused) ((row_is punctuators (a ∷ b ∷ []) k punctuators_are (sym e)).allowed rest))
+    ∙ ap (long_here a b rest) e
+
+pub no_long_token : (text : List ℕ) (l : Lexeme) → 2 ≤ length text → None ≡ kind_in punctuators (get_or text 0 0 ∷ get_or text 1 0 ∷ []) → ((rest : List ℕ) → l ≡ short_here (get_or text 0 0) rest) → l ≡ token_lexeme text (punctuator_at punctuators text)
+no_long_token [] l le e short = absurd (omega arith)
+no_long_token (a ∷ []) l le e short = absurd (omega arith)
+no_long_token (a ∷ b ∷ rest) l le e short = short (b ∷ rest) ∙ ap (long_here a b rest) e

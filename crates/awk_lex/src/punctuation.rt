@@ -1,8 +1,8 @@
 // The punctuators: the tokens that are spelled with neither letters nor digits nor delimiters.
 
-ghost use Rattle.std.specs.Prelude.{◌≡◌, ◌∷◌, [], slice_index};
+ghost use Rattle.std.specs.Prelude.{◌≡◌, ℕ, List, ◌∷◌, [], slice_index};
 ghost use Rattle.awk_lex.specs.definitions.Tables.{punctuators, divisions, kind_in};
-ghost use Rattle.awk_lex.specs.support.Lexeme.{punctuator_at, token_lexeme};
+ghost use Rattle.awk_lex.specs.support.Lexeme.{punctuator_at, short_punctuator, token_lexeme};
 
 use crate::lexeme::Lexeme;
 use crate::refusal::RefusalCode;
@@ -64,21 +64,28 @@ fn long_punctuator(first: u8, second: u8) -> Option<Kind>
     }
 }
 
+/// The lexeme in front of a text, by its first byte alone, which is no slash.
+fn short_lexeme(byte: u8) -> Lexeme
+    ensures { (rest : List ℕ) → result ≡ token_lexeme (byte ∷ rest) (short_punctuator (kind_in punctuators (byte ∷ []))) }
+{
+    match short_punctuator(byte) {
+        Some(kind) => Lexeme::Token(kind, 1),
+        None => Lexeme::Fault(RefusalCode::UnexpectedByte),
+    }
+}
+
 /// The longest punctuator in front of a text that begins with no slash.
 pub fn punctuator_lexeme(text: &[u8]) -> Lexeme
     ensures { result ≡ token_lexeme text.now (punctuator_at punctuators text.now) }
 {
-    if let [first, second, ..] = text
-        && let Some(kind) = long_punctuator(*first, *second)
-    {
-        return Lexeme::Token(kind, 2);
+    match text {
+        [] => Lexeme::Fault(RefusalCode::UnexpectedByte),
+        [first] => short_lexeme(*first),
+        [first, second, ..] => match long_punctuator(*first, *second) {
+            Some(kind) => Lexeme::Token(kind, 2),
+            None => short_lexeme(*first),
+        },
     }
-    if let [first, ..] = text
-        && let Some(kind) = short_punctuator(*first)
-    {
-        return Lexeme::Token(kind, 1);
-    }
-    Lexeme::Fault(RefusalCode::UnexpectedByte)
 }
 
 /// The punctuator in front of a text that begins with a slash, where a slash divides.

@@ -2,6 +2,10 @@
 use Rattle.std.specs.Prelude.{ℕ, Bool, false, List, map, slice_index_or, ◌≡◌, zero, suc, ◌+◌, ◌*◌, ◌≤◌, ◌⊎◌, length, Some, true, slice_get, ◌<◌, Option, None}
 use Rattle.std.specs.List.{range_with_len}
 
+-- how many bytes there are
+abbrev pub byte_count : ℕ
+byte_count = 256
+
 -- for each byte, from 0 to 255, whether it is in the class
 abbrev pub Class : Type 0
 Class = List Bool
@@ -11,7 +15,7 @@ has c b = slice_index_or c b false
 
 -- the class of the bytes that pass
 abbrev pub class_of : (ℕ → Bool) → Class
-class_of p = map p (range_with_len 0 256)
+class_of p = map p (range_with_len 0 byte_count)
 
 -- ---- Patterns, and what they match (XBD 9.4).
 

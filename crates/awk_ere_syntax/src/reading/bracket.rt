@@ -2,7 +2,7 @@
 
 ghost use Rattle.std.specs.Prelude.{◌≡◌, ◌||◌, ◌<◌, ℕ, List, not, true, false, length, Some, slice_index_or};
 ghost use Rattle.std.specs.Option.{option_map};
-ghost use Rattle.awk_ere_syntax.specs.definitions.Tree.{class_of};
+ghost use Rattle.awk_ere_syntax.specs.definitions.Tree.{byte_count, class_of};
 ghost use Rattle.awk_ere_syntax.specs.definitions.Brackets.{Item as ItemForm, any_has, begins_range, is_barred, Bracket, bracket_has};
 ghost use Rattle.awk_ere_syntax.specs.definitions.Tokens.{atom, bracket};
 ghost use Rattle.awk_ere_syntax.specs.support.Lexer.{mark_at, name_at, items_at, bracket_token};
@@ -10,7 +10,7 @@ ghost use Rattle.awk_ere_syntax.specs.support.TokenValues.{seen_mark, descends, 
 
 use crate::class_name::{ClassName, name_at};
 use crate::reading::escape::escape_at;
-use crate::token::Token;
+use crate::token::{BYTE_COUNT, Token};
 
 /// An item of a bracket.
 #[derive(Clone, Copy)]
@@ -40,8 +40,8 @@ impl Item {
     }
 
     /// Sets the flags of its bytes, and leaves the others.
-    fn add_to(self, set: &mut [bool; 256])
-        ensures { (b : ℕ) → b < 256 → slice_index_or set.new b false ≡ (slice_index_or set.old b false || holds self b) }
+    fn add_to(self, set: &mut [bool; BYTE_COUNT])
+        ensures { (b : ℕ) → b < byte_count → slice_index_or set.new b false ≡ (slice_index_or set.old b false || holds self b) }
     {
         if let Item::Single(byte) = self {
             set[usize::from(byte)] = true;
@@ -133,10 +133,10 @@ fn end_at(first: bool, bytes: &[u8]) -> Option<&[u8]>
 }
 
 /// The items of a bracket and the `]` behind them, and what follows. Their bytes are left in `set`.
-fn items_at<'a>(bytes: &'a [u8], set: &mut [bool; 256]) -> Option<(Token, &'a [u8])>
-    requires { (b : ℕ) → b < 256 → slice_index_or set.old b false ≡ false }
+fn items_at<'a>(bytes: &'a [u8], set: &mut [bool; BYTE_COUNT]) -> Option<(Token, &'a [u8])>
+    requires { (b : ℕ) → b < byte_count → slice_index_or set.old b false ≡ false }
     ensures found { option_map (λ r. (r.0, r.1.now)) result ≡ option_map seen_items (items_at (length bytes.now) true bytes.now) }
-    ensures set { (r : List ItemForm × List ℕ) → items_at (length bytes.now) true bytes.now ≡ Some r → (b : ℕ) → b < 256 → slice_index_or set.new b false ≡ any_has r.0 b }
+    ensures set { (r : List ItemForm × List ℕ) → items_at (length bytes.now) true bytes.now ≡ Some r → (b : ℕ) → b < byte_count → slice_index_or set.new b false ≡ any_has r.0 b }
 {
     let mut rest = bytes;
     let mut first = true;
@@ -154,20 +154,20 @@ fn items_at<'a>(bytes: &'a [u8], set: &mut [bool; 256]) -> Option<(Token, &'a [u
 }
 
 /// Turns each flag round.
-fn flip(set: &mut [bool; 256])
-    ensures { (b : ℕ) → b < 256 → slice_index_or set.new b false ≡ not (slice_index_or set.old b false) }
+fn flip(set: &mut [bool; BYTE_COUNT])
+    ensures { (b : ℕ) → b < byte_count → slice_index_or set.new b false ≡ not (slice_index_or set.old b false) }
 {
-    for byte in 0..256 {
+    for byte in 0..BYTE_COUNT {
         set[byte] = !set[byte];
     }
 }
 
 /// A bracket behind its `[`, and what follows it. Its class is left in `set`.
-pub fn bracket_at<'a>(bytes: &'a [u8], set: &mut [bool; 256]) -> Option<(Token, &'a [u8])>
+pub fn bracket_at<'a>(bytes: &'a [u8], set: &mut [bool; BYTE_COUNT]) -> Option<(Token, &'a [u8])>
     ensures found { option_map (λ r. (r.0, r.1.now)) result ≡ option_map seen_front (bracket_token bytes.now) }
     ensures set { (k : Bracket) (rest : List ℕ) → bracket_token bytes.now ≡ Some (atom (bracket k), rest) → set.new ≡ class_of (bracket_has k) }
 {
-    *set = [false; 256];
+    *set = [false; BYTE_COUNT];
     if let Some(rest) = bytes.strip_prefix(b"^") {
         let found = items_at(rest, set);
         flip(set);

@@ -11,7 +11,7 @@ ghost use Rattle.awk_ere_syntax.specs.support.TokenValues.{seen_token, seen_fron
 use crate::reading::bracket::bracket_at;
 use crate::reading::escape::escape_at;
 use crate::reading::interval::interval_at;
-use crate::token::{Repeat, Token};
+use crate::token::{BYTE_COUNT, Repeat, Token};
 
 /// The token that a byte alone is.
 fn sign(byte: u8) -> Token
@@ -41,7 +41,7 @@ fn escaped(bytes: &[u8]) -> Option<(Token, &[u8])>
 
 /// The token at the front of a pattern's text, and what follows it: `None` where none stands there (XBD 9.4).
 /// A bracket leaves its class in `set`; what any other token leaves there may be anything.
-pub fn token_at<'a>(bytes: &'a [u8], set: &mut [bool; 256]) -> Option<(Token, &'a [u8])>
+pub fn token_at<'a>(bytes: &'a [u8], set: &mut [bool; BYTE_COUNT]) -> Option<(Token, &'a [u8])>
     ensures found { option_map (λ r. (r.0, r.1.now)) result ≡ option_map seen_front (token_at bytes.now) }
     ensures set { (k : Bracket) (rest : List ℕ) → token_at bytes.now ≡ Some (atom (bracket k), rest) → set.new ≡ class_of (bracket_has k) }
 {
