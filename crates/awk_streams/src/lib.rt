@@ -7,7 +7,7 @@ mod output;
 mod streams;
 
 pub use awk_world::{
-    Answer, Entry, InputKind, Mode, OutputKind, ScriptWorld, World, WorldFault,
+    Answer, Entry, InputKind, Mode, OUTPUT_BUFFER_SIZE, OutputKind, ScriptWorld, World, WorldFault,
     is_consistent_with_less, some_oracle_is_consistent,
 };
 pub use fault::StreamFault;

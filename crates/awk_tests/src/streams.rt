@@ -83,15 +83,17 @@ fn copy_standard_input<W: World>(
     separator: &[u8],
 ) -> Result<(), StreamFault> {
     let mut streams = Streams::new(alloc);
+    streams.make_room()?;
     streams.open_main(world, InputKind::Standard, b"")?;
     let copied = copy_records(world, &mut streams, separator, 100);
     copied.and(streams.finish(world))
 }
 
-// The outcome and the log of a copy: of a separator, of whether standard input breaks, ends or is refused, and of its
-// bytes.
+// The outcome and the log of a copy: of the size of an output's buffer, of a separator, of whether standard input breaks,
+// ends or is refused, and of its bytes.
 fn copied(alloc: Global, input: &str) -> Result<String, Fail> {
-    let (separator, answer) = input.split_once(" │ ").ok_or("no separator")?;
+    let (size, copy) = input.split_once(" │ ").ok_or("no size")?;
+    let (separator, answer) = copy.split_once(" │ ").ok_or("no separator")?;
     let (ending, bytes) = answer.split_once(" │ ").ok_or("no ending")?;
     let mut answers = Vec::new(alloc);
     answers.push(Answer {
@@ -102,21 +104,27 @@ fn copied(alloc: Global, input: &str) -> Result<String, Fail> {
         breaks: ending == "breaks",
     })?;
     let mut world = ScriptWorld::new(alloc, answers);
+    world.buffer_outputs(size.parse()?);
     let outcome = copy_standard_input(&mut world, alloc, &bytes_of(alloc, separator)?);
     let log = log_text(alloc, &world)?;
     Ok(format!(in alloc; "{outcome:?};{log}")?)
 }
 
 const COPIES: &str = r#"
-␊ │ ends │  → Ok(());open Standard Some(2) ;end 2;flush 0;flush 1;close 2 0;
-␊ │ ends │ ab␊c → Ok(());open Standard Some(2) ;read 2 ab␊c;write 0 ab;write 0 |;end 2;write 0 c;write 0 |;flush 0;flush 1;close 2 0;
-␊ │ ends │ a␊␊b → Ok(());open Standard Some(2) ;read 2 a␊␊b;write 0 a;write 0 |;write 0 |;end 2;write 0 b;write 0 |;flush 0;flush 1;close 2 0;
- │ ends │ ␊␊a␊b␊␊␊c␊ → Ok(());open Standard Some(2) ;read 2 ␊␊a␊b␊␊␊c␊;write 0 a␊b;write 0 |;end 2;write 0 c;write 0 |;flush 0;flush 1;close 2 0;
-␊ │ breaks │ a␊b → Err(InputNotReadable);open Standard Some(2) ;read 2 a␊b;write 0 a;write 0 |;break 2;flush 0;flush 1;close 2 0;
-␊ │ breaks │ a␊ → Err(InputNotReadable);open Standard Some(2) ;read 2 a␊;write 0 a;write 0 |;break 2;flush 0;flush 1;close 2 0;
-␊ │ refused │ a␊ → Err(InputNotReadable);open Standard None ;
-ab │ ends │ a␊ → Err(SeparatorTooLong);open Standard Some(2) ;flush 0;flush 1;close 2 0;
-␊ │ ends │ ⟨20000 x⟩␊y → Ok(());open Standard Some(2) ;read 2 ⟨8192 x⟩;read 2 ⟨8192 x⟩;read 2 ⟨3616 x⟩␊y;write 0 ⟨20000 x⟩;write 0 |;end 2;write 0 y;write 0 |;flush 0;flush 1;close 2 0;
+0 │ ␊ │ ends │  → Ok(());open Standard Some(2) ;end 2;flush 0;flush 1;close 2 0;
+0 │ ␊ │ ends │ ab␊c → Ok(());open Standard Some(2) ;read 2 ab␊c;write 0 ab;write 0 |;end 2;write 0 c;write 0 |;flush 0;flush 1;close 2 0;
+0 │ ␊ │ ends │ a␊␊b → Ok(());open Standard Some(2) ;read 2 a␊␊b;write 0 a;write 0 |;write 0 |;end 2;write 0 b;write 0 |;flush 0;flush 1;close 2 0;
+0 │  │ ends │ ␊␊a␊b␊␊␊c␊ → Ok(());open Standard Some(2) ;read 2 ␊␊a␊b␊␊␊c␊;write 0 a␊b;write 0 |;end 2;write 0 c;write 0 |;flush 0;flush 1;close 2 0;
+0 │ ␊ │ breaks │ a␊b → Err(InputNotReadable);open Standard Some(2) ;read 2 a␊b;write 0 a;write 0 |;break 2;flush 0;flush 1;close 2 0;
+0 │ ␊ │ breaks │ a␊ → Err(InputNotReadable);open Standard Some(2) ;read 2 a␊;write 0 a;write 0 |;break 2;flush 0;flush 1;close 2 0;
+0 │ ␊ │ refused │ a␊ → Err(InputNotReadable);open Standard None ;
+0 │ ab │ ends │ a␊ → Err(SeparatorTooLong);open Standard Some(2) ;flush 0;flush 1;close 2 0;
+0 │ ␊ │ ends │ ⟨20000 x⟩␊y → Ok(());open Standard Some(2) ;read 2 ⟨20000 x⟩␊y;write 0 ⟨20000 x⟩;write 0 |;end 2;write 0 y;write 0 |;flush 0;flush 1;close 2 0;
+2 │ ␊ │ ends │ abc␊d → Ok(());open Standard Some(2) ;read 2 abc␊d;write 0 abc;end 2;write 0 |d;write 0 |;flush 0;flush 1;close 2 0;
+3 │ ␊ │ ends │ ab␊c → Ok(());open Standard Some(2) ;read 2 ab␊c;end 2;write 0 ab|;write 0 c|;flush 0;flush 1;close 2 0;
+65536 │ ␊ │ ends │ ab␊c → Ok(());open Standard Some(2) ;read 2 ab␊c;end 2;write 0 ab|c|;flush 0;flush 1;close 2 0;
+65536 │ ␊ │ breaks │ ab␊c → Err(InputNotReadable);open Standard Some(2) ;read 2 ab␊c;break 2;write 0 ab|;flush 0;flush 1;close 2 0;
+65536 │ ␊ │ ends │ ⟨70000 x⟩␊y → Ok(());open Standard Some(2) ;read 2 ⟨65536 x⟩;read 2 ⟨4464 x⟩␊y;write 0 ⟨70000 x⟩;end 2;write 0 |y|;flush 0;flush 1;close 2 0;
 "#;
 
 #[test]

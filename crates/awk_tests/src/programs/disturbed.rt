@@ -6,7 +6,7 @@ use super::accepted::PROGRAMS;
 use crate::rows::{Row, expect_rows, rows_of};
 use awk_command::{CommandLine, ProgramSource, read_command_line};
 use awk_run::{Fault, Outcome, Start, execute};
-use awk_streams::{Answer, Entry, ScriptWorld};
+use awk_streams::{Answer, Entry, OUTPUT_BUFFER_SIZE, ScriptWorld};
 use std::alloc::{AllocError, Global};
 use std::process::Abort;
 use std::test::Fail;
@@ -15,6 +15,10 @@ const FAILED: &str = r#"
 $ BEGIN{print 1}
 *
 ! awk: fault 2: write failed
+= 2
+$ BEGIN{print 1; print 1/0}
+*
+! awk: fault 4: division by zero
 = 2
 $ {print}
 |
@@ -53,6 +57,8 @@ struct Program {
     start: Start,
     limit: u64,
     answers: Vec<Answer>,
+    // The size of an output's buffer.
+    buffer: usize,
     line: usize,
 }
 
@@ -71,7 +77,7 @@ fn text_of(source: ProgramSource) -> Result<Vec<u8>, Fail> {
     }
 }
 
-fn program_of(alloc: Global, row: Row) -> Result<Program, Fail> {
+fn program_of(alloc: Global, row: Row, buffer: usize) -> Result<Program, Fail> {
     let Ok(command) = read_command_line(alloc, &row.words) else {
         return Err(Fail::new("no command line"));
     };
@@ -90,6 +96,7 @@ fn program_of(alloc: Global, row: Row) -> Result<Program, Fail> {
         },
         limit,
         answers: row.answers,
+        buffer,
         line: row.line,
     })
 }
@@ -121,7 +128,9 @@ impl Program {
             }
             answers.push(copy)?;
         }
-        Ok(ScriptWorld::new(alloc, answers))
+        let mut world = ScriptWorld::new(alloc, answers);
+        world.buffer_outputs(self.buffer);
+        Ok(world)
     }
 
     // Runs it with at most so many steps.
@@ -283,8 +292,7 @@ fn expect_limits(
     Ok(())
 }
 
-fn expect_disturbances(rt: &impl Abort, alloc: Global, row: Row) -> Result<(), Fail> {
-    let program = program_of(alloc, row)?;
+fn expect_disturbances(rt: &impl Abort, alloc: Global, program: Program) -> Result<(), Fail> {
     let whole = program.run(alloc, program.limit, program.world(alloc)?)?;
     for failure in [Failure::Write, Failure::Flush, Failure::Memory] {
         expect_failures(rt, alloc, &program, &whole, failure)?;
@@ -298,8 +306,11 @@ fn expect_disturbances(rt: &impl Abort, alloc: Global, row: Row) -> Result<(), F
 fn disturbed_programs(rt: HostRuntime) -> Result<(), Fail> {
     expect_rows(&rt, rt.alloc(), FAILED)?;
     for table in PROGRAMS {
-        for row in rows_of(rt.alloc(), table)? {
-            expect_disturbances(&rt, rt.alloc(), row)?;
+        for buffer in [3, OUTPUT_BUFFER_SIZE] {
+            for row in rows_of(rt.alloc(), table)? {
+                let program = program_of(rt.alloc(), row, buffer)?;
+                expect_disturbances(&rt, rt.alloc(), program)?;
+            }
         }
     }
     Ok(())
