@@ -3,7 +3,7 @@
 ghost use Rattle.std.specs.Prelude.{◌≡◌, ◌<◌, vec_len, option_map, Some, Ok, IfOk, IfErr, OnOk, IfSome, OnSome};
 ghost use Rattle.awk_meaning.specs.Operators.{matched};
 ghost use Rattle.awk_meaning.specs.Results.{Yields, IsWantOfMemory};
-ghost use Rattle.awk_operators.specs.support.Kept.{IsFresh, spelling, fixed_at, cached_for};
+ghost use Rattle.awk_operators.specs.support.Kept.{IsFresh, room_of, spelling, fixed_at, cached_for};
 
 use crate::compiled::Compiled;
 use awk_meaning::Halt;
@@ -69,7 +69,8 @@ impl Patterns {
         number: usize,
         compiled: Compiled,
     ) -> Result<(), AllocFailed<Option<Compiled>>>
-        ensures { OnOk result (fixed_at self.new number ≡ Some compiled.text) }
+        ensures kept { OnOk result (fixed_at self.new number ≡ Some compiled.text) }
+        ensures room { room_of self.new ≡ room_of self.old }
     {
         reserve_place(&mut self.fixed, number)?;
         self.fixed[number] = Some(compiled);
@@ -79,6 +80,7 @@ impl Patterns {
     /// Keeps a pattern for its text. Where there is no room, the one that was used least lately goes.
     fn keep_cached(&mut self, alloc: Global, compiled: Compiled) -> Result<(), Halt>
         ensures kept { OnOk result (cached_for self.new compiled.text ≡ Some compiled.text) }
+        ensures room { room_of self.new ≡ room_of self.old }
         ensures fault { IfErr result IsWantOfMemory }
     {
         let text = compiled.text.as_slice().to_vec(alloc)?;
@@ -90,6 +92,7 @@ impl Patterns {
     pub fn matches_ere(&mut self, alloc: Global, ere: &Ere, text: &[u8]) -> Result<bool, Halt>
         ensures matched { Yields result (matched ere.now.text text.now) }
         ensures kept { OnOk result (fixed_at self.new ere.now.number ≡ Some ere.now.text) }
+        ensures room { room_of self.new ≡ room_of self.old }
     {
         if let Some(kept) = self.fixed.get_mut(ere.number) {
             if let Some(found) = match_kept(kept, ere, text) {
@@ -107,6 +110,7 @@ impl Patterns {
     pub fn matches(&mut self, alloc: Global, pattern: &Bytes, text: &[u8]) -> Result<bool, Halt>
         ensures matched { Yields result (matched pattern.now text.now) }
         ensures kept { OnOk result (cached_for self.new pattern.now ≡ Some pattern.now) }
+        ensures room { room_of self.new ≡ room_of self.old }
     {
         if let Some(compiled) = self.cached.get_mut(pattern.as_slice()) {
             if compiled.text.as_slice() == pattern.as_slice() {

@@ -10,6 +10,10 @@ pub record IsFresh (patterns : Patterns) (room : ℕ) : Type 0 where
   pub fixed : patterns.fixed.items ≡ []
   pub cached : patterns.cached ≡ lru_cache [] room
 
+-- how many may be kept that don't stand in the program
+abbrev pub room_of : Patterns → ℕ
+room_of patterns = patterns.cached.cap
+
 abbrev pub spelling : Compiled → List ℕ
 spelling compiled = compiled.text
 
