@@ -1,10 +1,10 @@
 -- What the parser keeps of trees: the makers of nodes make of what is kept of the children what is kept of the node.
-use Rattle.std.proofs.Common.{◌≡◌, ℕ, ◌≤◌, ◌<◌, max, Bool, true, false, cond, inl, inr, List, [], ◌∷◌, Option, Some, None, refl, sym, ap, ◌∙◌, arith}
+use Rattle.std.proofs.Common.{◌≡◌, ℕ, List, Option, ap, arith}
 use Rattle.awk_tree.proofs.LimitedNodes.{one_limited, two_limited, tallest-append, tallest_of-push, height_of_program-add}
 use Rattle.awk_tree.specs.Nodes.{limited, append, push, add}
 use Rattle.awk_tree.specs.declared.tree.UnaryOperator.{UnaryOperator}
 use Rattle.awk_tree.specs.declared.tree.BinaryOperator.{BinaryOperator}
-use Rattle.awk_tree.specs.Tree.{Expr, Group, Field, Unary, Binary, Assign, Exprs, Nil, Cons, Statement, Block, Expression, Print, Statements, NoMore, Then, Item, Begin, Action, Pattern, PatternAction}
+use Rattle.awk_tree.specs.Tree.{Expr, Group, Field, Unary, Binary, Assign, Exprs, Statement, Block, Expression, Print, Statements, Item, Begin, Action, Pattern, PatternAction}
 use Rattle.awk_tree.specs.Height.{height_of, tallest, height_of_statement, tallest_of, height_of_item, height_of_program}
 use Rattle.awk_tree.specs.Precedence.{expr_precedence, operator_precedence}
 use Rattle.awk_expressions.specs.support.Parser.{Operand, group, field, prefixed, joined, assigned, one_more, one_more_statement, one_more_item, evaluated, printed, block, OfBegin, OfNoPattern, OfPattern, make_item, pattern_item}

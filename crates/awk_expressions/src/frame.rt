@@ -165,7 +165,10 @@ impl Frame {
                 precedence: ASSIGNMENT,
                 tree: assign(alloc, name, operand.tree)?,
             }),
-            _ => Ok(operand),
+            rest => {
+                drop(rest);
+                Ok(operand)
+            }
         }
     }
 }

@@ -4,4 +4,5 @@
 pub mod frame;
 pub mod infix_role;
 pub mod operands;
+pub mod stack;
 pub mod state;

@@ -10,6 +10,7 @@ ghost use Rattle.awk_lex.specs.declared.token.Kind.TheVariants.{Assign};
 
 use crate::frame::{Frame, Operand};
 use crate::infix_role::InfixRole;
+use crate::stack::push;
 use crate::state::{NextToken, ParserState};
 use awk_lex::token::{Kind, Operator};
 use awk_tree::precedence::ASSIGNMENT;
@@ -36,7 +37,7 @@ fn push_frame(
     ensures { IfOk result (λ state. next_of state stack.new.items
         ≡ parser.BeforeOperand false in_print_list (frame_of frame ∷ stack_of stack.old.items)) }
 {
-    stack.push(frame)?;
+    push(stack, frame)?;
     Ok(Some(ParserState::BeforeOperand {
         skips_newlines: false,
         in_print_list,
@@ -148,6 +149,7 @@ pub fn close_parenthesis(
         ≡ parser.close_parenthesis max_height next.entry.kind.now outer (operand_of operand) (stack_of stack.now.items)) }
 {
     let Kind::CloseParenthesis = next.kind else {
+        drop(operand);
         return Ok(None);
     };
     let operand = operand.into_group(alloc)?;
@@ -193,7 +195,7 @@ pub fn shift(
 {
     match role {
         InfixRole::Joins(BinaryOperator::Concatenate) => {
-            stack.push(Frame::Binary(BinaryOperator::Concatenate, operand))?;
+            push(stack, Frame::Binary(BinaryOperator::Concatenate, operand))?;
             start_operand(next, false, in_print_list, stack)
         }
         InfixRole::Joins(operator) => push_frame(
@@ -201,6 +203,9 @@ pub fn shift(
             in_print_list,
             stack,
         ),
-        InfixRole::Ends => Ok(None),
+        InfixRole::Ends => {
+            drop(operand);
+            Ok(None)
+        }
     }
 }

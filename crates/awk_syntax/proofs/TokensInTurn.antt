@@ -1,7 +1,6 @@
 -- What is left to read, one token after the other.
 use Rattle.std.proofs.Common.{◌≡◌, ℕ, zero, suc, ◌+◌, ◌<◌, List, [], ◌∷◌, length, drop, get_or, add-one, Option, None, sym, ap, ◌∙◌, arith}
 use Rattle.awk_lex.specs.Told.{kinds_of}
-use Rattle.awk_lex.specs.declared.token.Kind.{Kind}
 use Rattle.awk_lex.specs.declared.token.Token.{Token}
 use Rattle.awk_tree.specs.Tree.{Item}
 use Rattle.awk_expressions.specs.support.Parser.{ParserState, Failed, step, answer}

@@ -14,6 +14,7 @@ ghost use Rattle.awk_syntax.specs.support.Answered.{Gives};
 use crate::parser::{finish, step};
 use crate::patterns::check_patterns;
 use awk_expressions::frame::Frame;
+use awk_expressions::stack::push;
 use awk_expressions::state::{NextToken, ParserState};
 use awk_lex::refusal::{Refusal, RefusalCode};
 use awk_lex::token::{Kind, Token};
@@ -25,7 +26,7 @@ fn read(alloc: Global, tokens: &[Token]) -> Result<Tree, Refusal>
     ensures { Gives result (parser.read max_height (kinds_of tokens.now)) }
 {
     let mut stack = Vec::new(alloc);
-    stack.push(Frame::Program(Some(CheckedItems::new(alloc))))?;
+    push(&mut stack, Frame::Program(Some(CheckedItems::new(alloc))))?;
     let mut state = ParserState::BetweenItems;
     let mut eres = 0;
     for token in tokens {

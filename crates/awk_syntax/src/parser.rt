@@ -16,6 +16,7 @@ use awk_expressions::operands::{
     after_dollar, close_parenthesis, greatest_allowed_on, reduce, shift, start_assignment,
     start_operand,
 };
+use awk_expressions::stack::pop;
 use awk_expressions::state::{NextToken, ParserState};
 use awk_lex::token::{AssignmentOperator, Kind};
 use awk_tree::checked::CheckedItems;
@@ -33,14 +34,18 @@ fn end_operand(
     ensures { IfOk result (λ state. next_of state stack.new.items
         ≡ parser.end_operand max_height next.entry.kind.now (operand_of operand) (stack_of stack.old.items)) }
 {
-    match stack.pop() {
+    match pop(stack) {
         Some(Frame::Group(outer)) => close_parenthesis(alloc, next, outer, operand, stack),
         Some(Frame::Statement) => end_simple_statement(alloc, next, evaluate(operand.tree), stack),
         Some(Frame::Print(list)) => {
             after_print_expr(alloc, next, one_more_expr(list, operand.tree)?, stack)
         }
         Some(Frame::Pattern) => after_pattern(alloc, next, operand, stack),
-        _ => Ok(None),
+        rest => {
+            drop(rest);
+            drop(operand);
+            Ok(None)
+        }
     }
 }
 
@@ -132,17 +137,17 @@ pub fn step(
     }
 }
 
-/// What is read of a whole text: none where it is no program, and else its items unless it is too high.
-fn whole(state: ParserState, stack: &mut Vec<Frame>) -> Option<Option<CheckedItems>>
-    ensures { found_of result ≡ parser.whole (state_of state stack.old.items) }
+/// The items of a program above which nothing has begun, none of them if it is too high.
+fn items(stack: &mut Vec<Frame>) -> Option<Option<CheckedItems>>
+    ensures { found_of result ≡ parser.items (stack_of stack.old.items) }
 {
-    let ParserState::BetweenItems = state else {
-        return None;
-    };
-    let Some(Frame::Program(items)) = stack.pop() else {
-        return None;
-    };
-    if stack.is_empty() { Some(items) } else { None }
+    match pop(stack) {
+        Some(Frame::Program(items)) if stack.is_empty() => Some(items),
+        rest => {
+            drop(rest);
+            None
+        }
+    }
 }
 
 /// The text ends, which ends a pattern as a newline does.
@@ -153,17 +158,12 @@ pub fn finish(
 ) -> Result<Option<Option<CheckedItems>>, AllocError>
     ensures { IfOk result (λ found. found_of found ≡ parser.finish max_height (state_of state stack.old.items)) }
 {
-    let Some(state) = step(
-        alloc,
-        state,
-        NextToken {
-            kind: &Kind::Newline,
-            eres: 0,
-        },
-        stack,
-    )?
-    else {
-        return Ok(None);
+    let next = NextToken {
+        kind: &Kind::Newline,
+        eres: 0,
     };
-    Ok(whole(state, stack))
+    let state = step(alloc, state, next, stack)?;
+    let is_between_items = matches!(state, Some(ParserState::BetweenItems));
+    drop(state);
+    Ok(if is_between_items { items(stack) } else { None })
 }

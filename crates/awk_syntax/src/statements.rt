@@ -8,6 +8,7 @@ ghost use Rattle.awk_tree.specs.Checked.{checked_exprs, checked_statement, check
 
 use awk_expressions::frame::{Frame, Head, Operand};
 use awk_expressions::operands::start_operand;
+use awk_expressions::stack::{pop, push};
 use awk_expressions::state::{NextToken, ParserState};
 use awk_lex::token::{Keyword, Kind};
 use awk_tree::checked::{CheckedExprs, CheckedItem, CheckedStatement, CheckedStatements};
@@ -36,11 +37,17 @@ pub fn end_item(
     ensures { IfOk result (λ state. next_of state stack.new.items
         ≡ parser.end_item max_height (checked_item item) (stack_of stack.old.items)) }
 {
-    let Some(Frame::Program(items)) = stack.pop() else {
-        return Ok(None);
-    };
-    stack.push(Frame::Program(one_more_item(items, item)?))?;
-    Ok(Some(ParserState::BetweenItems))
+    match pop(stack) {
+        Some(Frame::Program(items)) => {
+            push(stack, Frame::Program(one_more_item(items, item)?))?;
+            Ok(Some(ParserState::BetweenItems))
+        }
+        rest => {
+            drop(rest);
+            drop(item);
+            Ok(None)
+        }
+    }
 }
 
 /// An action begins.
@@ -52,7 +59,10 @@ fn start_action(
     ensures { IfOk result (λ state. next_of state stack.new.items
         ≡ parser.BeforeStatement (parser.InAction (head_of head) (parser.no_statements max_height) ∷ stack_of stack.old.items)) }
 {
-    stack.push(Frame::Action(head, Some(CheckedStatements::new(alloc))))?;
+    push(
+        stack,
+        Frame::Action(head, Some(CheckedStatements::new(alloc))),
+    )?;
     Ok(Some(ParserState::BeforeStatement))
 }
 
@@ -61,10 +71,13 @@ pub fn close_brace(stack: &mut Vec<Frame>) -> Result<Option<ParserState>, AllocE
     ensures { IfOk result (λ state. next_of state stack.new.items
         ≡ parser.close_brace max_height (stack_of stack.old.items)) }
 {
-    match stack.pop() {
+    match pop(stack) {
         Some(Frame::Block(all)) => Ok(Some(ParserState::AfterStatement(block(all)))),
         Some(Frame::Action(head, all)) => end_item(make_item(head, all), stack),
-        _ => Ok(None),
+        rest => {
+            drop(rest);
+            Ok(None)
+        }
     }
 }
 
@@ -80,16 +93,43 @@ pub fn start_statement(
     match next.kind {
         Kind::Newline => Ok(Some(ParserState::BeforeStatement)),
         Kind::OpenBrace => {
-            stack.push(Frame::Block(Some(CheckedStatements::new(alloc))))?;
+            push(stack, Frame::Block(Some(CheckedStatements::new(alloc))))?;
             Ok(Some(ParserState::BeforeStatement))
         }
         Kind::CloseBrace => close_brace(stack),
         Kind::Keyword(Keyword::Print) => Ok(Some(ParserState::AfterPrint)),
         _ => {
-            stack.push(Frame::Statement)?;
+            push(stack, Frame::Statement)?;
             start_operand(next, false, false, stack)
         }
     }
+}
+
+/// A block goes on behind a statement.
+fn continue_block(
+    block: Option<CheckedStatements>,
+    statement: Option<CheckedStatement>,
+    stack: &mut Vec<Frame>,
+) -> Result<(), AllocError>
+    ensures { IfOk result (λ _. stack_of stack.new.items ≡ parser.InBlock
+        (parser.one_more_statement max_height (checked_statements block) (checked_statement statement)) ∷ stack_of stack.old.items) }
+{
+    let block = one_more_statement(block, statement)?;
+    push(stack, Frame::Block(block))
+}
+
+/// An action goes on behind a statement.
+fn continue_action(
+    head: Head,
+    action: Option<CheckedStatements>,
+    statement: Option<CheckedStatement>,
+    stack: &mut Vec<Frame>,
+) -> Result<(), AllocError>
+    ensures { IfOk result (λ _. stack_of stack.new.items ≡ parser.InAction (head_of head)
+        (parser.one_more_statement max_height (checked_statements action) (checked_statement statement)) ∷ stack_of stack.old.items) }
+{
+    let action = one_more_statement(action, statement)?;
+    push(stack, Frame::Action(head, action))
 }
 
 /// The token behind a statement, no newline.
@@ -102,12 +142,15 @@ pub fn end_statement(
     ensures { IfOk result (λ state. next_of state stack.new.items
         ≡ parser.end_statement max_height next.entry.kind.now (checked_statement statement) (stack_of stack.old.items)) }
 {
-    let frame = match stack.pop() {
-        Some(Frame::Block(all)) => Frame::Block(one_more_statement(all, statement)?),
-        Some(Frame::Action(head, all)) => Frame::Action(head, one_more_statement(all, statement)?),
-        _ => return Ok(None),
-    };
-    stack.push(frame)?;
+    match pop(stack) {
+        Some(Frame::Block(all)) => continue_block(all, statement, stack)?,
+        Some(Frame::Action(head, all)) => continue_action(head, all, statement, stack)?,
+        rest => {
+            drop(rest);
+            drop(statement);
+            return Ok(None);
+        }
+    }
     start_statement(alloc, next, stack)
 }
 
@@ -139,7 +182,7 @@ pub fn after_print_expr(
         ≡ parser.after_print_expr max_height next.entry.kind.now (checked_exprs list) (stack_of stack.old.items)) }
 {
     if matches!(next.kind, Kind::Comma) {
-        stack.push(Frame::Print(list))?;
+        push(stack, Frame::Print(list))?;
         return Ok(Some(ParserState::BeforeOperand {
             skips_newlines: true,
             in_print_list: true,
@@ -180,7 +223,7 @@ pub fn after_print(
             end_simple_statement(alloc, next, print(none), stack)
         }
         _ => {
-            stack.push(Frame::Print(none))?;
+            push(stack, Frame::Print(none))?;
             start_operand(next, false, true, stack)
         }
     }
@@ -231,7 +274,7 @@ pub fn start_item(
         Kind::Keyword(Keyword::Begin) => Ok(Some(ParserState::AfterBegin)),
         Kind::OpenBrace => start_action(alloc, Head::NoPattern, stack),
         _ => {
-            stack.push(Frame::Pattern)?;
+            push(stack, Frame::Pattern)?;
             start_operand(next, false, false, stack)
         }
     }

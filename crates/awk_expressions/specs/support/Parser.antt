@@ -1,7 +1,7 @@
 -- A shift/reduce parser that keeps what it has begun on a stack of frames. It reads one token at a time and never looks ahead.
 -- A tree above the height m is not kept: the parser goes on without it, so that it still tells whether the tokens
 -- spell a program at all.
-use Rattle.std.specs.Prelude.{ℕ, ℤ, Bool, true, false, nat_le, ◌&&◌, ◌||◌, List, [], ◌∷◌, ◌++◌, Option, Some, None, if◌then◌else◌}
+use Rattle.std.specs.Prelude.{ℕ, ℤ, Bool, true, false, nat_le, ◌&&◌, ◌||◌, List, [], ◌∷◌, Option, Some, None, if◌then◌else◌}
 use Rattle.awk_lex.specs.declared.token.Operator.{Operator}
 use Rattle.awk_lex.specs.declared.token.Operator.TheVariants as s
 use Rattle.awk_lex.specs.declared.token.Kind.{Kind}
@@ -12,7 +12,7 @@ use Rattle.awk_tree.specs.declared.tree.UnaryOperator.{UnaryOperator}
 use Rattle.awk_tree.specs.declared.tree.UnaryOperator.TheVariants as p
 use Rattle.awk_tree.specs.declared.tree.BinaryOperator.{BinaryOperator}
 use Rattle.awk_tree.specs.declared.tree.BinaryOperator.TheVariants as o
-use Rattle.awk_tree.specs.Tree.{Expr, Number, String, Ere, Name, Group, Field, Unary, Binary, Assign, Exprs, Nil, Cons, Statement, Block, Expression, Print, Statements, NoMore, Then, Item, Begin, Action, Pattern, PatternAction}
+use Rattle.awk_tree.specs.Tree.{Expr, Number, String, Ere, Name, Group, Field, Unary, Binary, Assign, Exprs, Nil, Statement, Block, Expression, Print, Statements, NoMore, Item, Begin, Action, Pattern, PatternAction}
 use Rattle.awk_tree.specs.Height.{height_of, tallest, height_of_statement, tallest_of, height_of_item, height_of_program}
 use Rattle.awk_tree.specs.Nodes.{limited, over_one, over_two, append, push, add}
 use Rattle.awk_tree.specs.Precedence.{primary, field_reference, unary, assignment, operator_precedence, greatest_left, greatest_right, is_assignable}

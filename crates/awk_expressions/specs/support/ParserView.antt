@@ -1,5 +1,5 @@
 -- The code's parser, seen as the parser over lists: operands, frames and states.
-use Rattle.std.specs.Prelude.{List, map, reverse, Option, Some, None}
+use Rattle.std.specs.Prelude.{List, [], ◌∷◌, map, reverse, Option, Some, None}
 use Rattle.awk_tree.specs.Checked.{checked_expr, checked_exprs, checked_statement, checked_statements, checked_items}
 use Rattle.awk_expressions.specs.support.Parser as parser
 use Rattle.awk_expressions.specs.declared.infix_role.InfixRole.{InfixRole}
@@ -39,6 +39,11 @@ frame_of (Program items) = parser.InProgram (checked_items items)
 -- the newest first
 abbrev pub stack_of : List Frame → List parser.Frame
 stack_of fs = map frame_of (reverse fs)
+
+-- the stack before its top was taken off
+abbrev pub popped : Option Frame → List Frame → List parser.Frame
+popped None fs = []
+popped (Some f) fs = frame_of f ∷ stack_of fs
 
 abbrev pub reduced : Operand → List Frame → parser.Reduced
 reduced p fs = record { operand = operand_of p; stack = stack_of fs }
