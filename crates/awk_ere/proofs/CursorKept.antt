@@ -68,6 +68,14 @@ entry_of p tb m h v st cs k x lt =
 pub known_of : (p : Pattern) (tb : Table) (v : ℕ) (st : Bool) (cs : List Bool) → IsState p tb v st cs → IsKnown tb v
 known_of p tb v st cs h = record { number = state_number v; known = h.known; named = h.named }
 
+-- the state at a place before which nothing has begun
+pub known_first : (p : Pattern) (tb : Table) → IsTable p tb → (place v : ℕ) → v ≡ first_state place → IsKnown tb v
+known_first p tb h place v e = subst (IsKnown tb) (sym e) (by_start (nat_eq place 0))
+  where
+    by_start : (b : Bool) → IsKnown tb (if b then start_state else dead_state)
+    by_start true = record { number = 0; known = omega (arith, h.least); named = refl }
+    by_start false = record { number = 1; known = omega (arith, h.least); named = refl }
+
 -- within the table
 pub entry_within : (p : Pattern) (tb : Table) (m : Bool) → IsTable p tb → (v x : ℕ) → IsKnown tb v → x < stride → v + x < length (if m then tb.unanchored.items else tb.anchored.items)
 entry_within p tb m h v x k lt = let room = (table_steps p tb m h).room in omega (arith, room, lt, k.named, k.known, h.most)

@@ -1,6 +1,7 @@
 pub mod ClassMembership
 pub mod CursorKept
 pub mod DesugaredMatches
+pub mod InstructionRuns
 pub mod LastEnd
 pub mod LiteralOccurs
 pub mod MarkedStep

@@ -1,15 +1,20 @@
 -- What the table keeps where an entry or a state is added.
-use Rattle.std.proofs.Common.{◌≡◌, ℕ, suc, ◌+◌, ◌-◌, ◌*◌, ◌<◌, ◌≤◌, List, length, take, drop, Bool, true, false, refl, sym, ap, ◌∙◌, subst, ⊎_elim, arith, get_or, set, replicate}
+use Rattle.std.proofs.Common.{◌≡◌, ℕ, suc, ◌+◌, ◌-◌, ◌*◌, ◌<◌, ◌≤◌, List, ◌++◌, length, take, drop, Bool, true, false, refl, sym, ap, ◌∙◌, subst, ⊎_elim, arith, get_or, set, replicate}
 use Rattle.std.specs.Prelude.{nat_eq, if◌then◌else◌}
 use Rattle.std.proofs.lemmas.List.{length-set, take-replicate, drop-replicate, get_or-set_same, get_or-set_other, get_or-replicate, length-replicate}
 use Rattle.std.proofs.Math.Nat.{mul-le-mul_right}
 use Rattle.std.proofs.Math.ListN.{get_or-eq_default}
+use Rattle.std.proofs.Math.Seq.{take-append_seam}
 use Rattle.std.proofs.lemmas.Bool.{cases_lt, cases_eq, ne_eqb}
 use Rattle.awk_ere.specs.support.Layout.{byte_count, end_of_text, stride, dead_state, match_flag, state_bound, fixed_states, least_limit}
 use Rattle.awk_ere.specs.support.SimulationStep.{count_of, leaves, behind, dead_positions}
 use Rattle.awk_ere.specs.support.Table.{IsKnown, positions_at, state_number, IsState, IsEntry, IsEnding, AreTransitions, IsTable, Grows}
 use Rattle.awk_ere.specs.declared.pattern.Pattern.{Pattern}
 use Rattle.awk_ere.specs.declared.dfa.table.Table.{Table}
+
+-- what a slice of a whole list leaves in it
+pub written : {A : Type 0} (n : ℕ) (new old : List A) → length new ≡ n → take n (new ++ drop (length new) old) ≡ new
+written n new old e = subst (λ k. take k (new ++ drop (length new) old) ≡ new) e (take-append_seam new (drop (length new) old))
 
 -- a row lies within the rows
 pub row_within : (d limit n : ℕ) → d < limit → d * n + n ≤ limit * n

@@ -6,7 +6,7 @@ ghost use Rattle.awk_ere.specs.support.Table.{IsFor};
 
 use crate::dfa::table::Table;
 use crate::pattern::Pattern;
-use crate::simulation::{Input, PositionSet, Signal};
+use crate::simulation::{Input, PositionSet};
 use awk_ere_compile::program::Instruction;
 use awk_ere_syntax::fault::PatternFault;
 use memchr::memmem::Finder;
@@ -29,14 +29,7 @@ impl Scratch {
         ensures { MatchResult result (λ scratch. IsFor scratch pattern.now) (λ fault. fault ≡ PatternFault.Memory) }
     {
         let count = pattern.program.instructions.len();
-        let none = Signal {
-            before: false,
-            after: false,
-        };
-        let mut position_set = PositionSet {
-            positions: vec![in alloc; false; count]?,
-            kept: vec![in alloc; none; count]?,
-        };
+        let mut position_set = PositionSet::for_count(alloc, count)?;
         let table = Table::for_count(alloc, count)?;
         let anchored_at_start = pattern.is_anchored_at_start(&mut position_set);
         let literal = pattern.literal_finder(alloc)?;

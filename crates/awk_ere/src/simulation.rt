@@ -2,7 +2,7 @@
 // flows through it, which tells of each point of the program whether a match has come there. Forks keep the signal for their
 // second branch on a stack.
 
-ghost use Rattle.std.specs.Prelude.{◌≡◌, ℕ, ◌+◌, ◌<◌, ◌≤◌, ◌&&◌, ◌||◌, false, true, [], ◌∷◌, length, drop, replicate, slice_set, slice_index_or};
+ghost use Rattle.std.specs.Prelude.{◌≡◌, ℕ, ◌+◌, ◌<◌, ◌≤◌, ◌&&◌, ◌||◌, false, true, [], ◌∷◌, length, drop, replicate, slice_set, slice_index_or, MatchResult};
 ghost use Rattle.awk_ere_syntax.specs.definitions.Tree.{has};
 ghost use Rattle.awk_ere_compile.specs.definitions.Program.{resolve};
 ghost use Rattle.awk_ere.specs.support.Simulation.{swapped, joined, act, read_off};
@@ -10,6 +10,9 @@ ghost use Rattle.awk_ere.specs.support.SimulationStep.{AreFor, leaves, behind};
 
 use crate::pattern::Pattern;
 use awk_ere_compile::program::Instruction;
+use awk_ere_syntax::fault::PatternFault;
+use awk_ere_syntax::token::BYTE_COUNT;
+use std::alloc::Global;
 
 /// Whether a match has come to a point of the program: before the byte that is read, and after it.
 #[derive(Clone, Copy)]
@@ -41,7 +44,7 @@ pub(crate) struct PositionSet {
 }
 
 // Whether the byte is in the class with this number. A number out of range is an empty class.
-fn is_in(classes: &[[bool; 256]], number: u32, byte: u8) -> bool
+fn is_in(classes: &[[bool; BYTE_COUNT]], number: u32, byte: u8) -> bool
     ensures { result ≡ has (slice_index_or classes.now number []) byte }
 {
     match classes.get(number as usize) {
@@ -146,7 +149,7 @@ fn enter(positions: &[bool], i: usize, far: u32, at: Flow) -> Flow
 
 // One instruction, at the place i.
 fn step_instruction(
-    classes: &[[bool; 256]],
+    classes: &[[bool; BYTE_COUNT]],
     instruction: Instruction,
     i: usize,
     positions: &mut [bool],
@@ -182,6 +185,21 @@ fn step_instruction(
 }
 
 impl PositionSet {
+    /// A set for a program of this length, where no match has begun.
+    pub(crate) fn for_count(alloc: Global, count: usize) -> Result<PositionSet, PatternFault>
+        ensures { MatchResult result
+            (λ set. (length set.positions.items ≡ count) × (length set.kept.items ≡ count))
+            (λ fault. fault ≡ PatternFault.Memory) }
+    {
+        let none = Signal {
+            before: false,
+            after: false,
+        };
+        let positions = vec![in alloc; false; count]?;
+        let kept = vec![in alloc; none; count]?;
+        Ok(PositionSet { positions, kept })
+    }
+
     /// No match has begun.
     pub(crate) fn clear(&mut self)
         ensures positions { self.new.positions.items ≡ replicate (length self.old.positions.items) false }

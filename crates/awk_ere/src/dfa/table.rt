@@ -7,6 +7,7 @@ ghost use Rattle.awk_ere.specs.support.Table.{Grows, positions_at};
 
 use crate::pattern::Pattern;
 use awk_ere_syntax::fault::PatternFault;
+use awk_ere_syntax::token::BYTE_COUNT;
 use std::alloc::Global;
 
 /// The states that are known, and where each byte leads from them.
@@ -27,8 +28,8 @@ pub(crate) struct Table {
     slots: Vec<u32>,
 }
 
-/// The entry for the end of the text, behind those for the 256 bytes.
-pub(crate) const END_OF_TEXT: usize = 256;
+/// The entry for the end of the text, behind those for the bytes.
+pub(crate) const END_OF_TEXT: usize = BYTE_COUNT;
 
 /// How many entries a state has. A state is named by the place where they begin.
 pub(crate) const STRIDE: usize = END_OF_TEXT + 1;
@@ -82,6 +83,23 @@ fn limit_for(count: usize) -> usize
     wanted.min(fits).max(FIXED_STATES + 1)
 }
 
+// Entries of so many states, and one before them, of which none is known.
+fn unknown_entries(alloc: Global, limit: usize) -> Result<Vec<u32>, PatternFault>
+    requires { limit < state_bound }
+    ensures entries { IfOk result (λ entries. entries.items ≡ replicate (stride * suc limit) 0) }
+    ensures fault { IfErr result (λ fault. fault ≡ PatternFault.Memory) }
+{
+    Ok(vec![in alloc; UNKNOWN; STRIDE * (limit + 1)]?)
+}
+
+// Makes each entry unknown.
+fn forget(entries: &mut [u32])
+    ensures unknown { (i : ℕ) → slice_index entries.new i ≡ 0 }
+    ensures len { length entries.new ≡ length entries.old }
+{
+    entries.fill(UNKNOWN);
+}
+
 // How many bits a slot's number has.
 const SLOT_BITS: u32 = 10;
 
@@ -133,8 +151,8 @@ impl Table {
             return Err(PatternFault::Memory);
         };
         let rows = vec![in alloc; false; len]?;
-        let unanchored = vec![in alloc; UNKNOWN; STRIDE * (limit + 1)]?;
-        let anchored = vec![in alloc; UNKNOWN; STRIDE * (limit + 1)]?;
+        let unanchored = unknown_entries(alloc, limit)?;
+        let anchored = unknown_entries(alloc, limit)?;
         let slots = vec![in alloc; 0; 1 << SLOT_BITS]?;
         Ok(Table {
             rows,
@@ -243,8 +261,8 @@ impl Table {
         ensures count { self.new.count ≡ fixed_states }
         ensures limit { self.new.limit ≡ self.old.limit }
     {
-        self.unanchored.as_mut_slice().fill(UNKNOWN);
-        self.anchored.as_mut_slice().fill(UNKNOWN);
+        forget(self.unanchored.as_mut_slice());
+        forget(self.anchored.as_mut_slice());
         self.count = FIXED_STATES;
     }
 

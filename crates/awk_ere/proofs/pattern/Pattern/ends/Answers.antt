@@ -4,7 +4,7 @@ use Rattle.std.proofs.lemmas.Bool.{false≢true, leb-true, and_parts}
 use Rattle.awk_ere.specs.support.Layout.{first_state}
 use Rattle.awk_ere.specs.support.Found.{between, is_first}
 use Rattle.awk_ere.proofs.LastEnd.{enters_on, enters_end}
-use Rattle.awk_ere.proofs.CursorKept.{stood_begin, end_first, end_hit, end_miss}
+use Rattle.awk_ere.proofs.CursorKept.{known_first, stood_begin, end_first, end_hit, end_miss}
 use Rattle.awk_ere.proofs.pattern.Pattern.ends.Goals as goal
 use Rattle.awk_ere.proofs.pattern.Pattern.ends.Goals.{else-first-via-then-first+else-is_some, else-first-via-else-first, else-first-2-via-then-first-2+else-is_some-2, else-first-2-via-else-first-2}
 
@@ -99,3 +99,13 @@ returns-clause-found c = λ t means.
     let enters = enters_end low high c.scan-cursor-2.result.place (length s) c.requires.order c.requires.within (omega (arith, end)) (omega (arith, end)) in
     let left = c.leaves_at_end.ensures.leaves two.start two.positions two.state in
     end_miss (is_first c.args.wanted) p c.scan-cursor-2.new.scratch.table s t means low high c.scan-cursor-2.result two end (nat_eq high (length s)) c.leaves_at_end.result enters left c.if-leaves_at_end.false
+
+pub scan-cursor-requires-clause-known : goal.scan-cursor-requires-clause-known
+scan-cursor-requires-clause-known c =
+    known_first c.args.self.now c.args.scratch.now.table c.requires.same.table c.args.low c.begin.result.state c.begin.ensures.state
+
+pub scan-cursor-requires-2-clause-known : goal.scan-cursor-requires-2-clause-known
+scan-cursor-requires-2-clause-known c = c.scan-cursor.ensures.known
+
+pub leaves_at_end-requires-clause-known : goal.leaves_at_end-requires-clause-known
+leaves_at_end-requires-clause-known c = c.scan-cursor-2.ensures.known

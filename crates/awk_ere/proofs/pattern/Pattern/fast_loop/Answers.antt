@@ -1,6 +1,7 @@
-use Rattle.std.proofs.Common.{◌+◌, ◌<◌, length, refl, sym, ap, subst, arith, get_or}
+use Rattle.std.proofs.Common.{◌≡◌, ℕ, ◌+◌, ◌<◌, length, refl, sym, ap, subst, arith, get_or}
 use Rattle.awk_ere.specs.support.Layout.{byte_count, stride, match_flag}
 use Rattle.awk_ere.specs.support.Table.{IsEntry}
+use Rattle.awk_ere.specs.support.CursorState.{Stood}
 use Rattle.awk_ere.specs.declared.dfa.cursor.Cursor.{Cursor}
 use Rattle.awk_ere.proofs.TableKept.{state_of}
 use Rattle.awk_ere.proofs.CursorKept.{entry_of, entry_within, known_of, stood_miss}
@@ -38,3 +39,18 @@ loop-k-preserved c =
           stood_miss p tb tb s t means from w h m (enters k c.loop-k.auto.k c.loop-k-test.true) (omega (arith, c.loop-k-test.true, c.requires.within)) u
           (subst (IsEntry p tb h.start m h.positions x) same (entry_of p tb m c.requires.table v h.start h.positions h.state x byte)) w' refl some small refl refl;
     }
+
+pub loop-k-init : goal.loop-k-init
+loop-k-init c = record { known = c.requires.known; stood = λ _ _ _ _ h. h }
+
+pub returns-then-entry-floor-clause-stood : goal.returns-then-entry-floor-clause-stood
+returns-then-entry-floor-clause-stood c = c.loop-k.invariant.stood
+
+pub returns-clause-known : goal.returns-clause-known
+returns-clause-known c = c.loop-k.invariant.known
+
+pub returns-clause-stood : goal.returns-clause-stood
+returns-clause-stood c = λ t from means enters h.
+    let end : c.loop-k.k ≡ c.args.to = omega (arith, c.loop-k-test.false, c.requires.order) in
+    subst (λ (k : ℕ). Stood c.args.self.now c.args.table.now c.args.text.now t from (record { place = k; state = c.loop-k.state; end = c.args.cursor.end })) end
+    (c.loop-k.invariant.stood t from means enters h)

@@ -20,3 +20,36 @@ pub returns-in_err-end-clause-found : goal.returns-in_err-end-clause-found
 returns-in_err-end-clause-found c = λ t means.
     let begins = c.in_ok-start.ensures.found t means in
     absurd (c.in_err-end.ensures.found t means begins.1.0 begins.1.1)
+
+pub returns-in-Some-clause-found : goal.returns-in-Some-clause-found
+returns-in-Some-clause-found c = λ t means.
+    let first = c.next_candidate-start.ensures in
+    let longest = c.in-Some.ensures.found t means in
+    (first.order, first.within, first.none t means, longest.0, longest.1)
+
+pub returns-then-start-text-clause-found : goal.returns-then-start-text-clause-found
+returns-then-start-text-clause-found c = λ t means i j ge le m.
+    let s = c.args.text.now in
+    let start = c.next_candidate-start.result in
+    ⊎_elim (λ below. c.next_candidate-start.ensures.none t means i j ge below m)
+    (λ at. let same : i ≡ start = omega (arith, at, le, c.if-start-text.true) in c.in_default.ensures.found t means j (subst (λ a. Matches s t a j) same m))
+    (cases_lt i start)
+
+pub returns-clause-found : goal.returns-clause-found
+returns-clause-found c = λ t means.
+    let s = c.args.text.now in
+    let start = c.next_candidate-start.result in
+    let begins = c.in_ok-start.ensures.found t means in
+    let longest = c.in_ok-end.ensures.found t means in (
+      omega (arith, begins.0, c.next_candidate-start.ensures.order),
+      c.in_ok-start.ensures.within,
+      (λ i j ge lt m.
+          ⊎_elim (λ below. c.next_candidate-start.ensures.none t means i j ge below m)
+          (λ at.
+          ⊎_elim
+          (λ here. let same : i ≡ start = omega (arith, at, here) in c.in_default.ensures.found t means j (subst (λ a. Matches s t a j) same m))
+          (λ past. begins.2 i j past lt m) (cases_lt i (start + 1)))
+          (cases_lt i start)),
+      longest.0,
+      longest.1,
+    )

@@ -1,10 +1,11 @@
-use Rattle.std.proofs.Common.{◌+◌, ◌-◌, ◌<◌, true, refl, sym, ap, ◌∙◌, subst, arith, get_or}
-use Rattle.awk_ere.specs.support.Layout.{byte_count, dead_state}
+use Rattle.std.proofs.Common.{◌≡◌, ℕ, ◌+◌, ◌-◌, ◌<◌, length, true, refl, sym, ap, ◌∙◌, subst, arith, get_or}
+use Rattle.awk_ere.specs.support.Layout.{byte_count, stride, dead_state}
 use Rattle.awk_ere.specs.support.SimulationStep.{IsStill}
 use Rattle.awk_ere.specs.support.Table.{IsEntry}
+use Rattle.awk_ere.specs.support.CursorState.{Stood}
 use Rattle.awk_ere.specs.declared.dfa.cursor.Cursor.{Cursor}
 use Rattle.awk_ere.proofs.StepTellsMatches.{still_off}
-use Rattle.awk_ere.proofs.CursorKept.{entry_of, stood_miss, stood_still}
+use Rattle.awk_ere.proofs.CursorKept.{entry_of, entry_within, stood_miss, stood_still}
 use Rattle.awk_ere.proofs.pattern.Pattern.skip.Goals as goal
 use Rattle.awk_ere.proofs.pattern.Pattern.skip.Goals.{then-not-entering-via-then-not-entering, then-not-entering-via-else-not-entering+then-scratch}
 
@@ -36,3 +37,27 @@ loop-k-preserved c = λ t from means enters h0.
     let same = ap (λ u. get_or tb.unanchored.items (u + x) 0) c.if-cursor-ne-DEAD.false ∙ ap (λ l. get_or l (dead_state + x) 0) (sym c.as_slice-transitions.ensures.value) ∙ c.if-transitions-text-ne-DEAD.false in
     stood_miss p tb tb s t means from w h true (sym c.if-not-entering.false ∙ enters k c.loop-k.auto.k c.loop-k-test.true) (omega (arith, c.loop-k-test.true, c.requires.within)) dead_state
     (subst (IsEntry p tb h.start true h.positions x) same (entry_of p tb true c.requires.same.table v h.start h.positions h.state x byte)) w' refl (omega arith) (omega arith) c.if-cursor-ne-DEAD.false refl
+
+pub bounds-transitions-text : goal.bounds-transitions-text
+bounds-transitions-text c =
+    let tb = c.args.scratch.now.table in
+    let v = c.args.cursor.state in
+    let x = get_or c.args.text.now c.loop-k.k 0 in
+    let byte : x < stride = omega (arith, c.type_inv.text c.loop-k.k) in
+    subst (λ l. dead_state + x < length l) (sym c.as_slice-transitions.ensures.value)
+    (subst (λ u. u + x < length tb.unanchored.items) c.if-cursor-ne-DEAD.false (entry_within c.args.self.now tb true c.requires.same.table v x c.requires.known byte))
+
+pub loop-k-init : goal.loop-k-init
+loop-k-init c = λ _ _ _ _ h. h
+
+pub returns-then-cursor-ne-DEAD-clause-stood : goal.returns-then-cursor-ne-DEAD-clause-stood
+returns-then-cursor-ne-DEAD-clause-stood c = λ _ _ _ _ h. h
+
+pub returns-then-transitions-text-ne-DEAD-clause-stood : goal.returns-then-transitions-text-ne-DEAD-clause-stood
+returns-then-transitions-text-ne-DEAD-clause-stood c = c.loop-k.invariant
+
+pub returns-clause-stood : goal.returns-clause-stood
+returns-clause-stood c = λ t from means enters h.
+    let end : c.loop-k.k ≡ c.args.to = omega (arith, c.loop-k-test.false, c.requires.order) in
+    subst (λ (k : ℕ). Stood c.args.self.now c.args.scratch.now.table c.args.text.now t from (record { place = k; state = c.args.cursor.state; end = c.args.cursor.end })) end
+    (c.loop-k.invariant t from means enters h)
