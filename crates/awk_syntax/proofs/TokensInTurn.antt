@@ -1,9 +1,10 @@
 -- What is left to read, one token after the other.
-use Rattle.std.proofs.Common.{◌≡◌, ℕ, zero, suc, ◌+◌, ◌<◌, List, [], ◌∷◌, length, drop, get_or, add-one, Option, None, sym, ap, ◌∙◌, arith}
+use Rattle.std.proofs.Common.{◌≡◌, ℕ, zero, suc, ◌+◌, ◌<◌, ◌≤◌, List, [], ◌∷◌, length, drop, get_or, add-one, Option, None, sym, ap, ◌∙◌, arith}
+use Rattle.std.proofs.lemmas.List.{at_drop_all}
 use Rattle.awk_lex.specs.Told.{kinds_of}
 use Rattle.awk_lex.specs.declared.token.Token.{Token}
 use Rattle.awk_tree.specs.Tree.{Item}
-use Rattle.awk_expressions.specs.support.Parser.{ParserState, Failed, step, answer}
+use Rattle.awk_expressions.specs.support.Parser.{ParserState, Failed, step, finish, answer}
 use Rattle.awk_syntax.proofs.AnswersJustified.{failed}
 
 kinds_behind : (tokens : List Token) (i : ℕ) (x : Token) → i < length tokens → x ≡ get_or tokens i x → kinds_of (drop i tokens) ≡ x.kind ∷ kinds_of (drop (suc i) tokens)
@@ -22,3 +23,7 @@ read_on m a b r tokens i x h e q s =
 -- a token can't be taken
 pub refused_at : (m : ℕ) (a : ParserState) (r : Option (Option (List Item))) (tokens : List Token) (i : ℕ) (x : Token) → i < length tokens → x ≡ get_or tokens i x → answer m a (kinds_of (drop i tokens)) ≡ r → Failed ≡ step m a x.kind → r ≡ None
 refused_at m a r tokens i x h e q s = sym (read_on m a Failed r tokens i x h e q s) ∙ failed m (kinds_of (drop (i + 1) tokens))
+
+-- all tokens are taken
+pub read_all : (m : ℕ) (a : ParserState) (r : Option (Option (List Item))) (tokens : List Token) (i : ℕ) → length tokens ≤ i → answer m a (kinds_of (drop i tokens)) ≡ r → r ≡ finish m a
+read_all m a r tokens i h q = sym q ∙ at_drop_all (λ ts. answer m a (kinds_of ts)) tokens i h

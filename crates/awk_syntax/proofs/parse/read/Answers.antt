@@ -1,7 +1,9 @@
-use Rattle.std.proofs.Common.{arith}
+use Rattle.std.proofs.Common.{sym, ap, ◌∙◌, arith}
 use Rattle.awk_tree.specs.Height.{max_height}
+use Rattle.awk_lex.specs.Told.{kinds_of}
+use Rattle.awk_expressions.specs.support.Parser.{BetweenItems, answer}
 use Rattle.awk_expressions.specs.support.ParserView.{state_of}
-use Rattle.awk_syntax.proofs.TokensInTurn.{read_on, refused_at}
+use Rattle.awk_syntax.proofs.TokensInTurn.{read_on, read_all, refused_at}
 use Rattle.awk_syntax.proofs.parse.read.Goals as goal
 use Rattle.awk_syntax.proofs.parse.read.Goals.{then-matches, else-matches}
 
@@ -20,3 +22,30 @@ loop-token-preserved c =
           let counted = c.loop-token.invariant.counted in
           elim c.if-matches.branch [ then-matches w ↦ omega arith | else-matches w ↦ omega arith ];
     }
+
+pub loop-token-init : goal.loop-token-init
+loop-token-init c =
+    record {
+      read =
+          ap (λ k. answer max_height (BetweenItems k) (kinds_of c.args.tokens.now))
+          (rw (c.new.ensures, c.new-stack.ensures.items) at (c.in_ok-push.ensures {u = tt}));
+      counted = omega arith;
+    }
+
+pub returns-in-Some-Some : goal.returns-in-Some-Some
+returns-in-Some-Some c =
+    read_all max_height (state_of c.loop-token.state c.loop-token.stack.items) _ c.args.tokens.now c.loop-token.token-index
+    c.loop-token-test.false c.loop-token.invariant.read
+    ∙ sym (rw (c.in-Some-Some.is, c.in-Some-Some.field-0-is) at (c.in_ok-checked.ensures {u = tt}))
+
+pub returns-in-Some-None : goal.returns-in-Some-None
+returns-in-Some-None c =
+    read_all max_height (state_of c.loop-token.state c.loop-token.stack.items) _ c.args.tokens.now c.loop-token.token-index
+    c.loop-token-test.false c.loop-token.invariant.read
+    ∙ sym (rw (c.in-Some-None.is, c.in-Some-None.field-0-is) at (c.in_ok-checked.ensures {u = tt}))
+
+pub returns : goal.returns
+returns c =
+    read_all max_height (state_of c.loop-token.state c.loop-token.stack.items) _ c.args.tokens.now c.loop-token.token-index
+    c.loop-token-test.false c.loop-token.invariant.read
+    ∙ sym (rw c.in-None.is at (c.in_ok-checked.ensures {u = tt}))
