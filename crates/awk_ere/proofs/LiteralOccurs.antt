@@ -1,10 +1,12 @@
 -- A pattern that is a text matches where the text stands.
-use Rattle.std.proofs.Common.{◌≡◌, ℕ, zero, suc, ◌+◌, ◌<◌, ◌≤◌, Bool, true, false, List, [], ◌∷◌, ◌++◌, length, map, drop, Option, Some, None, refl, sym, ap, subst, ◌∙◌, append_assoc, append-nil, ⊎_elim, arith}
+use Rattle.std.proofs.Common.{◌≡◌, ℕ, zero, suc, ◌+◌, ◌<◌, ◌≤◌, Bool, true, false, List, [], ◌∷◌, ◌++◌, length, map, take, drop, get_or, Option, Some, None, refl, sym, ap, subst, ◌∙◌, append_assoc, append-nil, ⊎_elim, arith}
 use Rattle.std.specs.Prelude.{◌==◌, slice_get, slice_index}
 use Rattle.std.specs.List.{All}
 use Rattle.std.specs.Option.{is_some, option_map}
 use Rattle.std.proofs.lemmas.Bool.{false≢true, eq-eqb, eqb-true, cases_lt}
-use Rattle.std.proofs.lemmas.List.{get_or_past}
+use Rattle.std.proofs.lemmas.List.{get_or_past, length-append, map-append}
+use Rattle.std.proofs.Math.ListN.{get_or-append}
+use Rattle.std.proofs.Math.Seq.{take-suc, get_or-append_seam}
 use Rattle.std.proofs.lemmas.Option.{slice_get_within, get_or_from_slice_get, slice_get-get_or}
 use Rattle.std.proofs.lemmas.List.FromFn.{length-map-range_with_len}
 use Rattle.memchr.specs.Find.{OccursAt, FindsNeedle}
@@ -16,6 +18,7 @@ use Rattle.awk_ere.specs.support.Found.{EndsAt}
 use Rattle.awk_ere.specs.definitions.Means.{Means}
 use Rattle.awk_ere.specs.support.Table.{ReadsBytes}
 use Rattle.awk_ere.specs.declared.pattern.Pattern.{Pattern}
+use Rattle.awk_ere_compile.specs.declared.program.Instruction.{Instruction}
 use Rattle.awk_ere_compile.specs.declared.program.Instruction.TheVariants as instructions
 use Rattle.awk_ere.proofs.ClassMembership.{has-class_of}
 use Rattle.awk_ere.specs.definitions.Decided.{occurs}
@@ -183,3 +186,27 @@ is_some_mapped f (Some k) = refl
 pub literal_tells : (t : Tree) (p : Pattern) (s l : List ℕ) (r : Option ℕ) → Means t p → ReadsBytes l p → FindsNeedle s l 0 r → is_some r ≡ occurs t s
 literal_tells t p s l r means literal found =
     is_some_mapped (λ i. i + length l) r ∙ tells_ends t s _ means.0 (literal_ends t p s l r means literal found)
+
+-- ---- one more byte is read
+
+module _ (old new : List ℕ) (b : ℕ) (is : new ≡ old ++ b ∷ []) where
+  pub one_more_read : (l : List Instruction) (i : ℕ) → i < length l → get_or l i (instructions.Byte 0) ≡ instructions.Byte b → take i l ≡ map instructions.Byte old → take (i + 1) l ≡ map instructions.Byte new
+  one_more_read l i lt here h =
+      let next : i + 1 ≡ suc i = omega arith in
+      ap (λ k. take k l) next
+      ∙ take-suc l i (instructions.Byte 0) lt
+      ∙ ap (λ x. take i l ++ x ∷ []) here
+      ∙ ap (λ k. k ++ instructions.Byte b ∷ []) h
+      ∙ sym (map-append instructions.Byte old (b ∷ []))
+      ∙ ap (map instructions.Byte) (sym is)
+
+  pub one_more_small : b < byte_count → All (λ x. x < byte_count) old → All (λ x. x < byte_count) new
+  one_more_small lt h = λ k d below.
+      subst (λ l. get_or l k d < byte_count) (sym is)
+      (⊎_elim
+      (λ left. subst (λ n. n < byte_count) (sym (get_or-append old (b ∷ []) d k left)) (h k d left))
+      (λ right.
+      let len = ap length is ∙ length-append old (b ∷ []) in
+      let last : k ≡ length old = omega (arith, right, below, len) in
+      subst (λ n. get_or (old ++ b ∷ []) n d < byte_count) (sym last) (subst (λ n. n < byte_count) (sym (get_or-append_seam old b [] d)) lt))
+      (cases_lt k (length old)))

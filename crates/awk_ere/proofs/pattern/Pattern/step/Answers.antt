@@ -1,4 +1,4 @@
-use Rattle.std.proofs.Common.{◌≡◌, ◌<◌, ◌∙◌, List, length, drop, get_or, set, ap, arith}
+use Rattle.std.proofs.Common.{◌<◌, ◌∙◌, List, length, drop, get_or, set, ap, arith}
 use Rattle.awk_ere_compile.specs.definitions.Program.{resolve}
 use Rattle.awk_ere_compile.specs.declared.program.Instruction.{Instruction}
 use Rattle.awk_ere_compile.specs.declared.program.Instruction.TheVariants as instructions

@@ -1,4 +1,4 @@
-use Rattle.std.proofs.Common.{◌≡◌, ◌∙◌, ap, length, arith}
+use Rattle.std.proofs.Common.{◌∙◌, ap, length, arith}
 use Rattle.std.specs.Prelude.{slice_index}
 use Rattle.awk_ere.proofs.TableKept.{written}
 use Rattle.awk_ere.proofs.dfa.table.Table.clear.Goals as goal

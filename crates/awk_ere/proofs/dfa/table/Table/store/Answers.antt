@@ -1,4 +1,4 @@
-use Rattle.std.proofs.Common.{◌≡◌, ◌*◌, ◌∙◌, ap, length, take, drop, arith}
+use Rattle.std.proofs.Common.{◌*◌, ◌∙◌, ap, length, take, drop, arith}
 use Rattle.awk_ere.proofs.TableKept.{written}
 use Rattle.awk_ere.proofs.dfa.table.Table.store.Goals as goal
 
