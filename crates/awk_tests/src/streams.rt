@@ -11,6 +11,7 @@ use awk_streams::{
 };
 use failing_world::FailingWorld;
 use std::alloc::{AllocError, Global};
+use std::process::Abort;
 use std::test::Fail;
 
 // Adds an entry of a log.
@@ -44,12 +45,14 @@ fn add_entry(log: &mut String, entry: &Entry) -> Result<(), AllocError> {
     add_bytes(log, bytes)
 }
 
-// A log: each entry, and a semicolon.
+// A log but for what is printed: each entry, and a semicolon.
 fn log_text(alloc: Global, world: &ScriptWorld) -> Result<String, AllocError> {
     let mut log = String::new(alloc);
     for entry in world.entries() {
-        add_entry(&mut log, entry)?;
-        log.push(';')?;
+        if !matches!(entry, Entry::Wrote(0, _)) {
+            add_entry(&mut log, entry)?;
+            log.push(';')?;
+        }
     }
     Ok(log)
 }
@@ -88,8 +91,8 @@ fn copy_standard_input<W: World>(
     copied.and(streams.finish(world))
 }
 
-// The outcome and the log of a copy: of a separator, of whether standard input breaks, ends or is refused, and of its
-// bytes.
+// The outcome and the log of a copy, and what it printed: of a separator, of whether standard input breaks, ends or is
+// refused, and of its bytes.
 fn copied(alloc: Global, input: &str) -> Result<String, Fail> {
     let (separator, answer) = input.split_once(" │ ").ok_or("no separator")?;
     let (ending, bytes) = answer.split_once(" │ ").ok_or("no ending")?;
@@ -104,19 +107,21 @@ fn copied(alloc: Global, input: &str) -> Result<String, Fail> {
     let mut world = ScriptWorld::new(alloc, answers);
     let outcome = copy_standard_input(&mut world, alloc, &bytes_of(alloc, separator)?);
     let log = log_text(alloc, &world)?;
-    Ok(format!(in alloc; "{outcome:?};{log}")?)
+    let mut text = format!(in alloc; "{outcome:?};{log}")?;
+    add_bytes(&mut text, &world.received(0)?)?;
+    Ok(text)
 }
 
 const COPIES: &str = r#"
 ␊ │ ends │  → Ok(());open Standard Some(2) ;end 2;flush 0;flush 1;close 2 0;
-␊ │ ends │ ab␊c → Ok(());open Standard Some(2) ;read 2 ab␊c;write 0 ab;write 0 |;end 2;write 0 c;write 0 |;flush 0;flush 1;close 2 0;
-␊ │ ends │ a␊␊b → Ok(());open Standard Some(2) ;read 2 a␊␊b;write 0 a;write 0 |;write 0 |;end 2;write 0 b;write 0 |;flush 0;flush 1;close 2 0;
- │ ends │ ␊␊a␊b␊␊␊c␊ → Ok(());open Standard Some(2) ;read 2 ␊␊a␊b␊␊␊c␊;write 0 a␊b;write 0 |;end 2;write 0 c;write 0 |;flush 0;flush 1;close 2 0;
-␊ │ breaks │ a␊b → Err(InputNotReadable);open Standard Some(2) ;read 2 a␊b;write 0 a;write 0 |;break 2;flush 0;flush 1;close 2 0;
-␊ │ breaks │ a␊ → Err(InputNotReadable);open Standard Some(2) ;read 2 a␊;write 0 a;write 0 |;break 2;flush 0;flush 1;close 2 0;
+␊ │ ends │ ab␊c → Ok(());open Standard Some(2) ;read 2 ab␊c;end 2;flush 0;flush 1;close 2 0;ab|c|
+␊ │ ends │ a␊␊b → Ok(());open Standard Some(2) ;read 2 a␊␊b;end 2;flush 0;flush 1;close 2 0;a||b|
+ │ ends │ ␊␊a␊b␊␊␊c␊ → Ok(());open Standard Some(2) ;read 2 ␊␊a␊b␊␊␊c␊;end 2;flush 0;flush 1;close 2 0;a␊b|c|
+␊ │ breaks │ a␊b → Err(InputNotReadable);open Standard Some(2) ;read 2 a␊b;break 2;flush 0;flush 1;close 2 0;a|
+␊ │ breaks │ a␊ → Err(InputNotReadable);open Standard Some(2) ;read 2 a␊;break 2;flush 0;flush 1;close 2 0;a|
 ␊ │ refused │ a␊ → Err(InputNotReadable);open Standard None ;
 ab │ ends │ a␊ → Err(SeparatorTooLong);open Standard Some(2) ;flush 0;flush 1;close 2 0;
-␊ │ ends │ ⟨20000 x⟩␊y → Ok(());open Standard Some(2) ;read 2 ⟨8192 x⟩;read 2 ⟨8192 x⟩;read 2 ⟨3616 x⟩␊y;write 0 ⟨20000 x⟩;write 0 |;end 2;write 0 y;write 0 |;flush 0;flush 1;close 2 0;
+␊ │ ends │ ⟨20000 x⟩␊y → Ok(());open Standard Some(2) ;read 2 ⟨8192 x⟩;read 2 ⟨8192 x⟩;read 2 ⟨3616 x⟩␊y;end 2;flush 0;flush 1;close 2 0;⟨20000 x⟩|y|
 "#;
 
 #[test]
@@ -125,18 +130,27 @@ fn copies(rt: HostRuntime) -> Result<(), Fail> {
     Ok(())
 }
 
+// One main input after the other, the second of which is refused, and a message.
+fn open_and_tell<W: World>(
+    rt: &impl Abort,
+    alloc: Global,
+    world: &mut W,
+) -> Result<(), StreamFault> {
+    let mut streams = Streams::new(alloc);
+    streams.open_main(world, InputKind::Standard, b"")?;
+    streams.close_main(world);
+    assert!(rt; !streams.has_main());
+    let refused = streams.open_main(world, InputKind::File, b"f");
+    assert_eq!(rt; refused, Err(StreamFault::InputNotReadable));
+    streams.close_main(world);
+    print_error(world, b"awk: fault 2\n")
+}
+
 #[test]
 fn main_inputs_and_messages(rt: HostRuntime) -> Result<(), Fail> {
     let alloc = rt.alloc();
     let mut world = ScriptWorld::new(alloc, Vec::new(alloc));
-    let mut streams = Streams::new(alloc);
-    streams.open_main(&mut world, InputKind::Standard, b"")?;
-    streams.close_main(&mut world);
-    assert!(rt; !streams.has_main());
-    let refused = streams.open_main(&mut world, InputKind::File, b"f");
-    assert_eq!(rt; refused, Err(StreamFault::InputNotReadable));
-    streams.close_main(&mut world);
-    print_error(&mut world, b"awk: fault 2\n")?;
+    open_and_tell(&rt, alloc, &mut world)?;
     assert_eq!(rt;
         log_text(alloc, &world)?.as_str(),
         "open Standard Some(2) ;close 2 0;open File None f;write 1 awk: fault 2␊;"
@@ -144,10 +158,8 @@ fn main_inputs_and_messages(rt: HostRuntime) -> Result<(), Fail> {
     Ok(())
 }
 
-#[test]
-fn what_no_answer_is_listed_for(rt: HostRuntime) -> Result<(), Fail> {
-    let alloc = rt.alloc();
-    let mut world = ScriptWorld::new(alloc, Vec::new(alloc));
+// Each call of a world for which nothing is listed.
+fn call_each<W: World>(rt: &impl Abort, world: &mut W) -> Result<(), WorldFault> {
     let refused = Err(WorldFault::Failed);
     assert_eq!(rt; world.open_input(InputKind::File, b"f"), refused);
     let opened = world.open_output(OutputKind::File, b"f", Mode::Append);
@@ -158,6 +170,14 @@ fn what_no_answer_is_listed_for(rt: HostRuntime) -> Result<(), Fail> {
     assert_eq!(rt; world.write(1, b"ab"), Ok(2));
     assert_eq!(rt; world.flush(1), Ok(()));
     assert_eq!(rt; world.close(id), 0);
+    Ok(())
+}
+
+#[test]
+fn what_no_answer_is_listed_for(rt: HostRuntime) -> Result<(), Fail> {
+    let alloc = rt.alloc();
+    let mut world = ScriptWorld::new(alloc, Vec::new(alloc));
+    call_each(&rt, &mut world)?;
     assert_eq!(rt; world.received(1)?.as_slice(), b"ab".as_slice());
     assert_eq!(rt;
         log_text(alloc, &world)?.as_str(),
