@@ -2,7 +2,9 @@
 
 use awk_streams::{InputKind, Mode, OutputKind, World, WorldFault};
 use awk_system::SysWorld;
+use std::alloc::Global;
 use std::io::{self, IsTerminal, Write};
+use std::process::Abort;
 use std::test::Fail;
 
 /// A terminal that takes every byte.
@@ -28,48 +30,58 @@ impl IsTerminal for Screen {
     }
 }
 
+fn make_screen(alloc: Global) -> Screen {
+    Screen {
+        bytes: Vec::new(alloc),
+    }
+}
+
+// Standard input, which holds `abc`, is read on under each of its names.
+fn expect_two_names<W: World>(rt: &impl Abort, world: &mut W) -> Result<(), WorldFault> {
+    let mut into = [0u8; 2];
+    let named = world.open_input(InputKind::File, b"/dev/stdin")?;
+    assert!(rt; world.read(named, &mut into) == Ok(2));
+    assert!(rt; into.as_slice() == b"ab".as_slice());
+    let standard = world.open_input(InputKind::Standard, b"")?;
+    assert!(rt; world.read(standard, &mut into) == Ok(1));
+    assert!(rt; world.read(named, &mut into) == Ok(0));
+    assert!(rt; world.close(standard) == 0);
+    Ok(())
+}
+
 #[test]
 fn standard_input_has_two_names(rt: HostRuntime) -> Result<(), Fail> {
     let alloc = rt.alloc();
-    let screen = Screen {
-        bytes: Vec::new(alloc),
-    };
-    let mut world = SysWorld::new(alloc, &rt, b"abc".as_slice(), screen, rt.stderr());
-    let mut into = [0u8; 2];
-    let named = world.open_input(InputKind::File, b"/dev/stdin")?;
-    assert_eq!(rt; world.read(named, &mut into), Ok(2));
-    assert_eq!(rt; into.as_slice(), b"ab".as_slice());
-    let standard = world.open_input(InputKind::Standard, b"")?;
-    assert_eq!(rt; world.read(standard, &mut into), Ok(1));
-    assert_eq!(rt; world.read(named, &mut into), Ok(0));
-    assert_eq!(rt; world.close(standard), 0);
+    let mut world = SysWorld::new(
+        alloc,
+        &rt,
+        b"abc".as_slice(),
+        make_screen(alloc),
+        rt.stderr(),
+    );
+    expect_two_names(&rt, &mut world)?;
     Ok(())
+}
+
+// Nothing is there to be opened, and bytes are taken.
+fn expect_refusals<W: World>(rt: &impl Abort, world: &mut W) {
+    for name in [b"/no/such/file".as_slice(), b"\xff".as_slice()] {
+        assert!(rt; world.open_input(InputKind::File, name) == Err(WorldFault::Failed));
+        let opened = world.open_output(OutputKind::File, name, Mode::Append);
+        assert!(rt; opened == Err(WorldFault::Failed));
+    }
+    assert!(rt; world.open_input(InputKind::Command, b"true") == Err(WorldFault::Failed));
+    let opened = world.open_output(OutputKind::Command, b"cat", Mode::Truncate);
+    assert!(rt; opened == Err(WorldFault::Failed));
+    assert!(rt; world.write(0, b"ab") == Ok(2));
+    assert!(rt; world.flush(0) == Ok(()));
 }
 
 #[test]
 fn what_the_system_refuses(rt: HostRuntime) -> Result<(), Fail> {
     let alloc = rt.alloc();
-    let screen = Screen {
-        bytes: Vec::new(alloc),
-    };
-    let mut world = SysWorld::new(alloc, &rt, b"".as_slice(), screen, rt.stderr());
-    let refused = Err(WorldFault::Failed);
-    assert_eq!(rt;
-        world.open_input(InputKind::File, b"/no/such/file"),
-        refused
-    );
-    assert_eq!(rt; world.open_input(InputKind::File, b"\xff"), refused);
-    assert_eq!(rt; world.open_input(InputKind::Command, b"true"), refused);
-    assert_eq!(rt;
-        world.open_output(OutputKind::File, b"/no/such/file", Mode::Append),
-        refused
-    );
-    assert_eq!(rt;
-        world.open_output(OutputKind::Command, b"cat", Mode::Truncate),
-        refused
-    );
-    assert_eq!(rt; world.write(0, b"ab"), Ok(2));
-    assert_eq!(rt; world.flush(0), Ok(()));
-    assert_eq!(rt; world.run(b"true"), Ok(127));
+    let mut world = SysWorld::new(alloc, &rt, b"".as_slice(), make_screen(alloc), rt.stderr());
+    expect_refusals(&rt, &mut world);
+    assert!(rt; world.run(b"true") == Ok(127));
     Ok(())
 }

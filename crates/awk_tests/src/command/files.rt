@@ -1,4 +1,4 @@
-// What no row of text can say of files: inputs that break, and long program files.
+// What no row of text can say of program files: that one breaks, or is long.
 
 use awk_command::main_words;
 use awk_streams::{Answer, Entry, InputKind, ScriptWorld};
@@ -53,18 +53,6 @@ fn a_long_program_file(rt: HostRuntime) -> Result<(), Fail> {
     let words = vec![in alloc; b"-f".to_vec(alloc)?, b"p".to_vec(alloc)?]?;
     assert_eq!(rt; main_words(alloc, &words, Vec::new(alloc), &mut world), 2);
     let line = b"awk: line 1: refusal L6: program too long\n";
-    assert_eq!(rt; world.received(1)?.as_slice(), line.as_slice());
-    Ok(())
-}
-
-#[test]
-fn a_broken_input(rt: HostRuntime) -> Result<(), Fail> {
-    let alloc = rt.alloc();
-    let mut world = input(alloc, b"", b"a\nb".to_vec(alloc)?, true)?;
-    let words = vec![in alloc; b"{print}".to_vec(alloc)?]?;
-    assert_eq!(rt; main_words(alloc, &words, Vec::new(alloc), &mut world), 2);
-    assert_eq!(rt; world.received(0)?.as_slice(), b"a\n".as_slice());
-    let line = b"awk: fault 9: input not readable\n";
     assert_eq!(rt; world.received(1)?.as_slice(), line.as_slice());
     Ok(())
 }
