@@ -24,7 +24,7 @@ use Rattle.awk_interpreter.specs.Simulation.{number_of, StateRelation, IsStart}
 use Rattle.awk_run.specs.support.Evaluation.{AssignsAndRuns}
 use Rattle.awk_run.proofs.RunEnds.{read_off, IsMeant, IsCut, Came, came, in_turn, no_failure_before, halted_by, fails_at, begins_at_end}
 use Rattle.awk_run.specs.definitions.Headline.{IsUntouched, IsUndisturbed, Runs}
-use Rattle.awk_run.specs.support.Verdict.{outcome_after, RunsFrom}
+use Rattle.awk_run.specs.support.Verdict.{outcome_after, no_streams, EndsWithoutStreams, RunsFrom}
 
 -- nothing is open before a run
 pub start_open : {operands : List (List ℕ)} {limit : ℕ} {m : Interpreter} (k : WorldState) → IsStart operands limit m → AreOpen k m.streams
@@ -120,18 +120,16 @@ runs_from items start limit {m1 = m1} {k = k} {k1 = k1} {k2 = k2} {r = r} {f = f
 }
 
 -- before a run nothing is printed
-abbrev pub no_streams : StreamsView
-no_streams = record { main = None; held = [] }
-
 none_begins : (k : WorldState) (o : Out (Unit {0})) → k.log ≡ [] → Begins (in_order (printed_openings k no_streams)) (outputs_after o.effects)
 none_begins k o empty = subst (λ (x : List log.Event). Begins (in_order (receives 0 [] (openings x))) (outputs_after o.effects)) (sym empty) (refl, record { more = _; is = refl }, (refl, record { more = _; is = refl }, tt))
 
 -- a run that found no memory before it began, and its end
-pub runs_not : (items : List Item) (start : StartValues) (limit : ℕ) {is_logged : Type 0} {k k2 : WorldState} {f : Result (Unit {0}) StreamFault} {last : StreamsView} → SomeIsConsistent → IsInOrder k.is_open [] → (is_logged → Finishes k no_streams f k2 last) → IfErr f IsOutputFault →
+pub runs_not : (items : List Item) (start : StartValues) (limit : ℕ) {is_logged : Type 0} {k k2 : WorldState} {f : Result (Unit {0}) StreamFault} → SomeIsConsistent → IsInOrder k.is_open [] → (is_logged → EndsWithoutStreams k f k2) → IfErr f IsOutputFault →
     RunsFrom is_logged items start limit k k2 (Fault faults.OutOfMemory)
-runs_not items start limit {k = k} {k2 = k2} {f = f} {last = last} law order told fault = record {
+runs_not items start limit {k = k} {k2 = k2} {f = f} law order told fault = record {
   runs = λ t fresh.
       let sound : AreSound k no_streams = record { order = subst (λ (x : List log.Event). IsInOrder k.is_open x) (sym fresh.log) order; main = tt } in
-      runs_by items start limit k k2 no_streams last (Err (halt.Fault faults.OutOfMemory)) f law ((told t).sound sound).order.orderly (told t) fault refl
+      let ends = (told t).finishes in
+      runs_by items start limit k k2 no_streams (told t).last (Err (halt.Fault faults.OutOfMemory)) f law (ends.sound sound).order.orderly ends fault refl
       (λ oracle consistent. inr record { begins = none_begins k (run_program items start oracle limit) fresh.log; failure = inl fresh.first_failure; cause = inl refl });
 }

@@ -6,9 +6,10 @@ ghost use Rattle.awk_tree.specs.Tree.{Item as ItemTree};
 ghost use Rattle.awk_tree.specs.View.{tree_of, items_of};
 ghost use Rattle.awk_run.specs.definitions.Accepted.{IsSpelled, Accepted, RefusedFor};
 ghost use Rattle.awk_run.specs.definitions.Start.{start_values, pair_of};
+ghost use Rattle.awk_streams.specs.Outputs.{IsOutputFault};
 ghost use Rattle.awk_streams.specs.Streams.{AreOpen, IsSoundMain};
 ghost use Rattle.awk_run.specs.support.Evaluation.{Assigns, AssignsAndRuns};
-ghost use Rattle.awk_run.specs.support.Verdict.{outcome_after as outcome_at, ReadsOnly, RunsFrom};
+ghost use Rattle.awk_run.specs.support.Verdict.{outcome_after as outcome_at, EndsWithoutStreams, ReadsOnly, RunsFrom};
 ghost use Rattle.awk_run.specs.definitions.Headline.{Executed};
 
 use crate::start::{Assignment, Start};
@@ -64,6 +65,14 @@ fn assign_and_run<W: World>(
     run_items(items, interpreter, world)
 }
 
+/// The end of a run that found no memory to begin.
+fn end_without_streams<W: World>(alloc: Global, world: &mut W) -> Result<(), StreamFault>
+    ensures fault { IfErr result IsOutputFault }
+    ensures told { W.is_logged → EndsWithoutStreams (W.state world.old) result (W.state world.new) }
+{
+    Streams::new(alloc).finish(world)
+}
+
 /// Runs the items from the start values, with at most so many steps (POSIX awk, Overall Program
 /// Structure).
 fn run_program<W: World>(
@@ -78,7 +87,7 @@ fn run_program<W: World>(
 {
     some_oracle_is_consistent();
     let Ok(mut interpreter) = Interpreter::new(alloc, &start.operands, limit) else {
-        let _ = Streams::new(alloc).finish(world);
+        let _ = end_without_streams(alloc, world);
         return Outcome::Fault(Fault::OutOfMemory);
     };
     let ended = assign_and_run(items, &start.pre, &mut interpreter, world);

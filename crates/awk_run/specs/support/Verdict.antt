@@ -1,8 +1,9 @@
 -- What the parts of a whole run answer.
-use Rattle.std.specs.Prelude.{◌≡◌, ℕ, List, Result, Ok, Err}
+use Rattle.std.specs.Prelude.{◌≡◌, ℕ, List, [], None, Result, Ok, Err}
 use Rattle.awk_lex.specs.declared.refusal.Refusal.{Refusal}
 use Rattle.awk_lex.specs.Refused.{IsOutOfMemory}
 use Rattle.awk_streams.specs.declared.fault.StreamFault.{StreamFault}
+use Rattle.awk_streams.specs.Streams.{StreamsView, Finishes}
 use Rattle.awk_tree.specs.Tree.{Item}
 use Rattle.awk_tree.specs.View.{tree_of}
 use Rattle.awk_tree.specs.declared.tree.Tree.{Tree}
@@ -27,6 +28,15 @@ outcome_after (Err halt.OutOfSteps) (Err f) = Fault (stream_fault f)
 abbrev pub ReadsOnly : Result Tree Refusal → List Item → Type 0
 ReadsOnly (Ok tree) items = tree_of tree ≡ items
 ReadsOnly (Err refusal) items = IsOutOfMemory refusal
+
+-- the streams before a run: no main input, and nothing is held back
+abbrev pub no_streams : StreamsView
+no_streams = record { main = None; held = [] }
+
+-- the end of a run that had no streams yet
+pub record EndsWithoutStreams (before : WorldState) (result : Result (Unit {0}) StreamFault) (after : WorldState) : Type 0 where
+  pub last : StreamsView
+  pub finishes : Finishes before no_streams result after last
 
 -- from a world in which nothing was done, a run leaves what the items mean
 pub record RunsFrom (is_logged : Type 0) (items : List Item) (start : StartValues) (limit : ℕ) (before after : WorldState) (result : Outcome) : Type 0 where

@@ -1,5 +1,3 @@
-use Rattle.std.proofs.Common.{subst}
-use Rattle.awk_streams.specs.Streams.{StreamsView, Finishes}
 use Rattle.awk_run.proofs.RunsFrom.{runs_from, runs_not}
 use Rattle.awk_run.proofs.run.run_program.Goals as goal
 
@@ -9,5 +7,4 @@ returns g c =
 
 pub returns-in_default : goal.returns-in_default
 returns-in_default g c =
-    runs_not _ _ _ c.some_oracle_is_consistent.ensures.some (c.some_oracle_is_consistent.ensures.start _)
-    (λ t. subst (λ (s : StreamsView). Finishes (g.W.World.state c.args.world.now) s c.finish.result (g.W.World.state c.finish.new.world) c.finish.new.self) c.new-in_default.ensures (c.finish.ensures.told t)) c.finish.ensures.fault
+    runs_not _ _ _ c.some_oracle_is_consistent.ensures.some (c.some_oracle_is_consistent.ensures.start _) c.end_without_streams.ensures.told c.end_without_streams.ensures.fault
