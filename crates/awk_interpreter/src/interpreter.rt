@@ -60,18 +60,23 @@ impl Interpreter {
         let variables = Variables::new(alloc, arguments.words.len())?;
         let current = Record::new(alloc)?;
         let patterns = Patterns::new(alloc)?;
-        let mut streams = Streams::new(alloc);
-        streams.make_room()?;
-        Ok(Interpreter {
+        let mut interpreter = Interpreter {
             alloc,
             current,
             variables,
             arguments,
-            streams,
+            streams: Streams::new(alloc),
             patterns,
             steps: limit,
             line: Vec::new(alloc),
-        })
+        };
+        match interpreter.streams.make_room() {
+            Ok(()) => Ok(interpreter),
+            Err(fault) => {
+                drop(interpreter);
+                Err(Halt::from(fault))
+            }
+        }
     }
 
     /// Spends a step, or says that none is left.
