@@ -34,6 +34,27 @@ pub struct ScriptWorld {
     ghost counted: { still_open ≡ open_count streams.items },
 }
 
+// Makes room for one more stream, and in the log for its opening and for the closing of each that is
+// open then. Answers the stream's number.
+fn make_room(
+    streams: &mut Vec<ScriptStream>,
+    log: &mut Vec<Entry>,
+    still_open: usize,
+) -> Result<u64, AllocError>
+    ensures number { IfOk result (λ id. id ≡ vec_len streams.old + 2) }
+    ensures streams { streams.new.items ≡ streams.old.items }
+    ensures log { log.new.items ≡ log.old.items }
+    ensures for_stream { IfOk result (λ _. vec_len streams.new < vec_capacity streams.new) }
+    ensures for_entries { IfOk result (λ _. vec_len log.new + (still_open + 2) ≤ vec_capacity log.new) }
+    ensures room { vec_capacity log.old ≤ vec_capacity log.new }
+{
+    let number = streams.len().checked_add(2).ok_or(AllocError)?;
+    let entries = still_open.checked_add(2).ok_or(AllocError)?;
+    streams.reserve(1)?;
+    log.reserve(entries)?;
+    Ok(number as u64)
+}
+
 impl ScriptWorld {
     ghost use Rattle.awk_world.specs.definitions.ScriptOf.{script_of};
 
@@ -155,22 +176,15 @@ impl ScriptWorld {
             return Err(WorldFault::Memory);
         }
         let name_copy = name.to_vec(self.alloc)?;
-        let still_open = self.still_open.checked_add(1).ok_or(WorldFault::Memory)?;
-        let id = self.streams.len().checked_add(2).ok_or(WorldFault::Memory)?;
-        let room = still_open.checked_add(1).ok_or(WorldFault::Memory)?;
-        self.streams.reserve(1)?;
-        self.log.reserve(room)?;
+        let id = make_room(&mut self.streams, &mut self.log, self.still_open)?;
         let Some(stream) = take_answer(self.alloc, &mut self.answers, kind, name) else {
             push_entry(&mut self.log, Entry::OpenedInput(kind, name_copy, None));
             return Err(WorldFault::Failed);
         };
-        push_entry(
-            &mut self.log,
-            Entry::OpenedInput(kind, name_copy, Some(id as u64)),
-        );
-        self.still_open = still_open;
+        push_entry(&mut self.log, Entry::OpenedInput(kind, name_copy, Some(id)));
+        self.still_open += 1;
         add(&mut self.streams, stream);
-        Ok(id as u64)
+        Ok(id)
     }
 
     // Of a number that is no input a reading breaks.
