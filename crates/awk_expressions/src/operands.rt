@@ -1,6 +1,6 @@
 // Reading operands.
 
-ghost use Rattle.std.specs.Prelude.{◌≡◌, false, ◌∷◌, IfOk};
+ghost use Rattle.std.specs.Prelude.{◌≡◌, false, ◌∷◌, List, IfOk};
 ghost use Rattle.awk_tree.specs.Height.{max_height};
 ghost use Rattle.awk_expressions.specs.support.Parser as parser;
 ghost use Rattle.awk_expressions.specs.support.ParserView.{role_of, operand_of, frame_of, stack_of, reduced, next_of};
@@ -44,6 +44,44 @@ fn push_frame(
     }))
 }
 
+/// Where the parser stands behind a string.
+fn after_string(bytes: &Bytes, in_print_list: bool) -> Result<Option<ParserState>, AllocError>
+    ensures { (frames : List Frame) → IfOk result (λ state. next_of state frames
+        ≡ parser.AfterOperand in_print_list (parser.string max_height bytes.now) (stack_of frames)) }
+{
+    Ok(Some(ParserState::AfterOperand {
+        in_print_list,
+        operand: Operand::string(bytes.clone()?),
+    }))
+}
+
+/// Where the parser stands behind an ERE, before which so many stand in the program.
+fn after_ere(
+    text: &Bytes,
+    number: usize,
+    in_print_list: bool,
+) -> Result<Option<ParserState>, AllocError>
+    ensures { (frames : List Frame) → IfOk result (λ state. next_of state frames
+        ≡ parser.AfterOperand in_print_list (parser.ere max_height text.now) (stack_of frames)) }
+{
+    let text = text.clone()?;
+    Ok(Some(ParserState::AfterOperand {
+        in_print_list,
+        operand: Operand::ere(Ere { text, number }),
+    }))
+}
+
+/// Where the parser stands behind a name.
+fn after_name(name: &Bytes, in_print_list: bool) -> Result<Option<ParserState>, AllocError>
+    ensures { (frames : List Frame) → IfOk result (λ state. next_of state frames
+        ≡ parser.AfterName name.now in_print_list (stack_of frames)) }
+{
+    Ok(Some(ParserState::AfterName {
+        in_print_list,
+        name: name.clone()?,
+    }))
+}
+
 /// The token at the beginning of an operand: where the parser stands then, or none if it can't be taken.
 pub fn start_operand(
     next: NextToken,
@@ -59,21 +97,9 @@ pub fn start_operand(
             in_print_list,
             operand: Operand::number(*n),
         })),
-        Kind::String(bytes) => Ok(Some(ParserState::AfterOperand {
-            in_print_list,
-            operand: Operand::string(bytes.clone()?),
-        })),
-        Kind::Ere(text) => Ok(Some(ParserState::AfterOperand {
-            in_print_list,
-            operand: Operand::ere(Ere {
-                text: text.clone()?,
-                number: next.eres,
-            }),
-        })),
-        Kind::Name(name) => Ok(Some(ParserState::AfterName {
-            in_print_list,
-            name: name.clone()?,
-        })),
+        Kind::String(bytes) => after_string(bytes, in_print_list),
+        Kind::Ere(text) => after_ere(text, next.eres, in_print_list),
+        Kind::Name(name) => after_name(name, in_print_list),
         Kind::OpenParenthesis => push_frame(Frame::Group(in_print_list), false, stack),
         Kind::Not => push_frame(Frame::Unary(UnaryOperator::Not), in_print_list, stack),
         Kind::Operator(Operator::Plus) => push_frame(

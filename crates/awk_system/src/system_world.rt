@@ -1,9 +1,9 @@
 // The system as the outside of a run.
-ghost use Rattle.std.specs.Prelude.{◌≡◌, ◌≤◌, ◌⊎◌, ℕ, Ok, Err, [], None, Some, IfOk, OnErr, IsTrue, false, is_some, length, nat_lt, if◌then◌else◌};
+ghost use Rattle.std.specs.Prelude.{◌≡◌, ◌≤◌, ◌⊎◌, ℕ, Ok, Err, [], None, Some, IfOk, OnErr, IsTrue, false, is_some, length, nat_lt, pos, if◌then◌else◌};
 ghost use Rattle.std.specs.Ordering.{nat_cmp};
 ghost use Rattle.std.specs.BTreeMap.{get};
 ghost use Rattle.std.specs.Io.KnownBytes.{Keeps, ReadConsumes, WriteAppends};
-ghost use Rattle.awk_world.specs.WorldState.{IsFresh, Opens, SameOpen};
+ghost use Rattle.awk_world.specs.WorldState.{IsFresh, Opens, Closes, SameOpen};
 ghost use Rattle.awk_system.specs.definitions.Opened.{is_open_in};
 ghost use Rattle.awk_system.specs.support.StandardOutputs.{standard_outputs_open};
 
@@ -222,12 +222,21 @@ impl<R: Files<File = File> + Drop, I: Read + Drop, O: Write + Drop, E: Write + D
         }
     }
 
-    fn close(&mut self, id: u64) -> i128 {
+    fn close(&mut self, id: u64) -> i128
+        requires open { IsTrue ((⟦<SysWorld<R, I, O, E> as World>⟧.state self.old).is_open id) }
+        requires opened { 2 ≤ id }
+        ensures closes { Closes (⟦<SysWorld<R, I, O, E> as World>⟧.state self.old) (⟦<SysWorld<R, I, O, E> as World>⟧.state self.new) id }
+        ensures answer { result ≡ pos 0 }
+    {
         let _ = self.opened.remove(&id);
         0
     }
 
-    fn run(&mut self, _command: &[u8]) -> Result<i128, WorldFault> {
+    fn run(&mut self, _command: &[u8]) -> Result<i128, WorldFault>
+        ensures open { SameOpen (⟦<SysWorld<R, I, O, E> as World>⟧.state self.old) (⟦<SysWorld<R, I, O, E> as World>⟧.state self.new) }
+        ensures never_failed { result ≡ Err WorldFault.Failed → ⊥ }
+        ensures answer { result ≡ Ok (pos 127) }
+    {
         Ok(NOT_STARTED)
     }
 }

@@ -6,6 +6,7 @@ use Rattle.std.specs.Str.{bytes_eq}
 use Rattle.std.specs.Option.{option_map}
 use Rattle.std.specs.Map.{lookup, KeepsOthers, IsKeyTest, AreApart}
 use Rattle.std.proofs.lemmas.Bool.{false_from_ne_true}
+use Rattle.std.proofs.lemmas.List.{get_or_default}
 use Rattle.std.proofs.lemmas.Slice.Eq.{bytes_eq-Decides}
 use Rattle.awk_value.specs.declared.value.Value.{Value}
 use Rattle.awk_value.specs.declared.value.Value.TheVariants.{Nothing}
@@ -162,6 +163,12 @@ pub value_of-other : (values : List Value) (es : List (Vec ℕ × Value)) (name 
 value_of-other values es name is =
     let missed : lookup (bytes_eq name) (special_pairs values) ≡ None = lookup_specials (value_at values) name all_specials ∙ ap (option_map (value_at values)) is in
     ap (λ r. unwrap_or r Nothing) (lookup_second name (special_pairs values) (other_pairs es) missed ∙ lookup_others name es)
+
+-- what stands at the index of a special variable is its value
+pub value_of-at : (values : List Value) (es : List (Vec ℕ × Value)) (s : Special) (i : ℕ) (x : Value) → length values ≡ 13 → i ≡ index_of s → get_or values i x ≡ value_of (kept values es) (name_of s)
+value_of-at values es s i x len is =
+    let within : index_of s < length values = omega (arith, index_within s) in
+    ap (λ j. get_or values j x) is ∙ get_or_default values (index_of s) x Nothing within ∙ sym (value_of-special values es (name_of s) s (special_named-name_of s))
 
 -- changes
 

@@ -1,9 +1,9 @@
 // A world in memory that follows a script and stores its log.
-ghost use Rattle.std.specs.Prelude.{◌≡◌, ◌≤◌, ◌<◌, ◌+◌, [], ◌∷◌, vec_len, vec_capacity, OnErr, Some, None, IsTrue, IfOk, Ok, Err, length, take, slice_get, pos};
+ghost use Rattle.std.specs.Prelude.{◌≡◌, ◌≤◌, ◌<◌, ◌+◌, [], ◌∷◌, vec_len, vec_capacity, OnOk, OnErr, IfErr, Some, None, IsTrue, IfOk, Ok, Err, length, take, slice_get, pos};
 ghost use Rattle.awk_world.specs.definitions.WorldState.{Logs, IsFresh, Opens, Closes, SameOpen};
 ghost use Rattle.awk_world.specs.definitions.Log.{Event, Closed, failure_after, logged, input_opening, output_opening, reading, writing, flushing, running};
 ghost use Rattle.awk_world.specs.definitions.Writes.{received};
-ghost use Rattle.awk_world.specs.definitions.Script.{events};
+ghost use Rattle.awk_world.specs.definitions.Script.{event_of, events};
 ghost use Rattle.awk_world.specs.definitions.ScriptAnswers.{IsAnswer, no_faults, refusing_memory, failing_write, failing_flush, writing_at_most, with_plan, in_pieces, buffering, after_call, after_write, after_flush, unless_refused, write_answer, flush_answer, opening_answer, after_opening, reading_answer, after_reading, input_under, unread};
 ghost use Rattle.awk_world.specs.support.ScriptStreams.{is_open_in, open_at, open_count, standard_outputs_open};
 
@@ -32,6 +32,27 @@ pub struct ScriptWorld {
     // Room for the closing of each open stream.
     ghost room: { vec_len log + still_open ≤ vec_capacity log },
     ghost counted: { still_open ≡ open_count streams.items },
+}
+
+// Makes room for one more stream, and in the log for its opening and for the closing of each that is
+// open then. Answers the stream's number.
+fn make_room(
+    streams: &mut Vec<ScriptStream>,
+    log: &mut Vec<Entry>,
+    still_open: usize,
+) -> Result<u64, AllocError>
+    ensures number { IfOk result (λ id. id ≡ vec_len streams.old + 2) }
+    ensures streams { streams.new.items ≡ streams.old.items }
+    ensures log { log.new.items ≡ log.old.items }
+    ensures for_stream { IfOk result (λ _. vec_len streams.new < vec_capacity streams.new) }
+    ensures for_entries { IfOk result (λ _. vec_len log.new + (still_open + 2) ≤ vec_capacity log.new) }
+    ensures room { vec_capacity log.old ≤ vec_capacity log.new }
+{
+    let number = streams.len().checked_add(2).ok_or(AllocError)?;
+    let entries = still_open.checked_add(2).ok_or(AllocError)?;
+    streams.reserve(1)?;
+    log.reserve(entries)?;
+    Ok(number as u64)
 }
 
 impl ScriptWorld {
@@ -141,6 +162,19 @@ impl ScriptWorld {
         }
     }
 
+    // Logs what was done, and keeps room for the closings. The only error is `Memory`.
+    fn note_entry(&mut self, entry: Entry) -> Result<(), WorldFault>
+        ensures ok { OnOk result (events self.new.log.items ≡ event_of entry ∷ events self.old.log.items) }
+        ensures err { OnErr result (events self.new.log.items ≡ events self.old.log.items) }
+        ensures memory { IfErr result (λ fault. fault ≡ WorldFault.Memory) }
+        ensures streams { self.new.streams.items ≡ self.old.streams.items }
+        ensures script { script_of self.new ≡ script_of self.old }
+        ensures first_failure { self.new.first_failure ≡ self.old.first_failure }
+    {
+        add_entry(&mut self.log, self.still_open, entry)?;
+        Ok(())
+    }
+
     // Once an answer is taken there is room for all that follows.
     fn try_open_input(&mut self, kind: InputKind, name: &[u8]) -> Result<u64, WorldFault>
         ensures log { events self.new.log.items ≡ logged (input_opening kind name.now result) (events self.old.log.items) }
@@ -155,22 +189,15 @@ impl ScriptWorld {
             return Err(WorldFault::Memory);
         }
         let name_copy = name.to_vec(self.alloc)?;
-        let still_open = self.still_open.checked_add(1).ok_or(WorldFault::Memory)?;
-        let id = self.streams.len().checked_add(2).ok_or(WorldFault::Memory)?;
-        let room = still_open.checked_add(1).ok_or(WorldFault::Memory)?;
-        self.streams.reserve(1)?;
-        self.log.reserve(room)?;
+        let id = make_room(&mut self.streams, &mut self.log, self.still_open)?;
         let Some(stream) = take_answer(self.alloc, &mut self.answers, kind, name) else {
             push_entry(&mut self.log, Entry::OpenedInput(kind, name_copy, None));
             return Err(WorldFault::Failed);
         };
-        push_entry(
-            &mut self.log,
-            Entry::OpenedInput(kind, name_copy, Some(id as u64)),
-        );
-        self.still_open = still_open;
+        push_entry(&mut self.log, Entry::OpenedInput(kind, name_copy, Some(id)));
+        self.still_open += 1;
         add(&mut self.streams, stream);
-        Ok(id as u64)
+        Ok(id)
     }
 
     // Of a number that is no input a reading breaks.
@@ -189,16 +216,16 @@ impl ScriptWorld {
         match read_next(&self.streams, &self.piece_ends, id, into) {
             Portion::Bytes(count) => {
                 let copy = into[..count].to_vec(self.alloc)?;
-                add_entry(&mut self.log, self.still_open, Entry::Read(id, copy))?;
+                self.note_entry(Entry::Read(id, copy))?;
                 advance(&mut self.streams, id, count);
                 Ok(count)
             }
             Portion::End => {
-                add_entry(&mut self.log, self.still_open, Entry::Ended(id))?;
+                self.note_entry(Entry::Ended(id))?;
                 Ok(0)
             }
             Portion::Break => {
-                add_entry(&mut self.log, self.still_open, Entry::Broke(id))?;
+                self.note_entry(Entry::Broke(id))?;
                 Err(WorldFault::Failed)
             }
         }
@@ -221,11 +248,7 @@ impl ScriptWorld {
             return Err(WorldFault::Memory);
         }
         let copy = name.to_vec(self.alloc)?;
-        add_entry(
-            &mut self.log,
-            self.still_open,
-            Entry::OpenedOutput(kind, copy, mode, None),
-        )?;
+        self.note_entry(Entry::OpenedOutput(kind, copy, mode, None))?;
         Err(WorldFault::Failed)
     }
 
@@ -242,7 +265,7 @@ impl ScriptWorld {
             return Ok(0);
         }
         let copy = bytes[..count].to_vec(self.alloc)?;
-        add_entry(&mut self.log, self.still_open, Entry::Wrote(id, copy))?;
+        self.note_entry(Entry::Wrote(id, copy))?;
         Ok(count)
     }
 
@@ -254,8 +277,7 @@ impl ScriptWorld {
         ensures first_failure { self.new.first_failure ≡ self.old.first_failure }
     {
         self.faults.flush()?;
-        add_entry(&mut self.log, self.still_open, Entry::Flushed(id))?;
-        Ok(())
+        self.note_entry(Entry::Flushed(id))
     }
 
     fn try_run(&mut self, command: &[u8]) -> Result<i128, WorldFault>
@@ -270,7 +292,7 @@ impl ScriptWorld {
             return Err(WorldFault::Memory);
         }
         let copy = command.to_vec(self.alloc)?;
-        add_entry(&mut self.log, self.still_open, Entry::Ran(copy, 0))?;
+        self.note_entry(Entry::Ran(copy, 0))?;
         Ok(0)
     }
 

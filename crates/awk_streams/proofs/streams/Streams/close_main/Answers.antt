@@ -1,4 +1,4 @@
-use Rattle.std.proofs.Common.{◌≡◌, ◌∙◌, ap, Option, subst}
+use Rattle.std.proofs.Common.{◌≡◌, ◌∙◌, ap, Option, subst, rules}
 use Rattle.awk_streams.specs.definitions.Streams.{InputView, StreamsView, ClosesMain, closed_main, main_of}
 use Rattle.awk_streams.proofs.OutputLemmas.{ends_main}
 use Rattle.awk_streams.proofs.streams.Streams.close_main.Goals as goal
@@ -13,3 +13,6 @@ returns-clause-told g c = λ t.
     let closed = c.close.ensures.log t in
     ends_main before after c.args.self.now _ closed.0 (ap main_of c.take-input.ensures.after) (ap (λ (s : StreamsView). s.held) c.self.view_is) (c.requires.sound t) closes
     (closed.1 ∙ ap (λ (m : Option InputView). closed_main m closed.0 before.log) taken) (c.close.ensures.no_failure t)
+
+pub returns-clause-closes : goal.returns-clause-closes
+returns-clause-closes g c = search rules

@@ -16,3 +16,6 @@ returns-clause-set c = λ x.
     (λ j. value_of (kept (set (specials j) (c.index.ensures j) v) (others j).entries) x)
     ∙ value_of-set_special old.specials old.others.entries s v len x
     ∙ ap (λ (p : Pairs). with_value (value_of p) (name_of s) v x) c.self.view_is
+
+pub invariant_of-self : goal.invariant_of-self
+invariant_of-self c = search rules

@@ -1,0 +1,5 @@
+use Rattle.std.proofs.Common.{rules}
+use Rattle.awk_world.proofs.script_world.ScriptWorld.try_flush.Goals as goal
+
+pub returns-clause-log : goal.returns-clause-log
+returns-clause-log c = search rules
