@@ -1,6 +1,13 @@
 use Rattle.std.proofs.Common.{◌≡◌, ℕ, ◌+◌, ◌-◌, ◌≤◌, List, take, drop, arith}
 use Rattle.std.proofs.lemmas.List.{drop-take, take-take, drop-drop}
 
+-- The bytes of a cut, in either order of its ends.
+pub drop_of_take : {X : Type 0} (xs : List X) (start end : ℕ) → start ≤ end → take (end - start) (drop start xs) ≡ drop start (take end xs)
+drop_of_take xs start end ordered =
+    let end_by_start : end ≡ start + (end - start) = omega arith in
+    let whole = drop-take start (end - start) xs in
+    cc
+
 -- A cut of a cut is a cut of the whole.
 pub cut_of_cut : {X : Type 0} (xs : List X) (start from to end : ℕ) → from ≤ to → start + to ≤ end → drop (start + from) (take (start + to) xs) ≡ drop from (take to (drop start (take end xs)))
 cut_of_cut xs start from to end ordered within =

@@ -9,7 +9,6 @@ use crate::fault::ValueFault;
 use crate::value::Value;
 
 /// The product of two numbers. The fault is `Range`. (POSIX awk, Expressions in awk.)
-#[tactic(auto, using(crate::proofs::RangeIsInt128::in_range, crate::proofs::RangeIsInt128::out_of_range))]
 pub fn mul(m: i128, n: i128) -> Result<i128, ValueFault>
     ensures { result ≡ product_of m n }
 {
@@ -17,7 +16,6 @@ pub fn mul(m: i128, n: i128) -> Result<i128, ValueFault>
 }
 
 /// The sum of two numbers. The fault is `Range`. (POSIX awk, Expressions in awk.)
-#[tactic(auto, using(crate::proofs::RangeIsInt128::in_range, crate::proofs::RangeIsInt128::out_of_range))]
 pub fn add(m: i128, n: i128) -> Result<i128, ValueFault>
     ensures { result ≡ sum_of m n }
 {
@@ -25,7 +23,6 @@ pub fn add(m: i128, n: i128) -> Result<i128, ValueFault>
 }
 
 /// The difference of two numbers. The fault is `Range`. (POSIX awk, Expressions in awk.)
-#[tactic(auto, using(crate::proofs::RangeIsInt128::in_range, crate::proofs::RangeIsInt128::out_of_range))]
 pub fn sub(m: i128, n: i128) -> Result<i128, ValueFault>
     ensures { result ≡ difference_of m n }
 {
@@ -34,7 +31,6 @@ pub fn sub(m: i128, n: i128) -> Result<i128, ValueFault>
 
 /// The number with the other sign. The fault is `Range`, of -2^127 alone. (POSIX awk, Expressions
 /// in awk.)
-#[tactic(auto, using(crate::proofs::RangeIsInt128::in_range, crate::proofs::RangeIsInt128::out_of_range))]
 pub fn neg(n: i128) -> Result<i128, ValueFault>
     ensures { result ≡ negative_of n }
 {
@@ -43,7 +39,6 @@ pub fn neg(n: i128) -> Result<i128, ValueFault>
 
 /// The quotient of two numbers, cut off toward zero. The faults are `ZeroDivisor`, and `Range` of
 /// -2^127 by -1 alone. (POSIX awk, Expressions in awk.)
-#[tactic(auto, using(crate::proofs::RangeIsInt128::in_range, crate::proofs::RangeIsInt128::out_of_range))]
 pub fn div(m: i128, n: i128) -> Result<i128, ValueFault>
     ensures { result ≡ quotient_of m n }
 {

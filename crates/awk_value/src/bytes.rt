@@ -1,12 +1,14 @@
-// Texts of bytes that share their memory.
+// Texts of bytes that share their memory, which grows in place where one text alone holds it.
 
-ghost use Rattle.std.specs.Prelude.{◌≡◌, ℕ, ◌+◌, ◌-◌, ◌<◌, ◌≤◌, ◌==◌, List, length, take, drop, IfOk};
+ghost use Rattle.std.specs.Prelude.{◌≡◌, ℕ, ◌+◌, ◌-◌, ◌<◌, ◌≤◌, ◌==◌, if◌then◌else◌, true};
+ghost use Rattle.std.specs.Prelude.{List, ◌++◌, length, take, drop, IfOk, OnOk, OnErr};
 
 use std::alloc::{AllocError, Global};
 use std::marker::Model;
 use std::rc::Rc;
 
-/// A text of bytes. It never changes, and its clones and cuts share its memory.
+/// A text of bytes. Its clones and cuts share its memory, and none of them ever sees another
+/// change.
 #[derive(Debug, Drop)]
 pub struct Bytes {
     shared: Rc<Vec<u8>>,
@@ -81,6 +83,44 @@ impl Bytes {
             start: self.start + from,
             end: self.start + to,
         })
+    }
+
+    /// Appends a copy of these bytes. The memory grows in place, in time of the bytes appended on
+    /// average, where nothing else shares it and the text ends where it ends; else the text is
+    /// copied to memory of its own. Fails only where memory is refused, and then leaves the text
+    /// as it was.
+    pub fn extend_from_slice(&mut self, alloc: Global, bytes: &[u8]) -> Result<(), AllocError>
+        ensures bytes { OnOk result (self.new ≡ self.old ++ bytes.now) }
+        ensures unchanged { OnErr result (self.new ≡ self.old) }
+    {
+        if extend_unshared(&mut self.shared, self.end, bytes)? {
+            self.end += bytes.len();
+            return Ok(());
+        }
+        let mut copy = Vec::with_capacity(alloc, self.len() + bytes.len())?;
+        copy.extend_from_slice(self.as_slice())?;
+        copy.extend_from_slice(bytes)?;
+        *self = Bytes::from_vec(alloc, copy)?;
+        Ok(())
+    }
+}
+
+/// Appends to memory that has no other owner and ends at `end`: whether it is such memory.
+fn extend_unshared(shared: &mut Rc<Vec<u8>>, end: usize, bytes: &[u8]) -> Result<bool, AllocError>
+    ensures at_end { IfOk result (λ extended. extended ≡ true → length shared.old.value.items ≡ end) }
+    ensures bytes { IfOk result (λ extended.
+        shared.new.value.items ≡ (if extended then shared.old.value.items ++ bytes.now else shared.old.value.items)) }
+    ensures unchanged { OnErr result (shared.new.value.items ≡ shared.old.value.items) }
+{
+    match Rc::get_mut(shared) {
+        Some(memory) => {
+            if memory.len() != end {
+                return Ok(false);
+            }
+            memory.extend_from_slice(bytes)?;
+            Ok(true)
+        }
+        None => Ok(false),
     }
 }
 

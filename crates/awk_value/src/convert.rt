@@ -88,6 +88,31 @@ pub fn concatenate(alloc: Global, left: &Value, right: &Value) -> Result<Value, 
     Ok(Value::Text(Bytes::from_vec(alloc, bytes)?))
 }
 
+/// Appends the text of the right value to that of the left one, which so becomes the text that
+/// `concatenate` makes. A left text that was made grows in place where `Bytes::extend_from_slice`
+/// does. The fault is `Memory`, and leaves the left value as it was. (POSIX awk, Expressions in
+/// awk: string concatenation.)
+pub fn concatenate_in_place(
+    alloc: Global,
+    left: &mut Value,
+    right: &Value,
+) -> Result<(), ValueFault>
+    ensures text { OnOk result (left.new ≡ Text (str_of left.old ++ str_of right.now)) }
+    ensures unchanged { OnErr result (left.new ≡ left.old) }
+    ensures fault { IfErr result (λ fault. fault ≡ Memory) }
+{
+    match left {
+        Value::Text(text) => {
+            let mut digits = Buffer::new();
+            text.extend_from_slice(alloc, text_in(right, &mut digits))?;
+        }
+        Value::Nothing | Value::Number(_) | Value::Input(_) => {
+            *left = concatenate(alloc, left, right)?;
+        }
+    }
+    Ok(())
+}
+
 /// Whether a value is true: a number and a numeric text from outside where it is not 0, any
 /// other text where it is not empty. Takes no memory. (POSIX awk, Expressions in awk and
 /// Patterns.)

@@ -14,7 +14,9 @@ pub use crate::arithmetic::{
     add, div, divide, minus, mul, multiply, neg, negate, plus, rem, remainder, sub, to_number,
 };
 pub use crate::bytes::Bytes;
-pub use crate::convert::{append_text, concatenate, is_true, number_of, text_of};
+pub use crate::convert::{
+    append_text, concatenate, concatenate_in_place, is_true, number_of, text_of,
+};
 pub use crate::fault::ValueFault;
 pub use crate::order::compare;
 pub use crate::value::Value;

@@ -239,6 +239,41 @@ fn concatenations(rt: HostRuntime) -> Result<(), Fail> {
     Ok(())
 }
 
+/// A value that grows becomes a text that was made, and no text that shares its memory changes.
+#[test]
+fn concatenations_in_place(rt: HostRuntime) -> Result<(), Fail> {
+    let alloc = rt.alloc();
+    let mut value = Value::Nothing;
+    concatenate_in_place(alloc, &mut value, &Number(-3).value(alloc)?)?;
+    concatenate_in_place(alloc, &mut value, &Text("x").value(alloc)?)?;
+    let held = value.clone()?;
+    concatenate_in_place(alloc, &mut value, &held)?;
+    assert!(rt; text_of(alloc, &held)?.as_slice() == b"-3x".as_slice());
+    assert!(rt; text_of(alloc, &value)?.as_slice() == b"-3x-3x".as_slice());
+    let mut zero = Input("0").value(alloc)?;
+    assert!(rt; !is_true(&zero));
+    concatenate_in_place(alloc, &mut zero, &Value::Nothing)?;
+    assert!(rt; is_true(&zero));
+    Ok(())
+}
+
+#[test]
+fn appended_bytes(rt: HostRuntime) -> Result<(), Fail> {
+    let alloc = rt.alloc();
+    let mut text = Bytes::from_slice(alloc, b"one")?;
+    text.extend_from_slice(alloc, b" two")?;
+    let held = text.clone()?;
+    text.extend_from_slice(alloc, b" three")?;
+    assert_eq!(rt; held.as_slice(), b"one two".as_slice());
+    assert_eq!(rt; text.as_slice(), b"one two three".as_slice());
+    let mut two = text.cut(4, 7)?;
+    drop(text);
+    two.extend_from_slice(alloc, b"!")?;
+    two.extend_from_slice(alloc, b"?")?;
+    assert_eq!(rt; two.as_slice(), b"two!?".as_slice());
+    Ok(())
+}
+
 #[test]
 fn cuts(rt: HostRuntime) -> Result<(), Fail> {
     let whole = Bytes::from_slice(rt.alloc(), b"one two three")?;

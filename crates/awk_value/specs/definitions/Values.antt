@@ -8,7 +8,7 @@ use Rattle.std.specs.declared.cmp.Ordering.{Ordering}
 use Rattle.awk_value.specs.declared.fault.ValueFault.{ValueFault}
 use Rattle.awk_value.specs.declared.value.Value.{Value}
 use Rattle.awk_value.specs.declared.value.Value.TheVariants.{Nothing, Number, Text, Input}
-use Rattle.awk_value.specs.definitions.Arithmetic.{is_zero, product_of}
+use Rattle.awk_value.specs.definitions.Arithmetic.{is_zero}
 use Rattle.awk_value.specs.definitions.Numbers.{is_empty, text_number, numeric_text}
 
 -- the number of a value; an uninitialized value is 0
