@@ -1,0 +1,6 @@
+mod NamedKeys
+mod ByStamp
+mod OneEntry
+mod Counts
+mod Moves
+mod TwoMaps
