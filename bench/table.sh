@@ -52,18 +52,18 @@ impl Filled {
         }
     }
 
-    fn write_key(&mut self, n: u32) -> Result<(), ValueFault> {
+    fn write_key(&mut self, n: u64) -> Result<(), ValueFault> {
         self.key.clear();
         self.key.extend_from_slice(b"key")?;
         let mut buffer = Buffer::new();
-        let digits = buffer.format(n.saturating_add(KEYS));
+        let digits = buffer.format(n.saturating_add(KEYS as u64));
         self.key.extend_from_slice(digits.as_bytes())?;
         Ok(())
     }
 
     fn put_texts(&mut self) -> Result<(), ValueFault> {
         for n in 0..KEYS {
-            self.write_key(n)?;
+            self.write_key(n as u64)?;
             self.table.put(self.alloc, self.key.as_slice(), Value::Number(n as i128))?;
         }
         Ok(())
@@ -72,7 +72,7 @@ impl Filled {
     fn get_texts(&mut self) -> Result<i128, ValueFault> {
         let mut sum: i128 = 0;
         for n in 0..KEYS {
-            self.write_key(n)?;
+            self.write_key(n as u64)?;
             if let Some(Value::Number(n)) = self.table.get(self.key.as_slice()) {
                 sum = sum.saturating_add(*n);
             }
@@ -106,7 +106,7 @@ impl Filled {
         Ok(sum)
     }
 
-    fn remove_text(&mut self, n: u32) -> Result<(), ValueFault> {
+    fn remove_text(&mut self, n: u64) -> Result<(), ValueFault> {
         self.write_key(n)?;
         self.table.remove(self.key.as_slice());
         Ok(())
@@ -114,21 +114,21 @@ impl Filled {
 
     fn remove_from_the_first(&mut self) -> Result<(), ValueFault> {
         for n in 0..KEYS {
-            self.remove_text(n)?;
+            self.remove_text(n as u64)?;
         }
         Ok(())
     }
 
     fn remove_from_the_last(&mut self) -> Result<(), ValueFault> {
         for n in 0..KEYS {
-            self.remove_text((KEYS - 1).saturating_sub(n))?;
+            self.remove_text((KEYS - 1).saturating_sub(n) as u64)?;
         }
         Ok(())
     }
 
     fn remove_scattered(&mut self) -> Result<(), ValueFault> {
         for n in 0..KEYS {
-            self.remove_text((n as u64).wrapping_mul(524_287) as u32 % KEYS)?;
+            self.remove_text((n as u64).wrapping_mul(524_287) % KEYS as u64)?;
         }
         Ok(())
     }
@@ -136,7 +136,7 @@ impl Filled {
     /// All but the first key, which is made again behind the others.
     fn rotate(&mut self) -> Result<(), ValueFault> {
         for n in 0..KEYS {
-            self.remove_text(n)?;
+            self.remove_text(n as u64)?;
             self.table.put(self.alloc, self.key.as_slice(), Value::Number(n as i128))?;
         }
         Ok(())

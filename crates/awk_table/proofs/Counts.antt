@@ -1,3 +1,4 @@
+-- As many items stand in the order of their stamps as there are rows.
 use Rattle.std.proofs.Common.{◌≡◌, ℕ, zero, suc, ◌<◌, nat_eq, List, [], ◌∷◌, ◌++◌, length, refl, ap, arith}
 use Rattle.std.specs.Map.{keys_of}
 use Rattle.std.specs.List.{IsDistinct, AllByRecursion}
@@ -14,7 +15,8 @@ length-middle [] ys p = omega arith
 length-middle (x ∷ xs) ys p = let h = length-middle xs ys p in omega arith
 
 -- as many are ordered as there are
-pub length-stamp_order : {P : Type 0} (n : ℕ) (rows : List (ℕ × P)) → IsDistinct nat_eq (keys_of rows) → AllByRecursion (λ s. s < n) (keys_of rows) → length (stamp_order n rows) ≡ length rows
+pub length-stamp_order : {P : Type 0} (n : ℕ) (rows : List (ℕ × P)) → IsDistinct nat_eq (keys_of rows)
+    → AllByRecursion (λ s. s < n) (keys_of rows) → length (stamp_order n rows) ≡ length rows
 unfolding IsDistinct
 length-stamp_order n [] d b = ap length (stamp_order-nil n)
 length-stamp_order n (r ∷ rs) d b =

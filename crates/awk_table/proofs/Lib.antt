@@ -4,3 +4,4 @@ mod OneEntry
 mod Counts
 mod Moves
 mod TwoMaps
+mod Calls

@@ -54,6 +54,7 @@ impl Table {
     pub fn put_number(&mut self, key: i64, value: Value) -> Result<(), ValueFault>
         ensures put { OnOk result (self.new ≡ with_pair self.old (signed_decimal key) value) }
         ensures unchanged { OnErr result (self.new ≡ self.old) }
+        ensures absent { OnErr result (value_at self.old (signed_decimal key) ≡ None) }
         ensures fault { IfErr result (λ fault. fault ≡ Memory) }
     {
         match self.numbers.get_mut(&key) {

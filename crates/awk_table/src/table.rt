@@ -2,7 +2,7 @@
 // as its text. Each entry has the stamp of its making, and a removal may move entries: only a walk
 // looks at the order, by the stamps.
 
-ghost use Rattle.std.specs.Prelude.{◌≡◌, [], length, is_some, IfOk, IfErr, OnOk, OnErr};
+ghost use Rattle.std.specs.Prelude.{◌≡◌, [], None, length, is_some, IfOk, IfErr, OnOk, OnErr};
 ghost use Rattle.std.specs.Option.{option_copied, unwrap_or};
 ghost use Rattle.awk_value.specs.declared.value.Value.TheVariants.{Nothing};
 ghost use Rattle.awk_value.specs.declared.fault.ValueFault.TheVariants.{Memory};
@@ -107,6 +107,7 @@ impl Table {
     pub fn put(&mut self, alloc: Global, key: &[u8], value: Value) -> Result<(), ValueFault>
         ensures put { OnOk result (self.new ≡ with_pair self.old key.now value) }
         ensures unchanged { OnErr result (self.new ≡ self.old) }
+        ensures absent { OnErr result (value_at self.old key.now ≡ None) }
         ensures fault { IfErr result (λ fault. fault ≡ Memory) }
     {
         match decimal_number(key) {

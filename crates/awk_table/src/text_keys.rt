@@ -64,6 +64,7 @@ impl Table {
         requires { IsTextKey key.now }
         ensures put { OnOk result (self.new ≡ with_pair self.old key.now value) }
         ensures unchanged { OnErr result (self.new ≡ self.old) }
+        ensures absent { OnErr result (value_at self.old key.now ≡ None) }
         ensures fault { IfErr result (λ fault. fault ≡ Memory) }
     {
         match self.texts.get_mut(key) {

@@ -18,7 +18,8 @@ returns-then-text-gt20-clause-none c n s e =
     omega arith
 
 pub returns-in_default-clause-none : goal.returns-in_default-clause-none
-returns-in_default-clause-none c n s e = c.in_default.ensures.cases.0 (IsUtf8-from_ascii c.args.text.now (subst IsAscii (sym e) (IsAscii-signed n s)))
+returns-in_default-clause-none c n s e =
+    c.in_default.ensures.cases.0 (IsUtf8-from_ascii c.args.text.now (subst IsAscii (sym e) (IsAscii-signed n s)))
 
 pub returns-in_default-parse-clause-none : goal.returns-in_default-parse-clause-none
 returns-in_default-parse-clause-none c n s e =
@@ -26,8 +27,11 @@ returns-in_default-parse-clause-none c n s e =
 
 pub returns-else-eq-clause-none : goal.returns-else-eq-clause-none
 returns-else-eq-clause-none c n s e =
-    let p = parse-signed_decimal w64 n c.in-Ok.letters.now c.parse.result (fits_int64 n s) s (c.in-Ok.ensures.cases.0 ∙ e) c.parse.ensures.value.0 in
+    let p =
+    parse-signed_decimal w64 n c.in-Ok.letters.now c.parse.result (fits_int64 n s) s (c.in-Ok.ensures.cases.0 ∙ e) c.parse.ensures.value.0 in
     let q : c.in-Ok-parse.number ≡ n = ok_same c.parse.result _ _ c.in-Ok-parse.is p in
-    let t = c.as_bytes.ensures.value ∙ c.format.ensures.text ∙ ap (λ z. signed_decimal (to_z w64 (of_z w64 z))) q ∙ ap signed_decimal (to_z-of_z (fits_int64 n s)) ∙ sym e in
+    let t =
+    c.as_bytes.ensures.value ∙ c.format.ensures.text ∙ ap (λ z. signed_decimal (to_z w64 (of_z w64 z))) q
+    ∙ ap signed_decimal (to_z-of_z (fits_int64 n s)) ∙ sym e in
     let u = (bytes_eq-Decides c.as_bytes.result.now c.args.text.now).1 t in
     true≢false (sym u ∙ sym c.eq.ensures ∙ c.if-eq.false)

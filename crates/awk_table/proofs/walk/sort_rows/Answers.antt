@@ -6,7 +6,8 @@ use Rattle.awk_table.proofs.walk.sort_rows.Goals as goal
 
 pub returns-then-rise-clause-ordered : goal.returns-then-rise-clause-ordered
 returns-then-rise-clause-ordered c =
-    let h = c.is_sorted_by-rise.ensures.cases (λ x y. nat_lt x.0 y.0) (answers_always _ _ _ (λ f a r g k. search rules)) in
+    let h =
+    c.is_sorted_by-rise.ensures.cases (λ x y. nat_lt x.0 y.0) (answers_always _ _ _ (λ f a r g k. search rules)) in
     subst (λ l. IsNonDecreasingBy (λ r. r.0) l) c.deref.ensures.value (rises_by (λ r. r.0) c.deref.result.now c.is_sorted_by-rise.result c.if-rise.true h)
 
 pub returns-clause-ordered : goal.returns-clause-ordered
