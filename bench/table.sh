@@ -21,7 +21,11 @@ for crate in awk_value awk_table; do
     cp -R "$root/crates/$crate" "$work/crates/$crate"
 done
 cp "$root/HANDLES" "$work/HANDLES"
-printf 'awk_value: itoa thiserror\nawk_table: awk_value indexmap itoa\nuse_table: awk_value awk_table itoa\n' >"$work/crates.txt"
+cat >"$work/crates.txt" <<'CRATES'
+awk_value: itoa thiserror
+awk_table: awk_value indexmap itoa
+use_table: awk_value awk_table itoa
+CRATES
 cat >"$program/src/main.rt" <<'PROGRAM'
 //! Fills arrays of 1,000,000 keys, and does with them what its first word says.
 #![tactic(auto)]
@@ -64,7 +68,8 @@ impl Filled {
     fn put_texts(&mut self) -> Result<(), ValueFault> {
         for n in 0..KEYS {
             self.write_key(n as u64)?;
-            self.table.put(self.alloc, self.key.as_slice(), Value::Number(n as i128))?;
+            self.table
+                .put(self.alloc, self.key.as_slice(), Value::Number(n as i128))?;
         }
         Ok(())
     }
@@ -133,11 +138,12 @@ impl Filled {
         Ok(())
     }
 
-    /// All but the first key, which is made again behind the others.
+    /// Removes each key in turn, and makes it again behind the others.
     fn rotate(&mut self) -> Result<(), ValueFault> {
         for n in 0..KEYS {
             self.remove_text(n as u64)?;
-            self.table.put(self.alloc, self.key.as_slice(), Value::Number(n as i128))?;
+            self.table
+                .put(self.alloc, self.key.as_slice(), Value::Number(n as i128))?;
         }
         Ok(())
     }
@@ -232,20 +238,23 @@ for name in $names; do
 done
 echo
 
-texts='for (i = 0; i < 1000000; i++) a["key" (1000000 + i)] = i'
-numbers='for (i = 0; i < 1000000; i++) a[i] = i'
+each='for (i = 0; i < 1000000; i++)'
+key='a["key" (1000000 + i)]'
+texts="$each $key = i"
+numbers="$each a[i] = i"
+sum='printf "%.0f\n", s'
+count='for (k in a) n++; print n + 0'
+walk='for (k in a) n += length(k); print n'
+rotate="$each { delete $key; $key = i }"
 row fill 'texts put' "BEGIN { $texts; print 1000000 }"
-row texts 'texts put and read' "BEGIN { $texts; for (i = 0; i < 1000000; i++) s += a[\"key\" (1000000 + i)]; printf \"%d\\n\", s }"
-row numbers 'numbers put and read' "BEGIN { $numbers; for (i = 0; i < 1000000; i++) s += a[i]; printf \"%d\\n\", s }"
-row walk_texts 'texts put and walked' "BEGIN { $texts; for (k in a) n += length(k); print n }"
-row walk_numbers 'numbers put and walked' "BEGIN { $numbers; for (k in a) n += length(k); print n }"
-row first 'texts put and removed, first to last' \
-    "BEGIN { $texts; for (i = 0; i < 1000000; i++) delete a[\"key\" (1000000 + i)]; for (k in a) n++; print n + 0 }"
+row texts 'texts put and read' "BEGIN { $texts; $each s += $key; $sum }"
+row numbers 'numbers put and read' "BEGIN { $numbers; $each s += a[i]; $sum }"
+row walk_texts 'texts put and walked' "BEGIN { $texts; $walk }"
+row walk_numbers 'numbers put and walked' "BEGIN { $numbers; $walk }"
+row first 'texts put and removed, first to last' "BEGIN { $texts; $each delete $key; $count }"
 row last 'texts put and removed, last to first' \
-    "BEGIN { $texts; for (i = 999999; i >= 0; i--) delete a[\"key\" (1000000 + i)]; for (k in a) n++; print n + 0 }"
+    "BEGIN { $texts; for (i = 999999; i >= 0; i--) delete $key; $count }"
 row scattered 'texts put and removed, scattered' \
-    "BEGIN { $texts; for (i = 0; i < 1000000; i++) delete a[\"key\" (1000000 + i * 524287 % 1000000)]; for (k in a) n++; print n + 0 }"
-row rotate 'texts put, each removed and put again' \
-    "BEGIN { $texts; for (i = 0; i < 1000000; i++) { delete a[\"key\" (1000000 + i)]; a[\"key\" (1000000 + i)] = i }; print 1000000 }"
-row rotate_walk 'the same, and walked' \
-    "BEGIN { $texts; for (i = 0; i < 1000000; i++) { delete a[\"key\" (1000000 + i)]; a[\"key\" (1000000 + i)] = i }; for (k in a) n += length(k); print n }"
+    "BEGIN { $texts; $each delete a[\"key\" (1000000 + i * 524287 % 1000000)]; $count }"
+row rotate 'texts put, each removed and put again' "BEGIN { $texts; $rotate; print 1000000 }"
+row rotate_walk 'the same, and walked' "BEGIN { $texts; $rotate; $walk }"

@@ -2,11 +2,9 @@
 use Rattle.std.proofs.Common.{◌≡◌, ℕ, zero, suc, ◌+◌, ◌-◌, ◌<◌, ◌≤◌, Bool, true, false, cond, nat_eq, nat_lt, List, [], ◌∷◌, ◌++◌, map, length, get_or, refl, sym, ap, subst, ◌∙◌, Option, Some, None, position, not, take, slice_set, arith}
 use Rattle.std.specs.Option.{option_to_list, option_map_or, option_map}
 use Rattle.std.specs.Map.{lookup, remove_entry, keys_of}
-use Rattle.std.specs.Prelude.{bytes_eq}
-use Rattle.std.specs.Cmp.Lexicographic.{nat_list_eq_equiv}
 use Rattle.std.specs.List.{IsDistinct, AllByRecursion, IsAllAdjacentAnswer, position_or_len, swap_remove}
 use Rattle.std.specs.List.Sorted.{IsPermutation, IsNonDecreasingBy}
-use Rattle.std.specs.Prelude.{Result, Ok, Err, OnOk, IfOk}
+use Rattle.std.specs.Prelude.{Result, Ok, Err, OnOk}
 use Rattle.std.proofs.lemmas.Bool.Decides.{nat_tests}
 use Rattle.std.proofs.lemmas.Cmp.{nat_eq_equiv}
 use Rattle.std.proofs.lemmas.List.{get_or_default, length-map}
@@ -17,7 +15,7 @@ use Rattle.std.proofs.lemmas.Map.Views.{exact_unsigned_eq, Contains-from_lookup,
 use Rattle.indexmap.specs.IndexMap.{swap_remove_entry}
 use Rattle.awk_table.specs.support.StampOrder.{stamp_order}
 use Rattle.awk_table.proofs.ByStamp.{stamp_order-same, stamp_order-past, split}
-use Rattle.awk_table.proofs.OneEntry.{rows, Kept, none_apart, some_same, ltb_apart, without-none, taken_there, below_there, remove-ordered, kept_push, stamp_order-push, ordered_free}
+use Rattle.awk_table.proofs.OneEntry.{rows, Kept, none_apart, some_same, ltb_apart, taken_there, below_there, remove-ordered, kept_push, stamp_order-push, ordered_free}
 use Rattle.std.proofs.lemmas.Map.{none_passes_from_lookup}
 use Rattle.awk_table.proofs.Counts.{stamp_order-nil}
 

@@ -181,9 +181,11 @@ fn rotations_cost_little(rt: HostRuntime) -> Result<(), Fail> {
     }
     let keys = table.keys(rt.alloc())?;
     assert_eq!(rt; keys.len(), KEYS as usize);
-    for (n, key) in keys.iter().enumerate() {
-        let expected = key_of(rt.alloc(), (n as u32).wrapping_add(ROTATIONS) % KEYS)?;
+    let mut n = ROTATIONS;
+    for key in &keys {
+        let expected = key_of(rt.alloc(), n % KEYS)?;
         assert_eq!(rt; key.as_slice(), expected.as_slice());
+        n = n.wrapping_add(1);
     }
     Ok(())
 }
@@ -200,7 +202,8 @@ impl Random {
             .state
             .wrapping_mul(6_364_136_223_846_793_005)
             .wrapping_add(1_442_695_040_888_963_407);
-        ((self.state >> 33) as u32).checked_rem(limit).unwrap_or(0)
+        let high = u32::try_from(self.state >> 33).unwrap_or(0);
+        high.checked_rem(limit).unwrap_or(0)
     }
 }
 
