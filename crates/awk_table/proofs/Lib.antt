@@ -1,0 +1,7 @@
+mod NamedKeys
+mod ByStamp
+mod OneEntry
+mod Counts
+mod Moves
+mod TwoMaps
+mod Calls

@@ -1,0 +1,6 @@
+use Rattle.awk_table.proofs.Calls.{none-kept}
+use Rattle.awk_table.proofs.table.Table.clear.Goals as goal
+
+pub invariant_of-self : goal.invariant_of-self
+invariant_of-self c =
+    none-kept 0 c.clear.new.self.entries c.clear-2.new.self.entries c.clear.ensures.empty c.clear-2.ensures.empty

@@ -1,0 +1,3 @@
+pub mod definitions
+pub mod support
+pub use Rattle.awk_table.specs.definitions.Arrays

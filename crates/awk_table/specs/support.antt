@@ -1,0 +1,3 @@
+-- What serves the proofs: how the code keeps an array.
+pub mod StampOrder
+pub mod Entries

@@ -1,0 +1,28 @@
+-- How an array is kept: a map by numbers and a map by texts, as one list of entries by texts.
+use Rattle.std.specs.Prelude.{◌≡◌, ℕ, ℤ, ◌<◌, ◌^◌, List, ◌++◌, nat_eq, bytes_eq, map}
+use Rattle.std.specs.Int.Signed.{mag}
+use Rattle.std.specs.Fmt.{signed_decimal}
+use Rattle.std.specs.List.{IsDistinct, AllByRecursion}
+use Rattle.std.specs.Map.{keys_of}
+
+-- from -2^63 to 2^63 - 1
+abbrev pub IsInt64 : ℤ → Type 0
+IsInt64 n = mag n < 2 ^ 63
+
+-- the text is no decimal form of a 64-bit number
+abbrev pub IsTextKey : List ℕ → Type 0
+IsTextKey text = (n : ℤ) → IsInt64 n → text ≡ signed_decimal n → ⊥
+
+-- the entries of both maps, where a number stands for its decimal form
+abbrev pub all_entries : {T E : Type 0} → (T → List ℕ) → List (ℤ × E) → List (T × E) → List (List ℕ × E)
+all_entries items ns ts = map (λ e. (signed_decimal e.0, e.1)) ns ++ map (λ e. (items e.0, e.1)) ts
+
+module _ {T E V : Type 0} (items : T → List ℕ) (stamp : E → ℕ) (value : E → V) where
+  abbrev pub all_rows : List (ℤ × E) → List (T × E) → List (ℕ × (List ℕ × V))
+  all_rows ns ts = map (λ e. (stamp e.1, (e.0, value e.1))) (all_entries items ns ts)
+
+  -- stamps differ and are below n, keys differ as texts, and a key's text determines its map
+  abbrev pub IsConsistent : ℕ → List (ℤ × E) → List (T × E) → Type 0
+  IsConsistent n ns ts =
+      (IsDistinct nat_eq (keys_of (all_rows ns ts)) × IsDistinct bytes_eq (keys_of (all_entries items ns ts)) × AllByRecursion (λ s. s < n) (keys_of (all_rows ns ts)))
+      × AllByRecursion IsInt64 (keys_of ns) × AllByRecursion (λ t. IsTextKey (items t)) (keys_of ts)

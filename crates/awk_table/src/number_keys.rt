@@ -1,0 +1,98 @@
+// Keys that are 64-bit numbers: each call stands for the one by the number's decimal form, which
+// isn't written.
+
+ghost use Rattle.std.specs.Prelude.{◌≡◌, ◌++◌, ◌∷◌, [], None, is_some, IfOk, IfErr, OnOk, OnErr};
+ghost use Rattle.std.specs.Fmt.{signed_decimal};
+ghost use Rattle.std.specs.Ordering.{int_eq};
+ghost use Rattle.std.specs.Option.{option_copied, unwrap_or};
+ghost use Rattle.indexmap.specs.IndexMap.{swap_remove_entry};
+ghost use Rattle.awk_value.specs.declared.value.Value.TheVariants.{Nothing};
+ghost use Rattle.awk_value.specs.declared.fault.ValueFault.TheVariants.{Memory};
+ghost use Rattle.awk_table.specs.Arrays.{value_at, with_pair, with_key, without};
+
+use crate::table::{Entry, Table};
+use awk_value::{Value, ValueFault};
+use indexmap::IndexMap;
+
+impl Table {
+    /// Whether the number's decimal form is a key, as `has` tells.
+    pub fn has_number(&self, key: i64) -> bool
+        ensures { result ≡ is_some (value_at self.now (signed_decimal key)) }
+    {
+        self.numbers.contains_key(&key)
+    }
+
+    /// The value at the number's decimal form, as `get` gives it.
+    pub fn get_number(&self, key: i64) -> Option<&Value>
+        ensures { option_copied result ≡ value_at self.now (signed_decimal key) }
+    {
+        match self.numbers.get(&key) {
+            Some(entry) => Some(&entry.value),
+            None => None,
+        }
+    }
+
+    /// A copy of the value at the number's decimal form, which is made where it isn't present, as
+    /// `get_or_make` makes it. The fault is `Memory`, and changes nothing.
+    pub fn get_or_make_number(&mut self, key: i64) -> Result<Value, ValueFault>
+        ensures value { IfOk result (λ v. v ≡ unwrap_or (value_at self.old (signed_decimal key)) Nothing) }
+        ensures made { OnOk result (self.new ≡ with_key self.old (signed_decimal key)) }
+        ensures unchanged { OnErr result (self.new ≡ self.old) }
+        ensures fault { IfErr result (λ fault. fault ≡ Memory) }
+    {
+        match self.numbers.get(&key) {
+            Some(entry) => Ok(entry.value.clone()?),
+            None => {
+                self.add_number(key, Value::Nothing)?;
+                Ok(Value::Nothing)
+            }
+        }
+    }
+
+    /// Gives the number's decimal form the value, as `put` does. The fault is `Memory`, and changes
+    /// nothing.
+    pub fn put_number(&mut self, key: i64, value: Value) -> Result<(), ValueFault>
+        ensures put { OnOk result (self.new ≡ with_pair self.old (signed_decimal key) value) }
+        ensures unchanged { OnErr result (self.new ≡ self.old) }
+        ensures absent { OnErr result (value_at self.old (signed_decimal key) ≡ None) }
+        ensures fault { IfErr result (λ fault. fault ≡ Memory) }
+    {
+        match self.numbers.get_mut(&key) {
+            Some(entry) => {
+                entry.value = value;
+                Ok(())
+            }
+            None => self.add_number(key, value),
+        }
+    }
+
+    /// Removes the number's decimal form, as `remove` does.
+    pub fn remove_number(&mut self, key: i64)
+        ensures { self.new ≡ without self.old (signed_decimal key) }
+    {
+        take_number(&mut self.numbers, key);
+    }
+
+    /// Adds a new number, which goes last.
+    fn add_number(&mut self, key: i64, value: Value) -> Result<(), ValueFault>
+        requires { value_at self.old (signed_decimal key) ≡ None }
+        ensures added { OnOk result (self.new ≡ self.old ++ (signed_decimal key, value) ∷ []) }
+        ensures unchanged { OnErr result (self.new ≡ self.old) }
+        ensures fault { IfErr result (λ fault. fault ≡ Memory) }
+    {
+        let stamp = self.next;
+        let Some(next) = stamp.checked_add(1) else {
+            return Err(ValueFault::Memory);
+        };
+        self.numbers.insert(key, Entry { stamp, value })?;
+        self.next = next;
+        Ok(())
+    }
+}
+
+/// Takes a number's entry out of the map, whose last entry moves to its place.
+fn take_number(entries: &mut IndexMap<i64, Entry>, key: i64)
+    ensures { entries.new.entries ≡ swap_remove_entry (int_eq key) entries.old.entries }
+{
+    let _ = entries.swap_remove(&key);
+}

@@ -1,0 +1,139 @@
+// The array. A key that is the decimal form of a 64-bit number is kept as that number, any other
+// as its text. Each entry has the stamp of its making, and a removal may move entries: only a walk
+// looks at the order, by the stamps.
+
+ghost use Rattle.std.specs.Prelude.{◌≡◌, [], None, length, is_some, IfOk, IfErr, OnOk, OnErr};
+ghost use Rattle.std.specs.Option.{option_copied, unwrap_or};
+ghost use Rattle.awk_value.specs.declared.value.Value.TheVariants.{Nothing};
+ghost use Rattle.awk_value.specs.declared.fault.ValueFault.TheVariants.{Memory};
+ghost use Rattle.awk_table.specs.Arrays.{Array, value_at, with_pair, with_key, without, HasDistinctKeys};
+
+use crate::decimal::decimal_number;
+use awk_value::{Value, ValueFault};
+use indexmap::IndexMap;
+use std::alloc::Global;
+use std::marker::Model;
+
+/// A value, and how many keys were made before its own.
+#[derive(Drop)]
+pub(crate) struct Entry {
+    pub(crate) stamp: u64,
+    pub(crate) value: Value,
+}
+
+/// An array: pairs of a key and a value. A key is a text, and no two are equal. A new key goes last,
+/// a present key keeps its place, and the others close up where one is removed.
+/// (POSIX awk, Expressions in awk)
+#[derive(Drop)]
+pub struct Table {
+    pub(crate) numbers: IndexMap<i64, Entry>,
+    pub(crate) texts: IndexMap<Vec<u8>, Entry>,
+    // above all stamps
+    pub(crate) next: u64,
+}
+
+impl Model for Table {
+    ghost use Rattle.awk_table.specs.Arrays.{Array};
+    ghost use Rattle.awk_table.specs.support.StampOrder.{stamp_order};
+    ghost use Rattle.awk_table.specs.support.Entries.{IsConsistent, all_rows};
+
+    ghost Value = { Array };
+
+    ghost view = { λ t. stamp_order t.next (all_rows (λ v. v.items) (λ e. e.stamp) (λ e. e.value)
+        t.numbers.entries t.texts.entries) };
+
+    ghost invariant = { λ t. IsConsistent (λ v. v.items) (λ e. e.stamp) (λ e. e.value)
+        t.next t.numbers.entries t.texts.entries };
+}
+
+impl Table {
+    /// The empty array. Takes no memory.
+    pub fn new(alloc: Global) -> Table
+        ensures { result ≡ [] }
+    {
+        Table {
+            numbers: IndexMap::new(alloc),
+            texts: IndexMap::new(alloc),
+            next: 0,
+        }
+    }
+
+    /// The number of keys, which all differ. Takes no memory.
+    pub fn len(&self) -> usize
+        ensures len { result ≡ length self.now }
+        ensures distinct { HasDistinctKeys self.now }
+    {
+        self.numbers.len() + self.texts.len()
+    }
+
+    /// Whether the key is present. Takes no memory. (POSIX awk, Expressions in awk: `in`)
+    pub fn has(&self, key: &[u8]) -> bool
+        ensures { result ≡ is_some (value_at self.now key.now) }
+    {
+        match decimal_number(key) {
+            Some(number) => self.has_number(number),
+            None => self.has_text(key),
+        }
+    }
+
+    /// The value at the key, if it is present. Takes no memory.
+    pub fn get(&self, key: &[u8]) -> Option<&Value>
+        ensures { option_copied result ≡ value_at self.now key.now }
+    {
+        match decimal_number(key) {
+            Some(number) => self.get_number(number),
+            None => self.get_text(key),
+        }
+    }
+
+    /// A copy of the value at the key, which is made where it isn't present, and then goes last with
+    /// an uninitialized value. The fault is `Memory`, and changes nothing.
+    /// (POSIX awk, Expressions in awk: references to elements)
+    pub fn get_or_make(&mut self, alloc: Global, key: &[u8]) -> Result<Value, ValueFault>
+        ensures value { IfOk result (λ v. v ≡ unwrap_or (value_at self.old key.now) Nothing) }
+        ensures made { OnOk result (self.new ≡ with_key self.old key.now) }
+        ensures unchanged { OnErr result (self.new ≡ self.old) }
+        ensures fault { IfErr result (λ fault. fault ≡ Memory) }
+    {
+        match decimal_number(key) {
+            Some(number) => self.get_or_make_number(number),
+            None => self.get_or_make_text(alloc, key),
+        }
+    }
+
+    /// Gives the key the value. A present key keeps its place, and a new one goes last. Only a new
+    /// key takes memory. The fault is `Memory`, and changes nothing.
+    /// (POSIX awk, Expressions in awk: assignment)
+    pub fn put(&mut self, alloc: Global, key: &[u8], value: Value) -> Result<(), ValueFault>
+        ensures put { OnOk result (self.new ≡ with_pair self.old key.now value) }
+        ensures unchanged { OnErr result (self.new ≡ self.old) }
+        ensures absent { OnErr result (value_at self.old key.now ≡ None) }
+        ensures fault { IfErr result (λ fault. fault ≡ Memory) }
+    {
+        match decimal_number(key) {
+            Some(number) => self.put_number(number, value),
+            None => self.put_text(alloc, key, value),
+        }
+    }
+
+    /// Removes the key, if it is present, with its value; the others keep their order. A key that is
+    /// made again goes last. Takes no memory, and no time by the number of keys.
+    /// (POSIX awk, Actions: delete)
+    pub fn remove(&mut self, key: &[u8])
+        ensures { self.new ≡ without self.old key.now }
+    {
+        match decimal_number(key) {
+            Some(number) => self.remove_number(number),
+            None => self.remove_text(key),
+        }
+    }
+
+    /// Removes all keys. Takes no memory.
+    pub fn clear(&mut self)
+        ensures { self.new ≡ [] }
+    {
+        self.numbers.clear();
+        self.texts.clear();
+        self.next = 0;
+    }
+}

@@ -1,0 +1,312 @@
+// Lists of calls by hand, many rotations, and random lists of calls beside a plain list.
+
+use super::*;
+use awk_value::{Bytes, Value, ValueFault, append_text};
+use std::alloc::Global;
+use std::test::Fail;
+
+/// A call on an array.
+#[derive(Clone, Copy, Debug)]
+enum Call {
+    Make(&'static str),
+    Put(&'static str, i128),
+    Remove(&'static str),
+    Clear,
+}
+
+use Call::{Clear, Make, Put, Remove};
+
+/// Calls, and the pairs that they leave.
+#[derive(Clone, Copy, Debug)]
+struct Row {
+    calls: &'static [Call],
+    pairs: &'static str,
+}
+
+const ROWS: [Row; 9] = [
+    Row {
+        calls: &[],
+        pairs: "",
+    },
+    Row {
+        calls: &[Make("x"), Make("y"), Make("z"), Remove("x"), Make("x")],
+        pairs: "y= z= x= ",
+    },
+    Row {
+        calls: &[Put("b", 1), Put("a", 2), Put("b", 3), Make("a")],
+        pairs: "b=3 a=2 ",
+    },
+    Row {
+        calls: &[
+            Put("2", 1),
+            Put("b", 2),
+            Put("10", 3),
+            Put("", 4),
+            Put("-1", 5),
+        ],
+        pairs: "2=1 b=2 10=3 =4 -1=5 ",
+    },
+    Row {
+        calls: &[
+            Put("1", 1),
+            Put("01", 2),
+            Put("+1", 3),
+            Put(" 1", 4),
+            Put("1.0", 5),
+            Put("1", 6),
+        ],
+        pairs: "1=6 01=2 +1=3  1=4 1.0=5 ",
+    },
+    Row {
+        calls: &[Put("0", 1), Put("-0", 2), Put("00", 3), Remove("0")],
+        pairs: "-0=2 00=3 ",
+    },
+    Row {
+        calls: &[
+            Put("9223372036854775807", 1),
+            Put("9223372036854775808", 2),
+            Put("-9223372036854775808", 3),
+            Put("-9223372036854775809", 4),
+            Remove("9223372036854775807"),
+        ],
+        pairs: "9223372036854775808=2 -9223372036854775808=3 -9223372036854775809=4 ",
+    },
+    Row {
+        calls: &[
+            Put("a", 1),
+            Put("b", 2),
+            Put("c", 3),
+            Put("d", 4),
+            Remove("b"),
+            Remove("b"),
+        ],
+        pairs: "a=1 c=3 d=4 ",
+    },
+    Row {
+        calls: &[
+            Put("a", 1),
+            Put("1", 2),
+            Clear,
+            Make("1"),
+            Make("b"),
+            Make("a"),
+        ],
+        pairs: "1= b= a= ",
+    },
+];
+
+fn make_call(alloc: Global, table: &mut Table, call: Call) -> Result<(), ValueFault> {
+    match call {
+        Make(key) => {
+            table.get_or_make(alloc, key.as_bytes())?;
+        }
+        Put(key, n) => table.put(alloc, key.as_bytes(), Value::Number(n))?,
+        Remove(key) => table.remove(key.as_bytes()),
+        Clear => table.clear(),
+    }
+    Ok(())
+}
+
+/// The pairs, each with a blank behind it.
+fn pairs_of(alloc: Global, table: &Table) -> Result<Vec<u8>, ValueFault> {
+    let mut pairs = Vec::new(alloc);
+    for key in &table.keys(alloc)? {
+        pairs.extend_from_slice(key.as_slice())?;
+        pairs.push(b'=')?;
+        if let Some(value) = table.get(key.as_slice()) {
+            append_text(value, &mut pairs)?;
+        }
+        pairs.push(b' ')?;
+    }
+    Ok(pairs)
+}
+
+#[test]
+fn calls_leave_pairs(rt: HostRuntime) -> Result<(), Fail> {
+    for row in &ROWS {
+        let mut table = Table::new(rt.alloc());
+        for each in row.calls {
+            make_call(rt.alloc(), &mut table, *each)?;
+        }
+        let pairs = pairs_of(rt.alloc(), &table)?;
+        assert_eq!(rt; pairs.as_slice(), row.pairs.as_bytes(), "{row:?}");
+    }
+    Ok(())
+}
+
+#[test]
+fn a_number_stands_for_its_decimal_form(rt: HostRuntime) -> Result<(), Fail> {
+    let mut table = Table::new(rt.alloc());
+    table.put_number(-7, Value::Number(1))?;
+    table.put(rt.alloc(), b"5", Value::Number(2))?;
+    table.get_or_make_number(6)?;
+    assert!(rt; table.has(b"-7") && table.has(b"6") && table.has_number(5));
+    assert!(rt; !table.has(b"7") && !table.has_number(7) && !table.has(b"-07"));
+    assert!(rt; matches!(table.get(b"-7"), Some(Value::Number(1))));
+    assert!(rt; matches!(table.get_number(5), Some(Value::Number(2))));
+    assert!(rt; matches!(table.get_or_make_number(5)?, Value::Number(2)));
+    assert!(rt; matches!(table.get(b"6"), Some(Value::Nothing)));
+    table.remove_number(5);
+    assert_eq!(rt; table.len(), 2);
+    let pairs = pairs_of(rt.alloc(), &table)?;
+    assert_eq!(rt; pairs.as_slice(), b"-7=1 6= ".as_slice());
+    Ok(())
+}
+
+const KEYS: u32 = 100_000;
+
+const ROTATIONS: u32 = 10_000;
+
+/// The n-th key: half of them are numbers.
+fn key_of(alloc: Global, n: u32) -> Result<Bytes, ValueFault> {
+    let text = if n % 2 == 0 {
+        format!(in alloc; "{n}")?
+    } else {
+        format!(in alloc; "key {n}")?
+    };
+    Ok(Bytes::from_slice(alloc, text.as_bytes())?)
+}
+
+#[test]
+fn rotations_cost_little(rt: HostRuntime) -> Result<(), Fail> {
+    let mut table = Table::new(rt.alloc());
+    for n in 0..KEYS {
+        let key = key_of(rt.alloc(), n)?;
+        table.put(rt.alloc(), key.as_slice(), Value::Number(n as i128))?;
+    }
+    for n in 0..ROTATIONS {
+        let key = key_of(rt.alloc(), n)?;
+        table.remove(key.as_slice());
+        table.get_or_make(rt.alloc(), key.as_slice())?;
+    }
+    let keys = table.keys(rt.alloc())?;
+    assert_eq!(rt; keys.len(), KEYS as usize);
+    let mut n = ROTATIONS;
+    for key in &keys {
+        let expected = key_of(rt.alloc(), n % KEYS)?;
+        assert_eq!(rt; key.as_slice(), expected.as_slice());
+        n = n.wrapping_add(1);
+    }
+    Ok(())
+}
+
+/// Numbers that look random, the same in each run.
+#[derive(Drop)]
+struct Random {
+    state: u64,
+}
+
+impl Random {
+    fn below(&mut self, limit: u32) -> u32 {
+        self.state = self
+            .state
+            .wrapping_mul(6_364_136_223_846_793_005)
+            .wrapping_add(1_442_695_040_888_963_407);
+        let high = u32::try_from(self.state >> 33).unwrap_or(0);
+        high.checked_rem(limit).unwrap_or(0)
+    }
+}
+
+/// A plain list of pairs, with keys by their number.
+#[derive(Drop)]
+struct Pairs {
+    pairs: Vec<(u32, Value)>,
+}
+
+impl Pairs {
+    fn place_of(&self, key: u32) -> Option<usize> {
+        self.pairs.iter().position(|pair| pair.0 == key)
+    }
+
+    fn remove(&mut self, key: u32) {
+        self.pairs.retain(|pair| pair.0 != key);
+    }
+
+    fn put(&mut self, key: u32, value: Value) -> Result<(), ValueFault> {
+        match self.place_of(key) {
+            Some(place) => {
+                if let Some(pair) = self.pairs.get_mut(place) {
+                    pair.1 = value;
+                }
+            }
+            None => self.pairs.push((key, value))?,
+        }
+        Ok(())
+    }
+
+    fn make(&mut self, key: u32) -> Result<(), ValueFault> {
+        match self.place_of(key) {
+            Some(_) => Ok(()),
+            None => self.put(key, Value::Nothing),
+        }
+    }
+
+    fn text(&self, alloc: Global) -> Result<Vec<u8>, ValueFault> {
+        let mut text = Vec::new(alloc);
+        for (key, value) in &self.pairs {
+            text.extend_from_slice(key_of(alloc, *key)?.as_slice())?;
+            text.push(b'=')?;
+            append_text(value, &mut text)?;
+            text.push(b' ')?;
+        }
+        Ok(text)
+    }
+}
+
+/// Takes the same step on both. Numbers go by either kind of call.
+fn step(
+    alloc: Global,
+    random: &mut Random,
+    table: &mut Table,
+    pairs: &mut Pairs,
+) -> Result<(), ValueFault> {
+    let key = random.below(20);
+    let by_number = key % 2 == 0 && random.below(2) == 0;
+    let text = key_of(alloc, key)?;
+    match random.below(8) {
+        0..3 => {
+            let n = random.below(1000) as i128;
+            pairs.put(key, Value::Number(n))?;
+            if by_number {
+                table.put_number(key as i64, Value::Number(n))?;
+            } else {
+                table.put(alloc, text.as_slice(), Value::Number(n))?;
+            }
+        }
+        3..5 => {
+            pairs.make(key)?;
+            if by_number {
+                table.get_or_make_number(key as i64)?;
+            } else {
+                table.get_or_make(alloc, text.as_slice())?;
+            }
+        }
+        _ => {
+            pairs.remove(key);
+            if by_number {
+                table.remove_number(key as i64);
+            } else {
+                table.remove(text.as_slice());
+            }
+        }
+    }
+    Ok(())
+}
+
+#[test]
+fn goes_as_a_plain_list(rt: HostRuntime) -> Result<(), Fail> {
+    let mut random = Random { state: 1 };
+    for _ in 0..20 {
+        let mut table = Table::new(rt.alloc());
+        let mut pairs = Pairs {
+            pairs: Vec::new(rt.alloc()),
+        };
+        for _ in 0..200 {
+            step(rt.alloc(), &mut random, &mut table, &mut pairs)?;
+            let shown = pairs_of(rt.alloc(), &table)?;
+            assert_eq!(rt; shown.as_slice(), pairs.text(rt.alloc())?.as_slice());
+            assert_eq!(rt; table.len(), pairs.pairs.len());
+        }
+    }
+    Ok(())
+}

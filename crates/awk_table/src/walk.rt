@@ -1,0 +1,91 @@
+// The keys in their order: all entries' texts with their stamps, sorted where the stamps don't rise.
+
+ghost use Rattle.std.specs.Prelude.{◌≡◌, ◌++◌, map, nat_lt, IsPermutation, IfOk, IfErr, OnOk};
+ghost use Rattle.std.specs.Fmt.{signed_decimal};
+ghost use Rattle.std.specs.Map.{keys_of};
+ghost use Rattle.std.specs.List.Sorted.{IsNonDecreasingBy};
+ghost use Rattle.awk_value.specs.declared.fault.ValueFault.TheVariants.{Memory};
+
+use crate::table::{Entry, Table};
+use awk_value::{Bytes, ValueFault};
+use indexmap::IndexMap;
+use itoa::Buffer;
+use std::alloc::{AllocError, Global};
+
+impl Table {
+    /// The texts of all keys, in order. The fault is `Memory`. (POSIX awk, Actions: for, in)
+    pub fn keys(&self, alloc: Global) -> Result<Vec<Bytes>, ValueFault>
+        ensures keys { IfOk result (λ keys. keys.items ≡ keys_of self.now) }
+        ensures fault { IfErr result (λ fault. fault ≡ Memory) }
+    {
+        let mut rows = Vec::with_capacity(alloc, self.len())?;
+        list_numbers(alloc, &self.numbers, &mut rows)?;
+        list_texts(alloc, &self.texts, &mut rows)?;
+        sort_rows(&mut rows)?;
+        Ok(texts_of(alloc, rows)?)
+    }
+}
+
+/// Adds the numbers' decimal forms with their stamps, in the map's order.
+fn list_numbers(
+    alloc: Global,
+    entries: &IndexMap<i64, Entry>,
+    rows: &mut Vec<(u64, Bytes)>,
+) -> Result<(), AllocError>
+    ensures { OnOk result (rows.new.items
+        ≡ rows.old.items ++ map (λ e. (e.1.stamp, signed_decimal e.0)) entries.now.entries) }
+{
+    let mut buffer = Buffer::new();
+    for (key, entry) in entries.iter() {
+        let text = Bytes::from_slice(alloc, buffer.format(*key).as_bytes())?;
+        rows.push((entry.stamp, text))?;
+    }
+    Ok(())
+}
+
+/// Adds the texts with their stamps, in the map's order.
+fn list_texts(
+    alloc: Global,
+    entries: &IndexMap<Vec<u8>, Entry>,
+    rows: &mut Vec<(u64, Bytes)>,
+) -> Result<(), AllocError>
+    ensures { OnOk result (rows.new.items
+        ≡ rows.old.items ++ map (λ e. (e.1.stamp, e.0.items)) entries.now.entries) }
+{
+    for (key, entry) in entries.iter() {
+        let text = Bytes::from_slice(alloc, key.as_slice())?;
+        rows.push((entry.stamp, text))?;
+    }
+    Ok(())
+}
+
+/// Puts the rows in the order of their stamps. Sorts only where they aren't.
+fn sort_rows(rows: &mut Vec<(u64, Bytes)>) -> Result<(), AllocError>
+    ensures moved { IsPermutation rows.old.items rows.new.items }
+    ensures ordered { OnOk result (IsNonDecreasingBy (λ r. r.0) rows.new.items) }
+{
+    let rise = rows.is_sorted_by(
+        |x: &(u64, Bytes), y: &(u64, Bytes)| -> bool
+            ensures { result ≡ nat_lt x.now.0 y.now.0 }
+        { x.0 < y.0 },
+    );
+    if rise {
+        return Ok(());
+    }
+    rows.sort_by_key(
+        |row: &(u64, Bytes)| -> u64
+            ensures { result ≡ row.now.0 }
+        { row.0 },
+    )
+}
+
+/// The rows' texts.
+fn texts_of(alloc: Global, rows: Vec<(u64, Bytes)>) -> Result<Vec<Bytes>, AllocError>
+    ensures { IfOk result (λ texts. texts.items ≡ map (λ r. r.1) rows.items) }
+{
+    let mut texts = Vec::with_capacity(alloc, rows.len())?;
+    for (_, text) in rows {
+        texts.push(text)?;
+    }
+    Ok(texts)
+}
