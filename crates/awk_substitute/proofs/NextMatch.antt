@@ -1,11 +1,17 @@
 -- Which match is chosen, by what a search found.
 use Rattle.std.proofs.Common.{◌≡◌, ℕ, ◌+◌, ◌<◌, ◌≤◌, List, length, Option, Some, None, subst, arith, inl, inr}
+use Rattle.std.specs.Prelude.{IfSome}
 use Rattle.std.proofs.lemmas.Bool.{cases_lt}
 use Rattle.awk_ere_syntax.specs.definitions.Tree.{Tree, Matches, Finds}
 use Rattle.awk_text.specs.declared.span.Span.{Span}
+use Rattle.awk_text.specs.Pieces.{IsSpanOf}
 use Rattle.awk_substitute.specs.definitions.Chosen.{IsMatch, Follows, IsNextMatch}
 use Rattle.awk_substitute.specs.support.Search.{FindsFrom, LiesBehind}
 use Rattle.awk_substitute.proofs.MatchesStay.{match_stays}
+
+pub lies_within : (place : ℕ) (s : List ℕ) (found : Option Span) → IfSome found (LiesBehind place s) → IfSome found (IsSpanOf s)
+lies_within place s None lies = lies
+lies_within place s (Some m) lies = (lies.order, lies.within)
 
 module _ (t : Tree) (s : List ℕ) where
   pub search_nothing : (from : ℕ) → Finds t s from None → FindsFrom t s from None

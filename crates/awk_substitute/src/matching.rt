@@ -3,6 +3,7 @@ ghost use Rattle.std.specs.Prelude.{◌≡◌, ◌≤◌, ◌<◌, true, None, S
 ghost use Rattle.awk_ere.specs.definitions.Means.{Means};
 ghost use Rattle.awk_ere.specs.support.Table.{IsFor};
 ghost use Rattle.awk_ere_syntax.specs.definitions.Tree.{Tree};
+ghost use Rattle.awk_text.specs.Pieces.{IsSpanOf};
 ghost use Rattle.awk_substitute.specs.definitions.Chosen.{IsNextMatch};
 ghost use Rattle.awk_substitute.specs.support.Search.{FindsFrom, LiesBehind};
 
@@ -40,11 +41,11 @@ fn search_from(pattern: &Pattern, text: &[u8], from: usize, scratch: &mut Scratc
 }
 
 /// The first match of the pattern in the text, and of those that begin there the longest: RSTART is its start and 1,
-/// RLENGTH its length; nothing is RSTART 0 and RLENGTH -1. Takes no memory, and time that grows with the text
+/// RLENGTH its length; where there is none, they are 0 and -1. Takes no memory, and time that grows with the text
 /// times its logarithm. (POSIX awk, String Functions: match)
 pub fn match_at(pattern: &Pattern, text: &[u8], scratch: &mut Scratch) -> Option<Span>
     requires { IsFor scratch.old pattern.now }
-    ensures within { IfSome result (LiesBehind 0 text.now) }
+    ensures within { IfSome result (IsSpanOf text.now) }
     ensures found { (t : Tree) → Means t pattern.now → IsNextMatch t text.now None result }
     ensures same { IsFor scratch.new pattern.now }
 {

@@ -21,7 +21,7 @@ loop-next-init c =
     let first = c.in-Some.first in
     let written = c.in_ok-add_replaced.ensures.added ∙ ap (λ o. o ++ added r s 0 first) c.clear.ensures.items in
     record {
-      inside = c.in-Some.ensures.within.within;
+      inside = c.in-Some.ensures.within.1;
       some = omega arith;
       few = omega arith;
       same = c.in-Some.ensures.same;
