@@ -1,10 +1,11 @@
-//! What the language makes of texts: the fields that separators leave.
+//! What the language makes of texts: the fields that separators leave, and the functions of texts.
 #![tactic(auto)]
 
 ghost use Rattle.std.specs.Prelude.{◌≡◌, ◌≢◌, ℕ, List, [], ◌∷◌, ◌++◌, true};
 ghost use Rattle.awk_text.specs.Pieces.{AreBlank, IsPiece, IsNotIn, is_blank_or_newline, pieces_of};
 
 mod fault;
+mod functions;
 mod separator;
 mod span;
 mod split;
@@ -12,6 +13,7 @@ mod split;
 mod tests;
 
 pub use fault::TextFault;
+pub use functions::{index, lower, substr, upper};
 pub use separator::Separator;
 pub use span::Span;
 pub use split::split_text;

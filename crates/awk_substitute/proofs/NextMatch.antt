@@ -1,0 +1,72 @@
+-- Which match is chosen, by what a search found.
+use Rattle.std.proofs.Common.{◌≡◌, ℕ, ◌+◌, ◌<◌, ◌≤◌, List, length, Option, Some, None, subst, arith, inl, inr}
+use Rattle.std.specs.Prelude.{IfSome}
+use Rattle.std.proofs.lemmas.Bool.{cases_lt}
+use Rattle.awk_ere_syntax.specs.definitions.Tree.{Tree, Matches, Finds}
+use Rattle.awk_text.specs.declared.span.Span.{Span}
+use Rattle.awk_text.specs.Pieces.{IsSpanOf}
+use Rattle.awk_substitute.specs.definitions.Chosen.{IsMatch, Follows, IsNextMatch}
+use Rattle.awk_substitute.specs.support.Search.{FindsFrom, LiesBehind}
+use Rattle.awk_substitute.proofs.MatchesStay.{match_stays}
+
+pub lies_within : (place : ℕ) (s : List ℕ) (found : Option Span) → IfSome found (LiesBehind place s) → IfSome found (IsSpanOf s)
+lies_within place s None lies = lies
+lies_within place s (Some m) lies = (lies.order, lies.within)
+
+module _ (t : Tree) (s : List ℕ) where
+  pub search_nothing : (from : ℕ) → Finds t s from None → FindsFrom t s from None
+  search_nothing from none m c = none m.start m.end c.1 c.0.0 c.0.1
+
+  pub search_found : (from i j : ℕ) → Finds t s from (Some (i, j)) → FindsFrom t s from (Some (record { start = i; end = j }))
+  search_found from i j f = (
+    ((f.1, f.3), f.0),
+    λ m c. elim (cases_lt m.start i) [ inl lt ↦ absurd (f.2 m.start m.end c.1 lt c.0.1) | inr ge ↦ ge ],
+    λ m c same. f.4 m.end (subst (λ k. Matches s t k m.end) same c.0.1),
+  )
+
+  pub found_lies : (from i j : ℕ) → Finds t s from (Some (i, j)) → LiesBehind from s (record { start = i; end = j })
+  found_lies from i j f =
+      let stays = match_stays s t i j f.3 f.1 in
+      record { behind = f.0; order = stays.0; within = stays.1 }
+
+  pub first_match : (found : Option Span) → FindsFrom t s 0 found → IsNextMatch t s None found
+  first_match None none = λ m c. none m (c.0, omega arith)
+  first_match (Some best) f = ((f.0.0, tt), λ m c. f.1 m (c.0, omega arith), λ m c same. f.2 m (c.0, omega arith) same)
+
+  pub next_none : (end : ℕ) → FindsFrom t s end None → IsNextMatch t s (Some end) None
+  next_none end none m c = none m (c.0, c.1.0)
+
+  pub next_found : (end : ℕ) (best : Span) → FindsFrom t s end (Some best) → end < best.end → IsNextMatch t s (Some end) (Some best)
+  next_found end best f lt =
+      ((f.0.0, (f.0.1, λ here empty. omega arith)), λ m c. f.1 m (c.0, c.1.0), λ m c same. f.2 m (c.0, c.1.0) same)
+
+  -- where the best is the empty one at `end`, the next begins behind it
+  begins_behind : (end : ℕ) (best : Span) → FindsFrom t s end (Some best) → best.end ≤ end → (m : Span) → IsMatch t s m × Follows (Some end) m → end + 1 ≤ m.start
+  begins_behind end best f le m c = elim (cases_lt end m.start) [
+    | inl lt ↦ omega arith
+    | inr ge ↦
+        let from : end ≤ m.start = c.1.0 in
+        let low : end ≤ best.start = f.0.1 in
+        let order = (match_stays s t best.start best.end f.0.0.1 f.0.0.0).0 in
+        let forward = (match_stays s t m.start m.end c.0.1 c.0.0).0 in
+        let same : m.start ≡ best.start = omega arith in
+        let most : m.end ≤ best.end = f.2 m (c.0, c.1.0) same in
+        let here : m.start ≡ end = omega arith in
+        let empty : m.end ≡ end = omega arith in
+        absurd (c.1.1 here empty)
+  ]
+
+  pub next_behind : (end : ℕ) (best : Span) → FindsFrom t s end (Some best) → best.end ≤ end → (r : Option Span) → FindsFrom t s (end + 1) r → IsNextMatch t s (Some end) r
+  next_behind end best f le None later = λ m c. later m (c.0, begins_behind end best f le m c)
+  next_behind end best f le (Some n) later =
+      let low : end + 1 ≤ n.start = later.0.1 in (
+        (later.0.0, (omega arith, λ here empty. omega arith)),
+        λ m c. later.1 m (c.0, begins_behind end best f le m c),
+        λ m c same. later.2 m (c.0, begins_behind end best f le m c) same,
+      )
+
+  pub next_past : (end : ℕ) (best : Span) → FindsFrom t s end (Some best) → best.end ≤ end → length s ≤ end → IsNextMatch t s (Some end) None
+  next_past end best f le past m c =
+      let behind = begins_behind end best f le m c in
+      let within : m.start ≤ length s = c.0.0 in
+      omega arith

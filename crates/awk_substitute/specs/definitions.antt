@@ -1,0 +1,4 @@
+-- What a reader has to believe.
+pub mod Chosen
+pub mod Replaced
+pub mod Replacement

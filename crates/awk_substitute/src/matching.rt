@@ -1,0 +1,81 @@
+// Where the matches are that the language chooses.
+ghost use Rattle.std.specs.Prelude.{◌≡◌, ◌≤◌, ◌<◌, true, None, Some, length, IfSome};
+ghost use Rattle.awk_ere.specs.definitions.Means.{Means};
+ghost use Rattle.awk_ere.specs.support.Table.{IsFor};
+ghost use Rattle.awk_ere_syntax.specs.definitions.Tree.{Tree};
+ghost use Rattle.awk_text.specs.Pieces.{IsSpanOf};
+ghost use Rattle.awk_substitute.specs.definitions.Chosen.{IsNextMatch};
+ghost use Rattle.awk_substitute.specs.support.Search.{FindsFrom, LiesBehind};
+
+use awk_ere::{Pattern, Scratch};
+use awk_text::Span;
+
+// Whether the stretch lies within the text, at a place or behind it.
+fn lies_behind(found: Span, place: usize, text: &[u8]) -> bool
+    ensures lies { result ≡ true → LiesBehind place text.now found }
+    ensures only { LiesBehind place text.now found → result ≡ true }
+{
+    place <= found.start && found.start <= found.end && found.end <= text.len()
+}
+
+// The leftmost match at or behind a place, and of those the longest. That it lies there is tested, since a search
+// tells it only of a pattern whose meaning is known.
+fn search_from(pattern: &Pattern, text: &[u8], from: usize, scratch: &mut Scratch) -> Option<Span>
+    requires same { IsFor scratch.old pattern.now }
+    requires within { from ≤ length text.now }
+    ensures lies { IfSome result (LiesBehind from text.now) }
+    ensures found { (t : Tree) → Means t pattern.now → FindsFrom t text.now from result }
+    ensures same { IsFor scratch.new pattern.now }
+{
+    match pattern.find_from(text, from, scratch) {
+        None => None,
+        Some((start, end)) => {
+            let found = Span { start, end };
+            if lies_behind(found, from, text) {
+                Some(found)
+            } else {
+                None
+            }
+        }
+    }
+}
+
+/// The first match of the pattern in the text, and of those that begin there the longest: RSTART is its start and 1,
+/// RLENGTH its length; where there is none, they are 0 and -1. Takes no memory, and time that grows with the text
+/// times its logarithm. (POSIX awk, String Functions: match)
+pub fn match_at(pattern: &Pattern, text: &[u8], scratch: &mut Scratch) -> Option<Span>
+    requires { IsFor scratch.old pattern.now }
+    ensures within { IfSome result (IsSpanOf text.now) }
+    ensures found { (t : Tree) → Means t pattern.now → IsNextMatch t text.now None result }
+    ensures same { IsFor scratch.new pattern.now }
+{
+    search_from(pattern, text, 0, scratch)
+}
+
+// The next match after one that ended at `end`: not the empty one there.
+pub(crate) fn next_match(
+    pattern: &Pattern,
+    text: &[u8],
+    end: usize,
+    scratch: &mut Scratch,
+) -> Option<Span>
+    requires same { IsFor scratch.old pattern.now }
+    requires within { end ≤ length text.now }
+    ensures lies { IfSome result (LiesBehind end text.now) }
+    ensures past { IfSome result (λ m. end < m.end) }
+    ensures found { (t : Tree) → Means t pattern.now → IsNextMatch t text.now (Some end) result }
+    ensures same { IsFor scratch.new pattern.now }
+{
+    match search_from(pattern, text, end, scratch) {
+        None => None,
+        Some(found) => {
+            if end < found.end {
+                Some(found)
+            } else if end < text.len() {
+                search_from(pattern, text, end + 1, scratch)
+            } else {
+                None
+            }
+        }
+    }
+}
