@@ -1,5 +1,5 @@
 -- What the end of a run leaves, after a body that ended well or by a failure.
-use Rattle.std.proofs.Common.{◌≡◌, ◌≢◌, ◌⊎◌, inl, inr, ℕ, zero, suc, ◌+◌, ◌-◌, ◌≤◌, ℤ, Bool, true, false, if◌then◌else◌, List, [], ◌∷◌, ◌++◌, length, take, drop, Option, None, Some, is_some, Result, Ok, Err, refl, sym, ap, ◌∙◌, subst, append-nil, arith}
+use Rattle.std.proofs.Common.{◌≡◌, ◌⊎◌, inl, inr, ℕ, zero, suc, ◌+◌, ◌-◌, ◌≤◌, ℤ, Bool, true, false, if◌then◌else◌, List, [], ◌∷◌, ◌++◌, length, take, drop, Option, None, Some, is_some, Result, Ok, Err, refl, sym, ap, ◌∙◌, subst, append-nil, arith}
 use Rattle.std.specs.Prelude.{IfErr, ◌&&◌}
 use Rattle.std.proofs.lemmas.List.{take-append-drop, length-take-le}
 use Rattle.awk_streams.specs.declared.fault.StreamFault.{StreamFault}
@@ -18,7 +18,7 @@ use Rattle.awk_meaning.specs.declared.fault as declared
 use Rattle.awk_meaning.specs.declared.fault.Fault.TheVariants as faults
 use Rattle.awk_meaning.specs.State.{Out}
 use Rattle.awk_meaning.specs.Meaning.{Asked, Meaning, outcome_of, outputs_after, requests_after}
-use Rattle.awk_meaning.specs.Order.{AreBetween, GoesBetween, MeetsAll, first_stage, IsInTurn}
+use Rattle.awk_meaning.specs.Order.{AreBetween, MeetsAll, first_stage, IsInTurn}
 use Rattle.awk_meaning.specs.Failure.{AreOfTheEnd, FailsAs, FailsAt}
 use Rattle.awk_meaning.specs.Faults.{stream_fault}
 use Rattle.awk_meaning.specs.Results.{Sort, WantOfMemory, FailedWrite, OfLanguage, sort_of}

@@ -1,5 +1,5 @@
 -- From the parts of a run to the whole.
-use Rattle.std.proofs.Common.{◌≡◌, ◌≢◌, ℕ, Bool, true, List, [], length, Option, None, Some, ◌⊎◌, inl, inr, Result, Ok, Err, refl, sym, ap, ◌∙◌, subst}
+use Rattle.std.proofs.Common.{◌≡◌, ℕ, List, [], length, None, Some, inl, inr, Result, Ok, Err, refl, sym, ap, ◌∙◌, subst}
 use Rattle.std.specs.Prelude.{IfErr}
 use Rattle.awk_streams.specs.declared.fault.StreamFault.{StreamFault}
 use Rattle.awk_streams.specs.Outputs.{IsOutputFault}
@@ -7,7 +7,7 @@ use Rattle.awk_streams.specs.Log as log
 use Rattle.awk_streams.specs.Oracle.{Oracle, IsConsistent, how_many, opens_input}
 use Rattle.awk_streams.specs.Orderly.{IsOrderly, IsInOrder}
 use Rattle.awk_streams.specs.Openings.{openings, in_order, receives, Begins}
-use Rattle.awk_streams.specs.Streams.{InputView, StreamsView, AreOpen, AreSound, IsMainRest, IsSoundMain, IsOpenMain, printed_openings, Finishes}
+use Rattle.awk_streams.specs.Streams.{StreamsView, AreOpen, AreSound, IsMainRest, IsSoundMain, IsOpenMain, printed_openings, Finishes}
 use Rattle.awk_tree.specs.Tree.{Item}
 use Rattle.awk_interpreter.specs.declared.interpreter.Interpreter.{Interpreter}
 use Rattle.awk_meaning.specs.declared.halt.Halt.{Halt}
@@ -21,8 +21,8 @@ use Rattle.awk_meaning.specs.Order.{IsInTurn}
 use Rattle.awk_meaning.specs.Failure.{FailsAt}
 use Rattle.awk_streams.specs.WorldState.{WorldState}
 use Rattle.awk_interpreter.specs.Simulation.{number_of, StateRelation, IsStart}
-use Rattle.awk_run.specs.support.Evaluation.{AssignsAndRuns}
-use Rattle.awk_run.proofs.RunEnds.{read_off, IsMeant, IsCut, Came, came, in_turn, no_failure_before, halted_by, fails_at, begins_at_end}
+use Rattle.awk_run.specs.support.Items.{AssignsAndRuns}
+use Rattle.awk_run.proofs.RunEnds.{read_off, IsMeant, Came, came, in_turn, no_failure_before, halted_by, fails_at, begins_at_end}
 use Rattle.awk_run.specs.definitions.Headline.{IsUntouched, IsUndisturbed, Runs}
 use Rattle.awk_run.specs.support.Verdict.{outcome_after, no_streams, EndsWithoutStreams, RunsFrom}
 

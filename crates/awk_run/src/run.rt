@@ -8,12 +8,12 @@ ghost use Rattle.awk_run.specs.definitions.Accepted.{IsSpelled, Accepted, Refuse
 ghost use Rattle.awk_run.specs.definitions.Start.{start_values, pair_of};
 ghost use Rattle.awk_streams.specs.Outputs.{IsOutputFault};
 ghost use Rattle.awk_streams.specs.Streams.{AreOpen, IsSoundMain};
-ghost use Rattle.awk_run.specs.support.Evaluation.{Assigns, AssignsAndRuns};
+ghost use Rattle.awk_run.specs.support.Items.{Assigns, AssignsAndRuns};
 ghost use Rattle.awk_run.specs.support.Verdict.{outcome_after as outcome_at, EndsWithoutStreams, ReadsOnly, RunsFrom};
 ghost use Rattle.awk_run.specs.definitions.Headline.{Executed};
 
+use crate::items::run_items;
 use crate::start::{Assignment, Start};
-use crate::statements::run_items;
 use awk_interpreter::Interpreter;
 use awk_lex::lexer::tokens;
 use awk_lex::refusal::Refusal;
