@@ -24,122 +24,125 @@ use Rattle.awk_streams.specs.WorldState.{WorldState}
 use Rattle.awk_interpreter.specs.Simulation.{Changes, Spends, Follows}
 use Rattle.awk_evaluator.specs.support.Evaluation.{Evaluates, AppliesToRight, EvaluatesAll, Lists, Executes, ExecutesAll}
 use Rattle.awk_meaning.specs.Results.{Yields}
-use Rattle.awk_interpreter.proofs.Composition.{then_changes, ends_changes, lift_changes, memory_changes, then_simulates, ends_simulates, lift_simulates, change_simulates}
+use Rattle.awk_interpreter.proofs.Composition.{then_changes, ends_changes, then_simulates, ends_simulates, lift_simulates, memory_simulates, change_simulates}
 
 -- expressions
 
-pub number_evaluates : {n : ℤ} {m : Interpreter} → Evaluates (Number n) m m (Ok (value.Number n))
+pub number_evaluates : {is_logged : Type 0} {n : ℤ} {m : Interpreter} {k : WorldState} → Evaluates is_logged (Number n) m k m k (Ok (value.Number n))
 unfolding eval
-number_evaluates {m = m} = record { simulates = lift_changes _ m refl }
+number_evaluates {m = m} {k = k} = record { simulates = lift_simulates _ m k refl }
 
-pub string_evaluates : {bytes : List ℕ} {m : Interpreter} → Evaluates (String bytes) m m (Ok (value.Text bytes))
+pub string_evaluates : {is_logged : Type 0} {bytes : List ℕ} {m : Interpreter} {k : WorldState} → Evaluates is_logged (String bytes) m k m k (Ok (value.Text bytes))
 unfolding eval
-string_evaluates {m = m} = record { simulates = lift_changes _ m refl }
+string_evaluates {m = m} {k = k} = record { simulates = lift_simulates _ m k refl }
 
-pub string_unread : {bytes : List ℕ} {m : Interpreter} → Evaluates (String bytes) m m (Err (halt.Fault OutOfMemory))
-string_unread = record { simulates = memory_changes _ refl (omega arith) }
+pub string_unread : {is_logged : Type 0} {bytes : List ℕ} {m : Interpreter} {k : WorldState} → Evaluates is_logged (String bytes) m k m k (Err (halt.Fault OutOfMemory))
+string_unread {m = m} {k = k} = record { simulates = memory_simulates m k _ }
 
-pub name_evaluates : {x : List ℕ} {old new : Interpreter} {r : Result Value Halt} → Changes (read_name x) old new r → Evaluates (Name x) old new r
+pub name_evaluates : {is_logged : Type 0} {x : List ℕ} {old new : Interpreter} {k : WorldState} {r : Result Value Halt} → Changes (read_name x) old new r → Evaluates is_logged (Name x) old k new k r
 unfolding eval
-name_evaluates p = record { simulates = p }
+name_evaluates p = record { simulates = change_simulates p }
 
-pub ere_ends : {text : List ℕ} {old new : Interpreter} {h : Halt} → Changes record_text old new (Err h) → Evaluates (Ere text) old new (Err h)
+pub ere_ends : (text : List ℕ) {old new : Interpreter} {h : Halt} → Changes record_text old new (Err h) → Changes (eval (Ere text)) old new (Err h)
 unfolding eval
-ere_ends p = record { simulates = ends_changes _ p }
+ere_ends text p = ends_changes _ p
 
-pub ere_gives : {text : List ℕ} {old mid new : Interpreter} {v : Value} {r : Result Value Halt} → Changes record_text old mid (Ok v) → Changes (lift (applied MatchOperator v (value.Text text))) mid new r → Evaluates (Ere text) old new r
+pub ere_gives : (text : List ℕ) {old mid new : Interpreter} {v : Value} {r : Result Value Halt} → Changes record_text old mid (Ok v) → Changes (lift (applied MatchOperator v (value.Text text))) mid new r → Changes (eval (Ere text)) old new r
 unfolding eval
-ere_gives p q = record { simulates = then_changes _ p q }
+ere_gives text p q = then_changes _ p q
 
-pub group_evaluates : {e : Expr} {old new : Interpreter} {r : Result Value Halt} → Evaluates e old new r → Evaluates (Group e) old new r
+pub ere_evaluates : {is_logged : Type 0} (text : List ℕ) {old new : Interpreter} {k : WorldState} {r : Result Value Halt} → Changes (eval (Ere text)) old new r → Evaluates is_logged (Ere text) old k new k r
+ere_evaluates text p = record { simulates = change_simulates p }
+
+pub group_evaluates : {is_logged : Type 0} {e : Expr} {old new : Interpreter} {k k1 : WorldState} {r : Result Value Halt} → Evaluates is_logged e old k new k1 r → Evaluates is_logged (Group e) old k new k1 r
 unfolding eval
 group_evaluates p = record { simulates = p.simulates }
 
-pub unary_ends : {o : UnaryOperator} {e : Expr} {old new : Interpreter} {h : Halt} → Evaluates e old new (Err h) → Evaluates (Unary o e) old new (Err h)
+pub unary_ends : {is_logged : Type 0} {o : UnaryOperator} {e : Expr} {old new : Interpreter} {k k1 : WorldState} {h : Halt} → Evaluates is_logged e old k new k1 (Err h) → Evaluates is_logged (Unary o e) old k new k1 (Err h)
 unfolding eval
-unary_ends p = record { simulates = ends_changes _ p.simulates }
+unary_ends p = record { simulates = ends_simulates _ p.simulates }
 
-pub unary_gives : {o : UnaryOperator} {e : Expr} {old new : Interpreter} {v : Value} {r : Result Value Halt} → Evaluates e old new (Ok v) → Yields r (changed o v) → Evaluates (Unary o e) old new r
+pub unary_gives : {is_logged : Type 0} {o : UnaryOperator} {e : Expr} {old new : Interpreter} {k k1 : WorldState} {v : Value} {r : Result Value Halt} → Evaluates is_logged e old k new k1 (Ok v) → Yields r (changed o v) → Evaluates is_logged (Unary o e) old k new k1 r
 unfolding eval
-unary_gives {new = new} p e = record { simulates = then_changes _ p.simulates (lift_changes _ new e) }
+unary_gives {new = new} {k1 = k1} p e = record { simulates = then_simulates _ p.simulates (lift_simulates _ new k1 e) }
 
-pub assign_ends : {x : List ℕ} {e : Expr} {old new : Interpreter} {h : Halt} → Evaluates e old new (Err h) → Evaluates (Assign x e) old new (Err h)
+pub assign_ends : {is_logged : Type 0} {x : List ℕ} {e : Expr} {old new : Interpreter} {k k1 : WorldState} {h : Halt} → Evaluates is_logged e old k new k1 (Err h) → Evaluates is_logged (Assign x e) old k new k1 (Err h)
 unfolding eval
-assign_ends p = record { simulates = ends_changes _ p.simulates }
+assign_ends p = record { simulates = ends_simulates _ p.simulates }
 
-pub assign_not_put : {x : List ℕ} {e : Expr} {old mid new : Interpreter} {v : Value} {h : Halt} → Evaluates e old mid (Ok v) → Changes (put x v) mid new (Err h) → Evaluates (Assign x e) old new (Err h)
+pub assign_not_put : {is_logged : Type 0} {x : List ℕ} {e : Expr} {old mid new : Interpreter} {k k1 : WorldState} {v : Value} {h : Halt} → Evaluates is_logged e old k mid k1 (Ok v) → Changes (put x v) mid new (Err h) → Evaluates is_logged (Assign x e) old k new k1 (Err h)
 unfolding eval
-assign_not_put p q = record { simulates = then_changes _ p.simulates (ends_changes _ q) }
+assign_not_put p q = record { simulates = then_simulates _ p.simulates (ends_simulates _ (change_simulates q)) }
 
-pub assign_gives : {x : List ℕ} {e : Expr} {old mid later new : Interpreter} {v : Value} {r : Result Value Halt} → Evaluates e old mid (Ok v) → Changes (put x v) mid later (Ok tt) → Changes (read_name x) later new r → Evaluates (Assign x e) old new r
+pub assign_gives : {is_logged : Type 0} {x : List ℕ} {e : Expr} {old mid later new : Interpreter} {k k1 : WorldState} {v : Value} {r : Result Value Halt} → Evaluates is_logged e old k mid k1 (Ok v) → Changes (put x v) mid later (Ok tt) → Changes (read_name x) later new r → Evaluates is_logged (Assign x e) old k new k1 r
 unfolding eval
-assign_gives p q r = record { simulates = then_changes _ p.simulates (then_changes _ q r) }
+assign_gives p q r = record { simulates = then_simulates _ p.simulates (then_simulates _ (change_simulates q) (change_simulates r)) }
 
-pub field_ends : {e : Expr} {old new : Interpreter} {h : Halt} → Evaluates e old new (Err h) → Evaluates (Field e) old new (Err h)
+pub field_ends : {is_logged : Type 0} {e : Expr} {old new : Interpreter} {k k1 : WorldState} {h : Halt} → Evaluates is_logged e old k new k1 (Err h) → Evaluates is_logged (Field e) old k new k1 (Err h)
 unfolding eval
-field_ends p = record { simulates = ends_changes _ p.simulates }
+field_ends p = record { simulates = ends_simulates _ p.simulates }
 
-pub field_gives : {e : Expr} {old mid new : Interpreter} {v : Value} {r : Result Value Halt} → Evaluates e old mid (Ok v) → Changes (field_at v) mid new r → Evaluates (Field e) old new r
+pub field_gives : {is_logged : Type 0} {e : Expr} {old mid new : Interpreter} {k k1 : WorldState} {v : Value} {r : Result Value Halt} → Evaluates is_logged e old k mid k1 (Ok v) → Changes (field_at v) mid new r → Evaluates is_logged (Field e) old k new k1 r
 unfolding eval
-field_gives p q = record { simulates = then_changes _ p.simulates q }
+field_gives p q = record { simulates = then_simulates _ p.simulates (change_simulates q) }
 
-pub binary_ends : {o : BinaryOperator} {a b : Expr} {old new : Interpreter} {h : Halt} → Evaluates a old new (Err h) → Evaluates (Binary o a b) old new (Err h)
+pub binary_ends : {is_logged : Type 0} {o : BinaryOperator} {a b : Expr} {old new : Interpreter} {k k1 : WorldState} {h : Halt} → Evaluates is_logged a old k new k1 (Err h) → Evaluates is_logged (Binary o a b) old k new k1 (Err h)
 unfolding eval
-binary_ends p = record { simulates = ends_changes _ p.simulates }
+binary_ends p = record { simulates = ends_simulates _ p.simulates }
 
-pub binary_gives : {o : BinaryOperator} {a b : Expr} {old mid new : Interpreter} {x : Value} {r : Result Value Halt} → Evaluates a old mid (Ok x) → AppliesToRight o x b mid new r → Evaluates (Binary o a b) old new r
+pub binary_gives : {is_logged : Type 0} {o : BinaryOperator} {a b : Expr} {old mid new : Interpreter} {k k1 k2 : WorldState} {x : Value} {r : Result Value Halt} → Evaluates is_logged a old k mid k1 (Ok x) → AppliesToRight is_logged o x b mid k1 new k2 r → Evaluates is_logged (Binary o a b) old k new k2 r
 unfolding eval
-binary_gives p q = record { simulates = then_changes _ p.simulates q.simulates }
+binary_gives p q = record { simulates = then_simulates _ p.simulates q.simulates }
 
 -- the operand on the right is evaluated
 abbrev IsEvaluated : BinaryOperator → Expr → Type 0
 IsEvaluated o b = (run : Run Value) → right_operand (takes_pattern o) b run ≡ run
 
-pub right_ends : {o : BinaryOperator} {b : Expr} {old new : Interpreter} {x : Value} {h : Halt} → IsEvaluated o b → Evaluates b old new (Err h) → AppliesToRight o x b old new (Err h)
-right_ends {b = b} is p = record { simulates = rw (is (eval b)) (ends_changes _ p.simulates) }
+pub right_ends : {is_logged : Type 0} {o : BinaryOperator} {b : Expr} {old new : Interpreter} {k k1 : WorldState} {x : Value} {h : Halt} → IsEvaluated o b → Evaluates is_logged b old k new k1 (Err h) → AppliesToRight is_logged o x b old k new k1 (Err h)
+right_ends {b = b} is p = record { simulates = rw (is (eval b)) (ends_simulates _ p.simulates) }
 
-pub right_gives : {o : BinaryOperator} {b : Expr} {old mid new : Interpreter} {x y : Value} {r : Result Value Halt} → IsEvaluated o b → Evaluates b old mid (Ok y) → Changes (lift (applied o x y)) mid new r → AppliesToRight o x b old new r
-right_gives {b = b} is p q = record { simulates = rw (is (eval b)) (then_changes _ p.simulates q) }
+pub right_gives : {is_logged : Type 0} {o : BinaryOperator} {b : Expr} {old mid new : Interpreter} {k k1 : WorldState} {x y : Value} {r : Result Value Halt} → IsEvaluated o b → Evaluates is_logged b old k mid k1 (Ok y) → Changes (lift (applied o x y)) mid new r → AppliesToRight is_logged o x b old k new k1 r
+right_gives {b = b} is p q = record { simulates = rw (is (eval b)) (then_simulates _ p.simulates (change_simulates q)) }
 
 -- the operand on the right is a pattern
-pub right_takes : {o : BinaryOperator} {text : List ℕ} {old new : Interpreter} {x : Value} {r : Result Value Halt} → takes_pattern o ≡ true → Changes (lift (applied o x (value.Text text))) old new r → AppliesToRight o x (Ere text) old new r
-right_takes {old = old} takes p = record { simulates = rw takes (then_changes _ (lift_changes _ old refl) p) }
+pub right_takes : {is_logged : Type 0} {o : BinaryOperator} {text : List ℕ} {old new : Interpreter} {k : WorldState} {x : Value} {r : Result Value Halt} → takes_pattern o ≡ true → Changes (lift (applied o x (value.Text text))) old new r → AppliesToRight is_logged o x (Ere text) old k new k r
+right_takes {old = old} {k = k} takes p = record { simulates = rw takes (then_simulates _ (lift_simulates _ old k refl) (change_simulates p)) }
 
 -- lists of values
 
-pub values_end : {front : List Value} {m : Interpreter} → EvaluatesAll front Nil m m (Ok front)
+pub values_end : {is_logged : Type 0} {front : List Value} {m : Interpreter} {k : WorldState} → EvaluatesAll is_logged front Nil m k m k (Ok front)
 unfolding eval_all
-values_end {m = m} = record { simulates = lift_changes _ m refl }
+values_end {m = m} {k = k} = record { simulates = lift_simulates _ m k refl }
 
-pub values_step : {front : List Value} {e : Expr} {es : Exprs} {old mid new : Interpreter} {v : Value} {r : Result (List Value) Halt} → Evaluates e old mid (Ok v) → EvaluatesAll (front ++ v ∷ []) es mid new r → EvaluatesAll front (Cons e es) old new r
+pub values_step : {is_logged : Type 0} {front : List Value} {e : Expr} {es : Exprs} {old mid new : Interpreter} {k k1 k2 : WorldState} {v : Value} {r : Result (List Value) Halt} → Evaluates is_logged e old k mid k1 (Ok v) → EvaluatesAll is_logged (front ++ v ∷ []) es mid k1 new k2 r → EvaluatesAll is_logged front (Cons e es) old k new k2 r
 unfolding eval_all
-values_step p q = record { simulates = then_changes _ p.simulates q.simulates }
+values_step p q = record { simulates = then_simulates _ p.simulates q.simulates }
 
-pub values_halt : {front : List Value} {e : Expr} {es : Exprs} {old new : Interpreter} {h : Halt} → Evaluates e old new (Err h) → EvaluatesAll front (Cons e es) old new (Err h)
+pub values_halt : {is_logged : Type 0} {front : List Value} {e : Expr} {es : Exprs} {old new : Interpreter} {k k1 : WorldState} {h : Halt} → Evaluates is_logged e old k new k1 (Err h) → EvaluatesAll is_logged front (Cons e es) old k new k1 (Err h)
 unfolding eval_all
-values_halt p = record { simulates = ends_changes _ p.simulates }
+values_halt p = record { simulates = ends_simulates _ p.simulates }
 
-pub values_full : {front : List Value} {e : Expr} {es : Exprs} {old new : Interpreter} {v : Value} → Evaluates e old new (Ok v) → EvaluatesAll front (Cons e es) old new (Err (halt.Fault OutOfMemory))
+pub values_full : {is_logged : Type 0} {front : List Value} {e : Expr} {es : Exprs} {old new : Interpreter} {k k1 : WorldState} {v : Value} → Evaluates is_logged e old k new k1 (Ok v) → EvaluatesAll is_logged front (Cons e es) old k new k1 (Err (halt.Fault OutOfMemory))
 unfolding eval_all
-values_full p = record { simulates = then_changes _ p.simulates (memory_changes _ refl (omega arith)) }
+values_full {new = new} {k1 = k1} p = record { simulates = then_simulates _ p.simulates (memory_simulates new k1 _) }
 
-pub list_of_values : {e : Expr} {es : Exprs} {old new : Interpreter} {r : Result (List Value) Halt} → EvaluatesAll [] (Cons e es) old new r → Lists (Cons e es) old new r
+pub list_of_values : {is_logged : Type 0} {e : Expr} {es : Exprs} {old new : Interpreter} {k k1 : WorldState} {r : Result (List Value) Halt} → EvaluatesAll is_logged [] (Cons e es) old k new k1 r → Lists is_logged (Cons e es) old k new k1 r
 unfolding printed_values
 list_of_values p = record { simulates = p.simulates }
 
-pub list_of_text : {old new : Interpreter} {v : Value} → Changes record_text old new (Ok v) → Lists Nil old new (Ok (v ∷ []))
+pub list_of_text : {is_logged : Type 0} {old new : Interpreter} {k : WorldState} {v : Value} → Changes record_text old new (Ok v) → Lists is_logged Nil old k new k (Ok (v ∷ []))
 unfolding printed_values
-list_of_text {new = new} p = record { simulates = then_changes _ p (lift_changes _ new refl) }
+list_of_text {new = new} {k = k} p = record { simulates = then_simulates _ (change_simulates p) (lift_simulates _ new k refl) }
 
-pub list_text_full : {old new : Interpreter} {v : Value} → Changes record_text old new (Ok v) → Lists Nil old new (Err (halt.Fault OutOfMemory))
+pub list_text_full : {is_logged : Type 0} {old new : Interpreter} {k : WorldState} {v : Value} → Changes record_text old new (Ok v) → Lists is_logged Nil old k new k (Err (halt.Fault OutOfMemory))
 unfolding printed_values
-list_text_full p = record { simulates = then_changes _ p (memory_changes _ refl (omega arith)) }
+list_text_full {new = new} {k = k} p = record { simulates = then_simulates _ (change_simulates p) (memory_simulates new k _) }
 
-pub list_text_ends : {old new : Interpreter} {h : Halt} → Changes record_text old new (Err h) → Lists Nil old new (Err h)
+pub list_text_ends : {is_logged : Type 0} {old new : Interpreter} {k : WorldState} {h : Halt} → Changes record_text old new (Err h) → Lists is_logged Nil old k new k (Err h)
 unfolding printed_values
-list_text_ends p = record { simulates = ends_changes _ p }
+list_text_ends p = record { simulates = ends_simulates _ (change_simulates p) }
 
-pub list_of_some : (es : List Code) {old new : Interpreter} {r : Result (List Value) Halt} → (length es == 0) ≡ false → EvaluatesAll [] (exprs_of es) old new r → Lists (exprs_of es) old new r
+pub list_of_some : {is_logged : Type 0} (es : List Code) {old new : Interpreter} {k k1 : WorldState} {r : Result (List Value) Halt} → (length es == 0) ≡ false → EvaluatesAll is_logged [] (exprs_of es) old k new k1 r → Lists is_logged (exprs_of es) old k new k1 r
 list_of_some [] e p = absurd (cc)
 list_of_some (x ∷ es) e p = list_of_values p
 
@@ -153,25 +156,25 @@ pub print_stops : {is_logged : Type 0} {es : Exprs} {m m1 : Interpreter} {k : Wo
 unfolding exec
 print_stops p = record { simulates = ends_simulates _ (change_simulates p.simulates) }
 
-pub print_ends : {is_logged : Type 0} {es : Exprs} {m m1 m2 : Interpreter} {k : WorldState} {h : Halt} → Spends m m1 (Ok tt) → Lists es m1 m2 (Err h) → Executes is_logged (Print es) m k m2 k (Err h)
+pub print_ends : {is_logged : Type 0} {es : Exprs} {m m1 m2 : Interpreter} {k k2 : WorldState} {h : Halt} → Spends m m1 (Ok tt) → Lists is_logged es m1 k m2 k2 (Err h) → Executes is_logged (Print es) m k m2 k2 (Err h)
 unfolding exec
-print_ends p q = record { simulates = then_simulates _ (change_simulates p.simulates) (ends_simulates _ (change_simulates q.simulates)) }
+print_ends p q = record { simulates = then_simulates _ (change_simulates p.simulates) (ends_simulates _ q.simulates) }
 
-pub print_shows : {is_logged : Type 0} {es : Exprs} {m m1 m2 m3 : Interpreter} {k k3 : WorldState} {vs : List Value} {r : Result (Unit {0}) Halt} → Spends m m1 (Ok tt) → Lists es m1 m2 (Ok vs) → Follows is_logged (print_line vs) m2 k m3 k3 r → Executes is_logged (Print es) m k m3 k3 r
+pub print_shows : {is_logged : Type 0} {es : Exprs} {m m1 m2 m3 : Interpreter} {k k2 k3 : WorldState} {vs : List Value} {r : Result (Unit {0}) Halt} → Spends m m1 (Ok tt) → Lists is_logged es m1 k m2 k2 (Ok vs) → Follows is_logged (print_line vs) m2 k2 m3 k3 r → Executes is_logged (Print es) m k m3 k3 r
 unfolding exec
-print_shows p q s = record { simulates = then_simulates _ (change_simulates p.simulates) (then_simulates _ (change_simulates q.simulates) s.simulates) }
+print_shows p q s = record { simulates = then_simulates _ (change_simulates p.simulates) (then_simulates _ q.simulates s.simulates) }
 
 pub expression_stops : {is_logged : Type 0} {e : Expr} {m m1 : Interpreter} {k : WorldState} {h : Halt} → Spends m m1 (Err h) → Executes is_logged (Expression e) m k m1 k (Err h)
 unfolding exec
 expression_stops p = record { simulates = ends_simulates _ (change_simulates p.simulates) }
 
-pub expression_ends : {is_logged : Type 0} {e : Expr} {m m1 m2 : Interpreter} {k : WorldState} {h : Halt} → Spends m m1 (Ok tt) → Evaluates e m1 m2 (Err h) → Executes is_logged (Expression e) m k m2 k (Err h)
+pub expression_ends : {is_logged : Type 0} {e : Expr} {m m1 m2 : Interpreter} {k k2 : WorldState} {h : Halt} → Spends m m1 (Ok tt) → Evaluates is_logged e m1 k m2 k2 (Err h) → Executes is_logged (Expression e) m k m2 k2 (Err h)
 unfolding exec
-expression_ends p q = record { simulates = then_simulates _ (change_simulates p.simulates) (ends_simulates _ (change_simulates q.simulates)) }
+expression_ends p q = record { simulates = then_simulates _ (change_simulates p.simulates) (ends_simulates _ q.simulates) }
 
-pub expression_executes : {is_logged : Type 0} {e : Expr} {m m1 m2 : Interpreter} {k : WorldState} {v : Value} → Spends m m1 (Ok tt) → Evaluates e m1 m2 (Ok v) → Executes is_logged (Expression e) m k m2 k (Ok tt)
+pub expression_executes : {is_logged : Type 0} {e : Expr} {m m1 m2 : Interpreter} {k k2 : WorldState} {v : Value} → Spends m m1 (Ok tt) → Evaluates is_logged e m1 k m2 k2 (Ok v) → Executes is_logged (Expression e) m k m2 k2 (Ok tt)
 unfolding exec
-expression_executes {m2 = m2} {k = k} p q = record { simulates = then_simulates _ (change_simulates p.simulates) (then_simulates _ (change_simulates q.simulates) (lift_simulates _ m2 k refl)) }
+expression_executes {m2 = m2} {k2 = k2} p q = record { simulates = then_simulates _ (change_simulates p.simulates) (then_simulates _ q.simulates (lift_simulates _ m2 k2 refl)) }
 
 pub block_executes : {is_logged : Type 0} {all : Statements} {m m1 : Interpreter} {k k1 : WorldState} {r : Result (Unit {0}) Halt} → ExecutesAll is_logged all m k m1 k1 r → Executes is_logged (Block all) m k m1 k1 r
 unfolding exec

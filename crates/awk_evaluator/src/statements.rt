@@ -20,7 +20,7 @@ pub fn print<W: World>(
         interpreter.new (W.state world.new) result }
 {
     interpreter.spend()?;
-    let values = printed_values(list, interpreter)?;
+    let values = printed_values(list, interpreter, world)?;
     interpreter.print_line(world, &values)
 }
 
@@ -30,7 +30,7 @@ fn evaluate<W: World>(e: &Expr, interpreter: &mut Interpreter, world: &mut W) ->
         interpreter.new (W.state world.new) result }
 {
     interpreter.spend()?;
-    eval(e, interpreter)?;
+    eval(e, interpreter, world)?;
     Ok(())
 }
 

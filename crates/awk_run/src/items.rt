@@ -18,7 +18,7 @@ fn try_pattern<W: World>(e: &Expr, interpreter: &mut Interpreter, world: &mut W)
     ensures { Tries W.is_logged (Pattern (expr_of e.now)) interpreter.old (W.state world.old) interpreter.new
         (W.state world.new) result }
 {
-    if holds(e, interpreter)? {
+    if holds(e, interpreter, world)? {
         print(&[], interpreter, world)
     } else {
         Ok(())
@@ -35,7 +35,7 @@ fn try_item<W: World>(item: &Item, interpreter: &mut Interpreter, world: &mut W)
         Item::Action(block) => exec_all(block, interpreter, world),
         Item::Pattern(e) => try_pattern(e, interpreter, world),
         Item::PatternAction(e, block) => {
-            if holds(e, interpreter)? {
+            if holds(e, interpreter, world)? {
                 exec_all(block, interpreter, world)
             } else {
                 Ok(())
