@@ -13,13 +13,15 @@ use Rattle.awk_tree.specs.declared.tree.Statement.{Statement as CodeStatement, R
 use Rattle.awk_tree.specs.Tree.{Expr, Number, String, Ere, Name, Group, Field, Unary, Binary, Assign, Exprs, Nil, Cons, Statement, Block, Expression, Print, Statements, NoMore, Then}
 use Rattle.awk_tree.specs.View.{expr_of, exprs_of, statement_of, statements_of, statements_of_row}
 use Rattle.awk_interpreter.specs.declared.interpreter.Interpreter.{Interpreter}
+use Rattle.awk_meaning.specs.declared.flow.Flow.{Flow}
+use Rattle.awk_meaning.specs.declared.flow.Flow.TheVariants as flow
 use Rattle.awk_meaning.specs.declared.halt.Halt.{Halt}
 use Rattle.awk_meaning.specs.declared.halt.Halt.TheVariants as halt
 use Rattle.awk_meaning.specs.declared.fault.Fault.TheVariants.{OutOfMemory}
 use Rattle.awk_meaning.specs.Operators.{applied, changed}
 use Rattle.awk_meaning.specs.Primitives.{read_name, put, field_at, record_text, print_line}
 use Rattle.awk_meaning.specs.Operators.{takes_pattern}
-use Rattle.awk_meaning.specs.Semantics.{right_operand, eval, eval_all, printed_values, exec}
+use Rattle.awk_meaning.specs.Semantics.{right_operand, eval, eval_all, printed_values, print, pass_on, exec, exec_all, run_action}
 use Rattle.awk_streams.specs.WorldState.{WorldState}
 use Rattle.awk_interpreter.specs.Simulation.{Changes, Spends, Follows}
 use Rattle.awk_evaluator.specs.support.Evaluation.{Evaluates, AppliesToRight, EvaluatesAll, Lists, Executes, ExecutesAll}
@@ -152,17 +154,25 @@ exprs_of_none (x ∷ es) e = absurd (grind (arith, nat_tests))
 
 -- statements
 
-pub print_stops : {is_logged : Type 0} {es : Exprs} {m m1 : Interpreter} {k : WorldState} {h : Halt} → Spends m m1 (Err h) → Executes is_logged (Print es) m k m1 k (Err h)
-unfolding exec
-print_stops p = record { simulates = ends_simulates _ (change_simulates p.simulates) }
+pub print_stops : {is_logged : Type 0} (es : Exprs) {m m1 : Interpreter} {k : WorldState} {h : Halt} → Spends m m1 (Err h) → Follows is_logged (print es) m k m1 k (Err h)
+unfolding print
+print_stops es p = record { simulates = ends_simulates _ (change_simulates p.simulates) }
 
-pub print_ends : {is_logged : Type 0} {es : Exprs} {m m1 m2 : Interpreter} {k k2 : WorldState} {h : Halt} → Spends m m1 (Ok tt) → Lists is_logged es m1 k m2 k2 (Err h) → Executes is_logged (Print es) m k m2 k2 (Err h)
-unfolding exec
+pub print_ends : {is_logged : Type 0} {es : Exprs} {m m1 m2 : Interpreter} {k k2 : WorldState} {h : Halt} → Spends m m1 (Ok tt) → Lists is_logged es m1 k m2 k2 (Err h) → Follows is_logged (print es) m k m2 k2 (Err h)
+unfolding print
 print_ends p q = record { simulates = then_simulates _ (change_simulates p.simulates) (ends_simulates _ q.simulates) }
 
-pub print_shows : {is_logged : Type 0} {es : Exprs} {m m1 m2 m3 : Interpreter} {k k2 k3 : WorldState} {vs : List Value} {r : Result (Unit {0}) Halt} → Spends m m1 (Ok tt) → Lists is_logged es m1 k m2 k2 (Ok vs) → Follows is_logged (print_line vs) m2 k2 m3 k3 r → Executes is_logged (Print es) m k m3 k3 r
-unfolding exec
+pub print_shows : {is_logged : Type 0} {es : Exprs} {m m1 m2 m3 : Interpreter} {k k2 k3 : WorldState} {vs : List Value} {r : Result (Unit {0}) Halt} → Spends m m1 (Ok tt) → Lists is_logged es m1 k m2 k2 (Ok vs) → Follows is_logged (print_line vs) m2 k2 m3 k3 r → Follows is_logged (print es) m k m3 k3 r
+unfolding print
 print_shows p q s = record { simulates = then_simulates _ (change_simulates p.simulates) (then_simulates _ q.simulates s.simulates) }
+
+pub print_halts : {is_logged : Type 0} {es : Exprs} {m m1 : Interpreter} {k k1 : WorldState} {h : Halt} → Follows is_logged (print es) m k m1 k1 (Err h) → Executes is_logged (Print es) m k m1 k1 (Err h)
+unfolding exec
+print_halts p = record { simulates = ends_simulates _ p.simulates }
+
+pub print_executes : {is_logged : Type 0} {es : Exprs} {m m1 : Interpreter} {k k1 : WorldState} → Follows is_logged (print es) m k m1 k1 (Ok tt) → Executes is_logged (Print es) m k m1 k1 (Ok flow.Normal)
+unfolding exec
+print_executes {m1 = m1} {k1 = k1} p = record { simulates = then_simulates _ p.simulates (lift_simulates _ m1 k1 refl) }
 
 pub expression_stops : {is_logged : Type 0} {e : Expr} {m m1 : Interpreter} {k : WorldState} {h : Halt} → Spends m m1 (Err h) → Executes is_logged (Expression e) m k m1 k (Err h)
 unfolding exec
@@ -172,15 +182,15 @@ pub expression_ends : {is_logged : Type 0} {e : Expr} {m m1 m2 : Interpreter} {k
 unfolding exec
 expression_ends p q = record { simulates = then_simulates _ (change_simulates p.simulates) (ends_simulates _ q.simulates) }
 
-pub expression_executes : {is_logged : Type 0} {e : Expr} {m m1 m2 : Interpreter} {k k2 : WorldState} {v : Value} → Spends m m1 (Ok tt) → Evaluates is_logged e m1 k m2 k2 (Ok v) → Executes is_logged (Expression e) m k m2 k2 (Ok tt)
+pub expression_executes : {is_logged : Type 0} {e : Expr} {m m1 m2 : Interpreter} {k k2 : WorldState} {v : Value} → Spends m m1 (Ok tt) → Evaluates is_logged e m1 k m2 k2 (Ok v) → Executes is_logged (Expression e) m k m2 k2 (Ok flow.Normal)
 unfolding exec
 expression_executes {m2 = m2} {k2 = k2} p q = record { simulates = then_simulates _ (change_simulates p.simulates) (then_simulates _ q.simulates (lift_simulates _ m2 k2 refl)) }
 
-pub block_executes : {is_logged : Type 0} {all : Statements} {m m1 : Interpreter} {k k1 : WorldState} {r : Result (Unit {0}) Halt} → ExecutesAll is_logged all m k m1 k1 r → Executes is_logged (Block all) m k m1 k1 r
+pub block_executes : {is_logged : Type 0} {all : Statements} {m m1 : Interpreter} {k k1 : WorldState} {r : Result Flow Halt} → ExecutesAll is_logged all m k m1 k1 r → Executes is_logged (Block all) m k m1 k1 r
 unfolding exec
 block_executes p = record { simulates = p.simulates }
 
-pub all_end : {is_logged : Type 0} {m : Interpreter} {k : WorldState} → ExecutesAll is_logged NoMore m k m k (Ok tt)
+pub all_end : {is_logged : Type 0} {m : Interpreter} {k : WorldState} → ExecutesAll is_logged NoMore m k m k (Ok flow.Normal)
 unfolding exec
 all_end {m = m} {k = k} = record { simulates = lift_simulates _ m k refl }
 
@@ -188,9 +198,28 @@ pub all_halt : {is_logged : Type 0} {s : Statement} {all : Statements} {m m1 : I
 unfolding exec
 all_halt p = record { simulates = ends_simulates _ p.simulates }
 
-pub all_step : {is_logged : Type 0} {s : Statement} {all : Statements} {m m1 m2 : Interpreter} {k k1 k2 : WorldState} {r : Result (Unit {0}) Halt} → Executes is_logged s m k m1 k1 (Ok tt) → ExecutesAll is_logged all m1 k1 m2 k2 r → ExecutesAll is_logged (Then s all) m k m2 k2 r
+pub all_step : {is_logged : Type 0} {s : Statement} {all : Statements} {m m1 m2 : Interpreter} {k k1 k2 : WorldState} {r : Result Flow Halt} → Executes is_logged s m k m1 k1 (Ok flow.Normal) → ExecutesAll is_logged all m1 k1 m2 k2 r → ExecutesAll is_logged (Then s all) m k m2 k2 r
 unfolding exec
 all_step p q = record { simulates = then_simulates _ p.simulates q.simulates }
+
+passes : (f : Flow) (rest : Run Flow) → (f ≡ flow.Normal → ⊥) → pass_on f rest ≡ lift (Ok f)
+passes flow.Normal rest other = absurd (other refl)
+passes flow.Break rest other = refl
+passes flow.Continue rest other = refl
+passes (flow.Return v) rest other = refl
+
+-- a statement that doesn't pass on to the next one ends the list
+pub all_pass : {is_logged : Type 0} {s : Statement} {all : Statements} {m m1 : Interpreter} {k k1 : WorldState} {f : Flow} → (f ≡ flow.Normal → ⊥) → Executes is_logged s m k m1 k1 (Ok f) → ExecutesAll is_logged (Then s all) m k m1 k1 (Ok f)
+unfolding exec
+all_pass {all = all} {m1 = m1} {k1 = k1} {f = f} other p = record { simulates = then_simulates _ p.simulates (rw (passes f (exec_all all) other) (lift_simulates _ m1 k1 refl)) }
+
+pub action_halts : {is_logged : Type 0} {all : Statements} {m m1 : Interpreter} {k k1 : WorldState} {h : Halt} → ExecutesAll is_logged all m k m1 k1 (Err h) → Follows is_logged (run_action all) m k m1 k1 (Err h)
+unfolding run_action
+action_halts p = record { simulates = ends_simulates _ p.simulates }
+
+pub action_runs : {is_logged : Type 0} {all : Statements} {m m1 : Interpreter} {k k1 : WorldState} {f : Flow} → ExecutesAll is_logged all m k m1 k1 (Ok f) → Follows is_logged (run_action all) m k m1 k1 (Ok tt)
+unfolding run_action
+action_runs {m1 = m1} {k1 = k1} p = record { simulates = then_simulates _ p.simulates (lift_simulates _ m1 k1 refl) }
 
 -- lists of code, from a place on
 

@@ -5,4 +5,4 @@ mod expressions;
 mod statements;
 
 pub use expressions::holds;
-pub use statements::{exec_all, print};
+pub use statements::{print, run_action};

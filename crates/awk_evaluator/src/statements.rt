@@ -1,12 +1,14 @@
 // Statements.
 
-ghost use Rattle.awk_tree.specs.Tree.{Expression, Print};
+ghost use Rattle.awk_tree.specs.Tree.{Expression};
 ghost use Rattle.awk_tree.specs.View.{expr_of, exprs_of, statement_of, statements_of};
+ghost use Rattle.awk_meaning.specs.Semantics.{print, run_action};
+ghost use Rattle.awk_interpreter.specs.Simulation.{Follows};
 ghost use Rattle.awk_evaluator.specs.support.Evaluation.{Executes, ExecutesAll};
 
 use crate::expressions::{eval, printed_values};
 use awk_interpreter::Interpreter;
-use awk_meaning::Halt;
+use awk_meaning::{Flow, Halt};
 use awk_streams::World;
 use awk_tree::tree::{Expr, Statement};
 
@@ -16,7 +18,7 @@ pub fn print<W: World>(
     interpreter: &mut Interpreter,
     world: &mut W,
 ) -> Result<(), Halt>
-    ensures { Executes W.is_logged (Print (exprs_of list.now)) interpreter.old (W.state world.old)
+    ensures { Follows W.is_logged (print (exprs_of list.now)) interpreter.old (W.state world.old)
         interpreter.new (W.state world.new) result }
 {
     interpreter.spend()?;
@@ -25,40 +27,59 @@ pub fn print<W: World>(
 }
 
 /// Evaluates an expression, whose value is of no use.
-fn evaluate<W: World>(e: &Expr, interpreter: &mut Interpreter, world: &mut W) -> Result<(), Halt>
+fn evaluate<W: World>(e: &Expr, interpreter: &mut Interpreter, world: &mut W) -> Result<Flow, Halt>
     ensures { Executes W.is_logged (Expression (expr_of e.now)) interpreter.old (W.state world.old)
         interpreter.new (W.state world.new) result }
 {
     interpreter.spend()?;
     eval(e, interpreter, world)?;
-    Ok(())
+    Ok(Flow::Normal)
 }
 
 /// Executes a statement (POSIX awk, Actions).
 #[cycle(execution)]
-fn exec<W: World>(s: &Statement, interpreter: &mut Interpreter, world: &mut W) -> Result<(), Halt>
+fn exec<W: World>(s: &Statement, interpreter: &mut Interpreter, world: &mut W) -> Result<Flow, Halt>
     ensures { Executes W.is_logged (statement_of s.now) interpreter.old (W.state world.old) interpreter.new
         (W.state world.new) result }
 {
     match s {
         Statement::Block(all) => exec_all(all, interpreter, world),
         Statement::Expression(e) => evaluate(e, interpreter, world),
-        Statement::Print(list) => print(list, interpreter, world),
+        Statement::Print(list) => {
+            print(list, interpreter, world)?;
+            Ok(Flow::Normal)
+        }
     }
 }
 
-/// Executes statements in turn.
+/// Executes statements in turn, as long as each passes on to the next.
 #[cycle(execution)]
-pub fn exec_all<W: World>(
+fn exec_all<W: World>(
     all: &[Statement],
     interpreter: &mut Interpreter,
     world: &mut W,
-) -> Result<(), Halt>
+) -> Result<Flow, Halt>
     ensures { ExecutesAll W.is_logged (statements_of all.now) interpreter.old (W.state world.old)
         interpreter.new (W.state world.new) result }
 {
     for s in all {
-        exec(s, interpreter, world)?;
+        match exec(s, interpreter, world)? {
+            Flow::Normal => {}
+            flow => return Ok(flow),
+        }
     }
+    Ok(Flow::Normal)
+}
+
+/// Runs an action, which ends with its statements (POSIX awk, Actions).
+pub fn run_action<W: World>(
+    all: &[Statement],
+    interpreter: &mut Interpreter,
+    world: &mut W,
+) -> Result<(), Halt>
+    ensures { Follows W.is_logged (run_action (statements_of all.now)) interpreter.old (W.state world.old)
+        interpreter.new (W.state world.new) result }
+{
+    exec_all(all, interpreter, world)?;
     Ok(())
 }

@@ -4,10 +4,11 @@ ghost use Rattle.awk_streams.specs.Streams.{AreOpen, IsSoundMain};
 ghost use Rattle.std.specs.Prelude.{◌≡◌};
 ghost use Rattle.awk_tree.specs.Tree.{Pattern};
 ghost use Rattle.awk_tree.specs.View.{expr_of, item_of, items_of};
+ghost use Rattle.awk_interpreter.specs.Simulation.{Follows};
 ghost use Rattle.awk_run.specs.support.Items.{Tries, TriesAll, BeginsItem, BeginsAll, ReadsAll, RunsItems};
-ghost use Rattle.awk_meaning.specs.Semantics.{is_rule, has_rule};
+ghost use Rattle.awk_meaning.specs.Semantics.{try_items, unless_next, until_next, is_rule, has_rule};
 
-use awk_evaluator::{exec_all, holds, print};
+use awk_evaluator::{holds, print, run_action};
 use awk_interpreter::Interpreter;
 use awk_meaning::Halt;
 use awk_streams::World;
@@ -32,11 +33,11 @@ fn try_item<W: World>(item: &Item, interpreter: &mut Interpreter, world: &mut W)
 {
     match item {
         Item::Begin(_) => Ok(()),
-        Item::Action(block) => exec_all(block, interpreter, world),
+        Item::Action(block) => run_action(block, interpreter, world),
         Item::Pattern(e) => try_pattern(e, interpreter, world),
         Item::PatternAction(e, block) => {
             if holds(e, interpreter, world)? {
-                exec_all(block, interpreter, world)
+                run_action(block, interpreter, world)
             } else {
                 Ok(())
             }
@@ -59,6 +60,28 @@ fn try_items<W: World>(
     Ok(())
 }
 
+/// What the items on a record came to; `next` ends them, and the run goes on.
+fn unless_next(tried: Result<(), Halt>) -> Result<(), Halt>
+    ensures { result ≡ unless_next tried }
+{
+    match tried {
+        Ok(()) | Err(Halt::Next) => Ok(()),
+        Err(halt) => Err(halt),
+    }
+}
+
+/// Tries the items on the record at hand, until `next` (POSIX awk, Actions).
+fn try_until_next<W: World>(
+    items: &[Item],
+    interpreter: &mut Interpreter,
+    world: &mut W,
+) -> Result<(), Halt>
+    ensures { Follows W.is_logged (until_next (try_items (items_of items.now))) interpreter.old
+        (W.state world.old) interpreter.new (W.state world.new) result }
+{
+    unless_next(try_items(items, interpreter, world))
+}
+
 /// Runs the action of an item that comes before all records (POSIX awk, Patterns: BEGIN).
 fn begin_item<W: World>(
     item: &Item,
@@ -69,7 +92,7 @@ fn begin_item<W: World>(
         (W.state world.new) result }
 {
     match item {
-        Item::Begin(block) => exec_all(block, interpreter, world),
+        Item::Begin(block) => run_action(block, interpreter, world),
         _ => Ok(()),
     }
 }
@@ -104,7 +127,7 @@ fn run_records<W: World>(
     while let Some(text) = interpreter.next_record(world)? {
         interpreter.spend()?;
         interpreter.begin_record(text)?;
-        try_items(items, interpreter, world)?;
+        try_until_next(items, interpreter, world)?;
     }
     Ok(())
 }

@@ -4,6 +4,7 @@ use Rattle.awk_value.specs.declared.value.Value.{Value}
 use Rattle.awk_value.specs.Values.{truth_of}
 use Rattle.awk_streams.specs.WorldState.{WorldState}
 use Rattle.awk_tree.specs.Tree.{Expr, Ere, Exprs, Statement, Statements}
+use Rattle.awk_meaning.specs.declared.flow.Flow.{Flow}
 use Rattle.awk_meaning.specs.declared.halt.Halt.{Halt}
 use Rattle.awk_tree.specs.declared.tree.BinaryOperator.{BinaryOperator}
 use Rattle.awk_meaning.specs.State.{Run, ◌>>=◌, lift}
@@ -43,8 +44,8 @@ pub record EvaluatesAll (is_logged : Type 0) (front : List Value) (es : Exprs) (
 pub record Lists (is_logged : Type 0) (es : Exprs) (old : Interpreter) (before : WorldState) (new : Interpreter) (after : WorldState) (r : Result (List Value) Halt) : Type 0 where
   pub simulates : Simulates is_logged old before new after r (printed_values es)
 
-pub record Executes (is_logged : Type 0) (s : Statement) (old : Interpreter) (before : WorldState) (new : Interpreter) (after : WorldState) (r : Result (Unit {0}) Halt) : Type 0 where
+pub record Executes (is_logged : Type 0) (s : Statement) (old : Interpreter) (before : WorldState) (new : Interpreter) (after : WorldState) (r : Result Flow Halt) : Type 0 where
   pub simulates : Simulates is_logged old before new after r (exec s)
 
-pub record ExecutesAll (is_logged : Type 0) (all : Statements) (old : Interpreter) (before : WorldState) (new : Interpreter) (after : WorldState) (r : Result (Unit {0}) Halt) : Type 0 where
+pub record ExecutesAll (is_logged : Type 0) (all : Statements) (old : Interpreter) (before : WorldState) (new : Interpreter) (after : WorldState) (r : Result Flow Halt) : Type 0 where
   pub simulates : Simulates is_logged old before new after r (exec_all all)

@@ -26,6 +26,7 @@ pub record OwnRelation (m : Interpreter) (s : State) : Type 0 where
   pub arguments : s.arguments ≡ m.arguments.words.items
   pub next : pos s.next ≡ m.arguments.next
   pub input_seen : s.input_seen ≡ m.arguments.input_seen
+  pub status : s.status ≡ m.status
   pub steps : s.steps ≡ m.steps
 
 -- the number of the main input, if there is one
@@ -99,6 +100,7 @@ pub record Beside (old new : Interpreter) : Type 0 where
   pub current : new.current ≡ old.current
   pub variables : new.variables ≡ old.variables
   pub arguments : new.arguments ≡ old.arguments
+  pub status : new.status ≡ old.status
   pub steps : new.steps ≡ old.steps
 
 -- nothing is changed that the definitions know
@@ -149,4 +151,5 @@ pub record IsStart (operands : List (List ℕ)) (limit : ℕ) (m : Interpreter) 
   pub input_seen : m.arguments.input_seen ≡ false
   pub main : m.streams.main ≡ None
   pub held : m.streams.held ≡ []
+  pub status : m.status ≡ 0
   pub steps : m.steps ≡ limit

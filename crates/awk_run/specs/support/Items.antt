@@ -3,7 +3,7 @@ use Rattle.std.specs.Prelude.{ℕ, ◌≤◌, List, suc, Result}
 use Rattle.awk_streams.specs.WorldState.{WorldState}
 use Rattle.awk_tree.specs.Tree.{Item}
 use Rattle.awk_meaning.specs.declared.halt.Halt.{Halt}
-use Rattle.awk_meaning.specs.Semantics.{try_item, try_items, each_record, run_records, begin_item, begin_items, run_items}
+use Rattle.awk_meaning.specs.Semantics.{try_item, try_items, until_next, each_record, run_records, begin_item, begin_items, run_items}
 use Rattle.awk_meaning.specs.Meaning.{assign_all, assign_and_run}
 use Rattle.awk_interpreter.specs.declared.interpreter.Interpreter.{Interpreter}
 use Rattle.awk_interpreter.specs.Simulation.{Simulates, Changes}
@@ -16,10 +16,10 @@ pub record TriesAll (is_logged : Type 0) (xs : List Item) (old : Interpreter) (b
 
 -- the records that are left, at any bound above the steps
 pub record ReadsOn (is_logged : Type 0) (xs : List Item) (old : Interpreter) (before : WorldState) (new : Interpreter) (after : WorldState) (r : Result (Unit {0}) Halt) : Type 0 where
-  pub simulates : (n : ℕ) → old.steps ≤ n → Simulates is_logged old before new after r (each_record (suc n) (try_items xs))
+  pub simulates : (n : ℕ) → old.steps ≤ n → Simulates is_logged old before new after r (each_record (suc n) (until_next (try_items xs)))
 
 pub record ReadsAll (is_logged : Type 0) (xs : List Item) (old : Interpreter) (before : WorldState) (new : Interpreter) (after : WorldState) (r : Result (Unit {0}) Halt) : Type 0 where
-  pub simulates : Simulates is_logged old before new after r (run_records (try_items xs))
+  pub simulates : Simulates is_logged old before new after r (run_records (until_next (try_items xs)))
 
 pub record BeginsItem (is_logged : Type 0) (x : Item) (old : Interpreter) (before : WorldState) (new : Interpreter) (after : WorldState) (r : Result (Unit {0}) Halt) : Type 0 where
   pub simulates : Simulates is_logged old before new after r (begin_item x)

@@ -5,7 +5,7 @@ use Rattle.awk_evaluator.proofs.statements.print.Goals as goal
 pub returns-in_err-spend : goal.returns-in_err-spend
 returns-in_err-spend g c =
     let p = err_from_is_err_and c.from_residual.result c.from_residual.ensures.1 in
-    rw (p.1, p.2) (print_stops c.in_err-spend.ensures)
+    rw (p.1, p.2) (print_stops _ c.in_err-spend.ensures)
 
 pub returns-in_err-values : goal.returns-in_err-values
 returns-in_err-values g c =

@@ -17,16 +17,16 @@ returns-in_err-begin_record g c =
     let p = err_from_is_err_and c.from_residual-in_err-begin_record.result c.from_residual-in_err-begin_record.ensures.1 in
     rw (p.1, p.2) (reads_all (c.loop-text.invariant.on _ _ _ (reading_unset (rw c.in-Some.is at (c.in_ok-text.ensures {u = tt})) c.in_ok-spend.ensures c.in_err-begin_record.ensures)))
 
-pub returns-in_err-try_items : goal.returns-in_err-try_items
-returns-in_err-try_items g c =
-    let p = err_from_is_err_and c.from_residual-in_err-try_items.result c.from_residual-in_err-try_items.ensures.1 in
-    rw (p.1, p.2) (reads_all (c.loop-text.invariant.on _ _ _ (reading_halts (rw c.in-Some.is at (c.in_ok-text.ensures {u = tt})) c.in_ok-spend.ensures c.in_ok-begin_record.ensures c.in_err-try_items.ensures)))
+pub returns-in_err-try_until_next : goal.returns-in_err-try_until_next
+returns-in_err-try_until_next g c =
+    let p = err_from_is_err_and c.from_residual-in_err-try_until_next.result c.from_residual-in_err-try_until_next.ensures.1 in
+    rw (p.1, p.2) (reads_all (c.loop-text.invariant.on _ _ _ (reading_halts (rw c.in-Some.is at (c.in_ok-text.ensures {u = tt})) c.in_ok-spend.ensures c.in_ok-begin_record.ensures c.in_err-try_until_next.ensures)))
 
 pub loop-text-preserved : goal.loop-text-preserved
 loop-text-preserved g c = record {
-  on = λ new after r h. c.loop-text.invariant.on new after r (reading_goes (rw c.in-Some.is at (c.in_ok-text.ensures {u = tt})) c.in_ok-spend.ensures c.in_ok-begin_record.ensures c.in_ok-try_items.ensures h);
-  stays = reading_open (rw c.in-Some.is at (c.in_ok-text.ensures {u = tt})) c.in_ok-spend.ensures c.in_ok-begin_record.ensures c.in_ok-try_items.ensures c.loop-text.invariant.stays;
-  sound = λ t. reading_sound (rw c.in-Some.is at (c.in_ok-text.ensures {u = tt})) c.in_ok-spend.ensures c.in_ok-begin_record.ensures c.in_ok-try_items.ensures t (c.loop-text.invariant.sound t);
+  on = λ new after r h. c.loop-text.invariant.on new after r (reading_goes (rw c.in-Some.is at (c.in_ok-text.ensures {u = tt})) c.in_ok-spend.ensures c.in_ok-begin_record.ensures c.in_ok-try_until_next.ensures h);
+  stays = reading_open _ (rw c.in-Some.is at (c.in_ok-text.ensures {u = tt})) c.in_ok-spend.ensures c.in_ok-begin_record.ensures c.in_ok-try_until_next.ensures c.loop-text.invariant.stays;
+  sound = λ t. reading_sound _ (rw c.in-Some.is at (c.in_ok-text.ensures {u = tt})) c.in_ok-spend.ensures c.in_ok-begin_record.ensures c.in_ok-try_until_next.ensures t (c.loop-text.invariant.sound t);
 }
 
 pub returns : goal.returns

@@ -5,7 +5,7 @@ use Rattle.awk_run.proofs.ItemLemmas.{begin_tries, action_tries, pattern_action_
 use Rattle.awk_run.proofs.items.try_item.Goals as goal
 
 pub returns-in-Action : goal.returns-in-Action
-returns-in-Action g c = rw (ap item_of c.in-Action.is) (action_tries (rw c.deref.ensures.value at c.exec_all.ensures))
+returns-in-Action g c = rw (ap item_of c.in-Action.is) (action_tries (rw c.deref.ensures.value at c.run_action.ensures))
 
 pub returns-in_err-holds-in-PatternAction : goal.returns-in_err-holds-in-PatternAction
 returns-in_err-holds-in-PatternAction g c =
@@ -14,7 +14,7 @@ returns-in_err-holds-in-PatternAction g c =
 
 pub returns-then-branch : goal.returns-then-branch
 returns-then-branch g c =
-    rw (ap item_of c.in-PatternAction.is) (pattern_action_holds (rw c.if-branch.true at (c.in_ok-holds-in-PatternAction.ensures {u = tt})) (rw c.deref-then-branch.ensures.value at c.exec_all-then-branch.ensures))
+    rw (ap item_of c.in-PatternAction.is) (pattern_action_holds (rw c.if-branch.true at (c.in_ok-holds-in-PatternAction.ensures {u = tt})) (rw c.deref-then-branch.ensures.value at c.run_action-then-branch.ensures))
 
 pub returns-else-branch : goal.returns-else-branch
 returns-else-branch g c =

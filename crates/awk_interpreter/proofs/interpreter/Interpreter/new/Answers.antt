@@ -16,5 +16,6 @@ returns-in-Ok-clause-start c =
       input_seen = c.in_ok-arguments.ensures.input_seen;
       main = ap (λ s. s.main) streams;
       held = ap (λ s. s.held) streams;
+      status = refl;
       steps = refl;
     }
