@@ -51,6 +51,7 @@ pub record IsPut (x : List ℕ) (v : Value) (old new : Interpreter) : Type 0 whe
   pub current : new.current ≡ old.current
   pub arguments : new.arguments ≡ old.arguments
   pub streams : new.streams ≡ old.streams
+  pub status : new.status ≡ old.status
   pub steps : new.steps ≡ old.steps
 
 put_holds : (x : List ℕ) (v : Value) {old new : Interpreter} (s : State) → IsPut x v old new → OwnRelation old s → OwnRelation new (record s { variables = with_value s.variables x v })
@@ -60,6 +61,7 @@ put_holds x v {old = old} s is h = record {
   arguments = h.arguments ∙ ap (λ a. a.words.items) (sym is.arguments);
   next = h.next ∙ ap (λ a. a.next) (sym is.arguments);
   input_seen = h.input_seen ∙ ap (λ a. a.input_seen) (sym is.arguments);
+  status = h.status ∙ sym is.status;
   steps = h.steps ∙ sym is.steps;
 }
   where
@@ -111,7 +113,7 @@ not_nf Rstart = refl
 not_nf Subsep = refl
 
 pub still : (m : Interpreter) → SameState m m
-still m = record { beside = record { current = refl; variables = refl; arguments = refl; steps = refl }; streams = refl }
+still m = record { beside = record { current = refl; variables = refl; arguments = refl; status = refl; steps = refl }; streams = refl }
 
 pub count_ends : (x : Special) {m : Interpreter} {h : Halt} → Yields {A = Value} (Err h) (raised (value_of m.variables (name_of x))) → Changes (count_in x) m m (Err h)
 unfolding count_in
@@ -135,25 +137,6 @@ pub input_begins : (name : List ℕ) {old mid later new : Interpreter} {r : Resu
 unfolding begin_input
 input_begins name p q r = then_changes _ p (then_changes _ q r)
 
-pub input_changes : {old new : Interpreter} → new.current ≡ old.current → new.variables ≡ old.variables → new.arguments.words ≡ old.arguments.words → new.arguments.next ≡ old.arguments.next → new.arguments.input_seen ≡ true → new.streams ≡ old.streams → new.steps ≡ old.steps → Changes note_input old new (Ok tt)
-unfolding note_input
-input_changes {old = old} {new = new} current variables words next input_seen streams steps =
-    own_changes _ streams (omega (arith, steps)) (λ s h. record {
-      result = Ok tt;
-      state = record s { input_seen = true };
-      is = refl;
-      part = record { outside = refl; openings = refl; main = refl };
-      matches = refl;
-      holds = record {
-        current = h.current ∙ sym current;
-        variables = λ x. h.variables x ∙ ap (λ v. value_of v x) (sym variables);
-        arguments = h.arguments ∙ ap (λ w. w.items) (sym words);
-        next = h.next ∙ sym next;
-        input_seen = sym input_seen;
-        steps = h.steps ∙ sym steps;
-      };
-    })
-
 -- the record
 
 pub field_changes : (v : Value) {old new : Interpreter} {c : Result Value Halt} → SameState old new → Yields c (field_value old.current v) → Changes (field_at v) old new c
@@ -166,9 +149,9 @@ unfolding record_text
 text_changes {v = v} same e =
     reads_changes _ (λ s. Ok (value.Input s.current.text)) (λ s. refl) same (λ s h. ap (λ r. Ok (value.Input r.text)) h.current ∙ ap (λ w. Ok w) (sym e))
 
-pub record_changes : (text : List ℕ) (separator : Separator) {old new : Interpreter} → separator_of (str_of (value_of old.variables (name_of Fs))) ≡ Ok separator → new.current ≡ split_by separator text → new.variables ≡ old.variables → new.arguments ≡ old.arguments → new.streams ≡ old.streams → new.steps ≡ old.steps → Changes (set_record text) old new (Ok tt)
+pub record_changes : (text : List ℕ) (separator : Separator) {old new : Interpreter} → separator_of (str_of (value_of old.variables (name_of Fs))) ≡ Ok separator → new.current ≡ split_by separator text → new.variables ≡ old.variables → new.arguments ≡ old.arguments → new.streams ≡ old.streams → new.status ≡ old.status → new.steps ≡ old.steps → Changes (set_record text) old new (Ok tt)
 unfolding set_record
-record_changes text separator {old = old} {new = new} sep is variables arguments streams steps =
+record_changes text separator {old = old} {new = new} sep is variables arguments streams status steps =
     own_changes _ streams (omega (arith, steps)) (λ s h. record {
       result = Ok tt;
       state = record s { current = split_by separator text };
@@ -181,6 +164,7 @@ record_changes text separator {old = old} {new = new} sep is variables arguments
         arguments = h.arguments ∙ ap (λ a. a.words.items) (sym arguments);
         next = h.next ∙ ap (λ a. a.next) (sym arguments);
         input_seen = h.input_seen ∙ ap (λ a. a.input_seen) (sym arguments);
+        status = h.status ∙ sym status;
         steps = h.steps ∙ sym steps;
       };
     })
@@ -221,9 +205,9 @@ argument_none m n e past same =
 argument_some : (old : Interpreter) {new : Interpreter} (n : ℤ) {word : List ℕ} → num_of (value_of old.variables (name_of Argc)) ≡ Ok n → int_lt old.arguments.next n ≡ true
     → ((i : ℕ) → old.arguments.next ≡ pos i → word ≡ unwrap_or (slice_get old.arguments.words.items i) [])
     → ((i : ℕ) → old.arguments.next ≡ pos i → new.arguments.next ≡ pos (suc i))
-    → new.current ≡ old.current → new.variables ≡ old.variables → new.arguments.words ≡ old.arguments.words → new.arguments.input_seen ≡ old.arguments.input_seen → new.streams ≡ old.streams → new.steps ≡ old.steps
+    → new.current ≡ old.current → new.variables ≡ old.variables → new.arguments.words ≡ old.arguments.words → new.arguments.input_seen ≡ old.arguments.input_seen → new.streams ≡ old.streams → new.status ≡ old.status → new.steps ≡ old.steps
     → Changes take_argument old new (Ok (Some word))
-argument_some old {new = new} n {word = word} e more is next current variables words input_seen streams steps =
+argument_some old {new = new} n {word = word} e more is next current variables words input_seen streams status steps =
     own_changes _ streams (omega (arith, steps)) (λ s h. record {
       result = Ok (Some (unwrap_or (slice_get s.arguments s.next) []));
       state = record s { next = suc s.next };
@@ -236,6 +220,7 @@ argument_some old {new = new} n {word = word} e more is next current variables w
         arguments = h.arguments ∙ ap (λ w. w.items) (sym words);
         next = sym (next s.next (sym h.next));
         input_seen = h.input_seen ∙ sym input_seen;
+        status = h.status ∙ sym status;
         steps = h.steps ∙ sym steps;
       };
     })
@@ -258,10 +243,11 @@ pub record SameButArguments (old new : Interpreter) : Type 0 where
   pub current : new.current ≡ old.current
   pub variables : new.variables ≡ old.variables
   pub streams : new.streams ≡ old.streams
+  pub status : new.status ≡ old.status
   pub steps : new.steps ≡ old.steps
 
 with_arguments : {old new : Interpreter} → SameButArguments old new → new.arguments.words ≡ old.arguments.words → new.arguments.next ≡ old.arguments.next → new.arguments.input_seen ≡ old.arguments.input_seen → SameState old new
-with_arguments {old = old} {new = new} same words next input_seen = record { beside = record { current = same.current; variables = same.variables; arguments = same_arguments new.arguments old.arguments words next input_seen; steps = same.steps }; streams = same.streams }
+with_arguments {old = old} {new = new} same words next input_seen = record { beside = record { current = same.current; variables = same.variables; arguments = same_arguments new.arguments old.arguments words next input_seen; status = same.status; steps = same.steps }; streams = same.streams }
 
 count_below : (next : ℤ) (r : Result ℤ ValueFault) (b : Bool) → is_below next r ≡ Ok b → (n : ℤ) × (r ≡ Ok n) × (int_lt next n ≡ b)
 count_below next (Ok n) b e = (n, refl, (cc))
@@ -273,7 +259,7 @@ argument_taken old None told same =
     argument_none old n.0 n.1 n.2 (with_arguments same told.words told.still told.input_seen)
 argument_taken old (Some word) told same =
     let n = count_below _ _ true told.some in
-    argument_some old n.0 n.1 n.2 told.word told.next same.current same.variables told.words told.input_seen same.streams same.steps
+    argument_some old n.0 n.1 n.2 told.word told.next same.current same.variables told.words told.input_seen same.streams same.status same.steps
 
 argument_faults : (old : Interpreter) {new : Interpreter} (r : Result ℤ ValueFault) (h : Halt) → num_of (value_of old.variables (name_of Argc)) ≡ r → IsFaultOf r h → SameState old new → Changes take_argument old new (Err h)
 argument_faults old (Ok n) h is e same = absurd e

@@ -260,6 +260,7 @@ beside_holds beside h = record {
   arguments = h.arguments ∙ ap (λ a. a.words.items) (sym beside.arguments);
   next = h.next ∙ ap (λ a. a.next) (sym beside.arguments);
   input_seen = h.input_seen ∙ ap (λ a. a.input_seen) (sym beside.arguments);
+  status = h.status ∙ sym beside.status;
   steps = h.steps ∙ sym beside.steps;
 }
 

@@ -30,6 +30,8 @@ pub struct Interpreter {
     pub arguments: Arguments,
     pub streams: Streams,
     pub patterns: Patterns,
+    /// The exit status so far.
+    pub status: u8,
     /// The steps left.
     pub steps: u64,
     /// The line that a print makes, kept for its room.
@@ -67,6 +69,7 @@ impl Interpreter {
             arguments,
             streams: Streams::new(alloc),
             patterns,
+            status: 0,
             steps: limit,
             line: Vec::new(alloc),
         };

@@ -14,7 +14,10 @@ use Rattle.awk_streams.specs.Openings.{Output, StandardOutput, StandardError, Is
 use Rattle.awk_tree.specs.declared.tree.BinaryOperator.TheVariants.{Matches}
 use Rattle.awk_tree.specs.Tree.{Expr, Number, String, Ere, Name, Group, Field, Unary, Binary, Assign, Exprs, Nil, Cons, Statement, Block, Expression, Print, Statements, NoMore as NoStatement, Then, Item, Begin, Action, Pattern, PatternAction}
 use Rattle.awk_meaning.specs.declared.outcome.Outcome.TheVariants.{Ended, Fault, Stopped}
+use Rattle.awk_meaning.specs.declared.fault.Fault.TheVariants.{NextWithoutRecord}
 use Rattle.awk_meaning.specs.definitions.State.{Effect, Printed, Requested, State, Out, Run, go_on, ◌>>=◌, lift}
+use Rattle.awk_meaning.specs.declared.flow.Flow.{Flow}
+use Rattle.awk_meaning.specs.declared.flow.Flow.TheVariants as flow
 use Rattle.awk_meaning.specs.declared.halt.Halt.{Halt}
 use Rattle.awk_meaning.specs.declared.halt.Halt.TheVariants as halt
 use Rattle.awk_variables.specs.declared.special.Special.{Special}
@@ -24,7 +27,7 @@ use Rattle.awk_meaning.specs.definitions.Primitives.{spend, spend_of, read_name,
 use Rattle.awk_meaning.specs.definitions.Operators.{changed, applied, raised}
 use Rattle.awk_meaning.specs.definitions.Inputs.{assigned_text, assign_text, Operand, Nothing, Assignment, StandardInput, AFile, operand_of, at_end, main_record, path_of, first_record, record_by, operand_record, standard_unless, standard_record, or_else, search_by, search_operands_within, search_operands, next_record}
 use Rattle.awk_meaning.specs.definitions.Operators.{takes_pattern}
-use Rattle.awk_meaning.specs.definitions.Semantics.{right_operand, eval, eval_all, printed_values, exec, exec_all, run_if, try_item, try_items, begin_record, on_record, each_record, run_records, begin_item, begin_items, has_rule, run_items}
+use Rattle.awk_meaning.specs.definitions.Semantics.{right_operand, eval, eval_all, printed_values, print, pass_on, exec, exec_all, run_action, run_if, try_item, try_items, unless_next, until_next, begin_record, on_record, each_record, run_records, begin_item, begin_items, has_rule, run_items}
 use Rattle.awk_meaning.specs.definitions.Meaning.{StartValues, Meaning, start_state, assign_all, assign_and_run, run_program, outcome_of, printed_to, requests_after, same_output}
 use Rattle.awk_meaning.specs.definitions.Meaning.{LawOfLimits, outputs_after}
 
@@ -43,6 +46,8 @@ record Shows {A : Type 0} (x y : Out A) : Type 0 where
 abbrev Covers : {A : Type 0} → Result A Halt → ℕ → Out A → Out A → Type 0
 Covers (Ok a) d x y = y ≡ richer d x
 Covers (Err (halt.Fault f)) d x y = y ≡ richer d x
+Covers (Err halt.Next) d x y = y ≡ richer d x
+Covers (Err halt.Exit) d x y = y ≡ richer d x
 Covers (Err halt.OutOfSteps) d x y = Shows x y
 
 record Larger {A : Type 0} (m n : Run A) : Type 0 where
@@ -56,12 +61,16 @@ goes_shows (Err h) t effects more g x e = record { more = more; is = ap (λ l. l
 shift_covers : {B : Type 0} (r : Result B Halt) (d : ℕ) (effects : List Effect) (x y : Out B) → Covers r d x y → Covers r d (record { result = x.result; state = x.state; effects = effects ++ x.effects }) (record { result = y.result; state = y.state; effects = effects ++ y.effects })
 shift_covers (Ok a) d effects x y c = ap (λ (o : Out _). record { result = o.result; state = o.state; effects = effects ++ o.effects }) c
 shift_covers (Err (halt.Fault f)) d effects x y c = ap (λ (o : Out _). record { result = o.result; state = o.state; effects = effects ++ o.effects }) c
+shift_covers (Err halt.Next) d effects x y c = ap (λ (o : Out _). record { result = o.result; state = o.state; effects = effects ++ o.effects }) c
+shift_covers (Err halt.Exit) d effects x y c = ap (λ (o : Out _). record { result = o.result; state = o.state; effects = effects ++ o.effects }) c
 shift_covers (Err halt.OutOfSteps) d effects x y c = record { more = c.more; is = ap (λ l. effects ++ l) c.is ∙ sym (append_assoc effects x.effects c.more) }
 
 go_covers : {A B : Type 0} (f g : A → Run B) → ((a : A) → Larger (f a) (g a)) → (d : ℕ) (r : Result A Halt) (t : State) (effects : List Effect) (y : Out A) → Covers r d (record { result = r; state = t; effects = effects }) y → Covers (go_on r t effects f).result d (go_on r t effects f) (go_on y.result y.state y.effects g)
 unfolding go_on
 go_covers f g h d (Ok a) t effects y c = rw c (shift_covers (f a t).result d effects (f a t) (g a (richer_state d t)) ((h a).covers t d))
 go_covers f g h d (Err (halt.Fault n)) t effects y c = rw c refl
+go_covers f g h d (Err halt.Next) t effects y c = rw c refl
+go_covers f g h d (Err halt.Exit) t effects y c = rw c refl
 go_covers f g h d (Err halt.OutOfSteps) t effects y c = rw c.is (goes_shows y.result y.state effects c.more g (record { result = Err halt.OutOfSteps; state = t; effects = effects }) refl)
 
 then_larger : {A B : Type 0} {m n : Run A} (f g : A → Run B) → Larger m n → ((a : A) → Larger (f a) (g a)) → Larger (m >>= f) (n >>= g)
@@ -76,6 +85,8 @@ lift_larger : {A : Type 0} (r : Result A Halt) → Larger (lift r) (lift r)
 unfolding lift
 lift_larger (Ok a) = record { covers = λ s d. refl }
 lift_larger (Err (halt.Fault f)) = record { covers = λ s d. refl }
+lift_larger (Err halt.Next) = record { covers = λ s d. refl }
+lift_larger (Err halt.Exit) = record { covers = λ s d. refl }
 lift_larger (Err halt.OutOfSteps) = steps_larger (lift (Err halt.OutOfSteps))
 
 -- the primitives
@@ -84,6 +95,8 @@ lift_larger (Err halt.OutOfSteps) = steps_larger (lift (Err halt.OutOfSteps))
 same_covers : {A : Type 0} (r : Result A Halt) (t : State) (effects : List Effect) (d : ℕ) → Covers r d (record { result = r; state = t; effects = effects }) (record { result = r; state = richer_state d t; effects = effects })
 same_covers (Ok a) t effects d = refl
 same_covers (Err (halt.Fault f)) t effects d = refl
+same_covers (Err halt.Next) t effects d = refl
+same_covers (Err halt.Exit) t effects d = refl
 same_covers (Err halt.OutOfSteps) t effects d = record { more = []; is = sym (append-nil effects) }
 
 name_larger : (x : List ℕ) → Larger (read_name x) (read_name x)
@@ -275,17 +288,31 @@ unfolding printed_values
 printed_larger Nil = then_larger _ _ text_larger (λ v. lift_larger (Ok (v ∷ [])))
 printed_larger (Cons e es) = values_larger [] (Cons e es)
 
+print_larger : (list : Exprs) → Larger (print list) (print list)
+unfolding print
+print_larger list = then_larger _ _ spend_larger (λ _. then_larger _ _ (printed_larger list) (λ vs. show_larger vs))
+
+pass_larger : (f : Flow) (m : Run Flow) → Larger m m → Larger (pass_on f m) (pass_on f m)
+pass_larger flow.Normal m h = h
+pass_larger flow.Break m h = lift_larger (Ok flow.Break)
+pass_larger flow.Continue m h = lift_larger (Ok flow.Continue)
+pass_larger (flow.Return v) m h = lift_larger (Ok (flow.Return v))
+
 mutual
   unfolding exec
 
   exec_larger : (s : Statement) → Larger (exec s) (exec s)
   exec_larger (Block all) = exec_all_larger all
-  exec_larger (Expression e) = then_larger _ _ spend_larger (λ _. then_larger _ _ (eval_larger e) (λ v. lift_larger (Ok tt)))
-  exec_larger (Print list) = then_larger _ _ spend_larger (λ _. then_larger _ _ (printed_larger list) (λ vs. show_larger vs))
+  exec_larger (Expression e) = then_larger _ _ spend_larger (λ _. then_larger _ _ (eval_larger e) (λ v. lift_larger (Ok flow.Normal)))
+  exec_larger (Print list) = then_larger _ _ (print_larger list) (λ _. lift_larger (Ok flow.Normal))
 
   exec_all_larger : (all : Statements) → Larger (exec_all all) (exec_all all)
-  exec_all_larger NoStatement = lift_larger (Ok tt)
-  exec_all_larger (Then s all) = then_larger _ _ (exec_larger s) (λ _. exec_all_larger all)
+  exec_all_larger NoStatement = lift_larger (Ok flow.Normal)
+  exec_all_larger (Then s all) = let rest = exec_all_larger all in then_larger _ _ (exec_larger s) (λ f. pass_larger f _ rest)
+
+action_larger : (all : Statements) → Larger (run_action all) (run_action all)
+unfolding run_action
+action_larger all = then_larger _ _ (exec_all_larger all) (λ f. lift_larger (Ok tt))
 
 if_larger : (b : Bool) (m : Run (Unit {0})) → Larger m m → Larger (run_if b m) (run_if b m)
 if_larger true m h = h
@@ -294,14 +321,28 @@ if_larger false m h = lift_larger (Ok tt)
 item_larger : (x : Item) → Larger (try_item x) (try_item x)
 unfolding try_item
 item_larger (Begin block) = lift_larger (Ok tt)
-item_larger (Action block) = exec_all_larger block
-item_larger (Pattern e) = then_larger _ _ (eval_larger e) (λ v. if_larger (truth_of v) _ (exec_larger (Print Nil)))
-item_larger (PatternAction e block) = then_larger _ _ (eval_larger e) (λ v. if_larger (truth_of v) _ (exec_all_larger block))
+item_larger (Action block) = action_larger block
+item_larger (Pattern e) = then_larger _ _ (eval_larger e) (λ v. if_larger (truth_of v) _ (print_larger Nil))
+item_larger (PatternAction e block) = then_larger _ _ (eval_larger e) (λ v. if_larger (truth_of v) _ (action_larger block))
 
 items_larger : (xs : List Item) → Larger (try_items xs) (try_items xs)
 unfolding try_items
 items_larger [] = lift_larger (Ok tt)
 items_larger (x ∷ xs) = then_larger _ _ (item_larger x) (λ _. items_larger xs)
+
+abbrev goes_on_behind : Out (Unit {0}) → Out (Unit {0})
+goes_on_behind o = record { result = unless_next o.result; state = o.state; effects = o.effects }
+
+until_covers : (r : Result (Unit {0}) Halt) (d : ℕ) (t : State) (effects : List Effect) (y : Out (Unit {0})) → Covers r d (record { result = r; state = t; effects = effects }) y → Covers (unless_next r) d (record { result = unless_next r; state = t; effects = effects }) (goes_on_behind y)
+until_covers (Ok u) d t effects y c = ap goes_on_behind c
+until_covers (Err (halt.Fault f)) d t effects y c = ap goes_on_behind c
+until_covers (Err halt.Next) d t effects y c = ap goes_on_behind c
+until_covers (Err halt.Exit) d t effects y c = ap goes_on_behind c
+until_covers (Err halt.OutOfSteps) d t effects y c = record { more = c.more; is = c.is }
+
+until_larger : {m : Run (Unit {0})} → Larger m m → Larger (until_next m) (until_next m)
+unfolding until_next
+until_larger {m = m} h = record { covers = λ s d. until_covers (m s).result d (m s).state (m s).effects (m (richer_state d s)) (h.covers s d) }
 
 begin_larger : (text : List ℕ) → Larger (begin_record text) (begin_record text)
 unfolding begin_record
@@ -325,7 +366,7 @@ records_larger action y = record { covers = λ s d. (each_larger (suc s.steps) (
 
 begin_item_larger : (x : Item) → Larger (begin_item x) (begin_item x)
 unfolding begin_item
-begin_item_larger (Begin block) = exec_all_larger block
+begin_item_larger (Begin block) = action_larger block
 begin_item_larger (Action block) = lift_larger (Ok tt)
 begin_item_larger (Pattern e) = lift_larger (Ok tt)
 begin_item_larger (PatternAction e block) = lift_larger (Ok tt)
@@ -337,7 +378,7 @@ begin_items_larger (x ∷ xs) = then_larger _ _ (begin_item_larger x) (λ _. beg
 
 run_larger : (items : List Item) → Larger (run_items items) (run_items items)
 unfolding run_items
-run_larger items = then_larger _ _ (begin_items_larger items) (λ _. if_larger (has_rule items) _ (records_larger _ (items_larger items)))
+run_larger items = then_larger _ _ (begin_items_larger items) (λ _. if_larger (has_rule items) _ (records_larger _ (until_larger (items_larger items))))
 
 -- a run
 
@@ -365,16 +406,23 @@ shows_begins : (output : Output) (xs ys more : List Effect) → ys ≡ xs ++ mor
 shows_begins output xs ys more e = record { more = printed_to output more; is = ap (printed_to output) e ∙ printed_to-append output xs more }
 
 abbrev read_off : Out (Unit {0}) → Meaning
-read_off o = record { outcome = outcome_of o.result; outputs = outputs_after o.effects; requests = requests_after [] o.effects }
+read_off o = record { outcome = outcome_of o.result o.state.status; outputs = outputs_after o.effects; requests = requests_after [] o.effects }
 
-settled_of : (r : Result (Unit {0}) Halt) (d : ℕ) (x y : Out (Unit {0})) → x.result ≡ r → Covers r d x y → outcome_of x.result ≢ Stopped → read_off y ≡ read_off x
+ended_as : (x : Out (Unit {0})) {r : Result (Unit {0}) Halt} → x.result ≡ r → outcome_of x.result x.state.status ≡ outcome_of r x.state.status
+ended_as x e = ap (λ (r : Result (Unit {0}) Halt). outcome_of r x.state.status) e
+
+settled_of : (r : Result (Unit {0}) Halt) (d : ℕ) (x y : Out (Unit {0})) → x.result ≡ r → Covers r d x y → outcome_of x.result x.state.status ≢ Stopped → read_off y ≡ read_off x
 settled_of (Ok a) d x y e c other = ap read_off c
 settled_of (Err (halt.Fault f)) d x y e c other = ap read_off c
-settled_of (Err halt.OutOfSteps) d x y e c other = absurd (other (ap outcome_of e))
+settled_of (Err halt.Next) d x y e c other = ap read_off c
+settled_of (Err halt.Exit) d x y e c other = ap read_off c
+settled_of (Err halt.OutOfSteps) d x y e c other = absurd (other (ended_as x e))
 
-stopped_of : (r : Result (Unit {0}) Halt) (d : ℕ) (x y : Out (Unit {0})) → x.result ≡ r → Covers r d x y → outcome_of x.result ≡ Stopped → Begins (read_off x).outputs (read_off y).outputs
-stopped_of (Ok a) d x y e c stops = let never : Ended 0 ≡ Stopped = sym (ap outcome_of e) ∙ stops in absurd (cc)
-stopped_of (Err (halt.Fault f)) d x y e c stops = let never : Fault f ≡ Stopped = sym (ap outcome_of e) ∙ stops in absurd (cc)
+stopped_of : (r : Result (Unit {0}) Halt) (d : ℕ) (x y : Out (Unit {0})) → x.result ≡ r → Covers r d x y → outcome_of x.result x.state.status ≡ Stopped → Begins (read_off x).outputs (read_off y).outputs
+stopped_of (Ok a) d x y e c stops = let never : Ended x.state.status ≡ Stopped = sym (ended_as x e) ∙ stops in absurd (cc)
+stopped_of (Err (halt.Fault f)) d x y e c stops = let never : Fault f ≡ Stopped = sym (ended_as x e) ∙ stops in absurd (cc)
+stopped_of (Err halt.Next) d x y e c stops = let never : Fault NextWithoutRecord ≡ Stopped = sym (ended_as x e) ∙ stops in absurd (cc)
+stopped_of (Err halt.Exit) d x y e c stops = let never : Ended x.state.status ≡ Stopped = sym (ended_as x e) ∙ stops in absurd (cc)
 stopped_of (Err halt.OutOfSteps) d x y e c stops = (refl, shows_begins StandardOutput x.effects y.effects c.more c.is, (refl, shows_begins StandardError x.effects y.effects c.more c.is, tt))
 
 pub law_of_limits : LawOfLimits

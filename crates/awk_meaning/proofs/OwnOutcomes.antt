@@ -26,6 +26,8 @@ use Rattle.awk_meaning.specs.declared.outcome.Outcome.TheVariants.{Ended, Fault,
 use Rattle.awk_meaning.specs.declared.fault as declared
 use Rattle.awk_meaning.specs.declared.fault.Fault.TheVariants as faults
 use Rattle.awk_meaning.specs.definitions.State.{State, Out, Run, go_on, ◌>>=◌, lift, Effect}
+use Rattle.awk_meaning.specs.declared.flow.Flow.{Flow}
+use Rattle.awk_meaning.specs.declared.flow.Flow.TheVariants as flow
 use Rattle.awk_meaning.specs.declared.halt.Halt.{Halt}
 use Rattle.awk_meaning.specs.declared.halt.Halt.TheVariants as halt
 use Rattle.awk_variables.specs.declared.special.Special.{Special}
@@ -36,12 +38,14 @@ use Rattle.awk_meaning.specs.definitions.Primitives.{spend, spend_of, read_name,
 use Rattle.awk_meaning.specs.definitions.Operators.{changed, matched_by, of_match, matched, applied, raised, field_by, field_value, takes_pattern}
 use Rattle.awk_meaning.specs.definitions.Faults.{value_fault, of_values, of_record}
 use Rattle.awk_meaning.specs.definitions.Inputs.{is_unassignable, text_or_fault, assigned_text, assign_text, Operand, Nothing, Assignment, StandardInput, AFile, operand_of, at_end, main_record, path_of, first_record, record_by, operand_record, standard_unless, standard_record, or_else, search_by, search_operands_within, search_operands, next_record}
-use Rattle.awk_meaning.specs.definitions.Semantics.{right_operand, eval, eval_all, printed_values, exec, exec_all, run_if, try_item, try_items, begin_record, on_record, each_record, run_records, begin_item, begin_items, has_rule, run_items}
+use Rattle.awk_meaning.specs.definitions.Semantics.{right_operand, eval, eval_all, printed_values, print, pass_on, exec, exec_all, run_action, run_if, try_item, try_items, unless_next, until_next, begin_record, on_record, each_record, run_records, begin_item, begin_items, has_rule, run_items}
 use Rattle.awk_meaning.specs.definitions.Meaning.{StartValues, start_state, assign_all, assign_and_run, run_program, outcome_of, meaning_of}
 
 -- a halt that the language itself has
 abbrev OwnHalt : Halt → Type 0
 OwnHalt halt.OutOfSteps = Unit {0}
+OwnHalt halt.Next = Unit {0}
+OwnHalt halt.Exit = Unit {0}
 OwnHalt (halt.Fault faults.OutOfMemory) = ⊥
 OwnHalt (halt.Fault faults.WriteFailed) = ⊥
 OwnHalt (halt.Fault f) = Unit {0}
@@ -354,17 +358,31 @@ unfolding printed_values
 printed_settles Nil = then_settles _ text_settles (λ v. lift_settles (Ok (v ∷ [])) tt)
 printed_settles (Cons e es) = values_settles [] (Cons e es)
 
+print_settles : (list : Exprs) → Settles (print list)
+unfolding print
+print_settles list = then_settles _ spend_settles (λ _. then_settles _ (printed_settles list) (λ vs. show_settles vs))
+
+pass_settles : (f : Flow) {m : Run Flow} → Settles m → Settles (pass_on f m)
+pass_settles flow.Normal h = h
+pass_settles flow.Break h = lift_settles (Ok flow.Break) tt
+pass_settles flow.Continue h = lift_settles (Ok flow.Continue) tt
+pass_settles (flow.Return v) h = lift_settles (Ok (flow.Return v)) tt
+
 mutual
   unfolding exec
 
   exec_settles : (s : Statement) → Settles (exec s)
   exec_settles (Block all) = exec_all_settles all
-  exec_settles (Expression e) = then_settles _ spend_settles (λ _. then_settles _ (eval_settles e) (λ v. lift_settles (Ok tt) tt))
-  exec_settles (Print list) = then_settles _ spend_settles (λ _. then_settles _ (printed_settles list) (λ vs. show_settles vs))
+  exec_settles (Expression e) = then_settles _ spend_settles (λ _. then_settles _ (eval_settles e) (λ v. lift_settles (Ok flow.Normal) tt))
+  exec_settles (Print list) = then_settles _ (print_settles list) (λ _. lift_settles (Ok flow.Normal) tt)
 
   exec_all_settles : (all : Statements) → Settles (exec_all all)
-  exec_all_settles NoStatement = lift_settles (Ok tt) tt
-  exec_all_settles (Then s all) = then_settles _ (exec_settles s) (λ _. exec_all_settles all)
+  exec_all_settles NoStatement = lift_settles (Ok flow.Normal) tt
+  exec_all_settles (Then s all) = let rest = exec_all_settles all in then_settles _ (exec_settles s) (λ f. pass_settles f rest)
+
+action_settles : (all : Statements) → Settles (run_action all)
+unfolding run_action
+action_settles all = then_settles _ (exec_all_settles all) (λ f. lift_settles (Ok tt) tt)
 
 if_settles : (b : Bool) {m : Run (Unit {0})} → Settles m → Settles (run_if b m)
 if_settles true h = h
@@ -373,14 +391,25 @@ if_settles false h = lift_settles (Ok tt) tt
 item_settles : (x : Item) → Settles (try_item x)
 unfolding try_item
 item_settles (Begin block) = lift_settles (Ok tt) tt
-item_settles (Action block) = exec_all_settles block
-item_settles (Pattern e) = then_settles _ (eval_settles e) (λ v. if_settles (truth_of v) (exec_settles (Print Nil)))
-item_settles (PatternAction e block) = then_settles _ (eval_settles e) (λ v. if_settles (truth_of v) (exec_all_settles block))
+item_settles (Action block) = action_settles block
+item_settles (Pattern e) = then_settles _ (eval_settles e) (λ v. if_settles (truth_of v) (print_settles Nil))
+item_settles (PatternAction e block) = then_settles _ (eval_settles e) (λ v. if_settles (truth_of v) (action_settles block))
 
 items_settles : (xs : List Item) → Settles (try_items xs)
 unfolding try_items
 items_settles [] = lift_settles (Ok tt) tt
 items_settles (x ∷ xs) = then_settles _ (item_settles x) (λ _. items_settles xs)
+
+unless_own : (r : Result (Unit {0}) Halt) → Own r → Own (unless_next r)
+unless_own (Ok u) own = tt
+unless_own (Err halt.Next) own = tt
+unless_own (Err halt.Exit) own = tt
+unless_own (Err halt.OutOfSteps) own = tt
+unless_own (Err (halt.Fault f)) own = own
+
+until_settles : {m : Run (Unit {0})} → Settles m → Settles (until_next m)
+unfolding until_next
+until_settles {m = m} h = record { own = λ s. unless_own (m s).result (h.own s) }
 
 begin_settles : (text : List ℕ) → Settles (begin_record text)
 unfolding begin_record
@@ -401,7 +430,7 @@ records_settles y = record { own = λ s. (each_settles (suc s.steps) y).own s }
 
 begin_item_settles : (x : Item) → Settles (begin_item x)
 unfolding begin_item
-begin_item_settles (Begin block) = exec_all_settles block
+begin_item_settles (Begin block) = action_settles block
 begin_item_settles (Action block) = lift_settles (Ok tt) tt
 begin_item_settles (Pattern e) = lift_settles (Ok tt) tt
 begin_item_settles (PatternAction e block) = lift_settles (Ok tt) tt
@@ -413,7 +442,7 @@ begin_items_settles (x ∷ xs) = then_settles _ (begin_item_settles x) (λ _. be
 
 run_settles : (items : List Item) → Settles (run_items items)
 unfolding run_items
-run_settles items = then_settles _ (begin_items_settles items) (λ _. if_settles (has_rule items) (records_settles (items_settles items)))
+run_settles items = then_settles _ (begin_items_settles items) (λ _. if_settles (has_rule items) (records_settles (until_settles (items_settles items))))
 
 assign_all_settles : (pre : List (List ℕ × List ℕ)) → Settles (assign_all pre)
 unfolding assign_all
@@ -426,17 +455,21 @@ whole_settles items pre = then_settles _ (assign_all_settles pre) (λ _. run_set
 
 -- outcomes
 
-no_memory : (r : Result (Unit {0}) Halt) → Own r → outcome_of r ≢ Fault faults.OutOfMemory
-no_memory (Ok u) own is = absurd (cc)
-no_memory (Err halt.OutOfSteps) own is = absurd (cc)
-no_memory (Err (halt.Fault faults.OutOfMemory)) own is = own
-no_memory (Err (halt.Fault f)) own is = let same : Fault f ≡ Fault faults.OutOfMemory = is in absurd (cc)
+no_memory : (r : Result (Unit {0}) Halt) (status : ℕ) → Own r → outcome_of r status ≢ Fault faults.OutOfMemory
+no_memory (Ok u) status own is = absurd (cc)
+no_memory (Err halt.OutOfSteps) status own is = absurd (cc)
+no_memory (Err halt.Next) status own is = absurd (cc)
+no_memory (Err halt.Exit) status own is = absurd (cc)
+no_memory (Err (halt.Fault faults.OutOfMemory)) status own is = own
+no_memory (Err (halt.Fault f)) status own is = let same : Fault f ≡ Fault faults.OutOfMemory = is in absurd (cc)
 
-no_write : (r : Result (Unit {0}) Halt) → Own r → outcome_of r ≢ Fault faults.WriteFailed
-no_write (Ok u) own is = absurd (cc)
-no_write (Err halt.OutOfSteps) own is = absurd (cc)
-no_write (Err (halt.Fault faults.WriteFailed)) own is = own
-no_write (Err (halt.Fault f)) own is = let same : Fault f ≡ Fault faults.WriteFailed = is in absurd (cc)
+no_write : (r : Result (Unit {0}) Halt) (status : ℕ) → Own r → outcome_of r status ≢ Fault faults.WriteFailed
+no_write (Ok u) status own is = absurd (cc)
+no_write (Err halt.OutOfSteps) status own is = absurd (cc)
+no_write (Err halt.Next) status own is = absurd (cc)
+no_write (Err halt.Exit) status own is = absurd (cc)
+no_write (Err (halt.Fault faults.WriteFailed)) status own is = own
+no_write (Err (halt.Fault f)) status own is = let same : Fault f ≡ Fault faults.WriteFailed = is in absurd (cc)
 
 run_own : (items : List Item) (start : StartValues) (oracle : Oracle) (limit : ℕ) → Own (run_program items start oracle limit).result
 unfolding run_program
@@ -445,4 +478,5 @@ run_own items start oracle limit = (whole_settles items start.pre).own (start_st
 pub law_of_outcomes : (items : List Item) (start : StartValues) (oracle : Oracle) (limit : ℕ) → ((meaning_of items start oracle limit).outcome ≢ Fault faults.OutOfMemory) × ((meaning_of items start oracle limit).outcome ≢ Fault faults.WriteFailed)
 law_of_outcomes items start oracle limit =
     let own = run_own items start oracle limit in
-    (no_memory (run_program items start oracle limit).result own, no_write (run_program items start oracle limit).result own)
+    let o = run_program items start oracle limit in
+    (no_memory o.result o.state.status own, no_write o.result o.state.status own)

@@ -1,4 +1,4 @@
-// Why a run ends before its end.
+// Why a part of a run ends early.
 
 ghost use Rattle.std.specs.Prelude.{◌≡◌};
 ghost use Rattle.awk_meaning.specs.definitions.Faults.{value_fault, record_fault, stream_fault, pattern_fault, variable_fault};
@@ -13,11 +13,15 @@ use awk_value::ValueFault;
 use awk_variables::VariableFault;
 use std::alloc::{AllocError, AllocFailed};
 
-/// Why a run ends before its end.
+/// Why a part of a run ends early.
 #[derive(Clone, Copy)]
 pub enum Halt {
     Fault(Fault),
     OutOfSteps,
+    /// `next`: the actions on this record end (POSIX awk, Actions).
+    Next,
+    /// `exit`: the run goes to its end, with the exit status that stands then (POSIX awk, Actions).
+    Exit,
 }
 
 impl From<AllocError> for Halt {

@@ -3,11 +3,13 @@
 #![tactic(auto)]
 
 mod fault;
+mod flow;
 mod halt;
 pub mod laws;
 mod outcome;
 
 pub use fault::{Fault, fault_line};
+pub use flow::Flow;
 pub use halt::Halt;
 pub use laws::{law_of_limits, law_of_outcomes, law_of_turns};
 pub use outcome::{Outcome, status};

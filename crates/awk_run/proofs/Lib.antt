@@ -1,4 +1,4 @@
 mod Accepted
-mod Evaluation
+mod ItemLemmas
 mod RunEnds
 mod RunsFrom

@@ -1,5 +1,5 @@
 -- What the end of a run leaves, after a body that ended well or by a failure.
-use Rattle.std.proofs.Common.{◌≡◌, ◌≢◌, ◌⊎◌, inl, inr, ℕ, zero, suc, ◌+◌, ◌-◌, ◌≤◌, ℤ, Bool, true, false, if◌then◌else◌, List, [], ◌∷◌, ◌++◌, length, take, drop, Option, None, Some, is_some, Result, Ok, Err, refl, sym, ap, ◌∙◌, subst, append-nil, arith}
+use Rattle.std.proofs.Common.{◌≡◌, ◌⊎◌, inl, inr, ℕ, zero, suc, ◌+◌, ◌-◌, ◌≤◌, ℤ, Bool, true, false, if◌then◌else◌, List, [], ◌∷◌, ◌++◌, length, take, drop, Option, None, Some, is_some, Result, Ok, Err, refl, sym, ap, ◌∙◌, subst, append-nil, arith}
 use Rattle.std.specs.Prelude.{IfErr, ◌&&◌}
 use Rattle.std.proofs.lemmas.List.{take-append-drop, length-take-le}
 use Rattle.awk_streams.specs.declared.fault.StreamFault.{StreamFault}
@@ -13,12 +13,12 @@ use Rattle.awk_streams.specs.WorldState.{WorldState}
 use Rattle.awk_meaning.specs.declared.halt.Halt.{Halt}
 use Rattle.awk_meaning.specs.declared.halt.Halt.TheVariants as halt
 use Rattle.awk_meaning.specs.declared.outcome.Outcome.{Outcome}
-use Rattle.awk_meaning.specs.declared.outcome.Outcome.TheVariants.{Fault}
+use Rattle.awk_meaning.specs.declared.outcome.Outcome.TheVariants.{Ended as EndedWith, Fault, Stopped}
 use Rattle.awk_meaning.specs.declared.fault as declared
 use Rattle.awk_meaning.specs.declared.fault.Fault.TheVariants as faults
 use Rattle.awk_meaning.specs.State.{Out}
 use Rattle.awk_meaning.specs.Meaning.{Asked, Meaning, outcome_of, outputs_after, requests_after}
-use Rattle.awk_meaning.specs.Order.{AreBetween, GoesBetween, MeetsAll, first_stage, IsInTurn}
+use Rattle.awk_meaning.specs.Order.{AreBetween, MeetsAll, first_stage, IsInTurn}
 use Rattle.awk_meaning.specs.Failure.{AreOfTheEnd, FailsAs, FailsAt}
 use Rattle.awk_meaning.specs.Faults.{stream_fault}
 use Rattle.awk_meaning.specs.Results.{Sort, WantOfMemory, FailedWrite, OfLanguage, sort_of}
@@ -30,50 +30,60 @@ use Rattle.awk_run.specs.support.Verdict.{outcome_after}
 
 -- a meaning, read off what a run of the definitions comes to
 abbrev pub read_off : Out (Unit {0}) → Meaning
-read_off o = record { outcome = outcome_of o.result; outputs = outputs_after o.effects; requests = requests_after [] o.effects }
+read_off o = record { outcome = outcome_of o.result o.state.status; outputs = outputs_after o.effects; requests = requests_after [] o.effects }
 
 -- the body of a run came to what the meaning has
 pub record IsMeant (oracle : Oracle) (k : WorldState) (streams : StreamsView) (o : Out (Unit {0})) (result : Outcome) : Type 0 where
   pub clear : k.first_failure ≡ None
-  pub outcome : outcome_of o.result ≡ result
+  pub outcome : outcome_of o.result o.state.status ≡ result
   pub outputs : printed_openings k streams ≡ standard_openings o.effects
   pub turn : MeetsAll oracle (requests_after [] o.effects) first_stage (stage_of k.log streams.main)
 
 -- the body was ended by want of memory or a failed write
-pub record IsCut (k : WorldState) (streams : StreamsView) (r : Result (Unit {0}) Halt) (o : Out (Unit {0})) : Type 0 where
+pub record IsCut (k : WorldState) (streams : StreamsView) (ended : Outcome) (o : Out (Unit {0})) : Type 0 where
   pub begins : Begins (in_order (printed_openings k streams)) (outputs_after o.effects)
   pub failure : (k.first_failure ≡ None) ⊎ FailedLast k
-  pub cause : (r ≡ Err (halt.Fault faults.OutOfMemory)) ⊎ ((r ≡ Err (halt.Fault faults.WriteFailed)) × FailedLast k)
+  pub cause : (ended ≡ Fault faults.OutOfMemory) ⊎ ((ended ≡ Fault faults.WriteFailed) × FailedLast k)
 
-abbrev pub Came : Oracle → WorldState → StreamsView → Result (Unit {0}) Halt → Out (Unit {0}) → Type 0
-Came oracle k streams r o = IsMeant oracle k streams o (outcome_after r (Ok tt)) ⊎ IsCut k streams r o
+abbrev pub Came : Oracle → WorldState → StreamsView → Outcome → Out (Unit {0}) → Type 0
+Came oracle k streams ended o = IsMeant oracle k streams o ended ⊎ IsCut k streams ended o
 
 -- the outcome of a halt, by what the language knows of it
-outcome_by : (h : Halt) (reason : Halt) → sort_of h ≡ OfLanguage reason → outcome_of (Err reason) ≡ outcome_after (Err h) (Ok tt)
-outcome_by halt.OutOfSteps reason e = let s : halt.OutOfSteps ≡ reason = cc in ap (λ (x : Halt). outcome_of (Err x)) (sym s)
-outcome_by (halt.Fault faults.OutOfMemory) reason e = absurd (cc)
-outcome_by (halt.Fault faults.WriteFailed) reason e = absurd (cc)
-outcome_by (halt.Fault f) reason e = let s : halt.Fault f ≡ reason = cc in ap (λ (x : Halt). outcome_of (Err x)) (sym s)
+outcome_by : (h reason : Halt) (status : ℕ) → sort_of h ≡ OfLanguage reason → outcome_of (Err reason) status ≡ outcome_of (Err h) status
+outcome_by halt.OutOfSteps reason status e = let s : halt.OutOfSteps ≡ reason = cc in ap (λ (x : Halt). outcome_of (Err x) status) (sym s)
+outcome_by halt.Next reason status e = let s : halt.Next ≡ reason = cc in ap (λ (x : Halt). outcome_of (Err x) status) (sym s)
+outcome_by halt.Exit reason status e = let s : halt.Exit ≡ reason = cc in ap (λ (x : Halt). outcome_of (Err x) status) (sym s)
+outcome_by (halt.Fault faults.OutOfMemory) reason status e = absurd (cc)
+outcome_by (halt.Fault faults.WriteFailed) reason status e = absurd (cc)
+outcome_by (halt.Fault f) reason status e = let s : halt.Fault f ≡ reason = cc in ap (λ (x : Halt). outcome_of (Err x) status) (sym s)
 
 memory_sort : (h : Halt) → sort_of h ≡ WantOfMemory → h ≡ halt.Fault faults.OutOfMemory
 memory_sort (halt.Fault faults.OutOfMemory) e = refl
 memory_sort (halt.Fault faults.WriteFailed) e = absurd (cc)
 memory_sort (halt.Fault f) e = absurd (cc)
 memory_sort halt.OutOfSteps e = absurd (cc)
+memory_sort halt.Next e = absurd (cc)
+memory_sort halt.Exit e = absurd (cc)
 
 write_sort : (h : Halt) → sort_of h ≡ FailedWrite → h ≡ halt.Fault faults.WriteFailed
 write_sort (halt.Fault faults.OutOfMemory) e = absurd (cc)
 write_sort (halt.Fault faults.WriteFailed) e = refl
 write_sort (halt.Fault f) e = absurd (cc)
 write_sort halt.OutOfSteps e = absurd (cc)
+write_sort halt.Next e = absurd (cc)
+write_sort halt.Exit e = absurd (cc)
 
-came_by : (oracle : Oracle) (m : Interpreter) (k : WorldState) (h : Halt) (s : Sort) (o : Out (Unit {0})) → sort_of h ≡ s → ResultRelationBy oracle m k s o [] → Came oracle k m.streams (Err h) o
-came_by oracle m k h WantOfMemory o e comes = inr record { begins = comes.begins; failure = comes.failure; cause = inl (ap (λ (x : Halt). Err x) (memory_sort h e)) }
-came_by oracle m k h FailedWrite o e comes = inr record { begins = comes.begins; failure = inr comes.failure; cause = inr (ap (λ (x : Halt). Err x) (write_sort h e), comes.failure) }
-came_by oracle m k h (OfLanguage reason) o e comes = inl record { clear = comes.1.clear; outcome = ap outcome_of comes.0 ∙ outcome_by h reason e; outputs = comes.1.outputs; turn = comes.1.turn }
+-- the outcome that the definitions have is the one of the code's result and status
+same_outcome : (o : Out (Unit {0})) (r : Result (Unit {0}) Halt) (status : ℕ) → o.result ≡ r → o.state.status ≡ status → outcome_of o.result o.state.status ≡ outcome_of r status
+same_outcome o r status e same = ap (λ (x : Result (Unit {0}) Halt). outcome_of x o.state.status) e ∙ ap (λ (n : ℕ). outcome_of r n) same
 
-pub came : (oracle : Oracle) (m : Interpreter) (k : WorldState) (r : Result (Unit {0}) Halt) (o : Out (Unit {0})) → ResultRelation oracle m k r o [] → Came oracle k m.streams r o
-came oracle m k (Ok u) o comes = inl record { clear = comes.1.clear; outcome = ap outcome_of comes.0; outputs = comes.1.outputs; turn = comes.1.turn }
+came_by : (oracle : Oracle) (m : Interpreter) (k : WorldState) (h : Halt) (s : Sort) (o : Out (Unit {0})) → sort_of h ≡ s → ResultRelationBy oracle m k s o [] → Came oracle k m.streams (outcome_of (Err h) m.status) o
+came_by oracle m k h WantOfMemory o e comes = inr record { begins = comes.begins; failure = comes.failure; cause = inl (ap (λ (x : Halt). outcome_of (Err x) m.status) (memory_sort h e)) }
+came_by oracle m k h FailedWrite o e comes = inr record { begins = comes.begins; failure = inr comes.failure; cause = inr (ap (λ (x : Halt). outcome_of (Err x) m.status) (write_sort h e), comes.failure) }
+came_by oracle m k h (OfLanguage reason) o e comes = inl record { clear = comes.1.clear; outcome = same_outcome o (Err reason) m.status comes.0 comes.1.holds.status ∙ outcome_by h reason m.status e; outputs = comes.1.outputs; turn = comes.1.turn }
+
+pub came : (oracle : Oracle) (m : Interpreter) (k : WorldState) (r : Result (Unit {0}) Halt) (o : Out (Unit {0})) → ResultRelation oracle m k r o [] → Came oracle k m.streams (outcome_of r m.status) o
+came oracle m k (Ok u) o comes = inl record { clear = comes.1.clear; outcome = same_outcome o (Ok u) m.status comes.0 comes.1.holds.status; outputs = comes.1.outputs; turn = comes.1.turn }
 came oracle m k (Err h) o comes = came_by oracle m k h (sort_of h) o refl comes
 
 -- the events of the end, the oldest first
@@ -212,8 +222,8 @@ brought k1 k2 streams last o told outputs =
       flushed = subst (λ os. AreFlushed os k2.log) (sym is) (ap (is_flushed 1) all ∙ flushed_1 streams.main told.ends.answer (Flushed 0 ∷ told.ends.written), (ap (is_flushed 0) all ∙ flushed_0 streams.main told.ends.answer told.ends.written, tt));
     }
 
-pub in_turn : (oracle : Oracle) (k1 k2 : WorldState) (streams last : StreamsView) (r : Result (Unit {0}) Halt) (o : Out (Unit {0})) → Finishes k1 streams (Ok tt) k2 last → IsMeant oracle k1 streams o (outcome_after r (Ok tt)) → IsInTurn oracle (read_off o) k2.log
-in_turn oracle k1 k2 streams last r o told meant =
+pub in_turn : (oracle : Oracle) (k1 k2 : WorldState) (streams last : StreamsView) (ended : Outcome) (o : Out (Unit {0})) → Finishes k1 streams (Ok tt) k2 last → IsMeant oracle k1 streams o ended → IsInTurn oracle (read_off o) k2.log
+in_turn oracle k1 k2 streams last ended o told meant =
     let ends = told.ends in
     record {
       main = None;
@@ -234,8 +244,9 @@ pub no_failure_before : (f : Result (Unit {0}) StreamFault) {k k' : WorldState} 
 no_failure_before (Ok u) told clear = (refl, sym told.no_failure ∙ clear)
 no_failure_before (Err e) {k' = k'} told clear = absurd (not_some k'.first_failure clear told.failure)
 
-pub halted_by : (fault : declared.Fault.Fault) (r : Result (Unit {0}) Halt) (f : Result (Unit {0}) StreamFault) → r ≡ Err (halt.Fault fault) → outcome_after r f ≡ Fault fault
-halted_by fault r f e = ap (λ x. outcome_after x f) e
+pub halted_by : (fault : declared.Fault.Fault) (ended : Outcome) (f : Result (Unit {0}) StreamFault) → ended ≡ Fault fault → outcome_after ended f ≡ Fault fault
+halted_by fault ended (Ok u) e = e
+halted_by fault ended (Err x) e = ap (λ (o : Outcome). outcome_after o (Err x)) e
 
 -- the code's own failure of the end
 own_failure : (oracle : Oracle) (meaning : Meaning) (l : List Event) (e : StreamFault) → IsOutputFault e → FailsAs oracle meaning l (Fault (stream_fault e))
@@ -243,16 +254,16 @@ own_failure oracle meaning l e (inl is) = inl (ap (λ x. Fault (stream_fault x))
 own_failure oracle meaning l e (inr is) = inr (inl (ap (λ x. Fault (stream_fault x)) is))
 
 -- the end failed, after a body that is as the meaning has it
-end_fails : (oracle : Oracle) (meaning : Meaning) (l : List Event) (r : Result (Unit {0}) Halt) (e : StreamFault) → IsOutputFault e → meaning.outcome ≡ outcome_after r (Ok tt) → (main : Option ℕ) → MeetsAll oracle meaning.requests first_stage (record { log = l; main = main }) →
-    FailsAs oracle meaning l (outcome_after r (Err e))
-end_fails oracle meaning l (Ok u) e fault outcome main met = own_failure oracle meaning l e fault
-end_fails oracle meaning l (Err halt.OutOfSteps) e fault outcome main met = own_failure oracle meaning l e fault
-end_fails oracle meaning l (Err (halt.Fault f)) e fault outcome main met = inr (inr record { fault = f; is = refl; outcome = outcome; main = main; meets = met })
+end_fails : (oracle : Oracle) (meaning : Meaning) (l : List Event) (ended : Outcome) (e : StreamFault) → IsOutputFault e → meaning.outcome ≡ ended → (main : Option ℕ) → MeetsAll oracle meaning.requests first_stage (record { log = l; main = main }) →
+    FailsAs oracle meaning l (outcome_after ended (Err e))
+end_fails oracle meaning l (EndedWith status) e fault outcome main met = own_failure oracle meaning l e fault
+end_fails oracle meaning l Stopped e fault outcome main met = own_failure oracle meaning l e fault
+end_fails oracle meaning l (Fault f) e fault outcome main met = inr (inr record { fault = f; is = refl; outcome = outcome; main = main; meets = met })
 
-fails_by : (oracle : Oracle) (meaning : Meaning) (l : List Event) (r : Result (Unit {0}) Halt) (f : Result (Unit {0}) StreamFault) {k k' : WorldState} {old new : StreamsView} (n : ℕ) → Finishes k old f k' new → IfErr f IsOutputFault → k.first_failure ≡ None → k'.first_failure ≡ Some n →
-    meaning.outcome ≡ outcome_after r (Ok tt) → (main : Option ℕ) → MeetsAll oracle meaning.requests first_stage (record { log = l; main = main }) → FailsAs oracle meaning l (outcome_after r f)
-fails_by oracle meaning l r (Ok u) {k' = k'} n told fault clear some outcome main met = absurd (not_some k'.first_failure (told.no_failure ∙ clear) (ap is_some some))
-fails_by oracle meaning l r (Err e) n told fault clear some outcome main met = end_fails oracle meaning l r e fault outcome main met
+fails_by : (oracle : Oracle) (meaning : Meaning) (l : List Event) (ended : Outcome) (f : Result (Unit {0}) StreamFault) {k k' : WorldState} {old new : StreamsView} (n : ℕ) → Finishes k old f k' new → IfErr f IsOutputFault → k.first_failure ≡ None → k'.first_failure ≡ Some n →
+    meaning.outcome ≡ ended → (main : Option ℕ) → MeetsAll oracle meaning.requests first_stage (record { log = l; main = main }) → FailsAs oracle meaning l (outcome_after ended f)
+fails_by oracle meaning l ended (Ok u) {k' = k'} n told fault clear some outcome main met = absurd (not_some k'.first_failure (told.no_failure ∙ clear) (ap is_some some))
+fails_by oracle meaning l ended (Err e) n told fault clear some outcome main met = end_fails oracle meaning l ended e fault outcome main met
 
 -- the failure stands at the end of the body or later
 bounds : (k1 k2 : WorldState) (n : ℕ) → Grows k1 k2 → (k1.first_failure ≡ None) ⊎ FailedLast k1 → k2.first_failure ≡ Some n → (length k1.log ≤ n) × (n ≤ length k2.log)
@@ -262,30 +273,30 @@ bounds k1 k2 n grows (inr last) some =
     let long : length k2.log ≡ length grows.events + length k1.log = ap length grows.log ∙ with_events-length grows.events k1.log in
     (omega (arith, at), omega (arith, at, long))
 
-stood : (oracle : Oracle) (k1 : WorldState) (streams : StreamsView) (r : Result (Unit {0}) Halt) (o : Out (Unit {0})) → Came oracle k1 streams r o → (k1.first_failure ≡ None) ⊎ FailedLast k1
-stood oracle k1 streams r o (inl meant) = inl meant.clear
-stood oracle k1 streams r o (inr cut) = cut.failure
+stood : (oracle : Oracle) (k1 : WorldState) (streams : StreamsView) (ended : Outcome) (o : Out (Unit {0})) → Came oracle k1 streams ended o → (k1.first_failure ≡ None) ⊎ FailedLast k1
+stood oracle k1 streams ended o (inl meant) = inl meant.clear
+stood oracle k1 streams ended o (inr cut) = cut.failure
 
-cause : (oracle : Oracle) (k1 k2 : WorldState) (streams last : StreamsView) (r : Result (Unit {0}) Halt) (f : Result (Unit {0}) StreamFault) (o : Out (Unit {0})) (n m : ℕ) (es : List Event) → Finishes k1 streams f k2 last → IfErr f IsOutputFault → k2.first_failure ≡ Some n →
-    AreBetween (number_of streams.main) es None → Came oracle k1 streams r o → FailsAs oracle (read_off o) (with_events (take m es) k1.log) (outcome_after r f)
-cause oracle k1 k2 streams last r f o n m es told fault some between (inl meant) =
+cause : (oracle : Oracle) (k1 k2 : WorldState) (streams last : StreamsView) (ended : Outcome) (f : Result (Unit {0}) StreamFault) (o : Out (Unit {0})) (n m : ℕ) (es : List Event) → Finishes k1 streams f k2 last → IfErr f IsOutputFault → k2.first_failure ≡ Some n →
+    AreBetween (number_of streams.main) es None → Came oracle k1 streams ended o → FailsAs oracle (read_off o) (with_events (take m es) k1.log) (outcome_after ended f)
+cause oracle k1 k2 streams last ended f o n m es told fault some between (inl meant) =
     let part = between_take (number_of streams.main) es None m between in
-    fails_by oracle (read_off o) (with_events (take m es) k1.log) r f n told fault meant.clear some meant.outcome part.0
+    fails_by oracle (read_off o) (with_events (take m es) k1.log) ended f n told fault meant.clear some meant.outcome part.0
     (meets_on oracle (requests_after [] o.effects) k1.log (with_events (take m es) k1.log) streams.main part.0 (take m es) meant.turn refl part.1)
-cause oracle k1 k2 streams last r f o n m es told fault some between (inr cut) = elim cut.cause [
-  | inl memory ↦ inl (halted_by faults.OutOfMemory r f memory)
-  | inr write ↦ inr (inl (halted_by faults.WriteFailed r f write.0))
+cause oracle k1 k2 streams last ended f o n m es told fault some between (inr cut) = elim cut.cause [
+  | inl memory ↦ inl (halted_by faults.OutOfMemory ended f memory)
+  | inr write ↦ inr (inl (halted_by faults.WriteFailed ended f write.0))
 ]
 
-pub fails_at : (out_by : Oracle → Out (Unit {0})) (k1 k2 : WorldState) (streams last : StreamsView) (r : Result (Unit {0}) Halt) (f : Result (Unit {0}) StreamFault) (n : ℕ) → Finishes k1 streams f k2 last → IfErr f IsOutputFault →
-    ((oracle : Oracle) × IsConsistent oracle k2.log) → ((oracle : Oracle) → IsConsistent oracle k2.log → Came oracle k1 streams r (out_by oracle)) → k2.first_failure ≡ Some n →
-    FailsAt (λ oracle. read_off (out_by oracle)) n k2.log (outcome_after r f)
-fails_at out_by k1 k2 streams last r f n told fault some_oracle body some =
+pub fails_at : (out_by : Oracle → Out (Unit {0})) (k1 k2 : WorldState) (streams last : StreamsView) (ended : Outcome) (f : Result (Unit {0}) StreamFault) (n : ℕ) → Finishes k1 streams f k2 last → IfErr f IsOutputFault →
+    ((oracle : Oracle) × IsConsistent oracle k2.log) → ((oracle : Oracle) → IsConsistent oracle k2.log → Came oracle k1 streams ended (out_by oracle)) → k2.first_failure ≡ Some n →
+    FailsAt (λ oracle. read_off (out_by oracle)) n k2.log (outcome_after ended f)
+fails_at out_by k1 k2 streams last ended f n told fault some_oracle body some =
     let ends = told.ends in
     let es : List Event = end_events streams.main f k1.log k2.log ends in
     let is : k2.log ≡ with_events es k1.log = end_is streams.main f k1.log k2.log ends in
     let between : AreBetween (number_of streams.main) es None = all_between streams.main f k1.log k2.log ends in
-    let at = bounds k1 k2 n told.grows (stood some_oracle.0 k1 streams r (out_by some_oracle.0) (body some_oracle.0 some_oracle.1)) some in
+    let at = bounds k1 k2 n told.grows (stood some_oracle.0 k1 streams ended (out_by some_oracle.0) (body some_oracle.0 some_oracle.1)) some in
     let long : length k2.log ≡ length es + length k1.log = ap length is ∙ with_events-length es k1.log in
     let m : ℕ = n - length k1.log in
     let within : m ≤ length es = omega (arith, at.0, at.1, long) in
@@ -298,9 +309,9 @@ fails_at out_by k1 k2 streams last r f n told fault some_oracle body some =
           let all = with_events-length (take m es) k1.log in
           omega (arith, all, some_of, at.0);
       ends = end_drop es m (all_end streams.main f k1.log k2.log ends);
-      fails = λ oracle consistent. cause oracle k1 k2 streams last r f (out_by oracle) n m es told fault some between (body oracle consistent);
+      fails = λ oracle consistent. cause oracle k1 k2 streams last ended f (out_by oracle) n m es told fault some between (body oracle consistent);
     }
 
-pub begins_at_end : (oracle : Oracle) (k1 k2 : WorldState) (streams last : StreamsView) (r : Result (Unit {0}) Halt) (f : Result (Unit {0}) StreamFault) (o : Out (Unit {0})) → Finishes k1 streams f k2 last → Came oracle k1 streams r o → Begins (outputs_of k2.log) (outputs_after o.effects)
-begins_at_end oracle k1 k2 streams last r f o told (inl meant) = subst (λ (os : List (ℕ × Opening)). Begins (outputs_of k2.log) (in_order os)) meant.outputs told.partly
-begins_at_end oracle k1 k2 streams last r f o told (inr cut) = begins-then (outputs_of k2.log) (in_order (printed_openings k1 streams)) (outputs_after o.effects) told.partly cut.begins
+pub begins_at_end : (oracle : Oracle) (k1 k2 : WorldState) (streams last : StreamsView) (ended : Outcome) (f : Result (Unit {0}) StreamFault) (o : Out (Unit {0})) → Finishes k1 streams f k2 last → Came oracle k1 streams ended o → Begins (outputs_of k2.log) (outputs_after o.effects)
+begins_at_end oracle k1 k2 streams last ended f o told (inl meant) = subst (λ (os : List (ℕ × Opening)). Begins (outputs_of k2.log) (in_order os)) meant.outputs told.partly
+begins_at_end oracle k1 k2 streams last ended f o told (inr cut) = begins-then (outputs_of k2.log) (in_order (printed_openings k1 streams)) (outputs_after o.effects) told.partly cut.begins

@@ -1,2 +1,2 @@
-pub mod Evaluation
+pub mod Items
 pub mod Verdict

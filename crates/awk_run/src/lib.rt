@@ -1,10 +1,9 @@
 //! The run of a program: from a text and a world to the bytes on the outputs and an outcome.
 #![tactic(auto)]
 
-mod expressions;
+mod items;
 mod run;
 mod start;
-mod statements;
 
 pub use awk_meaning::{
     Fault, Outcome, fault_line, law_of_limits, law_of_outcomes, law_of_turns, status,

@@ -6,14 +6,15 @@ ghost use Rattle.awk_tree.specs.Tree.{Item as ItemTree};
 ghost use Rattle.awk_tree.specs.View.{tree_of, items_of};
 ghost use Rattle.awk_run.specs.definitions.Accepted.{IsSpelled, Accepted, RefusedFor};
 ghost use Rattle.awk_run.specs.definitions.Start.{start_values, pair_of};
+ghost use Rattle.awk_meaning.specs.Meaning.{outcome_of};
 ghost use Rattle.awk_streams.specs.Outputs.{IsOutputFault};
 ghost use Rattle.awk_streams.specs.Streams.{AreOpen, IsSoundMain};
-ghost use Rattle.awk_run.specs.support.Evaluation.{Assigns, AssignsAndRuns};
-ghost use Rattle.awk_run.specs.support.Verdict.{outcome_after as outcome_at, EndsWithoutStreams, ReadsOnly, RunsFrom};
+ghost use Rattle.awk_run.specs.support.Items.{Assigns, AssignsAndRuns};
+ghost use Rattle.awk_run.specs.support.Verdict.{outcome_after, EndsWithoutStreams, ReadsOnly, RunsFrom};
 ghost use Rattle.awk_run.specs.definitions.Headline.{Executed};
 
+use crate::items::run_items;
 use crate::start::{Assignment, Start};
-use crate::statements::run_items;
 use awk_interpreter::Interpreter;
 use awk_lex::lexer::tokens;
 use awk_lex::refusal::Refusal;
@@ -24,18 +25,29 @@ use awk_syntax::parse::parse;
 use awk_tree::tree::{Item, Tree};
 use std::alloc::Global;
 
-/// How a run ended: a failure of its end counts unless a fault came before it.
-fn outcome_after(ended: Result<(), Halt>, finished: Result<(), StreamFault>) -> Outcome
-    ensures { result ≡ outcome_at ended finished }
+/// How a run ended before its end, with the exit status that stands then. A `next` for which no
+/// record was at hand is a fault.
+fn outcome_of(ended: Result<(), Halt>, status: u8) -> Outcome
+    ensures { result ≡ outcome_of ended status }
 {
-    let outcome = match ended {
-        Ok(()) => Outcome::Ended(0),
+    match ended {
+        Ok(()) | Err(Halt::Exit) => Outcome::Ended(status),
+        Err(Halt::Next) => Outcome::Fault(Fault::NextWithoutRecord),
+        Err(Halt::Fault(fault)) => Outcome::Fault(fault),
         Err(Halt::OutOfSteps) => Outcome::Stopped,
-        Err(Halt::Fault(fault)) => return Outcome::Fault(fault),
-    };
+    }
+}
+
+/// How a run ended: a failure of its end counts unless a fault came before it.
+fn outcome_after(outcome: Outcome, finished: Result<(), StreamFault>) -> Outcome
+    ensures { result ≡ outcome_after outcome finished }
+{
     match finished {
         Ok(()) => outcome,
-        Err(fault) => Outcome::Fault(Fault::from(fault)),
+        Err(fault) => match outcome {
+            Outcome::Fault(settled) => Outcome::Fault(settled),
+            Outcome::Ended(_) | Outcome::Stopped => Outcome::Fault(Fault::from(fault)),
+        },
     }
 }
 
@@ -92,7 +104,7 @@ fn run_program<W: World>(
     };
     let ended = assign_and_run(items, &start.pre, &mut interpreter, world);
     let finished = interpreter.streams.finish(world);
-    outcome_after(ended, finished)
+    outcome_after(outcome_of(ended, interpreter.status), finished)
 }
 
 /// The tree of a text.

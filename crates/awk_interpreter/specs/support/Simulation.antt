@@ -1,6 +1,5 @@
 -- How the code's state and world stand for the state of the definitions, and what a part of the code does.
-use Rattle.std.specs.Prelude.{◌≡◌, ◌⊎◌, ℕ, pos, ◌≤◌, ◌<◌, Bool, true, false, List, [], ◌∷◌, ◌++◌, length, Option, Some, None, is_some, suc, Result, Ok, Err, OnOk}
-use Rattle.awk_value.specs.declared.value.Value.{Value}
+use Rattle.std.specs.Prelude.{◌≡◌, ◌⊎◌, ℕ, pos, ◌≤◌, ◌<◌, true, false, List, [], ◌∷◌, ◌++◌, length, Option, Some, None, is_some, suc, Result, Ok, Err, OnOk}
 use Rattle.awk_world.specs.declared.world.InputKind.{InputKind}
 use Rattle.awk_streams.specs.declared.fault.StreamFault.{StreamFault}
 use Rattle.awk_streams.specs.WorldState.{WorldState}
@@ -27,6 +26,7 @@ pub record OwnRelation (m : Interpreter) (s : State) : Type 0 where
   pub arguments : s.arguments ≡ m.arguments.words.items
   pub next : pos s.next ≡ m.arguments.next
   pub input_seen : s.input_seen ≡ m.arguments.input_seen
+  pub status : s.status ≡ m.status
   pub steps : s.steps ≡ m.steps
 
 -- the number of the main input, if there is one
@@ -100,6 +100,7 @@ pub record Beside (old new : Interpreter) : Type 0 where
   pub current : new.current ≡ old.current
   pub variables : new.variables ≡ old.variables
   pub arguments : new.arguments ≡ old.arguments
+  pub status : new.status ≡ old.status
   pub steps : new.steps ≡ old.steps
 
 -- nothing is changed that the definitions know
@@ -150,4 +151,5 @@ pub record IsStart (operands : List (List ℕ)) (limit : ℕ) (m : Interpreter) 
   pub input_seen : m.arguments.input_seen ≡ false
   pub main : m.streams.main ≡ None
   pub held : m.streams.held ≡ []
+  pub status : m.status ≡ 0
   pub steps : m.steps ≡ limit

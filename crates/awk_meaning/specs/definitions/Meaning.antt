@@ -5,6 +5,7 @@ use Rattle.awk_streams.specs.Openings.{Output, StandardOutput, StandardError, Op
 use Rattle.awk_tree.specs.Tree.{Item}
 use Rattle.awk_meaning.specs.declared.outcome.Outcome.{Outcome}
 use Rattle.awk_meaning.specs.declared.outcome.Outcome.TheVariants.{Ended, Fault, Stopped}
+use Rattle.awk_meaning.specs.declared.fault.Fault.TheVariants.{NextWithoutRecord}
 use Rattle.awk_meaning.specs.definitions.State.{Request, Effect, Printed, Requested, State, Out, Run, ◌>>=◌, ret}
 use Rattle.awk_meaning.specs.declared.halt.Halt.{Halt}
 use Rattle.awk_meaning.specs.declared.halt.Halt.TheVariants as halt
@@ -34,6 +35,7 @@ start_state start oracle limit = record {
   arguments = arguments_of start.operands;
   next = 1;
   input_seen = false;
+  status = 0;
   steps = limit;
 }
 
@@ -49,10 +51,13 @@ assign_and_run items pre = assign_all pre >>= λ _. run_items items
 unfoldable pub run_program : List Item → StartValues → Oracle → ℕ → Out (Unit {0})
 run_program items start oracle limit = assign_and_run items start.pre (start_state start oracle limit)
 
-abbrev pub outcome_of : Result (Unit {0}) Halt → Outcome
-outcome_of (Ok u) = Ended 0
-outcome_of (Err (halt.Fault f)) = Fault f
-outcome_of (Err halt.OutOfSteps) = Stopped
+-- a run that ends, or exits, has the status that stands then; a `next` for which no record was at hand is a fault
+abbrev pub outcome_of : Result (Unit {0}) Halt → (status : ℕ) → Outcome
+outcome_of (Ok u) status = Ended status
+outcome_of (Err halt.Exit) status = Ended status
+outcome_of (Err halt.Next) status = Fault NextWithoutRecord
+outcome_of (Err (halt.Fault f)) status = Fault f
+outcome_of (Err halt.OutOfSteps) status = Stopped
 
 abbrev pub same_output : Output → Output → Bool
 same_output StandardOutput StandardOutput = true
@@ -88,7 +93,7 @@ pub record Meaning : Type 0 where
 -- the meaning of the program with these answers of the outside and this many steps
 abbrev pub meaning_of : List Item → StartValues → Oracle → ℕ → Meaning
 meaning_of items start oracle limit = record {
-  outcome = outcome_of (run_program items start oracle limit).result;
+  outcome = outcome_of (run_program items start oracle limit).result (run_program items start oracle limit).state.status;
   outputs = outputs_after (run_program items start oracle limit).effects;
   requests = requests_after [] (run_program items start oracle limit).effects;
 }

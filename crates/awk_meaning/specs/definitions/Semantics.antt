@@ -1,10 +1,13 @@
 -- The semantics of expressions, statements and items (POSIX awk, Expressions in awk; Actions; Output Statements).
-use Rattle.std.specs.Prelude.{ℕ, zero, suc, Bool, true, false, ◌||◌, List, [], ◌∷◌, ◌++◌, Option, Some, None, Err}
+use Rattle.std.specs.Prelude.{ℕ, zero, suc, Bool, true, false, ◌||◌, List, [], ◌∷◌, ◌++◌, Option, Some, None, Result, Ok, Err}
 use Rattle.awk_value.specs.declared.value.Value.{Value}
 use Rattle.awk_value.specs.declared.value.Value.TheVariants as value
 use Rattle.awk_value.specs.Values.{truth_of}
 use Rattle.awk_tree.specs.Tree.{Expr, Number, String, Ere, Name, Group, Field, Unary, Binary, Assign, Exprs, Nil, Cons, Statement, Block, Expression, Print, Statements, NoMore, Then, Item, Begin, Action, Pattern, PatternAction}
 use Rattle.awk_tree.specs.declared.tree.BinaryOperator.TheVariants.{Matches}
+use Rattle.awk_meaning.specs.declared.flow.Flow.{Flow}
+use Rattle.awk_meaning.specs.declared.flow.Flow.TheVariants as flow
+use Rattle.awk_meaning.specs.declared.halt.Halt.{Halt}
 use Rattle.awk_meaning.specs.declared.halt.Halt.TheVariants as halt
 use Rattle.awk_meaning.specs.definitions.State.{Run, ◌>>=◌, lift, ret}
 use Rattle.awk_variables.specs.declared.special.Special.TheVariants.{Nr, Fnr}
@@ -40,16 +43,30 @@ unfoldable pub printed_values : Exprs → Run (List Value)
 printed_values Nil = record_text >>= λ v. ret (v ∷ [])
 printed_values (Cons e es) = eval_all [] (Cons e es)
 
--- a statement; one that is no block spends a step as it begins
-unfoldable mutual
-  pub exec : Statement → Run (Unit {0})
-  exec (Block all) = exec_all all
-  exec (Expression e) = spend >>= λ _. eval e >>= λ v. ret tt
-  exec (Print list) = spend >>= λ _. printed_values list >>= λ vs. print_line vs
+-- a line of a list's values, or of the record; it spends a step as it begins
+unfoldable pub print : Exprs → Run (Unit {0})
+print list = spend >>= λ _. printed_values list >>= λ vs. print_line vs
 
-  pub exec_all : Statements → Run (Unit {0})
-  exec_all NoMore = ret tt
-  exec_all (Then s all) = exec s >>= λ _. exec_all all
+-- what follows a statement is executed where it passes on to the next one
+abbrev pub pass_on : Flow → Run Flow → Run Flow
+pass_on flow.Normal rest = rest
+pass_on f rest = ret f
+
+-- a statement, and how it passes on; one that is no block spends a step as it begins
+unfoldable mutual
+  pub exec : Statement → Run Flow
+  exec (Block all) = exec_all all
+  exec (Expression e) = spend >>= λ _. eval e >>= λ v. ret flow.Normal
+  exec (Print list) = print list >>= λ _. ret flow.Normal
+
+  pub exec_all : Statements → Run Flow
+  exec_all NoMore = ret flow.Normal
+  exec_all (Then s all) = exec s >>= λ f. pass_on f (exec_all all)
+
+-- an action ends with its statements, however they pass on: a program whose `break` or `continue` stands outside a loop, or
+-- whose `return` stands outside a function, is refused
+unfoldable pub run_action : Statements → Run (Unit {0})
+run_action all = exec_all all >>= λ f. ret tt
 
 abbrev pub run_if : Bool → Run (Unit {0}) → Run (Unit {0})
 run_if true action = action
@@ -58,13 +75,21 @@ run_if false action = ret tt
 -- an item on a record; a pattern without an action prints the record
 unfoldable pub try_item : Item → Run (Unit {0})
 try_item (Begin block) = ret tt
-try_item (Action block) = exec_all block
-try_item (Pattern e) = eval e >>= λ v. run_if (truth_of v) (exec (Print Nil))
-try_item (PatternAction e block) = eval e >>= λ v. run_if (truth_of v) (exec_all block)
+try_item (Action block) = run_action block
+try_item (Pattern e) = eval e >>= λ v. run_if (truth_of v) (print Nil)
+try_item (PatternAction e block) = eval e >>= λ v. run_if (truth_of v) (run_action block)
 
 unfoldable pub try_items : List Item → Run (Unit {0})
 try_items [] = ret tt
 try_items (x ∷ xs) = try_item x >>= λ _. try_items xs
+
+abbrev pub unless_next : Result (Unit {0}) Halt → Result (Unit {0}) Halt
+unless_next (Err halt.Next) = Ok tt
+unless_next r = r
+
+-- where `next` ended it, what follows goes on
+unfoldable pub until_next : Run (Unit {0}) → Run (Unit {0})
+until_next m s = record { result = unless_next (m s).result; state = (m s).state; effects = (m s).effects }
 
 -- a record that was found is at hand, and counted
 unfoldable pub begin_record : List ℕ → Run (Unit {0})
@@ -85,7 +110,7 @@ run_records action s = each_record (suc s.steps) action s
 
 -- the actions that come before all records, in the order of the text
 unfoldable pub begin_item : Item → Run (Unit {0})
-begin_item (Begin block) = exec_all block
+begin_item (Begin block) = run_action block
 begin_item x = ret tt
 
 unfoldable pub begin_items : List Item → Run (Unit {0})
@@ -100,6 +125,6 @@ abbrev pub has_rule : List Item → Bool
 has_rule [] = false
 has_rule (x ∷ xs) = is_rule x || has_rule xs
 
--- records are read where there is a rule for them
+-- records are read where there is a rule for them, and the items are tried on each until `next`; `exit` ends all of it
 unfoldable pub run_items : List Item → Run (Unit {0})
-run_items xs = begin_items xs >>= λ _. run_if (has_rule xs) (run_records (try_items xs))
+run_items xs = begin_items xs >>= λ _. run_if (has_rule xs) (run_records (until_next (try_items xs)))

@@ -15,6 +15,8 @@ sort_of (halt.Fault OutOfMemory) = WantOfMemory
 sort_of (halt.Fault WriteFailed) = FailedWrite
 sort_of (halt.Fault f) = OfLanguage (halt.Fault f)
 sort_of halt.OutOfSteps = OfLanguage halt.OutOfSteps
+sort_of halt.Next = OfLanguage halt.Next
+sort_of halt.Exit = OfLanguage halt.Exit
 
 -- the code's result is the one of the definitions, unless memory was refused
 abbrev pub YieldsBy : {A : Type 0} → Sort → Result A Halt → Type 0

@@ -7,22 +7,18 @@ use Rattle.awk_streams.specs.Streams.{StreamsView, Finishes}
 use Rattle.awk_tree.specs.Tree.{Item}
 use Rattle.awk_tree.specs.View.{tree_of}
 use Rattle.awk_tree.specs.declared.tree.Tree.{Tree}
-use Rattle.awk_meaning.specs.declared.halt.Halt.{Halt}
-use Rattle.awk_meaning.specs.declared.halt.Halt.TheVariants as halt
 use Rattle.awk_meaning.specs.declared.outcome.Outcome.{Outcome}
-use Rattle.awk_meaning.specs.declared.outcome.Outcome.TheVariants.{Ended, Fault, Stopped}
+use Rattle.awk_meaning.specs.declared.outcome.Outcome.TheVariants.{Fault}
 use Rattle.awk_meaning.specs.Faults.{stream_fault}
 use Rattle.awk_meaning.specs.Meaning.{StartValues}
 use Rattle.awk_streams.specs.WorldState.{WorldState}
 use Rattle.awk_run.specs.definitions.Headline.{IsUntouched, Runs}
 
 -- a failure of the end of a run counts unless a fault came before it
-abbrev pub outcome_after : Result (Unit {0}) Halt → Result (Unit {0}) StreamFault → Outcome
-outcome_after (Err (halt.Fault f)) finished = Fault f
-outcome_after (Ok u) (Ok v) = Ended 0
-outcome_after (Ok u) (Err f) = Fault (stream_fault f)
-outcome_after (Err halt.OutOfSteps) (Ok v) = Stopped
-outcome_after (Err halt.OutOfSteps) (Err f) = Fault (stream_fault f)
+abbrev pub outcome_after : Outcome → Result (Unit {0}) StreamFault → Outcome
+outcome_after ended (Ok v) = ended
+outcome_after (Fault f) (Err e) = Fault f
+outcome_after ended (Err e) = Fault (stream_fault e)
 
 -- this program is read, unless memory is refused
 abbrev pub ReadsOnly : Result Tree Refusal → List Item → Type 0

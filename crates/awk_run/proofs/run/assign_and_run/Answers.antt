@@ -1,5 +1,5 @@
 use Rattle.std.proofs.lemmas.Result.{err_from_is_err_and}
-use Rattle.awk_run.proofs.Evaluation.{assigned_halts, assigned_runs}
+use Rattle.awk_run.proofs.ItemLemmas.{assigned_halts, assigned_runs}
 use Rattle.awk_run.proofs.run.assign_and_run.Goals as goal
 
 pub returns-in_err-assign_all : goal.returns-in_err-assign_all
