@@ -13,3 +13,5 @@ pub use Rattle.awk_grammar.specs.definitions.StatementsAllowed
 pub use Rattle.awk_grammar.specs.definitions.SpellingOfExpressions
 pub use Rattle.awk_grammar.specs.definitions.SpellingOfStatements
 pub use Rattle.awk_grammar.specs.definitions.Spelling
+pub use Rattle.awk_grammar.specs.definitions.Answer
+pub use Rattle.awk_grammar.specs.support.Parser

@@ -8,3 +8,4 @@ pub mod StatementsAllowed
 pub mod SpellingOfExpressions
 pub mod SpellingOfStatements
 pub mod Spelling
+pub mod Answer

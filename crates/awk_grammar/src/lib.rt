@@ -2,4 +2,5 @@
 //! that finds them.
 #![tactic(auto)]
 
+pub mod laws;
 pub mod tree;

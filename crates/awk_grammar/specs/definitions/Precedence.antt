@@ -21,8 +21,8 @@ abbrev pub pre_increment : ℕ
 pre_increment = 2
 
 -- `place ++`, `place --` and a getline without a pipe
-abbrev pub operand : ℕ
-operand = 3
+abbrev pub post_increment : ℕ
+post_increment = 3
 
 abbrev pub power : ℕ
 power = 4
@@ -81,7 +81,7 @@ not_associative level tighter = record { precedence = level; left = tighter; rig
 
 -- right-associative: a power may stand right of it, with a sign before it too, and none left of it
 abbrev pub exponentiation : Row
-exponentiation = record { precedence = power; left = operand; right = unary }
+exponentiation = record { precedence = power; left = post_increment; right = unary }
 
 -- the table, in its order
 abbrev pub row : BinaryOperator → Row
@@ -129,8 +129,8 @@ expr_precedence (BuiltIn f xs) = primary
 expr_precedence Length = primary
 expr_precedence (Field e) = field_reference
 expr_precedence (PreIncrement o p) = pre_increment
-expr_precedence (PostIncrement o p) = operand
-expr_precedence (Getline p file) = operand
+expr_precedence (PostIncrement o p) = post_increment
+expr_precedence (Getline p file) = post_increment
 expr_precedence (Unary o e) = unary
 expr_precedence (Binary o a b) = operator_precedence o
 expr_precedence (PipedGetline c p) = pipe
