@@ -189,10 +189,11 @@ starts g a k [] q s la lo = elim q [ inl r ↦ absurd (cc) | inr r ↦ let z = r
 starts g a k (y ∷ v) q s la lo =
     let f = and_from _ _ (le-leb (expr_precedence a) 8 la) (le-leb 8 (greatest_allowed_on k) lo) in
     elim q [
-      inl r ↦ ap (λ z. answer z v) (extends y Starts g a k (starts_role g y v r) refl f)
+      | inl r ↦ ap (λ z. answer z v) (extends y Starts g a k (starts_role g y v r) refl f)
       | inr r ↦
-        let n = no_place g r.0 a (y ∷ v) r.1 s in
-        ap (λ z. answer z v) (extends y (Increments r.0) g a k (steps_role g r.0 y v r.1) refl (or_right (is_place a && leb 3 (greatest_allowed_on k)) _ f) ∙ go_on_step r.0 y g a k n) ]
+          let n = no_place g r.0 a (y ∷ v) r.1 s in
+          ap (λ z. answer z v) (extends y (Increments r.0) g a k (steps_role g r.0 y v r.1) refl (or_right (is_place a && leb 3 (greatest_allowed_on k)) _ f) ∙ go_on_step r.0 y g a k n)
+    ]
 
 operates : (o : Operator) (g : Bool) (a : Expr) (k : List Frame) (v : List Kind) → role g (t.Operator o) ≡ Operates o → expr_precedence a ≤ greatest_left (Infix o) → operator_precedence (Infix o) ≤ greatest_allowed_on k → answer (AfterOperand g a k) (t.Operator o ∷ v) ≡ answer (BeforeOperand (allows_newlines o) g (InBinary (Infix o) a ∷ k)) v
 operates o g a k v q la lo =
@@ -215,8 +216,9 @@ joins (Infix o) g a b k ts u v rest j p s q n la lo =
 left_stops : (o : BinaryOperator) (g : Bool) (a b : Expr) (ts u v rest : List Kind) → Joined o u v → (g && is_greater o) ≡ false → KeepsPrecedence g a → Spells a ts u → Spells b v rest → expr_precedence a ≤ greatest_left o → Stops (next g u) a
 left_stops Concatenate g a b ts u v rest j n l p q h =
     elim (begins g b v rest q j.1) [
-      inl r ↦ let e = ap (next g) j.0 ∙ r in subst (λ z. Stops z a) (sym e) (stops Starts g a ts u e refl refl l p h)
-      | inr r ↦ let e = ap (next g) j.0 ∙ r.1 in subst (λ z. Stops z a) (sym e) (stops (Increments r.0) g a ts u e refl refl l p h) ]
+      | inl r ↦ let e = ap (next g) j.0 ∙ r in subst (λ z. Stops z a) (sym e) (stops Starts g a ts u e refl refl l p h)
+      | inr r ↦ let e = ap (next g) j.0 ∙ r.1 in subst (λ z. Stops z a) (sym e) (stops (Increments r.0) g a ts u e refl refl l p h)
+    ]
 left_stops (Infix o) g a b ts u v rest j n l p q h =
     let e = ap (next g) j.1 ∙ role_by g o n in subst (λ z. Stops z a) (sym e) (stops (Operates o) g a ts u e refl refl l p h)
 

@@ -119,8 +119,8 @@ settles r g e (f ∷ k) all here s p =
     by_test (IsOperand g all here) (continues r e (greatest_allowed f) || (stays_open f e || takes_file f r)) (record { operand = e; stack = f ∷ k }) (reduce r (finish_node f e) k)
     (λ _. p)
     (λ n.
-      let m = or_second (continues r e (greatest_allowed f)) (stays_open f e || takes_file f r) n in
-      settles r g (finish_node f e) k all here s (reduces r g f k e all here (or_first (continues r e (greatest_allowed f)) _ n) (or_first (stays_open f e) _ m) (or_second (stays_open f e) _ m) s p))
+    let m = or_second (continues r e (greatest_allowed f)) (stays_open f e || takes_file f r) n in
+    settles r g (finish_node f e) k all here s (reduces r g f k e all here (or_first (continues r e (greatest_allowed f)) _ n) (or_first (stays_open f e) _ m) (or_second (stays_open f e) _ m) s p))
 
 no_lists : (g : Bool) (k : List Frame) (all rest : List Kind) → Stacked g k all (t.CloseParenthesis ∷ rest) → Holds (close_empty_list k) all rest
 no_lists g (InCall f o Nil ∷ k) all rest h =

@@ -115,8 +115,9 @@ wide r h = inl (record { least = omega arith; above = omega arith; below = omega
 -- an operator that takes a tree as its left operand doesn't go on with the tree's right edge
 clash : (r : InfixRole) (j : BinaryOperator) → goes r ≡ true → operator_precedence j ≤ greatest_operand r → (greatest_right j < least_allowed r) × (greatest_right j ≤ greatest_operand r)
 clash r j g h = elim (wide r g) [
-  inl p ↦ elim (table j) [ inl q ↦ (omega arith, omega arith) | inr q ↦ (omega arith, omega arith) ]
-  | inr p ↦ elim (table j) [ inl q ↦ absurd (omega arith) | inr q ↦ absurd (omega arith) ] ]
+  | inl p ↦ elim (table j) [ inl q ↦ (omega arith, omega arith) | inr q ↦ (omega arith, omega arith) ]
+  | inr p ↦ elim (table j) [ inl q ↦ absurd (omega arith) | inr q ↦ absurd (omega arith) ]
+]
 
 unary_clash : (r : InfixRole) → goes r ≡ true → 5 ≤ greatest_operand r → 5 < least_allowed r
 unary_clash r g h = elim (wide r g) [ inl p ↦ omega arith | inr p ↦ absurd (omega arith) ]

@@ -13,10 +13,13 @@ use Rattle.awk_grammar.specs.support.Parser.{read}
 -- the empty program; ; BEGIN { } x, newline y { } function c(a, b) newline { return } /a/ ;
 empty : read max_height [] ≡ Some (Some ([]))
 empty = refl
+
 program : read max_height (t.Semicolon ∷ t.Keyword word.Begin ∷ t.OpenBrace ∷ t.Newline ∷ t.CloseBrace ∷ nx ∷ t.Comma ∷ t.Newline ∷ ny ∷ t.OpenBrace ∷ t.CloseBrace ∷ t.Keyword word.Function ∷ t.Called c ∷ t.OpenParenthesis ∷ na ∷ t.Comma ∷ nb ∷ t.CloseParenthesis ∷ t.Newline ∷ t.OpenBrace ∷ t.Keyword word.Return ∷ t.CloseBrace ∷ t.Ere a ∷ t.Semicolon ∷ []) ≡ Some (Some ((tree.Begin tree.NoMore ∷ tree.PatternAction (tree.Range vx vy) tree.NoMore ∷ tree.Function c (a ∷ b ∷ []) (just (tree.Return tree.NoExpr)) ∷ tree.PatternOnly (tree.Single (tree.Ere a)) ∷ [])))
 program = refl
+
 begin_newline : read max_height (t.Keyword word.Begin ∷ t.Newline ∷ t.OpenBrace ∷ t.CloseBrace ∷ []) ≡ None
 begin_newline = refl
+
 no_parameters : read max_height (t.Keyword word.Function ∷ t.Name c ∷ t.OpenParenthesis ∷ t.CloseParenthesis ∷ t.OpenBrace ∷ t.CloseBrace ∷ []) ≡ Some (Some ((tree.Function c [] tree.NoMore ∷ [])))
 no_parameters = refl
 
@@ -24,15 +27,20 @@ no_parameters = refl
 abbrev groups : ℕ → tree.Expr → tree.Expr
 groups zero e = e
 groups (suc n) e = tree.Group (groups n e)
+
 high : height_of_program (tree.Begin (just (tree.Print form.Print (tree.Bare (only (groups 196 e1))) tree.Standard)) ∷ []) ≡ 200
 high = refl
+
 higher : height_of_program (tree.Begin (just (tree.Print form.Print (tree.Bare (only (groups 197 e1))) tree.Standard)) ∷ []) ≡ 201
 higher = refl
+
 body : height_of_block (just (tree.Return (tree.AnExpr (tree.Call c (only (by operator.Plus vx e1)))))) ≡ 5
 body = refl
+
 -- function c(a,) { } and a newline behind the parenthesis
 comma_parameters : read max_height (t.Keyword word.Function ∷ t.Called c ∷ t.OpenParenthesis ∷ na ∷ t.Comma ∷ t.CloseParenthesis ∷ t.OpenBrace ∷ t.CloseBrace ∷ []) ≡ None
 comma_parameters = refl
+
 newline_parameters : read max_height (t.Keyword word.Function ∷ t.Called c ∷ t.OpenParenthesis ∷ t.Newline ∷ na ∷ t.CloseParenthesis ∷ t.OpenBrace ∷ t.CloseBrace ∷ []) ≡ None
 newline_parameters = refl
 
@@ -46,5 +54,6 @@ parenthesized n = t.Keyword word.Begin ∷ t.OpenBrace ∷ t.Keyword word.Print 
 
 height_allowed : read max_height (parenthesized 196) ≡ Some (Some (tree.Begin (just (tree.Print form.Print (tree.Bare (only (groups 196 e1))) tree.Standard)) ∷ []))
 height_allowed = refl
+
 height_refused : read max_height (parenthesized 197) ≡ Some None
 height_refused = refl

@@ -178,10 +178,12 @@ ends_with y x k all rest p = tt
 
 ends_first : (y : Kind) (m : SimpleStatement) (k : List Frame) (all rest : List Kind) → Said m (InForFirst ∷ k) all (y ∷ rest) → Holds (end_for_first y m k) all rest
 ends_first t.Semicolon m k all rest p = (p.from, p.below, p.spelled, (p.allowed refl, p.leveled))
-ends_first t.CloseParenthesis (tree.Expression (Membership (Name b) a)) k all rest p =
-    (refl, λ n r e.
+ends_first t.CloseParenthesis (tree.Expression (Membership (Name b) a)) k all rest p = (
+  refl,
+  λ n r e.
       let q = p.spelled ∙ ap (λ z. t.Name b ∷ t.Keyword word.In ∷ t.Name a ∷ t.CloseParenthesis ∷ z) e in
-      (n, subst (λ z. Stacked false k all (t.Keyword word.For ∷ t.OpenParenthesis ∷ z)) q p.below))
+      (n, subst (λ z. Stacked false k all (t.Keyword word.For ∷ t.OpenParenthesis ∷ z)) q p.below),
+)
 ends_first y m k all rest p = tt
 
 ends_last : (y : Kind) (d : OptionalSimple) (c : OptionalExpr) (m : SimpleStatement) (k : List Frame) (all rest : List Kind) → Said m (InForLast d c ∷ k) all (y ∷ rest) → Holds (end_for_last y d c m k) all rest
