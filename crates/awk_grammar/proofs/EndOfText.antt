@@ -4,8 +4,7 @@ use Rattle.awk_lex.specs.declared.token.Kind.TheVariants as t
 use Rattle.awk_grammar.specs.declared.tree.PrintForm.TheVariants as form
 use Rattle.awk_grammar.specs.definitions.Tree.{Expr, Name, Length, Exprs, Nil, Cons, NoExpr, SimpleStatement, Single, Range, Item, PatternOnly}
 use Rattle.awk_grammar.specs.support.InfixRole.{Ends}
-use Rattle.awk_grammar.specs.support.UnlimitedState.{Frame, InGroup, InPrint, InExpression, InOutput, InExit, InReturn, InForFirst, InForLast, InPattern, InRangeEnd, InProgram, getline_of, reduce, ParserState, BeforeOperand, AfterOperand, AfterName, AfterLength, AfterGetline, AfterBar, AfterList, AfterPrint, AfterExit, AfterReturn, AfterSimpleStatement, BetweenItems, BeforeAction, BeforeParameter}
-use Rattle.awk_grammar.specs.support.UnlimitedOperands.{start_operand}
+use Rattle.awk_grammar.specs.support.UnlimitedState.{Frame, InPrint, InExpression, InOutput, InExit, InReturn, InForFirst, InForLast, InPattern, InRangeEnd, InProgram, getline_of, reduce, ParserState, BeforeOperand, AfterOperand, AfterName, AfterLength, AfterGetline, AfterBar, AfterList, AfterPrint, AfterExit, AfterReturn, AfterSimpleStatement, BetweenItems, BeforeAction, BeforeParameter}
 use Rattle.awk_grammar.specs.support.UnlimitedStatements.{end_simple, redirect_to_pipe, end_list}
 use Rattle.awk_grammar.specs.support.UnlimitedParser.{end_operand, items, whole, finish}
 

@@ -17,7 +17,7 @@ use Rattle.awk_grammar.specs.definitions.SpellingOfStatements.{print_token}
 use Rattle.awk_grammar.specs.definitions.Spelling.{SpellsPattern, SpellsProgram, IsProgram}
 use Rattle.awk_grammar.specs.support.Nodes.{append}
 use Rattle.awk_grammar.specs.support.InfixRole.{InfixRole, Pipes, Ends, role}
-use Rattle.awk_grammar.specs.support.UnlimitedState.{getline_of, Frame, InGroup, InCall, InBuiltIn, InElement, InFirstChoice, InGetlinePlace, InExpression, InPrint, InOutput, InDelete, InExit, InReturn, InIfCondition, InWhileCondition, InDoCondition, InForCondition, InPattern, InRangeEnd, InProgram, greatest_allowed_on, fits, continues, Reduced, reduce, ParserState, BeforeOperand, AfterOperand, AfterName, AfterLength, AfterGetline, AfterBar, BeforeParenthesis, AfterList, AfterIn, AfterListIn, AfterPrint, AfterDelete, AfterDeleteName, AfterExit, AfterReturn, AfterSimpleStatement, AfterDo, AfterFor, BeforeForFirst, BeforeForCondition, BeforeForLast, BeforeStatement, AfterStatement, BetweenItems, BeforeAction, AfterFunction, AfterFunctionName, BeforeParameter, AfterParameter, Failed}
+use Rattle.awk_grammar.specs.support.UnlimitedState.{getline_of, Frame, InGroup, InCall, InBuiltIn, InElement, InFirstChoice, InGetlinePlace, InExpression, InPrint, InOutput, InDelete, InExit, InReturn, InIfCondition, InWhileCondition, InDoCondition, InForCondition, InPattern, InRangeEnd, InProgram, greatest_allowed_on, continues, Reduced, reduce, ParserState, BeforeOperand, AfterOperand, AfterName, AfterLength, AfterGetline, AfterBar, BeforeParenthesis, AfterList, AfterIn, AfterListIn, AfterPrint, AfterDelete, AfterDeleteName, AfterExit, AfterReturn, AfterSimpleStatement, AfterDo, AfterFor, BeforeForFirst, BeforeForCondition, BeforeForLast, BeforeStatement, AfterStatement, BetweenItems, BeforeAction, AfterFunction, AfterFunctionName, BeforeParameter, AfterParameter, Failed}
 use Rattle.awk_grammar.specs.support.UnlimitedStatements.{redirect_to_pipe, end_list}
 use Rattle.awk_grammar.specs.support.UnlimitedParser.{end_operand, shift, after_reduced, after_operand, after_name, after_length, after_getline, after_bar, after_list, step, items, answer, read}
 use Rattle.awk_grammar.proofs.ProgramsComplete.{reads}

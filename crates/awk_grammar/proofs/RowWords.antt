@@ -1,5 +1,5 @@
 -- Words for rows: tokens, trees, and what the parser answers.
-use Rattle.std.specs.Prelude.{ℕ, zero, suc, pos, ◌≡◌, refl, List, [], ◌∷◌, ◌++◌, Some, None}
+use Rattle.std.specs.Prelude.{ℕ, pos, ◌≡◌, List, [], ◌∷◌, ◌++◌, Some, None}
 use Rattle.awk_lex.specs.declared.token.Kind.{Kind}
 use Rattle.awk_lex.specs.declared.token.Operator.{Operator}
 use Rattle.awk_grammar.specs.declared.tree.BinaryOperator.TheVariants.{Concatenate, Infix}

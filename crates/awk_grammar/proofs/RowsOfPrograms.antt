@@ -1,5 +1,5 @@
 -- Rows: which programs are read, as which trees, which are refused, and which are too high.
-use Rattle.std.specs.Prelude.{ℕ, zero, suc, pos, ◌≡◌, refl, List, [], ◌∷◌, ◌++◌, Some, None}
+use Rattle.std.specs.Prelude.{ℕ, zero, suc, ◌≡◌, refl, List, [], ◌∷◌, Some, None}
 use Rattle.awk_lex.specs.declared.token.Kind.{Kind}
 use Rattle.awk_lex.specs.declared.token.Kind.TheVariants as t
 use Rattle.awk_lex.specs.declared.token.Keyword.TheVariants as word

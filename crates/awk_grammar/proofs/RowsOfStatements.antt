@@ -1,5 +1,5 @@
 -- Rows: which statements are read, as which trees, and which are refused.
-use Rattle.std.specs.Prelude.{ℕ, zero, suc, pos, ◌≡◌, refl, List, [], ◌∷◌, ◌++◌, Some, None}
+use Rattle.std.specs.Prelude.{refl, [], ◌∷◌}
 use Rattle.awk_lex.specs.declared.token.Kind.TheVariants as t
 use Rattle.awk_lex.specs.declared.token.Keyword.TheVariants as word
 use Rattle.awk_lex.specs.declared.token.Operator.TheVariants as operator

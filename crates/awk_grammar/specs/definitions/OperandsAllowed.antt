@@ -1,5 +1,5 @@
 -- Which operands, subscripts and arguments an expression may have.
-use Rattle.std.specs.Prelude.{ℕ, ◌≤◌, ◌≡◌, Bool, true, false, ◌&&◌}
+use Rattle.std.specs.Prelude.{◌≤◌, ◌≡◌, Bool, true, false, ◌&&◌}
 use Rattle.awk_grammar.specs.definitions.Tree.{Expr, Number, String, Ere, Name, Element, Field, Group, Call, BuiltIn, Length, PreIncrement, PostIncrement, Getline, PipedGetline, Unary, Binary, Membership, ListMembership, Conditional, Assign, Exprs, Nil, Cons, OptionalExpr, NoExpr, AnExpr}
 use Rattle.awk_grammar.specs.definitions.Precedence.{field_reference, pre_increment, unary, pipe, membership, or, conditional, greatest_left, greatest_right, is_greater, expr_precedence}
 use Rattle.awk_grammar.specs.definitions.Arguments.{is_place, count, accepts_list}

@@ -1,6 +1,5 @@
 -- The table of operators (POSIX awk, Expressions in awk, Table: Expressions in Decreasing Precedence in awk).
 use Rattle.std.specs.Prelude.{ℕ, Bool, true, false}
-use Rattle.awk_lex.specs.declared.token.Operator.{Operator}
 use Rattle.awk_lex.specs.declared.token.Operator.TheVariants.{Power, Times, Divide, Remainder, Plus, Minus, Less, LessEqual, NotEqual, Equal, Greater, GreaterEqual, Matches, NotMatches, And, Or}
 use Rattle.awk_grammar.specs.declared.tree.BinaryOperator.{BinaryOperator}
 use Rattle.awk_grammar.specs.declared.tree.BinaryOperator.TheVariants.{Concatenate, Infix}

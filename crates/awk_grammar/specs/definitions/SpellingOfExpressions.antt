@@ -1,7 +1,7 @@
 -- How an expression is written (POSIX awk, Grammar: expr, unary_expr, non_unary_expr, lvalue, simple_get).
 -- This grammar is narrower than the standard's in what may stand behind `$`, in the file of a getline, and in where an
 -- assignment may stand without parentheses.
-use Rattle.std.specs.Prelude.{ℕ, zero, suc, ◌≡◌, Bool, true, false, ◌&&◌, List, [], ◌∷◌}
+use Rattle.std.specs.Prelude.{ℕ, zero, suc, ◌≡◌, Bool, true, false, ◌&&◌, List, ◌∷◌}
 use Rattle.awk_lex.specs.declared.token.Kind.{Kind}
 use Rattle.awk_lex.specs.declared.token.Kind.TheVariants as t
 use Rattle.awk_lex.specs.declared.token.Keyword.TheVariants as word

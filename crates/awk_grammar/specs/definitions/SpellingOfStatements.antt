@@ -1,6 +1,6 @@
 -- How a statement is written (POSIX awk, Grammar: terminated_statement, unterminated_statement, simple_statement).
 -- A statement without a terminator stands before `}` alone.
-use Rattle.std.specs.Prelude.{ℕ, ◌≡◌, List, [], ◌∷◌}
+use Rattle.std.specs.Prelude.{ℕ, ◌≡◌, List, ◌∷◌}
 use Rattle.awk_lex.specs.declared.token.Kind.{Kind}
 use Rattle.awk_lex.specs.declared.token.Kind.TheVariants as t
 use Rattle.awk_lex.specs.declared.token.Keyword.TheVariants as word

@@ -1,5 +1,5 @@
 -- The tree that the code keeps, as a tree of the definitions.
-use Rattle.std.specs.Prelude.{ℕ, List, [], ◌∷◌, map, Option, Some, None}
+use Rattle.std.specs.Prelude.{List, [], ◌∷◌, Option, Some, None}
 use Rattle.awk_grammar.specs.definitions.Tree as t
 use Rattle.awk_grammar.specs.declared.tree.Expr.{Expr, Row_of-Expr, end_of-Expr, more_of-Expr, Held-Expr-Getline-0}
 use Rattle.awk_grammar.specs.declared.tree.Expr.TheVariants as e
