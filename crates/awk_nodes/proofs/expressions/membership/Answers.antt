@@ -1,0 +1,12 @@
+use Rattle.std.proofs.Common.{ap, arith}
+use Rattle.awk_grammar.specs.Tree as t
+use Rattle.awk_grammar.specs.Height.{max_height, height_of}
+use Rattle.awk_grammar.specs.View.{expr_of}
+use Rattle.awk_nodes.specs.support.Checked.{checked_expr}
+use Rattle.awk_nodes.proofs.LimitedNodes.{one_made}
+use Rattle.awk_nodes.proofs.expressions.membership.Goals as goal
+
+pub returns : goal.returns
+returns c =
+    rw (ap expr_of (c.in_ok-new.ensures {u = tt}).ok)
+    (one_made max_height height_of (λ e. t.Membership e c.args.array) (checked_expr c.args.subscript) (expr_of c.in-Some.subscript.expr) (ap checked_expr c.in-Some.is) (omega arith))

@@ -1,0 +1,12 @@
+use Rattle.std.proofs.Common.{ap, arith}
+use Rattle.awk_grammar.specs.Tree as t
+use Rattle.awk_grammar.specs.Height.{max_height, height_of}
+use Rattle.awk_grammar.specs.View.{expr_of}
+use Rattle.awk_nodes.specs.support.Checked.{checked_expr}
+use Rattle.awk_nodes.proofs.LimitedNodes.{one_made}
+use Rattle.awk_nodes.proofs.expressions.post_increment.Goals as goal
+
+pub returns : goal.returns
+returns c =
+    rw (ap expr_of (c.in_ok-new.ensures {u = tt}).ok)
+    (one_made max_height height_of (t.PostIncrement c.args.operator) (checked_expr c.args.place) (expr_of c.in-Some.place.expr) (ap checked_expr c.in-Some.is) (omega arith))
