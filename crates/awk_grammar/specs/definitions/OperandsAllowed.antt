@@ -13,6 +13,7 @@ abbrev mutual
   KeepsPrecedence g (Ere text) = Unit {0}
   KeepsPrecedence g (Name x) = Unit {0}
   KeepsPrecedence g (Element x xs) = (1 ≤ count xs) × AllKeepPrecedence false xs
+  -- behind `$` stands alone what does, another field, or `++` or `--` before a place
   KeepsPrecedence g (Field e) = (expr_precedence e ≤ pre_increment) × KeepsPrecedence g e
   KeepsPrecedence g (Group e) = KeepsPrecedence false e
   KeepsPrecedence g (Call f xs) = AllKeepPrecedence false xs
@@ -22,11 +23,15 @@ abbrev mutual
   KeepsPrecedence g (PostIncrement o p) = (is_place p ≡ true) × KeepsPrecedence g p
   KeepsPrecedence g (Getline p file) = PlaceKeepsPrecedence g p × FileKeepsPrecedence g file
   KeepsPrecedence g (PipedGetline c p) = (expr_precedence c ≤ pipe) × KeepsPrecedence g c × PlaceKeepsPrecedence g p
+  -- `!`, `+` and `-` may stand before one another, and before a power
   KeepsPrecedence g (Unary o e) = (expr_precedence e ≤ unary) × KeepsPrecedence g e
   KeepsPrecedence g (Binary o a b) = (expr_precedence a ≤ greatest_left o) × (expr_precedence b ≤ greatest_right o) × KeepsPrecedence g a × KeepsPrecedence g b × ((g && is_greater o) ≡ false)
+  -- left-associative
   KeepsPrecedence g (Membership e x) = (expr_precedence e ≤ membership) × KeepsPrecedence g e
   KeepsPrecedence g (ListMembership xs x) = (2 ≤ count xs) × AllKeepPrecedence false xs
+  -- right-associative
   KeepsPrecedence g (Conditional c a b) = (expr_precedence c ≤ or) × (expr_precedence a ≤ conditional) × (expr_precedence b ≤ conditional) × KeepsPrecedence g c × KeepsPrecedence g a × KeepsPrecedence g b
+  -- right-associative; anything may stand right of it
   KeepsPrecedence g (Assign o p e) = (is_place p ≡ true) × KeepsPrecedence g p × KeepsPrecedence g e
 
   pub AllKeepPrecedence : (in_print_list : Bool) → Exprs → Type 0

@@ -82,7 +82,7 @@ not_associative level tighter = record { precedence = level; left = tighter; rig
 abbrev pub exponentiation : Row
 exponentiation = record { precedence = power; left = post_increment; right = unary }
 
--- the table, in its order
+-- the table, in its order, as far as it speaks of two operands; the operands of its other rows are told in OperandsAllowed
 abbrev pub row : BinaryOperator → Row
 row (Infix Power) = exponentiation
 row (Infix Times) = left_associative product unary
