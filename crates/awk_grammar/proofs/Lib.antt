@@ -1,0 +1,17 @@
+pub mod RightEdges
+pub mod ExpressionsComplete
+pub mod SimpleStatementsComplete
+pub mod StatementsComplete
+pub mod ProgramsComplete
+pub mod ParserInvariant
+pub mod OperandsSound
+pub mod StatementsSound
+pub mod EndOfText
+pub mod ParserSound
+pub mod PrunedNodes
+pub mod PrunedSteps
+pub mod AnswerTold
+pub mod RowWords
+pub mod RowsOfExpressions
+pub mod RowsOfStatements
+pub mod RowsOfPrograms

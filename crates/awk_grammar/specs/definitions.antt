@@ -1,0 +1,11 @@
+pub mod Tree
+pub mod View
+pub mod Height
+pub mod Precedence
+pub mod Arguments
+pub mod OperandsAllowed
+pub mod StatementsAllowed
+pub mod SpellingOfExpressions
+pub mod SpellingOfStatements
+pub mod Spelling
+pub mod Answer

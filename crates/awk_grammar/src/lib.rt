@@ -1,0 +1,6 @@
+//! The grammar of the whole language: its syntax tree, which trees a program's tokens spell, and the parser over lists
+//! that finds them.
+#![tactic(auto)]
+
+pub mod laws;
+pub mod tree;
