@@ -1,9 +1,9 @@
 #!/bin/sh
-# Runs a small program over the libraries awk_text and awk_substitute beside the other awks of this machine. First
-# random cases of gsub, sub, match and substr, byte for byte: it prints how many of them each awk answers in another way,
-# and the first few of those. Then times, a row for each: the least seconds of the rounds. A run is stopped after 60
-# seconds. The program is made, proved and built in a folder of its own, over what the repository has built. Needs GNU
-# time, timeout, seq, tr, paste and diff.
+# Runs a small program over the libraries awk_text and awk_substitute beside the other awks of this machine.
+# First random cases of gsub, sub, match and substr, byte for byte: it prints how many of them each awk
+# answers in another way, and the first few of those. Then times, a row for each: the least seconds of the
+# rounds. A run is stopped after 60 seconds. The program is made, proved and built in a folder of its own,
+# over what the repository has built. Needs gawk, GNU time, timeout, seq, tr and paste.
 #
 #   bench/texts.sh [ROUNDS [CASES]]
 set -eu
@@ -22,7 +22,8 @@ for crate in awk_value awk_ere_syntax awk_ere_compile awk_ere awk_text awk_subst
     cp -R "$root/crates/$crate" "$work/crates/$crate"
 done
 cp "$root/HANDLES" "$work/HANDLES"
-grep -E '^(awk_value|awk_ere_syntax|awk_ere_compile|awk_ere|awk_text|awk_substitute):' "$root/crates.txt" >"$work/crates.txt"
+grep -E '^(awk_value|awk_ere_syntax|awk_ere_compile|awk_ere|awk_text|awk_substitute):' \
+    "$root/crates.txt" >"$work/crates.txt"
 echo 'texts: awk_value awk_ere awk_text awk_substitute memchr' >>"$work/crates.txt"
 cat >"$program/src/main.rt" <<'PROGRAM'
 //! Does with each line of standard input what its first word says.
@@ -284,9 +285,9 @@ PROGRAM
     exit 2
 }
 
-# Random cases. A line has a kind (gsub, sub or substr), a pattern, a replacement and a text with tabs between; of substr
-# a start and a count stand in the place of the pattern and the replacement. Anchors stand at the ends of a pattern alone,
-# where all awks read them as such.
+# Random cases. A line has a kind (gsub, sub or substr), a pattern, a replacement and a text with tabs
+# between; of substr a start and a count stand in the place of the pattern and the replacement. Anchors
+# stand at the ends of a pattern alone, where all awks read them as such.
 cat >"$work/make_cases" <<'AWK'
 function one_of(list, parts) { return parts[1 + int(rand() * split(list, parts, " "))] }
 function letters(most, text, i) {
