@@ -25,7 +25,7 @@ use Rattle.awk_grammar.specs.support.UnlimitedState.{Frame, InGroup, InCall, InB
 use Rattle.awk_grammar.specs.support.UnlimitedOperands.{start_operand}
 use Rattle.awk_grammar.specs.support.UnlimitedStatements.{redirect_to_pipe}
 use Rattle.awk_grammar.specs.support.UnlimitedParser.{shift, after_reduced, step, whole, answer}
-use Rattle.awk_grammar.proofs.RightEdges.{pipes, next, subscripts, Stops, StopsTo, bounds, level_most, place_level, neither, tight_place, stops_end, starts_role, steps_role, no_file, no_place, stops}
+use Rattle.awk_grammar.proofs.RightEdges.{pipes, next, subscripts, Stops, StopsTo, bounds, precedence_most, place_precedence, neither, tight_place, stops_end, starts_role, steps_role, no_file, no_place, stops}
 
 test_true : {A : Type 0} (b : Bool) (x y : A) → b ≡ true → cond b x y ≡ x
 test_true true x y h = refl
@@ -47,14 +47,14 @@ or_right : (x y : Bool) → y ≡ true → (x || y) ≡ true
 or_right true y h = refl
 or_right false y h = h
 
-settle_on : (r : InfixRole) (f : Frame) (e : Expr) (k : List Frame) → stays_open f e ≡ false → takes_file f r ≡ false → continues r e (greatest_allowed f) ≡ false → reduce r e (f ∷ k) ≡ reduce r (finish_node f e) k
-settle_on r f e k c n h = test_false _ _ _ (neither (continues r e (greatest_allowed f)) (stays_open f e || takes_file f r) h (neither (stays_open f e) (takes_file f r) c n))
+reduce_on : (r : InfixRole) (f : Frame) (e : Expr) (k : List Frame) → stays_open f e ≡ false → takes_file f r ≡ false → continues r e (greatest_allowed f) ≡ false → reduce r e (f ∷ k) ≡ reduce r (finish_node f e) k
+reduce_on r f e k c n h = test_false _ _ _ (neither (continues r e (greatest_allowed f)) (stays_open f e || takes_file f r) h (neither (stays_open f e) (takes_file f r) c n))
 
-no_files : (f : Frame) (r : InfixRole) → is_less r ≡ false → takes_file f r ≡ false
-no_files (InGetlinePlace NoExpr) r h = h
-no_files f r h = refl
+takes_no_file : (f : Frame) (r : InfixRole) → is_less r ≡ false → takes_file f r ≡ false
+takes_no_file (InGetlinePlace NoExpr) r h = h
+takes_no_file f r h = refl
 
--- a bar that isn't a pipe: what it has settled is settled to the end
+-- a bar that isn't a pipe: what is reduced at it is reduced to the end
 abbrev pub held : Expr → List Frame → Reduced
 held e k = record { operand = e; stack = k }
 
@@ -65,27 +65,27 @@ ends_by : (x y v : Bool) (e : Expr) (f : Frame) (k : List Frame) → stays_open 
 ends_by true y v e f k n i = refl
 ends_by false true v e f k n i = refl
 ends_by false false true e f k n i = refl
-ends_by false false false e f k n i = i ∙ sym (settle_on Ends f e k n (no_files f Ends refl) refl)
+ends_by false false false e f k n i = i ∙ sym (reduce_on Ends f e k n (takes_no_file f Ends refl) refl)
 
-pub settled_twice : (e : Expr) (k : List Frame) → ends_of (reduce Pipes e k) ≡ reduce Ends e k
-settled_twice e [] = refl
-settled_twice e (f ∷ k) = ends_by (continues Pipes e (greatest_allowed f)) (stays_open f e) (takes_file f Pipes) e f k refl (settled_twice (finish_node f e) k)
+pub reduced_twice : (e : Expr) (k : List Frame) → ends_of (reduce Pipes e k) ≡ reduce Ends e k
+reduced_twice e [] = refl
+reduced_twice e (f ∷ k) = ends_by (continues Pipes e (greatest_allowed f)) (stays_open f e) (takes_file f Pipes) e f k refl (reduced_twice (finish_node f e) k)
 
 bar_reduced : (g : Bool) (f : Frame) (k : List Frame) (e : Expr) (ts : List Kind) → stays_open f e ≡ false → continues (pipes ts) e (greatest_allowed f) ≡ false → answer (AfterOperand g e (f ∷ k)) (t.Bar ∷ ts) ≡ answer (AfterOperand g (finish_node f e) k) (t.Bar ∷ ts)
 bar_reduced g f k e [] c h =
-    ap (λ s. whole (redirect_to_pipe t.Newline s.operand s.stack)) (settled_twice e (f ∷ k) ∙ settle_on Ends f e k c (no_files f Ends refl) refl ∙ sym (settled_twice (finish_node f e) k))
-bar_reduced g f k e (t.Keyword word.Getline ∷ ts) c h = ap (λ s. answer (after_reduced Pipes t.Bar g s) (t.Keyword word.Getline ∷ ts)) (settle_on Pipes f e k c (no_files f Pipes refl) h)
+    ap (λ s. whole (redirect_to_pipe t.Newline s.operand s.stack)) (reduced_twice e (f ∷ k) ∙ reduce_on Ends f e k c (takes_no_file f Ends refl) refl ∙ sym (reduced_twice (finish_node f e) k))
+bar_reduced g f k e (t.Keyword word.Getline ∷ ts) c h = ap (λ s. answer (after_reduced Pipes t.Bar g s) (t.Keyword word.Getline ∷ ts)) (reduce_on Pipes f e k c (takes_no_file f Pipes refl) h)
 bar_reduced g f k e (y ∷ ts) c h =
-    ap (λ h. answer (redirect_to_pipe y h.operand h.stack) ts) (settled_twice e (f ∷ k) ∙ settle_on Ends f e k c (no_files f Ends refl) refl ∙ sym (settled_twice (finish_node f e) k))
+    ap (λ h. answer (redirect_to_pipe y h.operand h.stack) ts) (reduced_twice e (f ∷ k) ∙ reduce_on Ends f e k c (takes_no_file f Ends refl) refl ∙ sym (reduced_twice (finish_node f e) k))
 
 reduced : (g : Bool) (f : Frame) (k : List Frame) (e : Expr) (ts : List Kind) → stays_open f e ≡ false → takes_file f (next g ts) ≡ false → continues (next g ts) e (greatest_allowed f) ≡ false → answer (AfterOperand g e (f ∷ k)) ts ≡ answer (AfterOperand g (finish_node f e) k) ts
-reduced g f k e [] c n h = ap (λ s. whole (after_reduced Ends t.Newline g s)) (settle_on Ends f e k c n h)
+reduced g f k e [] c n h = ap (λ s. whole (after_reduced Ends t.Newline g s)) (reduce_on Ends f e k c n h)
 reduced g f k e (t.Bar ∷ ts) c n h = bar_reduced g f k e ts c h
-reduced g f k e (x ∷ ts) c n h = ap (λ s. answer (after_reduced (role g x) x g s) ts) (settle_on (role g x) f e k c n h)
+reduced g f k e (x ∷ ts) c n h = ap (λ s. answer (after_reduced (role g x) x g s) ts) (reduce_on (role g x) f e k c n h)
 
-settled : (r : InfixRole) (e : Expr) (k : List Frame) → continues r e (greatest_allowed_on k) ≡ true → reduce r e k ≡ record { operand = e; stack = k }
-settled r e [] h = refl
-settled r e (f ∷ k) h = test_true _ _ _ (or_left (continues r e (greatest_allowed f)) (stays_open f e || takes_file f r) h)
+reduce_stops : (r : InfixRole) (e : Expr) (k : List Frame) → continues r e (greatest_allowed_on k) ≡ true → reduce r e k ≡ record { operand = e; stack = k }
+reduce_stops r e [] h = refl
+reduce_stops r e (f ∷ k) h = test_true _ _ _ (or_left (continues r e (greatest_allowed f)) (stays_open f e || takes_file f r) h)
 
 abbrev is_pipes : InfixRole → Bool
 is_pipes Pipes = true
@@ -95,9 +95,9 @@ followed : (r : InfixRole) (x : Kind) (g : Bool) (e : Expr) (k : List Frame) →
 followed Pipes x g e k n h = absurd (cc)
 followed r x g e k n h = test_true _ _ _ h
 
-extends : (x : Kind) (r : InfixRole) (g : Bool) (e : Expr) (k : List Frame) → role g x ≡ r → is_pipes r ≡ false → continues r e (greatest_allowed_on k) ≡ true → step (AfterOperand g e k) x ≡ shift r x g e k
-extends x r g e k q n h =
-    ap (λ z. after_reduced z x g (reduce z e k)) q ∙ ap (after_reduced r x g) (settled r e k h) ∙ followed r x g e k n h
+shifted : (x : Kind) (r : InfixRole) (g : Bool) (e : Expr) (k : List Frame) → role g x ≡ r → is_pipes r ≡ false → continues r e (greatest_allowed_on k) ≡ true → step (AfterOperand g e k) x ≡ shift r x g e k
+shifted x r g e k q n h =
+    ap (λ z. after_reduced z x g (reduce z e k)) q ∙ ap (after_reduced r x g) (reduce_stops r e k h) ∙ followed r x g e k n h
 
 pub over_newlines : (n : ℕ) (g : Bool) (k : List Frame) (ts : List Kind) → answer (BeforeOperand true g k) (newlines n ts) ≡ answer (BeforeOperand true g k) ts
 over_newlines zero g k ts = refl
@@ -114,22 +114,22 @@ role_by false operator.Greater h = refl
 role_by g o h = refl
 
 -- the words that are looked at with the token behind them
-named_alone : (a : List ℕ) (g : Bool) (k : List Frame) (v : List Kind) → subscripts (next g v) ≡ false → answer (AfterName a g k) v ≡ answer (AfterOperand g (Name a) k) v
-named_alone a g k [] h = refl
-named_alone a g k (t.OpenBracket ∷ v) h = absurd (cc)
-named_alone a g k (y ∷ v) h = refl
+name_alone : (a : List ℕ) (g : Bool) (k : List Frame) (v : List Kind) → subscripts (next g v) ≡ false → answer (AfterName a g k) v ≡ answer (AfterOperand g (Name a) k) v
+name_alone a g k [] h = refl
+name_alone a g k (t.OpenBracket ∷ v) h = absurd (cc)
+name_alone a g k (y ∷ v) h = refl
 
-measured_alone : (g : Bool) (k : List Frame) (v : List Kind) → begins_parenthesis v ≡ false → answer (AfterLength g k) v ≡ answer (AfterOperand g Length k) v
-measured_alone g k [] h = refl
-measured_alone g k (t.OpenParenthesis ∷ v) h = absurd (cc)
-measured_alone g k (y ∷ v) h = refl
+length_alone : (g : Bool) (k : List Frame) (v : List Kind) → begins_parenthesis v ≡ false → answer (AfterLength g k) v ≡ answer (AfterOperand g Length k) v
+length_alone g k [] h = refl
+length_alone g k (t.OpenParenthesis ∷ v) h = absurd (cc)
+length_alone g k (y ∷ v) h = refl
 
-got_alone : (g : Bool) (k : List Frame) (v : List Kind) → begins_place v ≡ false → begins_less v ≡ false → answer (AfterGetline NoExpr g k) v ≡ answer (AfterOperand g (Getline NoExpr NoExpr) k) v
-got_alone g k [] h i = refl
-got_alone g k (t.Name a ∷ v) h i = absurd (cc)
-got_alone g k (t.Dollar ∷ v) h i = absurd (cc)
-got_alone g k (t.Operator operator.Less ∷ v) h i = absurd (cc)
-got_alone g k (y ∷ v) h i = refl
+getline_alone : (g : Bool) (k : List Frame) (v : List Kind) → begins_place v ≡ false → begins_less v ≡ false → answer (AfterGetline NoExpr g k) v ≡ answer (AfterOperand g (Getline NoExpr NoExpr) k) v
+getline_alone g k [] h i = refl
+getline_alone g k (t.Name a ∷ v) h i = absurd (cc)
+getline_alone g k (t.Dollar ∷ v) h i = absurd (cc)
+getline_alone g k (t.Operator operator.Less ∷ v) h i = absurd (cc)
+getline_alone g k (y ∷ v) h i = refl
 
 piped_alone : (c : Expr) (g : Bool) (k : List Frame) (v : List Kind) → begins_place v ≡ false → answer (AfterGetline (AnExpr c) g k) v ≡ answer (AfterOperand g (PipedGetline c NoExpr) k) v
 piped_alone c g k [] h = refl
@@ -145,11 +145,11 @@ filed g p k v h =
     ap (λ s. answer (after_reduced (Operates operator.Less) (t.Operator operator.Less) g s) v) (test_true _ _ _ (or_right (continues (Operates operator.Less) p 1) _ (or_right (stays_open (InGetlinePlace NoExpr) p) true refl)))
     ∙ ap (λ x. answer x v) (test_false _ _ _ n ∙ when_true _ _ h)
 
-got_place : (c : OptionalExpr) (g : Bool) (k : List Frame) (p : Expr) (u v : List Kind) → is_place p ≡ true → Spells p u v → answer (AfterGetline c g k) u ≡ answer (BeforeOperand false g (InGetlinePlace c ∷ k)) u
-got_place c g k (Name a) u v h p = ap (answer (AfterGetline c g k)) p ∙ sym (ap (answer (BeforeOperand false g (InGetlinePlace c ∷ k))) p)
-got_place c g k (Element a xs) u v h p = ap (answer (AfterGetline c g k)) p.1 ∙ sym (ap (answer (BeforeOperand false g (InGetlinePlace c ∷ k))) p.1)
-got_place c g k (Field e) u v h p = ap (answer (AfterGetline c g k)) p.1 ∙ sym (ap (answer (BeforeOperand false g (InGetlinePlace c ∷ k))) p.1)
-got_place c g k e u v h p = absurd (cc)
+getline_place : (c : OptionalExpr) (g : Bool) (k : List Frame) (p : Expr) (u v : List Kind) → is_place p ≡ true → Spells p u v → answer (AfterGetline c g k) u ≡ answer (BeforeOperand false g (InGetlinePlace c ∷ k)) u
+getline_place c g k (Name a) u v h p = ap (answer (AfterGetline c g k)) p ∙ sym (ap (answer (BeforeOperand false g (InGetlinePlace c ∷ k))) p)
+getline_place c g k (Element a xs) u v h p = ap (answer (AfterGetline c g k)) p.1 ∙ sym (ap (answer (BeforeOperand false g (InGetlinePlace c ∷ k))) p.1)
+getline_place c g k (Field e) u v h p = ap (answer (AfterGetline c g k)) p.1 ∙ sym (ap (answer (BeforeOperand false g (InGetlinePlace c ∷ k))) p.1)
+getline_place c g k e u v h p = absurd (cc)
 
 -- how an operand begins, when no sign begins it
 abbrev First : Bool → List Kind → Type 0
@@ -189,15 +189,15 @@ starts g a k [] q s la lo = elim q [ inl r ↦ absurd (cc) | inr r ↦ let z = r
 starts g a k (y ∷ v) q s la lo =
     let f = and_from _ _ (le-leb (expr_precedence a) 8 la) (le-leb 8 (greatest_allowed_on k) lo) in
     elim q [
-      | inl r ↦ ap (λ z. answer z v) (extends y Starts g a k (starts_role g y v r) refl f)
+      | inl r ↦ ap (λ z. answer z v) (shifted y Starts g a k (starts_role g y v r) refl f)
       | inr r ↦
           let n = no_place g r.0 a (y ∷ v) r.1 s in
-          ap (λ z. answer z v) (extends y (Increments r.0) g a k (steps_role g r.0 y v r.1) refl (or_right (is_place a && leb 3 (greatest_allowed_on k)) _ f) ∙ go_on_step r.0 y g a k n)
+          ap (λ z. answer z v) (shifted y (Increments r.0) g a k (steps_role g r.0 y v r.1) refl (or_right (is_place a && leb 3 (greatest_allowed_on k)) _ f) ∙ go_on_step r.0 y g a k n)
     ]
 
 operates : (o : Operator) (g : Bool) (a : Expr) (k : List Frame) (v : List Kind) → role g (t.Operator o) ≡ Operates o → expr_precedence a ≤ greatest_left (Infix o) → operator_precedence (Infix o) ≤ greatest_allowed_on k → answer (AfterOperand g a k) (t.Operator o ∷ v) ≡ answer (BeforeOperand (allows_newlines o) g (InBinary (Infix o) a ∷ k)) v
 operates o g a k v q la lo =
-    ap (λ s. answer s v) (extends (t.Operator o) (Operates o) g a k q refl (and_from _ _ (le-leb (expr_precedence a) (greatest_left (Infix o)) la) (le-leb (operator_precedence (Infix o)) (greatest_allowed_on k) lo)))
+    ap (λ s. answer s v) (shifted (t.Operator o) (Operates o) g a k q refl (and_from _ _ (le-leb (expr_precedence a) (greatest_left (Infix o)) la) (le-leb (operator_precedence (Infix o)) (greatest_allowed_on k) lo)))
 
 abbrev loose : BinaryOperator → Bool
 loose Concatenate = false
@@ -248,8 +248,8 @@ comma (OfPrint how) e done k ts = refl
 comma q e done k ts = refl
 
 room : (q : ListFrame) (done : Exprs) (e : Expr) → expr_precedence e ≤ greatest_allowed (frame q done)
-room (OfPrint how) done e = level_most e
-room q done e = level_most e
+room (OfPrint how) done e = precedence_most e
+room q done e = precedence_most e
 
 abbrev pub last : Expr → Exprs → Expr
 last e Nil = e
@@ -296,7 +296,7 @@ unary_begins o s g k u h = ap (λ x. answer x u) (when_true _ _ (le-leb 5 (great
 bars : (g : Bool) (c : Expr) (k : List Frame) (u : List Kind) → expr_precedence c ≤ 9 → 9 ≤ greatest_allowed_on k → answer (AfterOperand g c k) (t.Bar ∷ t.Keyword word.Getline ∷ u) ≡ answer (AfterGetline (AnExpr c) g k) u
 bars g c k u l h =
     let f = and_from _ _ (le-leb (expr_precedence c) 9 l) (le-leb 9 (greatest_allowed_on k) h) in
-    ap (λ x. answer (AfterBar g x.operand x.stack) (t.Keyword word.Getline ∷ u)) (settled Pipes c k f) ∙ ap (λ x. answer x u) (when_true _ _ f)
+    ap (λ x. answer (AfterBar g x.operand x.stack) (t.Keyword word.Getline ∷ u)) (reduce_stops Pipes c k f) ∙ ap (λ x. answer x u) (when_true _ _ f)
 
 -- what it is to have read a list in a frame
 abbrev pub ListRead : ListFrame → Exprs → Exprs → List Kind → List Kind → Bool → List Frame → Type 0
@@ -335,33 +335,33 @@ mutual
   complete (Number n) ts rest s g k l p h z = ap (answer (BeforeOperand s g k)) p
   complete (String b) ts rest s g k l p h z = ap (answer (BeforeOperand s g k)) p
   complete (Ere b) ts rest s g k l p h z = ap (answer (BeforeOperand s g k)) p
-  complete (Name a) ts rest s g k l p h z = ap (answer (BeforeOperand s g k)) p ∙ named_alone a g k rest z
-  complete Length ts rest s g k l p h z = ap (answer (BeforeOperand s g k)) p.0 ∙ measured_alone g k rest p.1
+  complete (Name a) ts rest s g k l p h z = ap (answer (BeforeOperand s g k)) p ∙ name_alone a g k rest z
+  complete Length ts rest s g k l p h z = ap (answer (BeforeOperand s g k)) p.0 ∙ length_alone g k rest p.1
   complete (Element a xs) ts rest s g k l p h z =
       ap (answer (BeforeOperand s g k)) p.1 ∙ element_read a xs g k p.0 rest l.0 (complete_list xs (OfElement a g) Nil p.0 (t.CloseBracket ∷ rest) false k l.1 p.2 refl)
   complete (Field e) ts rest s g k l p h z =
       ap (answer (BeforeOperand s g k)) p.1 ∙ complete e p.0 rest false g (InField ∷ k) l.1 p.2 l.0 z.1 ∙ reduced g InField k e rest refl refl z.0
   complete (Group e) ts rest s g k l p h z =
-      ap (answer (BeforeOperand s g k)) p.1 ∙ complete e p.0 (t.CloseParenthesis ∷ rest) false false (InGroup g Nil ∷ k) l p.2 (level_most e) (stops_end false e l)
+      ap (answer (BeforeOperand s g k)) p.1 ∙ complete e p.0 (t.CloseParenthesis ∷ rest) false false (InGroup g Nil ∷ k) l p.2 (precedence_most e) (stops_end false e l)
   complete (Call f xs) ts rest s g k l p h z =
       ap (answer (BeforeOperand s g k)) p.1 ∙ call_read f xs g k p.0 rest (complete_list xs (OfCall f g) Nil p.0 (t.CloseParenthesis ∷ rest) false k l p.2 refl)
   complete (BuiltIn f xs) ts rest s g k l p h z =
       ap (answer (BeforeOperand s g k)) p.1 ∙ built_in_begins f s g k p.0
       ∙ built_in_read f xs g k p.0 rest l.0 (complete_list xs (OfBuiltIn f g) Nil p.0 (t.CloseParenthesis ∷ rest) false k l.1 p.2 refl)
   complete (PreIncrement x e) ts rest s g k l p h z =
-      let m = place_level e l.0 in
+      let m = place_precedence e l.0 in
       ap (answer (BeforeOperand s g k)) p.1 ∙ ap (λ x. answer x p.0) (when_true _ _ (le-leb 2 (greatest_allowed_on k) h))
       ∙ complete e p.0 rest false g (InPreIncrement x ∷ k) l.1 p.2 m z.1 ∙ reduced g (InPreIncrement x) k e rest (ap not l.0) refl z.0
   complete (PostIncrement x e) ts rest s g k l p h z =
-      let m = place_level e l.0 in
+      let m = place_precedence e l.0 in
       let m' : expr_precedence e ≤ greatest_allowed_on k = omega arith in
       complete e ts (t.Increment x ∷ rest) s g k l.1 p m' (tight_place (Increments x) g e refl l.1 l.0)
-      ∙ ap (λ y. answer y rest) (extends (t.Increment x) (Increments x) g e k refl refl (or_left _ _ (and_from _ _ l.0 (le-leb 3 (greatest_allowed_on k) h))) ∙ test_true (is_place e) _ _ l.0)
+      ∙ ap (λ y. answer y rest) (shifted (t.Increment x) (Increments x) g e k refl refl (or_left _ _ (and_from _ _ l.0 (le-leb 3 (greatest_allowed_on k) h))) ∙ test_true (is_place e) _ _ l.0)
   complete (Getline NoExpr NoExpr) ts rest s g k l p h z =
-      getline_begins s g k ts p.0 p.2 h ∙ ap (answer (AfterGetline NoExpr g k)) (p.3.0 ∙ p.4.0) ∙ got_alone g k rest (ap begins_place (sym p.4.0) ∙ p.3.1) p.4.1
+      getline_begins s g k ts p.0 p.2 h ∙ ap (answer (AfterGetline NoExpr g k)) (p.3.0 ∙ p.4.0) ∙ getline_alone g k rest (ap begins_place (sym p.4.0) ∙ p.3.1) p.4.1
   complete (Getline (AnExpr e) NoExpr) ts rest s g k l p h z =
-      getline_begins s g k ts p.0 p.2 h ∙ got_place NoExpr g k e p.0 p.1 l.0.0 p.3
-      ∙ complete e p.0 p.1 false g (InGetlinePlace NoExpr ∷ k) l.0.1 p.3 (place_level e l.0.0) (subst (λ x. Stops (next g x) e) (sym p.4.0) z.1)
+      getline_begins s g k ts p.0 p.2 h ∙ getline_place NoExpr g k e p.0 p.1 l.0.0 p.3
+      ∙ complete e p.0 p.1 false g (InGetlinePlace NoExpr ∷ k) l.0.1 p.3 (place_precedence e l.0.0) (subst (λ x. Stops (next g x) e) (sym p.4.0) z.1)
       ∙ ap (answer (AfterOperand g e (InGetlinePlace NoExpr ∷ k))) p.4.0 ∙ reduced g (InGetlinePlace NoExpr) k e rest (ap not l.0.0) (no_file g rest p.4.1) z.0
   complete (Getline NoExpr (AnExpr e)) ts rest s g k l p h z =
       let q = p.4 in
@@ -369,8 +369,8 @@ mutual
       ∙ complete e q.0 rest false g (InGetlineFile NoExpr ∷ k) l.1.1 q.2 l.1.0 z.1 ∙ reduced g (InGetlineFile NoExpr) k e rest refl refl z.0
   complete (Getline (AnExpr d) (AnExpr e)) ts rest s g k l p h z =
       let q = p.4 in
-      getline_begins s g k ts p.0 p.2 h ∙ got_place NoExpr g k d p.0 p.1 l.0.0 p.3
-      ∙ complete d p.0 p.1 false g (InGetlinePlace NoExpr ∷ k) l.0.1 p.3 (place_level d l.0.0) (tight_place (next g p.1) g d (ap (λ x. subscripts (next g x)) q.1) l.0.1 l.0.0)
+      getline_begins s g k ts p.0 p.2 h ∙ getline_place NoExpr g k d p.0 p.1 l.0.0 p.3
+      ∙ complete d p.0 p.1 false g (InGetlinePlace NoExpr ∷ k) l.0.1 p.3 (place_precedence d l.0.0) (tight_place (next g p.1) g d (ap (λ x. subscripts (next g x)) q.1) l.0.1 l.0.0)
       ∙ ap (answer (AfterOperand g d (InGetlinePlace NoExpr ∷ k))) q.1 ∙ filed g d k q.0 l.0.0
       ∙ complete e q.0 rest false g (InGetlineFile (AnExpr d) ∷ k) l.1.1 q.2 l.1.0 z.1 ∙ reduced g (InGetlineFile (AnExpr d)) k e rest refl refl z.0
   complete (PipedGetline c to) ts rest s g k l p h z =
@@ -388,27 +388,27 @@ mutual
   complete (Membership e a) ts rest s g k l p h z =
       let m : expr_precedence e ≤ greatest_allowed_on k = omega (arith, l.0) in
       complete e ts (t.Keyword word.In ∷ t.Name a ∷ rest) s g k l.1 p m (stops TestsMembership g e ts (t.Keyword word.In ∷ t.Name a ∷ rest) refl refl refl l.1 p l.0)
-      ∙ ap (λ y. answer y (t.Name a ∷ rest)) (extends (t.Keyword word.In) TestsMembership g e k refl refl (and_from _ _ (le-leb (expr_precedence e) 12 l.0) (le-leb 12 (greatest_allowed_on k) h)))
+      ∙ ap (λ y. answer y (t.Name a ∷ rest)) (shifted (t.Keyword word.In) TestsMembership g e k refl refl (and_from _ _ (le-leb (expr_precedence e) 12 l.0) (le-leb 12 (greatest_allowed_on k) h)))
   complete (ListMembership xs a) ts rest s g k l p h z =
       ap (answer (BeforeOperand s g k)) p.1
       ∙ members_read xs a g k p.0 rest l.0 h (complete_list xs (OfGroup g) Nil p.0 (t.CloseParenthesis ∷ t.Keyword word.In ∷ t.Name a ∷ rest) false k l.1 p.2 refl)
   complete (Conditional c a b) ts rest s g k l p h z =
       let m : expr_precedence c ≤ greatest_allowed_on k = omega (arith, l.0) in
       complete c ts (t.Question ∷ p.0) s g k l.3 p.2 m (stops Asks g c ts (t.Question ∷ p.0) refl refl refl l.3 p.2 l.0)
-      ∙ ap (λ y. answer y p.0) (extends t.Question Asks g c k refl refl (and_from _ _ (le-leb (expr_precedence c) 14 l.0) (le-leb 15 (greatest_allowed_on k) h)))
+      ∙ ap (λ y. answer y p.0) (shifted t.Question Asks g c k refl refl (and_from _ _ (le-leb (expr_precedence c) 14 l.0) (le-leb 15 (greatest_allowed_on k) h)))
       ∙ complete a p.0 (t.Colon ∷ p.1) false g (InFirstChoice c ∷ k) l.4 p.3 l.1 (stops_end g a l.4)
       ∙ complete b p.1 rest false g (InSecondChoice c a ∷ k) l.5 p.4 l.2 z.1 ∙ reduced g (InSecondChoice c a) k b rest refl refl z.0
   complete (Assign o e x) ts rest s g k l p h z =
-      let m = place_level e l.0 in
+      let m = place_precedence e l.0 in
       let m' : expr_precedence e ≤ greatest_allowed_on k = omega arith in
       complete e ts (t.Assign o ∷ p.0) s g k l.1 p.1 m' (tight_place (Assigns o) g e refl l.1 l.0)
-      ∙ ap (λ y. answer y p.0) (extends (t.Assign o) (Assigns o) g e k refl refl (and_from _ _ l.0 (le-leb 16 (greatest_allowed_on k) h)))
-      ∙ complete x p.0 rest false g (InAssign o e ∷ k) l.2 p.2 (level_most x) z.1 ∙ reduced g (InAssign o e) k x rest refl refl z.0
+      ∙ ap (λ y. answer y p.0) (shifted (t.Assign o) (Assigns o) g e k refl refl (and_from _ _ l.0 (le-leb 16 (greatest_allowed_on k) h)))
+      ∙ complete x p.0 rest false g (InAssign o e ∷ k) l.2 p.2 (precedence_most x) z.1 ∙ reduced g (InAssign o e) k x rest refl refl z.0
 
   complete_to : (c : Expr) (to : OptionalExpr) (ts rest : List Kind) (g : Bool) (k : List Frame) → PlaceKeepsPrecedence g to → SpellsPlace to ts rest → StopsTo (next g rest) to → answer (AfterGetline (AnExpr c) g k) ts ≡ answer (AfterOperand g (PipedGetline c to) k) rest
   complete_to c NoExpr ts rest g k l p z = ap (answer (AfterGetline (AnExpr c) g k)) p.0 ∙ piped_alone c g k rest p.1
   complete_to c (AnExpr e) ts rest g k l p z =
-      got_place (AnExpr c) g k e ts rest l.0 p ∙ complete e ts rest false g (InGetlinePlace (AnExpr c) ∷ k) l.1 p (place_level e l.0) z.1 ∙ reduced g (InGetlinePlace (AnExpr c)) k e rest (ap not l.0) refl z.0
+      getline_place (AnExpr c) g k e ts rest l.0 p ∙ complete e ts rest false g (InGetlinePlace (AnExpr c) ∷ k) l.1 p (place_precedence e l.0) z.1 ∙ reduced g (InGetlinePlace (AnExpr c)) k e rest (ap not l.0) refl z.0
 
   -- a list in a frame, after which a token comes that ends it
   pub complete_list : (xs : Exprs) (q : ListFrame) (done : Exprs) (ts rest : List Kind) (s : Bool) (k : List Frame) → AllKeepPrecedence (flag q) xs → SpellsList xs ts rest → next (flag q) rest ≡ Ends → ListRead q xs done ts rest s k

@@ -92,7 +92,7 @@ pub record OperandRead (g : Bool) (e : Expr) (k : List Frame) (all here : List K
   pub from : List Kind
   pub below : Stacked g k all from
   pub spelled : Spells e from here
-  pub leveled : KeepsPrecedence g e
+  pub keeps : KeepsPrecedence g e
   pub fits : expr_precedence e ≤ greatest_allowed_on k
 
 -- a simple statement; in a part of a `for` it may be one
@@ -100,7 +100,7 @@ pub record Said (m : SimpleStatement) (k : List Frame) (all here : List Kind) : 
   pub from : List Kind
   pub below : Stacked false k all from
   pub spelled : SpellsSimple m from here
-  pub leveled : SimpleKeepsPrecedence m
+  pub keeps : SimpleKeepsPrecedence m
   pub allowed : ground k ≡ false → is_for_part m ≡ true
 
 -- a statement, with the newlines that follow it
@@ -108,14 +108,14 @@ pub record Made (x : Statement) (k : List Frame) (all here : List Kind) : Type 0
   pub from : List Kind
   pub below : Stacked false k all from
   pub spelled : (n : ℕ) (rest : List Kind) → here ≡ newlines n rest → SpellsStatement x from rest
-  pub leveled : StatementKeepsPrecedence x
+  pub keeps : StatementKeepsPrecedence x
 
 -- a statement whose end is still to come
 pub record Waits (x : Statement) (k : List Frame) (all here : List Kind) : Type 0 where
   pub from : List Kind
   pub below : Stacked false k all from
   pub spelled : (rest : List Kind) → Ended here rest → SpellsStatement x from rest
-  pub leveled : StatementKeepsPrecedence x
+  pub keeps : StatementKeepsPrecedence x
 
 -- where newlines or separators may follow, the stack stands behind any number of them
 abbrev pub Holds : ParserState → List Kind → List Kind → Type 0

@@ -12,7 +12,7 @@ use Rattle.awk_grammar.specs.support.InfixRole.{Ends}
 use Rattle.awk_grammar.specs.support.UnlimitedState.{Head, OfBegin, OfEnd, OfNoPattern, OfPattern, OfFunction, Frame, InPattern, InRangeEnd, InAction, InProgram, ParserState, BeforeOperand, AfterOperand, BeforeStatement, BetweenItems, BeforeAction, BeforeParameter}
 use Rattle.awk_grammar.specs.support.UnlimitedItems.{make_item}
 use Rattle.awk_grammar.specs.support.UnlimitedParser.{answer, read}
-use Rattle.awk_grammar.proofs.RightEdges.{next, Stops, level_most, stops_end}
+use Rattle.awk_grammar.proofs.RightEdges.{next, Stops, precedence_most, stops_end}
 use Rattle.awk_grammar.proofs.ExpressionsComplete.{over_newlines, complete}
 use Rattle.awk_grammar.proofs.SimpleStatementsComplete.{started, starts_so}
 use Rattle.awk_grammar.proofs.StatementsComplete.{begin_newlines, OfAction, join_all, complete_all}
@@ -39,15 +39,15 @@ block h all done u rest l p =
     ∙ complete_all all (OfAction h) NoMore p.1 (t.CloseBrace ∷ rest) (at done) l p.3
     ∙ ap (λ z. answer (BetweenItems (at (done ++ (make_item h z ∷ [])))) rest) (join_all all)
 
-item_enters : (k : List Frame) (ts : List Kind) → started ts ≡ true → answer (BetweenItems k) ts ≡ answer (BeforeOperand false false (InPattern ∷ k)) ts
-item_enters k [] h = absurd (cc)
-item_enters k (t.Semicolon ∷ ts) h = absurd (cc)
-item_enters k (t.Newline ∷ ts) h = absurd (cc)
-item_enters k (t.Keyword word.Begin ∷ ts) h = absurd (cc)
-item_enters k (t.Keyword word.End ∷ ts) h = absurd (cc)
-item_enters k (t.Keyword word.Function ∷ ts) h = absurd (cc)
-item_enters k (t.OpenBrace ∷ ts) h = absurd (cc)
-item_enters k (y ∷ ts) h = refl
+item_starts : (k : List Frame) (ts : List Kind) → started ts ≡ true → answer (BetweenItems k) ts ≡ answer (BeforeOperand false false (InPattern ∷ k)) ts
+item_starts k [] h = absurd (cc)
+item_starts k (t.Semicolon ∷ ts) h = absurd (cc)
+item_starts k (t.Newline ∷ ts) h = absurd (cc)
+item_starts k (t.Keyword word.Begin ∷ ts) h = absurd (cc)
+item_starts k (t.Keyword word.End ∷ ts) h = absurd (cc)
+item_starts k (t.Keyword word.Function ∷ ts) h = absurd (cc)
+item_starts k (t.OpenBrace ∷ ts) h = absurd (cc)
+item_starts k (y ∷ ts) h = refl
 
 abbrev matched : Pattern → List Frame → ParserState
 matched (Single e) k = AfterOperand false e (InPattern ∷ k)
@@ -55,13 +55,13 @@ matched (Range d e) k = AfterOperand false e (InRangeEnd d ∷ k)
 
 pattern_read : (p : Pattern) (ts v : List Kind) (k : List Frame) → PatternKeepsPrecedence p → SpellsPattern p ts v → next false v ≡ Ends → answer (BetweenItems k) ts ≡ answer (matched p k) v
 pattern_read (Single e) ts v k l p n =
-    item_enters k ts (starts_so e ts v p)
-    ∙ complete e ts v false false (InPattern ∷ k) l p (level_most e) (subst (λ x. Stops x e) (sym n) (stops_end false e l))
+    item_starts k ts (starts_so e ts v p)
+    ∙ complete e ts v false false (InPattern ∷ k) l p (precedence_most e) (subst (λ x. Stops x e) (sym n) (stops_end false e l))
 pattern_read (Range d e) ts v k l p n =
-    item_enters k ts (starts_so d ts (t.Comma ∷ newlines p.0 p.1) p.2)
-    ∙ complete d ts (t.Comma ∷ newlines p.0 p.1) false false (InPattern ∷ k) l.0 p.2 (level_most d) (stops_end false d l.0)
+    item_starts k ts (starts_so d ts (t.Comma ∷ newlines p.0 p.1) p.2)
+    ∙ complete d ts (t.Comma ∷ newlines p.0 p.1) false false (InPattern ∷ k) l.0 p.2 (precedence_most d) (stops_end false d l.0)
     ∙ over_newlines p.0 false (InRangeEnd d ∷ k) p.1
-    ∙ complete e p.1 v true false (InRangeEnd d ∷ k) l.1 p.3 (level_most e) (subst (λ x. Stops x e) (sym n) (stops_end false e l.1))
+    ∙ complete e p.1 v true false (InRangeEnd d ∷ k) l.1 p.3 (precedence_most e) (subst (λ x. Stops x e) (sym n) (stops_end false e l.1))
 
 ruled : (p : Pattern) (k : List Frame) (ts : List Kind) → answer (matched p k) (t.OpenBrace ∷ ts) ≡ answer (BeforeStatement (InAction (OfPattern p) NoMore ∷ k)) ts
 ruled (Single e) k ts = refl
@@ -127,7 +127,7 @@ items_read (x ∷ xs) done ts l p =
     ap (answer (BetweenItems (at done))) p.3 ∙ over_separators p.0 (at done) p.1 ∙ item_read x p.1 p.2 done l.0 p.4
     ∙ items_read xs (done ++ (x ∷ [])) p.2 l.1 p.5 ∙ ap (λ z. Some z) (snoc done x xs)
 
--- what is written and leveled is read
+-- what is spelled so and keeps precedence is read
 pub reads : (ts : List Kind) (xs : List Item) → IsProgram ts xs → read ts ≡ Some xs
 reads ts xs p = items_read xs [] ts p.1 p.0
 

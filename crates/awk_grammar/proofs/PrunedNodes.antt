@@ -174,29 +174,29 @@ abbrev pub frames : ℕ → List unlimited.Frame → List parser.Frame
 frames m [] = []
 frames m (f ∷ k) = frame m f ∷ frames m k
 
-pub hole_kept : (m : ℕ) (f : unlimited.Frame) → parser.greatest_allowed (frame m f) ≡ unlimited.greatest_allowed f
-hole_kept m unlimited.InField = refl
-hole_kept m f = refl
+pub allowed_kept : (m : ℕ) (f : unlimited.Frame) → parser.greatest_allowed (frame m f) ≡ unlimited.greatest_allowed f
+allowed_kept m unlimited.InField = refl
+allowed_kept m f = refl
 
-pub holes_kept : (m : ℕ) (k : List unlimited.Frame) → parser.greatest_allowed_on (frames m k) ≡ unlimited.greatest_allowed_on k
-holes_kept m [] = refl
-holes_kept m (f ∷ k) = hole_kept m f
+pub allowed_on_kept : (m : ℕ) (k : List unlimited.Frame) → parser.greatest_allowed_on (frames m k) ≡ unlimited.greatest_allowed_on k
+allowed_on_kept m [] = refl
+allowed_on_kept m (f ∷ k) = allowed_kept m f
 
-pub takes_kept : (m : ℕ) (r : InfixRole) (e : Expr) (h : ℕ) → parser.continues r (keep m e) h ≡ unlimited.continues r e h
-takes_kept m Starts e h = refl
-takes_kept m r e h = refl
+pub continues_kept : (m : ℕ) (r : InfixRole) (e : Expr) (h : ℕ) → parser.continues r (keep m e) h ≡ unlimited.continues r e h
+continues_kept m Starts e h = refl
+continues_kept m r e h = refl
 
-pub keeps_kept : (m : ℕ) (f : unlimited.Frame) (e : Expr) → parser.stays_open (frame m f) (keep m e) ≡ unlimited.stays_open f e
-keeps_kept m unlimited.InField e = refl
-keeps_kept m f e = refl
+pub stays_open_kept : (m : ℕ) (f : unlimited.Frame) (e : Expr) → parser.stays_open (frame m f) (keep m e) ≡ unlimited.stays_open f e
+stays_open_kept m unlimited.InField e = refl
+stays_open_kept m f e = refl
 
-pub files_kept : (m : ℕ) (f : unlimited.Frame) (r : InfixRole) → parser.takes_file (frame m f) r ≡ unlimited.takes_file f r
-files_kept m (unlimited.InGetlinePlace NoExpr) r = refl
-files_kept m (unlimited.InGetlinePlace (AnExpr c)) r = refl
-files_kept m f r = refl
+pub takes_file_kept : (m : ℕ) (f : unlimited.Frame) (r : InfixRole) → parser.takes_file (frame m f) r ≡ unlimited.takes_file f r
+takes_file_kept m (unlimited.InGetlinePlace NoExpr) r = refl
+takes_file_kept m (unlimited.InGetlinePlace (AnExpr c)) r = refl
+takes_file_kept m f r = refl
 
-pub got_kept : (m : ℕ) (to file : OptionalExpr) → parser.getline_operand m NoOperand (keep_maybe m to) (keep_maybe m file) ≡ keep m (Getline to file)
-got_kept m to file =
+pub getline_kept : (m : ℕ) (to file : OptionalExpr) → parser.getline_operand m NoOperand (keep_maybe m to) (keep_maybe m file) ≡ keep m (Getline to file)
+getline_kept m to file =
     ap (operand_of 3) (ap (λ x. over_two m height_of Getline x (optional_expr m (keep_maybe m file))) (maybe_kept m to)
     ∙ ap (over_two m height_of Getline (limited m (optional_height to) to)) (maybe_kept m file)
     ∙ two_limited m (optional_height to) (optional_height file) height_of Getline to file (omega arith) (omega arith))
@@ -206,37 +206,37 @@ piped_kept m c to =
     ap (operand_of 9) (ap (over_two m height_of PipedGetline (limited m (height_of c) c)) (maybe_kept m to)
     ∙ two_limited m (height_of c) (optional_height to) height_of PipedGetline c to (omega arith) (omega arith))
 
-pub fill_kept : (m : ℕ) (f : unlimited.Frame) (e : Expr) → finish_node m (frame m f) (keep m e) ≡ keep m (unlimited.finish_node f e)
-fill_kept m unlimited.InField e = ap (parser.place_operand 1) (one_limited m (height_of e) height_of Field e (omega arith))
-fill_kept m (unlimited.InPreIncrement x) e = ap (operand_of 2) (one_limited m (height_of e) height_of (PreIncrement x) e (omega arith))
-fill_kept m (unlimited.InUnary o) e = ap (operand_of 5) (one_limited m (height_of e) height_of (Unary o) e (omega arith))
-fill_kept m (unlimited.InBinary o x) e = ap (operand_of (operator_precedence o)) (two_limited m (height_of x) (height_of e) height_of (Binary o) x e (omega arith) (omega arith))
-fill_kept m (unlimited.InAssign o x) e = ap (operand_of 16) (two_limited m (height_of x) (height_of e) height_of (Assign o) x e (omega arith) (omega arith))
-fill_kept m (unlimited.InSecondChoice c x) e = ap (operand_of 15) (three_limited m (height_of c) (height_of x) (height_of e) height_of Conditional c x e (omega arith) (omega arith) (omega arith))
-fill_kept m (unlimited.InGetlinePlace NoExpr) e = got_kept m (AnExpr e) NoExpr
-fill_kept m (unlimited.InGetlinePlace (AnExpr c)) e = piped_kept m c (AnExpr e)
-fill_kept m (unlimited.InGetlineFile to) e = got_kept m to (AnExpr e)
-fill_kept m f e = refl
+pub finish_node_kept : (m : ℕ) (f : unlimited.Frame) (e : Expr) → finish_node m (frame m f) (keep m e) ≡ keep m (unlimited.finish_node f e)
+finish_node_kept m unlimited.InField e = ap (parser.place_operand 1) (one_limited m (height_of e) height_of Field e (omega arith))
+finish_node_kept m (unlimited.InPreIncrement x) e = ap (operand_of 2) (one_limited m (height_of e) height_of (PreIncrement x) e (omega arith))
+finish_node_kept m (unlimited.InUnary o) e = ap (operand_of 5) (one_limited m (height_of e) height_of (Unary o) e (omega arith))
+finish_node_kept m (unlimited.InBinary o x) e = ap (operand_of (operator_precedence o)) (two_limited m (height_of x) (height_of e) height_of (Binary o) x e (omega arith) (omega arith))
+finish_node_kept m (unlimited.InAssign o x) e = ap (operand_of 16) (two_limited m (height_of x) (height_of e) height_of (Assign o) x e (omega arith) (omega arith))
+finish_node_kept m (unlimited.InSecondChoice c x) e = ap (operand_of 15) (three_limited m (height_of c) (height_of x) (height_of e) height_of Conditional c x e (omega arith) (omega arith) (omega arith))
+finish_node_kept m (unlimited.InGetlinePlace NoExpr) e = getline_kept m (AnExpr e) NoExpr
+finish_node_kept m (unlimited.InGetlinePlace (AnExpr c)) e = piped_kept m c (AnExpr e)
+finish_node_kept m (unlimited.InGetlineFile to) e = getline_kept m to (AnExpr e)
+finish_node_kept m f e = refl
 
 abbrev pub held : ℕ → unlimited.Reduced → parser.Reduced
 held m h = record { operand = keep m h.operand; stack = frames m h.stack }
 
-pub settle_by : (m : ℕ) (x : Bool) (f : unlimited.Frame) (e : Expr) (k : List unlimited.Frame) (y : parser.Reduced) (z : unlimited.Reduced) → y ≡ held m z → cond x (record { operand = keep m e; stack = frames m (f ∷ k) }) y ≡ held m (cond x (record { operand = e; stack = f ∷ k }) z)
-settle_by m true f e k y z h = refl
-settle_by m false f e k y z h = h
+pub reduce_by : (m : ℕ) (x : Bool) (f : unlimited.Frame) (e : Expr) (k : List unlimited.Frame) (y : parser.Reduced) (z : unlimited.Reduced) → y ≡ held m z → cond x (record { operand = keep m e; stack = frames m (f ∷ k) }) y ≡ held m (cond x (record { operand = e; stack = f ∷ k }) z)
+reduce_by m true f e k y z h = refl
+reduce_by m false f e k y z h = h
 
 pub test_kept : (m : ℕ) (r : InfixRole) (f : unlimited.Frame) (e : Expr) → (parser.continues r (keep m e) (parser.greatest_allowed (frame m f)) || (parser.stays_open (frame m f) (keep m e) || parser.takes_file (frame m f) r)) ≡ (unlimited.continues r e (unlimited.greatest_allowed f) || (unlimited.stays_open f e || unlimited.takes_file f r))
 test_kept m r f e =
-    ap (λ h. parser.continues r (keep m e) h || (parser.stays_open (frame m f) (keep m e) || parser.takes_file (frame m f) r)) (hole_kept m f)
-    ∙ ap (λ x. x || (parser.stays_open (frame m f) (keep m e) || parser.takes_file (frame m f) r)) (takes_kept m r e (unlimited.greatest_allowed f))
-    ∙ ap (λ x. unlimited.continues r e (unlimited.greatest_allowed f) || (x || parser.takes_file (frame m f) r)) (keeps_kept m f e)
-    ∙ ap (λ x. unlimited.continues r e (unlimited.greatest_allowed f) || (unlimited.stays_open f e || x)) (files_kept m f r)
+    ap (λ h. parser.continues r (keep m e) h || (parser.stays_open (frame m f) (keep m e) || parser.takes_file (frame m f) r)) (allowed_kept m f)
+    ∙ ap (λ x. x || (parser.stays_open (frame m f) (keep m e) || parser.takes_file (frame m f) r)) (continues_kept m r e (unlimited.greatest_allowed f))
+    ∙ ap (λ x. unlimited.continues r e (unlimited.greatest_allowed f) || (x || parser.takes_file (frame m f) r)) (stays_open_kept m f e)
+    ∙ ap (λ x. unlimited.continues r e (unlimited.greatest_allowed f) || (unlimited.stays_open f e || x)) (takes_file_kept m f r)
 
-pub settle_kept : (m : ℕ) (r : InfixRole) (e : Expr) (k : List unlimited.Frame) → parser.reduce m r (keep m e) (frames m k) ≡ held m (unlimited.reduce r e k)
-settle_kept m r e [] = refl
-settle_kept m r e (f ∷ k) =
+pub reduce_kept : (m : ℕ) (r : InfixRole) (e : Expr) (k : List unlimited.Frame) → parser.reduce m r (keep m e) (frames m k) ≡ held m (unlimited.reduce r e k)
+reduce_kept m r e [] = refl
+reduce_kept m r e (f ∷ k) =
     ap (λ x. cond x (held m (record { operand = e; stack = f ∷ k })) (parser.reduce m r (finish_node m (frame m f) (keep m e)) (frames m k))) (test_kept m r f e)
-    ∙ settle_by m (unlimited.continues r e (unlimited.greatest_allowed f) || (unlimited.stays_open f e || unlimited.takes_file f r)) f e k _ _ (ap (λ x. parser.reduce m r x (frames m k)) (fill_kept m f e) ∙ settle_kept m r (unlimited.finish_node f e) k)
+    ∙ reduce_by m (unlimited.continues r e (unlimited.greatest_allowed f) || (unlimited.stays_open f e || unlimited.takes_file f r)) f e k _ _ (ap (λ x. parser.reduce m r x (frames m k)) (finish_node_kept m f e) ∙ reduce_kept m r (unlimited.finish_node f e) k)
 
 abbrev pub state : ℕ → unlimited.ParserState → parser.ParserState
 state m (unlimited.BeforeOperand l g k) = parser.BeforeOperand l g (frames m k)
@@ -279,7 +279,7 @@ cond_kept m true x y u v h i = h
 cond_kept m false x y u v h i = i
 
 pub unary_kept : (m : ℕ) (o : UnaryOperator) (g : Bool) (k : List unlimited.Frame) → parser.start_unary o g (frames m k) ≡ state m (unlimited.start_unary o g k)
-unary_kept m o g k = when_kept m (leb 5 (parser.greatest_allowed_on (frames m k))) (leb 5 (unlimited.greatest_allowed_on k)) (unlimited.BeforeOperand false g (unlimited.InUnary o ∷ k)) (ap (leb 5) (holes_kept m k))
+unary_kept m o g k = when_kept m (leb 5 (parser.greatest_allowed_on (frames m k))) (leb 5 (unlimited.greatest_allowed_on k)) (unlimited.BeforeOperand false g (unlimited.InUnary o ∷ k)) (ap (leb 5) (allowed_on_kept m k))
 
 pub empty_not : (n : ℕ) → 1 ≤ n → is_none n ≡ false
 empty_not zero h = absurd (omega arith)
@@ -328,17 +328,17 @@ no_list_kept m (unlimited.InBuiltIn f g Nil ∷ k) =
 no_list_kept m (unlimited.InBuiltIn f g (Cons e xs) ∷ k) = ap (λ x. parser.when (x && accepts f 0 true) (parser.AfterOperand g (operand_of 0 (over_one m height_of (BuiltIn f) (limited m (tallest (Cons e xs)) (Cons e xs)))) (frames m k))) (empty_not (1 + count xs) (omega arith))
 no_list_kept m (f ∷ k) = refl
 
-pub enter_kept : (m : ℕ) (y : Kind) (l g : Bool) (k : List unlimited.Frame) → parser.start_operand m y l g (frames m k) ≡ state m (unlimited.start_operand y l g k)
-enter_kept m t.Not l g k = unary_kept m prefix.Not g k
-enter_kept m (t.Operator operator.Plus) l g k = unary_kept m prefix.Plus g k
-enter_kept m (t.Operator operator.Minus) l g k = unary_kept m prefix.Minus g k
-enter_kept m (t.Operator o) l g k = refl
-enter_kept m (t.BuiltIn built_in.Length) l g k = refl
-enter_kept m (t.BuiltIn f) l g k = refl
-enter_kept m (t.Increment x) l g k = when_kept m (leb 2 (parser.greatest_allowed_on (frames m k))) (leb 2 (unlimited.greatest_allowed_on k)) (unlimited.BeforeOperand false g (unlimited.InPreIncrement x ∷ k)) (ap (leb 2) (holes_kept m k))
-enter_kept m (t.Keyword word.Getline) l g k = when_kept m (leb 3 (parser.greatest_allowed_on (frames m k))) (leb 3 (unlimited.greatest_allowed_on k)) (unlimited.AfterGetline NoExpr g k) (ap (leb 3) (holes_kept m k))
-enter_kept m t.Newline true g k = refl
-enter_kept m t.Newline false g k = refl
-enter_kept m t.CloseParenthesis true g k = refl
-enter_kept m t.CloseParenthesis false g k = no_list_kept m k
-enter_kept m y l g k = refl
+pub start_operand_kept : (m : ℕ) (y : Kind) (l g : Bool) (k : List unlimited.Frame) → parser.start_operand m y l g (frames m k) ≡ state m (unlimited.start_operand y l g k)
+start_operand_kept m t.Not l g k = unary_kept m prefix.Not g k
+start_operand_kept m (t.Operator operator.Plus) l g k = unary_kept m prefix.Plus g k
+start_operand_kept m (t.Operator operator.Minus) l g k = unary_kept m prefix.Minus g k
+start_operand_kept m (t.Operator o) l g k = refl
+start_operand_kept m (t.BuiltIn built_in.Length) l g k = refl
+start_operand_kept m (t.BuiltIn f) l g k = refl
+start_operand_kept m (t.Increment x) l g k = when_kept m (leb 2 (parser.greatest_allowed_on (frames m k))) (leb 2 (unlimited.greatest_allowed_on k)) (unlimited.BeforeOperand false g (unlimited.InPreIncrement x ∷ k)) (ap (leb 2) (allowed_on_kept m k))
+start_operand_kept m (t.Keyword word.Getline) l g k = when_kept m (leb 3 (parser.greatest_allowed_on (frames m k))) (leb 3 (unlimited.greatest_allowed_on k)) (unlimited.AfterGetline NoExpr g k) (ap (leb 3) (allowed_on_kept m k))
+start_operand_kept m t.Newline true g k = refl
+start_operand_kept m t.Newline false g k = refl
+start_operand_kept m t.CloseParenthesis true g k = refl
+start_operand_kept m t.CloseParenthesis false g k = no_list_kept m k
+start_operand_kept m y l g k = refl

@@ -52,11 +52,11 @@ abbrev mutual
   StopsTo r (AnExpr p) = (continues r p 1 ≡ false) × Stops r p
 
 record Plain (o : BinaryOperator) : Type 0 where
-  level_least : 6 ≤ operator_precedence o
+  precedence_least : 6 ≤ operator_precedence o
   left_least : 6 ≤ greatest_left o
   left_most : greatest_left o ≤ operator_precedence o
   right_most : greatest_right o < operator_precedence o
-  level_most : operator_precedence o ≤ 14
+  precedence_most : operator_precedence o ≤ 14
 
 record Tightest (o : BinaryOperator) : Type 0 where
   its_level : operator_precedence o ≡ 4
@@ -66,24 +66,24 @@ record Tightest (o : BinaryOperator) : Type 0 where
 -- the table, seen as numbers
 table_by : (o : Operator) → Plain (Infix o) ⊎ Tightest (Infix o)
 table_by operator.Power = inr (record { its_level = refl; its_left = refl; its_right = refl })
-table_by o = inl (record { level_least = omega arith; left_least = omega arith; left_most = omega arith; right_most = omega arith; level_most = omega arith })
+table_by o = inl (record { precedence_least = omega arith; left_least = omega arith; left_most = omega arith; right_most = omega arith; precedence_most = omega arith })
 
 table : (o : BinaryOperator) → Plain o ⊎ Tightest o
-table Concatenate = inl (record { level_least = omega arith; left_least = omega arith; left_most = omega arith; right_most = omega arith; level_most = omega arith })
+table Concatenate = inl (record { precedence_least = omega arith; left_least = omega arith; left_most = omega arith; right_most = omega arith; precedence_most = omega arith })
 table (Infix o) = table_by o
 
 pub bounds : (o : BinaryOperator) → (4 ≤ operator_precedence o) × (greatest_left o ≤ operator_precedence o) × (operator_precedence o ≤ 14) × (greatest_right o ≤ 13)
-bounds o = elim (table o) [ inl p ↦ (omega arith, p.left_most, p.level_most, omega arith) | inr p ↦ (omega arith, omega arith, omega arith, omega arith) ]
+bounds o = elim (table o) [ inl p ↦ (omega arith, p.left_most, p.precedence_most, omega arith) | inr p ↦ (omega arith, omega arith, omega arith, omega arith) ]
 
-pub level_most : (e : Expr) → expr_precedence e ≤ 16
-level_most (Binary o a b) = omega (arith, bounds o)
-level_most e = omega arith
+pub precedence_most : (e : Expr) → expr_precedence e ≤ 16
+precedence_most (Binary o a b) = omega (arith, bounds o)
+precedence_most e = omega arith
 
-pub place_level : (e : Expr) → is_place e ≡ true → expr_precedence e ≤ 1
-place_level (Name a) h = omega arith
-place_level (Element a xs) h = omega arith
-place_level (Field e) h = omega arith
-place_level e h = absurd (cc)
+pub place_precedence : (e : Expr) → is_place e ≡ true → expr_precedence e ≤ 1
+place_precedence (Name a) h = omega arith
+place_precedence (Element a xs) h = omega arith
+place_precedence (Field e) h = omega arith
+place_precedence e h = absurd (cc)
 
 -- the tokens that go on with an operand
 abbrev pub goes : InfixRole → Bool
@@ -143,7 +143,7 @@ low Ends e h i l = refl
 pub tight : (r : InfixRole) (g : Bool) (e : Expr) → subscripts r ≡ false → KeepsPrecedence g e → expr_precedence e ≤ 2 → Stops r e
 tight r g (Name a) q l h = q
 tight r g (Field e) q l h = (low r e 2 (omega arith) l.0, tight r g e q l.1 l.0)
-tight r g (PreIncrement x e) q l h = let n = place_level e l.0 in (low r e 1 (omega arith) (omega arith), tight r g e q l.1 (omega arith))
+tight r g (PreIncrement x e) q l h = let n = place_precedence e l.0 in (low r e 1 (omega arith) (omega arith), tight r g e q l.1 (omega arith))
 tight r g (Getline to file) q l h = absurd (omega arith)
 tight r g (Unary o e) q l h = absurd (omega arith)
 tight r g (Binary o a b) q l h = absurd (omega (arith, bounds o))
@@ -153,11 +153,11 @@ tight r g (Assign o p e) q l h = absurd (omega arith)
 tight r g e q l h = tt
 
 pub tight_place : (r : InfixRole) (g : Bool) (e : Expr) → subscripts r ≡ false → KeepsPrecedence g e → is_place e ≡ true → Stops r e
-tight_place r g e q l h = let n = place_level e h in tight r g e q l (omega arith)
+tight_place r g e q l h = let n = place_precedence e h in tight r g e q l (omega arith)
 
 pub to_stops : (r : InfixRole) (g : Bool) (to : OptionalExpr) → subscripts r ≡ false → PlaceKeepsPrecedence g to → StopsTo r to
 to_stops r g NoExpr q l = tt
-to_stops r g (AnExpr p) q l = let n = place_level p l.0 in (low r p 1 (omega arith) (omega arith), tight r g p q l.1 (omega arith))
+to_stops r g (AnExpr p) q l = let n = place_precedence p l.0 in (low r p 1 (omega arith) (omega arith), tight r g p q l.1 (omega arith))
 
 pub stops_end : (g : Bool) (e : Expr) → KeepsPrecedence g e → Stops Ends e
 stops_end g (Name a) l = refl
@@ -177,16 +177,16 @@ abbrev special : InfixRole → Expr → Bool
 special (Increments x) e = is_place e
 special r e = false
 
-takes_not : (r : InfixRole) (e : Expr) (h : ℕ) → goes r ≡ true → special r e ≡ false → h < least_allowed r → continues r e h ≡ false
-takes_not (Operates o) e h g s n = and_right _ _ (lt-leb (operator_precedence (Infix o)) h n)
-takes_not (Increments x) e h g s n = neither _ _ (and_left _ _ s) (and_right _ _ (lt-leb 8 h n))
-takes_not (Assigns o) e h g s n = absurd (cc)
-takes_not Starts e h g s n = and_right _ _ (lt-leb 8 h n)
-takes_not TestsMembership e h g s n = and_right _ _ (lt-leb 12 h n)
-takes_not Pipes e h g s n = and_right _ _ (lt-leb 9 h n)
-takes_not Asks e h g s n = and_right _ _ (lt-leb 15 h n)
-takes_not Subscripts e h g s n = refl
-takes_not Ends e h g s n = refl
+continues_not : (r : InfixRole) (e : Expr) (h : ℕ) → goes r ≡ true → special r e ≡ false → h < least_allowed r → continues r e h ≡ false
+continues_not (Operates o) e h g s n = and_right _ _ (lt-leb (operator_precedence (Infix o)) h n)
+continues_not (Increments x) e h g s n = neither _ _ (and_left _ _ s) (and_right _ _ (lt-leb 8 h n))
+continues_not (Assigns o) e h g s n = absurd (cc)
+continues_not Starts e h g s n = and_right _ _ (lt-leb 8 h n)
+continues_not TestsMembership e h g s n = and_right _ _ (lt-leb 12 h n)
+continues_not Pipes e h g s n = and_right _ _ (lt-leb 9 h n)
+continues_not Asks e h g s n = and_right _ _ (lt-leb 15 h n)
+continues_not Subscripts e h g s n = refl
+continues_not Ends e h g s n = refl
 
 less_by : (g : Bool) (o : Operator) (ts : List Kind) → role g (t.Operator o) ≡ Operates operator.Less → begins_less (t.Operator o ∷ ts) ≡ true
 less_by g operator.Less ts h = refl
@@ -255,17 +255,17 @@ ordinary r g e ts rest h p s = refl
 pub stops : (r : InfixRole) (g : Bool) (e : Expr) (ts rest : List Kind) → next g rest ≡ r → goes r ≡ true → subscripts r ≡ false → KeepsPrecedence g e → Spells e ts rest → expr_precedence e ≤ greatest_operand r → Stops r e
 stops r g (Name a) ts rest n o q l p h = q
 stops r g (Field e) ts rest n o q l p h = (low r e 2 (omega arith) l.0, tight r g e q l.1 l.0)
-stops r g (PreIncrement x e) ts rest n o q l p h = let m = place_level e l.0 in (low r e 1 (omega arith) (omega arith), tight r g e q l.1 (omega arith))
+stops r g (PreIncrement x e) ts rest n o q l p h = let m = place_precedence e l.0 in (low r e 1 (omega arith) (omega arith), tight r g e q l.1 (omega arith))
 stops r g (Getline to NoExpr) ts rest n o q l p h = to_stops r g to q l.0
 stops r g (Getline to (AnExpr e)) ts rest n o q l p h =
     let m : expr_precedence e ≤ 1 = l.1.0 in
     (low r e 1 (omega arith) (omega arith), tight r g e q l.1.1 (omega arith))
 stops r g (PipedGetline c to) ts rest n o q l p h = to_stops r g to q l.2
 stops r g (Unary x e) ts rest n o q l p h =
-    (takes_not r e 5 o (ordinary r g e p.0 rest n p.2 p.3) (unary_clash r o h), stops r g e p.0 rest n o q l.1 p.2 (omega arith))
+    (continues_not r e 5 o (ordinary r g e p.0 rest n p.2 p.3) (unary_clash r o h), stops r g e p.0 rest n o q l.1 p.2 (omega arith))
 stops r g (Binary j a b) ts rest n o q l p h =
     let c = clash r j o h in
-    (takes_not r b (greatest_right j) o (ordinary r g b p.1 rest n p.5 p.6) c.0, stops r g b p.1 rest n o q l.3 p.5 (omega arith))
+    (continues_not r b (greatest_right j) o (ordinary r g b p.1 rest n p.5 p.6) c.0, stops r g b p.1 rest n o q l.3 p.5 (omega arith))
 stops r g (Conditional c a b) ts rest n o q l p h = absurd (omega (arith, most_below r o))
 stops r g (Assign x d e) ts rest n o q l p h = absurd (omega (arith, most_below r o))
 stops r g e ts rest n o q l p h = tt

@@ -22,8 +22,8 @@ use Rattle.awk_grammar.specs.support.InfixRole.{Ends}
 use Rattle.awk_grammar.specs.support.UnlimitedState.{Frame, InGroup, InExpression, InPrint, InOutput, InDelete, BeforeOperand, AfterOperand, AfterList, AfterPrint}
 use Rattle.awk_grammar.specs.support.UnlimitedStatements.{start_part, end_simple, end_print_list, redirect_to_pipe}
 use Rattle.awk_grammar.specs.support.UnlimitedParser.{answer}
-use Rattle.awk_grammar.proofs.RightEdges.{pipes, next, Stops, bounds, level_most, stops_end}
-use Rattle.awk_grammar.proofs.ExpressionsComplete.{settled_twice, OfGroup, OfPrint, OfDelete, last, front, all_of, close_list, ListRead, complete, complete_list}
+use Rattle.awk_grammar.proofs.RightEdges.{pipes, next, Stops, bounds, precedence_most, stops_end}
+use Rattle.awk_grammar.proofs.ExpressionsComplete.{reduced_twice, OfGroup, OfPrint, OfDelete, last, front, all_of, close_list, ListRead, complete, complete_list}
 
 -- the tokens that begin an operand
 abbrev pub starter : Kind → Bool
@@ -94,17 +94,17 @@ ender_role g t.CloseBrace r h = refl
 ender_role g t.CloseParenthesis r h = refl
 ender_role g y r h = absurd (cc)
 
--- an expr, a print or a delete begins
+-- an expression, a print or a delete begins
 abbrev pub part_from : List Frame → List Kind → Option (List Item)
 part_from k [] = None
 part_from k (y ∷ ts) = answer (start_part y k) ts
 
-part_enters : (k : List Frame) (ts : List Kind) → started ts ≡ true → part_from k ts ≡ answer (BeforeOperand false false (InExpression ∷ k)) ts
-part_enters k [] h = absurd (cc)
-part_enters k (t.Keyword word.Print ∷ ts) h = absurd (cc)
-part_enters k (t.Keyword word.Printf ∷ ts) h = absurd (cc)
-part_enters k (t.Keyword word.Delete ∷ ts) h = absurd (cc)
-part_enters k (y ∷ ts) h = refl
+part_starts : (k : List Frame) (ts : List Kind) → started ts ≡ true → part_from k ts ≡ answer (BeforeOperand false false (InExpression ∷ k)) ts
+part_starts k [] h = absurd (cc)
+part_starts k (t.Keyword word.Print ∷ ts) h = absurd (cc)
+part_starts k (t.Keyword word.Printf ∷ ts) h = absurd (cc)
+part_starts k (t.Keyword word.Delete ∷ ts) h = absurd (cc)
+part_starts k (y ∷ ts) h = refl
 
 print_begins : (how : PrintForm) (k : List Frame) (u : List Kind) → part_from k (print_token how ∷ u) ≡ answer (AfterPrint how k) u
 print_begins form.Print k u = refl
@@ -193,7 +193,7 @@ close_role (y ∷ ts) h = absurd (cc)
 bar_closed : (how : PrintForm) (done : Exprs) (e : Expr) (k : List Frame) (v : List Kind) → Closes (t.Bar ∷ v) → answer (AfterOperand true e (InPrint how done ∷ k)) (t.Bar ∷ v) ≡ answer (BeforeOperand false false (InOutput how (Bare (append done e)) redirection.Pipe ∷ k)) v
 bar_closed how done e k [] h = absurd h
 bar_closed how done e k (t.Keyword word.Getline ∷ v) h = absurd (cc)
-bar_closed how done e k (y ∷ v) h = ap (λ z. answer (redirect_to_pipe y z.operand z.stack) v) (settled_twice e (InPrint how done ∷ k))
+bar_closed how done e k (y ∷ v) h = ap (λ z. answer (redirect_to_pipe y z.operand z.stack) v) (reduced_twice e (InPrint how done ∷ k))
 
 list_closed : (how : PrintForm) (done : Exprs) (e : Expr) (k : List Frame) (v : List Kind) → Closes v → answer (AfterOperand true e (InPrint how done ∷ k)) v ≡ printed_from how (Bare (append done e)) k v
 list_closed how done e k [] h = absurd h
@@ -247,10 +247,10 @@ prints_plain k (t.CloseBrace ∷ ts) h = absurd (cc)
 prints_plain k (t.CloseParenthesis ∷ ts) h = absurd (cc)
 prints_plain k (y ∷ ts) h = refl
 
-prints_enter : (how : PrintForm) (k : List Frame) (ts : List Kind) → started ts ≡ true → answer (AfterPrint how k) ts ≡ answer (BeforeOperand false true (InPrint how Nil ∷ k)) ts
-prints_enter form.Print k ts h = prints_plain k ts h
-prints_enter form.Printf k [] h = absurd (cc)
-prints_enter form.Printf k (y ∷ ts) h = refl
+print_starts : (how : PrintForm) (k : List Frame) (ts : List Kind) → started ts ≡ true → answer (AfterPrint how k) ts ≡ answer (BeforeOperand false true (InPrint how Nil ∷ k)) ts
+print_starts form.Print k ts h = prints_plain k ts h
+print_starts form.Printf k [] h = absurd (cc)
+print_starts form.Printf k (y ∷ ts) h = refl
 
 enclosed_read : (how : PrintForm) (xs : Exprs) (k : List Frame) (u v : List Kind) → 2 ≤ count xs → Closes v → ListRead (OfGroup true) xs Nil u (t.CloseParenthesis ∷ v) false (InPrint how Nil ∷ k) → answer (BeforeOperand false false (InGroup true Nil ∷ InPrint how Nil ∷ k)) u ≡ printed_from how (Parenthesized xs) k v
 enclosed_read how Nil k u v l c r = absurd (omega (arith, l))
@@ -261,12 +261,12 @@ prints_read : (how : PrintForm) (what : PrintList) (u v : List Kind) (k : List F
 prints_read form.Print (Bare Nil) u v k l p c = ap (answer (AfterPrint form.Print k)) p ∙ none_closed k v c
 prints_read form.Printf (Bare Nil) u v k l p c = absurd (omega (arith, l.0))
 prints_read how (Bare (Cons e xs)) u v k l p c =
-    prints_enter how k u (starts_so e u p.0 p.1)
+    print_starts how k u (starts_so e u p.0 p.1)
     ∙ complete_list (Cons e xs) (OfPrint how) Nil u v false k l.1 p (close_role v c)
     ∙ list_closed how (front Nil e xs) (last e xs) k v c
     ∙ ap (λ x. printed_from how (Bare x) k v) (all_of Nil e xs)
 prints_read how (Parenthesized xs) u v k l p c =
-    prints_enter how k u (ap started p.1)
+    print_starts how k u (ap started p.1)
     ∙ ap (answer (BeforeOperand false true (InPrint how Nil ∷ k))) p.1
     ∙ enclosed_read how xs k p.0 v l.0 c (complete_list xs (OfGroup true) Nil p.0 (t.CloseParenthesis ∷ v) false (InPrint how Nil ∷ k) l.1 p.2 refl)
 
@@ -274,11 +274,11 @@ delete_read : (a : List ℕ) (xs : Exprs) (k : List Frame) (u : List Kind) (y : 
 delete_read a Nil k u y r l c = absurd (omega (arith, l))
 delete_read a (Cons e xs) k u y r l c = c ∙ ap (λ x. answer (end_simple y (tree.Delete a x) k) r) (all_of Nil e xs)
 
--- an expr, a print, a printf or a delete is read up to the token that ends it
+-- an expression, a print, a printf or a delete is read up to the token that ends it
 pub complete_part : (m : SimpleStatement) (ts : List Kind) (y : Kind) (r : List Kind) (k : List Frame) → is_for_part m ≡ true → SimpleKeepsPrecedence m → SpellsSimple m ts (y ∷ r) → ender y ≡ true → part_from k ts ≡ answer (end_simple y m k) r
 complete_part (tree.Expression e) ts y r k q l p h =
-    part_enters k ts (starts_so e ts (y ∷ r) p)
-    ∙ complete e ts (y ∷ r) false false (InExpression ∷ k) l p (level_most e) (subst (λ x. Stops x e) (sym (ender_role false y r h)) (stops_end false e l))
+    part_starts k ts (starts_so e ts (y ∷ r) p)
+    ∙ complete e ts (y ∷ r) false false (InExpression ∷ k) l p (precedence_most e) (subst (λ x. Stops x e) (sym (ender_role false y r h)) (stops_end false e l))
     ∙ evaluated e y r k h
 complete_part (tree.Print how what to) ts y r k q l p h =
     ap (part_from k) p.2 ∙ print_begins how k p.0 ∙ prints_read how what p.0 p.1 k l.0 p.3 (closes to p.1 y r l.1 p.4 h) ∙ outputs how what to p.1 y r k l.1 p.4 h

@@ -15,7 +15,7 @@ use Rattle.awk_grammar.specs.support.Nodes.{push}
 use Rattle.awk_grammar.specs.support.UnlimitedState.{Head, Frame, InExit, InReturn, InIfCondition, InWhileCondition, InDoCondition, InForFirst, InForCondition, InForLast, InBlock, InIfBody, InElseBody, InWhileBody, InDoBody, InForInBody, InForBody, InAction, BeforeOperand, AfterExit, AfterReturn, AfterDo, BeforeForFirst, BeforeForCondition, BeforeForLast, BeforeStatement, AfterStatement}
 use Rattle.awk_grammar.specs.support.UnlimitedStatements.{end_simple_statement, end_simple}
 use Rattle.awk_grammar.specs.support.UnlimitedParser.{answer}
-use Rattle.awk_grammar.proofs.RightEdges.{level_most, stops_end}
+use Rattle.awk_grammar.proofs.RightEdges.{precedence_most, stops_end}
 use Rattle.awk_grammar.proofs.ExpressionsComplete.{complete}
 use Rattle.awk_grammar.proofs.SimpleStatementsComplete.{starter, started, starts_so, ender, part_from, complete_part}
 
@@ -39,7 +39,7 @@ ended_ground y m (InForFirst ∷ k) h = absurd (cc)
 ended_ground y m (InForLast p c ∷ k) h = absurd (cc)
 ended_ground y m (f ∷ k) h = refl
 
--- the first token of an expr, a print or a delete
+-- the first token of an expression, a print or a delete
 abbrev parting : Kind → Bool
 parting (t.Keyword word.Print) = true
 parting (t.Keyword word.Printf) = true
@@ -94,10 +94,10 @@ last_part p c k [] h = absurd (cc)
 last_part p c k (t.CloseParenthesis ∷ ts) h = absurd (cc)
 last_part p c k (y ∷ ts) h = refl
 
-test_enters : (p : OptionalSimple) (k : List Frame) (ts : List Kind) → started ts ≡ true → answer (BeforeForCondition p k) ts ≡ answer (BeforeOperand false false (InForCondition p ∷ k)) ts
-test_enters p k [] h = absurd (cc)
-test_enters p k (t.Semicolon ∷ ts) h = absurd (cc)
-test_enters p k (y ∷ ts) h = refl
+condition_starts : (p : OptionalSimple) (k : List Frame) (ts : List Kind) → started ts ≡ true → answer (BeforeForCondition p k) ts ≡ answer (BeforeOperand false false (InForCondition p ∷ k)) ts
+condition_starts p k [] h = absurd (cc)
+condition_starts p k (t.Semicolon ∷ ts) h = absurd (cc)
+condition_starts p k (y ∷ ts) h = refl
 
 first_read : (p : OptionalSimple) (k : List Frame) (u v : List Kind) → ForPartKeepsPrecedence p → SpellsOptionalSimple p u (t.Semicolon ∷ v) → answer (BeforeForFirst k) u ≡ answer (BeforeForCondition p k) v
 first_read NoSimple k u v l p = ap (answer (BeforeForFirst k)) p
@@ -107,8 +107,8 @@ first_read (ASimple m) k u v l p =
 test_read : (p : OptionalSimple) (c : OptionalExpr) (k : List Frame) (u v : List Kind) → OptionalKeepsPrecedence c → SpellsOptional c u (t.Semicolon ∷ v) → answer (BeforeForCondition p k) u ≡ answer (BeforeForLast p c k) v
 test_read p NoExpr k u v l q = ap (answer (BeforeForCondition p k)) q
 test_read p (AnExpr e) k u v l q =
-    test_enters p k u (starts_so e u (t.Semicolon ∷ v) q)
-    ∙ complete e u (t.Semicolon ∷ v) false false (InForCondition p ∷ k) l q (level_most e) (stops_end false e l)
+    condition_starts p k u (starts_so e u (t.Semicolon ∷ v) q)
+    ∙ complete e u (t.Semicolon ∷ v) false false (InForCondition p ∷ k) l q (precedence_most e) (stops_end false e l)
 
 last_read : (p : OptionalSimple) (c : OptionalExpr) (q : OptionalSimple) (k : List Frame) (u v : List Kind) → ForPartKeepsPrecedence q → SpellsOptionalSimple q u (t.CloseParenthesis ∷ v) → answer (BeforeForLast p c k) u ≡ answer (BeforeStatement (InForBody p c q ∷ k)) v
 last_read p c NoSimple k u v l r = ap (answer (BeforeForLast p c k)) r
@@ -131,10 +131,10 @@ while_closed c x k [] = refl
 while_closed c x k (t.Newline ∷ ts) = while_closed c x k ts
 while_closed c x k (y ∷ ts) = refl
 
-walk_closed : (b a : List ℕ) (x : Statement) (k : List Frame) (ts : List Kind) → answer (AfterStatement x (InForInBody b a ∷ k)) ts ≡ answer (AfterStatement (ForIn b a x) k) ts
-walk_closed b a x k [] = refl
-walk_closed b a x k (t.Newline ∷ ts) = walk_closed b a x k ts
-walk_closed b a x k (y ∷ ts) = refl
+for_in_closed : (b a : List ℕ) (x : Statement) (k : List Frame) (ts : List Kind) → answer (AfterStatement x (InForInBody b a ∷ k)) ts ≡ answer (AfterStatement (ForIn b a x) k) ts
+for_in_closed b a x k [] = refl
+for_in_closed b a x k (t.Newline ∷ ts) = for_in_closed b a x k ts
+for_in_closed b a x k (y ∷ ts) = refl
 
 for_closed : (p : OptionalSimple) (c : OptionalExpr) (q : OptionalSimple) (x : Statement) (k : List Frame) (ts : List Kind) → answer (AfterStatement x (InForBody p c q ∷ k)) ts ≡ answer (AfterStatement (For p c q x) k) ts
 for_closed p c q x k [] = refl
@@ -162,19 +162,19 @@ body_ground : (b : Body) (done : Statements) (k : List Frame) → ground (body b
 body_ground OfBlock done k = refl
 body_ground (OfAction head) done k = refl
 
-exit_enters : (k : List Frame) (ts : List Kind) → started ts ≡ true → answer (AfterExit k) ts ≡ answer (BeforeOperand false false (InExit ∷ k)) ts
-exit_enters k [] h = absurd (cc)
-exit_enters k (t.Semicolon ∷ ts) h = absurd (cc)
-exit_enters k (t.Newline ∷ ts) h = absurd (cc)
-exit_enters k (t.CloseBrace ∷ ts) h = absurd (cc)
-exit_enters k (y ∷ ts) h = refl
+exit_starts : (k : List Frame) (ts : List Kind) → started ts ≡ true → answer (AfterExit k) ts ≡ answer (BeforeOperand false false (InExit ∷ k)) ts
+exit_starts k [] h = absurd (cc)
+exit_starts k (t.Semicolon ∷ ts) h = absurd (cc)
+exit_starts k (t.Newline ∷ ts) h = absurd (cc)
+exit_starts k (t.CloseBrace ∷ ts) h = absurd (cc)
+exit_starts k (y ∷ ts) h = refl
 
-return_enters : (k : List Frame) (ts : List Kind) → started ts ≡ true → answer (AfterReturn k) ts ≡ answer (BeforeOperand false false (InReturn ∷ k)) ts
-return_enters k [] h = absurd (cc)
-return_enters k (t.Semicolon ∷ ts) h = absurd (cc)
-return_enters k (t.Newline ∷ ts) h = absurd (cc)
-return_enters k (t.CloseBrace ∷ ts) h = absurd (cc)
-return_enters k (y ∷ ts) h = refl
+return_starts : (k : List Frame) (ts : List Kind) → started ts ≡ true → answer (AfterReturn k) ts ≡ answer (BeforeOperand false false (InReturn ∷ k)) ts
+return_starts k [] h = absurd (cc)
+return_starts k (t.Semicolon ∷ ts) h = absurd (cc)
+return_starts k (t.Newline ∷ ts) h = absurd (cc)
+return_starts k (t.CloseBrace ∷ ts) h = absurd (cc)
+return_starts k (y ∷ ts) h = refl
 
 -- `;`, a newline and `}` end a statement
 pub data Stopper : Kind → Type 0 where
@@ -186,17 +186,17 @@ exit_read : (e : OptionalExpr) (u : List Kind) (y : Kind) (r : List Kind) (k : L
 exit_read NoExpr u y r k l p AtSemicolon = ap (answer (AfterExit k)) p
 exit_read NoExpr u y r k l p AtNewline = ap (answer (AfterExit k)) p
 exit_read NoExpr u y r k l p AtBrace = ap (answer (AfterExit k)) p
-exit_read (AnExpr e) u y r k l p AtSemicolon = exit_enters k u (starts_so e u (t.Semicolon ∷ r) p) ∙ complete e u (t.Semicolon ∷ r) false false (InExit ∷ k) l p (level_most e) (stops_end false e l)
-exit_read (AnExpr e) u y r k l p AtNewline = exit_enters k u (starts_so e u (t.Newline ∷ r) p) ∙ complete e u (t.Newline ∷ r) false false (InExit ∷ k) l p (level_most e) (stops_end false e l)
-exit_read (AnExpr e) u y r k l p AtBrace = exit_enters k u (starts_so e u (t.CloseBrace ∷ r) p) ∙ complete e u (t.CloseBrace ∷ r) false false (InExit ∷ k) l p (level_most e) (stops_end false e l)
+exit_read (AnExpr e) u y r k l p AtSemicolon = exit_starts k u (starts_so e u (t.Semicolon ∷ r) p) ∙ complete e u (t.Semicolon ∷ r) false false (InExit ∷ k) l p (precedence_most e) (stops_end false e l)
+exit_read (AnExpr e) u y r k l p AtNewline = exit_starts k u (starts_so e u (t.Newline ∷ r) p) ∙ complete e u (t.Newline ∷ r) false false (InExit ∷ k) l p (precedence_most e) (stops_end false e l)
+exit_read (AnExpr e) u y r k l p AtBrace = exit_starts k u (starts_so e u (t.CloseBrace ∷ r) p) ∙ complete e u (t.CloseBrace ∷ r) false false (InExit ∷ k) l p (precedence_most e) (stops_end false e l)
 
 return_read : (e : OptionalExpr) (u : List Kind) (y : Kind) (r : List Kind) (k : List Frame) → OptionalKeepsPrecedence e → SpellsOptional e u (y ∷ r) → Stopper y → answer (AfterReturn k) u ≡ answer (end_simple y (tree.Return e) k) r
 return_read NoExpr u y r k l p AtSemicolon = ap (answer (AfterReturn k)) p
 return_read NoExpr u y r k l p AtNewline = ap (answer (AfterReturn k)) p
 return_read NoExpr u y r k l p AtBrace = ap (answer (AfterReturn k)) p
-return_read (AnExpr e) u y r k l p AtSemicolon = return_enters k u (starts_so e u (t.Semicolon ∷ r) p) ∙ complete e u (t.Semicolon ∷ r) false false (InReturn ∷ k) l p (level_most e) (stops_end false e l)
-return_read (AnExpr e) u y r k l p AtNewline = return_enters k u (starts_so e u (t.Newline ∷ r) p) ∙ complete e u (t.Newline ∷ r) false false (InReturn ∷ k) l p (level_most e) (stops_end false e l)
-return_read (AnExpr e) u y r k l p AtBrace = return_enters k u (starts_so e u (t.CloseBrace ∷ r) p) ∙ complete e u (t.CloseBrace ∷ r) false false (InReturn ∷ k) l p (level_most e) (stops_end false e l)
+return_read (AnExpr e) u y r k l p AtSemicolon = return_starts k u (starts_so e u (t.Semicolon ∷ r) p) ∙ complete e u (t.Semicolon ∷ r) false false (InReturn ∷ k) l p (precedence_most e) (stops_end false e l)
+return_read (AnExpr e) u y r k l p AtNewline = return_starts k u (starts_so e u (t.Newline ∷ r) p) ∙ complete e u (t.Newline ∷ r) false false (InReturn ∷ k) l p (precedence_most e) (stops_end false e l)
+return_read (AnExpr e) u y r k l p AtBrace = return_starts k u (starts_so e u (t.CloseBrace ∷ r) p) ∙ complete e u (t.CloseBrace ∷ r) false false (InReturn ∷ k) l p (precedence_most e) (stops_end false e l)
 
 stopper_ends : (y : Kind) → Stopper y → ender y ≡ true
 stopper_ends y AtSemicolon = refl
@@ -256,22 +256,22 @@ mutual
       ∙ complete_all all OfBlock NoMore p.2 (t.CloseBrace ∷ newlines p.1 rest) k l p.4
       ∙ done_newlines p.1 (Block (join NoMore all)) k rest ∙ ap (λ z. answer (AfterStatement (Block z) k) rest) (join_all all)
   complete_statement (If c x) ts rest k g l p =
-      ap (answer (BeforeStatement k)) p.3 ∙ complete c p.1 (t.CloseParenthesis ∷ newlines p.0 p.2) false false (InIfCondition ∷ k) l.0 p.4 (level_most c) (stops_end false c l.0)
+      ap (answer (BeforeStatement k)) p.3 ∙ complete c p.1 (t.CloseParenthesis ∷ newlines p.0 p.2) false false (InIfCondition ∷ k) l.0 p.4 (precedence_most c) (stops_end false c l.0)
       ∙ begin_newlines p.0 (InIfBody c ∷ k) p.2 ∙ complete_statement x p.2 rest (InIfBody c ∷ k) refl l.1 p.5 ∙ if_closed c x k rest p.6
   complete_statement (IfElse c x z) ts rest k g l p =
-      ap (answer (BeforeStatement k)) p.5 ∙ complete c p.2 (t.CloseParenthesis ∷ newlines p.0 p.3) false false (InIfCondition ∷ k) l.0 p.6 (level_most c) (stops_end false c l.0)
+      ap (answer (BeforeStatement k)) p.5 ∙ complete c p.2 (t.CloseParenthesis ∷ newlines p.0 p.3) false false (InIfCondition ∷ k) l.0 p.6 (precedence_most c) (stops_end false c l.0)
       ∙ begin_newlines p.0 (InIfBody c ∷ k) p.3 ∙ complete_statement x p.3 (t.Keyword word.Else ∷ newlines p.1 p.4) (InIfBody c ∷ k) refl l.1 p.7
       ∙ begin_newlines p.1 (InElseBody c x ∷ k) p.4 ∙ complete_statement z p.4 rest (InElseBody c x ∷ k) refl l.2 p.8 ∙ other_closed c x z k rest
   complete_statement (While c x) ts rest k g l p =
-      ap (answer (BeforeStatement k)) p.3 ∙ complete c p.1 (t.CloseParenthesis ∷ newlines p.0 p.2) false false (InWhileCondition ∷ k) l.0 p.4 (level_most c) (stops_end false c l.0)
+      ap (answer (BeforeStatement k)) p.3 ∙ complete c p.1 (t.CloseParenthesis ∷ newlines p.0 p.2) false false (InWhileCondition ∷ k) l.0 p.4 (precedence_most c) (stops_end false c l.0)
       ∙ begin_newlines p.0 (InWhileBody c ∷ k) p.2 ∙ complete_statement x p.2 rest (InWhileBody c ∷ k) refl l.1 p.5 ∙ while_closed c x k rest
   complete_statement (Do x c) ts rest k g l p =
       ap (answer (BeforeStatement k)) p.4 ∙ begin_newlines p.0 (InDoBody ∷ k) p.1
       ∙ complete_statement x p.1 (t.Keyword word.While ∷ t.OpenParenthesis ∷ p.2) (InDoBody ∷ k) refl l.0 p.5
-      ∙ complete c p.2 (t.CloseParenthesis ∷ p.3) false false (InDoCondition x ∷ k) l.1 p.6 (level_most c) (stops_end false c l.1)
+      ∙ complete c p.2 (t.CloseParenthesis ∷ p.3) false false (InDoCondition x ∷ k) l.1 p.6 (precedence_most c) (stops_end false c l.1)
       ∙ need_end (Do x c) k p.3 rest p.7
   complete_statement (ForIn b a x) ts rest k g l p =
-      ap (answer (BeforeStatement k)) p.2 ∙ begin_newlines p.0 (InForInBody b a ∷ k) p.1 ∙ complete_statement x p.1 rest (InForInBody b a ∷ k) refl l p.3 ∙ walk_closed b a x k rest
+      ap (answer (BeforeStatement k)) p.2 ∙ begin_newlines p.0 (InForInBody b a ∷ k) p.1 ∙ complete_statement x p.1 rest (InForInBody b a ∷ k) refl l p.3 ∙ for_in_closed b a x k rest
   complete_statement (For d c q x) ts rest k g l p =
       ap (answer (BeforeStatement k)) p.5 ∙ first_read d k p.1 p.2 l.0 p.6 ∙ test_read d c k p.2 p.3 l.1 p.7 ∙ last_read d c q k p.3 (newlines p.0 p.4) l.2 p.8
       ∙ begin_newlines p.0 (InForBody d c q ∷ k) p.4 ∙ complete_statement x p.4 rest (InForBody d c q ∷ k) refl l.3 p.9 ∙ for_closed d c q x k rest
