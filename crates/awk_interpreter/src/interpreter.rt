@@ -1,6 +1,6 @@
 // The interpreter: the state of a run, and what it can do by itself.
 
-ghost use Rattle.std.specs.Prelude.{◌≡◌, pos, true, codes, bytes_eq, map, IfOk, IfErr};
+ghost use Rattle.std.specs.Prelude.{◌≡◌, pos, true, None, [], codes, bytes_eq, map, IfOk, IfErr};
 ghost use Rattle.awk_value.specs.declared.value.Value.TheVariants.{Text};
 ghost use Rattle.awk_meaning.specs.State.{lift};
 ghost use Rattle.awk_variables.specs.Variables.{name_of};
@@ -52,34 +52,38 @@ fn count_value(count: usize) -> Value
     Value::Number(count as i128)
 }
 
+/// The streams before a run, with the room in which they hold back what is printed.
+fn streams_with_room(alloc: Global) -> Result<Streams, Halt>
+    ensures fresh { IfOk result (λ s. s ≡ record { main = None; held = [] }) }
+    ensures memory { IfErr result IsWantOfMemory }
+{
+    let mut streams = Streams::new(alloc);
+    streams.make_room()?;
+    Ok(streams)
+}
+
 impl Interpreter {
     /// The state before a run of these operands, with so many steps. The only fault is want of memory.
     pub fn new(alloc: Global, operands: &[Vec<u8>], limit: u64) -> Result<Interpreter, Halt>
         ensures start { IfOk result (λ m. IsStart (map (λ word. word.items) operands.now) limit m) }
         ensures memory { IfErr result IsWantOfMemory }
     {
+        let streams = streams_with_room(alloc)?;
         let arguments = Arguments::new(alloc, operands)?;
         let variables = Variables::new(alloc, arguments.words.len())?;
         let current = Record::new(alloc)?;
         let patterns = Patterns::new(alloc)?;
-        let mut interpreter = Interpreter {
+        Ok(Interpreter {
             alloc,
             current,
             variables,
             arguments,
-            streams: Streams::new(alloc),
+            streams,
             patterns,
             status: 0,
             steps: limit,
             line: Vec::new(alloc),
-        };
-        match interpreter.streams.make_room() {
-            Ok(()) => Ok(interpreter),
-            Err(fault) => {
-                drop(interpreter);
-                Err(Halt::from(fault))
-            }
-        }
+        })
     }
 
     /// Spends a step, or says that none is left.

@@ -1,10 +1,9 @@
-use Rattle.std.proofs.Common.{◌≡◌, suc, length, map, None, [], refl, ap, ◌∙◌, arith}
+use Rattle.std.proofs.Common.{◌≡◌, suc, length, map, refl, ap, ◌∙◌, arith}
 use Rattle.awk_variables.specs.Variables.{initial_value}
 use Rattle.awk_interpreter.proofs.interpreter.Interpreter.new.Goals as goal
 
-pub returns-in-Ok-clause-start : goal.returns-in-Ok-clause-start
-returns-in-Ok-clause-start c =
-    let streams : c.make_room.new.self ≡ record { main = None; held = [] } = c.in-Ok.ensures.same ∙ c.new-5.ensures in
+pub returns-clause-start : goal.returns-clause-start
+returns-clause-start c =
     let words : length c.in_ok-arguments.arguments.words.items ≡ suc (length (map (λ word. word.items) c.args.operands.now)) = ap length c.in_ok-arguments.ensures.words in
     let count : c.len.result ≡ suc (length (map (λ word. word.items) c.args.operands.now)) = omega (arith, c.len.ensures, c.in_ok-arguments.arguments.words.ok.0, words) in
     record {
@@ -14,8 +13,8 @@ returns-in-Ok-clause-start c =
       words = c.in_ok-arguments.ensures.words;
       next = c.in_ok-arguments.ensures.next;
       input_seen = c.in_ok-arguments.ensures.input_seen;
-      main = ap (λ s. s.main) streams;
-      held = ap (λ s. s.held) streams;
+      main = ap (λ s. s.main) c.in_ok-streams.ensures.fresh;
+      held = ap (λ s. s.held) c.in_ok-streams.ensures.fresh;
       status = refl;
       steps = refl;
     }
