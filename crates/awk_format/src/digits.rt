@@ -2,7 +2,8 @@
 
 ghost use Rattle.std.specs.Prelude.{◌≡◌, ◌≤◌, ◌<◌, length, drop};
 ghost use Rattle.std.specs.Fmt.{digits, digit_glyph};
-ghost use Rattle.awk_format.specs.Directives.{magnitude_of, unsigned_of, digits_in, is_left_out as left_out, prefix_of, sign_of};
+ghost use Rattle.awk_format.specs.Directives.{magnitude_of, unsigned_of, digits_in, is_left_out as left_out};
+ghost use Rattle.awk_format.specs.Directives.{prefix_of, sign_of};
 
 use crate::directive::{Flags, Notation};
 

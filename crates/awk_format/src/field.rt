@@ -2,7 +2,9 @@
 
 ghost use Rattle.std.specs.Prelude.{◌≡◌, ◌≤◌, ◌++◌, length, replicate, Bool, OnOk};
 ghost use Rattle.awk_format.specs.Begun.{IsBegun, padding_of};
-ghost use Rattle.awk_format.specs.Directives.{padded, at_least, with_octal_zero, digits_in, begins_with_zero, is_filled, integer_field, shown_digits, integer_text, text_field, cut_to};
+ghost use Rattle.awk_format.specs.Directives.{padded, at_least, with_octal_zero, digits_in, begins_with_zero};
+ghost use Rattle.awk_format.specs.Directives.{is_filled, integer_field, shown_digits, integer_text, text_field};
+ghost use Rattle.awk_format.specs.Directives.{cut_to};
 
 use crate::digits::{MOST_DIGITS, is_left_out, magnitude, prefix, write_digits};
 use crate::directive::{Directive, Notation};

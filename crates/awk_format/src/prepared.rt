@@ -44,9 +44,9 @@ impl Format {
     }
 
     /// Appends the text that the format gives of the values, which its directives take in turn: a missing one is
-    /// uninitialized, and one too many is ignored. The faults are `Memory`, and that of the leftmost directive that has
-    /// one: `Range` for a value's number out of range, `Format` for what is no directive and for `%c` of a number that is
-    /// no byte. A fault leaves the bytes as they were. (POSIX awk, Output Statements.)
+    /// uninitialized, and one too many is ignored. The faults are `Memory`, and that of the leftmost directive that
+    /// has one: `Range` for a value's number out of range, `Format` for what is no directive and for `%c` of a number
+    /// that is no byte. A fault leaves the bytes as they were. (POSIX awk, Output Statements.)
     pub fn write_into(&self, values: &[Value], out: &mut Vec<u8>) -> Result<(), FormatFault>
         ensures text { OnOk result (joined (Ok out.old.items) (written self.now values.now) ≡ Ok out.new.items) }
         ensures fault { IfErr result (λ fault. IsFaultOf fault (written self.now values.now)) }

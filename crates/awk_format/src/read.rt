@@ -1,7 +1,9 @@
 // Reading a format from its front: each function gives what it has read and what follows it.
 
 ghost use Rattle.std.specs.Prelude.{◌≡◌, ◌<◌, ◌≤◌, None, Some, length, MatchOption, IfOk, IfErr, IfSome};
-ghost use Rattle.awk_format.specs.Reading.{is_flag as flag, with_flag as flag_added, no_flags, flags_from, after_flags, count_of, precision_of, conversion_of, directive_of, before_percent, from_percent, behind_percent, first_part};
+ghost use Rattle.awk_format.specs.Reading.{is_flag as flag, with_flag as flag_added, no_flags, flags_from};
+ghost use Rattle.awk_format.specs.Reading.{after_flags, count_of, precision_of, conversion_of, directive_of};
+ghost use Rattle.awk_format.specs.Reading.{before_percent, from_percent, behind_percent, first_part};
 ghost use Rattle.awk_format.specs.declared.fault.FormatFault.TheVariants.{Memory};
 
 use crate::directive::{Conversion, Directive, Flags, Notation};
@@ -78,7 +80,9 @@ fn read_count(text: &[u8]) -> Option<(u16, &[u8])>
 
 fn read_precision(text: &[u8]) -> Option<(Option<u16>, &[u8])>
     ensures short { IfSome result (λ r. length r.1.now ≤ length text.now) }
-    ensures precision { MatchOption result (precision_of text.now ≡ None) (λ r. precision_of text.now ≡ Some (r.0, r.1.now)) }
+    ensures precision { MatchOption result
+        (precision_of text.now ≡ None)
+        (λ r. precision_of text.now ≡ Some (r.0, r.1.now)) }
 {
     match text.split_first() {
         Some((b'.', others)) => {
@@ -107,7 +111,9 @@ fn conversion(byte: u8) -> Option<Conversion>
 // The directive behind a percent sign; nothing where none stands there.
 fn read_directive(text: &[u8]) -> Option<(Directive, &[u8])>
     ensures short { IfSome result (λ r. length r.1.now ≤ length text.now) }
-    ensures directive { MatchOption result (directive_of text.now ≡ None) (λ r. directive_of text.now ≡ Some (r.0, r.1.now)) }
+    ensures directive { MatchOption result
+        (directive_of text.now ≡ None)
+        (λ r. directive_of text.now ≡ Some (r.0, r.1.now)) }
 {
     let (flags, rest) = read_flags(text);
     let (width, rest) = read_count(rest)?;

@@ -34,7 +34,8 @@ fn add_number(
     notation: Notation,
     value: &Value,
 ) -> Result<(), FormatFault>
-    ensures text { OnOk result (joined (Ok out.old.items) (number_text directive.now notation (num_of value.now)) ≡ Ok out.new.items) }
+    ensures text { OnOk result (
+        joined (Ok out.old.items) (number_text directive.now notation (num_of value.now)) ≡ Ok out.new.items) }
     ensures fault { IfErr result (λ fault. IsFaultOf fault (number_text directive.now notation (num_of value.now))) }
     ensures begun { IsBegun out.old.items out.new.items }
 {
