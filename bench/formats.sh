@@ -186,7 +186,7 @@ compare() {
         NR % 3 == 1 { format = $0 }
         NR % 3 == 2 { ours = $0 }
         NR % 3 == 0 {
-            if ($0 == ours) same++
+            if ($0 "" == ours "") same++
             else if (format ~ /c/ && $0 ~ /\0/) empty++
             else if (format ~ /#[-#0]*[0-9]*\.[0-9]*o/) octal++
             else if (other++ < 10) others = others "\n  " format "\n    " ours "\n    " $0
