@@ -1,0 +1,4 @@
+-- What a reader has to believe.
+pub mod Directives
+pub mod Formatted
+pub mod Reading

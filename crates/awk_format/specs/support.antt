@@ -1,0 +1,2 @@
+-- What the proofs need beside.
+pub mod Begun
