@@ -179,6 +179,7 @@ matches_fault : (fault : ValueFault) → Yields {A = Option (List ℕ)} (Err (ha
 matches_fault values.Memory = tt
 matches_fault values.Range = refl
 matches_fault values.ZeroDivisor = refl
+matches_fault values.NegativePower = refl
 
 argument_ends : (m : Interpreter) {new : Interpreter} (fault : ValueFault) → num_of (value_of m.variables (name_of Argc)) ≡ Err fault → SameState m new → Changes take_argument m new (Err (halt.Fault (value_fault fault)))
 argument_ends m fault e same =

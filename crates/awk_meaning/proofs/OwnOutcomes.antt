@@ -116,12 +116,14 @@ fault_own : (f : ValueFault) → OwnNumber {A = ℤ} (Err f) → OwnHalt (halt.F
 fault_own values.Memory own = absurd own
 fault_own values.Range own = tt
 fault_own values.ZeroDivisor own = tt
+fault_own values.NegativePower own = tt
 
 of_values_own : {A : Type 0} (r : Result A ValueFault) → OwnNumber r → Own (of_values r)
 of_values_own (Ok a) own = tt
 of_values_own (Err values.Memory) own = absurd own
 of_values_own (Err values.Range) own = tt
 of_values_own (Err values.ZeroDivisor) own = tt
+of_values_own (Err values.NegativePower) own = tt
 
 changed_own : (o : UnaryOperator) (v : Value) → Own (changed o v)
 changed_own unary.Not v = tt

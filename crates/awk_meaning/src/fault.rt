@@ -79,6 +79,7 @@ impl From<ValueFault> for Fault {
             ValueFault::Memory => Fault::OutOfMemory,
             ValueFault::Range => Fault::NumberOutOfRange,
             ValueFault::ZeroDivisor => Fault::DivisionByZero,
+            ValueFault::NegativePower => Fault::NegativeExponent,
         }
     }
 }

@@ -1,12 +1,16 @@
 // Arithmetic on numbers and on values.
 
 ghost use Rattle.std.specs.Prelude.{◌≡◌};
-ghost use Rattle.awk_value.specs.Arithmetic.{product_of, sum_of, difference_of, negative_of, quotient_of, remainder_of};
+ghost use Rattle.awk_value.specs.Arithmetic.{product_of, sum_of, difference_of, negative_of};
+ghost use Rattle.awk_value.specs.Arithmetic.{quotient_of, remainder_of, power_of};
 ghost use Rattle.awk_value.specs.Values.{num_of, number_value, from_numbers, from_number};
 
 use crate::convert::number_of;
 use crate::fault::ValueFault;
 use crate::value::Value;
+
+/// From this exponent on, only the powers of 0, 1 and -1 are in range.
+const FAR_EXPONENT: i128 = 128;
 
 /// The product of two numbers. The fault is `Range`. (POSIX awk, Expressions in awk.)
 pub fn mul(m: i128, n: i128) -> Result<i128, ValueFault>
@@ -57,6 +61,26 @@ pub fn rem(m: i128, n: i128) -> Result<i128, ValueFault>
         return Err(ValueFault::ZeroDivisor);
     }
     Ok(m.wrapping_rem(n))
+}
+
+/// The power of `m` by `n`; by 0 it is 1, of every number. The faults are `NegativePower`, of an
+/// exponent below 0, and `Range`. No exponent takes long. (POSIX awk, Expressions in awk.)
+#[tactic(auto, using(crate::proofs::Powers::far_exponents))]
+pub fn pow(m: i128, n: i128) -> Result<i128, ValueFault>
+    ensures { result ≡ power_of m n }
+{
+    if n < 0 {
+        return Err(ValueFault::NegativePower);
+    }
+    if n < FAR_EXPONENT {
+        return m.checked_pow(n as u32).ok_or(ValueFault::Range);
+    }
+    match m {
+        0 => Ok(0),
+        1 => Ok(1),
+        -1 => Ok(if n % 2 == 0 { 1 } else { -1 }),
+        _ => Err(ValueFault::Range),
+    }
 }
 
 /// The product of the numbers of two values, of which the left one's is taken first. The fault is
@@ -112,6 +136,17 @@ pub fn remainder(left: &Value, right: &Value) -> Result<Value, ValueFault>
     let m = number_of(left)?;
     let n = number_of(right)?;
     Ok(Value::Number(rem(m, n)?))
+}
+
+/// The power of the left value's number by the right one's; by 0 it is 1. The left one's is taken
+/// first. The faults are `Range`, of an operand's number or of the power, and `NegativePower`.
+/// Takes no memory. (POSIX awk, Expressions in awk.)
+pub fn power(left: &Value, right: &Value) -> Result<Value, ValueFault>
+    ensures { result ≡ from_numbers power_of (num_of left.now) (num_of right.now) }
+{
+    let m = number_of(left)?;
+    let n = number_of(right)?;
+    Ok(Value::Number(pow(m, n)?))
 }
 
 /// The number of a value, with the other sign. The fault is `Range`. Takes no memory. (POSIX awk,

@@ -18,6 +18,9 @@ pub enum ValueFault {
     /// F4: the divisor is 0.
     #[error("division by zero")]
     ZeroDivisor,
+    /// F5: the exponent is below 0.
+    #[error("negative exponent")]
+    NegativePower,
 }
 
 impl From<AllocError> for ValueFault {

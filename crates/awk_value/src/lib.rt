@@ -11,7 +11,8 @@ mod order;
 mod value;
 
 pub use crate::arithmetic::{
-    add, div, divide, minus, mul, multiply, neg, negate, plus, rem, remainder, sub, to_number,
+    add, div, divide, minus, mul, multiply, neg, negate, plus, pow, power, rem, remainder, sub,
+    to_number,
 };
 pub use crate::bytes::Bytes;
 pub use crate::convert::{

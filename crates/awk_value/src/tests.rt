@@ -123,6 +123,38 @@ const NEGATIVES: [(i128, Result<i128, ValueFault>); 4] = [
     (LEAST, Err(ValueFault::Range)),
 ];
 
+const POWER_100: i128 = 1_267_650_600_228_229_401_496_703_205_376;
+
+/// A number, an exponent, and the power.
+const POWERS: [(i128, i128, Result<i128, ValueFault>); 22] = [
+    (3, 4, Ok(81)),
+    (-3, 3, Ok(-27)),
+    (0, 0, Ok(1)),
+    (LEAST, 0, Ok(1)),
+    (LEAST, 1, Ok(LEAST)),
+    (LEAST, 2, Err(ValueFault::Range)),
+    (
+        10,
+        38,
+        Ok(100_000_000_000_000_000_000_000_000_000_000_000_000),
+    ),
+    (10, 39, Err(ValueFault::Range)),
+    (2, 100, Ok(POWER_100)),
+    (2, 127, Err(ValueFault::Range)),
+    (-2, 127, Ok(LEAST)),
+    (-2, 128, Err(ValueFault::Range)),
+    (0, POWER_100, Ok(0)),
+    (1, POWER_100, Ok(1)),
+    (-1, POWER_100, Ok(1)),
+    (-1, POWER_100 + 1, Ok(-1)),
+    (-1, LARGEST, Ok(-1)),
+    (2, POWER_100, Err(ValueFault::Range)),
+    (-2, LARGEST, Err(ValueFault::Range)),
+    (1, -1, Err(ValueFault::NegativePower)),
+    (0, -1, Err(ValueFault::NegativePower)),
+    (LARGEST, LEAST, Err(ValueFault::NegativePower)),
+];
+
 const TEXTS: [(Given, &str); 5] = [
     (Nothing, ""),
     (Number(0), "0"),
@@ -178,6 +210,13 @@ fn sums(rt: HostRuntime) {
     }
 }
 
+#[test]
+fn powers(rt: HostRuntime) {
+    for (m, n, power) in POWERS {
+        assert_eq!(rt; pow(m, n), power, "{m} {n}");
+    }
+}
+
 /// What the operations make of the numbers of a text from outside and of a number.
 #[test]
 fn operations(rt: HostRuntime) -> Result<(), Fail> {
@@ -201,6 +240,8 @@ fn operations(rt: HostRuntime) -> Result<(), Fail> {
             remainder(&seven, &Value::Nothing),
             Err(ValueFault::ZeroDivisor),
         ),
+        (power(&three, &seven), Ok(-2187)),
+        (power(&seven, &three), Err(ValueFault::NegativePower)),
         (negate(&seven), Ok(-7)),
         (negate(&least), Err(ValueFault::Range)),
         (to_number(&seven), Ok(7)),
@@ -291,6 +332,7 @@ fn fault_texts(rt: HostRuntime) -> Result<(), Fail> {
         (ValueFault::from(AllocError), "out of memory"),
         (ValueFault::Range, "number out of range"),
         (ValueFault::ZeroDivisor, "division by zero"),
+        (ValueFault::NegativePower, "negative exponent"),
     ] {
         assert_eq!(rt; format!(in rt.alloc(); "{fault}")?.as_str(), text);
     }

@@ -19,6 +19,7 @@ abbrev pub value_fault : ValueFault → Fault
 value_fault value.Memory = fault.OutOfMemory
 value_fault value.Range = fault.NumberOutOfRange
 value_fault value.ZeroDivisor = fault.DivisionByZero
+value_fault value.NegativePower = fault.NegativeExponent
 
 abbrev pub record_fault : RecordFault → Fault
 record_fault fields.Memory = fault.OutOfMemory

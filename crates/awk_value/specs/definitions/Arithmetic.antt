@@ -1,8 +1,9 @@
 -- Arithmetic on whole numbers without bounds, of which only the end is tested for range
 -- (POSIX awk, Expressions in awk: the arithmetic operators).
 use Rattle.std.specs.Prelude.{◌^◌, Bool, false, ℤ, pos, negsuc, neg_ℤ, ◌+ℤ◌, ◌-ℤ◌, ◌*ℤ◌, int_div, int_rem, nat_lt, ◌==◌, if◌then◌else◌, Result, Ok, Err}
+use Rattle.std.specs.Int.{int_pow}
 use Rattle.awk_value.specs.declared.fault.ValueFault.{ValueFault}
-use Rattle.awk_value.specs.declared.fault.ValueFault.TheVariants.{Range, ZeroDivisor}
+use Rattle.awk_value.specs.declared.fault.ValueFault.TheVariants.{Range, ZeroDivisor, NegativePower}
 
 -- from -2^127 to 2^127 - 1
 abbrev pub is_in_range : ℤ → Bool
@@ -36,3 +37,8 @@ quotient_of m n = if is_zero n then Err ZeroDivisor else range_checked (int_div 
 -- what division leaves of the dividend, whose sign it takes
 abbrev pub remainder_of : ℤ → ℤ → Result ℤ ValueFault
 remainder_of m n = if is_zero n then Err ZeroDivisor else Ok (int_rem m n)
+
+-- the power by an exponent that is not negative; the power by 0 is 1
+abbrev pub power_of : ℤ → ℤ → Result ℤ ValueFault
+power_of m (pos e) = range_checked (int_pow m e)
+power_of m (negsuc e) = Err NegativePower
