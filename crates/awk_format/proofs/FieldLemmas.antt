@@ -2,7 +2,7 @@
 use Rattle.std.proofs.Common.{◌≡◌, ℕ, ◌+◌, ◌-◌, ◌≤◌, Bool, true, false, List, [], ◌++◌, length, replicate, take, ℤ, sym, ap, ◌∙◌, arith, append_assoc, append-nil, length-append}
 use Rattle.std.proofs.lemmas.List.{length-replicate, replicate-append-replicate, take-take, length-take}
 use Rattle.std.proofs.Math.Seq.{take-append_seam, take-length}
-use Rattle.awk_format.specs.Begun.{IsBegun, padding_of}
+use Rattle.awk_format.specs.Begun.{padding_of}
 use Rattle.awk_format.specs.Directives.{padded, is_filled, integer_field, integer_text, shown_digits, prefix_of, magnitude_of, with_octal_zero, at_least}
 use Rattle.awk_format.specs.declared.directive.Directive.{Directive}
 use Rattle.awk_format.specs.declared.directive.Notation.{Notation}

@@ -230,7 +230,10 @@ fn values_of(alloc: Global, given: &[Given]) -> Result<Vec<Value>, Fail> {
 #[test]
 fn formats_values(rt: HostRuntime) -> Result<(), Fail> {
     for (text, given, formatted) in ROWS {
-        let values = values_of(rt.alloc(), &given)?;
+        let mut values = Vec::new(rt.alloc());
+        for one in given {
+            values.push(one.value(rt.alloc())?)?;
+        }
         let bytes = format(rt.alloc(), text.as_bytes(), &values)?;
         assert_eq!(rt;
             bytes.as_slice(),
@@ -279,7 +282,7 @@ fn fills_the_greatest_width(rt: HostRuntime) -> Result<(), Fail> {
 fn a_read_format_is_written_often(rt: HostRuntime) -> Result<(), Fail> {
     let format = Format::read(rt.alloc(), b"%3d|%s\n")?;
     let mut lines = Vec::new(rt.alloc());
-    for n in 9..12 {
+    for n in [9, 10, 11] {
         let values = values_of(rt.alloc(), &[Number(n), Text("x")])?;
         format.write_into(&values, &mut lines)?;
     }

@@ -1,7 +1,7 @@
 -- The parts that a format spells. POSIX awk, Output Statements (formatted output), after File Format Notation: a
 -- directive is a percent sign, flags in any order and number, an optional width, an optional period with digits, and
 -- the conversion.
-use Rattle.std.specs.Prelude.{ℕ, zero, suc, Bool, true, false, ◌==◌, ◌||◌, nat_le, List, [], ◌∷◌, length, Option, Some, None, if◌then◌else◌}
+use Rattle.std.specs.Prelude.{ℕ, zero, suc, Bool, false, ◌==◌, ◌||◌, nat_le, List, [], ◌∷◌, length, Option, Some, None, if◌then◌else◌}
 use Rattle.awk_value.specs.Numbers.{digits_value, after_digits}
 use Rattle.awk_format.specs.declared.directive.Conversion.{Conversion}
 use Rattle.awk_format.specs.declared.directive.Conversion.TheVariants.{Integer, Character, Text}

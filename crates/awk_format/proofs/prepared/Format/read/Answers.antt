@@ -1,4 +1,4 @@
-use Rattle.std.proofs.Common.{◌≡◌, ◌+◌, ◌<◌, ◌≤◌, ◌++◌, List, [], ◌∷◌, ap, arith, length, length-append}
+use Rattle.std.proofs.Common.{◌≡◌, ◌+◌, ◌<◌, ◌++◌, List, [], ◌∷◌, ap, arith, length, length-append}
 use Rattle.awk_format.specs.declared.part.Part.{Part}
 use Rattle.awk_format.proofs.ReadingLemmas.{one_more, all_read, has_bytes}
 use Rattle.awk_format.proofs.prepared.Format.read.Goals as goal
