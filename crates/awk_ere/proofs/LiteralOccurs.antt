@@ -15,13 +15,12 @@ use Rattle.awk_ere_compile.specs.definitions.Desugared.{Re, eps, one, first, las
 use Rattle.awk_ere_compile.specs.definitions.Program.{ResolvedInstruction, read, resolve, code}
 use Rattle.awk_ere.specs.support.Layout.{byte_count}
 use Rattle.awk_ere.specs.support.Found.{EndsAt}
-use Rattle.awk_ere.specs.definitions.Means.{Means}
+use Rattle.awk_ere.specs.definitions.Means.{Means, occurs}
 use Rattle.awk_ere.specs.support.Table.{ReadsBytes}
 use Rattle.awk_ere.specs.declared.pattern.Pattern.{Pattern}
 use Rattle.awk_ere_compile.specs.declared.program.Instruction.{Instruction}
 use Rattle.awk_ere_compile.specs.declared.program.Instruction.TheVariants as instructions
 use Rattle.awk_ere.proofs.ClassMembership.{has-class_of}
-use Rattle.awk_ere.specs.definitions.Decided.{occurs}
 use Rattle.awk_ere.proofs.OccursDecided.{tells_ends}
 use Rattle.awk_ere.proofs.DesugaredMatches.{desugar_to, desugar_from}
 

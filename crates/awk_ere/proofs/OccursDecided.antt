@@ -9,7 +9,7 @@ use Rattle.awk_ere.specs.support.Found.{EndsAt}
 use Rattle.awk_ere_compile.specs.definitions.Desugared.{Re, MatchesRe, desugar, IsOrdered}
 use Rattle.awk_ere.specs.support.Marked.{Marked, flow, step, fresh}
 use Rattle.awk_ere.specs.support.CursorState.{Starts, Tracks}
-use Rattle.awk_ere.specs.definitions.Decided.{occurs_from, occurs}
+use Rattle.awk_ere.specs.definitions.Means.{occurs_from, occurs}
 use Rattle.awk_ere.proofs.DesugaredMatches.{desugar_to, desugar_from}
 use Rattle.awk_ere.proofs.MarksTrackMatches.{tracks_fresh, leaves_sound, leaves_complete, tracks_step}
 use Rattle.awk_ere.proofs.StepTellsMatches.{match_within, match_le}

@@ -7,8 +7,7 @@ use Rattle.awk_ere_syntax.specs.support.PatternOf.{pattern_of}
 use Rattle.awk_ere_syntax.specs.declared.fault.PatternFault.{PatternFault}
 use Rattle.awk_ere_syntax.proofs.PatternDecided.{pattern_sound, pattern_complete}
 use Rattle.awk_ere_syntax.proofs.RefusalsExclusive.{read_exactly}
-use Rattle.awk_ere.specs.definitions.Means.{Means}
-use Rattle.awk_ere.specs.definitions.Refused.{ReadsAs}
+use Rattle.awk_ere.specs.definitions.Means.{Means, ReadsAs}
 use Rattle.awk_ere.specs.declared.pattern.Pattern.{Pattern}
 
 not_read : (text : List ℕ) (fault : PatternFault) (o : Option Tree) → pattern_of text ≡ o → Refused fault text → ReadsAs (Err fault) o

@@ -1,8 +1,6 @@
 pub mod definitions
 pub mod support
-pub use Rattle.awk_ere.specs.definitions.Decided
 pub use Rattle.awk_ere.specs.definitions.Means
-pub use Rattle.awk_ere.specs.definitions.Refused
 pub use Rattle.awk_ere.specs.support.Table
 pub use Rattle.awk_ere_syntax.specs.definitions.Tree
 pub use Rattle.awk_ere_syntax.specs.definitions.Limits

@@ -1,3 +1,1 @@
-pub mod Decided
 pub mod Means
-pub mod Refused

@@ -6,9 +6,7 @@ ghost use Rattle.awk_ere_syntax.specs.definitions.Limits.{SpellsWithin, Refused}
 ghost use Rattle.awk_ere_syntax.specs.support.PatternOf.{pattern_of};
 ghost use Rattle.awk_ere_syntax.specs.declared.fault.PatternFault.{PatternFault};
 ghost use Rattle.awk_ere_compile.specs.definitions.Desugared.{IsOrdered};
-ghost use Rattle.awk_ere.specs.definitions.Decided.{occurs};
-ghost use Rattle.awk_ere.specs.definitions.Means.{Means};
-ghost use Rattle.awk_ere.specs.definitions.Refused.{ReadsAs};
+ghost use Rattle.awk_ere.specs.definitions.Means.{occurs, Means, ReadsAs};
 ghost use Rattle.awk_ere.specs.declared.pattern.Pattern.{Pattern};
 
 pub use awk_ere_syntax::laws::{one_pattern, pattern_law, read_exactly};

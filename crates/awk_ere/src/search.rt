@@ -3,8 +3,7 @@
 
 ghost use Rattle.std.specs.Prelude.{◌≡◌, ◌↔◌, ℕ, ◌≤◌, true, false, length, IfSome, OnSome};
 ghost use Rattle.awk_ere_syntax.specs.definitions.Tree.{Tree, NoneFrom, Finds, Occurs};
-ghost use Rattle.awk_ere.specs.definitions.Means.{Means};
-ghost use Rattle.awk_ere.specs.definitions.Decided.{occurs};
+ghost use Rattle.awk_ere.specs.definitions.Means.{Means, occurs};
 ghost use Rattle.awk_ere.specs.support.Table.{IsFor};
 ghost use Rattle.awk_ere.specs.support.Found.{is_first, EndsBetween, Longest, OccursBetween, EndsAt, Begins};
 

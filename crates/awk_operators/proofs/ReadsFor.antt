@@ -1,8 +1,7 @@
 -- What reading the text of a pattern came to.
 use Rattle.std.proofs.Common.{◌≡◌, ℕ, inl, inr, List, Option, Some, None, Result, Ok, Err, refl, ap, ◌∙◌}
 use Rattle.awk_ere.specs.Tree.{Tree}
-use Rattle.awk_ere.specs.Decided.{pattern_of}
-use Rattle.awk_ere.specs.Refused.{ReadsAs}
+use Rattle.awk_ere.specs.Means.{pattern_of, ReadsAs}
 use Rattle.awk_ere.specs.declared.pattern.Pattern.{Pattern}
 use Rattle.awk_ere_syntax.specs.declared.fault.PatternFault.{PatternFault}
 use Rattle.awk_ere_syntax.specs.declared.fault.PatternFault.TheVariants.{Memory, IllFormed, BadCount, TooLarge}

@@ -1,7 +1,7 @@
 // A pattern with the text that spells it.
 
 ghost use Rattle.std.specs.Prelude.{◌≡◌, Ok};
-ghost use Rattle.awk_ere.specs.Decided.{pattern_of};
+ghost use Rattle.awk_ere.specs.Means.{pattern_of};
 ghost use Rattle.awk_ere.specs.Table.{IsFor};
 ghost use Rattle.awk_meaning.specs.Operators.{matched};
 ghost use Rattle.awk_operators.specs.support.Compiled.{MeansOf, ReadsFor};

@@ -1,8 +1,7 @@
 -- What the code keeps of a pattern that a text spells.
 use Rattle.std.specs.Prelude.{◌≡◌, ℕ, ◌⊎◌, List, Option, Some, None, Result, Ok, Err}
 use Rattle.awk_ere.specs.Tree.{Tree}
-use Rattle.awk_ere.specs.Means.{Means}
-use Rattle.awk_ere.specs.Decided.{pattern_of}
+use Rattle.awk_ere.specs.Means.{Means, pattern_of}
 use Rattle.awk_ere.specs.declared.pattern.Pattern.{Pattern}
 use Rattle.awk_meaning.specs.declared.halt.Halt.{Halt}
 use Rattle.awk_meaning.specs.declared.halt.Halt.TheVariants as halt

@@ -1,6 +1,6 @@
 use Rattle.std.proofs.Common.{Ok, Err}
 use Rattle.std.proofs.lemmas.Result.{err_from_is_err_and}
-use Rattle.awk_ere.specs.Decided.{pattern_of}
+use Rattle.awk_ere.specs.Means.{pattern_of}
 use Rattle.awk_operators.specs.declared.compiled.Compiled.{Compiled}
 use Rattle.awk_operators.proofs.ReadsFor.{means_of, refused_for}
 use Rattle.awk_operators.proofs.compiled.Compiled.read.Goals as goal
