@@ -9,16 +9,10 @@ set -eu
 
 rounds=${1:-3}
 limit=20
-root=$(CDPATH='' cd "$(dirname "$0")/.." && pwd -P)
-work=$(mktemp -d)
-trap 'rm -rf "$work"' EXIT
+. "$(dirname "$0")/program.sh"
 
 # The program: its first word says how, and its second how often.
-program=$work/crates/appends
-mkdir -p "$program/src"
-cp -R "$root/crates/awk_value" "$work/crates/awk_value"
-cp "$root/HANDLES" "$work/HANDLES"
-printf 'awk_value: itoa thiserror\nappends: awk_value\n' >"$work/crates.txt"
+program_over appends 'awk_value' 'awk_value'
 cat >"$program/src/main.rt" <<'PROGRAM'
 //! Appends a byte to a text as often as the second word says, and prints how long the text is: in
 //! place where the first word is `in-place`, else by a new text each time.

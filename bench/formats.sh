@@ -11,20 +11,11 @@ set -eu
 rounds=${1:-3}
 formats=${2:-20000}
 seed=${3:-1}
-root=$(CDPATH='' cd "$(dirname "$0")/.." && pwd -P)
-work=$(mktemp -d)
-trap 'rm -rf "$work"' EXIT
+. "$(dirname "$0")/program.sh"
 
 # The program: without words it formats the lines of its input, each a format and values behind tabs, a
 # number behind `n` and a text behind `t`; else it prints so many lines of the format that is its word.
-program=$work/crates/print_formats
-mkdir -p "$program/src"
-for crate in awk_value awk_format; do
-    cp -R "$root/crates/$crate" "$work/crates/$crate"
-done
-cp "$root/HANDLES" "$work/HANDLES"
-printf '%s\n' 'awk_value: itoa thiserror' 'awk_format: awk_value itoa thiserror' \
-    'print_formats: awk_value awk_format memchr' >"$work/crates.txt"
+program_over print_formats 'awk_value awk_format' 'awk_value awk_format memchr'
 cat >"$program/src/main.rt" <<'PROGRAM'
 //! Prints what formats give of values.
 #![tactic(auto)]

@@ -10,18 +10,10 @@ set -eu
 
 rounds=${1:-3}
 limit=20
-root=$(CDPATH='' cd "$(dirname "$0")/.." && pwd -P)
-work=$(mktemp -d)
-trap 'rm -rf "$work"' EXIT
+. "$(dirname "$0")/program.sh"
 
 # The program: its first word is the pattern, and its input's lines are counted.
-program=$work/crates/count_lines
-mkdir -p "$program/src"
-for crate in awk_ere_syntax awk_ere_compile awk_ere; do
-    cp -R "$root/crates/$crate" "$work/crates/$crate"
-done
-cp "$root/HANDLES" "$work/HANDLES"
-printf 'awk_ere_syntax:\nawk_ere_compile: awk_ere_syntax\nawk_ere: awk_ere_syntax awk_ere_compile memchr\ncount_lines: awk_ere memchr\n' >"$work/crates.txt"
+program_over count_lines 'awk_ere_syntax awk_ere_compile awk_ere' 'awk_ere memchr'
 cat >"$program/src/main.rt" <<'PROGRAM'
 //! Counts the lines of standard input that the pattern, its first word, matches somewhere.
 #![tactic(auto)]

@@ -10,22 +10,10 @@ set -eu
 
 rounds=${1:-3}
 limit=20
-root=$(CDPATH='' cd "$(dirname "$0")/.." && pwd -P)
-work=$(mktemp -d)
-trap 'rm -rf "$work"' EXIT
+. "$(dirname "$0")/program.sh"
 
 # The program: its first word is the task, and it prints a number as a check.
-program=$work/crates/use_table
-mkdir -p "$program/src"
-for crate in awk_value awk_table; do
-    cp -R "$root/crates/$crate" "$work/crates/$crate"
-done
-cp "$root/HANDLES" "$work/HANDLES"
-cat >"$work/crates.txt" <<'CRATES'
-awk_value: itoa thiserror
-awk_table: awk_value indexmap itoa
-use_table: awk_value awk_table itoa
-CRATES
+program_over use_table 'awk_value awk_table' 'awk_value awk_table itoa'
 cat >"$program/src/main.rt" <<'PROGRAM'
 //! Fills arrays of 1,000,000 keys, and does with them what its first word says.
 #![tactic(auto)]

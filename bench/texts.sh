@@ -11,20 +11,11 @@ set -eu
 rounds=${1:-3}
 cases=${2:-10000}
 limit=60
-root=$(CDPATH='' cd "$(dirname "$0")/.." && pwd -P)
-work=$(mktemp -d)
-trap 'rm -rf "$work"' EXIT
+. "$(dirname "$0")/program.sh"
 
 # The program: its first word says what it does with each line of its input.
-program=$work/crates/texts
-mkdir -p "$program/src"
-for crate in awk_value awk_ere_syntax awk_ere_compile awk_ere awk_text awk_substitute; do
-    cp -R "$root/crates/$crate" "$work/crates/$crate"
-done
-cp "$root/HANDLES" "$work/HANDLES"
-grep -E '^(awk_value|awk_ere_syntax|awk_ere_compile|awk_ere|awk_text|awk_substitute):' \
-    "$root/crates.txt" >"$work/crates.txt"
-echo 'texts: awk_value awk_ere awk_text awk_substitute memchr' >>"$work/crates.txt"
+program_over texts 'awk_value awk_ere_syntax awk_ere_compile awk_ere awk_text awk_substitute' \
+    'awk_value awk_ere awk_text awk_substitute memchr'
 cat >"$program/src/main.rt" <<'PROGRAM'
 //! Does with each line of standard input what its first word says.
 #![tactic(auto)]
