@@ -4,7 +4,7 @@ use Rattle.std.specs.Prelude.{nat_eq, IsSome, if◌then◌else◌}
 use Rattle.std.proofs.lemmas.Bool.{cases_lt, false≢true, leb-true, le-leb, and_parts, and_from}
 use Rattle.std.proofs.lemmas.List.{get_or-replicate, length-replicate}
 use Rattle.std.proofs.Math.ListN.{get_or-eq_default}
-use Rattle.awk_ere_syntax.specs.definitions.Tree.{Tree, Matches}
+use Rattle.awk_ere_syntax.specs.definitions.Tree.{Tree, Matches, NoneFrom}
 use Rattle.awk_ere.specs.support.Layout.{byte_count, stride, start_state, dead_state, first_state, match_flag}
 use Rattle.awk_ere.specs.definitions.Means.{Means}
 use Rattle.awk_ere.specs.support.SimulationStep.{count_of, leaves, behind, dead_positions, IsStill}
@@ -15,7 +15,7 @@ use Rattle.awk_ere.specs.declared.pattern.Pattern.{Pattern}
 use Rattle.awk_ere.specs.declared.dfa.table.Table.{Table}
 use Rattle.awk_ere.specs.declared.dfa.cursor.Cursor.{Cursor}
 use Rattle.awk_ere.proofs.StepTellsMatches.{match_le, at_start, runs_fresh, next}
-use Rattle.awk_ere.proofs.LastEnd.{last_hit, last_miss, last_idle}
+use Rattle.awk_ere.proofs.LastEnd.{last_hit, last_miss, last_idle, between_in}
 use Rattle.awk_ere.proofs.TableKept.{state_at, state_named}
 
 -- behind the first place the text doesn't start
@@ -150,6 +150,17 @@ none_at p tb table s t means k within byte e j mt =
     let up = match_le s t k j mt in
     last_idle s t p means only (k + 1) h'.positions h'.runs (j + 1) None (λ n. ap (λ l. get_or l n false) idle ∙ zeros (count_of p) n)
     (λ i f. let le = leb-true i k (and_parts _ _ f).1 in omega (arith, le)) h'.last k j (sym here) (omega arith) mt
+
+-- where nothing that began goes on and none has ended, no match has begun
+pub none_to_dead : (p : Pattern) (tb : Table) → IsTable p tb → (s : List ℕ) (t : Tree) → Means t p → (low : ℕ) (w : Cursor) → low < w.place → Stood p tb s t (between low (w.place - 1)) w → w.state ≡ dead_state → w.end ≡ None → NoneFrom t s low w.place
+none_to_dead p tb table s t means low w lt h dead none i j ge below mt =
+    let last = w.place - 1 in
+    let one : state_number w.state ≡ 1 = omega (arith, dead) in
+    let idle = sym h.state.positions ∙ ap (positions_at p tb.rows.items) one ∙ table.idle in
+    let up = match_le s t i j mt in
+    last_idle s t p means (between low last) w.place h.positions h.runs (j + 1) None (λ n. ap (λ l. get_or l n false) idle ∙ zeros (count_of p) n)
+    (λ i f. let le = leb-true i last (and_parts _ _ f).1 in omega (arith, le, lt))
+    (subst (LastEnd t s (between low last) w.place) none h.last) i j (sym (between_in low last i ge (omega (arith, below)))) (omega arith) mt
 
 -- what is known of the ends where a cursor stops
 module _ (first : Bool) (p : Pattern) (tb : Table) (s : List ℕ) (t : Tree) (means : Means t p) (low high : ℕ) (w : Cursor) (h : Stood p tb s t (between low high) w) where

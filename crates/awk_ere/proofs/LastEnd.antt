@@ -66,11 +66,19 @@ module _ (s : List ℕ) (t : Tree) (p : Pattern) (means : Means t p) (from : ℕ
 le_false : (a b : ℕ) → b < a → nat_le a b ≡ false
 le_false a b lt = ⊎_elim (λ y. absurd (let le = leb-true a b y in omega (arith, le, lt))) (λ n. n) (cases_Bool (nat_le a b))
 
-between_in : (low high k : ℕ) → low ≤ k → k ≤ high → true ≡ between low high k
+pub between_in : (low high k : ℕ) → low ≤ k → k ≤ high → true ≡ between low high k
 between_in low high k a b = sym (and_from _ _ (le-leb low k a) (le-leb k high b))
 
-between_past : (low high k : ℕ) → low ≤ k → high < k → false ≡ between low high k
+pub between_past : (low high k : ℕ) → low ≤ k → high < k → false ≡ between low high k
 between_past low high k a b = sym (ap (λ c. c && nat_le k high) (le-leb low k a) ∙ le_false k high b)
+
+-- matches begin at one place alone
+pub enters_once : (low k : ℕ) → low ≤ k → nat_eq k low ≡ between low low k
+enters_once low k le =
+    ⊎_elim
+    (λ same. eq-eqb k low same ∙ between_in low low k le (omega (arith, same)))
+    (λ other. ne_eqb k low other ∙ between_past low low k le (omega (arith, le, other)))
+    (cases_eq k low)
 
 pub enters_on : (low high len : ℕ) → Enters (between low high) true low (min len (high + 1))
 enters_on low high len = λ k a b. between_in low high k a (omega (arith, b))

@@ -1,62 +1,39 @@
-// Searches for a pattern by cursors over a text. The leftmost start is sought in blocks of places that double, and then
-// by halving the block where it lies.
+// Searches for a pattern by cursors over a text. A match is looked for at the first place where one may begin, and then in
+// the first stretch of places where one is known to begin: at the first of them, and by halving.
 
 ghost use Rattle.std.specs.Prelude.{◌≡◌, ◌↔◌, ℕ, ◌≤◌, true, false, length, IfSome, OnSome};
 ghost use Rattle.awk_ere_syntax.specs.definitions.Tree.{Tree, NoneFrom, Finds, Occurs};
 ghost use Rattle.awk_ere.specs.definitions.Means.{Means, occurs};
 ghost use Rattle.awk_ere.specs.support.Table.{IsFor};
-ghost use Rattle.awk_ere.specs.support.Found.{is_first, EndsBetween, Longest, OccursBetween, EndsAt, Begins};
+ghost use Rattle.awk_ere.specs.support.Found.{Longest, OccursBetween, EndsAt, Begins, BeginsWithin};
 
-use crate::dfa::cursor::{Cursor, End};
+use crate::dfa::cursor::Cursor;
 use crate::pattern::Pattern;
 use crate::scratch::Scratch;
 
 impl Pattern {
-    // The last end of a match that begins at a place from `low` up to `high`, or the first one that is met. The text is read
-    // unanchored up to `high`, where the last match may begin, and anchored from there to its end.
-    fn ends(
-        &self,
-        text: &[u8],
-        low: usize,
-        high: usize,
-        wanted: End,
-        scratch: &mut Scratch,
-    ) -> Option<usize>
-        requires same { IsFor scratch.old self.now }
-        requires order { low ≤ high }
-        requires within { high ≤ length text.now }
-        ensures found { (t : Tree) → Means t self.now → EndsBetween (is_first wanted) t text.now low high result }
-        ensures same { IsFor scratch.new self.now }
-    {
-        let first = wanted.is_first();
-        let len = text.len();
-        let stop = len.min(high + 1);
-        let entering = high == len;
-        let cursor = self.scan(scratch, true, wanted, text, stop, Cursor::begin(low));
-        if first && cursor.end.is_some() {
-            return cursor.end;
-        }
-        let cursor = self.scan(scratch, entering, wanted, text, len, cursor);
-        if first && cursor.end.is_some() {
-            return cursor.end;
-        }
-        if self.leaves_at_end(scratch, cursor.state, entering) {
-            return Some(len);
-        }
-        cursor.end
-    }
-
-    // The end of the longest match that begins at `from`.
+    // The end of the longest match that begins at `from`. One byte is read where a match begins, and the rest where none
+    // does.
     fn longest_from(&self, text: &[u8], from: usize, scratch: &mut Scratch) -> Option<usize>
         requires same { IsFor scratch.old self.now }
         requires within { from ≤ length text.now }
         ensures found { (t : Tree) → Means t self.now → Longest t text.now from result }
         ensures same { IsFor scratch.new self.now }
     {
-        self.ends(text, from, from, End::Last, scratch)
+        let len = text.len();
+        let mut cursor = Cursor::begin(from);
+        'bytes: while cursor.place < len {
+            cursor = self.advance(scratch, cursor.place == from, text, cursor);
+            cursor = self.last_loop(&scratch.table, text, cursor);
+        }
+        if self.leaves_at_end(scratch, cursor.state, from == len) {
+            return Some(len);
+        }
+        cursor.end
     }
 
-    // Where a match ends that begins at a place from `low` up to `high`.
+    // Where a match ends that begins at a place from `low` up to `high`: the first end that is met. The text is read
+    // unanchored up to `high`, where the last match may begin, and anchored from there to its end.
     fn end_between(
         &self,
         text: &[u8],
@@ -70,33 +47,54 @@ impl Pattern {
         ensures found { (t : Tree) → Means t self.now → EndsAt t text.now low high result }
         ensures same { IsFor scratch.new self.now }
     {
-        self.ends(text, low, high, End::First, scratch)
+        let len = text.len();
+        let stop = len.min(high + 1);
+        let entering = high == len;
+        let cursor = self.scan(scratch, true, text, stop, Cursor::begin(low));
+        if cursor.end.is_some() {
+            return cursor.end;
+        }
+        let cursor = self.scan(scratch, entering, text, len, cursor);
+        if cursor.end.is_some() {
+            return cursor.end;
+        }
+        if self.leaves_at_end(scratch, cursor.state, entering) {
+            return Some(len);
+        }
+        cursor.end
     }
 
-    // Where the leftmost match at or behind `from` begins. It is sought in blocks of places that double.
-    fn first_start(&self, text: &[u8], from: usize, scratch: &mut Scratch) -> Option<usize>
+    // Between which places the leftmost match at or behind `from` begins: the first place behind which a match that ends
+    // first has begun, and that end.
+    fn window(&self, text: &[u8], from: usize, scratch: &mut Scratch) -> Option<(usize, usize)>
         requires same { IsFor scratch.old self.now }
         requires within { from ≤ length text.now }
-        ensures within { IfSome result (λ i. i ≤ length text.now) }
-        ensures found { (t : Tree) → Means t self.now → Begins t text.now from result }
+        ensures within { IfSome result (λ w. (w.0 ≤ length text.now) × (w.1 ≤ length text.now)) }
+        ensures found { (t : Tree) → Means t self.now → BeginsWithin t text.now from result }
         ensures same { IsFor scratch.new self.now }
     {
         let len = text.len();
         let mut low = from;
-        let mut width: usize = 1;
-        'blocks: while low <= len {
+        'runs: while low <= len {
             low = self.next_candidate(text, low, scratch);
-            let high = len.min(low.saturating_add(width));
-            if let Some(end) = self.end_between(text, low, high, scratch) {
-                return Some(self.first_between(text, low, high.min(end), scratch));
+            let cursor = self.run(scratch, text, Cursor::begin(low));
+            if let Some(end) = cursor.end {
+                return Some((low, len.min(end)));
             }
-            low = high + 1;
-            width = width.saturating_mul(2);
+            if cursor.place == len {
+                return if self.leaves_at_end(scratch, cursor.state, true) {
+                    Some((low, len))
+                } else {
+                    None
+                };
+            }
+            low = cursor.place;
         }
         None
     }
 
-    // Where the leftmost match begins, of those that begin at a place from `low` up to `high`. There is one.
+    // Where the leftmost match begins, of those that begin at a place from `low` up to `high`. There is one. The places
+    // that are tried first are `low` alone, and then further on by a width that doubles.
     fn first_between(&self, text: &[u8], low: usize, high: usize, scratch: &mut Scratch) -> usize
         requires same { IsFor scratch.old self.now }
         requires low { low ≤ length text.now }
@@ -107,8 +105,10 @@ impl Pattern {
     {
         let mut first = low;
         let mut last = high;
+        let mut width: usize = 0;
         'halves: while first < last {
-            let middle = first + (last - first) / 2;
+            let middle = first + width.min((last - first) / 2);
+            width = width.saturating_mul(2).saturating_add(1);
             match self.end_between(text, first, middle, scratch) {
                 Some(end) => last = middle.min(end),
                 None => first = middle + 1,
@@ -152,7 +152,8 @@ impl Pattern {
         if start == text.len() {
             return None;
         }
-        let start = self.first_start(text, start + 1, scratch)?;
+        let (low, high) = self.window(text, start + 1, scratch)?;
+        let start = self.first_between(text, low, high, scratch);
         let end = self.longest_from(text, start, scratch)?;
         Some((start, end))
     }

@@ -1,12 +1,12 @@
 -- Which match is chosen, by what a search found.
-use Rattle.std.proofs.Common.{◌≡◌, ℕ, ◌+◌, ◌<◌, ◌≤◌, List, length, Option, Some, None, subst, arith, inl, inr}
+use Rattle.std.proofs.Common.{◌≡◌, ℕ, ◌+◌, ◌<◌, ◌≤◌, List, length, Option, Some, None, refl, subst, arith, inl, inr}
 use Rattle.std.specs.Prelude.{IfSome}
 use Rattle.std.proofs.lemmas.Bool.{cases_lt}
 use Rattle.awk_ere_syntax.specs.definitions.Tree.{Tree, Matches, Finds}
 use Rattle.awk_text.specs.declared.span.Span.{Span}
 use Rattle.awk_text.specs.Pieces.{IsSpanOf}
 use Rattle.awk_substitute.specs.definitions.Chosen.{IsMatch, Follows, IsNextMatch}
-use Rattle.awk_substitute.specs.support.Search.{FindsFrom, LiesBehind}
+use Rattle.awk_substitute.specs.support.Search.{FindsFrom, IsLongest, LiesBehind}
 use Rattle.awk_substitute.proofs.MatchesStay.{match_stays}
 
 pub lies_within : (place : ℕ) (s : List ℕ) (found : Option Span) → IfSome found (LiesBehind place s) → IfSome found (IsSpanOf s)
@@ -65,8 +65,41 @@ module _ (t : Tree) (s : List ℕ) where
         λ m c same. later.2 m (c.0, begins_behind end best f le m c) same,
       )
 
-  pub next_past : (end : ℕ) (best : Span) → FindsFrom t s end (Some best) → best.end ≤ end → length s ≤ end → IsNextMatch t s (Some end) None
-  next_past end best f le past m c =
-      let behind = begins_behind end best f le m c in
+  -- the one that is chosen is the longest that begins there
+  pub first_longest : (best : Span) → IsNextMatch t s None (Some best) → IsLongest t s best
+  first_longest best f end m = f.2 (record { start = best.start; end = end }) ((f.0.0.0, m), tt) refl
+
+  pub next_longest : (before : ℕ) (best : Span) → before < best.end → IsNextMatch t s (Some before) (Some best) → IsLongest t s best
+  next_longest before best past f end m = elim (cases_lt best.end end) [
+    | inl lt ↦ f.2 (record { start = best.start; end = end }) ((f.0.0.0, m), (f.0.1.0, λ here same. omega arith)) refl
+    | inr ge ↦ ge
+  ]
+
+  -- behind an empty match that is the longest the next begins further on
+  past_empty : (last : Span) → last.start ≡ last.end → IsLongest t s last → (m : Span) → IsMatch t s m × Follows (Some last.end) m → last.end + 1 ≤ m.start
+  past_empty last empty longest m c = elim (cases_lt last.end m.start) [
+    | inl lt ↦ omega arith
+    | inr ge ↦
+        let from : last.end ≤ m.start = c.1.0 in
+        let here : m.start ≡ last.end = omega arith in
+        let same : m.start ≡ last.start = omega arith in
+        let most = longest m.end (subst (λ k. Matches s t k m.end) same c.0.1) in
+        let forward = (match_stays s t m.start m.end c.0.1 c.0.0).0 in
+        absurd (c.1.1 here (omega arith))
+  ]
+
+  pub next_past_empty : (last : Span) → last.start ≡ last.end → IsLongest t s last → (r : Option Span) → FindsFrom t s (last.end + 1) r → IsNextMatch t s (Some last.end) r
+  next_past_empty last empty longest None later = λ m c. later m (c.0, past_empty last empty longest m c)
+  next_past_empty last empty longest (Some n) later =
+      let low : last.end + 1 ≤ n.start = later.0.1 in (
+        (later.0.0, (omega arith, λ here same. omega arith)),
+        λ m c. later.1 m (c.0, past_empty last empty longest m c),
+        λ m c same. later.2 m (c.0, past_empty last empty longest m c) same,
+      )
+
+  -- nothing begins behind the text
+  pub nothing_behind : (end : ℕ) → length s ≤ end → FindsFrom t s (end + 1) None
+  nothing_behind end past m c =
       let within : m.start ≤ length s = c.0.0 in
+      let behind : end + 1 ≤ m.start = c.1 in
       omega arith

@@ -1,9 +1,9 @@
 -- A replacement without an ampersand and a backslash stands for itself.
-use Rattle.std.proofs.Common.{◌≡◌, ℕ, zero, suc, ◌+◌, ◌<◌, ◌≤◌, Bool, true, false, cond, List, [], ◌∷◌, ◌++◌, length, Option, Some, None, refl, sym, ap, ◌∙◌, arith}
+use Rattle.std.proofs.Common.{◌≡◌, ℕ, suc, ◌<◌, Bool, true, false, cond, List, [], ◌∷◌, ◌++◌, length, Option, Some, None, refl, sym, ap, ◌∙◌, arith}
 use Rattle.std.proofs.lemmas.Bool.{false≢true}
 use Rattle.std.specs.Prelude.{◌||◌, ◌&&◌, ◌==◌, not, is_some, slice_index}
 use Rattle.memchr.specs.Find.{IsFirstByte, is_byte2}
-use Rattle.awk_substitute.specs.definitions.Replacement.{bytes_for, is_escape, replacement_for}
+use Rattle.awk_substitute.specs.definitions.Replacement.{bytes_for, replacement_for}
 use Rattle.awk_substitute.specs.support.Escapes.{IsPlain}
 
 neither : (a b : Bool) → ((a || b) ≡ true → ⊥) → (a ≡ false) × (b ≡ false)

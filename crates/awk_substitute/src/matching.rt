@@ -1,11 +1,11 @@
 // Where the matches are that the language chooses.
-ghost use Rattle.std.specs.Prelude.{◌≡◌, ◌≤◌, ◌<◌, true, None, Some, length, IfSome};
+ghost use Rattle.std.specs.Prelude.{◌≡◌, ◌+◌, ◌≤◌, ◌<◌, true, None, Some, length, IfSome};
 ghost use Rattle.awk_ere.specs.definitions.Means.{Means};
 ghost use Rattle.awk_ere.specs.support.Table.{IsFor};
 ghost use Rattle.awk_ere_syntax.specs.definitions.Tree.{Tree};
 ghost use Rattle.awk_text.specs.Pieces.{IsSpanOf};
 ghost use Rattle.awk_substitute.specs.definitions.Chosen.{IsNextMatch};
-ghost use Rattle.awk_substitute.specs.support.Search.{FindsFrom, LiesBehind};
+ghost use Rattle.awk_substitute.specs.support.Search.{FindsFrom, IsLongest, LiesBehind};
 
 use awk_ere::{Pattern, Scratch};
 use awk_text::Span;
@@ -52,29 +52,51 @@ pub fn match_at(pattern: &Pattern, text: &[u8], scratch: &mut Scratch) -> Option
     search_from(pattern, text, 0, scratch)
 }
 
-// The next match after one that ended at `end`: not the empty one there.
-pub(crate) fn next_match(
+// The leftmost match that begins behind a place, and of those the longest.
+fn search_behind(
     pattern: &Pattern,
     text: &[u8],
-    end: usize,
+    place: usize,
     scratch: &mut Scratch,
 ) -> Option<Span>
     requires same { IsFor scratch.old pattern.now }
-    requires within { end ≤ length text.now }
-    ensures lies { IfSome result (LiesBehind end text.now) }
-    ensures past { IfSome result (λ m. end < m.end) }
-    ensures found { (t : Tree) → Means t pattern.now → IsNextMatch t text.now (Some end) result }
+    requires within { place ≤ length text.now }
+    ensures lies { IfSome result (LiesBehind (place + 1) text.now) }
+    ensures found { (t : Tree) → Means t pattern.now → FindsFrom t text.now (place + 1) result }
     ensures same { IsFor scratch.new pattern.now }
 {
-    match search_from(pattern, text, end, scratch) {
+    if place < text.len() {
+        search_from(pattern, text, place + 1, scratch)
+    } else {
+        None
+    }
+}
+
+// The next match after another: not the empty one at its end. Where the last one was empty, the next one begins behind it.
+pub(crate) fn next_match(
+    pattern: &Pattern,
+    text: &[u8],
+    last: Span,
+    scratch: &mut Scratch,
+) -> Option<Span>
+    requires same { IsFor scratch.old pattern.now }
+    requires within { last.end ≤ length text.now }
+    requires longest { (t : Tree) → Means t pattern.now → IsLongest t text.now last }
+    ensures lies { IfSome result (LiesBehind last.end text.now) }
+    ensures past { IfSome result (λ m. last.end < m.end) }
+    ensures found { (t : Tree) → Means t pattern.now → IsNextMatch t text.now (Some last.end) result }
+    ensures same { IsFor scratch.new pattern.now }
+{
+    if last.start == last.end {
+        return search_behind(pattern, text, last.end, scratch);
+    }
+    match search_from(pattern, text, last.end, scratch) {
         None => None,
         Some(found) => {
-            if end < found.end {
+            if last.end < found.end {
                 Some(found)
-            } else if end < text.len() {
-                search_from(pattern, text, end + 1, scratch)
             } else {
-                None
+                search_behind(pattern, text, last.end, scratch)
             }
         }
     }

@@ -16,6 +16,19 @@ use awk_ere::{Pattern, Scratch};
 use awk_text::{Span, TextFault};
 use std::alloc::Global;
 
+// Adds a piece of text. Many are of one byte, or of none.
+fn add_piece(out: &mut Vec<u8>, piece: &[u8]) -> Result<(), TextFault>
+    ensures added { OnOk result (out.new.items ≡ out.old.items ++ piece.now) }
+    ensures memory { IfErr result (λ e. e ≡ TextFault.Memory) }
+{
+    if piece.len() == 1 {
+        out.push(piece[0])?;
+    } else {
+        out.extend_from_slice(piece)?;
+    }
+    Ok(())
+}
+
 // Adds what stands from a place up to a match, and what replaces the match. A plain replacement stands for itself.
 fn add_replaced(
     out: &mut Vec<u8>,
@@ -31,10 +44,9 @@ fn add_replaced(
         ++ (slice_range text.now place found.start ++ replacement_for replacement.now (stretch_at text.now found))) }
     ensures memory { IfErr result (λ e. e ≡ TextFault.Memory) }
 {
-    out.extend_from_slice(&text[place..found.start])?;
+    add_piece(out, &text[place..found.start])?;
     if plain {
-        out.extend_from_slice(replacement)?;
-        return Ok(());
+        return add_piece(out, replacement);
     }
     add_replacement(out, replacement, &text[found.start..found.end])
 }
@@ -71,13 +83,13 @@ pub fn substitute_into(
         return Ok(Some(1));
     }
     let mut count = 1;
-    let mut end = first.end;
-    while let Some(next) = next_match(pattern, text, end, scratch) {
-        add_replaced(out, replacement, plain, text, end, next)?;
+    let mut last = first;
+    while let Some(next) = next_match(pattern, text, last, scratch) {
+        add_replaced(out, replacement, plain, text, last.end, next)?;
         count += 1;
-        end = next.end;
+        last = next;
     }
-    out.extend_from_slice(&text[end..])?;
+    out.extend_from_slice(&text[last.end..])?;
     Ok(Some(count))
 }
 

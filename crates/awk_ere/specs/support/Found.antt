@@ -1,13 +1,6 @@
 -- What the parts of a search find.
-use Rattle.std.specs.Prelude.{◌≡◌, ℕ, ◌<◌, ◌≤◌, Bool, true, false, ◌&&◌, nat_le, List, length, Option, Some, None, IsSome}
+use Rattle.std.specs.Prelude.{◌≡◌, ℕ, ◌<◌, ◌≤◌, Bool, true, ◌&&◌, nat_le, List, length, Option, Some, None, IsSome}
 use Rattle.awk_ere_syntax.specs.definitions.Tree.{Tree, Matches, NoneFrom}
-use Rattle.awk_ere.specs.declared.dfa.cursor.End.{End}
-use Rattle.awk_ere.specs.declared.dfa.cursor.End.TheVariants.{First, Last}
-
--- the first end is looked for
-abbrev pub is_first : End → Bool
-is_first First = true
-is_first Last = false
 
 -- a place from one up to another
 abbrev pub between : ℕ → ℕ → ℕ → Bool
@@ -42,3 +35,8 @@ EndsAt t s low high (Some e) = (i : ℕ) × (low ≤ i) × (i ≤ high) × Match
 abbrev pub Begins : Tree → List ℕ → ℕ → Option ℕ → Type 0
 Begins t s from None = (i j : ℕ) → from ≤ i → i ≤ length s → Matches s t i j → ⊥
 Begins t s from (Some i) = (from ≤ i) × ((j : ℕ) × Matches s t i j) × NoneFrom t s from i
+
+-- it begins between these places, or there is none
+abbrev pub BeginsWithin : Tree → List ℕ → ℕ → Option (ℕ × ℕ) → Type 0
+BeginsWithin t s from None = Begins t s from None
+BeginsWithin t s from (Some w) = (from ≤ w.0) × NoneFrom t s from w.0 × OccursBetween t s w.0 w.1

@@ -1,12 +1,11 @@
 // A cursor over a text, which the transition table moves on.
 
-ghost use Rattle.std.specs.Prelude.{◌≡◌, ◌⊎◌, ℕ, ◌+◌, ◌<◌, ◌≤◌, Bool, List, true, length, Option, None, Some, IsSome, ◌-◌, ◌^◌};
+ghost use Rattle.std.specs.Prelude.{◌≡◌, ◌⊎◌, ℕ, ◌+◌, ◌<◌, ◌≤◌, Bool, List, true, false, length, Option, None, Some, IsSome, ◌-◌, ◌^◌};
 ghost use Rattle.awk_ere_syntax.specs.definitions.Tree.{Tree};
 ghost use Rattle.awk_ere.specs.definitions.Means.{Means};
-ghost use Rattle.awk_ere.specs.support.Layout.{first_state, match_flag};
+ghost use Rattle.awk_ere.specs.support.Layout.{first_state, dead_state, match_flag};
 ghost use Rattle.awk_ere.specs.support.Table.{IsKnown, IsState, IsEntry, IsTable, IsFor};
 ghost use Rattle.awk_ere.specs.support.CursorState.{Stood, Enters};
-ghost use Rattle.awk_ere.specs.support.Found.{is_first};
 
 use crate::dfa::table::{DEAD, MATCH_FLAG, START, Table, UNKNOWN};
 use crate::pattern::Pattern;
@@ -28,23 +27,6 @@ pub(crate) fn first_state(place: usize) -> u32
     ensures { result ≡ first_state place }
 {
     if place == 0 { START } else { DEAD }
-}
-
-/// Which end of a match is looked for.
-#[derive(Clone, Copy)]
-pub(crate) enum End {
-    /// The first that is met.
-    First,
-    /// The last.
-    Last,
-}
-
-impl End {
-    pub(crate) fn is_first(self) -> bool
-        ensures { result ≡ is_first self }
-    {
-        matches!(self, End::First)
-    }
 }
 
 impl Cursor {
@@ -103,7 +85,13 @@ impl Pattern {
     }
 
     // Reads one byte.
-    fn advance(&self, scratch: &mut Scratch, entering: bool, text: &[u8], cursor: Cursor) -> Cursor
+    pub(crate) fn advance(
+        &self,
+        scratch: &mut Scratch,
+        entering: bool,
+        text: &[u8],
+        cursor: Cursor,
+    ) -> Cursor
         requires same { IsFor scratch.old self.now }
         requires known { IsKnown scratch.old.table cursor.state }
         requires within { cursor.place < length text.now }
@@ -175,7 +163,8 @@ impl Pattern {
         ensures order { cursor.place ≤ result.place }
         ensures within { result.place ≤ to }
         ensures known { IsKnown table.now result.state }
-        ensures stood { (t : Tree) (from : ℕ → Bool) → Means t self.now → Enters from entering cursor.place to →
+        ensures end { result.end ≡ cursor.end }
+        ensures stood { (t : Tree) (from : ℕ → Bool) → Means t self.now → Enters from entering cursor.place result.place →
             Stood self.now table.now text.now t from cursor → Stood self.now table.now text.now t from result }
     {
         let transitions = table.transitions(entering);
@@ -199,12 +188,11 @@ impl Pattern {
         }
     }
 
-    // Reads on up to a place, or if the first end of a match is wanted up to it.
+    // Reads on up to a place, or up to the first end of a match.
     pub(crate) fn scan(
         &self,
         scratch: &mut Scratch,
         entering: bool,
-        wanted: End,
         text: &[u8],
         to: usize,
         cursor: Cursor,
@@ -215,18 +203,17 @@ impl Pattern {
         requires within { to ≤ length text.now }
         ensures order { cursor.place ≤ result.place }
         ensures within { result.place ≤ to }
-        ensures reached { (result.place ≡ to) ⊎ ((is_first wanted ≡ true) × IsSome result.end) }
+        ensures reached { (result.place ≡ to) ⊎ IsSome result.end }
         ensures known { IsKnown scratch.new.table result.state }
         ensures stood { (t : Tree) (from : ℕ → Bool) → Means t self.now → Enters from entering cursor.place to →
             Stood self.now scratch.old.table text.now t from cursor → Stood self.now scratch.new.table text.now t from result }
         ensures same { IsFor scratch.new self.now }
     {
-        let first = wanted.is_first();
         let stops = !entering || scratch.anchored_at_start;
         let mut cursor = cursor;
         'bytes: while cursor.place < to {
             cursor = self.advance(scratch, entering, text, cursor);
-            if first && cursor.end.is_some() {
+            if cursor.end.is_some() {
                 return cursor;
             }
             cursor = self.skip(scratch, entering, text, to, cursor);
@@ -234,5 +221,76 @@ impl Pattern {
             cursor = self.fast_loop(&scratch.table, entering, stops, text, near, cursor);
         }
         cursor
+    }
+
+    // Reads on, where matches may begin, up to the first end of a match, to where none that has begun goes on, or to the
+    // text's end.
+    pub(crate) fn run(&self, scratch: &mut Scratch, text: &[u8], cursor: Cursor) -> Cursor
+        requires same { IsFor scratch.old self.now }
+        requires known { IsKnown scratch.old.table cursor.state }
+        requires within { cursor.place ≤ length text.now }
+        ensures order { cursor.place ≤ result.place }
+        ensures within { result.place ≤ length text.now }
+        ensures further { cursor.place < length text.now → cursor.place < result.place }
+        ensures stopped { (result.place ≡ length text.now) ⊎ (IsSome result.end ⊎ result.state ≡ dead_state) }
+        ensures known { IsKnown scratch.new.table result.state }
+        ensures stood { (t : Tree) (from : ℕ → Bool) → Means t self.now → Enters from true cursor.place result.place →
+            Stood self.now scratch.old.table text.now t from cursor → Stood self.now scratch.new.table text.now t from result }
+        ensures same { IsFor scratch.new self.now }
+    {
+        let len = text.len();
+        let mut cursor = cursor;
+        'bytes: while cursor.place < len {
+            cursor = self.advance(scratch, true, text, cursor);
+            if cursor.end.is_some() || cursor.state == DEAD {
+                return cursor;
+            }
+            cursor = self.fast_loop(&scratch.table, true, true, text, len, cursor);
+        }
+        cursor
+    }
+
+    // Reads on where no match begins, past the ends of those that have begun, as long as the entries are known.
+    pub(crate) fn last_loop(&self, table: &Table, text: &[u8], cursor: Cursor) -> Cursor
+        requires table { IsTable self.now table.now }
+        requires known { IsKnown table.now cursor.state }
+        requires within { cursor.place ≤ length text.now }
+        ensures order { cursor.place ≤ result.place }
+        ensures within { result.place ≤ length text.now }
+        ensures known { IsKnown table.now result.state }
+        ensures stood { (t : Tree) (from : ℕ → Bool) → Means t self.now → Enters from false cursor.place (length text.now) →
+            Stood self.now table.now text.now t from cursor → Stood self.now table.now text.now t from result }
+    {
+        let transitions = table.anchored.as_slice();
+        let mut state = cursor.state;
+        let mut end = cursor.end;
+        for k in cursor.place..text.len() {
+            if state == DEAD {
+                return Cursor {
+                    place: text.len(),
+                    state,
+                    end,
+                };
+            }
+            let entry = transitions[state as usize + text[k] as usize];
+            if entry == UNKNOWN {
+                return Cursor {
+                    place: k,
+                    state,
+                    end,
+                };
+            }
+            if entry < MATCH_FLAG {
+                state = entry;
+            } else {
+                state = entry - MATCH_FLAG;
+                end = Some(k);
+            }
+        }
+        Cursor {
+            place: text.len(),
+            state,
+            end,
+        }
     }
 }

@@ -108,13 +108,15 @@ const FNV_OFFSET_BASIS: u64 = 0xcbf2_9ce4_8422_2325;
 
 const FNV_PRIME: u64 = 0x0000_0100_0000_01b3;
 
-// The slot of a state's positions: the upper bits of their hash.
+// The slot of a state's positions: the bits at both ends of their hash, of which the upper ones tell little of the last
+// positions.
 fn slot_of(positions: &[bool]) -> usize {
     let mut hash = FNV_OFFSET_BASIS;
     for position in positions {
         hash = (hash ^ u64::from(*position)).wrapping_mul(FNV_PRIME);
     }
-    (hash >> (u64::BITS - SLOT_BITS)) as usize
+    let folded = hash ^ (hash >> (u64::BITS - SLOT_BITS));
+    (folded % (1 << SLOT_BITS)) as usize
 }
 
 // Keeps the number of a state in the slot of its positions, in the place of what was there.

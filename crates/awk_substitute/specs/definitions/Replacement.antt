@@ -1,6 +1,6 @@
 -- What stands in the place of a match. POSIX awk, "String Functions", sub: an ampersand is the matched text; a backslash
 -- before an ampersand makes it a plain one, and a backslash before a backslash one backslash.
-use Rattle.std.specs.Prelude.{ℕ, Bool, false, ◌||◌, ◌&&◌, ◌==◌, if◌then◌else◌, List, [], ◌∷◌, ◌++◌}
+use Rattle.std.specs.Prelude.{ℕ, Bool, ◌||◌, ◌&&◌, ◌==◌, if◌then◌else◌, List, [], ◌∷◌, ◌++◌}
 
 -- an ampersand is the matched text, any other byte itself
 abbrev pub bytes_for : (byte : ℕ) (matched : List ℕ) → List ℕ

@@ -1,6 +1,7 @@
-use Rattle.std.proofs.Common.{◌++◌, ◌≤◌, sym, ap, ◌∙◌, subst, arith, rules}
+use Rattle.std.proofs.Common.{◌++◌, sym, ap, ◌∙◌, subst, arith}
 use Rattle.awk_substitute.specs.definitions.Replaced.{Replaced}
-use Rattle.awk_substitute.proofs.ExchangedSoFar.{added, exchanged_first, exchanged_more, exchanged_end, first_exchanged, nothing_exchanged}
+use Rattle.awk_substitute.proofs.NextMatch.{first_longest, next_longest}
+use Rattle.awk_substitute.proofs.ExchangedSoFar.{added, exchanged_first, exchanged_more, exchanged_end, first_exchanged}
 use Rattle.awk_substitute.proofs.replacing.substitute_into.Goals as goal
 
 pub returns-then-not-all-clause-replaced : goal.returns-then-not-all-clause-replaced
@@ -22,6 +23,7 @@ loop-next-init c =
     let written = c.in_ok-add_replaced.ensures.added ∙ ap (λ o. o ++ added r s 0 first) c.clear.ensures.items in
     record {
       inside = c.in-Some.ensures.within.1;
+      longest = λ t means. first_longest t c.args.text.now first (c.in-Some.ensures.found t means);
       some = omega arith;
       few = omega arith;
       same = c.in-Some.ensures.same;
@@ -38,10 +40,11 @@ loop-next-preserved c =
     let few = loop.invariant.few in
     record {
       inside = c.in-Some-next_match.ensures.lies.within;
+      longest = λ t means. next_longest t s loop.last.end next past (c.in-Some-next_match.ensures.found t means);
       some = omega arith;
       few = omega arith;
       same = c.in-Some-next_match.ensures.same;
-      exchanged = λ t means. exchanged_more t r s loop.out.items c.add_replaced-in-Some-next_match.new.out.items loop.count loop.end next
+      exchanged = λ t means. exchanged_more t r s loop.out.items c.add_replaced-in-Some-next_match.new.out.items loop.count loop.last.end next
           (c.in-Some-next_match.ensures.found t means) c.in_ok-add_replaced-2.ensures.added (loop.invariant.exchanged t means);
     }
 
@@ -52,6 +55,6 @@ returns-clause-replaced c = λ t means.
     let loop = c.loop-next in (
       loop.invariant.some,
       subst (λ all. Replaced t r s all loop.count c.extend_from_slice-2.new.self.items) (sym c.if-not-all.false)
-          (exchanged_end t r s loop.out.items c.extend_from_slice-2.new.self.items loop.count loop.end
+          (exchanged_end t r s loop.out.items c.extend_from_slice-2.new.self.items loop.count loop.last.end
           (c.in_default-next_match.ensures.found t means) c.in_ok-extend_from_slice-2.ensures.items (loop.invariant.exchanged t means)),
     )

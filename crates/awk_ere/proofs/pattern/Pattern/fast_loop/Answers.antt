@@ -33,10 +33,10 @@ loop-k-preserved c =
           let h = state_of p tb v c.loop-k.invariant.known in
           known_of p tb u _ _ ((subst (IsEntry p tb _ m _ x) same (entry_of p tb m c.requires.table v _ _ h x byte)).goes some small);
       stood = λ t from means enters h0.
-          let h = c.loop-k.invariant.stood t from means enters h0 in
+          let h = c.loop-k.invariant.stood t from means (λ i a b. enters i a (omega (arith, b))) h0 in
           let w : Cursor = record { place = k; state = v; end = c.args.cursor.end } in
           let w' : Cursor = record { place = k + 1; state = u; end = c.args.cursor.end } in
-          stood_miss p tb tb s t means from w h m (enters k c.loop-k.auto.k c.loop-k-test.true) (omega (arith, c.loop-k-test.true, c.requires.within)) u
+          stood_miss p tb tb s t means from w h m (enters k c.loop-k.auto.k (omega arith)) (omega (arith, c.loop-k-test.true, c.requires.within)) u
           (subst (IsEntry p tb h.start m h.positions x) same (entry_of p tb m c.requires.table v h.start h.positions h.state x byte)) w' refl some small refl refl;
     }
 
@@ -53,4 +53,4 @@ pub returns-clause-stood : goal.returns-clause-stood
 returns-clause-stood c = λ t from means enters h.
     let end : c.loop-k.k ≡ c.args.to = omega (arith, c.loop-k-test.false, c.requires.order) in
     subst (λ (k : ℕ). Stood c.args.self.now c.args.table.now c.args.text.now t from (record { place = k; state = c.loop-k.state; end = c.args.cursor.end })) end
-    (c.loop-k.invariant.stood t from means enters h)
+    (c.loop-k.invariant.stood t from means (λ i a b. enters i a (omega (arith, b, end))) h)

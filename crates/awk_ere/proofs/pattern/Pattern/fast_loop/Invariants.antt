@@ -8,5 +8,5 @@ use Rattle.awk_ere.proofs.pattern.Pattern.fast_loop.Given as goal
 abbrev pub invariant-loop-k : goal.invariant-loop-k
 invariant-loop-k l = record {
   known : IsKnown l.table l.state;
-  stood : (t : Tree) (from : ℕ → Bool) → Means t l.self → Enters from l.entering l.cursor.place l.to → Stood l.self l.table l.text t from l.cursor → Stood l.self l.table l.text t from (record { place = l.k; state = l.state; end = l.cursor.end });
+  stood : (t : Tree) (from : ℕ → Bool) → Means t l.self → Enters from l.entering l.cursor.place l.k → Stood l.self l.table l.text t from l.cursor → Stood l.self l.table l.text t from (record { place = l.k; state = l.state; end = l.cursor.end });
 }

@@ -3,8 +3,8 @@ use Rattle.std.proofs.lemmas.Bool.{cases_lt}
 use Rattle.awk_ere_syntax.specs.definitions.Tree.{Matches, Finds}
 use Rattle.awk_ere.proofs.pattern.Pattern.find_from.Goals as goal
 
-pub returns-in_err-start-clause-found : goal.returns-in_err-start-clause-found
-returns-in_err-start-clause-found c = λ t means.
+pub returns-in_err-low-clause-found : goal.returns-in_err-low-clause-found
+returns-in_err-low-clause-found c = λ t means.
     let s = c.args.text.now in
     let start = c.next_candidate-start.result in
     subst (Finds t s c.args.from) (sym c.from_residual.ensures)
@@ -13,12 +13,12 @@ returns-in_err-start-clause-found c = λ t means.
     (λ at.
     ⊎_elim
     (λ here. let same : i ≡ start = omega (arith, at, here) in c.in_default.ensures.found t means j (subst (λ a. Matches s t a j) same m))
-    (λ past. c.in_err-start.ensures.found t means i j past le m) (cases_lt i (start + 1)))
+    (λ past. c.in_err-low.ensures.found t means i j past le m) (cases_lt i (start + 1)))
     (cases_lt i start))
 
 pub returns-in_err-end-clause-found : goal.returns-in_err-end-clause-found
 returns-in_err-end-clause-found c = λ t means.
-    let begins = c.in_ok-start.ensures.found t means in
+    let begins = c.first_between-start.ensures.found t means (c.in_ok-low.ensures.found t means).2 in
     absurd (c.in_err-end.ensures.found t means begins.1.0 begins.1.1)
 
 pub returns-in-Some-clause-found : goal.returns-in-Some-clause-found
@@ -39,16 +39,18 @@ pub returns-clause-found : goal.returns-clause-found
 returns-clause-found c = λ t means.
     let s = c.args.text.now in
     let start = c.next_candidate-start.result in
-    let begins = c.in_ok-start.ensures.found t means in
+    let window = c.in_ok-low.ensures.found t means in
+    let begins = c.first_between-start.ensures.found t means window.2 in
     let longest = c.in_ok-end.ensures.found t means in (
-      omega (arith, begins.0, c.next_candidate-start.ensures.order),
-      c.in_ok-start.ensures.within,
+      omega (arith, begins.0, window.0, c.next_candidate-start.ensures.order),
+      c.first_between-start.ensures.within,
       (λ i j ge lt m.
           ⊎_elim (λ below. c.next_candidate-start.ensures.none t means i j ge below m)
           (λ at.
           ⊎_elim
           (λ here. let same : i ≡ start = omega (arith, at, here) in c.in_default.ensures.found t means j (subst (λ a. Matches s t a j) same m))
-          (λ past. begins.2 i j past lt m) (cases_lt i (start + 1)))
+          (λ past. ⊎_elim (λ before. window.1 i j past before m) (λ behind. begins.2 i j behind lt m) (cases_lt i c.in_ok-low.low))
+          (cases_lt i (start + 1)))
           (cases_lt i start)),
       longest.0,
       longest.1,

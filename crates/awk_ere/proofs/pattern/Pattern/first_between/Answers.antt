@@ -1,4 +1,4 @@
-use Rattle.std.proofs.Common.{◌≡◌, ◌+◌, ◌-◌, ◌/◌, subst, ⊎_elim, arith}
+use Rattle.std.proofs.Common.{◌≡◌, ◌+◌, subst, ⊎_elim, arith}
 use Rattle.std.proofs.lemmas.Bool.{cases_lt}
 use Rattle.awk_ere_syntax.specs.definitions.Tree.{Matches}
 use Rattle.awk_ere.proofs.StepTellsMatches.{match_le}
@@ -19,7 +19,7 @@ halves-preserved-in-Some c = record {
 
 pub halves-preserved : goal.halves-preserved
 halves-preserved c =
-    let middle = c.halves.first + (c.halves.last - c.halves.first) / 2 in
+    let middle = c.halves.first + c.min.result in
     record {
       same = c.end_between.ensures.same;
       order = omega (arith, c.halves.invariant.order);

@@ -14,5 +14,5 @@ bytes-preserved c = record {
   stood = λ t from means enters h.
       let one = c.advance-cursor.ensures.stood t from means (enters c.bytes.cursor.place c.bytes.invariant.order c.bytes-test.true) (c.bytes.invariant.stood t from means enters h) in
       let two = c.skip-cursor.ensures.stood t from means (λ k a b. enters k (omega (arith, a, c.advance-cursor.ensures.place, c.bytes.invariant.order)) b) one in
-      c.fast_loop-cursor.ensures.stood t from means (λ k a b. enters k (omega (arith, a, c.skip-cursor.ensures.order, c.advance-cursor.ensures.place, c.bytes.invariant.order)) (omega (arith, b, c.min-near.ensures))) two;
+      c.fast_loop-cursor.ensures.stood t from means (λ k a b. enters k (omega (arith, a, c.skip-cursor.ensures.order, c.advance-cursor.ensures.place, c.bytes.invariant.order)) (omega (arith, b, c.fast_loop-cursor.ensures.within, c.min-near.ensures))) two;
 }

@@ -1,0 +1,18 @@
+use Rattle.std.proofs.Common.{ℕ, ◌≤◌, ◌-◌, Bool, length, true}
+use Rattle.awk_ere_syntax.specs.definitions.Tree.{Tree}
+use Rattle.awk_ere.specs.definitions.Means.{Means}
+use Rattle.awk_ere.specs.support.Table.{IsKnown, IsFor}
+use Rattle.awk_ere.specs.support.CursorState.{Stood, Enters}
+use Rattle.awk_ere.proofs.pattern.Pattern.run.Given as goal
+
+abbrev pub invariant-bytes : goal.invariant-bytes
+invariant-bytes l = record {
+  same : IsFor l.scratch l.self;
+  known : IsKnown l.scratch.table l.cursor.state;
+  order : l.fn.cursor.place ≤ l.cursor.place;
+  within : l.cursor.place ≤ length l.text;
+  stood : (t : Tree) (from : ℕ → Bool) → Means t l.self → Enters from true l.fn.cursor.place l.cursor.place → Stood l.self l.fn.scratch.table l.text t from l.fn.cursor → Stood l.self l.scratch.table l.text t from l.cursor;
+}
+
+abbrev pub decreases-bytes : goal.decreases-bytes
+decreases-bytes l = length l.text - l.cursor.place
