@@ -65,14 +65,7 @@ fn main(rt: HostRuntime) -> ExitCode {
     }
 }
 PROGRAM
-(
-    cd "$program"
-    git init -q "$work"
-    rt run -- in-place 1
-) </dev/null >"$work/build.log" 2>&1 || {
-    tail -n 20 "$work/build.log" >&2
-    exit 2
-}
+build_program in-place 1
 
 . "$root/bench/rounds.sh"
 names=$(echo "$names" | sed 's/this/in-place anew/')
@@ -90,13 +83,9 @@ measure() {
         [ "$(cat "$work/output")" = "$count" ] || echo "$name prints something else" >&2
 }
 
-echo "| appends | $(echo "$names" | sed 's/ / | /g') |"
-echo "|---$(echo "$names" | sed 's/[^ ]*/|---/g' | tr -d ' ')|"
+head_of_table appends
 for count in 50000 100000 200000 400000; do
     take_rounds "$count"
     printf '| %s |' "$count"
-    for name in $names; do
-        printf ' %s |' "$(least_seconds "$name")"
-    done
-    echo
+    least_of_each
 done

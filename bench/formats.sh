@@ -112,14 +112,7 @@ fn main(rt: HostRuntime) -> ExitCode {
     }
 }
 PROGRAM
-(
-    cd "$program"
-    git init -q "$work"
-    rt run
-) </dev/null >"$work/build.log" 2>&1 || {
-    tail -n 20 "$work/build.log" >&2
-    exit 2
-}
+build_program
 
 . "$root/bench/rounds.sh"
 ! command -v original-awk >/dev/null || names="$names original-awk"
@@ -207,21 +200,9 @@ measure() {
     cmp -s "$work/this.output" "$work/$1.output" || echo "$1 prints something else" >&2
 }
 
-printf '| format |'
-for name in $names; do
-    printf ' %s |' "$name"
-done
-echo
-printf '|---|'
-for name in $names; do
-    printf -- '---|'
-done
-echo
+head_of_table format
 for format in '%8d|%-6s|%06d|%x' '%d %s %d %d' '%5d,%.2s,%+d,%#o'; do
     take_rounds "$format"
     printf '| `%s` |' "$(in_table "$format")"
-    for name in $names; do
-        printf ' %s |' "$(least_seconds "$name")"
-    done
-    echo
+    least_of_each
 done

@@ -82,14 +82,7 @@ fn main(rt: HostRuntime) -> ExitCode {
     }
 }
 PROGRAM
-(
-    cd "$program"
-    git init -q "$work"
-    rt run -- a
-) </dev/null >"$work/build.log" 2>&1 || {
-    tail -n 20 "$work/build.log" >&2
-    exit 2
-}
+build_program a
 
 # Two million lines of a log, of some fifty bytes each; one line of 1,000,000 bytes; 114,000 lines of
 # 49 bytes a and b, by the digits of numbers.
@@ -117,22 +110,10 @@ measure() {
 row() {
     take_rounds "$1" "$2"
     printf '| `%s` | %s | %s |' "$(in_table "$1")" "$2" "$(cat "$work/this.output")"
-    for name in $names; do
-        printf ' %s |' "$(least_seconds "$name")"
-    done
-    echo
+    least_of_each
 }
 
-printf '| pattern | input | lines |'
-for name in $names; do
-    printf ' %s |' "$name"
-done
-echo
-printf '|---|---|---|'
-for name in $names; do
-    printf -- '---|'
-done
-echo
+head_of_table pattern input lines
 for pattern in 'abc' '[0-9]+x' '(a|b)*c' '^GET .* 404$' 'missing'; do
     row "$pattern" log
 done

@@ -32,6 +32,26 @@ peak_memory() {
     sed 's/.* //' "$work/$1.times" | sort -n | tail -n 1
 }
 
+# The head of a table: the columns named, and one for each awk.
+head_of_table() {
+    for column in "$@" $names; do
+        printf '| %s ' "$column"
+    done
+    echo '|'
+    for column in "$@" $names; do
+        printf '|---'
+    done
+    echo '|'
+}
+
+# The rest of a row: the least seconds of each.
+least_of_each() {
+    for name in $names; do
+        printf ' %s |' "$(least_seconds "$name")"
+    done
+    echo
+}
+
 # A program or a pattern, as it is written in a table.
 in_table() {
     printf '%s' "$1" | sed 's/|/\\|/g'

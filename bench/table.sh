@@ -182,14 +182,7 @@ fn main(rt: HostRuntime) -> ExitCode {
     }
 }
 PROGRAM
-(
-    cd "$program"
-    git init -q "$work"
-    rt run -- fill
-) </dev/null >"$work/build.log" 2>&1 || {
-    tail -n 20 "$work/build.log" >&2
-    exit 2
-}
+build_program fill
 
 . "$root/bench/rounds.sh"
 ! command -v original-awk >/dev/null || names="$names original-awk"
@@ -215,16 +208,7 @@ row() {
     echo
 }
 
-printf '| 1,000,000 keys |'
-for name in $names; do
-    printf ' %s |' "$name"
-done
-echo
-printf '|---|'
-for name in $names; do
-    printf -- '---|'
-done
-echo
+head_of_table '1,000,000 keys'
 
 each='for (i = 0; i < 1000000; i++)'
 key='a["key" (1000000 + i)]'

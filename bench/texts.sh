@@ -267,14 +267,7 @@ fn main(rt: HostRuntime) -> ExitCode {
     }
 }
 PROGRAM
-(
-    cd "$program"
-    git init -q "$work"
-    rt run -- index a
-) </dev/null >"$work/build.log" 2>&1 || {
-    tail -n 20 "$work/build.log" >&2
-    exit 2
-}
+build_program index a
 
 # Random cases. A line has a kind (gsub, sub or substr), a pattern, a replacement and a text with tabs
 # between; of substr a start and a count stand in the place of the pattern and the replacement. Anchors
@@ -375,22 +368,10 @@ measure() {
 row() {
     take_rounds "$1" "$2" "$3"
     printf '| `%s` | %s |' "$(in_table "$3")" "$1"
-    for name in $names; do
-        printf ' %s |' "$(least_seconds "$name")"
-    done
-    echo
+    least_of_each
 }
 
-printf '| program | input |'
-for name in $names; do
-    printf ' %s |' "$name"
-done
-echo
-printf '|---|---|'
-for name in $names; do
-    printf -- '---|'
-done
-echo
+head_of_table program input
 for input in words long; do
     row $input 'gsub [aeiou] x' '{ gsub(/[aeiou]/, "x"); print }'
     row $input 'gsub [aeiou] <&>' '{ gsub(/[aeiou]/, "<&>"); print }'
