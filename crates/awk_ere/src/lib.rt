@@ -7,7 +7,8 @@
 //! - Sets that were met are the states of a deterministic automaton, which is made while it runs and kept in a table of
 //!   bounded room (Cox, "Regular expression matching in the wild", 2010).
 //! - A pattern that is a text and nothing else is searched for as that text.
-//! - Where the leftmost match begins is found by halving the places where it may.
+//! - The leftmost match is looked for at the first place where one may begin. Where none does there, one pass finds the
+//!   first end of a match and the stretch in which the leftmost one begins.
 #![tactic(auto)]
 
 mod dfa;

@@ -66,6 +66,7 @@ impl Pattern {
 
     // Between which places the leftmost match at or behind `from` begins: the first place behind which a match that ends
     // first has begun, and that end.
+    #[inline(never)]
     fn window(&self, text: &[u8], from: usize, scratch: &mut Scratch) -> Option<(usize, usize)>
         requires same { IsFor scratch.old self.now }
         requires within { from ≤ length text.now }
@@ -95,6 +96,7 @@ impl Pattern {
 
     // Where the leftmost match begins, of those that begin at a place from `low` up to `high`. There is one. The places
     // that are tried first are `low` alone, and then further on by a width that doubles.
+    #[inline(never)]
     fn first_between(&self, text: &[u8], low: usize, high: usize, scratch: &mut Scratch) -> usize
         requires same { IsFor scratch.old self.now }
         requires low { low ≤ length text.now }

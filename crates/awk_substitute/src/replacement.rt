@@ -26,16 +26,28 @@ fn is_escaped(replacement: &[u8], i: usize) -> bool
     }
 }
 
+// Adds a piece of text. Many are of one byte, or of none.
+pub(crate) fn add_piece(out: &mut Vec<u8>, piece: &[u8]) -> Result<(), TextFault>
+    ensures added { OnOk result (out.new.items ≡ out.old.items ++ piece.now) }
+    ensures memory { IfErr result (λ e. e ≡ TextFault.Memory) }
+{
+    if piece.len() == 1 {
+        out.push(piece[0])?;
+    } else {
+        out.extend_from_slice(piece)?;
+    }
+    Ok(())
+}
+
 // Adds what a byte stands for that isn't escaped.
 fn add_byte(out: &mut Vec<u8>, byte: u8, matched: &[u8]) -> Result<(), TextFault>
     ensures added { OnOk result (out.new.items ≡ out.old.items ++ bytes_for byte matched.now) }
     ensures memory { IfErr result (λ e. e ≡ TextFault.Memory) }
 {
     if byte == b'&' {
-        out.extend_from_slice(matched)?;
-    } else {
-        out.push(byte)?;
+        return add_piece(out, matched);
     }
+    out.push(byte)?;
     Ok(())
 }
 

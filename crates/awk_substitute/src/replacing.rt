@@ -10,24 +10,11 @@ ghost use Rattle.awk_substitute.specs.support.Escapes.{IsPlain};
 ghost use Rattle.awk_substitute.specs.support.Search.{LiesBehind};
 
 use crate::matching::{match_at, next_match};
-use crate::replacement::{add_replacement, is_plain};
+use crate::replacement::{add_piece, add_replacement, is_plain};
 use crate::substitution::Substitution;
 use awk_ere::{Pattern, Scratch};
 use awk_text::{Span, TextFault};
 use std::alloc::Global;
-
-// Adds a piece of text. Many are of one byte, or of none.
-fn add_piece(out: &mut Vec<u8>, piece: &[u8]) -> Result<(), TextFault>
-    ensures added { OnOk result (out.new.items ≡ out.old.items ++ piece.now) }
-    ensures memory { IfErr result (λ e. e ≡ TextFault.Memory) }
-{
-    if piece.len() == 1 {
-        out.push(piece[0])?;
-    } else {
-        out.extend_from_slice(piece)?;
-    }
-    Ok(())
-}
 
 // Adds what stands from a place up to a match, and what replaces the match. A plain replacement stands for itself.
 fn add_replaced(

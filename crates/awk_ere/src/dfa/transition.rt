@@ -11,6 +11,8 @@ use crate::simulation::{Input, PositionSet};
 
 impl Pattern {
     // A step from a state: whether the flow leaves before the byte.
+    #[cold]
+    #[inline(never)]
     fn step_from(
         &self,
         scratch: &mut Scratch,
@@ -39,6 +41,8 @@ impl Pattern {
     }
 
     /// Where a byte leads from a state: an entry, which is computed and kept.
+    #[cold]
+    #[inline(never)]
     pub(crate) fn compute_transition(
         &self,
         scratch: &mut Scratch,
