@@ -90,6 +90,17 @@ impl Filled {
         sum
     }
 
+    /// Numbers and texts in turn.
+    fn put_both(&mut self) -> Result<(), ValueFault> {
+        for n in 0..KEYS / 2 {
+            self.table.put_number(n as i64, Value::Number(n as i128))?;
+            self.write_key(n as u64)?;
+            self.table
+                .put(self.alloc, self.key.as_slice(), Value::Number(n as i128))?;
+        }
+        Ok(())
+    }
+
     /// How many bytes all keys have.
     fn walk(&self) -> Result<i128, ValueFault> {
         let mut sum: i128 = 0;
@@ -146,6 +157,14 @@ fn do_task(alloc: Global, task: &[u8]) -> Result<i128, ValueFault> {
         }
         b"walk_numbers" => {
             filled.put_numbers()?;
+            return filled.walk();
+        }
+        b"both" => {
+            filled.put_both()?;
+            return Ok(filled.table.len() as i128);
+        }
+        b"walk_both" => {
+            filled.put_both()?;
             return filled.walk();
         }
         _ => filled.put_texts()?,
@@ -217,16 +236,19 @@ numbers="$each a[i] = i"
 sum='printf "%.0f\n", s'
 count='for (k in a) n++; print n + 0'
 walk='for (k in a) n += length(k); print n'
+both="for (i = 0; i < 500000; i++) { a[i] = i; $key = i }"
 rotate="$each { delete $key; $key = i }"
 row fill 'texts put' "BEGIN { $texts; print 1000000 }"
 row texts 'texts put and read' "BEGIN { $texts; $each s += $key; $sum }"
 row numbers 'numbers put and read' "BEGIN { $numbers; $each s += a[i]; $sum }"
 row walk_texts 'texts put and walked' "BEGIN { $texts; $walk }"
 row walk_numbers 'numbers put and walked' "BEGIN { $numbers; $walk }"
+row both 'numbers and texts put in turn' "BEGIN { $both; print 1000000 }"
+row walk_both 'the same, and walked' "BEGIN { $both; $walk }"
 row first 'texts put and removed, first to last' "BEGIN { $texts; $each delete $key; $count }"
 row last 'texts put and removed, last to first' \
     "BEGIN { $texts; for (i = 999999; i >= 0; i--) delete $key; $count }"
 row scattered 'texts put and removed, scattered' \
     "BEGIN { $texts; $each delete a[\"key\" (1000000 + i * 524287 % 1000000)]; $count }"
 row rotate 'texts put, each removed and put again' "BEGIN { $texts; $rotate; print 1000000 }"
-row rotate_walk 'the same, and walked' "BEGIN { $texts; $rotate; $walk }"
+row rotate_walk 'the same, and then walked' "BEGIN { $texts; $rotate; $walk }"
