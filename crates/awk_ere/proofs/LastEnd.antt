@@ -9,7 +9,7 @@ use Rattle.awk_ere_compile.specs.definitions.Program.{code_size}
 use Rattle.awk_ere.specs.support.Simulation.{positions}
 use Rattle.awk_ere.specs.support.SimulationStep.{leaves}
 use Rattle.awk_ere.specs.support.CursorState.{Starts, Runs, Enters}
-use Rattle.awk_ere.specs.support.Found.{Longest, EndsAt, EndsBetween, between, LastEnd}
+use Rattle.awk_ere.specs.support.Found.{Longest, EndsAt, EndsBetween, EndsWithin, between, LastEnd}
 use Rattle.awk_ere.specs.declared.pattern.Pattern.{Pattern}
 use Rattle.awk_ere.proofs.DesugaredMatches.{desugar_to}
 use Rattle.awk_ere.proofs.ProgramSimulatesMarks.{position_at}
@@ -89,6 +89,11 @@ enters_end low high k len lh hl ge le =
     (λ same. eq-eqb high len same ∙ between_in low high k (omega (arith, lh, same, ge)) (omega (arith, le, same)))
     (λ other. ne_eqb high len other ∙ between_past low high k (omega (arith, lh, ge, hl, other)) (omega (arith, ge, hl, other)))
     (cases_eq high len)
+
+-- an end that lies up to a place lies up to one further on
+pub ends_within : (low a b : ℕ) (e : Option ℕ) → a ≤ b → EndsWithin low a e → EndsWithin low b e
+ends_within low a b None le h = h
+ends_within low a b (Some e) le h = (h.0, omega (arith, le, h.1))
 
 -- what an end tells where the text is read
 pub ends_longest : (t : Tree) (s : List ℕ) (i : ℕ) (b : Option ℕ) → i ≤ length s → EndsBetween false t s i i b → Longest t s i b

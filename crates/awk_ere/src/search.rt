@@ -5,7 +5,7 @@ ghost use Rattle.std.specs.Prelude.{◌≡◌, ◌↔◌, ℕ, ◌≤◌, true, 
 ghost use Rattle.awk_ere_syntax.specs.definitions.Tree.{Tree, NoneFrom, Finds, Occurs};
 ghost use Rattle.awk_ere.specs.definitions.Means.{Means, occurs};
 ghost use Rattle.awk_ere.specs.support.Table.{IsFor};
-ghost use Rattle.awk_ere.specs.support.Found.{Longest, OccursBetween, EndsAt, Begins, BeginsWithin};
+ghost use Rattle.awk_ere.specs.support.Found.{EndsWithin, Longest, OccursBetween, EndsAt, Begins, BeginsWithin};
 
 use crate::dfa::cursor::Cursor;
 use crate::pattern::Pattern;
@@ -14,9 +14,11 @@ use crate::scratch::Scratch;
 impl Pattern {
     // The end of the longest match that begins at `from`. One byte is read where a match begins, and the rest where none
     // does.
+    #[inline(always)]
     fn longest_from(&self, text: &[u8], from: usize, scratch: &mut Scratch) -> Option<usize>
         requires same { IsFor scratch.old self.now }
         requires within { from ≤ length text.now }
+        ensures within { EndsWithin from (length text.now) result }
         ensures found { (t : Tree) → Means t self.now → Longest t text.now from result }
         ensures same { IsFor scratch.new self.now }
     {
@@ -70,7 +72,7 @@ impl Pattern {
     fn window(&self, text: &[u8], from: usize, scratch: &mut Scratch) -> Option<(usize, usize)>
         requires same { IsFor scratch.old self.now }
         requires within { from ≤ length text.now }
-        ensures within { IfSome result (λ w. (w.0 ≤ length text.now) × (w.1 ≤ length text.now)) }
+        ensures within { IfSome result (λ w. (from ≤ w.0) × ((w.0 ≤ length text.now) × (w.1 ≤ length text.now))) }
         ensures found { (t : Tree) → Means t self.now → BeginsWithin t text.now from result }
         ensures same { IsFor scratch.new self.now }
     {
@@ -101,6 +103,7 @@ impl Pattern {
         requires same { IsFor scratch.old self.now }
         requires low { low ≤ length text.now }
         requires high { high ≤ length text.now }
+        ensures order { low ≤ result }
         ensures within { result ≤ length text.now }
         ensures found { (t : Tree) → Means t self.now → OccursBetween t text.now low high → Begins t text.now low (Some result) }
         ensures same { IsFor scratch.new self.now }
@@ -135,7 +138,8 @@ impl Pattern {
     }
 
     /// The leftmost match at or behind a place of the text, and of those the longest: where it begins and
-    /// where it ends (XBD 9.1). It takes no memory, and time that grows with the text times its logarithm.
+    /// where it ends (XBD 9.1). Both lie within the text, whatever the pattern means. It takes no memory, and time that
+    /// grows with the text times its logarithm.
     pub fn find_from(
         &self,
         text: &[u8],
@@ -144,6 +148,7 @@ impl Pattern {
     ) -> Option<(usize, usize)>
         requires same { IsFor scratch.old self.now }
         requires within { from ≤ length text.now }
+        ensures within { IfSome result (λ m. (from ≤ m.0) × ((m.0 ≤ m.1) × (m.1 ≤ length text.now))) }
         ensures found { (t : Tree) → Means t self.now → Finds t text.now from result }
         ensures same { IsFor scratch.new self.now }
     {

@@ -24,11 +24,6 @@ module _ (t : Tree) (s : List ℕ) where
     λ m c same. f.4 m.end (subst (λ k. Matches s t k m.end) same c.0.1),
   )
 
-  pub found_lies : (from i j : ℕ) → Finds t s from (Some (i, j)) → LiesBehind from s (record { start = i; end = j })
-  found_lies from i j f =
-      let stays = match_stays s t i j f.3 f.1 in
-      record { behind = f.0; order = stays.0; within = stays.1 }
-
   pub first_match : (found : Option Span) → FindsFrom t s 0 found → IsNextMatch t s None found
   first_match None none = λ m c. none m (c.0, omega arith)
   first_match (Some best) f = ((f.0.0, tt), λ m c. f.1 m (c.0, omega arith), λ m c same. f.2 m (c.0, omega arith) same)

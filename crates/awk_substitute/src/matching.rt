@@ -1,5 +1,5 @@
 // Where the matches are that the language chooses.
-ghost use Rattle.std.specs.Prelude.{◌≡◌, ◌+◌, ◌≤◌, ◌<◌, true, None, Some, length, IfSome};
+ghost use Rattle.std.specs.Prelude.{◌≡◌, ◌+◌, ◌≤◌, ◌<◌, None, Some, length, IfSome};
 ghost use Rattle.awk_ere.specs.definitions.Means.{Means};
 ghost use Rattle.awk_ere.specs.support.Table.{IsFor};
 ghost use Rattle.awk_ere_syntax.specs.definitions.Tree.{Tree};
@@ -10,16 +10,7 @@ ghost use Rattle.awk_substitute.specs.support.Search.{FindsFrom, IsLongest, Lies
 use awk_ere::{Pattern, Scratch};
 use awk_text::Span;
 
-// Whether the stretch lies within the text, at a place or behind it.
-fn lies_behind(found: Span, place: usize, text: &[u8]) -> bool
-    ensures lies { result ≡ true → LiesBehind place text.now found }
-    ensures only { LiesBehind place text.now found → result ≡ true }
-{
-    place <= found.start && found.start <= found.end && found.end <= text.len()
-}
-
-// The leftmost match at or behind a place, and of those the longest. That it lies there is tested, since a search
-// tells it only of a pattern whose meaning is known.
+// The leftmost match at or behind a place, and of those the longest.
 fn search_from(pattern: &Pattern, text: &[u8], from: usize, scratch: &mut Scratch) -> Option<Span>
     requires same { IsFor scratch.old pattern.now }
     requires within { from ≤ length text.now }
@@ -29,14 +20,7 @@ fn search_from(pattern: &Pattern, text: &[u8], from: usize, scratch: &mut Scratc
 {
     match pattern.find_from(text, from, scratch) {
         None => None,
-        Some((start, end)) => {
-            let found = Span { start, end };
-            if lies_behind(found, from, text) {
-                Some(found)
-            } else {
-                None
-            }
-        }
+        Some((start, end)) => Some(Span { start, end }),
     }
 }
 

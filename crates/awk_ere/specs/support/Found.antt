@@ -1,10 +1,14 @@
 -- What the parts of a search find.
-use Rattle.std.specs.Prelude.{◌≡◌, ℕ, ◌<◌, ◌≤◌, Bool, true, ◌&&◌, nat_le, List, length, Option, Some, None, IsSome}
+use Rattle.std.specs.Prelude.{◌≡◌, ℕ, ◌<◌, ◌≤◌, Bool, true, ◌&&◌, nat_le, List, length, Option, Some, None, IsSome, IfSome}
 use Rattle.awk_ere_syntax.specs.definitions.Tree.{Tree, Matches, NoneFrom}
 
 -- a place from one up to another
 abbrev pub between : ℕ → ℕ → ℕ → Bool
 between low high i = nat_le low i && nat_le i high
+
+-- the end of a match, if there is one, is a place from one up to another
+abbrev pub EndsWithin : ℕ → ℕ → Option ℕ → Type 0
+EndsWithin low high end = IfSome end (λ e. (low ≤ e) × (e ≤ high))
 
 -- the last place before n where a match ends that begins at a place that passes
 abbrev pub LastEnd : Tree → List ℕ → (ℕ → Bool) → ℕ → Option ℕ → Type 0

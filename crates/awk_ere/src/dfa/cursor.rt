@@ -6,6 +6,7 @@ ghost use Rattle.awk_ere.specs.definitions.Means.{Means};
 ghost use Rattle.awk_ere.specs.support.Layout.{first_state, dead_state, match_flag};
 ghost use Rattle.awk_ere.specs.support.Table.{IsKnown, IsState, IsEntry, IsTable, IsFor};
 ghost use Rattle.awk_ere.specs.support.CursorState.{Stood, Enters};
+ghost use Rattle.awk_ere.specs.support.Found.{EndsWithin};
 
 use crate::dfa::table::{DEAD, MATCH_FLAG, START, Table, UNKNOWN};
 use crate::pattern::Pattern;
@@ -96,6 +97,7 @@ impl Pattern {
         requires known { IsKnown scratch.old.table cursor.state }
         requires within { cursor.place < length text.now }
         ensures place { result.place ≡ cursor.place + 1 }
+        ensures end { (low : ℕ) → low ≤ cursor.place → EndsWithin low cursor.place cursor.end → EndsWithin low result.place result.end }
         ensures known { IsKnown scratch.new.table result.state }
         ensures stood { (t : Tree) (from : ℕ → Bool) → Means t self.now → entering ≡ from cursor.place →
             Stood self.now scratch.old.table text.now t from cursor → Stood self.now scratch.new.table text.now t from result }
@@ -257,6 +259,7 @@ impl Pattern {
         requires within { cursor.place ≤ length text.now }
         ensures order { cursor.place ≤ result.place }
         ensures within { result.place ≤ length text.now }
+        ensures end { (low : ℕ) → low ≤ cursor.place → EndsWithin low cursor.place cursor.end → EndsWithin low result.place result.end }
         ensures known { IsKnown table.now result.state }
         ensures stood { (t : Tree) (from : ℕ → Bool) → Means t self.now → Enters from false cursor.place (length text.now) →
             Stood self.now table.now text.now t from cursor → Stood self.now table.now text.now t from result }

@@ -1,7 +1,9 @@
-use Rattle.std.proofs.Common.{◌-◌, sym, subst, ⊎_elim}
+use Rattle.std.proofs.Common.{◌-◌, ◌≤◌, sym, subst, ⊎_elim, arith}
 use Rattle.std.proofs.lemmas.Bool.{cases_lt}
 use Rattle.awk_ere.specs.support.Layout.{match_flag}
 use Rattle.awk_ere.specs.support.Table.{IsKnown}
+use Rattle.awk_ere.specs.support.Found.{EndsWithin}
+use Rattle.awk_ere.proofs.LastEnd.{ends_within}
 use Rattle.awk_ere.proofs.TableKept.{state_of}
 use Rattle.awk_ere.proofs.CursorKept.{known_of, stood_miss, stood_hit}
 use Rattle.awk_ere.proofs.pattern.Pattern.advance.Goals as goal
@@ -31,4 +33,14 @@ returns-clause-stood c = λ t from means enters h.
     (λ large.
     let n = c.onto.ensures.hit large in
     stood_hit p old tb c.args.text.now t means from c.args.cursor h c.args.entering enters c.requires.within v e c.onto.result c.onto.ensures.place large n.0 n.1)
+    (cases_lt v match_flag)
+
+pub returns-clause-end : goal.returns-clause-end
+returns-clause-end c = λ low le h.
+    let v = c.entry-entry.result in
+    let place = c.args.cursor.place in
+    let up : place ≤ c.onto.result.place = omega (arith, c.onto.ensures.place) in
+    ⊎_elim
+    (λ small. subst (EndsWithin low c.onto.result.place) (sym (c.onto.ensures.miss small).1) (ends_within low place c.onto.result.place c.args.cursor.end up h))
+    (λ large. subst (EndsWithin low c.onto.result.place) (sym (c.onto.ensures.hit large).1) (le, up))
     (cases_lt v match_flag)

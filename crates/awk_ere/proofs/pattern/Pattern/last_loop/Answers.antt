@@ -2,6 +2,8 @@ use Rattle.std.proofs.Common.{◌+◌, ◌-◌, ◌<◌, length, false, refl, sy
 use Rattle.awk_ere.specs.support.Layout.{byte_count, stride, match_flag}
 use Rattle.awk_ere.specs.support.Table.{IsKnown, IsEntry}
 use Rattle.awk_ere.specs.declared.dfa.cursor.Cursor.{Cursor}
+use Rattle.awk_ere.specs.support.Found.{EndsWithin}
+use Rattle.awk_ere.proofs.LastEnd.{ends_within}
 use Rattle.awk_ere.proofs.StepTellsMatches.{still_off}
 use Rattle.awk_ere.proofs.TableKept.{state_of}
 use Rattle.awk_ere.proofs.CursorKept.{entry_of, entry_within, known_of, stood_miss, stood_hit, stood_still}
@@ -34,6 +36,7 @@ loop-k-preserved c =
     elim c.if-entry-lt-MATCH_FLAG.branch [
       | then-entry-lt-MATCH_FLAG b ↦ record {
         known = subst (IsKnown tb) (sym b.state-is) (known_of p tb u _ _ (e.goes some b.if-entry-lt-MATCH_FLAG.true));
+        end = λ low le h0. subst (EndsWithin low (k + 1)) (sym b.end-is) (ends_within low k (k + 1) c.loop-k.end (omega arith) (c.loop-k.invariant.end low le h0));
         stood = λ t from means enters h0.
             let h = c.loop-k.invariant.stood t from means enters h0 in
             stood_miss p tb tb s t means from w h false (enters k c.loop-k.auto.k c.loop-k-test.true) c.loop-k-test.true u
@@ -41,6 +44,7 @@ loop-k-preserved c =
       }
       | else-entry-lt-MATCH_FLAG b ↦ record {
         known = subst (IsKnown tb) (sym b.state-is) (known_of p tb (u - match_flag) _ _ (e.leads b.if-entry-lt-MATCH_FLAG.false));
+        end = λ low le h0. subst (EndsWithin low (k + 1)) (sym b.end-is) (omega (arith, le, c.loop-k.auto.k), omega arith);
         stood = λ t from means enters h0.
             let h = c.loop-k.invariant.stood t from means enters h0 in
             stood_hit p tb tb s t means from w h false (enters k c.loop-k.auto.k c.loop-k-test.true) c.loop-k-test.true u
@@ -49,7 +53,7 @@ loop-k-preserved c =
     ]
 
 pub loop-k-init : goal.loop-k-init
-loop-k-init c = record { known = c.requires.known; stood = λ _ _ _ _ h. h }
+loop-k-init c = record { known = c.requires.known; end = λ _ _ h. h; stood = λ _ _ _ _ h. h }
 
 pub returns-then-state-eq-DEAD-clause-stood : goal.returns-then-state-eq-DEAD-clause-stood
 returns-then-state-eq-DEAD-clause-stood c = λ t from means enters h0.
@@ -61,3 +65,14 @@ returns-then-state-eq-DEAD-clause-stood c = λ t from means enters h0.
     stood_still p c.args.table.now c.requires.table s (λ i. omega (arith, c.type_inv.text i)) t means from false (still_off t p means)
     (length s - k) w w' (c.loop-k.invariant.stood t from means enters h0) c.if-state-eq-DEAD.true c.if-state-eq-DEAD.true refl (omega (arith, c.loop-k-test.true)) (omega arith)
     (λ i a b. enters i (omega (arith, a, c.loop-k.auto.k)) b)
+
+pub returns-then-state-eq-DEAD-clause-end : goal.returns-then-state-eq-DEAD-clause-end
+returns-then-state-eq-DEAD-clause-end c = λ low le h0.
+    ends_within low c.loop-k.k (length c.args.text.now) c.loop-k.end (omega (arith, c.loop-k-test.true)) (c.loop-k.invariant.end low le h0)
+
+pub returns-then-entry-eq-UNKNOWN-clause-end : goal.returns-then-entry-eq-UNKNOWN-clause-end
+returns-then-entry-eq-UNKNOWN-clause-end c = c.loop-k.invariant.end
+
+pub returns-clause-end : goal.returns-clause-end
+returns-clause-end c = λ low le h0.
+    ends_within low c.loop-k.k (length c.args.text.now) c.loop-k.end (omega (arith, c.loop-k.auto.k-end, c.requires.within)) (c.loop-k.invariant.end low le h0)

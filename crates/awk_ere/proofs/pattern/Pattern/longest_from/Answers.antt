@@ -1,9 +1,9 @@
-use Rattle.std.proofs.Common.{◌≡◌, length, false, Some, sym, ap, ◌∙◌, arith}
+use Rattle.std.proofs.Common.{◌≡◌, length, false, Some, sym, ap, ◌∙◌, subst, arith}
 use Rattle.std.specs.Prelude.{nat_eq}
 use Rattle.std.proofs.lemmas.Bool.{leb-true, and_parts}
 use Rattle.awk_ere.specs.support.Layout.{first_state}
-use Rattle.awk_ere.specs.support.Found.{between}
-use Rattle.awk_ere.proofs.LastEnd.{enters_once, between_past, enters_end, ends_longest}
+use Rattle.awk_ere.specs.support.Found.{EndsWithin, between}
+use Rattle.awk_ere.proofs.LastEnd.{enters_once, between_past, enters_end, ends_longest, ends_within}
 use Rattle.awk_ere.proofs.CursorKept.{known_first, stood_begin, end_hit, end_miss}
 use Rattle.awk_ere.proofs.pattern.Pattern.longest_from.Goals as goal
 
@@ -17,6 +17,7 @@ bytes-init c =
       known = known_first p tb c.requires.same.table from c.begin-cursor.result.state c.begin-cursor.ensures.state;
       order = omega (arith, c.begin-cursor.ensures.place);
       within = omega (arith, c.begin-cursor.ensures.place, c.requires.within);
+      end = subst (EndsWithin from c.begin-cursor.result.place) (sym c.begin-cursor.ensures.end) tt;
       stood = λ t means. stood_begin p tb c.requires.same.table c.args.text.now t means (between from from) c.begin-cursor.result
           (λ i f. let le = leb-true from i (and_parts _ _ f).0 in omega (arith, le, c.begin-cursor.ensures.place))
           (c.begin-cursor.ensures.state ∙ ap first_state (sym c.begin-cursor.ensures.place)) c.begin-cursor.ensures.end;
@@ -31,6 +32,8 @@ bytes-preserved c =
       known = c.last_loop-cursor.ensures.known;
       order = omega (arith, c.bytes.invariant.order, c.advance-cursor.ensures.place, c.last_loop-cursor.ensures.order);
       within = c.last_loop-cursor.ensures.within;
+      end = c.last_loop-cursor.ensures.end from (omega (arith, c.bytes.invariant.order, c.advance-cursor.ensures.place))
+          (c.advance-cursor.ensures.end from c.bytes.invariant.order c.bytes.invariant.end);
       stood = λ t means.
           let one = c.advance-cursor.ensures.stood t (between from from) means once (c.bytes.invariant.stood t means) in
           c.last_loop-cursor.ensures.stood t (between from from) means
@@ -60,3 +63,6 @@ returns-clause-found c = λ t means.
     let left = c.leaves_at_end.ensures.leaves h.start h.positions h.state in
     ends_longest t s from _ c.requires.within
     (end_miss false p c.bytes.scratch.table s t means from from c.bytes.cursor h end (nat_eq from (length s)) c.leaves_at_end.result enters left c.if-leaves_at_end.false)
+
+pub returns-clause-within : goal.returns-clause-within
+returns-clause-within c = ends_within c.args.from c.bytes.cursor.place (length c.args.text.now) c.bytes.cursor.end c.bytes.invariant.within c.bytes.invariant.end

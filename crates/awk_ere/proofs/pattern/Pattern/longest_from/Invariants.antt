@@ -3,7 +3,7 @@ use Rattle.awk_ere_syntax.specs.definitions.Tree.{Tree}
 use Rattle.awk_ere.specs.definitions.Means.{Means}
 use Rattle.awk_ere.specs.support.Table.{IsKnown, IsFor}
 use Rattle.awk_ere.specs.support.CursorState.{Stood}
-use Rattle.awk_ere.specs.support.Found.{between}
+use Rattle.awk_ere.specs.support.Found.{EndsWithin, between}
 use Rattle.awk_ere.proofs.pattern.Pattern.longest_from.Given as goal
 
 abbrev pub invariant-bytes : goal.invariant-bytes
@@ -12,6 +12,7 @@ invariant-bytes l = record {
   known : IsKnown l.scratch.table l.cursor.state;
   order : l.from ≤ l.cursor.place;
   within : l.cursor.place ≤ length l.text;
+  end : EndsWithin l.from l.cursor.place l.cursor.end;
   stood : (t : Tree) → Means t l.self → Stood l.self l.scratch.table l.text t (between l.from l.from) l.cursor;
 }
 

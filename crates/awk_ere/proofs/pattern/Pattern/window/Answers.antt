@@ -12,7 +12,8 @@ run-cursor-requires-clause-known c =
     known_first c.args.self.now c.runs.scratch.table c.runs.invariant.same.table c.next_candidate-low.result c.begin.result.state c.begin.ensures.state
 
 pub returns-in-Some-clause-within : goal.returns-in-Some-clause-within
-returns-in-Some-clause-within c = (c.next_candidate-low.ensures.within, omega arith)
+returns-in-Some-clause-within c =
+    (omega (arith, c.runs.invariant.order, c.next_candidate-low.ensures.order), (c.next_candidate-low.ensures.within, omega arith))
 
 pub returns-in-Some-clause-found : goal.returns-in-Some-clause-found
 returns-in-Some-clause-found c = λ t means.
