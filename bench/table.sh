@@ -12,10 +12,11 @@ rounds=${1:-3}
 limit=20
 . "$(dirname "$0")/program.sh"
 
-# The program: its first word is the task, and it prints a number as a check.
+# The program: its first word says what an array is filled with, the second what is done with it, and it prints a number
+# as a check.
 program_over use_table 'awk_value awk_table' 'awk_value awk_table itoa'
 cat >"$program/src/main.rt" <<'PROGRAM'
-//! Fills arrays of 1,000,000 keys, and does with them what its first word says.
+//! Fills an array of 1,000,000 keys as its first word says, and does with it what the second says.
 #![tactic(auto)]
 
 use awk_table::Table;
@@ -148,47 +149,51 @@ impl Filled {
     }
 }
 
-fn do_task(alloc: Global, task: &[u8]) -> Result<i128, ValueFault> {
-    let mut filled = Filled::new(alloc);
-    match task {
-        b"numbers" => {
-            filled.put_numbers()?;
-            return Ok(filled.get_numbers());
+impl Filled {
+    fn fill(&mut self, what: &[u8]) -> Result<(), ValueFault> {
+        match what {
+            b"numbers" => self.put_numbers(),
+            b"both" => self.put_both(),
+            b"rotated" => {
+                self.put_texts()?;
+                self.rotate()
+            }
+            _ => self.put_texts(),
         }
-        b"walk_numbers" => {
-            filled.put_numbers()?;
-            return filled.walk();
-        }
-        b"both" => {
-            filled.put_both()?;
-            return Ok(filled.table.len() as i128);
-        }
-        b"walk_both" => {
-            filled.put_both()?;
-            return filled.walk();
-        }
-        _ => filled.put_texts()?,
     }
-    match task {
-        b"texts" => return filled.get_texts(),
-        b"walk_texts" => return filled.walk(),
-        b"first" => filled.remove_from_the_first()?,
-        b"last" => filled.remove_from_the_last()?,
-        b"scattered" => filled.remove_scattered()?,
-        b"rotate" => filled.rotate()?,
-        b"rotate_walk" => {
-            filled.rotate()?;
-            return filled.walk();
+
+    fn remove(&mut self, what: &[u8]) -> Result<(), ValueFault> {
+        match what {
+            b"first" => self.remove_from_the_first(),
+            b"last" => self.remove_from_the_last(),
+            b"scattered" => self.remove_scattered(),
+            _ => Ok(()),
         }
-        _ => {}
     }
-    Ok(filled.table.len() as i128)
+
+    fn work(&mut self, what: &[u8]) -> Result<i128, ValueFault> {
+        match what {
+            b"read" => self.get_texts(),
+            b"sum" => Ok(self.get_numbers()),
+            b"walk" => self.walk(),
+            _ => {
+                self.remove(what)?;
+                Ok(self.table.len() as i128)
+            }
+        }
+    }
+}
+
+fn word<R: Env + AllocGlobal>(rt: &R, place: usize) -> Option<Vec<u8>> {
+    let mut room = [0u8; 256];
+    let length = rt.arg(place, &mut room).ok()?;
+    Vec::from_slice(rt.alloc(), &room[..length]).ok()
 }
 
 fn check_number<R: Env + AllocGlobal>(rt: &R) -> Option<i128> {
-    let mut word = [0u8; 256];
-    let length = rt.arg(1, &mut word).ok()?;
-    do_task(rt.alloc(), &word[..length]).ok()
+    let mut filled = Filled::new(rt.alloc());
+    filled.fill(word(rt, 1)?.as_slice()).ok()?;
+    filled.work(word(rt, 2)?.as_slice()).ok()
 }
 
 fn main(rt: HostRuntime) -> ExitCode {
@@ -201,20 +206,21 @@ fn main(rt: HostRuntime) -> ExitCode {
     }
 }
 PROGRAM
-build_program fill
+build_program texts put
 
 . "$root/bench/rounds.sh"
 ! command -v original-awk >/dev/null || names="$names original-awk"
 
 # Runs one of them at a task, and notes its seconds and its peak memory.
 measure() {
-    case $1 in
-    this) set -- "$1" "$program/out/use_table" "$2" ;;
-    *) set -- "$1" "$1" "$3" ;;
+    name=$1
+    case $name in
+    this) set -- "$program/out/use_table" $2 ;;
+    *) set -- "$name" "$3" ;;
     esac
-    ! LC_ALL=C command time -q -f '%e %M' -o "$work/$1.times" -a timeout "$limit" "$2" "$3" \
-        </dev/null >"$work/$1.output" || cmp -s "$work/this.output" "$work/$1.output" ||
-        echo "$1 counts something else for $3" >&2
+    ! LC_ALL=C command time -q -f '%e %M' -o "$work/$name.times" -a timeout "$limit" "$@" \
+        </dev/null >"$work/$name.output" || cmp -s "$work/this.output" "$work/$name.output" ||
+        echo "$name counts something else: $*" >&2
 }
 
 # A row: the least seconds and the peak memory of each.
@@ -238,17 +244,17 @@ count='for (k in a) n++; print n + 0'
 walk='for (k in a) n += length(k); print n'
 both="for (i = 0; i < 500000; i++) { a[i] = i; $key = i }"
 rotate="$each { delete $key; $key = i }"
-row fill 'texts put' "BEGIN { $texts; print 1000000 }"
-row texts 'texts put and read' "BEGIN { $texts; $each s += $key; $sum }"
-row numbers 'numbers put and read' "BEGIN { $numbers; $each s += a[i]; $sum }"
-row walk_texts 'texts put and walked' "BEGIN { $texts; $walk }"
-row walk_numbers 'numbers put and walked' "BEGIN { $numbers; $walk }"
-row both 'numbers and texts put in turn' "BEGIN { $both; print 1000000 }"
-row walk_both 'the same, and walked' "BEGIN { $both; $walk }"
-row first 'texts put and removed, first to last' "BEGIN { $texts; $each delete $key; $count }"
-row last 'texts put and removed, last to first' \
+row 'texts put' 'texts put' "BEGIN { $texts; print 1000000 }"
+row 'texts read' 'texts put and read' "BEGIN { $texts; $each s += $key; $sum }"
+row 'numbers sum' 'numbers put and read' "BEGIN { $numbers; $each s += a[i]; $sum }"
+row 'texts walk' 'texts put and walked' "BEGIN { $texts; $walk }"
+row 'numbers walk' 'numbers put and walked' "BEGIN { $numbers; $walk }"
+row 'both put' 'numbers and texts put in turn' "BEGIN { $both; print 1000000 }"
+row 'both walk' 'the same, and walked' "BEGIN { $both; $walk }"
+row 'texts first' 'texts put and removed, first to last' "BEGIN { $texts; $each delete $key; $count }"
+row 'texts last' 'texts put and removed, last to first' \
     "BEGIN { $texts; for (i = 999999; i >= 0; i--) delete $key; $count }"
-row scattered 'texts put and removed, scattered' \
+row 'texts scattered' 'texts put and removed, scattered' \
     "BEGIN { $texts; $each delete a[\"key\" (1000000 + i * 524287 % 1000000)]; $count }"
-row rotate 'texts put, each removed and put again' "BEGIN { $texts; $rotate; print 1000000 }"
-row rotate_walk 'the same, and then walked' "BEGIN { $texts; $rotate; $walk }"
+row 'rotated put' 'texts put, each removed and put again' "BEGIN { $texts; $rotate; print 1000000 }"
+row 'rotated walk' 'the same, and then walked' "BEGIN { $texts; $rotate; $walk }"

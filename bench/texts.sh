@@ -2,8 +2,9 @@
 # Runs a small program over the libraries awk_text and awk_substitute beside the other awks of this machine.
 # First random cases of gsub, sub, match and substr, byte for byte: it prints how many of them each awk
 # answers in another way, and the first few of those. Then times, a row for each: the least seconds of the
-# rounds. A run is stopped after 60 seconds. The program is made, proved and built in a folder of its own,
-# over what the repository has built. Needs gawk, GNU time, timeout, seq, tr and paste.
+# rounds, of the processor in user mode, which other work on the machine changes least. A run is stopped after
+# 60 seconds. The program is made, proved and built in a folder of its own, over what the repository has built.
+# Needs gawk, GNU time, timeout, seq, tr and paste.
 #
 #   bench/texts.sh [ROUNDS [CASES]]
 set -eu
@@ -359,7 +360,7 @@ measure() {
     input=$2
     name=$1
     shift 2
-    LC_ALL=C command time -q -f '%e' -o "$work/$name.times" -a timeout "$limit" "$@" \
+    LC_ALL=C command time -q -f '%U' -o "$work/$name.times" -a timeout "$limit" "$@" \
         <"$work/$input" >"$work/$name.output" || echo "$name fails: $*" >&2
     cmp -s "$work/this.output" "$work/$name.output" || echo "$name answers something else: $*" >&2
 }
