@@ -1,10 +1,8 @@
 -- How what the parts of the code do is put together.
-use Rattle.std.proofs.Common.{◌≡◌, inl, ℕ, ◌≤◌, List, [], ◌∷◌, ◌++◌, length, Option, Some, None, Result, Ok, Err, refl, sym, ap, ◌∙◌, subst, append_assoc, append-nil, arith}
-use Rattle.awk_streams.specs.Log.{Event}
-use Rattle.awk_streams.specs.Writes.{with_events}
+use Rattle.std.proofs.Common.{◌≡◌, inl, ℕ, ◌≤◌, List, [], ◌++◌, None, Result, Ok, Err, refl, sym, ap, ◌∙◌, subst, append_assoc, append-nil, arith}
 use Rattle.awk_streams.specs.Openings.{in_order}
 use Rattle.awk_streams.specs.Oracle.{Oracle}
-use Rattle.awk_streams.specs.Streams.{StreamsView, AreOpen, AreSound, IsSoundMain, Grows, IsMainRest, printed_openings}
+use Rattle.awk_streams.specs.Streams.{StreamsView, AreOpen, AreSound, IsSoundMain, IsMainRest, printed_openings}
 use Rattle.awk_interpreter.specs.declared.interpreter.Interpreter.{Interpreter}
 use Rattle.awk_meaning.specs.declared.halt.Halt.{Halt}
 use Rattle.awk_meaning.specs.declared.halt.Halt.TheVariants as halt
@@ -17,50 +15,8 @@ use Rattle.awk_variables.specs.Variables.{value_of}
 use Rattle.awk_streams.specs.WorldState.{WorldState}
 use Rattle.awk_interpreter.specs.support.Simulation.{OwnRelation, stage_of, standard_openings, StateRelation, FailureRelation, ResultRelationBy, ResultRelation, SimulatesLogged, Simulates, Changes, Beside, SameState}
 use Rattle.awk_meaning.specs.Results.{Sort, WantOfMemory, FailedWrite, OfLanguage, sort_of, YieldsBy, Yields}
+use Rattle.awk_streams.proofs.GrowsLemmas.{Grows-self, Grows-then}
 use Rattle.awk_interpreter.proofs.OrderLemmas.{begins_still, begins_same, begins-longer}
-
-none_some : {P : Type 0} (n : ℕ) → None ≡ Some n → P
-none_some n e = absurd cc
-
-same_some : (m n : ℕ) → Some m ≡ Some n → m ≡ n
-same_some m n e = cc
-
-pub grows_refl : (k : WorldState) → Grows k k
-grows_refl k = record {
-  events = [];
-  log = refl;
-  consistent = λ a h. h;
-  kept = λ n e. e;
-  met = λ none n some. none_some n (sym none ∙ some);
-}
-
-with_events-append : (xs ys log : List Event) → with_events (xs ++ ys) log ≡ with_events ys (with_events xs log)
-with_events-append [] ys log = refl
-with_events-append (x ∷ xs) ys log = with_events-append xs ys (x ∷ log)
-
-with_events-longer : (es log : List Event) → length log ≤ length (with_events es log)
-with_events-longer [] log = omega arith
-with_events-longer (e ∷ es) log = omega (arith, with_events-longer es (e ∷ log))
-
-met_then : (a b c : WorldState) (o : Option ℕ) → b.first_failure ≡ o → Grows a b → Grows b c → a.first_failure ≡ None → (n : ℕ) → c.first_failure ≡ Some n → (length a.log ≤ n) × (n ≤ length c.log)
-met_then a b c None is x y none n some =
-    let long : length b.log ≡ length (with_events x.events a.log) = ap length x.log in
-    let between = y.met is n some in
-    (omega (arith, long, with_events-longer x.events a.log, between.0), between.1)
-met_then a b c (Some m) is x y none n some =
-    let between = x.met none m is in
-    let at : m ≡ n = same_some m n (sym (y.kept m is) ∙ some) in
-    let long : length c.log ≡ length (with_events y.events b.log) = ap length y.log in
-    (omega (arith, at, between.0), omega (arith, at, between.1, long, with_events-longer y.events b.log))
-
-pub grows_trans : {a b c : WorldState} → Grows a b → Grows b c → Grows a c
-grows_trans {a = a} {b = b} {c = c} x y = record {
-  events = x.events ++ y.events;
-  log = y.log ∙ (ap (with_events y.events) x.log ∙ sym (with_events-append x.events y.events a.log));
-  consistent = λ oracle h. x.consistent oracle (y.consistent oracle h);
-  kept = λ n e. y.kept n (x.kept n e);
-  met = met_then a b c b.first_failure refl x y;
-}
 
 -- what a failure left still begins with what is printed, and with more
 failure_longer : {failure : Type 0} {m : Interpreter} {k : WorldState} (past xs ys : List Effect) → FailureRelation failure m k (past ++ xs) → FailureRelation failure m k (past ++ (xs ++ ys))
@@ -103,7 +59,7 @@ err_on oracle m k (OfLanguage reason) past f (Err e) t effects c = let q : Err e
 pub then_logged : {A B : Type 0} {old mid new : Interpreter} {before between after : WorldState} {a : A} {r : Result B Halt} {run : Run A} (f : A → Run B) → SimulatesLogged old before mid between (Ok a) run → SimulatesLogged mid between new after r (f a) → SimulatesLogged old before new after r (run >>= f)
 unfolding ◌>>=◌
 then_logged {new = new} {after = after} {a = a} {r = r} {run = run} f x y = record {
-  grows = grows_trans x.grows y.grows;
+  grows = Grows-then x.grows y.grows;
   keeps = λ sound. y.keeps (x.keeps sound);
   keeps_main = λ sound. y.keeps_main (x.keeps_main sound);
   means = λ oracle s past consistent stands.
@@ -126,7 +82,7 @@ ends_logged {new = new} {after = after} {h = h} {run = run} f x = record {
 -- want of memory may be met anywhere
 pub memory_logged : {A : Type 0} (m : Interpreter) (k : WorldState) (run : Run A) → SimulatesLogged m k m k (Err (halt.Fault OutOfMemory)) run
 memory_logged m k run = record {
-  grows = grows_refl k;
+  grows = Grows-self k;
   keeps = λ sound. sound;
   keeps_main = λ sound. sound;
   means = λ oracle s past consistent stands. unfailed oracle m m k s past (run s).effects refl stands (λ none. inl none);
@@ -148,7 +104,7 @@ lifted oracle m k (Err h) r s past e stands = lifted_by oracle m k (sort_of h) r
 pub lift_logged : {A : Type 0} {c : Result A Halt} (r : Result A Halt) (m : Interpreter) (k : WorldState) → Yields c r → SimulatesLogged m k m k c (lift r)
 unfolding lift
 lift_logged {c = c} r m k e = record {
-  grows = grows_refl k;
+  grows = Grows-self k;
   keeps = λ sound. sound;
   keeps_main = λ sound. sound;
   means = λ oracle s past consistent stands. lifted oracle m k c r s past e stands;
@@ -202,7 +158,7 @@ pub memory_changes : {A : Type 0} (run : Run A) {old new : Interpreter} → new.
 memory_changes run same low = record {
   steps = low;
   streams = same;
-  means = λ k. record { grows = grows_refl k; keeps = sound_same k _ _ same; keeps_main = main_same k _ _ same; means = λ oracle s past consistent stands. unfailed oracle _ _ k s past (run s).effects same stands (λ none. inl none) };
+  means = λ k. record { grows = Grows-self k; keeps = sound_same k _ _ same; keeps_main = main_same k _ _ same; means = λ oracle s past consistent stands. unfailed oracle _ _ k s past (run s).effects same stands (λ none. inl none) };
 }
 
 -- a state that differs in the code's own part alone stands after the same effects
@@ -241,7 +197,7 @@ own_changes {c = c} {old = old} {new = new} run same low own = record {
   steps = low;
   streams = same;
   means = λ k. record {
-    grows = grows_refl k;
+    grows = Grows-self k;
     keeps = sound_same k _ _ same;
     keeps_main = main_same k _ _ same;
     means = λ oracle s past consistent stands.

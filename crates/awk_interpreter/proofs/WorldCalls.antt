@@ -25,7 +25,8 @@ use Rattle.awk_meaning.specs.Primitives.{print_bytes, print_line, counted, opene
 use Rattle.awk_meaning.specs.Order.{AreBetween, GoesBetween, ReadsMainAsRequested, Meets, first_stage}
 use Rattle.awk_streams.specs.WorldState.{WorldState}
 use Rattle.awk_interpreter.specs.support.Simulation.{OwnRelation, number_of, stage_of, standard_openings, StateRelation, FailureRelation, FailedLast, ResultRelation, SimulatesLogged, Simulates, Follows, ClosesMainInput, Beside, halted}
-use Rattle.awk_interpreter.proofs.Composition.{beside_holds, grows_refl}
+use Rattle.awk_streams.proofs.GrowsLemmas.{Grows-self}
+use Rattle.awk_interpreter.proofs.Composition.{beside_holds}
 use Rattle.awk_interpreter.proofs.OrderLemmas.{turn_between, turn_requested, writes_between, main_as_requested, standard_requested, standard_printed, begins_still}
 
 -- a state whose main input alone is another stands for the same
@@ -346,7 +347,7 @@ none_comes oracle m k s past (Some v) rest separator e main stands = absurd (cc)
 
 takes_none_logged : {m : Interpreter} {k : WorldState} → m.streams.main ≡ None → SimulatesLogged m k m k (Ok None) take_record
 takes_none_logged {m = m} {k = k} none = record {
-  grows = grows_refl k;
+  grows = Grows-self k;
   keeps = λ sound. sound;
   keeps_main = λ sound. sound;
   means = λ oracle s past consistent stands.
@@ -381,7 +382,7 @@ refuses_comes oracle m k s past (Some v) (Some source) is there main same stands
 
 refuses_logged : {m : Interpreter} {k : WorldState} → str_of (value_of m.variables (name_of Rs)) ≡ [] → is_some m.streams.main ≡ true → SimulatesLogged m k m k (Err (halt.Fault faults.RecordSeparatorTooLong)) take_record
 refuses_logged {m = m} {k = k} empty there = record {
-  grows = grows_refl k;
+  grows = Grows-self k;
   keeps = λ sound. sound;
   keeps_main = λ sound. sound;
   means = λ oracle s past consistent stands.

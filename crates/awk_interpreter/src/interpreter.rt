@@ -1,9 +1,9 @@
 // The interpreter: the state of a run, and what it can do by itself.
 
-ghost use Rattle.std.specs.Prelude.{◌≡◌, ℕ, List, pos, true, None, [], codes, bytes_eq, map, IfOk, IfErr};
+ghost use Rattle.std.specs.Prelude.{◌≡◌, pos, true, None, [], codes, bytes_eq, map, IfOk, IfErr};
 ghost use Rattle.awk_value.specs.declared.value.Value.TheVariants.{Text};
 ghost use Rattle.awk_meaning.specs.State.{lift};
-ghost use Rattle.awk_variables.specs.Variables.{name_of, value_of, initial_value};
+ghost use Rattle.awk_variables.specs.Variables.{name_of};
 ghost use Rattle.awk_meaning.specs.Primitives.{read_name, put, count_in, field_at, record_text, set_record, print_line, note_input, begin_input};
 ghost use Rattle.awk_meaning.specs.Semantics.{begin_record};
 ghost use Rattle.awk_meaning.specs.Operators.{applied, takes_pattern};
@@ -62,16 +62,14 @@ fn streams_with_room(alloc: Global) -> Result<Streams, Halt>
     Ok(streams)
 }
 
-/// The variables, the record at hand and the patterns, before a run for which ARGV has so many elements.
-fn fresh_parts(alloc: Global, arguments: usize) -> Result<(Variables, Record, Patterns), Halt>
-    ensures variables { IfOk result (λ parts. (x : List ℕ) → value_of parts.0 x ≡ initial_value arguments x) }
-    ensures text { IfOk result (λ parts. parts.1.text ≡ []) }
-    ensures fields { IfOk result (λ parts. parts.1.fields ≡ []) }
+/// The record at hand and the patterns before a run.
+fn record_and_patterns(alloc: Global) -> Result<(Record, Patterns), Halt>
+    ensures text { IfOk result (λ parts. parts.0.text ≡ []) }
+    ensures fields { IfOk result (λ parts. parts.0.fields ≡ []) }
     ensures memory { IfErr result IsWantOfMemory }
 {
-    let variables = Variables::new(alloc, arguments)?;
     let current = Record::new(alloc)?;
-    Ok((variables, current, Patterns::new(alloc)?))
+    Ok((current, Patterns::new(alloc)?))
 }
 
 impl Interpreter {
@@ -82,7 +80,8 @@ impl Interpreter {
     {
         let streams = streams_with_room(alloc)?;
         let arguments = Arguments::new(alloc, operands)?;
-        let (variables, current, patterns) = fresh_parts(alloc, arguments.words.len())?;
+        let variables = Variables::new(alloc, arguments.words.len())?;
+        let (current, patterns) = record_and_patterns(alloc)?;
         Ok(Interpreter {
             alloc,
             current,

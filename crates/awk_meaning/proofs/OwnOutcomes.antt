@@ -1,5 +1,5 @@
 -- The meaning of a program is never want of memory nor a failed write: these come from a run of the code alone.
-use Rattle.std.proofs.Common.{◌≡◌, ◌≢◌, ℕ, zero, suc, ℤ, pos, negsuc, Bool, true, false, if◌then◌else◌, List, [], ◌∷◌, ◌++◌, Option, Some, None, Result, Ok, Err, refl, sym, ap, ◌∙◌, subst}
+use Rattle.std.proofs.Common.{◌≡◌, ◌≢◌, ℕ, zero, suc, ℤ, pos, negsuc, Bool, true, false, if◌then◌else◌, List, [], ◌∷◌, ◌++◌, Option, Some, None, Result, Ok, Err}
 use Rattle.std.specs.Prelude.{neg_ℤ, ◌+ℤ◌, ◌-ℤ◌, ◌*ℤ◌, int_div, int_rem}
 use Rattle.awk_text.specs.declared.separator.Separator.{Separator}
 use Rattle.awk_text.specs.declared.fault.TextFault.{TextFault}
@@ -21,11 +21,9 @@ use Rattle.awk_tree.specs.declared.tree.UnaryOperator.TheVariants as unary
 use Rattle.awk_tree.specs.declared.tree.BinaryOperator.{BinaryOperator}
 use Rattle.awk_tree.specs.declared.tree.BinaryOperator.TheVariants.{Times, Divide, Remainder, Plus, Minus, Concatenate, Less, LessEqual, Equal, NotEqual, Greater, GreaterEqual, Matches, NotMatches}
 use Rattle.awk_tree.specs.Tree.{Expr, Number, String, Ere, Name, Group, Field, Unary, Binary, Assign, Exprs, Nil, Cons, Statement, Block, Expression, Print, Statements, NoMore as NoStatement, Then, Item, Begin, Action, Pattern, PatternAction}
-use Rattle.awk_meaning.specs.declared.outcome.Outcome.{Outcome}
-use Rattle.awk_meaning.specs.declared.outcome.Outcome.TheVariants.{Ended, Fault, Stopped}
-use Rattle.awk_meaning.specs.declared.fault as declared
+use Rattle.awk_meaning.specs.declared.outcome.Outcome.TheVariants.{Fault}
 use Rattle.awk_meaning.specs.declared.fault.Fault.TheVariants as faults
-use Rattle.awk_meaning.specs.definitions.State.{State, Out, Run, go_on, ◌>>=◌, lift, Effect}
+use Rattle.awk_meaning.specs.definitions.State.{State, Run, go_on, ◌>>=◌, lift, Effect}
 use Rattle.awk_meaning.specs.declared.flow.Flow.{Flow}
 use Rattle.awk_meaning.specs.declared.flow.Flow.TheVariants as flow
 use Rattle.awk_meaning.specs.declared.halt.Halt.{Halt}
@@ -35,7 +33,7 @@ use Rattle.awk_variables.specs.declared.special.Special.TheVariants.{Argc, Filen
 use Rattle.awk_variables.specs.Variables.{name_of, is_refused}
 use Rattle.awk_lex.specs.Escapes.{unescaped}
 use Rattle.awk_meaning.specs.definitions.Primitives.{spend, spend_of, read_name, put_unless, put, count_in, field_at, record_text, split_as, set_record, print_bytes, print_line, opened, open_main, note_input, begin_input, taken, taken_of, take_record, close_main, argument_if, argument_below, take_argument, is_input_seen}
-use Rattle.awk_meaning.specs.definitions.Operators.{changed, matched_by, of_match, matched, applied, raised, field_by, field_value, takes_pattern}
+use Rattle.awk_meaning.specs.definitions.Operators.{changed, matched_by, of_match, applied, raised, field_by, takes_pattern}
 use Rattle.awk_meaning.specs.definitions.Faults.{value_fault, of_values, of_record}
 use Rattle.awk_meaning.specs.definitions.Inputs.{is_unassignable, text_or_fault, assigned_text, assign_text, Operand, Nothing, Assignment, StandardInput, AFile, operand_of, at_end, main_record, path_of, first_record, record_by, operand_record, standard_unless, standard_record, or_else, search_by, search_operands_within, search_operands, next_record}
 use Rattle.awk_meaning.specs.definitions.Semantics.{right_operand, eval, eval_all, printed_values, print, pass_on, exec, exec_all, run_action, run_if, try_item, try_items, unless_next, until_next, begin_record, on_record, each_record, run_records, begin_item, begin_items, has_rule, run_items}

@@ -3,13 +3,10 @@ use Rattle.std.proofs.Common.{◌≡◌, ℕ, List, [], ◌∷◌, ◌++◌, Opt
 use Rattle.awk_streams.specs.Log.{Event, OpenedInput, OpenedOutput, Read, Ended, Broke, Wrote, Flushed, Closed, Ran}
 use Rattle.awk_streams.specs.Oracle.{Oracle}
 use Rattle.awk_streams.specs.Writes.{with_events}
+use Rattle.awk_streams.proofs.GrowsLemmas.{with_events-append}
 use Rattle.awk_meaning.specs.definitions.State.{Effect, Printed, Requested}
 use Rattle.awk_meaning.specs.definitions.Meaning.{Asked, outputs_after, requests_after}
 use Rattle.awk_meaning.specs.definitions.Order.{Stage, AreBetween, GoesBetween, MeetsAll}
-
-pub with_events-append : (xs ys log : List Event) → with_events (xs ++ ys) log ≡ with_events ys (with_events xs log)
-with_events-append [] ys log = refl
-with_events-append (x ∷ xs) ys log = with_events-append xs ys (x ∷ log)
 
 pub between-append : (m n o : Option ℕ) (xs ys : List Event) → AreBetween m xs n → AreBetween n ys o → AreBetween m (xs ++ ys) o
 between-append m n o [] ys h k = subst (λ (x : Option ℕ). AreBetween x ys o) h k

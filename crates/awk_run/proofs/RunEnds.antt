@@ -22,7 +22,8 @@ use Rattle.awk_meaning.specs.Order.{AreBetween, MeetsAll, first_stage, IsInTurn}
 use Rattle.awk_meaning.specs.Failure.{AreOfTheEnd, FailsAs, FailsAt}
 use Rattle.awk_meaning.specs.Faults.{stream_fault}
 use Rattle.awk_meaning.specs.Results.{Sort, WantOfMemory, FailedWrite, OfLanguage, sort_of}
-use Rattle.awk_meaning.proofs.Requests.{with_events-append, between-append, meets_append}
+use Rattle.awk_streams.proofs.GrowsLemmas.{with_events-append}
+use Rattle.awk_meaning.proofs.Requests.{between-append, meets_append}
 use Rattle.awk_interpreter.specs.declared.interpreter.Interpreter.{Interpreter}
 use Rattle.awk_interpreter.specs.Simulation.{number_of, stage_of, standard_openings, FailedLast, ResultRelation, ResultRelationBy}
 use Rattle.awk_interpreter.proofs.OrderLemmas.{begins-then, writes_between}

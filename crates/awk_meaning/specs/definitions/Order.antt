@@ -6,7 +6,7 @@ use Rattle.awk_streams.specs.Log.{Event, OpenedInput, Wrote, Flushed, Closed}
 use Rattle.awk_streams.specs.Oracle.{Oracle, Source}
 use Rattle.awk_streams.specs.Orderly.{IsReadable}
 use Rattle.awk_streams.specs.Writes.{with_events, GoesOn}
-use Rattle.awk_streams.specs.Openings.{Opening, AreBrought}
+use Rattle.awk_streams.specs.Openings.{AreBrought}
 use Rattle.awk_streams.specs.Inputs.{NeededReads, Rest}
 use Rattle.awk_meaning.specs.definitions.State.{Request, AnOpening, ARecord}
 use Rattle.awk_meaning.specs.definitions.Meaning.{Asked, Meaning}
