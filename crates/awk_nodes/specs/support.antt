@@ -1,1 +1,3 @@
 pub mod Checked
+pub mod Boxed
+pub mod Children

@@ -1,5 +1,5 @@
 -- The trees that the code keeps, or none where they are too high.
-use Rattle.std.specs.Prelude.{List, Option, Some, None}
+use Rattle.std.specs.Prelude.{Option, Some, None}
 use Rattle.awk_grammar.specs.definitions.Tree as t
 use Rattle.awk_grammar.specs.definitions.View.{expr_of, exprs_of}
 use Rattle.awk_nodes.specs.declared.checked.CheckedExpr.{CheckedExpr}
