@@ -1,6 +1,6 @@
 // The nodes that an operand ends.
 
-ghost use Rattle.std.specs.Prelude.{◌≡◌, IfOk};
+ghost use Rattle.std.specs.Prelude.{◌≡◌, ◌||◌, IfOk};
 ghost use Rattle.awk_grammar.specs.definitions.Height.{max_height};
 ghost use Rattle.awk_grammar.specs.support.Parser as parser;
 ghost use Rattle.awk_frames.specs.support.FrameView.{role_of, operand_of, optional_operand_of, node_frame_of};

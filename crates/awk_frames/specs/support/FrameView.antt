@@ -1,5 +1,5 @@
 -- Operands, frames and states of the code, seen as those of the parser over lists.
-use Rattle.std.specs.Prelude.{List, [], ◌∷◌, map, reverse, Option, Some, None}
+use Rattle.std.specs.Prelude.{Bool, List, [], ◌∷◌, map, reverse, Option, Some, None}
 use Rattle.awk_grammar.specs.support.InfixRole as role
 use Rattle.awk_grammar.specs.support.Parser as parser
 use Rattle.awk_nodes.specs.support.Checked.{checked_expr, checked_exprs}
@@ -120,7 +120,7 @@ abbrev pub reduced : Operand → List Frame → parser.Reduced
 reduced p fs = record { operand = operand_of p; stack = stack_of fs }
 
 -- g: in the list of a print
-abbrev pub expression_state_of : ExpressionState → (g : _) → List parser.Frame → parser.ParserState
+abbrev pub expression_state_of : ExpressionState → (g : Bool) → List parser.Frame → parser.ParserState
 expression_state_of (in_expression.BeforeOperand skips) g k = parser.BeforeOperand skips g k
 expression_state_of (in_expression.AfterOperand e) g k = parser.AfterOperand g (operand_of e) k
 expression_state_of (in_expression.AfterName a) g k = parser.AfterName a g k
