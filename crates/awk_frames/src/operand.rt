@@ -56,43 +56,43 @@ impl Operand {
     }
 
     /// A number.
-    pub fn number(n: i128) -> Operand
-        ensures { operand_of result ≡ parser.leaf max_height (t.Number n) }
+    pub fn number(alloc: Global, n: i128) -> Result<Operand, AllocError>
+        ensures { IfOk result (λ p. operand_of p ≡ parser.leaf max_height (t.Number n)) }
     {
-        let expr = Expr::Number(n);
-        Operand::new(PRIMARY, Some(CheckedExpr { expr, height: 1 }))
+        let expr = Box::new(alloc, Expr::Number(n))?;
+        Ok(Operand::new(PRIMARY, Some(CheckedExpr { expr, height: 1 })))
     }
 
     /// A string.
-    pub fn string(bytes: Bytes) -> Operand
-        ensures { operand_of result ≡ parser.leaf max_height (t.String bytes) }
+    pub fn string(alloc: Global, bytes: Bytes) -> Result<Operand, AllocError>
+        ensures { IfOk result (λ p. operand_of p ≡ parser.leaf max_height (t.String bytes)) }
     {
-        let expr = Expr::String(bytes);
-        Operand::new(PRIMARY, Some(CheckedExpr { expr, height: 1 }))
+        let expr = Box::new(alloc, Expr::String(bytes))?;
+        Ok(Operand::new(PRIMARY, Some(CheckedExpr { expr, height: 1 })))
     }
 
     /// An ERE.
-    pub fn ere(ere: Ere) -> Operand
-        ensures { operand_of result ≡ parser.leaf max_height (t.Ere ere.text) }
+    pub fn ere(alloc: Global, ere: Ere) -> Result<Operand, AllocError>
+        ensures { IfOk result (λ p. operand_of p ≡ parser.leaf max_height (t.Ere ere.text)) }
     {
-        let expr = Expr::Ere(ere);
-        Operand::new(PRIMARY, Some(CheckedExpr { expr, height: 1 }))
+        let expr = Box::new(alloc, Expr::Ere(ere))?;
+        Ok(Operand::new(PRIMARY, Some(CheckedExpr { expr, height: 1 })))
     }
 
     /// The word `length` without parentheses.
-    pub fn length() -> Operand
-        ensures { operand_of result ≡ parser.leaf max_height t.Length }
+    pub fn length(alloc: Global) -> Result<Operand, AllocError>
+        ensures { IfOk result (λ p. operand_of p ≡ parser.leaf max_height t.Length) }
     {
-        let expr = Expr::Length;
-        Operand::new(PRIMARY, Some(CheckedExpr { expr, height: 1 }))
+        let expr = Box::new(alloc, Expr::Length)?;
+        Ok(Operand::new(PRIMARY, Some(CheckedExpr { expr, height: 1 })))
     }
 
     /// A name.
-    pub fn name(name: Bytes) -> Operand
-        ensures { operand_of result ≡ parser.name_operand max_height name }
+    pub fn name(alloc: Global, name: Bytes) -> Result<Operand, AllocError>
+        ensures { IfOk result (λ p. operand_of p ≡ parser.name_operand max_height name) }
     {
-        let expr = Expr::Name(name);
-        Operand::place(PRIMARY, Some(CheckedExpr { expr, height: 1 }))
+        let expr = Box::new(alloc, Expr::Name(name))?;
+        Ok(Operand::place(PRIMARY, Some(CheckedExpr { expr, height: 1 })))
     }
 }
 

@@ -1,3 +1,3 @@
 pub mod Checked
-pub mod Boxed
-pub mod Children
+pub mod BoxedChild
+pub mod Held

@@ -10,12 +10,12 @@ use std::alloc::Global;
 /// No program is higher.
 pub const MAX_HEIGHT: u32 = 200;
 
-/// An expression that is not too high.
+/// An expression that is not too high. It stands in a box, as it does in the node above it.
 #[derive(Drop)]
 pub struct CheckedExpr {
-    pub expr: Expr,
+    pub expr: Box<Expr>,
     pub height: u32,
-    ghost counted: { height ≡ height_of (expr_of expr) },
+    ghost counted: { height ≡ height_of (expr_of expr.value) },
     ghost low: { height ≤ max_height },
 }
 

@@ -3,68 +3,103 @@
 ghost use Rattle.std.specs.Prelude.{◌≡◌, IfOk};
 ghost use Rattle.awk_grammar.specs.definitions.Tree as t;
 ghost use Rattle.awk_grammar.specs.definitions.Height.{max_height, height_of};
-ghost use Rattle.awk_grammar.specs.support.Nodes.{over_one, over_two, over_three};
+ghost use Rattle.awk_grammar.specs.definitions.View.{expr_of};
+ghost use Rattle.awk_grammar.specs.support.Nodes.{limited, over_one, over_two, over_three};
 ghost use Rattle.awk_nodes.specs.support.Checked.{checked_expr, checked_exprs, checked_child};
+ghost use Rattle.awk_nodes.specs.support.Held.{held_of};
 
-use crate::checked::{CheckedExpr, CheckedExprs};
-use crate::child::{OptionalChild, boxed_child, boxed_pair, low_expr, low_exprs};
+use crate::checked::{CheckedExpr, CheckedExprs, MAX_HEIGHT};
+use crate::child::OptionalChild;
+use crate::held::HeldChild;
 use awk_grammar::tree::{BinaryOperator, Expr, UnaryOperator};
 use awk_lex::token::{AssignmentOperator, BuiltIn, IncrementOperator};
 use awk_value::Bytes;
 use std::alloc::{AllocError, Global};
 
+// The node of this height, unless that is too high.
+fn node(alloc: Global, expr: Expr, height: u32) -> Result<Option<CheckedExpr>, AllocError>
+    requires { height ≡ height_of (expr_of expr) }
+    ensures { IfOk result (λ e. checked_expr e ≡ limited max_height (height_of (expr_of expr)) (expr_of expr)) }
+{
+    if height > MAX_HEIGHT {
+        drop(expr);
+        return Ok(None);
+    }
+    let expr = Box::new(alloc, expr)?;
+    Ok(Some(CheckedExpr { expr, height }))
+}
+
 /// `$` and the field's number.
-pub fn field(alloc: Global, number: Option<CheckedExpr>) -> Result<Option<CheckedExpr>, AllocError>
+pub fn field(
+    alloc: Global,
+    number: Option<CheckedExpr>,
+) -> Result<Option<CheckedExpr>, AllocError>
     ensures { IfOk result (λ e. checked_expr e ≡ over_one max_height height_of t.Field (checked_expr number)) }
 {
-    let Some(number) = low_expr(number) else {
+    let Some(number) = number else {
         return Ok(None);
     };
     let height = number.height + 1;
-    let expr = Expr::Field(Box::new(alloc, number.expr)?);
-    Ok(Some(CheckedExpr { expr, height }))
+    node(alloc, Expr::Field(number.expr), height)
 }
 
 /// An expression in parentheses.
-pub fn group(alloc: Global, inside: Option<CheckedExpr>) -> Result<Option<CheckedExpr>, AllocError>
+pub fn group(
+    alloc: Global,
+    inside: Option<CheckedExpr>,
+) -> Result<Option<CheckedExpr>, AllocError>
     ensures { IfOk result (λ e. checked_expr e ≡ over_one max_height height_of t.Group (checked_expr inside)) }
 {
-    let Some(inside) = low_expr(inside) else {
+    let Some(inside) = inside else {
         return Ok(None);
     };
     let height = inside.height + 1;
-    let expr = Expr::Group(Box::new(alloc, inside.expr)?);
-    Ok(Some(CheckedExpr { expr, height }))
+    node(alloc, Expr::Group(inside.expr), height)
 }
 
 /// `name[list]`
-pub fn element(name: Bytes, subscripts: Option<CheckedExprs>) -> Option<CheckedExpr>
-    ensures { checked_expr result ≡ over_one max_height height_of (t.Element name) (checked_exprs subscripts) }
+pub fn element(
+    alloc: Global,
+    name: Bytes,
+    subscripts: Option<CheckedExprs>,
+) -> Result<Option<CheckedExpr>, AllocError>
+    ensures { IfOk result (λ e. checked_expr e ≡ over_one max_height height_of (t.Element name) (checked_exprs subscripts)) }
 {
-    let subscripts = low_exprs(subscripts)?;
+    let Some(subscripts) = subscripts else {
+        return Ok(None);
+    };
     let height = subscripts.height + 1;
-    let expr = Expr::Element(name, subscripts.exprs);
-    Some(CheckedExpr { expr, height })
+    node(alloc, Expr::Element(name, subscripts.exprs), height)
 }
 
 /// A call of a function of the program.
-pub fn call(name: Bytes, arguments: Option<CheckedExprs>) -> Option<CheckedExpr>
-    ensures { checked_expr result ≡ over_one max_height height_of (t.Call name) (checked_exprs arguments) }
+pub fn call(
+    alloc: Global,
+    name: Bytes,
+    arguments: Option<CheckedExprs>,
+) -> Result<Option<CheckedExpr>, AllocError>
+    ensures { IfOk result (λ e. checked_expr e ≡ over_one max_height height_of (t.Call name) (checked_exprs arguments)) }
 {
-    let arguments = low_exprs(arguments)?;
+    let Some(arguments) = arguments else {
+        return Ok(None);
+    };
     let height = arguments.height + 1;
-    let expr = Expr::Call(name, arguments.exprs);
-    Some(CheckedExpr { expr, height })
+    node(alloc, Expr::Call(name, arguments.exprs), height)
 }
 
 /// A call of a built-in function.
-pub fn built_in(function: BuiltIn, arguments: Option<CheckedExprs>) -> Option<CheckedExpr>
-    ensures { checked_expr result ≡ over_one max_height height_of (t.BuiltIn function) (checked_exprs arguments) }
+pub fn built_in(
+    alloc: Global,
+    function: BuiltIn,
+    arguments: Option<CheckedExprs>,
+) -> Result<Option<CheckedExpr>, AllocError>
+    ensures { IfOk result (λ e. checked_expr e ≡ over_one max_height height_of (t.BuiltIn function) (checked_exprs arguments)) }
 {
-    let arguments = low_exprs(arguments)?;
+    let Some(arguments) = arguments else {
+        return Ok(None);
+    };
     let height = arguments.height + 1;
-    let expr = Expr::BuiltIn(function, arguments.exprs);
-    Some(CheckedExpr { expr, height })
+    node(alloc, Expr::BuiltIn(function, arguments.exprs), height)
 }
 
 /// `++ place` or `-- place`
@@ -75,12 +110,11 @@ pub fn pre_increment(
 ) -> Result<Option<CheckedExpr>, AllocError>
     ensures { IfOk result (λ e. checked_expr e ≡ over_one max_height height_of (t.PreIncrement operator) (checked_expr place)) }
 {
-    let Some(place) = low_expr(place) else {
+    let Some(place) = place else {
         return Ok(None);
     };
     let height = place.height + 1;
-    let expr = Expr::PreIncrement(operator, Box::new(alloc, place.expr)?);
-    Ok(Some(CheckedExpr { expr, height }))
+    node(alloc, Expr::PreIncrement(operator, place.expr), height)
 }
 
 /// `place ++` or `place --`
@@ -91,12 +125,11 @@ pub fn post_increment(
 ) -> Result<Option<CheckedExpr>, AllocError>
     ensures { IfOk result (λ e. checked_expr e ≡ over_one max_height height_of (t.PostIncrement operator) (checked_expr place)) }
 {
-    let Some(place) = low_expr(place) else {
+    let Some(place) = place else {
         return Ok(None);
     };
     let height = place.height + 1;
-    let expr = Expr::PostIncrement(operator, Box::new(alloc, place.expr)?);
-    Ok(Some(CheckedExpr { expr, height }))
+    node(alloc, Expr::PostIncrement(operator, place.expr), height)
 }
 
 /// A sign or `!` before an operand.
@@ -107,12 +140,11 @@ pub fn unary(
 ) -> Result<Option<CheckedExpr>, AllocError>
     ensures { IfOk result (λ e. checked_expr e ≡ over_one max_height height_of (t.Unary operator) (checked_expr operand)) }
 {
-    let Some(operand) = low_expr(operand) else {
+    let Some(operand) = operand else {
         return Ok(None);
     };
     let height = operand.height + 1;
-    let expr = Expr::Unary(operator, Box::new(alloc, operand.expr)?);
-    Ok(Some(CheckedExpr { expr, height }))
+    node(alloc, Expr::Unary(operator, operand.expr), height)
 }
 
 /// `expr in array`
@@ -123,22 +155,26 @@ pub fn membership(
 ) -> Result<Option<CheckedExpr>, AllocError>
     ensures { IfOk result (λ e. checked_expr e ≡ over_one max_height height_of (λ x. t.Membership x array) (checked_expr subscript)) }
 {
-    let Some(subscript) = low_expr(subscript) else {
+    let Some(subscript) = subscript else {
         return Ok(None);
     };
     let height = subscript.height + 1;
-    let expr = Expr::Membership(Box::new(alloc, subscript.expr)?, array);
-    Ok(Some(CheckedExpr { expr, height }))
+    node(alloc, Expr::Membership(subscript.expr, array), height)
 }
 
 /// `(list) in array`
-pub fn list_membership(subscripts: Option<CheckedExprs>, array: Bytes) -> Option<CheckedExpr>
-    ensures { checked_expr result ≡ over_one max_height height_of (λ x. t.ListMembership x array) (checked_exprs subscripts) }
+pub fn list_membership(
+    alloc: Global,
+    subscripts: Option<CheckedExprs>,
+    array: Bytes,
+) -> Result<Option<CheckedExpr>, AllocError>
+    ensures { IfOk result (λ e. checked_expr e ≡ over_one max_height height_of (λ x. t.ListMembership x array) (checked_exprs subscripts)) }
 {
-    let subscripts = low_exprs(subscripts)?;
+    let Some(subscripts) = subscripts else {
+        return Ok(None);
+    };
     let height = subscripts.height + 1;
-    let expr = Expr::ListMembership(subscripts.exprs, array);
-    Some(CheckedExpr { expr, height })
+    node(alloc, Expr::ListMembership(subscripts.exprs, array), height)
 }
 
 /// An operator between two operands.
@@ -150,12 +186,16 @@ pub fn binary(
 ) -> Result<Option<CheckedExpr>, AllocError>
     ensures { IfOk result (λ e. checked_expr e ≡ over_two max_height height_of (t.Binary operator) (checked_expr left) (checked_expr right)) }
 {
-    let Some(operands) = boxed_pair(alloc, left, right)? else {
+    let Some(left) = left else {
+        drop(right);
         return Ok(None);
     };
-    let height = operands.height + 1;
-    let expr = Expr::Binary(operator, operands.left, operands.right);
-    Ok(Some(CheckedExpr { expr, height }))
+    let Some(right) = right else {
+        drop(left);
+        return Ok(None);
+    };
+    let height = left.height.max(right.height) + 1;
+    node(alloc, Expr::Binary(operator, left.expr, right.expr), height)
 }
 
 /// `place = expr`, `place += expr` and so on.
@@ -167,12 +207,16 @@ pub fn assign(
 ) -> Result<Option<CheckedExpr>, AllocError>
     ensures { IfOk result (λ e. checked_expr e ≡ over_two max_height height_of (t.Assign operator) (checked_expr place) (checked_expr value)) }
 {
-    let Some(sides) = boxed_pair(alloc, place, value)? else {
+    let Some(place) = place else {
+        drop(value);
         return Ok(None);
     };
-    let height = sides.height + 1;
-    let expr = Expr::Assign(operator, sides.left, sides.right);
-    Ok(Some(CheckedExpr { expr, height }))
+    let Some(value) = value else {
+        drop(place);
+        return Ok(None);
+    };
+    let height = place.height.max(value.height) + 1;
+    node(alloc, Expr::Assign(operator, place.expr, value.expr), height)
 }
 
 /// `expr ? expr : expr`
@@ -184,19 +228,40 @@ pub fn conditional(
 ) -> Result<Option<CheckedExpr>, AllocError>
     ensures { IfOk result (λ e. checked_expr e ≡ over_three max_height height_of t.Conditional (checked_expr condition) (checked_expr first) (checked_expr second)) }
 {
-    let condition = low_expr(condition);
-    let Some(branches) = boxed_pair(alloc, first, second)? else {
-        drop(condition);
-        return Ok(None);
-    };
     let Some(condition) = condition else {
-        drop(branches);
+        drop(first);
+        drop(second);
         return Ok(None);
     };
-    let height = condition.height.max(branches.height) + 1;
-    let condition = Box::new(alloc, condition.expr)?;
-    let expr = Expr::Conditional(condition, branches.left, branches.right);
-    Ok(Some(CheckedExpr { expr, height }))
+    let Some(first) = first else {
+        drop(condition);
+        drop(second);
+        return Ok(None);
+    };
+    let Some(second) = second else {
+        drop(condition);
+        drop(first);
+        return Ok(None);
+    };
+    let height = condition.height.max(first.height.max(second.height)) + 1;
+    node(alloc, Expr::Conditional(condition.expr, first.expr, second.expr), height)
+}
+
+// The child as a node holds it, none if it is too high.
+fn held(child: OptionalChild) -> Option<HeldChild>
+    ensures { held_of result ≡ checked_child child }
+{
+    match child {
+        OptionalChild::Absent => Some(HeldChild {
+            expr: None,
+            height: 0,
+        }),
+        OptionalChild::Present(None) => None,
+        OptionalChild::Present(Some(child)) => Some(HeldChild {
+            expr: Some(child.expr),
+            height: child.height,
+        }),
+    }
 }
 
 /// `getline`, with its place and its file where it has them.
@@ -207,7 +272,8 @@ pub fn getline(
 ) -> Result<Option<CheckedExpr>, AllocError>
     ensures { IfOk result (λ e. checked_expr e ≡ over_two max_height height_of t.Getline (checked_child place) (checked_child file)) }
 {
-    let (place, file) = (boxed_child(alloc, place)?, boxed_child(alloc, file)?);
+    let place = held(place);
+    let file = held(file);
     let Some(place) = place else {
         drop(file);
         return Ok(None);
@@ -217,8 +283,7 @@ pub fn getline(
         return Ok(None);
     };
     let height = place.height.max(file.height) + 1;
-    let expr = Expr::Getline(place.expr, file.expr);
-    Ok(Some(CheckedExpr { expr, height }))
+    node(alloc, Expr::Getline(place.expr, file.expr), height)
 }
 
 /// `expr | getline`, with its place where it has one.
@@ -229,17 +294,15 @@ pub fn piped_getline(
 ) -> Result<Option<CheckedExpr>, AllocError>
     ensures { IfOk result (λ e. checked_expr e ≡ over_two max_height height_of t.PipedGetline (checked_expr command) (checked_child place)) }
 {
-    let command = low_expr(command);
-    let Some(place) = boxed_child(alloc, place)? else {
-        drop(command);
-        return Ok(None);
-    };
+    let place = held(place);
     let Some(command) = command else {
         drop(place);
         return Ok(None);
     };
+    let Some(place) = place else {
+        drop(command);
+        return Ok(None);
+    };
     let height = command.height.max(place.height) + 1;
-    let command = Box::new(alloc, command.expr)?;
-    let expr = Expr::PipedGetline(command, place.expr);
-    Ok(Some(CheckedExpr { expr, height }))
+    node(alloc, Expr::PipedGetline(command.expr, place.expr), height)
 }

@@ -16,16 +16,16 @@ pub fn one_more_expr(
     ensures { IfOk result (λ xs. checked_exprs xs
         ≡ over_two max_height tallest append (checked_exprs list) (checked_expr expr)) }
 {
-    let Some(checked) = list else {
+    let Some(list) = list else {
         drop(expr);
         return Ok(None);
     };
     let Some(expr) = expr else {
-        drop(checked);
+        drop(list);
         return Ok(None);
     };
-    let height = checked.height.max(expr.height);
-    let mut exprs = checked.exprs;
-    exprs.push(expr.expr)?;
+    let height = list.height.max(expr.height);
+    let mut exprs = list.exprs;
+    exprs.push(Box::into_inner(expr.expr))?;
     Ok(Some(CheckedExprs { exprs, height }))
 }

@@ -1,10 +1,14 @@
 // Behind operands.
 
-ghost use Rattle.std.specs.Prelude.{◌≡◌, ◌∷◌, List, IfOk};
-ghost use Rattle.awk_grammar.specs.definitions.Height.{max_height};
+ghost use Rattle.std.specs.Prelude.{◌≡◌, ◌∷◌, Bool, List, IfOk};
+ghost use Rattle.awk_grammar.specs.definitions.Height.{max_height, height_of_statement};
+ghost use Rattle.awk_grammar.specs.definitions.Tree as t;
+ghost use Rattle.awk_grammar.specs.support.Nodes.{over_two};
+ghost use Rattle.awk_nodes.specs.support.Checked.{checked_expr};
+ghost use Rattle.awk_statement_nodes.specs.support.Checked.{checked_part, checked_statement};
 ghost use Rattle.awk_grammar.specs.support.Parser as parser;
-ghost use Rattle.awk_grammar.specs.support.InfixRole.{role};
-ghost use Rattle.awk_frames.specs.support.FrameView.{role_of, operand_of, optional_operand_of, list_of, list_frame_of, expression_frame_of, stack_of, reduced, next_of};
+ghost use Rattle.awk_grammar.specs.support.InfixRole as role;
+ghost use Rattle.awk_frames.specs.support.FrameView.{role_of, operand_of, optional_operand_of, list_of, list_frame_of, expression_frame_of, body_frame_of, stack_of, reduced, next_of};
 
 use awk_productions::items::{after_pattern, after_pattern_expr};
 use crate::lists::{close_built_in, close_call, close_element, close_group};
@@ -39,7 +43,7 @@ fn end_element(
     operand: Operand,
     stack: &mut Vec<Frame>,
 ) -> Result<Option<ParserState>, AllocError>
-    ensures { (g : _) → IfOk result (λ state. next_of state stack.new.items
+    ensures { (g : Bool) → IfOk result (λ state. next_of state stack.new.items
         ≡ parser.end_operand max_height next.entry.kind.now g (operand_of operand) (list_frame_of head (list_of list) ∷ stack_of stack.old.items)) }
 {
     match head {
@@ -49,15 +53,15 @@ fn end_element(
         ListHead::Call {
             name,
             in_print_list,
-        } => close_call(next, name, in_print_list, list.with(operand)?, stack),
+        } => close_call(alloc, next, name, in_print_list, list.with(operand)?, stack),
         ListHead::BuiltIn {
             function,
             in_print_list,
-        } => close_built_in(next, function, in_print_list, list.with(operand)?, stack),
+        } => close_built_in(alloc, next, function, in_print_list, list.with(operand)?, stack),
         ListHead::Element {
             name,
             in_print_list,
-        } => close_element(next, name, in_print_list, list.with(operand)?, stack),
+        } => close_element(alloc, next, name, in_print_list, list.with(operand)?, stack),
         ListHead::Print(form) => after_print_expr(alloc, next, form, list.with(operand)?, stack),
         ListHead::Delete(name) => after_delete_subscript(next, name, list.with(operand)?, stack),
     }
@@ -131,6 +135,9 @@ fn end_do(
     body: Option<CheckedStatement>,
     condition: Operand,
 ) -> Result<Option<ParserState>, AllocError>
+    ensures { (frames : List Frame) → IfOk result (λ state. next_of state frames
+        ≡ parser.close_condition next.entry.kind.now (parser.AfterDo
+            (over_two max_height height_of_statement t.Do (checked_statement body) (checked_expr condition.tree)) (stack_of frames))) }
 {
     if matches!(next.kind, Kind::CloseParenthesis) {
         let statement = do_loop(alloc, body, condition.tree)?;
@@ -147,6 +154,9 @@ fn end_for_condition(
     first: Option<CheckedPart>,
     condition: Operand,
 ) -> Option<ParserState>
+    ensures { (frames : List Frame) → next_of result frames
+        ≡ parser.close_for_condition next.entry.kind.now (parser.BeforeForLast
+            (checked_part first) (parser.optional_tree max_height (operand_of condition)) (stack_of frames)) }
 {
     if matches!(next.kind, Kind::Semicolon) {
         let condition = present(condition.tree);
@@ -234,7 +244,7 @@ fn after_increment(
     stack: &mut Vec<Frame>,
 ) -> Result<Option<ParserState>, AllocError>
     ensures { IfOk result (λ state. next_of state stack.new.items
-        ≡ parser.shift max_height (Increments operator) next.entry.kind.now in_print_list (operand_of operand) (stack_of stack.old.items)) }
+        ≡ parser.shift max_height (role.Increments operator) next.entry.kind.now in_print_list (operand_of operand) (stack_of stack.old.items)) }
 {
     if operand.is_place {
         let tree = post_increment(alloc, operator, operand.tree)?;
@@ -252,7 +262,7 @@ fn concatenate(
     stack: &mut Vec<Frame>,
 ) -> Result<Option<ParserState>, AllocError>
     ensures { IfOk result (λ state. next_of state stack.new.items
-        ≡ parser.shift max_height Starts next.entry.kind.now in_print_list (operand_of operand) (stack_of stack.old.items)) }
+        ≡ parser.shift max_height role.Starts next.entry.kind.now in_print_list (operand_of operand) (stack_of stack.old.items)) }
 {
     push(
         stack,
@@ -360,7 +370,7 @@ pub(crate) fn after_name(
         };
         return begin(Frame::List(head, OperandList::new(alloc)), false, false, stack);
     }
-    after_operand(alloc, next, in_print_list, Operand::name(name), stack)
+    after_operand(alloc, next, in_print_list, Operand::name(alloc, name)?, stack)
 }
 
 /// The token behind the word `length`.
@@ -380,7 +390,7 @@ pub(crate) fn after_length(
         };
         return begin(Frame::List(head, OperandList::new(alloc)), false, false, stack);
     }
-    after_operand(alloc, next, in_print_list, Operand::length(), stack)
+    after_operand(alloc, next, in_print_list, Operand::length(alloc)?, stack)
 }
 
 /// The token behind the word `getline`.

@@ -52,6 +52,7 @@ pub(crate) fn close_group(
 
 /// Behind an argument of a function of the program.
 pub(crate) fn close_call(
+    alloc: Global,
     next: NextToken,
     name: Bytes,
     in_print_list: bool,
@@ -69,10 +70,10 @@ pub(crate) fn close_call(
             };
             begin(Frame::List(head, list), true, false, stack)
         }
-        Kind::CloseParenthesis => Ok(operand(
-            in_print_list,
-            Operand::new(PRIMARY, call(name, list.exprs)),
-        )),
+        Kind::CloseParenthesis => {
+            let tree = call(alloc, name, list.exprs)?;
+            Ok(operand(in_print_list, Operand::new(PRIMARY, tree)))
+        }
         _ => {
             drop(list);
             Ok(None)
@@ -82,6 +83,7 @@ pub(crate) fn close_call(
 
 /// Behind an argument of a built-in function.
 pub(crate) fn close_built_in(
+    alloc: Global,
     next: NextToken,
     function: BuiltIn,
     in_print_list: bool,
@@ -99,10 +101,10 @@ pub(crate) fn close_built_in(
             };
             begin(Frame::List(head, list), true, false, stack)
         }
-        Kind::CloseParenthesis if accepts(function, list.count, list.third_is_place) => Ok(operand(
-            in_print_list,
-            Operand::new(PRIMARY, built_in(function, list.exprs)),
-        )),
+        Kind::CloseParenthesis if accepts(function, list.count, list.third_is_place) => {
+            let tree = built_in(alloc, function, list.exprs)?;
+            Ok(operand(in_print_list, Operand::new(PRIMARY, tree)))
+        }
         _ => {
             drop(list);
             Ok(None)
@@ -112,6 +114,7 @@ pub(crate) fn close_built_in(
 
 /// Behind a subscript.
 pub(crate) fn close_element(
+    alloc: Global,
     next: NextToken,
     name: Bytes,
     in_print_list: bool,
@@ -129,10 +132,10 @@ pub(crate) fn close_element(
             };
             begin(Frame::List(head, list), true, false, stack)
         }
-        Kind::CloseBracket => Ok(operand(
-            in_print_list,
-            Operand::place(PRIMARY, element(name, list.exprs)),
-        )),
+        Kind::CloseBracket => {
+            let tree = element(alloc, name, list.exprs)?;
+            Ok(operand(in_print_list, Operand::place(PRIMARY, tree)))
+        }
         _ => {
             drop(list);
             Ok(None)

@@ -1,10 +1,11 @@
 // One token at a time.
 
-ghost use Rattle.std.specs.Prelude.{◌≡◌, ◌∷◌, List, IfOk};
+ghost use Rattle.std.specs.Prelude.{◌≡◌, ◌∷◌, [], false, List, IfOk};
 ghost use Rattle.awk_grammar.specs.definitions.Height.{max_height};
 ghost use Rattle.awk_grammar.specs.support.Parser as parser;
+ghost use Rattle.awk_statement_nodes.specs.support.Checked.{checked_statement};
 ghost use Rattle.awk_parser.specs.support.Answered.{found_of};
-ghost use Rattle.awk_frames.specs.support.FrameView.{state_of, expression_state_of, statement_state_of, item_state_of, stack_of, next_of};
+ghost use Rattle.awk_frames.specs.support.FrameView.{operand_of, list_of, frame_of, state_of, expression_state_of, statement_state_of, item_state_of, stack_of, next_of};
 
 use crate::expressions::{
     after_bar, after_getline, after_length, after_list, after_name, after_operand,
@@ -37,6 +38,8 @@ fn after_in(
     in_print_list: bool,
     subscript: Operand,
 ) -> Result<Option<ParserState>, AllocError>
+    ensures { (frames : List Frame) → IfOk result (λ state. next_of state frames
+        ≡ parser.name_then next.entry.kind.now (λ a. parser.AfterOperand in_print_list (parser.membership_operand max_height (operand_of subscript) a) (stack_of frames))) }
 {
     let Kind::Name(array) = next.kind else {
         drop(subscript);
@@ -49,16 +52,20 @@ fn after_in(
 
 /// The array behind a list and `in`.
 fn after_list_in(
+    alloc: Global,
     next: NextToken,
     in_print_list: bool,
     subscripts: OperandList,
 ) -> Result<Option<ParserState>, AllocError>
+    ensures { (frames : List Frame) → IfOk result (λ state. next_of state frames
+        ≡ parser.name_then next.entry.kind.now (λ a. parser.AfterOperand in_print_list (parser.list_membership_operand max_height (list_of subscripts) a) (stack_of frames))) }
 {
     let Kind::Name(array) = next.kind else {
         drop(subscripts);
         return Ok(None);
     };
-    let tree = list_membership(subscripts.exprs, array.clone()?);
+    let array = array.clone()?;
+    let tree = list_membership(alloc, subscripts.exprs, array)?;
     Ok(after(in_print_list, Operand::new(MEMBERSHIP, tree)))
 }
 
@@ -68,6 +75,8 @@ fn open_frame(
     frame: Frame,
     stack: &mut Vec<Frame>,
 ) -> Result<Option<ParserState>, AllocError>
+    ensures { IfOk result (λ state. next_of state stack.new.items
+        ≡ parser.at_parenthesis next.entry.kind.now (parser.BeforeOperand false false (frame_of frame ∷ stack_of stack.old.items))) }
 {
     if matches!(next.kind, Kind::OpenParenthesis) {
         return begin(frame, false, false, stack);
@@ -103,7 +112,7 @@ fn step_expression(
         ExpressionState::BeforeParenthesis(frame) => open_frame(next, frame, stack),
         ExpressionState::AfterList(list) => after_list(alloc, next, in_print_list, list, stack),
         ExpressionState::AfterIn(operand) => after_in(alloc, next, in_print_list, operand),
-        ExpressionState::AfterListIn(list) => after_list_in(next, in_print_list, list),
+        ExpressionState::AfterListIn(list) => after_list_in(alloc, next, in_print_list, list),
     }
 }
 
@@ -126,6 +135,8 @@ fn after_statement(
 
 /// The name behind the word `delete`.
 fn after_delete(next: NextToken) -> Result<Option<ParserState>, AllocError>
+    ensures { (frames : List Frame) → IfOk result (λ state. next_of state frames
+        ≡ parser.name_then next.entry.kind.now (λ a. parser.AfterDeleteName a (stack_of frames))) }
 {
     let Kind::Name(name) = next.kind else {
         return Ok(None);
@@ -136,6 +147,8 @@ fn after_delete(next: NextToken) -> Result<Option<ParserState>, AllocError>
 
 /// The `(` behind the word `for`.
 fn after_for(next: NextToken) -> Option<ParserState>
+    ensures { (frames : List Frame) → next_of result frames
+        ≡ parser.at_parenthesis next.entry.kind.now (parser.BeforeForFirst (stack_of frames)) }
 {
     match next.kind {
         Kind::OpenParenthesis => Some(ParserState::Statement(StatementState::BeforeForFirst)),
@@ -182,6 +195,8 @@ fn step_statement(
 
 /// The `(` behind the name of a function.
 fn after_function_name(next: NextToken, name: Bytes, alloc: Global) -> Option<ParserState>
+    ensures { (frames : List Frame) → next_of result frames
+        ≡ parser.at_parenthesis next.entry.kind.now (parser.BeforeParameter name false [] (stack_of frames)) }
 {
     match next.kind {
         Kind::OpenParenthesis => Some(ParserState::Item(ItemState::BeforeParameter {

@@ -1,7 +1,9 @@
 // Items: patterns, actions and functions.
 
-ghost use Rattle.std.specs.Prelude.{◌≡◌, ◌∷◌, IfOk};
+ghost use Rattle.std.specs.Prelude.{◌≡◌, ◌∷◌, List, IfOk};
 ghost use Rattle.awk_grammar.specs.definitions.Height.{max_height};
+ghost use Rattle.awk_grammar.specs.definitions.Tree.{NoMore};
+ghost use Rattle.awk_grammar.specs.support.Nodes.{limited};
 ghost use Rattle.awk_grammar.specs.support.Parser as parser;
 ghost use Rattle.awk_nodes.specs.support.Checked.{checked_expr};
 ghost use Rattle.awk_statement_nodes.specs.support.Checked.{checked_statements, checked_pattern, checked_item};

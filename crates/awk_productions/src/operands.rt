@@ -1,8 +1,10 @@
 // Where an operand begins.
 
-ghost use Rattle.std.specs.Prelude.{◌≡◌, ◌∷◌, List, IfOk};
+ghost use Rattle.std.specs.Prelude.{◌≡◌, ◌∷◌, Bool, false, nat_le, List, IfOk};
 ghost use Rattle.awk_grammar.specs.definitions.Height.{max_height};
+ghost use Rattle.awk_grammar.specs.definitions.Precedence.{pre_increment, post_increment};
 ghost use Rattle.awk_grammar.specs.definitions.Tree as t;
+ghost use Rattle.awk_lex.specs.declared.token.Kind.TheVariants as token;
 ghost use Rattle.awk_grammar.specs.support.Parser as parser;
 ghost use Rattle.awk_frames.specs.support.FrameView.{frame_of, stack_of, next_of};
 
@@ -53,15 +55,21 @@ fn start_increment(
 }
 
 /// A string.
-fn after_string(bytes: &Bytes, in_print_list: bool) -> Result<Option<ParserState>, AllocError>
+fn after_string(
+    alloc: Global,
+    bytes: &Bytes,
+    in_print_list: bool,
+) -> Result<Option<ParserState>, AllocError>
     ensures { (frames : List Frame) → IfOk result (λ state. next_of state frames
         ≡ parser.AfterOperand in_print_list (parser.leaf max_height (t.String bytes.now)) (stack_of frames)) }
 {
-    Ok(operand(in_print_list, Operand::string(bytes.clone()?)))
+    let bytes = bytes.clone()?;
+    Ok(operand(in_print_list, Operand::string(alloc, bytes)?))
 }
 
 /// An ERE, before which so many stand in the program.
 fn after_ere(
+    alloc: Global,
     text: &Bytes,
     number: usize,
     in_print_list: bool,
@@ -70,7 +78,7 @@ fn after_ere(
         ≡ parser.AfterOperand in_print_list (parser.leaf max_height (t.Ere text.now)) (stack_of frames)) }
 {
     let text = text.clone()?;
-    Ok(operand(in_print_list, Operand::ere(Ere { text, number })))
+    Ok(operand(in_print_list, Operand::ere(alloc, Ere { text, number })?))
 }
 
 /// A name.
@@ -107,8 +115,8 @@ fn after_built_in(
     function: BuiltIn,
     in_print_list: bool,
 ) -> Option<ParserState>
-    ensures { (frames : List Frame) → next_of result frames
-        ≡ parser.start_operand max_height (BuiltIn function) false in_print_list (stack_of frames) }
+    ensures { (skips : Bool) (frames : List Frame) → next_of result frames
+        ≡ parser.start_operand max_height (token.BuiltIn function) skips in_print_list (stack_of frames) }
 {
     if matches!(function, BuiltIn::Length) {
         return Some(ParserState::Expression {
@@ -150,8 +158,12 @@ fn start_getline(in_print_list: bool, stack: &Vec<Frame>) -> Option<ParserState>
 }
 
 /// `)` where an argument could begin.
-fn close_empty_list(stack: &mut Vec<Frame>) -> Option<ParserState>
-    ensures { next_of result stack.new.items ≡ parser.close_empty_list max_height (stack_of stack.old.items) }
+fn close_empty_list(
+    alloc: Global,
+    stack: &mut Vec<Frame>,
+) -> Result<Option<ParserState>, AllocError>
+    ensures { IfOk result (λ state. next_of state stack.new.items
+        ≡ parser.close_empty_list max_height (stack_of stack.old.items)) }
 {
     match pop(stack) {
         Some(Frame::List(
@@ -161,7 +173,8 @@ fn close_empty_list(stack: &mut Vec<Frame>) -> Option<ParserState>
             },
             list,
         )) if list.count == 0 => {
-            operand(in_print_list, Operand::new(PRIMARY, call(name, list.exprs)))
+            let tree = call(alloc, name, list.exprs)?;
+            Ok(operand(in_print_list, Operand::new(PRIMARY, tree)))
         }
         Some(Frame::List(
             ListHead::BuiltIn {
@@ -170,11 +183,12 @@ fn close_empty_list(stack: &mut Vec<Frame>) -> Option<ParserState>
             },
             list,
         )) if list.count == 0 && accepts(function, 0, true) => {
-            operand(in_print_list, Operand::new(PRIMARY, built_in(function, list.exprs)))
+            let tree = built_in(alloc, function, list.exprs)?;
+            Ok(operand(in_print_list, Operand::new(PRIMARY, tree)))
         }
         rest => {
             drop(rest);
-            None
+            Ok(None)
         }
     }
 }
@@ -191,9 +205,9 @@ pub fn start_operand(
         ≡ parser.start_operand max_height next.entry.kind.now skips_newlines in_print_list (stack_of stack.old.items)) }
 {
     match next.kind {
-        Kind::Number(n) => Ok(operand(in_print_list, Operand::number(*n))),
-        Kind::String(bytes) => after_string(bytes, in_print_list),
-        Kind::Ere(text) => after_ere(text, next.eres, in_print_list),
+        Kind::Number(n) => Ok(operand(in_print_list, Operand::number(alloc, *n)?)),
+        Kind::String(bytes) => after_string(alloc, bytes, in_print_list),
+        Kind::Ere(text) => after_ere(alloc, text, next.eres, in_print_list),
         Kind::Name(name) => after_name(name, in_print_list),
         Kind::Called(name) => before_call(alloc, name, in_print_list),
         Kind::BuiltIn(function) => Ok(after_built_in(alloc, *function, in_print_list)),
@@ -211,7 +225,7 @@ pub fn start_operand(
             in_print_list,
             state: ExpressionState::BeforeOperand { skips_newlines },
         })),
-        Kind::CloseParenthesis if !skips_newlines => Ok(close_empty_list(stack)),
+        Kind::CloseParenthesis if !skips_newlines => close_empty_list(alloc, stack),
         _ => Ok(None),
     }
 }

@@ -1,10 +1,12 @@
 // The ends of simple statements, which may be parts of a `for`.
 
-ghost use Rattle.std.specs.Prelude.{◌≡◌, ◌∷◌, List, IfOk};
+ghost use Rattle.std.specs.Prelude.{◌≡◌, ◌∷◌, Some, IfOk};
 ghost use Rattle.awk_grammar.specs.definitions.Height.{max_height};
+ghost use Rattle.awk_grammar.specs.definitions.Tree as t;
+ghost use Rattle.awk_grammar.specs.definitions.View.{expr_of};
 ghost use Rattle.awk_grammar.specs.support.Parser as parser;
 ghost use Rattle.awk_statement_nodes.specs.support.Checked.{checked_simple, checked_statement, checked_part, checked_optional_expr};
-ghost use Rattle.awk_frames.specs.support.FrameView.{operand_of, list_of, frame_of, stack_of, next_of};
+ghost use Rattle.awk_frames.specs.support.FrameView.{list_of, body_frame_of, expression_frame_of, stack_of, next_of};
 
 use crate::operands::start_operand;
 use crate::statements::{end_simple_statement, start_part};
@@ -28,6 +30,8 @@ fn start_for_in_array(
     array: Bytes,
     stack: &mut Vec<Frame>,
 ) -> Result<Option<ParserState>, AllocError>
+    ensures { IfOk result (λ state. next_of state stack.new.items
+        ≡ parser.start_for_in (Some (t.Expression (t.Membership (expr_of subscript) array))) (stack_of stack.old.items)) }
 {
     match subscript {
         Expr::Name(name) => begin_body(alloc, BodyFrame::ForIn(name, array), stack),
@@ -92,7 +96,8 @@ fn end_for_last(
     stack: &mut Vec<Frame>,
 ) -> Result<Option<ParserState>, AllocError>
     ensures { IfOk result (λ state. next_of state stack.new.items
-        ≡ parser.when (is_closed next.entry.kind.now) (parser.BeforeStatement (parser.InForBody (checked_part head.first) (checked_optional_expr head.condition) (checked_part last) ∷ stack_of stack.old.items))) }
+        ≡ parser.close_condition next.entry.kind.now (parser.BeforeStatement
+            (parser.InForBody (checked_part head.first) (checked_optional_expr head.condition) (checked_part last) ∷ stack_of stack.old.items))) }
 {
     if matches!(next.kind, Kind::CloseParenthesis) {
         let body = BodyFrame::For(head.first, head.condition, last);
@@ -114,7 +119,8 @@ pub fn end_simple(
         ≡ parser.end_simple max_height next.entry.kind.now (checked_simple statement) (stack_of stack.old.items)) }
 {
     if !matches!(stack.last(), Some(Frame::ForFirst | Frame::ForLast(..))) {
-        return end_simple_statement(alloc, next, simple(statement), stack);
+        let statement = simple(alloc, statement)?;
+        return end_simple_statement(alloc, next, statement, stack);
     }
     match pop(stack) {
         Some(Frame::ForLast(head)) => {
@@ -178,7 +184,7 @@ pub fn after_exit(
     stack: &mut Vec<Frame>,
 ) -> Result<Option<ParserState>, AllocError>
     ensures { IfOk result (λ state. next_of state stack.new.items
-        ≡ parser.after_exit max_height (checked_simple without_value) (frame_of (Expression frame)) (stack_of stack.old.items) next.entry.kind.now) }
+        ≡ parser.after_exit max_height (checked_simple without_value) (expression_frame_of frame) (stack_of stack.old.items) next.entry.kind.now) }
 {
     match next.kind {
         Kind::Semicolon | Kind::Newline | Kind::CloseBrace => {

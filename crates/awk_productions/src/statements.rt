@@ -3,8 +3,10 @@
 ghost use Rattle.std.specs.Prelude.{◌≡◌, ◌∷◌, List, IfOk};
 ghost use Rattle.awk_grammar.specs.definitions.Height.{max_height};
 ghost use Rattle.awk_grammar.specs.support.Parser as parser;
+ghost use Rattle.awk_lex.specs.declared.token.Kind.TheVariants as token;
 ghost use Rattle.awk_statement_nodes.specs.support.Checked.{checked_statement};
-ghost use Rattle.awk_frames.specs.support.FrameView.{stack_of, next_of};
+ghost use Rattle.awk_frames.specs.declared.frame.Frame.TheVariants as frame;
+ghost use Rattle.awk_frames.specs.support.FrameView.{frame_of, stack_of, next_of};
 
 use crate::items::{end_item, make_item};
 use crate::operands::{before_parenthesis, start_operand};
@@ -22,14 +24,18 @@ use awk_statement_nodes::statements::{
 use std::alloc::{AllocError, Global};
 
 /// `}`
-fn close_block(stack: &mut Vec<Frame>) -> Result<Option<ParserState>, AllocError>
+fn close_block(
+    alloc: Global,
+    stack: &mut Vec<Frame>,
+) -> Result<Option<ParserState>, AllocError>
     ensures { IfOk result (λ state. next_of state stack.new.items
         ≡ parser.close_block max_height (stack_of stack.old.items)) }
 {
     match pop(stack) {
-        Some(Frame::Block(None, statements)) => Ok(Some(ParserState::Statement(
-            StatementState::AfterStatement(block(statements)),
-        ))),
+        Some(Frame::Block(None, statements)) => {
+            let statement = block(alloc, statements)?;
+            Ok(Some(ParserState::Statement(StatementState::AfterStatement(statement))))
+        }
         Some(Frame::Block(Some(head), statements)) => {
             end_item(make_item(Box::into_inner(head), statements), stack)
         }
@@ -68,6 +74,9 @@ fn start_keyword(
     keyword: Keyword,
     stack: &mut Vec<Frame>,
 ) -> Result<Option<ParserState>, AllocError>
+    requires { next.kind.now ≡ token.Keyword keyword }
+    ensures { IfOk result (λ state. next_of state stack.new.items
+        ≡ parser.start_statement max_height (token.Keyword keyword) (stack_of stack.old.items)) }
 {
     let state = match keyword {
         Keyword::Next => StatementState::AfterSimple(Some(next_statement())),
@@ -102,13 +111,13 @@ pub fn start_statement(
     match next.kind {
         Kind::Newline => Ok(Some(ParserState::Statement(StatementState::BeforeStatement))),
         Kind::Semicolon => Ok(Some(ParserState::Statement(
-            StatementState::AfterStatement(Some(empty())),
+            StatementState::AfterStatement(empty(alloc)?),
         ))),
         Kind::OpenBrace => {
             let statements = Some(CheckedStatements::new(alloc));
             begin_statement(Frame::Block(None, statements), stack)
         }
-        Kind::CloseBrace => close_block(stack),
+        Kind::CloseBrace => close_block(alloc, stack),
         Kind::Keyword(keyword) => start_keyword(alloc, next, *keyword, stack),
         _ => start_part(alloc, next, stack),
     }
@@ -143,7 +152,7 @@ fn continue_block(
 ) -> Result<Option<ParserState>, AllocError>
     ensures { IfOk result (λ state. next_of state stack.new.items
         ≡ parser.end_statement max_height next.entry.kind.now (checked_statement statement)
-            (frame_of (Block head statements) ∷ stack_of stack.old.items)) }
+            (frame_of (frame.Block head statements) ∷ stack_of stack.old.items)) }
 {
     let statements = one_more_statement(statements, statement)?;
     push(stack, Frame::Block(head, statements))?;

@@ -1,5 +1,12 @@
 // Checked statements and items: each is known not to be too high, and has its height beside it.
 
+ghost use Rattle.std.specs.Prelude.{◌≡◌, ◌≤◌, [], None};
+ghost use Rattle.awk_grammar.specs.definitions.Height.{max_height, optional_height, height_of_print_list, height_of_simple, height_of_optional_simple, height_of_statement, tallest_of, height_of_pattern, height_of_item, height_of_program};
+ghost use Rattle.awk_grammar.specs.definitions.View.{optional_expr_of, print_list_of, simple_of, optional_simple_of, statement_of, statements_of, pattern_of, item_of, items_of};
+
+use awk_grammar::tree::{Expr, Item, Pattern, PrintList, SimpleStatement, Statement};
+use std::alloc::Global;
+
 /// What a print prints.
 #[derive(Drop)]
 pub struct CheckedPrintList {
@@ -27,6 +34,18 @@ pub struct CheckedPart {
     ghost low: { height ≤ max_height },
 }
 
+impl CheckedPart {
+    /// It is left out.
+    pub fn absent() -> CheckedPart
+        ensures { result.part ≡ None }
+    {
+        CheckedPart {
+            part: None,
+            height: 0,
+        }
+    }
+}
+
 /// The condition of a `for`, or the value of an `exit` or `return`, which may be left out.
 #[derive(Drop)]
 pub struct CheckedOptionalExpr {
@@ -36,12 +55,24 @@ pub struct CheckedOptionalExpr {
     ghost low: { height ≤ max_height },
 }
 
-/// A statement that is not too high.
+impl CheckedOptionalExpr {
+    /// It is left out.
+    pub fn absent() -> CheckedOptionalExpr
+        ensures { result.expr ≡ None }
+    {
+        CheckedOptionalExpr {
+            expr: None,
+            height: 0,
+        }
+    }
+}
+
+/// A statement that is not too high, in a box.
 #[derive(Drop)]
 pub struct CheckedStatement {
-    pub statement: Statement,
+    pub statement: Box<Statement>,
     pub height: u32,
-    ghost counted: { height ≡ height_of_statement (statement_of statement) },
+    ghost counted: { height ≡ height_of_statement (statement_of statement.value) },
     ghost low: { height ≤ max_height },
 }
 
@@ -52,6 +83,18 @@ pub struct CheckedStatements {
     pub height: u32,
     ghost counted: { height ≡ tallest_of (statements_of statements.items) },
     ghost low: { height ≤ max_height },
+}
+
+impl CheckedStatements {
+    /// None so far.
+    pub fn new(alloc: Global) -> CheckedStatements
+        ensures { result.statements.items ≡ [] }
+    {
+        CheckedStatements {
+            statements: Vec::new(alloc),
+            height: 0,
+        }
+    }
 }
 
 /// A pattern that is not too high.
@@ -77,5 +120,13 @@ pub struct CheckedItems {
     ghost low: { height_of_program (items_of items.items) ≤ max_height },
 }
 
-// new() of CheckedStatements and CheckedItems as awk_tree has them (result.statements.items ≡ []).
-// CheckedOptionalExpr::absent() and CheckedPart::absent() (result.expr ≡ None).
+impl CheckedItems {
+    /// None so far.
+    pub fn new(alloc: Global) -> CheckedItems
+        ensures { result.items.items ≡ [] }
+    {
+        CheckedItems {
+            items: Vec::new(alloc),
+        }
+    }
+}

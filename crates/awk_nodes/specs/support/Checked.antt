@@ -9,7 +9,7 @@ use Rattle.awk_nodes.specs.declared.child.OptionalChild.TheVariants.{Absent, Pre
 
 abbrev pub checked_expr : Option CheckedExpr → Option t.Expr
 checked_expr None = None
-checked_expr (Some x) = Some (expr_of x.expr)
+checked_expr (Some x) = Some (expr_of x.expr.value)
 
 abbrev pub checked_exprs : Option CheckedExprs → Option t.Exprs
 checked_exprs None = None
@@ -19,4 +19,4 @@ checked_exprs (Some x) = Some (exprs_of x.exprs.items)
 abbrev pub checked_child : OptionalChild → Option t.OptionalExpr
 checked_child Absent = Some t.NoExpr
 checked_child (Present None) = None
-checked_child (Present (Some x)) = Some (t.AnExpr (expr_of x.expr))
+checked_child (Present (Some x)) = Some (t.AnExpr (expr_of x.expr.value))
