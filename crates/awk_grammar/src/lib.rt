@@ -2,5 +2,7 @@
 //! that finds them.
 #![tactic(auto)]
 
+pub mod arguments;
 pub mod laws;
+pub mod precedence;
 pub mod tree;

@@ -1,0 +1,2 @@
+pub mod FrameView
+pub mod Ended

@@ -1,0 +1,119 @@
+// The nodes that have begun, with what is read of them. What is large stands in a box, so that the stack's entries are small.
+
+use crate::operand::{Operand, OperandList};
+use awk_grammar::tree::{BinaryOperator, PrintForm, Redirection, UnaryOperator};
+use awk_lex::token::{AssignmentOperator, BuiltIn, IncrementOperator};
+use awk_nodes::checked::CheckedExpr;
+use awk_statement_nodes::checked::{
+    CheckedItems, CheckedOptionalExpr, CheckedPart, CheckedPattern, CheckedPrintList,
+    CheckedStatement, CheckedStatements,
+};
+use awk_value::Bytes;
+
+/// A node that has begun. Trees are none where they are too high.
+#[derive(Drop)]
+pub enum Frame {
+    /// The operand that is read next ends it.
+    Node(NodeFrame),
+    /// A list, and what it belongs to.
+    List(ListHead, OperandList),
+    /// An expression that a token behind it ends.
+    Expression(ExpressionFrame),
+    /// The first part of a `for`.
+    ForFirst,
+    /// The last part of a `for`.
+    ForLast(Box<ForHead>),
+    /// A statement whose body is read.
+    Body(Box<BodyFrame>),
+    /// A block, or an action behind its head, and its statements.
+    Block(Option<Box<Head>>, Option<CheckedStatements>),
+    /// The program, with its items.
+    Program(Option<CheckedItems>),
+}
+
+/// A node that is made of the operand that is read next.
+#[derive(Drop)]
+pub enum NodeFrame {
+    Field,
+    PreIncrement(IncrementOperator),
+    Unary(UnaryOperator),
+    Binary(BinaryOperator, Operand),
+    Assign(AssignmentOperator, Operand),
+    /// The second choice of a conditional.
+    SecondChoice(Box<Choice>),
+    /// The place of a getline, with the command before its `|`.
+    GetlinePlace(Option<Operand>),
+    /// The file of a getline, with its place.
+    GetlineFile(Option<Operand>),
+}
+
+/// A conditional before its second choice.
+#[derive(Drop)]
+pub struct Choice {
+    pub condition: Operand,
+    pub first: Operand,
+}
+
+/// A `for` before its last part.
+#[derive(Drop)]
+pub struct ForHead {
+    pub first: Option<CheckedPart>,
+    pub condition: Option<CheckedOptionalExpr>,
+}
+
+/// What a list belongs to. `in_print_list`: it stands in the list of a print.
+#[derive(Drop)]
+pub enum ListHead {
+    /// Parentheses alone.
+    Group { in_print_list: bool },
+    Call { name: Bytes, in_print_list: bool },
+    BuiltIn { function: BuiltIn, in_print_list: bool },
+    Element { name: Bytes, in_print_list: bool },
+    Print(PrintForm),
+    Delete(Bytes),
+}
+
+/// What an expression is for that a token behind it ends.
+#[derive(Drop)]
+pub enum ExpressionFrame {
+    /// The first choice of a conditional, with its condition.
+    FirstChoice(Operand),
+    Statement,
+    /// Where a print writes to.
+    Output(PrintForm, Option<CheckedPrintList>, Redirection),
+    Exit,
+    Return,
+    IfCondition,
+    WhileCondition,
+    /// The condition of a `do`, with its body.
+    DoCondition(Box<Option<CheckedStatement>>),
+    /// The condition of a `for`, with its first part.
+    ForCondition(Box<Option<CheckedPart>>),
+    Pattern,
+    /// The end of a range, with its begin.
+    RangeEnd(Option<CheckedExpr>),
+}
+
+/// A statement whose body is read.
+#[derive(Drop)]
+pub enum BodyFrame {
+    If(Option<CheckedExpr>),
+    /// With the condition and the first body.
+    Else(Option<CheckedExpr>, Option<CheckedStatement>),
+    While(Option<CheckedExpr>),
+    Do,
+    /// With the name and the array.
+    ForIn(Bytes, Bytes),
+    For(Option<CheckedPart>, Option<CheckedOptionalExpr>, Option<CheckedPart>),
+}
+
+/// What stands before an action.
+#[derive(Drop)]
+pub enum Head {
+    Begin,
+    End,
+    NoPattern,
+    Pattern(Option<CheckedPattern>),
+    /// A function's name and parameters.
+    Function(Bytes, Vec<Bytes>),
+}

@@ -1,0 +1,2 @@
+pub mod LimitedNodes
+pub mod CheckedLists

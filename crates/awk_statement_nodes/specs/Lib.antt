@@ -1,0 +1,3 @@
+-- What serves the contracts: checked trees seen as trees of the grammar, or none where they are too high.
+pub mod support
+pub use Rattle.awk_statement_nodes.specs.support.Checked
