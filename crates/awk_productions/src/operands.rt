@@ -6,7 +6,7 @@ ghost use Rattle.awk_grammar.specs.definitions.Precedence.{pre_increment, post_i
 ghost use Rattle.awk_grammar.specs.definitions.Tree as t;
 ghost use Rattle.awk_lex.specs.declared.token.Kind.TheVariants as token;
 ghost use Rattle.awk_grammar.specs.support.Parser as parser;
-ghost use Rattle.awk_frames.specs.support.FrameView.{frame_of, stack_of, next_of};
+ghost use Rattle.awk_frames.specs.support.FrameView.{list_of, frame_of, stack_of, next_of};
 
 use crate::taken::{begin, operand};
 use awk_frames::frame::{Frame, ListHead, NodeFrame};
@@ -157,6 +157,42 @@ fn start_getline(in_print_list: bool, stack: &Vec<Frame>) -> Option<ParserState>
     })
 }
 
+/// `)` behind the `(` of a call.
+fn close_empty_call(
+    alloc: Global,
+    name: Bytes,
+    in_print_list: bool,
+    list: OperandList,
+) -> Result<Option<ParserState>, AllocError>
+    ensures { (frames : List Frame) → IfOk result (λ state. next_of state frames
+        ≡ parser.close_empty_list max_height (parser.InCall name in_print_list (list_of list) ∷ stack_of frames)) }
+{
+    if list.count != 0 {
+        drop(list);
+        return Ok(None);
+    }
+    let tree = call(alloc, name, list.exprs)?;
+    Ok(operand(in_print_list, Operand::new(PRIMARY, tree)))
+}
+
+/// `)` behind the `(` of a call of a built-in function.
+fn close_empty_built_in(
+    alloc: Global,
+    function: BuiltIn,
+    in_print_list: bool,
+    list: OperandList,
+) -> Result<Option<ParserState>, AllocError>
+    ensures { (frames : List Frame) → IfOk result (λ state. next_of state frames
+        ≡ parser.close_empty_list max_height (parser.InBuiltIn function in_print_list (list_of list) ∷ stack_of frames)) }
+{
+    if list.count != 0 || !accepts(function, 0, true) {
+        drop(list);
+        return Ok(None);
+    }
+    let tree = built_in(alloc, function, list.exprs)?;
+    Ok(operand(in_print_list, Operand::new(PRIMARY, tree)))
+}
+
 /// `)` where an argument could begin.
 fn close_empty_list(
     alloc: Global,
@@ -166,26 +202,21 @@ fn close_empty_list(
         ≡ parser.close_empty_list max_height (stack_of stack.old.items)) }
 {
     match pop(stack) {
-        Some(Frame::List(
+        Some(Frame::List(head, list)) => match head {
             ListHead::Call {
                 name,
                 in_print_list,
-            },
-            list,
-        )) if list.count == 0 => {
-            let tree = call(alloc, name, list.exprs)?;
-            Ok(operand(in_print_list, Operand::new(PRIMARY, tree)))
-        }
-        Some(Frame::List(
+            } => close_empty_call(alloc, name, in_print_list, list),
             ListHead::BuiltIn {
                 function,
                 in_print_list,
-            },
-            list,
-        )) if list.count == 0 && accepts(function, 0, true) => {
-            let tree = built_in(alloc, function, list.exprs)?;
-            Ok(operand(in_print_list, Operand::new(PRIMARY, tree)))
-        }
+            } => close_empty_built_in(alloc, function, in_print_list, list),
+            rest => {
+                drop(rest);
+                drop(list);
+                Ok(None)
+            }
+        },
         rest => {
             drop(rest);
             Ok(None)

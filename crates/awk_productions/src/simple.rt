@@ -42,6 +42,26 @@ fn start_for_in_array(
     }
 }
 
+/// `for (name in array)`, where an expression stands in the parentheses.
+fn start_for_in_expr(
+    alloc: Global,
+    expr: Expr,
+    stack: &mut Vec<Frame>,
+) -> Result<Option<ParserState>, AllocError>
+    ensures { IfOk result (λ state. next_of state stack.new.items
+        ≡ parser.start_for_in (Some (t.Expression (expr_of expr))) (stack_of stack.old.items)) }
+{
+    match expr {
+        Expr::Membership(subscript, array) => {
+            start_for_in_array(alloc, Box::into_inner(subscript), array, stack)
+        }
+        rest => {
+            drop(rest);
+            Ok(None)
+        }
+    }
+}
+
 /// `for (name in array)`, behind the `)`.
 fn start_for_in(
     alloc: Global,
@@ -54,10 +74,9 @@ fn start_for_in(
     let Some(statement) = statement else {
         return Ok(None);
     };
-    match statement.simple {
-        SimpleStatement::Expression(Expr::Membership(subscript, array)) => {
-            start_for_in_array(alloc, Box::into_inner(subscript), array, stack)
-        }
+    let simple = statement.simple;
+    match simple {
+        SimpleStatement::Expression(expr) => start_for_in_expr(alloc, expr, stack),
         rest => {
             drop(rest);
             Ok(None)

@@ -32,13 +32,13 @@ fn close_block(
         ≡ parser.close_block max_height (stack_of stack.old.items)) }
 {
     match pop(stack) {
-        Some(Frame::Block(None, statements)) => {
-            let statement = block(alloc, statements)?;
-            Ok(Some(ParserState::Statement(StatementState::AfterStatement(statement))))
-        }
-        Some(Frame::Block(Some(head), statements)) => {
-            end_item(make_item(Box::into_inner(head), statements), stack)
-        }
+        Some(Frame::Block(head, statements)) => match head {
+            None => {
+                let statement = block(alloc, statements)?;
+                Ok(Some(ParserState::Statement(StatementState::AfterStatement(statement))))
+            }
+            Some(head) => end_item(make_item(Box::into_inner(head), statements), stack),
+        },
         rest => {
             drop(rest);
             Ok(None)
