@@ -65,10 +65,21 @@ pub struct ForHead {
 #[derive(Drop)]
 pub enum ListHead {
     /// Parentheses alone.
-    Group { in_print_list: bool },
-    Call { name: Bytes, in_print_list: bool },
-    BuiltIn { function: BuiltIn, in_print_list: bool },
-    Element { name: Bytes, in_print_list: bool },
+    Group {
+        in_print_list: bool,
+    },
+    Call {
+        name: Bytes,
+        in_print_list: bool,
+    },
+    BuiltIn {
+        function: BuiltIn,
+        in_print_list: bool,
+    },
+    Element {
+        name: Bytes,
+        in_print_list: bool,
+    },
     Print(PrintForm),
     Delete(Bytes),
 }

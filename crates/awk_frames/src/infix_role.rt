@@ -111,7 +111,8 @@ impl InfixRole {
     {
         match self {
             InfixRole::Assigns(_) => operand.is_place && EXPR <= greatest_allowed,
-            InfixRole::Increments(_) if operand.is_place && POST_INCREMENT <= greatest_allowed => true,
+            InfixRole::Increments(_) if operand.is_place && POST_INCREMENT <= greatest_allowed =>
+                true,
             InfixRole::Subscripts | InfixRole::Ends => false,
             _ => self.fits(operand, greatest_allowed),
         }

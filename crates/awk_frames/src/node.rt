@@ -7,7 +7,7 @@ ghost use Rattle.awk_frames.specs.support.FrameView.{role_of, operand_of, option
 
 use crate::frame::{Choice, NodeFrame};
 use crate::infix_role::InfixRole;
-use crate::operand::{child_of, Operand};
+use crate::operand::{Operand, child_of};
 use awk_grammar::precedence::{
     CONDITIONAL, EXPR, FIELD_REFERENCE, PIPE, POST_INCREMENT, PRE_INCREMENT, UNARY,
 };
@@ -94,7 +94,12 @@ impl NodeFrame {
                 let tree = conditional(alloc, condition.tree, first.tree, operand.tree)?;
                 Ok(Operand::new(CONDITIONAL, tree))
             }
-            NodeFrame::GetlinePlace(command) => getline_operand(alloc, command, Some(operand), None),
+            NodeFrame::GetlinePlace(command) => getline_operand(
+                alloc,
+                command,
+                Some(operand),
+                None,
+            ),
             NodeFrame::GetlineFile(place) => getline_operand(alloc, None, place, Some(operand)),
         }
     }

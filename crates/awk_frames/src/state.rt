@@ -20,7 +20,10 @@ pub struct NextToken<'a> {
 #[derive(Drop)]
 pub enum ParserState {
     /// In an expression; `in_print_list`: in the list of a print, outside parentheses.
-    Expression { in_print_list: bool, state: ExpressionState },
+    Expression {
+        in_print_list: bool,
+        state: ExpressionState,
+    },
     Statement(StatementState),
     Item(ItemState),
 }
@@ -73,10 +76,20 @@ pub enum StatementState {
 pub enum ItemState {
     BetweenItems,
     /// Before an action; newlines may stand first.
-    BeforeAction { head: Head, skips_newlines: bool },
+    BeforeAction {
+        head: Head,
+        skips_newlines: bool,
+    },
     AfterFunction,
     AfterFunctionName(Bytes),
     /// Before a parameter; behind a comma newlines may stand first.
-    BeforeParameter { name: Bytes, parameters: Vec<Bytes>, is_behind_comma: bool },
-    AfterParameter { name: Bytes, parameters: Vec<Bytes> },
+    BeforeParameter {
+        name: Bytes,
+        parameters: Vec<Bytes>,
+        is_behind_comma: bool,
+    },
+    AfterParameter {
+        name: Bytes,
+        parameters: Vec<Bytes>,
+    },
 }

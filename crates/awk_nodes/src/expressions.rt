@@ -30,10 +30,7 @@ fn node(alloc: Global, expr: Expr, height: u32) -> Result<Option<CheckedExpr>, A
 }
 
 /// `$` and the field's number.
-pub fn field(
-    alloc: Global,
-    number: Option<CheckedExpr>,
-) -> Result<Option<CheckedExpr>, AllocError>
+pub fn field(alloc: Global, number: Option<CheckedExpr>) -> Result<Option<CheckedExpr>, AllocError>
     ensures { IfOk result (λ e. checked_expr e ≡ over_one max_height height_of t.Field (checked_expr number)) }
 {
     let Some(number) = number else {
@@ -44,10 +41,7 @@ pub fn field(
 }
 
 /// An expression in parentheses.
-pub fn group(
-    alloc: Global,
-    inside: Option<CheckedExpr>,
-) -> Result<Option<CheckedExpr>, AllocError>
+pub fn group(alloc: Global, inside: Option<CheckedExpr>) -> Result<Option<CheckedExpr>, AllocError>
     ensures { IfOk result (λ e. checked_expr e ≡ over_one max_height height_of t.Group (checked_expr inside)) }
 {
     let Some(inside) = inside else {
@@ -216,7 +210,11 @@ pub fn assign(
         return Ok(None);
     };
     let height = place.height.max(value.height) + 1;
-    node(alloc, Expr::Assign(operator, place.expr, value.expr), height)
+    node(
+        alloc,
+        Expr::Assign(operator, place.expr, value.expr),
+        height,
+    )
 }
 
 /// `expr ? expr : expr`
@@ -244,7 +242,11 @@ pub fn conditional(
         return Ok(None);
     };
     let height = condition.height.max(first.height.max(second.height)) + 1;
-    node(alloc, Expr::Conditional(condition.expr, first.expr, second.expr), height)
+    node(
+        alloc,
+        Expr::Conditional(condition.expr, first.expr, second.expr),
+        height,
+    )
 }
 
 // The child as a node holds it, none if it is too high.

@@ -96,7 +96,10 @@ pub fn pattern_action(
         return None;
     };
     let height = pattern.height.max(statements.height + 1) + 1;
-    node(Item::PatternAction(pattern.pattern, statements.statements), height)
+    node(
+        Item::PatternAction(pattern.pattern, statements.statements),
+        height,
+    )
 }
 
 /// A pattern without an action.

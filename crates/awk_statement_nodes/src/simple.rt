@@ -52,7 +52,10 @@ pub fn expression(expr: Option<CheckedExpr>) -> Option<CheckedSimple>
 {
     let expr = expr?;
     let height = expr.height + 1;
-    node(SimpleStatement::Expression(Box::into_inner(expr.expr)), height)
+    node(
+        SimpleStatement::Expression(Box::into_inner(expr.expr)),
+        height,
+    )
 }
 
 /// A print to standard output.
@@ -61,7 +64,10 @@ pub fn print(form: PrintForm, list: Option<CheckedPrintList>) -> Option<CheckedS
 {
     let list = list?;
     let height = list.height + 1;
-    node(SimpleStatement::Print(form, list.list, Output::Standard), height)
+    node(
+        SimpleStatement::Print(form, list.list, Output::Standard),
+        height,
+    )
 }
 
 /// A print that is redirected.

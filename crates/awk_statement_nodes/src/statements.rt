@@ -85,7 +85,11 @@ pub fn if_statement(
         return Ok(None);
     };
     let height = condition.height.max(body.height) + 1;
-    node(alloc, Statement::If(Box::into_inner(condition.expr), body.statement), height)
+    node(
+        alloc,
+        Statement::If(Box::into_inner(condition.expr), body.statement),
+        height,
+    )
 }
 
 /// `if` with `else`
@@ -113,7 +117,15 @@ pub fn if_else(
         return Ok(None);
     };
     let height = condition.height.max(body.height.max(other.height)) + 1;
-    node(alloc, Statement::IfElse(Box::into_inner(condition.expr), body.statement, other.statement), height)
+    node(
+        alloc,
+        Statement::IfElse(
+            Box::into_inner(condition.expr),
+            body.statement,
+            other.statement,
+        ),
+        height,
+    )
 }
 
 /// `while`
@@ -133,7 +145,11 @@ pub fn while_loop(
         return Ok(None);
     };
     let height = condition.height.max(body.height) + 1;
-    node(alloc, Statement::While(Box::into_inner(condition.expr), body.statement), height)
+    node(
+        alloc,
+        Statement::While(Box::into_inner(condition.expr), body.statement),
+        height,
+    )
 }
 
 /// `do`
@@ -153,7 +169,11 @@ pub fn do_loop(
         return Ok(None);
     };
     let height = body.height.max(condition.height) + 1;
-    node(alloc, Statement::Do(body.statement, Box::into_inner(condition.expr)), height)
+    node(
+        alloc,
+        Statement::Do(body.statement, Box::into_inner(condition.expr)),
+        height,
+    )
 }
 
 /// `for (name in array)`
@@ -206,8 +226,15 @@ pub fn for_loop(
         drop(last);
         return Ok(None);
     };
-    let height = first.height.max(condition.height.max(last.height.max(body.height))) + 1;
-    node(alloc, Statement::For(first.part, condition.expr, last.part, body.statement), height)
+    let height = first
+        .height
+        .max(condition.height.max(last.height.max(body.height)))
+        + 1;
+    node(
+        alloc,
+        Statement::For(first.part, condition.expr, last.part, body.statement),
+        height,
+    )
 }
 
 /// A block with one statement more.
