@@ -1,10 +1,11 @@
 // Items: patterns, actions and functions.
 
-ghost use Rattle.std.specs.Prelude.{◌≡◌, ◌∷◌, List, IfOk};
+ghost use Rattle.std.specs.Prelude.{◌≡◌, false, ◌∷◌, List, IfOk};
 ghost use Rattle.awk_grammar.specs.definitions.Height.{max_height};
 ghost use Rattle.awk_grammar.specs.definitions.Tree.{NoMore};
 ghost use Rattle.awk_grammar.specs.support.Nodes.{limited};
 ghost use Rattle.awk_grammar.specs.support.Parser as parser;
+ghost use Rattle.awk_lex.specs.declared.token.Kind.TheVariants as token;
 ghost use Rattle.awk_nodes.specs.support.Checked.{checked_expr};
 ghost use Rattle.awk_statement_nodes.specs.support.Checked.{checked_statements, checked_pattern, checked_item};
 ghost use Rattle.awk_frames.specs.support.FrameView.{operand_of, head_of, stack_of, next_of};
@@ -108,6 +109,38 @@ pub fn after_pattern_expr(
     after_pattern(alloc, next, single(operand.tree), stack)
 }
 
+/// A pattern begins.
+fn start_pattern(
+    alloc: Global,
+    next: NextToken,
+    stack: &mut Vec<Frame>,
+) -> Result<Option<ParserState>, AllocError>
+    ensures { IfOk result (λ state. next_of state stack.new.items
+        ≡ parser.start_operand max_height next.entry.kind.now false false (parser.InPattern ∷ stack_of stack.old.items)) }
+{
+    push(stack, Frame::Expression(ExpressionFrame::Pattern))?;
+    start_operand(alloc, next, false, false, stack)
+}
+
+/// A keyword where an item begins.
+fn start_item_keyword(
+    alloc: Global,
+    next: NextToken,
+    keyword: Keyword,
+    stack: &mut Vec<Frame>,
+) -> Result<Option<ParserState>, AllocError>
+    requires { next.kind.now ≡ token.Keyword keyword }
+    ensures { IfOk result (λ state. next_of state stack.new.items
+        ≡ parser.start_item max_height (stack_of stack.old.items) (token.Keyword keyword)) }
+{
+    match keyword {
+        Keyword::Begin => Ok(before_action_of(Head::Begin, false)),
+        Keyword::End => Ok(before_action_of(Head::End, false)),
+        Keyword::Function => Ok(Some(ParserState::Item(ItemState::AfterFunction))),
+        _ => start_pattern(alloc, next, stack),
+    }
+}
+
 /// Where an item begins.
 pub fn start_item(
     alloc: Global,
@@ -119,14 +152,9 @@ pub fn start_item(
 {
     match next.kind {
         Kind::Semicolon | Kind::Newline => Ok(Some(ParserState::Item(ItemState::BetweenItems))),
-        Kind::Keyword(Keyword::Begin) => Ok(before_action_of(Head::Begin, false)),
-        Kind::Keyword(Keyword::End) => Ok(before_action_of(Head::End, false)),
-        Kind::Keyword(Keyword::Function) => Ok(Some(ParserState::Item(ItemState::AfterFunction))),
         Kind::OpenBrace => start_action(alloc, Head::NoPattern, stack),
-        _ => {
-            push(stack, Frame::Expression(ExpressionFrame::Pattern))?;
-            start_operand(alloc, next, false, false, stack)
-        }
+        Kind::Keyword(keyword) => start_item_keyword(alloc, next, *keyword, stack),
+        _ => start_pattern(alloc, next, stack),
     }
 }
 

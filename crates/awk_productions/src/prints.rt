@@ -1,9 +1,10 @@
 // The lists of prints and their redirections.
 
-ghost use Rattle.std.specs.Prelude.{◌≡◌, ◌∷◌, List, IfOk};
+ghost use Rattle.std.specs.Prelude.{◌≡◌, true, false, ◌∷◌, IfOk};
 ghost use Rattle.awk_grammar.specs.definitions.Height.{max_height};
 ghost use Rattle.awk_grammar.specs.support.Parser as parser;
 ghost use Rattle.awk_statement_nodes.specs.support.Checked.{checked_print_list};
+ghost use Rattle.awk_productions.specs.support.Ending.{ends_print};
 ghost use Rattle.awk_frames.specs.support.FrameView.{operand_of, list_of, stack_of, next_of};
 
 use crate::operands::start_operand;
@@ -108,6 +109,38 @@ pub fn end_list(
     }
 }
 
+/// Whether a `print` has no list before this token.
+fn ends_print(kind: &Kind) -> bool
+    ensures { result ≡ ends_print kind.now }
+{
+    match kind {
+        Kind::Operator(operator) => matches!(operator, Operator::Greater),
+        Kind::Append
+        | Kind::Bar
+        | Kind::Semicolon
+        | Kind::Newline
+        | Kind::CloseBrace
+        | Kind::CloseParenthesis => true,
+        _ => false,
+    }
+}
+
+/// The list of a print begins.
+fn start_print_list(
+    alloc: Global,
+    next: NextToken,
+    form: PrintForm,
+    stack: &mut Vec<Frame>,
+) -> Result<Option<ParserState>, AllocError>
+    ensures { IfOk result (λ state. next_of state stack.new.items
+        ≡ parser.start_operand max_height next.entry.kind.now false true
+            (parser.InPrint form (parser.no_operands max_height) ∷ stack_of stack.old.items)) }
+{
+    let frame = Frame::List(ListHead::Print(form), OperandList::new(alloc));
+    push(stack, frame)?;
+    start_operand(alloc, next, false, true, stack)
+}
+
 /// Behind the word `print` or `printf`.
 pub fn after_print(
     alloc: Global,
@@ -118,23 +151,14 @@ pub fn after_print(
     ensures { IfOk result (λ state. next_of state stack.new.items
         ≡ parser.after_print max_height form (stack_of stack.old.items) next.entry.kind.now) }
 {
-    let stands_alone = matches!(
-        next.kind,
-        Kind::Operator(Operator::Greater)
-            | Kind::Append
-            | Kind::Bar
-            | Kind::Semicolon
-            | Kind::Newline
-            | Kind::CloseBrace
-            | Kind::CloseParenthesis
-    );
-    if stands_alone && matches!(form, PrintForm::Print) {
-        let none = bare(Some(CheckedExprs::new(alloc)));
-        return end_print_list(alloc, next, form, none, stack);
+    match form {
+        PrintForm::Printf => start_print_list(alloc, next, form, stack),
+        PrintForm::Print => {
+            if !ends_print(next.kind) {
+                return start_print_list(alloc, next, form, stack);
+            }
+            let none = bare(Some(CheckedExprs::new(alloc)));
+            end_print_list(alloc, next, form, none, stack)
+        }
     }
-    push(
-        stack,
-        Frame::List(ListHead::Print(form), OperandList::new(alloc)),
-    )?;
-    start_operand(alloc, next, false, true, stack)
 }

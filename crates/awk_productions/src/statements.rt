@@ -1,6 +1,6 @@
 // Where statements begin, and what ends with them.
 
-ghost use Rattle.std.specs.Prelude.{◌≡◌, ◌∷◌, List, IfOk};
+ghost use Rattle.std.specs.Prelude.{◌≡◌, false, ◌∷◌, List, IfOk};
 ghost use Rattle.awk_grammar.specs.definitions.Height.{max_height};
 ghost use Rattle.awk_grammar.specs.support.Parser as parser;
 ghost use Rattle.awk_lex.specs.declared.token.Kind.TheVariants as token;
@@ -46,6 +46,39 @@ fn close_block(
     }
 }
 
+/// An expression begins that is a statement.
+fn start_expression(
+    alloc: Global,
+    next: NextToken,
+    stack: &mut Vec<Frame>,
+) -> Result<Option<ParserState>, AllocError>
+    ensures { IfOk result (λ state. next_of state stack.new.items
+        ≡ parser.start_operand max_height next.entry.kind.now false false (parser.InExpression ∷ stack_of stack.old.items)) }
+{
+    push(stack, Frame::Expression(ExpressionFrame::Statement))?;
+    start_operand(alloc, next, false, false, stack)
+}
+
+/// A keyword where an expression, a print or a deletion begins.
+fn start_part_keyword(
+    alloc: Global,
+    next: NextToken,
+    keyword: Keyword,
+    stack: &mut Vec<Frame>,
+) -> Result<Option<ParserState>, AllocError>
+    requires { next.kind.now ≡ token.Keyword keyword }
+    ensures { IfOk result (λ state. next_of state stack.new.items
+        ≡ parser.start_part max_height (token.Keyword keyword) (stack_of stack.old.items)) }
+{
+    let state = match keyword {
+        Keyword::Print => StatementState::AfterPrint(PrintForm::Print),
+        Keyword::Printf => StatementState::AfterPrint(PrintForm::Printf),
+        Keyword::Delete => StatementState::AfterDelete,
+        _ => return start_expression(alloc, next, stack),
+    };
+    Ok(Some(ParserState::Statement(state)))
+}
+
 /// An expression, a print or a deletion begins.
 pub fn start_part(
     alloc: Global,
@@ -55,16 +88,10 @@ pub fn start_part(
     ensures { IfOk result (λ state. next_of state stack.new.items
         ≡ parser.start_part max_height next.entry.kind.now (stack_of stack.old.items)) }
 {
-    let state = match next.kind {
-        Kind::Keyword(Keyword::Print) => StatementState::AfterPrint(PrintForm::Print),
-        Kind::Keyword(Keyword::Printf) => StatementState::AfterPrint(PrintForm::Printf),
-        Kind::Keyword(Keyword::Delete) => StatementState::AfterDelete,
-        _ => {
-            push(stack, Frame::Expression(ExpressionFrame::Statement))?;
-            return start_operand(alloc, next, false, false, stack);
-        }
-    };
-    Ok(Some(ParserState::Statement(state)))
+    match next.kind {
+        Kind::Keyword(keyword) => start_part_keyword(alloc, next, *keyword, stack),
+        _ => start_expression(alloc, next, stack),
+    }
 }
 
 /// A statement that begins with a keyword, or a part.
@@ -94,7 +121,7 @@ fn start_keyword(
             let frame = Frame::Expression(ExpressionFrame::WhileCondition);
             return Ok(before_parenthesis(frame, false));
         }
-        _ => return start_part(alloc, next, stack),
+        _ => return start_part_keyword(alloc, next, keyword, stack),
     };
     Ok(Some(ParserState::Statement(state)))
 }
