@@ -1,0 +1,284 @@
+// The ends of simple statements, which may be parts of a `for`.
+
+ghost use Rattle.std.specs.Prelude.{◌≡◌, ◌∷◌, Some, IfOk};
+ghost use Rattle.awk_grammar.specs.definitions.Height.{max_height};
+ghost use Rattle.awk_grammar.specs.definitions.Tree as t;
+ghost use Rattle.awk_grammar.specs.definitions.View.{expr_of};
+ghost use Rattle.awk_grammar.specs.support.Parser as parser;
+ghost use Rattle.awk_statement_nodes.specs.support.Checked.{checked_simple, checked_statement, checked_part, checked_optional_expr};
+ghost use Rattle.awk_frames.specs.support.FrameView.{list_of, body_frame_of, expression_frame_of, stack_of, next_of};
+
+use crate::operands::start_operand;
+use crate::statements::{end_simple_statement, start_part};
+use crate::taken::{begin, begin_body};
+use awk_frames::frame::{BodyFrame, ExpressionFrame, ForHead, Frame, ListHead};
+use awk_frames::operand::OperandList;
+use awk_frames::stack::{pop, push};
+use awk_frames::state::{NextToken, ParserState, StatementState};
+use awk_grammar::tree::{Expr, SimpleStatement};
+use awk_lex::token::Kind;
+use awk_statement_nodes::checked::{CheckedOptionalExpr, CheckedPart, CheckedSimple};
+use awk_statement_nodes::simple::{delete, part};
+use awk_statement_nodes::statements::simple;
+use awk_value::Bytes;
+use std::alloc::{AllocError, Global};
+
+/// `for (name in array)`, where the expression before `in` is a name.
+fn start_for_in_array(
+    alloc: Global,
+    subscript: Expr,
+    array: Bytes,
+    stack: &mut Vec<Frame>,
+) -> Result<Option<ParserState>, AllocError>
+    ensures { IfOk result (λ state. next_of state stack.new.items
+        ≡ parser.start_for_in (Some (t.Expression (t.Membership (expr_of subscript) array))) (stack_of stack.old.items)) }
+{
+    match subscript {
+        Expr::Name(name) => begin_body(alloc, BodyFrame::ForIn(name, array), stack),
+        rest => {
+            drop(rest);
+            Ok(None)
+        }
+    }
+}
+
+/// `for (name in array)`, where an expression stands in the parentheses.
+fn start_for_in_expr(
+    alloc: Global,
+    expr: Expr,
+    stack: &mut Vec<Frame>,
+) -> Result<Option<ParserState>, AllocError>
+    ensures { IfOk result (λ state. next_of state stack.new.items
+        ≡ parser.start_for_in (Some (t.Expression (expr_of expr))) (stack_of stack.old.items)) }
+{
+    match expr {
+        Expr::Membership(subscript, array) => {
+            start_for_in_array(alloc, Box::into_inner(subscript), array, stack)
+        }
+        rest => {
+            drop(rest);
+            Ok(None)
+        }
+    }
+}
+
+/// `for (name in array)`, behind the `)`.
+fn start_for_in(
+    alloc: Global,
+    statement: Option<CheckedSimple>,
+    stack: &mut Vec<Frame>,
+) -> Result<Option<ParserState>, AllocError>
+    ensures { IfOk result (λ state. next_of state stack.new.items
+        ≡ parser.start_for_in (checked_simple statement) (stack_of stack.old.items)) }
+{
+    let Some(statement) = statement else {
+        return Ok(None);
+    };
+    let simple = statement.simple;
+    match simple {
+        SimpleStatement::Expression(expr) => start_for_in_expr(alloc, expr, stack),
+        rest => {
+            drop(rest);
+            Ok(None)
+        }
+    }
+}
+
+/// Behind the first part of a `for`.
+fn end_for_first(
+    alloc: Global,
+    next: NextToken,
+    statement: Option<CheckedSimple>,
+    stack: &mut Vec<Frame>,
+) -> Result<Option<ParserState>, AllocError>
+    ensures { IfOk result (λ state. next_of state stack.new.items
+        ≡ parser.end_for_first max_height next.entry.kind.now (checked_simple statement) (stack_of stack.old.items)) }
+{
+    match next.kind {
+        Kind::Semicolon => Ok(Some(ParserState::Statement(StatementState::BeforeForCondition(part(
+            statement,
+        ))))),
+        Kind::CloseParenthesis => start_for_in(alloc, statement, stack),
+        _ => {
+            drop(statement);
+            Ok(None)
+        }
+    }
+}
+
+/// Behind its last part.
+fn end_for_last(
+    alloc: Global,
+    next: NextToken,
+    head: ForHead,
+    last: Option<CheckedPart>,
+    stack: &mut Vec<Frame>,
+) -> Result<Option<ParserState>, AllocError>
+    ensures { IfOk result (λ state. next_of state stack.new.items
+        ≡ parser.close_condition next.entry.kind.now (parser.BeforeStatement
+        (parser.InForBody (checked_part head.first) (checked_optional_expr head.condition) (checked_part last) ∷ stack_of stack.old.items))) }
+{
+    if matches!(next.kind, Kind::CloseParenthesis) {
+        let body = BodyFrame::For(head.first, head.condition, last);
+        return begin_body(alloc, body, stack);
+    }
+    drop(head);
+    drop(last);
+    Ok(None)
+}
+
+/// Behind a simple statement, which may be a part of a `for`.
+pub fn end_simple(
+    alloc: Global,
+    next: NextToken,
+    statement: Option<CheckedSimple>,
+    stack: &mut Vec<Frame>,
+) -> Result<Option<ParserState>, AllocError>
+    ensures { IfOk result (λ state. next_of state stack.new.items
+        ≡ parser.end_simple max_height next.entry.kind.now (checked_simple statement) (stack_of stack.old.items)) }
+{
+    if !matches!(stack.last(), Some(Frame::ForFirst | Frame::ForLast(..))) {
+        let statement = simple(alloc, statement)?;
+        return end_simple_statement(alloc, next, statement, stack);
+    }
+    match pop(stack) {
+        Some(Frame::ForLast(head)) => {
+            let head = Box::into_inner(head);
+            end_for_last(alloc, next, head, part(statement), stack)
+        }
+        rest => {
+            drop(rest);
+            end_for_first(alloc, next, statement, stack)
+        }
+    }
+}
+
+/// Behind a subscript of a deletion.
+pub fn after_delete_subscript(
+    next: NextToken,
+    name: Bytes,
+    list: OperandList,
+    stack: &mut Vec<Frame>,
+) -> Result<Option<ParserState>, AllocError>
+    ensures { IfOk result (λ state. next_of state stack.new.items
+        ≡ parser.after_delete_subscript max_height next.entry.kind.now name (list_of list) (stack_of stack.old.items)) }
+{
+    match next.kind {
+        Kind::Comma => begin(
+            Frame::List(ListHead::Delete(name), list),
+            true,
+            false,
+            stack,
+        ),
+        Kind::CloseBracket => Ok(Some(ParserState::Statement(StatementState::AfterSimple(delete(
+            name, list.exprs,
+        ))))),
+        _ => {
+            drop(list);
+            Ok(None)
+        }
+    }
+}
+
+/// Behind the word `delete` and a name.
+pub fn after_delete_name(
+    alloc: Global,
+    next: NextToken,
+    name: Bytes,
+    stack: &mut Vec<Frame>,
+) -> Result<Option<ParserState>, AllocError>
+    ensures { IfOk result (λ state. next_of state stack.new.items
+        ≡ parser.after_delete_name max_height name (stack_of stack.old.items) next.entry.kind.now) }
+{
+    match next.kind {
+        Kind::OpenBracket => {
+            let frame = Frame::List(ListHead::Delete(name), OperandList::new(alloc));
+            begin(frame, false, false, stack)
+        }
+        _ => Ok(None),
+    }
+}
+
+/// Behind the word `exit` or `return`: the statement without a value, unless an expression follows.
+pub fn after_exit(
+    alloc: Global,
+    next: NextToken,
+    without_value: Option<CheckedSimple>,
+    frame: ExpressionFrame,
+    stack: &mut Vec<Frame>,
+) -> Result<Option<ParserState>, AllocError>
+    ensures { IfOk result (λ state. next_of state stack.new.items
+        ≡ parser.after_exit max_height (checked_simple without_value) (expression_frame_of frame) (stack_of stack.old.items) next.entry.kind.now) }
+{
+    match next.kind {
+        Kind::Semicolon | Kind::Newline | Kind::CloseBrace => {
+            drop(frame);
+            end_simple(alloc, next, without_value, stack)
+        }
+        _ => {
+            drop(without_value);
+            push(stack, Frame::Expression(frame))?;
+            start_operand(alloc, next, false, false, stack)
+        }
+    }
+}
+
+/// Before the first part of a `for`.
+pub fn before_for_first(
+    alloc: Global,
+    next: NextToken,
+    stack: &mut Vec<Frame>,
+) -> Result<Option<ParserState>, AllocError>
+    ensures { IfOk result (λ state. next_of state stack.new.items
+        ≡ parser.before_for_first max_height (stack_of stack.old.items) next.entry.kind.now) }
+{
+    if matches!(next.kind, Kind::Semicolon) {
+        return Ok(Some(ParserState::Statement(StatementState::BeforeForCondition(Some(
+            CheckedPart::absent(),
+        )))));
+    }
+    push(stack, Frame::ForFirst)?;
+    start_part(alloc, next, stack)
+}
+
+/// Before its condition.
+pub fn before_for_condition(
+    alloc: Global,
+    next: NextToken,
+    first: Option<CheckedPart>,
+    stack: &mut Vec<Frame>,
+) -> Result<Option<ParserState>, AllocError>
+    ensures { IfOk result (λ state. next_of state stack.new.items
+        ≡ parser.before_for_condition max_height (checked_part first) (stack_of stack.old.items) next.entry.kind.now) }
+{
+    if matches!(next.kind, Kind::Semicolon) {
+        let condition = Some(CheckedOptionalExpr::absent());
+        return Ok(Some(ParserState::Statement(StatementState::BeforeForLast(first, condition))));
+    }
+    let first = Box::new(alloc, first)?;
+    push(
+        stack,
+        Frame::Expression(ExpressionFrame::ForCondition(first)),
+    )?;
+    start_operand(alloc, next, false, false, stack)
+}
+
+/// Before its last part.
+pub fn before_for_last(
+    alloc: Global,
+    next: NextToken,
+    first: Option<CheckedPart>,
+    condition: Option<CheckedOptionalExpr>,
+    stack: &mut Vec<Frame>,
+) -> Result<Option<ParserState>, AllocError>
+    ensures { IfOk result (λ state. next_of state stack.new.items
+        ≡ parser.before_for_last max_height (checked_part first) (checked_optional_expr condition) (stack_of stack.old.items) next.entry.kind.now) }
+{
+    if matches!(next.kind, Kind::CloseParenthesis) {
+        let body = BodyFrame::For(first, condition, Some(CheckedPart::absent()));
+        return begin_body(alloc, body, stack);
+    }
+    let head = Box::new(alloc, ForHead { first, condition })?;
+    push(stack, Frame::ForLast(head))?;
+    start_part(alloc, next, stack)
+}
