@@ -2,10 +2,11 @@
 
 ghost use Rattle.awk_grammar.specs.Tree as t;
 ghost use Rattle.awk_grammar.specs.View as g;
+ghost use Rattle.awk_tree.specs.Tree as run;
 ghost use Rattle.awk_tree.specs.View.{expr_of, exprs_of, statement_of, statements_of, item_of, items_of};
 ghost use Rattle.awk_resolve.specs.definitions.Built.{built_operator, built_unary, built_target, built_expr, built_list, built_print_list, built_simple, built_statement, built_block, built_item, built_items};
 ghost use Rattle.awk_resolve.specs.support.Builds.{Builds};
-ghost use Rattle.std.specs.Prelude.{◌≡◌};
+ghost use Rattle.std.specs.Prelude.{◌≡◌, Some};
 ghost use Rattle.std.specs.Option.{option_map};
 
 use awk_grammar::tree as grammar;
@@ -68,49 +69,20 @@ fn built_target(operator: AssignmentOperator, place: &grammar::Expr) -> Option<&
     }
 }
 
-#[cycle(expressions)]
-fn boxed(alloc: Global, e: &grammar::Expr) -> Result<Box<Expr>, Refusal>
-    ensures { Builds (λ b. expr_of b.value) result (built_expr (g.expr_of e.now)) }
-{
-    let e = built_expr(alloc, e)?;
-    Ok(Box::new(alloc, e)?)
-}
-
-#[cycle(expressions)]
-fn built_binary(
+/// Two operands that are built, with their operator.
+fn binary(
     alloc: Global,
-    operator: grammar::BinaryOperator,
-    a: &grammar::Expr,
-    b: &grammar::Expr,
+    operator: BinaryOperator,
+    a: Expr,
+    b: Expr,
 ) -> Result<Expr, Refusal>
-    ensures { Builds expr_of result (built_expr (t.Binary operator (g.expr_of a.now) (g.expr_of b.now))) }
+    ensures { Builds expr_of result (Some (run.Binary operator (expr_of a) (expr_of b))) }
 {
-    let Some(operator) = built_operator(operator) else {
-        return Err(NOT_BUILT);
-    };
-    let a = boxed(alloc, a)?;
-    let b = boxed(alloc, b)?;
+    let a = Box::new(alloc, a)?;
+    let b = Box::new(alloc, b)?;
     Ok(Expr::Binary(operator, a, b))
 }
 
-#[cycle(expressions)]
-fn built_assignment(
-    alloc: Global,
-    operator: AssignmentOperator,
-    place: &grammar::Expr,
-    e: &grammar::Expr,
-) -> Result<Expr, Refusal>
-    ensures { Builds expr_of result (built_expr (t.Assign operator (g.expr_of place.now) (g.expr_of e.now))) }
-{
-    let Some(name) = built_target(operator, place) else {
-        return Err(NOT_BUILT);
-    };
-    let name = name.clone()?;
-    let e = boxed(alloc, e)?;
-    Ok(Expr::Assign(name, e))
-}
-
-#[cycle(expressions)]
 fn built_expr(alloc: Global, e: &grammar::Expr) -> Result<Expr, Refusal>
     ensures { Builds expr_of result (built_expr (g.expr_of e.now)) }
 {
@@ -122,14 +94,34 @@ fn built_expr(alloc: Global, e: &grammar::Expr) -> Result<Expr, Refusal>
             number: ere.number,
         })),
         grammar::Expr::Name(name) => Ok(Expr::Name(name.clone()?)),
-        grammar::Expr::Group(e) => Ok(Expr::Group(boxed(alloc, e)?)),
-        grammar::Expr::Field(e) => Ok(Expr::Field(boxed(alloc, e)?)),
-        grammar::Expr::Unary(operator, e) => {
-            let e = boxed(alloc, e)?;
-            Ok(Expr::Unary(built_unary(*operator), e))
+        grammar::Expr::Group(e) => {
+            let e = built_expr(alloc, e)?;
+            Ok(Expr::Group(Box::new(alloc, e)?))
         }
-        grammar::Expr::Binary(operator, a, b) => built_binary(alloc, *operator, a, b),
-        grammar::Expr::Assign(operator, place, e) => built_assignment(alloc, *operator, place, e),
+        grammar::Expr::Field(e) => {
+            let e = built_expr(alloc, e)?;
+            Ok(Expr::Field(Box::new(alloc, e)?))
+        }
+        grammar::Expr::Unary(operator, e) => {
+            let e = built_expr(alloc, e)?;
+            Ok(Expr::Unary(built_unary(*operator), Box::new(alloc, e)?))
+        }
+        grammar::Expr::Binary(operator, a, b) => {
+            let Some(operator) = built_operator(*operator) else {
+                return Err(NOT_BUILT);
+            };
+            let a = built_expr(alloc, a)?;
+            let b = built_expr(alloc, b)?;
+            binary(alloc, operator, a, b)
+        }
+        grammar::Expr::Assign(operator, place, e) => {
+            let Some(name) = built_target(*operator, place) else {
+                return Err(NOT_BUILT);
+            };
+            let name = name.clone()?;
+            let e = built_expr(alloc, e)?;
+            Ok(Expr::Assign(name, Box::new(alloc, e)?))
+        }
         _ => Err(NOT_BUILT),
     }
 }
