@@ -7,7 +7,7 @@ use crate::tables::{bytes_of, expect_table};
 use awk_lex::lexer::tokens;
 use awk_lex::refusal::Refusal;
 use awk_syntax::parse::{one_tree, parse};
-use awk_tree::tree::Tree;
+use awk_grammar::tree::Tree;
 use std::alloc::Global;
 use std::test::Fail;
 use trees::tree_text;
@@ -57,7 +57,6 @@ const STATEMENTS: &str = r#"
 } → line 1: refusal S1: not a program
 { print␊, 1 } → line 2: refusal S1: not a program
 { print 1 print 2 } → line 1: refusal S1: not a program
-{ ; } → line 1: refusal S1: not a program
 print → line 1: refusal S1: not a program
 {} , {} → line 1: refusal S1: not a program
 { print 1␊}␊␊2 * → line 4: refusal S1: not a program
@@ -75,22 +74,16 @@ const EXPRESSIONS: &str = r#"
 ␊{ print 1␊< 2 } → line 3: refusal S1: not a program
 BEGIN{print 1 < 2 < 3} → line 1: refusal S1: not a program
 1 == 2 != 3 {} → line 1: refusal S1: not a program
-{ print 1 > 2 } → line 1: refusal S1: not a program
 { print 1, } → line 1: refusal S1: not a program
 { print 1 * } → line 1: refusal S1: not a program
 { print * 1 } → line 1: refusal S1: not a program
 { print $ } → line 1: refusal S1: not a program
 {print $-1} → line 1: refusal S1: not a program
-{ print $$1 } → line 1: refusal S1: not a program
-{ print $x } → line 1: refusal S1: not a program
-{ print␊$(1) } → line 2: refusal S1: not a program
 BEGIN{x=2**3} → line 1: refusal S1: not a program
-{ print (1, 2) } → line 1: refusal S1: not a program
 { print (␊1) } → line 1: refusal S1: not a program
 () → line 1: refusal S1: not a program
 ␊(1␊) → line 2: refusal S1: not a program
 (1] → line 1: refusal S1: not a program
-f(1) → line 1: refusal S1: not a program
 ! ; → line 1: refusal S1: not a program
 1 % % 2 → line 1: refusal S1: not a program
 BEGIN{!x=1} → line 1: refusal S1: not a program
@@ -98,10 +91,8 @@ BEGIN{␊␊-x=1} → line 3: refusal S1: not a program
 1 + x = 2 → line 1: refusal S1: not a program
 x == y = 1 → line 1: refusal S1: not a program
 (x) = 1 → line 1: refusal S1: not a program
-$1 = 2 → line 1: refusal S1: not a program
 1 = 2 → line 1: refusal S1: not a program
 {␊x =␊1 } → line 2: refusal S1: not a program
-{ x = NF = 1 } → line 1: refusal S1: not a program
 x = ; → line 1: refusal S1: not a program
 x ~ y !~ z → line 1: refusal S1: not a program
 1; x ~ y␊~ z → line 2: refusal S1: not a program
@@ -111,24 +102,112 @@ x ~ ; → line 1: refusal S1: not a program
 { print 1 > 2 "a" } → line 1: refusal S1: not a program
 "#;
 
-// What the parser doesn't take so far.
-const UNREAD: &str = r#"
-1 ^ 2 → line 1: refusal S1: not a program
-1 && 2 → line 1: refusal S1: not a program
-1 || 2 → line 1: refusal S1: not a program
-1 ? 2 : 3 → line 1: refusal S1: not a program
-x in y → line 1: refusal S1: not a program
-x++ → line 1: refusal S1: not a program
-1 ++x → line 1: refusal S1: not a program
-x[1] → line 1: refusal S1: not a program
-x += 1 → line 1: refusal S1: not a program
-length → line 1: refusal S1: not a program
-{ getline } → line 1: refusal S1: not a program
-{ print 1 | "c" } → line 1: refusal S1: not a program
-{ print >> "f" } → line 1: refusal S1: not a program
-{ printf "x" } → line 1: refusal S1: not a program
-END {} → line 1: refusal S1: not a program
-{ if (1) x } → line 1: refusal S1: not a program
+// Operators, places and calls.
+const OPERATORS: &str = r#"
+1 ^ 2 → ?
+-x^2 → ?
+2^-3 → ?
+2^3^2 → ?
+1 && 2 || 3 → ?
+1 &&␊␊2 ||␊3 → ?
+1?2:3?4:5 → ?
+a = b ~ c → ?
+x = y += z ^= 2 → ?
+x in a → ?
+x in a in y → ?
+! x in a → ?
+(1,2) in x → ?
+{ print (1,2) in x } → ?
+x++y → ?
+x++ + ++x → ?
+1 - -1 → ?
+1 ++x → ?
+$i++ → ?
+$++i → ?
+$NF-1 → ?
+$x += 1 → ?
+a[i,j] = $NF → ?
+a[1]++ - --a[␊2] → line 1: refusal S1: not a program
+f(1,␊2) + f() → ?
+length → ?
+length() length(x) → ?
+length + 1 → ?
+substr("hello", 2, 3) → ?
+split(x, a) sub(/b/, "c", $2) → ?
+1 " " -1 → ?
+1 !x → ?
+/a/ ~ /b/ → ?
+"#;
+
+// `getline`, outputs and lists of a print.
+const STREAMS: &str = r#"
+{ getline } → ?
+{ getline x } → ?
+{ getline < "f" } → ?
+{ getline x < "f" "g" } → ?
+{ getline f(1) } → ?
+{ getline (x) } → ?
+{ "c" | getline } → ?
+{ "a" "b" | getline x } → ?
+{ "c" | getline > 0 } → ?
+{ while (("c" | getline x) > 0) n++ } → ?
+{ print > "f" } → ?
+{ print a, b > "f" } → ?
+{ print a, b >> "f" "g" } → line 1: refusal S1: not a program
+{ print 1 | "c" } → ?
+{ print (1)(2) } → ?
+{ print (1,2) } → ?
+{ print (1,2) > "f" } → ?
+{ print (a > b), c } → ?
+{ printf "x" } → ?
+{ printf("%d\n", x) > "f" } → ?
+"#;
+
+// Statements and items of every kind.
+const CONTROL: &str = r#"
+{ ; } → ?
+END {} → ?
+/a/, /b/ → ?
+x == 1,␊y { print } → ?
+{ if (1) x } → ?
+{ if (1) x; else y } → ?
+{ if (1)␊x␊else␊y } → ?
+{ if (1) if (2) x; else y } → ?
+{ if (1) {} else if (2) {} else {} } → ?
+{ while (x) y } → ?
+{ while (x) ; } → ?
+{ do x; while (y) } → ?
+{ do { x } while (y) ; z } → ?
+{ do␊x␊while (y)␊z } → ?
+{ for (;;) break } → ?
+{ for (i = 0; i < 9; i++) { continue } } → ?
+{ for (x in a) delete a[x] } → ?
+{ for ((x in a);;) ; } → ?
+{ next; exit; exit 1; } → ?
+function f(a, b) { return a + b } → ?
+function f(a,␊b)␊{ return } → ?
+function f () { f() } → ?
+"#;
+
+// What no tree spells.
+const REFUSED: &str = r#"
+BEGIN{print (1,2),3} → line 1: refusal S1: not a program
+BEGIN{x + y = 1} → line 1: refusal S1: not a program
+BEGIN{delete a} → line 1: refusal S1: not a program
+BEGIN{for ((x) in a) ;} → line 1: refusal S1: not a program
+BEGIN{sub(/a/,"b",1)} → line 1: refusal S1: not a program
+BEGIN{substr(1)} → line 1: refusal S1: not a program
+BEGIN{do x++ while (x)} → line 1: refusal S1: not a program
+{ if (x) { } ; else y } → line 1: refusal S1: not a program
+function f(a,) {} → line 1: refusal S1: not a program
+function f(␊a) {} → line 1: refusal S1: not a program
+-(1,2) in x → line 1: refusal S1: not a program
+a ~ b ~ c → line 1: refusal S1: not a program
+(x)++ → line 1: refusal S1: not a program
+END → line 1: refusal S1: not a program
+function f(a) → line 1: refusal S1: not a program
+{ printf > "f" } → line 1: refusal S1: not a program
+{ getline x + 1 = 2 } → line 1: refusal S1: not a program
 "#;
 
 const ERES: &str = r#"
@@ -173,7 +252,7 @@ BEGIN{print ⟨197 (⟩1⟨197 )⟩} → line 1: refusal S2: nested too deep
 #[test]
 fn texts_and_their_trees(rt: HostRuntime) -> Result<(), Fail> {
     let alloc = rt.alloc();
-    for table in [TREES, STATEMENTS, EXPRESSIONS, UNREAD, ERES, HEIGHTS] {
+    for table in [TREES, STATEMENTS, EXPRESSIONS, OPERATORS, STREAMS, CONTROL, REFUSED, ERES, HEIGHTS] {
         expect_table(&rt, alloc, table, tree_of)?;
     }
     one_tree();
