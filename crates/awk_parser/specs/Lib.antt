@@ -1,0 +1,2 @@
+-- What serves the contracts.
+pub mod support

@@ -1,0 +1,144 @@
+// Behind an element of a list: a comma, or its end.
+
+ghost use Rattle.std.specs.Prelude.{◌≡◌, IfOk};
+ghost use Rattle.awk_grammar.specs.definitions.Height.{max_height};
+ghost use Rattle.awk_grammar.specs.support.Parser as parser;
+ghost use Rattle.awk_frames.specs.support.FrameView.{operand_of, list_of, stack_of, next_of};
+
+use awk_frames::frame::{Frame, ListHead};
+use awk_frames::operand::{Operand, OperandList};
+use awk_frames::state::{ExpressionState, NextToken, ParserState};
+use awk_grammar::arguments::accepts;
+use awk_grammar::precedence::PRIMARY;
+use awk_lex::token::{BuiltIn, Kind};
+use awk_nodes::expressions::{built_in, call, element, group};
+use awk_productions::taken::{begin, operand};
+use awk_value::Bytes;
+use std::alloc::{AllocError, Global};
+
+/// Behind an operand in parentheses: they are a group, or a list that `in` or a print takes.
+pub(crate) fn close_group(
+    alloc: Global,
+    next: NextToken,
+    in_print_list: bool,
+    list: OperandList,
+    last: Operand,
+    stack: &mut Vec<Frame>,
+) -> Result<Option<ParserState>, AllocError>
+    ensures { IfOk result (λ state. next_of state stack.new.items
+        ≡ parser.close_group max_height next.entry.kind.now in_print_list (list_of list) (operand_of last) (stack_of stack.old.items)) }
+{
+    match next.kind {
+        Kind::Comma => {
+            let frame = Frame::List(ListHead::Group { in_print_list }, list.with(last)?);
+            begin(frame, true, false, stack)
+        }
+        Kind::CloseParenthesis if list.count == 0 => {
+            drop(list);
+            let tree = group(alloc, last.tree)?;
+            Ok(operand(in_print_list, Operand::new(PRIMARY, tree)))
+        }
+        Kind::CloseParenthesis => Ok(Some(ParserState::Expression {
+            in_print_list,
+            state: ExpressionState::AfterList(list.with(last)?),
+        })),
+        _ => {
+            drop(list);
+            drop(last);
+            Ok(None)
+        }
+    }
+}
+
+/// Behind an argument of a function of the program.
+pub(crate) fn close_call(
+    alloc: Global,
+    next: NextToken,
+    name: Bytes,
+    in_print_list: bool,
+    list: OperandList,
+    stack: &mut Vec<Frame>,
+) -> Result<Option<ParserState>, AllocError>
+    ensures { IfOk result (λ state. next_of state stack.new.items
+        ≡ parser.close_call max_height next.entry.kind.now name in_print_list (list_of list) (stack_of stack.old.items)) }
+{
+    match next.kind {
+        Kind::Comma => {
+            let head = ListHead::Call {
+                name,
+                in_print_list,
+            };
+            begin(Frame::List(head, list), true, false, stack)
+        }
+        Kind::CloseParenthesis => {
+            let tree = call(alloc, name, list.exprs)?;
+            Ok(operand(in_print_list, Operand::new(PRIMARY, tree)))
+        }
+        _ => {
+            drop(list);
+            Ok(None)
+        }
+    }
+}
+
+/// Behind an argument of a built-in function.
+pub(crate) fn close_built_in(
+    alloc: Global,
+    next: NextToken,
+    function: BuiltIn,
+    in_print_list: bool,
+    list: OperandList,
+    stack: &mut Vec<Frame>,
+) -> Result<Option<ParserState>, AllocError>
+    ensures { IfOk result (λ state. next_of state stack.new.items
+        ≡ parser.close_built_in max_height next.entry.kind.now function in_print_list (list_of list) (stack_of stack.old.items)) }
+{
+    match next.kind {
+        Kind::Comma => {
+            let head = ListHead::BuiltIn {
+                function,
+                in_print_list,
+            };
+            begin(Frame::List(head, list), true, false, stack)
+        }
+        Kind::CloseParenthesis if accepts(function, list.count, list.third_is_place) => {
+            let tree = built_in(alloc, function, list.exprs)?;
+            Ok(operand(in_print_list, Operand::new(PRIMARY, tree)))
+        }
+        _ => {
+            drop(list);
+            Ok(None)
+        }
+    }
+}
+
+/// Behind a subscript.
+pub(crate) fn close_element(
+    alloc: Global,
+    next: NextToken,
+    name: Bytes,
+    in_print_list: bool,
+    list: OperandList,
+    stack: &mut Vec<Frame>,
+) -> Result<Option<ParserState>, AllocError>
+    ensures { IfOk result (λ state. next_of state stack.new.items
+        ≡ parser.close_element max_height next.entry.kind.now name in_print_list (list_of list) (stack_of stack.old.items)) }
+{
+    match next.kind {
+        Kind::Comma => {
+            let head = ListHead::Element {
+                name,
+                in_print_list,
+            };
+            begin(Frame::List(head, list), true, false, stack)
+        }
+        Kind::CloseBracket => {
+            let tree = element(alloc, name, list.exprs)?;
+            Ok(operand(in_print_list, Operand::place(PRIMARY, tree)))
+        }
+        _ => {
+            drop(list);
+            Ok(None)
+        }
+    }
+}

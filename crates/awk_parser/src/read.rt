@@ -1,0 +1,104 @@
+// Reads all tokens of a program.
+
+ghost use Rattle.awk_grammar.specs.definitions.Height.{max_height};
+ghost use Rattle.awk_grammar.specs.support.Parser as parser;
+ghost use Rattle.awk_lex.specs.Told.{kinds_of};
+ghost use Rattle.awk_parser.specs.support.Answered.{Gives};
+
+use crate::parser::{finish, step};
+use awk_frames::frame::Frame;
+use awk_frames::stack::push;
+use awk_frames::state::{ItemState, NextToken, ParserState};
+use awk_grammar::tree::Tree;
+use awk_lex::refusal::{Refusal, RefusalCode};
+use awk_lex::token::{Kind, Token};
+use awk_statement_nodes::checked::CheckedItems;
+use std::alloc::Global;
+
+/// The tree that the tokens spell (POSIX awk, Grammar).
+///
+/// An S1 names the line of the first token that can't stand where it stands, or of the last token
+/// where the text ended too early; an S2 names line 1. The time is linear in the number of tokens,
+/// and no nesting of the text is a nesting of calls.
+pub fn read(alloc: Global, tokens: &[Token]) -> Result<Tree, Refusal>
+    ensures { Gives result (parser.read max_height (kinds_of tokens.now)) }
+{
+    let mut stack = Vec::new(alloc);
+    push(&mut stack, Frame::Program(Some(CheckedItems::new(alloc))))?;
+    let mut state = ParserState::Item(ItemState::BetweenItems);
+    let mut eres = 0;
+    for token in tokens {
+        let kind = &token.kind;
+        let Some(then) = step(alloc, state, NextToken { kind, eres }, &mut stack)? else {
+            return Err(Refusal {
+                code: RefusalCode::NotAProgram,
+                line: token.line,
+            });
+        };
+        state = then;
+        if matches!(kind, Kind::Ere(_)) {
+            eres += 1;
+        }
+    }
+    match finish(alloc, state, &mut stack)? {
+        Some(Some(checked)) => Ok(Tree {
+            items: checked.items,
+        }),
+        Some(None) => Err(Refusal {
+            code: RefusalCode::NestedTooDeep,
+            line: 1,
+        }),
+        None => Err(Refusal {
+            code: RefusalCode::NotAProgram,
+            line: last_line(tokens),
+        }),
+    }
+}
+
+/// The line of the last token, or 1 if there is none.
+fn last_line(tokens: &[Token]) -> u64 {
+    match tokens.last() {
+        Some(token) => token.line,
+        None => 1,
+    }
+}
+
+#[cfg(test)]
+mod tests {
+    use super::read;
+    use awk_lex::lexer::tokens;
+    use std::alloc::Global;
+
+    fn is_read(alloc: Global, text: &[u8]) -> bool {
+        match tokens(alloc, text) {
+            Ok(tokens) => read(alloc, &tokens).is_ok(),
+            Err(_) => false,
+        }
+    }
+
+    #[test]
+    fn reads_programs(rt: HostRuntime) {
+        for text in [
+            b"BEGIN { print 1 }".as_slice(),
+            b"/a/, /b/ { x[1, 2] = $3 ++ } END { print > \"f\" }".as_slice(),
+            b"function f(a, b) { return a + b } { print f(1, 2) }".as_slice(),
+            b"{ while ((\"c\" | getline x) > 0) n += x; for (k in a) delete a[k] }".as_slice(),
+            b"{ for (;;) if (x) break; else next; do { y-- } while (y) ; exit y ? 1 : 2 }".as_slice(),
+        ] {
+            assert!(rt; is_read(rt.alloc(), text));
+        }
+    }
+
+    #[test]
+    fn refuses_what_is_no_program(rt: HostRuntime) {
+        for text in [
+            b"BEGIN { x = 2 ** 3 }".as_slice(),
+            b"BEGIN { print (1, 2), 3 }".as_slice(),
+            b"BEGIN { substr(1) }".as_slice(),
+            b"BEGIN { 1 < 2 < 3 }".as_slice(),
+            b"BEGIN { for ((x) in a) ; }".as_slice(),
+        ] {
+            assert!(rt; !is_read(rt.alloc(), text));
+        }
+    }
+}
