@@ -10,12 +10,7 @@ ghost use Rattle.awk_grammar.specs.support.Parser as parser;
 ghost use Rattle.awk_grammar.specs.support.InfixRole as role;
 ghost use Rattle.awk_frames.specs.support.FrameView.{role_of, operand_of, optional_operand_of, list_of, list_frame_of, expression_frame_of, body_frame_of, stack_of, reduced, next_of};
 
-use awk_productions::items::{after_pattern, after_pattern_expr};
 use crate::lists::{close_built_in, close_call, close_element, close_group};
-use awk_productions::operands::start_operand;
-use awk_productions::prints::{after_print_expr, end_list, redirect_to_pipe};
-use awk_productions::simple::{after_delete_subscript, end_simple};
-use awk_productions::taken::{begin, begin_body, operand as after};
 use awk_frames::frame::{BodyFrame, Choice, ExpressionFrame, Frame, ListHead, NodeFrame};
 use awk_frames::infix_role::InfixRole;
 use awk_frames::node::getline_operand;
@@ -26,8 +21,13 @@ use awk_frames::state::{ExpressionState, NextToken, ParserState, StatementState}
 use awk_grammar::precedence::{MEMBERSHIP, POST_INCREMENT};
 use awk_grammar::tree::BinaryOperator;
 use awk_lex::token::{BuiltIn, IncrementOperator, Keyword, Kind, Operator};
-use awk_statement_nodes::checked::{CheckedPart, CheckedStatement};
 use awk_nodes::expressions::post_increment;
+use awk_productions::items::{after_pattern, after_pattern_expr};
+use awk_productions::operands::start_operand;
+use awk_productions::prints::{after_print_expr, end_list, redirect_to_pipe};
+use awk_productions::simple::{after_delete_subscript, end_simple};
+use awk_productions::taken::{begin, begin_body, operand as after};
+use awk_statement_nodes::checked::{CheckedPart, CheckedStatement};
 use awk_statement_nodes::items::range;
 use awk_statement_nodes::simple::{exit, expression, present, print_to, return_statement};
 use awk_statement_nodes::statements::do_loop;
@@ -57,7 +57,14 @@ fn end_element(
         ListHead::BuiltIn {
             function,
             in_print_list,
-        } => close_built_in(alloc, next, function, in_print_list, list.with(operand)?, stack),
+        } => close_built_in(
+            alloc,
+            next,
+            function,
+            in_print_list,
+            list.with(operand)?,
+            stack,
+        ),
         ListHead::Element {
             name,
             in_print_list,
@@ -81,7 +88,12 @@ fn close_first_choice(
 {
     if matches!(next.kind, Kind::Colon) {
         let choice = Box::new(alloc, Choice { condition, first })?;
-        return begin(Frame::Node(NodeFrame::SecondChoice(choice)), false, in_print_list, stack);
+        return begin(
+            Frame::Node(NodeFrame::SecondChoice(choice)),
+            false,
+            in_print_list,
+            stack,
+        );
     }
     drop(condition);
     drop(first);
@@ -137,7 +149,7 @@ fn end_do(
 ) -> Result<Option<ParserState>, AllocError>
     ensures { (frames : List Frame) → IfOk result (λ state. next_of state frames
         ≡ parser.close_condition next.entry.kind.now (parser.AfterDo
-            (over_two max_height height_of_statement t.Do (checked_statement body) (checked_expr condition.tree)) (stack_of frames))) }
+        (over_two max_height height_of_statement t.Do (checked_statement body) (checked_expr condition.tree)) (stack_of frames))) }
 {
     if matches!(next.kind, Kind::CloseParenthesis) {
         let statement = do_loop(alloc, body, condition.tree)?;
@@ -156,7 +168,7 @@ fn end_for_condition(
 ) -> Option<ParserState>
     ensures { (frames : List Frame) → next_of result frames
         ≡ parser.close_for_condition next.entry.kind.now (parser.BeforeForLast
-            (checked_part first) (parser.optional_tree max_height (operand_of condition)) (stack_of frames)) }
+        (checked_part first) (parser.optional_tree max_height (operand_of condition)) (stack_of frames)) }
 {
     if matches!(next.kind, Kind::Semicolon) {
         let condition = present(condition.tree);
@@ -192,7 +204,12 @@ fn end_expression(
         ExpressionFrame::Return => {
             end_simple(alloc, next, return_statement(present(operand.tree)), stack)
         }
-        ExpressionFrame::IfCondition => close_condition(alloc, next, BodyFrame::If(operand.tree), stack),
+        ExpressionFrame::IfCondition => close_condition(
+            alloc,
+            next,
+            BodyFrame::If(operand.tree),
+            stack,
+        ),
         ExpressionFrame::WhileCondition => {
             close_condition(alloc, next, BodyFrame::While(operand.tree), stack)
         }
@@ -368,9 +385,20 @@ pub(crate) fn after_name(
             name,
             in_print_list,
         };
-        return begin(Frame::List(head, OperandList::new(alloc)), false, false, stack);
+        return begin(
+            Frame::List(head, OperandList::new(alloc)),
+            false,
+            false,
+            stack,
+        );
     }
-    after_operand(alloc, next, in_print_list, Operand::name(alloc, name)?, stack)
+    after_operand(
+        alloc,
+        next,
+        in_print_list,
+        Operand::name(alloc, name)?,
+        stack,
+    )
 }
 
 /// The token behind the word `length`.
@@ -388,7 +416,12 @@ pub(crate) fn after_length(
             function: BuiltIn::Length,
             in_print_list,
         };
-        return begin(Frame::List(head, OperandList::new(alloc)), false, false, stack);
+        return begin(
+            Frame::List(head, OperandList::new(alloc)),
+            false,
+            false,
+            stack,
+        );
     }
     after_operand(alloc, next, in_print_list, Operand::length(alloc)?, stack)
 }
@@ -419,7 +452,12 @@ pub(crate) fn after_getline(
         }
         Kind::Operator(Operator::Less) if command.is_none() => {
             drop(command);
-            begin(Frame::Node(NodeFrame::GetlineFile(None)), false, in_print_list, stack)
+            begin(
+                Frame::Node(NodeFrame::GetlineFile(None)),
+                false,
+                in_print_list,
+                stack,
+            )
         }
         _ => {
             let operand = getline_operand(alloc, command, None, None)?;

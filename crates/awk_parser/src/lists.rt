@@ -5,7 +5,6 @@ ghost use Rattle.awk_grammar.specs.definitions.Height.{max_height};
 ghost use Rattle.awk_grammar.specs.support.Parser as parser;
 ghost use Rattle.awk_frames.specs.support.FrameView.{operand_of, list_of, stack_of, next_of};
 
-use awk_productions::taken::{begin, operand};
 use awk_frames::frame::{Frame, ListHead};
 use awk_frames::operand::{Operand, OperandList};
 use awk_frames::state::{ExpressionState, NextToken, ParserState};
@@ -13,6 +12,7 @@ use awk_grammar::arguments::accepts;
 use awk_grammar::precedence::PRIMARY;
 use awk_lex::token::{BuiltIn, Kind};
 use awk_nodes::expressions::{built_in, call, element, group};
+use awk_productions::taken::{begin, operand};
 use awk_value::Bytes;
 use std::alloc::{AllocError, Global};
 

@@ -10,7 +10,16 @@ ghost use Rattle.awk_frames.specs.support.FrameView.{operand_of, list_of, frame_
 use crate::expressions::{
     after_bar, after_getline, after_length, after_list, after_name, after_operand,
 };
-use awk_productions::items::{after_function, after_parameter, before_action, before_parameter, start_item};
+use awk_frames::frame::{ExpressionFrame, Frame};
+use awk_frames::operand::{Operand, OperandList};
+use awk_frames::stack::{pop, push};
+use awk_frames::state::{ExpressionState, ItemState, NextToken, ParserState, StatementState};
+use awk_grammar::precedence::MEMBERSHIP;
+use awk_lex::token::Kind;
+use awk_nodes::expressions::{list_membership, membership};
+use awk_productions::items::{
+    after_function, after_parameter, before_action, before_parameter, start_item,
+};
 use awk_productions::operands::start_operand;
 use awk_productions::prints::after_print;
 use awk_productions::simple::{
@@ -19,13 +28,6 @@ use awk_productions::simple::{
 };
 use awk_productions::statements::{end_simple_statement, end_statement, start_statement};
 use awk_productions::taken::{begin, operand as after};
-use awk_frames::frame::{ExpressionFrame, Frame};
-use awk_frames::operand::{Operand, OperandList};
-use awk_frames::stack::{pop, push};
-use awk_frames::state::{ExpressionState, ItemState, NextToken, ParserState, StatementState};
-use awk_grammar::precedence::MEMBERSHIP;
-use awk_lex::token::Kind;
-use awk_nodes::expressions::{list_membership, membership};
 use awk_statement_nodes::checked::{CheckedItems, CheckedOptionalExpr, CheckedStatement};
 use awk_statement_nodes::simple::{exit, return_statement};
 use awk_value::Bytes;
