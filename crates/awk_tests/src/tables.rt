@@ -66,7 +66,6 @@ pub fn expect_table<F: Fn(Global, &str) -> Result<String, Fail>>(
 ) -> Result<(), Fail>
     requires { F.IsAlwaysCallable answer }
 {
-    let mut wrong = String::new(alloc);
     for row in table.lines().filter(|row| !row.is_empty()) {
         let Some((input, expected)) = row.rsplit_once(" → ") else {
             panic!(rt; "no row: {row}");
@@ -74,10 +73,7 @@ pub fn expect_table<F: Fn(Global, &str) -> Result<String, Fail>>(
         let expected = expanded(alloc, expected)?;
         let input = expanded(alloc, input)?;
         let came = answer(alloc, &input)?;
-        if came.as_str() != expected.as_str() {
-            write!(wrong, "ROW {row} CAME {came:.300}\n")?;
-        }
+        assert!(rt; came.as_str() == expected.as_str(), "{row}: {came:.300}");
     }
-    assert!(rt; wrong.is_empty(), "{wrong}");
     Ok(())
 }
