@@ -35,6 +35,8 @@ pub enum RefusalCode {
     ArrayAndScalar,
     /// K7: a name that other awks give a meaning which this one leaves out.
     NameLeftOut,
+    /// K9: a form of the language that can't be run yet.
+    NotBuilt,
     /// M0: memory was refused.
     OutOfMemory,
 }
@@ -58,6 +60,7 @@ impl RefusalCode {
             RefusalCode::PatternTooLarge => "P3: pattern too large",
             RefusalCode::ArrayAndScalar => "K1: array and scalar",
             RefusalCode::NameLeftOut => "K7: name left out",
+            RefusalCode::NotBuilt => "K9: not built yet",
             RefusalCode::OutOfMemory => "M0: out of memory",
         }
     }

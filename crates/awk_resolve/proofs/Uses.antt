@@ -3,23 +3,16 @@ use Rattle.std.proofs.Common.{◌≡◌, ℕ, ◌+◌, ◌≤◌, ◌<◌, suc, 
 use Rattle.std.proofs.Math.Bool.{cond, or_assoc, or-false, and_assoc}
 use Rattle.std.proofs.lemmas.Bool.{not-true, not-false}
 use Rattle.std.proofs.lemmas.List.{drop_all, map-append}
-use Rattle.awk_lex.specs.Words.{is_left_out}
-use Rattle.awk_lex.specs.declared.refusal.RefusalCode.TheVariants.{ArrayAndScalar, NameLeftOut}
 use Rattle.awk_tree.specs.declared.tree.Expr.{Expr as CodeExpr}
 use Rattle.awk_tree.specs.declared.tree.Statement.{Statement as CodeStatement, Row_of-Statement, end_of-Statement, more_of-Statement, items-the_row-Statement}
 use Rattle.awk_tree.specs.declared.tree.Item.{Item as CodeItem}
 use Rattle.awk_tree.specs.Tree.{Expr, Number, String, Ere, Name, Group, Field, Unary, Binary, Assign, Exprs, Nil, Cons, Statement, Block, Expression, Print, Statements, NoMore, Then, Item, Begin, Action, Pattern, PatternAction}
 use Rattle.awk_tree.specs.View.{expr_of, exprs_of, statement_of, statements_of, statements_of_row, item_of, items_of}
 use Rattle.awk_resolve.specs.declared.names.Misuse.{Misuse}
-use Rattle.awk_resolve.specs.definitions.Names.{Use, uses_in_expr, uses_in_list, uses_in_statement, uses_in_block, uses_in_item, uses_in, uses_left_out, special_scalars, special_arrays, scalar_names, array_names, is_absent, are_apart}
+use Rattle.awk_resolve.specs.definitions.Names.{Use, uses_in_expr, uses_in_list, uses_in_statement, uses_in_block, uses_in_item, uses_in, special_scalars, special_arrays, scalar_names, array_names, is_absent, are_apart}
 use Rattle.awk_resolve.specs.support.Misuse.{names_of, Adds}
-use Rattle.awk_resolve.specs.definitions.Names.{name_refusal}
 
 -- uses in turn
-
-uses_left_out-append : (us vs : List Use) → uses_left_out (us ++ vs) ≡ (uses_left_out us || uses_left_out vs)
-uses_left_out-append [] vs = refl
-uses_left_out-append (u ∷ us) vs = ap (λ b. is_left_out u.name || b) (uses_left_out-append us vs) ∙ sym (or_assoc (is_left_out u.name) (uses_left_out us) (uses_left_out vs))
 
 are_apart-append : (xs ys zs : List (List ℕ)) → are_apart (xs ++ ys) zs ≡ (are_apart xs zs && are_apart ys zs)
 are_apart-append [] ys zs = refl
@@ -35,11 +28,10 @@ found_in_both false true c = refl
 found_in_both false false c = refl
 
 pub adds_none : {m : Misuse} → Adds m m []
-adds_none {m = m} = record { left_out = sym (or-false m.left_out); array = sym (or-false m.array) }
+adds_none {m = m} = record { array = sym (or-false m.array) }
 
 pub adds_both : {old mid new : Misuse} {us vs : List Use} → Adds old mid us → Adds mid new vs → Adds old new (us ++ vs)
 adds_both {old = old} {us = us} {vs = vs} p q = record {
-  left_out = q.left_out ∙ ap (λ b. b || uses_left_out vs) p.left_out ∙ or_assoc old.left_out (uses_left_out us) (uses_left_out vs) ∙ ap (λ b. old.left_out || b) (sym (uses_left_out-append us vs));
   array = q.array ∙ ap (λ b. b || not (are_apart (names_of vs) special_arrays)) p.array ∙ found_in_both old.array (are_apart (names_of us) special_arrays) (are_apart (names_of vs) special_arrays) ∙ ap (λ b. old.array || not b) (sym (names_apart-append us vs));
 }
 
@@ -114,22 +106,8 @@ apart_is items =
 
 -- what is found in the whole program
 
-pub refuses_left_out : (items : List Item) (m : Misuse) → Adds (record { left_out = false; array = false }) m (uses_in items) → m.left_out ≡ true → name_refusal items ≡ Some NameLeftOut
-refuses_left_out items m p left_out =
-    let is : uses_left_out (uses_in items) ≡ true = sym p.left_out ∙ left_out in
-    rw is refl
-
-pub refuses_array : (items : List Item) (m : Misuse) → Adds (record { left_out = false; array = false }) m (uses_in items) → m.left_out ≡ false → m.array ≡ true → name_refusal items ≡ Some ArrayAndScalar
-refuses_array items m p kept array =
-    let is : uses_left_out (uses_in items) ≡ false = sym p.left_out ∙ kept in
-    let clash : are_apart (scalar_names items) (array_names items) ≡ false = apart_is items ∙ not-true _ (sym p.array ∙ array) in
-    rw (is, clash) refl
-
-pub refuses_none : (items : List Item) (m : Misuse) → Adds (record { left_out = false; array = false }) m (uses_in items) → m.left_out ≡ false → m.array ≡ false → name_refusal items ≡ None
-refuses_none items m p kept fits =
-    let is : uses_left_out (uses_in items) ≡ false = sym p.left_out ∙ kept in
-    let apart_ : are_apart (scalar_names items) (array_names items) ≡ true = apart_is items ∙ not-false _ (sym p.array ∙ fits) in
-    rw (is, apart_) refl
+pub misused : (items : List Item) (m : Misuse) → Adds (record { array = false }) m (uses_in items) → m.array ≡ not (are_apart (scalar_names items) (array_names items))
+misused items m p = p.array ∙ ap not (sym (apart_is items))
 
 -- lists of code, from a place on
 

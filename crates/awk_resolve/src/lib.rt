@@ -1,6 +1,9 @@
-//! What the names of a program are used as, and which are refused.
+//! From the tree of a program to what is run: whether its names fit, and whether each of its forms is built.
 #![tactic(auto)]
 
+mod built;
+mod left_out;
 mod names;
+mod program;
 
-pub use names::name_refusal;
+pub use program::resolve;

@@ -1,13 +1,10 @@
-// What keeps the names of a program from being what they are used as.
+// Whether a name of a program is used both as an array and as a scalar.
 
-ghost use Rattle.std.specs.Prelude.{◌≡◌, [], ◌∷◌};
+ghost use Rattle.std.specs.Prelude.{◌≡◌, not, [], ◌∷◌};
 ghost use Rattle.awk_tree.specs.View.{expr_of, exprs_of, statement_of, statements_of, item_of, items_of};
-ghost use Rattle.awk_resolve.specs.definitions.Names.{scalar, uses_in_expr, uses_in_list, uses_in_statement, uses_in_block, uses_in_item, uses_in};
+ghost use Rattle.awk_resolve.specs.definitions.Names.{scalar, uses_in_expr, uses_in_list, uses_in_statement, uses_in_block, uses_in_item, uses_in, scalar_names, array_names, are_apart};
 ghost use Rattle.awk_resolve.specs.support.Misuse.{is_special_array, Adds};
-ghost use Rattle.awk_resolve.specs.definitions.Names.{name_refusal};
 
-use awk_lex::refusal::RefusalCode;
-use awk_lex::words::is_left_out;
 use awk_tree::tree::{Expr, Item, Statement};
 
 /// The special variables that are arrays (POSIX awk, Variables and Special Variables).
@@ -19,12 +16,9 @@ fn is_special_array(name: &[u8]) -> bool
     SPECIAL_ARRAYS.iter().any(|row| *row == name)
 }
 
-/// What the names met so far have against them.
+/// Whether one of the names met so far is both an array and a scalar.
 #[derive(Clone, Copy)]
 struct Misuse {
-    /// One of them is left out.
-    left_out: bool,
-    /// One of them is both an array and a scalar.
     array: bool,
 }
 
@@ -33,7 +27,6 @@ impl Misuse {
     fn add_scalar(&mut self, name: &[u8])
         ensures { Adds self.old self.new (scalar name.now ∷ []) }
     {
-        self.left_out |= is_left_out(name);
         self.array |= is_special_array(name);
     }
 
@@ -105,21 +98,11 @@ impl Misuse {
     }
 }
 
-/// Why the names of a program are refused, if they are: one of them is left out (K7), or else one
-/// is used as an array and as a scalar (K1). (POSIX awk, Variables and Special Variables)
-pub fn name_refusal(items: &[Item]) -> Option<RefusalCode>
-    ensures { result ≡ name_refusal (items_of items.now) }
+/// Whether a name is used as an array and as a scalar (POSIX awk, Variables and Special Variables).
+pub(crate) fn has_misused_array(items: &[Item]) -> bool
+    ensures { result ≡ not (are_apart (scalar_names (items_of items.now)) (array_names (items_of items.now))) }
 {
-    let mut misuse = Misuse {
-        left_out: false,
-        array: false,
-    };
+    let mut misuse = Misuse { array: false };
     misuse.add_items(items);
-    if misuse.left_out {
-        Some(RefusalCode::NameLeftOut)
-    } else if misuse.array {
-        Some(RefusalCode::ArrayAndScalar)
-    } else {
-        None
-    }
+    misuse.array
 }

@@ -1,43 +1,102 @@
 -- From a text's tokens and their tree to its program.
-use Rattle.std.proofs.Common.{◌≡◌, ◌⊎◌, inl, inr, ℕ, ◌≤◌, List, length, Some, None, Result, Ok, Err, IfOk, IfErr, OnOk, refl, sym, ap, ◌∙◌, subst}
+use Rattle.std.proofs.Common.{◌≡◌, ◌⊎◌, inl, inr, ℕ, ◌≤◌, List, length, Option, Some, None, Result, Ok, Err, IfOk, IfErr, OnOk, refl, sym, ap, ◌∙◌, subst}
 use Rattle.std.proofs.lemmas.Bool.{cases_Bool}
 use Rattle.awk_lex.specs.declared.token.Kind.{Kind}
 use Rattle.awk_lex.specs.declared.refusal.Refusal.{Refusal}
 use Rattle.awk_lex.specs.declared.refusal.RefusalCode.{RefusalCode}
-use Rattle.awk_lex.specs.declared.refusal.RefusalCode.TheVariants.{UnexpectedByte, OpenString, OpenPattern, EscapeRefused, NumberRefused, ProgramTooLong, NotAProgram, NestedTooDeep, PatternIllFormed, PatternCountRefused, PatternTooLarge, ArrayAndScalar, NameLeftOut, OutOfMemory}
+use Rattle.awk_lex.specs.declared.refusal.RefusalCode.TheVariants.{UnexpectedByte, OpenString, OpenPattern, EscapeRefused, NumberRefused, ProgramTooLong, NotAProgram, NestedTooDeep, PatternIllFormed, PatternCountRefused, PatternTooLarge, ArrayAndScalar, NameLeftOut, NotBuilt, OutOfMemory}
 use Rattle.awk_lex.specs.Refused.{IsOutOfMemory}
 use Rattle.awk_lex.specs.Lexes.{Lexes}
 use Rattle.awk_lex.specs.Told.{Refuses, kinds_of}
 use Rattle.awk_lex.specs.declared.token.Token.{Token}
-use Rattle.awk_tree.specs.Tree.{Item}
+use Rattle.awk_grammar.specs.Tree.{Item as GrammarItem}
+use Rattle.awk_grammar.specs.View.{tree_of as grammar_tree_of}
+use Rattle.awk_grammar.specs.declared.tree.Tree.{Tree as GrammarTree}
 use Rattle.awk_syntax.specs.Outcome.{Reads, IsProgramWithinHeight, RefusesPattern, Justifies}
 use Rattle.awk_syntax.specs.Patterns.{AreReadable}
+use Rattle.awk_tree.specs.Tree.{Item}
 use Rattle.awk_tree.specs.View.{tree_of}
 use Rattle.awk_tree.specs.declared.tree.Tree.{Tree}
-use Rattle.awk_resolve.specs.Names.{uses_in, uses_left_out, scalar_names, array_names, are_apart, Fits}
-use Rattle.awk_resolve.specs.Names.{name_refusal}
-use Rattle.awk_run.specs.definitions.Accepted.{longest_text, IsSpelled, HasBadEre, Accepted, RefusedFor}
+use Rattle.awk_resolve.specs.Built.{built_items}
+use Rattle.awk_resolve.specs.Names.{names_left_out, scalar_names, array_names, are_apart}
+use Rattle.awk_resolve.specs.Resolved.{fitting, resolved, Resolves}
+use Rattle.awk_run.specs.definitions.Accepted.{longest_text, IsSpelled, HasBadEre, IsNotRun, Accepted, RefusedFor}
 use Rattle.awk_run.specs.support.Verdict.{ReadsOnly}
 
 -- the tree of a text
 
--- what is read of the tokens is what the text spells
-pub spelled : (r : Result Tree Refusal) (text : List ℕ) (tokens : List Kind) → length text ≤ longest_text → Lexes tokens text → IfOk r (λ tree. IsProgramWithinHeight tokens (tree_of tree)) → OnOk r (AreReadable tokens) → IfOk r (λ tree. IsSpelled text (tree_of tree))
-spelled (Ok tree) text tokens short lexes found readable = record { tokens = tokens; has = record { short = short; lexes = lexes }; spells = found.0; low = found.1; readable = readable }
-spelled (Err refusal) text tokens short lexes found readable = tt
+pub spelled : (text : List ℕ) (tokens : List Kind) (program : List GrammarItem) → length text ≤ longest_text → Lexes tokens text → IsProgramWithinHeight tokens program → AreReadable tokens → IsSpelled text tokens program
+spelled text tokens program short lexes found readable = record { has = record { short = short; lexes = lexes }; spells = found.0; low = found.1; readable = readable }
 
-reads_only : (r : Result Tree Refusal) (items : List Item) → Reads r items → ReadsOnly r items
-reads_only (Ok tree) items h = h
-reads_only (Err refusal) items h = h
+-- a text has these tokens alone
+abbrev pub HasOne : List ℕ → List Kind → Type 0
+HasOne text tokens = (ts : List Kind) → Lexes ts text → length text ≤ longest_text → tokens ≡ ts
 
--- what the text spells is read of its tokens
-pub only_spelled : (r : Result Tree Refusal) (text : List ℕ) (tokens : List Kind)
-    → ((ts : List Kind) → Lexes ts text → length text ≤ longest_text → tokens ≡ ts)
-    → ((items : List Item) → IsProgramWithinHeight tokens items → AreReadable tokens → Reads r items)
-    → (items : List Item) → IsSpelled text items → ReadsOnly r items
-only_spelled r text tokens one only items s =
-    let same : s.tokens ≡ tokens = sym (one s.tokens s.has.lexes s.has.short) in
-    reads_only r items (only items (subst (λ ts. IsProgramWithinHeight ts items) same (s.spells, s.low)) (subst AreReadable same s.readable))
+within : (text : List ℕ) (tokens ts : List Kind) (program : List GrammarItem) → tokens ≡ ts → IsSpelled text ts program → IsProgramWithinHeight tokens program × AreReadable tokens
+within text tokens ts program same s = (subst (λ us. IsProgramWithinHeight us program) (sym same) (s.spells, s.low), subst AreReadable (sym same) s.readable)
+
+-- a text that is refused as its tokens are read as a tree is no program
+pub none_read : (refusal : Refusal) (text : List ℕ) (tokens : List Kind) → HasOne text tokens
+    → ((program : List GrammarItem) → IsProgramWithinHeight tokens program → AreReadable tokens → Reads (Err refusal) program)
+    → (items : List Item) → Accepted text items → IsOutOfMemory refusal
+none_read refusal text tokens one only items a =
+    let w = within text tokens a.tokens a.program (one a.tokens a.spelled.has.lexes a.spelled.has.short) a.spelled in
+    only a.program w.0 w.1
+
+-- what is run of a text
+
+pub accepts : (r : Result Tree Refusal) (text : List ℕ) (tokens : List Kind) (program : List GrammarItem) → IsSpelled text tokens program → Resolves r (resolved tokens program) → IfOk r (λ tree. Accepted text (tree_of tree))
+accepts (Ok tree) text tokens program s h = record { tokens = tokens; program = program; spelled = s; resolves = h }
+accepts (Err refusal) text tokens program s h = tt
+
+resolves_only : (r : Result Tree Refusal) (tokens : List Kind) (program : List GrammarItem) (items : List Item) → Resolves r (resolved tokens program) → resolved tokens program ≡ Ok items → ReadsOnly r items
+resolves_only (Ok tree) tokens program items h e = let same : Ok (tree_of tree) ≡ Ok items = sym h ∙ e in cc
+resolves_only (Err refusal) tokens program items h e = elim h [ inl m ↦ m | inr q ↦ let clash : Err refusal.code ≡ Ok items = sym q ∙ e in absurd (cc) ]
+
+pub only_accepted : (r : Result Tree Refusal) (text : List ℕ) (tokens : List Kind) (tree : GrammarTree) → HasOne text tokens
+    → ((program : List GrammarItem) → IsProgramWithinHeight tokens program → AreReadable tokens → Reads (Ok tree) program)
+    → Resolves r (resolved tokens (grammar_tree_of tree))
+    → (items : List Item) → Accepted text items → ReadsOnly r items
+only_accepted r text tokens tree one only h items a =
+    let same = one a.tokens a.spelled.has.lexes a.spelled.has.short in
+    let w = within text tokens a.tokens a.program same a.spelled in
+    let read : grammar_tree_of tree ≡ a.program = only a.program w.0 w.1 in
+    resolves_only r tokens (grammar_tree_of tree) items h (ap (λ ts. resolved ts (grammar_tree_of tree)) same ∙ ap (λ xs. resolved a.tokens xs) read ∙ a.resolves)
+
+-- why nothing is run of a program
+
+abbrev IsCause : RefusalCode → Type 0
+IsCause code = (code ≡ NameLeftOut) ⊎ ((code ≡ NotBuilt) ⊎ (code ≡ ArrayAndScalar))
+
+err_is : (a b : RefusalCode) (r : Result (List Item) RefusalCode) → r ≡ Err a → r ≡ Err b → b ≡ a
+err_is a b r p q = let same : Err b ≡ Err a = sym q ∙ p in cc
+
+fitting_cause : (built : Option (List Item)) (code : RefusalCode) → fitting built ≡ Err code → IsCause code
+fitting_cause None code e = inr (inl (err_is NotBuilt code (fitting None) refl e))
+fitting_cause (Some items) code e = elim (cases_Bool (are_apart (scalar_names items) (array_names items))) [
+  | inl apart ↦ let is : fitting (Some items) ≡ Ok items = rw apart refl in let clash : Ok items ≡ Err code = sym is ∙ e in absurd (cc)
+  | inr clash ↦ inr (inr (err_is ArrayAndScalar code (fitting (Some items)) (rw clash refl) e))
+]
+
+cause : (tokens : List Kind) (program : List GrammarItem) (code : RefusalCode) → resolved tokens program ≡ Err code → IsCause code
+cause tokens program code e = elim (cases_Bool (names_left_out tokens)) [
+  | inl bad ↦ inl (err_is NameLeftOut code (resolved tokens program) (rw bad refl) e)
+  | inr kept ↦ let is : resolved tokens program ≡ fitting (built_items program) = rw kept refl in fitting_cause (built_items program) code (sym is ∙ e)
+]
+
+not_run : (text : List ℕ) (code : RefusalCode) → IsCause code → IsNotRun code text → RefusedFor code text
+not_run text code (inl e) n = subst (λ c. RefusedFor c text) (sym e) (subst (λ c. IsNotRun c text) e n)
+not_run text code (inr (inl e)) n = subst (λ c. RefusedFor c text) (sym e) (subst (λ c. IsNotRun c text) e n)
+not_run text code (inr (inr e)) n = subst (λ c. RefusedFor c text) (sym e) (subst (λ c. IsNotRun c text) e n)
+
+pub resolving_refused : (r : Result Tree Refusal) (text : List ℕ) (tokens : List Kind) (program : List GrammarItem) → IsSpelled text tokens program → Resolves r (resolved tokens program) → IfErr r (λ refusal. RefusedFor refusal.code text)
+resolving_refused (Ok tree) text tokens program s h = tt
+resolving_refused (Err refusal) text tokens program s h = elim h [
+  | inl m ↦ subst (λ c. RefusedFor c text) (sym m) tt
+  | inr e ↦ not_run text refusal.code (cause tokens program refusal.code e) (tokens, program, s, e)
+]
+
+-- the other refusals
 
 refused_as : (code : RefusalCode) (text : List ℕ) → Refuses code text → RefusedFor code text
 refused_as ProgramTooLong text why = why
@@ -53,6 +112,7 @@ refused_as PatternCountRefused text why = absurd why.1.fault
 refused_as PatternTooLarge text why = absurd why.1.fault
 refused_as ArrayAndScalar text why = absurd why.1.fault
 refused_as NameLeftOut text why = absurd why.1.fault
+refused_as NotBuilt text why = absurd why.1.fault
 refused_as OutOfMemory text why = tt
 
 of_memory : (code : RefusalCode) (text : List ℕ) → code ≡ OutOfMemory → RefusedFor code text
@@ -84,52 +144,7 @@ justified EscapeRefused line text tokens h why = absurd why
 justified NumberRefused line text tokens h why = absurd why
 justified ArrayAndScalar line text tokens h why = absurd why
 justified NameLeftOut line text tokens h why = absurd why
+justified NotBuilt line text tokens h why = absurd why
 
-pub parsing_refused : (r : Result Tree Refusal) (text : List ℕ) (tokens : List Token) → length text ≤ longest_text → Lexes (kinds_of tokens) text → IfErr r (λ refusal. Justifies refusal.code refusal.line tokens) → IfErr r (λ refusal. RefusedFor refusal.code text)
-parsing_refused (Ok tree) text tokens short lexes why = tt
-parsing_refused (Err refusal) text tokens short lexes why = justified refusal.code refusal.line text tokens (short, lexes) why
-
--- the names of a tree
-
-fits : (items : List Item) → name_refusal items ≡ None → Fits items
-fits items none = elim (cases_Bool (uses_left_out (uses_in items))) [
-  | inl bad ↦ let e : name_refusal items ≡ Some NameLeftOut = rw bad refl in absurd (cc)
-  | inr kept ↦ elim (cases_Bool (are_apart (scalar_names items) (array_names items))) [
-    | inl apart ↦ record { kept = kept; apart = apart }
-    | inr clash ↦ let e : name_refusal items ≡ Some ArrayAndScalar = rw (kept, clash) refl in absurd (cc)
-  ]
-]
-
--- a tree whose names fit is a program
-pub accepts : (text : List ℕ) (items : List Item) → IsSpelled text items → name_refusal items ≡ None → Accepted text items
-accepts text items s none = record { tokens = s.tokens; has = s.has; spells = s.spells; low = s.low; readable = s.readable; fits = fits items none }
-
-pub is_spelled : {text : List ℕ} {items : List Item} → Accepted text items → IsSpelled text items
-is_spelled a = record { tokens = a.tokens; has = a.has; spells = a.spells; low = a.low; readable = a.readable }
-
-fitting : (items : List Item) → Fits items → name_refusal items ≡ None
-fitting items f = rw (f.kept, f.apart) refl
-
--- a text whose tree has names that are refused is no program
-pub none_accepted : (text : List ℕ) (items : List Item) (code : RefusalCode) → name_refusal items ≡ Some code → ((xs : List Item) → IsSpelled text xs → items ≡ xs) → (xs : List Item) → Accepted text xs → ⊥
-none_accepted text items code e only xs a =
-    let same : items ≡ xs = only xs (is_spelled a) in
-    let none : name_refusal xs ≡ None = fitting xs a.fits in
-    let some : name_refusal xs ≡ Some code = ap name_refusal (sym same) ∙ e in
-    let clash : None ≡ Some code = sym none ∙ some in
-    cc
-
-pub names_refused : (text : List ℕ) (items : List Item) (code : RefusalCode) → IsSpelled text items → name_refusal items ≡ Some code → RefusedFor code text
-names_refused text items code s e = elim (cases_Bool (uses_left_out (uses_in items))) [
-  | inl bad ↦
-      let is : name_refusal items ≡ Some NameLeftOut = rw bad refl in
-      let same : code ≡ NameLeftOut = cc in
-      subst (λ c. RefusedFor c text) (sym same) (items, s, bad)
-  | inr kept ↦ elim (cases_Bool (are_apart (scalar_names items) (array_names items))) [
-    | inl apart ↦ let is : name_refusal items ≡ None = rw (kept, apart) refl in absurd (cc)
-    | inr clash ↦
-        let is : name_refusal items ≡ Some ArrayAndScalar = rw (kept, clash) refl in
-        let same : code ≡ ArrayAndScalar = cc in
-        subst (λ c. RefusedFor c text) (sym same) (items, s, kept, clash)
-  ]
-]
+pub parsing_refused : (refusal : Refusal) (text : List ℕ) (tokens : List Token) → length text ≤ longest_text → Lexes (kinds_of tokens) text → Justifies refusal.code refusal.line tokens → RefusedFor refusal.code text
+parsing_refused refusal text tokens short lexes why = justified refusal.code refusal.line text tokens (short, lexes) why

@@ -4,7 +4,7 @@ ghost use Rattle.std.specs.Prelude.{◌≡◌, ◌⊎◌, List, ℕ, map, IfOk, 
 ghost use Rattle.awk_lex.specs.Refused.{IsOutOfMemory};
 ghost use Rattle.awk_tree.specs.Tree.{Item as ItemTree};
 ghost use Rattle.awk_tree.specs.View.{tree_of, items_of};
-ghost use Rattle.awk_run.specs.definitions.Accepted.{IsSpelled, Accepted, RefusedFor};
+ghost use Rattle.awk_run.specs.definitions.Accepted.{Accepted, RefusedFor};
 ghost use Rattle.awk_run.specs.definitions.Start.{start_values, pair_of};
 ghost use Rattle.awk_meaning.specs.Meaning.{outcome_of};
 ghost use Rattle.awk_streams.specs.Outputs.{IsOutputFault};
@@ -19,7 +19,7 @@ use awk_interpreter::Interpreter;
 use awk_lex::lexer::tokens;
 use awk_lex::refusal::Refusal;
 use awk_meaning::{Fault, Halt, Outcome};
-use awk_resolve::name_refusal;
+use awk_resolve::resolve;
 use awk_streams::{StreamFault, Streams, World, some_oracle_is_consistent};
 use awk_syntax::parse::parse;
 use awk_tree::tree::{Item, Tree};
@@ -107,27 +107,15 @@ fn run_program<W: World>(
     outcome_after(outcome_of(ended, interpreter.status), finished)
 }
 
-/// The tree of a text.
-fn parse_text(alloc: Global, text: &[u8]) -> Result<Tree, Refusal>
-    ensures spelled { IfOk result (λ tree. IsSpelled text.now (tree_of tree)) }
-    ensures only { (items : List ItemTree) → IsSpelled text.now items → ReadsOnly result items }
-    ensures cause { IfErr result (λ refusal. RefusedFor refusal.code text.now) }
-{
-    let tokens = tokens(alloc, text)?;
-    parse(alloc, &tokens)
-}
-
-/// The program of a text: a tree whose names fit.
+/// What is run of the program of a text.
 fn read_program(alloc: Global, text: &[u8]) -> Result<Tree, Refusal>
     ensures accepted { IfOk result (λ tree. Accepted text.now (tree_of tree)) }
     ensures only { (items : List ItemTree) → Accepted text.now items → ReadsOnly result items }
     ensures cause { IfErr result (λ refusal. RefusedFor refusal.code text.now) }
 {
-    let tree = parse_text(alloc, text)?;
-    match name_refusal(&tree.items) {
-        Some(code) => Err(Refusal { code, line: 1 }),
-        None => Ok(tree),
-    }
+    let tokens = tokens(alloc, text)?;
+    let tree = parse(alloc, &tokens)?;
+    resolve(alloc, &tokens, &tree)
 }
 
 /// Reads a program text and runs it from the start values, with at most `limit` steps.

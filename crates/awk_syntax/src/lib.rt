@@ -1,9 +1,7 @@
-//! Reading the tokens of a program as its syntax tree.
+//! Reading the tokens of a program as its syntax tree, with its EREs checked.
 #![tactic(auto)]
 
 pub mod parse;
-mod parser;
 mod patterns;
-mod statements;
 
-pub use awk_tree::tree;
+pub use awk_grammar::tree;

@@ -1,69 +1,20 @@
 // Parses all tokens of a program, and then checks its EREs.
 
 ghost use Rattle.std.specs.Prelude.{◌≡◌, List, IfOk, OnOk, IfErr};
-ghost use Rattle.awk_tree.specs.Tree as t;
+ghost use Rattle.awk_grammar.specs.definitions.Tree as t;
+ghost use Rattle.awk_grammar.specs.definitions.Spelling.{IsProgram};
+ghost use Rattle.awk_grammar.specs.definitions.View.{tree_of};
 ghost use Rattle.awk_lex.specs.Told.{kinds_of};
-ghost use Rattle.awk_tree.specs.Spelling.{IsProgram};
-ghost use Rattle.awk_tree.specs.View.{tree_of};
 ghost use Rattle.awk_syntax.specs.definitions.Patterns.{AreReadable};
 ghost use Rattle.awk_syntax.specs.definitions.Outcome.{IsProgramWithinHeight, Reads, Justifies};
-ghost use Rattle.awk_tree.specs.Height.{max_height};
-ghost use Rattle.awk_expressions.specs.support.Parser as parser;
-ghost use Rattle.awk_syntax.specs.support.Answered.{Gives};
 
-use crate::parser::{finish, step};
 use crate::patterns::check_patterns;
-use awk_expressions::frame::Frame;
-use awk_expressions::stack::push;
-use awk_expressions::state::{NextToken, ParserState};
-use awk_lex::refusal::{Refusal, RefusalCode};
-use awk_lex::token::{Kind, Token};
-use awk_tree::checked::CheckedItems;
-use awk_tree::tree::Tree;
+use awk_grammar::laws::parser_law;
+use awk_grammar::tree::Tree;
+use awk_lex::refusal::Refusal;
+use awk_lex::token::Token;
+use awk_parser::read::read;
 use std::alloc::Global;
-
-fn read(alloc: Global, tokens: &[Token]) -> Result<Tree, Refusal>
-    ensures { Gives result (parser.read max_height (kinds_of tokens.now)) }
-{
-    let mut stack = Vec::new(alloc);
-    push(&mut stack, Frame::Program(Some(CheckedItems::new(alloc))))?;
-    let mut state = ParserState::BetweenItems;
-    let mut eres = 0;
-    for token in tokens {
-        let kind = &token.kind;
-        let Some(then) = step(alloc, state, NextToken { kind, eres }, &mut stack)? else {
-            return Err(Refusal {
-                code: RefusalCode::NotAProgram,
-                line: token.line,
-            });
-        };
-        state = then;
-        if matches!(kind, Kind::Ere(_)) {
-            eres += 1;
-        }
-    }
-    match finish(alloc, state, &mut stack)? {
-        Some(Some(checked)) => Ok(Tree {
-            items: checked.items,
-        }),
-        Some(None) => Err(Refusal {
-            code: RefusalCode::NestedTooDeep,
-            line: 1,
-        }),
-        None => Err(Refusal {
-            code: RefusalCode::NotAProgram,
-            line: last_line(tokens),
-        }),
-    }
-}
-
-/// The line of the last token, or 1 if there is none.
-fn last_line(tokens: &[Token]) -> u64 {
-    match tokens.last() {
-        Some(token) => token.line,
-        None => 1,
-    }
-}
 
 /// The tree that the tokens spell (POSIX awk, Grammar).
 ///
@@ -73,7 +24,7 @@ fn last_line(tokens: &[Token]) -> u64 {
 /// name the line on which it begins. The time is linear in the number of tokens and in what reading
 /// the EREs takes, and no nesting of the text is a nesting of calls.
 pub fn parse(alloc: Global, tokens: &[Token]) -> Result<Tree, Refusal>
-    // What is read is spelled so and keeps_precedence, and not too high. Its EREs are patterns.
+    // What is read is spelled so and keeps precedence, and not too high. Its EREs are patterns.
     ensures found { IfOk result (λ tree. IsProgramWithinHeight (kinds_of tokens.now) (tree_of tree)) }
     ensures readable { OnOk result (AreReadable (kinds_of tokens.now)) }
     // Every such program is read, unless memory is refused.
@@ -83,6 +34,7 @@ pub fn parse(alloc: Global, tokens: &[Token]) -> Result<Tree, Refusal>
     // P code only where one does that is not, for the leftmost ERE that is no pattern.
     ensures refused { IfErr result (λ refusal. Justifies refusal.code refusal.line tokens.now) }
 {
+    parser_law();
     let tree = read(alloc, tokens)?;
     check_patterns(alloc, tokens)?;
     Ok(tree)
@@ -92,4 +44,6 @@ pub fn parse(alloc: Global, tokens: &[Token]) -> Result<Tree, Refusal>
 pub fn one_tree()
     ensures { (tokens : List _) (xs ys : List t.Item) → IsProgram tokens xs
         → IsProgram tokens ys → xs ≡ ys }
-{}
+{
+    awk_grammar::laws::one_tree();
+}

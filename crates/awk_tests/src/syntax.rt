@@ -7,7 +7,7 @@ use crate::tables::{bytes_of, expect_table};
 use awk_lex::lexer::tokens;
 use awk_lex::refusal::Refusal;
 use awk_syntax::parse::{one_tree, parse};
-use awk_tree::tree::Tree;
+use awk_grammar::tree::Tree;
 use std::alloc::Global;
 use std::test::Fail;
 use trees::tree_text;
@@ -57,7 +57,6 @@ const STATEMENTS: &str = r#"
 } → line 1: refusal S1: not a program
 { print␊, 1 } → line 2: refusal S1: not a program
 { print 1 print 2 } → line 1: refusal S1: not a program
-{ ; } → line 1: refusal S1: not a program
 print → line 1: refusal S1: not a program
 {} , {} → line 1: refusal S1: not a program
 { print 1␊}␊␊2 * → line 4: refusal S1: not a program
@@ -75,22 +74,16 @@ const EXPRESSIONS: &str = r#"
 ␊{ print 1␊< 2 } → line 3: refusal S1: not a program
 BEGIN{print 1 < 2 < 3} → line 1: refusal S1: not a program
 1 == 2 != 3 {} → line 1: refusal S1: not a program
-{ print 1 > 2 } → line 1: refusal S1: not a program
 { print 1, } → line 1: refusal S1: not a program
 { print 1 * } → line 1: refusal S1: not a program
 { print * 1 } → line 1: refusal S1: not a program
 { print $ } → line 1: refusal S1: not a program
 {print $-1} → line 1: refusal S1: not a program
-{ print $$1 } → line 1: refusal S1: not a program
-{ print $x } → line 1: refusal S1: not a program
-{ print␊$(1) } → line 2: refusal S1: not a program
 BEGIN{x=2**3} → line 1: refusal S1: not a program
-{ print (1, 2) } → line 1: refusal S1: not a program
 { print (␊1) } → line 1: refusal S1: not a program
 () → line 1: refusal S1: not a program
 ␊(1␊) → line 2: refusal S1: not a program
 (1] → line 1: refusal S1: not a program
-f(1) → line 1: refusal S1: not a program
 ! ; → line 1: refusal S1: not a program
 1 % % 2 → line 1: refusal S1: not a program
 BEGIN{!x=1} → line 1: refusal S1: not a program
@@ -98,10 +91,8 @@ BEGIN{␊␊-x=1} → line 3: refusal S1: not a program
 1 + x = 2 → line 1: refusal S1: not a program
 x == y = 1 → line 1: refusal S1: not a program
 (x) = 1 → line 1: refusal S1: not a program
-$1 = 2 → line 1: refusal S1: not a program
 1 = 2 → line 1: refusal S1: not a program
 {␊x =␊1 } → line 2: refusal S1: not a program
-{ x = NF = 1 } → line 1: refusal S1: not a program
 x = ; → line 1: refusal S1: not a program
 x ~ y !~ z → line 1: refusal S1: not a program
 1; x ~ y␊~ z → line 2: refusal S1: not a program
@@ -111,24 +102,112 @@ x ~ ; → line 1: refusal S1: not a program
 { print 1 > 2 "a" } → line 1: refusal S1: not a program
 "#;
 
-// What the parser doesn't take so far.
-const UNREAD: &str = r#"
-1 ^ 2 → line 1: refusal S1: not a program
-1 && 2 → line 1: refusal S1: not a program
-1 || 2 → line 1: refusal S1: not a program
-1 ? 2 : 3 → line 1: refusal S1: not a program
-x in y → line 1: refusal S1: not a program
-x++ → line 1: refusal S1: not a program
-1 ++x → line 1: refusal S1: not a program
-x[1] → line 1: refusal S1: not a program
-x += 1 → line 1: refusal S1: not a program
-length → line 1: refusal S1: not a program
-{ getline } → line 1: refusal S1: not a program
-{ print 1 | "c" } → line 1: refusal S1: not a program
-{ print >> "f" } → line 1: refusal S1: not a program
-{ printf "x" } → line 1: refusal S1: not a program
-END {} → line 1: refusal S1: not a program
-{ if (1) x } → line 1: refusal S1: not a program
+// Operators, places and calls.
+const OPERATORS: &str = r#"
+1 ^ 2 → (pattern (^ 1 2))
+-x^2 → (pattern (- (^ x 2)))
+2^-3 → (pattern (^ 2 (- 3)))
+2^3^2 → (pattern (^ 2 (^ 3 2)))
+1 && 2 || 3 → (pattern (|| (&& 1 2) 3))
+1 &&␊␊2 ||␊3 → (pattern (|| (&& 1 2) 3))
+1?2:3?4:5 → (pattern (?: 1 2 (?: 3 4 5)))
+a = b ~ c → (pattern (= a (~ b c)))
+x = y += z ^= 2 → (pattern (= x (+= y (^= z 2))))
+x in a → (pattern (in x a))
+x in a in y → (pattern (in (in x a) y))
+! x in a → (pattern (in (! x) a))
+(1,2) in x → (pattern (list-in x 1 2))
+{ print (1,2) in x } → (action (print (list-in x 1 2)))
+x++y → (pattern (cat (_++ x) y))
+x++ + ++x → (pattern (+ (_++ x) (++_ x)))
+1 - -1 → (pattern (- 1 (- 1)))
+1 ++x → (pattern (cat 1 (++_ x)))
+$i++ → (pattern (_++ ($ i)))
+$++i → (pattern ($ (++_ i)))
+$NF-1 → (pattern (- ($ NF) 1))
+$x += 1 → (pattern (+= ($ x) 1))
+a[i,j] = $NF → (pattern (= ([] a i j) ($ NF)))
+a[1]++ - --a[␊2] → line 1: refusal S1: not a program
+f(1,␊2) + f() → (pattern (+ (call f 1 2) (call f)))
+length → (pattern length)
+length() length(x) → (pattern (cat (length) (length x)))
+length + 1 → (pattern (+ length 1))
+substr("hello", 2, 3) → (pattern (substr "hello" 2 3))
+split(x, a) sub(/b/, "c", $2) → (pattern (cat (split x a) (sub /b/0 "c" ($ 2))))
+1 " " -1 → (pattern (cat 1 (- " " 1)))
+1 !x → (pattern (cat 1 (! x)))
+/a/ ~ /b/ → (pattern (~ /a/0 /b/1))
+"#;
+
+// `getline`, outputs and lists of a print.
+const STREAMS: &str = r#"
+{ getline } → (action (getline - -))
+{ getline x } → (action (getline x -))
+{ getline < "f" } → (action (getline - "f"))
+{ getline x < "f" "g" } → (action (cat (getline x "f") "g"))
+{ getline f(1) } → (action (cat (getline - -) (call f 1)))
+{ getline (x) } → (action (cat (getline - -) (group x)))
+{ "c" | getline } → (action (piped "c" -))
+{ "a" "b" | getline x } → (action (piped (cat "a" "b") x))
+{ "c" | getline > 0 } → (action (> (piped "c" -) 0))
+{ while (("c" | getline x) > 0) n++ } → (action (while (> (group (piped "c" x)) 0) (_++ n)))
+{ print > "f" } → (action (print (to "f")))
+{ print a, b > "f" } → (action (print a b (to "f")))
+{ print a, b >> "f" "g" } → line 1: refusal S1: not a program
+{ print 1 | "c" } → (action (print 1 (into "c")))
+{ print (1)(2) } → (action (print (cat (group 1) (group 2))))
+{ print (1,2) } → (action (print (list 1 2)))
+{ print (1,2) > "f" } → (action (print (list 1 2) (to "f")))
+{ print (a > b), c } → (action (print (group (> a b)) c))
+{ printf "x" } → (action (printf "x"))
+{ printf("%d\n", x) > "f" } → (action (printf (list "%d␊" x) (to "f")))
+"#;
+
+// Statements and items of every kind.
+const CONTROL: &str = r#"
+{ ; } → (action (empty))
+END {} → (END)
+/a/, /b/ → (pattern (range /a/0 /b/1))
+x == 1,␊y { print } → (rule (range (== x 1) y) (print))
+{ if (1) x } → (action (if 1 x))
+{ if (1) x; else y } → (action (if 1 x y))
+{ if (1)␊x␊else␊y } → (action (if 1 x y))
+{ if (1) if (2) x; else y } → (action (if 1 (if 2 x y)))
+{ if (1) {} else if (2) {} else {} } → (action (if 1 (block) (if 2 (block) (block))))
+{ while (x) y } → (action (while x y))
+{ while (x) ; } → (action (while x (empty)))
+{ do x; while (y) } → (action (do x y))
+{ do { x } while (y) ; z } → (action (do (block x) y) z)
+{ do␊x␊while (y)␊z } → (action (do x y) z)
+{ for (;;) break } → (action (for - - - break))
+{ for (i = 0; i < 9; i++) { continue } } → (action (for (= i 0) (< i 9) (_++ i) (block continue)))
+{ for (x in a) delete a[x] } → (action (for-in x a (delete a x)))
+{ for ((x in a);;) ; } → (action (for (group (in x a)) - - (empty)))
+{ next; exit; exit 1; } → (action next (exit -) (exit 1))
+function f(a, b) { return a + b } → (function f (a b) (return (+ a b)))
+function f(a,␊b)␊{ return } → (function f (a b) (return -))
+function f () { f() } → (function f () (call f))
+"#;
+
+// What no tree spells.
+const REFUSED: &str = r#"
+BEGIN{print (1,2),3} → line 1: refusal S1: not a program
+BEGIN{x + y = 1} → line 1: refusal S1: not a program
+BEGIN{delete a} → line 1: refusal S1: not a program
+BEGIN{for ((x) in a) ;} → line 1: refusal S1: not a program
+BEGIN{sub(/a/,"b",1)} → line 1: refusal S1: not a program
+BEGIN{substr(1)} → line 1: refusal S1: not a program
+BEGIN{do x++ while (x)} → line 1: refusal S1: not a program
+{ if (x) { } ; else y } → line 1: refusal S1: not a program
+function f(a,) {} → line 1: refusal S1: not a program
+function f(␊a) {} → line 1: refusal S1: not a program
+-(1,2) in x → line 1: refusal S1: not a program
+a ~ b ~ c → line 1: refusal S1: not a program
+(x)++ → line 1: refusal S1: not a program
+END → line 1: refusal S1: not a program
+function f(a) → line 1: refusal S1: not a program
+{ printf > "f" } → line 1: refusal S1: not a program
+{ getline x + 1 = 2 } → line 1: refusal S1: not a program
 "#;
 
 const ERES: &str = r#"
@@ -173,7 +252,7 @@ BEGIN{print ⟨197 (⟩1⟨197 )⟩} → line 1: refusal S2: nested too deep
 #[test]
 fn texts_and_their_trees(rt: HostRuntime) -> Result<(), Fail> {
     let alloc = rt.alloc();
-    for table in [TREES, STATEMENTS, EXPRESSIONS, UNREAD, ERES, HEIGHTS] {
+    for table in [TREES, STATEMENTS, EXPRESSIONS, OPERATORS, STREAMS, CONTROL, REFUSED, ERES, HEIGHTS] {
         expect_table(&rt, alloc, table, tree_of)?;
     }
     one_tree();

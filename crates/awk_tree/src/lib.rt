@@ -1,7 +1,4 @@
-//! The syntax tree of a program, and the makers of its nodes, which keep it from growing too high.
+//! The tree of a program of the forms that can be run.
 #![tactic(auto)]
 
-pub mod checked;
-pub mod nodes;
-pub mod precedence;
 pub mod tree;

@@ -1,4 +1,4 @@
-// The syntax tree.
+// The tree of what can be run: the forms of the grammar that are built.
 
 use awk_value::Bytes;
 

@@ -1,9 +1,10 @@
--- The names of a program: over all of it each is an array or a scalar
+-- The names of a program: none is left out, and over all of it each is an array or a scalar
 -- (POSIX awk, Variables and Special Variables).
-use Rattle.std.specs.Prelude.{ℕ, Bool, true, false, ◌&&◌, ◌||◌, not, ◌≡◌, List, [], ◌∷◌, ◌++◌, map, filter, codes, bytes_eq, Option, Some, None, if◌then◌else◌}
-use Rattle.awk_lex.specs.declared.refusal.RefusalCode.{RefusalCode}
-use Rattle.awk_lex.specs.declared.refusal.RefusalCode.TheVariants.{ArrayAndScalar, NameLeftOut}
+use Rattle.std.specs.Prelude.{ℕ, Bool, true, false, ◌&&◌, not, List, [], ◌∷◌, ◌++◌, map, filter, codes, bytes_eq}
+use Rattle.std.specs.List.{list_any}
 use Rattle.awk_lex.specs.Words.{is_left_out}
+use Rattle.awk_lex.specs.declared.token.Kind.{Kind}
+use Rattle.awk_lex.specs.declared.token.Kind.TheVariants as t
 use Rattle.awk_tree.specs.Tree.{Expr, Number, String, Ere, Name, Group, Field, Unary, Binary, Assign, Exprs, Nil, Cons, Statement, Block, Expression, Print, Statements, NoMore, Then, Item, Begin, Action, Pattern, PatternAction}
 
 -- a name, and whether it is used as an array there or as a scalar
@@ -15,7 +16,7 @@ pub record Use : Type 0 where
 abbrev pub scalar : List ℕ → Use
 scalar x = record { name = x; is_array = false }
 
--- the uses of names in a form; none of the forms so far uses one as an array
+-- the uses of names in a form; none of those that can be run so far uses one as an array
 abbrev pub uses_in_expr : Expr → List Use
 uses_in_expr (Number n) = []
 uses_in_expr (String bytes) = []
@@ -74,18 +75,11 @@ abbrev pub are_apart : List (List ℕ) → List (List ℕ) → Bool
 are_apart [] ys = true
 are_apart (x ∷ xs) ys = is_absent x ys && are_apart xs ys
 
--- some name is one that this profile leaves out
-abbrev pub uses_left_out : List Use → Bool
-uses_left_out [] = false
-uses_left_out (u ∷ us) = is_left_out u.name || uses_left_out us
+-- the token is a name that this profile leaves out
+abbrev pub is_left_out_name : Kind → Bool
+is_left_out_name (t.Name x) = is_left_out x
+is_left_out_name (t.Called x) = is_left_out x
+is_left_out_name kind = false
 
--- no name is left out, and none is both an array and a scalar
-pub record Fits (items : List Item) : Type 0 where
-  pub kept : uses_left_out (uses_in items) ≡ false
-  pub apart : are_apart (scalar_names items) (array_names items) ≡ true
-
--- why the names of a program are refused: the first cause that holds
-abbrev pub name_refusal : List Item → Option RefusalCode
-name_refusal items =
-    if uses_left_out (uses_in items) then Some NameLeftOut
-    else (if are_apart (scalar_names items) (array_names items) then None else Some ArrayAndScalar)
+abbrev pub names_left_out : List Kind → Bool
+names_left_out = list_any is_left_out_name

@@ -7,12 +7,12 @@ use Rattle.awk_lex.specs.declared.refusal.Refusal.{Refusal}
 use Rattle.awk_lex.specs.declared.refusal.RefusalCode.{RefusalCode}
 use Rattle.awk_lex.specs.declared.refusal.RefusalCode.TheVariants.{NotAProgram, NestedTooDeep, PatternIllFormed, PatternCountRefused, PatternTooLarge, OutOfMemory}
 use Rattle.awk_lex.specs.Refused.{IsOutOfMemory}
-use Rattle.awk_tree.specs.Tree.{Item}
-use Rattle.awk_tree.specs.Height.{max_height, height_of_program}
-use Rattle.awk_tree.specs.Spelling.{IsProgram}
+use Rattle.awk_grammar.specs.Tree.{Item}
+use Rattle.awk_grammar.specs.Height.{max_height, height_of_program}
+use Rattle.awk_grammar.specs.Spelling.{IsProgram}
 use Rattle.awk_syntax.specs.definitions.Patterns.{IsLeftmostRefused}
-use Rattle.awk_tree.specs.View.{tree_of}
-use Rattle.awk_tree.specs.declared.tree.Tree.{Tree}
+use Rattle.awk_grammar.specs.View.{tree_of}
+use Rattle.awk_grammar.specs.declared.tree.Tree.{Tree}
 
 -- these items are read, unless memory is refused
 abbrev pub Reads : Result Tree Refusal → List Item → Type 0

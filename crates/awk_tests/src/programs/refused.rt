@@ -17,11 +17,11 @@ $ {print}
 $ {x = "\q"}
 ! awk: line 1: refusal L3: escape refused
 = 2
-$ {print $$1}
+$ {print $$}
 ! awk: line 1: refusal S1: not a program
 = 2
 $ {NF = 1}
-! awk: line 1: refusal S1: not a program
+! awk: line 1: refusal K9: not built yet
 = 2
 $ {!x = 1}
 ! awk: line 1: refusal S1: not a program
@@ -39,7 +39,31 @@ $ {ARGV = 1}
 ! awk: line 1: refusal K1: array and scalar
 = 2
 $ {print 1 > 2}
-! awk: line 1: refusal S1: not a program
+! awk: line 1: refusal K9: not built yet
+= 2
+$ {x++; y = cos}
+! awk: line 1: refusal K7: name left out
+= 2
+$ {print sin(1)}
+! awk: line 1: refusal K7: name left out
+= 2
+$ {x++; y = ARGV}
+! awk: line 1: refusal K9: not built yet
+= 2
+$ {while (x) y}
+! awk: line 1: refusal K9: not built yet
+= 2
+$ END {}
+! awk: line 1: refusal K9: not built yet
+= 2
+$ {a[1] = 2}
+! awk: line 1: refusal K9: not built yet
+= 2
+$ {print length}
+! awk: line 1: refusal K9: not built yet
+= 2
+$ {getline}
+! awk: line 1: refusal K9: not built yet
 = 2
 $ BEGIN
 . {print}

@@ -1,100 +1,151 @@
-// Trees as s-expressions: `(+ 1 (group 2))`. An ERE has its number behind it, and two operands with nothing between them
-// are a `cat`.
+// Trees as s-expressions: `(+ 1 (group 2))`. An ERE has its number behind it, two operands with nothing between them are
+// a `cat`, and what is left out is a `-`.
+
+mod expressions;
 
 use crate::tables::add_bytes;
-use awk_tree::tree::{BinaryOperator, Expr, Item, Statement, Tree, UnaryOperator};
+use awk_grammar::tree::{
+    Expr, Item, Output, Pattern, PrintForm, PrintList, Redirection, SimpleStatement, Statement, Tree,
+};
+use expressions::{add_expr, add_list};
 use std::alloc::{AllocError, Global};
 
-fn infix(operator: BinaryOperator) -> &'static str {
-    match operator {
-        BinaryOperator::Times => "*",
-        BinaryOperator::Divide => "/",
-        BinaryOperator::Remainder => "%",
-        BinaryOperator::Plus => "+",
-        BinaryOperator::Minus => "-",
-        BinaryOperator::Concatenate => "cat",
-        BinaryOperator::Less => "<",
-        BinaryOperator::LessEqual => "<=",
-        BinaryOperator::Equal => "==",
-        BinaryOperator::NotEqual => "!=",
-        BinaryOperator::Greater => ">",
-        BinaryOperator::GreaterEqual => ">=",
-        BinaryOperator::Matches => "~",
-        BinaryOperator::NotMatches => "!~",
-    }
-}
-
-fn prefix(operator: UnaryOperator) -> &'static str {
-    match operator {
-        UnaryOperator::Not => "!",
-        UnaryOperator::Plus => "+",
-        UnaryOperator::Minus => "-",
-    }
-}
-
-fn add_between(text: &mut String, mark: &str, bytes: &[u8]) -> Result<(), AllocError> {
-    text.push_str(mark)?;
-    add_bytes(text, bytes)?;
-    text.push_str(mark)
-}
-
-fn add_expr(expr: &Expr, text: &mut String) -> Result<(), AllocError> {
+// An expression behind a blank, or what stands for none.
+fn add_optional(expr: &Option<Expr>, text: &mut String) -> Result<(), AllocError> {
     match expr {
-        Expr::Number(n) => return write!(text, "{n}"),
-        Expr::String(bytes) => return add_between(text, "\"", bytes.as_slice()),
-        Expr::Name(name) => return add_bytes(text, name.as_slice()),
-        Expr::Ere(ere) => {
-            let number = ere.number;
-            add_between(text, "/", ere.text.as_slice())?;
-            return write!(text, "{number}");
-        }
-        Expr::Group(inside) => {
-            text.push_str("(group ")?;
-            add_expr(inside, text)?;
-        }
-        Expr::Field(number) => {
-            text.push_str("($ ")?;
-            add_expr(number, text)?;
-        }
-        Expr::Unary(operator, operand) => {
-            let operator = prefix(*operator);
-            write!(text, "({operator} ")?;
-            add_expr(operand, text)?;
-        }
-        Expr::Binary(operator, left, right) => {
-            let operator = infix(*operator);
-            write!(text, "({operator} ")?;
-            add_expr(left, text)?;
+        Some(expr) => {
             text.push(' ')?;
-            add_expr(right, text)?;
+            add_expr(expr, text)
         }
-        Expr::Assign(name, value) => {
-            text.push_str("(= ")?;
+        None => text.push_str(" -"),
+    }
+}
+
+fn add_output(output: &Output, text: &mut String) -> Result<(), AllocError> {
+    match output {
+        Output::Standard => Ok(()),
+        Output::Redirected(redirection, target) => {
+            text.push_str(match redirection {
+                Redirection::Truncate => " (to ",
+                Redirection::Append => " (behind ",
+                Redirection::Pipe => " (into ",
+            })?;
+            add_expr(target, text)?;
+            text.push(')')
+        }
+    }
+}
+
+fn add_print(
+    form: PrintForm,
+    list: &PrintList,
+    output: &Output,
+    text: &mut String,
+) -> Result<(), AllocError> {
+    text.push_str(match form {
+        PrintForm::Print => "(print",
+        PrintForm::Printf => "(printf",
+    })?;
+    match list {
+        PrintList::Bare(list) => add_list(list, text)?,
+        PrintList::Parenthesized(list) => {
+            text.push_str(" (list")?;
+            add_list(list, text)?;
+            text.push(')')?;
+        }
+    }
+    add_output(output, text)?;
+    text.push(')')
+}
+
+fn add_simple(simple: &SimpleStatement, text: &mut String) -> Result<(), AllocError> {
+    match simple {
+        SimpleStatement::Expression(expr) => return add_expr(expr, text),
+        SimpleStatement::Print(form, list, output) => return add_print(*form, list, output, text),
+        SimpleStatement::Delete(name, subscripts) => {
+            text.push_str("(delete ")?;
             add_bytes(text, name.as_slice())?;
-            text.push(' ')?;
-            add_expr(value, text)?;
+            add_list(subscripts, text)?;
+        }
+        SimpleStatement::Next => return text.push_str("next"),
+        SimpleStatement::Break => return text.push_str("break"),
+        SimpleStatement::Continue => return text.push_str("continue"),
+        SimpleStatement::Exit(status) => {
+            text.push_str("(exit")?;
+            add_optional(status, text)?;
+        }
+        SimpleStatement::Return(value) => {
+            text.push_str("(return")?;
+            add_optional(value, text)?;
         }
     }
     text.push(')')
 }
 
+fn add_part(part: &Option<SimpleStatement>, text: &mut String) -> Result<(), AllocError> {
+    match part {
+        Some(simple) => {
+            text.push(' ')?;
+            add_simple(simple, text)
+        }
+        None => text.push_str(" -"),
+    }
+}
+
+// A word, a condition and a statement, without the closing parenthesis.
+#[cycle(statements)]
+fn add_guarded(
+    word: &str,
+    condition: &Expr,
+    statement: &Statement,
+    text: &mut String,
+) -> Result<(), AllocError> {
+    text.push_str(word)?;
+    add_expr(condition, text)?;
+    text.push(' ')?;
+    add_statement(statement, text)
+}
+
 #[cycle(statements)]
 fn add_statement(statement: &Statement, text: &mut String) -> Result<(), AllocError> {
     match statement {
+        Statement::Empty => return text.push_str("(empty)"),
+        Statement::Simple(simple) => return add_simple(simple, text),
         Statement::Block(all) => {
             text.push_str("(block")?;
-            add_statements(all, text)
+            return add_statements(all, text);
         }
-        Statement::Expression(expr) => add_expr(expr, text),
-        Statement::Print(list) => {
-            text.push_str("(print")?;
-            for expr in list {
-                text.push(' ')?;
-                add_expr(expr, text)?;
-            }
-            text.push(')')
+        Statement::If(condition, then) => add_guarded("(if ", condition, then, text)?,
+        Statement::IfElse(condition, then, other) => {
+            add_guarded("(if ", condition, then, text)?;
+            text.push(' ')?;
+            add_statement(other, text)?;
+        }
+        Statement::While(condition, body) => add_guarded("(while ", condition, body, text)?,
+        Statement::Do(body, condition) => {
+            text.push_str("(do ")?;
+            add_statement(body, text)?;
+            text.push(' ')?;
+            add_expr(condition, text)?;
+        }
+        Statement::ForIn(name, array, body) => {
+            text.push_str("(for-in ")?;
+            add_bytes(text, name.as_slice())?;
+            text.push(' ')?;
+            add_bytes(text, array.as_slice())?;
+            text.push(' ')?;
+            add_statement(body, text)?;
+        }
+        Statement::For(first, condition, last, body) => {
+            text.push_str("(for")?;
+            add_part(first, text)?;
+            add_optional(condition, text)?;
+            add_part(last, text)?;
+            text.push(' ')?;
+            add_statement(body, text)?;
         }
     }
+    text.push(')')
 }
 
 // Adds statements, each behind a blank, and a closing parenthesis.
@@ -107,25 +158,55 @@ fn add_statements(all: &[Statement], text: &mut String) -> Result<(), AllocError
     text.push(')')
 }
 
+fn add_pattern(pattern: &Pattern, text: &mut String) -> Result<(), AllocError> {
+    match pattern {
+        Pattern::Single(expr) => add_expr(expr, text),
+        Pattern::Range(from, to) => {
+            text.push_str("(range ")?;
+            add_expr(from, text)?;
+            text.push(' ')?;
+            add_expr(to, text)?;
+            text.push(')')
+        }
+    }
+}
+
 fn add_item(item: &Item, text: &mut String) -> Result<(), AllocError> {
     match item {
         Item::Begin(action) => {
             text.push_str("(BEGIN")?;
             add_statements(action, text)
         }
+        Item::End(action) => {
+            text.push_str("(END")?;
+            add_statements(action, text)
+        }
         Item::Action(action) => {
             text.push_str("(action")?;
             add_statements(action, text)
         }
-        Item::Pattern(expr) => {
+        Item::PatternOnly(pattern) => {
             text.push_str("(pattern ")?;
-            add_expr(expr, text)?;
+            add_pattern(pattern, text)?;
             text.push(')')
         }
-        Item::PatternAction(expr, action) => {
+        Item::PatternAction(pattern, action) => {
             text.push_str("(rule ")?;
-            add_expr(expr, text)?;
+            add_pattern(pattern, text)?;
             add_statements(action, text)
+        }
+        Item::Function(name, parameters, body) => {
+            text.push_str("(function ")?;
+            add_bytes(text, name.as_slice())?;
+            text.push_str(" (")?;
+            for (i, parameter) in parameters.iter().enumerate() {
+                if i > 0 {
+                    text.push(' ')?;
+                }
+                add_bytes(text, parameter.as_slice())?;
+            }
+            text.push(')')?;
+            add_statements(body, text)
         }
     }
 }

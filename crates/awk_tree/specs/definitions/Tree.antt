@@ -1,4 +1,4 @@
--- The tree of a program, without where it lies in memory (POSIX awk, Grammar).
+-- The tree of what can be run, without where it lies in memory: the forms of the grammar that are built.
 use Rattle.std.specs.Prelude.{ℕ, ℤ, List}
 use Rattle.awk_tree.specs.declared.tree.UnaryOperator.{UnaryOperator}
 use Rattle.awk_tree.specs.declared.tree.BinaryOperator.{BinaryOperator}
