@@ -1,24 +1,24 @@
 -- Lists of forms that are built one after the other, and what is answered where one of them isn't.
-use Rattle.std.proofs.Common.{◌≡◌, ◌⊎◌, inl, inr, ℕ, ◌+◌, ◌≤◌, ◌<◌, suc, List, [], ◌∷◌, ◌++◌, length, drop, get_or, Option, Some, None, Result, Ok, Err, add-one, drop-cons, refl, sym, ap, ◌∙◌}
+use Rattle.std.proofs.Common.{◌≡◌, inl, inr, ℕ, ◌+◌, ◌≤◌, ◌<◌, suc, List, [], ◌∷◌, ◌++◌, length, drop, get_or, Option, Some, None, add-one, drop-cons, refl, sym, ap, ◌∙◌}
 use Rattle.std.specs.Option.{option_map}
 use Rattle.std.proofs.lemmas.List.{drop_all}
 use Rattle.awk_lex.specs.declared.refusal.Refusal.{Refusal}
 use Rattle.awk_grammar.specs.Tree as g
 use Rattle.awk_grammar.specs.View as view
 use Rattle.awk_grammar.specs.declared.tree.Expr.{Expr as GrammarExpr}
-use Rattle.awk_grammar.specs.declared.tree.Statement.{Statement as GrammarStatement}
+use Rattle.awk_grammar.specs.declared.tree.Statement.{Statement as GrammarStatement, Row_of-Statement as GrammarRow, end_of-Statement as end_of-GrammarStatement, more_of-Statement as more_of-GrammarStatement, items-the_row-Statement as items-the_row-GrammarStatement}
 use Rattle.awk_grammar.specs.declared.tree.Item.{Item as GrammarItem}
-use Rattle.awk_tree.specs.Tree.{Expr, Exprs, Nil, Cons, Statement, Statements, NoMore, Then, Item}
-use Rattle.awk_tree.specs.View.{expr_of, exprs_of, statement_of, statements_of, item_of, items_of}
+use Rattle.awk_tree.specs.Tree.{Exprs, Nil, Cons, Statements, NoMore, Then, Item}
+use Rattle.awk_tree.specs.View.{expr_of, exprs_of, statement_of, statements_of, statements_of_row, item_of, items_of}
 use Rattle.awk_tree.specs.declared.tree.Expr.{Expr as CodeExpr}
-use Rattle.awk_tree.specs.declared.tree.Statement.{Statement as CodeStatement}
+use Rattle.awk_tree.specs.declared.tree.Statement.{Statement as CodeStatement, Row_of-Statement, end_of-Statement, more_of-Statement, items-the_row-Statement}
 use Rattle.awk_tree.specs.declared.tree.Item.{Item as CodeItem}
 use Rattle.awk_resolve.specs.definitions.Built.{both, built_expr, built_list, built_statement, built_block, built_item, built_items}
-use Rattle.awk_resolve.specs.support.Builds.{Builds}
+use Rattle.awk_resolve.specs.support.Builds.{Refuses}
 
 -- what is refused for a part is refused for the whole, where without the part there is no whole
-pub passes_on : {A B C D : Type 0} {view : A → B} {seen : C → D} {r : Refusal} {part : Option B} {whole : Option D} → Builds view (Err r) part → (part ≡ None → whole ≡ None) → Builds seen (Err r) whole
-passes_on h f = elim h [ inl m ↦ inl m | inr p ↦ inr (p.0, f p.1) ]
+pub passes_on : {B D : Type 0} (r : Refusal) (part : Option B) (whole : Option D) → Refuses r part → (part ≡ None → whole ≡ None) → Refuses r whole
+passes_on r part whole h f = elim h [ inl m ↦ inl m | inr p ↦ inr (p.0, f p.1) ]
 
 pub both_some : {A B C : Type 0} (f : A → B → C) (a : A) (x : Option A) (r : Option B) → x ≡ Some a → both f x r ≡ option_map (f a) r
 both_some f a x (Some b) e = rw e refl
@@ -28,7 +28,7 @@ pub both_none : {A B C : Type 0} (f : A → B → C) (x : Option A) (r : Option 
 both_none f x r e = rw e refl
 
 -- the forms that are built, in front of what comes of the rest
-pub front : {A C : Type 0} → (A → C → C) → List A → Option C → Option C
+abbrev pub front : {A C : Type 0} → (A → C → C) → List A → Option C → Option C
 front cons [] rest = rest
 front cons (x ∷ xs) rest = option_map (cons x) (front cons xs rest)
 
@@ -93,6 +93,15 @@ no_statement ss i x done whole low is h e = no_more cons_statement done _ whole 
 
 pub last_statement : (ss : List GrammarStatement) (i : ℕ) (done : List CodeStatement) (whole : Option Statements) → length ss ≤ i → front cons_statement done (built_block (view.statements_of (drop i ss))) ≡ whole → whole ≡ Some (statements_of done)
 last_statement ss i done whole low h = sym h ∙ ap (λ x. front cons_statement done (built_block (view.statements_of x))) (drop_all i ss low) ∙ all_statements done
+
+-- the statements that a block keeps
+pub row_is_block : (n : _) (all : Row_of-Statement n) → statements_of_row all ≡ statements_of (items-the_row-Statement n all)
+row_is_block n end_of-Statement = refl
+row_is_block n (more_of-Statement s rest) = ap (λ x. Then (statement_of s) x) (row_is_block _ rest)
+
+pub grammar_row_is_block : (n : _) (all : GrammarRow n) → view.statements_of_row all ≡ view.statements_of (items-the_row-GrammarStatement n all)
+grammar_row_is_block n end_of-GrammarStatement = refl
+grammar_row_is_block n (more_of-GrammarStatement s rest) = ap (λ x. g.Then (view.statement_of s) x) (grammar_row_is_block _ rest)
 
 -- the items of a program
 

@@ -1,13 +1,12 @@
 -- What the names of a program have against them, part by part.
-use Rattle.std.proofs.Common.{◌≡◌, ℕ, ◌+◌, ◌≤◌, ◌<◌, suc, Bool, true, false, ◌||◌, ◌&&◌, not, List, [], ◌∷◌, ◌++◌, length, drop, get_or, filter, Some, None, add-one, drop-cons, refl, sym, ap, ◌∙◌}
-use Rattle.std.proofs.Math.Bool.{cond, or_assoc, or-false, and_assoc}
-use Rattle.std.proofs.lemmas.Bool.{not-true, not-false}
+use Rattle.std.proofs.Common.{◌≡◌, ℕ, ◌+◌, ◌≤◌, ◌<◌, suc, Bool, true, false, ◌||◌, ◌&&◌, not, List, [], ◌∷◌, ◌++◌, length, drop, get_or, filter, add-one, drop-cons, refl, sym, ap, ◌∙◌}
+use Rattle.std.proofs.Math.Bool.{cond, or-false, and_assoc}
 use Rattle.std.proofs.lemmas.List.{drop_all, map-append}
 use Rattle.awk_tree.specs.declared.tree.Expr.{Expr as CodeExpr}
-use Rattle.awk_tree.specs.declared.tree.Statement.{Statement as CodeStatement, Row_of-Statement, end_of-Statement, more_of-Statement, items-the_row-Statement}
+use Rattle.awk_tree.specs.declared.tree.Statement.{Statement as CodeStatement}
 use Rattle.awk_tree.specs.declared.tree.Item.{Item as CodeItem}
 use Rattle.awk_tree.specs.Tree.{Expr, Number, String, Ere, Name, Group, Field, Unary, Binary, Assign, Exprs, Nil, Cons, Statement, Block, Expression, Print, Statements, NoMore, Then, Item, Begin, Action, Pattern, PatternAction}
-use Rattle.awk_tree.specs.View.{expr_of, exprs_of, statement_of, statements_of, statements_of_row, item_of, items_of}
+use Rattle.awk_tree.specs.View.{expr_of, exprs_of, statement_of, statements_of, item_of, items_of}
 use Rattle.awk_resolve.specs.declared.names.Misuse.{Misuse}
 use Rattle.awk_resolve.specs.definitions.Names.{Use, uses_in_expr, uses_in_list, uses_in_statement, uses_in_block, uses_in_item, uses_in, special_scalars, special_arrays, scalar_names, array_names, is_absent, are_apart}
 use Rattle.awk_resolve.specs.support.Misuse.{names_of, Adds}
@@ -128,8 +127,3 @@ uses_at_item es i e low is = rw (add-one, drop-cons es i e) (ap (λ x. uses_in_i
 
 pub uses_over_items : (es : List CodeItem) (i : ℕ) → length es ≤ i → uses_in (items_of (drop i es)) ≡ []
 uses_over_items es i low = ap (λ x. uses_in (items_of x)) (drop_all i es low)
-
--- a block of code, as a block of the definitions
-pub row_is_block : (n : _) (all : Row_of-Statement n) → statements_of_row all ≡ statements_of (items-the_row-Statement n all)
-row_is_block n end_of-Statement = refl
-row_is_block n (more_of-Statement s rest) = ap (λ x. Then (statement_of s) x) (row_is_block _ rest)

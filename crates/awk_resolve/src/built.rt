@@ -63,19 +63,18 @@ fn built_target(operator: AssignmentOperator, place: &grammar::Expr) -> Option<&
 {
     match place {
         grammar::Expr::Name(name) if matches!(operator, AssignmentOperator::Plain) => {
-            if name.as_slice() == b"NF".as_slice() { None } else { Some(name) }
+            if name.as_slice() == b"NF".as_slice() {
+                None
+            } else {
+                Some(name)
+            }
         }
         _ => None,
     }
 }
 
 /// Two operands that are built, with their operator.
-fn binary(
-    alloc: Global,
-    operator: BinaryOperator,
-    a: Expr,
-    b: Expr,
-) -> Result<Expr, Refusal>
+fn binary(alloc: Global, operator: BinaryOperator, a: Expr, b: Expr) -> Result<Expr, Refusal>
     ensures { Builds expr_of result (Some (run.Binary operator (expr_of a) (expr_of b))) }
 {
     let a = Box::new(alloc, a)?;
@@ -154,9 +153,11 @@ fn built_simple(alloc: Global, simple: &grammar::SimpleStatement) -> Result<Stat
         grammar::SimpleStatement::Expression(e) => {
             Ok(Statement::Expression(built_expr(alloc, e)?))
         }
-        grammar::SimpleStatement::Print(grammar::PrintForm::Print, list, grammar::Output::Standard) => {
-            Ok(Statement::Print(built_print_list(alloc, list)?))
-        }
+        grammar::SimpleStatement::Print(
+            grammar::PrintForm::Print,
+            list,
+            grammar::Output::Standard,
+        ) => { Ok(Statement::Print(built_print_list(alloc, list)?)) }
         _ => Err(NOT_BUILT),
     }
 }

@@ -18,11 +18,7 @@ use std::alloc::Global;
 ///
 /// The first cause that holds refuses it: a name is left out (K7), a form isn't built yet (K9), or a
 /// name is used as an array and as a scalar (K1). Each names line 1.
-pub fn resolve(
-    alloc: Global,
-    tokens: &[Token],
-    tree: &grammar::Tree,
-) -> Result<Tree, Refusal>
+pub fn resolve(alloc: Global, tokens: &[Token], tree: &grammar::Tree) -> Result<Tree, Refusal>
     ensures { Resolves result (resolved (kinds_of tokens.now) (grammar_tree_of tree.now)) }
 {
     if names_left_out(tokens) {

@@ -1,5 +1,5 @@
 -- Which forms of the grammar can be run so far, and as what; every other form is none yet.
-use Rattle.std.specs.Prelude.{◌≡◌, ℕ, Bool, List, [], ◌∷◌, Option, Some, None, codes, bytes_eq, if◌then◌else◌}
+use Rattle.std.specs.Prelude.{ℕ, List, [], ◌∷◌, Option, Some, None, codes, bytes_eq, if◌then◌else◌}
 use Rattle.std.specs.Option.{option_map}
 use Rattle.awk_lex.specs.declared.token.Operator.TheVariants as s
 use Rattle.awk_lex.specs.declared.token.AssignmentOperator.{AssignmentOperator}

@@ -2,7 +2,8 @@ use Rattle.std.proofs.Common.{◌≡◌, rules, sym, arith}
 use Rattle.awk_tree.specs.declared.tree.Statement.TheViews.{the_lemmas}
 use Rattle.awk_tree.specs.View.{statement_of, statements_of}
 use Rattle.awk_tree.specs.Tree.{Block}
-use Rattle.awk_resolve.proofs.Uses.{adds_none, adds_both, uses_at_statement, uses_over_block, row_is_block}
+use Rattle.awk_resolve.proofs.BuiltLists.{row_is_block}
+use Rattle.awk_resolve.proofs.Uses.{adds_none, adds_both, uses_at_statement, uses_over_block}
 use Rattle.awk_resolve.proofs.names.Misuse.+statements.Goals as goal
 
 pub add_statement-returns-in-Block : goal.add_statement-returns-in-Block
