@@ -10,6 +10,7 @@ use Rattle.awk_lex.specs.Lexes.{Lexes}
 use Rattle.awk_lex.specs.Told.{Refuses, kinds_of}
 use Rattle.awk_lex.specs.declared.token.Token.{Token}
 use Rattle.awk_grammar.specs.Tree.{Item as GrammarItem}
+use Rattle.awk_grammar.specs.Spelling.{IsProgram}
 use Rattle.awk_grammar.specs.View.{tree_of as grammar_tree_of}
 use Rattle.awk_grammar.specs.declared.tree.Tree.{Tree as GrammarTree}
 use Rattle.awk_syntax.specs.Outcome.{Reads, IsProgramWithinHeight, RefusesPattern, Justifies}
@@ -62,6 +63,16 @@ only_accepted r text tokens tree one only h items a =
     let w = within text tokens a.tokens a.program same a.spelled in
     let read : grammar_tree_of tree ≡ a.program = only a.program w.0 w.1 in
     resolves_only r tokens (grammar_tree_of tree) items h (ap (λ ts. resolved ts (grammar_tree_of tree)) same ∙ ap (λ xs. resolved a.tokens xs) read ∙ a.resolves)
+
+-- a text is one program at most, where it has one list of tokens and they have one tree
+pub one_program : (text : List ℕ) (xs ys : List Item) → ((ts us : List Kind) → Lexes ts text → Lexes us text → ts ≡ us)
+    → ((tokens : List Kind) (ps qs : List GrammarItem) → IsProgram tokens ps → IsProgram tokens qs → ps ≡ qs)
+    → Accepted text xs → Accepted text ys → xs ≡ ys
+one_program text xs ys one_lexing one_tree a b =
+    let same = one_lexing a.tokens b.tokens a.spelled.has.lexes b.spelled.has.lexes in
+    let program = one_tree b.tokens a.program b.program (subst (λ ts. IsProgram ts a.program) same a.spelled.spells) b.spelled.spells in
+    let equal : Ok xs ≡ Ok ys = sym a.resolves ∙ ap (λ ts. resolved ts a.program) same ∙ ap (resolved b.tokens) program ∙ b.resolves in
+    cc
 
 -- why nothing is run of a program
 

@@ -1,23 +1,44 @@
-use Rattle.std.proofs.Common.{sym, ap, ◌∙◌}
-use Rattle.awk_tree.specs.View.{tree_of, items_of}
-use Rattle.awk_resolve.specs.Names.{name_refusal}
-use Rattle.awk_run.proofs.Accepted.{accepts, is_spelled, none_accepted, names_refused}
+use Rattle.std.proofs.lemmas.Result.{err_from_is_err_and}
+use Rattle.awk_lex.specs.Told.{kinds_of}
+use Rattle.awk_grammar.specs.View.{tree_of as grammar_tree_of}
+use Rattle.awk_run.proofs.Accepted.{spelled, accepts, only_accepted, none_read, resolving_refused, lexing_refused, parsing_refused}
 use Rattle.awk_run.proofs.run.read_program.Goals as goal
 
-pub returns-in-None-clause-accepted : goal.returns-in-None-clause-accepted
-returns-in-None-clause-accepted c =
-    let seen = ap (λ xs. name_refusal (items_of xs)) (sym c.deref.ensures.value) in
-    accepts c.args.text.now (tree_of c.in_ok-tree.tree) c.in_ok-tree.ensures.spelled (seen ∙ sym c.name_refusal.ensures ∙ c.in-None.is)
+pub returns-clause-accepted : goal.returns-clause-accepted
+returns-clause-accepted c =
+    let lexes = rw (← c.deref.ensures.value) at (c.in_ok-tokens.ensures.found) in
+    let s = spelled c.args.text.now (kinds_of c.deref.result.now) (grammar_tree_of c.in_ok-tree.tree) c.in_ok-tokens.ensures.short lexes c.in_ok-tree.ensures.found c.in_ok-tree.ensures.readable in
+    let r = rw (c.deref-2.ensures.value, ← c.deref.ensures.value) at c.resolve.ensures in
+    accepts c.resolve.result c.args.text.now _ _ s r
 
-pub returns-in-None-clause-only : goal.returns-in-None-clause-only
-returns-in-None-clause-only c = λ items a. c.in_ok-tree.ensures.only items (is_spelled a)
+pub returns-clause-only : goal.returns-clause-only
+returns-clause-only c =
+    let r = rw (c.deref-2.ensures.value, ← c.deref.ensures.value) at c.resolve.ensures in
+    only_accepted c.resolve.result c.args.text.now (kinds_of c.deref.result.now) c.in_ok-tree.tree (rw (← c.deref.ensures.value) at (c.in_ok-tokens.ensures.only)) c.in_ok-tree.ensures.only r
 
-pub returns-in-Some-clause-only : goal.returns-in-Some-clause-only
-returns-in-Some-clause-only c = λ items a.
-    let seen = ap (λ xs. name_refusal (items_of xs)) (sym c.deref.ensures.value) in
-    absurd (none_accepted c.args.text.now (tree_of c.in_ok-tree.tree) c.in-Some.code (seen ∙ sym c.name_refusal.ensures ∙ c.in-Some.is) c.in_ok-tree.ensures.only items a)
+pub returns-clause-cause : goal.returns-clause-cause
+returns-clause-cause c =
+    let lexes = rw (← c.deref.ensures.value) at (c.in_ok-tokens.ensures.found) in
+    let s = spelled c.args.text.now (kinds_of c.deref.result.now) (grammar_tree_of c.in_ok-tree.tree) c.in_ok-tokens.ensures.short lexes c.in_ok-tree.ensures.found c.in_ok-tree.ensures.readable in
+    let r = rw (c.deref-2.ensures.value, ← c.deref.ensures.value) at c.resolve.ensures in
+    resolving_refused c.resolve.result c.args.text.now _ _ s r
 
-pub returns-in-Some-clause-cause : goal.returns-in-Some-clause-cause
-returns-in-Some-clause-cause c =
-    let seen = ap (λ xs. name_refusal (items_of xs)) (sym c.deref.ensures.value) in
-    names_refused c.args.text.now (tree_of c.in_ok-tree.tree) c.in-Some.code c.in_ok-tree.ensures.spelled (seen ∙ sym c.name_refusal.ensures ∙ c.in-Some.is)
+pub returns-in_err-tree-clause-only : goal.returns-in_err-tree-clause-only
+returns-in_err-tree-clause-only c =
+    let p = err_from_is_err_and c.from_residual-in_err-tree.result c.from_residual-in_err-tree.ensures.1 in
+    rw (p.1, p.2) (none_read c.in_err-tree.field-0.0 c.args.text.now (kinds_of c.deref.result.now) (rw (← c.deref.ensures.value) at (c.in_ok-tokens.ensures.only)) c.in_err-tree.ensures.only)
+
+pub returns-in_err-tree-clause-cause : goal.returns-in_err-tree-clause-cause
+returns-in_err-tree-clause-cause c =
+    let p = err_from_is_err_and c.from_residual-in_err-tree.result c.from_residual-in_err-tree.ensures.1 in
+    rw (p.1, p.2) (parsing_refused c.in_err-tree.field-0.0 c.args.text.now c.deref.result.now c.in_ok-tokens.ensures.short (rw (← c.deref.ensures.value) at (c.in_ok-tokens.ensures.found)) c.in_err-tree.ensures.refused)
+
+pub returns-in_err-tokens-clause-only : goal.returns-in_err-tokens-clause-only
+returns-in_err-tokens-clause-only c =
+    let p = err_from_is_err_and c.from_residual.result c.from_residual.ensures.1 in
+    rw (p.1, p.2) (λ items a. c.in_err-tokens.ensures.only a.tokens a.spelled.has.lexes a.spelled.has.short)
+
+pub returns-in_err-tokens-clause-cause : goal.returns-in_err-tokens-clause-cause
+returns-in_err-tokens-clause-cause c =
+    let p = err_from_is_err_and c.from_residual.result c.from_residual.ensures.1 in
+    rw (p.1, p.2) (lexing_refused c.in_err-tokens.field-0.0 c.args.text.now c.in_err-tokens.ensures.refused)
