@@ -1,5 +1,5 @@
 -- What the parser over lists does at the tokens that no clause of a function names.
-use Rattle.std.proofs.Common.{◌≡◌, List, ◌∷◌, refl}
+use Rattle.std.proofs.Common.{◌≡◌, false, List, ◌∷◌, refl}
 use Rattle.awk_lex.specs.declared.token.Kind.{Kind}
 use Rattle.awk_lex.specs.declared.token.Keyword.{Keyword}
 use Rattle.awk_lex.specs.declared.token.Kind.TheVariants as t
