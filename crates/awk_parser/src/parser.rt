@@ -21,15 +21,15 @@ use awk_productions::items::{
     after_function, after_parameter, before_action, before_parameter, start_item,
 };
 use awk_productions::operands::start_operand;
-use awk_productions::prints::after_print;
-use awk_productions::simple::{
-    after_delete_name, after_exit, before_for_condition, before_for_first, before_for_last,
-    end_simple,
-};
-use awk_productions::statements::{end_simple_statement, end_statement, start_statement};
 use awk_productions::taken::{begin, operand as after};
 use awk_statement_nodes::checked::{CheckedItems, CheckedOptionalExpr, CheckedStatement};
 use awk_statement_nodes::simple::{exit, return_statement};
+use awk_statement_productions::prints::after_print;
+use awk_statement_productions::simple::{
+    after_delete_name, after_exit, before_for_condition, before_for_first, before_for_last,
+    end_simple,
+};
+use awk_statement_productions::statements::{end_simple_statement, end_statement, start_statement};
 use awk_value::Bytes;
 use std::alloc::{AllocError, Global};
 

@@ -1,2 +1,1 @@
 pub mod OtherTokens
-pub mod DoBodies

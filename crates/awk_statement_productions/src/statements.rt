@@ -8,14 +8,14 @@ ghost use Rattle.awk_statement_nodes.specs.support.Checked.{checked_statement};
 ghost use Rattle.awk_frames.specs.declared.frame.Frame.TheVariants as frame;
 ghost use Rattle.awk_frames.specs.support.FrameView.{frame_of, stack_of, next_of};
 
-use crate::items::{end_item, make_item};
-use crate::operands::{before_parenthesis, start_operand};
-use crate::taken::{begin_body, begin_statement};
 use awk_frames::frame::{BodyFrame, ExpressionFrame, Frame, Head};
 use awk_frames::stack::{pop, push};
 use awk_frames::state::{NextToken, ParserState, StatementState};
 use awk_grammar::tree::PrintForm;
 use awk_lex::token::{Keyword, Kind};
+use awk_productions::items::{end_item, make_item};
+use awk_productions::operands::{before_parenthesis, start_operand};
+use awk_productions::taken::{begin_body, begin_statement};
 use awk_statement_nodes::checked::{CheckedStatement, CheckedStatements};
 use awk_statement_nodes::simple::{break_statement, continue_statement, next as next_statement};
 use awk_statement_nodes::statements::{

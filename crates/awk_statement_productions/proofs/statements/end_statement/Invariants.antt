@@ -4,7 +4,7 @@ use Rattle.awk_grammar.specs.support.InfixRole.{is_else}
 use Rattle.awk_grammar.specs.support.Parser as parser
 use Rattle.awk_statement_nodes.specs.support.Checked.{checked_statement}
 use Rattle.awk_frames.specs.support.FrameView.{stack_of}
-use Rattle.awk_productions.proofs.statements.end_statement.Given as goal
+use Rattle.awk_statement_productions.proofs.statements.end_statement.Given as goal
 
 abbrev pub invariant-loop-body : goal.invariant-loop-body
 invariant-loop-body l =

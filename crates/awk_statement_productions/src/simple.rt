@@ -8,15 +8,15 @@ ghost use Rattle.awk_grammar.specs.support.Parser as parser;
 ghost use Rattle.awk_statement_nodes.specs.support.Checked.{checked_simple, checked_statement, checked_part, checked_optional_expr};
 ghost use Rattle.awk_frames.specs.support.FrameView.{list_of, body_frame_of, expression_frame_of, stack_of, next_of};
 
-use crate::operands::start_operand;
 use crate::statements::{end_simple_statement, start_part};
-use crate::taken::{begin, begin_body};
 use awk_frames::frame::{BodyFrame, ExpressionFrame, ForHead, Frame, ListHead};
 use awk_frames::operand::OperandList;
 use awk_frames::stack::{pop, push};
 use awk_frames::state::{NextToken, ParserState, StatementState};
 use awk_grammar::tree::{Expr, SimpleStatement};
 use awk_lex::token::Kind;
+use awk_productions::operands::start_operand;
+use awk_productions::taken::{begin, begin_body};
 use awk_statement_nodes::checked::{CheckedOptionalExpr, CheckedPart, CheckedSimple};
 use awk_statement_nodes::simple::{delete, part};
 use awk_statement_nodes::statements::simple;

@@ -1,7 +1,7 @@
 use Rattle.awk_frames.specs.support.FrameView.{expression_frame_of, stack_of}
 use Rattle.awk_statement_nodes.specs.support.Checked.{checked_simple}
-use Rattle.awk_productions.proofs.OtherTokens.{exit_has_value}
-use Rattle.awk_productions.proofs.simple.after_exit.Goals as goal
+use Rattle.awk_statement_productions.proofs.OtherTokens.{exit_has_value}
+use Rattle.awk_statement_productions.proofs.simple.after_exit.Goals as goal
 
 pub returns-in_ok-push-in_default : goal.returns-in_ok-push-in_default
 returns-in_ok-push-in_default c =

@@ -1,0 +1,2 @@
+pub mod OtherTokens
+pub mod DoBodies
