@@ -46,9 +46,9 @@ impl NodeFrame {
             NodeFrame::Binary(operator, _) => operator.greatest_right(),
             NodeFrame::Assign(..) => EXPR,
             NodeFrame::SecondChoice(..) => CONDITIONAL,
-            NodeFrame::PreIncrement(_) | NodeFrame::GetlinePlace(_) | NodeFrame::GetlineFile(_) => {
-                FIELD_REFERENCE
-            }
+            NodeFrame::PreIncrement(_) => FIELD_REFERENCE,
+            NodeFrame::GetlinePlace(_) => FIELD_REFERENCE,
+            NodeFrame::GetlineFile(_) => FIELD_REFERENCE,
         }
     }
 

@@ -252,9 +252,14 @@ BEGIN{print ⟨197 (⟩1⟨197 )⟩} → line 1: refusal S2: nested too deep
 #[test]
 fn texts_and_their_trees(rt: HostRuntime) -> Result<(), Fail> {
     let alloc = rt.alloc();
-    for table in [TREES, STATEMENTS, EXPRESSIONS, OPERATORS, STREAMS, CONTROL, REFUSED, ERES, HEIGHTS] {
+    for table in [TREES, STATEMENTS, EXPRESSIONS, OPERATORS, STREAMS, CONTROL, REFUSED, ERES] {
         expect_table(&rt, alloc, table, tree_of)?;
     }
     one_tree();
     Ok(())
+}
+
+#[test]
+fn heights_of_trees(rt: HostRuntime) -> Result<(), Fail> {
+    expect_table(&rt, rt.alloc(), HEIGHTS, tree_of)
 }

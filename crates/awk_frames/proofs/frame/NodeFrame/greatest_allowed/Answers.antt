@@ -6,3 +6,6 @@ returns-in-SecondChoice c = search rules
 
 pub returns-in-Unary : goal.returns-in-Unary
 returns-in-Unary c = search rules
+
+pub returns-in-GetlineFile : goal.returns-in-GetlineFile
+returns-in-GetlineFile c = search rules
