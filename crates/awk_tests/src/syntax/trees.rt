@@ -7,6 +7,7 @@ use crate::tables::add_bytes;
 use awk_grammar::tree::{
     Expr, Item, Output, Pattern, PrintForm, PrintList, Redirection, SimpleStatement, Statement, Tree,
 };
+use awk_value::Bytes;
 use expressions::{add_expr, add_list};
 use std::alloc::{AllocError, Global};
 
@@ -92,18 +93,34 @@ fn add_part(part: &Option<SimpleStatement>, text: &mut String) -> Result<(), All
     }
 }
 
-// A word, a condition and a statement, without the closing parenthesis.
-#[cycle(statements)]
-fn add_guarded(
-    word: &str,
-    condition: &Expr,
-    statement: &Statement,
-    text: &mut String,
-) -> Result<(), AllocError> {
+// A word and a condition, before a statement.
+fn add_condition(word: &str, condition: &Expr, text: &mut String) -> Result<(), AllocError> {
     text.push_str(word)?;
     add_expr(condition, text)?;
+    text.push(' ')
+}
+
+// The names of a loop over an array, before its body.
+fn add_names(name: &Bytes, array: &Bytes, text: &mut String) -> Result<(), AllocError> {
+    text.push_str("(for-in ")?;
+    add_bytes(text, name.as_slice())?;
     text.push(' ')?;
-    add_statement(statement, text)
+    add_bytes(text, array.as_slice())?;
+    text.push(' ')
+}
+
+// The parts of a loop, before its body.
+fn add_parts(
+    first: &Option<SimpleStatement>,
+    condition: &Option<Expr>,
+    last: &Option<SimpleStatement>,
+    text: &mut String,
+) -> Result<(), AllocError> {
+    text.push_str("(for")?;
+    add_part(first, text)?;
+    add_optional(condition, text)?;
+    add_part(last, text)?;
+    text.push(' ')
 }
 
 #[cycle(statements)]
@@ -115,13 +132,20 @@ fn add_statement(statement: &Statement, text: &mut String) -> Result<(), AllocEr
             text.push_str("(block")?;
             return add_statements(all, text);
         }
-        Statement::If(condition, then) => add_guarded("(if ", condition, then, text)?,
+        Statement::If(condition, then) => {
+            add_condition("(if ", condition, text)?;
+            add_statement(then, text)?;
+        }
         Statement::IfElse(condition, then, other) => {
-            add_guarded("(if ", condition, then, text)?;
+            add_condition("(if ", condition, text)?;
+            add_statement(then, text)?;
             text.push(' ')?;
             add_statement(other, text)?;
         }
-        Statement::While(condition, body) => add_guarded("(while ", condition, body, text)?,
+        Statement::While(condition, body) => {
+            add_condition("(while ", condition, text)?;
+            add_statement(body, text)?;
+        }
         Statement::Do(body, condition) => {
             text.push_str("(do ")?;
             add_statement(body, text)?;
@@ -129,19 +153,11 @@ fn add_statement(statement: &Statement, text: &mut String) -> Result<(), AllocEr
             add_expr(condition, text)?;
         }
         Statement::ForIn(name, array, body) => {
-            text.push_str("(for-in ")?;
-            add_bytes(text, name.as_slice())?;
-            text.push(' ')?;
-            add_bytes(text, array.as_slice())?;
-            text.push(' ')?;
+            add_names(name, array, text)?;
             add_statement(body, text)?;
         }
         Statement::For(first, condition, last, body) => {
-            text.push_str("(for")?;
-            add_part(first, text)?;
-            add_optional(condition, text)?;
-            add_part(last, text)?;
-            text.push(' ')?;
+            add_parts(first, condition, last, text)?;
             add_statement(body, text)?;
         }
     }
