@@ -4,10 +4,10 @@
 mod trees;
 
 use crate::tables::{bytes_of, expect_table};
+use awk_grammar::tree::Tree;
 use awk_lex::lexer::tokens;
 use awk_lex::refusal::Refusal;
 use awk_syntax::parse::{one_tree, parse};
-use awk_grammar::tree::Tree;
 use std::alloc::Global;
 use std::test::Fail;
 use trees::tree_text;
@@ -252,7 +252,16 @@ BEGIN{print ⟨197 (⟩1⟨197 )⟩} → line 1: refusal S2: nested too deep
 #[test]
 fn texts_and_their_trees(rt: HostRuntime) -> Result<(), Fail> {
     let alloc = rt.alloc();
-    for table in [TREES, STATEMENTS, EXPRESSIONS, OPERATORS, STREAMS, CONTROL, REFUSED, ERES] {
+    for table in [
+        TREES,
+        STATEMENTS,
+        EXPRESSIONS,
+        OPERATORS,
+        STREAMS,
+        CONTROL,
+        REFUSED,
+        ERES,
+    ] {
         expect_table(&rt, alloc, table, tree_of)?;
     }
     one_tree();

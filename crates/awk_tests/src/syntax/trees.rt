@@ -5,7 +5,8 @@ mod expressions;
 
 use crate::tables::add_bytes;
 use awk_grammar::tree::{
-    Expr, Item, Output, Pattern, PrintForm, PrintList, Redirection, SimpleStatement, Statement, Tree,
+    Expr, Item, Output, Pattern, PrintForm, PrintList, Redirection, SimpleStatement, Statement,
+    Tree,
 };
 use awk_value::Bytes;
 use expressions::{add_expr, add_list};
