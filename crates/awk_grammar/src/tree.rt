@@ -102,22 +102,22 @@ pub enum PrintList {
 pub enum Output {
     Standard,
     /// To what the expression names.
-    Redirected(Redirection, Expr),
+    Redirected(Redirection, Box<Expr>),
 }
 
 /// A simple statement, except `do`.
 #[derive(Drop)]
 pub enum SimpleStatement {
     /// An expression, whose value is of no use.
-    Expression(Expr),
+    Expression(Box<Expr>),
     Print(PrintForm, PrintList, Output),
     /// `delete name[list]`.
     Delete(Bytes, Vec<Expr>),
     Next,
     Break,
     Continue,
-    Exit(Option<Expr>),
-    Return(Option<Expr>),
+    Exit(Option<Box<Expr>>),
+    Return(Option<Box<Expr>>),
 }
 
 /// A statement.
@@ -128,22 +128,22 @@ pub enum Statement {
     Simple(SimpleStatement),
     /// A block in braces.
     Block(Vec<Statement>),
-    If(Expr, Box<Statement>),
-    IfElse(Expr, Box<Statement>, Box<Statement>),
-    While(Expr, Box<Statement>),
-    Do(Box<Statement>, Expr),
+    If(Box<Expr>, Box<Statement>),
+    IfElse(Box<Expr>, Box<Statement>, Box<Statement>),
+    While(Box<Expr>, Box<Statement>),
+    Do(Box<Statement>, Box<Expr>),
     /// `for (name in array)`: the name, the array and the body.
     ForIn(Bytes, Bytes, Box<Statement>),
     /// `for (part; expr; part)`: the parts are expressions, prints or deletions.
-    For(Option<SimpleStatement>, Option<Expr>, Option<SimpleStatement>, Box<Statement>),
+    For(Option<SimpleStatement>, Option<Box<Expr>>, Option<SimpleStatement>, Box<Statement>),
 }
 
 /// What tells for which records an action is (POSIX awk, normal_pattern).
 #[derive(Drop)]
 pub enum Pattern {
-    Single(Expr),
+    Single(Box<Expr>),
     /// The records from one on which the first is true up to one on which the second is.
-    Range(Expr, Expr),
+    Range(Box<Expr>, Box<Expr>),
 }
 
 /// An item of a program (POSIX awk, item).

@@ -49,7 +49,7 @@ impl CheckedPart {
 /// The condition of a `for`, or the value of an `exit` or `return`, which may be left out.
 #[derive(Drop)]
 pub struct CheckedOptionalExpr {
-    pub expr: Option<Expr>,
+    pub expr: Option<Box<Expr>>,
     pub height: u32,
     ghost counted: { height ≡ optional_height (optional_expr_of expr) },
     ghost low: { height ≤ max_height },
@@ -60,10 +60,8 @@ impl CheckedOptionalExpr {
     pub fn absent() -> CheckedOptionalExpr
         ensures { result.expr ≡ None }
     {
-        CheckedOptionalExpr {
-            expr: None,
-            height: 0,
-        }
+        let height = 0;
+        CheckedOptionalExpr { expr: None, height }
     }
 }
 

@@ -32,7 +32,7 @@ pub fn single(expr: Option<CheckedExpr>) -> Option<CheckedPattern>
 {
     let expr = expr?;
     let height = expr.height;
-    let pattern = Pattern::Single(Box::into_inner(expr.expr));
+    let pattern = Pattern::Single(expr.expr);
     Some(CheckedPattern { pattern, height })
 }
 
@@ -49,7 +49,7 @@ pub fn range(from: Option<CheckedExpr>, to: Option<CheckedExpr>) -> Option<Check
         return None;
     };
     let height = from.height.max(to.height);
-    let pattern = Pattern::Range(Box::into_inner(from.expr), Box::into_inner(to.expr));
+    let pattern = Pattern::Range(from.expr, to.expr);
     Some(CheckedPattern { pattern, height })
 }
 

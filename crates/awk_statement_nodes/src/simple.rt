@@ -52,10 +52,7 @@ pub fn expression(expr: Option<CheckedExpr>) -> Option<CheckedSimple>
 {
     let expr = expr?;
     let height = expr.height + 1;
-    node(
-        SimpleStatement::Expression(Box::into_inner(expr.expr)),
-        height,
-    )
+    node(SimpleStatement::Expression(expr.expr), height)
 }
 
 /// A print to standard output.
@@ -89,7 +86,7 @@ pub fn print_to(
         return None;
     };
     let height = list.height.max(target.height) + 1;
-    let output = Output::Redirected(redirection, Box::into_inner(target.expr));
+    let output = Output::Redirected(redirection, target.expr);
     node(SimpleStatement::Print(form, list.list, output), height)
 }
 
@@ -156,7 +153,7 @@ pub fn present(expr: Option<CheckedExpr>) -> Option<CheckedOptionalExpr>
 {
     let expr = expr?;
     let height = expr.height;
-    let expr = Some(Box::into_inner(expr.expr));
+    let expr = Some(expr.expr);
     Some(CheckedOptionalExpr { expr, height })
 }
 

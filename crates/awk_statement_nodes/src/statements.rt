@@ -85,11 +85,7 @@ pub fn if_statement(
         return Ok(None);
     };
     let height = condition.height.max(body.height) + 1;
-    node(
-        alloc,
-        Statement::If(Box::into_inner(condition.expr), body.statement),
-        height,
-    )
+    node(alloc, Statement::If(condition.expr, body.statement), height)
 }
 
 /// `if` with `else`
@@ -119,11 +115,7 @@ pub fn if_else(
     let height = condition.height.max(body.height.max(other.height)) + 1;
     node(
         alloc,
-        Statement::IfElse(
-            Box::into_inner(condition.expr),
-            body.statement,
-            other.statement,
-        ),
+        Statement::IfElse(condition.expr, body.statement, other.statement),
         height,
     )
 }
@@ -147,7 +139,7 @@ pub fn while_loop(
     let height = condition.height.max(body.height) + 1;
     node(
         alloc,
-        Statement::While(Box::into_inner(condition.expr), body.statement),
+        Statement::While(condition.expr, body.statement),
         height,
     )
 }
@@ -169,11 +161,7 @@ pub fn do_loop(
         return Ok(None);
     };
     let height = body.height.max(condition.height) + 1;
-    node(
-        alloc,
-        Statement::Do(body.statement, Box::into_inner(condition.expr)),
-        height,
-    )
+    node(alloc, Statement::Do(body.statement, condition.expr), height)
 }
 
 /// `for (name in array)`

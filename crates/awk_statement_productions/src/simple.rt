@@ -76,7 +76,7 @@ fn start_for_in(
     };
     let simple = statement.simple;
     match simple {
-        SimpleStatement::Expression(expr) => start_for_in_expr(alloc, expr, stack),
+        SimpleStatement::Expression(expr) => start_for_in_expr(alloc, Box::into_inner(expr), stack),
         rest => {
             drop(rest);
             Ok(None)

@@ -1,5 +1,6 @@
 -- The tree that the code keeps, as a tree of the definitions.
 use Rattle.std.specs.Prelude.{List, [], ◌∷◌, Option, Some, None}
+use Rattle.std.specs.Global.{Box}
 use Rattle.awk_grammar.specs.definitions.Tree as t
 use Rattle.awk_grammar.specs.declared.tree.Expr.{Expr, Row_of-Expr, end_of-Expr, more_of-Expr, Held-Expr-Getline-0}
 use Rattle.awk_grammar.specs.declared.tree.Expr.TheVariants as e
@@ -53,9 +54,9 @@ abbrev pub exprs_of : List Expr → t.Exprs
 exprs_of [] = t.Nil
 exprs_of (a ∷ all) = t.Cons (expr_of a) (exprs_of all)
 
-abbrev pub optional_expr_of : Option Expr → t.OptionalExpr
+abbrev pub optional_expr_of : Option (Box Expr) → t.OptionalExpr
 optional_expr_of None = t.NoExpr
-optional_expr_of (Some a) = t.AnExpr (expr_of a)
+optional_expr_of (Some a) = t.AnExpr (expr_of a.value)
 
 abbrev pub print_list_of : PrintList → t.PrintList
 print_list_of (list.Bare xs) = t.Bare (exprs_of xs.items)
@@ -63,10 +64,10 @@ print_list_of (list.Parenthesized xs) = t.Parenthesized (exprs_of xs.items)
 
 abbrev pub output_of : Output → t.Output
 output_of output.Standard = t.Standard
-output_of (output.Redirected way a) = t.Redirected way (expr_of a)
+output_of (output.Redirected way a) = t.Redirected way (expr_of a.value)
 
 abbrev pub simple_of : SimpleStatement → t.SimpleStatement
-simple_of (simple.Expression a) = t.Expression (expr_of a)
+simple_of (simple.Expression a) = t.Expression (expr_of a.value)
 simple_of (simple.Print form xs o) = t.Print form (print_list_of xs) (output_of o)
 simple_of (simple.Delete x xs) = t.Delete x (exprs_of xs.items)
 simple_of simple.Next = t.Next
@@ -84,10 +85,10 @@ abbrev mutual
   statement_of s.Empty = t.Empty
   statement_of (s.Simple m) = t.Simple (simple_of m)
   statement_of (s.Block' n all) = t.Block (statements_of_row all)
-  statement_of (s.If' c p x) = t.If (expr_of c) (statement_of x)
-  statement_of (s.IfElse' c p x q y) = t.IfElse (expr_of c) (statement_of x) (statement_of y)
-  statement_of (s.While' c p x) = t.While (expr_of c) (statement_of x)
-  statement_of (s.Do' p x c) = t.Do (statement_of x) (expr_of c)
+  statement_of (s.If' c p x) = t.If (expr_of c.value) (statement_of x)
+  statement_of (s.IfElse' c p x q y) = t.IfElse (expr_of c.value) (statement_of x) (statement_of y)
+  statement_of (s.While' c p x) = t.While (expr_of c.value) (statement_of x)
+  statement_of (s.Do' p x c) = t.Do (statement_of x) (expr_of c.value)
   statement_of (s.ForIn' x a p y) = t.ForIn x a (statement_of y)
   statement_of (s.For' first c last p x) = t.For (optional_simple_of first) (optional_expr_of c) (optional_simple_of last) (statement_of x)
 
@@ -100,8 +101,8 @@ statements_of [] = t.NoMore
 statements_of (x ∷ all) = t.Then (statement_of x) (statements_of all)
 
 abbrev pub pattern_of : Pattern → t.Pattern
-pattern_of (pattern.Single a) = t.Single (expr_of a)
-pattern_of (pattern.Range a b) = t.Range (expr_of a) (expr_of b)
+pattern_of (pattern.Single a) = t.Single (expr_of a.value)
+pattern_of (pattern.Range a b) = t.Range (expr_of a.value) (expr_of b.value)
 
 abbrev pub item_of : Item → t.Item
 item_of (item.Begin block) = t.Begin (statements_of block.items)
