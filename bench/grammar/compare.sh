@@ -1,0 +1,54 @@
+#!/bin/sh
+# Which random programs this awk reads, and which other awks do: a line for each kind of answer and how many programs had
+# it, `+` where an awk read the program, `-` where it refused it, in the order of the columns. No program is run: the
+# others get options or a head that keep them from it, and this awk an input without records.
+#
+#   bench/grammar/compare.sh [COUNT [SEED [FOLDER]]]
+#
+# The programs and the answers are left in FOLDER, if one is given: `answers` has a line for each program.
+set -eu
+
+count=${1:-2000} seed=${2:-7}
+root=$(CDPATH='' cd "$(dirname "$0")/../.." && pwd -P)
+if [ $# -gt 2 ]; then
+    work=$3
+    mkdir -p "$work"
+else
+    work=$(mktemp -d)
+    trap 'rm -rf "$work"' EXIT
+fi
+
+"$root/awk" '' </dev/null
+mkdir -p "$work/programs"
+"$root/bench/grammar/programs.py" "$work/programs" "$count" "$seed"
+
+# `+` where the command ends well.
+sign() {
+    if timeout 5 "$@" </dev/null >/dev/null 2>&1; then printf +; else printf -; fi
+}
+
+# This awk's refusals that say that the text is no program.
+this() {
+    case $(timeout 5 "$root/out/awk" -f "$1" </dev/null 2>&1 >/dev/null | tail -n 1) in
+    *'refusal S'[12]* | *'refusal L'* | *'refusal P'*) printf - ;;
+    *) printf + ;;
+    esac
+}
+
+# original-awk has no option for it: it leaves in an action before all others.
+led() {
+    { echo 'BEGIN { exit }' && cat "$1"; } >"$work/led"
+    sign original-awk -f "$work/led"
+}
+
+for program in "$work"/programs/*.awk; do
+    this "$program"
+    sign mawk -W dump -f "$program"
+    sign gawk -o/dev/null -f "$program"
+    sign gawk --posix -o/dev/null -f "$program"
+    led "$program"
+    echo " ${program##*/}"
+done >"$work/answers"
+
+echo 'this, mawk, gawk, gawk --posix, original-awk'
+cut -d ' ' -f 1 "$work/answers" | sort | uniq -c | sort -rn
