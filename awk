@@ -37,11 +37,11 @@ fail() {
 }
 
 # Whether something that the program is made of is newer than it. A folder is newer where a file of
-# it was taken away. The crate of the tests is no part of the program.
+# it was taken away. The crates of the tests are no part of the program.
 is_stale() {
     [ ! -x "$program" ] || [ -n "$(find "$root/crates.txt" "$root/HANDLES" \
         "$root"/crates/*/src "$root"/crates/*/specs "$root"/crates/*/proofs \
-        -path '*/crates/awk_tests/*' -prune -o -newer "$program" -print 2>/dev/null)" ]
+        -path '*/crates/awk_*tests/*' -prune -o -newer "$program" -print 2>/dev/null)" ]
 }
 
 # Whether a process goes on. A signal may not be sent to another user's.

@@ -8,8 +8,6 @@ mod field;
 mod part;
 mod prepared;
 mod read;
-#[cfg(test)]
-mod tests;
 mod whole;
 mod write;
 

@@ -35,6 +35,3 @@ pub fn line_law()
         All (λ b. b ≢ c) bytes → length bytes ≤ longest →
         cut_of (c ∷ []) bytes AtBreak ≡ BrokenOff }
 {}
-
-#[cfg(test)]
-mod tests;

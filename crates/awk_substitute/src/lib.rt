@@ -7,8 +7,6 @@ mod matching;
 mod replacement;
 mod replacing;
 mod substitution;
-#[cfg(test)]
-mod tests;
 
 pub use laws::one_replaced;
 pub use matching::match_at;

@@ -8,6 +8,3 @@ mod text_keys;
 mod walk;
 
 pub use crate::table::Table;
-
-#[cfg(test)]
-mod tests;

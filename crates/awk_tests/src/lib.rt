@@ -8,6 +8,8 @@ mod ere;
 #[cfg(test)]
 mod lex;
 #[cfg(test)]
+mod parser;
+#[cfg(test)]
 mod programs;
 #[cfg(test)]
 mod rows;

@@ -137,6 +137,24 @@ split(x, a) sub(/b/, "c", $2) → (pattern (cat (split x a) (sub /b/0 "c" ($ 2))
 1 " " -1 → (pattern (cat 1 (- " " 1)))
 1 !x → (pattern (cat 1 (! x)))
 /a/ ~ /b/ → (pattern (~ /a/0 /b/1))
+-2^2 → (pattern (- (^ 2 2)))
+1 - 2 - 3 → (pattern (- (- 1 2) 3))
+$x++ → (pattern (_++ ($ x)))
+$$x^2 → (pattern (^ ($ ($ x)) 2))
+$++x++ → (pattern (_++ ($ (++_ x))))
+a = b += x → (pattern (= a (+= b x)))
+x ? y : z ? a : b → (pattern (?: x y (?: z a b)))
+x ? y ? a : b : z → (pattern (?: x (?: y a b) z))
+(a,␊b) in x → (pattern (list-in x a b))
+1 &&␊(a,b) in x → (pattern (&& 1 (list-in x a b)))
+length x → (pattern (cat length x))
+length(x) → (pattern (length x))
+length() → (pattern (length))
+$length → (pattern ($ length))
+x ~ /a/ → (pattern (~ x /a/0))
+c() → (pattern (call c))
+c(a[1, 2] > 1, x) → (pattern (call c (> ([] a 1 2) 1) x))
+sub(/a/, "b", x) → (pattern (sub /a/0 "b" x))
 "#;
 
 // `getline`, outputs and lists of a print.
@@ -161,6 +179,24 @@ const STREAMS: &str = r#"
 { print (a > b), c } → (action (print (group (> a b)) c))
 { printf "x" } → (action (printf "x"))
 { printf("%d\n", x) > "f" } → (action (printf (list "%d␊" x) (to "f")))
+"c" | getline x < 1 → (pattern (< (piped "c" x) 1))
+"c" | getline | getline x → (pattern (piped (piped "c" -) x))
+x = "c" | getline → (pattern (= x (piped "c" -)))
+getline < "a" "b" → (pattern (cat (getline - "a") "b"))
+getline x < y < 1 → (pattern (< (getline x y) 1))
+getline $x < y → (pattern (getline ($ x) y))
+getline a[1] < y → (pattern (getline ([] a 1) y))
+-getline < y → (pattern (- (getline - y)))
+y getline < x → (pattern (cat y (getline - x)))
+getline x ++y → (pattern (cat (getline x -) (++_ y)))
+getline < x ++y → (pattern (cat (getline - x) (++_ y)))
+{ print 1, 2 > "f" } → (action (print 1 2 (to "f")))
+{ print (1 > 2) ? 1 : 2 } → (action (print (?: (group (> 1 2)) 1 2)))
+{ print -1 | "c" } → (action (print (- 1) (into "c")))
+{ print "c" | getline } → (action (print (piped "c" -)))
+{ print a && b | "c" } → (action (print (&& a b) (into "c")))
+{ print 1 >> $x } → (action (print 1 (behind ($ x))))
+{ print a[1 > 2] > "f" } → (action (print ([] a (> 1 2)) (to "f")))
 "#;
 
 // Statements and items of every kind.
@@ -187,6 +223,16 @@ x == 1,␊y { print } → (rule (range (== x 1) y) (print))
 function f(a, b) { return a + b } → (function f (a b) (return (+ a b)))
 function f(a,␊b)␊{ return } → (function f (a b) (return -))
 function f () { f() } → (function f () (call f))
+{ for (x in a) ; } → (action (for-in x a (empty)))
+{ for (x in a;;)␊; } → (action (for (in x a) - - (empty)))
+{ for (x = 1; x < 2; x++) print x } → (action (for (= x 1) (< x 2) (_++ x) (print x)))
+{ for (print > "f";; delete a[1]) ; } → (action (for (print (to "f")) - (delete a 1) (empty)))
+{ if (1 &&␊1) print 1␊else print 2 } → (action (if (&& 1 1) (print 1) (print 2)))
+{ do x++; while (x < 2) } → (action (do (_++ x) (< x 2)))
+{ exit -1 } → (action (exit (- 1)))
+{ next ; ;␊break } → (action next (empty) break)
+;BEGIN {␊} x,␊y {} function c(a, b)␊{ return } /a/ → (BEGIN) (rule (range x y)) (function c (a b) (return -)) (pattern /a/0)
+function c() {} → (function c ())
 "#;
 
 // What no tree spells.
@@ -208,6 +254,33 @@ END → line 1: refusal S1: not a program
 function f(a) → line 1: refusal S1: not a program
 { printf > "f" } → line 1: refusal S1: not a program
 { getline x + 1 = 2 } → line 1: refusal S1: not a program
+a && b = 1 → line 1: refusal S1: not a program
+x ++ 1 = 2 → line 1: refusal S1: not a program
+sub(1, 2, 3) → line 1: refusal S1: not a program
+length(1, 2) → line 1: refusal S1: not a program
+int() → line 1: refusal S1: not a program
+f(1,) → line 1: refusal S1: not a program
+f(,1) → line 1: refusal S1: not a program
+(1,2) → line 1: refusal S1: not a program
+(1,2) + 1 → line 1: refusal S1: not a program
+1 + x in → line 1: refusal S1: not a program
+a[] → line 1: refusal S1: not a program
+x[1][2] → line 1: refusal S1: not a program
+++1 → line 1: refusal S1: not a program
+++++x → line 1: refusal S1: not a program
+x++++ → line 1: refusal S1: not a program
+getline++ → line 1: refusal S1: not a program
+getline x++ → line 1: refusal S1: not a program
+getline < -1 → line 1: refusal S1: not a program
+1 ? 2 → line 1: refusal S1: not a program
+1 ? x = 2 : 3 → line 1: refusal S1: not a program
+$x = → line 1: refusal S1: not a program
+1 | 2 → line 1: refusal S1: not a program
+(␊1) → line 1: refusal S1: not a program
+{ print 1 > 2 ? 1 : 2 } → line 1: refusal S1: not a program
+{ print 1 > 2, 3 } → line 1: refusal S1: not a program
+{ printf } → line 1: refusal S1: not a program
+{ if (1) ;; else ; } → line 1: refusal S1: not a program
 "#;
 
 const ERES: &str = r#"

@@ -9,8 +9,6 @@ mod functions;
 mod separator;
 mod span;
 mod split;
-#[cfg(test)]
-mod tests;
 
 pub use fault::TextFault;
 pub use functions::{index, lower, substr, upper};

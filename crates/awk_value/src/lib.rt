@@ -21,6 +21,3 @@ pub use crate::convert::{
 pub use crate::fault::ValueFault;
 pub use crate::order::compare;
 pub use crate::value::Value;
-
-#[cfg(test)]
-mod tests;

@@ -13,7 +13,7 @@ use expressions::{add_expr, add_list};
 use std::alloc::{AllocError, Global};
 
 // An expression behind a blank, or what stands for none.
-fn add_optional(expr: &Option<Expr>, text: &mut String) -> Result<(), AllocError> {
+fn add_optional(expr: &Option<Box<Expr>>, text: &mut String) -> Result<(), AllocError> {
     match expr {
         Some(expr) => {
             text.push(' ')?;
@@ -113,7 +113,7 @@ fn add_names(name: &Bytes, array: &Bytes, text: &mut String) -> Result<(), Alloc
 // The parts of a loop, before its body.
 fn add_parts(
     first: &Option<SimpleStatement>,
-    condition: &Option<Expr>,
+    condition: &Option<Box<Expr>>,
     last: &Option<SimpleStatement>,
     text: &mut String,
 ) -> Result<(), AllocError> {

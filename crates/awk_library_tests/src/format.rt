@@ -1,6 +1,6 @@
 // Formats and their texts by hand, from the rules of the language.
 
-use crate::{Format, FormatFault, format, format_into};
+use awk_format::{Format, FormatFault, format, format_into};
 use awk_value::{Bytes, Value};
 use std::alloc::{AllocError, Global};
 use std::test::Fail;

@@ -1,6 +1,6 @@
 // Texts, and the fields that separators leave, by hand from the rules of the language.
 
-use crate::{Separator, TextFault, index, lower, split_text, substr, upper};
+use awk_text::{Separator, TextFault, index, lower, split_text, substr, upper};
 use std::alloc::Global;
 use std::borrow::CowSlice;
 use std::test::Fail;

@@ -1,6 +1,6 @@
 // Lists of calls by hand, many rotations, and random lists of calls beside a plain list.
 
-use super::*;
+use awk_table::Table;
 use awk_value::{Bytes, Value, ValueFault, append_text};
 use std::alloc::Global;
 use std::test::Fail;

@@ -1,6 +1,10 @@
 // Values and results by hand, from the rules of the language.
 
-use super::*;
+use awk_value::{
+    Bytes, Value, ValueFault, add, append_text, compare, concatenate, concatenate_in_place, divide,
+    is_true, minus, multiply, neg, negate, number_of, plus, pow, power, rem, remainder, sub,
+    text_of, to_number,
+};
 use std::alloc::{AllocError, Global};
 use std::cmp::Ordering;
 use std::cmp::Ordering::{Equal, Greater, Less};

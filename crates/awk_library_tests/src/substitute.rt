@@ -1,7 +1,7 @@
 // Replaced texts, by hand from the rules of the language.
 
-use crate::{match_at, substitute, substitute_into};
 use awk_ere::{Pattern, PatternFault, Scratch};
+use awk_substitute::{match_at, substitute, substitute_into};
 use std::alloc::Global;
 use std::test::Fail;
 

@@ -1,6 +1,6 @@
 // Records and fields by hand, from the rules of the language.
 
-use super::*;
+use awk_record::{BufferFault, Record, RecordBuffer, RecordFault, Step};
 use awk_text::Separator;
 use awk_value::{Bytes, Value};
 use std::alloc::{AllocError, Global};
