@@ -1,16 +1,18 @@
 -- Expressions and statements, by what their parts do.
-use Rattle.std.proofs.Common.{◌≡◌, ℕ, ◌≤◌, ◌<◌, ◌+◌, suc, true, false, List, [], ◌∷◌, ◌++◌, ℤ, Result, Ok, Err, ◌==◌, length, drop, get_or, add-one, drop-cons, refl, arith, ap}
+use Rattle.std.proofs.Common.{◌≡◌, ℕ, ◌≤◌, ◌<◌, ◌+◌, suc, Bool, true, false, List, [], ◌∷◌, ◌++◌, ℤ, Result, Ok, Err, ◌==◌, length, drop, get_or, add-one, drop-cons, refl, arith, ap}
 use Rattle.std.proofs.lemmas.List.{drop_all}
 use Rattle.std.proofs.lemmas.Bool.Decides.{nat_tests}
 use Rattle.awk_value.specs.declared.value.Value.{Value}
 use Rattle.awk_value.specs.declared.value.Value.TheVariants as value
+use Rattle.awk_value.specs.Values.{truth_of}
+use Rattle.awk_lex.specs.declared.token.IncrementOperator.{IncrementOperator}
 use Rattle.awk_tree.specs.declared.tree.UnaryOperator.{UnaryOperator}
 use Rattle.awk_tree.specs.declared.tree.BinaryOperator.{BinaryOperator}
 use Rattle.awk_tree.specs.declared.tree.BinaryOperator.TheVariants.{Matches as MatchOperator}
 use Rattle.awk_meaning.specs.State.{Run, lift}
 use Rattle.awk_tree.specs.declared.tree.Expr.{Expr as Code}
 use Rattle.awk_tree.specs.declared.tree.Statement.{Statement as CodeStatement, Row_of-Statement, end_of-Statement, more_of-Statement, items-the_row-Statement}
-use Rattle.awk_tree.specs.Tree.{Expr, Number, String, Ere, Name, Group, Field, Unary, Binary, Assign, Exprs, Nil, Cons, Statement, Block, Expression, Print, Statements, NoMore, Then}
+use Rattle.awk_tree.specs.Tree.{Expr, Number, String, Ere, Name, Group, Field, Unary, Binary, And, Or, Conditional, Assign, AssignBy, PreIncrement, PostIncrement, Exprs, Nil, Cons, Statement, Empty, Block, Expression, Print, If, IfElse, Statements, NoMore, Then}
 use Rattle.awk_tree.specs.View.{expr_of, exprs_of, statement_of, statements_of, statements_of_row}
 use Rattle.awk_interpreter.specs.declared.interpreter.Interpreter.{Interpreter}
 use Rattle.awk_meaning.specs.declared.flow.Flow.{Flow}
@@ -18,13 +20,13 @@ use Rattle.awk_meaning.specs.declared.flow.Flow.TheVariants as flow
 use Rattle.awk_meaning.specs.declared.halt.Halt.{Halt}
 use Rattle.awk_meaning.specs.declared.halt.Halt.TheVariants as halt
 use Rattle.awk_meaning.specs.declared.fault.Fault.TheVariants.{OutOfMemory}
-use Rattle.awk_meaning.specs.Operators.{applied, changed}
-use Rattle.awk_meaning.specs.Primitives.{read_name, put, field_at, record_text, print_line}
+use Rattle.awk_meaning.specs.Operators.{truth_value, applied, changed, by_one, one}
+use Rattle.awk_meaning.specs.Primitives.{read_name, field_at, record_text, print_line}
 use Rattle.awk_meaning.specs.Operators.{takes_pattern}
-use Rattle.awk_meaning.specs.Semantics.{right_operand, eval, eval_all, printed_values, print, pass_on, exec, exec_all, run_action}
+use Rattle.awk_meaning.specs.Semantics.{right_operand, tested, store, store_by, post_increment, eval, eval_all, printed_values, print, begin_test, pass_on, exec, exec_all, run_action}
 use Rattle.awk_streams.specs.WorldState.{WorldState}
 use Rattle.awk_interpreter.specs.Simulation.{Changes, Spends, Follows}
-use Rattle.awk_evaluator.specs.support.Evaluation.{Evaluates, AppliesToRight, EvaluatesAll, Lists, Executes, ExecutesAll}
+use Rattle.awk_evaluator.specs.support.Evaluation.{Evaluates, AppliesToRight, Tests, AndThen, OrElse, BeginsTest, EvaluatesAll, Lists, Executes, ExecutesAll}
 use Rattle.awk_meaning.specs.Results.{Yields}
 use Rattle.awk_interpreter.proofs.Composition.{then_changes, ends_changes, then_simulates, ends_simulates, lift_simulates, memory_simulates, change_simulates}
 
@@ -72,13 +74,81 @@ pub assign_ends : {is_logged : Type 0} {x : List ℕ} {e : Expr} {old new : Inte
 unfolding eval
 assign_ends p = record { simulates = ends_simulates _ p.simulates }
 
-pub assign_not_put : {is_logged : Type 0} {x : List ℕ} {e : Expr} {old mid new : Interpreter} {k k1 : WorldState} {v : Value} {h : Halt} → Evaluates is_logged e old k mid k1 (Ok v) → Changes (put x v) mid new (Err h) → Evaluates is_logged (Assign x e) old k new k1 (Err h)
+pub assign_gives : {is_logged : Type 0} {x : List ℕ} {e : Expr} {old mid new : Interpreter} {k k1 : WorldState} {v : Value} {r : Result Value Halt} → Evaluates is_logged e old k mid k1 (Ok v) → Changes (store x v) mid new r → Evaluates is_logged (Assign x e) old k new k1 r
 unfolding eval
-assign_not_put p q = record { simulates = then_simulates _ p.simulates (ends_simulates _ (change_simulates q)) }
+assign_gives p q = record { simulates = then_simulates _ p.simulates (change_simulates q) }
 
-pub assign_gives : {is_logged : Type 0} {x : List ℕ} {e : Expr} {old mid later new : Interpreter} {k k1 : WorldState} {v : Value} {r : Result Value Halt} → Evaluates is_logged e old k mid k1 (Ok v) → Changes (put x v) mid later (Ok tt) → Changes (read_name x) later new r → Evaluates is_logged (Assign x e) old k new k1 r
+pub assign_by_ends : {is_logged : Type 0} {o : BinaryOperator} {x : List ℕ} {e : Expr} {old new : Interpreter} {k k1 : WorldState} {h : Halt} → Evaluates is_logged e old k new k1 (Err h) → Evaluates is_logged (AssignBy o x e) old k new k1 (Err h)
 unfolding eval
-assign_gives p q r = record { simulates = then_simulates _ p.simulates (then_simulates _ (change_simulates q) (change_simulates r)) }
+assign_by_ends p = record { simulates = ends_simulates _ p.simulates }
+
+pub assign_by_gives : {is_logged : Type 0} {o : BinaryOperator} {x : List ℕ} {e : Expr} {old mid new : Interpreter} {k k1 : WorldState} {v : Value} {r : Result Value Halt} → Evaluates is_logged e old k mid k1 (Ok v) → Changes (store_by o x v) mid new r → Evaluates is_logged (AssignBy o x e) old k new k1 r
+unfolding eval
+assign_by_gives p q = record { simulates = then_simulates _ p.simulates (change_simulates q) }
+
+pub pre_increment_evaluates : {is_logged : Type 0} {o : IncrementOperator} {x : List ℕ} {old new : Interpreter} {k : WorldState} {r : Result Value Halt} → Changes (store_by (by_one o) x one) old new r → Evaluates is_logged (PreIncrement o x) old k new k r
+unfolding eval
+pre_increment_evaluates p = record { simulates = change_simulates p }
+
+pub post_increment_evaluates : {is_logged : Type 0} {o : IncrementOperator} {x : List ℕ} {old new : Interpreter} {k : WorldState} {r : Result Value Halt} → Changes (post_increment o x) old new r → Evaluates is_logged (PostIncrement o x) old k new k r
+unfolding eval
+post_increment_evaluates p = record { simulates = change_simulates p }
+
+-- tests
+
+pub test_ends : {is_logged : Type 0} {e : Expr} {old new : Interpreter} {k k1 : WorldState} {h : Halt} → Evaluates is_logged e old k new k1 (Err h) → Tests is_logged e old k new k1 (Err h)
+unfolding tested
+test_ends p = record { simulates = ends_simulates _ p.simulates }
+
+pub test_gives : {is_logged : Type 0} {e : Expr} {old new : Interpreter} {k k1 : WorldState} {v : Value} → Evaluates is_logged e old k new k1 (Ok v) → Tests is_logged e old k new k1 (Ok (truth_of v))
+unfolding tested
+test_gives {new = new} {k1 = k1} p = record { simulates = then_simulates _ p.simulates (lift_simulates _ new k1 refl) }
+
+pub and_ends : {is_logged : Type 0} {a b : Expr} {old new : Interpreter} {k k1 : WorldState} {h : Halt} → Tests is_logged a old k new k1 (Err h) → Evaluates is_logged (And a b) old k new k1 (Err h)
+unfolding eval
+and_ends p = record { simulates = ends_simulates _ p.simulates }
+
+pub and_gives : {is_logged : Type 0} {a b : Expr} {old mid new : Interpreter} {k k1 k2 : WorldState} {x : Bool} {r : Result Value Halt} → Tests is_logged a old k mid k1 (Ok x) → AndThen is_logged x b mid k1 new k2 r → Evaluates is_logged (And a b) old k new k2 r
+unfolding eval
+and_gives p q = record { simulates = then_simulates _ p.simulates q.simulates }
+
+pub and_then_fails : {is_logged : Type 0} {b : Expr} {m : Interpreter} {k : WorldState} → AndThen is_logged false b m k m k (Ok (truth_value false))
+and_then_fails {m = m} {k = k} = record { simulates = then_simulates _ (lift_simulates (Ok false) m k refl) (lift_simulates _ m k refl) }
+
+pub and_then_halts : {is_logged : Type 0} {b : Expr} {old new : Interpreter} {k k1 : WorldState} {h : Halt} → Tests is_logged b old k new k1 (Err h) → AndThen is_logged true b old k new k1 (Err h)
+and_then_halts p = record { simulates = ends_simulates _ p.simulates }
+
+pub and_then_gives : {is_logged : Type 0} {b : Expr} {old new : Interpreter} {k k1 : WorldState} {y : Bool} → Tests is_logged b old k new k1 (Ok y) → AndThen is_logged true b old k new k1 (Ok (truth_value y))
+and_then_gives {new = new} {k1 = k1} p = record { simulates = then_simulates _ p.simulates (lift_simulates _ new k1 refl) }
+
+pub or_ends : {is_logged : Type 0} {a b : Expr} {old new : Interpreter} {k k1 : WorldState} {h : Halt} → Tests is_logged a old k new k1 (Err h) → Evaluates is_logged (Or a b) old k new k1 (Err h)
+unfolding eval
+or_ends p = record { simulates = ends_simulates _ p.simulates }
+
+pub or_gives : {is_logged : Type 0} {a b : Expr} {old mid new : Interpreter} {k k1 k2 : WorldState} {x : Bool} {r : Result Value Halt} → Tests is_logged a old k mid k1 (Ok x) → OrElse is_logged x b mid k1 new k2 r → Evaluates is_logged (Or a b) old k new k2 r
+unfolding eval
+or_gives p q = record { simulates = then_simulates _ p.simulates q.simulates }
+
+pub or_else_holds : {is_logged : Type 0} {b : Expr} {m : Interpreter} {k : WorldState} → OrElse is_logged true b m k m k (Ok (truth_value true))
+or_else_holds {m = m} {k = k} = record { simulates = then_simulates _ (lift_simulates (Ok true) m k refl) (lift_simulates _ m k refl) }
+
+pub or_else_halts : {is_logged : Type 0} {b : Expr} {old new : Interpreter} {k k1 : WorldState} {h : Halt} → Tests is_logged b old k new k1 (Err h) → OrElse is_logged false b old k new k1 (Err h)
+or_else_halts p = record { simulates = ends_simulates _ p.simulates }
+
+pub or_else_gives : {is_logged : Type 0} {b : Expr} {old new : Interpreter} {k k1 : WorldState} {y : Bool} → Tests is_logged b old k new k1 (Ok y) → OrElse is_logged false b old k new k1 (Ok (truth_value y))
+or_else_gives {new = new} {k1 = k1} p = record { simulates = then_simulates _ p.simulates (lift_simulates _ new k1 refl) }
+
+pub conditional_ends : {is_logged : Type 0} {c a b : Expr} {old new : Interpreter} {k k1 : WorldState} {h : Halt} → Tests is_logged c old k new k1 (Err h) → Evaluates is_logged (Conditional c a b) old k new k1 (Err h)
+unfolding eval
+conditional_ends p = record { simulates = ends_simulates _ p.simulates }
+
+pub conditional_first : {is_logged : Type 0} {c a b : Expr} {old mid new : Interpreter} {k k1 k2 : WorldState} {r : Result Value Halt} → Tests is_logged c old k mid k1 (Ok true) → Evaluates is_logged a mid k1 new k2 r → Evaluates is_logged (Conditional c a b) old k new k2 r
+unfolding eval
+conditional_first p q = record { simulates = then_simulates _ p.simulates q.simulates }
+
+pub conditional_second : {is_logged : Type 0} {c a b : Expr} {old mid new : Interpreter} {k k1 k2 : WorldState} {r : Result Value Halt} → Tests is_logged c old k mid k1 (Ok false) → Evaluates is_logged b mid k1 new k2 r → Evaluates is_logged (Conditional c a b) old k new k2 r
+unfolding eval
+conditional_second p q = record { simulates = then_simulates _ p.simulates q.simulates }
 
 pub field_ends : {is_logged : Type 0} {e : Expr} {old new : Interpreter} {k k1 : WorldState} {h : Halt} → Evaluates is_logged e old k new k1 (Err h) → Evaluates is_logged (Field e) old k new k1 (Err h)
 unfolding eval
@@ -185,6 +255,42 @@ expression_ends p q = record { simulates = then_simulates _ (change_simulates p.
 pub expression_executes : {is_logged : Type 0} {e : Expr} {m m1 m2 : Interpreter} {k k2 : WorldState} {v : Value} → Spends m m1 (Ok tt) → Evaluates is_logged e m1 k m2 k2 (Ok v) → Executes is_logged (Expression e) m k m2 k2 (Ok flow.Normal)
 unfolding exec
 expression_executes {m2 = m2} {k2 = k2} p q = record { simulates = then_simulates _ (change_simulates p.simulates) (then_simulates _ q.simulates (lift_simulates _ m2 k2 refl)) }
+
+pub empty_executes : {is_logged : Type 0} {m : Interpreter} {k : WorldState} → Executes is_logged Empty m k m k (Ok flow.Normal)
+unfolding exec
+empty_executes {m = m} {k = k} = record { simulates = lift_simulates _ m k refl }
+
+pub if_stops : {is_logged : Type 0} {c : Expr} {m m1 : Interpreter} {k : WorldState} {h : Halt} → Spends m m1 (Err h) → BeginsTest is_logged c m k m1 k (Err h)
+unfolding begin_test
+if_stops p = record { simulates = ends_simulates _ (change_simulates p.simulates) }
+
+pub if_begins : {is_logged : Type 0} {c : Expr} {m m1 m2 : Interpreter} {k k2 : WorldState} {r : Result Bool Halt} → Spends m m1 (Ok tt) → Tests is_logged c m1 k m2 k2 r → BeginsTest is_logged c m k m2 k2 r
+unfolding begin_test
+if_begins p q = record { simulates = then_simulates _ (change_simulates p.simulates) q.simulates }
+
+pub if_ends : {is_logged : Type 0} {c : Expr} {s : Statement} {m m1 : Interpreter} {k k1 : WorldState} {h : Halt} → BeginsTest is_logged c m k m1 k1 (Err h) → Executes is_logged (If c s) m k m1 k1 (Err h)
+unfolding exec
+if_ends p = record { simulates = ends_simulates _ p.simulates }
+
+pub if_holds : {is_logged : Type 0} {c : Expr} {s : Statement} {m m1 m2 : Interpreter} {k k1 k2 : WorldState} {r : Result Flow Halt} → BeginsTest is_logged c m k m1 k1 (Ok true) → Executes is_logged s m1 k1 m2 k2 r → Executes is_logged (If c s) m k m2 k2 r
+unfolding exec
+if_holds p q = record { simulates = then_simulates _ p.simulates q.simulates }
+
+pub if_fails : {is_logged : Type 0} {c : Expr} {s : Statement} {m m1 : Interpreter} {k k1 : WorldState} → BeginsTest is_logged c m k m1 k1 (Ok false) → Executes is_logged (If c s) m k m1 k1 (Ok flow.Normal)
+unfolding exec
+if_fails {m1 = m1} {k1 = k1} p = record { simulates = then_simulates _ p.simulates (lift_simulates _ m1 k1 refl) }
+
+pub if_else_ends : {is_logged : Type 0} {c : Expr} {s other : Statement} {m m1 : Interpreter} {k k1 : WorldState} {h : Halt} → BeginsTest is_logged c m k m1 k1 (Err h) → Executes is_logged (IfElse c s other) m k m1 k1 (Err h)
+unfolding exec
+if_else_ends p = record { simulates = ends_simulates _ p.simulates }
+
+pub if_else_holds : {is_logged : Type 0} {c : Expr} {s other : Statement} {m m1 m2 : Interpreter} {k k1 k2 : WorldState} {r : Result Flow Halt} → BeginsTest is_logged c m k m1 k1 (Ok true) → Executes is_logged s m1 k1 m2 k2 r → Executes is_logged (IfElse c s other) m k m2 k2 r
+unfolding exec
+if_else_holds p q = record { simulates = then_simulates _ p.simulates q.simulates }
+
+pub if_else_fails : {is_logged : Type 0} {c : Expr} {s other : Statement} {m m1 m2 : Interpreter} {k k1 k2 : WorldState} {r : Result Flow Halt} → BeginsTest is_logged c m k m1 k1 (Ok false) → Executes is_logged other m1 k1 m2 k2 r → Executes is_logged (IfElse c s other) m k m2 k2 r
+unfolding exec
+if_else_fails p q = record { simulates = then_simulates _ p.simulates q.simulates }
 
 pub block_executes : {is_logged : Type 0} {all : Statements} {m m1 : Interpreter} {k k1 : WorldState} {r : Result Flow Halt} → ExecutesAll is_logged all m k m1 k1 r → Executes is_logged (Block all) m k m1 k1 r
 unfolding exec

@@ -1,1 +1,2 @@
 mod Evaluation
+mod Stores

@@ -2,15 +2,16 @@
 
 ghost use Rattle.std.specs.Prelude.{[], option_map};
 ghost use Rattle.awk_tree.specs.View.{expr_of, exprs_of};
-ghost use Rattle.awk_tree.specs.Tree.{Assign, Field, Unary, Ere as Pattern};
+ghost use Rattle.awk_tree.specs.Tree.{Assign, AssignBy, Field, Unary, Ere as Pattern};
 ghost use Rattle.awk_meaning.specs.Operators.{takes_pattern};
 ghost use Rattle.awk_meaning.specs.Semantics.{eval};
 ghost use Rattle.awk_interpreter.specs.Simulation.{Changes};
-ghost use Rattle.awk_evaluator.specs.support.Evaluation.{IsPatternOperand, Evaluates, AppliesToRight, EvaluatesAll, Lists, Tests, viewed};
+ghost use Rattle.awk_evaluator.specs.support.Evaluation.{IsPatternOperand, Evaluates, AppliesToRight, AndThen, OrElse, EvaluatesAll, Lists, Tests, viewed};
 
+use crate::assignments::{post_increment, pre_increment, store, store_by};
 use awk_interpreter::Interpreter;
 use awk_meaning::Halt;
-use awk_operators::{change, takes_pattern};
+use awk_operators::{change, takes_pattern, truth_value};
 use awk_streams::World;
 use awk_tree::tree::{BinaryOperator, Ere, Expr, UnaryOperator};
 use awk_value::{Value, is_true};
@@ -35,8 +36,24 @@ fn assign<W: World>(
         interpreter.new (W.state world.new) result }
 {
     let value = eval(e, interpreter, world)?;
-    interpreter.put(name, value)?;
-    interpreter.read_name(name)
+    store(name, value, interpreter)
+}
+
+/// Gives a name what an operator makes of its value and of that of an expression, and answers what
+/// the name then has.
+#[cycle(evaluation)]
+fn assign_by<W: World>(
+    operator: BinaryOperator,
+    name: &[u8],
+    e: &Expr,
+    interpreter: &mut Interpreter,
+    world: &mut W,
+) -> Result<Value, Halt>
+    ensures { Evaluates W.is_logged (AssignBy operator name.now (expr_of e.now)) interpreter.old
+        (W.state world.old) interpreter.new (W.state world.new) result }
+{
+    let operand = eval(e, interpreter, world)?;
+    store_by(operator, name, &operand, interpreter)
 }
 
 /// The field whose number is the value of an expression.
@@ -95,6 +112,42 @@ fn apply_to_right<W: World>(
     }
 }
 
+/// What `&&` gives behind the truth of its first operand: the second is evaluated where that is true.
+#[cycle(evaluation)]
+fn and_then<W: World>(
+    first: bool,
+    b: &Expr,
+    interpreter: &mut Interpreter,
+    world: &mut W,
+) -> Result<Value, Halt>
+    ensures { AndThen W.is_logged first (expr_of b.now) interpreter.old (W.state world.old)
+        interpreter.new (W.state world.new) result }
+{
+    if !first {
+        return Ok(truth_value(false));
+    }
+    let second = holds(b, interpreter, world)?;
+    Ok(truth_value(second))
+}
+
+/// What `||` gives behind the truth of its first operand: the second is evaluated where that is false.
+#[cycle(evaluation)]
+fn or_else<W: World>(
+    first: bool,
+    b: &Expr,
+    interpreter: &mut Interpreter,
+    world: &mut W,
+) -> Result<Value, Halt>
+    ensures { OrElse W.is_logged first (expr_of b.now) interpreter.old (W.state world.old)
+        interpreter.new (W.state world.new) result }
+{
+    if first {
+        return Ok(truth_value(true));
+    }
+    let second = holds(b, interpreter, world)?;
+    Ok(truth_value(second))
+}
+
 /// The value of an expression (POSIX awk, Expressions in awk).
 #[cycle(evaluation)]
 pub(crate) fn eval<W: World>(
@@ -117,11 +170,36 @@ pub(crate) fn eval<W: World>(
             let x = eval(a, interpreter, world)?;
             apply_to_right(*operator, &x, b, interpreter, world)
         }
+        Expr::And(a, b) => {
+            let first = holds(a, interpreter, world)?;
+            and_then(first, b, interpreter, world)
+        }
+        Expr::Or(a, b) => {
+            let first = holds(a, interpreter, world)?;
+            or_else(first, b, interpreter, world)
+        }
+        Expr::Conditional(condition, a, b) => {
+            if holds(condition, interpreter, world)? {
+                eval(a, interpreter, world)
+            } else {
+                eval(b, interpreter, world)
+            }
+        }
         Expr::Assign(name, e) => assign(name.as_slice(), e, interpreter, world),
+        Expr::AssignBy(operator, name, e) => {
+            assign_by(*operator, name.as_slice(), e, interpreter, world)
+        }
+        Expr::PreIncrement(operator, name) => {
+            pre_increment(*operator, name.as_slice(), interpreter)
+        }
+        Expr::PostIncrement(operator, name) => {
+            post_increment(*operator, name.as_slice(), interpreter)
+        }
     }
 }
 
 /// Whether an expression is true.
+#[cycle(evaluation)]
 pub fn holds<W: World>(e: &Expr, interpreter: &mut Interpreter, world: &mut W) -> Result<bool, Halt>
     ensures { Tests W.is_logged (expr_of e.now) interpreter.old (W.state world.old) interpreter.new
         (W.state world.new) result }

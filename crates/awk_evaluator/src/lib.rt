@@ -1,6 +1,7 @@
 //! The evaluator: expressions and statements, over the state of a run and a world.
 #![tactic(auto)]
 
+mod assignments;
 mod expressions;
 mod statements;
 

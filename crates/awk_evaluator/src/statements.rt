@@ -4,9 +4,9 @@ ghost use Rattle.awk_tree.specs.Tree.{Expression};
 ghost use Rattle.awk_tree.specs.View.{expr_of, exprs_of, statement_of, statements_of};
 ghost use Rattle.awk_meaning.specs.Semantics.{print, run_action};
 ghost use Rattle.awk_interpreter.specs.Simulation.{Follows};
-ghost use Rattle.awk_evaluator.specs.support.Evaluation.{Executes, ExecutesAll};
+ghost use Rattle.awk_evaluator.specs.support.Evaluation.{BeginsTest, Executes, ExecutesAll};
 
-use crate::expressions::{eval, printed_values};
+use crate::expressions::{eval, holds, printed_values};
 use awk_interpreter::Interpreter;
 use awk_meaning::{Flow, Halt};
 use awk_streams::World;
@@ -36,6 +36,19 @@ fn evaluate<W: World>(e: &Expr, interpreter: &mut Interpreter, world: &mut W) ->
     Ok(Flow::Normal)
 }
 
+/// Begins an `if`: whether its condition is true.
+fn begin_test<W: World>(
+    condition: &Expr,
+    interpreter: &mut Interpreter,
+    world: &mut W,
+) -> Result<bool, Halt>
+    ensures { BeginsTest W.is_logged (expr_of condition.now) interpreter.old (W.state world.old)
+        interpreter.new (W.state world.new) result }
+{
+    interpreter.spend()?;
+    holds(condition, interpreter, world)
+}
+
 /// Executes a statement (POSIX awk, Actions).
 #[cycle(execution)]
 fn exec<W: World>(s: &Statement, interpreter: &mut Interpreter, world: &mut W) -> Result<Flow, Halt>
@@ -43,11 +56,26 @@ fn exec<W: World>(s: &Statement, interpreter: &mut Interpreter, world: &mut W) -
         (W.state world.new) result }
 {
     match s {
+        Statement::Empty => Ok(Flow::Normal),
         Statement::Block(all) => exec_all(all, interpreter, world),
         Statement::Expression(e) => evaluate(e, interpreter, world),
         Statement::Print(list) => {
             print(list, interpreter, world)?;
             Ok(Flow::Normal)
+        }
+        Statement::If(condition, body) => {
+            if begin_test(condition, interpreter, world)? {
+                exec(body, interpreter, world)
+            } else {
+                Ok(Flow::Normal)
+            }
+        }
+        Statement::IfElse(condition, body, other) => {
+            if begin_test(condition, interpreter, world)? {
+                exec(body, interpreter, world)
+            } else {
+                exec(other, interpreter, world)
+            }
         }
     }
 }

@@ -11,8 +11,11 @@ use Rattle.awk_world.specs.declared.world.InputKind.{InputKind}
 use Rattle.awk_world.specs.declared.world.InputKind.TheVariants.{Standard, File}
 use Rattle.awk_streams.specs.Oracle.{Source, Oracle}
 use Rattle.awk_streams.specs.Openings.{Output, StandardOutput, StandardError, IsBeginning, Begins}
+use Rattle.awk_lex.specs.declared.token.IncrementOperator.{IncrementOperator}
+use Rattle.awk_tree.specs.declared.tree.UnaryOperator.TheVariants as unary
+use Rattle.awk_tree.specs.declared.tree.BinaryOperator.{BinaryOperator}
 use Rattle.awk_tree.specs.declared.tree.BinaryOperator.TheVariants.{Matches}
-use Rattle.awk_tree.specs.Tree.{Expr, Number, String, Ere, Name, Group, Field, Unary, Binary, Assign, Exprs, Nil, Cons, Statement, Block, Expression, Print, Statements, NoMore as NoStatement, Then, Item, Begin, Action, Pattern, PatternAction}
+use Rattle.awk_tree.specs.Tree.{Expr, Number, String, Ere, Name, Group, Field, Unary, Binary, And, Or, Conditional, Assign, AssignBy, PreIncrement, PostIncrement, Exprs, Nil, Cons, Statement, Empty, Block, Expression, Print, If, IfElse, Statements, NoMore as NoStatement, Then, Item, Begin, Action, Pattern, PatternAction}
 use Rattle.awk_meaning.specs.declared.outcome.Outcome.TheVariants.{Ended, Fault, Stopped}
 use Rattle.awk_meaning.specs.declared.fault.Fault.TheVariants.{NextWithoutRecord}
 use Rattle.awk_meaning.specs.definitions.State.{Effect, Printed, Requested, State, Out, Run, go_on, ◌>>=◌, lift}
@@ -24,10 +27,10 @@ use Rattle.awk_variables.specs.declared.special.Special.{Special}
 use Rattle.awk_variables.specs.declared.special.Special.TheVariants.{Filename, Nr, Fnr}
 use Rattle.awk_variables.specs.Variables.{name_of, is_refused}
 use Rattle.awk_meaning.specs.definitions.Primitives.{spend, spend_of, read_name, put_unless, put, count_in, field_at, record_text, split_as, set_record, print_bytes, print_line, opened, open_main, note_input, begin_input, taken, taken_of, take_record, close_main, argument_if, argument_below, take_argument, is_input_seen}
-use Rattle.awk_meaning.specs.definitions.Operators.{changed, applied, raised}
+use Rattle.awk_meaning.specs.definitions.Operators.{truth_value, changed, applied, by_one, one, raised}
 use Rattle.awk_meaning.specs.definitions.Inputs.{assigned_text, assign_text, Operand, Nothing, Assignment, StandardInput, AFile, operand_of, at_end, main_record, path_of, first_record, record_by, operand_record, standard_unless, standard_record, or_else, search_by, search_operands_within, search_operands, next_record}
 use Rattle.awk_meaning.specs.definitions.Operators.{takes_pattern}
-use Rattle.awk_meaning.specs.definitions.Semantics.{right_operand, eval, eval_all, printed_values, print, pass_on, exec, exec_all, run_action, run_if, try_item, try_items, unless_next, until_next, begin_record, on_record, each_record, run_records, begin_item, begin_items, has_rule, run_items}
+use Rattle.awk_meaning.specs.definitions.Semantics.{right_operand, tested, choose, store, store_by, post_increment, eval, eval_all, printed_values, print, begin_test, pass_on, exec, exec_all, run_action, run_if, try_item, try_items, unless_next, until_next, begin_record, on_record, each_record, run_records, begin_item, begin_items, has_rule, run_items}
 use Rattle.awk_meaning.specs.definitions.Meaning.{StartValues, Meaning, start_state, assign_all, assign_and_run, run_program, outcome_of, printed_to, requests_after, same_output}
 use Rattle.awk_meaning.specs.definitions.Meaning.{LawOfLimits, outputs_after}
 
@@ -263,8 +266,34 @@ right_larger true (Group e) h = h
 right_larger true (Field e) h = h
 right_larger true (Unary o e) h = h
 right_larger true (Binary o a b) h = h
+right_larger true (And a b) h = h
+right_larger true (Or a b) h = h
+right_larger true (Conditional c a b) h = h
 right_larger true (Assign x e) h = h
+right_larger true (AssignBy o x e) h = h
+right_larger true (PreIncrement o x) h = h
+right_larger true (PostIncrement o x) h = h
 right_larger false e h = h
+
+tested_larger : {m n : Run Value} → Larger m n → Larger (tested m) (tested n)
+unfolding tested
+tested_larger h = then_larger _ _ h (λ v. lift_larger (Ok (truth_of v)))
+
+choose_larger : {A : Type 0} (b : Bool) {here other : Run A} → Larger here here → Larger other other → Larger (choose b here other) (choose b here other)
+choose_larger true h k = h
+choose_larger false h k = k
+
+store_larger : (x : List ℕ) (v : Value) → Larger (store x v) (store x v)
+unfolding store
+store_larger x v = then_larger _ _ (put_larger x v) (λ _. name_larger x)
+
+store_by_larger : (o : BinaryOperator) (x : List ℕ) (v : Value) → Larger (store_by o x v) (store_by o x v)
+unfolding store_by
+store_by_larger o x v = then_larger _ _ (name_larger x) (λ old. then_larger _ _ (lift_larger (applied o old v)) (λ w. store_larger x w))
+
+post_larger : (o : IncrementOperator) (x : List ℕ) → Larger (post_increment o x) (post_increment o x)
+unfolding post_increment
+post_larger o x = then_larger _ _ (name_larger x) (λ v. then_larger _ _ (lift_larger (changed unary.Plus v)) (λ n. then_larger _ _ (lift_larger (applied (by_one o) n one)) (λ w. then_larger _ _ (put_larger x w) (λ _. lift_larger (Ok n)))))
 
 eval_larger : (e : Expr) → Larger (eval e) (eval e)
 unfolding eval
@@ -276,7 +305,13 @@ eval_larger (Group e) = eval_larger e
 eval_larger (Field e) = then_larger _ _ (eval_larger e) field_larger
 eval_larger (Unary o e) = then_larger _ _ (eval_larger e) (λ v. lift_larger (changed o v))
 eval_larger (Binary o a b) = then_larger _ _ (eval_larger a) (λ x. then_larger _ _ (right_larger (takes_pattern o) b (eval_larger b)) (λ y. lift_larger (applied o x y)))
-eval_larger (Assign x e) = then_larger _ _ (eval_larger e) (λ v. then_larger _ _ (put_larger x v) (λ _. name_larger x))
+eval_larger (And a b) = then_larger _ _ (tested_larger (eval_larger a)) (λ x. then_larger _ _ (choose_larger x (tested_larger (eval_larger b)) (lift_larger (Ok false))) (λ y. lift_larger (Ok (truth_value y))))
+eval_larger (Or a b) = then_larger _ _ (tested_larger (eval_larger a)) (λ x. then_larger _ _ (choose_larger x (lift_larger (Ok true)) (tested_larger (eval_larger b))) (λ y. lift_larger (Ok (truth_value y))))
+eval_larger (Conditional c a b) = then_larger _ _ (tested_larger (eval_larger c)) (λ x. choose_larger x (eval_larger a) (eval_larger b))
+eval_larger (Assign x e) = then_larger _ _ (eval_larger e) (λ v. store_larger x v)
+eval_larger (AssignBy o x e) = then_larger _ _ (eval_larger e) (λ v. store_by_larger o x v)
+eval_larger (PreIncrement o x) = store_by_larger (by_one o) x one
+eval_larger (PostIncrement o x) = post_larger o x
 
 values_larger : (front : List Value) (es : Exprs) → Larger (eval_all front es) (eval_all front es)
 unfolding eval_all
@@ -292,6 +327,10 @@ print_larger : (list : Exprs) → Larger (print list) (print list)
 unfolding print
 print_larger list = then_larger _ _ spend_larger (λ _. then_larger _ _ (printed_larger list) (λ vs. show_larger vs))
 
+begin_test_larger : (c : Expr) → Larger (begin_test c) (begin_test c)
+unfolding begin_test
+begin_test_larger c = then_larger _ _ spend_larger (λ _. tested_larger (eval_larger c))
+
 pass_larger : (f : Flow) (m : Run Flow) → Larger m m → Larger (pass_on f m) (pass_on f m)
 pass_larger flow.Normal m h = h
 pass_larger flow.Break m h = lift_larger (Ok flow.Break)
@@ -302,9 +341,12 @@ mutual
   unfolding exec
 
   exec_larger : (s : Statement) → Larger (exec s) (exec s)
+  exec_larger Empty = lift_larger (Ok flow.Normal)
   exec_larger (Block all) = exec_all_larger all
   exec_larger (Expression e) = then_larger _ _ spend_larger (λ _. then_larger _ _ (eval_larger e) (λ v. lift_larger (Ok flow.Normal)))
   exec_larger (Print list) = then_larger _ _ (print_larger list) (λ _. lift_larger (Ok flow.Normal))
+  exec_larger (If c s) = let body = exec_larger s in then_larger _ _ (begin_test_larger c) (λ x. choose_larger x body (lift_larger (Ok flow.Normal)))
+  exec_larger (IfElse c s other) = let body = exec_larger s in let rest = exec_larger other in then_larger _ _ (begin_test_larger c) (λ x. choose_larger x body rest)
 
   exec_all_larger : (all : Statements) → Larger (exec_all all) (exec_all all)
   exec_all_larger NoStatement = lift_larger (Ok flow.Normal)
@@ -322,8 +364,8 @@ item_larger : (x : Item) → Larger (try_item x) (try_item x)
 unfolding try_item
 item_larger (Begin block) = lift_larger (Ok tt)
 item_larger (Action block) = action_larger block
-item_larger (Pattern e) = then_larger _ _ (eval_larger e) (λ v. if_larger (truth_of v) _ (print_larger Nil))
-item_larger (PatternAction e block) = then_larger _ _ (eval_larger e) (λ v. if_larger (truth_of v) _ (action_larger block))
+item_larger (Pattern e) = then_larger _ _ (tested_larger (eval_larger e)) (λ x. if_larger x _ (print_larger Nil))
+item_larger (PatternAction e block) = then_larger _ _ (tested_larger (eval_larger e)) (λ x. if_larger x _ (action_larger block))
 
 items_larger : (xs : List Item) → Larger (try_items xs) (try_items xs)
 unfolding try_items

@@ -1,3 +1,4 @@
 pub mod LawOfLimits
 pub mod Requests
 pub mod OwnOutcomes
+mod OwnValues

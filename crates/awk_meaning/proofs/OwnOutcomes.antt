@@ -1,26 +1,20 @@
 -- The meaning of a program is never want of memory nor a failed write: these come from a run of the code alone.
-use Rattle.std.proofs.Common.{◌≡◌, ◌≢◌, ℕ, zero, suc, ℤ, pos, negsuc, Bool, true, false, if◌then◌else◌, List, [], ◌∷◌, ◌++◌, Option, Some, None, Result, Ok, Err}
-use Rattle.std.specs.Prelude.{neg_ℤ, ◌+ℤ◌, ◌-ℤ◌, ◌*ℤ◌, int_div, int_rem}
+use Rattle.std.proofs.Common.{◌≡◌, ◌≢◌, ℕ, zero, suc, ℤ, pos, Bool, true, false, if◌then◌else◌, List, [], ◌∷◌, ◌++◌, Option, Some, None, Result, Ok, Err}
 use Rattle.awk_text.specs.declared.separator.Separator.{Separator}
 use Rattle.awk_text.specs.declared.fault.TextFault.{TextFault}
 use Rattle.awk_value.specs.declared.value.Value.{Value}
 use Rattle.awk_value.specs.declared.value.Value.TheVariants as value
 use Rattle.awk_value.specs.declared.fault.ValueFault.{ValueFault}
-use Rattle.awk_value.specs.declared.fault.ValueFault.TheVariants as values
-use Rattle.awk_value.specs.Values.{num_of, truth_of, number_value, from_numbers, from_number}
-use Rattle.awk_value.specs.Arithmetic.{is_in_range, is_zero, range_checked, product_of, sum_of, difference_of, quotient_of, remainder_of, negative_of}
-use Rattle.awk_value.specs.Numbers.{spelled_number}
+use Rattle.awk_value.specs.Values.{num_of, truth_of}
 use Rattle.awk_record.specs.Cut.{Cut, Found, NoMore, BrokenOff, TooLong, BadSeparator}
-use Rattle.awk_record.specs.Record.{RecordPair, field_of}
 use Rattle.awk_world.specs.declared.world.InputKind.{InputKind}
 use Rattle.awk_world.specs.declared.world.InputKind.TheVariants.{Standard, File}
 use Rattle.awk_streams.specs.Oracle.{Source, Oracle}
-use Rattle.awk_ere.specs.Tree.{Tree}
-use Rattle.awk_tree.specs.declared.tree.UnaryOperator.{UnaryOperator}
+use Rattle.awk_lex.specs.declared.token.IncrementOperator.{IncrementOperator}
 use Rattle.awk_tree.specs.declared.tree.UnaryOperator.TheVariants as unary
 use Rattle.awk_tree.specs.declared.tree.BinaryOperator.{BinaryOperator}
-use Rattle.awk_tree.specs.declared.tree.BinaryOperator.TheVariants.{Times, Divide, Remainder, Plus, Minus, Concatenate, Less, LessEqual, Equal, NotEqual, Greater, GreaterEqual, Matches, NotMatches}
-use Rattle.awk_tree.specs.Tree.{Expr, Number, String, Ere, Name, Group, Field, Unary, Binary, Assign, Exprs, Nil, Cons, Statement, Block, Expression, Print, Statements, NoMore as NoStatement, Then, Item, Begin, Action, Pattern, PatternAction}
+use Rattle.awk_tree.specs.declared.tree.BinaryOperator.TheVariants.{Matches}
+use Rattle.awk_tree.specs.Tree.{Expr, Number, String, Ere, Name, Group, Field, Unary, Binary, And, Or, Conditional, Assign, AssignBy, PreIncrement, PostIncrement, Exprs, Nil, Cons, Statement, Empty, Block, Expression, Print, If, IfElse, Statements, NoMore as NoStatement, Then, Item, Begin, Action, Pattern, PatternAction}
 use Rattle.awk_meaning.specs.declared.outcome.Outcome.TheVariants.{Fault}
 use Rattle.awk_meaning.specs.declared.fault.Fault.TheVariants as faults
 use Rattle.awk_meaning.specs.definitions.State.{State, Run, go_on, ◌>>=◌, lift, Effect}
@@ -33,24 +27,11 @@ use Rattle.awk_variables.specs.declared.special.Special.TheVariants.{Argc, Filen
 use Rattle.awk_variables.specs.Variables.{name_of, is_refused}
 use Rattle.awk_lex.specs.Escapes.{unescaped}
 use Rattle.awk_meaning.specs.definitions.Primitives.{spend, spend_of, read_name, put_unless, put, count_in, field_at, record_text, split_as, set_record, print_bytes, print_line, opened, open_main, note_input, begin_input, taken, taken_of, take_record, close_main, argument_if, argument_below, take_argument, is_input_seen}
-use Rattle.awk_meaning.specs.definitions.Operators.{changed, matched_by, of_match, applied, raised, field_by, takes_pattern}
-use Rattle.awk_meaning.specs.definitions.Faults.{value_fault, of_values, of_record}
+use Rattle.awk_meaning.specs.definitions.Operators.{truth_value, changed, applied, by_one, one, raised, takes_pattern}
 use Rattle.awk_meaning.specs.definitions.Inputs.{is_unassignable, text_or_fault, assigned_text, assign_text, Operand, Nothing, Assignment, StandardInput, AFile, operand_of, at_end, main_record, path_of, first_record, record_by, operand_record, standard_unless, standard_record, or_else, search_by, search_operands_within, search_operands, next_record}
-use Rattle.awk_meaning.specs.definitions.Semantics.{right_operand, eval, eval_all, printed_values, print, pass_on, exec, exec_all, run_action, run_if, try_item, try_items, unless_next, until_next, begin_record, on_record, each_record, run_records, begin_item, begin_items, has_rule, run_items}
+use Rattle.awk_meaning.specs.definitions.Semantics.{right_operand, tested, choose, store, store_by, post_increment, eval, eval_all, printed_values, print, begin_test, pass_on, exec, exec_all, run_action, run_if, try_item, try_items, unless_next, until_next, begin_record, on_record, each_record, run_records, begin_item, begin_items, has_rule, run_items}
 use Rattle.awk_meaning.specs.definitions.Meaning.{StartValues, start_state, assign_all, assign_and_run, run_program, outcome_of, meaning_of}
-
--- a halt that the language itself has
-abbrev OwnHalt : Halt → Type 0
-OwnHalt halt.OutOfSteps = Unit {0}
-OwnHalt halt.Next = Unit {0}
-OwnHalt halt.Exit = Unit {0}
-OwnHalt (halt.Fault faults.OutOfMemory) = ⊥
-OwnHalt (halt.Fault faults.WriteFailed) = ⊥
-OwnHalt (halt.Fault f) = Unit {0}
-
-abbrev Own : {A : Type 0} → Result A Halt → Type 0
-Own (Ok a) = Unit {0}
-Own (Err h) = OwnHalt h
+use Rattle.awk_meaning.proofs.OwnValues.{Own, OwnNumber, num_own, fault_own, changed_own, applied_own, raised_own, field_by_own}
 
 record Settles {A : Type 0} (m : Run A) : Type 0 where
   own : (s : State) → Own (m s).result
@@ -67,98 +48,6 @@ then_settles {m = m} f x h = record { own = λ s. go_own f h (m s).result (m s).
 lift_settles : {A : Type 0} (r : Result A Halt) → Own r → Settles (lift r)
 unfolding lift
 lift_settles r own = record { own = λ s. own }
-
--- values
-
--- a number's fault is no want of memory
-abbrev OwnNumber : {A : Type 0} → Result A ValueFault → Type 0
-OwnNumber (Ok a) = Unit {0}
-OwnNumber (Err values.Memory) = ⊥
-OwnNumber (Err f) = Unit {0}
-
-range_own : (b : Bool) (z : ℤ) → OwnNumber (if b then Ok z else Err values.Range)
-range_own true z = tt
-range_own false z = tt
-
-checked_own : (z : ℤ) → OwnNumber (range_checked z)
-checked_own z = range_own (is_in_range z) z
-
-quotient_by : (b : Bool) (z : ℤ) → OwnNumber (if b then Err values.ZeroDivisor else range_checked z)
-quotient_by true z = tt
-quotient_by false z = checked_own z
-
-remainder_by : (b : Bool) (z : ℤ) → OwnNumber (if b then Err values.ZeroDivisor else Ok z)
-remainder_by true z = tt
-remainder_by false z = tt
-
-num_own : (v : Value) → OwnNumber (num_of v)
-num_own value.Nothing = tt
-num_own (value.Number n) = tt
-num_own (value.Text t) = checked_own (spelled_number t)
-num_own (value.Input t) = checked_own (spelled_number t)
-
-valued_own : (r : Result ℤ ValueFault) → OwnNumber r → OwnNumber (number_value r)
-valued_own (Ok n) own = tt
-valued_own (Err f) own = own
-
-one_own : (operation : ℤ → Result ℤ ValueFault) → ((n : ℤ) → OwnNumber (operation n)) → (r : Result ℤ ValueFault) → OwnNumber r → OwnNumber (from_number operation r)
-one_own operation h (Ok n) own = valued_own (operation n) (h n)
-one_own operation h (Err f) own = own
-
-two_own : (operation : ℤ → ℤ → Result ℤ ValueFault) → ((m n : ℤ) → OwnNumber (operation m n)) → (l r : Result ℤ ValueFault) → OwnNumber l → OwnNumber r → OwnNumber (from_numbers operation l r)
-two_own operation h (Ok m) (Ok n) a b = valued_own (operation m n) (h m n)
-two_own operation h (Ok m) (Err f) a b = b
-two_own operation h (Err f) r a b = a
-
-fault_own : (f : ValueFault) → OwnNumber {A = ℤ} (Err f) → OwnHalt (halt.Fault (value_fault f))
-fault_own values.Memory own = absurd own
-fault_own values.Range own = tt
-fault_own values.ZeroDivisor own = tt
-fault_own values.NegativePower own = tt
-
-of_values_own : {A : Type 0} (r : Result A ValueFault) → OwnNumber r → Own (of_values r)
-of_values_own (Ok a) own = tt
-of_values_own (Err values.Memory) own = absurd own
-of_values_own (Err values.Range) own = tt
-of_values_own (Err values.ZeroDivisor) own = tt
-of_values_own (Err values.NegativePower) own = tt
-
-changed_own : (o : UnaryOperator) (v : Value) → Own (changed o v)
-changed_own unary.Not v = tt
-changed_own unary.Plus v = of_values_own _ (valued_own (num_of v) (num_own v))
-changed_own unary.Minus v = of_values_own _ (one_own negative_of (λ n. checked_own (neg_ℤ n)) (num_of v) (num_own v))
-
-match_own : (f : Bool → Bool) (t : Option Tree) (text : List ℕ) → Own (of_match f (matched_by t text))
-match_own f None text = tt
-match_own f (Some t) text = tt
-
-applied_own : (o : BinaryOperator) (x y : Value) → Own (applied o x y)
-applied_own Times x y = of_values_own _ (two_own product_of (λ m n. checked_own (m *ℤ n)) (num_of x) (num_of y) (num_own x) (num_own y))
-applied_own Divide x y = of_values_own _ (two_own quotient_of (λ m n. quotient_by (is_zero n) (int_div m n)) (num_of x) (num_of y) (num_own x) (num_own y))
-applied_own Remainder x y = of_values_own _ (two_own remainder_of (λ m n. remainder_by (is_zero n) (int_rem m n)) (num_of x) (num_of y) (num_own x) (num_own y))
-applied_own Plus x y = of_values_own _ (two_own sum_of (λ m n. checked_own (m +ℤ n)) (num_of x) (num_of y) (num_own x) (num_own y))
-applied_own Minus x y = of_values_own _ (two_own difference_of (λ m n. checked_own (m -ℤ n)) (num_of x) (num_of y) (num_own x) (num_own y))
-applied_own Concatenate x y = tt
-applied_own Less x y = tt
-applied_own LessEqual x y = tt
-applied_own Equal x y = tt
-applied_own NotEqual x y = tt
-applied_own Greater x y = tt
-applied_own GreaterEqual x y = tt
-applied_own Matches x y = match_own _ _ _
-applied_own NotMatches x y = match_own _ _ _
-
-raised_own : (v : Value) → Own (raised v)
-raised_own v = of_values_own _ (two_own sum_of (λ m n. checked_own (m +ℤ n)) (num_of v) (Ok (pos 1)) (num_own v) tt)
-
-field_own : (r : RecordPair) (i : ℤ) → Own (of_record (field_of r i))
-field_own r (pos zero) = tt
-field_own r (pos (suc i)) = tt
-field_own r (negsuc n) = tt
-
-field_by_own : (r : RecordPair) (n : Result ℤ ValueFault) → OwnNumber n → Own (field_by r n)
-field_by_own r (Ok i) own = field_own r i
-field_by_own r (Err f) own = fault_own f own
 
 -- the primitives
 
@@ -333,8 +222,34 @@ right_settles true (Group e) h = h
 right_settles true (Field e) h = h
 right_settles true (Unary o e) h = h
 right_settles true (Binary o a b) h = h
+right_settles true (And a b) h = h
+right_settles true (Or a b) h = h
+right_settles true (Conditional c a b) h = h
 right_settles true (Assign x e) h = h
+right_settles true (AssignBy o x e) h = h
+right_settles true (PreIncrement o x) h = h
+right_settles true (PostIncrement o x) h = h
 right_settles false e h = h
+
+tested_settles : {m : Run Value} → Settles m → Settles (tested m)
+unfolding tested
+tested_settles h = then_settles _ h (λ v. lift_settles (Ok (truth_of v)) tt)
+
+choose_settles : {A : Type 0} (b : Bool) {here other : Run A} → Settles here → Settles other → Settles (choose b here other)
+choose_settles true h k = h
+choose_settles false h k = k
+
+store_settles : (x : List ℕ) (v : Value) → Settles (store x v)
+unfolding store
+store_settles x v = then_settles _ (put_settles x v) (λ _. name_settles x)
+
+store_by_settles : (o : BinaryOperator) (x : List ℕ) (v : Value) → Settles (store_by o x v)
+unfolding store_by
+store_by_settles o x v = then_settles _ (name_settles x) (λ old. then_settles _ (lift_settles (applied o old v) (applied_own o old v)) (λ w. store_settles x w))
+
+post_settles : (o : IncrementOperator) (x : List ℕ) → Settles (post_increment o x)
+unfolding post_increment
+post_settles o x = then_settles _ (name_settles x) (λ v. then_settles _ (lift_settles (changed unary.Plus v) (changed_own unary.Plus v)) (λ n. then_settles _ (lift_settles (applied (by_one o) n one) (applied_own (by_one o) n one)) (λ w. then_settles _ (put_settles x w) (λ _. lift_settles (Ok n) tt))))
 
 eval_settles : (e : Expr) → Settles (eval e)
 unfolding eval
@@ -346,7 +261,13 @@ eval_settles (Group e) = eval_settles e
 eval_settles (Field e) = then_settles _ (eval_settles e) field_settles
 eval_settles (Unary o e) = then_settles _ (eval_settles e) (λ v. lift_settles (changed o v) (changed_own o v))
 eval_settles (Binary o a b) = then_settles _ (eval_settles a) (λ x. then_settles _ (right_settles (takes_pattern o) b (eval_settles b)) (λ y. lift_settles (applied o x y) (applied_own o x y)))
-eval_settles (Assign x e) = then_settles _ (eval_settles e) (λ v. then_settles _ (put_settles x v) (λ _. name_settles x))
+eval_settles (And a b) = then_settles _ (tested_settles (eval_settles a)) (λ x. then_settles _ (choose_settles x (tested_settles (eval_settles b)) (lift_settles (Ok false) tt)) (λ y. lift_settles (Ok (truth_value y)) tt))
+eval_settles (Or a b) = then_settles _ (tested_settles (eval_settles a)) (λ x. then_settles _ (choose_settles x (lift_settles (Ok true) tt) (tested_settles (eval_settles b))) (λ y. lift_settles (Ok (truth_value y)) tt))
+eval_settles (Conditional c a b) = then_settles _ (tested_settles (eval_settles c)) (λ x. choose_settles x (eval_settles a) (eval_settles b))
+eval_settles (Assign x e) = then_settles _ (eval_settles e) (λ v. store_settles x v)
+eval_settles (AssignBy o x e) = then_settles _ (eval_settles e) (λ v. store_by_settles o x v)
+eval_settles (PreIncrement o x) = store_by_settles (by_one o) x one
+eval_settles (PostIncrement o x) = post_settles o x
 
 values_settles : (front : List Value) (es : Exprs) → Settles (eval_all front es)
 unfolding eval_all
@@ -362,6 +283,10 @@ print_settles : (list : Exprs) → Settles (print list)
 unfolding print
 print_settles list = then_settles _ spend_settles (λ _. then_settles _ (printed_settles list) (λ vs. show_settles vs))
 
+begin_test_settles : (c : Expr) → Settles (begin_test c)
+unfolding begin_test
+begin_test_settles c = then_settles _ spend_settles (λ _. tested_settles (eval_settles c))
+
 pass_settles : (f : Flow) {m : Run Flow} → Settles m → Settles (pass_on f m)
 pass_settles flow.Normal h = h
 pass_settles flow.Break h = lift_settles (Ok flow.Break) tt
@@ -372,9 +297,12 @@ mutual
   unfolding exec
 
   exec_settles : (s : Statement) → Settles (exec s)
+  exec_settles Empty = lift_settles (Ok flow.Normal) tt
   exec_settles (Block all) = exec_all_settles all
   exec_settles (Expression e) = then_settles _ spend_settles (λ _. then_settles _ (eval_settles e) (λ v. lift_settles (Ok flow.Normal) tt))
   exec_settles (Print list) = then_settles _ (print_settles list) (λ _. lift_settles (Ok flow.Normal) tt)
+  exec_settles (If c s) = let body = exec_settles s in then_settles _ (begin_test_settles c) (λ x. choose_settles x body (lift_settles (Ok flow.Normal) tt))
+  exec_settles (IfElse c s other) = let body = exec_settles s in let rest = exec_settles other in then_settles _ (begin_test_settles c) (λ x. choose_settles x body rest)
 
   exec_all_settles : (all : Statements) → Settles (exec_all all)
   exec_all_settles NoStatement = lift_settles (Ok flow.Normal) tt
@@ -392,8 +320,8 @@ item_settles : (x : Item) → Settles (try_item x)
 unfolding try_item
 item_settles (Begin block) = lift_settles (Ok tt) tt
 item_settles (Action block) = action_settles block
-item_settles (Pattern e) = then_settles _ (eval_settles e) (λ v. if_settles (truth_of v) (print_settles Nil))
-item_settles (PatternAction e block) = then_settles _ (eval_settles e) (λ v. if_settles (truth_of v) (action_settles block))
+item_settles (Pattern e) = then_settles _ (tested_settles (eval_settles e)) (λ x. if_settles x (print_settles Nil))
+item_settles (PatternAction e block) = then_settles _ (tested_settles (eval_settles e)) (λ x. if_settles x (action_settles block))
 
 items_settles : (xs : List Item) → Settles (try_items xs)
 unfolding try_items

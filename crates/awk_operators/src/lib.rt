@@ -7,5 +7,5 @@ mod operators;
 mod patterns;
 
 pub use line::make_line;
-pub use operators::{apply, apply_ere, change, field_at, raise, takes_pattern};
+pub use operators::{apply, apply_ere, change, field_at, raise, takes_pattern, truth_value};
 pub use patterns::Patterns;

@@ -13,13 +13,13 @@ use awk_record::Record;
 use awk_tree::tree::{BinaryOperator, Ere, UnaryOperator};
 use awk_value::{
     Value, add, compare, concatenate, divide, is_true, minus, multiply, negate, number_of, plus,
-    remainder, text_of, to_number,
+    power, remainder, text_of, to_number,
 };
 use std::alloc::Global;
 use std::cmp::Ordering;
 
-/// The number 1 or 0.
-fn truth_value(is_true: bool) -> Value
+/// What a test gives: the number 1 or 0 (POSIX awk, Expressions in awk).
+pub fn truth_value(is_true: bool) -> Value
     ensures { result ≡ truth_value is_true }
 {
     Value::Number(i128::from(is_true))
@@ -30,7 +30,8 @@ fn relates(operator: BinaryOperator, order: Ordering) -> bool
     ensures { result ≡ related operator order }
 {
     match operator {
-        BinaryOperator::Times
+        BinaryOperator::Power
+        | BinaryOperator::Times
         | BinaryOperator::Divide
         | BinaryOperator::Remainder
         | BinaryOperator::Plus
@@ -91,6 +92,7 @@ pub fn apply(
         BinaryOperator::Matches => Ok(truth_value(matches_value(patterns, alloc, x, y)?)),
         BinaryOperator::NotMatches => Ok(truth_value(!matches_value(patterns, alloc, x, y)?)),
         BinaryOperator::Concatenate => Ok(concatenate(alloc, x, y)?),
+        BinaryOperator::Power => Ok(power(x, y)?),
         BinaryOperator::Divide => Ok(divide(x, y)?),
         BinaryOperator::Times => Ok(multiply(x, y)?),
         BinaryOperator::Remainder => Ok(remainder(x, y)?),

@@ -5,7 +5,7 @@ use Rattle.std.proofs.lemmas.List.{drop_all, map-append}
 use Rattle.awk_tree.specs.declared.tree.Expr.{Expr as CodeExpr}
 use Rattle.awk_tree.specs.declared.tree.Statement.{Statement as CodeStatement}
 use Rattle.awk_tree.specs.declared.tree.Item.{Item as CodeItem}
-use Rattle.awk_tree.specs.Tree.{Expr, Number, String, Ere, Name, Group, Field, Unary, Binary, Assign, Exprs, Nil, Cons, Statement, Block, Expression, Print, Statements, NoMore, Then, Item, Begin, Action, Pattern, PatternAction}
+use Rattle.awk_tree.specs.Tree.{Expr, Number, String, Ere, Name, Group, Field, Unary, Binary, And, Or, Conditional, Assign, AssignBy, PreIncrement, PostIncrement, Exprs, Nil, Cons, Statement, Empty, Block, Expression, Print, If, IfElse, Statements, NoMore, Then, Item, Begin, Action, Pattern, PatternAction}
 use Rattle.awk_tree.specs.View.{expr_of, exprs_of, statement_of, statements_of, item_of, items_of}
 use Rattle.awk_resolve.specs.declared.names.Misuse.{Misuse}
 use Rattle.awk_resolve.specs.definitions.Names.{Use, uses_in_expr, uses_in_list, uses_in_statement, uses_in_block, uses_in_item, uses_in, special_scalars, special_arrays, scalar_names, array_names, is_absent, are_apart}
@@ -53,7 +53,13 @@ scalars_in_expr (Group e) = scalars_in_expr e
 scalars_in_expr (Field e) = scalars_in_expr e
 scalars_in_expr (Unary o e) = scalars_in_expr e
 scalars_in_expr (Binary o a b) = are_scalar-append _ _ (scalars_in_expr a) (scalars_in_expr b)
+scalars_in_expr (And a b) = are_scalar-append _ _ (scalars_in_expr a) (scalars_in_expr b)
+scalars_in_expr (Or a b) = are_scalar-append _ _ (scalars_in_expr a) (scalars_in_expr b)
+scalars_in_expr (Conditional c a b) = are_scalar-append _ _ (scalars_in_expr c) (are_scalar-append _ _ (scalars_in_expr a) (scalars_in_expr b))
 scalars_in_expr (Assign x e) = (refl, scalars_in_expr e)
+scalars_in_expr (AssignBy o x e) = (refl, scalars_in_expr e)
+scalars_in_expr (PreIncrement o x) = (refl, tt)
+scalars_in_expr (PostIncrement o x) = (refl, tt)
 
 scalars_in_list : (es : Exprs) → AreScalar (uses_in_list es)
 scalars_in_list Nil = tt
@@ -61,9 +67,12 @@ scalars_in_list (Cons e es) = are_scalar-append _ _ (scalars_in_expr e) (scalars
 
 mutual
   scalars_in_statement : (s : Statement) → AreScalar (uses_in_statement s)
+  scalars_in_statement Empty = tt
   scalars_in_statement (Block all) = scalars_in_block all
   scalars_in_statement (Expression e) = scalars_in_expr e
   scalars_in_statement (Print list) = scalars_in_list list
+  scalars_in_statement (If c s) = are_scalar-append _ _ (scalars_in_expr c) (scalars_in_statement s)
+  scalars_in_statement (IfElse c s other) = are_scalar-append _ _ (scalars_in_expr c) (are_scalar-append _ _ (scalars_in_statement s) (scalars_in_statement other))
 
   scalars_in_block : (all : Statements) → AreScalar (uses_in_block all)
   scalars_in_block NoMore = tt

@@ -2,11 +2,10 @@
 
 ghost use Rattle.awk_grammar.specs.Tree as t;
 ghost use Rattle.awk_grammar.specs.View as g;
-ghost use Rattle.awk_tree.specs.Tree as run;
 ghost use Rattle.awk_tree.specs.View.{expr_of, exprs_of, statement_of, statements_of, item_of, items_of};
-ghost use Rattle.awk_resolve.specs.definitions.Built.{built_operator, built_unary, built_target, built_expr, built_list, built_print_list, built_simple, built_statement, built_block, built_item, built_items};
+ghost use Rattle.awk_resolve.specs.definitions.Built.{built_unary, binary, built_target, assigned, built_expr, built_list, built_print_list, built_simple, built_statement, built_block, built_item, built_items};
 ghost use Rattle.awk_resolve.specs.support.Builds.{Builds};
-ghost use Rattle.std.specs.Prelude.{◌≡◌, Some};
+ghost use Rattle.std.specs.Prelude.{◌≡◌};
 ghost use Rattle.std.specs.Option.{option_map};
 
 use awk_grammar::tree as grammar;
@@ -32,37 +31,56 @@ fn built_unary(operator: grammar::UnaryOperator) -> UnaryOperator
     }
 }
 
-fn built_operator(operator: grammar::BinaryOperator) -> Option<BinaryOperator>
-    ensures { result ≡ built_operator operator }
+/// Two operands with their operator.
+fn binary(operator: grammar::BinaryOperator, a: Box<Expr>, b: Box<Expr>) -> Expr
+    ensures { expr_of result ≡ binary operator (expr_of a.value) (expr_of b.value) }
 {
     let operator = match operator {
-        grammar::BinaryOperator::Concatenate => return Some(BinaryOperator::Concatenate),
-        grammar::BinaryOperator::Infix(operator) => operator,
+        grammar::BinaryOperator::Concatenate => BinaryOperator::Concatenate,
+        grammar::BinaryOperator::Infix(operator) => match operator {
+            Operator::And => return Expr::And(a, b),
+            Operator::Or => return Expr::Or(a, b),
+            Operator::Power => BinaryOperator::Power,
+            Operator::Times => BinaryOperator::Times,
+            Operator::Divide => BinaryOperator::Divide,
+            Operator::Remainder => BinaryOperator::Remainder,
+            Operator::Plus => BinaryOperator::Plus,
+            Operator::Minus => BinaryOperator::Minus,
+            Operator::Less => BinaryOperator::Less,
+            Operator::LessEqual => BinaryOperator::LessEqual,
+            Operator::Equal => BinaryOperator::Equal,
+            Operator::NotEqual => BinaryOperator::NotEqual,
+            Operator::Greater => BinaryOperator::Greater,
+            Operator::GreaterEqual => BinaryOperator::GreaterEqual,
+            Operator::Matches => BinaryOperator::Matches,
+            Operator::NotMatches => BinaryOperator::NotMatches,
+        },
     };
-    match operator {
-        Operator::Times => Some(BinaryOperator::Times),
-        Operator::Divide => Some(BinaryOperator::Divide),
-        Operator::Remainder => Some(BinaryOperator::Remainder),
-        Operator::Plus => Some(BinaryOperator::Plus),
-        Operator::Minus => Some(BinaryOperator::Minus),
-        Operator::Less => Some(BinaryOperator::Less),
-        Operator::LessEqual => Some(BinaryOperator::LessEqual),
-        Operator::Equal => Some(BinaryOperator::Equal),
-        Operator::NotEqual => Some(BinaryOperator::NotEqual),
-        Operator::Greater => Some(BinaryOperator::Greater),
-        Operator::GreaterEqual => Some(BinaryOperator::GreaterEqual),
-        Operator::Matches => Some(BinaryOperator::Matches),
-        Operator::NotMatches => Some(BinaryOperator::NotMatches),
-        Operator::Power | Operator::And | Operator::Or => None,
-    }
+    Expr::Binary(operator, a, b)
 }
 
-/// The name that a plain assignment gives a value: any but NF so far.
-fn built_target(operator: AssignmentOperator, place: &grammar::Expr) -> Option<&Bytes>
-    ensures { option_map (λ name. name.now) result ≡ built_target operator (g.expr_of place.now) }
+/// An assignment of an operand to a name.
+fn assigned(operator: AssignmentOperator, name: Bytes, e: Box<Expr>) -> Expr
+    ensures { expr_of result ≡ assigned operator name (expr_of e.value) }
+{
+    let operator = match operator {
+        AssignmentOperator::Plain => return Expr::Assign(name, e),
+        AssignmentOperator::Add => BinaryOperator::Plus,
+        AssignmentOperator::Subtract => BinaryOperator::Minus,
+        AssignmentOperator::Multiply => BinaryOperator::Times,
+        AssignmentOperator::Divide => BinaryOperator::Divide,
+        AssignmentOperator::Remainder => BinaryOperator::Remainder,
+        AssignmentOperator::Power => BinaryOperator::Power,
+    };
+    Expr::AssignBy(operator, name, e)
+}
+
+/// The name that a place is, where it can be assigned to: any but NF so far.
+fn built_target(place: &grammar::Expr) -> Option<&Bytes>
+    ensures { option_map (λ name. name.now) result ≡ built_target (g.expr_of place.now) }
 {
     match place {
-        grammar::Expr::Name(name) if matches!(operator, AssignmentOperator::Plain) => {
+        grammar::Expr::Name(name) => {
             if name.as_slice() == b"NF".as_slice() {
                 None
             } else {
@@ -73,15 +91,26 @@ fn built_target(operator: AssignmentOperator, place: &grammar::Expr) -> Option<&
     }
 }
 
-/// Two operands that are built, with their operator.
-fn binary(alloc: Global, operator: BinaryOperator, a: Expr, b: Expr) -> Result<Expr, Refusal>
-    ensures { Builds expr_of result (Some (run.Binary operator (expr_of a) (expr_of b))) }
+/// A name of its own for a place that can be assigned to.
+fn built_place(place: &grammar::Expr) -> Result<Bytes, Refusal>
+    ensures { Builds (λ name. name) result (built_target (g.expr_of place.now)) }
 {
-    let a = Box::new(alloc, a)?;
-    let b = Box::new(alloc, b)?;
-    Ok(Expr::Binary(operator, a, b))
+    match built_target(place) {
+        Some(name) => Ok(name.clone()?),
+        None => Err(NOT_BUILT),
+    }
 }
 
+/// An operand, in a box of its own.
+#[cycle(expressions)]
+fn built_operand(alloc: Global, e: &grammar::Expr) -> Result<Box<Expr>, Refusal>
+    ensures { Builds (λ b. expr_of b.value) result (built_expr (g.expr_of e.now)) }
+{
+    let e = built_expr(alloc, e)?;
+    Ok(Box::new(alloc, e)?)
+}
+
+#[cycle(expressions)]
 fn built_expr(alloc: Global, e: &grammar::Expr) -> Result<Expr, Refusal>
     ensures { Builds expr_of result (built_expr (g.expr_of e.now)) }
 {
@@ -93,33 +122,32 @@ fn built_expr(alloc: Global, e: &grammar::Expr) -> Result<Expr, Refusal>
             number: ere.number,
         })),
         grammar::Expr::Name(name) => Ok(Expr::Name(name.clone()?)),
-        grammar::Expr::Group(e) => {
-            let e = built_expr(alloc, e)?;
-            Ok(Expr::Group(Box::new(alloc, e)?))
-        }
-        grammar::Expr::Field(e) => {
-            let e = built_expr(alloc, e)?;
-            Ok(Expr::Field(Box::new(alloc, e)?))
-        }
+        grammar::Expr::Group(e) => Ok(Expr::Group(built_operand(alloc, e)?)),
+        grammar::Expr::Field(e) => Ok(Expr::Field(built_operand(alloc, e)?)),
         grammar::Expr::Unary(operator, e) => {
-            let e = built_expr(alloc, e)?;
-            Ok(Expr::Unary(built_unary(*operator), Box::new(alloc, e)?))
+            Ok(Expr::Unary(built_unary(*operator), built_operand(alloc, e)?))
         }
         grammar::Expr::Binary(operator, a, b) => {
-            let Some(operator) = built_operator(*operator) else {
-                return Err(NOT_BUILT);
-            };
-            let a = built_expr(alloc, a)?;
-            let b = built_expr(alloc, b)?;
-            binary(alloc, operator, a, b)
+            let a = built_operand(alloc, a)?;
+            let b = built_operand(alloc, b)?;
+            Ok(binary(*operator, a, b))
+        }
+        grammar::Expr::Conditional(c, a, b) => {
+            let c = built_operand(alloc, c)?;
+            let a = built_operand(alloc, a)?;
+            let b = built_operand(alloc, b)?;
+            Ok(Expr::Conditional(c, a, b))
         }
         grammar::Expr::Assign(operator, place, e) => {
-            let Some(name) = built_target(*operator, place) else {
-                return Err(NOT_BUILT);
-            };
-            let name = name.clone()?;
-            let e = built_expr(alloc, e)?;
-            Ok(Expr::Assign(name, Box::new(alloc, e)?))
+            let name = built_place(place)?;
+            let e = built_operand(alloc, e)?;
+            Ok(assigned(*operator, name, e))
+        }
+        grammar::Expr::PreIncrement(operator, place) => {
+            Ok(Expr::PreIncrement(*operator, built_place(place)?))
+        }
+        grammar::Expr::PostIncrement(operator, place) => {
+            Ok(Expr::PostIncrement(*operator, built_place(place)?))
         }
         _ => Err(NOT_BUILT),
     }
@@ -167,8 +195,21 @@ fn built_statement(alloc: Global, s: &grammar::Statement) -> Result<Statement, R
     ensures { Builds statement_of result (built_statement (g.statement_of s.now)) }
 {
     match s {
+        grammar::Statement::Empty => Ok(Statement::Empty),
         grammar::Statement::Simple(simple) => built_simple(alloc, simple),
         grammar::Statement::Block(all) => Ok(Statement::Block(built_block(alloc, all)?)),
+        grammar::Statement::If(c, s) => {
+            let c = built_operand(alloc, c)?;
+            let s = built_statement(alloc, s)?;
+            Ok(Statement::If(c, Box::new(alloc, s)?))
+        }
+        grammar::Statement::IfElse(c, s, other) => {
+            let c = built_operand(alloc, c)?;
+            let s = built_statement(alloc, s)?;
+            let other = built_statement(alloc, other)?;
+            let s = Box::new(alloc, s)?;
+            Ok(Statement::IfElse(c, s, Box::new(alloc, other)?))
+        }
         _ => Err(NOT_BUILT),
     }
 }

@@ -37,13 +37,21 @@ impl Misuse {
             Expr::Number(_) | Expr::String(_) | Expr::Ere(_) => {}
             Expr::Name(name) => self.add_scalar(name.as_slice()),
             Expr::Group(e) | Expr::Field(e) | Expr::Unary(_, e) => self.add_expr(e),
-            Expr::Binary(_, a, b) => {
+            Expr::Binary(_, a, b) | Expr::And(a, b) | Expr::Or(a, b) => {
                 self.add_expr(a);
                 self.add_expr(b);
             }
-            Expr::Assign(name, e) => {
+            Expr::Conditional(c, a, b) => {
+                self.add_expr(c);
+                self.add_expr(a);
+                self.add_expr(b);
+            }
+            Expr::Assign(name, e) | Expr::AssignBy(_, name, e) => {
                 self.add_scalar(name.as_slice());
                 self.add_expr(e);
+            }
+            Expr::PreIncrement(_, name) | Expr::PostIncrement(_, name) => {
+                self.add_scalar(name.as_slice());
             }
         }
     }
@@ -61,9 +69,19 @@ impl Misuse {
         ensures { Adds self.old self.new (uses_in_statement (statement_of s.now)) }
     {
         match s {
+            Statement::Empty => {}
             Statement::Block(all) => self.add_block(all),
             Statement::Expression(e) => self.add_expr(e),
             Statement::Print(list) => self.add_list(list),
+            Statement::If(c, s) => {
+                self.add_expr(c);
+                self.add_statement(s);
+            }
+            Statement::IfElse(c, s, other) => {
+                self.add_expr(c);
+                self.add_statement(s);
+                self.add_statement(other);
+            }
         }
     }
 

@@ -33,15 +33,15 @@ begin_tries {m = m} {k = k} = record { simulates = lift_simulates _ m k refl }
 
 pub pattern_halts : {is_logged : Type 0} {e : Expr} {m m1 : Interpreter} {k k1 : WorldState} {h : Halt} → Tests is_logged e m k m1 k1 (Err h) → Tries is_logged (Pattern e) m k m1 k1 (Err h)
 unfolding try_item
-pattern_halts p = record { simulates = ends_simulates _ p.tests.simulates }
+pattern_halts p = record { simulates = ends_simulates _ p.simulates }
 
 pub pattern_holds : {is_logged : Type 0} {e : Expr} {m m1 m2 : Interpreter} {k k1 k2 : WorldState} {r : Result (Unit {0}) Halt} → Tests is_logged e m k m1 k1 (Ok true) → Follows is_logged (print Nil) m1 k1 m2 k2 r → Tries is_logged (Pattern e) m k m2 k2 r
 unfolding try_item
-pattern_holds {is_logged = is_logged} {m1 = m1} {m2 = m2} {k1 = k1} {k2 = k2} {r = r} p q = record { simulates = then_simulates _ p.tests.1.simulates (subst (λ (b : Bool). Simulates is_logged m1 k1 m2 k2 r (run_if b (print Nil))) p.tests.2 q.simulates) }
+pattern_holds p q = record { simulates = then_simulates _ p.simulates q.simulates }
 
 pub pattern_fails : {is_logged : Type 0} {e : Expr} {m m1 : Interpreter} {k k1 : WorldState} → Tests is_logged e m k m1 k1 (Ok false) → Tries is_logged (Pattern e) m k m1 k1 (Ok tt)
 unfolding try_item
-pattern_fails {is_logged = is_logged} {m1 = m1} {k1 = k1} p = record { simulates = then_simulates _ p.tests.1.simulates (subst (λ (b : Bool). Simulates is_logged m1 k1 m1 k1 (Ok tt) (run_if b (print Nil))) p.tests.2 (lift_simulates _ m1 k1 refl)) }
+pattern_fails {m1 = m1} {k1 = k1} p = record { simulates = then_simulates _ p.simulates (lift_simulates _ m1 k1 refl) }
 
 pub action_tries : {is_logged : Type 0} {all : Statements} {m m1 : Interpreter} {k k1 : WorldState} {r : Result (Unit {0}) Halt} → Follows is_logged (run_action all) m k m1 k1 r → Tries is_logged (Action all) m k m1 k1 r
 unfolding try_item
@@ -49,15 +49,15 @@ action_tries p = record { simulates = p.simulates }
 
 pub pattern_action_halts : {is_logged : Type 0} {e : Expr} {all : Statements} {m m1 : Interpreter} {k k1 : WorldState} {h : Halt} → Tests is_logged e m k m1 k1 (Err h) → Tries is_logged (PatternAction e all) m k m1 k1 (Err h)
 unfolding try_item
-pattern_action_halts p = record { simulates = ends_simulates _ p.tests.simulates }
+pattern_action_halts p = record { simulates = ends_simulates _ p.simulates }
 
 pub pattern_action_holds : {is_logged : Type 0} {e : Expr} {all : Statements} {m m1 m2 : Interpreter} {k k1 k2 : WorldState} {r : Result (Unit {0}) Halt} → Tests is_logged e m k m1 k1 (Ok true) → Follows is_logged (run_action all) m1 k1 m2 k2 r → Tries is_logged (PatternAction e all) m k m2 k2 r
 unfolding try_item
-pattern_action_holds {is_logged = is_logged} {all = all} {m1 = m1} {m2 = m2} {k1 = k1} {k2 = k2} {r = r} p q = record { simulates = then_simulates _ p.tests.1.simulates (subst (λ (b : Bool). Simulates is_logged m1 k1 m2 k2 r (run_if b (run_action all))) p.tests.2 q.simulates) }
+pattern_action_holds p q = record { simulates = then_simulates _ p.simulates q.simulates }
 
 pub pattern_action_fails : {is_logged : Type 0} {e : Expr} {all : Statements} {m m1 : Interpreter} {k k1 : WorldState} → Tests is_logged e m k m1 k1 (Ok false) → Tries is_logged (PatternAction e all) m k m1 k1 (Ok tt)
 unfolding try_item
-pattern_action_fails {is_logged = is_logged} {all = all} {m1 = m1} {k1 = k1} p = record { simulates = then_simulates _ p.tests.1.simulates (subst (λ (b : Bool). Simulates is_logged m1 k1 m1 k1 (Ok tt) (run_if b (run_action all))) p.tests.2 (lift_simulates _ m1 k1 refl)) }
+pattern_action_fails {m1 = m1} {k1 = k1} p = record { simulates = then_simulates _ p.simulates (lift_simulates _ m1 k1 refl) }
 
 pub items_end : {is_logged : Type 0} {m : Interpreter} {k : WorldState} → TriesAll is_logged [] m k m k (Ok tt)
 unfolding try_items

@@ -3,5 +3,6 @@
 mod accepted;
 mod disturbed;
 mod execute;
+mod operators;
 mod refused;
 mod witness;

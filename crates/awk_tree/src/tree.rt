@@ -1,5 +1,6 @@
 // The tree of what can be run: the forms of the grammar that are built.
 
+use awk_lex::token::IncrementOperator;
 use awk_value::Bytes;
 
 /// What stands before an operand.
@@ -13,6 +14,8 @@ pub enum UnaryOperator {
 /// What joins two operands.
 #[derive(Clone, Copy, PartialEq, Eq)]
 pub enum BinaryOperator {
+    /// `^`
+    Power,
     Times,
     Divide,
     Remainder,
@@ -56,19 +59,35 @@ pub enum Expr {
     Field(Box<Expr>),
     Unary(UnaryOperator, Box<Expr>),
     Binary(BinaryOperator, Box<Expr>, Box<Expr>),
+    /// `expr && expr`.
+    And(Box<Expr>, Box<Expr>),
+    /// `expr || expr`.
+    Or(Box<Expr>, Box<Expr>),
+    /// `expr ? expr : expr`.
+    Conditional(Box<Expr>, Box<Expr>, Box<Expr>),
     /// `name = expr`.
     Assign(Bytes, Box<Expr>),
+    /// `name += expr` and so on, with what joins the name's old value to that of the expression.
+    AssignBy(BinaryOperator, Bytes, Box<Expr>),
+    /// `++ name` and `-- name`.
+    PreIncrement(IncrementOperator, Bytes),
+    /// `name ++` and `name --`.
+    PostIncrement(IncrementOperator, Bytes),
 }
 
 /// A statement.
 #[derive(Drop)]
 pub enum Statement {
+    /// A `;` alone.
+    Empty,
     /// A block in braces.
     Block(Vec<Statement>),
     /// An expression, whose value is of no use.
     Expression(Expr),
     /// `print` with its list, or with none.
     Print(Vec<Expr>),
+    If(Box<Expr>, Box<Statement>),
+    IfElse(Box<Expr>, Box<Statement>, Box<Statement>),
 }
 
 /// An item of a program, with its action.

@@ -1,15 +1,14 @@
 -- What expressions and statements do to the state of a run.
-use Rattle.std.specs.Prelude.{◌≡◌, ℕ, Bool, true, List, Option, Some, None, Result, Ok, Err}
+use Rattle.std.specs.Prelude.{◌≡◌, ℕ, Bool, true, false, List, Option, Some, None, Result, Ok, Err}
 use Rattle.awk_value.specs.declared.value.Value.{Value}
-use Rattle.awk_value.specs.Values.{truth_of}
 use Rattle.awk_streams.specs.WorldState.{WorldState}
 use Rattle.awk_tree.specs.Tree.{Expr, Ere, Exprs, Statement, Statements}
 use Rattle.awk_meaning.specs.declared.flow.Flow.{Flow}
 use Rattle.awk_meaning.specs.declared.halt.Halt.{Halt}
 use Rattle.awk_tree.specs.declared.tree.BinaryOperator.{BinaryOperator}
-use Rattle.awk_meaning.specs.State.{Run, ◌>>=◌, lift}
-use Rattle.awk_meaning.specs.Operators.{applied, takes_pattern}
-use Rattle.awk_meaning.specs.Semantics.{right_operand, eval, eval_all, printed_values, exec, exec_all}
+use Rattle.awk_meaning.specs.State.{Run, ◌>>=◌, lift, ret}
+use Rattle.awk_meaning.specs.Operators.{truth_value, applied, takes_pattern}
+use Rattle.awk_meaning.specs.Semantics.{right_operand, tested, choose, eval, eval_all, printed_values, begin_test, exec, exec_all}
 use Rattle.awk_interpreter.specs.declared.interpreter.Interpreter.{Interpreter}
 use Rattle.awk_interpreter.specs.Simulation.{Simulates}
 
@@ -26,12 +25,19 @@ pub record AppliesToRight (is_logged : Type 0) (o : BinaryOperator) (x : Value) 
   pub simulates : Simulates is_logged old before new after r (right_operand (takes_pattern o) b (eval b) >>= λ y. lift (applied o x y))
 
 -- an expression is tested
-abbrev pub TestsTo : Type 0 → Expr → Interpreter → WorldState → Interpreter → WorldState → Result Bool Halt → Type 0
-TestsTo is_logged e old before new after (Ok b) = (v : Value) × Evaluates is_logged e old before new after (Ok v) × (b ≡ truth_of v)
-TestsTo is_logged e old before new after (Err h) = Evaluates is_logged e old before new after (Err h)
-
 pub record Tests (is_logged : Type 0) (e : Expr) (old : Interpreter) (before : WorldState) (new : Interpreter) (after : WorldState) (r : Result Bool Halt) : Type 0 where
-  pub tests : TestsTo is_logged e old before new after r
+  pub simulates : Simulates is_logged old before new after r (tested (eval e))
+
+-- `&&` and `||` behind the truth of their first operand
+pub record AndThen (is_logged : Type 0) (first : Bool) (b : Expr) (old : Interpreter) (before : WorldState) (new : Interpreter) (after : WorldState) (r : Result Value Halt) : Type 0 where
+  pub simulates : Simulates is_logged old before new after r (choose first (tested (eval b)) (ret false) >>= λ y. ret (truth_value y))
+
+pub record OrElse (is_logged : Type 0) (first : Bool) (b : Expr) (old : Interpreter) (before : WorldState) (new : Interpreter) (after : WorldState) (r : Result Value Halt) : Type 0 where
+  pub simulates : Simulates is_logged old before new after r (choose first (ret true) (tested (eval b)) >>= λ y. ret (truth_value y))
+
+-- an `if` begins
+pub record BeginsTest (is_logged : Type 0) (e : Expr) (old : Interpreter) (before : WorldState) (new : Interpreter) (after : WorldState) (r : Result Bool Halt) : Type 0 where
+  pub simulates : Simulates is_logged old before new after r (begin_test e)
 
 abbrev pub viewed : {X Y : Type 0} → (X → Y) → Result X Halt → Result Y Halt
 viewed view (Ok x) = Ok (view x)

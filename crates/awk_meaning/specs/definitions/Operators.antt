@@ -5,15 +5,17 @@ use Rattle.std.specs.declared.cmp.Ordering.TheVariants as ordering
 use Rattle.awk_value.specs.declared.value.Value.{Value}
 use Rattle.awk_value.specs.declared.value.Value.TheVariants.{Number, Text}
 use Rattle.awk_value.specs.declared.fault.ValueFault.{ValueFault}
-use Rattle.awk_value.specs.Arithmetic.{product_of, sum_of, difference_of, quotient_of, remainder_of, negative_of}
+use Rattle.awk_value.specs.Arithmetic.{product_of, sum_of, difference_of, quotient_of, remainder_of, negative_of, power_of}
 use Rattle.awk_value.specs.Values.{num_of, str_of, truth_of, order_of, number_value, from_numbers, from_number}
 use Rattle.awk_ere.specs.Tree.{Tree}
 use Rattle.awk_ere.specs.Means.{pattern_of, occurs}
 use Rattle.awk_record.specs.Record.{RecordPair, field_of}
+use Rattle.awk_lex.specs.declared.token.IncrementOperator.{IncrementOperator}
+use Rattle.awk_lex.specs.declared.token.IncrementOperator.TheVariants.{Increment, Decrement}
 use Rattle.awk_tree.specs.declared.tree.UnaryOperator.{UnaryOperator}
 use Rattle.awk_tree.specs.declared.tree.UnaryOperator.TheVariants as unary
 use Rattle.awk_tree.specs.declared.tree.BinaryOperator.{BinaryOperator}
-use Rattle.awk_tree.specs.declared.tree.BinaryOperator.TheVariants.{Times, Divide, Remainder, Plus, Minus, Concatenate, Less, LessEqual, Equal, NotEqual, Greater, GreaterEqual, Matches, NotMatches}
+use Rattle.awk_tree.specs.declared.tree.BinaryOperator.TheVariants.{Power, Times, Divide, Remainder, Plus, Minus, Concatenate, Less, LessEqual, Equal, NotEqual, Greater, GreaterEqual, Matches, NotMatches}
 use Rattle.awk_meaning.specs.declared.fault.Fault.TheVariants.{PatternRefused}
 use Rattle.awk_meaning.specs.declared.halt.Halt.{Halt}
 use Rattle.awk_meaning.specs.declared.halt.Halt.TheVariants as halt
@@ -21,6 +23,7 @@ use Rattle.awk_meaning.specs.definitions.Faults.{value_fault, of_values, of_reco
 
 -- whether two values in this order are so related
 abbrev pub relates : BinaryOperator → Ordering → Bool
+relates Power o = false
 relates Times o = false
 relates Divide o = false
 relates Remainder o = false
@@ -65,6 +68,7 @@ of_match f (Err reason) = Err reason
 
 -- an operator between two values: a number, a text, or 1 or 0. The text right of a `~` is read as a pattern
 abbrev pub applied : BinaryOperator → Value → Value → Result Value Halt
+applied Power x y = of_values (from_numbers power_of (num_of x) (num_of y))
 applied Times x y = of_values (from_numbers product_of (num_of x) (num_of y))
 applied Divide x y = of_values (from_numbers quotient_of (num_of x) (num_of y))
 applied Remainder x y = of_values (from_numbers remainder_of (num_of x) (num_of y))
@@ -74,6 +78,14 @@ applied Concatenate x y = Ok (Text (str_of x ++ str_of y))
 applied Matches x y = of_match (λ b. b) (matched (str_of y) (str_of x))
 applied NotMatches x y = of_match not (matched (str_of y) (str_of x))
 applied o x y = Ok (truth_value (relates o (order_of x y)))
+
+-- `++` adds 1, and `--` takes 1 away
+abbrev pub by_one : IncrementOperator → BinaryOperator
+by_one Increment = Plus
+by_one Decrement = Minus
+
+abbrev pub one : Value
+one = Number (pos 1)
 
 -- the field of a record whose number is a value's
 abbrev pub field_by : RecordPair → Result ℤ ValueFault → Result Value Halt

@@ -3,7 +3,10 @@ use Rattle.std.specs.Prelude.{ℕ, zero, suc, Bool, true, false, ◌||◌, List,
 use Rattle.awk_value.specs.declared.value.Value.{Value}
 use Rattle.awk_value.specs.declared.value.Value.TheVariants as value
 use Rattle.awk_value.specs.Values.{truth_of}
-use Rattle.awk_tree.specs.Tree.{Expr, Number, String, Ere, Name, Group, Field, Unary, Binary, Assign, Exprs, Nil, Cons, Statement, Block, Expression, Print, Statements, NoMore, Then, Item, Begin, Action, Pattern, PatternAction}
+use Rattle.awk_tree.specs.Tree.{Expr, Number, String, Ere, Name, Group, Field, Unary, Binary, And, Or, Conditional, Assign, AssignBy, PreIncrement, PostIncrement, Exprs, Nil, Cons, Statement, Empty, Block, Expression, Print, If, IfElse, Statements, NoMore, Then, Item, Begin, Action, Pattern, PatternAction}
+use Rattle.awk_lex.specs.declared.token.IncrementOperator.{IncrementOperator}
+use Rattle.awk_tree.specs.declared.tree.UnaryOperator.TheVariants as before
+use Rattle.awk_tree.specs.declared.tree.BinaryOperator.{BinaryOperator}
 use Rattle.awk_tree.specs.declared.tree.BinaryOperator.TheVariants.{Matches}
 use Rattle.awk_meaning.specs.declared.flow.Flow.{Flow}
 use Rattle.awk_meaning.specs.declared.flow.Flow.TheVariants as flow
@@ -13,14 +16,35 @@ use Rattle.awk_meaning.specs.definitions.State.{Run, ◌>>=◌, lift, ret}
 use Rattle.awk_variables.specs.declared.special.Special.TheVariants.{Nr, Fnr}
 use Rattle.awk_meaning.specs.definitions.Primitives.{spend, read_name, put, count_in, field_at, record_text, set_record, print_line}
 use Rattle.awk_meaning.specs.definitions.Inputs.{next_record}
-use Rattle.awk_meaning.specs.definitions.Operators.{changed, applied, takes_pattern}
+use Rattle.awk_meaning.specs.definitions.Operators.{truth_value, changed, applied, by_one, one, takes_pattern}
 
 -- an ERE right of `~` and `!~` is that pattern; any other operand there is evaluated
 abbrev pub right_operand : Bool → Expr → Run Value → Run Value
 right_operand true (Ere text) evaluated = ret (value.Text text)
 right_operand takes e evaluated = evaluated
 
--- an expression gives a value; operands go from left to right. An ERE alone is whether the record has a match of it
+-- whether a value that is evaluated is true
+unfoldable pub tested : Run Value → Run Bool
+tested m = m >>= λ v. ret (truth_of v)
+
+abbrev pub choose : {A : Type 0} → Bool → Run A → Run A → Run A
+choose true here other = here
+choose false here other = other
+
+-- a name gets a value, and gives what it then has
+unfoldable pub store : List ℕ → Value → Run Value
+store x v = put x v >>= λ _. read_name x
+
+-- a name gets what an operator makes of the value that it has then and of another
+unfoldable pub store_by : BinaryOperator → List ℕ → Value → Run Value
+store_by o x v = read_name x >>= λ old. lift (applied o old v) >>= λ w. store x w
+
+-- a name gets its number and 1, or less 1; it gives the number that it had
+unfoldable pub post_increment : IncrementOperator → List ℕ → Run Value
+post_increment o x = read_name x >>= λ v. lift (changed before.Plus v) >>= λ n. lift (applied (by_one o) n one) >>= λ w. put x w >>= λ _. ret n
+
+-- an expression gives a value; operands go from left to right, and `&&`, `||` and `?:` evaluate no more than they need.
+-- An ERE alone is whether the record has a match of it
 unfoldable pub eval : Expr → Run Value
 eval (Number n) = ret (value.Number n)
 eval (String bytes) = ret (value.Text bytes)
@@ -30,8 +54,13 @@ eval (Group e) = eval e
 eval (Field e) = eval e >>= λ v. field_at v
 eval (Unary o e) = eval e >>= λ v. lift (changed o v)
 eval (Binary o a b) = eval a >>= λ x. right_operand (takes_pattern o) b (eval b) >>= λ y. lift (applied o x y)
--- what an assignment gives is what its name then has
-eval (Assign x e) = eval e >>= λ v. put x v >>= λ _. read_name x
+eval (And a b) = tested (eval a) >>= λ x. choose x (tested (eval b)) (ret false) >>= λ y. ret (truth_value y)
+eval (Or a b) = tested (eval a) >>= λ x. choose x (ret true) (tested (eval b)) >>= λ y. ret (truth_value y)
+eval (Conditional c a b) = tested (eval c) >>= λ x. choose x (eval a) (eval b)
+eval (Assign x e) = eval e >>= λ v. store x v
+eval (AssignBy o x e) = eval e >>= λ v. store_by o x v
+eval (PreIncrement o x) = store_by (by_one o) x one
+eval (PostIncrement o x) = post_increment o x
 
 -- the values of a list, behind those that are there
 unfoldable pub eval_all : List Value → Exprs → Run (List Value)
@@ -47,17 +76,24 @@ printed_values (Cons e es) = eval_all [] (Cons e es)
 unfoldable pub print : Exprs → Run (Unit {0})
 print list = spend >>= λ _. printed_values list >>= λ vs. print_line vs
 
+-- an `if` spends a step as it begins, and its condition is evaluated
+unfoldable pub begin_test : Expr → Run Bool
+begin_test c = spend >>= λ _. tested (eval c)
+
 -- what follows a statement is executed where it passes on to the next one
 abbrev pub pass_on : Flow → Run Flow → Run Flow
 pass_on flow.Normal rest = rest
 pass_on f rest = ret f
 
--- a statement, and how it passes on; one that is no block spends a step as it begins
+-- a statement, and how it passes on; one that is no block and not empty spends a step as it begins
 unfoldable mutual
   pub exec : Statement → Run Flow
+  exec Empty = ret flow.Normal
   exec (Block all) = exec_all all
   exec (Expression e) = spend >>= λ _. eval e >>= λ v. ret flow.Normal
   exec (Print list) = print list >>= λ _. ret flow.Normal
+  exec (If c s) = begin_test c >>= λ x. choose x (exec s) (ret flow.Normal)
+  exec (IfElse c s other) = begin_test c >>= λ x. choose x (exec s) (exec other)
 
   pub exec_all : Statements → Run Flow
   exec_all NoMore = ret flow.Normal
@@ -76,8 +112,8 @@ run_if false action = ret tt
 unfoldable pub try_item : Item → Run (Unit {0})
 try_item (Begin block) = ret tt
 try_item (Action block) = run_action block
-try_item (Pattern e) = eval e >>= λ v. run_if (truth_of v) (print Nil)
-try_item (PatternAction e block) = eval e >>= λ v. run_if (truth_of v) (run_action block)
+try_item (Pattern e) = tested (eval e) >>= λ x. run_if x (print Nil)
+try_item (PatternAction e block) = tested (eval e) >>= λ x. run_if x (run_action block)
 
 unfoldable pub try_items : List Item → Run (Unit {0})
 try_items [] = ret tt

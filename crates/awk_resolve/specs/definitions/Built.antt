@@ -3,7 +3,7 @@ use Rattle.std.specs.Prelude.{ℕ, List, [], ◌∷◌, Option, Some, None, code
 use Rattle.std.specs.Option.{option_map}
 use Rattle.awk_lex.specs.declared.token.Operator.TheVariants as s
 use Rattle.awk_lex.specs.declared.token.AssignmentOperator.{AssignmentOperator}
-use Rattle.awk_lex.specs.declared.token.AssignmentOperator.TheVariants.{Plain}
+use Rattle.awk_lex.specs.declared.token.AssignmentOperator.TheVariants as by
 use Rattle.awk_grammar.specs.Tree as g
 use Rattle.awk_grammar.specs.declared.tree.UnaryOperator.{UnaryOperator as GrammarUnary}
 use Rattle.awk_grammar.specs.declared.tree.UnaryOperator.TheVariants as before
@@ -13,7 +13,6 @@ use Rattle.awk_grammar.specs.declared.tree.PrintForm.TheVariants as form
 use Rattle.awk_tree.specs.Tree as t
 use Rattle.awk_tree.specs.declared.tree.UnaryOperator.{UnaryOperator}
 use Rattle.awk_tree.specs.declared.tree.UnaryOperator.TheVariants as u
-use Rattle.awk_tree.specs.declared.tree.BinaryOperator.{BinaryOperator}
 use Rattle.awk_tree.specs.declared.tree.BinaryOperator.TheVariants as o
 
 -- a form of two parts, where both are built
@@ -21,39 +20,50 @@ abbrev pub both : {A B C : Type 0} → (A → B → C) → Option A → Option B
 both f (Some a) (Some b) = Some (f a b)
 both f a b = None
 
+-- a form of three parts, where all are built
+abbrev pub all_three : {A B C D : Type 0} → (A → B → C → D) → Option A → Option B → Option C → Option D
+all_three f (Some a) (Some b) (Some c) = Some (f a b c)
+all_three f a b c = None
+
 abbrev pub built_unary : GrammarUnary → UnaryOperator
 built_unary before.Not = u.Not
 built_unary before.Plus = u.Plus
 built_unary before.Minus = u.Minus
 
--- all but `^`, `&&` and `||`
-abbrev pub built_operator : GrammarBinary → Option BinaryOperator
-built_operator Concatenate = Some o.Concatenate
-built_operator (Infix s.Times) = Some o.Times
-built_operator (Infix s.Divide) = Some o.Divide
-built_operator (Infix s.Remainder) = Some o.Remainder
-built_operator (Infix s.Plus) = Some o.Plus
-built_operator (Infix s.Minus) = Some o.Minus
-built_operator (Infix s.Less) = Some o.Less
-built_operator (Infix s.LessEqual) = Some o.LessEqual
-built_operator (Infix s.Equal) = Some o.Equal
-built_operator (Infix s.NotEqual) = Some o.NotEqual
-built_operator (Infix s.Greater) = Some o.Greater
-built_operator (Infix s.GreaterEqual) = Some o.GreaterEqual
-built_operator (Infix s.Matches) = Some o.Matches
-built_operator (Infix s.NotMatches) = Some o.NotMatches
-built_operator (Infix s.Power) = None
-built_operator (Infix s.And) = None
-built_operator (Infix s.Or) = None
+-- two operands with their operator
+abbrev pub binary : GrammarBinary → t.Expr → t.Expr → t.Expr
+binary Concatenate a b = t.Binary o.Concatenate a b
+binary (Infix s.Power) a b = t.Binary o.Power a b
+binary (Infix s.Times) a b = t.Binary o.Times a b
+binary (Infix s.Divide) a b = t.Binary o.Divide a b
+binary (Infix s.Remainder) a b = t.Binary o.Remainder a b
+binary (Infix s.Plus) a b = t.Binary o.Plus a b
+binary (Infix s.Minus) a b = t.Binary o.Minus a b
+binary (Infix s.Less) a b = t.Binary o.Less a b
+binary (Infix s.LessEqual) a b = t.Binary o.LessEqual a b
+binary (Infix s.Equal) a b = t.Binary o.Equal a b
+binary (Infix s.NotEqual) a b = t.Binary o.NotEqual a b
+binary (Infix s.Greater) a b = t.Binary o.Greater a b
+binary (Infix s.GreaterEqual) a b = t.Binary o.GreaterEqual a b
+binary (Infix s.Matches) a b = t.Binary o.Matches a b
+binary (Infix s.NotMatches) a b = t.Binary o.NotMatches a b
+binary (Infix s.And) a b = t.And a b
+binary (Infix s.Or) a b = t.Or a b
 
--- what is assigned to: a name other than NF, by `=`
-abbrev pub built_target : AssignmentOperator → g.Expr → Option (List ℕ)
-built_target Plain (g.Name x) = if bytes_eq x (codes "NF") then None else Some x
-built_target operator place = None
+-- the places that can be assigned to so far: any name but NF
+abbrev pub built_target : g.Expr → Option (List ℕ)
+built_target (g.Name x) = if bytes_eq x (codes "NF") then None else Some x
+built_target place = None
 
-abbrev pub binary : Option BinaryOperator → Option t.Expr → Option t.Expr → Option t.Expr
-binary None a b = None
-binary (Some operator) a b = both (t.Binary operator) a b
+-- an assignment; all but `=` join the old value of the place to the new one
+abbrev pub assigned : AssignmentOperator → List ℕ → t.Expr → t.Expr
+assigned by.Plain x e = t.Assign x e
+assigned by.Add x e = t.AssignBy o.Plus x e
+assigned by.Subtract x e = t.AssignBy o.Minus x e
+assigned by.Multiply x e = t.AssignBy o.Times x e
+assigned by.Divide x e = t.AssignBy o.Divide x e
+assigned by.Remainder x e = t.AssignBy o.Remainder x e
+assigned by.Power x e = t.AssignBy o.Power x e
 
 abbrev pub built_expr : g.Expr → Option t.Expr
 built_expr (g.Number n) = Some (t.Number n)
@@ -63,8 +73,11 @@ built_expr (g.Name x) = Some (t.Name x)
 built_expr (g.Group e) = option_map t.Group (built_expr e)
 built_expr (g.Field e) = option_map t.Field (built_expr e)
 built_expr (g.Unary operator e) = option_map (t.Unary (built_unary operator)) (built_expr e)
-built_expr (g.Binary operator a b) = binary (built_operator operator) (built_expr a) (built_expr b)
-built_expr (g.Assign operator place e) = both t.Assign (built_target operator place) (built_expr e)
+built_expr (g.Binary operator a b) = both (binary operator) (built_expr a) (built_expr b)
+built_expr (g.Conditional c a b) = all_three t.Conditional (built_expr c) (built_expr a) (built_expr b)
+built_expr (g.Assign operator place e) = both (assigned operator) (built_target place) (built_expr e)
+built_expr (g.PreIncrement operator place) = option_map (t.PreIncrement operator) (built_target place)
+built_expr (g.PostIncrement operator place) = option_map (t.PostIncrement operator) (built_target place)
 built_expr e = None
 
 abbrev pub built_list : g.Exprs → Option t.Exprs
@@ -83,8 +96,11 @@ built_simple simple = None
 
 abbrev mutual
   pub built_statement : g.Statement → Option t.Statement
+  built_statement g.Empty = Some t.Empty
   built_statement (g.Simple simple) = built_simple simple
   built_statement (g.Block all) = option_map t.Block (built_block all)
+  built_statement (g.If c s) = both t.If (built_expr c) (built_statement s)
+  built_statement (g.IfElse c s other) = all_three t.IfElse (built_expr c) (built_statement s) (built_statement other)
   built_statement s = None
 
   pub built_block : g.Statements → Option t.Statements

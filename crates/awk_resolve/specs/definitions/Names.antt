@@ -5,7 +5,7 @@ use Rattle.std.specs.List.{list_any}
 use Rattle.awk_lex.specs.Words.{is_left_out}
 use Rattle.awk_lex.specs.declared.token.Kind.{Kind}
 use Rattle.awk_lex.specs.declared.token.Kind.TheVariants as t
-use Rattle.awk_tree.specs.Tree.{Expr, Number, String, Ere, Name, Group, Field, Unary, Binary, Assign, Exprs, Nil, Cons, Statement, Block, Expression, Print, Statements, NoMore, Then, Item, Begin, Action, Pattern, PatternAction}
+use Rattle.awk_tree.specs.Tree.{Expr, Number, String, Ere, Name, Group, Field, Unary, Binary, And, Or, Conditional, Assign, AssignBy, PreIncrement, PostIncrement, Exprs, Nil, Cons, Statement, Empty, Block, Expression, Print, If, IfElse, Statements, NoMore, Then, Item, Begin, Action, Pattern, PatternAction}
 
 -- a name, and whether it is used as an array there or as a scalar
 pub record Use : Type 0 where
@@ -26,7 +26,13 @@ uses_in_expr (Group e) = uses_in_expr e
 uses_in_expr (Field e) = uses_in_expr e
 uses_in_expr (Unary o e) = uses_in_expr e
 uses_in_expr (Binary o a b) = uses_in_expr a ++ uses_in_expr b
+uses_in_expr (And a b) = uses_in_expr a ++ uses_in_expr b
+uses_in_expr (Or a b) = uses_in_expr a ++ uses_in_expr b
+uses_in_expr (Conditional c a b) = uses_in_expr c ++ (uses_in_expr a ++ uses_in_expr b)
 uses_in_expr (Assign x e) = scalar x ∷ uses_in_expr e
+uses_in_expr (AssignBy o x e) = scalar x ∷ uses_in_expr e
+uses_in_expr (PreIncrement o x) = scalar x ∷ []
+uses_in_expr (PostIncrement o x) = scalar x ∷ []
 
 abbrev pub uses_in_list : Exprs → List Use
 uses_in_list Nil = []
@@ -34,9 +40,12 @@ uses_in_list (Cons e es) = uses_in_expr e ++ uses_in_list es
 
 abbrev mutual
   pub uses_in_statement : Statement → List Use
+  uses_in_statement Empty = []
   uses_in_statement (Block all) = uses_in_block all
   uses_in_statement (Expression e) = uses_in_expr e
   uses_in_statement (Print list) = uses_in_list list
+  uses_in_statement (If c s) = uses_in_expr c ++ uses_in_statement s
+  uses_in_statement (IfElse c s other) = uses_in_expr c ++ (uses_in_statement s ++ uses_in_statement other)
 
   pub uses_in_block : Statements → List Use
   uses_in_block NoMore = []

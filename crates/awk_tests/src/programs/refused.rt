@@ -48,7 +48,40 @@ $ {print sin(1)}
 ! awk: line 1: refusal K7: name left out
 = 2
 $ {x++; y = ARGV}
+! awk: line 1: refusal K1: array and scalar
+= 2
+$ {while (x) ARGV}
 ! awk: line 1: refusal K9: not built yet
+= 2
+$ {ARGV++}
+! awk: line 1: refusal K1: array and scalar
+= 2
+$ {ENVIRON -= 1}
+! awk: line 1: refusal K1: array and scalar
+= 2
+$ {1 && ENVIRON}
+! awk: line 1: refusal K1: array and scalar
+= 2
+$ {x ? 1 : ARGV}
+! awk: line 1: refusal K1: array and scalar
+= 2
+$ {if (x) print; else print ARGV}
+! awk: line 1: refusal K1: array and scalar
+= 2
+$ {$1++}
+! awk: line 1: refusal K9: not built yet
+= 2
+$ {--NF}
+! awk: line 1: refusal K9: not built yet
+= 2
+$ {x[1] += 2}
+! awk: line 1: refusal K9: not built yet
+= 2
+$ {NF += 2}
+! awk: line 1: refusal K9: not built yet
+= 2
+$ BEGIN{print 1>2?"x":"y"}
+! awk: line 1: refusal S1: not a program
 = 2
 $ {while (x) y}
 ! awk: line 1: refusal K9: not built yet

@@ -1,5 +1,6 @@
 -- The tree of what can be run, without where it lies in memory: the forms of the grammar that are built.
 use Rattle.std.specs.Prelude.{ℕ, ℤ, List}
+use Rattle.awk_lex.specs.declared.token.IncrementOperator.{IncrementOperator}
 use Rattle.awk_tree.specs.declared.tree.UnaryOperator.{UnaryOperator}
 use Rattle.awk_tree.specs.declared.tree.BinaryOperator.{BinaryOperator}
 
@@ -15,7 +16,14 @@ pub data Expr : Type 0 where
   Field : (e : Expr) → Expr
   Unary : (o : UnaryOperator) (e : Expr) → Expr
   Binary : (o : BinaryOperator) (a b : Expr) → Expr
+  And : (a b : Expr) → Expr
+  Or : (a b : Expr) → Expr
+  Conditional : (c a b : Expr) → Expr
   Assign : (name : List ℕ) (e : Expr) → Expr
+  -- an assignment, by what joins the old value of the name to that of the expression
+  AssignBy : (o : BinaryOperator) (name : List ℕ) (e : Expr) → Expr
+  PreIncrement : (o : IncrementOperator) (name : List ℕ) → Expr
+  PostIncrement : (o : IncrementOperator) (name : List ℕ) → Expr
 
 pub data Exprs : Type 0 where
   Nil : Exprs
@@ -23,11 +31,15 @@ pub data Exprs : Type 0 where
 
 mutual
   pub data Statement : Type 0 where
+    -- `;` alone
+    Empty : Statement
     Block : (all : Statements) → Statement
     -- an expression as a statement
     Expression : (e : Expr) → Statement
     -- `print`; an empty list is none
     Print : (list : Exprs) → Statement
+    If : (c : Expr) (s : Statement) → Statement
+    IfElse : (c : Expr) (s other : Statement) → Statement
 
   pub data Statements : Type 0 where
     NoMore : Statements

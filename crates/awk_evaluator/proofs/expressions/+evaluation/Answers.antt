@@ -1,7 +1,7 @@
 use Rattle.std.proofs.Common.{rules, ap}
 use Rattle.std.proofs.lemmas.Result.{err_from_is_err_and}
 use Rattle.awk_tree.specs.View.{expr_of}
-use Rattle.awk_evaluator.proofs.Evaluation.{number_evaluates, string_evaluates, string_unread, name_evaluates, ere_evaluates, group_evaluates, unary_ends, unary_gives, assign_ends, assign_not_put, assign_gives, field_ends, field_gives, binary_ends, binary_gives, right_ends, right_gives, right_takes}
+use Rattle.awk_evaluator.proofs.Evaluation.{number_evaluates, string_evaluates, string_unread, name_evaluates, ere_evaluates, group_evaluates, unary_ends, unary_gives, assign_ends, assign_gives, assign_by_ends, assign_by_gives, pre_increment_evaluates, post_increment_evaluates, test_ends, test_gives, and_ends, and_gives, and_then_fails, and_then_halts, and_then_gives, or_ends, or_gives, or_else_holds, or_else_halts, or_else_gives, conditional_ends, conditional_first, conditional_second, field_ends, field_gives, binary_ends, binary_gives, right_ends, right_gives, right_takes}
 use Rattle.awk_evaluator.proofs.expressions.+evaluation.Goals as goal
 
 pub eval-returns-in-Number : goal.eval-returns-in-Number
@@ -69,13 +69,83 @@ assign-returns-in_err-value g t c =
     let p = err_from_is_err_and c.from_residual.result c.from_residual.ensures.1 in
     rw (p.1, p.2) (assign_ends c.in_err-value.ensures)
 
-pub assign-returns-in_err-put : goal.assign-returns-in_err-put
-assign-returns-in_err-put g t c =
-    let p = err_from_is_err_and c.from_residual-in_err-put.result c.from_residual-in_err-put.ensures.1 in
-    rw (p.1, p.2) (assign_not_put c.in_ok-value.ensures c.in_err-put.ensures)
-
 pub assign-returns : goal.assign-returns
-assign-returns g t c = assign_gives c.in_ok-value.ensures c.in_ok-put.ensures c.read_name.ensures
+assign-returns g t c = assign_gives c.in_ok-value.ensures c.store.ensures
+
+pub assign_by-returns-in_err-operand : goal.assign_by-returns-in_err-operand
+assign_by-returns-in_err-operand g t c =
+    let p = err_from_is_err_and c.from_residual.result c.from_residual.ensures.1 in
+    rw (p.1, p.2) (assign_by_ends c.in_err-operand.ensures)
+
+pub assign_by-returns : goal.assign_by-returns
+assign_by-returns g t c = assign_by_gives c.in_ok-operand.ensures c.store_by.ensures
+
+pub holds-returns-in_err-value : goal.holds-returns-in_err-value
+holds-returns-in_err-value g t c =
+    let p = err_from_is_err_and c.from_residual.result c.from_residual.ensures.1 in
+    rw (p.1, p.2) (test_ends c.in_err-value.ensures)
+
+pub holds-returns : goal.holds-returns
+holds-returns g t c = rw c.is_true.ensures (test_gives c.in_ok-value.ensures)
+
+pub eval-returns-in_err-first-in-And : goal.eval-returns-in_err-first-in-And
+eval-returns-in_err-first-in-And g t c =
+    let p = err_from_is_err_and c.from_residual-in_err-first-in-And.result c.from_residual-in_err-first-in-And.ensures.1 in
+    rw (p.1, p.2, ap expr_of c.in-And.is) (and_ends (rw c.deref-in-And.ensures at (c.in_err-first-in-And.ensures {u = tt})))
+
+pub eval-returns-in_ok-first-in-And : goal.eval-returns-in_ok-first-in-And
+eval-returns-in_ok-first-in-And g t c =
+    rw (ap expr_of c.in-And.is) (and_gives (rw c.deref-in-And.ensures at (c.in_ok-first-in-And.ensures {u = tt})) (rw c.deref-in-And-2.ensures at c.and_then.ensures))
+
+pub eval-returns-in_err-first-in-Or : goal.eval-returns-in_err-first-in-Or
+eval-returns-in_err-first-in-Or g t c =
+    let p = err_from_is_err_and c.from_residual-in_err-first-in-Or.result c.from_residual-in_err-first-in-Or.ensures.1 in
+    rw (p.1, p.2, ap expr_of c.in-Or.is) (or_ends (rw c.deref-in-Or.ensures at (c.in_err-first-in-Or.ensures {u = tt})))
+
+pub eval-returns-in_ok-first-in-Or : goal.eval-returns-in_ok-first-in-Or
+eval-returns-in_ok-first-in-Or g t c =
+    rw (ap expr_of c.in-Or.is) (or_gives (rw c.deref-in-Or.ensures at (c.in_ok-first-in-Or.ensures {u = tt})) (rw c.deref-in-Or-2.ensures at c.or_else.ensures))
+
+pub eval-returns-in_err-holds-in-Conditional : goal.eval-returns-in_err-holds-in-Conditional
+eval-returns-in_err-holds-in-Conditional g t c =
+    let p = err_from_is_err_and c.from_residual-in_err-holds-in-Conditional.result c.from_residual-in_err-holds-in-Conditional.ensures.1 in
+    rw (p.1, p.2, ap expr_of c.in-Conditional.is) (conditional_ends (rw c.deref-in-Conditional.ensures at (c.in_err-holds-in-Conditional.ensures {u = tt})))
+
+pub eval-returns-then-branch : goal.eval-returns-then-branch
+eval-returns-then-branch g t c =
+    rw (ap expr_of c.in-Conditional.is) (conditional_first (rw (c.deref-in-Conditional.ensures, c.if-branch.true) at (c.in_ok-holds-in-Conditional.ensures {u = tt})) (rw c.deref-then-branch.ensures at c.eval-then-branch.ensures))
+
+pub eval-returns-else-branch : goal.eval-returns-else-branch
+eval-returns-else-branch g t c =
+    rw (ap expr_of c.in-Conditional.is) (conditional_second (rw (c.deref-in-Conditional.ensures, c.if-branch.false) at (c.in_ok-holds-in-Conditional.ensures {u = tt})) (rw c.deref-else-branch.ensures at c.eval-else-branch.ensures))
+
+pub and_then-returns-then-not-first : goal.and_then-returns-then-not-first
+and_then-returns-then-not-first g t c = rw (c.if-not-first.true, c.truth_value.ensures) and_then_fails
+
+pub and_then-returns-in_err-second : goal.and_then-returns-in_err-second
+and_then-returns-in_err-second g t c =
+    let p = err_from_is_err_and c.from_residual.result c.from_residual.ensures.1 in
+    rw (p.1, p.2, c.if-not-first.false) (and_then_halts c.in_err-second.ensures)
+
+pub and_then-returns : goal.and_then-returns
+and_then-returns g t c = rw (c.if-not-first.false, c.truth_value-2.ensures) (and_then_gives c.in_ok-second.ensures)
+
+pub or_else-returns-then-first : goal.or_else-returns-then-first
+or_else-returns-then-first g t c = rw (c.if-first.true, c.truth_value.ensures) or_else_holds
+
+pub or_else-returns-in_err-second : goal.or_else-returns-in_err-second
+or_else-returns-in_err-second g t c =
+    let p = err_from_is_err_and c.from_residual.result c.from_residual.ensures.1 in
+    rw (p.1, p.2, c.if-first.false) (or_else_halts c.in_err-second.ensures)
+
+pub or_else-returns : goal.or_else-returns
+or_else-returns g t c = rw (c.if-first.false, c.truth_value-2.ensures) (or_else_gives c.in_ok-second.ensures)
+
+pub eval-returns-in-PreIncrement : goal.eval-returns-in-PreIncrement
+eval-returns-in-PreIncrement g t c = rw (ap expr_of c.in-PreIncrement.is) (pre_increment_evaluates (rw c.as_slice-in-PreIncrement.ensures at c.pre_increment.ensures))
+
+pub eval-returns-in-PostIncrement : goal.eval-returns-in-PostIncrement
+eval-returns-in-PostIncrement g t c = rw (ap expr_of c.in-PostIncrement.is) (post_increment_evaluates (rw c.as_slice-in-PostIncrement.ensures at c.post_increment.ensures))
 
 pub eval-returns-in_err-clone-in-String : goal.eval-returns-in_err-clone-in-String
 eval-returns-in_err-clone-in-String g t c =

@@ -6,7 +6,7 @@ use Rattle.awk_value.specs.declared.value.Value.TheVariants.{Text}
 use Rattle.awk_value.specs.Values.{str_of}
 use Rattle.awk_tree.specs.contracts.tree.BinaryOperator.{the_type}
 use Rattle.awk_tree.specs.declared.tree.BinaryOperator.{BinaryOperator}
-use Rattle.awk_tree.specs.declared.tree.BinaryOperator.TheVariants.{Times, Divide, Remainder, Plus, Minus, Concatenate, Less, LessEqual, Equal, NotEqual, Greater, GreaterEqual, Matches, NotMatches}
+use Rattle.awk_tree.specs.declared.tree.BinaryOperator.TheVariants.{Power, Times, Divide, Remainder, Plus, Minus, Concatenate, Less, LessEqual, Equal, NotEqual, Greater, GreaterEqual, Matches, NotMatches}
 use Rattle.awk_meaning.specs.Operators.{applied, matched, takes_pattern, truth_value}
 use Rattle.awk_operators.proofs.operators.apply_ere.Goals as goal
 
@@ -23,6 +23,7 @@ found_by : (operator : BinaryOperator) (x : Value) (pattern text : List ℕ) (fo
     → first ≡ sameb the_type operator Matches → applied operator x (Text pattern) ≡ Ok (truth_value (beq found first))
 found_by Matches x pattern text found first takes is match e = rw (e, ← is, match) (ap (λ b. Ok (truth_value b)) (same_as_true found))
 found_by NotMatches x pattern text found first takes is match e = rw (e, ← is, match) (ap (λ b. Ok (truth_value b)) (same_as_false found))
+found_by Power x pattern text found first takes is match e = cc
 found_by Times x pattern text found first takes is match e = cc
 found_by Divide x pattern text found first takes is match e = cc
 found_by Remainder x pattern text found first takes is match e = cc

@@ -1,7 +1,7 @@
 use Rattle.std.proofs.Common.{◌≡◌, rules, sym, arith}
 use Rattle.awk_tree.specs.declared.tree.Statement.TheViews.{the_lemmas}
-use Rattle.awk_tree.specs.View.{statement_of, statements_of}
-use Rattle.awk_tree.specs.Tree.{Block}
+use Rattle.awk_tree.specs.View.{expr_of, statement_of, statements_of}
+use Rattle.awk_tree.specs.Tree.{Block, If, IfElse}
 use Rattle.awk_resolve.proofs.BuiltLists.{row_is_block}
 use Rattle.awk_resolve.proofs.Uses.{adds_none, adds_both, uses_at_statement, uses_over_block}
 use Rattle.awk_resolve.proofs.names.Misuse.+statements.Goals as goal
@@ -10,6 +10,16 @@ pub add_statement-returns-in-Block : goal.add_statement-returns-in-Block
 add_statement-returns-in-Block t c =
     let is : statement_of c.args.s.now ≡ Block (statements_of c.in-Block.all.items) = search (rules, the_lemmas, row_is_block) in
     rw is (rw c.deref.ensures.value at c.add_block.ensures)
+
+pub add_statement-returns-in-If : goal.add_statement-returns-in-If
+add_statement-returns-in-If t c =
+    let is : statement_of c.args.s.now ≡ If (expr_of c.in-If.c.value) (statement_of c.in-If.s.value) = search (rules, the_lemmas) in
+    rw is (adds_both (rw c.deref-in-If.ensures at c.add_expr-in-If.ensures) (rw c.deref-in-If-2.ensures at c.add_statement.ensures))
+
+pub add_statement-returns-in-IfElse : goal.add_statement-returns-in-IfElse
+add_statement-returns-in-IfElse t c =
+    let is : statement_of c.args.s.now ≡ IfElse (expr_of c.in-IfElse.c.value) (statement_of c.in-IfElse.s.value) (statement_of c.in-IfElse.other.value) = search (rules, the_lemmas) in
+    rw is (adds_both (rw c.deref-in-IfElse.ensures at c.add_expr-in-IfElse.ensures) (adds_both (rw c.deref-in-IfElse-2.ensures at c.add_statement-in-IfElse.ensures) (rw c.deref-in-IfElse-3.ensures at c.add_statement-in-IfElse-2.ensures)))
 
 pub add_block-loop-s-preserved : goal.add_block-loop-s-preserved
 add_block-loop-s-preserved t c = λ new h.
