@@ -1,0 +1,14 @@
+use Rattle.std.proofs.Common.{◌≡◌, ◌≤◌, refl, sym, ap, ◌∙◌, length, None, false, slice_get, unwrap_or, arith}
+use Rattle.std.proofs.lemmas.Bool.Decides.{nat_tests}
+use Rattle.std.proofs.lemmas.Option.{unwrap_or-slice_get, slice_get_past}
+use Rattle.awk_interpreter.proofs.Changes.{range_read}
+use Rattle.awk_interpreter.proofs.interpreter.Interpreter.is_inside.Goals as goal
+
+pub returns-in-Some : goal.returns-in-Some
+returns-in-Some c = range_read _ (record { beside = record { current = refl; variables = refl; arguments = refl; inside = refl; status = refl; steps = refl }; streams = refl }) (c.in-Some.ensures.lookup.1 ∙ rw c.deref.ensures.value (sym (unwrap_or-slice_get c.args.self.now.inside.items c.args.number false)))
+
+pub returns-in-None : goal.returns-in-None
+returns-in-None c =
+    let past : length c.deref.result.now ≤ c.args.number = grind (arith, nat_tests, c.in-None.ensures.lookup.0) in
+    let e : slice_get c.args.self.now.inside.items c.args.number ≡ None = slice_get_past _ _ (rw c.deref.ensures.value at past) in
+    range_read _ (record { beside = record { current = refl; variables = refl; arguments = refl; inside = refl; status = refl; steps = refl }; streams = refl }) (ap (λ x. unwrap_or x false) (sym e))
