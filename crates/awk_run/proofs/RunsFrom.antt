@@ -51,6 +51,7 @@ start_stands start oracle limit m k is fresh = record {
     arguments = sym is.words;
     next = sym is.next;
     input_seen = sym is.input_seen;
+    inside = λ n. ap (λ (l : List Bool). unwrap_or (slice_get l n) false) (sym is.inside);
     status = sym is.status;
     steps = sym is.steps;
   };
