@@ -12,7 +12,7 @@ use Rattle.awk_tree.specs.declared.tree.BinaryOperator.TheVariants.{Matches as M
 use Rattle.awk_meaning.specs.State.{Run, lift}
 use Rattle.awk_tree.specs.declared.tree.Expr.{Expr as Code}
 use Rattle.awk_tree.specs.declared.tree.Statement.{Statement as CodeStatement, Row_of-Statement, end_of-Statement, more_of-Statement, items-the_row-Statement}
-use Rattle.awk_tree.specs.Tree.{Expr, Number, String, Ere, Name, Group, Field, Unary, Binary, And, Or, Conditional, Assign, AssignBy, PreIncrement, PostIncrement, Exprs, Nil, Cons, Statement, Empty, Block, Expression, Print, If, IfElse, Statements, NoMore, Then}
+use Rattle.awk_tree.specs.Tree.{Expr, Number, String, Ere, Name, Group, Field, Unary, Binary, And, Or, Conditional, Assign, AssignBy, PreIncrement, PostIncrement, Exprs, Nil, Cons, OptionalExpr, NoExpr, AnExpr, SimpleStatement, Expression, Print, Next, Break, Continue, Exit, OptionalSimple, NoSimple, ASimple, Statement, Empty, Simple, Block, If, IfElse, Statements, NoMore, Then}
 use Rattle.awk_tree.specs.View.{expr_of, exprs_of, statement_of, statements_of, statements_of_row}
 use Rattle.awk_interpreter.specs.declared.interpreter.Interpreter.{Interpreter}
 use Rattle.awk_meaning.specs.declared.flow.Flow.{Flow}
@@ -21,12 +21,12 @@ use Rattle.awk_meaning.specs.declared.halt.Halt.{Halt}
 use Rattle.awk_meaning.specs.declared.halt.Halt.TheVariants as halt
 use Rattle.awk_meaning.specs.declared.fault.Fault.TheVariants.{OutOfMemory}
 use Rattle.awk_meaning.specs.Operators.{truth_value, applied, changed, by_one, one}
-use Rattle.awk_meaning.specs.Primitives.{read_name, field_at, record_text, print_line}
+use Rattle.awk_meaning.specs.Primitives.{read_name, field_at, record_text, print_line, set_status}
 use Rattle.awk_meaning.specs.Operators.{takes_pattern}
-use Rattle.awk_meaning.specs.Semantics.{right_operand, tested, store, store_by, post_increment, eval, eval_all, printed_values, print, begin_test, pass_on, exec, exec_all, run_action}
+use Rattle.awk_meaning.specs.Semantics.{right_operand, tested, store, store_by, post_increment, eval, eval_all, printed_values, print, begin_test, exit_with, exec_simple, exec_part, goes_on, pass_on, exec, exec_all, run_action}
 use Rattle.awk_streams.specs.WorldState.{WorldState}
 use Rattle.awk_interpreter.specs.Simulation.{Changes, Spends, Follows}
-use Rattle.awk_evaluator.specs.support.Evaluation.{Evaluates, AppliesToRight, Tests, AndThen, OrElse, BeginsTest, EvaluatesAll, Lists, Executes, ExecutesAll}
+use Rattle.awk_evaluator.specs.support.Evaluation.{Evaluates, AppliesToRight, Tests, AndThen, OrElse, BeginsTest, Exits, ExecutesSimple, ExecutesPart, GoesOn, EvaluatesAll, Lists, Executes, ExecutesAll}
 use Rattle.awk_meaning.specs.Results.{Yields}
 use Rattle.awk_interpreter.proofs.Composition.{then_changes, ends_changes, then_simulates, ends_simulates, lift_simulates, memory_simulates, change_simulates}
 
@@ -236,25 +236,97 @@ pub print_shows : {is_logged : Type 0} {es : Exprs} {m m1 m2 m3 : Interpreter} {
 unfolding print
 print_shows p q s = record { simulates = then_simulates _ (change_simulates p.simulates) (then_simulates _ q.simulates s.simulates) }
 
-pub print_halts : {is_logged : Type 0} {es : Exprs} {m m1 : Interpreter} {k k1 : WorldState} {h : Halt} → Follows is_logged (print es) m k m1 k1 (Err h) → Executes is_logged (Print es) m k m1 k1 (Err h)
-unfolding exec
+pub print_halts : {is_logged : Type 0} {es : Exprs} {m m1 : Interpreter} {k k1 : WorldState} {h : Halt} → Follows is_logged (print es) m k m1 k1 (Err h) → ExecutesSimple is_logged (Print es) m k m1 k1 (Err h)
+unfolding exec_simple
 print_halts p = record { simulates = ends_simulates _ p.simulates }
 
-pub print_executes : {is_logged : Type 0} {es : Exprs} {m m1 : Interpreter} {k k1 : WorldState} → Follows is_logged (print es) m k m1 k1 (Ok tt) → Executes is_logged (Print es) m k m1 k1 (Ok flow.Normal)
-unfolding exec
+pub print_executes : {is_logged : Type 0} {es : Exprs} {m m1 : Interpreter} {k k1 : WorldState} → Follows is_logged (print es) m k m1 k1 (Ok tt) → ExecutesSimple is_logged (Print es) m k m1 k1 (Ok flow.Normal)
+unfolding exec_simple
 print_executes {m1 = m1} {k1 = k1} p = record { simulates = then_simulates _ p.simulates (lift_simulates _ m1 k1 refl) }
 
-pub expression_stops : {is_logged : Type 0} {e : Expr} {m m1 : Interpreter} {k : WorldState} {h : Halt} → Spends m m1 (Err h) → Executes is_logged (Expression e) m k m1 k (Err h)
-unfolding exec
+pub expression_stops : {is_logged : Type 0} {e : Expr} {m m1 : Interpreter} {k : WorldState} {h : Halt} → Spends m m1 (Err h) → ExecutesSimple is_logged (Expression e) m k m1 k (Err h)
+unfolding exec_simple
 expression_stops p = record { simulates = ends_simulates _ (change_simulates p.simulates) }
 
-pub expression_ends : {is_logged : Type 0} {e : Expr} {m m1 m2 : Interpreter} {k k2 : WorldState} {h : Halt} → Spends m m1 (Ok tt) → Evaluates is_logged e m1 k m2 k2 (Err h) → Executes is_logged (Expression e) m k m2 k2 (Err h)
-unfolding exec
+pub expression_ends : {is_logged : Type 0} {e : Expr} {m m1 m2 : Interpreter} {k k2 : WorldState} {h : Halt} → Spends m m1 (Ok tt) → Evaluates is_logged e m1 k m2 k2 (Err h) → ExecutesSimple is_logged (Expression e) m k m2 k2 (Err h)
+unfolding exec_simple
 expression_ends p q = record { simulates = then_simulates _ (change_simulates p.simulates) (ends_simulates _ q.simulates) }
 
-pub expression_executes : {is_logged : Type 0} {e : Expr} {m m1 m2 : Interpreter} {k k2 : WorldState} {v : Value} → Spends m m1 (Ok tt) → Evaluates is_logged e m1 k m2 k2 (Ok v) → Executes is_logged (Expression e) m k m2 k2 (Ok flow.Normal)
-unfolding exec
+pub expression_executes : {is_logged : Type 0} {e : Expr} {m m1 m2 : Interpreter} {k k2 : WorldState} {v : Value} → Spends m m1 (Ok tt) → Evaluates is_logged e m1 k m2 k2 (Ok v) → ExecutesSimple is_logged (Expression e) m k m2 k2 (Ok flow.Normal)
+unfolding exec_simple
 expression_executes {m2 = m2} {k2 = k2} p q = record { simulates = then_simulates _ (change_simulates p.simulates) (then_simulates _ q.simulates (lift_simulates _ m2 k2 refl)) }
+
+pub next_stops : {is_logged : Type 0} {m m1 : Interpreter} {k : WorldState} {h : Halt} → Spends m m1 (Err h) → ExecutesSimple is_logged Next m k m1 k (Err h)
+unfolding exec_simple
+next_stops p = record { simulates = ends_simulates _ (change_simulates p.simulates) }
+
+pub next_executes : {is_logged : Type 0} {m m1 : Interpreter} {k : WorldState} → Spends m m1 (Ok tt) → ExecutesSimple is_logged Next m k m1 k (Err halt.Next)
+unfolding exec_simple
+next_executes {m1 = m1} {k = k} p = record { simulates = then_simulates _ (change_simulates p.simulates) (lift_simulates _ m1 k refl) }
+
+pub break_stops : {is_logged : Type 0} {m m1 : Interpreter} {k : WorldState} {h : Halt} → Spends m m1 (Err h) → ExecutesSimple is_logged Break m k m1 k (Err h)
+unfolding exec_simple
+break_stops p = record { simulates = ends_simulates _ (change_simulates p.simulates) }
+
+pub break_executes : {is_logged : Type 0} {m m1 : Interpreter} {k : WorldState} → Spends m m1 (Ok tt) → ExecutesSimple is_logged Break m k m1 k (Ok flow.Break)
+unfolding exec_simple
+break_executes {m1 = m1} {k = k} p = record { simulates = then_simulates _ (change_simulates p.simulates) (lift_simulates _ m1 k refl) }
+
+pub continue_stops : {is_logged : Type 0} {m m1 : Interpreter} {k : WorldState} {h : Halt} → Spends m m1 (Err h) → ExecutesSimple is_logged Continue m k m1 k (Err h)
+unfolding exec_simple
+continue_stops p = record { simulates = ends_simulates _ (change_simulates p.simulates) }
+
+pub continue_executes : {is_logged : Type 0} {m m1 : Interpreter} {k : WorldState} → Spends m m1 (Ok tt) → ExecutesSimple is_logged Continue m k m1 k (Ok flow.Continue)
+unfolding exec_simple
+continue_executes {m1 = m1} {k = k} p = record { simulates = then_simulates _ (change_simulates p.simulates) (lift_simulates _ m1 k refl) }
+
+pub exit_stops : {is_logged : Type 0} {e : OptionalExpr} {m m1 : Interpreter} {k : WorldState} {h : Halt} → Spends m m1 (Err h) → ExecutesSimple is_logged (Exit e) m k m1 k (Err h)
+unfolding exec_simple
+exit_stops p = record { simulates = ends_simulates _ (change_simulates p.simulates) }
+
+pub exit_executes : {is_logged : Type 0} {e : OptionalExpr} {m m1 m2 : Interpreter} {k k2 : WorldState} {r : Result Flow Halt} → Spends m m1 (Ok tt) → Exits is_logged e m1 k m2 k2 r → ExecutesSimple is_logged (Exit e) m k m2 k2 r
+unfolding exec_simple
+exit_executes p q = record { simulates = then_simulates _ (change_simulates p.simulates) q.simulates }
+
+pub exits_plainly : {is_logged : Type 0} {m : Interpreter} {k : WorldState} → Exits is_logged NoExpr m k m k (Err halt.Exit)
+unfolding exit_with
+exits_plainly {m = m} {k = k} = record { simulates = lift_simulates _ m k refl }
+
+pub exit_ends : {is_logged : Type 0} {e : Expr} {m m1 : Interpreter} {k k1 : WorldState} {h : Halt} → Evaluates is_logged e m k m1 k1 (Err h) → Exits is_logged (AnExpr e) m k m1 k1 (Err h)
+unfolding exit_with
+exit_ends p = record { simulates = ends_simulates _ p.simulates }
+
+pub exit_unset : {is_logged : Type 0} {e : Expr} {m m1 m2 : Interpreter} {k k1 : WorldState} {v : Value} {h : Halt} → Evaluates is_logged e m k m1 k1 (Ok v) → Changes (set_status v) m1 m2 (Err h) → Exits is_logged (AnExpr e) m k m2 k1 (Err h)
+unfolding exit_with
+exit_unset p q = record { simulates = then_simulates _ p.simulates (ends_simulates _ (change_simulates q)) }
+
+pub exit_sets : {is_logged : Type 0} {e : Expr} {m m1 m2 : Interpreter} {k k1 : WorldState} {v : Value} → Evaluates is_logged e m k m1 k1 (Ok v) → Changes (set_status v) m1 m2 (Ok tt) → Exits is_logged (AnExpr e) m k m2 k1 (Err halt.Exit)
+unfolding exit_with
+exit_sets {m2 = m2} {k1 = k1} p q = record { simulates = then_simulates _ p.simulates (then_simulates _ (change_simulates q) (lift_simulates _ m2 k1 refl)) }
+
+pub part_absent : {is_logged : Type 0} {m : Interpreter} {k : WorldState} → ExecutesPart is_logged NoSimple m k m k (Ok tt)
+unfolding exec_part
+part_absent {m = m} {k = k} = record { simulates = lift_simulates _ m k refl }
+
+pub part_halts : {is_logged : Type 0} {simple : SimpleStatement} {m m1 : Interpreter} {k k1 : WorldState} {h : Halt} → ExecutesSimple is_logged simple m k m1 k1 (Err h) → ExecutesPart is_logged (ASimple simple) m k m1 k1 (Err h)
+unfolding exec_part
+part_halts p = record { simulates = ends_simulates _ p.simulates }
+
+pub part_executes : {is_logged : Type 0} {simple : SimpleStatement} {m m1 : Interpreter} {k k1 : WorldState} {f : Flow} → ExecutesSimple is_logged simple m k m1 k1 (Ok f) → ExecutesPart is_logged (ASimple simple) m k m1 k1 (Ok tt)
+unfolding exec_part
+part_executes {m1 = m1} {k1 = k1} p = record { simulates = then_simulates _ p.simulates (lift_simulates _ m1 k1 refl) }
+
+pub goes_on_always : {is_logged : Type 0} {m : Interpreter} {k : WorldState} → GoesOn is_logged NoExpr m k m k (Ok true)
+unfolding goes_on
+goes_on_always {m = m} {k = k} = record { simulates = lift_simulates _ m k refl }
+
+pub goes_on_by : {is_logged : Type 0} {e : Expr} {m m1 : Interpreter} {k k1 : WorldState} {r : Result Bool Halt} → Tests is_logged e m k m1 k1 r → GoesOn is_logged (AnExpr e) m k m1 k1 r
+unfolding goes_on
+goes_on_by p = record { simulates = p.simulates }
+
+pub simple_executes : {is_logged : Type 0} {simple : SimpleStatement} {m m1 : Interpreter} {k k1 : WorldState} {r : Result Flow Halt} → ExecutesSimple is_logged simple m k m1 k1 r → Executes is_logged (Simple simple) m k m1 k1 r
+unfolding exec
+simple_executes p = record { simulates = p.simulates }
 
 pub empty_executes : {is_logged : Type 0} {m : Interpreter} {k : WorldState} → Executes is_logged Empty m k m k (Ok flow.Normal)
 unfolding exec

@@ -1,2 +1,3 @@
 mod Evaluation
+mod Loops
 mod Stores

@@ -1,2 +1,3 @@
 pub mod support
 pub use Rattle.awk_evaluator.specs.support.Evaluation
+pub use Rattle.awk_evaluator.specs.support.Loops

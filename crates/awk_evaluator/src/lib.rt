@@ -2,8 +2,10 @@
 #![tactic(auto)]
 
 mod assignments;
+mod execution;
 mod expressions;
 mod statements;
 
+pub use execution::run_action;
 pub use expressions::holds;
-pub use statements::{print, run_action};
+pub use statements::print;

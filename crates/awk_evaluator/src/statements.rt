@@ -1,16 +1,16 @@
-// Statements.
+// Simple statements, and what a statement may leave out.
 
+ghost use Rattle.awk_tree.specs.View.{expr_of, exprs_of, optional_expr_of, simple_of, optional_simple_of};
 ghost use Rattle.awk_tree.specs.Tree.{Expression};
-ghost use Rattle.awk_tree.specs.View.{expr_of, exprs_of, statement_of, statements_of};
-ghost use Rattle.awk_meaning.specs.Semantics.{print, run_action};
+ghost use Rattle.awk_meaning.specs.Semantics.{print};
 ghost use Rattle.awk_interpreter.specs.Simulation.{Follows};
-ghost use Rattle.awk_evaluator.specs.support.Evaluation.{BeginsTest, Executes, ExecutesAll};
+ghost use Rattle.awk_evaluator.specs.support.Evaluation.{Exits, ExecutesSimple, ExecutesPart, BeginsTest, GoesOn};
 
 use crate::expressions::{eval, holds, printed_values};
 use awk_interpreter::Interpreter;
 use awk_meaning::{Flow, Halt};
 use awk_streams::World;
-use awk_tree::tree::{Expr, Statement};
+use awk_tree::tree::{Expr, SimpleStatement};
 
 /// Prints the values of a list, or without one the record (POSIX awk, Output Statements).
 pub fn print<W: World>(
@@ -28,7 +28,7 @@ pub fn print<W: World>(
 
 /// Evaluates an expression, whose value is of no use.
 fn evaluate<W: World>(e: &Expr, interpreter: &mut Interpreter, world: &mut W) -> Result<Flow, Halt>
-    ensures { Executes W.is_logged (Expression (expr_of e.now)) interpreter.old (W.state world.old)
+    ensures { ExecutesSimple W.is_logged (Expression (expr_of e.now)) interpreter.old (W.state world.old)
         interpreter.new (W.state world.new) result }
 {
     interpreter.spend()?;
@@ -36,8 +36,76 @@ fn evaluate<W: World>(e: &Expr, interpreter: &mut Interpreter, world: &mut W) ->
     Ok(Flow::Normal)
 }
 
+/// Ends what runs by `exit`, with the status of an expression's number, if there is one.
+fn exit_with<W: World>(
+    e: &Option<Box<Expr>>,
+    interpreter: &mut Interpreter,
+    world: &mut W,
+) -> Result<Flow, Halt>
+    ensures { Exits W.is_logged (optional_expr_of e.now) interpreter.old (W.state world.old)
+        interpreter.new (W.state world.new) result }
+{
+    match e {
+        None => Err(Halt::Exit),
+        Some(e) => {
+            let value = eval(e, interpreter, world)?;
+            interpreter.set_status(&value)?;
+            Err(Halt::Exit)
+        }
+    }
+}
+
+/// Executes a simple statement (POSIX awk, Actions).
+pub(crate) fn exec_simple<W: World>(
+    simple: &SimpleStatement,
+    interpreter: &mut Interpreter,
+    world: &mut W,
+) -> Result<Flow, Halt>
+    ensures { ExecutesSimple W.is_logged (simple_of simple.now) interpreter.old (W.state world.old)
+        interpreter.new (W.state world.new) result }
+{
+    match simple {
+        SimpleStatement::Expression(e) => evaluate(e, interpreter, world),
+        SimpleStatement::Print(list) => {
+            print(list, interpreter, world)?;
+            Ok(Flow::Normal)
+        }
+        SimpleStatement::Next => {
+            interpreter.spend()?;
+            Err(Halt::Next)
+        }
+        SimpleStatement::Break => {
+            interpreter.spend()?;
+            Ok(Flow::Break)
+        }
+        SimpleStatement::Continue => {
+            interpreter.spend()?;
+            Ok(Flow::Continue)
+        }
+        SimpleStatement::Exit(e) => {
+            interpreter.spend()?;
+            exit_with(e, interpreter, world)
+        }
+    }
+}
+
+/// Executes an outer part of a `for`, if it is there.
+pub(crate) fn exec_part<W: World>(
+    part: &Option<SimpleStatement>,
+    interpreter: &mut Interpreter,
+    world: &mut W,
+) -> Result<(), Halt>
+    ensures { ExecutesPart W.is_logged (optional_simple_of part.now) interpreter.old (W.state world.old)
+        interpreter.new (W.state world.new) result }
+{
+    if let Some(simple) = part {
+        exec_simple(simple, interpreter, world)?;
+    }
+    Ok(())
+}
+
 /// Begins an `if`: whether its condition is true.
-fn begin_test<W: World>(
+pub(crate) fn begin_test<W: World>(
     condition: &Expr,
     interpreter: &mut Interpreter,
     world: &mut W,
@@ -49,65 +117,17 @@ fn begin_test<W: World>(
     holds(condition, interpreter, world)
 }
 
-/// Executes a statement (POSIX awk, Actions).
-#[cycle(execution)]
-fn exec<W: World>(s: &Statement, interpreter: &mut Interpreter, world: &mut W) -> Result<Flow, Halt>
-    ensures { Executes W.is_logged (statement_of s.now) interpreter.old (W.state world.old) interpreter.new
-        (W.state world.new) result }
-{
-    match s {
-        Statement::Empty => Ok(Flow::Normal),
-        Statement::Block(all) => exec_all(all, interpreter, world),
-        Statement::Expression(e) => evaluate(e, interpreter, world),
-        Statement::Print(list) => {
-            print(list, interpreter, world)?;
-            Ok(Flow::Normal)
-        }
-        Statement::If(condition, body) => {
-            if begin_test(condition, interpreter, world)? {
-                exec(body, interpreter, world)
-            } else {
-                Ok(Flow::Normal)
-            }
-        }
-        Statement::IfElse(condition, body, other) => {
-            if begin_test(condition, interpreter, world)? {
-                exec(body, interpreter, world)
-            } else {
-                exec(other, interpreter, world)
-            }
-        }
-    }
-}
-
-/// Executes statements in turn, as long as each passes on to the next.
-#[cycle(execution)]
-fn exec_all<W: World>(
-    all: &[Statement],
+/// Whether a `for` goes on: a condition that is left out is true.
+pub(crate) fn goes_on<W: World>(
+    condition: &Option<Box<Expr>>,
     interpreter: &mut Interpreter,
     world: &mut W,
-) -> Result<Flow, Halt>
-    ensures { ExecutesAll W.is_logged (statements_of all.now) interpreter.old (W.state world.old)
+) -> Result<bool, Halt>
+    ensures { GoesOn W.is_logged (optional_expr_of condition.now) interpreter.old (W.state world.old)
         interpreter.new (W.state world.new) result }
 {
-    for s in all {
-        match exec(s, interpreter, world)? {
-            Flow::Normal => {}
-            flow => return Ok(flow),
-        }
+    match condition {
+        Some(e) => holds(e, interpreter, world),
+        None => Ok(true),
     }
-    Ok(Flow::Normal)
-}
-
-/// Runs an action, which ends with its statements (POSIX awk, Actions).
-pub fn run_action<W: World>(
-    all: &[Statement],
-    interpreter: &mut Interpreter,
-    world: &mut W,
-) -> Result<(), Halt>
-    ensures { Follows W.is_logged (run_action (statements_of all.now)) interpreter.old (W.state world.old)
-        interpreter.new (W.state world.new) result }
-{
-    exec_all(all, interpreter, world)?;
-    Ok(())
 }

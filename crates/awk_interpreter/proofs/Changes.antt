@@ -1,6 +1,7 @@
 -- What the primitives that touch the code's own state alone do to it.
 use Rattle.std.proofs.Common.{◌≡◌, ℕ, ℤ, pos, suc, Bool, true, false, List, [], Option, Some, None, Result, Ok, Err, IfOk, IfErr, OnErr, ◌⊎◌, inl, inr, length, unwrap_or, slice_get, int_lt, refl, sym, ap, ◌∙◌, subst, arith}
-use Rattle.std.specs.Prelude.{codes, bytes_eq, if◌then◌else◌, IfSome, IfNone}
+use Rattle.std.specs.Global.{Vec}
+use Rattle.std.specs.Prelude.{◌==◌, codes, bytes_eq, if◌then◌else◌, IfSome, IfNone}
 use Rattle.awk_text.specs.declared.separator.Separator.{Separator}
 use Rattle.awk_text.specs.Pieces.{separator_of}
 use Rattle.awk_value.specs.declared.value.Value.{Value}
@@ -20,12 +21,12 @@ use Rattle.awk_variables.specs.declared.fault.VariableFault.{VariableFault}
 use Rattle.awk_variables.specs.declared.fault.VariableFault.TheVariants.{Memory, Pattern}
 use Rattle.awk_meaning.specs.State.{State, lift}
 use Rattle.awk_variables.specs.Variables.{value_of, name_of, with_value, is_refused}
-use Rattle.awk_meaning.specs.Operators.{field_value, raised}
+use Rattle.awk_meaning.specs.Operators.{exit_status, field_value, raised}
 use Rattle.awk_meaning.specs.Faults.{variable_fault, value_fault}
-use Rattle.awk_meaning.specs.Primitives.{value_in, read_name, put, put_unless, count_in, field_at, record_text, split_as, set_record, note_input, begin_input, argument_if, argument_below, take_argument, is_input_seen}
+use Rattle.awk_meaning.specs.Primitives.{value_in, read_name, put, put_unless, count_in, field_at, record_text, split_as, set_record, note_input, begin_input, argument_if, argument_below, take_argument, is_inside, with_range, set_inside, status_by, set_status, is_input_seen}
 use Rattle.awk_meaning.specs.Semantics.{begin_record}
 use Rattle.awk_operands.specs.Operands.{is_below, IsFaultOf}
-use Rattle.awk_interpreter.specs.support.Simulation.{OwnRelation, Changes, SameState}
+use Rattle.awk_interpreter.specs.support.Simulation.{inside_of, OwnRelation, Changes, SameState}
 use Rattle.awk_meaning.specs.Results.{Yields, IsWantOfMemory}
 use Rattle.awk_interpreter.proofs.Composition.{same_part, own_changes, beside_holds, reads_changes, then_changes, ends_changes, lift_changes, memory_changes}
 
@@ -51,6 +52,7 @@ pub record IsPut (x : List ℕ) (v : Value) (old new : Interpreter) : Type 0 whe
   pub current : new.current ≡ old.current
   pub arguments : new.arguments ≡ old.arguments
   pub streams : new.streams ≡ old.streams
+  pub inside : new.inside ≡ old.inside
   pub status : new.status ≡ old.status
   pub steps : new.steps ≡ old.steps
 
@@ -61,6 +63,7 @@ put_holds x v {old = old} s is h = record {
   arguments = h.arguments ∙ ap (λ a. a.words.items) (sym is.arguments);
   next = h.next ∙ ap (λ a. a.next) (sym is.arguments);
   input_seen = h.input_seen ∙ ap (λ a. a.input_seen) (sym is.arguments);
+  inside = λ n. h.inside n ∙ ap (λ (v : Vec Bool). unwrap_or (slice_get v.items n) false) (sym is.inside);
   status = h.status ∙ sym is.status;
   steps = h.steps ∙ sym is.steps;
 }
@@ -113,7 +116,7 @@ not_nf Rstart = refl
 not_nf Subsep = refl
 
 pub still : (m : Interpreter) → SameState m m
-still m = record { beside = record { current = refl; variables = refl; arguments = refl; status = refl; steps = refl }; streams = refl }
+still m = record { beside = record { current = refl; variables = refl; arguments = refl; inside = refl; status = refl; steps = refl }; streams = refl }
 
 pub count_ends : (x : Special) {m : Interpreter} {h : Halt} → Yields {A = Value} (Err h) (raised (value_of m.variables (name_of x))) → Changes (count_in x) m m (Err h)
 unfolding count_in
@@ -149,9 +152,9 @@ unfolding record_text
 text_changes {v = v} same e =
     reads_changes _ (λ s. Ok (value.Input s.current.text)) (λ s. refl) same (λ s h. ap (λ r. Ok (value.Input r.text)) h.current ∙ ap (λ w. Ok w) (sym e))
 
-pub record_changes : (text : List ℕ) (separator : Separator) {old new : Interpreter} → separator_of (str_of (value_of old.variables (name_of Fs))) ≡ Ok separator → new.current ≡ split_by separator text → new.variables ≡ old.variables → new.arguments ≡ old.arguments → new.streams ≡ old.streams → new.status ≡ old.status → new.steps ≡ old.steps → Changes (set_record text) old new (Ok tt)
+pub record_changes : (text : List ℕ) (separator : Separator) {old new : Interpreter} → separator_of (str_of (value_of old.variables (name_of Fs))) ≡ Ok separator → new.current ≡ split_by separator text → new.variables ≡ old.variables → new.arguments ≡ old.arguments → new.streams ≡ old.streams → new.inside ≡ old.inside → new.status ≡ old.status → new.steps ≡ old.steps → Changes (set_record text) old new (Ok tt)
 unfolding set_record
-record_changes text separator {old = old} {new = new} sep is variables arguments streams status steps =
+record_changes text separator {old = old} {new = new} sep is variables arguments streams inside status steps =
     own_changes _ streams (omega (arith, steps)) (λ s h. record {
       result = Ok tt;
       state = record s { current = split_by separator text };
@@ -164,6 +167,7 @@ record_changes text separator {old = old} {new = new} sep is variables arguments
         arguments = h.arguments ∙ ap (λ a. a.words.items) (sym arguments);
         next = h.next ∙ ap (λ a. a.next) (sym arguments);
         input_seen = h.input_seen ∙ ap (λ a. a.input_seen) (sym arguments);
+        inside = λ n. h.inside n ∙ ap (λ (v : Vec Bool). unwrap_or (slice_get v.items n) false) (sym inside);
         status = h.status ∙ sym status;
         steps = h.steps ∙ sym steps;
       };
@@ -206,9 +210,9 @@ argument_none m n e past same =
 argument_some : (old : Interpreter) {new : Interpreter} (n : ℤ) {word : List ℕ} → num_of (value_of old.variables (name_of Argc)) ≡ Ok n → int_lt old.arguments.next n ≡ true
     → ((i : ℕ) → old.arguments.next ≡ pos i → word ≡ unwrap_or (slice_get old.arguments.words.items i) [])
     → ((i : ℕ) → old.arguments.next ≡ pos i → new.arguments.next ≡ pos (suc i))
-    → new.current ≡ old.current → new.variables ≡ old.variables → new.arguments.words ≡ old.arguments.words → new.arguments.input_seen ≡ old.arguments.input_seen → new.streams ≡ old.streams → new.status ≡ old.status → new.steps ≡ old.steps
+    → new.current ≡ old.current → new.variables ≡ old.variables → new.arguments.words ≡ old.arguments.words → new.arguments.input_seen ≡ old.arguments.input_seen → new.streams ≡ old.streams → new.inside ≡ old.inside → new.status ≡ old.status → new.steps ≡ old.steps
     → Changes take_argument old new (Ok (Some word))
-argument_some old {new = new} n {word = word} e more is next current variables words input_seen streams status steps =
+argument_some old {new = new} n {word = word} e more is next current variables words input_seen streams inside status steps =
     own_changes _ streams (omega (arith, steps)) (λ s h. record {
       result = Ok (Some (unwrap_or (slice_get s.arguments s.next) []));
       state = record s { next = suc s.next };
@@ -221,6 +225,7 @@ argument_some old {new = new} n {word = word} e more is next current variables w
         arguments = h.arguments ∙ ap (λ w. w.items) (sym words);
         next = sym (next s.next (sym h.next));
         input_seen = h.input_seen ∙ sym input_seen;
+        inside = λ n. h.inside n ∙ ap (λ (v : Vec Bool). unwrap_or (slice_get v.items n) false) (sym inside);
         status = h.status ∙ sym status;
         steps = h.steps ∙ sym steps;
       };
@@ -244,11 +249,12 @@ pub record SameButArguments (old new : Interpreter) : Type 0 where
   pub current : new.current ≡ old.current
   pub variables : new.variables ≡ old.variables
   pub streams : new.streams ≡ old.streams
+  pub inside : new.inside ≡ old.inside
   pub status : new.status ≡ old.status
   pub steps : new.steps ≡ old.steps
 
 with_arguments : {old new : Interpreter} → SameButArguments old new → new.arguments.words ≡ old.arguments.words → new.arguments.next ≡ old.arguments.next → new.arguments.input_seen ≡ old.arguments.input_seen → SameState old new
-with_arguments {old = old} {new = new} same words next input_seen = record { beside = record { current = same.current; variables = same.variables; arguments = same_arguments new.arguments old.arguments words next input_seen; status = same.status; steps = same.steps }; streams = same.streams }
+with_arguments {old = old} {new = new} same words next input_seen = record { beside = record { current = same.current; variables = same.variables; arguments = same_arguments new.arguments old.arguments words next input_seen; inside = same.inside; status = same.status; steps = same.steps }; streams = same.streams }
 
 count_below : (next : ℤ) (r : Result ℤ ValueFault) (b : Bool) → is_below next r ≡ Ok b → (n : ℤ) × (r ≡ Ok n) × (int_lt next n ≡ b)
 count_below next (Ok n) b e = (n, refl, (cc))
@@ -260,7 +266,7 @@ argument_taken old None told same =
     argument_none old n.0 n.1 n.2 (with_arguments same told.words told.still told.input_seen)
 argument_taken old (Some word) told same =
     let n = count_below _ _ true told.some in
-    argument_some old n.0 n.1 n.2 told.word told.next same.current same.variables told.words told.input_seen same.streams same.status same.steps
+    argument_some old n.0 n.1 n.2 told.word told.next same.current same.variables told.words told.input_seen same.streams same.inside same.status same.steps
 
 argument_faults : (old : Interpreter) {new : Interpreter} (r : Result ℤ ValueFault) (h : Halt) → num_of (value_of old.variables (name_of Argc)) ≡ r → IsFaultOf r h → SameState old new → Changes take_argument old new (Err h)
 argument_faults old (Ok n) h is e same = absurd e
@@ -308,3 +314,71 @@ record_begins text p q r = then_changes _ p (then_changes _ q r)
 pub applied_changes : (v : Result Value Halt) {old new : Interpreter} {c : Result Value Halt} → SameState old new → Yields c v → Changes (lift v) old new c
 unfolding lift
 applied_changes v same e = reads_changes _ (λ s. v) (λ s. refl) same (λ s h. e)
+
+-- ranges, and the exit status
+
+pub range_read : (n : ℕ) {old new : Interpreter} {b : Bool} → SameState old new → b ≡ inside_of old n → Changes (is_inside n) old new (Ok b)
+unfolding is_inside
+range_read n same e = reads_changes _ (λ s. Ok (s.inside n)) (λ s. refl) same (λ s h. ap (λ x. Ok x) (h.inside n ∙ sym e))
+
+-- all but the ranges and the status is the same
+pub record SameButEnd (old new : Interpreter) : Type 0 where
+  pub current : new.current ≡ old.current
+  pub variables : new.variables ≡ old.variables
+  pub arguments : new.arguments ≡ old.arguments
+  pub streams : new.streams ≡ old.streams
+  pub steps : new.steps ≡ old.steps
+
+end_holds : {old new : Interpreter} (s : State) (inside : ℕ → Bool) (status : ℕ) → SameButEnd old new → ((m : ℕ) → inside m ≡ inside_of new m) → status ≡ new.status → OwnRelation old s → OwnRelation new (record s { inside = inside; status = status })
+end_holds s inside status same e f h = record {
+  current = h.current ∙ sym same.current;
+  variables = λ x. h.variables x ∙ ap (λ v. value_of v x) (sym same.variables);
+  arguments = h.arguments ∙ ap (λ a. a.words.items) (sym same.arguments);
+  next = h.next ∙ ap (λ a. a.next) (sym same.arguments);
+  input_seen = h.input_seen ∙ ap (λ a. a.input_seen) (sym same.arguments);
+  inside = e;
+  status = f;
+  steps = h.steps ∙ sym same.steps;
+}
+
+pub range_set : (n : ℕ) (b : Bool) {old new : Interpreter} → SameButEnd old new → new.status ≡ old.status → ((m : ℕ) → inside_of new m ≡ (if m == n then b else inside_of old m)) → Changes (set_inside n b) old new (Ok tt)
+unfolding set_inside
+range_set n b {old = old} {new = new} same status e =
+    own_changes _ same.streams (omega (arith, same.steps)) (λ s h. record {
+      result = Ok tt;
+      state = record s { inside = with_range n b s.inside };
+      is = refl;
+      part = record { outside = refl; openings = refl; main = refl };
+      matches = refl;
+      holds = end_holds s (with_range n b s.inside) s.status same (λ m. ap (λ x. if m == n then b else x) (h.inside m) ∙ sym (e m)) (h.status ∙ sym status) h;
+    })
+
+pub status_set : (v : Value) {old new : Interpreter} (n : ℤ) → num_of v ≡ Ok n → SameButEnd old new → new.inside ≡ old.inside → new.status ≡ exit_status n → Changes (set_status v) old new (Ok tt)
+unfolding set_status
+status_set v {old = old} {new = new} n number same inside e =
+    own_changes _ same.streams (omega (arith, same.steps)) (λ s h. record {
+      result = Ok tt;
+      state = record s { status = exit_status n };
+      is = ap (λ r. status_by r s) number;
+      part = record { outside = refl; openings = refl; main = refl };
+      matches = refl;
+      holds = end_holds s s.inside (exit_status n) same (λ m. h.inside m ∙ ap (λ (x : Vec Bool). unwrap_or (slice_get x.items m) false) (sym inside)) (sym e) h;
+    })
+
+status_matches : (fault : ValueFault) → Yields {A = Unit {0}} (Err (halt.Fault (value_fault fault))) (Err (halt.Fault (value_fault fault)))
+status_matches values.Memory = tt
+status_matches values.Range = refl
+status_matches values.ZeroDivisor = refl
+status_matches values.NegativePower = refl
+
+pub status_fails : (v : Value) {old new : Interpreter} (fault : ValueFault) → num_of v ≡ Err fault → SameState old new → Changes (set_status v) old new (Err (halt.Fault (value_fault fault)))
+unfolding set_status
+status_fails v fault number same =
+    own_changes _ same.streams (omega (arith, same.beside.steps)) (λ s h. record {
+      result = Err (halt.Fault (value_fault fault));
+      state = s;
+      is = ap (λ r. status_by r s) number;
+      part = same_part s;
+      matches = status_matches fault;
+      holds = beside_holds same.beside h;
+    })

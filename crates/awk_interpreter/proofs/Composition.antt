@@ -1,5 +1,6 @@
 -- How what the parts of the code do is put together.
-use Rattle.std.proofs.Common.{◌≡◌, inl, ℕ, ◌≤◌, List, [], ◌++◌, None, Result, Ok, Err, refl, sym, ap, ◌∙◌, subst, append_assoc, append-nil, arith}
+use Rattle.std.specs.Global.{Vec}
+use Rattle.std.proofs.Common.{◌≡◌, inl, ℕ, ◌≤◌, Bool, false, unwrap_or, slice_get, List, [], ◌++◌, None, Result, Ok, Err, refl, sym, ap, ◌∙◌, subst, append_assoc, append-nil, arith}
 use Rattle.awk_streams.specs.Openings.{in_order}
 use Rattle.awk_streams.specs.Oracle.{Oracle}
 use Rattle.awk_streams.specs.Streams.{StreamsView, AreOpen, AreSound, IsSoundMain, IsMainRest, printed_openings}
@@ -216,6 +217,7 @@ beside_holds beside h = record {
   arguments = h.arguments ∙ ap (λ a. a.words.items) (sym beside.arguments);
   next = h.next ∙ ap (λ a. a.next) (sym beside.arguments);
   input_seen = h.input_seen ∙ ap (λ a. a.input_seen) (sym beside.arguments);
+  inside = λ n. h.inside n ∙ ap (λ (v : Vec Bool). unwrap_or (slice_get v.items n) false) (sym beside.inside);
   status = h.status ∙ sym beside.status;
   steps = h.steps ∙ sym beside.steps;
 }

@@ -2,4 +2,5 @@ pub mod OrderLemmas
 pub mod Changes
 pub mod Composition
 pub mod WorldCalls
+mod Ranges
 pub mod Seeks

@@ -31,7 +31,7 @@ use Rattle.awk_interpreter.proofs.OrderLemmas.{turn_between, turn_requested, wri
 
 -- a state whose main input alone is another stands for the same
 at_main : (m : Interpreter) (s : State) (openings : InputKind → List ℕ → ℕ) (main : Option Source) → OwnRelation m s → OwnRelation m (record s { openings = openings; main = main })
-at_main m s openings main h = record { current = h.current; variables = h.variables; arguments = h.arguments; next = h.next; input_seen = h.input_seen; status = h.status; steps = h.steps }
+at_main m s openings main h = record { current = h.current; variables = h.variables; arguments = h.arguments; next = h.next; input_seen = h.input_seen; inside = h.inside; status = h.status; steps = h.steps }
 
 -- printing
 

@@ -1,12 +1,12 @@
 // The interpreter: the state of a run, and what it can do by itself.
 
-ghost use Rattle.std.specs.Prelude.{◌≡◌, pos, true, None, [], codes, bytes_eq, map, IfOk, IfErr};
+ghost use Rattle.std.specs.Prelude.{◌≡◌, ◌<◌, ℕ, pos, true, false, None, [], codes, bytes_eq, map, slice_get, unwrap_or, vec_len, IfOk, IfErr, OnOk};
 ghost use Rattle.awk_value.specs.declared.value.Value.TheVariants.{Text};
 ghost use Rattle.awk_meaning.specs.State.{lift};
 ghost use Rattle.awk_variables.specs.Variables.{name_of};
-ghost use Rattle.awk_meaning.specs.Primitives.{read_name, put, count_in, field_at, record_text, set_record, print_line, note_input, begin_input};
+ghost use Rattle.awk_meaning.specs.Primitives.{read_name, put, count_in, field_at, record_text, set_record, print_line, note_input, begin_input, is_inside, set_inside, set_status};
 ghost use Rattle.awk_meaning.specs.Semantics.{begin_record};
-ghost use Rattle.awk_meaning.specs.Operators.{applied, takes_pattern};
+ghost use Rattle.awk_meaning.specs.Operators.{applied, exit_status, takes_pattern};
 ghost use Rattle.awk_interpreter.specs.support.Simulation.{Spends, Changes, Follows, IsStart};
 ghost use Rattle.awk_meaning.specs.Results.{IsWantOfMemory};
 
@@ -16,9 +16,9 @@ use awk_operators::{Patterns, make_line, raise};
 use awk_record::Record;
 use awk_streams::{Streams, World};
 use awk_tree::tree::{BinaryOperator, Ere};
-use awk_value::{Bytes, Value};
+use awk_value::{Bytes, Value, number_of};
 use awk_variables::{Special, Variables};
-use std::alloc::Global;
+use std::alloc::{AllocFailed, Global};
 
 /// The state of a run.
 #[derive(Drop)]
@@ -30,6 +30,8 @@ pub struct Interpreter {
     pub arguments: Arguments,
     pub streams: Streams,
     pub patterns: Patterns,
+    /// Which ranges are inside, by the number of their item; those beyond the end aren't.
+    pub inside: Vec<bool>,
     /// The exit status so far.
     pub status: u8,
     /// The steps left.
@@ -72,6 +74,24 @@ fn record_and_patterns(alloc: Global) -> Result<(Record, Patterns), Halt>
     Ok((current, Patterns::new(alloc)?))
 }
 
+/// Adds ranges that aren't inside, until there is one of this number.
+fn reserve_range(inside: &mut Vec<bool>, number: usize) -> Result<(), AllocFailed<bool>>
+    ensures room { OnOk result (number < vec_len inside.new) }
+    ensures same { (n : ℕ) → unwrap_or (slice_get inside.new.items n) false ≡ unwrap_or (slice_get inside.old.items n) false }
+{
+    while inside.len() <= number {
+        inside.push(false)?;
+    }
+    Ok(())
+}
+
+/// The exit status that a number stands for: what is left of it by 256.
+fn exit_status(number: i128) -> u8
+    ensures { result ≡ exit_status number }
+{
+    number.rem_euclid(256) as u8
+}
+
 impl Interpreter {
     /// The state before a run of these operands, with so many steps. The only fault is want of memory.
     pub fn new(alloc: Global, operands: &[Vec<u8>], limit: u64) -> Result<Interpreter, Halt>
@@ -89,6 +109,7 @@ impl Interpreter {
             arguments,
             streams,
             patterns,
+            inside: Vec::new(alloc),
             status: 0,
             steps: limit,
             line: Vec::new(alloc),
@@ -169,6 +190,33 @@ impl Interpreter {
         ensures { Changes record_text self.old self.new result }
     {
         Ok(Value::Input(self.current.text()?))
+    }
+
+    /// Whether a range is inside, by the number of its item.
+    pub fn is_inside(&mut self, number: usize) -> Result<bool, Halt>
+        ensures { Changes (is_inside number) self.old self.new result }
+    {
+        match self.inside.get(number) {
+            Some(is_inside) => Ok(*is_inside),
+            None => Ok(false),
+        }
+    }
+
+    /// Notes whether a range is inside, by the number of its item.
+    pub fn set_inside(&mut self, number: usize, is_inside: bool) -> Result<(), Halt>
+        ensures { Changes (set_inside number is_inside) self.old self.new result }
+    {
+        reserve_range(&mut self.inside, number)?;
+        self.inside[number] = is_inside;
+        Ok(())
+    }
+
+    /// Sets the exit status to that of a value's number (POSIX awk, Actions: exit).
+    pub fn set_status(&mut self, value: &Value) -> Result<(), Halt>
+        ensures { Changes (set_status value.now) self.old self.new result }
+    {
+        self.status = exit_status(number_of(value)?);
+        Ok(())
     }
 
     /// What an operator makes of two values.

@@ -33,6 +33,8 @@ pub enum RefusalCode {
     PatternTooLarge,
     /// K1: a name that is both an array and a scalar.
     ArrayAndScalar,
+    /// K6: a `next`, `break`, `continue` or `return` where it ends nothing.
+    StatementOutOfPlace,
     /// K7: a name that other awks give a meaning which this one leaves out.
     NameLeftOut,
     /// K9: a form of the language that can't be run yet.
@@ -59,6 +61,7 @@ impl RefusalCode {
             RefusalCode::PatternCountRefused => "P2: interval or range refused",
             RefusalCode::PatternTooLarge => "P3: pattern too large",
             RefusalCode::ArrayAndScalar => "K1: array and scalar",
+            RefusalCode::StatementOutOfPlace => "K6: statement out of place",
             RefusalCode::NameLeftOut => "K7: name left out",
             RefusalCode::NotBuilt => "K9: not built yet",
             RefusalCode::OutOfMemory => "M0: out of memory",

@@ -1,4 +1,6 @@
 pub mod LawOfLimits
 pub mod Requests
 pub mod OwnOutcomes
+mod Larger
 mod OwnValues
+mod Settles

@@ -1,215 +1,27 @@
 -- The meaning of a program is never want of memory nor a failed write: these come from a run of the code alone.
-use Rattle.std.proofs.Common.{◌≡◌, ◌≢◌, ℕ, zero, suc, ℤ, pos, Bool, true, false, if◌then◌else◌, List, [], ◌∷◌, ◌++◌, Option, Some, None, Result, Ok, Err}
-use Rattle.awk_text.specs.declared.separator.Separator.{Separator}
-use Rattle.awk_text.specs.declared.fault.TextFault.{TextFault}
+use Rattle.std.proofs.Common.{◌≡◌, ◌≢◌, ℕ, zero, suc, Bool, true, false, not, List, [], ◌∷◌, ◌++◌, Option, Some, None, Result, Ok, Err}
 use Rattle.awk_value.specs.declared.value.Value.{Value}
 use Rattle.awk_value.specs.declared.value.Value.TheVariants as value
-use Rattle.awk_value.specs.declared.fault.ValueFault.{ValueFault}
-use Rattle.awk_value.specs.Values.{num_of, truth_of}
-use Rattle.awk_record.specs.Cut.{Cut, Found, NoMore, BrokenOff, TooLong, BadSeparator}
-use Rattle.awk_world.specs.declared.world.InputKind.{InputKind}
-use Rattle.awk_world.specs.declared.world.InputKind.TheVariants.{Standard, File}
-use Rattle.awk_streams.specs.Oracle.{Source, Oracle}
+use Rattle.awk_value.specs.Values.{truth_of}
+use Rattle.awk_streams.specs.Oracle.{Oracle}
 use Rattle.awk_lex.specs.declared.token.IncrementOperator.{IncrementOperator}
 use Rattle.awk_tree.specs.declared.tree.UnaryOperator.TheVariants as unary
 use Rattle.awk_tree.specs.declared.tree.BinaryOperator.{BinaryOperator}
 use Rattle.awk_tree.specs.declared.tree.BinaryOperator.TheVariants.{Matches}
-use Rattle.awk_tree.specs.Tree.{Expr, Number, String, Ere, Name, Group, Field, Unary, Binary, And, Or, Conditional, Assign, AssignBy, PreIncrement, PostIncrement, Exprs, Nil, Cons, Statement, Empty, Block, Expression, Print, If, IfElse, Statements, NoMore as NoStatement, Then, Item, Begin, Action, Pattern, PatternAction}
+use Rattle.awk_tree.specs.Tree.{Expr, Number, String, Ere, Name, Group, Field, Unary, Binary, And, Or, Conditional, Assign, AssignBy, PreIncrement, PostIncrement, Exprs, Nil, Cons, OptionalExpr, NoExpr, AnExpr, SimpleStatement, Expression, Print, Next, Break, Continue, Exit, OptionalSimple, NoSimple, ASimple, Statement, Empty, Simple, Block, If, IfElse, While, Do, For, Statements, NoMore as NoStatement, Then, Pattern, Single, Range, Item, Begin, End, Action, PatternAction, PatternOnly}
 use Rattle.awk_meaning.specs.declared.outcome.Outcome.TheVariants.{Fault}
 use Rattle.awk_meaning.specs.declared.fault.Fault.TheVariants as faults
-use Rattle.awk_meaning.specs.definitions.State.{State, Run, go_on, ◌>>=◌, lift, Effect}
+use Rattle.awk_meaning.specs.definitions.State.{Run}
 use Rattle.awk_meaning.specs.declared.flow.Flow.{Flow}
 use Rattle.awk_meaning.specs.declared.flow.Flow.TheVariants as flow
 use Rattle.awk_meaning.specs.declared.halt.Halt.{Halt}
 use Rattle.awk_meaning.specs.declared.halt.Halt.TheVariants as halt
-use Rattle.awk_variables.specs.declared.special.Special.{Special}
-use Rattle.awk_variables.specs.declared.special.Special.TheVariants.{Argc, Filename, Nr, Fnr}
-use Rattle.awk_variables.specs.Variables.{name_of, is_refused}
-use Rattle.awk_lex.specs.Escapes.{unescaped}
-use Rattle.awk_meaning.specs.definitions.Primitives.{spend, spend_of, read_name, put_unless, put, count_in, field_at, record_text, split_as, set_record, print_bytes, print_line, opened, open_main, note_input, begin_input, taken, taken_of, take_record, close_main, argument_if, argument_below, take_argument, is_input_seen}
-use Rattle.awk_meaning.specs.definitions.Operators.{truth_value, changed, applied, by_one, one, raised, takes_pattern}
-use Rattle.awk_meaning.specs.definitions.Inputs.{is_unassignable, text_or_fault, assigned_text, assign_text, Operand, Nothing, Assignment, StandardInput, AFile, operand_of, at_end, main_record, path_of, first_record, record_by, operand_record, standard_unless, standard_record, or_else, search_by, search_operands_within, search_operands, next_record}
-use Rattle.awk_meaning.specs.definitions.Semantics.{right_operand, tested, choose, store, store_by, post_increment, eval, eval_all, printed_values, print, begin_test, pass_on, exec, exec_all, run_action, run_if, try_item, try_items, unless_next, until_next, begin_record, on_record, each_record, run_records, begin_item, begin_items, has_rule, run_items}
+use Rattle.awk_variables.specs.declared.special.Special.TheVariants.{Nr, Fnr}
+use Rattle.awk_meaning.specs.definitions.Operators.{truth_value, changed, applied, by_one, one, takes_pattern}
+use Rattle.awk_meaning.specs.definitions.Semantics.{right_operand, tested, choose, store, store_by, post_increment, eval, eval_all, printed_values, print, begin_test, exit_with, exec_simple, exec_part, goes_on, ending, turn, unless_ended, repeat_within, repeat, pass_on, exec, exec_all, run_action, in_range, go_through, selects, try_item, try_items, unless_next, until_next, begin_record, on_record, each_record, run_records, begin_item, begin_items, end_item, end_items, has_rule, run_before_end, unless_exit, until_exit, run_items}
 use Rattle.awk_meaning.specs.definitions.Meaning.{StartValues, start_state, assign_all, assign_and_run, run_program, outcome_of, meaning_of}
-use Rattle.awk_meaning.proofs.OwnValues.{Own, OwnNumber, num_own, fault_own, changed_own, applied_own, raised_own, field_by_own}
-
-record Settles {A : Type 0} (m : Run A) : Type 0 where
-  own : (s : State) → Own (m s).result
-
-go_own : {A B : Type 0} (f : A → Run B) → ((a : A) → Settles (f a)) → (r : Result A Halt) (t : State) (effects : List Effect) → Own r → Own (go_on r t effects f).result
-unfolding go_on
-go_own f h (Ok a) t effects own = (h a).own t
-go_own f h (Err e) t effects own = own
-
-then_settles : {A B : Type 0} {m : Run A} (f : A → Run B) → Settles m → ((a : A) → Settles (f a)) → Settles (m >>= f)
-unfolding ◌>>=◌
-then_settles {m = m} f x h = record { own = λ s. go_own f h (m s).result (m s).state (m s).effects (x.own s) }
-
-lift_settles : {A : Type 0} (r : Result A Halt) → Own r → Settles (lift r)
-unfolding lift
-lift_settles r own = record { own = λ s. own }
-
--- the primitives
-
-spend_by : (n : ℕ) (s : State) → Own (spend_of n s).result
-spend_by zero s = tt
-spend_by (suc n) s = tt
-
-spend_settles : Settles spend
-unfolding spend
-spend_settles = record { own = λ s. spend_by s.steps s }
-
-name_settles : (x : List ℕ) → Settles (read_name x)
-unfolding read_name
-name_settles x = record { own = λ s. tt }
-
-put_by : (refused : Bool) (x : List ℕ) (v : Value) (s : State) → Own (put_unless refused x v s).result
-put_by true x v s = tt
-put_by false x v s = tt
-
-put_settles : (x : List ℕ) (v : Value) → Settles (put x v)
-unfolding put
-put_settles x v = record { own = λ s. put_by (is_refused x v) x v s }
-
-count_settles : (x : Special) → Settles (count_in x)
-unfolding count_in
-count_settles x = then_settles _ (name_settles (name_of x)) (λ v. then_settles _ (lift_settles (raised v) (raised_own v)) (λ w. put_settles (name_of x) w))
-
-field_settles : (v : Value) → Settles (field_at v)
-unfolding field_at
-field_settles v = record { own = λ s. field_by_own s.current (num_of v) (num_own v) }
-
-text_settles : Settles record_text
-unfolding record_text
-text_settles = record { own = λ s. tt }
-
-split_by_own : (r : Result Separator TextFault) (text : List ℕ) (s : State) → Own (split_as r text s).result
-split_by_own (Ok separator) text s = tt
-split_by_own (Err fault) text s = tt
-
-set_settles : (text : List ℕ) → Settles (set_record text)
-unfolding set_record
-set_settles text = record { own = λ s. split_by_own _ text s }
-
-show_settles : (vs : List Value) → Settles (print_line vs)
-unfolding print_line print_bytes
-show_settles vs = record { own = λ s. tt }
-
-opened_own : (kind : InputKind) (name : List ℕ) (o : Option Source) (s : State) → Own (opened kind name o s).result
-opened_own kind name None s = tt
-opened_own kind name (Some source) s = tt
-
-open_settles : (kind : InputKind) (name : List ℕ) → Settles (open_main kind name)
-unfolding open_main
-open_settles kind name = record { own = λ s. opened_own kind name _ s }
-
-note_settles : Settles note_input
-unfolding note_input
-note_settles = record { own = λ s. tt }
-
-input_settles : (name : List ℕ) → Settles (begin_input name)
-unfolding begin_input
-input_settles name = then_settles _ (put_settles (name_of Filename) (value.Input name)) (λ _. then_settles _ (put_settles (name_of Fnr) (value.Number (pos 0))) (λ _. note_settles))
-
-taken_own : (c : Cut) (separator : List ℕ) (source : Source) (s : State) → Own (taken c separator source s).result
-taken_own (Found first left) separator source s = tt
-taken_own NoMore separator source s = tt
-taken_own BrokenOff separator source s = tt
-taken_own TooLong separator source s = tt
-taken_own BadSeparator separator source s = tt
-
-taken_of_own : (o : Option Source) (separator : List ℕ) (s : State) → Own (taken_of o separator s).result
-taken_of_own None separator s = (lift_settles (Ok None) tt).own s
-taken_of_own (Some source) separator s = taken_own _ separator source s
-
-take_settles : Settles take_record
-unfolding take_record
-take_settles = record { own = λ s. taken_of_own s.main _ s }
-
-close_settles : Settles close_main
-unfolding close_main
-close_settles = record { own = λ s. tt }
-
-argument_if_own : (b : Bool) (s : State) → Own (argument_if b s).result
-argument_if_own true s = tt
-argument_if_own false s = tt
-
-argument_below_own : (r : Result ℤ ValueFault) (s : State) → OwnNumber r → Own (argument_below r s).result
-argument_below_own (Ok n) s own = argument_if_own _ s
-argument_below_own (Err f) s own = fault_own f own
-
-argument_settles : Settles take_argument
-unfolding take_argument
-argument_settles = record { own = λ s. argument_below_own _ s (num_own (s.variables (name_of Argc))) }
-
-is_seen_settles : Settles is_input_seen
-unfolding is_input_seen
-is_seen_settles = record { own = λ s. tt }
-
--- the main input
-
-text_or_own : (o : Option (List ℕ)) → Own (text_or_fault o)
-text_or_own None = tt
-text_or_own (Some text) = tt
-
-assigned_by : (b : Bool) (o : Option (List ℕ)) → Own (if b then Err (halt.Fault faults.AssignmentRefused) else text_or_fault o)
-assigned_by true o = tt
-assigned_by false o = text_or_own o
-
-assign_settles : (x text : List ℕ) → Settles (assign_text x text)
-unfolding assign_text
-assign_settles x text = then_settles _ (lift_settles (assigned_text x text) (assigned_by (is_unassignable x) (unescaped text))) (λ t. put_settles x (value.Input t))
-
-at_end_settles : (found : Option (List ℕ)) → Settles (at_end found)
-at_end_settles None = then_settles _ close_settles (λ _. lift_settles (Ok None) tt)
-at_end_settles (Some text) = lift_settles (Ok (Some text)) tt
-
-main_settles : Settles main_record
-unfolding main_record
-main_settles = then_settles _ take_settles (λ found. at_end_settles found)
-
-first_settles : (kind : InputKind) (name : List ℕ) → Settles (first_record kind name)
-unfolding first_record
-first_settles kind name = then_settles _ (open_settles kind (path_of kind name)) (λ _. then_settles _ (input_settles name) (λ _. main_settles))
-
-record_by_settles : (a : Operand) (word : List ℕ) → Settles (record_by a word)
-record_by_settles Nothing word = lift_settles (Ok None) tt
-record_by_settles (Assignment x text) word = then_settles _ (assign_settles x text) (λ _. lift_settles (Ok None) tt)
-record_by_settles StandardInput word = first_settles Standard word
-record_by_settles AFile word = first_settles File word
-
-operand_settles : (word : List ℕ) → Settles (operand_record word)
-unfolding operand_record
-operand_settles word = record_by_settles (operand_of word) word
-
-standard_unless_settles : (input_seen : Bool) → Settles (standard_unless input_seen)
-standard_unless_settles true = lift_settles (Ok None) tt
-standard_unless_settles false = first_settles Standard []
-
-standard_settles : Settles standard_record
-unfolding standard_record
-standard_settles = then_settles _ is_seen_settles (λ input_seen. standard_unless_settles input_seen)
-
-or_else_settles : (found : Option (List ℕ)) {m : Run (Option (List ℕ))} → Settles m → Settles (or_else found m)
-or_else_settles (Some text) h = lift_settles (Ok (Some text)) tt
-or_else_settles None h = h
-
-search_by_settles : (word : Option (List ℕ)) {m : Run (Option (List ℕ))} → Settles m → Settles (search_by word m)
-search_by_settles (Some word) h = then_settles _ spend_settles (λ _. then_settles _ (operand_settles word) (λ found. or_else_settles found h))
-search_by_settles None h = standard_settles
-
-search_settles : (n : ℕ) → Settles (search_operands_within n)
-unfolding search_operands_within
-search_settles zero = lift_settles (Err halt.OutOfSteps) tt
-search_settles (suc n) = then_settles _ argument_settles (λ word. search_by_settles word (search_settles n))
-
-search_all_settles : Settles search_operands
-unfolding search_operands
-search_all_settles = record { own = λ s. (search_settles (suc s.steps)).own s }
-
-next_settles : Settles next_record
-unfolding next_record
-next_settles = then_settles _ main_settles (λ found. or_else_settles found search_all_settles)
+use Rattle.awk_meaning.proofs.OwnValues.{Own, changed_own, applied_own}
+use Rattle.awk_meaning.proofs.Settles.{Settles, then_settles, lift_settles, spend_settles, name_settles, put_settles, count_settles, field_settles, text_settles, set_settles, show_settles, inside_settles, set_inside_settles, status_settles, assign_settles, next_settles}
 
 -- the forms
 
@@ -287,6 +99,47 @@ begin_test_settles : (c : Expr) → Settles (begin_test c)
 unfolding begin_test
 begin_test_settles c = then_settles _ spend_settles (λ _. tested_settles (eval_settles c))
 
+exit_settles : (e : OptionalExpr) → Settles (exit_with e)
+unfolding exit_with
+exit_settles NoExpr = lift_settles (Err halt.Exit) tt
+exit_settles (AnExpr e) = then_settles _ (eval_settles e) (λ v. then_settles _ (status_settles v) (λ _. lift_settles (Err halt.Exit) tt))
+
+simple_settles : (simple : SimpleStatement) → Settles (exec_simple simple)
+unfolding exec_simple
+simple_settles (Expression e) = then_settles _ spend_settles (λ _. then_settles _ (eval_settles e) (λ v. lift_settles (Ok flow.Normal) tt))
+simple_settles (Print list) = then_settles _ (print_settles list) (λ _. lift_settles (Ok flow.Normal) tt)
+simple_settles Next = then_settles _ spend_settles (λ _. lift_settles (Err halt.Next) tt)
+simple_settles Break = then_settles _ spend_settles (λ _. lift_settles (Ok flow.Break) tt)
+simple_settles Continue = then_settles _ spend_settles (λ _. lift_settles (Ok flow.Continue) tt)
+simple_settles (Exit e) = then_settles _ spend_settles (λ _. exit_settles e)
+
+part_settles : (part : OptionalSimple) → Settles (exec_part part)
+unfolding exec_part
+part_settles NoSimple = lift_settles (Ok tt) tt
+part_settles (ASimple simple) = then_settles _ (simple_settles simple) (λ f. lift_settles (Ok tt) tt)
+
+goes_on_settles : (c : OptionalExpr) → Settles (goes_on c)
+unfolding goes_on
+goes_on_settles NoExpr = lift_settles (Ok true) tt
+goes_on_settles (AnExpr e) = tested_settles (eval_settles e)
+
+turn_settles : {m : Run Flow} → Settles m → Settles (turn m)
+unfolding turn
+turn_settles h = then_settles _ spend_settles (λ _. then_settles _ h (λ f. lift_settles (Ok (ending f)) tt))
+
+unless_ended_settles : (ended : Option Flow) {m : Run Flow} → Settles m → Settles (unless_ended ended m)
+unless_ended_settles None h = h
+unless_ended_settles (Some f) h = lift_settles (Ok f) tt
+
+repeat_within_settles : (n : ℕ) {condition : Run Bool} {body : Run Flow} {last : Run (Unit {0})} → Settles condition → Settles body → Settles last → Settles (repeat_within n condition body last)
+unfolding repeat_within
+repeat_within_settles zero c b l = lift_settles (Err halt.OutOfSteps) tt
+repeat_within_settles (suc n) c b l = then_settles _ c (λ x. choose_settles x (then_settles _ (turn_settles b) (λ ended. unless_ended_settles ended (then_settles _ l (λ _. repeat_within_settles n c b l)))) (lift_settles (Ok flow.Normal) tt))
+
+repeat_settles : {condition : Run Bool} {body : Run Flow} {last : Run (Unit {0})} → Settles condition → Settles body → Settles last → Settles (repeat condition body last)
+unfolding repeat
+repeat_settles c b l = record { own = λ s. (repeat_within_settles (suc s.steps) c b l).own s }
+
 pass_settles : (f : Flow) {m : Run Flow} → Settles m → Settles (pass_on f m)
 pass_settles flow.Normal h = h
 pass_settles flow.Break h = lift_settles (Ok flow.Break) tt
@@ -298,11 +151,13 @@ mutual
 
   exec_settles : (s : Statement) → Settles (exec s)
   exec_settles Empty = lift_settles (Ok flow.Normal) tt
+  exec_settles (Simple simple) = simple_settles simple
   exec_settles (Block all) = exec_all_settles all
-  exec_settles (Expression e) = then_settles _ spend_settles (λ _. then_settles _ (eval_settles e) (λ v. lift_settles (Ok flow.Normal) tt))
-  exec_settles (Print list) = then_settles _ (print_settles list) (λ _. lift_settles (Ok flow.Normal) tt)
   exec_settles (If c s) = let body = exec_settles s in then_settles _ (begin_test_settles c) (λ x. choose_settles x body (lift_settles (Ok flow.Normal) tt))
   exec_settles (IfElse c s other) = let body = exec_settles s in let rest = exec_settles other in then_settles _ (begin_test_settles c) (λ x. choose_settles x body rest)
+  exec_settles (While c s) = let body = exec_settles s in then_settles _ spend_settles (λ _. repeat_settles (tested_settles (eval_settles c)) body (lift_settles (Ok tt) tt))
+  exec_settles (Do s c) = let body = exec_settles s in then_settles _ spend_settles (λ _. then_settles _ (turn_settles body) (λ ended. unless_ended_settles ended (repeat_settles (tested_settles (eval_settles c)) body (lift_settles (Ok tt) tt))))
+  exec_settles (For first c last s) = let body = exec_settles s in then_settles _ spend_settles (λ _. then_settles _ (part_settles first) (λ _. repeat_settles (goes_on_settles c) body (part_settles last)))
 
   exec_all_settles : (all : Statements) → Settles (exec_all all)
   exec_all_settles NoStatement = lift_settles (Ok flow.Normal) tt
@@ -312,21 +167,31 @@ action_settles : (all : Statements) → Settles (run_action all)
 unfolding run_action
 action_settles all = then_settles _ (exec_all_settles all) (λ f. lift_settles (Ok tt) tt)
 
-if_settles : (b : Bool) {m : Run (Unit {0})} → Settles m → Settles (run_if b m)
-if_settles true h = h
-if_settles false h = lift_settles (Ok tt) tt
+in_range_settles : (n : ℕ) (from : Expr) → Settles (in_range n from)
+unfolding in_range
+in_range_settles n from = then_settles _ (inside_settles n) (λ inside. choose_settles inside (lift_settles (Ok true) tt) (tested_settles (eval_settles from)))
 
-item_settles : (x : Item) → Settles (try_item x)
+through_settles : (n : ℕ) (to : Expr) → Settles (go_through n to)
+unfolding go_through
+through_settles n to = then_settles _ (tested_settles (eval_settles to)) (λ ends. then_settles _ (set_inside_settles n (not ends)) (λ _. lift_settles (Ok true) tt))
+
+selects_settles : (n : ℕ) (p : Pattern) → Settles (selects n p)
+unfolding selects
+selects_settles n (Single e) = tested_settles (eval_settles e)
+selects_settles n (Range from to) = then_settles _ (in_range_settles n from) (λ x. choose_settles x (through_settles n to) (lift_settles (Ok false) tt))
+
+item_settles : (n : ℕ) (x : Item) → Settles (try_item n x)
 unfolding try_item
-item_settles (Begin block) = lift_settles (Ok tt) tt
-item_settles (Action block) = action_settles block
-item_settles (Pattern e) = then_settles _ (tested_settles (eval_settles e)) (λ x. if_settles x (print_settles Nil))
-item_settles (PatternAction e block) = then_settles _ (tested_settles (eval_settles e)) (λ x. if_settles x (action_settles block))
+item_settles n (Begin block) = lift_settles (Ok tt) tt
+item_settles n (End block) = lift_settles (Ok tt) tt
+item_settles n (Action block) = action_settles block
+item_settles n (PatternAction p block) = then_settles _ (selects_settles n p) (λ x. choose_settles x (action_settles block) (lift_settles (Ok tt) tt))
+item_settles n (PatternOnly p) = then_settles _ (selects_settles n p) (λ x. choose_settles x (print_settles Nil) (lift_settles (Ok tt) tt))
 
-items_settles : (xs : List Item) → Settles (try_items xs)
+items_settles : (n : ℕ) (xs : List Item) → Settles (try_items n xs)
 unfolding try_items
-items_settles [] = lift_settles (Ok tt) tt
-items_settles (x ∷ xs) = then_settles _ (item_settles x) (λ _. items_settles xs)
+items_settles n [] = lift_settles (Ok tt) tt
+items_settles n (x ∷ xs) = then_settles _ (item_settles n x) (λ _. items_settles (suc n) xs)
 
 unless_own : (r : Result (Unit {0}) Halt) → Own r → Own (unless_next r)
 unless_own (Ok u) own = tt
@@ -338,6 +203,17 @@ unless_own (Err (halt.Fault f)) own = own
 until_settles : {m : Run (Unit {0})} → Settles m → Settles (until_next m)
 unfolding until_next
 until_settles {m = m} h = record { own = λ s. unless_own (m s).result (h.own s) }
+
+exit_own : (r : Result (Unit {0}) Halt) → Own r → Own (unless_exit r)
+exit_own (Ok u) own = tt
+exit_own (Err halt.Next) own = tt
+exit_own (Err halt.Exit) own = tt
+exit_own (Err halt.OutOfSteps) own = tt
+exit_own (Err (halt.Fault f)) own = own
+
+until_exit_settles : {m : Run (Unit {0})} → Settles m → Settles (until_exit m)
+unfolding until_exit
+until_exit_settles {m = m} h = record { own = λ s. exit_own (m s).result (h.own s) }
 
 begin_settles : (text : List ℕ) → Settles (begin_record text)
 unfolding begin_record
@@ -359,18 +235,36 @@ records_settles y = record { own = λ s. (each_settles (suc s.steps) y).own s }
 begin_item_settles : (x : Item) → Settles (begin_item x)
 unfolding begin_item
 begin_item_settles (Begin block) = action_settles block
+begin_item_settles (End block) = lift_settles (Ok tt) tt
 begin_item_settles (Action block) = lift_settles (Ok tt) tt
-begin_item_settles (Pattern e) = lift_settles (Ok tt) tt
-begin_item_settles (PatternAction e block) = lift_settles (Ok tt) tt
+begin_item_settles (PatternAction p block) = lift_settles (Ok tt) tt
+begin_item_settles (PatternOnly p) = lift_settles (Ok tt) tt
 
 begin_items_settles : (xs : List Item) → Settles (begin_items xs)
 unfolding begin_items
 begin_items_settles [] = lift_settles (Ok tt) tt
 begin_items_settles (x ∷ xs) = then_settles _ (begin_item_settles x) (λ _. begin_items_settles xs)
 
+end_item_settles : (x : Item) → Settles (end_item x)
+unfolding end_item
+end_item_settles (Begin block) = lift_settles (Ok tt) tt
+end_item_settles (End block) = action_settles block
+end_item_settles (Action block) = lift_settles (Ok tt) tt
+end_item_settles (PatternAction p block) = lift_settles (Ok tt) tt
+end_item_settles (PatternOnly p) = lift_settles (Ok tt) tt
+
+end_items_settles : (xs : List Item) → Settles (end_items xs)
+unfolding end_items
+end_items_settles [] = lift_settles (Ok tt) tt
+end_items_settles (x ∷ xs) = then_settles _ (end_item_settles x) (λ _. end_items_settles xs)
+
+before_end_settles : (items : List Item) → Settles (run_before_end items)
+unfolding run_before_end
+before_end_settles items = then_settles _ (begin_items_settles items) (λ _. choose_settles (has_rule items) (records_settles (until_settles (items_settles 0 items))) (lift_settles (Ok tt) tt))
+
 run_settles : (items : List Item) → Settles (run_items items)
 unfolding run_items
-run_settles items = then_settles _ (begin_items_settles items) (λ _. if_settles (has_rule items) (records_settles (until_settles (items_settles items))))
+run_settles items = then_settles _ (until_exit_settles (before_end_settles items)) (λ _. end_items_settles items)
 
 assign_all_settles : (pre : List (List ℕ × List ℕ)) → Settles (assign_all pre)
 unfolding assign_all

@@ -5,10 +5,10 @@ use Rattle.std.proofs.lemmas.List.{drop_all, map-append}
 use Rattle.awk_tree.specs.declared.tree.Expr.{Expr as CodeExpr}
 use Rattle.awk_tree.specs.declared.tree.Statement.{Statement as CodeStatement}
 use Rattle.awk_tree.specs.declared.tree.Item.{Item as CodeItem}
-use Rattle.awk_tree.specs.Tree.{Expr, Number, String, Ere, Name, Group, Field, Unary, Binary, And, Or, Conditional, Assign, AssignBy, PreIncrement, PostIncrement, Exprs, Nil, Cons, Statement, Empty, Block, Expression, Print, If, IfElse, Statements, NoMore, Then, Item, Begin, Action, Pattern, PatternAction}
+use Rattle.awk_tree.specs.Tree.{Expr, Number, String, Ere, Name, Group, Field, Unary, Binary, And, Or, Conditional, Assign, AssignBy, PreIncrement, PostIncrement, Exprs, Nil, Cons, OptionalExpr, NoExpr, AnExpr, SimpleStatement, Expression, Print, Next, Break, Continue, Exit, OptionalSimple, NoSimple, ASimple, Statement, Empty, Simple, Block, If, IfElse, While, Do, For, Statements, NoMore, Then, Pattern, Single, Range, Item, Begin, End, Action, PatternAction, PatternOnly}
 use Rattle.awk_tree.specs.View.{expr_of, exprs_of, statement_of, statements_of, item_of, items_of}
 use Rattle.awk_resolve.specs.declared.names.Misuse.{Misuse}
-use Rattle.awk_resolve.specs.definitions.Names.{Use, uses_in_expr, uses_in_list, uses_in_statement, uses_in_block, uses_in_item, uses_in, special_scalars, special_arrays, scalar_names, array_names, is_absent, are_apart}
+use Rattle.awk_resolve.specs.definitions.Names.{Use, uses_in_expr, uses_in_list, uses_in_optional_expr, uses_in_simple, uses_in_optional_simple, uses_in_statement, uses_in_block, uses_in_pattern, uses_in_item, uses_in, special_scalars, special_arrays, scalar_names, array_names, is_absent, are_apart}
 use Rattle.awk_resolve.specs.support.Misuse.{names_of, Adds}
 
 -- uses in turn
@@ -65,24 +65,48 @@ scalars_in_list : (es : Exprs) → AreScalar (uses_in_list es)
 scalars_in_list Nil = tt
 scalars_in_list (Cons e es) = are_scalar-append _ _ (scalars_in_expr e) (scalars_in_list es)
 
+scalars_in_optional_expr : (e : OptionalExpr) → AreScalar (uses_in_optional_expr e)
+scalars_in_optional_expr NoExpr = tt
+scalars_in_optional_expr (AnExpr e) = scalars_in_expr e
+
+scalars_in_simple : (simple : SimpleStatement) → AreScalar (uses_in_simple simple)
+scalars_in_simple (Expression e) = scalars_in_expr e
+scalars_in_simple (Print list) = scalars_in_list list
+scalars_in_simple Next = tt
+scalars_in_simple Break = tt
+scalars_in_simple Continue = tt
+scalars_in_simple (Exit e) = scalars_in_optional_expr e
+
+scalars_in_optional_simple : (part : OptionalSimple) → AreScalar (uses_in_optional_simple part)
+scalars_in_optional_simple NoSimple = tt
+scalars_in_optional_simple (ASimple simple) = scalars_in_simple simple
+
 mutual
   scalars_in_statement : (s : Statement) → AreScalar (uses_in_statement s)
   scalars_in_statement Empty = tt
+  scalars_in_statement (Simple simple) = scalars_in_simple simple
   scalars_in_statement (Block all) = scalars_in_block all
-  scalars_in_statement (Expression e) = scalars_in_expr e
-  scalars_in_statement (Print list) = scalars_in_list list
   scalars_in_statement (If c s) = are_scalar-append _ _ (scalars_in_expr c) (scalars_in_statement s)
   scalars_in_statement (IfElse c s other) = are_scalar-append _ _ (scalars_in_expr c) (are_scalar-append _ _ (scalars_in_statement s) (scalars_in_statement other))
+  scalars_in_statement (While c s) = are_scalar-append _ _ (scalars_in_expr c) (scalars_in_statement s)
+  scalars_in_statement (Do s c) = are_scalar-append _ _ (scalars_in_statement s) (scalars_in_expr c)
+  scalars_in_statement (For first c last s) =
+      are_scalar-append _ _ (scalars_in_optional_simple first) (are_scalar-append _ _ (scalars_in_optional_expr c) (are_scalar-append _ _ (scalars_in_optional_simple last) (scalars_in_statement s)))
 
   scalars_in_block : (all : Statements) → AreScalar (uses_in_block all)
   scalars_in_block NoMore = tt
   scalars_in_block (Then s all) = are_scalar-append _ _ (scalars_in_statement s) (scalars_in_block all)
 
+scalars_in_pattern : (p : Pattern) → AreScalar (uses_in_pattern p)
+scalars_in_pattern (Single e) = scalars_in_expr e
+scalars_in_pattern (Range from to) = are_scalar-append _ _ (scalars_in_expr from) (scalars_in_expr to)
+
 scalars_in_item : (x : Item) → AreScalar (uses_in_item x)
 scalars_in_item (Begin block) = scalars_in_block block
+scalars_in_item (End block) = scalars_in_block block
 scalars_in_item (Action block) = scalars_in_block block
-scalars_in_item (Pattern e) = scalars_in_expr e
-scalars_in_item (PatternAction e block) = are_scalar-append _ _ (scalars_in_expr e) (scalars_in_block block)
+scalars_in_item (PatternAction p block) = are_scalar-append _ _ (scalars_in_pattern p) (scalars_in_block block)
+scalars_in_item (PatternOnly p) = scalars_in_pattern p
 
 scalars_in : (items : List Item) → AreScalar (uses_in items)
 scalars_in [] = tt

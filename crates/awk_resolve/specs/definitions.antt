@@ -1,3 +1,4 @@
 pub mod Built
 pub mod Names
+pub mod Placed
 pub mod Resolved

@@ -1,9 +1,9 @@
-// The forms that can be run, as the tree that is run: each form of the grammar's tree has its form there, or none yet.
+// The expressions that can be run, as the tree that is run: each form of the grammar's tree has its form there, or none
+// yet.
 
-ghost use Rattle.awk_grammar.specs.Tree as t;
 ghost use Rattle.awk_grammar.specs.View as g;
-ghost use Rattle.awk_tree.specs.View.{expr_of, exprs_of, statement_of, statements_of, item_of, items_of};
-ghost use Rattle.awk_resolve.specs.definitions.Built.{built_unary, binary, built_target, assigned, built_expr, built_list, built_print_list, built_simple, built_statement, built_block, built_item, built_items};
+ghost use Rattle.awk_tree.specs.View.{expr_of, exprs_of, optional_expr_of};
+ghost use Rattle.awk_resolve.specs.definitions.Built.{built_unary, binary, built_target, assigned, built_expr, built_list, built_print_list, built_optional_expr};
 ghost use Rattle.awk_resolve.specs.support.Builds.{Builds};
 ghost use Rattle.std.specs.Prelude.{◌≡◌};
 ghost use Rattle.std.specs.Option.{option_map};
@@ -11,12 +11,12 @@ ghost use Rattle.std.specs.Option.{option_map};
 use awk_grammar::tree as grammar;
 use awk_lex::refusal::{Refusal, RefusalCode};
 use awk_lex::token::{AssignmentOperator, Operator};
-use awk_tree::tree::{BinaryOperator, Ere, Expr, Item, Statement, UnaryOperator};
+use awk_tree::tree::{BinaryOperator, Ere, Expr, UnaryOperator};
 use awk_value::Bytes;
 use std::alloc::Global;
 
 /// A form that can't be run yet.
-const NOT_BUILT: Refusal = Refusal {
+pub(crate) const NOT_BUILT: Refusal = Refusal {
     code: RefusalCode::NotBuilt,
     line: 1,
 };
@@ -103,7 +103,7 @@ fn built_place(place: &grammar::Expr) -> Result<Bytes, Refusal>
 
 /// An operand, in a box of its own.
 #[cycle(expressions)]
-fn built_operand(alloc: Global, e: &grammar::Expr) -> Result<Box<Expr>, Refusal>
+pub(crate) fn built_operand(alloc: Global, e: &grammar::Expr) -> Result<Box<Expr>, Refusal>
     ensures { Builds (λ b. expr_of b.value) result (built_expr (g.expr_of e.now)) }
 {
     let e = built_expr(alloc, e)?;
@@ -164,7 +164,10 @@ fn built_list(alloc: Global, list: &[grammar::Expr]) -> Result<Vec<Expr>, Refusa
     Ok(built)
 }
 
-fn built_print_list(alloc: Global, list: &grammar::PrintList) -> Result<Vec<Expr>, Refusal>
+pub(crate) fn built_print_list(
+    alloc: Global,
+    list: &grammar::PrintList,
+) -> Result<Vec<Expr>, Refusal>
     ensures { Builds (λ v. exprs_of v.items) result (built_print_list (g.print_list_of list.now)) }
 {
     match list {
@@ -174,94 +177,14 @@ fn built_print_list(alloc: Global, list: &grammar::PrintList) -> Result<Vec<Expr
     }
 }
 
-fn built_simple(alloc: Global, simple: &grammar::SimpleStatement) -> Result<Statement, Refusal>
-    ensures { Builds statement_of result (built_simple (g.simple_of simple.now)) }
-{
-    match simple {
-        grammar::SimpleStatement::Expression(e) => {
-            Ok(Statement::Expression(built_expr(alloc, e)?))
-        }
-        grammar::SimpleStatement::Print(
-            grammar::PrintForm::Print,
-            list,
-            grammar::Output::Standard,
-        ) => { Ok(Statement::Print(built_print_list(alloc, list)?)) }
-        _ => Err(NOT_BUILT),
-    }
-}
-
-#[cycle(statements)]
-fn built_statement(alloc: Global, s: &grammar::Statement) -> Result<Statement, Refusal>
-    ensures { Builds statement_of result (built_statement (g.statement_of s.now)) }
-{
-    match s {
-        grammar::Statement::Empty => Ok(Statement::Empty),
-        grammar::Statement::Simple(simple) => built_simple(alloc, simple),
-        grammar::Statement::Block(all) => Ok(Statement::Block(built_block(alloc, all)?)),
-        grammar::Statement::If(c, s) => {
-            let c = built_operand(alloc, c)?;
-            let s = built_statement(alloc, s)?;
-            Ok(Statement::If(c, Box::new(alloc, s)?))
-        }
-        grammar::Statement::IfElse(c, s, other) => {
-            let c = built_operand(alloc, c)?;
-            let s = built_statement(alloc, s)?;
-            let other = built_statement(alloc, other)?;
-            let s = Box::new(alloc, s)?;
-            Ok(Statement::IfElse(c, s, Box::new(alloc, other)?))
-        }
-        _ => Err(NOT_BUILT),
-    }
-}
-
-#[cycle(statements)]
-fn built_block(alloc: Global, all: &[grammar::Statement]) -> Result<Vec<Statement>, Refusal>
-    ensures { Builds (λ v. statements_of v.items) result (built_block (g.statements_of all.now)) }
-{
-    let mut built = Vec::new(alloc);
-    for s in all {
-        let s = built_statement(alloc, s)?;
-        built.push(s)?;
-    }
-    Ok(built)
-}
-
-fn built_rule(
+pub(crate) fn built_optional_expr(
     alloc: Global,
-    e: &grammar::Expr,
-    block: &[grammar::Statement],
-) -> Result<Item, Refusal>
-    ensures { Builds item_of result (built_item (t.PatternAction (t.Single (g.expr_of e.now)) (g.statements_of block.now))) }
+    e: &Option<Box<grammar::Expr>>,
+) -> Result<Option<Box<Expr>>, Refusal>
+    ensures { Builds optional_expr_of result (built_optional_expr (g.optional_expr_of e.now)) }
 {
-    let e = built_expr(alloc, e)?;
-    let block = built_block(alloc, block)?;
-    Ok(Item::PatternAction(e, block))
-}
-
-fn built_item(alloc: Global, item: &grammar::Item) -> Result<Item, Refusal>
-    ensures { Builds item_of result (built_item (g.item_of item.now)) }
-{
-    match item {
-        grammar::Item::Begin(block) => Ok(Item::Begin(built_block(alloc, block)?)),
-        grammar::Item::Action(block) => Ok(Item::Action(built_block(alloc, block)?)),
-        grammar::Item::PatternOnly(grammar::Pattern::Single(e)) => {
-            Ok(Item::Pattern(built_expr(alloc, e)?))
-        }
-        grammar::Item::PatternAction(grammar::Pattern::Single(e), block) => {
-            built_rule(alloc, e, block)
-        }
-        _ => Err(NOT_BUILT),
+    match e {
+        None => Ok(None),
+        Some(e) => Ok(Some(built_operand(alloc, e)?)),
     }
-}
-
-/// The items as what is run, or K9 where one of their forms isn't built yet.
-pub(crate) fn built_items(alloc: Global, items: &[grammar::Item]) -> Result<Vec<Item>, Refusal>
-    ensures { Builds (λ v. items_of v.items) result (built_items (g.items_of items.now)) }
-{
-    let mut built = Vec::new(alloc);
-    for item in items {
-        let item = built_item(alloc, item)?;
-        built.push(item)?;
-    }
-    Ok(built)
 }

@@ -1,9 +1,12 @@
-//! From the tree of a program to what is run: whether its names fit, and whether each of its forms is built.
+//! From the tree of a program to what is run: whether its statements stand where they may, whether its names fit, and
+//! whether each of its forms is built.
 #![tactic(auto)]
 
 mod built;
+mod built_statements;
 mod left_out;
 mod names;
+mod placed;
 mod program;
 
 pub use program::resolve;

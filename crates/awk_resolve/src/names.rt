@@ -1,11 +1,11 @@
 // Whether a name of a program is used both as an array and as a scalar.
 
 ghost use Rattle.std.specs.Prelude.{◌≡◌, not, [], ◌∷◌};
-ghost use Rattle.awk_tree.specs.View.{expr_of, exprs_of, statement_of, statements_of, item_of, items_of};
-ghost use Rattle.awk_resolve.specs.definitions.Names.{scalar, uses_in_expr, uses_in_list, uses_in_statement, uses_in_block, uses_in_item, uses_in, scalar_names, array_names, are_apart};
+ghost use Rattle.awk_tree.specs.View.{expr_of, exprs_of, optional_expr_of, simple_of, optional_simple_of, statement_of, statements_of, pattern_of, item_of, items_of};
+ghost use Rattle.awk_resolve.specs.definitions.Names.{scalar, uses_in_expr, uses_in_list, uses_in_optional_expr, uses_in_simple, uses_in_optional_simple, uses_in_statement, uses_in_block, uses_in_pattern, uses_in_item, uses_in, scalar_names, array_names, are_apart};
 ghost use Rattle.awk_resolve.specs.support.Misuse.{is_special_array, Adds};
 
-use awk_tree::tree::{Expr, Item, Statement};
+use awk_tree::tree::{Expr, Item, Pattern, SimpleStatement, Statement};
 
 /// The special variables that are arrays (POSIX awk, Variables and Special Variables).
 const SPECIAL_ARRAYS: [&[u8]; 2] = [b"ARGV", b"ENVIRON"];
@@ -64,16 +64,43 @@ impl Misuse {
         }
     }
 
+    fn add_optional_expr(&mut self, e: &Option<Box<Expr>>)
+        ensures { Adds self.old self.new (uses_in_optional_expr (optional_expr_of e.now)) }
+    {
+        if let Some(e) = e {
+            self.add_expr(e);
+        }
+    }
+
+    fn add_simple(&mut self, simple: &SimpleStatement)
+        ensures { Adds self.old self.new (uses_in_simple (simple_of simple.now)) }
+    {
+        match simple {
+            SimpleStatement::Expression(e) => self.add_expr(e),
+            SimpleStatement::Print(list) => self.add_list(list),
+            SimpleStatement::Next | SimpleStatement::Break | SimpleStatement::Continue => {}
+            SimpleStatement::Exit(e) => self.add_optional_expr(e),
+        }
+    }
+
+    /// Adds the names of an outer part of a `for`.
+    fn add_part(&mut self, part: &Option<SimpleStatement>)
+        ensures { Adds self.old self.new (uses_in_optional_simple (optional_simple_of part.now)) }
+    {
+        if let Some(simple) = part {
+            self.add_simple(simple);
+        }
+    }
+
     #[cycle(statements)]
     fn add_statement(&mut self, s: &Statement)
         ensures { Adds self.old self.new (uses_in_statement (statement_of s.now)) }
     {
         match s {
             Statement::Empty => {}
+            Statement::Simple(simple) => self.add_simple(simple),
             Statement::Block(all) => self.add_block(all),
-            Statement::Expression(e) => self.add_expr(e),
-            Statement::Print(list) => self.add_list(list),
-            Statement::If(c, s) => {
+            Statement::If(c, s) | Statement::While(c, s) => {
                 self.add_expr(c);
                 self.add_statement(s);
             }
@@ -81,6 +108,16 @@ impl Misuse {
                 self.add_expr(c);
                 self.add_statement(s);
                 self.add_statement(other);
+            }
+            Statement::Do(s, c) => {
+                self.add_statement(s);
+                self.add_expr(c);
+            }
+            Statement::For(first, c, last, s) => {
+                self.add_part(first);
+                self.add_optional_expr(c);
+                self.add_part(last);
+                self.add_statement(s);
             }
         }
     }
@@ -94,16 +131,28 @@ impl Misuse {
         }
     }
 
+    fn add_pattern(&mut self, pattern: &Pattern)
+        ensures { Adds self.old self.new (uses_in_pattern (pattern_of pattern.now)) }
+    {
+        match pattern {
+            Pattern::Single(e) => self.add_expr(e),
+            Pattern::Range(from, to) => {
+                self.add_expr(from);
+                self.add_expr(to);
+            }
+        }
+    }
+
     fn add_item(&mut self, item: &Item)
         ensures { Adds self.old self.new (uses_in_item (item_of item.now)) }
     {
         match item {
-            Item::Begin(block) | Item::Action(block) => self.add_block(block),
-            Item::Pattern(e) => self.add_expr(e),
-            Item::PatternAction(e, block) => {
-                self.add_expr(e);
+            Item::Begin(block) | Item::End(block) | Item::Action(block) => self.add_block(block),
+            Item::PatternAction(pattern, block) => {
+                self.add_pattern(pattern);
                 self.add_block(block);
             }
+            Item::PatternOnly(pattern) => self.add_pattern(pattern),
         }
     }
 

@@ -4,9 +4,10 @@ ghost use Rattle.awk_grammar.specs.View.{tree_of as grammar_tree_of};
 ghost use Rattle.awk_lex.specs.Told.{kinds_of};
 ghost use Rattle.awk_resolve.specs.definitions.Resolved.{Resolves, resolved};
 
-use crate::built::built_items;
+use crate::built_statements::built_items;
 use crate::left_out::names_left_out;
 use crate::names::has_misused_array;
+use crate::placed::are_in_place;
 use awk_grammar::tree as grammar;
 use awk_lex::refusal::{Refusal, RefusalCode};
 use awk_lex::token::Token;
@@ -16,11 +17,18 @@ use std::alloc::Global;
 /// The tree that is run of a program, given its tokens and their tree (POSIX awk, Grammar; Variables
 /// and Special Variables).
 ///
-/// The first cause that holds refuses it: a name is left out (K7), a form isn't built yet (K9), or a
-/// name is used as an array and as a scalar (K1). Each names line 1.
+/// The first cause that holds refuses it: a statement stands where it ends nothing (K6), a name is
+/// left out (K7), a form isn't built yet (K9), or a name is used as an array and as a scalar (K1).
+/// Each names line 1.
 pub fn resolve(alloc: Global, tokens: &[Token], tree: &grammar::Tree) -> Result<Tree, Refusal>
     ensures { Resolves result (resolved (kinds_of tokens.now) (grammar_tree_of tree.now)) }
 {
+    if !are_in_place(&tree.items) {
+        return Err(Refusal {
+            code: RefusalCode::StatementOutOfPlace,
+            line: 1,
+        });
+    }
     if names_left_out(tokens) {
         return Err(Refusal {
             code: RefusalCode::NameLeftOut,

@@ -4,7 +4,7 @@ use Rattle.std.proofs.lemmas.Bool.{cases_Bool}
 use Rattle.awk_lex.specs.declared.token.Kind.{Kind}
 use Rattle.awk_lex.specs.declared.refusal.Refusal.{Refusal}
 use Rattle.awk_lex.specs.declared.refusal.RefusalCode.{RefusalCode}
-use Rattle.awk_lex.specs.declared.refusal.RefusalCode.TheVariants.{UnexpectedByte, OpenString, OpenPattern, EscapeRefused, NumberRefused, ProgramTooLong, NotAProgram, NestedTooDeep, PatternIllFormed, PatternCountRefused, PatternTooLarge, ArrayAndScalar, NameLeftOut, NotBuilt, OutOfMemory}
+use Rattle.awk_lex.specs.declared.refusal.RefusalCode.TheVariants.{UnexpectedByte, OpenString, OpenPattern, EscapeRefused, NumberRefused, ProgramTooLong, NotAProgram, NestedTooDeep, PatternIllFormed, PatternCountRefused, PatternTooLarge, ArrayAndScalar, StatementOutOfPlace, NameLeftOut, NotBuilt, OutOfMemory}
 use Rattle.awk_lex.specs.Refused.{IsOutOfMemory}
 use Rattle.awk_lex.specs.Lexes.{Lexes}
 use Rattle.awk_lex.specs.Told.{Refuses, kinds_of}
@@ -20,7 +20,8 @@ use Rattle.awk_tree.specs.View.{tree_of}
 use Rattle.awk_tree.specs.declared.tree.Tree.{Tree}
 use Rattle.awk_resolve.specs.Built.{built_items}
 use Rattle.awk_resolve.specs.Names.{names_left_out, scalar_names, array_names, are_apart}
-use Rattle.awk_resolve.specs.Resolved.{fitting, resolved, Resolves}
+use Rattle.awk_resolve.specs.Placed.{are_in_place}
+use Rattle.awk_resolve.specs.Resolved.{fitting, resolved_in_place, resolved, Resolves}
 use Rattle.awk_run.specs.definitions.Accepted.{longest_text, IsSpelled, HasBadEre, IsNotRun, Accepted, RefusedFor}
 use Rattle.awk_run.specs.support.Verdict.{ReadsOnly}
 
@@ -77,28 +78,35 @@ one_program text xs ys one_lexing one_tree a b =
 -- why nothing is run of a program
 
 abbrev IsCause : RefusalCode → Type 0
-IsCause code = (code ≡ NameLeftOut) ⊎ ((code ≡ NotBuilt) ⊎ (code ≡ ArrayAndScalar))
+IsCause code = (code ≡ StatementOutOfPlace) ⊎ ((code ≡ NameLeftOut) ⊎ ((code ≡ NotBuilt) ⊎ (code ≡ ArrayAndScalar)))
 
 err_is : (a b : RefusalCode) (r : Result (List Item) RefusalCode) → r ≡ Err a → r ≡ Err b → b ≡ a
 err_is a b r p q = let same : Err b ≡ Err a = sym q ∙ p in cc
 
 fitting_cause : (built : Option (List Item)) (code : RefusalCode) → fitting built ≡ Err code → IsCause code
-fitting_cause None code e = inr (inl (err_is NotBuilt code (fitting None) refl e))
+fitting_cause None code e = inr (inr (inl (err_is NotBuilt code (fitting None) refl e)))
 fitting_cause (Some items) code e = elim (cases_Bool (are_apart (scalar_names items) (array_names items))) [
   | inl apart ↦ let is : fitting (Some items) ≡ Ok items = rw apart refl in let clash : Ok items ≡ Err code = sym is ∙ e in absurd (cc)
-  | inr clash ↦ inr (inr (err_is ArrayAndScalar code (fitting (Some items)) (rw clash refl) e))
+  | inr clash ↦ inr (inr (inr (err_is ArrayAndScalar code (fitting (Some items)) (rw clash refl) e)))
+]
+
+in_place_cause : (tokens : List Kind) (program : List GrammarItem) (code : RefusalCode) → resolved_in_place tokens program ≡ Err code → IsCause code
+in_place_cause tokens program code e = elim (cases_Bool (names_left_out tokens)) [
+  | inl bad ↦ inr (inl (err_is NameLeftOut code (resolved_in_place tokens program) (rw bad refl) e))
+  | inr kept ↦ let is : resolved_in_place tokens program ≡ fitting (built_items program) = rw kept refl in fitting_cause (built_items program) code (sym is ∙ e)
 ]
 
 cause : (tokens : List Kind) (program : List GrammarItem) (code : RefusalCode) → resolved tokens program ≡ Err code → IsCause code
-cause tokens program code e = elim (cases_Bool (names_left_out tokens)) [
-  | inl bad ↦ inl (err_is NameLeftOut code (resolved tokens program) (rw bad refl) e)
-  | inr kept ↦ let is : resolved tokens program ≡ fitting (built_items program) = rw kept refl in fitting_cause (built_items program) code (sym is ∙ e)
+cause tokens program code e = elim (cases_Bool (are_in_place program)) [
+  | inl placed ↦ let is : resolved tokens program ≡ resolved_in_place tokens program = rw placed refl in in_place_cause tokens program code (sym is ∙ e)
+  | inr astray ↦ inl (err_is StatementOutOfPlace code (resolved tokens program) (rw astray refl) e)
 ]
 
 not_run : (text : List ℕ) (code : RefusalCode) → IsCause code → IsNotRun code text → RefusedFor code text
 not_run text code (inl e) n = subst (λ c. RefusedFor c text) (sym e) (subst (λ c. IsNotRun c text) e n)
 not_run text code (inr (inl e)) n = subst (λ c. RefusedFor c text) (sym e) (subst (λ c. IsNotRun c text) e n)
-not_run text code (inr (inr e)) n = subst (λ c. RefusedFor c text) (sym e) (subst (λ c. IsNotRun c text) e n)
+not_run text code (inr (inr (inl e))) n = subst (λ c. RefusedFor c text) (sym e) (subst (λ c. IsNotRun c text) e n)
+not_run text code (inr (inr (inr e))) n = subst (λ c. RefusedFor c text) (sym e) (subst (λ c. IsNotRun c text) e n)
 
 pub resolving_refused : (r : Result Tree Refusal) (text : List ℕ) (tokens : List Kind) (program : List GrammarItem) → IsSpelled text tokens program → Resolves r (resolved tokens program) → IfErr r (λ refusal. RefusedFor refusal.code text)
 resolving_refused (Ok tree) text tokens program s h = tt
@@ -122,6 +130,7 @@ refused_as PatternIllFormed text why = absurd why.1.fault
 refused_as PatternCountRefused text why = absurd why.1.fault
 refused_as PatternTooLarge text why = absurd why.1.fault
 refused_as ArrayAndScalar text why = absurd why.1.fault
+refused_as StatementOutOfPlace text why = absurd why.1.fault
 refused_as NameLeftOut text why = absurd why.1.fault
 refused_as NotBuilt text why = absurd why.1.fault
 refused_as OutOfMemory text why = tt
@@ -154,6 +163,7 @@ justified OpenPattern line text tokens h why = absurd why
 justified EscapeRefused line text tokens h why = absurd why
 justified NumberRefused line text tokens h why = absurd why
 justified ArrayAndScalar line text tokens h why = absurd why
+justified StatementOutOfPlace line text tokens h why = absurd why
 justified NameLeftOut line text tokens h why = absurd why
 justified NotBuilt line text tokens h why = absurd why
 

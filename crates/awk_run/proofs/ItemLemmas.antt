@@ -1,12 +1,12 @@
 -- Items, records and the whole of a run, by what their parts do.
-use Rattle.std.proofs.Common.{◌≡◌, ℕ, ◌≤◌, ◌<◌, ◌+◌, zero, suc, Bool, true, false, List, [], ◌∷◌, Some, None, Result, Ok, Err, length, map, drop, get_or, add-one, drop-cons, refl, arith, sym, ap, ◌∙◌, subst}
+use Rattle.std.proofs.Common.{◌≡◌, ℕ, ◌≤◌, ◌<◌, ◌+◌, zero, suc, Bool, true, false, not, List, [], ◌∷◌, Some, None, Result, Ok, Err, length, map, drop, get_or, add-one, drop-cons, refl, arith, sym, ap, ◌∙◌, subst}
 use Rattle.std.proofs.lemmas.List.{drop_all}
 use Rattle.awk_streams.specs.Streams.{AreOpen, IsSoundMain}
 use Rattle.awk_tree.specs.declared.tree.Statement.{Statement as CodeStatement}
 use Rattle.awk_tree.specs.declared.tree.Item.{Item as CodeItem}
 use Rattle.awk_tree.specs.declared.tree.Item.TheVariants as items
 use Rattle.std.specs.Global.{Vec}
-use Rattle.awk_tree.specs.Tree.{Expr, Nil, Statements, Item, Begin, Action, Pattern, PatternAction}
+use Rattle.awk_tree.specs.Tree.{Expr, Nil, Statements, Pattern, Single, Range, Item, Begin, End, Action, PatternAction, PatternOnly}
 use Rattle.awk_tree.specs.View.{item_of, items_of}
 use Rattle.awk_interpreter.specs.declared.interpreter.Interpreter.{Interpreter}
 use Rattle.awk_run.specs.declared.start.Assignment.{Assignment}
@@ -14,62 +14,107 @@ use Rattle.awk_run.specs.definitions.Start.{pair_of}
 use Rattle.awk_meaning.specs.declared.halt.Halt.{Halt}
 use Rattle.awk_meaning.specs.declared.halt.Halt.TheVariants as halt
 use Rattle.awk_meaning.specs.declared.fault.Fault.TheVariants.{OutOfMemory, WriteFailed}
-use Rattle.awk_meaning.specs.State.{Effect, Out, Run}
+use Rattle.awk_meaning.specs.State.{Effect, Out, Run, ret}
 use Rattle.awk_streams.specs.Oracle.{Oracle}
+use Rattle.awk_meaning.specs.Primitives.{is_inside, set_inside}
 use Rattle.awk_meaning.specs.Inputs.{assign_text, next_record}
 use Rattle.awk_meaning.specs.Meaning.{assign_all, assign_and_run}
-use Rattle.awk_meaning.specs.Semantics.{print, run_action, run_if, try_item, try_items, unless_next, until_next, begin_record, each_record, run_records, begin_item, begin_items, is_rule, has_rule, run_items}
+use Rattle.awk_meaning.specs.Semantics.{choose, print, run_action, in_range, go_through, selects, try_item, try_items, unless_next, until_next, begin_record, each_record, run_records, begin_item, begin_items, is_rule, has_rule, run_before_end, end_item, end_items, unless_exit, until_exit, run_items}
 use Rattle.awk_streams.specs.WorldState.{WorldState}
 use Rattle.awk_interpreter.specs.Simulation.{ResultRelation, SimulatesLogged, Simulates, Changes, Spends, Follows}
 use Rattle.awk_evaluator.specs.Evaluation.{Tests}
-use Rattle.awk_run.specs.support.Items.{Tries, TriesAll, BeginsItem, BeginsAll, ReadsOn, ReadsAll, RunsItems, Assigns, AssignsAndRuns}
+use Rattle.awk_run.specs.support.Items.{Tells, Selects, Tries, TriesAll, BeginsItem, BeginsAll, ReadsOn, ReadsAll, RunsBeforeEnd, EndsItem, EndsAll, RunsItems, Assigns, AssignsAndRuns}
 use Rattle.awk_interpreter.proofs.Composition.{then_changes, ends_changes, lift_changes, then_simulates, ends_simulates, lift_simulates, change_simulates}
 
 -- items
 
-pub begin_tries : {is_logged : Type 0} {all : Statements} {m : Interpreter} {k : WorldState} → Tries is_logged (Begin all) m k m k (Ok tt)
+pub range_inside : {is_logged : Type 0} (n : ℕ) (from : Expr) {m m1 : Interpreter} {k : WorldState} → Changes (is_inside n) m m1 (Ok true) → Tells is_logged (in_range n from) m k m1 k (Ok true)
+unfolding in_range
+range_inside n from {m1 = m1} {k = k} p = record { simulates = then_simulates _ (change_simulates p) (lift_simulates _ m1 k refl) }
+
+pub range_unread : {is_logged : Type 0} (n : ℕ) (from : Expr) {m m1 : Interpreter} {k : WorldState} {h : Halt} → Changes (is_inside n) m m1 (Err h) → Tells is_logged (in_range n from) m k m1 k (Err h)
+unfolding in_range
+range_unread n from p = record { simulates = ends_simulates _ (change_simulates p) }
+
+pub range_begins : {is_logged : Type 0} (n : ℕ) (from : Expr) {m m1 m2 : Interpreter} {k k2 : WorldState} {r : Result Bool Halt} → Changes (is_inside n) m m1 (Ok false) → Tests is_logged from m1 k m2 k2 r → Tells is_logged (in_range n from) m k m2 k2 r
+unfolding in_range
+range_begins n from p q = record { simulates = then_simulates _ (change_simulates p) q.simulates }
+
+pub through_halts : {is_logged : Type 0} (n : ℕ) (to : Expr) {m m1 : Interpreter} {k k1 : WorldState} {h : Halt} → Tests is_logged to m k m1 k1 (Err h) → Tells is_logged (go_through n to) m k m1 k1 (Err h)
+unfolding go_through
+through_halts n to p = record { simulates = ends_simulates _ p.simulates }
+
+pub through_unset : {is_logged : Type 0} (n : ℕ) (to : Expr) {m m1 m2 : Interpreter} {k k1 : WorldState} {ends : Bool} {h : Halt} → Tests is_logged to m k m1 k1 (Ok ends) → Changes (set_inside n (not ends)) m1 m2 (Err h) → Tells is_logged (go_through n to) m k m2 k1 (Err h)
+unfolding go_through
+through_unset n to p q = record { simulates = then_simulates _ p.simulates (ends_simulates _ (change_simulates q)) }
+
+pub through_goes : {is_logged : Type 0} (n : ℕ) (to : Expr) {m m1 m2 : Interpreter} {k k1 : WorldState} {ends : Bool} → Tests is_logged to m k m1 k1 (Ok ends) → Changes (set_inside n (not ends)) m1 m2 (Ok tt) → Tells is_logged (go_through n to) m k m2 k1 (Ok true)
+unfolding go_through
+through_goes n to {m2 = m2} {k1 = k1} p q = record { simulates = then_simulates _ p.simulates (then_simulates _ (change_simulates q) (lift_simulates _ m2 k1 refl)) }
+
+pub single_selects : {is_logged : Type 0} (n : ℕ) {e : Expr} {m m1 : Interpreter} {k k1 : WorldState} {r : Result Bool Halt} → Tests is_logged e m k m1 k1 r → Selects is_logged n (Single e) m k m1 k1 r
+unfolding selects
+single_selects n p = record { simulates = p.simulates }
+
+pub range_halts : {is_logged : Type 0} {n : ℕ} {from to : Expr} {m m1 : Interpreter} {k k1 : WorldState} {h : Halt} → Tells is_logged (in_range n from) m k m1 k1 (Err h) → Selects is_logged n (Range from to) m k m1 k1 (Err h)
+unfolding selects
+range_halts p = record { simulates = ends_simulates _ p.simulates }
+
+pub range_selects : {is_logged : Type 0} {n : ℕ} {from to : Expr} {m m1 m2 : Interpreter} {k k1 k2 : WorldState} {r : Result Bool Halt} → Tells is_logged (in_range n from) m k m1 k1 (Ok true) → Tells is_logged (go_through n to) m1 k1 m2 k2 r → Selects is_logged n (Range from to) m k m2 k2 r
+unfolding selects
+range_selects p q = record { simulates = then_simulates _ p.simulates q.simulates }
+
+pub range_passes : {is_logged : Type 0} {n : ℕ} {from to : Expr} {m m1 : Interpreter} {k k1 : WorldState} → Tells is_logged (in_range n from) m k m1 k1 (Ok false) → Selects is_logged n (Range from to) m k m1 k1 (Ok false)
+unfolding selects
+range_passes {m1 = m1} {k1 = k1} p = record { simulates = then_simulates _ p.simulates (lift_simulates _ m1 k1 refl) }
+
+pub begin_tries : {is_logged : Type 0} {n : ℕ} {all : Statements} {m : Interpreter} {k : WorldState} → Tries is_logged n (Begin all) m k m k (Ok tt)
 unfolding try_item
 begin_tries {m = m} {k = k} = record { simulates = lift_simulates _ m k refl }
 
-pub pattern_halts : {is_logged : Type 0} {e : Expr} {m m1 : Interpreter} {k k1 : WorldState} {h : Halt} → Tests is_logged e m k m1 k1 (Err h) → Tries is_logged (Pattern e) m k m1 k1 (Err h)
+pub end_tries : {is_logged : Type 0} {n : ℕ} {all : Statements} {m : Interpreter} {k : WorldState} → Tries is_logged n (End all) m k m k (Ok tt)
 unfolding try_item
-pattern_halts p = record { simulates = ends_simulates _ p.simulates }
+end_tries {m = m} {k = k} = record { simulates = lift_simulates _ m k refl }
 
-pub pattern_holds : {is_logged : Type 0} {e : Expr} {m m1 m2 : Interpreter} {k k1 k2 : WorldState} {r : Result (Unit {0}) Halt} → Tests is_logged e m k m1 k1 (Ok true) → Follows is_logged (print Nil) m1 k1 m2 k2 r → Tries is_logged (Pattern e) m k m2 k2 r
+pub pattern_halts : {is_logged : Type 0} {n : ℕ} {p : Pattern} {m m1 : Interpreter} {k k1 : WorldState} {h : Halt} → Selects is_logged n p m k m1 k1 (Err h) → Tries is_logged n (PatternOnly p) m k m1 k1 (Err h)
 unfolding try_item
-pattern_holds p q = record { simulates = then_simulates _ p.simulates q.simulates }
+pattern_halts s = record { simulates = ends_simulates _ s.simulates }
 
-pub pattern_fails : {is_logged : Type 0} {e : Expr} {m m1 : Interpreter} {k k1 : WorldState} → Tests is_logged e m k m1 k1 (Ok false) → Tries is_logged (Pattern e) m k m1 k1 (Ok tt)
+pub pattern_holds : {is_logged : Type 0} {n : ℕ} {p : Pattern} {m m1 m2 : Interpreter} {k k1 k2 : WorldState} {r : Result (Unit {0}) Halt} → Selects is_logged n p m k m1 k1 (Ok true) → Follows is_logged (print Nil) m1 k1 m2 k2 r → Tries is_logged n (PatternOnly p) m k m2 k2 r
 unfolding try_item
-pattern_fails {m1 = m1} {k1 = k1} p = record { simulates = then_simulates _ p.simulates (lift_simulates _ m1 k1 refl) }
+pattern_holds s q = record { simulates = then_simulates _ s.simulates q.simulates }
 
-pub action_tries : {is_logged : Type 0} {all : Statements} {m m1 : Interpreter} {k k1 : WorldState} {r : Result (Unit {0}) Halt} → Follows is_logged (run_action all) m k m1 k1 r → Tries is_logged (Action all) m k m1 k1 r
+pub pattern_fails : {is_logged : Type 0} {n : ℕ} {p : Pattern} {m m1 : Interpreter} {k k1 : WorldState} → Selects is_logged n p m k m1 k1 (Ok false) → Tries is_logged n (PatternOnly p) m k m1 k1 (Ok tt)
+unfolding try_item
+pattern_fails {m1 = m1} {k1 = k1} s = record { simulates = then_simulates _ s.simulates (lift_simulates _ m1 k1 refl) }
+
+pub action_tries : {is_logged : Type 0} {n : ℕ} {all : Statements} {m m1 : Interpreter} {k k1 : WorldState} {r : Result (Unit {0}) Halt} → Follows is_logged (run_action all) m k m1 k1 r → Tries is_logged n (Action all) m k m1 k1 r
 unfolding try_item
 action_tries p = record { simulates = p.simulates }
 
-pub pattern_action_halts : {is_logged : Type 0} {e : Expr} {all : Statements} {m m1 : Interpreter} {k k1 : WorldState} {h : Halt} → Tests is_logged e m k m1 k1 (Err h) → Tries is_logged (PatternAction e all) m k m1 k1 (Err h)
+pub pattern_action_halts : {is_logged : Type 0} {n : ℕ} {p : Pattern} {all : Statements} {m m1 : Interpreter} {k k1 : WorldState} {h : Halt} → Selects is_logged n p m k m1 k1 (Err h) → Tries is_logged n (PatternAction p all) m k m1 k1 (Err h)
 unfolding try_item
-pattern_action_halts p = record { simulates = ends_simulates _ p.simulates }
+pattern_action_halts s = record { simulates = ends_simulates _ s.simulates }
 
-pub pattern_action_holds : {is_logged : Type 0} {e : Expr} {all : Statements} {m m1 m2 : Interpreter} {k k1 k2 : WorldState} {r : Result (Unit {0}) Halt} → Tests is_logged e m k m1 k1 (Ok true) → Follows is_logged (run_action all) m1 k1 m2 k2 r → Tries is_logged (PatternAction e all) m k m2 k2 r
+pub pattern_action_holds : {is_logged : Type 0} {n : ℕ} {p : Pattern} {all : Statements} {m m1 m2 : Interpreter} {k k1 k2 : WorldState} {r : Result (Unit {0}) Halt} → Selects is_logged n p m k m1 k1 (Ok true) → Follows is_logged (run_action all) m1 k1 m2 k2 r → Tries is_logged n (PatternAction p all) m k m2 k2 r
 unfolding try_item
-pattern_action_holds p q = record { simulates = then_simulates _ p.simulates q.simulates }
+pattern_action_holds s q = record { simulates = then_simulates _ s.simulates q.simulates }
 
-pub pattern_action_fails : {is_logged : Type 0} {e : Expr} {all : Statements} {m m1 : Interpreter} {k k1 : WorldState} → Tests is_logged e m k m1 k1 (Ok false) → Tries is_logged (PatternAction e all) m k m1 k1 (Ok tt)
+pub pattern_action_fails : {is_logged : Type 0} {n : ℕ} {p : Pattern} {all : Statements} {m m1 : Interpreter} {k k1 : WorldState} → Selects is_logged n p m k m1 k1 (Ok false) → Tries is_logged n (PatternAction p all) m k m1 k1 (Ok tt)
 unfolding try_item
-pattern_action_fails {m1 = m1} {k1 = k1} p = record { simulates = then_simulates _ p.simulates (lift_simulates _ m1 k1 refl) }
+pattern_action_fails {m1 = m1} {k1 = k1} s = record { simulates = then_simulates _ s.simulates (lift_simulates _ m1 k1 refl) }
 
-pub items_end : {is_logged : Type 0} {m : Interpreter} {k : WorldState} → TriesAll is_logged [] m k m k (Ok tt)
+pub items_end : {is_logged : Type 0} {n : ℕ} {m : Interpreter} {k : WorldState} → TriesAll is_logged n [] m k m k (Ok tt)
 unfolding try_items
 items_end {m = m} {k = k} = record { simulates = lift_simulates _ m k refl }
 
-pub items_halt : {is_logged : Type 0} {x : Item} {xs : List Item} {m m1 : Interpreter} {k k1 : WorldState} {h : Halt} → Tries is_logged x m k m1 k1 (Err h) → TriesAll is_logged (x ∷ xs) m k m1 k1 (Err h)
+pub items_halt : {is_logged : Type 0} {n : ℕ} {x : Item} {xs : List Item} {m m1 : Interpreter} {k k1 : WorldState} {h : Halt} → Tries is_logged n x m k m1 k1 (Err h) → TriesAll is_logged n (x ∷ xs) m k m1 k1 (Err h)
 unfolding try_items
 items_halt p = record { simulates = ends_simulates _ p.simulates }
 
-pub items_step : {is_logged : Type 0} {x : Item} {xs : List Item} {m m1 m2 : Interpreter} {k k1 k2 : WorldState} {r : Result (Unit {0}) Halt} → Tries is_logged x m k m1 k1 (Ok tt) → TriesAll is_logged xs m1 k1 m2 k2 r → TriesAll is_logged (x ∷ xs) m k m2 k2 r
+pub items_step : {is_logged : Type 0} {n : ℕ} {x : Item} {xs : List Item} {m m1 m2 : Interpreter} {k k1 k2 : WorldState} {r : Result (Unit {0}) Halt} → Tries is_logged n x m k m1 k1 (Ok tt) → TriesAll is_logged (n + 1) xs m1 k1 m2 k2 r → TriesAll is_logged n (x ∷ xs) m k m2 k2 r
 unfolding try_items
-items_step p q = record { simulates = then_simulates _ p.simulates q.simulates }
+items_step p q = record { simulates = then_simulates _ p.simulates (rw add-one at q.simulates) }
 
 -- `next` ends the items on a record
 
@@ -94,7 +139,7 @@ until_logged {new = new} {after = after} {r = r} {run = run} p = record {
   means = λ oracle s past consistent stands. until_result oracle new after r (run s) past (p.means oracle s past consistent stands);
 }
 
-pub items_until : {is_logged : Type 0} {xs : List Item} {m m1 : Interpreter} {k k1 : WorldState} {r r' : Result (Unit {0}) Halt} → r' ≡ unless_next r → TriesAll is_logged xs m k m1 k1 r → Follows is_logged (until_next (try_items xs)) m k m1 k1 r'
+pub items_until : {is_logged : Type 0} {xs : List Item} {m m1 : Interpreter} {k k1 : WorldState} {r r' : Result (Unit {0}) Halt} → r' ≡ unless_next r → TriesAll is_logged 0 xs m k m1 k1 r → Follows is_logged (until_next (try_items 0 xs)) m k m1 k1 r'
 items_until e p = rw e (record { simulates = record { steps = p.simulates.steps; kept_open = p.simulates.kept_open; told = λ t. until_logged (p.simulates.told t) } })
 
 -- records
@@ -115,22 +160,22 @@ pub reading_unset : {is_logged : Type 0} {xs : List Item} {text : List ℕ} {m m
 unfolding each_record
 reading_unset p q r = record { simulates = λ n low. then_simulates _ p.simulates (then_simulates _ (change_simulates q.simulates) (ends_simulates _ (change_simulates r))) }
 
-pub reading_halts : {is_logged : Type 0} {xs : List Item} {text : List ℕ} {m m1 m2 m3 m4 : Interpreter} {k k1 k4 : WorldState} {h : Halt} → Follows is_logged next_record m k m1 k1 (Ok (Some text)) → Spends m1 m2 (Ok tt) → Changes (begin_record text) m2 m3 (Ok tt) → Follows is_logged (until_next (try_items xs)) m3 k1 m4 k4 (Err h) → ReadsOn is_logged xs m k m4 k4 (Err h)
+pub reading_halts : {is_logged : Type 0} {xs : List Item} {text : List ℕ} {m m1 m2 m3 m4 : Interpreter} {k k1 k4 : WorldState} {h : Halt} → Follows is_logged next_record m k m1 k1 (Ok (Some text)) → Spends m1 m2 (Ok tt) → Changes (begin_record text) m2 m3 (Ok tt) → Follows is_logged (until_next (try_items 0 xs)) m3 k1 m4 k4 (Err h) → ReadsOn is_logged xs m k m4 k4 (Err h)
 unfolding each_record
 reading_halts p q r s = record { simulates = λ n low. then_simulates _ p.simulates (then_simulates _ (change_simulates q.simulates) (then_simulates _ (change_simulates r) (ends_simulates _ s.simulates))) }
 
-goes_at : (n : ℕ) {is_logged : Type 0} {xs : List Item} {text : List ℕ} {m m1 m2 m3 m4 new : Interpreter} {k k1 k4 after : WorldState} {x : Result (Unit {0}) Halt} → Follows is_logged next_record m k m1 k1 (Ok (Some text)) → Spends m1 m2 (Ok tt) → Changes (begin_record text) m2 m3 (Ok tt) → Follows is_logged (until_next (try_items xs)) m3 k1 m4 k4 (Ok tt) → ReadsOn is_logged xs m4 k4 new after x → m.steps ≤ n → Simulates is_logged m k new after x (each_record (suc n) (until_next (try_items xs)))
+goes_at : (n : ℕ) {is_logged : Type 0} {xs : List Item} {text : List ℕ} {m m1 m2 m3 m4 new : Interpreter} {k k1 k4 after : WorldState} {x : Result (Unit {0}) Halt} → Follows is_logged next_record m k m1 k1 (Ok (Some text)) → Spends m1 m2 (Ok tt) → Changes (begin_record text) m2 m3 (Ok tt) → Follows is_logged (until_next (try_items 0 xs)) m3 k1 m4 k4 (Ok tt) → ReadsOn is_logged xs m4 k4 new after x → m.steps ≤ n → Simulates is_logged m k new after x (each_record (suc n) (until_next (try_items 0 xs)))
 unfolding each_record
 goes_at zero p q r s t low = absurd (omega (arith, p.simulates.steps, q.falls))
 goes_at (suc n) p q r s t low = then_simulates _ p.simulates (then_simulates _ (change_simulates q.simulates) (then_simulates _ (change_simulates r) (then_simulates _ s.simulates (t.simulates n (omega (arith, p.simulates.steps, q.falls, r.steps, s.simulates.steps))))))
 
-pub reading_goes : {is_logged : Type 0} {xs : List Item} {text : List ℕ} {m m1 m2 m3 m4 new : Interpreter} {k k1 k4 after : WorldState} {x : Result (Unit {0}) Halt} → Follows is_logged next_record m k m1 k1 (Ok (Some text)) → Spends m1 m2 (Ok tt) → Changes (begin_record text) m2 m3 (Ok tt) → Follows is_logged (until_next (try_items xs)) m3 k1 m4 k4 (Ok tt) → ReadsOn is_logged xs m4 k4 new after x → ReadsOn is_logged xs m k new after x
+pub reading_goes : {is_logged : Type 0} {xs : List Item} {text : List ℕ} {m m1 m2 m3 m4 new : Interpreter} {k k1 k4 after : WorldState} {x : Result (Unit {0}) Halt} → Follows is_logged next_record m k m1 k1 (Ok (Some text)) → Spends m1 m2 (Ok tt) → Changes (begin_record text) m2 m3 (Ok tt) → Follows is_logged (until_next (try_items 0 xs)) m3 k1 m4 k4 (Ok tt) → ReadsOn is_logged xs m4 k4 new after x → ReadsOn is_logged xs m k new after x
 reading_goes p q r s t = record { simulates = λ n low. goes_at n p q r s t low }
 
-pub reading_open : {is_logged : Type 0} (xs : List Item) {text : List ℕ} {m m1 m2 m3 m4 : Interpreter} {k k1 k4 : WorldState} → Follows is_logged next_record m k m1 k1 (Ok (Some text)) → Spends m1 m2 (Ok tt) → Changes (begin_record text) m2 m3 (Ok tt) → Follows is_logged (until_next (try_items xs)) m3 k1 m4 k4 (Ok tt) → AreOpen k m.streams → AreOpen k4 m4.streams
+pub reading_open : {is_logged : Type 0} (xs : List Item) {text : List ℕ} {m m1 m2 m3 m4 : Interpreter} {k k1 k4 : WorldState} → Follows is_logged next_record m k m1 k1 (Ok (Some text)) → Spends m1 m2 (Ok tt) → Changes (begin_record text) m2 m3 (Ok tt) → Follows is_logged (until_next (try_items 0 xs)) m3 k1 m4 k4 (Ok tt) → AreOpen k m.streams → AreOpen k4 m4.streams
 reading_open xs {k1 = k1} p q r s stays = s.simulates.kept_open (subst (λ x. AreOpen k1 x) (sym (r.streams ∙ q.simulates.streams)) (p.simulates.kept_open stays))
 
-pub reading_sound : {is_logged : Type 0} (xs : List Item) {text : List ℕ} {m m1 m2 m3 m4 : Interpreter} {k k1 k4 : WorldState} → Follows is_logged next_record m k m1 k1 (Ok (Some text)) → Spends m1 m2 (Ok tt) → Changes (begin_record text) m2 m3 (Ok tt) → Follows is_logged (until_next (try_items xs)) m3 k1 m4 k4 (Ok tt) → is_logged → IsSoundMain k.log m.streams.main → IsSoundMain k4.log m4.streams.main
+pub reading_sound : {is_logged : Type 0} (xs : List Item) {text : List ℕ} {m m1 m2 m3 m4 : Interpreter} {k k1 k4 : WorldState} → Follows is_logged next_record m k m1 k1 (Ok (Some text)) → Spends m1 m2 (Ok tt) → Changes (begin_record text) m2 m3 (Ok tt) → Follows is_logged (until_next (try_items 0 xs)) m3 k1 m4 k4 (Ok tt) → is_logged → IsSoundMain k.log m.streams.main → IsSoundMain k4.log m4.streams.main
 reading_sound xs {k1 = k1} p q r s t sound = (s.simulates.told t).keeps_main (subst (λ x. IsSoundMain k1.log x.main) (sym (r.streams ∙ q.simulates.streams)) ((p.simulates.told t).keeps_main sound))
 
 pub reads_all : {is_logged : Type 0} {xs : List Item} {m new : Interpreter} {k after : WorldState} {r : Result (Unit {0}) Halt} → ReadsOn is_logged xs m k new after r → ReadsAll is_logged xs m k new after r
@@ -157,9 +202,10 @@ begin_runs p = record { simulates = p.simulates }
 pub begin_skips : {is_logged : Type 0} {x : Item} {m : Interpreter} {k : WorldState} → is_rule x ≡ true → BeginsItem is_logged x m k m k (Ok tt)
 unfolding begin_item
 begin_skips {x = Begin all} e = absurd (cc)
+begin_skips {x = End all} {m = m} {k = k} e = record { simulates = lift_simulates _ m k refl }
 begin_skips {x = Action all} {m = m} {k = k} e = record { simulates = lift_simulates _ m k refl }
-begin_skips {x = Pattern e1} {m = m} {k = k} e = record { simulates = lift_simulates _ m k refl }
-begin_skips {x = PatternAction e1 all} {m = m} {k = k} e = record { simulates = lift_simulates _ m k refl }
+begin_skips {x = PatternAction p all} {m = m} {k = k} e = record { simulates = lift_simulates _ m k refl }
+begin_skips {x = PatternOnly p} {m = m} {k = k} e = record { simulates = lift_simulates _ m k refl }
 
 pub begins_end : {is_logged : Type 0} {m : Interpreter} {k : WorldState} → BeginsAll is_logged [] m k m k (Ok tt)
 unfolding begin_items
@@ -173,19 +219,86 @@ pub begins_step : {is_logged : Type 0} {x : Item} {xs : List Item} {m m1 m2 : In
 unfolding begin_items
 begins_step p q = record { simulates = then_simulates _ p.simulates q.simulates }
 
--- the whole of the items
+-- what comes before the END actions
 
-pub runs_halts : {is_logged : Type 0} {xs : List Item} {m m1 : Interpreter} {k k1 : WorldState} {h : Halt} → BeginsAll is_logged xs m k m1 k1 (Err h) → RunsItems is_logged xs m k m1 k1 (Err h)
-unfolding run_items
+pub runs_halts : {is_logged : Type 0} {xs : List Item} {m m1 : Interpreter} {k k1 : WorldState} {h : Halt} → BeginsAll is_logged xs m k m1 k1 (Err h) → RunsBeforeEnd is_logged xs m k m1 k1 (Err h)
+unfolding run_before_end
 runs_halts p = record { simulates = ends_simulates _ p.simulates }
 
-pub runs_none : {is_logged : Type 0} {xs : List Item} {m m1 : Interpreter} {k k1 : WorldState} → has_rule xs ≡ false → BeginsAll is_logged xs m k m1 k1 (Ok tt) → RunsItems is_logged xs m k m1 k1 (Ok tt)
-unfolding run_items
-runs_none {is_logged = is_logged} {xs = xs} {m1 = m1} {k1 = k1} e p = record { simulates = then_simulates _ p.simulates (subst (λ (b : Bool). Simulates is_logged m1 k1 m1 k1 (Ok tt) (run_if b (run_records (until_next (try_items xs))))) (sym e) (lift_simulates _ m1 k1 refl)) }
+pub runs_none : {is_logged : Type 0} {xs : List Item} {m m1 : Interpreter} {k k1 : WorldState} → has_rule xs ≡ false → BeginsAll is_logged xs m k m1 k1 (Ok tt) → RunsBeforeEnd is_logged xs m k m1 k1 (Ok tt)
+unfolding run_before_end
+runs_none {is_logged = is_logged} {xs = xs} {m1 = m1} {k1 = k1} e p = record { simulates = then_simulates _ p.simulates (subst (λ (b : Bool). Simulates is_logged m1 k1 m1 k1 (Ok tt) (choose b (run_records (until_next (try_items 0 xs))) (ret tt))) (sym e) (lift_simulates _ m1 k1 refl)) }
 
-pub runs_some : {is_logged : Type 0} {xs : List Item} {m m1 new : Interpreter} {k k1 after : WorldState} {r : Result (Unit {0}) Halt} → has_rule xs ≡ true → BeginsAll is_logged xs m k m1 k1 (Ok tt) → ReadsAll is_logged xs m1 k1 new after r → RunsItems is_logged xs m k new after r
+pub runs_some : {is_logged : Type 0} {xs : List Item} {m m1 new : Interpreter} {k k1 after : WorldState} {r : Result (Unit {0}) Halt} → has_rule xs ≡ true → BeginsAll is_logged xs m k m1 k1 (Ok tt) → ReadsAll is_logged xs m1 k1 new after r → RunsBeforeEnd is_logged xs m k new after r
+unfolding run_before_end
+runs_some {is_logged = is_logged} {xs = xs} {m1 = m1} {new = new} {k1 = k1} {after = after} {r = r} e p q = record { simulates = then_simulates _ p.simulates (subst (λ (b : Bool). Simulates is_logged m1 k1 new after r (choose b (run_records (until_next (try_items 0 xs))) (ret tt))) (sym e) q.simulates) }
+
+-- the actions behind all records
+
+-- an item that isn't one
+abbrev pub is_end : Item → Bool
+is_end (End block) = true
+is_end x = false
+
+pub end_runs : {is_logged : Type 0} {all : Statements} {m m1 : Interpreter} {k k1 : WorldState} {r : Result (Unit {0}) Halt} → Follows is_logged (run_action all) m k m1 k1 r → EndsItem is_logged (End all) m k m1 k1 r
+unfolding end_item
+end_runs p = record { simulates = p.simulates }
+
+pub end_skips : {is_logged : Type 0} {x : Item} {m : Interpreter} {k : WorldState} → is_end x ≡ false → EndsItem is_logged x m k m k (Ok tt)
+unfolding end_item
+end_skips {x = End all} e = absurd (cc)
+end_skips {x = Begin all} {m = m} {k = k} e = record { simulates = lift_simulates _ m k refl }
+end_skips {x = Action all} {m = m} {k = k} e = record { simulates = lift_simulates _ m k refl }
+end_skips {x = PatternAction p all} {m = m} {k = k} e = record { simulates = lift_simulates _ m k refl }
+end_skips {x = PatternOnly p} {m = m} {k = k} e = record { simulates = lift_simulates _ m k refl }
+
+pub ends_end : {is_logged : Type 0} {m : Interpreter} {k : WorldState} → EndsAll is_logged [] m k m k (Ok tt)
+unfolding end_items
+ends_end {m = m} {k = k} = record { simulates = lift_simulates _ m k refl }
+
+pub ends_halt : {is_logged : Type 0} {x : Item} {xs : List Item} {m m1 : Interpreter} {k k1 : WorldState} {h : Halt} → EndsItem is_logged x m k m1 k1 (Err h) → EndsAll is_logged (x ∷ xs) m k m1 k1 (Err h)
+unfolding end_items
+ends_halt p = record { simulates = ends_simulates _ p.simulates }
+
+pub ends_step : {is_logged : Type 0} {x : Item} {xs : List Item} {m m1 m2 : Interpreter} {k k1 k2 : WorldState} {r : Result (Unit {0}) Halt} → EndsItem is_logged x m k m1 k1 (Ok tt) → EndsAll is_logged xs m1 k1 m2 k2 r → EndsAll is_logged (x ∷ xs) m k m2 k2 r
+unfolding end_items
+ends_step p q = record { simulates = then_simulates _ p.simulates q.simulates }
+
+-- `exit` ends what comes before the END actions
+
+abbrev past_exit : Out (Unit {0}) → Out (Unit {0})
+past_exit o = record { result = unless_exit o.result; state = o.state; effects = o.effects }
+
+exit_result : (oracle : Oracle) (m : Interpreter) (k : WorldState) (r : Result (Unit {0}) Halt) (o : Out (Unit {0})) (past : List Effect) → ResultRelation oracle m k r o past → ResultRelation oracle m k (unless_exit r) (past_exit o) past
+exit_result oracle m k (Ok u) o past c = (ap unless_exit c.0, c.1)
+exit_result oracle m k (Err halt.Next) o past c = (ap unless_exit c.0, c.1)
+exit_result oracle m k (Err halt.Exit) o past c = (ap unless_exit c.0, c.1)
+exit_result oracle m k (Err halt.OutOfSteps) o past c = (ap unless_exit c.0, c.1)
+exit_result oracle m k (Err (halt.Fault OutOfMemory)) o past c = c
+exit_result oracle m k (Err (halt.Fault WriteFailed)) o past c = c
+exit_result oracle m k (Err (halt.Fault f)) o past c = (ap unless_exit c.0, c.1)
+
+exit_logged : {old new : Interpreter} {before after : WorldState} {r : Result (Unit {0}) Halt} {run : Run (Unit {0})} → SimulatesLogged old before new after r run → SimulatesLogged old before new after (unless_exit r) (until_exit run)
+unfolding until_exit
+exit_logged {new = new} {after = after} {r = r} {run = run} p = record {
+  grows = p.grows;
+  keeps = p.keeps;
+  keeps_main = p.keeps_main;
+  means = λ oracle s past consistent stands. exit_result oracle new after r (run s) past (p.means oracle s past consistent stands);
+}
+
+until_exit_simulates : {is_logged : Type 0} {xs : List Item} {m m1 : Interpreter} {k k1 : WorldState} {r r' : Result (Unit {0}) Halt} → r' ≡ unless_exit r → RunsBeforeEnd is_logged xs m k m1 k1 r → Simulates is_logged m k m1 k1 r' (until_exit (run_before_end xs))
+until_exit_simulates e p = rw e (record { steps = p.simulates.steps; kept_open = p.simulates.kept_open; told = λ t. exit_logged (p.simulates.told t) })
+
+-- the whole of the items
+
+pub items_halted : {is_logged : Type 0} {xs : List Item} {m m1 : Interpreter} {k k1 : WorldState} {r : Result (Unit {0}) Halt} {h : Halt} → Err h ≡ unless_exit r → RunsBeforeEnd is_logged xs m k m1 k1 r → RunsItems is_logged xs m k m1 k1 (Err h)
 unfolding run_items
-runs_some {is_logged = is_logged} {xs = xs} {m1 = m1} {new = new} {k1 = k1} {after = after} {r = r} e p q = record { simulates = then_simulates _ p.simulates (subst (λ (b : Bool). Simulates is_logged m1 k1 new after r (run_if b (run_records (until_next (try_items xs))))) (sym e) q.simulates) }
+items_halted e p = record { simulates = ends_simulates _ (until_exit_simulates e p) }
+
+pub items_run : {is_logged : Type 0} {xs : List Item} {m m1 m2 : Interpreter} {k k1 k2 : WorldState} {r r' : Result (Unit {0}) Halt} → Ok tt ≡ unless_exit r → RunsBeforeEnd is_logged xs m k m1 k1 r → EndsAll is_logged xs m1 k1 m2 k2 r' → RunsItems is_logged xs m k m2 k2 r'
+unfolding run_items
+items_run e p q = record { simulates = then_simulates _ (until_exit_simulates e p) q.simulates }
 
 -- the assignments before a run
 
@@ -220,9 +333,18 @@ items_over es i low = ap items_of (drop_all i es low)
 -- what is no action before all records is a rule
 pub rule_of : (x : CodeItem) → ((block : Vec CodeStatement) → x ≡ items.Begin block → ⊥) → is_rule (item_of x) ≡ true
 rule_of (items.Begin block) other = absurd (other block refl)
+rule_of (items.End block) other = refl
 rule_of (items.Action block) other = refl
-rule_of (items.Pattern e) other = refl
-rule_of (items.PatternAction e block) other = refl
+rule_of (items.PatternAction p block) other = refl
+rule_of (items.PatternOnly p) other = refl
+
+-- what is no action behind all records
+pub no_end_of : (x : CodeItem) → ((block : Vec CodeStatement) → x ≡ items.End block → ⊥) → is_end (item_of x) ≡ false
+no_end_of (items.End block) other = absurd (other block refl)
+no_end_of (items.Begin block) other = refl
+no_end_of (items.Action block) other = refl
+no_end_of (items.PatternAction p block) other = refl
+no_end_of (items.PatternOnly p) other = refl
 
 -- assignments, from a place on
 

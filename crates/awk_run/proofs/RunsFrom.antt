@@ -1,5 +1,5 @@
 -- From the parts of a run to the whole.
-use Rattle.std.proofs.Common.{◌≡◌, ℕ, List, [], length, None, Some, inl, inr, Result, refl, sym, ap, ◌∙◌, subst}
+use Rattle.std.proofs.Common.{◌≡◌, ℕ, Bool, false, List, [], length, slice_get, unwrap_or, None, Some, inl, inr, Result, refl, sym, ap, ◌∙◌, subst}
 use Rattle.std.specs.Prelude.{IfErr}
 use Rattle.awk_streams.specs.declared.fault.StreamFault.{StreamFault}
 use Rattle.awk_streams.specs.Outputs.{IsOutputFault}
@@ -51,6 +51,7 @@ start_stands start oracle limit m k is fresh = record {
     arguments = sym is.words;
     next = sym is.next;
     input_seen = sym is.input_seen;
+    inside = λ n. ap (λ (l : List Bool). unwrap_or (slice_get l n) false) (sym is.inside);
     status = sym is.status;
     steps = sym is.steps;
   };

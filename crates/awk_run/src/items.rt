@@ -2,41 +2,106 @@
 
 ghost use Rattle.awk_streams.specs.Streams.{AreOpen, IsSoundMain};
 ghost use Rattle.std.specs.Prelude.{◌≡◌};
-ghost use Rattle.awk_tree.specs.Tree.{Pattern};
-ghost use Rattle.awk_tree.specs.View.{expr_of, item_of, items_of};
+ghost use Rattle.awk_tree.specs.Tree.{PatternOnly};
+ghost use Rattle.awk_tree.specs.View.{expr_of, pattern_of, item_of, items_of};
 ghost use Rattle.awk_interpreter.specs.Simulation.{Follows};
-ghost use Rattle.awk_run.specs.support.Items.{Tries, TriesAll, BeginsItem, BeginsAll, ReadsAll, RunsItems};
-ghost use Rattle.awk_meaning.specs.Semantics.{try_items, unless_next, until_next, is_rule, has_rule};
+ghost use Rattle.awk_run.specs.support.Items.{Tells, Selects, Tries, TriesAll, BeginsItem, BeginsAll, ReadsAll, RunsBeforeEnd, EndsItem, EndsAll, RunsItems};
+ghost use Rattle.awk_meaning.specs.Semantics.{in_range, go_through, try_items, unless_next, until_next, is_rule, has_rule, unless_exit};
 
 use awk_evaluator::{holds, print, run_action};
 use awk_interpreter::Interpreter;
 use awk_meaning::Halt;
 use awk_streams::World;
-use awk_tree::tree::{Expr, Item};
+use awk_tree::tree::{Expr, Item, Pattern};
 
-/// Prints the record at hand where an expression is true (POSIX awk, Patterns).
-fn try_pattern<W: World>(e: &Expr, interpreter: &mut Interpreter, world: &mut W) -> Result<(), Halt>
-    ensures { Tries W.is_logged (Pattern (expr_of e.now)) interpreter.old (W.state world.old) interpreter.new
-        (W.state world.new) result }
+/// Whether the record at hand is in a range: it is inside already, or begins on it.
+fn in_range<W: World>(
+    from: &Expr,
+    number: usize,
+    interpreter: &mut Interpreter,
+    world: &mut W,
+) -> Result<bool, Halt>
+    ensures { Tells W.is_logged (in_range number (expr_of from.now)) interpreter.old (W.state world.old)
+        interpreter.new (W.state world.new) result }
 {
-    if holds(e, interpreter, world)? {
+    let is_inside = interpreter.is_inside(number)?;
+    if is_inside {
+        return Ok(true);
+    }
+    holds(from, interpreter, world)
+}
+
+/// Notes whether a range that is entered on this record is inside behind it.
+fn go_through<W: World>(
+    to: &Expr,
+    number: usize,
+    interpreter: &mut Interpreter,
+    world: &mut W,
+) -> Result<bool, Halt>
+    ensures { Tells W.is_logged (go_through number (expr_of to.now)) interpreter.old (W.state world.old)
+        interpreter.new (W.state world.new) result }
+{
+    let ends = holds(to, interpreter, world)?;
+    interpreter.set_inside(number, !ends)?;
+    Ok(true)
+}
+
+/// Whether a pattern selects the record at hand, by the number of its item (POSIX awk, Patterns).
+fn selects<W: World>(
+    pattern: &Pattern,
+    number: usize,
+    interpreter: &mut Interpreter,
+    world: &mut W,
+) -> Result<bool, Halt>
+    ensures { Selects W.is_logged number (pattern_of pattern.now) interpreter.old (W.state world.old)
+        interpreter.new (W.state world.new) result }
+{
+    match pattern {
+        Pattern::Single(e) => holds(e, interpreter, world),
+        Pattern::Range(from, to) => {
+            if in_range(from, number, interpreter, world)? {
+                go_through(to, number, interpreter, world)
+            } else {
+                Ok(false)
+            }
+        }
+    }
+}
+
+/// Prints the record at hand where a pattern selects it (POSIX awk, Patterns).
+fn try_pattern<W: World>(
+    pattern: &Pattern,
+    number: usize,
+    interpreter: &mut Interpreter,
+    world: &mut W,
+) -> Result<(), Halt>
+    ensures { Tries W.is_logged number (PatternOnly (pattern_of pattern.now)) interpreter.old (W.state world.old)
+        interpreter.new (W.state world.new) result }
+{
+    if selects(pattern, number, interpreter, world)? {
         print(&[], interpreter, world)
     } else {
         Ok(())
     }
 }
 
-/// Tries an item on the record at hand (POSIX awk, Patterns).
-fn try_item<W: World>(item: &Item, interpreter: &mut Interpreter, world: &mut W) -> Result<(), Halt>
-    ensures { Tries W.is_logged (item_of item.now) interpreter.old (W.state world.old) interpreter.new
+/// Tries an item on the record at hand, by the item's number (POSIX awk, Patterns).
+fn try_item<W: World>(
+    item: &Item,
+    number: usize,
+    interpreter: &mut Interpreter,
+    world: &mut W,
+) -> Result<(), Halt>
+    ensures { Tries W.is_logged number (item_of item.now) interpreter.old (W.state world.old) interpreter.new
         (W.state world.new) result }
 {
     match item {
         Item::Begin(_) => Ok(()),
+        Item::End(_) => Ok(()),
         Item::Action(block) => run_action(block, interpreter, world),
-        Item::Pattern(e) => try_pattern(e, interpreter, world),
-        Item::PatternAction(e, block) => {
-            if holds(e, interpreter, world)? {
+        Item::PatternOnly(pattern) => try_pattern(pattern, number, interpreter, world),
+        Item::PatternAction(pattern, block) => {
+            if selects(pattern, number, interpreter, world)? {
                 run_action(block, interpreter, world)
             } else {
                 Ok(())
@@ -51,11 +116,11 @@ fn try_items<W: World>(
     interpreter: &mut Interpreter,
     world: &mut W,
 ) -> Result<(), Halt>
-    ensures { TriesAll W.is_logged (items_of items.now) interpreter.old (W.state world.old) interpreter.new
+    ensures { TriesAll W.is_logged 0 (items_of items.now) interpreter.old (W.state world.old) interpreter.new
         (W.state world.new) result }
 {
-    for item in items {
-        try_item(item, interpreter, world)?;
+    for (number, item) in items.iter().enumerate() {
+        try_item(item, number, interpreter, world)?;
     }
     Ok(())
 }
@@ -76,7 +141,7 @@ fn try_until_next<W: World>(
     interpreter: &mut Interpreter,
     world: &mut W,
 ) -> Result<(), Halt>
-    ensures { Follows W.is_logged (until_next (try_items (items_of items.now))) interpreter.old
+    ensures { Follows W.is_logged (until_next (try_items 0 (items_of items.now))) interpreter.old
         (W.state world.old) interpreter.new (W.state world.new) result }
 {
     unless_next(try_items(items, interpreter, world))
@@ -132,7 +197,7 @@ fn run_records<W: World>(
     Ok(())
 }
 
-/// Whether an item is tried on records.
+/// Whether records are read for an item.
 fn is_rule(item: &Item) -> bool
     ensures { result ≡ is_rule (item_of item.now) }
 {
@@ -145,8 +210,63 @@ fn has_rule(items: &[Item]) -> bool
     items.iter().any(|item| is_rule(item))
 }
 
-/// Runs the actions before all records, and then the items on the main records; where there is no
-/// rule, none is read. (POSIX awk, Overall Program Structure)
+/// Runs the actions before all records, and then the items on the main records; where only BEGIN
+/// stands, none is read. (POSIX awk, Overall Program Structure)
+fn run_before_end<W: World>(
+    items: &[Item],
+    interpreter: &mut Interpreter,
+    world: &mut W,
+) -> Result<(), Halt>
+    requires open { AreOpen (W.state world.old) interpreter.old.streams }
+    requires sound { W.is_logged → IsSoundMain (W.state world.old).log interpreter.old.streams.main }
+    ensures { RunsBeforeEnd W.is_logged (items_of items.now) interpreter.old (W.state world.old) interpreter.new
+        (W.state world.new) result }
+{
+    begin_items(items, interpreter, world)?;
+    if has_rule(items) {
+        run_records(items, interpreter, world)?;
+    }
+    Ok(())
+}
+
+/// What the part before the END actions came to; `exit` ends it, and the run goes on.
+fn unless_exit(ended: Result<(), Halt>) -> Result<(), Halt>
+    ensures { result ≡ unless_exit ended }
+{
+    match ended {
+        Ok(()) | Err(Halt::Exit) => Ok(()),
+        Err(halt) => Err(halt),
+    }
+}
+
+/// Runs the action of an item that comes behind all records (POSIX awk, Patterns: END).
+fn end_item<W: World>(item: &Item, interpreter: &mut Interpreter, world: &mut W) -> Result<(), Halt>
+    ensures { EndsItem W.is_logged (item_of item.now) interpreter.old (W.state world.old) interpreter.new
+        (W.state world.new) result }
+{
+    match item {
+        Item::End(block) => run_action(block, interpreter, world),
+        _ => Ok(()),
+    }
+}
+
+/// Runs the actions that come behind all records, in turn.
+fn end_items<W: World>(
+    items: &[Item],
+    interpreter: &mut Interpreter,
+    world: &mut W,
+) -> Result<(), Halt>
+    ensures { EndsAll W.is_logged (items_of items.now) interpreter.old (W.state world.old) interpreter.new
+        (W.state world.new) result }
+{
+    for item in items {
+        end_item(item, interpreter, world)?;
+    }
+    Ok(())
+}
+
+/// Runs the items: those before the END actions until `exit`, and then these. (POSIX awk, Overall
+/// Program Structure; Actions)
 pub fn run_items<W: World>(
     items: &[Item],
     interpreter: &mut Interpreter,
@@ -157,9 +277,7 @@ pub fn run_items<W: World>(
     ensures { RunsItems W.is_logged (items_of items.now) interpreter.old (W.state world.old) interpreter.new
         (W.state world.new) result }
 {
-    begin_items(items, interpreter, world)?;
-    if has_rule(items) {
-        run_records(items, interpreter, world)?;
-    }
-    Ok(())
+    let before = run_before_end(items, interpreter, world);
+    unless_exit(before)?;
+    end_items(items, interpreter, world)
 }

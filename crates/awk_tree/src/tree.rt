@@ -75,32 +75,56 @@ pub enum Expr {
     PostIncrement(IncrementOperator, Bytes),
 }
 
+/// A simple statement, except `do`.
+#[derive(Drop)]
+pub enum SimpleStatement {
+    /// An expression, whose value is of no use.
+    Expression(Box<Expr>),
+    /// `print` with its list, or with none.
+    Print(Vec<Expr>),
+    Next,
+    Break,
+    Continue,
+    Exit(Option<Box<Expr>>),
+}
+
 /// A statement.
 #[derive(Drop)]
 pub enum Statement {
     /// A `;` alone.
     Empty,
+    Simple(SimpleStatement),
     /// A block in braces.
     Block(Vec<Statement>),
-    /// An expression, whose value is of no use.
-    Expression(Expr),
-    /// `print` with its list, or with none.
-    Print(Vec<Expr>),
     If(Box<Expr>, Box<Statement>),
     IfElse(Box<Expr>, Box<Statement>, Box<Statement>),
+    While(Box<Expr>, Box<Statement>),
+    Do(Box<Statement>, Box<Expr>),
+    /// `for (part; expr; part)`: the parts are expressions or prints.
+    For(Option<SimpleStatement>, Option<Box<Expr>>, Option<SimpleStatement>, Box<Statement>),
 }
 
-/// An item of a program, with its action.
+/// What tells for which records an action is.
+#[derive(Drop)]
+pub enum Pattern {
+    Single(Box<Expr>),
+    /// The records from one on which the first is true up to one on which the second is.
+    Range(Box<Expr>, Box<Expr>),
+}
+
+/// An item of a program.
 #[derive(Drop)]
 pub enum Item {
     /// An action before all records.
     Begin(Vec<Statement>),
+    /// An action behind all records.
+    End(Vec<Statement>),
     /// An action for every record.
     Action(Vec<Statement>),
-    /// The records on which the expression is true are printed.
-    Pattern(Expr),
-    /// An action for the records on which the expression is true.
-    PatternAction(Expr, Vec<Statement>),
+    /// An action for the records that the pattern tells.
+    PatternAction(Pattern, Vec<Statement>),
+    /// The records that the pattern tells are printed.
+    PatternOnly(Pattern),
 }
 
 /// A program.

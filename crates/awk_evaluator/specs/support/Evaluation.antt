@@ -2,13 +2,13 @@
 use Rattle.std.specs.Prelude.{◌≡◌, ℕ, Bool, true, false, List, Option, Some, None, Result, Ok, Err}
 use Rattle.awk_value.specs.declared.value.Value.{Value}
 use Rattle.awk_streams.specs.WorldState.{WorldState}
-use Rattle.awk_tree.specs.Tree.{Expr, Ere, Exprs, Statement, Statements}
+use Rattle.awk_tree.specs.Tree.{Expr, Ere, Exprs, OptionalExpr, SimpleStatement, OptionalSimple, Statement, Statements}
 use Rattle.awk_meaning.specs.declared.flow.Flow.{Flow}
 use Rattle.awk_meaning.specs.declared.halt.Halt.{Halt}
 use Rattle.awk_tree.specs.declared.tree.BinaryOperator.{BinaryOperator}
 use Rattle.awk_meaning.specs.State.{Run, ◌>>=◌, lift, ret}
 use Rattle.awk_meaning.specs.Operators.{truth_value, applied, takes_pattern}
-use Rattle.awk_meaning.specs.Semantics.{right_operand, tested, choose, eval, eval_all, printed_values, begin_test, exec, exec_all}
+use Rattle.awk_meaning.specs.Semantics.{right_operand, tested, choose, eval, eval_all, printed_values, begin_test, exit_with, exec_simple, exec_part, goes_on, exec, exec_all}
 use Rattle.awk_interpreter.specs.declared.interpreter.Interpreter.{Interpreter}
 use Rattle.awk_interpreter.specs.Simulation.{Simulates}
 
@@ -49,6 +49,20 @@ pub record EvaluatesAll (is_logged : Type 0) (front : List Value) (es : Exprs) (
 -- the values that a print prints
 pub record Lists (is_logged : Type 0) (es : Exprs) (old : Interpreter) (before : WorldState) (new : Interpreter) (after : WorldState) (r : Result (List Value) Halt) : Type 0 where
   pub simulates : Simulates is_logged old before new after r (printed_values es)
+
+-- what runs is ended by `exit`
+pub record Exits (is_logged : Type 0) (e : OptionalExpr) (old : Interpreter) (before : WorldState) (new : Interpreter) (after : WorldState) (r : Result Flow Halt) : Type 0 where
+  pub simulates : Simulates is_logged old before new after r (exit_with e)
+
+pub record ExecutesSimple (is_logged : Type 0) (simple : SimpleStatement) (old : Interpreter) (before : WorldState) (new : Interpreter) (after : WorldState) (r : Result Flow Halt) : Type 0 where
+  pub simulates : Simulates is_logged old before new after r (exec_simple simple)
+
+pub record ExecutesPart (is_logged : Type 0) (part : OptionalSimple) (old : Interpreter) (before : WorldState) (new : Interpreter) (after : WorldState) (r : Result (Unit {0}) Halt) : Type 0 where
+  pub simulates : Simulates is_logged old before new after r (exec_part part)
+
+-- the condition of a `for` is tested, if it is there
+pub record GoesOn (is_logged : Type 0) (c : OptionalExpr) (old : Interpreter) (before : WorldState) (new : Interpreter) (after : WorldState) (r : Result Bool Halt) : Type 0 where
+  pub simulates : Simulates is_logged old before new after r (goes_on c)
 
 pub record Executes (is_logged : Type 0) (s : Statement) (old : Interpreter) (before : WorldState) (new : Interpreter) (after : WorldState) (r : Result Flow Halt) : Type 0 where
   pub simulates : Simulates is_logged old before new after r (exec s)

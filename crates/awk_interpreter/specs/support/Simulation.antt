@@ -1,5 +1,5 @@
 -- How the code's state and world stand for the state of the definitions, and what a part of the code does.
-use Rattle.std.specs.Prelude.{◌≡◌, ◌⊎◌, ℕ, pos, ◌≤◌, ◌<◌, true, false, List, [], ◌∷◌, ◌++◌, length, Option, Some, None, is_some, suc, Result, Ok, Err, OnOk}
+use Rattle.std.specs.Prelude.{◌≡◌, ◌⊎◌, ℕ, pos, ◌≤◌, ◌<◌, Bool, true, false, List, [], ◌∷◌, ◌++◌, length, slice_get, unwrap_or, Option, Some, None, is_some, suc, Result, Ok, Err, OnOk}
 use Rattle.awk_world.specs.declared.world.InputKind.{InputKind}
 use Rattle.awk_streams.specs.declared.fault.StreamFault.{StreamFault}
 use Rattle.awk_streams.specs.WorldState.{WorldState}
@@ -19,6 +19,10 @@ use Rattle.awk_meaning.specs.Meaning.{arguments_of, printed_to, outputs_after, r
 use Rattle.awk_meaning.specs.Order.{Stage, MeetsAll, first_stage}
 use Rattle.awk_interpreter.specs.declared.interpreter.Interpreter.{Interpreter}
 
+-- whether a range is inside, by the number of its item
+abbrev pub inside_of : Interpreter → ℕ → Bool
+inside_of m n = unwrap_or (slice_get m.inside.items n) false
+
 -- the code's own state is the one of the definitions; its streams are left aside
 pub record OwnRelation (m : Interpreter) (s : State) : Type 0 where
   pub current : s.current ≡ m.current
@@ -26,6 +30,7 @@ pub record OwnRelation (m : Interpreter) (s : State) : Type 0 where
   pub arguments : s.arguments ≡ m.arguments.words.items
   pub next : pos s.next ≡ m.arguments.next
   pub input_seen : s.input_seen ≡ m.arguments.input_seen
+  pub inside : (n : ℕ) → s.inside n ≡ inside_of m n
   pub status : s.status ≡ m.status
   pub steps : s.steps ≡ m.steps
 
@@ -100,6 +105,7 @@ pub record Beside (old new : Interpreter) : Type 0 where
   pub current : new.current ≡ old.current
   pub variables : new.variables ≡ old.variables
   pub arguments : new.arguments ≡ old.arguments
+  pub inside : new.inside ≡ old.inside
   pub status : new.status ≡ old.status
   pub steps : new.steps ≡ old.steps
 
@@ -151,5 +157,6 @@ pub record IsStart (operands : List (List ℕ)) (limit : ℕ) (m : Interpreter) 
   pub input_seen : m.arguments.input_seen ≡ false
   pub main : m.streams.main ≡ None
   pub held : m.streams.held ≡ []
+  pub inside : m.inside.items ≡ []
   pub status : m.status ≡ 0
   pub steps : m.steps ≡ limit

@@ -35,6 +35,7 @@ start_state start oracle limit = record {
   arguments = arguments_of start.operands;
   next = 1;
   input_seen = false;
+  inside = λ n. false;
   status = 0;
   steps = limit;
 }

@@ -1,5 +1,5 @@
 -- What operators make of values (POSIX awk, Expressions in awk; Regular Expressions).
-use Rattle.std.specs.Prelude.{ℕ, ℤ, pos, Bool, true, false, not, List, [], ◌∷◌, ◌++◌, map, Option, Some, None, Result, Ok, Err, if◌then◌else◌}
+use Rattle.std.specs.Prelude.{ℕ, ◌-◌, ◌%◌, ℤ, pos, negsuc, Bool, true, false, not, List, [], ◌∷◌, ◌++◌, map, Option, Some, None, Result, Ok, Err, if◌then◌else◌}
 use Rattle.std.specs.declared.cmp.Ordering.{Ordering}
 use Rattle.std.specs.declared.cmp.Ordering.TheVariants as ordering
 use Rattle.awk_value.specs.declared.value.Value.{Value}
@@ -86,6 +86,11 @@ by_one Decrement = Minus
 
 abbrev pub one : Value
 one = Number (pos 1)
+
+-- the exit status that a number stands for: what is left of it by 256
+abbrev pub exit_status : ℤ → ℕ
+exit_status (pos n) = n % 256
+exit_status (negsuc n) = 255 - n % 256
 
 -- the field of a record whose number is a value's
 abbrev pub field_by : RecordPair → Result ℤ ValueFault → Result Value Halt

@@ -1,5 +1,5 @@
 -- The primitives of a run: all that looks into its state.
-use Rattle.std.specs.Prelude.{ℕ, zero, suc, ◌+◌, pos, ℤ, int_lt, Bool, true, false, ◌&&◌, List, [], ◌∷◌, length, slice_get, Option, Some, None, unwrap_or, Result, Ok, Err, codes, bytes_eq, if◌then◌else◌}
+use Rattle.std.specs.Prelude.{ℕ, zero, suc, ◌+◌, ◌==◌, pos, ℤ, int_lt, Bool, true, false, ◌&&◌, List, [], ◌∷◌, length, slice_get, Option, Some, None, unwrap_or, Result, Ok, Err, codes, bytes_eq, if◌then◌else◌}
 use Rattle.awk_text.specs.declared.separator.Separator.{Separator}
 use Rattle.awk_text.specs.declared.fault.TextFault.{TextFault}
 use Rattle.awk_text.specs.Pieces.{separator_of}
@@ -18,7 +18,7 @@ use Rattle.awk_meaning.specs.declared.halt.Halt.TheVariants as halt
 use Rattle.awk_variables.specs.declared.special.Special.{Special}
 use Rattle.awk_variables.specs.declared.special.Special.TheVariants.{Argc, Filename, Fnr, Fs, Ofs, Ors, Rs}
 use Rattle.awk_variables.specs.Variables.{name_of, with_value, is_refused}
-use Rattle.awk_meaning.specs.definitions.Operators.{field_value, raised, line_of}
+use Rattle.awk_meaning.specs.definitions.Operators.{exit_status, field_value, raised, line_of}
 use Rattle.awk_meaning.specs.definitions.Faults.{value_fault}
 
 -- a step is spent, or there is none left
@@ -148,6 +148,25 @@ argument_below (Err fault) s = record { result = Err (halt.Fault (value_fault fa
 -- the next element, if it is below the number of ARGC; one that is absent is empty
 unfoldable pub take_argument : Run (Option (List ℕ))
 take_argument s = argument_below (num_of (s.variables (name_of Argc))) s
+
+-- ranges, and how a run ends
+
+unfoldable pub is_inside : ℕ → Run Bool
+is_inside n s = record { result = Ok (s.inside n); state = s; effects = [] }
+
+abbrev pub with_range : ℕ → Bool → (ℕ → Bool) → ℕ → Bool
+with_range n b inside m = if m == n then b else inside m
+
+unfoldable pub set_inside : ℕ → Bool → Run (Unit {0})
+set_inside n b s = record { result = Ok tt; state = record s { inside = with_range n b s.inside }; effects = [] }
+
+abbrev pub status_by : Result ℤ ValueFault → Run (Unit {0})
+status_by (Ok n) s = record { result = Ok tt; state = record s { status = exit_status n }; effects = [] }
+status_by (Err fault) s = record { result = Err (halt.Fault (value_fault fault)); state = s; effects = [] }
+
+-- the exit status becomes that of a value's number
+unfoldable pub set_status : Value → Run (Unit {0})
+set_status v s = status_by (num_of v) s
 
 -- whether a main input was found
 unfoldable pub is_input_seen : Run Bool

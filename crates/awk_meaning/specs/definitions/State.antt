@@ -35,6 +35,8 @@ pub record State : Type 0 where
   pub next : ℕ
   -- whether a main input was found: a file operand, or standard input for want of one
   pub input_seen : Bool
+  -- which ranges are inside, by the number of their item: they began on a record, and didn't end since
+  pub inside : ℕ → Bool
   -- the exit status so far, from 0 to 255
   pub status : ℕ
   -- the steps left

@@ -25,6 +25,11 @@ abbrev pub all_three : {A B C D : Type 0} → (A → B → C → D) → Option A
 all_three f (Some a) (Some b) (Some c) = Some (f a b c)
 all_three f a b c = None
 
+-- a form of four parts, where all are built
+abbrev pub all_four : {A B C D E : Type 0} → (A → B → C → D → E) → Option A → Option B → Option C → Option D → Option E
+all_four f (Some a) (Some b) (Some c) (Some d) = Some (f a b c d)
+all_four f a b c d = None
+
 abbrev pub built_unary : GrammarUnary → UnaryOperator
 built_unary before.Not = u.Not
 built_unary before.Plus = u.Plus
@@ -89,29 +94,49 @@ abbrev pub built_print_list : g.PrintList → Option t.Exprs
 built_print_list (g.Bare list) = built_list list
 built_print_list (g.Parenthesized list) = built_list list
 
-abbrev pub built_simple : g.SimpleStatement → Option t.Statement
+abbrev pub built_optional_expr : g.OptionalExpr → Option t.OptionalExpr
+built_optional_expr g.NoExpr = Some t.NoExpr
+built_optional_expr (g.AnExpr e) = option_map t.AnExpr (built_expr e)
+
+abbrev pub built_simple : g.SimpleStatement → Option t.SimpleStatement
 built_simple (g.Expression e) = option_map t.Expression (built_expr e)
 built_simple (g.Print form.Print list g.Standard) = option_map t.Print (built_print_list list)
+built_simple g.Next = Some t.Next
+built_simple g.Break = Some t.Break
+built_simple g.Continue = Some t.Continue
+built_simple (g.Exit e) = option_map t.Exit (built_optional_expr e)
 built_simple simple = None
+
+abbrev pub built_optional_simple : g.OptionalSimple → Option t.OptionalSimple
+built_optional_simple g.NoSimple = Some t.NoSimple
+built_optional_simple (g.ASimple simple) = option_map t.ASimple (built_simple simple)
 
 abbrev mutual
   pub built_statement : g.Statement → Option t.Statement
   built_statement g.Empty = Some t.Empty
-  built_statement (g.Simple simple) = built_simple simple
+  built_statement (g.Simple simple) = option_map t.Simple (built_simple simple)
   built_statement (g.Block all) = option_map t.Block (built_block all)
   built_statement (g.If c s) = both t.If (built_expr c) (built_statement s)
   built_statement (g.IfElse c s other) = all_three t.IfElse (built_expr c) (built_statement s) (built_statement other)
+  built_statement (g.While c s) = both t.While (built_expr c) (built_statement s)
+  built_statement (g.Do s c) = both t.Do (built_statement s) (built_expr c)
+  built_statement (g.For first c last s) = all_four t.For (built_optional_simple first) (built_optional_expr c) (built_optional_simple last) (built_statement s)
   built_statement s = None
 
   pub built_block : g.Statements → Option t.Statements
   built_block g.NoMore = Some t.NoMore
   built_block (g.Then s all) = both t.Then (built_statement s) (built_block all)
 
+abbrev pub built_pattern : g.Pattern → Option t.Pattern
+built_pattern (g.Single e) = option_map t.Single (built_expr e)
+built_pattern (g.Range from to) = both t.Range (built_expr from) (built_expr to)
+
 abbrev pub built_item : g.Item → Option t.Item
 built_item (g.Begin block) = option_map t.Begin (built_block block)
+built_item (g.End block) = option_map t.End (built_block block)
 built_item (g.Action block) = option_map t.Action (built_block block)
-built_item (g.PatternOnly (g.Single e)) = option_map t.Pattern (built_expr e)
-built_item (g.PatternAction (g.Single e) block) = both t.PatternAction (built_expr e) (built_block block)
+built_item (g.PatternAction p block) = both t.PatternAction (built_pattern p) (built_block block)
+built_item (g.PatternOnly p) = option_map t.PatternOnly (built_pattern p)
 built_item item = None
 
 abbrev pub built_items : List g.Item → Option (List t.Item)

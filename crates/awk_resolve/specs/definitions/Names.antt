@@ -5,7 +5,7 @@ use Rattle.std.specs.List.{list_any}
 use Rattle.awk_lex.specs.Words.{is_left_out}
 use Rattle.awk_lex.specs.declared.token.Kind.{Kind}
 use Rattle.awk_lex.specs.declared.token.Kind.TheVariants as t
-use Rattle.awk_tree.specs.Tree.{Expr, Number, String, Ere, Name, Group, Field, Unary, Binary, And, Or, Conditional, Assign, AssignBy, PreIncrement, PostIncrement, Exprs, Nil, Cons, Statement, Empty, Block, Expression, Print, If, IfElse, Statements, NoMore, Then, Item, Begin, Action, Pattern, PatternAction}
+use Rattle.awk_tree.specs.Tree.{Expr, Number, String, Ere, Name, Group, Field, Unary, Binary, And, Or, Conditional, Assign, AssignBy, PreIncrement, PostIncrement, Exprs, Nil, Cons, OptionalExpr, NoExpr, AnExpr, SimpleStatement, Expression, Print, Next, Break, Continue, Exit, OptionalSimple, NoSimple, ASimple, Statement, Empty, Simple, Block, If, IfElse, While, Do, For, Statements, NoMore, Then, Pattern, Single, Range, Item, Begin, End, Action, PatternAction, PatternOnly}
 
 -- a name, and whether it is used as an array there or as a scalar
 pub record Use : Type 0 where
@@ -38,24 +38,47 @@ abbrev pub uses_in_list : Exprs → List Use
 uses_in_list Nil = []
 uses_in_list (Cons e es) = uses_in_expr e ++ uses_in_list es
 
+abbrev pub uses_in_optional_expr : OptionalExpr → List Use
+uses_in_optional_expr NoExpr = []
+uses_in_optional_expr (AnExpr e) = uses_in_expr e
+
+abbrev pub uses_in_simple : SimpleStatement → List Use
+uses_in_simple (Expression e) = uses_in_expr e
+uses_in_simple (Print list) = uses_in_list list
+uses_in_simple Next = []
+uses_in_simple Break = []
+uses_in_simple Continue = []
+uses_in_simple (Exit e) = uses_in_optional_expr e
+
+abbrev pub uses_in_optional_simple : OptionalSimple → List Use
+uses_in_optional_simple NoSimple = []
+uses_in_optional_simple (ASimple simple) = uses_in_simple simple
+
 abbrev mutual
   pub uses_in_statement : Statement → List Use
   uses_in_statement Empty = []
+  uses_in_statement (Simple simple) = uses_in_simple simple
   uses_in_statement (Block all) = uses_in_block all
-  uses_in_statement (Expression e) = uses_in_expr e
-  uses_in_statement (Print list) = uses_in_list list
   uses_in_statement (If c s) = uses_in_expr c ++ uses_in_statement s
   uses_in_statement (IfElse c s other) = uses_in_expr c ++ (uses_in_statement s ++ uses_in_statement other)
+  uses_in_statement (While c s) = uses_in_expr c ++ uses_in_statement s
+  uses_in_statement (Do s c) = uses_in_statement s ++ uses_in_expr c
+  uses_in_statement (For first c last s) = uses_in_optional_simple first ++ (uses_in_optional_expr c ++ (uses_in_optional_simple last ++ uses_in_statement s))
 
   pub uses_in_block : Statements → List Use
   uses_in_block NoMore = []
   uses_in_block (Then s all) = uses_in_statement s ++ uses_in_block all
 
+abbrev pub uses_in_pattern : Pattern → List Use
+uses_in_pattern (Single e) = uses_in_expr e
+uses_in_pattern (Range from to) = uses_in_expr from ++ uses_in_expr to
+
 abbrev pub uses_in_item : Item → List Use
 uses_in_item (Begin block) = uses_in_block block
+uses_in_item (End block) = uses_in_block block
 uses_in_item (Action block) = uses_in_block block
-uses_in_item (Pattern e) = uses_in_expr e
-uses_in_item (PatternAction e block) = uses_in_expr e ++ uses_in_block block
+uses_in_item (PatternAction p block) = uses_in_pattern p ++ uses_in_block block
+uses_in_item (PatternOnly p) = uses_in_pattern p
 
 abbrev pub uses_in : List Item → List Use
 uses_in [] = []

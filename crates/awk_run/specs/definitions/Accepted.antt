@@ -2,7 +2,7 @@
 use Rattle.std.specs.Prelude.{◌≡◌, ◌≤◌, ◌<◌, ℕ, List, length, Ok, Err}
 use Rattle.awk_lex.specs.declared.token.Kind.{Kind}
 use Rattle.awk_lex.specs.declared.refusal.RefusalCode.{RefusalCode}
-use Rattle.awk_lex.specs.declared.refusal.RefusalCode.TheVariants.{UnexpectedByte, OpenString, OpenPattern, EscapeRefused, NumberRefused, ProgramTooLong, NotAProgram, NestedTooDeep, PatternIllFormed, PatternCountRefused, PatternTooLarge, ArrayAndScalar, NameLeftOut, NotBuilt, OutOfMemory}
+use Rattle.awk_lex.specs.declared.refusal.RefusalCode.TheVariants.{UnexpectedByte, OpenString, OpenPattern, EscapeRefused, NumberRefused, ProgramTooLong, NotAProgram, NestedTooDeep, PatternIllFormed, PatternCountRefused, PatternTooLarge, ArrayAndScalar, StatementOutOfPlace, NameLeftOut, NotBuilt, OutOfMemory}
 use Rattle.awk_lex.specs.Lexes.{Lexes, Breaks}
 use Rattle.awk_grammar.specs.Tree.{Item as GrammarItem}
 use Rattle.awk_grammar.specs.Height.{max_height, height_of_program}
@@ -57,6 +57,7 @@ RefusedFor NestedTooDeep text = (tokens : List Kind) × HasTokens text tokens ×
 RefusedFor PatternIllFormed text = HasBadEre PatternIllFormed text
 RefusedFor PatternCountRefused text = HasBadEre PatternCountRefused text
 RefusedFor PatternTooLarge text = HasBadEre PatternTooLarge text
+RefusedFor StatementOutOfPlace text = IsNotRun StatementOutOfPlace text
 RefusedFor NameLeftOut text = IsNotRun NameLeftOut text
 RefusedFor NotBuilt text = IsNotRun NotBuilt text
 RefusedFor ArrayAndScalar text = IsNotRun ArrayAndScalar text

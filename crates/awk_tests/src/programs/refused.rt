@@ -51,7 +51,7 @@ $ {x++; y = ARGV}
 ! awk: line 1: refusal K1: array and scalar
 = 2
 $ {while (x) ARGV}
-! awk: line 1: refusal K9: not built yet
+! awk: line 1: refusal K1: array and scalar
 = 2
 $ {ARGV++}
 ! awk: line 1: refusal K1: array and scalar
@@ -83,11 +83,48 @@ $ {NF += 2}
 $ BEGIN{print 1>2?"x":"y"}
 ! awk: line 1: refusal S1: not a program
 = 2
-$ {while (x) y}
+$ {for (x in y) z}
 ! awk: line 1: refusal K9: not built yet
 = 2
-$ END {}
+$ END {delete a[1]}
 ! awk: line 1: refusal K9: not built yet
+= 2
+$ BEGIN{next}
+! awk: line 1: refusal K6: statement out of place
+= 2
+$ END {if (1) next}
+! awk: line 1: refusal K6: statement out of place
+= 2
+$ {break}
+! awk: line 1: refusal K6: statement out of place
+= 2
+$ {while (1) ; continue}
+! awk: line 1: refusal K6: statement out of place
+= 2
+$ {for (x in y) break; break}
+! awk: line 1: refusal K6: statement out of place
+= 2
+$ x { do { break } while (1); return }
+! awk: line 1: refusal K6: statement out of place
+= 2
+$ function f() { return 1 } { continue }
+! awk: line 1: refusal K6: statement out of place
+= 2
+$ function f() { next } { f() }
+! awk: line 1: refusal K9: not built yet
+= 2
+a statement out of place is told first
+$ BEGIN{next; cos = ARGV}
+! awk: line 1: refusal K6: statement out of place
+= 2
+$ {exit ENVIRON}
+! awk: line 1: refusal K1: array and scalar
+= 2
+$ ARGV, 1
+! awk: line 1: refusal K1: array and scalar
+= 2
+$ {for (ARGV; x; y) z}
+! awk: line 1: refusal K1: array and scalar
 = 2
 $ {a[1] = 2}
 ! awk: line 1: refusal K9: not built yet

@@ -29,25 +29,50 @@ pub data Exprs : Type 0 where
   Nil : Exprs
   Cons : (e : Expr) (rest : Exprs) → Exprs
 
+-- an expression that may be left out
+pub data OptionalExpr : Type 0 where
+  NoExpr : OptionalExpr
+  AnExpr : (e : Expr) → OptionalExpr
+
+pub data SimpleStatement : Type 0 where
+  -- an expression as a statement
+  Expression : (e : Expr) → SimpleStatement
+  -- `print`; an empty list is none
+  Print : (list : Exprs) → SimpleStatement
+  Next : SimpleStatement
+  Break : SimpleStatement
+  Continue : SimpleStatement
+  Exit : (e : OptionalExpr) → SimpleStatement
+
+-- an outer part of a `for`
+pub data OptionalSimple : Type 0 where
+  NoSimple : OptionalSimple
+  ASimple : (simple : SimpleStatement) → OptionalSimple
+
 mutual
   pub data Statement : Type 0 where
     -- `;` alone
     Empty : Statement
+    Simple : (simple : SimpleStatement) → Statement
     Block : (all : Statements) → Statement
-    -- an expression as a statement
-    Expression : (e : Expr) → Statement
-    -- `print`; an empty list is none
-    Print : (list : Exprs) → Statement
     If : (c : Expr) (s : Statement) → Statement
     IfElse : (c : Expr) (s other : Statement) → Statement
+    While : (c : Expr) (s : Statement) → Statement
+    Do : (s : Statement) (c : Expr) → Statement
+    For : (first : OptionalSimple) (c : OptionalExpr) (last : OptionalSimple) (s : Statement) → Statement
 
   pub data Statements : Type 0 where
     NoMore : Statements
     Then : (s : Statement) (rest : Statements) → Statements
 
+pub data Pattern : Type 0 where
+  Single : (e : Expr) → Pattern
+  Range : (from to : Expr) → Pattern
+
 pub data Item : Type 0 where
   Begin : (block : Statements) → Item
+  End : (block : Statements) → Item
   Action : (block : Statements) → Item
+  PatternAction : (p : Pattern) (block : Statements) → Item
   -- a pattern without an action
-  Pattern : (e : Expr) → Item
-  PatternAction : (e : Expr) (block : Statements) → Item
+  PatternOnly : (p : Pattern) → Item

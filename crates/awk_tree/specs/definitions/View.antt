@@ -1,12 +1,17 @@
 -- The tree that the code keeps, as a tree of the definitions.
-use Rattle.std.specs.Prelude.{List, [], ◌∷◌}
+use Rattle.std.specs.Prelude.{List, [], ◌∷◌, Option, Some, None}
+use Rattle.std.specs.Global.{Box}
 use Rattle.awk_tree.specs.definitions.Tree as t
 use Rattle.awk_tree.specs.declared.tree.Expr.{Expr}
 use Rattle.awk_tree.specs.declared.tree.Expr.TheVariants.{Number, String, Ere, Name, Group', Field', Unary', Binary', And', Or', Conditional', Assign', AssignBy', PreIncrement, PostIncrement}
+use Rattle.awk_tree.specs.declared.tree.SimpleStatement.{SimpleStatement}
+use Rattle.awk_tree.specs.declared.tree.SimpleStatement.TheVariants as simple
 use Rattle.awk_tree.specs.declared.tree.Statement.{Statement, Row_of-Statement, end_of-Statement, more_of-Statement}
-use Rattle.awk_tree.specs.declared.tree.Statement.TheVariants.{Empty, Block', Expression, Print, If', IfElse'}
+use Rattle.awk_tree.specs.declared.tree.Statement.TheVariants as s
 use Rattle.awk_tree.specs.declared.tree.Item.{Item}
-use Rattle.awk_tree.specs.declared.tree.Item.TheVariants.{Begin, Action, Pattern, PatternAction}
+use Rattle.awk_tree.specs.declared.tree.Item.TheVariants as item
+use Rattle.awk_tree.specs.declared.tree.Pattern.{Pattern}
+use Rattle.awk_tree.specs.declared.tree.Pattern.TheVariants as pattern
 use Rattle.awk_tree.specs.declared.tree.Tree.{Tree}
 
 abbrev pub expr_of : Expr → t.Expr
@@ -30,28 +35,51 @@ abbrev pub exprs_of : List Expr → t.Exprs
 exprs_of [] = t.Nil
 exprs_of (e ∷ es) = t.Cons (expr_of e) (exprs_of es)
 
+abbrev pub optional_expr_of : Option (Box Expr) → t.OptionalExpr
+optional_expr_of None = t.NoExpr
+optional_expr_of (Some e) = t.AnExpr (expr_of e.value)
+
+abbrev pub simple_of : SimpleStatement → t.SimpleStatement
+simple_of (simple.Expression e) = t.Expression (expr_of e.value)
+simple_of (simple.Print es) = t.Print (exprs_of es.items)
+simple_of simple.Next = t.Next
+simple_of simple.Break = t.Break
+simple_of simple.Continue = t.Continue
+simple_of (simple.Exit e) = t.Exit (optional_expr_of e)
+
+abbrev pub optional_simple_of : Option SimpleStatement → t.OptionalSimple
+optional_simple_of None = t.NoSimple
+optional_simple_of (Some m) = t.ASimple (simple_of m)
+
 abbrev mutual
   pub statement_of : Statement → t.Statement
-  statement_of Empty = t.Empty
-  statement_of (Block' s all) = t.Block (statements_of_row all)
-  statement_of (Expression e) = t.Expression (expr_of e)
-  statement_of (Print es) = t.Print (exprs_of es.items)
-  statement_of (If' c p s) = t.If (expr_of c.value) (statement_of s)
-  statement_of (IfElse' c p s q other) = t.IfElse (expr_of c.value) (statement_of s) (statement_of other)
+  statement_of s.Empty = t.Empty
+  statement_of (s.Simple m) = t.Simple (simple_of m)
+  statement_of (s.Block' n all) = t.Block (statements_of_row all)
+  statement_of (s.If' c p x) = t.If (expr_of c.value) (statement_of x)
+  statement_of (s.IfElse' c p x q y) = t.IfElse (expr_of c.value) (statement_of x) (statement_of y)
+  statement_of (s.While' c p x) = t.While (expr_of c.value) (statement_of x)
+  statement_of (s.Do' p x c) = t.Do (statement_of x) (expr_of c.value)
+  statement_of (s.For' first c last p x) = t.For (optional_simple_of first) (optional_expr_of c) (optional_simple_of last) (statement_of x)
 
   pub statements_of_row : {m : _} → Row_of-Statement m → t.Statements
   statements_of_row end_of-Statement = t.NoMore
-  statements_of_row (more_of-Statement s rest) = t.Then (statement_of s) (statements_of_row rest)
+  statements_of_row (more_of-Statement x rest) = t.Then (statement_of x) (statements_of_row rest)
 
 abbrev pub statements_of : List Statement → t.Statements
 statements_of [] = t.NoMore
-statements_of (s ∷ ss) = t.Then (statement_of s) (statements_of ss)
+statements_of (x ∷ all) = t.Then (statement_of x) (statements_of all)
+
+abbrev pub pattern_of : Pattern → t.Pattern
+pattern_of (pattern.Single e) = t.Single (expr_of e.value)
+pattern_of (pattern.Range a b) = t.Range (expr_of a.value) (expr_of b.value)
 
 abbrev pub item_of : Item → t.Item
-item_of (Begin block) = t.Begin (statements_of block.items)
-item_of (Action block) = t.Action (statements_of block.items)
-item_of (Pattern e) = t.Pattern (expr_of e)
-item_of (PatternAction e block) = t.PatternAction (expr_of e) (statements_of block.items)
+item_of (item.Begin block) = t.Begin (statements_of block.items)
+item_of (item.End block) = t.End (statements_of block.items)
+item_of (item.Action block) = t.Action (statements_of block.items)
+item_of (item.PatternAction p block) = t.PatternAction (pattern_of p) (statements_of block.items)
+item_of (item.PatternOnly p) = t.PatternOnly (pattern_of p)
 
 abbrev pub items_of : List Item → List t.Item
 items_of [] = []

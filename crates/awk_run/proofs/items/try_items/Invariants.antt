@@ -6,9 +6,9 @@ use Rattle.awk_streams.specs.WorldState.{WorldState}
 use Rattle.awk_run.specs.support.Items.{TriesAll}
 use Rattle.awk_run.proofs.items.try_items.Given as goal
 
-abbrev pub invariant-loop-item : goal.invariant-loop-item
-invariant-loop-item g l =
+abbrev pub invariant-loop-number : goal.invariant-loop-number
+invariant-loop-number g l =
     let w = g.W.World in
     (new : Interpreter) (after : WorldState) (r : Result (Unit {0}) Halt) →
-    TriesAll w.is_logged (items_of (drop l.item-index l.items)) l.interpreter (w.state l.world) new after r →
-    TriesAll w.is_logged (items_of l.items) l.fn.interpreter (w.state l.fn.world) new after r
+    TriesAll w.is_logged l.number (items_of (drop l.number l.items)) l.interpreter (w.state l.world) new after r →
+    TriesAll w.is_logged 0 (items_of l.items) l.fn.interpreter (w.state l.fn.world) new after r

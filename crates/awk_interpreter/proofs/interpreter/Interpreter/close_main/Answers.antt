@@ -3,4 +3,4 @@ use Rattle.awk_interpreter.proofs.WorldCalls.{closes_simulates}
 use Rattle.awk_interpreter.proofs.interpreter.Interpreter.close_main.Goals as goal
 
 pub returns : goal.returns
-returns g c = closes_simulates (record { current = refl; variables = refl; arguments = refl; status = refl; steps = refl }) c.close_main.ensures.none (λ _. c.close_main.ensures.open) c.close_main.ensures.told
+returns g c = closes_simulates (record { current = refl; variables = refl; arguments = refl; inside = refl; status = refl; steps = refl }) c.close_main.ensures.none (λ _. c.close_main.ensures.open) c.close_main.ensures.told

@@ -15,6 +15,7 @@ returns-clause-start c =
       input_seen = c.in_ok-arguments.ensures.input_seen;
       main = ap (λ s. s.main) c.in_ok-streams.ensures.fresh;
       held = ap (λ s. s.held) c.in_ok-streams.ensures.fresh;
+      inside = rw c.new-3.ensures.items refl;
       status = refl;
       steps = refl;
     }

@@ -13,9 +13,9 @@ pub returns-in_err-print : goal.returns-in_err-print
 returns-in_err-print g c =
     let p = err_from_is_err_and c.from_residual-in_err-print.result c.from_residual-in_err-print.ensures.1 in
     rw (p.1, p.2) (print_follows (Err c.in_err-print.field-0.0) c.args.values.now _ (c.deref.ensures.value ∙ c.in_ok-make_line.ensures.text ∙ line_same _ _ _ _ c.args.values.now c.special-between.ensures c.special-behind.ensures)
-    (record { current = refl; variables = refl; arguments = refl; status = refl; steps = refl }) c.in_err-print.ensures.open c.in_err-print.ensures.told c.in_err-print.ensures.fault)
+    (record { current = refl; variables = refl; arguments = refl; inside = refl; status = refl; steps = refl }) c.in_err-print.ensures.open c.in_err-print.ensures.told c.in_err-print.ensures.fault)
 
 pub returns : goal.returns
 returns g c =
     print_follows _ c.args.values.now _ (c.deref.ensures.value ∙ c.in_ok-make_line.ensures.text ∙ line_same _ _ _ _ c.args.values.now c.special-between.ensures c.special-behind.ensures)
-    (record { current = refl; variables = refl; arguments = refl; status = refl; steps = refl }) c.in_ok-print.ensures.open c.in_ok-print.ensures.told c.in_ok-print.ensures.fault
+    (record { current = refl; variables = refl; arguments = refl; inside = refl; status = refl; steps = refl }) c.in_ok-print.ensures.open c.in_ok-print.ensures.told c.in_ok-print.ensures.fault

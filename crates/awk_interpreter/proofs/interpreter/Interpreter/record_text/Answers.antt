@@ -6,7 +6,7 @@ use Rattle.awk_interpreter.proofs.Composition.{memory_changes}
 use Rattle.awk_interpreter.proofs.interpreter.Interpreter.record_text.Goals as goal
 
 pub returns : goal.returns
-returns c = text_changes (record { beside = record { current = c.in_ok-text.ensures.same; variables = refl; arguments = refl; status = refl; steps = refl }; streams = refl }) (ap (λ t. Input t) c.in_ok-text.ensures.text)
+returns c = text_changes (record { beside = record { current = c.in_ok-text.ensures.same; variables = refl; arguments = refl; inside = refl; status = refl; steps = refl }; streams = refl }) (ap (λ t. Input t) c.in_ok-text.ensures.text)
 
 pub returns-in_err-text : goal.returns-in_err-text
 returns-in_err-text c =

@@ -5,7 +5,7 @@ use Rattle.awk_interpreter.proofs.Composition.{memory_changes}
 use Rattle.awk_interpreter.proofs.interpreter.Interpreter.set_record.Goals as goal
 
 pub returns : goal.returns
-returns c = record_changes _ _ c.separator-separator.ensures c.in_ok-set_text.ensures.ok refl refl refl refl refl
+returns c = record_changes _ _ c.separator-separator.ensures c.in_ok-set_text.ensures.ok refl refl refl refl refl refl
 
 pub returns-in_err-set_text : goal.returns-in_err-set_text
 returns-in_err-set_text c =

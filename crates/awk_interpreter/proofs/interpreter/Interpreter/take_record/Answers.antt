@@ -17,12 +17,12 @@ pub returns-in_err-next_main : goal.returns-in_err-next_main
 returns-in_err-next_main g c =
     let p = err_from_is_err_and c.from_residual-in_err-next_main.result c.from_residual-in_err-next_main.ensures.1 in
     rw (p.1, p.2) (record {
-      simulates = asks_simulates c.as_slice.result.now _ (c.as_slice.ensures ∙ c.in_ok-separator.ensures.text ∙ ap str_of c.special.ensures) (record { current = refl; variables = refl; arguments = refl; status = refl; steps = refl }) (sym c.has_main.ensures ∙ c.if-not-has_main.false) (λ e. full_of c.in_ok-separator.separator (sym c.is_empty.ensures ∙ c.if-is_empty.false) (sym c.as_slice.ensures ∙ e)) (λ _. c.in_err-next_main.ensures.open) c.in_err-next_main.ensures.told;
+      simulates = asks_simulates c.as_slice.result.now _ (c.as_slice.ensures ∙ c.in_ok-separator.ensures.text ∙ ap str_of c.special.ensures) (record { current = refl; variables = refl; arguments = refl; inside = refl; status = refl; steps = refl }) (sym c.has_main.ensures ∙ c.if-not-has_main.false) (λ e. full_of c.in_ok-separator.separator (sym c.is_empty.ensures ∙ c.if-is_empty.false) (sym c.as_slice.ensures ∙ e)) (λ _. c.in_err-next_main.ensures.open) c.in_err-next_main.ensures.told;
     })
 
 pub returns : goal.returns
 returns g c = record {
-  simulates = asks_simulates c.as_slice.result.now _ (c.as_slice.ensures ∙ c.in_ok-separator.ensures.text ∙ ap str_of c.special.ensures) (record { current = refl; variables = refl; arguments = refl; status = refl; steps = refl }) (sym c.has_main.ensures ∙ c.if-not-has_main.false) (λ e. full_of c.in_ok-separator.separator (sym c.is_empty.ensures ∙ c.if-is_empty.false) (sym c.as_slice.ensures ∙ e)) (λ _. c.in_ok-next_main.ensures.open) c.in_ok-next_main.ensures.told;
+  simulates = asks_simulates c.as_slice.result.now _ (c.as_slice.ensures ∙ c.in_ok-separator.ensures.text ∙ ap str_of c.special.ensures) (record { current = refl; variables = refl; arguments = refl; inside = refl; status = refl; steps = refl }) (sym c.has_main.ensures ∙ c.if-not-has_main.false) (λ e. full_of c.in_ok-separator.separator (sym c.is_empty.ensures ∙ c.if-is_empty.false) (sym c.as_slice.ensures ∙ e)) (λ _. c.in_ok-next_main.ensures.open) c.in_ok-next_main.ensures.told;
 }
 
 pub returns-in_err-separator : goal.returns-in_err-separator

@@ -5,4 +5,4 @@ use Rattle.awk_resolve.proofs.names.Misuse.add_item.Goals as goal
 
 pub returns-in-PatternAction : goal.returns-in-PatternAction
 returns-in-PatternAction c =
-    rw (ap item_of c.in-PatternAction.is) (adds_both c.add_expr-in-PatternAction.ensures (rw c.deref.ensures.value at c.add_block.ensures))
+    rw (ap item_of c.in-PatternAction.is) (adds_both c.add_pattern.ensures (rw c.deref.ensures.value at c.add_block.ensures))

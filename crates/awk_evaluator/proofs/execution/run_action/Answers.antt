@@ -1,6 +1,6 @@
 use Rattle.std.proofs.lemmas.Result.{err_from_is_err_and}
 use Rattle.awk_evaluator.proofs.Evaluation.{action_halts, action_runs}
-use Rattle.awk_evaluator.proofs.statements.run_action.Goals as goal
+use Rattle.awk_evaluator.proofs.execution.run_action.Goals as goal
 
 pub returns-in_err-exec_all : goal.returns-in_err-exec_all
 returns-in_err-exec_all g c =

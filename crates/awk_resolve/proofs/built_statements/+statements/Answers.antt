@@ -8,7 +8,7 @@ use Rattle.awk_tree.specs.Tree as run
 use Rattle.awk_tree.specs.declared.tree.Statement.TheViews.{the_lemmas}
 use Rattle.awk_resolve.specs.definitions.Built.{built_statement, built_block}
 use Rattle.awk_resolve.proofs.BuiltLists.{next_statement, no_statement, last_statement, passes_on, row_is_block, grammar_row_is_block}
-use Rattle.awk_resolve.proofs.built.+statements.Goals as goal
+use Rattle.awk_resolve.proofs.built_statements.+statements.Goals as goal
 
 pub built_block-loop-s-init : goal.built_block-loop-s-init
 built_block-loop-s-init t c = rw c.new-built.ensures.items refl
@@ -28,7 +28,7 @@ built_block-returns t c = last_statement c.args.all.now c.loop-s.s-index c.loop-
 pub built_statement-returns-in_err-built_block-in-Block : goal.built_statement-returns-in_err-built_block-in-Block
 built_statement-returns-in_err-built_block-in-Block t c =
     let is : grammar_statement_of c.args.s.now ≡ g.Block (grammar_statements_of c.in-Block.all.items) = search (rules, grammar_lemmas, grammar_row_is_block) in
-    let p = err_from_is_err_and c.from_residual.result c.from_residual.ensures.1 in
+    let p = err_from_is_err_and c.from_residual-in_err-built_block-in-Block.result c.from_residual-in_err-built_block-in-Block.ensures.1 in
     let b = rw c.deref.ensures.value at c.in_err-built_block-in-Block.ensures in
     rw (p.1, p.2, is) (passes_on c.in_err-built_block-in-Block.field-0.0 (built_block (grammar_statements_of c.in-Block.all.items)) _ b (λ none. ap (option_map run.Block) none))
 

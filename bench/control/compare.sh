@@ -1,0 +1,48 @@
+#!/bin/sh
+# Whether random programs of operators and control print and end as in other awks: for each of them, how many programs
+# ended otherwise, and the first few of these.
+#
+#   bench/control/compare.sh [COUNT [SEED [FOLDER [control]]]]
+#
+# The programs, their inputs and what came of them are left in FOLDER, if one is given.
+set -eu
+
+count=${1:-2000} seed=${2:-7}
+root=$(CDPATH='' cd "$(dirname "$0")/../.." && pwd -P)
+if [ $# -gt 2 ]; then
+    work=$3
+    mkdir -p "$work"
+else
+    work=$(mktemp -d)
+    trap 'rm -rf "$work"' EXIT
+fi
+
+"$root/awk" '' </dev/null
+"$root/bench/control/programs.py" "$work" "$count" "$seed" ${4:+"$4"}
+
+# What a program prints, and its status.
+of() {
+    name=$1 n=$2
+    shift 2
+    { timeout 5 "$@" -f "$work/$n.awk" <"$work/$n.in" 2>/dev/null && echo "status 0" || echo "status $?"; } >"$work/$n.$name"
+}
+
+n=0
+while [ "$n" -lt "$count" ]; do
+    of this "$n" "$root/out/awk"
+    of gawk "$n" gawk --posix
+    of mawk "$n" mawk
+    of original "$n" original-awk
+    n=$((n + 1))
+done
+
+for name in gawk mawk original; do
+    others=''
+    n=0
+    while [ "$n" -lt "$count" ]; do
+        cmp -s "$work/$n.this" "$work/$n.$name" || others="$others $n"
+        n=$((n + 1))
+    done
+    set -- $others
+    echo "$name: $# of $count, such as $(echo "$others" | cut -c1-60)"
+done

@@ -1,0 +1,223 @@
+// Loops, what leaves them, `next` and `exit`, END, and ranges.
+
+use crate::rows::expect_rows;
+use std::test::Fail;
+
+const LOOPS: &str = r#"
+$ BEGIN { while (i < 3) print i++ }
+> 0
+> 1
+> 2
+= 0
+$ BEGIN { do print i++; while (i < 3); print "end", i }
+> 0
+> 1
+> 2
+> end 3
+= 0
+$ BEGIN { do print "once"; while (0) }
+> once
+= 0
+$ BEGIN { for (i = 0; i < 3; i++) print i; print "end", i }
+> 0
+> 1
+> 2
+> end 3
+= 0
+parts that are left out
+$ BEGIN { for (;;) { if (i++ > 1) break; print i } for (; j < 2;) print j++; for (print "a"; k < 1; print "c") print k++ }
+> 1
+> 2
+> 0
+> 1
+> a
+> 0
+> c
+= 0
+a break ends one loop, and a continue of a do goes to its test
+$ BEGIN { for (i = 0; i < 3; i++) { for (j = 0; ; j++) { if (j == i) break; print i, j } } do { i--; continue; print "no" } while (i > 0); print i }
+> 1 0
+> 2 0
+> 2 1
+> 0
+= 0
+$ BEGIN { for (i = 0; i < 5; i++) { if (i % 2) continue; print i } while (x++ < 5) { if (x == 2) continue; if (x == 4) break; print x } }
+> 0
+> 2
+> 4
+> 1
+> 3
+= 0
+$ BEGIN { while (i++ < 2) ; print i; for (s = 0; s < 3; s++) ; print s; if (1) while (0) ; else print "else" }
+> 3
+> 3
+= 0
+$ { s = 0; for (i = 1; i <= NF; i++) s += $i; print s }
+< 1 2 3
+<
+< 4
+> 6
+> 0
+> 4
+= 0
+$ -L7
+$ BEGIN { while (1) print "y" }
+> y
+> y
+> y
+! awk: stopped: step limit reached
+= 3
+$ -L0
+$ BEGIN { while (1) print "y" }
+! awk: stopped: step limit reached
+= 3
+both outer parts of a for spend a step, and so does each turn
+$ -L8
+$ BEGIN { for (i = 0; i < 2; i++) print i; print "end" }
+> 0
+> 1
+! awk: stopped: step limit reached
+= 3
+$ -L9
+$ BEGIN { for (i = 0; i < 2; i++) print i; print "end" }
+> 0
+> 1
+> end
+= 0
+a turn of a do spends a step before its body
+$ -L4
+$ BEGIN { do ; while (i++ < 2); print i }
+! awk: stopped: step limit reached
+= 3
+$ -L5
+$ BEGIN { do ; while (i++ < 2); print i }
+> 3
+= 0
+$ BEGIN { while (1) x = 1 / 0 }
+! awk: fault 4: division by zero
+= 2
+"#;
+
+const ENDS: &str = r#"
+$ END { print NR, NF }
+> 0 0
+= 0
+the last record is there in END
+$ END { print NR, $0, NF }
+< a b
+< c d e
+> 2 c d e 3
+= 0
+$ { n++ } END { print n } END { print "last" }
+< a
+< b
+> 2
+> last
+= 0
+$ BEGIN{print 1; exit 3} {print 2} END{print 4}
+< a
+> 1
+> 4
+= 3
+$ { print; exit } END { print "end", NR }
+< a
+< b
+> a
+> end 1
+= 0
+an exit without a value keeps the status
+$ { exit 7 } END { print "end"; exit; print "no" } END { print "nor this" }
+< a
+> end
+= 7
+$ END { exit -1 }
+= 255
+$ BEGIN { exit 256 + 2 }
+= 2
+$ BEGIN { exit "5x" }
+= 5
+$ BEGIN { exit "999999999999999999999999999999999999999999" }
+! awk: fault 3: number out of range
+= 2
+$ BEGIN { while (1) { for (;;) exit 1 } }
+= 1
+$ $1 == "b" { next } { print } END { print NR }
+< a
+< b
+< c
+> a
+> c
+> 3
+= 0
+$ { for (;;) { while (1) next } } { print "no" }
+< a
+= 0
+"#;
+
+const RANGES: &str = r#"
+$ /b/,/c/
+< a
+< b
+< c
+< b
+< d
+> b
+> c
+> b
+> d
+= 0
+both ends are tested on the record that begins it
+$ /a/,/a/ { print NR ": " $0 }
+< a
+< b
+< a
+> 1: a
+> 3: a
+= 0
+inside only the second is tested
+$ NR == 2, NR == 4 { print; x++ } END { print x }
+< 1
+< 2
+< 3
+< 4
+< 5
+> 2
+> 3
+> 4
+> 3
+= 0
+each range is inside for itself
+$ /a/,/b/ { print "first", $0 } /b/,/c/ { print "second", $0 }
+< a
+< b
+< c
+< d
+> first a
+> first b
+> second b
+> second c
+= 0
+a next before a range keeps it as it was
+$ /skip/ { next } /a/,/b/ { print }
+< a
+< skip b
+< c
+< b
+< d
+> a
+> c
+> b
+= 0
+$ 1 / x, 1
+< a
+! awk: fault 4: division by zero
+= 2
+"#;
+
+#[test]
+fn control(rt: HostRuntime) -> Result<(), Fail> {
+    for table in [LOOPS, ENDS, RANGES] {
+        expect_rows(&rt, rt.alloc(), table)?;
+    }
+    Ok(())
+}
