@@ -10,6 +10,8 @@ mod lex;
 #[cfg(test)]
 mod parser;
 #[cfg(test)]
+mod plan;
+#[cfg(test)]
 mod programs;
 #[cfg(test)]
 mod rows;

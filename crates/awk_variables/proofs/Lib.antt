@@ -1,1 +1,2 @@
 mod Storage
+mod Numbering

@@ -34,10 +34,10 @@ other s t ne = false_from_ne_true (bytes_eq s t) (λ e. ne (same s t e))
 differs : (s t : List ℕ) → bytes_eq s t ≡ false → s ≡ t → ⊥
 differs s t apart e = true≢false (sym (itself s t e) ∙ apart)
 
-none_or_some : {A : Type 0} {x : A} → None ≡ Some x → ⊥
+pub none_or_some : {A : Type 0} {x : A} → None ≡ Some x → ⊥
 none_or_some e = cc
 
-same_some : {A : Type 0} {x y : A} → Some x ≡ Some y → x ≡ y
+pub same_some : {A : Type 0} {x y : A} → Some x ≡ Some y → x ≡ y
 same_some e = cc
 
 pub on_ok : {T E P Q : Type 0} (r : Result T E) → OnOk r P → (P → Q) → OnOk r Q

@@ -1,10 +1,12 @@
-//! The variables of a run: the special ones by their index, and the others by their names.
+//! The variables of a run: the special ones by their index, and the others by their names; and the numbers of names.
 #![tactic(auto)]
 
 mod fault;
+mod names;
 mod special;
 mod variables;
 
 pub use fault::VariableFault;
+pub use names::Names;
 pub use special::Special;
 pub use variables::Variables;

@@ -22,7 +22,7 @@ pub enum Special {
     Subsep,
 }
 
-const NAMES: [(&[u8], Special); 13] = [
+pub(crate) const NAMES: [(&[u8], Special); 13] = [
     (b"ARGC", Special::Argc),
     (b"CONVFMT", Special::Convfmt),
     (b"FILENAME", Special::Filename),

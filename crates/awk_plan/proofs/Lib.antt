@@ -1,0 +1,5 @@
+mod Listed
+mod Growing
+mod Making
+mod Lists
+mod Items
