@@ -7,17 +7,7 @@
 # The programs, their inputs and what came of them are left in FOLDER, if one is given.
 set -eu
 
-count=${1:-2000} seed=${2:-7}
-root=$(CDPATH='' cd "$(dirname "$0")/../.." && pwd -P)
-if [ $# -gt 2 ]; then
-    work=$3
-    mkdir -p "$work"
-else
-    work=$(mktemp -d)
-    trap 'rm -rf "$work"' EXIT
-fi
-
-"$root/awk" '' </dev/null
+. "$(dirname "$0")/../random.sh"
 "$root/bench/control/programs.py" "$work" "$count" "$seed" ${4:+"$4"}
 
 # What a program prints, and its status.

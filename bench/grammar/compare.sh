@@ -8,17 +8,7 @@
 # The programs and the answers are left in FOLDER, if one is given: `answers` has a line for each program.
 set -eu
 
-count=${1:-2000} seed=${2:-7}
-root=$(CDPATH='' cd "$(dirname "$0")/../.." && pwd -P)
-if [ $# -gt 2 ]; then
-    work=$3
-    mkdir -p "$work"
-else
-    work=$(mktemp -d)
-    trap 'rm -rf "$work"' EXIT
-fi
-
-"$root/awk" '' </dev/null
+. "$(dirname "$0")/../random.sh"
 mkdir -p "$work/programs"
 "$root/bench/grammar/programs.py" "$work/programs" "$count" "$seed"
 
