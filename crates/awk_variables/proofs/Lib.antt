@@ -1,2 +1,3 @@
 mod Storage
 mod Numbering
+mod Placing

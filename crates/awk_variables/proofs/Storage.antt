@@ -22,16 +22,16 @@ option_map-if f false x y = refl
 
 -- texts
 
-same : (s t : List ℕ) → bytes_eq s t ≡ true → s ≡ t
+pub same : (s t : List ℕ) → bytes_eq s t ≡ true → s ≡ t
 same s t e = (bytes_eq-Decides s t).0 e
 
-itself : (s t : List ℕ) → s ≡ t → bytes_eq s t ≡ true
+pub itself : (s t : List ℕ) → s ≡ t → bytes_eq s t ≡ true
 itself s t e = (bytes_eq-Decides s t).1 e
 
-other : (s t : List ℕ) → (s ≡ t → ⊥) → bytes_eq s t ≡ false
+pub other : (s t : List ℕ) → (s ≡ t → ⊥) → bytes_eq s t ≡ false
 other s t ne = false_from_ne_true (bytes_eq s t) (λ e. ne (same s t e))
 
-differs : (s t : List ℕ) → bytes_eq s t ≡ false → s ≡ t → ⊥
+pub differs : (s t : List ℕ) → bytes_eq s t ≡ false → s ≡ t → ⊥
 differs s t apart e = true≢false (sym (itself s t e) ∙ apart)
 
 pub none_or_some : {A : Type 0} {x : A} → None ≡ Some x → ⊥

@@ -3,6 +3,7 @@
 
 mod fault;
 mod names;
+mod places;
 mod special;
 mod variables;
 

@@ -52,7 +52,7 @@ fn put(
 #[derive(Drop)]
 pub struct Variables {
     specials: [Value; 13],
-    others: IndexMap<Vec<u8>, Value>,
+    pub(crate) others: IndexMap<Vec<u8>, Value>,
     // what FS stands for
     separator: Separator,
     alloc: Global,
@@ -63,14 +63,14 @@ impl Model for Variables {
     ghost use Rattle.awk_value.specs.Values.{str_of};
     ghost use Rattle.awk_text.specs.Pieces.{separator_of};
     ghost use Rattle.awk_variables.specs.definitions.Variables.{Pairs};
-    ghost use Rattle.awk_variables.specs.support.Storage.{special_pairs, other_pairs, value_at};
+    ghost use Rattle.awk_variables.specs.support.Storage.{special_pairs, other_pairs, value_at, HasNoSpecial};
     ghost use Rattle.awk_variables.specs.declared.special.Special.TheVariants.{Fs};
 
     ghost Value = { Pairs };
 
     ghost view = { λ v. special_pairs v.specials ++ other_pairs v.others.entries };
 
-    ghost invariant = { λ v. separator_of (str_of (value_at v.specials Fs)) ≡ Ok v.separator };
+    ghost invariant = { λ v. (separator_of (str_of (value_at v.specials Fs)) ≡ Ok v.separator) × HasNoSpecial v.others.entries };
 }
 
 impl Variables {
@@ -152,7 +152,7 @@ impl Variables {
     }
 
     // Gives a name that isn't special a value.
-    fn set_other(&mut self, name: &[u8], value: Value) -> Result<(), VariableFault>
+    pub(crate) fn set_other(&mut self, name: &[u8], value: Value) -> Result<(), VariableFault>
         requires { special_named name.now ≡ None }
         ensures set { OnOk result ((x : List ℕ) → value_of self.new x
             ≡ with_value (value_of self.old) name.now value x) }

@@ -1,5 +1,5 @@
 -- How the variables are kept: the special ones each at its index, in their names' order, and the others in a map.
-use Rattle.std.specs.Prelude.{ℕ, List, [], ◌∷◌, map, slice_index_or, bytes_eq, Option}
+use Rattle.std.specs.Prelude.{◌≡◌, ℕ, ◌<◌, List, [], ◌∷◌, length, map, slice_get, slice_index_or, bytes_eq, Option, Some, None}
 use Rattle.std.specs.Map.{lookup}
 use Rattle.std.specs.Global.{Vec}
 use Rattle.awk_value.specs.declared.value.Value.{Value}
@@ -48,6 +48,18 @@ other_pairs entries = map (λ e. (e.0.items, e.1)) entries
 -- the value that the others' map keeps at a name, if there is one
 abbrev pub kept_at : List (Vec ℕ × Value) → List ℕ → Option Value
 kept_at entries name = lookup (λ k. bytes_eq name k.items) entries
+
+-- no special variable is among the others
+abbrev pub HasNoSpecial : List (Vec ℕ × Value) → Type 0
+HasNoSpecial entries = (s : Special) → kept_at entries (name_of s) ≡ None
+
+-- the name's value stands at the index
+pub record Stands (entries : List (Vec ℕ × Value)) (index : ℕ) (name : List ℕ) (value : Value) : Type 0 where
+  pub key : Vec ℕ
+  pub within : index < length entries
+  pub entry : slice_get entries index ≡ Some (key, value)
+  pub named : key.items ≡ name
+  pub kept : kept_at entries name ≡ Some value
 
 -- the fault of a variable for a fault of its text
 abbrev pub text_fault : TextFault → VariableFault

@@ -1,4 +1,4 @@
-use Rattle.std.proofs.Common.{◌≡◌, ◌∙◌, arith, [], ◌∷◌, ◌++◌, pos, codes, to_z}
+use Rattle.std.proofs.Common.{◌≡◌, arith, [], ◌∷◌, ◌++◌, pos, codes, to_z}
 use Rattle.std.proofs.lemmas.Int.{ints}
 use mir.Syntax.{w128}
 use Rattle.awk_value.specs.declared.value.Value.TheVariants.{Nothing, Number, Text}

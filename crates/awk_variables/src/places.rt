@@ -1,0 +1,93 @@
+// The variables by the numbers of their names. A number is a hint: its place is used where the name stands there.
+ghost use Rattle.std.specs.Prelude.{◌≡◌, ◌↔◌, ℕ, ◌<◌, List, true, false, length, IfSome, IfErr, OnOk, OnErr, Some, None, bytes_eq, if◌then◌else◌};
+ghost use Rattle.awk_value.specs.declared.value.Value.TheVariants.{Nothing};
+ghost use Rattle.awk_value.specs.declared.value.Value.{Value as Kept};
+ghost use Rattle.awk_variables.specs.support.Storage.{kept_at, Stands};
+ghost use Rattle.awk_variables.specs.definitions.Variables.{value_of, with_value, is_refused};
+
+use crate::fault::VariableFault;
+use crate::special::{NAMES, Special};
+use crate::variables::Variables;
+use awk_value::Value;
+use indexmap::IndexMap;
+
+// The index of a number among the others with its value, if it is this name's.
+fn place<'a>(
+    others: &'a IndexMap<Vec<u8>, Value>,
+    number: u32,
+    name: &[u8],
+) -> Option<(usize, &'a Value)>
+    ensures { IfSome result (λ r. Stands others.now.entries r.0 name.now r.1.now) }
+{
+    let index = (number as usize).checked_sub(NAMES.len())?;
+    let (key, value) = others.get_index(index)?;
+    if key.as_slice() == name {
+        return Some((index, value));
+    }
+    None
+}
+
+// Makes a value the one at an index.
+fn write(others: &mut IndexMap<Vec<u8>, Value>, index: usize, value: Value)
+    requires { index < length others.old.entries }
+    ensures { (name : List ℕ) → (v : Kept) → Stands others.old.entries index name v → (x : List ℕ) →
+        kept_at others.new.entries x ≡ (if bytes_eq name x then Some value else kept_at others.old.entries x) }
+{
+    let (_, place) = others.pair_mut(index);
+    *place = value;
+}
+
+impl Variables {
+    /// Gives a name a place, in which it has no value yet. A name that has one is left as it is.
+    /// No value changes. The only fault is `Memory`.
+    pub fn declare(&mut self, name: &[u8]) -> Result<(), VariableFault>
+        ensures same { (x : List ℕ) → value_of self.new x ≡ value_of self.old x }
+        ensures memory { IfErr result (λ e. e ≡ VariableFault.Memory) }
+    {
+        if Special::named(name).is_some() {
+            return Ok(());
+        }
+        if self.others.contains_key(name) {
+            return Ok(());
+        }
+        self.set_other(name, Value::Nothing)
+    }
+
+    /// The value that stands at a place behind the special variables, if it is this name's.
+    pub fn at(&self, number: u32, name: &[u8]) -> Option<&Value>
+        ensures { IfSome result (λ value. value.now ≡ value_of self.now name.now) }
+    {
+        let (_, value) = place(&self.others, number, name)?;
+        Some(value)
+    }
+
+    /// Makes a number the value at a place behind the special variables, if it is this name's. Else nothing changes.
+    pub fn set_number(&mut self, number: u32, name: &[u8], n: i128) -> bool
+        ensures set { result ≡ true → (x : List ℕ) → value_of self.new x
+            ≡ with_value (value_of self.old) name.now (Value.Number n) x }
+        ensures accepted { result ≡ true → is_refused name.now (Value.Number n) ≡ false }
+        ensures kept { result ≡ false → self.new ≡ self.old }
+    {
+        let Some((index, _)) = place(&self.others, number, name) else {
+            return false;
+        };
+        write(&mut self.others, index, Value::Number(n));
+        true
+    }
+
+    /// Gives a name a value, at this place first. An `Err` is as that of `set`.
+    pub fn set_at(&mut self, number: u32, name: &[u8], value: Value) -> Result<(), VariableFault>
+        ensures set { OnOk result ((x : List ℕ) → value_of self.new x
+            ≡ with_value (value_of self.old) name.now value x) }
+        ensures accepted { OnOk result (is_refused name.now value ≡ false) }
+        ensures err { OnErr result (self.new ≡ self.old) }
+        ensures absent { result ≡ Err VariableFault.Memory → value_of self.old name.now ≡ Nothing }
+        ensures refused { (result ≡ Err VariableFault.Pattern) ↔ (is_refused name.now value ≡ true) }
+    {
+        let Some((index, _)) = place(&self.others, number, name) else {
+            return self.set(name, value);
+        };
+        write(&mut self.others, index, value);
+        Ok(())
+    }
+}
