@@ -19,12 +19,13 @@ use Rattle.awk_variables.specs.declared.special.Special.{Special}
 use Rattle.awk_variables.specs.declared.special.Special.TheVariants.{Argc, Convfmt, Filename, Fnr, Fs, Nr, Ofmt, Ofs, Ors, Rlength, Rs, Rstart, Subsep}
 use Rattle.awk_variables.specs.declared.fault.VariableFault.{VariableFault}
 use Rattle.awk_variables.specs.declared.fault.VariableFault.TheVariants.{Memory, Pattern}
-use Rattle.awk_meaning.specs.State.{State, lift}
+use Rattle.std.proofs.lemmas.Slice.Eq.{bytes_eq-Decides}
+use Rattle.awk_meaning.specs.State.{State, lift, ret}
 use Rattle.awk_variables.specs.Variables.{value_of, name_of, with_value, is_refused}
 use Rattle.awk_meaning.specs.Operators.{exit_status, field_value, raised}
 use Rattle.awk_meaning.specs.Faults.{variable_fault, value_fault}
 use Rattle.awk_meaning.specs.Primitives.{value_in, read_name, put, put_unless, count_in, field_at, record_text, split_as, set_record, note_input, begin_input, argument_if, argument_below, take_argument, is_inside, with_range, set_inside, status_by, set_status, is_input_seen}
-use Rattle.awk_meaning.specs.Semantics.{begin_record}
+use Rattle.awk_meaning.specs.Semantics.{begin_record, store}
 use Rattle.awk_operands.specs.Operands.{is_below, IsFaultOf}
 use Rattle.awk_interpreter.specs.support.Simulation.{inside_of, OwnRelation, Changes, SameState}
 use Rattle.awk_meaning.specs.Results.{Yields, IsWantOfMemory}
@@ -44,6 +45,10 @@ pub read_value : (x : List ℕ) {old new : Interpreter} {v : Value} → bytes_eq
 unfolding read_name
 read_value x {v = v} is same e =
     reads_changes _ (λ s. Ok (value_in s x)) (λ s. refl) same (λ s h. ap (λ w. Ok w) (value_by x false is s ∙ h.variables x ∙ sym e))
+
+-- nothing changes
+pub still : (m : Interpreter) → SameState m m
+still m = record { beside = record { current = refl; variables = refl; arguments = refl; inside = refl; status = refl; steps = refl }; streams = refl }
 
 -- giving names values
 
@@ -91,6 +96,41 @@ unfolding put
 put_refused x v refused same =
     reads_changes _ (λ s. Err (halt.Fault PatternRefused)) (λ s. ap (λ b. put_unless b x v s) refused) same (λ s h. refl)
 
+-- places are given to names, and no value changes
+pub values_stay : {old new : Interpreter} → ((x : List ℕ) → value_of new.variables x ≡ value_of old.variables x) → new.current ≡ old.current → new.arguments ≡ old.arguments → new.streams ≡ old.streams → new.inside ≡ old.inside → new.status ≡ old.status → new.steps ≡ old.steps → Changes (ret (tt {0})) old new (Ok tt)
+unfolding lift
+values_stay variables current arguments streams inside status steps =
+    own_changes _ streams (omega (arith, steps)) (λ s h. record {
+      result = Ok tt;
+      state = s;
+      is = refl;
+      part = same_part s;
+      matches = refl;
+      holds = record {
+        current = h.current ∙ sym current;
+        variables = λ x. h.variables x ∙ sym (variables x);
+        arguments = h.arguments ∙ ap (λ a. a.words.items) (sym arguments);
+        next = h.next ∙ ap (λ a. a.next) (sym arguments);
+        input_seen = h.input_seen ∙ ap (λ a. a.input_seen) (sym arguments);
+        inside = λ n. h.inside n ∙ ap (λ (v : Vec Bool). unwrap_or (slice_get v.items n) false) (sym inside);
+        status = h.status ∙ sym status;
+        steps = h.steps ∙ sym steps;
+      };
+    })
+
+-- what a name has that was given a value
+pub put_then_read : (x : List ℕ) (v : Value) {old new : Interpreter} → bytes_eq x (codes "NF") ≡ false → Changes (put x v) old new (Ok tt) → v ≡ value_of new.variables x → Changes (store x v) old new (Ok v)
+unfolding store
+put_then_read x v {new = new} plain p is = then_changes _ p (read_value x plain (still new) is)
+
+-- a number that is found at a name's place
+pub number_read : (x : List ℕ) (m : Interpreter) (v : Value) (r : Option ℤ) → v ≡ value_of m.variables x → bytes_eq x (codes "NF") ≡ false → IfSome r (λ n. v ≡ value.Number n) → IfSome r (λ n. Changes (read_name x) m m (Ok (value.Number n)))
+number_read x m v (Some n) is plain e = read_value x plain (still m) (sym e ∙ is)
+number_read x m v None is plain e = tt
+
+pub itself_put : (x : List ℕ) (v : Value) (f : List ℕ → Value) → with_value f x v x ≡ v
+itself_put x v f = ap (λ b. if b then v else f x) ((bytes_eq-Decides x x).1 refl)
+
 abbrev pub failed : VariableFault → Result (Unit {0}) VariableFault
 failed e = Err e
 
@@ -114,9 +154,6 @@ not_nf Rlength = refl
 not_nf Rs = refl
 not_nf Rstart = refl
 not_nf Subsep = refl
-
-pub still : (m : Interpreter) → SameState m m
-still m = record { beside = record { current = refl; variables = refl; arguments = refl; inside = refl; status = refl; steps = refl }; streams = refl }
 
 pub count_ends : (x : Special) {m : Interpreter} {h : Halt} → Yields {A = Value} (Err h) (raised (value_of m.variables (name_of x))) → Changes (count_in x) m m (Err h)
 unfolding count_in

@@ -1,6 +1,6 @@
 // The interpreter: the state of a run, and what it can do by itself.
 
-ghost use Rattle.std.specs.Prelude.{◌≡◌, ◌<◌, ℕ, pos, true, false, None, [], codes, bytes_eq, map, slice_get, unwrap_or, vec_len, IfOk, IfErr, OnOk};
+ghost use Rattle.std.specs.Prelude.{◌≡◌, ◌<◌, ℕ, pos, true, false, None, [], codes, bytes_eq, map, slice_get, unwrap_or, vec_len, Ok, IfOk, IfErr, OnOk};
 ghost use Rattle.awk_value.specs.declared.value.Value.TheVariants.{Text};
 ghost use Rattle.awk_meaning.specs.State.{lift};
 ghost use Rattle.awk_variables.specs.Variables.{name_of};
@@ -41,7 +41,7 @@ pub struct Interpreter {
 }
 
 /// Whether a name is NF, which is counted in the record.
-fn is_field_count(name: &[u8]) -> bool
+pub(crate) fn is_field_count(name: &[u8]) -> bool
     ensures { result ≡ bytes_eq name.now (codes "NF") }
 {
     matches!(name, b"NF")
@@ -193,12 +193,12 @@ impl Interpreter {
     }
 
     /// Whether a range is inside, by the number of its item.
-    pub fn is_inside(&mut self, number: usize) -> Result<bool, Halt>
-        ensures { Changes (is_inside number) self.old self.new result }
+    pub fn is_inside(&self, number: usize) -> bool
+        ensures { Changes (is_inside number) self.now self.now (Ok result) }
     {
         match self.inside.get(number) {
-            Some(is_inside) => Ok(*is_inside),
-            None => Ok(false),
+            Some(is_inside) => *is_inside,
+            None => false,
         }
     }
 

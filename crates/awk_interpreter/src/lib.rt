@@ -3,5 +3,7 @@
 
 mod inputs;
 mod interpreter;
+mod places;
 
 pub use interpreter::Interpreter;
+pub use places::number_in;

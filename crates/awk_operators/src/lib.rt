@@ -7,5 +7,7 @@ mod operators;
 mod patterns;
 
 pub use line::make_line;
-pub use operators::{apply, apply_ere, change, field_at, raise, takes_pattern, truth_value};
+pub use operators::{
+    apply, apply_ere, apply_to_numbers, change, field_at, raise, takes_pattern, truth_value,
+};
 pub use patterns::Patterns;

@@ -1,6 +1,6 @@
 // What operators make of values.
 
-ghost use Rattle.std.specs.Prelude.{◌≡◌, true, if◌then◌else◌};
+ghost use Rattle.std.specs.Prelude.{◌≡◌, true, false, if◌then◌else◌, Ok, IfSome, OnSome};
 ghost use Rattle.std.specs.declared.cmp.Ordering.{Ordering as Order};
 ghost use Rattle.awk_value.specs.Values.{str_of};
 ghost use Rattle.awk_value.specs.declared.value.Value.TheVariants.{Text};
@@ -12,8 +12,8 @@ use awk_meaning::Halt;
 use awk_record::Record;
 use awk_tree::tree::{BinaryOperator, Ere, UnaryOperator};
 use awk_value::{
-    Value, add, compare, concatenate, divide, is_true, minus, multiply, negate, number_of, plus,
-    power, remainder, text_of, to_number,
+    Value, add, compare, concatenate, div, divide, is_true, minus, mul, multiply, negate,
+    number_of, plus, pow, power, rem, remainder, sub, text_of, to_number,
 };
 use std::alloc::Global;
 use std::cmp::Ordering;
@@ -107,6 +107,28 @@ pub fn apply(
             let order = compare(x, y)?;
             Ok(truth_value(relates(operator, order)))
         }
+    }
+}
+
+/// The number that an operator makes of two numbers. `None` where that is a fault or a text.
+pub fn apply_to_numbers(operator: BinaryOperator, x: i128, y: i128) -> Option<i128>
+    ensures applied { IfSome result (λ n. applied operator (Value.Number x) (Value.Number y) ≡ Ok (Value.Number n)) }
+    ensures plain { OnSome result (takes_pattern operator ≡ false) }
+{
+    match operator {
+        BinaryOperator::Plus => add(x, y).ok(),
+        BinaryOperator::Minus => sub(x, y).ok(),
+        BinaryOperator::Times => mul(x, y).ok(),
+        BinaryOperator::Divide => div(x, y).ok(),
+        BinaryOperator::Remainder => rem(x, y).ok(),
+        BinaryOperator::Power => pow(x, y).ok(),
+        BinaryOperator::Less
+        | BinaryOperator::LessEqual
+        | BinaryOperator::Equal
+        | BinaryOperator::NotEqual
+        | BinaryOperator::Greater
+        | BinaryOperator::GreaterEqual => Some(i128::from(relates(operator, x.cmp(&y)))),
+        BinaryOperator::Concatenate | BinaryOperator::Matches | BinaryOperator::NotMatches => None,
     }
 }
 

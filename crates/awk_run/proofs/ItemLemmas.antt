@@ -1,20 +1,19 @@
 -- Items, records and the whole of a run, by what their parts do.
 use Rattle.std.proofs.Common.{◌≡◌, ℕ, ◌≤◌, ◌<◌, ◌+◌, zero, suc, Bool, true, false, not, List, [], ◌∷◌, Some, None, Result, Ok, Err, length, map, drop, get_or, add-one, drop-cons, refl, arith, sym, ap, ◌∙◌, subst}
-use Rattle.std.proofs.lemmas.List.{drop_all}
+use Rattle.std.proofs.lemmas.List.{drop_all, get_or_default}
 use Rattle.awk_streams.specs.Streams.{AreOpen, IsSoundMain}
-use Rattle.awk_tree.specs.declared.tree.Statement.{Statement as CodeStatement}
-use Rattle.awk_tree.specs.declared.tree.Item.{Item as CodeItem}
-use Rattle.awk_tree.specs.declared.tree.Item.TheVariants as items
-use Rattle.std.specs.Global.{Vec}
+use Rattle.awk_plan.specs.declared.plan.Item.{Item as CodeItem}
+use Rattle.awk_plan.specs.declared.plan.Item.TheVariants as items
+use Rattle.awk_plan.specs.Plan.{Program}
+use Rattle.awk_run.specs.support.Planned.{item_of}
 use Rattle.awk_tree.specs.Tree.{Expr, Nil, Statements, Pattern, Single, Range, Item, Begin, End, Action, PatternAction, PatternOnly}
-use Rattle.awk_tree.specs.View.{item_of, items_of}
 use Rattle.awk_interpreter.specs.declared.interpreter.Interpreter.{Interpreter}
 use Rattle.awk_run.specs.declared.start.Assignment.{Assignment}
 use Rattle.awk_run.specs.definitions.Start.{pair_of}
 use Rattle.awk_meaning.specs.declared.halt.Halt.{Halt}
 use Rattle.awk_meaning.specs.declared.halt.Halt.TheVariants as halt
 use Rattle.awk_meaning.specs.declared.fault.Fault.TheVariants.{OutOfMemory, WriteFailed}
-use Rattle.awk_meaning.specs.State.{Effect, Out, Run, ret}
+use Rattle.awk_meaning.specs.State.{State, Effect, Out, Run, go_on, ◌>>=◌, lift, ret}
 use Rattle.awk_streams.specs.Oracle.{Oracle}
 use Rattle.awk_meaning.specs.Primitives.{is_inside, set_inside}
 use Rattle.awk_meaning.specs.Inputs.{assign_text, next_record}
@@ -22,7 +21,7 @@ use Rattle.awk_meaning.specs.Meaning.{assign_all, assign_and_run}
 use Rattle.awk_meaning.specs.Semantics.{choose, print, run_action, in_range, go_through, selects, try_item, try_items, unless_next, until_next, begin_record, each_record, run_records, begin_item, begin_items, is_rule, has_rule, run_before_end, end_item, end_items, unless_exit, until_exit, run_items}
 use Rattle.awk_streams.specs.WorldState.{WorldState}
 use Rattle.awk_interpreter.specs.Simulation.{ResultRelation, SimulatesLogged, Simulates, Changes, Spends, Follows}
-use Rattle.awk_evaluator.specs.Evaluation.{Tests}
+use Rattle.awk_machine.specs.Moves.{Tests}
 use Rattle.awk_run.specs.support.Items.{Tells, Selects, Tries, TriesAll, BeginsItem, BeginsAll, ReadsOn, ReadsAll, RunsBeforeEnd, EndsItem, EndsAll, RunsItems, Assigns, AssignsAndRuns}
 use Rattle.awk_interpreter.proofs.Composition.{then_changes, ends_changes, lift_changes, then_simulates, ends_simulates, lift_simulates, change_simulates}
 
@@ -31,10 +30,6 @@ use Rattle.awk_interpreter.proofs.Composition.{then_changes, ends_changes, lift_
 pub range_inside : {is_logged : Type 0} (n : ℕ) (from : Expr) {m m1 : Interpreter} {k : WorldState} → Changes (is_inside n) m m1 (Ok true) → Tells is_logged (in_range n from) m k m1 k (Ok true)
 unfolding in_range
 range_inside n from {m1 = m1} {k = k} p = record { simulates = then_simulates _ (change_simulates p) (lift_simulates _ m1 k refl) }
-
-pub range_unread : {is_logged : Type 0} (n : ℕ) (from : Expr) {m m1 : Interpreter} {k : WorldState} {h : Halt} → Changes (is_inside n) m m1 (Err h) → Tells is_logged (in_range n from) m k m1 k (Err h)
-unfolding in_range
-range_unread n from p = record { simulates = ends_simulates _ (change_simulates p) }
 
 pub range_begins : {is_logged : Type 0} (n : ℕ) (from : Expr) {m m1 m2 : Interpreter} {k k2 : WorldState} {r : Result Bool Halt} → Changes (is_inside n) m m1 (Ok false) → Tests is_logged from m1 k m2 k2 r → Tells is_logged (in_range n from) m k m2 k2 r
 unfolding in_range
@@ -322,29 +317,56 @@ pub assigned_runs : {is_logged : Type 0} {xs : List Item} {pre : List (List ℕ 
 unfolding assign_and_run
 assigned_runs p q = record { simulates = then_simulates _ (change_simulates p.simulates) q.simulates }
 
--- lists of code, from a place on
+-- the names have got their places, or there was no memory
 
-pub item_at : (es : List CodeItem) (i : ℕ) (e : CodeItem) → i < length es → get_or es i e ≡ e → items_of (drop i es) ≡ item_of e ∷ items_of (drop (i + 1) es)
-item_at es i e low is = rw (add-one, drop-cons es i e) (ap (λ x. item_of x ∷ items_of (drop (suc i) es)) is)
+unit_first : {A : Type 0} (x : Run A) (s : State) → x s ≡ (ret (tt {0}) >>= λ _. x) s
+unfolding ◌>>=◌ go_on lift
+unit_first x s = refl
 
-pub items_over : (es : List CodeItem) (i : ℕ) → length es ≤ i → items_of (drop i es) ≡ []
-items_over es i low = ap items_of (drop_all i es low)
+declared_same : {A : Type 0} {is_logged : Type 0} {m new : Interpreter} {k after : WorldState} {r : Result A Halt} (x : Run A) → Simulates is_logged m k new after r (ret (tt {0}) >>= λ _. x) → Simulates is_logged m k new after r x
+declared_same {new = new} {after = after} {r = r} x d = record {
+  steps = d.steps;
+  kept_open = d.kept_open;
+  told = λ t. record {
+    grows = (d.told t).grows;
+    keeps = (d.told t).keeps;
+    keeps_main = (d.told t).keeps_main;
+    means = λ oracle s past consistent stands. subst (λ o. ResultRelation oracle new after r o past) (sym (unit_first x s)) ((d.told t).means oracle s past consistent stands);
+  };
+}
+
+pub undeclared : {is_logged : Type 0} {xs : List Item} {pre : List (List ℕ × List ℕ)} {m m1 : Interpreter} {k : WorldState} {h : Halt} → Changes (ret (tt {0})) m m1 (Err h) → AssignsAndRuns is_logged xs pre m k m1 k (Err h)
+undeclared p = record { simulates = declared_same _ (ends_simulates _ (change_simulates p)) }
+
+pub declared : {is_logged : Type 0} {xs : List Item} {pre : List (List ℕ × List ℕ)} {m m1 m2 : Interpreter} {k k2 : WorldState} {r : Result (Unit {0}) Halt} → Changes (ret (tt {0})) m m1 (Ok tt) → AssignsAndRuns is_logged xs pre m1 k m2 k2 r → AssignsAndRuns is_logged xs pre m k m2 k2 r
+declared p q = record { simulates = declared_same _ (then_simulates _ (change_simulates p) q.simulates) }
+
+-- items of a plan, from a place on
+
+pub item_at : (plan : Program) (es : List CodeItem) (i : ℕ) (e : CodeItem) → i < length es → get_or es i e ≡ e → map (item_of plan) (drop i es) ≡ item_of plan e ∷ map (item_of plan) (drop (i + 1) es)
+item_at plan es i e low is = rw (add-one, drop-cons es i e) (ap (λ x. item_of plan x ∷ map (item_of plan) (drop (suc i) es)) is)
+
+pub planned_at : (plan : Program) (es : List CodeItem) (i : ℕ) → i < length es → map (item_of plan) (drop i es) ≡ item_of plan (get_or es i (items.Begin 0)) ∷ map (item_of plan) (drop (i + 1) es)
+planned_at plan es i low = item_at plan es i (get_or es i (items.Begin 0)) low (get_or_default es i _ (items.Begin 0) low)
+
+pub items_over : (plan : Program) (es : List CodeItem) (i : ℕ) → length es ≤ i → map (item_of plan) (drop i es) ≡ []
+items_over plan es i low = ap (map (item_of plan)) (drop_all i es low)
 
 -- what is no action before all records is a rule
-pub rule_of : (x : CodeItem) → ((block : Vec CodeStatement) → x ≡ items.Begin block → ⊥) → is_rule (item_of x) ≡ true
-rule_of (items.Begin block) other = absurd (other block refl)
-rule_of (items.End block) other = refl
-rule_of (items.Action block) other = refl
-rule_of (items.PatternAction p block) other = refl
-rule_of (items.PatternOnly p) other = refl
+pub rule_of : (plan : Program) (x : CodeItem) → ((block : ℕ) → x ≡ items.Begin block → ⊥) → is_rule (item_of plan x) ≡ true
+rule_of plan (items.Begin block) other = absurd (other block refl)
+rule_of plan (items.End block) other = refl
+rule_of plan (items.Action block) other = refl
+rule_of plan (items.PatternAction p block) other = refl
+rule_of plan (items.PatternOnly p) other = refl
 
 -- what is no action behind all records
-pub no_end_of : (x : CodeItem) → ((block : Vec CodeStatement) → x ≡ items.End block → ⊥) → is_end (item_of x) ≡ false
-no_end_of (items.End block) other = absurd (other block refl)
-no_end_of (items.Begin block) other = refl
-no_end_of (items.Action block) other = refl
-no_end_of (items.PatternAction p block) other = refl
-no_end_of (items.PatternOnly p) other = refl
+pub no_end_of : (plan : Program) (x : CodeItem) → ((block : ℕ) → x ≡ items.End block → ⊥) → is_end (item_of plan x) ≡ false
+no_end_of plan (items.End block) other = absurd (other block refl)
+no_end_of plan (items.Begin block) other = refl
+no_end_of plan (items.Action block) other = refl
+no_end_of plan (items.PatternAction p block) other = refl
+no_end_of plan (items.PatternOnly p) other = refl
 
 -- assignments, from a place on
 

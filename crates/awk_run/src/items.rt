@@ -3,64 +3,68 @@
 ghost use Rattle.awk_streams.specs.Streams.{AreOpen, IsSoundMain};
 ghost use Rattle.std.specs.Prelude.{◌≡◌};
 ghost use Rattle.awk_tree.specs.Tree.{PatternOnly};
-ghost use Rattle.awk_tree.specs.View.{expr_of, pattern_of, item_of, items_of};
+ghost use Rattle.awk_plan.specs.Plan.{operand_of, items_of};
+ghost use Rattle.awk_run.specs.support.Planned.{pattern_of, item_of};
 ghost use Rattle.awk_interpreter.specs.Simulation.{Follows};
 ghost use Rattle.awk_run.specs.support.Items.{Tells, Selects, Tries, TriesAll, BeginsItem, BeginsAll, ReadsAll, RunsBeforeEnd, EndsItem, EndsAll, RunsItems};
 ghost use Rattle.awk_meaning.specs.Semantics.{in_range, go_through, try_items, unless_next, until_next, is_rule, has_rule, unless_exit};
 
-use awk_evaluator::{holds, print, run_action};
 use awk_interpreter::Interpreter;
+use awk_machine::{holds, print_record, run_action};
 use awk_meaning::Halt;
+use awk_plan::node::Operand;
+use awk_plan::plan::{Item, Pattern, Plan};
 use awk_streams::World;
-use awk_tree::tree::{Expr, Item, Pattern};
 
 /// Whether the record at hand is in a range: it is inside already, or begins on it.
 fn in_range<W: World>(
-    from: &Expr,
+    plan: &Plan,
+    from: Operand,
     number: usize,
     interpreter: &mut Interpreter,
     world: &mut W,
 ) -> Result<bool, Halt>
-    ensures { Tells W.is_logged (in_range number (expr_of from.now)) interpreter.old (W.state world.old)
+    ensures { Tells W.is_logged (in_range number (operand_of plan.now from)) interpreter.old (W.state world.old)
         interpreter.new (W.state world.new) result }
 {
-    let is_inside = interpreter.is_inside(number)?;
-    if is_inside {
+    if interpreter.is_inside(number) {
         return Ok(true);
     }
-    holds(from, interpreter, world)
+    holds(plan, from, interpreter, world)
 }
 
 /// Notes whether a range that is entered on this record is inside behind it.
 fn go_through<W: World>(
-    to: &Expr,
+    plan: &Plan,
+    to: Operand,
     number: usize,
     interpreter: &mut Interpreter,
     world: &mut W,
 ) -> Result<bool, Halt>
-    ensures { Tells W.is_logged (go_through number (expr_of to.now)) interpreter.old (W.state world.old)
+    ensures { Tells W.is_logged (go_through number (operand_of plan.now to)) interpreter.old (W.state world.old)
         interpreter.new (W.state world.new) result }
 {
-    let ends = holds(to, interpreter, world)?;
+    let ends = holds(plan, to, interpreter, world)?;
     interpreter.set_inside(number, !ends)?;
     Ok(true)
 }
 
 /// Whether a pattern selects the record at hand, by the number of its item (POSIX awk, Patterns).
 fn selects<W: World>(
-    pattern: &Pattern,
+    plan: &Plan,
+    pattern: Pattern,
     number: usize,
     interpreter: &mut Interpreter,
     world: &mut W,
 ) -> Result<bool, Halt>
-    ensures { Selects W.is_logged number (pattern_of pattern.now) interpreter.old (W.state world.old)
+    ensures { Selects W.is_logged number (pattern_of plan.now pattern) interpreter.old (W.state world.old)
         interpreter.new (W.state world.new) result }
 {
     match pattern {
-        Pattern::Single(e) => holds(e, interpreter, world),
+        Pattern::Single(e) => holds(plan, e, interpreter, world),
         Pattern::Range(from, to) => {
-            if in_range(from, number, interpreter, world)? {
-                go_through(to, number, interpreter, world)
+            if in_range(plan, from, number, interpreter, world)? {
+                go_through(plan, to, number, interpreter, world)
             } else {
                 Ok(false)
             }
@@ -70,16 +74,17 @@ fn selects<W: World>(
 
 /// Prints the record at hand where a pattern selects it (POSIX awk, Patterns).
 fn try_pattern<W: World>(
-    pattern: &Pattern,
+    plan: &Plan,
+    pattern: Pattern,
     number: usize,
     interpreter: &mut Interpreter,
     world: &mut W,
 ) -> Result<(), Halt>
-    ensures { Tries W.is_logged number (PatternOnly (pattern_of pattern.now)) interpreter.old (W.state world.old)
+    ensures { Tries W.is_logged number (PatternOnly (pattern_of plan.now pattern)) interpreter.old (W.state world.old)
         interpreter.new (W.state world.new) result }
 {
-    if selects(pattern, number, interpreter, world)? {
-        print(&[], interpreter, world)
+    if selects(plan, pattern, number, interpreter, world)? {
+        print_record(interpreter, world)
     } else {
         Ok(())
     }
@@ -87,22 +92,23 @@ fn try_pattern<W: World>(
 
 /// Tries an item on the record at hand, by the item's number (POSIX awk, Patterns).
 fn try_item<W: World>(
-    item: &Item,
+    plan: &Plan,
+    item: Item,
     number: usize,
     interpreter: &mut Interpreter,
     world: &mut W,
 ) -> Result<(), Halt>
-    ensures { Tries W.is_logged number (item_of item.now) interpreter.old (W.state world.old) interpreter.new
+    ensures { Tries W.is_logged number (item_of plan.now item) interpreter.old (W.state world.old) interpreter.new
         (W.state world.new) result }
 {
     match item {
         Item::Begin(_) => Ok(()),
         Item::End(_) => Ok(()),
-        Item::Action(block) => run_action(block, interpreter, world),
-        Item::PatternOnly(pattern) => try_pattern(pattern, number, interpreter, world),
+        Item::Action(block) => run_action(plan, block, interpreter, world),
+        Item::PatternOnly(pattern) => try_pattern(plan, pattern, number, interpreter, world),
         Item::PatternAction(pattern, block) => {
-            if selects(pattern, number, interpreter, world)? {
-                run_action(block, interpreter, world)
+            if selects(plan, pattern, number, interpreter, world)? {
+                run_action(plan, block, interpreter, world)
             } else {
                 Ok(())
             }
@@ -112,15 +118,16 @@ fn try_item<W: World>(
 
 /// Tries each item in turn.
 fn try_items<W: World>(
-    items: &[Item],
+    plan: &Plan,
     interpreter: &mut Interpreter,
     world: &mut W,
 ) -> Result<(), Halt>
-    ensures { TriesAll W.is_logged 0 (items_of items.now) interpreter.old (W.state world.old) interpreter.new
+    ensures { TriesAll W.is_logged 0 (items_of plan.now) interpreter.old (W.state world.old) interpreter.new
         (W.state world.new) result }
 {
+    let items = plan.items();
     for (number, item) in items.iter().enumerate() {
-        try_item(item, number, interpreter, world)?;
+        try_item(plan, *item, number, interpreter, world)?;
     }
     Ok(())
 }
@@ -137,42 +144,44 @@ fn unless_next(tried: Result<(), Halt>) -> Result<(), Halt>
 
 /// Tries the items on the record at hand, until `next` (POSIX awk, Actions).
 fn try_until_next<W: World>(
-    items: &[Item],
+    plan: &Plan,
     interpreter: &mut Interpreter,
     world: &mut W,
 ) -> Result<(), Halt>
-    ensures { Follows W.is_logged (until_next (try_items 0 (items_of items.now))) interpreter.old
+    ensures { Follows W.is_logged (until_next (try_items 0 (items_of plan.now))) interpreter.old
         (W.state world.old) interpreter.new (W.state world.new) result }
 {
-    unless_next(try_items(items, interpreter, world))
+    unless_next(try_items(plan, interpreter, world))
 }
 
 /// Runs the action of an item that comes before all records (POSIX awk, Patterns: BEGIN).
 fn begin_item<W: World>(
-    item: &Item,
+    plan: &Plan,
+    item: Item,
     interpreter: &mut Interpreter,
     world: &mut W,
 ) -> Result<(), Halt>
-    ensures { BeginsItem W.is_logged (item_of item.now) interpreter.old (W.state world.old) interpreter.new
+    ensures { BeginsItem W.is_logged (item_of plan.now item) interpreter.old (W.state world.old) interpreter.new
         (W.state world.new) result }
 {
     match item {
-        Item::Begin(block) => run_action(block, interpreter, world),
+        Item::Begin(block) => run_action(plan, block, interpreter, world),
         _ => Ok(()),
     }
 }
 
 /// Runs the actions that come before all records, in turn.
 fn begin_items<W: World>(
-    items: &[Item],
+    plan: &Plan,
     interpreter: &mut Interpreter,
     world: &mut W,
 ) -> Result<(), Halt>
-    ensures { BeginsAll W.is_logged (items_of items.now) interpreter.old (W.state world.old) interpreter.new
+    ensures { BeginsAll W.is_logged (items_of plan.now) interpreter.old (W.state world.old) interpreter.new
         (W.state world.new) result }
 {
+    let items = plan.items();
     for item in items {
-        begin_item(item, interpreter, world)?;
+        begin_item(plan, *item, interpreter, world)?;
     }
     Ok(())
 }
@@ -180,51 +189,51 @@ fn begin_items<W: World>(
 /// Reads the main records to their end, and tries the items on each (POSIX awk, Overall Program
 /// Structure).
 fn run_records<W: World>(
-    items: &[Item],
+    plan: &Plan,
     interpreter: &mut Interpreter,
     world: &mut W,
 ) -> Result<(), Halt>
     requires open { AreOpen (W.state world.old) interpreter.old.streams }
     requires sound { W.is_logged → IsSoundMain (W.state world.old).log interpreter.old.streams.main }
-    ensures { ReadsAll W.is_logged (items_of items.now) interpreter.old (W.state world.old) interpreter.new
+    ensures { ReadsAll W.is_logged (items_of plan.now) interpreter.old (W.state world.old) interpreter.new
         (W.state world.new) result }
 {
     while let Some(text) = interpreter.next_record(world)? {
         interpreter.spend()?;
         interpreter.begin_record(text)?;
-        try_until_next(items, interpreter, world)?;
+        try_until_next(plan, interpreter, world)?;
     }
     Ok(())
 }
 
 /// Whether records are read for an item.
 fn is_rule(item: &Item) -> bool
-    ensures { result ≡ is_rule (item_of item.now) }
+    ensures { (plan : _) → result ≡ is_rule (item_of plan item.now) }
 {
     !matches!(item, Item::Begin(_))
 }
 
-fn has_rule(items: &[Item]) -> bool
-    ensures { result ≡ has_rule (items_of items.now) }
+fn has_rule(plan: &Plan) -> bool
+    ensures { result ≡ has_rule (items_of plan.now) }
 {
-    items.iter().any(|item| is_rule(item))
+    plan.items().iter().any(|item| is_rule(item))
 }
 
 /// Runs the actions before all records, and then the items on the main records; where only BEGIN
 /// stands, none is read. (POSIX awk, Overall Program Structure)
 fn run_before_end<W: World>(
-    items: &[Item],
+    plan: &Plan,
     interpreter: &mut Interpreter,
     world: &mut W,
 ) -> Result<(), Halt>
     requires open { AreOpen (W.state world.old) interpreter.old.streams }
     requires sound { W.is_logged → IsSoundMain (W.state world.old).log interpreter.old.streams.main }
-    ensures { RunsBeforeEnd W.is_logged (items_of items.now) interpreter.old (W.state world.old) interpreter.new
+    ensures { RunsBeforeEnd W.is_logged (items_of plan.now) interpreter.old (W.state world.old) interpreter.new
         (W.state world.new) result }
 {
-    begin_items(items, interpreter, world)?;
-    if has_rule(items) {
-        run_records(items, interpreter, world)?;
+    begin_items(plan, interpreter, world)?;
+    if has_rule(plan) {
+        run_records(plan, interpreter, world)?;
     }
     Ok(())
 }
@@ -240,27 +249,33 @@ fn unless_exit(ended: Result<(), Halt>) -> Result<(), Halt>
 }
 
 /// Runs the action of an item that comes behind all records (POSIX awk, Patterns: END).
-fn end_item<W: World>(item: &Item, interpreter: &mut Interpreter, world: &mut W) -> Result<(), Halt>
-    ensures { EndsItem W.is_logged (item_of item.now) interpreter.old (W.state world.old) interpreter.new
+fn end_item<W: World>(
+    plan: &Plan,
+    item: Item,
+    interpreter: &mut Interpreter,
+    world: &mut W,
+) -> Result<(), Halt>
+    ensures { EndsItem W.is_logged (item_of plan.now item) interpreter.old (W.state world.old) interpreter.new
         (W.state world.new) result }
 {
     match item {
-        Item::End(block) => run_action(block, interpreter, world),
+        Item::End(block) => run_action(plan, block, interpreter, world),
         _ => Ok(()),
     }
 }
 
 /// Runs the actions that come behind all records, in turn.
 fn end_items<W: World>(
-    items: &[Item],
+    plan: &Plan,
     interpreter: &mut Interpreter,
     world: &mut W,
 ) -> Result<(), Halt>
-    ensures { EndsAll W.is_logged (items_of items.now) interpreter.old (W.state world.old) interpreter.new
+    ensures { EndsAll W.is_logged (items_of plan.now) interpreter.old (W.state world.old) interpreter.new
         (W.state world.new) result }
 {
+    let items = plan.items();
     for item in items {
-        end_item(item, interpreter, world)?;
+        end_item(plan, *item, interpreter, world)?;
     }
     Ok(())
 }
@@ -268,16 +283,16 @@ fn end_items<W: World>(
 /// Runs the items: those before the END actions until `exit`, and then these. (POSIX awk, Overall
 /// Program Structure; Actions)
 pub fn run_items<W: World>(
-    items: &[Item],
+    plan: &Plan,
     interpreter: &mut Interpreter,
     world: &mut W,
 ) -> Result<(), Halt>
     requires open { AreOpen (W.state world.old) interpreter.old.streams }
     requires sound { W.is_logged → IsSoundMain (W.state world.old).log interpreter.old.streams.main }
-    ensures { RunsItems W.is_logged (items_of items.now) interpreter.old (W.state world.old) interpreter.new
+    ensures { RunsItems W.is_logged (items_of plan.now) interpreter.old (W.state world.old) interpreter.new
         (W.state world.new) result }
 {
-    let before = run_before_end(items, interpreter, world);
+    let before = run_before_end(plan, interpreter, world);
     unless_exit(before)?;
-    end_items(items, interpreter, world)
+    end_items(plan, interpreter, world)
 }

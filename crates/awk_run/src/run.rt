@@ -3,7 +3,8 @@
 ghost use Rattle.std.specs.Prelude.{◌≡◌, ◌⊎◌, List, ℕ, map, IfOk, IfErr, OnErr};
 ghost use Rattle.awk_lex.specs.Refused.{IsOutOfMemory};
 ghost use Rattle.awk_tree.specs.Tree.{Item as ItemTree};
-ghost use Rattle.awk_tree.specs.View.{tree_of, items_of};
+ghost use Rattle.awk_tree.specs.View.{tree_of};
+ghost use Rattle.awk_plan.specs.Plan.{items_of};
 ghost use Rattle.awk_run.specs.definitions.Accepted.{Accepted, RefusedFor};
 ghost use Rattle.awk_run.specs.definitions.Start.{start_values, pair_of};
 ghost use Rattle.awk_meaning.specs.Meaning.{outcome_of};
@@ -19,10 +20,12 @@ use awk_interpreter::Interpreter;
 use awk_lex::lexer::tokens;
 use awk_lex::refusal::Refusal;
 use awk_meaning::{Fault, Halt, Outcome};
+use awk_plan::lower;
+use awk_plan::plan::Plan;
 use awk_resolve::resolve;
 use awk_streams::{StreamFault, Streams, World, some_oracle_is_consistent};
 use awk_syntax::parse::parse;
-use awk_tree::tree::{Item, Tree};
+use awk_tree::tree::Tree;
 use std::alloc::Global;
 
 /// How a run ended before its end, with the exit status that stands then. A `next` for which no
@@ -61,20 +64,21 @@ fn assign_all(assignments: &[Assignment], interpreter: &mut Interpreter) -> Resu
     Ok(())
 }
 
-/// Makes the assignments before a run, and runs the items.
+/// Gives the plan's names their places, makes the assignments before a run, and runs the items.
 fn assign_and_run<W: World>(
-    items: &[Item],
+    plan: &Plan,
     assignments: &[Assignment],
     interpreter: &mut Interpreter,
     world: &mut W,
 ) -> Result<(), Halt>
     requires open { AreOpen (W.state world.old) interpreter.old.streams }
     requires sound { W.is_logged → IsSoundMain (W.state world.old).log interpreter.old.streams.main }
-    ensures { AssignsAndRuns W.is_logged (items_of items.now) (map pair_of assignments.now) interpreter.old
+    ensures { AssignsAndRuns W.is_logged (items_of plan.now) (map pair_of assignments.now) interpreter.old
         (W.state world.old) interpreter.new (W.state world.new) result }
 {
+    interpreter.declare(plan.names())?;
     assign_all(assignments, interpreter)?;
-    run_items(items, interpreter, world)
+    run_items(plan, interpreter, world)
 }
 
 /// The end of a run that found no memory to begin.
@@ -89,12 +93,12 @@ fn end_without_streams<W: World>(alloc: Global, world: &mut W) -> Result<(), Str
 /// Structure).
 fn run_program<W: World>(
     alloc: Global,
-    items: &[Item],
+    plan: &Plan,
     start: &Start,
     limit: u64,
     world: &mut W,
 ) -> Outcome
-    ensures { RunsFrom W.is_logged (items_of items.now) (start_values start.now) limit (W.state world.old)
+    ensures { RunsFrom W.is_logged (items_of plan.now) (start_values start.now) limit (W.state world.old)
         (W.state world.new) result }
 {
     some_oracle_is_consistent();
@@ -102,7 +106,7 @@ fn run_program<W: World>(
         let _ = end_without_streams(alloc, world);
         return Outcome::Fault(Fault::OutOfMemory);
     };
-    let ended = assign_and_run(items, &start.pre, &mut interpreter, world);
+    let ended = assign_and_run(plan, &start.pre, &mut interpreter, world);
     let finished = interpreter.streams.finish(world);
     outcome_after(outcome_of(ended, interpreter.status), finished)
 }
@@ -134,7 +138,8 @@ pub fn execute<W: World>(
     ensures untouched { OnErr result (world.new ≡ world.old) }
 {
     let tree = read_program(alloc, text)?;
-    Ok(run_program(alloc, &tree.items, start, limit, world))
+    let plan = lower(alloc, &tree)?;
+    Ok(run_program(alloc, &plan, start, limit, world))
 }
 
 /// A text is at most one program.

@@ -1,5 +1,5 @@
 -- How the code's state and world stand for the state of the definitions, and what a part of the code does.
-use Rattle.std.specs.Prelude.{◌≡◌, ◌⊎◌, ℕ, pos, ◌≤◌, ◌<◌, Bool, true, false, List, [], ◌∷◌, ◌++◌, length, slice_get, unwrap_or, Option, Some, None, is_some, suc, Result, Ok, Err, OnOk}
+use Rattle.std.specs.Prelude.{◌≡◌, ◌⊎◌, ℕ, ℤ, pos, ◌≤◌, ◌<◌, Bool, true, false, List, [], ◌∷◌, ◌++◌, length, slice_get, unwrap_or, Option, Some, None, is_some, suc, Result, Ok, Err, OnOk}
 use Rattle.awk_world.specs.declared.world.InputKind.{InputKind}
 use Rattle.awk_streams.specs.declared.fault.StreamFault.{StreamFault}
 use Rattle.awk_streams.specs.WorldState.{WorldState}
@@ -12,7 +12,9 @@ use Rattle.awk_meaning.specs.declared.halt.Halt.{Halt}
 use Rattle.awk_meaning.specs.declared.halt.Halt.TheVariants as halt
 use Rattle.awk_meaning.specs.State.{Effect, State, Out, Run}
 use Rattle.awk_meaning.specs.Results.{Sort, WantOfMemory, FailedWrite, OfLanguage, sort_of}
-use Rattle.awk_meaning.specs.Primitives.{spend, open_main, close_main}
+use Rattle.awk_meaning.specs.Primitives.{spend, put, open_main, close_main}
+use Rattle.awk_meaning.specs.Semantics.{store}
+use Rattle.awk_value.specs.declared.value.Value.TheVariants.{Number}
 use Rattle.awk_meaning.specs.Inputs.{search_operands_within}
 use Rattle.awk_meaning.specs.Faults.{stream_fault}
 use Rattle.awk_meaning.specs.Meaning.{arguments_of, printed_to, outputs_after, requests_after}
@@ -94,6 +96,13 @@ pub record Changes {A : Type 0} (run : Run A) (old new : Interpreter) (r : Resul
   pub steps : new.steps ≤ old.steps
   pub streams : new.streams ≡ old.streams
   pub means : (k : WorldState) → SimulatesLogged old k new k r run
+
+-- a name gets a number, and has it then
+pub record PutsNumber (x : List ℕ) (n : Option ℤ) (old new : Interpreter) : Type 0 where
+  pub number : ℤ
+  pub is : n ≡ Some number
+  pub put : Changes (put x (Number number)) old new (Ok tt)
+  pub stored : Changes (store x (Number number)) old new (Ok (Number number))
 
 -- a step is spent, or there is none
 pub record Spends (old new : Interpreter) (r : Result (Unit {0}) Halt) : Type 0 where

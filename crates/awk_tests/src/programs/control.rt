@@ -96,6 +96,34 @@ $ BEGIN { do ; while (i++ < 2); print i }
 $ BEGIN { while (1) x = 1 / 0 }
 ! awk: fault 4: division by zero
 = 2
+numbers and other values in one loop, operators of any depth, and faults behind numbers
+$ BEGIN { x = "3x"; for (i = 0; i < 2; i++) x += i; print x; for (i = "1"; i < 3; i++) y = y i; print y, i }
+> 4
+> 12 3
+= 0
+$ BEGIN { s = 1; s = s + 2 * 3 - 7 % 4; t = ((s + 1) * (s - 1) - 2) * (s + (s - 1) * 2); u = 1 + 2 * (3 - 4 * (5 - 6 * (7 - 8))); print s, t, u }
+> 4 130 -81
+= 0
+$ BEGIN { for (i = 3; i >= 0; i--) print 6 / i }
+> 2
+> 3
+> 6
+! awk: fault 4: division by zero
+= 2
+$ BEGIN { n = 2 ^ 126 - 1 + 2 ^ 126; for (i = 0; i < 2; i++) { print n; n += i } n++ }
+> 170141183460469231731687303715884105727
+> 170141183460469231731687303715884105727
+! awk: fault 3: number out of range
+= 2
+$ -L5
+$ BEGIN { for (i = 0; i < 2; i++) s += i; print s }
+! awk: stopped: step limit reached
+= 3
+$ { n += NR; $0 == "b" ? m++ : m--; last = $0 } END { print n, m, last, x + 0, x "!" }
+< a
+< b
+> 3 0 b 0 !
+= 0
 "#;
 
 const ENDS: &str = r#"

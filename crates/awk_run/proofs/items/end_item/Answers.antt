@@ -1,10 +1,8 @@
-use Rattle.std.proofs.Common.{ap}
-use Rattle.awk_tree.specs.View.{item_of}
 use Rattle.awk_run.proofs.ItemLemmas.{end_runs, end_skips, no_end_of}
 use Rattle.awk_run.proofs.items.end_item.Goals as goal
 
 pub returns-in-End : goal.returns-in-End
-returns-in-End g c = rw (ap item_of c.in-End.is) (end_runs (rw c.deref.ensures.value at c.run_action.ensures))
+returns-in-End g c = rw c.in-End.is (end_runs c.run_action.ensures)
 
 pub returns-in_default : goal.returns-in_default
-returns-in_default g c = end_skips (no_end_of c.args.item.now c.in_default.not-End)
+returns-in_default g c = end_skips (no_end_of c.args.plan.now c.args.item c.in_default.not-End)

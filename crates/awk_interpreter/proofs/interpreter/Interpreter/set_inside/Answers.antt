@@ -1,4 +1,4 @@
-use Rattle.std.proofs.Common.{ap, ◌∙◌, ◌==◌, false, unwrap_or, slice_get, refl, arith}
+use Rattle.std.proofs.Common.{ap, ◌∙◌, ◌==◌, refl, arith}
 use Rattle.std.specs.Prelude.{if◌then◌else◌}
 use Rattle.std.proofs.lemmas.Result.{err_from_is_err_and}
 use Rattle.awk_interpreter.proofs.Composition.{memory_changes}

@@ -1,3 +1,0 @@
-mod Evaluation
-mod Loops
-mod Stores

@@ -1,3 +1,0 @@
-pub mod support
-pub use Rattle.awk_evaluator.specs.support.Evaluation
-pub use Rattle.awk_evaluator.specs.support.Loops

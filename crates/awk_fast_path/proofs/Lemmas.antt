@@ -1,0 +1,128 @@
+-- What evaluation gives where numbers are found in place.
+use Rattle.std.proofs.Common.{◌≡◌, ℤ, pos, Bool, true, false, List, ℕ, Option, Some, None, Result, Ok, refl, sym, ap, ◌∙◌, subst}
+use Rattle.awk_value.specs.declared.value.Value.{Value}
+use Rattle.awk_value.specs.declared.value.Value.TheVariants.{Number}
+use Rattle.awk_lex.specs.declared.token.IncrementOperator.{IncrementOperator}
+use Rattle.awk_tree.specs.Tree as t
+use Rattle.awk_tree.specs.declared.tree.BinaryOperator.{BinaryOperator}
+use Rattle.awk_meaning.specs.declared.halt.Halt.{Halt}
+use Rattle.awk_meaning.specs.Operators.{applied, by_one, one, takes_pattern}
+use Rattle.awk_meaning.specs.State.{lift}
+use Rattle.awk_meaning.specs.Primitives.{read_name, put}
+use Rattle.awk_meaning.specs.Semantics.{right_operand, store, store_by, post_increment, eval}
+use Rattle.awk_interpreter.specs.declared.interpreter.Interpreter.{Interpreter}
+use Rattle.awk_interpreter.specs.Simulation.{Changes}
+use Rattle.awk_interpreter.proofs.Composition.{then_changes, lift_changes}
+use Rattle.std.specs.Prelude.{IfSome, OnSome}
+use Rattle.std.specs.Option.{option_map}
+use Rattle.awk_value.specs.Values.{truth_of}
+use Rattle.awk_plan.specs.Plan.{literal_of}
+use Rattle.awk_interpreter.specs.Simulation.{PutsNumber}
+use Rattle.awk_fast_path.specs.support.Found.{Finds, Joins, Tests, Evaluates}
+
+-- a result that is known
+known : (v : Value) (m : Interpreter) {r : Result Value Halt} → r ≡ Ok v → Changes (lift r) m m (Ok v)
+known v m is = subst (λ x. Changes (lift x) m m (Ok v)) (sym is) (lift_changes (Ok v) m refl)
+
+number_found : (n : ℤ) (m : Interpreter) → Changes (eval (t.Number n)) m m (Ok (Number n))
+unfolding eval
+number_found n m = lift_changes (Ok (Number n)) m refl
+
+name_found : (x : List ℕ) {m m' : Interpreter} {r : Result Value Halt} → Changes (read_name x) m m' r → Changes (eval (t.Name x)) m m' r
+unfolding eval
+name_found x p = p
+
+plain_operand : (takes : Bool) (b : t.Expr) {m : Interpreter} {v : Value} → takes ≡ false → Changes (eval b) m m (Ok v) → Changes (right_operand takes b (eval b)) m m (Ok v)
+plain_operand false b is p = p
+plain_operand true b is p = cc
+
+joined_by : (o : BinaryOperator) (a b : t.Expr) (x y n : ℤ) {m : Interpreter} → takes_pattern o ≡ false → Changes (eval a) m m (Ok (Number x)) → Changes (eval b) m m (Ok (Number y)) → applied o (Number x) (Number y) ≡ Ok (Number n) → Changes (eval (t.Binary o a b)) m m (Ok (Number n))
+unfolding eval
+joined_by o a b x y n {m = m} plain p q is = then_changes _ p (then_changes _ (plain_operand (takes_pattern o) b plain q) (known (Number n) m is))
+
+assigned : (x : List ℕ) (e : t.Expr) (n : ℤ) {m m' : Interpreter} → Changes (eval e) m m (Ok (Number n)) → Changes (store x (Number n)) m m' (Ok (Number n)) → Evaluates (t.Assign x e) m m'
+unfolding eval
+assigned x e n p q = record { value = Number n; changes = all p q }
+  where
+    all : {m m' : Interpreter} → Changes (eval e) m m (Ok (Number n)) → Changes (store x (Number n)) m m' (Ok (Number n)) → Changes (eval (t.Assign x e)) m m' (Ok (Number n))
+    all p q = then_changes _ p q
+
+stored_by : (o : BinaryOperator) (x : List ℕ) (v : Value) (old n : ℤ) {m m' : Interpreter} → Changes (read_name x) m m (Ok (Number old)) → applied o (Number old) v ≡ Ok (Number n) → Changes (store x (Number n)) m m' (Ok (Number n)) → Changes (store_by o x v) m m' (Ok (Number n))
+unfolding store_by
+stored_by o x v old n {m = m} r is q = then_changes _ r (then_changes _ (known (Number n) m is) q)
+
+assigned_by : (o : BinaryOperator) (x : List ℕ) (e : t.Expr) (y old n : ℤ) {m m' : Interpreter} → Changes (eval e) m m (Ok (Number y)) → Changes (read_name x) m m (Ok (Number old)) → applied o (Number old) (Number y) ≡ Ok (Number n) → Changes (store x (Number n)) m m' (Ok (Number n)) → Evaluates (t.AssignBy o x e) m m'
+unfolding eval
+assigned_by o x e y old n p r is q = record { value = Number n; changes = all p (stored_by o x (Number y) old n r is q) }
+  where
+    all : {m m' : Interpreter} → Changes (eval e) m m (Ok (Number y)) → Changes (store_by o x (Number y)) m m' (Ok (Number n)) → Changes (eval (t.AssignBy o x e)) m m' (Ok (Number n))
+    all p q = then_changes _ p q
+
+incremented_before : (o : IncrementOperator) (x : List ℕ) (old n : ℤ) {m m' : Interpreter} → Changes (read_name x) m m (Ok (Number old)) → applied (by_one o) (Number old) one ≡ Ok (Number n) → Changes (store x (Number n)) m m' (Ok (Number n)) → Evaluates (t.PreIncrement o x) m m'
+unfolding eval
+incremented_before o x old n r is q = record { value = Number n; changes = all (stored_by (by_one o) x one old n r is q) }
+  where
+    all : {m m' : Interpreter} → Changes (store_by (by_one o) x one) m m' (Ok (Number n)) → Changes (eval (t.PreIncrement o x)) m m' (Ok (Number n))
+    all p = p
+
+incremented_behind : (o : IncrementOperator) (x : List ℕ) (old n : ℤ) {m m' : Interpreter} → Changes (read_name x) m m (Ok (Number old)) → applied (by_one o) (Number old) one ≡ Ok (Number n) → Changes (put x (Number n)) m m' (Ok tt) → Evaluates (t.PostIncrement o x) m m'
+unfolding eval post_increment
+incremented_behind o x old n {m = m} {m' = m'} r is q = record { value = Number old; changes = all }
+  where
+    all : Changes (eval (t.PostIncrement o x)) m m' (Ok (Number old))
+    all = then_changes _ r (then_changes _ (known (Number old) m refl) (then_changes _ (known (Number n) m is) (then_changes _ q (lift_changes (Ok (Number old)) m' refl))))
+
+-- the same, of numbers that may be there
+
+same_result : {r s : Result Value Halt} → Some r ≡ Some s → r ≡ s
+same_result e = cc
+
+same_number : {m n : ℤ} → Some m ≡ Some n → m ≡ n
+same_number e = cc
+
+none_made : {A : Type 0} {r : A} → None ≡ Some r → ⊥
+none_made e = cc
+
+pub named_finds : (x y : List ℕ) (m : Interpreter) (r : Option ℤ) → y ≡ x → IfSome r (λ n. Changes (read_name y) m m (Ok (Number n))) → Finds (t.Name x) m r
+named_finds x y m (Some n) is p = name_found x (subst (λ z. Changes (read_name z) m m (Ok (Number n))) is p)
+named_finds x y m None is p = tt
+
+pub literal_finds : (e : t.Expr) (v : Value) (m : Interpreter) (r : Option ℤ) → e ≡ literal_of v → IfSome r (λ n. v ≡ Number n) → Finds e m r
+literal_finds e v m (Some n) is p = subst (λ x. Changes (eval x) m m (Ok (Number n))) (sym (is ∙ ap literal_of p)) (number_found n m)
+literal_finds e v m None is p = tt
+
+pub joined_finds : (o : BinaryOperator) (a b : t.Expr) (x y r : Option ℤ) (m : Interpreter) → Joins o x y r → Finds a m x → Finds b m y → Finds (t.Binary o a b) m r
+joined_finds o a b (Some x) (Some y) (Some n) m j p q = joined_by o a b x y n j.1 p q (same_result j.0)
+joined_finds o a b (Some x) None (Some n) m j p q = absurd (none_made j.0)
+joined_finds o a b None (Some y) (Some n) m j p q = absurd (none_made j.0)
+joined_finds o a b None None (Some n) m j p q = absurd (none_made j.0)
+joined_finds o a b x y None m j p q = tt
+
+pub found_tests : (e : t.Expr) (m : Interpreter) (r : Option ℤ) → Finds e m r → IfSome (option_map (λ n. truth_of (Number n)) r) (λ b. Tests e m b)
+found_tests e m (Some n) p = record { value = Number n; changes = p; truth = refl }
+found_tests e m None p = tt
+
+pub found_assigned : (x : List ℕ) (e : t.Expr) {m m' : Interpreter} (r : Option ℤ) → Finds e m r → PutsNumber x r m m' → Evaluates (t.Assign x e) m m'
+found_assigned x e {m = m} (Some n) p w = assigned x e w.number (subst (λ i. Changes (eval e) m m (Ok (Number i))) (same_number w.is) p) w.stored
+found_assigned x e None p w = absurd (none_made w.is)
+
+pub found_assigned_by : (o : BinaryOperator) (x : List ℕ) (e : t.Expr) {m m' : Interpreter} (y old r : Option ℤ) → Finds e m y → IfSome old (λ n. Changes (read_name x) m m (Ok (Number n))) → Joins o old y r → PutsNumber x r m m' → Evaluates (t.AssignBy o x e) m m'
+found_assigned_by o x e (Some y) (Some old) (Some n) p q j w = assigned_by o x e y old w.number p q (same_result j.0 ∙ ap (λ i. Ok (Number i)) (same_number w.is)) w.stored
+found_assigned_by o x e None (Some old) (Some n) p q j w = absurd (none_made j.0)
+found_assigned_by o x e (Some y) None (Some n) p q j w = absurd (none_made j.0)
+found_assigned_by o x e None None (Some n) p q j w = absurd (none_made j.0)
+found_assigned_by o x e y old None p q j w = absurd (none_made w.is)
+
+pub found_before : (o : IncrementOperator) (x : List ℕ) {m m' : Interpreter} (old r : Option ℤ) → IfSome old (λ n. Changes (read_name x) m m (Ok (Number n))) → Joins (by_one o) old (Some (pos 1)) r → PutsNumber x r m m' → Evaluates (t.PreIncrement o x) m m'
+found_before o x (Some old) (Some n) q j w = incremented_before o x old w.number q (same_result j.0 ∙ ap (λ i. Ok (Number i)) (same_number w.is)) w.stored
+found_before o x None (Some n) q j w = absurd (none_made j.0)
+found_before o x old None q j w = absurd (none_made w.is)
+
+pub found_behind : (o : IncrementOperator) (x : List ℕ) {m m' : Interpreter} (old r : Option ℤ) → IfSome old (λ n. Changes (read_name x) m m (Ok (Number n))) → Joins (by_one o) old (Some (pos 1)) r → PutsNumber x r m m' → Evaluates (t.PostIncrement o x) m m'
+found_behind o x (Some old) (Some n) q j w = incremented_behind o x old w.number q (same_result j.0 ∙ ap (λ i. Ok (Number i)) (same_number w.is)) w.put
+found_behind o x None (Some n) q j w = absurd (none_made j.0)
+found_behind o x old None q j w = absurd (none_made w.is)
+
+pub numbers_join : (o : BinaryOperator) (i j : ℤ) (r : Option ℤ) → IfSome r (λ n. applied o (Number i) (Number j) ≡ Ok (Number n)) → OnSome r (takes_pattern o ≡ false) → Joins o (Some i) (Some j) r
+numbers_join o i j (Some n) p q = (ap Some p, q)
+numbers_join o i j None p q = tt

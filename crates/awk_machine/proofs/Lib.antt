@@ -1,0 +1,15 @@
+mod Laws
+mod Moves
+mod ExprMoves
+mod StatementMoves
+mod PrintMoves
+mod LoopMoves
+mod Steps
+mod Leaves
+mod Stores
+mod LeafMoves
+mod OperandMoves
+mod KeptValues
+mod Resuming
+mod Walking
+mod InPlace

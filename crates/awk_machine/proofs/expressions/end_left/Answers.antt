@@ -1,0 +1,19 @@
+use Rattle.std.proofs.Common.{refl, arith}
+use Rattle.std.proofs.lemmas.Result.{err_from_is_err_and}
+use Rattle.awk_machine.proofs.ExprMoves.{pattern_gives, pattern_stops}
+use Rattle.awk_machine.proofs.Steps.{onward, halts}
+use Rattle.awk_machine.proofs.expressions.end_left.Goals as goal
+
+pub returns-in_err-value-in-Some : goal.returns-in_err-value-in-Some
+returns-in_err-value-in-Some c =
+    let p = err_from_is_err_and c.from_residual.result c.from_residual.ensures.1 in
+    let q = c.in_err-value-in-Some.ensures in
+    rw (p.1, p.2, c.in-Some.ensures.1) (halts (λ k. pattern_stops _ _ _ c.in-Some.ensures.0 q) q.steps q.streams)
+
+pub returns-in_ok-value-in-Some : goal.returns-in_ok-value-in-Some
+returns-in_ok-value-in-Some c =
+    let q = c.in_ok-value-in-Some.ensures in
+    rw (c.in-Some.ensures.1, c.returned.ensures) (onward refl (λ k. pattern_gives _ _ _ c.in-Some.ensures.0 q) (omega arith) q.steps q.streams)
+
+pub returns-in-None : goal.returns-in-None
+returns-in-None c = c.begin_right.ensures c.in-None.ensures

@@ -1,0 +1,12 @@
+use Rattle.awk_machine.specs.support.Stack.{work}
+use Rattle.awk_machine.specs.support.Moves.{stack_of, focus_of}
+use Rattle.awk_machine.proofs.Walking.{Walking}
+use Rattle.awk_machine.proofs.machine.walk.Given as goal
+
+abbrev pub invariant-moves : goal.invariant-moves
+invariant-moves g l =
+    let state = g.W.World.state in
+    Walking g.W.World.is_logged (focus_of l.plan l.fn.focus) (stack_of l.plan l.fn.stack) l.fn.interpreter (state l.fn.world) (focus_of l.plan l.place) (stack_of l.plan l.stack) l.interpreter (state l.world)
+
+abbrev pub decreases-moves : goal.decreases-moves
+decreases-moves g l = work (focus_of l.plan l.place) (stack_of l.plan l.stack)

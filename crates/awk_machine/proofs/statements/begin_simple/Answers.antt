@@ -1,0 +1,58 @@
+use Rattle.std.proofs.Common.{refl}
+use Rattle.std.proofs.lemmas.Result.{err_from_is_err_and}
+use Rattle.awk_machine.proofs.StatementMoves.{exit_begins, exit_stops, exit_halts, next_stops, next_halts, break_stops, break_ends, continue_stops, continue_ends}
+use Rattle.awk_machine.proofs.Steps.{halts, paid, spent_for, stepped}
+use Rattle.awk_machine.proofs.statements.begin_simple.Goals as goal
+
+pub returns-in-Print : goal.returns-in-Print
+returns-in-Print g c = rw c.in-Print.is c.begin_print.ensures
+
+pub returns-in-Evaluate : goal.returns-in-Evaluate
+returns-in-Evaluate g c = rw c.in-Evaluate.is (stepped _ c.begin_evaluate.ensures)
+
+pub returns-in-ExitWith : goal.returns-in-ExitWith
+returns-in-ExitWith g c = rw c.in-ExitWith.is (stepped _ (spent_for _ c.spend_for.ensures refl (λ p k. exit_begins _ p) (λ h p k. exit_stops _ p)))
+
+pub returns-in_err-spend-in-Next : goal.returns-in_err-spend-in-Next
+returns-in_err-spend-in-Next g c =
+    let p = err_from_is_err_and c.from_residual.result c.from_residual.ensures.1 in
+    let q = c.in_err-spend-in-Next.ensures in
+    rw (p.1, p.2, c.in-Next.is) (stepped _ (halts (λ k. next_stops q) q.simulates.steps q.simulates.streams))
+
+pub returns-in_ok-spend-in-Next : goal.returns-in_ok-spend-in-Next
+returns-in_ok-spend-in-Next g c =
+    let q = c.in_ok-spend-in-Next.ensures in
+    rw c.in-Next.is (stepped _ (halts (λ k. next_halts q) q.simulates.steps q.simulates.streams))
+
+pub returns-in_err-spend-in-Exit : goal.returns-in_err-spend-in-Exit
+returns-in_err-spend-in-Exit g c =
+    let p = err_from_is_err_and c.from_residual-in_err-spend-in-Exit.result c.from_residual-in_err-spend-in-Exit.ensures.1 in
+    let q = c.in_err-spend-in-Exit.ensures in
+    rw (p.1, p.2, c.in-Exit.is) (stepped _ (halts (λ k. exit_stops _ q) q.simulates.steps q.simulates.streams))
+
+pub returns-in_ok-spend-in-Exit : goal.returns-in_ok-spend-in-Exit
+returns-in_ok-spend-in-Exit g c =
+    let q = c.in_ok-spend-in-Exit.ensures in
+    rw c.in-Exit.is (stepped _ (halts (λ k. exit_halts q) q.simulates.steps q.simulates.streams))
+
+pub returns-in_err-spend-in-Break : goal.returns-in_err-spend-in-Break
+returns-in_err-spend-in-Break g c =
+    let p = err_from_is_err_and c.from_residual-in_err-spend-in-Break.result c.from_residual-in_err-spend-in-Break.ensures.1 in
+    let q = c.in_err-spend-in-Break.ensures in
+    rw (p.1, p.2, c.in-Break.is) (stepped _ (halts (λ k. break_stops q) q.simulates.steps q.simulates.streams))
+
+pub returns-in_ok-spend-in-Break : goal.returns-in_ok-spend-in-Break
+returns-in_ok-spend-in-Break g c =
+    let q = c.in_ok-spend-in-Break.ensures in
+    rw c.in-Break.is (stepped _ (paid refl (λ k. break_ends q) q.falls q.simulates.streams))
+
+pub returns-in_err-spend-in-Continue : goal.returns-in_err-spend-in-Continue
+returns-in_err-spend-in-Continue g c =
+    let p = err_from_is_err_and c.from_residual-in_err-spend-in-Continue.result c.from_residual-in_err-spend-in-Continue.ensures.1 in
+    let q = c.in_err-spend-in-Continue.ensures in
+    rw (p.1, p.2, c.in-Continue.is) (stepped _ (halts (λ k. continue_stops q) q.simulates.steps q.simulates.streams))
+
+pub returns-in_ok-spend-in-Continue : goal.returns-in_ok-spend-in-Continue
+returns-in_ok-spend-in-Continue g c =
+    let q = c.in_ok-spend-in-Continue.ensures in
+    rw c.in-Continue.is (stepped _ (paid refl (λ k. continue_ends q) q.falls q.simulates.streams))

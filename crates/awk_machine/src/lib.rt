@@ -1,0 +1,14 @@
+//! The evaluator: expressions and statements of a plan, over the state of a run and a world.
+#![tactic(auto)]
+
+mod assignments;
+mod expressions;
+mod loops;
+mod machine;
+mod nodes;
+mod prints;
+pub mod stack;
+mod statements;
+
+pub use machine::{holds, run_action};
+pub use prints::print_record;

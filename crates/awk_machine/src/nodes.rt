@@ -1,0 +1,124 @@
+// The nodes of a plan, each by its sort, and its leaves. A place of another sort stands for what is least: 0, the empty list, no
+// statement.
+
+ghost use Rattle.std.specs.Prelude.{◌≡◌, option_map};
+ghost use Rattle.awk_plan.specs.Plan.{part_of, operand_of, name_at};
+ghost use Rattle.awk_plan.specs.declared.node.Operand.TheVariants.{Constant, Variable};
+ghost use Rattle.awk_tree.specs.Tree.{Ere as Pattern};
+ghost use Rattle.awk_meaning.specs.Operators.{takes_pattern};
+ghost use Rattle.awk_meaning.specs.Semantics.{eval};
+ghost use Rattle.awk_interpreter.specs.Simulation.{Changes};
+ghost use Rattle.awk_machine.specs.support.Nodes.{IsExpression, IsList, IsSimple, IsBlock, IsPatternOperand};
+
+use awk_interpreter::Interpreter;
+use awk_meaning::Halt;
+use awk_operators::takes_pattern;
+use awk_plan::node::{BlockNode, ExprNode, ListNode, Node, Operand, SimpleNode};
+use awk_plan::plan::Plan;
+use awk_tree::tree::{BinaryOperator, Ere};
+use awk_value::Value;
+
+/// The expression at a place.
+pub(crate) fn expression(plan: &Plan, place: u32) -> Option<ExprNode>
+    ensures { IsExpression plan.now place result }
+{
+    match plan.node(place) {
+        Some(Node::Expression(node)) => Some(node),
+        Some(Node::List(_)) => None,
+        Some(Node::Simple(_)) => None,
+        Some(Node::Statement(_)) => None,
+        Some(Node::Block(_)) => None,
+        Some(Node::Absent) => None,
+        None => None,
+    }
+}
+
+/// The list of expressions at a place.
+pub(crate) fn list(plan: &Plan, place: u32) -> ListNode
+    ensures { IsList plan.now place result }
+{
+    match plan.node(place) {
+        Some(Node::List(node)) => node,
+        Some(Node::Expression(_)) => ListNode::Nil,
+        Some(Node::Simple(_)) => ListNode::Nil,
+        Some(Node::Statement(_)) => ListNode::Nil,
+        Some(Node::Block(_)) => ListNode::Nil,
+        Some(Node::Absent) => ListNode::Nil,
+        None => ListNode::Nil,
+    }
+}
+
+/// The statements at a place.
+pub(crate) fn block(plan: &Plan, place: u32) -> BlockNode
+    ensures { IsBlock plan.now place result }
+{
+    match plan.node(place) {
+        Some(Node::Block(node)) => node,
+        Some(Node::Expression(_)) => BlockNode::NoMore,
+        Some(Node::List(_)) => BlockNode::NoMore,
+        Some(Node::Simple(_)) => BlockNode::NoMore,
+        Some(Node::Statement(_)) => BlockNode::NoMore,
+        Some(Node::Absent) => BlockNode::NoMore,
+        None => BlockNode::NoMore,
+    }
+}
+
+/// The simple statement at a place, if one stands there.
+pub(crate) fn simple(plan: &Plan, place: u32) -> Option<SimpleNode>
+    ensures { IsSimple plan.now place result }
+{
+    match plan.node(place) {
+        Some(Node::Simple(node)) => Some(node),
+        Some(Node::Expression(_)) => None,
+        Some(Node::List(_)) => None,
+        Some(Node::Statement(_)) => None,
+        Some(Node::Block(_)) => None,
+        Some(Node::Absent) => None,
+        None => None,
+    }
+}
+
+/// The value of a constant.
+pub(crate) fn constant(plan: &Plan, number: u32) -> Result<Value, Halt>
+    ensures { (m : _) → Changes (eval (operand_of plan.now (Constant number))) m m result }
+{
+    match plan.constant(number) {
+        Some(value) => Ok(value.clone()?),
+        None => Ok(Value::Number(0)),
+    }
+}
+
+/// The name of a variable.
+pub(crate) fn name(plan: &Plan, number: u32) -> &[u8]
+    ensures { result.now ≡ name_at plan.now.tables number }
+{
+    match plan.names().get(number) {
+        Some(name) => name,
+        None => b"",
+    }
+}
+
+/// The pattern that stands right of an operator which takes one.
+pub(crate) fn pattern_operand(plan: &Plan, operator: BinaryOperator, e: Operand) -> Option<&Ere>
+    ensures { IsPatternOperand (takes_pattern operator) (operand_of plan.now e) (option_map (λ ere. ere.now.text) result) }
+{
+    let Operand::Node(place) = e else {
+        return None;
+    };
+    let Some(ExprNode::Ere(number)) = expression(plan, place) else {
+        return None;
+    };
+    if takes_pattern(operator) {
+        Some(plan.ere(number))
+    } else {
+        None
+    }
+}
+
+/// Whether the record has a match of a pattern that stands in the program, as 1 or 0.
+pub(crate) fn record_matches(ere: &Ere, interpreter: &mut Interpreter) -> Result<Value, Halt>
+    ensures { Changes (eval (Pattern ere.now.text)) interpreter.old interpreter.new result }
+{
+    let record = interpreter.record_text()?;
+    interpreter.apply_ere(BinaryOperator::Matches, &record, ere)
+}

@@ -1,0 +1,89 @@
+// The moves of prints.
+
+ghost use Rattle.awk_plan.specs.Plan.{part_of, exprs_in};
+ghost use Rattle.awk_tree.specs.Tree.{Simple, Print, Nil};
+ghost use Rattle.awk_meaning.specs.Semantics.{print};
+ghost use Rattle.awk_interpreter.specs.Simulation.{Follows};
+ghost use Rattle.awk_machine.specs.support.Stack.{BeginStatement, Ended};
+ghost use Rattle.awk_machine.specs.support.Moves.{Moves, stack_of, topped};
+
+use crate::expressions::await_value;
+use crate::nodes::list;
+use crate::stack::{Entry, Focus, Move, Stack, StatementEntry};
+use crate::statements::spend_for;
+use awk_interpreter::Interpreter;
+use awk_meaning::{Fault, Flow, Halt};
+use awk_plan::node::ListNode;
+use awk_plan::plan::Plan;
+use awk_streams::World;
+use awk_value::Value;
+
+/// Prints the record (POSIX awk, Output Statements).
+pub fn print_record<W: World>(interpreter: &mut Interpreter, world: &mut W) -> Result<(), Halt>
+    ensures { Follows W.is_logged (print Nil) interpreter.old (W.state world.old) interpreter.new
+        (W.state world.new) result }
+{
+    interpreter.spend()?;
+    let text = interpreter.record_text()?;
+    let values = vec![in interpreter.alloc; text]?;
+    interpreter.print_line(world, &values)
+}
+
+/// Begins a print: the record is printed at once, and a list is evaluated first.
+pub(crate) fn begin_print<W: World>(
+    plan: &Plan,
+    place: u32,
+    stack: &mut Stack,
+    interpreter: &mut Interpreter,
+    world: &mut W,
+) -> Result<Move, Halt>
+    ensures { Moves W.is_logged plan.now (BeginStatement (Simple (Print (exprs_in (part_of plan.now place)))))
+        (stack_of plan.now stack.old) interpreter.old (W.state world.old) result (stack_of plan.now stack.new)
+        interpreter.new (W.state world.new) }
+{
+    match list(plan, place) {
+        ListNode::Nil => {
+            print_record(interpreter, world)?;
+            Ok(Move::On(Focus::Ended(Flow::Normal)))
+        }
+        ListNode::Cons(e, rest) => {
+            let entry = Entry::Statement(StatementEntry::Printed(rest, 0));
+            spend_for(entry, e, stack, interpreter)
+        }
+    }
+}
+
+/// Goes on behind an expression of a print: evaluates the next one, or prints the line.
+pub(crate) fn end_printed<W: World>(
+    plan: &Plan,
+    rest: u32,
+    count: usize,
+    value: Value,
+    stack: &mut Stack,
+    interpreter: &mut Interpreter,
+    world: &mut W,
+) -> Result<Move, Halt>
+    ensures { Moves W.is_logged plan.now (Ended (Flow.Return value)) (topped plan.now
+        (Entry.Statement (StatementEntry.Printed rest count)) stack.old) interpreter.old (W.state world.old) result
+        (stack_of plan.now stack.new) interpreter.new (W.state world.new) }
+{
+    let Some(count) = count.checked_add(1) else {
+        return Err(Halt::Fault(Fault::OutOfMemory));
+    };
+    stack.values.push(value)?;
+    match list(plan, rest) {
+        ListNode::Nil => {
+            let from = stack.values.len().saturating_sub(count);
+            interpreter.print_line(world, &stack.values[from..])?;
+            stack.values.truncate(from);
+            Ok(Move::On(Focus::Ended(Flow::Normal)))
+        }
+        ListNode::Cons(e, rest) => {
+            await_value(
+                Entry::Statement(StatementEntry::Printed(rest, count)),
+                e,
+                stack,
+            )
+        }
+    }
+}
