@@ -6,10 +6,11 @@ use Rattle.awk_lex.specs.declared.token.IncrementOperator.{IncrementOperator}
 use Rattle.awk_tree.specs.Tree as t
 use Rattle.awk_tree.specs.declared.tree.BinaryOperator.{BinaryOperator}
 use Rattle.awk_meaning.specs.declared.halt.Halt.{Halt}
-use Rattle.awk_meaning.specs.Operators.{applied, by_one, one, takes_pattern}
-use Rattle.awk_meaning.specs.State.{lift}
+use Rattle.awk_tree.specs.declared.tree.UnaryOperator.{UnaryOperator}
+use Rattle.awk_meaning.specs.Operators.{applied, changed, truth_value, by_one, one, takes_pattern}
+use Rattle.awk_meaning.specs.State.{◌>>=◌, lift, ret}
 use Rattle.awk_meaning.specs.Primitives.{read_name, put}
-use Rattle.awk_meaning.specs.Semantics.{right_operand, store, store_by, post_increment, eval}
+use Rattle.awk_meaning.specs.Semantics.{right_operand, tested, store, store_by, post_increment, eval}
 use Rattle.awk_interpreter.specs.declared.interpreter.Interpreter.{Interpreter}
 use Rattle.awk_interpreter.specs.Simulation.{Changes}
 use Rattle.awk_interpreter.proofs.Composition.{then_changes, lift_changes}
@@ -18,7 +19,7 @@ use Rattle.std.specs.Option.{option_map}
 use Rattle.awk_value.specs.Values.{truth_of}
 use Rattle.awk_plan.specs.Plan.{literal_of}
 use Rattle.awk_interpreter.specs.Simulation.{PutsNumber}
-use Rattle.awk_fast_path.specs.support.Found.{Finds, Joins, Tests, Evaluates}
+use Rattle.awk_fast_path.specs.support.Found.{Finds, Joins, IsChanged, Tests, Evaluates}
 
 -- a result that is known
 known : (v : Value) (m : Interpreter) {r : Result Value Halt} → r ≡ Ok v → Changes (lift r) m m (Ok v)
@@ -126,3 +127,68 @@ found_behind o x old None q j w = absurd (none_made w.is)
 pub numbers_join : (o : BinaryOperator) (i j : ℤ) (r : Option ℤ) → IfSome r (λ n. applied o (Number i) (Number j) ≡ Ok (Number n)) → OnSome r (takes_pattern o ≡ false) → Joins o (Some i) (Some j) r
 numbers_join o i j (Some n) p q = (ap Some p, q)
 numbers_join o i j None p q = tt
+
+-- operators that choose
+
+pub tests_tested : (e : t.Expr) {m : Interpreter} {b : Bool} → Tests e m b → Changes (tested (eval e)) m m (Ok b)
+unfolding tested
+tests_tested e {m = m} {b = b} p = subst (λ x. Changes (eval e >>= λ v. ret (truth_of v)) m m (Ok x)) p.truth (then_changes _ p.changes (lift_changes (Ok (truth_of p.value)) m refl))
+
+module _ (a b : t.Expr) {m : Interpreter} where
+  pub and_false : Tests a m false → Changes (eval (t.And a b)) m m (Ok (truth_value false))
+  unfolding eval
+  and_false p = then_changes _ (tests_tested a p) (then_changes _ (lift_changes (Ok false) m refl) (lift_changes (Ok (truth_value false)) m refl))
+
+  pub and_true : {x : Bool} → Tests a m true → Tests b m x → Changes (eval (t.And a b)) m m (Ok (truth_value x))
+  unfolding eval
+  and_true {x = x} p q = then_changes _ (tests_tested a p) (then_changes _ (tests_tested b q) (lift_changes (Ok (truth_value x)) m refl))
+
+  pub or_true : Tests a m true → Changes (eval (t.Or a b)) m m (Ok (truth_value true))
+  unfolding eval
+  or_true p = then_changes _ (tests_tested a p) (then_changes _ (lift_changes (Ok true) m refl) (lift_changes (Ok (truth_value true)) m refl))
+
+  pub or_false : {x : Bool} → Tests a m false → Tests b m x → Changes (eval (t.Or a b)) m m (Ok (truth_value x))
+  unfolding eval
+  or_false {x = x} p q = then_changes _ (tests_tested a p) (then_changes _ (tests_tested b q) (lift_changes (Ok (truth_value x)) m refl))
+
+same_truth : {v w : Value} → Some v ≡ Some w → v ≡ w
+same_truth e = cc
+
+no_truth : {v : Value} → Some v ≡ None → ⊥
+no_truth e = cc
+
+pub and_finds : (a b : t.Expr) {m : Interpreter} (r : Option Bool) (n : Option ℤ) → Tests a m true → IfSome r (λ x. Tests b m x) → option_map (λ i. Number i) n ≡ option_map (λ x. truth_value x) r → Finds (t.And a b) m n
+and_finds a b {m} (Some x) (Some n) p q is = subst (λ v. Changes (eval (t.And a b)) m m (Ok v)) (sym (same_truth is)) (and_true a b p q)
+and_finds a b None (Some n) p q is = absurd (no_truth is)
+and_finds a b r None p q is = tt
+
+pub or_finds : (a b : t.Expr) {m : Interpreter} (r : Option Bool) (n : Option ℤ) → Tests a m false → IfSome r (λ x. Tests b m x) → option_map (λ i. Number i) n ≡ option_map (λ x. truth_value x) r → Finds (t.Or a b) m n
+or_finds a b {m} (Some x) (Some n) p q is = subst (λ v. Changes (eval (t.Or a b)) m m (Ok v)) (sym (same_truth is)) (or_false a b p q)
+or_finds a b None (Some n) p q is = absurd (no_truth is)
+or_finds a b r None p q is = tt
+
+pub chosen_first : (c a b : t.Expr) {m : Interpreter} (r : Option ℤ) → Tests c m true → Finds a m r → Finds (t.Conditional c a b) m r
+unfolding eval
+chosen_first c a b (Some n) p q = then_changes _ (tests_tested c p) q
+chosen_first c a b None p q = tt
+
+pub chosen_second : (c a b : t.Expr) {m : Interpreter} (r : Option ℤ) → Tests c m false → Finds b m r → Finds (t.Conditional c a b) m r
+unfolding eval
+chosen_second c a b (Some n) p q = then_changes _ (tests_tested c p) q
+chosen_second c a b None p q = tt
+
+-- groups, and an operator before an expression
+
+pub group_finds : (e : t.Expr) (m : Interpreter) (r : Option ℤ) → Finds e m r → Finds (t.Group e) m r
+unfolding eval
+group_finds e m (Some n) p = p
+group_finds e m None p = tt
+
+changed_finds_at : (o : UnaryOperator) (e : t.Expr) (x n : ℤ) (m : Interpreter) → Changes (eval e) m m (Ok (Number x)) → changed o (Number x) ≡ Ok (Number n) → Changes (eval (t.Unary o e)) m m (Ok (Number n))
+unfolding eval
+changed_finds_at o e x n m p is = then_changes _ p (known (Number n) m is)
+
+pub changed_finds : (o : UnaryOperator) (e : t.Expr) (x r : Option ℤ) (m : Interpreter) → IsChanged o x r → Finds e m x → Finds (t.Unary o e) m r
+changed_finds o e (Some x) (Some n) m is p = changed_finds_at o e x n m p (same_result is)
+changed_finds o e None (Some n) m is p = absurd (none_made is)
+changed_finds o e x None m is p = tt

@@ -1,1 +1,2 @@
 mod Lemmas
+mod Executing

@@ -7,4 +7,4 @@ mod numbers;
 mod statements;
 
 pub use numbers::test;
-pub use statements::evaluate;
+pub use statements::{Ran, execute};

@@ -4,15 +4,18 @@ ghost use Rattle.std.specs.Prelude.{◌≡◌, IfSome};
 ghost use Rattle.std.specs.Option.{option_map};
 ghost use Rattle.awk_value.specs.Values.{truth_of};
 ghost use Rattle.awk_value.specs.declared.value.Value.TheVariants.{Number};
-ghost use Rattle.awk_tree.specs.Tree.{Binary};
-ghost use Rattle.awk_plan.specs.Plan.{operand_of, part_of, expr_in, name_at};
-ghost use Rattle.awk_fast_path.specs.support.Found.{Finds, Joins, Tests};
+ghost use Rattle.awk_tree.specs.Tree.{And, Or, Conditional};
+ghost use Rattle.awk_meaning.specs.Operators.{truth_value};
+ghost use Rattle.awk_plan.specs.Plan.{operand_of, part_of, expr_in, made_expr, name_at};
+ghost use Rattle.awk_fast_path.specs.support.Found.{Finds, Joins, IsChanged, Tests};
 
 use awk_interpreter::{Interpreter, number_in};
-use awk_operators::apply_to_numbers;
+use awk_operators::{apply_to_numbers, change};
 use awk_plan::node::{ExprNode, Node, Operand};
 use awk_plan::plan::Plan;
-use awk_tree::tree::BinaryOperator;
+use awk_tree::tree::{BinaryOperator, UnaryOperator};
+use awk_value::Value;
+use std::marker::PhantomData;
 
 /// The name of a variable.
 pub(crate) fn name(plan: &Plan, number: u32) -> Option<&[u8]>
@@ -41,36 +44,13 @@ fn constant(plan: &Plan, number: u32, interpreter: &Interpreter) -> Option<i128>
     }
 }
 
-/// The number of an operand that is a constant or a variable.
-fn leaf(plan: &Plan, e: Operand, interpreter: &Interpreter) -> Option<i128>
-    ensures { Finds (operand_of plan.now e) interpreter.now result }
-{
-    match e {
-        Operand::Constant(number) => constant(plan, number, interpreter),
-        Operand::Variable(number) => variable(plan, number, interpreter),
-        Operand::Node(_) => None,
-    }
-}
-
-/// An operator between operands.
-#[derive(Clone, Copy)]
-struct Operation {
-    operator: BinaryOperator,
-    left: Operand,
-    right: Operand,
-}
-
-/// The operator and operands at a place.
-fn operation_at(plan: &Plan, place: u32) -> Option<Operation>
-    ensures { IfSome result (λ j. expr_in (part_of plan.now place)
-        ≡ Binary j.operator (operand_of plan.now j.left) (operand_of plan.now j.right)) }
+/// The expression at a place.
+pub(crate) fn expression(plan: &Plan, place: u32) -> Option<ExprNode>
+    ensures { IfSome result (λ node. expr_in (part_of plan.now place)
+        ≡ made_expr plan.now.tables (part_of plan.now) node) }
 {
     match plan.node(place) {
-        Some(Node::Expression(ExprNode::Binary(operator, left, right))) => Some(Operation {
-            operator,
-            left,
-            right,
-        }),
+        Some(Node::Expression(node)) => Some(node),
         _ => None,
     }
 }
@@ -88,49 +68,17 @@ pub(crate) fn join(operator: BinaryOperator, x: Option<i128>, y: Option<i128>) -
     apply_to_numbers(operator, m, n)
 }
 
-/// The number of an operator between leaves, or of a leaf.
-fn shallow(plan: &Plan, e: Operand, interpreter: &Interpreter) -> Option<i128>
-    ensures { Finds (operand_of plan.now e) interpreter.now result }
+/// The number that an operator makes of the one behind it, if that is there.
+fn changed(operator: UnaryOperator, x: Option<i128>) -> Option<i128>
+    ensures { IsChanged operator x result }
 {
-    let Operand::Node(place) = e else {
-        return leaf(plan, e, interpreter);
-    };
-    let Some(operation) = operation_at(plan, place) else {
+    let Some(n) = x else {
         return None;
     };
-    let x = leaf(plan, operation.left, interpreter);
-    let y = leaf(plan, operation.right, interpreter);
-    join(operation.operator, x, y)
-}
-
-/// The number of an operator between such operands, or of one of these.
-fn deeper(plan: &Plan, e: Operand, interpreter: &Interpreter) -> Option<i128>
-    ensures { Finds (operand_of plan.now e) interpreter.now result }
-{
-    let Operand::Node(place) = e else {
-        return leaf(plan, e, interpreter);
-    };
-    let Some(operation) = operation_at(plan, place) else {
-        return None;
-    };
-    let x = shallow(plan, operation.left, interpreter);
-    let y = shallow(plan, operation.right, interpreter);
-    join(operation.operator, x, y)
-}
-
-/// The number of an operator between operands that are up to two operators deep, or of one of these.
-pub(crate) fn number(plan: &Plan, e: Operand, interpreter: &Interpreter) -> Option<i128>
-    ensures { Finds (operand_of plan.now e) interpreter.now result }
-{
-    let Operand::Node(place) = e else {
-        return leaf(plan, e, interpreter);
-    };
-    let Some(operation) = operation_at(plan, place) else {
-        return None;
-    };
-    let x = deeper(plan, operation.left, interpreter);
-    let y = deeper(plan, operation.right, interpreter);
-    join(operation.operator, x, y)
+    match change(operator, &Value::Number(n)) {
+        Ok(value) => number_in(&value),
+        Err(_) => None,
+    }
 }
 
 /// Whether a number isn't zero.
@@ -143,9 +91,124 @@ fn is_nonzero(n: Option<i128>) -> Option<bool>
     }
 }
 
+/// How deep expressions are that are looked into. Each depth is a type of its own, so that no function calls itself.
+pub(crate) trait Depth {
+    /// The number of an expression, if it is found so deep.
+    fn number(plan: &Plan, e: Operand, interpreter: &Interpreter) -> Option<i128>
+        ensures { Finds (operand_of plan.now e) interpreter.now result };
+}
+
+/// Constants and variables.
+pub(crate) struct Leaf;
+
+impl Depth for Leaf {
+    fn number(plan: &Plan, e: Operand, interpreter: &Interpreter) -> Option<i128> {
+        match e {
+            Operand::Constant(number) => constant(plan, number, interpreter),
+            Operand::Variable(number) => variable(plan, number, interpreter),
+            Operand::Node(_) => None,
+        }
+    }
+}
+
+/// An operator over expressions of a depth.
+pub(crate) struct Over<D>(PhantomData<D>);
+
+impl<D: Depth> Depth for Over<D> {
+    fn number(plan: &Plan, e: Operand, interpreter: &Interpreter) -> Option<i128> {
+        let Operand::Node(place) = e else {
+            return Leaf::number(plan, e, interpreter);
+        };
+        let Some(node) = expression(plan, place) else {
+            return None;
+        };
+        match node {
+            ExprNode::Group(e) => D::number(plan, e, interpreter),
+            ExprNode::Unary(operator, e) => changed(operator, D::number(plan, e, interpreter)),
+            ExprNode::Binary(operator, a, b) => {
+                let x = D::number(plan, a, interpreter);
+                let y = D::number(plan, b, interpreter);
+                join(operator, x, y)
+            }
+            ExprNode::And(a, b) => both::<D>(plan, a, b, interpreter),
+            ExprNode::Or(a, b) => either::<D>(plan, a, b, interpreter),
+            ExprNode::Conditional(c, a, b) => chosen::<D>(plan, c, a, b, interpreter),
+            _ => None,
+        }
+    }
+}
+
+/// Whether an expression is true, if that is found so deep.
+fn tested<D: Depth>(plan: &Plan, e: Operand, interpreter: &Interpreter) -> Option<bool>
+    ensures { IfSome result (λ b. Tests (operand_of plan.now e) interpreter.now b) }
+{
+    is_nonzero(D::number(plan, e, interpreter))
+}
+
+/// What a test gives: 1 or 0.
+fn truth(holds: Option<bool>) -> Option<i128>
+    ensures { option_map (λ n. Number n) result ≡ option_map (λ b. truth_value b) holds }
+{
+    match holds {
+        Some(true) => Some(1),
+        Some(false) => Some(0),
+        None => None,
+    }
+}
+
+/// The number of an `&&`.
+fn both<D: Depth>(plan: &Plan, a: Operand, b: Operand, interpreter: &Interpreter) -> Option<i128>
+    ensures { Finds (And (operand_of plan.now a) (operand_of plan.now b)) interpreter.now result }
+{
+    match tested::<D>(plan, a, interpreter) {
+        Some(true) => truth(tested::<D>(plan, b, interpreter)),
+        Some(false) => Some(0),
+        None => None,
+    }
+}
+
+/// The number of an `||`.
+fn either<D: Depth>(plan: &Plan, a: Operand, b: Operand, interpreter: &Interpreter) -> Option<i128>
+    ensures { Finds (Or (operand_of plan.now a) (operand_of plan.now b)) interpreter.now result }
+{
+    match tested::<D>(plan, a, interpreter) {
+        Some(false) => truth(tested::<D>(plan, b, interpreter)),
+        Some(true) => Some(1),
+        None => None,
+    }
+}
+
+/// The number of a `? :`.
+fn chosen<D: Depth>(
+    plan: &Plan,
+    c: Operand,
+    a: Operand,
+    b: Operand,
+    interpreter: &Interpreter,
+) -> Option<i128>
+    ensures { Finds (Conditional (operand_of plan.now c) (operand_of plan.now a) (operand_of plan.now b))
+        interpreter.now result }
+{
+    match tested::<D>(plan, c, interpreter) {
+        Some(true) => D::number(plan, a, interpreter),
+        Some(false) => D::number(plan, b, interpreter),
+        None => None,
+    }
+}
+
+/// So deep is looked: five operators, groups among them.
+pub(crate) type Deepest = Over<Over<Over<Over<Over<Leaf>>>>>;
+
+/// The number of an expression.
+pub(crate) fn number(plan: &Plan, e: Operand, interpreter: &Interpreter) -> Option<i128>
+    ensures { Finds (operand_of plan.now e) interpreter.now result }
+{
+    Deepest::number(plan, e, interpreter)
+}
+
 /// Whether an expression is true. `None` where that isn't found in place. (POSIX awk, Expressions in awk)
 pub fn test(plan: &Plan, e: Operand, interpreter: &Interpreter) -> Option<bool>
     ensures { IfSome result (λ b. Tests (operand_of plan.now e) interpreter.now b) }
 {
-    is_nonzero(number(plan, e, interpreter))
+    tested::<Deepest>(plan, e, interpreter)
 }

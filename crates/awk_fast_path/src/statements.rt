@@ -1,15 +1,17 @@
-// Expressions that are statements, where they are evaluated in place.
+// Statements that are executed in place.
 
-ghost use Rattle.std.specs.Prelude.{◌≡◌, true, false};
-ghost use Rattle.awk_tree.specs.Tree.{Assign, AssignBy, PreIncrement, PostIncrement};
-ghost use Rattle.awk_plan.specs.Plan.{operand_of, name_at};
+ghost use Rattle.std.specs.Prelude.{◌≡◌, true, false, Some};
+ghost use Rattle.awk_tree.specs.Tree.{Assign, AssignBy, PreIncrement, PostIncrement, Simple};
+ghost use Rattle.awk_plan.specs.Plan.{operand_of, part_of, name_at, made_simple, made_statement, statement_in};
 ghost use Rattle.awk_meaning.specs.Operators.{by_one};
+ghost use Rattle.awk_meaning.specs.Semantics.{exec};
 ghost use Rattle.awk_fast_path.specs.support.Found.{Evaluates};
+ghost use Rattle.awk_fast_path.specs.support.Executed.{Executes, RunsBy, IsIf, behind_simple, behind_if, branch_of, given_back};
 
-use crate::numbers::{join, name, number};
+use crate::numbers::{expression, join, name, number, test};
 use awk_interpreter::Interpreter;
 use awk_lex::token::IncrementOperator;
-use awk_plan::node::{ExprNode, Node, Operand};
+use awk_plan::node::{ExprNode, Node, Operand, SimpleNode, StatementNode};
 use awk_plan::plan::Plan;
 use awk_tree::tree::BinaryOperator;
 
@@ -85,17 +87,143 @@ pub fn evaluate(plan: &Plan, e: Operand, interpreter: &mut Interpreter) -> bool
     let Operand::Node(place) = e else {
         return false;
     };
-    match plan.node(place) {
-        Some(Node::Expression(ExprNode::Assign(x, e))) => assign(plan, x, e, interpreter),
-        Some(Node::Expression(ExprNode::AssignBy(operator, x, e))) => {
-            assign_by(plan, operator, x, e, interpreter)
-        }
-        Some(Node::Expression(ExprNode::PreIncrement(operator, x))) => {
-            increment(plan, operator, x, interpreter)
-        }
-        Some(Node::Expression(ExprNode::PostIncrement(operator, x))) => {
-            increment(plan, operator, x, interpreter)
-        }
+    let Some(node) = expression(plan, place) else {
+        return false;
+    };
+    match node {
+        ExprNode::Assign(x, e) => assign(plan, x, e, interpreter),
+        ExprNode::AssignBy(operator, x, e) => assign_by(plan, operator, x, e, interpreter),
+        ExprNode::PreIncrement(operator, x) => increment(plan, operator, x, interpreter),
+        ExprNode::PostIncrement(operator, x) => increment(plan, operator, x, interpreter),
         _ => false,
+    }
+}
+
+/// How a statement that was executed in place passed on. Where it wasn't, nothing changed.
+#[derive(Clone, Copy)]
+pub enum Ran {
+    Not,
+    Normal,
+    Break,
+    Continue,
+}
+
+/// Gives back the step where nothing was executed behind it.
+fn give_back(ran: Ran, steps: u64, interpreter: &mut Interpreter)
+    ensures { interpreter.new ≡ given_back ran steps interpreter.old }
+{
+    match ran {
+        Ran::Not => interpreter.steps = steps,
+        Ran::Normal => {}
+        Ran::Break => {}
+        Ran::Continue => {}
+    }
+}
+
+/// What a simple statement does behind its step.
+fn behind_simple(plan: &Plan, simple: SimpleNode, interpreter: &mut Interpreter) -> Ran
+    ensures { RunsBy (behind_simple (made_simple plan.now.tables (part_of plan.now) simple)) interpreter.old result
+        interpreter.new }
+{
+    match simple {
+        SimpleNode::Evaluate(e) => {
+            if evaluate(plan, e, interpreter) {
+                return Ran::Normal;
+            }
+            Ran::Not
+        }
+        SimpleNode::Break => Ran::Break,
+        SimpleNode::Continue => Ran::Continue,
+        _ => Ran::Not,
+    }
+}
+
+/// Executes a simple statement.
+fn execute_simple(plan: &Plan, simple: SimpleNode, interpreter: &mut Interpreter) -> Ran
+    ensures { Executes (Simple (made_simple plan.now.tables (part_of plan.now) simple)) interpreter.old result
+        interpreter.new }
+{
+    let steps = interpreter.steps;
+    if interpreter.take_step() {
+        let ran = behind_simple(plan, simple, interpreter);
+        give_back(ran, steps, interpreter);
+        return ran;
+    }
+    Ran::Not
+}
+
+/// Executes a branch of an `if`: a simple statement, or none.
+fn execute_branch(plan: &Plan, place: Option<u32>, interpreter: &mut Interpreter) -> Ran
+    ensures { RunsBy (exec (branch_of plan.now place)) interpreter.old result interpreter.new }
+{
+    let Some(place) = place else {
+        return Ran::Normal;
+    };
+    match plan.node(place) {
+        Some(Node::Simple(simple)) => execute_simple(plan, simple, interpreter),
+        _ => Ran::Not,
+    }
+}
+
+/// What an `if` does behind its step.
+fn behind_if(
+    plan: &Plan,
+    c: Operand,
+    body: u32,
+    other: Option<u32>,
+    interpreter: &mut Interpreter,
+) -> Ran
+    ensures { RunsBy (behind_if (operand_of plan.now c) (branch_of plan.now (Some body)) (branch_of plan.now other))
+        interpreter.old result interpreter.new }
+{
+    match test(plan, c, interpreter) {
+        Some(true) => execute_branch(plan, Some(body), interpreter),
+        Some(false) => execute_branch(plan, other, interpreter),
+        None => Ran::Not,
+    }
+}
+
+/// Executes an `if`.
+fn execute_if(
+    plan: &Plan,
+    c: Operand,
+    body: u32,
+    other: Option<u32>,
+    interpreter: &mut Interpreter,
+) -> Ran
+    ensures { (x : _) → IsIf x (operand_of plan.now c) (branch_of plan.now (Some body)) (branch_of plan.now other) →
+        Executes x interpreter.old result interpreter.new }
+{
+    let steps = interpreter.steps;
+    if interpreter.take_step() {
+        let ran = behind_if(plan, c, body, other, interpreter);
+        give_back(ran, steps, interpreter);
+        return ran;
+    }
+    Ran::Not
+}
+
+/// Executes a statement that isn't simple.
+fn execute_compound(plan: &Plan, node: StatementNode, interpreter: &mut Interpreter) -> Ran
+    ensures { Executes (made_statement plan.now.tables (part_of plan.now) node) interpreter.old result interpreter.new }
+{
+    match node {
+        StatementNode::If(c, body) => execute_if(plan, c, body, None, interpreter),
+        StatementNode::IfElse(c, body, other) => {
+            execute_if(plan, c, body, Some(other), interpreter)
+        }
+        _ => Ran::Not,
+    }
+}
+
+/// Executes a statement, if that can be done in place: an assignment of a number, an increment, `break`, `continue`, or an
+/// `if` over these. (POSIX awk, Actions)
+pub fn execute(plan: &Plan, place: u32, interpreter: &mut Interpreter) -> Ran
+    ensures { Executes (statement_in (part_of plan.now place)) interpreter.old result interpreter.new }
+{
+    match plan.node(place) {
+        Some(Node::Simple(simple)) => execute_simple(plan, simple, interpreter),
+        Some(Node::Statement(node)) => execute_compound(plan, node, interpreter),
+        _ => Ran::Not,
     }
 }

@@ -24,10 +24,10 @@ use Rattle.awk_meaning.specs.State.{State, lift, ret}
 use Rattle.awk_variables.specs.Variables.{value_of, name_of, with_value, is_refused}
 use Rattle.awk_meaning.specs.Operators.{exit_status, field_value, raised}
 use Rattle.awk_meaning.specs.Faults.{variable_fault, value_fault}
-use Rattle.awk_meaning.specs.Primitives.{value_in, read_name, put, put_unless, count_in, field_at, record_text, split_as, set_record, note_input, begin_input, argument_if, argument_below, take_argument, is_inside, with_range, set_inside, status_by, set_status, is_input_seen}
+use Rattle.awk_meaning.specs.Primitives.{spend_of, spend, value_in, read_name, put, put_unless, count_in, field_at, record_text, split_as, set_record, note_input, begin_input, argument_if, argument_below, take_argument, is_inside, with_range, set_inside, status_by, set_status, is_input_seen}
 use Rattle.awk_meaning.specs.Semantics.{begin_record, store}
 use Rattle.awk_operands.specs.Operands.{is_below, IsFaultOf}
-use Rattle.awk_interpreter.specs.support.Simulation.{inside_of, OwnRelation, Changes, SameState}
+use Rattle.awk_interpreter.specs.support.Simulation.{inside_of, OwnRelation, Changes, Spends, SameState}
 use Rattle.awk_meaning.specs.Results.{Yields, IsWantOfMemory}
 use Rattle.awk_interpreter.proofs.Composition.{same_part, own_changes, beside_holds, reads_changes, then_changes, ends_changes, lift_changes, memory_changes}
 
@@ -49,6 +49,45 @@ read_value x {v = v} is same e =
 -- nothing changes
 pub still : (m : Interpreter) → SameState m m
 still m = record { beside = record { current = refl; variables = refl; arguments = refl; inside = refl; status = refl; steps = refl }; streams = refl }
+
+-- a step is spent
+pub step_taken : (m : Interpreter) (n : ℕ) → m.steps ≡ suc n → Spends m (record m { steps = n }) (Ok tt)
+unfolding spend
+step_taken m n is = record {
+  simulates = own_changes spend refl (omega (arith, is)) (λ s h. record {
+    result = Ok tt;
+    state = record s { steps = n };
+    is = ap (λ i. spend_of i s) (h.steps ∙ is);
+    part = record { outside = refl; openings = refl; main = refl };
+    matches = refl;
+    holds = record {
+      current = h.current;
+      variables = h.variables;
+      arguments = h.arguments;
+      next = h.next;
+      input_seen = h.input_seen;
+      inside = h.inside;
+      status = h.status;
+      steps = refl;
+    };
+  });
+  falls = omega (arith, is);
+}
+
+-- no step is left
+pub no_step : (m : Interpreter) → m.steps ≡ 0 → Spends m m (Err halt.OutOfSteps)
+unfolding spend
+no_step m is = record {
+  simulates = own_changes spend refl (omega arith) (λ s h. record {
+    result = Err halt.OutOfSteps;
+    state = s;
+    is = ap (λ i. spend_of i s) (h.steps ∙ is);
+    part = same_part s;
+    matches = refl;
+    holds = h;
+  });
+  falls = tt;
+}
 
 -- giving names values
 

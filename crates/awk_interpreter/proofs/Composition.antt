@@ -226,3 +226,30 @@ beside_holds beside h = record {
 pub reads_changes : {A : Type 0} {c : Result A Halt} {old new : Interpreter} (run : Run A) (r : State → Result A Halt) → ((s : State) → run s ≡ record { result = r s; state = s; effects = [] }) → SameState old new → ((s : State) → OwnRelation old s → Yields c (r s)) → Changes run old new c
 reads_changes run r is same e =
     own_changes run same.streams (omega (arith, same.beside.steps)) (λ s h. record { result = r s; state = s; is = is s; part = same_part s; matches = e s h; holds = beside_holds same.beside h })
+
+-- runs that are equal where the state stands for the code's
+
+go_assoc : {A B C : Type 0} (r : Result A Halt) (t : State) (effects : List Effect) (f : A → Run B) (g : B → Run C) → go_on (go_on r t effects f).result (go_on r t effects f).state (go_on r t effects f).effects g ≡ go_on r t effects (λ a. f a >>= g)
+unfolding go_on ◌>>=◌
+go_assoc (Ok a) t effects f g = go_more (f a t).result (f a t).state (f a t).effects effects g
+  where
+    go_more : {B C : Type 0} (r : Result B Halt) (t : State) (es effects : List Effect) (g : B → Run C) → go_on r t (effects ++ es) g ≡ record { result = (go_on r t es g).result; state = (go_on r t es g).state; effects = effects ++ (go_on r t es g).effects }
+    go_more (Ok b) t es effects g = ap (λ l. record { result = (g b t).result; state = (g b t).state; effects = l }) (append_assoc effects es (g b t).effects)
+    go_more (Err h) t es effects g = refl
+go_assoc (Err h) t effects f g = refl
+
+pub assoc_at : {A B C : Type 0} (m : Run A) (f : A → Run B) (g : B → Run C) (s : State) → ((m >>= f) >>= g) s ≡ (m >>= λ a. f a >>= g) s
+unfolding ◌>>=◌
+assoc_at m f g s = go_assoc (m s).result (m s).state (m s).effects f g
+
+pub same_changes : {A : Type 0} {old new : Interpreter} {r : Result A Halt} (x y : Run A) → ((s : State) → x s ≡ y s) → Changes y old new r → Changes x old new r
+same_changes {old = old} {new = new} {r = r} x y e d = record {
+  steps = d.steps;
+  streams = d.streams;
+  means = λ k. record {
+    grows = (d.means k).grows;
+    keeps = (d.means k).keeps;
+    keeps_main = (d.means k).keeps_main;
+    means = λ oracle s past consistent stands. subst (λ (o : Out _). ResultRelation oracle new k r o past) (sym (e s)) ((d.means k).means oracle s past consistent stands);
+  };
+}

@@ -1,6 +1,6 @@
 // The interpreter: the state of a run, and what it can do by itself.
 
-ghost use Rattle.std.specs.Prelude.{◌≡◌, ◌<◌, ℕ, pos, true, false, None, [], codes, bytes_eq, map, slice_get, unwrap_or, vec_len, Ok, IfOk, IfErr, OnOk};
+ghost use Rattle.std.specs.Prelude.{◌≡◌, ◌<◌, ◌-◌, ℕ, pos, true, false, None, [], codes, bytes_eq, map, slice_get, unwrap_or, vec_len, Ok, IfOk, IfErr, OnOk};
 ghost use Rattle.awk_value.specs.declared.value.Value.TheVariants.{Text};
 ghost use Rattle.awk_meaning.specs.State.{lift};
 ghost use Rattle.awk_variables.specs.Variables.{name_of};
@@ -116,16 +116,30 @@ impl Interpreter {
         })
     }
 
+    /// Spends a step, if one is left.
+    pub fn take_step(&mut self) -> bool
+        ensures spends { result ≡ true → Spends self.old self.new (Ok tt) }
+        ensures left { result ≡ true → self.new ≡ record self.old { steps = self.old.steps - 1 } }
+        ensures some { result ≡ true → 0 < self.old.steps }
+        ensures kept { result ≡ false → self.new ≡ self.old }
+        ensures none { result ≡ false → self.old.steps ≡ 0 }
+    {
+        if self.steps == 0 {
+            return false;
+        }
+        self.steps -= 1;
+        true
+    }
+
     /// Spends a step, or says that none is left.
-    #[tactic(auto, unfolding(awk_meaning::specs::definitions::Primitives::spend))]
     pub fn spend(&mut self) -> Result<(), Halt>
         ensures { Spends self.old self.new result }
     {
-        if self.steps == 0 {
-            return Err(Halt::OutOfSteps);
+        if self.take_step() {
+            Ok(())
+        } else {
+            Err(Halt::OutOfSteps)
         }
-        self.steps -= 1;
-        Ok(())
     }
 
     /// The value of a name. (POSIX awk, Variables and Special Variables)

@@ -1,5 +1,5 @@
 -- Expressions that are tested or evaluated in place.
-use Rattle.std.proofs.Common.{◌≡◌, ◌≤◌, ◌<◌, Bool, true, false, List, ◌∷◌, Result, Ok, Err, refl, ◌∙◌, subst, arith}
+use Rattle.std.proofs.Common.{◌≡◌, ◌≤◌, Bool, true, false, List, ◌∷◌, Result, Ok, Err, refl, ◌∙◌, subst, arith}
 use Rattle.awk_value.specs.declared.value.Value.{Value}
 use Rattle.awk_value.specs.Values.{truth_of}
 use Rattle.awk_streams.specs.WorldState.{WorldState}
@@ -18,7 +18,8 @@ use Rattle.awk_interpreter.proofs.Composition.{then_simulates, lift_simulates, c
 use Rattle.awk_fast_path.specs.Found.{Tests as TestsInPlace, Evaluates}
 use Rattle.awk_machine.specs.declared.stack.Move.{Move}
 use Rattle.awk_machine.specs.declared.stack.Move.TheVariants as move
-use Rattle.awk_machine.specs.support.Stack.{Loop, Entry, FieldNumber, LeftOperand, RightOperand, LastPart, LoopCondition, LoopTurn, Focus, BeginStatement, Ended, run_of, Rest, Leads, work, BeginExpr}
+use Rattle.awk_machine.specs.declared.stack.Stack.{Stack}
+use Rattle.awk_machine.specs.support.Stack.{Loop, Entry, FieldNumber, LeftOperand, RightOperand, LastPart, LoopCondition, LoopTurn, Focus, value_in, BeginStatement, Ended, run_of, Rest, Leads, work, BeginExpr}
 use Rattle.awk_machine.specs.support.Moves.{Tests, Steps}
 use Rattle.awk_machine.proofs.Laws.{then_rest, memory_rest}
 use Rattle.awk_machine.proofs.Moves.{leaf_leads, leaf_halts}
@@ -59,7 +60,7 @@ unfolding run_of exec exec_simple
 evaluated_at_once e p q = record { leads = λ new after r d. then_rest (λ _. eval e >>= λ v. ret flow.Normal) (change_simulates p.simulates) (then_rest (λ v. ret flow.Normal) (change_simulates q.changes) d) }
 
 -- a move that goes on behind what was done at once
-pub steps_behind : {plan : Program} {f g : Focus} {st st1 st' : List Entry} {m m1 m' : Interpreter} (e : Entry) (r : Result Move Halt) → ((k : WorldState) → Leads (Unit {0}) f st m k g (e ∷ st1) m1 k) → m1.steps ≤ m.steps → m1.streams ≡ m.streams → work g (e ∷ st1) ≤ work f st → Steps plan g (e ∷ st1) m1 r st' m' → Steps plan f st m r st' m'
+pub steps_behind : {plan : Program} {f g : Focus} {st st1 : List Entry} {new : Stack} {m m1 m' : Interpreter} (e : Entry) (r : Result Move Halt) → ((k : WorldState) → Leads (Unit {0}) f st m k g (e ∷ st1) m1 k) → m1.steps ≤ m.steps → m1.streams ≡ m.streams → work g (e ∷ st1) ≤ work f st → Steps plan g (e ∷ st1) m1 r new m' → Steps plan f st m r new m'
 steps_behind e (Ok (move.On f')) l low same w p = record {
   moved = λ k. record { moved = record { leads = leads_on (l k) (p.moved k).moved.leads; less = let q = (p.moved k).moved.less in omega (arith, q, w); steps = let q = (p.moved k).moved.steps in omega (arith, q, low) } };
   steps = let q = p.steps in omega (arith, q, low);
@@ -74,8 +75,8 @@ steps_behind e (Ok (move.Over x)) l low same w p = record { moved = λ k. let ba
 steps_behind e (Err h) l low same w p = record { moved = λ k. record { moved = (l k).leads _ _ _ (p.moved k).moved }; steps = let q = p.steps in omega (arith, q, low); streams = p.streams ∙ same }
 
 -- memory is wanted behind a step
-pub wants_memory_later : {plan : Program} {f g : Focus} {st st1 st' : List Entry} {m m1 : Interpreter} → ((k : WorldState) → Leads (Unit {0}) f st m k g st1 m1 k) → m1.steps < m.steps → m1.streams ≡ m.streams → Steps plan f st m (Err (halt.Fault OutOfMemory)) st' m1
-wants_memory_later {g = g} l low same = halts (λ k. (l k).leads _ _ _ (memory_rest (run_of g))) (omega (arith, low)) same
+pub wants_memory_later : {plan : Program} {f g : Focus} {st st1 : List Entry} {new : Stack} {m m1 : Interpreter} → ((k : WorldState) → Leads (Unit {0}) f st m k g st1 m1 k) → m1.steps ≤ m.steps → m1.streams ≡ m.streams → Steps plan f st m (Err (halt.Fault OutOfMemory)) new m1
+wants_memory_later {g = g} l low same = halts (λ k. (l k).leads _ _ _ (memory_rest (run_of g))) low same
 
 -- a leaf left or right of an operator, or as the number of a field
 
@@ -85,11 +86,11 @@ left_read o a b p = leads_on (binary_begins o a b) (leaf_leads (change_simulates
 pub left_unread : {is_logged : Type 0} (o : BinaryOperator) (a b : t.Expr) {h : Halt} {st : List Entry} {m m1 : Interpreter} {k : WorldState} → Changes (eval a) m m1 (Err h) → Rest is_logged (BeginExpr (t.Binary o a b)) st m k m1 k (Err h)
 left_unread o a b p = (binary_begins o a b).leads _ _ _ (leaf_halts a (change_simulates p))
 
-pub right_read : {is_logged : Type 0} (o : BinaryOperator) (b : t.Expr) (x : Value) {y : Value} {st : List Entry} {m m1 : Interpreter} {k : WorldState} → ((r : Run Value) → right_operand (takes_pattern o) b r ≡ r) → Changes (eval b) m m1 (Ok y) → Leads is_logged (Ended (flow.Return x)) (LeftOperand o b ∷ st) m k (Ended (flow.Return y)) (RightOperand o x ∷ st) m1 k
-right_read o b x plain p = leads_on (right_begins o b (flow.Return x) plain) (leaf_leads (change_simulates p))
+pub right_read : {is_logged : Type 0} (o : BinaryOperator) (b : t.Expr) (g : Flow) {y : Value} {st : List Entry} {m m1 : Interpreter} {k : WorldState} → ((r : Run Value) → right_operand (takes_pattern o) b r ≡ r) → Changes (eval b) m m1 (Ok y) → Leads is_logged (Ended g) (LeftOperand o b ∷ st) m k (Ended (flow.Return y)) (RightOperand o (value_in g) ∷ st) m1 k
+right_read o b g plain p = leads_on (right_begins o b g plain) (leaf_leads (change_simulates p))
 
-pub right_unread : {is_logged : Type 0} (o : BinaryOperator) (b : t.Expr) (x : Value) {h : Halt} {st : List Entry} {m m1 : Interpreter} {k : WorldState} → ((r : Run Value) → right_operand (takes_pattern o) b r ≡ r) → Changes (eval b) m m1 (Err h) → Rest is_logged (Ended (flow.Return x)) (LeftOperand o b ∷ st) m k m1 k (Err h)
-right_unread o b x plain p = (right_begins o b (flow.Return x) plain).leads _ _ _ (leaf_halts b (change_simulates p))
+pub right_unread : {is_logged : Type 0} (o : BinaryOperator) (b : t.Expr) (g : Flow) {h : Halt} {st : List Entry} {m m1 : Interpreter} {k : WorldState} → ((r : Run Value) → right_operand (takes_pattern o) b r ≡ r) → Changes (eval b) m m1 (Err h) → Rest is_logged (Ended g) (LeftOperand o b ∷ st) m k m1 k (Err h)
+right_unread o b g plain p = (right_begins o b g plain).leads _ _ _ (leaf_halts b (change_simulates p))
 
 pub number_read : {is_logged : Type 0} (e : t.Expr) {x : Value} {st : List Entry} {m m1 : Interpreter} {k : WorldState} → Changes (eval e) m m1 (Ok x) → Leads is_logged (BeginExpr (t.Field e)) st m k (Ended (flow.Return x)) (FieldNumber ∷ st) m1 k
 number_read e p = leads_on (field_begins e) (leaf_leads (change_simulates p))

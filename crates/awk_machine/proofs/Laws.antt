@@ -1,31 +1,18 @@
 -- The moves of the stack: from each place to the next one.
-use Rattle.std.proofs.Common.{◌≡◌, ℕ, zero, suc, ◌≤◌, Bool, List, ◌∷◌, ◌++◌, Result, Ok, Err, refl, sym, ap, subst, append_assoc, arith}
+use Rattle.std.proofs.Common.{◌≡◌, ℕ, zero, suc, ◌≤◌, Bool, List, ◌∷◌, Result, Ok, Err, refl, sym, ap, subst, arith}
 use Rattle.awk_streams.specs.WorldState.{WorldState}
 use Rattle.awk_meaning.specs.declared.flow.Flow.{Flow}
 use Rattle.awk_meaning.specs.declared.halt.Halt.{Halt}
 use Rattle.awk_meaning.specs.declared.halt.Halt.TheVariants as halt
 use Rattle.awk_meaning.specs.declared.fault.Fault.TheVariants.{OutOfMemory}
-use Rattle.awk_meaning.specs.State.{Effect, State, Run, go_on, ◌>>=◌, lift, ret}
+use Rattle.awk_meaning.specs.State.{State, Run, go_on, ◌>>=◌, lift, ret}
 use Rattle.awk_meaning.specs.Semantics.{goes_on, exec_part, repeat_within, repeat, exec}
 use Rattle.awk_interpreter.specs.declared.interpreter.Interpreter.{Interpreter}
 use Rattle.awk_interpreter.specs.Simulation.{ResultRelation, Simulates}
 use Rattle.awk_machine.specs.support.Stack.{Loop, Bounds, behind, push, turns, all_turns, step, resume, Entry, Focus, Ended, run_of, RestOf, Rest}
-use Rattle.awk_interpreter.proofs.Composition.{then_simulates, ends_simulates, memory_simulates}
+use Rattle.awk_interpreter.proofs.Composition.{assoc_at, then_simulates, ends_simulates, memory_simulates}
 
 -- runs that are equal where the state stands for the code's
-
-go_assoc : {A B C : Type 0} (r : Result A Halt) (t : State) (effects : List Effect) (f : A → Run B) (g : B → Run C) → go_on (go_on r t effects f).result (go_on r t effects f).state (go_on r t effects f).effects g ≡ go_on r t effects (λ a. f a >>= g)
-unfolding go_on ◌>>=◌
-go_assoc (Ok a) t effects f g = go_more (f a t).result (f a t).state (f a t).effects effects g
-  where
-    go_more : {B C : Type 0} (r : Result B Halt) (t : State) (es effects : List Effect) (g : B → Run C) → go_on r t (effects ++ es) g ≡ record { result = (go_on r t es g).result; state = (go_on r t es g).state; effects = effects ++ (go_on r t es g).effects }
-    go_more (Ok b) t es effects g = ap (λ l. record { result = (g b t).result; state = (g b t).state; effects = l }) (append_assoc effects es (g b t).effects)
-    go_more (Err h) t es effects g = refl
-go_assoc (Err h) t effects f g = refl
-
-pub assoc_at : {A B C : Type 0} (m : Run A) (f : A → Run B) (g : B → Run C) (s : State) → ((m >>= f) >>= g) s ≡ (m >>= λ a. f a >>= g) s
-unfolding ◌>>=◌
-assoc_at m f g s = go_assoc (m s).result (m s).state (m s).effects f g
 
 pub same_simulates : {A : Type 0} {is_logged : Type 0} {m new : Interpreter} {k after : WorldState} {r : Result A Halt} (x y : Run A) → ((s : State) → s.steps ≡ m.steps → x s ≡ y s) → Simulates is_logged m k new after r y → Simulates is_logged m k new after r x
 same_simulates {m = m} {new = new} {after = after} {r = r} x y e d = record {

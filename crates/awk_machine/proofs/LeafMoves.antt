@@ -12,7 +12,8 @@ use Rattle.awk_interpreter.specs.declared.interpreter.Interpreter.{Interpreter}
 use Rattle.awk_interpreter.specs.Simulation.{Changes}
 use Rattle.awk_interpreter.proofs.Composition.{change_simulates}
 use Rattle.awk_machine.specs.support.Stack.{Entry, BeginExpr, weight}
-use Rattle.awk_machine.specs.support.Moves.{returned, Steps}
+use Rattle.awk_machine.specs.declared.stack.Stack.{Stack}
+use Rattle.awk_machine.specs.support.Moves.{is_returned, with_value, stack_of, Steps}
 use Rattle.awk_machine.proofs.Moves.{leaf_leads, leaf_halts}
 use Rattle.awk_machine.proofs.Steps.{onward, halts}
 
@@ -33,10 +34,10 @@ weighs (t.AssignBy o x e) = omega arith
 weighs (t.PreIncrement o x) = omega arith
 weighs (t.PostIncrement o x) = omega arith
 
-pub leaf_steps : {plan : Program} (e : t.Expr) {v : Value} {st : List Entry} {m m' : Interpreter} → Changes (eval e) m m' (Ok v) → Steps plan (BeginExpr e) st m (Ok (returned v)) st m'
-leaf_steps e p = let w = weighs e in onward refl (λ k. leaf_leads (change_simulates p)) (omega (arith, w)) p.steps p.streams
+pub leaf_steps : {plan : Program} (stack : Stack) (e : t.Expr) {v : Value} {m m' : Interpreter} → Changes (eval e) m m' (Ok v) → Steps plan (BeginExpr e) (stack_of plan stack) m (Ok is_returned) (with_value stack v) m'
+leaf_steps stack e p = let w = weighs e in onward refl (λ k. leaf_leads (change_simulates p)) (omega (arith, w)) p.steps p.streams
 
-pub leaf_stops : {plan : Program} (e : t.Expr) {h : Halt} {st st' : List Entry} {m m' : Interpreter} → Changes (eval e) m m' (Err h) → Steps plan (BeginExpr e) st m (Err h) st' m'
+pub leaf_stops : {plan : Program} (e : t.Expr) {h : Halt} {st : List Entry} {new : Stack} {m m' : Interpreter} → Changes (eval e) m m' (Err h) → Steps plan (BeginExpr e) st m (Err h) new m'
 leaf_stops e p = halts (λ k. leaf_halts e (change_simulates p)) p.steps p.streams
 
 -- names, and what changes them

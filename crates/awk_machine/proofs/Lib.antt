@@ -10,6 +10,6 @@ mod Stores
 mod LeafMoves
 mod OperandMoves
 mod KeptValues
-mod Resuming
 mod Walking
 mod InPlace
+mod Reaching

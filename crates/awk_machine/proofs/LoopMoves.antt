@@ -12,8 +12,8 @@ use Rattle.awk_meaning.specs.Semantics.{tested, choose, eval, exec_simple, exec_
 use Rattle.awk_interpreter.specs.declared.interpreter.Interpreter.{Interpreter}
 use Rattle.awk_interpreter.specs.Simulation.{Spends}
 use Rattle.awk_machine.specs.support.Stack.{Loop, turns, all_turns, value_in, valued, step, Entry, LoopEntry, FirstTurn, LoopCondition, LoopTurn, LastPart, BeginExpr, BeginStatement, Ended, run_of, RestOf, Rest, Leads}
-use Rattle.awk_interpreter.proofs.Composition.{change_simulates}
-use Rattle.awk_machine.proofs.Laws.{assoc_at, given_first, same_rest, then_rest, halted_rest, push_rest, pop_rest, turns_rest}
+use Rattle.awk_interpreter.proofs.Composition.{assoc_at, change_simulates}
+use Rattle.awk_machine.proofs.Laws.{given_first, same_rest, then_rest, halted_rest, push_rest, pop_rest, turns_rest}
 use Rattle.awk_machine.proofs.Moves.{later_same, awaited_at, tested_at, awaits_more, passes_on, unspent, spent_awaits}
 
 -- what a loop does where its condition is known, and so many turns may follow

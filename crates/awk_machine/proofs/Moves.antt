@@ -13,8 +13,8 @@ use Rattle.awk_meaning.specs.Semantics.{tested, eval}
 use Rattle.awk_interpreter.specs.declared.interpreter.Interpreter.{Interpreter}
 use Rattle.awk_interpreter.specs.Simulation.{Simulates, Spends}
 use Rattle.awk_machine.specs.support.Stack.{value_in, valued, step, Entry, Focus, BeginExpr, Ended, run_of, Rest, Leads}
-use Rattle.awk_interpreter.proofs.Composition.{change_simulates}
-use Rattle.awk_machine.proofs.Laws.{assoc_at, first_same, given_first, same_rest, then_rest, halted_rest, push_rest, pop_rest}
+use Rattle.awk_interpreter.proofs.Composition.{assoc_at, change_simulates}
+use Rattle.awk_machine.proofs.Laws.{first_same, given_first, same_rest, then_rest, halted_rest, push_rest, pop_rest}
 
 -- what comes later is equal
 go_same : {A B : Type 0} (r : Result A Halt) (t : State) (effects : List Effect) (f g : A → Run B) → ((a : A) (u : State) → f a u ≡ g a u) → go_on r t effects f ≡ go_on r t effects g

@@ -5,7 +5,7 @@ use Rattle.awk_value.specs.Values.{truth_of}
 use Rattle.awk_tree.specs.declared.tree.UnaryOperator.{UnaryOperator}
 use Rattle.awk_tree.specs.declared.tree.BinaryOperator.{BinaryOperator}
 use Rattle.awk_plan.specs.Plan.{Program}
-use Rattle.awk_meaning.specs.declared.flow.Flow.TheVariants as flow
+use Rattle.awk_meaning.specs.declared.flow.Flow.{Flow}
 use Rattle.awk_meaning.specs.declared.halt.Halt.{Halt}
 use Rattle.awk_meaning.specs.State.{lift}
 use Rattle.awk_meaning.specs.Operators.{changed, applied, truth_value}
@@ -15,43 +15,44 @@ use Rattle.awk_meaning.specs.Semantics.{store, store_by}
 use Rattle.awk_interpreter.specs.declared.interpreter.Interpreter.{Interpreter}
 use Rattle.awk_interpreter.specs.Simulation.{Changes}
 use Rattle.awk_interpreter.proofs.Composition.{lift_changes}
-use Rattle.awk_machine.specs.support.Stack.{Entry, FieldNumber, UnaryOperand, RightOperand, LogicalRight, AssignedValue, AssignedByValue, Ended}
-use Rattle.awk_machine.specs.support.Moves.{returned, Steps}
+use Rattle.awk_machine.specs.support.Stack.{value_in, Entry, FieldNumber, UnaryOperand, RightOperand, LogicalRight, AssignedValue, AssignedByValue, Ended}
+use Rattle.awk_machine.specs.declared.stack.Stack.{Stack}
+use Rattle.awk_machine.specs.support.Moves.{is_returned, with_value, stack_of, Steps}
 use Rattle.awk_machine.proofs.ExprMoves.{field_gives, field_stops, unary_gives, unary_stops, right_gives, right_stops, logical_gives, assigned_gives, assigned_stops, assigned_by_gives, assigned_by_stops}
 use Rattle.awk_machine.proofs.Steps.{onward, halts}
 
-module _ {plan : Program} {x v : Value} {st : List Entry} {m m' : Interpreter} where
-  pub field_steps : Changes (field_at x) m m' (Ok v) → Steps plan (Ended (flow.Return x)) (FieldNumber ∷ st) m (Ok (returned v)) st m'
+module _ {plan : Program} (stack : Stack) (g : Flow) {v : Value} {m m' : Interpreter} where
+  pub field_steps : Changes (field_at (value_in g)) m m' (Ok v) → Steps plan (Ended g) (FieldNumber ∷ stack_of plan stack) m (Ok is_returned) (with_value stack v) m'
   field_steps p = onward refl (λ k. field_gives _ p) (omega arith) p.steps p.streams
 
-  pub right_steps : (o : BinaryOperator) (y : Value) → Changes (lift (applied o y x)) m m' (Ok v) → Steps plan (Ended (flow.Return x)) (RightOperand o y ∷ st) m (Ok (returned v)) st m'
+  pub right_steps : (o : BinaryOperator) (y : Value) → Changes (lift (applied o y (value_in g))) m m' (Ok v) → Steps plan (Ended g) (RightOperand o y ∷ stack_of plan stack) m (Ok is_returned) (with_value stack v) m'
   right_steps o y p = onward refl (λ k. right_gives _ _ _ p) (omega arith) p.steps p.streams
 
-  pub assigned_steps : (name : List ℕ) → Changes (store name x) m m' (Ok v) → Steps plan (Ended (flow.Return x)) (AssignedValue name ∷ st) m (Ok (returned v)) st m'
+  pub assigned_steps : (name : List ℕ) → Changes (store name (value_in g)) m m' (Ok v) → Steps plan (Ended g) (AssignedValue name ∷ stack_of plan stack) m (Ok is_returned) (with_value stack v) m'
   assigned_steps name p = onward refl (λ k. assigned_gives _ _ p) (omega arith) p.steps p.streams
 
-  pub assigned_by_steps : (o : BinaryOperator) (name : List ℕ) → Changes (store_by o name x) m m' (Ok v) → Steps plan (Ended (flow.Return x)) (AssignedByValue o name ∷ st) m (Ok (returned v)) st m'
+  pub assigned_by_steps : (o : BinaryOperator) (name : List ℕ) → Changes (store_by o name (value_in g)) m m' (Ok v) → Steps plan (Ended g) (AssignedByValue o name ∷ stack_of plan stack) m (Ok is_returned) (with_value stack v) m'
   assigned_by_steps o name p = onward refl (λ k. assigned_by_gives _ _ _ p) (omega arith) p.steps p.streams
 
-module _ {plan : Program} {x : Value} {h : Halt} {st st' : List Entry} {m m' : Interpreter} where
-  pub field_fails : Changes (field_at x) m m' (Err h) → Steps plan (Ended (flow.Return x)) (FieldNumber ∷ st) m (Err h) st' m'
+module _ {plan : Program} (g : Flow) {h : Halt} {st : List Entry} {new : Stack} {m m' : Interpreter} where
+  pub field_fails : Changes (field_at (value_in g)) m m' (Err h) → Steps plan (Ended g) (FieldNumber ∷ st) m (Err h) new m'
   field_fails p = halts (λ k. field_stops _ p) p.steps p.streams
 
-  pub right_fails : (o : BinaryOperator) (y : Value) → Changes (lift (applied o y x)) m m' (Err h) → Steps plan (Ended (flow.Return x)) (RightOperand o y ∷ st) m (Err h) st' m'
+  pub right_fails : (o : BinaryOperator) (y : Value) → Changes (lift (applied o y (value_in g))) m m' (Err h) → Steps plan (Ended g) (RightOperand o y ∷ st) m (Err h) new m'
   right_fails o y p = halts (λ k. right_stops _ _ _ p) p.steps p.streams
 
-  pub assigned_fails : (name : List ℕ) → Changes (store name x) m m' (Err h) → Steps plan (Ended (flow.Return x)) (AssignedValue name ∷ st) m (Err h) st' m'
+  pub assigned_fails : (name : List ℕ) → Changes (store name (value_in g)) m m' (Err h) → Steps plan (Ended g) (AssignedValue name ∷ st) m (Err h) new m'
   assigned_fails name p = halts (λ k. assigned_stops _ _ p) p.steps p.streams
 
-  pub assigned_by_fails : (o : BinaryOperator) (name : List ℕ) → Changes (store_by o name x) m m' (Err h) → Steps plan (Ended (flow.Return x)) (AssignedByValue o name ∷ st) m (Err h) st' m'
+  pub assigned_by_fails : (o : BinaryOperator) (name : List ℕ) → Changes (store_by o name (value_in g)) m m' (Err h) → Steps plan (Ended g) (AssignedByValue o name ∷ st) m (Err h) new m'
   assigned_by_fails o name p = halts (λ k. assigned_by_stops _ _ _ p) p.steps p.streams
 
-module _ {plan : Program} {x : Value} {st : List Entry} {m : Interpreter} where
-  pub unary_steps : (o : UnaryOperator) (v : Value) → Yields (Ok v) (changed o x) → Steps plan (Ended (flow.Return x)) (UnaryOperand o ∷ st) m (Ok (returned v)) st m
-  unary_steps o v p = onward refl (λ k. unary_gives _ _ (lift_changes (changed o x) m p)) (omega arith) (omega arith) refl
+module _ {plan : Program} (stack : Stack) (g : Flow) {m : Interpreter} where
+  pub unary_steps : (o : UnaryOperator) (v : Value) → Yields (Ok v) (changed o (value_in g)) → Steps plan (Ended g) (UnaryOperand o ∷ stack_of plan stack) m (Ok is_returned) (with_value stack v) m
+  unary_steps o v p = onward refl (λ k. unary_gives _ _ (lift_changes (changed o (value_in g)) m p)) (omega arith) (omega arith) refl
 
-  pub unary_fails : {st' : List Entry} (o : UnaryOperator) (h : Halt) → Yields (Err h) (changed o x) → Steps plan (Ended (flow.Return x)) (UnaryOperand o ∷ st) m (Err h) st' m
-  unary_fails o h p = halts (λ k. unary_stops _ _ (lift_changes (changed o x) m p)) (omega arith) refl
+  pub unary_fails : {st : List Entry} {new : Stack} (o : UnaryOperator) (h : Halt) → Yields (Err h) (changed o (value_in g)) → Steps plan (Ended g) (UnaryOperand o ∷ st) m (Err h) new m
+  unary_fails o h p = halts (λ k. unary_stops _ _ (lift_changes (changed o (value_in g)) m p)) (omega arith) refl
 
-  pub logical_steps : Steps plan (Ended (flow.Return x)) (LogicalRight ∷ st) m (Ok (returned (truth_value (truth_of x)))) st m
+  pub logical_steps : Steps plan (Ended g) (LogicalRight ∷ stack_of plan stack) m (Ok is_returned) (with_value stack (truth_value (truth_of (value_in g)))) m
   logical_steps = onward refl (λ k. logical_gives _) (omega arith) (omega arith) refl

@@ -8,14 +8,14 @@ use Rattle.awk_meaning.specs.declared.flow.Flow.TheVariants as flow
 use Rattle.awk_meaning.specs.declared.halt.Halt.{Halt}
 use Rattle.awk_meaning.specs.declared.halt.Halt.TheVariants as halt
 use Rattle.awk_meaning.specs.declared.fault.Fault.TheVariants.{OutOfMemory}
-use Rattle.awk_interpreter.proofs.Composition.{then_simulates, ends_simulates, lift_simulates, memory_simulates, change_simulates}
+use Rattle.awk_interpreter.proofs.Composition.{assoc_at, then_simulates, ends_simulates, lift_simulates, memory_simulates, change_simulates}
 use Rattle.awk_meaning.specs.State.{Run, State, ◌>>=◌, ret}
 use Rattle.awk_meaning.specs.Primitives.{spend, record_text, print_line}
 use Rattle.awk_meaning.specs.Semantics.{eval, eval_all, printed_values, print, exec_simple, exec}
 use Rattle.awk_interpreter.specs.declared.interpreter.Interpreter.{Interpreter}
 use Rattle.awk_interpreter.specs.Simulation.{Changes, Spends, Follows}
 use Rattle.awk_machine.specs.support.Stack.{value_in, valued, step, Entry, Printed, BeginExpr, BeginStatement, Ended, run_of, Rest, Leads}
-use Rattle.awk_machine.proofs.Laws.{assoc_at, given_first, same_rest, then_rest, halted_rest, pop_rest}
+use Rattle.awk_machine.proofs.Laws.{given_first, same_rest, then_rest, halted_rest, pop_rest}
 use Rattle.awk_machine.proofs.Moves.{later_same, awaited_at, awaits_more, unspent, spent_awaits}
 
 -- a print without a list

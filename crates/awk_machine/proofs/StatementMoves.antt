@@ -13,8 +13,8 @@ use Rattle.awk_meaning.specs.Semantics.{tested, choose, eval, begin_test, exit_w
 use Rattle.awk_interpreter.specs.declared.interpreter.Interpreter.{Interpreter}
 use Rattle.awk_interpreter.specs.Simulation.{Changes, Spends}
 use Rattle.awk_machine.specs.support.Stack.{value_in, valued, step, Entry, Evaluated, ExitStatus, Followed, IfCondition, IfElseCondition, BeginExpr, BeginStatement, BeginBlock, Ended, run_of, Rest, Leads}
-use Rattle.awk_interpreter.proofs.Composition.{ends_simulates, lift_simulates, change_simulates}
-use Rattle.awk_machine.proofs.Laws.{assoc_at, then_rest, pop_rest}
+use Rattle.awk_interpreter.proofs.Composition.{assoc_at, ends_simulates, lift_simulates, change_simulates}
+use Rattle.awk_machine.proofs.Laws.{then_rest, pop_rest}
 use Rattle.awk_machine.proofs.Moves.{awaited_at, tested_at, stops, passes_on, begins_as, begins_with, unspent, spent, spent_awaits}
 
 -- statements without a step

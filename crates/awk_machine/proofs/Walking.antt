@@ -12,10 +12,12 @@ use Rattle.awk_interpreter.specs.declared.interpreter.Interpreter.{Interpreter}
 use Rattle.awk_interpreter.specs.Simulation.{Follows}
 use Rattle.awk_machine.specs.declared.stack.Entry.{Entry as CodeEntry}
 use Rattle.awk_machine.specs.declared.stack.Focus.{Focus as CodeFocus}
+use Rattle.awk_machine.specs.declared.stack.Passed.{Passed}
+use Rattle.awk_machine.specs.declared.stack.Stack.{Stack}
 use Rattle.awk_machine.specs.declared.stack.Move.TheVariants as move
 use Rattle.awk_machine.specs.declared.machine.Stage.TheVariants as stage
 use Rattle.awk_machine.specs.support.Stack.{value_in, resume, Entry, Focus, BeginExpr, BeginBlock, Ended, run_of, Rest, Leads, work}
-use Rattle.awk_machine.specs.support.Moves.{focus_of, Moves, Walks, Runs, Tests}
+use Rattle.awk_machine.specs.support.Moves.{focus_of, flow_of, stack_of, Moves, Walks, Runs, Tests}
 use Rattle.std.proofs.lemmas.List.{append-nil}
 use Rattle.awk_interpreter.proofs.Composition.{then_simulates, ends_simulates, lift_simulates}
 use Rattle.awk_machine.proofs.Laws.{same_simulates}
@@ -34,17 +36,17 @@ pub record Walking (is_logged : Type 0) (f : Focus) (st : List Entry) (m : Inter
 pub walk_starts : {is_logged : Type 0} {f : Focus} {st : List Entry} {m : Interpreter} {k : WorldState} → Walking is_logged f st m k f st m k
 walk_starts = record { leads = record { leads = λ new after r d. d }; steps = omega arith }
 
-module _ {is_logged : Type 0} {plan : Program} {f f1 : Focus} {st st1 st2 : List Entry} {m m1 m2 : Interpreter} {k k1 k2 : WorldState} (p : Walking is_logged f st m k f1 st1 m1 k1) where
-  pub walk_on : {c : CodeFocus} → Moves is_logged plan f1 st1 m1 k1 (Ok (move.On c)) st2 m2 k2 → Walking is_logged f st m k (focus_of plan c) st2 m2 k2
+module _ {is_logged : Type 0} {plan : Program} {f f1 : Focus} {st st1 : List Entry} {new : Stack} {m m1 m2 : Interpreter} {k k1 k2 : WorldState} (p : Walking is_logged f st m k f1 st1 m1 k1) where
+  pub walk_on : {c : CodeFocus} → Moves is_logged plan f1 st1 m1 k1 (Ok (move.On c)) new m2 k2 → Walking is_logged f st m k (focus_of plan c new.returned) (stack_of plan new) m2 k2
   walk_on q = record { leads = record { leads = λ new after r d. p.leads.leads new after r (q.moved.leads.leads new after r d) }; steps = let x = p.steps in let y = q.moved.steps in omega (arith, x, y) }
 
-  pub walk_spends : {c : CodeFocus} → Moves is_logged plan f1 st1 m1 k1 (Ok (move.Spent c)) st2 m2 k2 → Walks is_logged plan f st m k (Ok (stage.Spent c)) st2 m2 k2
+  pub walk_spends : {c : CodeFocus} → Moves is_logged plan f1 st1 m1 k1 (Ok (move.Spent c)) new m2 k2 → Walks is_logged plan f st m k (Ok (stage.Spent c)) new m2 k2
   walk_spends q = record { walked = record { leads = record { leads = λ new after r d. p.leads.leads new after r (q.moved.leads.leads new after r d) }; falls = let x = p.steps in let y = q.moved.falls in omega (arith, x, y) } }
 
-  pub walk_halts : {h : Halt} → Moves is_logged plan f1 st1 m1 k1 (Err h) st2 m2 k2 → Walks is_logged plan f st m k (Err h) st2 m2 k2
+  pub walk_halts : {h : Halt} → Moves is_logged plan f1 st1 m1 k1 (Err h) new m2 k2 → Walks is_logged plan f st m k (Err h) new m2 k2
   walk_halts q = record { walked = p.leads.leads _ _ _ q.moved }
 
-pub walk_falls : {is_logged : Type 0} {plan : Program} {f1 : Focus} {st1 st2 : List Entry} {m1 m2 : Interpreter} {k1 k2 : WorldState} {c : CodeFocus} → Moves is_logged plan f1 st1 m1 k1 (Ok (move.On c)) st2 m2 k2 → work (focus_of plan c) st2 < work f1 st1
+pub walk_falls : {is_logged : Type 0} {plan : Program} {f1 : Focus} {st1 : List Entry} {new : Stack} {m1 m2 : Interpreter} {k1 k2 : WorldState} {c : CodeFocus} → Moves is_logged plan f1 st1 m1 k1 (Ok (move.On c)) new m2 k2 → work (focus_of plan c new.returned) (stack_of plan new) < work f1 st1
 walk_falls q = q.moved.less
 
 -- nothing is left
@@ -52,10 +54,11 @@ over_rest : {is_logged : Type 0} (g : Flow) (m : Interpreter) (k : WorldState) �
 unfolding run_of resume
 over_rest g m k = record { simulates = λ bs all. then_simulates _ (lift_simulates (Ok g) m k refl) (lift_simulates (Ok g) m k refl) }
 
-pub walk_ends : {is_logged : Type 0} {plan : Program} {f f1 : Focus} {st st1 st2 : List Entry} {m m1 m2 : Interpreter} {k k1 k2 : WorldState} (p : Walking is_logged f st m k f1 st1 m1 k1) {g : Flow} → Moves is_logged plan f1 st1 m1 k1 (Ok (move.Over g)) st2 m2 k2 → Walks is_logged plan f st m k (Ok (stage.Over g)) st2 m2 k2
-walk_ends {is_logged = is_logged} {st1 = st1} {m1 = m1} {m2 = m2} {k1 = k1} {k2 = k2} p {g} q =
-    let d : Rest is_logged (Ended g) [] m1 k1 m2 k2 (Ok g) = subst (λ x. Rest is_logged (Ended g) [] m1 k1 x k2 (Ok g)) (sym q.moved.interpreter) (subst (λ x. Rest is_logged (Ended g) [] m1 k1 m1 x (Ok g)) (sym q.moved.world) (over_rest g m1 k1)) in
-    record { walked = p.leads.leads _ _ _ (subst (λ x. Rest is_logged x st1 m1 k1 m2 k2 (Ok g)) (sym q.moved.focus) (subst (λ x. Rest is_logged (Ended g) x m1 k1 m2 k2 (Ok g)) (sym q.moved.stack) d)) }
+pub walk_ends : {is_logged : Type 0} {plan : Program} {f f1 : Focus} {st st1 : List Entry} {new : Stack} {m m1 m2 : Interpreter} {k k1 k2 : WorldState} (p : Walking is_logged f st m k f1 st1 m1 k1) {x : Passed} → Moves is_logged plan f1 st1 m1 k1 (Ok (move.Over x)) new m2 k2 → Walks is_logged plan f st m k (Ok (stage.Over x)) new m2 k2
+walk_ends {is_logged = is_logged} {st1 = st1} {new = new} {m1 = m1} {m2 = m2} {k1 = k1} {k2 = k2} p {x} q =
+    let g = flow_of x new.returned in
+    let d : Rest is_logged (Ended g) [] m1 k1 m2 k2 (Ok g) = subst (λ y. Rest is_logged (Ended g) [] m1 k1 y k2 (Ok g)) (sym q.moved.interpreter) (subst (λ y. Rest is_logged (Ended g) [] m1 k1 m1 y (Ok g)) (sym q.moved.world) (over_rest g m1 k1)) in
+    record { walked = p.leads.leads _ _ _ (subst (λ y. Rest is_logged y st1 m1 k1 m2 k2 (Ok g)) (sym q.moved.focus) (subst (λ y. Rest is_logged (Ended g) y m1 k1 m2 k2 (Ok g)) (sym q.moved.stack) d)) }
 
 -- the whole of a part
 
@@ -64,7 +67,7 @@ unfolding go_on lift
 unit_by (Ok a) t effects = ap (λ l. record { result = Ok a; state = t; effects = l }) (append-nil effects)
 unit_by (Err h) t effects = refl
 
-unit_at : {A : Type 0} (x : Run A) (s : State) → x s ≡ (x >>= λ a. lift (Ok a)) s
+pub unit_at : {A : Type 0} (x : Run A) (s : State) → x s ≡ (x >>= λ a. lift (Ok a)) s
 unfolding ◌>>=◌
 unit_at x s = sym (unit_by (x s).result (x s).state (x s).effects)
 
@@ -75,17 +78,17 @@ whole f {m = m} d = record { simulates = same_simulates _ _ (λ s low. unit_at (
 pub run_starts : {is_logged : Type 0} {f : Focus} {m : Interpreter} {k : WorldState} → Leads is_logged f [] m k f [] m k
 run_starts = record { leads = λ new after r d. d }
 
-module _ {is_logged : Type 0} {plan : Program} {f f1 : Focus} {st1 st2 : List Entry} {m m1 m2 : Interpreter} {k k1 k2 : WorldState} (p : Leads is_logged f [] m k f1 st1 m1 k1) where
-  pub run_on : {c : CodeFocus} → Walks is_logged plan f1 st1 m1 k1 (Ok (stage.Spent c)) st2 m2 k2 → Leads is_logged f [] m k (focus_of plan c) st2 m2 k2
+module _ {is_logged : Type 0} {plan : Program} {f f1 : Focus} {st1 : List Entry} {left : Stack} {m m1 m2 : Interpreter} {k k1 k2 : WorldState} (p : Leads is_logged f [] m k f1 st1 m1 k1) where
+  pub run_on : {c : CodeFocus} → Walks is_logged plan f1 st1 m1 k1 (Ok (stage.Spent c)) left m2 k2 → Leads is_logged f [] m k (focus_of plan c left.returned) (stack_of plan left) m2 k2
   run_on q = record { leads = λ new after r d. p.leads new after r (q.walked.leads.leads new after r d) }
 
-  pub run_ends : {g : Flow} → Walks is_logged plan f1 st1 m1 k1 (Ok (stage.Over g)) st2 m2 k2 → Runs is_logged f m k m2 k2 (Ok g)
+  pub run_ends : {x : Passed} → Walks is_logged plan f1 st1 m1 k1 (Ok (stage.Over x)) left m2 k2 → Runs is_logged f m k m2 k2 (Ok (flow_of x left.returned))
   run_ends q = whole f (p.leads _ _ _ q.walked)
 
-  pub run_halts : {h : Halt} → Walks is_logged plan f1 st1 m1 k1 (Err h) st2 m2 k2 → Runs is_logged f m k m2 k2 (Err h)
+  pub run_halts : {h : Halt} → Walks is_logged plan f1 st1 m1 k1 (Err h) left m2 k2 → Runs is_logged f m k m2 k2 (Err h)
   run_halts q = whole f (p.leads _ _ _ q.walked)
 
-pub run_falls : {is_logged : Type 0} {plan : Program} {f1 : Focus} {st1 st2 : List Entry} {m1 m2 : Interpreter} {k1 k2 : WorldState} {c : CodeFocus} → Walks is_logged plan f1 st1 m1 k1 (Ok (stage.Spent c)) st2 m2 k2 → m2.steps < m1.steps
+pub run_falls : {is_logged : Type 0} {plan : Program} {f1 : Focus} {st1 : List Entry} {left : Stack} {m1 m2 : Interpreter} {k1 k2 : WorldState} {c : CodeFocus} → Walks is_logged plan f1 st1 m1 k1 (Ok (stage.Spent c)) left m2 k2 → m2.steps < m1.steps
 run_falls q = q.walked.falls
 
 -- an expression that is tested, and an action

@@ -1,3 +1,4 @@
 pub mod Stack
 pub mod Nodes
 pub mod Moves
+pub mod Reaching

@@ -1,6 +1,7 @@
 // The moves of expressions: each begins with its first operand, and goes on where that has returned its value.
 
 ghost use Rattle.std.specs.Prelude.{◌≡◌, ◌∷◌, ◌<◌, length, None, Ok};
+ghost use Rattle.awk_value.specs.declared.value.Value.TheVariants.{Nothing};
 ghost use Rattle.awk_value.specs.Values.{truth_of};
 ghost use Rattle.awk_plan.specs.Plan.{operand_of, made_expr, part_of};
 ghost use Rattle.awk_plan.specs.Order.{HasEre};
@@ -9,35 +10,52 @@ ghost use Rattle.awk_tree.specs.Tree.{Binary, Field};
 ghost use Rattle.awk_meaning.specs.Operators.{takes_pattern};
 ghost use Rattle.awk_machine.specs.support.Nodes.{IsPatternOperand};
 ghost use Rattle.awk_machine.specs.support.Stack.{BeginExpr, Ended, LeftOperand, AndLeft, OrLeft, Condition, value_in};
-ghost use Rattle.awk_machine.specs.support.Moves.{ReadsLeaf, Steps, Awaits, stack_of, topped, returned};
+ghost use Rattle.awk_machine.specs.support.Moves.{ReadsLeaf, Steps, Awaits, stack_of, topped, flow_of, with_value, is_returned};
 
 use crate::assignments::{post_increment, pre_increment, store, store_by};
 use crate::nodes::{constant, expression, name, pattern_operand, record_matches};
-use crate::stack::{Entry, Focus, Move, OperandEntry, Stack};
+use crate::stack::{Entry, Focus, Move, OperandEntry, Passed, Stack};
 use awk_interpreter::Interpreter;
-use awk_meaning::{Flow, Halt};
+use awk_meaning::Halt;
 use awk_operators::{change, truth_value};
 use awk_plan::node::{ExprNode, Operand};
 use awk_plan::plan::Plan;
 use awk_tree::tree::BinaryOperator;
 use awk_value::{Value, is_true};
+use std::mem;
 
-/// An expression has this value.
-fn returned(value: Value) -> Move
-    ensures { result ≡ returned value }
+/// An expression returns this value.
+fn give(value: Value, stack: &mut Stack) -> Move
+    ensures gives { result ≡ is_returned }
+    ensures stack { stack.new ≡ with_value stack.old value }
 {
-    Move::On(Focus::Ended(Flow::Return(value)))
+    stack.returned = value;
+    Move::On(Focus::Ended(Passed::Returned))
 }
 
-/// The value that an expression returned.
-pub(crate) fn value_in(flow: Flow) -> Value
-    ensures { result ≡ value_in flow }
+/// Takes the value that an expression returned; a statement returns none.
+pub(crate) fn take_value(passed: Passed, stack: &mut Stack) -> Value
+    ensures value { result ≡ value_in (flow_of passed stack.old.returned) }
+    ensures stack { stack.new ≡ with_value stack.old Nothing }
 {
-    match flow {
-        Flow::Return(value) => value,
-        Flow::Normal => Value::Nothing,
-        Flow::Break => Value::Nothing,
-        Flow::Continue => Value::Nothing,
+    let value = mem::replace(&mut stack.returned, Value::Nothing);
+    match passed {
+        Passed::Returned => value,
+        Passed::Normal => Value::Nothing,
+        Passed::Break => Value::Nothing,
+        Passed::Continue => Value::Nothing,
+    }
+}
+
+/// Whether an expression returned a value that is true.
+pub(crate) fn is_returned_true(passed: Passed, stack: &Stack) -> bool
+    ensures { result ≡ truth_of (value_in (flow_of passed stack.now.returned)) }
+{
+    match passed {
+        Passed::Returned => is_true(&stack.returned),
+        Passed::Normal => false,
+        Passed::Break => false,
+        Passed::Continue => false,
     }
 }
 
@@ -83,7 +101,7 @@ fn begin_binary(
     interpreter: &mut Interpreter,
 ) -> Result<Move, Halt>
     ensures { Steps plan.now (BeginExpr (Binary operator (operand_of plan.now a) (operand_of plan.now b)))
-        (stack_of plan.now stack.old) interpreter.old result (stack_of plan.now stack.new) interpreter.new }
+        (stack_of plan.now stack.old) interpreter.old result stack.new interpreter.new }
 {
     let left = leaf(plan, a, interpreter)?;
     match left {
@@ -100,13 +118,13 @@ fn begin_field(
     interpreter: &mut Interpreter,
 ) -> Result<Move, Halt>
     ensures { Steps plan.now (BeginExpr (Field (operand_of plan.now e))) (stack_of plan.now stack.old) interpreter.old
-        result (stack_of plan.now stack.new) interpreter.new }
+        result stack.new interpreter.new }
 {
     let number = leaf(plan, e, interpreter)?;
     match number {
         Some(at) => {
             let value = interpreter.field_at(&at)?;
-            Ok(returned(value))
+            Ok(give(value, stack))
         }
         None => await_operand(OperandEntry::FieldNumber, e, stack),
     }
@@ -120,20 +138,20 @@ pub(crate) fn begin_expr(
     interpreter: &mut Interpreter,
 ) -> Result<Move, Halt>
     ensures { Steps plan.now (BeginExpr (operand_of plan.now e)) (stack_of plan.now stack.old) interpreter.old
-        result (stack_of plan.now stack.new) interpreter.new }
+        result stack.new interpreter.new }
 {
     match e {
         Operand::Constant(number) => {
             let value = constant(plan, number)?;
-            Ok(returned(value))
+            Ok(give(value, stack))
         }
         Operand::Variable(number) => {
             let value = interpreter.read_variable(number, name(plan, number))?;
-            Ok(returned(value))
+            Ok(give(value, stack))
         }
         Operand::Node(place) => match expression(plan, place) {
             Some(node) => begin_node(plan, node, stack, interpreter),
-            None => Ok(returned(Value::Number(0))),
+            None => Ok(give(Value::Number(0), stack)),
         },
     }
 }
@@ -147,17 +165,17 @@ fn begin_node(
 ) -> Result<Move, Halt>
     requires { HasEre (length plan.now.tables.eres) (Expression node) }
     ensures { Steps plan.now (BeginExpr (made_expr plan.now.tables (part_of plan.now) node))
-        (stack_of plan.now stack.old) interpreter.old result (stack_of plan.now stack.new) interpreter.new }
+        (stack_of plan.now stack.old) interpreter.old result stack.new interpreter.new }
 {
     match node {
         ExprNode::Group(e) => Ok(Move::On(Focus::Expr(e))),
         ExprNode::Ere(number) => {
             let value = record_matches(plan.ere(number), interpreter)?;
-            Ok(returned(value))
+            Ok(give(value, stack))
         }
         ExprNode::FieldCount => {
             let value = interpreter.read_name(b"NF")?;
-            Ok(returned(value))
+            Ok(give(value, stack))
         }
         ExprNode::Field(e) => begin_field(plan, e, stack, interpreter),
         ExprNode::Unary(operator, e) => await_operand(OperandEntry::Unary(operator), e, stack),
@@ -173,11 +191,11 @@ fn begin_node(
         }
         ExprNode::PreIncrement(operator, number) => {
             let value = pre_increment(operator, number, name(plan, number), interpreter)?;
-            Ok(returned(value))
+            Ok(give(value, stack))
         }
         ExprNode::PostIncrement(operator, number) => {
             let value = post_increment(operator, number, name(plan, number), interpreter)?;
-            Ok(returned(value))
+            Ok(give(value, stack))
         }
     }
 }
@@ -191,15 +209,15 @@ fn begin_right(
     stack: &mut Stack,
     interpreter: &mut Interpreter,
 ) -> Result<Move, Halt>
-    ensures { IsPatternOperand (takes_pattern operator) (operand_of plan.now b) None → Steps plan.now (Ended (Flow.Return x))
-        (LeftOperand operator (operand_of plan.now b) ∷ stack_of plan.now stack.old) interpreter.old result
-        (stack_of plan.now stack.new) interpreter.new }
+    ensures { IsPatternOperand (takes_pattern operator) (operand_of plan.now b) None → (g : _) → value_in g ≡ x →
+        Steps plan.now (Ended g) (LeftOperand operator (operand_of plan.now b) ∷ stack_of plan.now stack.old)
+        interpreter.old result stack.new interpreter.new }
 {
     let right = leaf(plan, b, interpreter)?;
     match right {
         Some(y) => {
             let value = interpreter.apply(operator, &x, &y)?;
-            Ok(returned(value))
+            Ok(give(value, stack))
         }
         None => {
             stack.values.push(x)?;
@@ -217,13 +235,13 @@ fn end_left(
     stack: &mut Stack,
     interpreter: &mut Interpreter,
 ) -> Result<Move, Halt>
-    ensures { Steps plan.now (Ended (Flow.Return x)) (topped plan.now (Entry.Expr (OperandEntry.Left operator b)) stack.old)
-        interpreter.old result (stack_of plan.now stack.new) interpreter.new }
+    ensures { (g : _) → value_in g ≡ x → Steps plan.now (Ended g) (topped plan.now (Entry.Expr
+        (OperandEntry.Left operator b)) stack.old) interpreter.old result stack.new interpreter.new }
 {
     match pattern_operand(plan, operator, b) {
         Some(ere) => {
             let value = interpreter.apply_ere(operator, &x, ere)?;
-            Ok(returned(value))
+            Ok(give(value, stack))
         }
         None => begin_right(plan, operator, b, x, stack, interpreter),
     }
@@ -231,23 +249,23 @@ fn end_left(
 
 /// Goes on behind the left operand of `&&`: the right one is evaluated where that is true.
 fn end_and(b: Operand, is_true: bool, stack: &mut Stack) -> Result<Move, Halt>
-    ensures { (plan : _) (v : _) (m : _) → truth_of v ≡ is_true → Steps plan (Ended (Flow.Return v)) (AndLeft (operand_of plan b)
-        ∷ stack_of plan stack.old) m result (stack_of plan stack.new) m }
+    ensures { (plan : _) (g : _) (m : _) → truth_of (value_in g) ≡ is_true → Steps plan (Ended g) (AndLeft (operand_of plan b)
+        ∷ stack_of plan stack.old) m result stack.new m }
 {
     if is_true {
         await_operand(OperandEntry::LogicalRight, b, stack)
     } else {
-        Ok(returned(truth_value(false)))
+        Ok(give(truth_value(false), stack))
     }
 }
 
 /// Goes on behind the left operand of `||`: the right one is evaluated where that is false.
 fn end_or(b: Operand, is_true: bool, stack: &mut Stack) -> Result<Move, Halt>
-    ensures { (plan : _) (v : _) (m : _) → truth_of v ≡ is_true → Steps plan (Ended (Flow.Return v)) (OrLeft (operand_of plan b)
-        ∷ stack_of plan stack.old) m result (stack_of plan stack.new) m }
+    ensures { (plan : _) (g : _) (m : _) → truth_of (value_in g) ≡ is_true → Steps plan (Ended g) (OrLeft (operand_of plan b)
+        ∷ stack_of plan stack.old) m result stack.new m }
 {
     if is_true {
-        Ok(returned(truth_value(true)))
+        Ok(give(truth_value(true), stack))
     } else {
         await_operand(OperandEntry::LogicalRight, b, stack)
     }
@@ -255,8 +273,8 @@ fn end_or(b: Operand, is_true: bool, stack: &mut Stack) -> Result<Move, Halt>
 
 /// What `?:` goes on with behind its condition.
 fn chosen(a: Operand, b: Operand, is_true: bool) -> Move
-    ensures { (plan : _) (v : _) (st : _) (m : _) → truth_of v ≡ is_true → Steps plan (Ended (Flow.Return v)) (Condition
-        (operand_of plan a) (operand_of plan b) ∷ st) m (Ok result) st m }
+    ensures { (plan : _) (g : _) (stack : _) (m : _) → truth_of (value_in g) ≡ is_true → Steps plan (Ended g) (Condition
+        (operand_of plan a) (operand_of plan b) ∷ stack_of plan stack) m (Ok result) stack m }
 {
     if is_true {
         Move::On(Focus::Expr(a))
@@ -265,43 +283,54 @@ fn chosen(a: Operand, b: Operand, is_true: bool) -> Move
     }
 }
 
-/// Goes on behind an operand of an expression, which has this value.
+/// Goes on behind an operand of an expression.
 pub(crate) fn end_operand(
     plan: &Plan,
     entry: OperandEntry,
-    value: Value,
+    passed: Passed,
     stack: &mut Stack,
     interpreter: &mut Interpreter,
 ) -> Result<Move, Halt>
-    ensures { Steps plan.now (Ended (Flow.Return value)) (topped plan.now (Entry.Expr entry) stack.old) interpreter.old
-        result (stack_of plan.now stack.new) interpreter.new }
+    ensures { Steps plan.now (Ended (flow_of passed stack.old.returned)) (topped plan.now (Entry.Expr entry) stack.old)
+        interpreter.old result stack.new interpreter.new }
 {
     match entry {
         OperandEntry::FieldNumber => {
+            let value = take_value(passed, stack);
             let field = interpreter.field_at(&value)?;
-            Ok(returned(field))
+            Ok(give(field, stack))
         }
         OperandEntry::Unary(operator) => {
+            let value = take_value(passed, stack);
             let changed = change(operator, &value)?;
-            Ok(returned(changed))
+            Ok(give(changed, stack))
         }
-        OperandEntry::Left(operator, b) => end_left(plan, operator, b, value, stack, interpreter),
+        OperandEntry::Left(operator, b) => {
+            let x = take_value(passed, stack);
+            end_left(plan, operator, b, x, stack, interpreter)
+        }
         OperandEntry::Right(operator) => {
+            let y = take_value(passed, stack);
             let x = stack.values.pop().unwrap_or(Value::Nothing);
-            let applied = interpreter.apply(operator, &x, &value)?;
-            Ok(returned(applied))
+            let applied = interpreter.apply(operator, &x, &y)?;
+            Ok(give(applied, stack))
         }
         OperandEntry::Assigned(number) => {
+            let value = take_value(passed, stack);
             let stored = store(number, name(plan, number), value, interpreter)?;
-            Ok(returned(stored))
+            Ok(give(stored, stack))
         }
         OperandEntry::AssignedBy(operator, number) => {
+            let value = take_value(passed, stack);
             let stored = store_by(operator, number, name(plan, number), &value, interpreter)?;
-            Ok(returned(stored))
+            Ok(give(stored, stack))
         }
-        OperandEntry::AndLeft(b) => end_and(b, is_true(&value), stack),
-        OperandEntry::OrLeft(b) => end_or(b, is_true(&value), stack),
-        OperandEntry::LogicalRight => Ok(returned(truth_value(is_true(&value)))),
-        OperandEntry::Condition(a, b) => Ok(chosen(a, b, is_true(&value))),
+        OperandEntry::AndLeft(b) => end_and(b, is_returned_true(passed, stack), stack),
+        OperandEntry::OrLeft(b) => end_or(b, is_returned_true(passed, stack), stack),
+        OperandEntry::LogicalRight => {
+            let truth = truth_value(is_returned_true(passed, stack));
+            Ok(give(truth, stack))
+        }
+        OperandEntry::Condition(a, b) => Ok(chosen(a, b, is_returned_true(passed, stack))),
     }
 }

@@ -3,6 +3,7 @@
 
 mod assignments;
 mod expressions;
+pub mod in_place;
 mod loops;
 mod machine;
 mod nodes;
@@ -12,3 +13,4 @@ mod statements;
 
 pub use machine::{holds, run_action};
 pub use prints::print_record;
+pub use stack::Stack;

@@ -1,30 +1,28 @@
 // The moves of loops: a turn spends a step, and between two of them stand the last part and the condition.
 
 ghost use Rattle.std.specs.Prelude.{◌≡◌, ◌∷◌, None};
-ghost use Rattle.awk_tree.specs.Tree.{Simple, Expression};
-ghost use Rattle.awk_plan.specs.Plan.{operand_of};
+ghost use Rattle.std.specs.Option.{option_map};
 ghost use Rattle.awk_meaning.specs.Semantics.{ending};
 ghost use Rattle.awk_machine.specs.support.Stack.{BeginStatement, Ended, LastPart, LoopTurn};
-ghost use Rattle.awk_machine.specs.support.Moves.{Steps, SpendsFor, stack_of, loop_of, for_of, topped};
+ghost use Rattle.awk_machine.specs.support.Moves.{Steps, SpendsFor, stack_of, loop_of, for_of, topped, flow_of};
 
-use crate::expressions::{await_value, value_in};
+use crate::expressions::{await_value, is_returned_true};
+use crate::in_place::{Turns, execute_last, make_turns};
 use crate::nodes::simple;
-use crate::stack::{Entry, Focus, Loop, LoopEntry, Move, Stack, StatementEntry};
-use awk_fast_path::{evaluate, test};
+use crate::stack::{Entry, Focus, Loop, LoopEntry, Move, Passed, Stack};
 use awk_interpreter::Interpreter;
-use awk_meaning::{Flow, Halt};
-use awk_plan::node::{Operand, SimpleNode};
+use awk_meaning::Halt;
 use awk_plan::plan::Plan;
-use awk_value::is_true;
 
 /// How a loop passes on behind a turn of its body, if it ends with it.
-fn ending(flow: Flow) -> Option<Flow>
-    ensures { result ≡ ending flow }
+pub(crate) fn ending(passed: Passed) -> Option<Passed>
+    ensures { (v : _) → ending (flow_of passed v) ≡ option_map (λ next. flow_of next v) result }
 {
-    match flow {
-        Flow::Normal | Flow::Continue => None,
-        Flow::Break => Some(Flow::Normal),
-        Flow::Return(value) => Some(Flow::Return(value)),
+    match passed {
+        Passed::Normal => None,
+        Passed::Continue => None,
+        Passed::Break => Some(Passed::Normal),
+        Passed::Returned => Some(Passed::Returned),
     }
 }
 
@@ -38,7 +36,18 @@ fn begin_turn(l: Loop, stack: &mut Stack, interpreter: &mut Interpreter) -> Resu
     Ok(Move::Spent(Focus::Statement(l.body)))
 }
 
-/// Begins the condition of a loop, or the turn behind it where that is found in place; without one the next turn.
+/// Begins the condition of a loop; without one the next turn.
+fn await_condition(l: Loop, stack: &mut Stack, interpreter: &mut Interpreter) -> Result<Move, Halt>
+    ensures { (plan : _) (g : _) → Steps plan (Ended g) (LastPart (loop_of plan l) ∷ stack_of plan stack.old) interpreter.old
+        result stack.new interpreter.new }
+{
+    match l.condition {
+        Some(e) => await_value(Entry::Loop(LoopEntry::Condition, l), e, stack),
+        None => begin_turn(l, stack, interpreter),
+    }
+}
+
+/// Makes turns of a loop, and begins what they come to.
 fn begin_condition(
     plan: &Plan,
     l: Loop,
@@ -46,41 +55,23 @@ fn begin_condition(
     interpreter: &mut Interpreter,
 ) -> Result<Move, Halt>
     ensures { (g : _) → Steps plan.now (Ended g) (LastPart (loop_of plan.now l) ∷ stack_of plan.now stack.old) interpreter.old
-        result (stack_of plan.now stack.new) interpreter.new }
+        result stack.new interpreter.new }
 {
-    let Some(e) = l.condition else {
-        return begin_turn(l, stack, interpreter);
-    };
-    match test(plan, e, interpreter) {
-        Some(true) => begin_turn(l, stack, interpreter),
-        Some(false) => Ok(Move::On(Focus::Ended(Flow::Normal))),
-        None => await_value(Entry::Loop(LoopEntry::Condition, l), e, stack),
+    match make_turns(plan, l, interpreter) {
+        Turns::Ended(passed) => Ok(Move::On(Focus::Ended(passed))),
+        Turns::Condition => await_condition(l, stack, interpreter),
+        Turns::Body(focus) => {
+            stack.entries.push(Entry::Loop(LoopEntry::Turn, l))?;
+            Ok(Move::Spent(focus))
+        }
+        Turns::Last(place) => {
+            stack.entries.push(Entry::Loop(LoopEntry::LastPart, l))?;
+            Ok(Move::Spent(Focus::Statement(place)))
+        }
     }
 }
 
-/// Begins an expression that is the last part of a loop, or the condition behind it where it is evaluated in place.
-fn begin_last_expr(
-    plan: &Plan,
-    l: Loop,
-    e: Operand,
-    stack: &mut Stack,
-    interpreter: &mut Interpreter,
-) -> Result<Move, Halt>
-    ensures { Steps plan.now (BeginStatement (Simple (Expression (operand_of plan.now e)))) (LastPart (loop_of plan.now
-        l) ∷ stack_of plan.now stack.old) interpreter.old result (stack_of plan.now stack.new) interpreter.new }
-{
-    interpreter.spend()?;
-    if evaluate(plan, e, interpreter) {
-        return begin_condition(plan, l, stack, interpreter);
-    }
-    stack.entries.push(Entry::Loop(LoopEntry::LastPart, l))?;
-    stack
-        .entries
-        .push(Entry::Statement(StatementEntry::Evaluated))?;
-    Ok(Move::Spent(Focus::Expr(e)))
-}
-
-/// Begins the last part of a loop; without one its condition.
+/// Begins the last part of a loop; without one, or behind it where it is executed in place, its condition.
 fn begin_last(
     plan: &Plan,
     l: Loop,
@@ -88,18 +79,14 @@ fn begin_last(
     interpreter: &mut Interpreter,
 ) -> Result<Move, Halt>
     ensures { (g : _) → ending g ≡ None → Steps plan.now (Ended g) (LoopTurn (loop_of plan.now l) ∷ stack_of plan.now stack.old)
-        interpreter.old result (stack_of plan.now stack.new) interpreter.new }
+        interpreter.old result stack.new interpreter.new }
 {
-    let Some(place) = l.last else {
-        return begin_condition(plan, l, stack, interpreter);
-    };
-    match simple(plan, place) {
-        Some(SimpleNode::Evaluate(e)) => begin_last_expr(plan, l, e, stack, interpreter),
-        Some(_) => {
+    match execute_last(plan, l, interpreter) {
+        None => begin_condition(plan, l, stack, interpreter),
+        Some(place) => {
             stack.entries.push(Entry::Loop(LoopEntry::LastPart, l))?;
             Ok(Move::On(Focus::Statement(place)))
         }
-        None => begin_condition(plan, l, stack, interpreter),
     }
 }
 
@@ -108,29 +95,29 @@ pub(crate) fn end_loop(
     plan: &Plan,
     entry: LoopEntry,
     l: Loop,
-    flow: Flow,
+    passed: Passed,
     stack: &mut Stack,
     interpreter: &mut Interpreter,
 ) -> Result<Move, Halt>
-    ensures { Steps plan.now (Ended flow) (topped plan.now (Entry.Loop entry l) stack.old) interpreter.old result
-        (stack_of plan.now stack.new) interpreter.new }
+    ensures { Steps plan.now (Ended (flow_of passed stack.old.returned)) (topped plan.now (Entry.Loop entry l) stack.old)
+        interpreter.old result stack.new interpreter.new }
 {
     match entry {
         LoopEntry::FirstPart => begin_condition(plan, l, stack, interpreter),
         LoopEntry::LastPart => begin_condition(plan, l, stack, interpreter),
-        LoopEntry::FirstTurn => match ending(flow) {
-            Some(flow) => Ok(Move::On(Focus::Ended(flow))),
+        LoopEntry::FirstTurn => match ending(passed) {
+            Some(next) => Ok(Move::On(Focus::Ended(next))),
             None => begin_condition(plan, l, stack, interpreter),
         },
-        LoopEntry::Turn => match ending(flow) {
-            Some(flow) => Ok(Move::On(Focus::Ended(flow))),
+        LoopEntry::Turn => match ending(passed) {
+            Some(next) => Ok(Move::On(Focus::Ended(next))),
             None => begin_last(plan, l, stack, interpreter),
         },
         LoopEntry::Condition => {
-            if is_true(&value_in(flow)) {
+            if is_returned_true(passed, stack) {
                 begin_turn(l, stack, interpreter)
             } else {
-                Ok(Move::On(Focus::Ended(Flow::Normal)))
+                Ok(Move::On(Focus::Ended(Passed::Normal)))
             }
         }
     }
@@ -160,7 +147,7 @@ pub(crate) fn begin_for(
     interpreter: &mut Interpreter,
 ) -> Result<Move, Halt>
     ensures { Steps plan.now (BeginStatement (for_of plan.now first l)) (stack_of plan.now stack.old) interpreter.old result
-        (stack_of plan.now stack.new) interpreter.new }
+        stack.new interpreter.new }
 {
     match simple(plan, first) {
         Some(_) => begin_loop(
@@ -171,7 +158,7 @@ pub(crate) fn begin_for(
             interpreter,
         ),
         None => {
-            let next = Focus::Ended(Flow::Normal);
+            let next = Focus::Ended(Passed::Normal);
             begin_loop(LoopEntry::LastPart, l, next, stack, interpreter)
         }
     }

@@ -6,19 +6,20 @@ ghost use Rattle.awk_tree.specs.Tree.{Do};
 ghost use Rattle.awk_meaning.specs.Semantics.{run_action};
 ghost use Rattle.awk_interpreter.specs.Simulation.{Follows};
 ghost use Rattle.awk_machine.specs.support.Stack.{BeginStatement, BeginBlock, Ended};
-ghost use Rattle.awk_machine.specs.support.Moves.{Moves, Steps, Walks, Runs, Tests, stack_of, focus_of, topped};
+ghost use Rattle.awk_machine.specs.support.Moves.{Moves, Steps, Walks, Runs, Tests, stack_of, focus_of, topped, flow_of, ran};
 
-use crate::expressions::{begin_expr, end_operand, value_in};
+use crate::expressions::{begin_expr, end_operand, is_returned_true};
 use crate::loops::{begin_for, begin_loop, end_loop};
-use crate::stack::{Entry, Focus, Loop, LoopEntry, Move, Stack, StatementEntry};
+use crate::stack::{Entry, Focus, Loop, LoopEntry, Move, Passed, Stack, StatementEntry};
 use crate::statements::{begin_block, begin_simple, end_statement, spend_for};
 use awk_fast_path::test;
 use awk_interpreter::Interpreter;
-use awk_meaning::{Flow, Halt};
+use awk_meaning::Halt;
 use awk_plan::node::{Node, Operand, StatementNode};
 use awk_plan::plan::Plan;
 use awk_streams::World;
-use awk_value::is_true;
+use awk_value::Value;
+use std::alloc::Global;
 
 /// Begins a `do`: the step of the statement, and then that of its first turn.
 fn begin_do(
@@ -29,7 +30,7 @@ fn begin_do(
     interpreter: &mut Interpreter,
 ) -> Result<Move, Halt>
     ensures { Steps plan.now (BeginStatement (Do (statement_in (part_of plan.now body)) (operand_of plan.now condition))) (stack_of
-        plan.now stack.old) interpreter.old result (stack_of plan.now stack.new) interpreter.new }
+        plan.now stack.old) interpreter.old result stack.new interpreter.new }
 {
     let l = Loop {
         condition: Some(condition),
@@ -50,10 +51,10 @@ fn begin_compound(
     interpreter: &mut Interpreter,
 ) -> Result<Move, Halt>
     ensures { Steps plan.now (BeginStatement (made_statement plan.now.tables (part_of plan.now) node)) (stack_of plan.now
-        stack.old) interpreter.old result (stack_of plan.now stack.new) interpreter.new }
+        stack.old) interpreter.old result stack.new interpreter.new }
 {
     match node {
-        StatementNode::Empty => Ok(Move::On(Focus::Ended(Flow::Normal))),
+        StatementNode::Empty => Ok(Move::On(Focus::Ended(Passed::Normal))),
         StatementNode::Block(place) => Ok(Move::On(Focus::Block(place))),
         StatementNode::If(condition, body) => {
             let entry = Entry::Statement(StatementEntry::IfCondition(body));
@@ -72,7 +73,7 @@ fn begin_compound(
             begin_loop(
                 LoopEntry::LastPart,
                 l,
-                Focus::Ended(Flow::Normal),
+                Focus::Ended(Passed::Normal),
                 stack,
                 interpreter,
             )
@@ -108,17 +109,16 @@ fn begin_statement<W: World>(
     world: &mut W,
 ) -> Result<Move, Halt>
     ensures { Moves W.is_logged plan.now (BeginStatement (statement_in (part_of plan.now place))) (stack_of plan.now
-        stack.old) interpreter.old (W.state world.old) result (stack_of plan.now stack.new) interpreter.new
-        (W.state world.new) }
+        stack.old) interpreter.old (W.state world.old) result stack.new interpreter.new (W.state world.new) }
 {
     match plan.node(place) {
         Some(Node::Simple(node)) => begin_simple(plan, node, stack, interpreter, world),
         Some(Node::Statement(node)) => begin_compound(plan, node, stack, interpreter),
-        Some(Node::Expression(_)) => Ok(Move::On(Focus::Ended(Flow::Normal))),
-        Some(Node::List(_)) => Ok(Move::On(Focus::Ended(Flow::Normal))),
-        Some(Node::Block(_)) => Ok(Move::On(Focus::Ended(Flow::Normal))),
-        Some(Node::Absent) => Ok(Move::On(Focus::Ended(Flow::Normal))),
-        None => Ok(Move::On(Focus::Ended(Flow::Normal))),
+        Some(Node::Expression(_)) => Ok(Move::On(Focus::Ended(Passed::Normal))),
+        Some(Node::List(_)) => Ok(Move::On(Focus::Ended(Passed::Normal))),
+        Some(Node::Block(_)) => Ok(Move::On(Focus::Ended(Passed::Normal))),
+        Some(Node::Absent) => Ok(Move::On(Focus::Ended(Passed::Normal))),
+        None => Ok(Move::On(Focus::Ended(Passed::Normal))),
     }
 }
 
@@ -126,18 +126,18 @@ fn begin_statement<W: World>(
 fn resume<W: World>(
     plan: &Plan,
     entry: Entry,
-    flow: Flow,
+    passed: Passed,
     stack: &mut Stack,
     interpreter: &mut Interpreter,
     world: &mut W,
 ) -> Result<Move, Halt>
-    ensures { Moves W.is_logged plan.now (Ended flow) (topped plan.now entry stack.old) interpreter.old
-        (W.state world.old) result (stack_of plan.now stack.new) interpreter.new (W.state world.new) }
+    ensures { Moves W.is_logged plan.now (Ended (flow_of passed stack.old.returned)) (topped plan.now entry stack.old)
+        interpreter.old (W.state world.old) result stack.new interpreter.new (W.state world.new) }
 {
     match entry {
-        Entry::Expr(entry) => end_operand(plan, entry, value_in(flow), stack, interpreter),
-        Entry::Statement(entry) => end_statement(plan, entry, flow, stack, interpreter, world),
-        Entry::Loop(entry, l) => end_loop(plan, entry, l, flow, stack, interpreter),
+        Entry::Expr(entry) => end_operand(plan, entry, passed, stack, interpreter),
+        Entry::Statement(entry) => end_statement(plan, entry, passed, stack, interpreter, world),
+        Entry::Loop(entry, l) => end_loop(plan, entry, l, passed, stack, interpreter),
     }
 }
 
@@ -149,25 +149,25 @@ fn go_on<W: World>(
     interpreter: &mut Interpreter,
     world: &mut W,
 ) -> Result<Move, Halt>
-    ensures { Moves W.is_logged plan.now (focus_of plan.now focus) (stack_of plan.now stack.old) interpreter.old
-        (W.state world.old) result (stack_of plan.now stack.new) interpreter.new (W.state world.new) }
+    ensures { Moves W.is_logged plan.now (focus_of plan.now focus stack.old.returned) (stack_of plan.now stack.old)
+        interpreter.old (W.state world.old) result stack.new interpreter.new (W.state world.new) }
 {
     match focus {
         Focus::Expr(e) => begin_expr(plan, e, stack, interpreter),
         Focus::Statement(place) => begin_statement(plan, place, stack, interpreter, world),
-        Focus::Block(place) => begin_block(plan, place, stack),
-        Focus::Ended(flow) => match stack.entries.pop() {
-            None => Ok(Move::Over(flow)),
-            Some(entry) => resume(plan, entry, flow, stack, interpreter, world),
+        Focus::Block(place) => begin_block(plan, place, stack, interpreter),
+        Focus::Ended(passed) => match stack.entries.pop() {
+            None => Ok(Move::Over(passed)),
+            Some(entry) => resume(plan, entry, passed, stack, interpreter, world),
         },
     }
 }
 
 /// Where moves without a step end: behind a step, or where nothing is left.
-#[derive(Drop)]
+#[derive(Clone, Copy)]
 pub enum Stage {
     Spent(Focus),
-    Over(Flow),
+    Over(Passed),
 }
 
 /// Moves until one has spent a step.
@@ -178,15 +178,15 @@ fn walk<W: World>(
     interpreter: &mut Interpreter,
     world: &mut W,
 ) -> Result<Stage, Halt>
-    ensures { Walks W.is_logged plan.now (focus_of plan.now focus) (stack_of plan.now stack.old) interpreter.old
-        (W.state world.old) result (stack_of plan.now stack.new) interpreter.new (W.state world.new) }
+    ensures { Walks W.is_logged plan.now (focus_of plan.now focus stack.old.returned) (stack_of plan.now stack.old)
+        interpreter.old (W.state world.old) result stack.new interpreter.new (W.state world.new) }
 {
     let mut place = focus;
     'moves: loop {
         match go_on(plan, place, stack, interpreter, world)? {
             Move::On(next) => place = next,
             Move::Spent(next) => return Ok(Stage::Spent(next)),
-            Move::Over(flow) => return Ok(Stage::Over(flow)),
+            Move::Over(passed) => return Ok(Stage::Over(passed)),
         }
     }
 }
@@ -195,29 +195,40 @@ fn walk<W: World>(
 fn run<W: World>(
     plan: &Plan,
     focus: Focus,
+    stack: &mut Stack,
     interpreter: &mut Interpreter,
     world: &mut W,
-) -> Result<Flow, Halt>
-    ensures { Runs W.is_logged (focus_of plan.now focus) interpreter.old (W.state world.old)
-        interpreter.new (W.state world.new) result }
+) -> Result<Passed, Halt>
+    ensures { Runs W.is_logged (focus_of plan.now focus stack.old.returned) interpreter.old (W.state world.old)
+        interpreter.new (W.state world.new) (ran result stack.new.returned) }
 {
-    let mut stack = Stack {
-        entries: Vec::new(interpreter.alloc),
-        values: Vec::new(interpreter.alloc),
-    };
+    stack.entries.clear();
+    stack.values.clear();
     let mut place = focus;
     'steps: loop {
-        match walk(plan, place, &mut stack, interpreter, world)? {
+        match walk(plan, place, stack, interpreter, world)? {
             Stage::Spent(next) => place = next,
-            Stage::Over(flow) => return Ok(flow),
+            Stage::Over(passed) => return Ok(passed),
         }
     }
 }
 
-/// Whether an expression is true.
+impl Stack {
+    /// A stack without entries.
+    pub fn new(alloc: Global) -> Stack {
+        Stack {
+            entries: Vec::new(alloc),
+            values: Vec::new(alloc),
+            returned: Value::Nothing,
+        }
+    }
+}
+
+/// Whether an expression is true. What was in the stack is gone.
 pub fn holds<W: World>(
     plan: &Plan,
     e: Operand,
+    stack: &mut Stack,
     interpreter: &mut Interpreter,
     world: &mut W,
 ) -> Result<bool, Halt>
@@ -227,20 +238,21 @@ pub fn holds<W: World>(
     if let Some(holds) = test(plan, e, interpreter) {
         return Ok(holds);
     }
-    let flow = run(plan, Focus::Expr(e), interpreter, world)?;
-    Ok(is_true(&value_in(flow)))
+    let passed = run(plan, Focus::Expr(e), stack, interpreter, world)?;
+    Ok(is_returned_true(passed, stack))
 }
 
-/// Runs an action, which ends with its statements (POSIX awk, Actions).
+/// Runs an action, which ends with its statements. What was in the stack is gone. (POSIX awk, Actions)
 pub fn run_action<W: World>(
     plan: &Plan,
     place: u32,
+    stack: &mut Stack,
     interpreter: &mut Interpreter,
     world: &mut W,
 ) -> Result<(), Halt>
     ensures { Follows W.is_logged (run_action (statements_in (part_of plan.now place))) interpreter.old
         (W.state world.old) interpreter.new (W.state world.new) result }
 {
-    run(plan, Focus::Block(place), interpreter, world)?;
+    run(plan, Focus::Block(place), stack, interpreter, world)?;
     Ok(())
 }

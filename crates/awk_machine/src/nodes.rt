@@ -1,10 +1,10 @@
 // The nodes of a plan, each by its sort, and its leaves. A place of another sort stands for what is least: 0, the empty list, no
 // statement.
 
-ghost use Rattle.std.specs.Prelude.{◌≡◌, option_map};
-ghost use Rattle.awk_plan.specs.Plan.{part_of, operand_of, name_at};
+ghost use Rattle.std.specs.Prelude.{◌≡◌, IfSome, option_map};
+ghost use Rattle.awk_plan.specs.Plan.{part_of, operand_of, name_at, statement_in, statements_in};
 ghost use Rattle.awk_plan.specs.declared.node.Operand.TheVariants.{Constant, Variable};
-ghost use Rattle.awk_tree.specs.Tree.{Ere as Pattern};
+ghost use Rattle.awk_tree.specs.Tree.{Block, Ere as Pattern};
 ghost use Rattle.awk_meaning.specs.Operators.{takes_pattern};
 ghost use Rattle.awk_meaning.specs.Semantics.{eval};
 ghost use Rattle.awk_interpreter.specs.Simulation.{Changes};
@@ -13,7 +13,7 @@ ghost use Rattle.awk_machine.specs.support.Nodes.{IsExpression, IsList, IsSimple
 use awk_interpreter::Interpreter;
 use awk_meaning::Halt;
 use awk_operators::takes_pattern;
-use awk_plan::node::{BlockNode, ExprNode, ListNode, Node, Operand, SimpleNode};
+use awk_plan::node::{BlockNode, ExprNode, ListNode, Node, Operand, SimpleNode, StatementNode};
 use awk_plan::plan::Plan;
 use awk_tree::tree::{BinaryOperator, Ere};
 use awk_value::Value;
@@ -60,6 +60,16 @@ pub(crate) fn block(plan: &Plan, place: u32) -> BlockNode
         Some(Node::Statement(_)) => BlockNode::NoMore,
         Some(Node::Absent) => BlockNode::NoMore,
         None => BlockNode::NoMore,
+    }
+}
+
+/// The place of the statements of a block, if one stands at a place.
+pub(crate) fn block_at(plan: &Plan, place: u32) -> Option<u32>
+    ensures { IfSome result (λ all. statement_in (part_of plan.now place) ≡ Block (statements_in (part_of plan.now all))) }
+{
+    match plan.node(place) {
+        Some(Node::Statement(StatementNode::Block(all))) => Some(all),
+        _ => None,
     }
 }
 

@@ -5,18 +5,17 @@ ghost use Rattle.awk_tree.specs.Tree.{Simple, Print, Nil};
 ghost use Rattle.awk_meaning.specs.Semantics.{print};
 ghost use Rattle.awk_interpreter.specs.Simulation.{Follows};
 ghost use Rattle.awk_machine.specs.support.Stack.{BeginStatement, Ended};
-ghost use Rattle.awk_machine.specs.support.Moves.{Moves, stack_of, topped};
+ghost use Rattle.awk_machine.specs.support.Moves.{Moves, stack_of, topped, flow_of};
 
-use crate::expressions::await_value;
+use crate::expressions::{await_value, take_value};
 use crate::nodes::list;
-use crate::stack::{Entry, Focus, Move, Stack, StatementEntry};
+use crate::stack::{Entry, Focus, Move, Passed, Stack, StatementEntry};
 use crate::statements::spend_for;
 use awk_interpreter::Interpreter;
-use awk_meaning::{Fault, Flow, Halt};
+use awk_meaning::{Fault, Halt};
 use awk_plan::node::ListNode;
 use awk_plan::plan::Plan;
 use awk_streams::World;
-use awk_value::Value;
 
 /// Prints the record (POSIX awk, Output Statements).
 pub fn print_record<W: World>(interpreter: &mut Interpreter, world: &mut W) -> Result<(), Halt>
@@ -38,13 +37,13 @@ pub(crate) fn begin_print<W: World>(
     world: &mut W,
 ) -> Result<Move, Halt>
     ensures { Moves W.is_logged plan.now (BeginStatement (Simple (Print (exprs_in (part_of plan.now place)))))
-        (stack_of plan.now stack.old) interpreter.old (W.state world.old) result (stack_of plan.now stack.new)
-        interpreter.new (W.state world.new) }
+        (stack_of plan.now stack.old) interpreter.old (W.state world.old) result stack.new interpreter.new
+        (W.state world.new) }
 {
     match list(plan, place) {
         ListNode::Nil => {
             print_record(interpreter, world)?;
-            Ok(Move::On(Focus::Ended(Flow::Normal)))
+            Ok(Move::On(Focus::Ended(Passed::Normal)))
         }
         ListNode::Cons(e, rest) => {
             let entry = Entry::Statement(StatementEntry::Printed(rest, 0));
@@ -58,25 +57,26 @@ pub(crate) fn end_printed<W: World>(
     plan: &Plan,
     rest: u32,
     count: usize,
-    value: Value,
+    passed: Passed,
     stack: &mut Stack,
     interpreter: &mut Interpreter,
     world: &mut W,
 ) -> Result<Move, Halt>
-    ensures { Moves W.is_logged plan.now (Ended (Flow.Return value)) (topped plan.now
+    ensures { Moves W.is_logged plan.now (Ended (flow_of passed stack.old.returned)) (topped plan.now
         (Entry.Statement (StatementEntry.Printed rest count)) stack.old) interpreter.old (W.state world.old) result
-        (stack_of plan.now stack.new) interpreter.new (W.state world.new) }
+        stack.new interpreter.new (W.state world.new) }
 {
     let Some(count) = count.checked_add(1) else {
         return Err(Halt::Fault(Fault::OutOfMemory));
     };
+    let value = take_value(passed, stack);
     stack.values.push(value)?;
     match list(plan, rest) {
         ListNode::Nil => {
             let from = stack.values.len().saturating_sub(count);
             interpreter.print_line(world, &stack.values[from..])?;
             stack.values.truncate(from);
-            Ok(Move::On(Focus::Ended(Flow::Normal)))
+            Ok(Move::On(Focus::Ended(Passed::Normal)))
         }
         ListNode::Cons(e, rest) => {
             await_value(

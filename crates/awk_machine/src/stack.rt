@@ -1,6 +1,5 @@
 // What has begun and not ended: an entry for each part of the program, and the values that are kept for them.
 
-use awk_meaning::Flow;
 use awk_plan::node::Operand;
 use awk_tree::tree::{BinaryOperator, UnaryOperator};
 use awk_value::Value;
@@ -70,26 +69,37 @@ pub enum Entry {
     Loop(LoopEntry, Loop),
 }
 
-/// The entries and the values that are kept for them, the newest last.
+/// The entries and the values that are kept for them, the newest last, and the value that an expression returned.
 #[derive(Drop)]
 pub struct Stack {
     pub entries: Vec<Entry>,
     pub values: Vec<Value>,
+    pub returned: Value,
 }
 
-/// Where a run stands: before a part, or behind one that passed on so. An expression returns its value.
-#[derive(Drop)]
+/// How a part passed on: an expression has returned its value, which is in the stack; a statement goes on to the next
+/// one, or leaves by `break` or `continue`.
+#[derive(Clone, Copy)]
+pub enum Passed {
+    Returned,
+    Normal,
+    Break,
+    Continue,
+}
+
+/// Where a run stands: before a part, or behind one that passed on so.
+#[derive(Clone, Copy)]
 pub enum Focus {
     Expr(Operand),
     Statement(u32),
     Block(u32),
-    Ended(Flow),
+    Ended(Passed),
 }
 
 /// What a move comes to: a place without a step, one behind a step, or the end.
-#[derive(Drop)]
+#[derive(Clone, Copy)]
 pub enum Move {
     On(Focus),
     Spent(Focus),
-    Over(Flow),
+    Over(Passed),
 }

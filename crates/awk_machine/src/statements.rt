@@ -4,19 +4,18 @@ ghost use Rattle.std.specs.Prelude.{◌≡◌, [], ◌∷◌};
 ghost use Rattle.awk_plan.specs.Plan.{operand_of, made_simple, part_of, exprs_in, statement_in, statements_in};
 ghost use Rattle.awk_tree.specs.Tree.{Simple, Expression};
 ghost use Rattle.awk_machine.specs.support.Stack.{BeginStatement, BeginBlock, Ended};
-ghost use Rattle.awk_machine.specs.support.Moves.{Moves, Steps, SpendsFor, stack_of, topped};
+ghost use Rattle.awk_machine.specs.support.Moves.{Moves, Steps, SpendsFor, stack_of, topped, flow_of};
 
-use crate::expressions::value_in;
+use crate::expressions::{is_returned_true, take_value};
+use crate::in_place::{Reached, advance};
 use crate::nodes::block;
 use crate::prints::{begin_print, end_printed};
-use crate::stack::{Entry, Focus, Move, Stack, StatementEntry};
-use awk_fast_path::evaluate;
+use crate::stack::{Entry, Focus, Move, Passed, Stack, StatementEntry};
 use awk_interpreter::Interpreter;
-use awk_meaning::{Flow, Halt};
+use awk_meaning::Halt;
 use awk_plan::node::{BlockNode, Operand, SimpleNode};
 use awk_plan::plan::Plan;
 use awk_streams::World;
-use awk_value::is_true;
 
 /// Begins an expression of a statement, behind the statement's step.
 pub(crate) fn spend_for(
@@ -32,26 +31,6 @@ pub(crate) fn spend_for(
     Ok(Move::Spent(Focus::Expr(e)))
 }
 
-/// Begins an expression that is a statement, and ends it where it is evaluated in place.
-fn begin_evaluate(
-    plan: &Plan,
-    e: Operand,
-    stack: &mut Stack,
-    interpreter: &mut Interpreter,
-) -> Result<Move, Halt>
-    ensures { Steps plan.now (BeginStatement (Simple (Expression (operand_of plan.now e)))) (stack_of plan.now stack.old)
-        interpreter.old result (stack_of plan.now stack.new) interpreter.new }
-{
-    interpreter.spend()?;
-    if evaluate(plan, e, interpreter) {
-        return Ok(Move::Spent(Focus::Ended(Flow::Normal)));
-    }
-    stack
-        .entries
-        .push(Entry::Statement(StatementEntry::Evaluated))?;
-    Ok(Move::Spent(Focus::Expr(e)))
-}
-
 /// Begins a simple statement (POSIX awk, Actions).
 pub(crate) fn begin_simple<W: World>(
     plan: &Plan,
@@ -61,12 +40,19 @@ pub(crate) fn begin_simple<W: World>(
     world: &mut W,
 ) -> Result<Move, Halt>
     ensures { Moves W.is_logged plan.now (BeginStatement (Simple (made_simple plan.now.tables (part_of plan.now) simple)))
-        (stack_of plan.now stack.old) interpreter.old (W.state world.old) result (stack_of plan.now stack.new)
-        interpreter.new (W.state world.new) }
+        (stack_of plan.now stack.old) interpreter.old (W.state world.old) result stack.new interpreter.new
+        (W.state world.new) }
 {
     match simple {
         SimpleNode::Print(list) => begin_print(plan, list, stack, interpreter, world),
-        SimpleNode::Evaluate(e) => begin_evaluate(plan, e, stack, interpreter),
+        SimpleNode::Evaluate(e) => {
+            spend_for(
+                Entry::Statement(StatementEntry::Evaluated),
+                e,
+                stack,
+                interpreter,
+            )
+        }
         SimpleNode::ExitWith(e) => {
             spend_for(
                 Entry::Statement(StatementEntry::ExitStatus),
@@ -85,22 +71,22 @@ pub(crate) fn begin_simple<W: World>(
         }
         SimpleNode::Break => {
             interpreter.spend()?;
-            Ok(Move::Spent(Focus::Ended(Flow::Break)))
+            Ok(Move::Spent(Focus::Ended(Passed::Break)))
         }
         SimpleNode::Continue => {
             interpreter.spend()?;
-            Ok(Move::Spent(Focus::Ended(Flow::Continue)))
+            Ok(Move::Spent(Focus::Ended(Passed::Continue)))
         }
     }
 }
 
-/// Begins statements.
-pub(crate) fn begin_block(plan: &Plan, place: u32, stack: &mut Stack) -> Result<Move, Halt>
+/// Begins the first of statements.
+fn begin_first(plan: &Plan, place: u32, stack: &mut Stack) -> Result<Move, Halt>
     ensures { (m : _) → Steps plan.now (BeginBlock (statements_in (part_of plan.now place))) (stack_of plan.now stack.old) m
-        result (stack_of plan.now stack.new) m }
+        result stack.new m }
 {
     match block(plan, place) {
-        BlockNode::NoMore => Ok(Move::On(Focus::Ended(Flow::Normal))),
+        BlockNode::NoMore => Ok(Move::On(Focus::Ended(Passed::Normal))),
         BlockNode::Then(statement, rest) => {
             let entry = Entry::Statement(StatementEntry::Followed(rest));
             stack.entries.push(entry)?;
@@ -109,42 +95,60 @@ pub(crate) fn begin_block(plan: &Plan, place: u32, stack: &mut Stack) -> Result<
     }
 }
 
+/// Begins statements, behind those that are executed in place.
+pub(crate) fn begin_block(
+    plan: &Plan,
+    place: u32,
+    stack: &mut Stack,
+    interpreter: &mut Interpreter,
+) -> Result<Move, Halt>
+    ensures { Steps plan.now (BeginBlock (statements_in (part_of plan.now place))) (stack_of plan.now stack.old)
+        interpreter.old result stack.new interpreter.new }
+{
+    match advance(plan, place, interpreter) {
+        Reached::Before(at) => begin_first(plan, at, stack),
+        Reached::Ended(passed) => Ok(Move::On(Focus::Ended(passed))),
+    }
+}
+
 /// Goes on behind what a statement waits for.
 pub(crate) fn end_statement<W: World>(
     plan: &Plan,
     entry: StatementEntry,
-    flow: Flow,
+    passed: Passed,
     stack: &mut Stack,
     interpreter: &mut Interpreter,
     world: &mut W,
 ) -> Result<Move, Halt>
-    ensures { Moves W.is_logged plan.now (Ended flow) (topped plan.now (Entry.Statement entry) stack.old) interpreter.old
-        (W.state world.old) result (stack_of plan.now stack.new) interpreter.new (W.state world.new) }
+    ensures { Moves W.is_logged plan.now (Ended (flow_of passed stack.old.returned)) (topped plan.now
+        (Entry.Statement entry) stack.old) interpreter.old (W.state world.old) result stack.new interpreter.new
+        (W.state world.new) }
 {
     match entry {
         StatementEntry::Printed(rest, count) => {
-            end_printed(plan, rest, count, value_in(flow), stack, interpreter, world)
+            end_printed(plan, rest, count, passed, stack, interpreter, world)
         }
-        StatementEntry::Evaluated => Ok(Move::On(Focus::Ended(Flow::Normal))),
+        StatementEntry::Evaluated => Ok(Move::On(Focus::Ended(Passed::Normal))),
         StatementEntry::ExitStatus => {
-            interpreter.set_status(&value_in(flow))?;
+            let value = take_value(passed, stack);
+            interpreter.set_status(&value)?;
             Err(Halt::Exit)
         }
-        StatementEntry::Followed(rest) => match flow {
-            Flow::Normal => Ok(Move::On(Focus::Block(rest))),
-            Flow::Break => Ok(Move::On(Focus::Ended(Flow::Break))),
-            Flow::Continue => Ok(Move::On(Focus::Ended(Flow::Continue))),
-            Flow::Return(value) => Ok(Move::On(Focus::Ended(Flow::Return(value)))),
+        StatementEntry::Followed(rest) => match passed {
+            Passed::Normal => Ok(Move::On(Focus::Block(rest))),
+            Passed::Break => Ok(Move::On(Focus::Ended(Passed::Break))),
+            Passed::Continue => Ok(Move::On(Focus::Ended(Passed::Continue))),
+            Passed::Returned => Ok(Move::On(Focus::Ended(Passed::Returned))),
         },
         StatementEntry::IfCondition(body) => {
-            if is_true(&value_in(flow)) {
+            if is_returned_true(passed, stack) {
                 Ok(Move::On(Focus::Statement(body)))
             } else {
-                Ok(Move::On(Focus::Ended(Flow::Normal)))
+                Ok(Move::On(Focus::Ended(Passed::Normal)))
             }
         }
         StatementEntry::IfElseCondition(body, other) => {
-            if is_true(&value_in(flow)) {
+            if is_returned_true(passed, stack) {
                 Ok(Move::On(Focus::Statement(body)))
             } else {
                 Ok(Move::On(Focus::Statement(other)))

@@ -10,7 +10,7 @@ ghost use Rattle.awk_run.specs.support.Items.{Tells, Selects, Tries, TriesAll, B
 ghost use Rattle.awk_meaning.specs.Semantics.{in_range, go_through, try_items, unless_next, until_next, is_rule, has_rule, unless_exit};
 
 use awk_interpreter::Interpreter;
-use awk_machine::{holds, print_record, run_action};
+use awk_machine::{Stack, holds, print_record, run_action};
 use awk_meaning::Halt;
 use awk_plan::node::Operand;
 use awk_plan::plan::{Item, Pattern, Plan};
@@ -21,6 +21,7 @@ fn in_range<W: World>(
     plan: &Plan,
     from: Operand,
     number: usize,
+    stack: &mut Stack,
     interpreter: &mut Interpreter,
     world: &mut W,
 ) -> Result<bool, Halt>
@@ -30,7 +31,7 @@ fn in_range<W: World>(
     if interpreter.is_inside(number) {
         return Ok(true);
     }
-    holds(plan, from, interpreter, world)
+    holds(plan, from, stack, interpreter, world)
 }
 
 /// Notes whether a range that is entered on this record is inside behind it.
@@ -38,13 +39,14 @@ fn go_through<W: World>(
     plan: &Plan,
     to: Operand,
     number: usize,
+    stack: &mut Stack,
     interpreter: &mut Interpreter,
     world: &mut W,
 ) -> Result<bool, Halt>
     ensures { Tells W.is_logged (go_through number (operand_of plan.now to)) interpreter.old (W.state world.old)
         interpreter.new (W.state world.new) result }
 {
-    let ends = holds(plan, to, interpreter, world)?;
+    let ends = holds(plan, to, stack, interpreter, world)?;
     interpreter.set_inside(number, !ends)?;
     Ok(true)
 }
@@ -54,6 +56,7 @@ fn selects<W: World>(
     plan: &Plan,
     pattern: Pattern,
     number: usize,
+    stack: &mut Stack,
     interpreter: &mut Interpreter,
     world: &mut W,
 ) -> Result<bool, Halt>
@@ -61,10 +64,10 @@ fn selects<W: World>(
         interpreter.new (W.state world.new) result }
 {
     match pattern {
-        Pattern::Single(e) => holds(plan, e, interpreter, world),
+        Pattern::Single(e) => holds(plan, e, stack, interpreter, world),
         Pattern::Range(from, to) => {
-            if in_range(plan, from, number, interpreter, world)? {
-                go_through(plan, to, number, interpreter, world)
+            if in_range(plan, from, number, stack, interpreter, world)? {
+                go_through(plan, to, number, stack, interpreter, world)
             } else {
                 Ok(false)
             }
@@ -77,13 +80,14 @@ fn try_pattern<W: World>(
     plan: &Plan,
     pattern: Pattern,
     number: usize,
+    stack: &mut Stack,
     interpreter: &mut Interpreter,
     world: &mut W,
 ) -> Result<(), Halt>
     ensures { Tries W.is_logged number (PatternOnly (pattern_of plan.now pattern)) interpreter.old (W.state world.old)
         interpreter.new (W.state world.new) result }
 {
-    if selects(plan, pattern, number, interpreter, world)? {
+    if selects(plan, pattern, number, stack, interpreter, world)? {
         print_record(interpreter, world)
     } else {
         Ok(())
@@ -95,6 +99,7 @@ fn try_item<W: World>(
     plan: &Plan,
     item: Item,
     number: usize,
+    stack: &mut Stack,
     interpreter: &mut Interpreter,
     world: &mut W,
 ) -> Result<(), Halt>
@@ -104,11 +109,11 @@ fn try_item<W: World>(
     match item {
         Item::Begin(_) => Ok(()),
         Item::End(_) => Ok(()),
-        Item::Action(block) => run_action(plan, block, interpreter, world),
-        Item::PatternOnly(pattern) => try_pattern(plan, pattern, number, interpreter, world),
+        Item::Action(block) => run_action(plan, block, stack, interpreter, world),
+        Item::PatternOnly(pattern) => try_pattern(plan, pattern, number, stack, interpreter, world),
         Item::PatternAction(pattern, block) => {
-            if selects(plan, pattern, number, interpreter, world)? {
-                run_action(plan, block, interpreter, world)
+            if selects(plan, pattern, number, stack, interpreter, world)? {
+                run_action(plan, block, stack, interpreter, world)
             } else {
                 Ok(())
             }
@@ -119,6 +124,7 @@ fn try_item<W: World>(
 /// Tries each item in turn.
 fn try_items<W: World>(
     plan: &Plan,
+    stack: &mut Stack,
     interpreter: &mut Interpreter,
     world: &mut W,
 ) -> Result<(), Halt>
@@ -127,7 +133,7 @@ fn try_items<W: World>(
 {
     let items = plan.items();
     for (number, item) in items.iter().enumerate() {
-        try_item(plan, *item, number, interpreter, world)?;
+        try_item(plan, *item, number, stack, interpreter, world)?;
     }
     Ok(())
 }
@@ -145,19 +151,21 @@ fn unless_next(tried: Result<(), Halt>) -> Result<(), Halt>
 /// Tries the items on the record at hand, until `next` (POSIX awk, Actions).
 fn try_until_next<W: World>(
     plan: &Plan,
+    stack: &mut Stack,
     interpreter: &mut Interpreter,
     world: &mut W,
 ) -> Result<(), Halt>
     ensures { Follows W.is_logged (until_next (try_items 0 (items_of plan.now))) interpreter.old
         (W.state world.old) interpreter.new (W.state world.new) result }
 {
-    unless_next(try_items(plan, interpreter, world))
+    unless_next(try_items(plan, stack, interpreter, world))
 }
 
 /// Runs the action of an item that comes before all records (POSIX awk, Patterns: BEGIN).
 fn begin_item<W: World>(
     plan: &Plan,
     item: Item,
+    stack: &mut Stack,
     interpreter: &mut Interpreter,
     world: &mut W,
 ) -> Result<(), Halt>
@@ -165,7 +173,7 @@ fn begin_item<W: World>(
         (W.state world.new) result }
 {
     match item {
-        Item::Begin(block) => run_action(plan, block, interpreter, world),
+        Item::Begin(block) => run_action(plan, block, stack, interpreter, world),
         _ => Ok(()),
     }
 }
@@ -173,6 +181,7 @@ fn begin_item<W: World>(
 /// Runs the actions that come before all records, in turn.
 fn begin_items<W: World>(
     plan: &Plan,
+    stack: &mut Stack,
     interpreter: &mut Interpreter,
     world: &mut W,
 ) -> Result<(), Halt>
@@ -181,7 +190,7 @@ fn begin_items<W: World>(
 {
     let items = plan.items();
     for item in items {
-        begin_item(plan, *item, interpreter, world)?;
+        begin_item(plan, *item, stack, interpreter, world)?;
     }
     Ok(())
 }
@@ -190,6 +199,7 @@ fn begin_items<W: World>(
 /// Structure).
 fn run_records<W: World>(
     plan: &Plan,
+    stack: &mut Stack,
     interpreter: &mut Interpreter,
     world: &mut W,
 ) -> Result<(), Halt>
@@ -201,7 +211,7 @@ fn run_records<W: World>(
     while let Some(text) = interpreter.next_record(world)? {
         interpreter.spend()?;
         interpreter.begin_record(text)?;
-        try_until_next(plan, interpreter, world)?;
+        try_until_next(plan, stack, interpreter, world)?;
     }
     Ok(())
 }
@@ -223,6 +233,7 @@ fn has_rule(plan: &Plan) -> bool
 /// stands, none is read. (POSIX awk, Overall Program Structure)
 fn run_before_end<W: World>(
     plan: &Plan,
+    stack: &mut Stack,
     interpreter: &mut Interpreter,
     world: &mut W,
 ) -> Result<(), Halt>
@@ -231,9 +242,9 @@ fn run_before_end<W: World>(
     ensures { RunsBeforeEnd W.is_logged (items_of plan.now) interpreter.old (W.state world.old) interpreter.new
         (W.state world.new) result }
 {
-    begin_items(plan, interpreter, world)?;
+    begin_items(plan, stack, interpreter, world)?;
     if has_rule(plan) {
-        run_records(plan, interpreter, world)?;
+        run_records(plan, stack, interpreter, world)?;
     }
     Ok(())
 }
@@ -252,6 +263,7 @@ fn unless_exit(ended: Result<(), Halt>) -> Result<(), Halt>
 fn end_item<W: World>(
     plan: &Plan,
     item: Item,
+    stack: &mut Stack,
     interpreter: &mut Interpreter,
     world: &mut W,
 ) -> Result<(), Halt>
@@ -259,7 +271,7 @@ fn end_item<W: World>(
         (W.state world.new) result }
 {
     match item {
-        Item::End(block) => run_action(plan, block, interpreter, world),
+        Item::End(block) => run_action(plan, block, stack, interpreter, world),
         _ => Ok(()),
     }
 }
@@ -267,6 +279,7 @@ fn end_item<W: World>(
 /// Runs the actions that come behind all records, in turn.
 fn end_items<W: World>(
     plan: &Plan,
+    stack: &mut Stack,
     interpreter: &mut Interpreter,
     world: &mut W,
 ) -> Result<(), Halt>
@@ -275,7 +288,7 @@ fn end_items<W: World>(
 {
     let items = plan.items();
     for item in items {
-        end_item(plan, *item, interpreter, world)?;
+        end_item(plan, *item, stack, interpreter, world)?;
     }
     Ok(())
 }
@@ -284,6 +297,7 @@ fn end_items<W: World>(
 /// Program Structure; Actions)
 pub fn run_items<W: World>(
     plan: &Plan,
+    stack: &mut Stack,
     interpreter: &mut Interpreter,
     world: &mut W,
 ) -> Result<(), Halt>
@@ -292,7 +306,7 @@ pub fn run_items<W: World>(
     ensures { RunsItems W.is_logged (items_of plan.now) interpreter.old (W.state world.old) interpreter.new
         (W.state world.new) result }
 {
-    let before = run_before_end(plan, interpreter, world);
+    let before = run_before_end(plan, stack, interpreter, world);
     unless_exit(before)?;
-    end_items(plan, interpreter, world)
+    end_items(plan, stack, interpreter, world)
 }

@@ -19,6 +19,7 @@ use crate::start::{Assignment, Start};
 use awk_interpreter::Interpreter;
 use awk_lex::lexer::tokens;
 use awk_lex::refusal::Refusal;
+use awk_machine::Stack;
 use awk_meaning::{Fault, Halt, Outcome};
 use awk_plan::lower;
 use awk_plan::plan::Plan;
@@ -78,7 +79,8 @@ fn assign_and_run<W: World>(
 {
     interpreter.declare(plan.names())?;
     assign_all(assignments, interpreter)?;
-    run_items(plan, interpreter, world)
+    let mut stack = Stack::new(interpreter.alloc);
+    run_items(plan, &mut stack, interpreter, world)
 }
 
 /// The end of a run that found no memory to begin.

@@ -22,6 +22,8 @@ use Rattle.awk_machine.specs.declared.stack.LoopEntry.TheVariants as l
 use Rattle.awk_machine.specs.declared.stack.Entry.{Entry as CodeEntry}
 use Rattle.awk_machine.specs.declared.stack.Entry.TheVariants as code
 use Rattle.awk_machine.specs.declared.stack.Stack.{Stack}
+use Rattle.awk_machine.specs.declared.stack.Passed.{Passed}
+use Rattle.awk_machine.specs.declared.stack.Passed.TheVariants as passed
 use Rattle.awk_machine.specs.declared.stack.Focus.{Focus as CodeFocus}
 use Rattle.awk_machine.specs.declared.stack.Focus.TheVariants as focus
 use Rattle.awk_machine.specs.declared.stack.Move.{Move}
@@ -43,9 +45,20 @@ kept_for (code.Expr (o.Right op)) = 1
 kept_for (code.Statement (s.Printed rest n)) = n
 kept_for e = 0
 
--- the value of an expression, as a move
-abbrev pub returned : Value → Move
-returned v = move.On (focus.Ended (flow.Return v))
+-- how a part passed on, by the value that is returned
+abbrev pub flow_of : Passed → Value → Flow
+flow_of passed.Returned v = flow.Return v
+flow_of passed.Normal v = flow.Normal
+flow_of passed.Break v = flow.Break
+flow_of passed.Continue v = flow.Continue
+
+-- a stack in which a value is returned
+abbrev pub with_value : Stack → Value → Stack
+with_value stack v = record stack { returned = v }
+
+-- an expression has returned its value
+abbrev pub is_returned : Move
+is_returned = move.On (focus.Ended passed.Returned)
 
 module _ (plan : Program) where
   abbrev pub condition_of : Option Operand → t.OptionalExpr
@@ -104,11 +117,11 @@ module _ (plan : Program) where
   abbrev pub topped : CodeEntry → Stack → List Entry
   topped e stack = entries_of (e ∷ reverse stack.entries.items) (reverse stack.values.items)
 
-  abbrev pub focus_of : CodeFocus → Focus
-  focus_of (focus.Expr e) = BeginExpr (operand_of plan e)
-  focus_of (focus.Statement i) = BeginStatement (statement_in (part_of plan i))
-  focus_of (focus.Block i) = BeginBlock (statements_in (part_of plan i))
-  focus_of (focus.Ended g) = Ended g
+  abbrev pub focus_of : CodeFocus → Value → Focus
+  focus_of (focus.Expr e) v = BeginExpr (operand_of plan e)
+  focus_of (focus.Statement i) v = BeginStatement (statement_in (part_of plan i))
+  focus_of (focus.Block i) v = BeginBlock (statements_in (part_of plan i))
+  focus_of (focus.Ended p) v = Ended (flow_of p v)
 
 -- a move that spends no step: less is left to do
 pub record Onward (is_logged : Type 0) (f : Focus) (st : List Entry) (m : Interpreter) (k : WorldState) (f' : Focus) (st' : List Entry) (m' : Interpreter) (k' : WorldState) : Type 0 where
@@ -128,18 +141,19 @@ pub record Over (f : Focus) (st : List Entry) (m : Interpreter) (k : WorldState)
   pub interpreter : m' ≡ m
   pub world : k' ≡ k
 
-abbrev pub Moved : Type 0 → Program → Focus → List Entry → Interpreter → WorldState → Result Move Halt → List Entry → Interpreter → WorldState → Type 0
-Moved is_logged plan f st m k (Ok (move.On f')) st' m' k' = Onward is_logged f st m k (focus_of plan f') st' m' k'
-Moved is_logged plan f st m k (Ok (move.Spent f')) st' m' k' = Paid is_logged f st m k (focus_of plan f') st' m' k'
-Moved is_logged plan f st m k (Ok (move.Over g)) st' m' k' = Over f st m k g m' k'
-Moved is_logged plan f st m k (Err h) st' m' k' = Rest is_logged f st m k m' k' (Err h)
+-- where a move comes to, with the stack that it leaves
+abbrev pub Moved : Type 0 → Program → Focus → List Entry → Interpreter → WorldState → Result Move Halt → Stack → Interpreter → WorldState → Type 0
+Moved is_logged plan f st m k (Ok (move.On f')) new m' k' = Onward is_logged f st m k (focus_of plan f' new.returned) (stack_of plan new) m' k'
+Moved is_logged plan f st m k (Ok (move.Spent f')) new m' k' = Paid is_logged f st m k (focus_of plan f' new.returned) (stack_of plan new) m' k'
+Moved is_logged plan f st m k (Ok (move.Over p)) new m' k' = Over f st m k (flow_of p new.returned) m' k'
+Moved is_logged plan f st m k (Err h) new m' k' = Rest is_logged f st m k m' k' (Err h)
 
-pub record Moves (is_logged : Type 0) (plan : Program) (f : Focus) (st : List Entry) (m : Interpreter) (k : WorldState) (r : Result Move Halt) (st' : List Entry) (m' : Interpreter) (k' : WorldState) : Type 0 where
-  pub moved : Moved is_logged plan f st m k r st' m' k'
+pub record Moves (is_logged : Type 0) (plan : Program) (f : Focus) (st : List Entry) (m : Interpreter) (k : WorldState) (r : Result Move Halt) (new : Stack) (m' : Interpreter) (k' : WorldState) : Type 0 where
+  pub moved : Moved is_logged plan f st m k r new m' k'
 
 -- a move that calls no world, whichever stands beside it
-pub record Steps (plan : Program) (f : Focus) (st : List Entry) (m : Interpreter) (r : Result Move Halt) (st' : List Entry) (m' : Interpreter) : Type 0 where
-  pub moved : (k : WorldState) → Moves (Unit {0}) plan f st m k r st' m' k
+pub record Steps (plan : Program) (f : Focus) (st : List Entry) (m : Interpreter) (r : Result Move Halt) (new : Stack) (m' : Interpreter) : Type 0 where
+  pub moved : (k : WorldState) → Moves (Unit {0}) plan f st m k r new m' k
   pub steps : m'.steps ≤ m.steps
   pub streams : m'.streams ≡ m.streams
 
@@ -161,15 +175,19 @@ pub record ReadsLeaf (e : t.Expr) (m : Interpreter) (r : Result (Option Value) H
   pub reads : ReadsLeafBy e m r m'
 
 -- moves until one has spent a step
-abbrev pub Walked : Type 0 → Program → Focus → List Entry → Interpreter → WorldState → Result Stage Halt → List Entry → Interpreter → WorldState → Type 0
-Walked is_logged plan f st m k (Ok (stage.Spent f')) st' m' k' = Paid is_logged f st m k (focus_of plan f') st' m' k'
-Walked is_logged plan f st m k (Ok (stage.Over g)) st' m' k' = Rest is_logged f st m k m' k' (Ok g)
-Walked is_logged plan f st m k (Err h) st' m' k' = Rest is_logged f st m k m' k' (Err h)
+abbrev pub Walked : Type 0 → Program → Focus → List Entry → Interpreter → WorldState → Result Stage Halt → Stack → Interpreter → WorldState → Type 0
+Walked is_logged plan f st m k (Ok (stage.Spent f')) new m' k' = Paid is_logged f st m k (focus_of plan f' new.returned) (stack_of plan new) m' k'
+Walked is_logged plan f st m k (Ok (stage.Over p)) new m' k' = Rest is_logged f st m k m' k' (Ok (flow_of p new.returned))
+Walked is_logged plan f st m k (Err h) new m' k' = Rest is_logged f st m k m' k' (Err h)
 
-pub record Walks (is_logged : Type 0) (plan : Program) (f : Focus) (st : List Entry) (m : Interpreter) (k : WorldState) (r : Result Stage Halt) (st' : List Entry) (m' : Interpreter) (k' : WorldState) : Type 0 where
-  pub walked : Walked is_logged plan f st m k r st' m' k'
+pub record Walks (is_logged : Type 0) (plan : Program) (f : Focus) (st : List Entry) (m : Interpreter) (k : WorldState) (r : Result Stage Halt) (new : Stack) (m' : Interpreter) (k' : WorldState) : Type 0 where
+  pub walked : Walked is_logged plan f st m k r new m' k'
 
--- from a place until nothing is left
+-- what a run from a place until nothing is left came to, by the value that is returned
+abbrev pub ran : Result Passed Halt → Value → Result Flow Halt
+ran (Ok p) v = Ok (flow_of p v)
+ran (Err h) v = Err h
+
 pub record Runs (is_logged : Type 0) (f : Focus) (m : Interpreter) (k : WorldState) (new : Interpreter) (after : WorldState) (r : Result Flow Halt) : Type 0 where
   pub simulates : Simulates is_logged m k new after r (run_of f)
 

@@ -14,7 +14,7 @@ returns-in_err-left c =
 pub returns-in-Some : goal.returns-in-Some
 returns-in-Some c =
     let q = rw c.in-Some.is at c.in_ok-left.ensures.reads in
-    steps_behind _ _ (λ k. left_read _ _ _ q) q.steps q.streams (omega arith) c.end_left.ensures
+    steps_behind _ _ (λ k. left_read _ _ _ q) q.steps q.streams (omega arith) (c.end_left.ensures _ refl)
 
 pub returns-in-None : goal.returns-in-None
 returns-in-None c =

@@ -9,7 +9,7 @@ returns-in_err-value-in-Constant c =
     rw (p.1, p.2, c.in-Constant.is) (leaf_stops _ (c.in_err-value-in-Constant.ensures _))
 
 pub returns-in_ok-value-in-Constant : goal.returns-in_ok-value-in-Constant
-returns-in_ok-value-in-Constant c = rw (c.in-Constant.is, c.returned.ensures) (leaf_steps _ (c.in_ok-value-in-Constant.ensures _))
+returns-in_ok-value-in-Constant c = rw (c.in-Constant.is, c.give.ensures.gives, c.give.ensures.stack) (leaf_steps c.args.stack.now _ (c.in_ok-value-in-Constant.ensures _))
 
 pub returns-in_err-value-in-Variable : goal.returns-in_err-value-in-Variable
 returns-in_err-value-in-Variable c =
@@ -17,10 +17,10 @@ returns-in_err-value-in-Variable c =
     rw (p.1, p.2, c.in-Variable.is) (leaf_stops _ (name_evaluates _ (rw c.name.ensures at c.in_err-value-in-Variable.ensures)))
 
 pub returns-in_ok-value-in-Variable : goal.returns-in_ok-value-in-Variable
-returns-in_ok-value-in-Variable c = rw (c.in-Variable.is, c.returned-in-Variable.ensures) (leaf_steps _ (name_evaluates _ (rw c.name.ensures at c.in_ok-value-in-Variable.ensures)))
+returns-in_ok-value-in-Variable c = rw (c.in-Variable.is, c.give-in-Variable.ensures.gives, c.give-in-Variable.ensures.stack) (leaf_steps c.args.stack.now _ (name_evaluates _ (rw c.name.ensures at c.in_ok-value-in-Variable.ensures)))
 
 pub returns-in-Some : goal.returns-in-Some
 returns-in-Some c = rw (c.in-Node.is, c.in-Some.ensures.0) c.begin_node.ensures
 
 pub returns-in-None : goal.returns-in-None
-returns-in-None c = rw (c.in-Node.is, c.in-None.ensures, c.returned-in-None.ensures) (leaf_steps _ (zero_evaluates _))
+returns-in-None c = rw (c.in-Node.is, c.in-None.ensures, c.give-in-None.ensures.gives, c.give-in-None.ensures.stack) (leaf_steps c.args.stack.now _ (zero_evaluates _))

@@ -42,7 +42,7 @@ returns-in_err-value-in-Ere c =
 pub returns-in_ok-value-in-Ere : goal.returns-in_ok-value-in-Ere
 returns-in_ok-value-in-Ere c =
     let text = get_or_from_slice_get c.args.plan.now.tables.eres c.in-Ere.number c.ere.result.now.text [] c.ere.ensures in
-    rw (c.in-Ere.is, text, c.returned.ensures) (leaf_steps _ c.in_ok-value-in-Ere.ensures)
+    rw (c.in-Ere.is, text, c.give.ensures.gives, c.give.ensures.stack) (leaf_steps c.args.stack.now _ c.in_ok-value-in-Ere.ensures)
 
 pub returns-in_err-value-in-FieldCount : goal.returns-in_err-value-in-FieldCount
 returns-in_err-value-in-FieldCount c =
@@ -50,7 +50,7 @@ returns-in_err-value-in-FieldCount c =
     rw (p.1, p.2, c.in-FieldCount.is) (leaf_stops _ (name_evaluates _ c.in_err-value-in-FieldCount.ensures))
 
 pub returns-in_ok-value-in-FieldCount : goal.returns-in_ok-value-in-FieldCount
-returns-in_ok-value-in-FieldCount c = rw (c.in-FieldCount.is, c.returned-in-FieldCount.ensures) (leaf_steps _ (name_evaluates _ c.in_ok-value-in-FieldCount.ensures))
+returns-in_ok-value-in-FieldCount c = rw (c.in-FieldCount.is, c.give-in-FieldCount.ensures.gives, c.give-in-FieldCount.ensures.stack) (leaf_steps c.args.stack.now _ (name_evaluates _ c.in_ok-value-in-FieldCount.ensures))
 
 pub returns-in_err-value-in-PreIncrement : goal.returns-in_err-value-in-PreIncrement
 returns-in_err-value-in-PreIncrement c =
@@ -59,7 +59,7 @@ returns-in_err-value-in-PreIncrement c =
 
 pub returns-in_ok-value-in-PreIncrement : goal.returns-in_ok-value-in-PreIncrement
 returns-in_ok-value-in-PreIncrement c =
-    rw (c.in-PreIncrement.is, c.returned-in-PreIncrement.ensures) (leaf_steps _ (pre_evaluates _ _ (rw c.name.ensures at c.in_ok-value-in-PreIncrement.ensures)))
+    rw (c.in-PreIncrement.is, c.give-in-PreIncrement.ensures.gives, c.give-in-PreIncrement.ensures.stack) (leaf_steps c.args.stack.now _ (pre_evaluates _ _ (rw c.name.ensures at c.in_ok-value-in-PreIncrement.ensures)))
 
 pub returns-in_err-value-in-PostIncrement : goal.returns-in_err-value-in-PostIncrement
 returns-in_err-value-in-PostIncrement c =
@@ -68,4 +68,4 @@ returns-in_err-value-in-PostIncrement c =
 
 pub returns-in_ok-value-in-PostIncrement : goal.returns-in_ok-value-in-PostIncrement
 returns-in_ok-value-in-PostIncrement c =
-    rw (c.in-PostIncrement.is, c.returned-in-PostIncrement.ensures) (leaf_steps _ (post_evaluates _ _ (rw c.name-in-PostIncrement.ensures at c.in_ok-value-in-PostIncrement.ensures)))
+    rw (c.in-PostIncrement.is, c.give-in-PostIncrement.ensures.gives, c.give-in-PostIncrement.ensures.stack) (leaf_steps c.args.stack.now _ (post_evaluates _ _ (rw c.name-in-PostIncrement.ensures at c.in_ok-value-in-PostIncrement.ensures)))

@@ -1,28 +1,40 @@
-use Rattle.std.proofs.Common.{refl, ap, arith}
-use Rattle.awk_machine.specs.support.Stack.{condition_weight}
-use Rattle.awk_machine.specs.support.Moves.{condition_of}
-use Rattle.awk_machine.proofs.LoopMoves.{condition_begins, endless_turns, endless_stops}
-use Rattle.awk_machine.proofs.InPlace.{turns_at_once, stops_at_once, ends_at_once}
-use Rattle.awk_machine.proofs.Steps.{onward, awaited_plain, spent_for}
+use Rattle.std.proofs.Common.{refl, arith}
+use Rattle.std.proofs.lemmas.Result.{err_from_is_err_and}
+use Rattle.awk_meaning.specs.declared.flow.Flow.TheVariants.{Normal}
+use Rattle.awk_machine.proofs.Steps.{onward, pushed_paid}
+use Rattle.awk_machine.proofs.InPlace.{steps_behind, wants_memory_later}
 use Rattle.awk_machine.proofs.loops.begin_condition.Goals as goal
 
-pub returns-in_default : goal.returns-in_default
-returns-in_default c = λ g.
-    let is = ap (condition_of c.args.plan.now) c.in_default.is in
-    spent_for _ c.begin_turn.ensures refl (λ p k. endless_turns _ _ is p) (λ h p k. endless_stops _ _ is p)
+pub returns-in-Ended : goal.returns-in-Ended
+returns-in-Ended c = λ g.
+    let p = c.in-Ended.ensures.stops c.args.stack.now.returned g in
+    onward refl (λ k. p.leads _ k) (omega arith) p.steps p.streams
 
-pub returns-in-Some-true : goal.returns-in-Some-true
-returns-in-Some-true c = λ g.
-    let is = ap (condition_of c.args.plan.now) c.in-Some.is in
-    spent_for _ c.begin_turn-in-Some-true.ensures refl (λ p k. turns_at_once _ _ _ is (rw c.in-Some-true.field-0-test at c.in-Some-true.ensures) p) (λ h p k. stops_at_once _ _ _ is (rw c.in-Some-true.field-0-test at c.in-Some-true.ensures) p)
+pub returns-in-Condition : goal.returns-in-Condition
+returns-in-Condition c = λ g.
+    let p = c.in-Condition.ensures.stops c.args.stack.now.returned g in
+    steps_behind _ _ (λ k. p.leads _ k) p.steps p.streams (omega arith) (c.await_condition.ensures c.args.plan.now Normal)
 
-pub returns-in-Some-false : goal.returns-in-Some-false
-returns-in-Some-false c = λ g.
-    let is = ap (condition_of c.args.plan.now) c.in-Some.is in
-    onward refl (λ k. ends_at_once _ _ _ is (rw c.in-Some-false.field-0-test at c.in-Some-false.ensures)) (omega arith) (omega arith) refl
+pub returns-in_err-push-in-Body : goal.returns-in_err-push-in-Body
+returns-in_err-push-in-Body c =
+    let e = err_from_is_err_and c.from_residual.result c.from_residual.ensures.1 in
+    λ g.
+    let p = c.in-Body.ensures.stops c.args.stack.now.returned g in
+    rw (e.1, e.2) (wants_memory_later (λ k. p.leads _ k) p.steps p.streams)
 
-pub returns-in-None : goal.returns-in-None
-returns-in-None c = λ g.
-    let is = ap (condition_of c.args.plan.now) c.in-Some.is in
-    let w = ap condition_weight is in
-    awaited_plain _ refl c.await_value.ensures (λ k. condition_begins _ _ _ is) (omega (arith, w))
+pub returns-in_ok-push-in-Body : goal.returns-in_ok-push-in-Body
+returns-in_ok-push-in-Body c = λ g.
+    let p = c.in-Body.ensures.stops c.args.stack.now.returned g in
+    pushed_paid _ c.args.stack.now.values.items _ c.in_ok-push-in-Body.ensures.items refl refl (λ k. p.leads _ k) c.in-Body.ensures.falls p.streams
+
+pub returns-in_err-push-in-Last : goal.returns-in_err-push-in-Last
+returns-in_err-push-in-Last c =
+    let e = err_from_is_err_and c.from_residual-in_err-push-in-Last.result c.from_residual-in_err-push-in-Last.ensures.1 in
+    λ g.
+    let p = c.in-Last.ensures.stops c.args.stack.now.returned g in
+    rw (e.1, e.2) (wants_memory_later (λ k. p.leads _ k) p.steps p.streams)
+
+pub returns-in_ok-push-in-Last : goal.returns-in_ok-push-in-Last
+returns-in_ok-push-in-Last c = λ g.
+    let p = c.in-Last.ensures.stops c.args.stack.now.returned g in
+    pushed_paid _ c.args.stack.now.values.items _ c.in_ok-push-in-Last.ensures.items refl refl (λ k. p.leads _ k) c.in-Last.ensures.falls p.streams

@@ -1,27 +1,22 @@
-use Rattle.std.proofs.Common.{refl, ap, ◌∙◌, arith}
+use Rattle.std.proofs.Common.{refl, arith}
 use Rattle.std.proofs.lemmas.Result.{err_from_is_err_and}
-use Rattle.awk_machine.specs.support.Moves.{last_of}
-use Rattle.awk_machine.proofs.LoopMoves.{last_begins, no_last_begins}
-use Rattle.awk_machine.proofs.Steps.{wants_memory, pushed_onward, steps_from}
+use Rattle.awk_meaning.specs.declared.flow.Flow.TheVariants.{Normal}
+use Rattle.awk_machine.proofs.Steps.{wants_memory, pushed_onward}
+use Rattle.awk_machine.proofs.InPlace.{steps_behind}
 use Rattle.awk_machine.proofs.loops.begin_last.Goals as goal
 
-pub returns-in_default : goal.returns-in_default
-returns-in_default c = λ g ends. steps_from _ _ (λ k. no_last_begins _ _ ends (ap (last_of c.args.plan.now) c.in_default.is)) (omega arith) (c.begin_condition.ensures g)
-
-pub returns-in_err-push-in-Some-simple : goal.returns-in_err-push-in-Some-simple
-returns-in_err-push-in-Some-simple c =
-    let p = err_from_is_err_and c.from_residual.result c.from_residual.ensures.1 in
-    λ g ends. rw (p.1, p.2) wants_memory
-
-pub returns-in_ok-push-in-Some-simple : goal.returns-in_ok-push-in-Some-simple
-returns-in_ok-push-in-Some-simple c = λ g ends.
-    let last = ap (last_of c.args.plan.now) c.in-Some.is ∙ c.in-Some-simple.ensures.1 in
-    pushed_onward _ _ c.args.stack.now.values.items _ c.in_ok-push-in-Some-simple.ensures.items refl (λ k. rw c.in-Some-simple.ensures.0 (last_begins _ _ _ ends last)) (rw c.in-Some-simple.ensures.0 (omega arith))
-
 pub returns-in-None : goal.returns-in-None
-returns-in-None c = λ g ends. steps_from _ _ (λ k. no_last_begins _ _ ends (ap (last_of c.args.plan.now) c.in-Some.is ∙ c.in-None.ensures)) (omega arith) (c.begin_condition-in-None.ensures g)
+returns-in-None c = λ g ends.
+    let p = c.in-None.ensures g ends in
+    steps_behind _ _ (λ k. p.leads _ k) p.steps p.streams (omega arith) (c.begin_condition.ensures Normal)
 
-pub returns-in-Some-Evaluate : goal.returns-in-Some-Evaluate
-returns-in-Some-Evaluate c = λ g ends.
-    let last = ap (last_of c.args.plan.now) c.in-Some.is ∙ (rw c.in-Some-Evaluate.field-0-is at c.in-Some-Evaluate.ensures.1) in
-    steps_from _ _ (λ k. last_begins _ _ _ ends last) (omega arith) c.begin_last_expr.ensures
+pub returns-in_err-push-in-Some : goal.returns-in_err-push-in-Some
+returns-in_err-push-in-Some c =
+    let e = err_from_is_err_and c.from_residual.result c.from_residual.ensures.1 in
+    λ g ends. rw (e.1, e.2, c.in-Some.ensures.0) wants_memory
+
+pub returns-in_ok-push-in-Some : goal.returns-in_ok-push-in-Some
+returns-in_ok-push-in-Some c = λ g ends.
+    let p = rw c.in-Some.ensures.0 at (c.in-Some.ensures.2 g ends) in
+    let w = c.in-Some.ensures.1 in
+    rw c.in-Some.ensures.0 (pushed_onward _ c.args.stack.now.values.items _ c.in_ok-push-in-Some.ensures.items refl refl (λ k. p.leads _ k) (omega (arith, w)))

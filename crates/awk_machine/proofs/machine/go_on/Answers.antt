@@ -8,4 +8,4 @@ pub returns-in-Statement : goal.returns-in-Statement
 returns-in-Statement g c = rw c.in-Statement.is c.begin_statement.ensures
 
 pub returns-in-Block : goal.returns-in-Block
-returns-in-Block g c = rw c.in-Block.is (stepped _ (c.begin_block.ensures _))
+returns-in-Block g c = rw c.in-Block.is (stepped _ c.begin_block.ensures)

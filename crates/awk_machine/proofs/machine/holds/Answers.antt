@@ -3,13 +3,13 @@ use Rattle.awk_machine.proofs.Walking.{tests, test_halts}
 use Rattle.awk_machine.proofs.InPlace.{tests_at_once}
 use Rattle.awk_machine.proofs.machine.holds.Goals as goal
 
-pub returns-in_err-flow : goal.returns-in_err-flow
-returns-in_err-flow g c =
+pub returns-in_err-passed : goal.returns-in_err-passed
+returns-in_err-passed g c =
     let p = err_from_is_err_and c.from_residual.result c.from_residual.ensures.1 in
-    rw (p.1, p.2) (test_halts _ c.in_err-flow.ensures)
+    rw (p.1, p.2) (test_halts _ c.in_err-passed.ensures)
 
 pub returns : goal.returns
-returns g c = rw (c.is_true.ensures, c.value_in.ensures) (tests _ c.in_ok-flow.ensures)
+returns g c = rw c.is_returned_true.ensures (tests _ c.in_ok-passed.ensures)
 
 pub returns-in-Some : goal.returns-in-Some
 returns-in-Some g c = tests_at_once _ c.in-Some.ensures

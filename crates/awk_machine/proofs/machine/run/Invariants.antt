@@ -6,7 +6,7 @@ use Rattle.awk_machine.proofs.machine.run.Given as goal
 abbrev pub invariant-steps : goal.invariant-steps
 invariant-steps g l =
     let state = g.W.World.state in
-    Leads g.W.World.is_logged (focus_of l.plan l.fn.focus) [] l.fn.interpreter (state l.fn.world) (focus_of l.plan l.place) (stack_of l.plan l.stack) l.interpreter (state l.world)
+    Leads g.W.World.is_logged (focus_of l.plan l.fn.focus l.fn.stack.returned) [] l.fn.interpreter (state l.fn.world) (focus_of l.plan l.place l.stack.returned) (stack_of l.plan l.stack) l.interpreter (state l.world)
 
 abbrev pub decreases-steps : goal.decreases-steps
 decreases-steps g l = l.interpreter.steps

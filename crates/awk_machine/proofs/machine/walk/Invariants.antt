@@ -6,7 +6,7 @@ use Rattle.awk_machine.proofs.machine.walk.Given as goal
 abbrev pub invariant-moves : goal.invariant-moves
 invariant-moves g l =
     let state = g.W.World.state in
-    Walking g.W.World.is_logged (focus_of l.plan l.fn.focus) (stack_of l.plan l.fn.stack) l.fn.interpreter (state l.fn.world) (focus_of l.plan l.place) (stack_of l.plan l.stack) l.interpreter (state l.world)
+    Walking g.W.World.is_logged (focus_of l.plan l.fn.focus l.fn.stack.returned) (stack_of l.plan l.fn.stack) l.fn.interpreter (state l.fn.world) (focus_of l.plan l.place l.stack.returned) (stack_of l.plan l.stack) l.interpreter (state l.world)
 
 abbrev pub decreases-moves : goal.decreases-moves
-decreases-moves g l = work (focus_of l.plan l.place) (stack_of l.plan l.stack)
+decreases-moves g l = work (focus_of l.plan l.place l.stack.returned) (stack_of l.plan l.stack)

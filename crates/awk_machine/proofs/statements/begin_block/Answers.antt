@@ -1,16 +1,16 @@
-use Rattle.std.proofs.Common.{refl, arith}
-use Rattle.std.proofs.lemmas.Result.{err_from_is_err_and}
-use Rattle.awk_machine.proofs.StatementMoves.{no_more_ends, then_begins}
-use Rattle.awk_machine.proofs.Steps.{onward, wants_memory, pushed_onward}
+use Rattle.std.proofs.Common.{refl}
+use Rattle.awk_machine.specs.support.Moves.{flow_of}
+use Rattle.awk_machine.proofs.Steps.{onward}
+use Rattle.awk_machine.proofs.Reaching.{block_falls, steps_later}
 use Rattle.awk_machine.proofs.statements.begin_block.Goals as goal
 
-pub returns-in-NoMore : goal.returns-in-NoMore
-returns-in-NoMore c = λ m. rw (c.block.ensures, c.in-NoMore.is) (onward refl (λ k. no_more_ends) (omega arith) (omega arith) refl)
+pub returns-in-Before : goal.returns-in-Before
+returns-in-Before c =
+    let p = c.in-Before.ensures in
+    let q = p.comes c.args.stack.now.returned in
+    steps_later _ _ (λ k. q.leads _ k) q.steps q.streams (p.weight c.args.stack.now.returned _) (c.begin_first.ensures _)
 
-pub returns-in_err-push-in-Then : goal.returns-in_err-push-in-Then
-returns-in_err-push-in-Then c =
-    let p = err_from_is_err_and c.from_residual.result c.from_residual.ensures.1 in
-    λ m. rw (p.1, p.2) wants_memory
-
-pub returns-in_ok-push-in-Then : goal.returns-in_ok-push-in-Then
-returns-in_ok-push-in-Then c = λ m. rw (c.block.ensures, c.in-Then.is) (pushed_onward _ _ c.args.stack.now.values.items _ c.in_ok-push-in-Then.ensures.items refl (λ k. then_begins _ _) (omega arith))
+pub returns-in-Ended : goal.returns-in-Ended
+returns-in-Ended c =
+    let q = c.in-Ended.ensures.comes c.args.stack.now.returned in
+    onward refl (λ k. q.leads _ k) (block_falls _ (flow_of c.in-Ended.passed c.args.stack.now.returned) _) q.steps q.streams

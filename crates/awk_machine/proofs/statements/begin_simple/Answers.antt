@@ -1,6 +1,6 @@
 use Rattle.std.proofs.Common.{refl}
 use Rattle.std.proofs.lemmas.Result.{err_from_is_err_and}
-use Rattle.awk_machine.proofs.StatementMoves.{exit_begins, exit_stops, exit_halts, next_stops, next_halts, break_stops, break_ends, continue_stops, continue_ends}
+use Rattle.awk_machine.proofs.StatementMoves.{expression_begins, expression_stops, exit_begins, exit_stops, exit_halts, next_stops, next_halts, break_stops, break_ends, continue_stops, continue_ends}
 use Rattle.awk_machine.proofs.Steps.{halts, paid, spent_for, stepped}
 use Rattle.awk_machine.proofs.statements.begin_simple.Goals as goal
 
@@ -8,10 +8,10 @@ pub returns-in-Print : goal.returns-in-Print
 returns-in-Print g c = rw c.in-Print.is c.begin_print.ensures
 
 pub returns-in-Evaluate : goal.returns-in-Evaluate
-returns-in-Evaluate g c = rw c.in-Evaluate.is (stepped _ c.begin_evaluate.ensures)
+returns-in-Evaluate g c = rw c.in-Evaluate.is (stepped _ (spent_for _ c.spend_for.ensures refl (λ p k. expression_begins _ p) (λ h p k. expression_stops _ p)))
 
 pub returns-in-ExitWith : goal.returns-in-ExitWith
-returns-in-ExitWith g c = rw c.in-ExitWith.is (stepped _ (spent_for _ c.spend_for.ensures refl (λ p k. exit_begins _ p) (λ h p k. exit_stops _ p)))
+returns-in-ExitWith g c = rw c.in-ExitWith.is (stepped _ (spent_for _ c.spend_for-in-ExitWith.ensures refl (λ p k. exit_begins _ p) (λ h p k. exit_stops _ p)))
 
 pub returns-in_err-spend-in-Next : goal.returns-in_err-spend-in-Next
 returns-in_err-spend-in-Next g c =

@@ -1,7 +1,8 @@
-use Rattle.std.proofs.Common.{rules}
-use Rattle.awk_meaning.specs.Primitives.{spend}
+use Rattle.awk_interpreter.proofs.Changes.{no_step}
 use Rattle.awk_interpreter.proofs.interpreter.Interpreter.spend.Goals as goal
 
-pub returns : goal.returns
-unfolding spend
-returns c = search rules
+pub returns-then-take_step : goal.returns-then-take_step
+returns-then-take_step c = c.take_step.ensures.spends c.if-take_step.true
+
+pub returns-else-take_step : goal.returns-else-take_step
+returns-else-take_step c = rw (c.take_step.ensures.kept c.if-take_step.false) (no_step c.args.self.now (c.take_step.ensures.none c.if-take_step.false))

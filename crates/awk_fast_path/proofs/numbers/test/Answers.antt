@@ -1,5 +1,0 @@
-use Rattle.awk_fast_path.proofs.Lemmas.{found_tests}
-use Rattle.awk_fast_path.proofs.numbers.test.Goals as goal
-
-pub returns : goal.returns
-returns c = rw c.is_nonzero.ensures (found_tests _ _ _ c.number.ensures)

@@ -1,0 +1,17 @@
+use Rattle.std.proofs.Common.{refl, ap, arith}
+use Rattle.awk_machine.specs.support.Stack.{condition_weight}
+use Rattle.awk_machine.specs.support.Moves.{condition_of}
+use Rattle.awk_machine.proofs.LoopMoves.{condition_begins, endless_turns, endless_stops}
+use Rattle.awk_machine.proofs.Steps.{awaited_plain, spent_for}
+use Rattle.awk_machine.proofs.loops.await_condition.Goals as goal
+
+pub returns-in-Some : goal.returns-in-Some
+returns-in-Some c = λ plan g.
+    let is = ap (condition_of plan) c.in-Some.is in
+    let w = ap condition_weight is in
+    awaited_plain _ refl c.await_value.ensures (λ k. condition_begins _ _ _ is) (omega (arith, w))
+
+pub returns-in-None : goal.returns-in-None
+returns-in-None c = λ plan g.
+    let is = ap (condition_of plan) c.in-None.is in
+    spent_for _ c.begin_turn.ensures refl (λ p k. endless_turns _ _ is p) (λ h p k. endless_stops _ _ is p)
