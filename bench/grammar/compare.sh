@@ -25,9 +25,9 @@ this() {
     esac
 }
 
-# original-awk has no option for it: it leaves in an action before all others.
+# original-awk has no option for it: it leaves in actions before all others. (Behind `exit` in BEGIN it runs END.)
 led() {
-    { echo 'BEGIN { exit }' && cat "$1"; } >"$work/led"
+    { echo 'BEGIN { exit } END { exit }' && cat "$1"; } >"$work/led"
     sign original-awk -f "$work/led"
 }
 

@@ -1,1 +1,2 @@
 pub mod TokensInTurn
+pub mod WhereStopped

@@ -240,7 +240,7 @@ fn step_item(
 }
 
 /// Takes a token: where the parser stands then, or none if it can't take it.
-pub fn step(
+pub(crate) fn step(
     alloc: Global,
     state: ParserState,
     next: NextToken,
@@ -273,7 +273,7 @@ fn items(stack: &mut Vec<Frame>) -> Option<Option<CheckedItems>>
 }
 
 /// The text ends, which ends a pattern as a newline does.
-pub fn finish(
+pub(crate) fn finish(
     alloc: Global,
     state: ParserState,
     stack: &mut Vec<Frame>,

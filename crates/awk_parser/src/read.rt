@@ -1,9 +1,11 @@
 // Reads all tokens of a program.
 
+ghost use Rattle.std.specs.Prelude.{◌≡◌, IfErr};
 ghost use Rattle.awk_grammar.specs.definitions.Height.{max_height};
 ghost use Rattle.awk_grammar.specs.support.Parser as parser;
 ghost use Rattle.awk_lex.specs.Told.{kinds_of};
 ghost use Rattle.awk_parser.specs.support.Answered.{Gives};
+ghost use Rattle.awk_parser.specs.support.Stopped.{Stops, last_line};
 
 use crate::parser::{finish, step};
 use awk_frames::frame::Frame;
@@ -21,7 +23,9 @@ use std::alloc::Global;
 /// where the text ended too early; an S2 names line 1. The time is linear in the number of tokens,
 /// and no nesting of the text is a nesting of calls.
 pub fn read(alloc: Global, tokens: &[Token]) -> Result<Tree, Refusal>
-    ensures { Gives result (parser.read max_height (kinds_of tokens.now)) }
+    ensures answered { Gives result (parser.read max_height (kinds_of tokens.now)) }
+    // An S1 stands where the parser over lists stops.
+    ensures stopped { IfErr result (λ refusal. Stops refusal.code refusal.line tokens.now) }
 {
     let mut stack = Vec::new(alloc);
     push(&mut stack, Frame::Program(Some(CheckedItems::new(alloc))))?;
@@ -56,7 +60,9 @@ pub fn read(alloc: Global, tokens: &[Token]) -> Result<Tree, Refusal>
 }
 
 /// The line of the last token, or 1 if there is none.
-fn last_line(tokens: &[Token]) -> u64 {
+fn last_line(tokens: &[Token]) -> u64
+    ensures { result ≡ last_line tokens.now }
+{
     match tokens.last() {
         Some(token) => token.line,
         None => 1,

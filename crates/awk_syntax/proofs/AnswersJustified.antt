@@ -1,5 +1,5 @@
 -- What the law of the parser says of an answer.
-use Rattle.std.proofs.Common.{◌≡◌, ℕ, ◌≤◌, inl, inr, List, Option, Some, None, Result, Ok, Err, refl, sym, subst}
+use Rattle.std.proofs.Common.{◌≡◌, ℕ, ◌≤◌, inl, inr, List, Option, Some, Result, Ok, Err, refl, sym, subst}
 use Rattle.std.specs.Prelude.{◌⊎◌}
 use Rattle.awk_lex.specs.Told.{kinds_of}
 use Rattle.awk_lex.specs.Refused.{IsOutOfMemory}

@@ -1,2 +1,3 @@
 pub mod LeftmostRefused
 pub mod AnswersJustified
+pub mod WhereRefused

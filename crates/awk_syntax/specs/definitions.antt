@@ -1,2 +1,3 @@
 pub mod Patterns
 pub mod Outcome
+pub mod Lines

@@ -7,6 +7,7 @@ ghost use Rattle.awk_grammar.specs.definitions.View.{tree_of};
 ghost use Rattle.awk_lex.specs.Told.{kinds_of};
 ghost use Rattle.awk_syntax.specs.definitions.Patterns.{AreReadable};
 ghost use Rattle.awk_syntax.specs.definitions.Outcome.{IsProgramWithinHeight, Reads, Justifies};
+ghost use Rattle.awk_syntax.specs.definitions.Lines.{TellsLine};
 
 use crate::patterns::check_patterns;
 use awk_grammar::laws::parser_law;
@@ -33,6 +34,8 @@ pub fn parse(alloc: Global, tokens: &[Token]) -> Result<Tree, Refusal>
     // S1 only where no tree spells the tokens at all, S2 only where one does that is too high, and a
     // P code only where one does that is not, for the leftmost ERE that is no pattern.
     ensures refused { IfErr result (λ refusal. Justifies refusal.code refusal.line tokens.now) }
+    // No program begins with the tokens up to the one whose line an S1 names; or the text ended too early.
+    ensures line { IfErr result (λ refusal. TellsLine refusal.code refusal.line tokens.now) }
 {
     parser_law();
     let tree = read(alloc, tokens)?;

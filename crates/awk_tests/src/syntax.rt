@@ -281,6 +281,9 @@ $x = → line 1: refusal S1: not a program
 { print 1 > 2, 3 } → line 1: refusal S1: not a program
 { printf } → line 1: refusal S1: not a program
 { if (1) ;; else ; } → line 1: refusal S1: not a program
+x = -(1,␊2);␊y → line 2: refusal S1: not a program
+substr(1,␊2,␊3,␊4) → line 4: refusal S1: not a program
+x in a | \␊getline → line 2: refusal S1: not a program
 "#;
 
 const ERES: &str = r#"
