@@ -1,2 +1,3 @@
 -- What serves the proofs.
 pub mod Boundary
+pub mod Found

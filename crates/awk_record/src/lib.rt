@@ -8,6 +8,7 @@ ghost use Rattle.awk_record.specs.Cut.{Ending, AtEnd, AtBreak, Found, BrokenOff,
 mod boundary;
 mod buffer;
 mod fault;
+mod fields;
 mod record;
 mod separator_search;
 

@@ -1,52 +1,38 @@
 // The record at hand, with its fields.
-ghost use Rattle.std.specs.Prelude.{◌≡◌, ◌≢◌, ℕ, suc, pos, ◌<ℤ◌, ◌++◌, [], length, slice_get, OnOk, OnErr, IfOk, IfErr, Err};
+ghost use Rattle.std.specs.Prelude.{◌≡◌, ◌≢◌, ℕ, suc, pos, ◌<ℤ◌, min, ◌++◌, [], length, OnOk, OnErr, IfOk, IfErr, Err};
 
 use crate::fault::RecordFault;
-use awk_text::{Separator, Span, TextFault, split_text};
+use crate::fields::Fields;
+use awk_text::{Separator, pieces_from_law};
 use awk_value::{Bytes, Value};
 use std::alloc::Global;
 use std::marker::Model;
-use std::mem;
 
-// The span of a field from 1 on, if there is one.
-fn span_of(spans: &[Span], number: i128) -> Option<Span>
+// The index of the field of this number, or the greatest where that is past it.
+fn index_of(number: i128) -> usize
     requires { pos 0 <ℤ number }
-    ensures { (i : ℕ) → number ≡ pos (suc i) → result ≡ slice_get spans.now i }
+    ensures { (i : ℕ) → number ≡ pos (suc i) → result ≡ min i usize.MAX }
 {
-    let index = usize::try_from(number - 1).ok()?;
-    spans.get(index).copied()
+    usize::try_from(number - 1).unwrap_or(usize::MAX)
 }
 
-// The fault of a split, which refuses nothing for a cause other than memory.
-fn split_fault(fault: TextFault) -> RecordFault
-    requires { fault ≡ TextFault.Memory }
-    ensures { result ≡ RecordFault.Memory }
-{
-    match fault {
-        TextFault::Memory => RecordFault::Memory,
-        TextFault::Pattern => unreachable!(),
-    }
-}
-
-/// The record at hand: a text, and the fields that it was split into. A field
-/// shares the text's memory.
+/// The record at hand: a text, and its fields, which are found as far as they
+/// are asked. A field shares the text's memory.
 #[derive(Drop)]
 pub struct Record {
     text: Bytes,
-    spans: Vec<Span>,
-    // room for the spans of the next text, so that a split that fails leaves those at hand
-    spare: Vec<Span>,
+    fields: Fields,
 }
 
 impl Model for Record {
-    ghost use Rattle.awk_text.specs.Pieces.{AreSpansOf};
-    ghost use Rattle.awk_record.specs.Record.{RecordPair, spanned};
+    ghost use Rattle.awk_record.specs.Found.{AreFieldsOf};
+    ghost use Rattle.awk_record.specs.Record.{RecordPair, split_by};
 
     ghost Value = { RecordPair };
 
-    ghost view = { λ r. spanned r.text r.spans.items };
+    ghost view = { λ r. split_by r.fields.separator r.text };
 
-    ghost invariant = { λ r. AreSpansOf r.text r.spans.items };
+    ghost invariant = { λ r. AreFieldsOf r.text r.fields };
 }
 
 impl Record {
@@ -59,23 +45,23 @@ impl Record {
         ensures fields { IfOk result (λ r. r.fields ≡ []) }
         ensures memory { IfErr result (λ e. e ≡ RecordFault.Memory) }
     {
+        pieces_from_law();
         Ok(Record {
             text: Bytes::from_slice(alloc, b"")?,
-            spans: Vec::new(alloc),
-            spare: Vec::new(alloc),
+            fields: Fields::new(alloc),
         })
     }
 
-    /// Makes this text the record, and splits it into fields by the separator.
-    /// The only error is `Memory`, and it changes nothing.
+    /// Makes this text the record, whose fields the separator leaves. None is
+    /// looked for yet, so it is never refused.
     pub fn set_text(&mut self, text: Bytes, separator: Separator) -> Result<(), RecordFault>
         ensures ok { OnOk result (self.new ≡ split_by separator text) }
         ensures err { OnErr result (self.new ≡ self.old) }
         ensures memory { IfErr result (λ e. e ≡ RecordFault.Memory) }
     {
-        split_text(text.as_slice(), separator, &mut self.spare).map_err(split_fault)?;
+        pieces_from_law();
         self.text = text;
-        mem::swap(&mut self.spans, &mut self.spare);
+        self.fields.restart(separator);
         Ok(())
     }
 
@@ -106,12 +92,12 @@ impl Record {
         ensures same { self.new ≡ self.old }
         ensures memory { IfErr result (λ e. e ≡ RecordFault.Memory) }
     {
-        Ok(self.spans.len())
+        self.fields.count(self.text.as_slice())
     }
 
     /// Field 0 is the whole text, a field past the last is `Nothing`, and a
     /// negative number is refused by `FieldNumber`. The other error is
-    /// `Memory`.
+    /// `Memory`. Looks at no byte behind the field.
     pub fn field(&mut self, number: i128) -> Result<Value, RecordFault>
         ensures field { result ≢ Err RecordFault.Memory → result ≡ field_of self.old number }
         ensures same { self.new ≡ self.old }
@@ -122,9 +108,15 @@ impl Record {
         if number == 0 {
             return Ok(Value::Input(self.text.clone()?));
         }
-        match span_of(self.spans.as_slice(), number) {
+        match self.fields.at(self.text.as_slice(), index_of(number))? {
             Some(span) => Ok(Value::Input(self.text.cut(span.start, span.end)?)),
             None => Ok(Value::Nothing),
         }
+    }
+
+    /// How often since `new` a text was begun to be split: once for each whose
+    /// fields or their count were asked.
+    pub fn splits(&self) -> u64 {
+        self.fields.splits
     }
 }
