@@ -1,11 +1,14 @@
 // The fields of a text, found as far as they are asked.
-ghost use Rattle.std.specs.Prelude.{◌≡◌, ◌<◌, ◌⊎◌, [], length, slice_get, IfSome, IfOk, IfErr};
+ghost use Rattle.std.specs.Prelude.{◌≡◌, ◌<◌, ◌⊎◌, [], length, slice_get, IfSome, OnOk, IfOk, IfErr};
 ghost use Rattle.std.specs.Option.{option_map};
 ghost use Rattle.awk_text.specs.Pieces.{pieces_from, pieces_of, stretch_at, IsSpanOf};
 ghost use Rattle.awk_record.specs.Found.{AreFieldsOf};
+ghost use Rattle.awk_record.specs.Record.{inputs_of};
 
+use crate::assigned::cut_all;
 use crate::fault::RecordFault;
 use awk_text::{Separator, Span, next_field, pieces_from_law};
+use awk_value::{Bytes, Value};
 use std::alloc::Global;
 
 fn span_at(spans: &[Span], index: usize) -> Option<Span>
@@ -105,5 +108,18 @@ impl Fields {
     {
         self.find(text, usize::MAX)?;
         Ok(self.spans.len())
+    }
+
+    /// Fills `values` with all of them, which share the text's memory. The only
+    /// error is `Memory`.
+    pub fn all(&mut self, text: &Bytes, values: &mut Vec<Value>) -> Result<(), RecordFault>
+        requires { AreFieldsOf text.now self.old }
+        ensures fields { AreFieldsOf text.now self.new }
+        ensures separator { self.new.separator ≡ self.old.separator }
+        ensures values { OnOk result (values.new.items ≡ inputs_of (pieces_of self.old.separator text.now)) }
+        ensures memory { IfErr result (λ e. e ≡ RecordFault.Memory) }
+    {
+        self.find(text.as_slice(), usize::MAX)?;
+        cut_all(text, self.spans.as_slice(), values)
     }
 }

@@ -5,6 +5,7 @@ ghost use Rattle.std.specs.Prelude.{◌≡◌, ◌≢◌, ◌↔◌, ℕ, ◌<�
 ghost use Rattle.std.specs.List.{All};
 ghost use Rattle.awk_record.specs.Cut.{Ending, AtEnd, AtBreak, Found, BrokenOff, longest, cut_of, IsDecided};
 
+mod assigned;
 mod boundary;
 mod buffer;
 mod fault;
