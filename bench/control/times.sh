@@ -32,12 +32,12 @@ while IFS= read -r program; do
     printf '| `%s` |' "$(in_table "$program")"
     least_of_each
 done <<'PROGRAMS'
-BEGIN { for (i = 1; i <= 2000000; i++) s += i; print s }
-BEGIN { while (i < 1000000) { s = s + i * 3 - i % 7; if (s < 0) break; i++ } print s }
+BEGIN { for (i = 1; i <= 2000000; i++) s += i; print s % 1000 }
+BEGIN { while (i < 1000000) { s = s + i * 3 - i % 7; if (s < 0) break; i++ } print s % 1000 }
 BEGIN { for (i = 0; i < 1000000; i++) x = (i > 5 && i < 100) || i == 7 ? i : -i; print x }
 BEGIN { for (i = 0; i < 500000; i++) t = i " " j ":" k; print t }
 BEGIN { for (i = 0; i < 20000; i++) s = s "x"; print s }
-{ n += $2 } END { print n }
+{ n += $2 } END { print n % 1000 }
 { print $2 }
 { print }
 { }
