@@ -1,5 +1,5 @@
 //! Numbers that are found and changed in place: where an expression is arithmetic on numbers that variables and
-//! constants have, it is evaluated without a stack and without a copy of a value. It takes operands three deep, each
+//! constants have, it is evaluated without a stack and without a copy of a value. It takes operands five deep, each
 //! depth by a function of its own, so that none calls itself; a fault is left to the evaluator.
 #![tactic(auto)]
 

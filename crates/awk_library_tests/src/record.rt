@@ -2,7 +2,7 @@
 
 use awk_record::{BufferFault, Record, RecordBuffer, RecordFault, Step};
 use awk_text::Separator;
-use awk_value::{Bytes, Value};
+use awk_value::{Bytes, Value, append_text};
 use std::alloc::{AllocError, Global};
 use std::test::Fail;
 
@@ -169,5 +169,286 @@ fn splits_a_record_at_a_byte(rt: HostRuntime) -> Result<(), Fail> {
 
     record.set_text(Bytes::from_slice(rt.alloc(), b"")?, Separator::Byte(b':'))?;
     assert_eq!(rt; record.count()?, 0);
+    Ok(())
+}
+
+/// The fields of a text by a plain body, which splits all of it at once.
+fn plain_fields(
+    alloc: Global,
+    text: &[u8],
+    separator: Separator,
+) -> Result<Vec<Vec<u8>>, AllocError> {
+    let mut fields = Vec::new(alloc);
+    match separator {
+        Separator::Blanks => {
+            for field in text.split(|byte| b" \t\n".contains(byte)) {
+                if !field.is_empty() {
+                    fields.push(Vec::from_slice(alloc, field)?)?;
+                }
+            }
+        }
+        Separator::Byte(end) if !text.is_empty() => {
+            for field in text.split(|byte| *byte == end) {
+                fields.push(Vec::from_slice(alloc, field)?)?;
+            }
+        }
+        Separator::Byte(_) => {}
+    }
+    Ok(fields)
+}
+
+/// The text of this number among those of up to six of these bytes.
+fn text_of_number(alloc: Global, number: u32) -> Result<Vec<u8>, AllocError> {
+    let mut text = Vec::new(alloc);
+    let mut rest = number;
+    for _ in 0..6 {
+        match rest % 5 {
+            0 => break,
+            1 => text.push(b' ')?,
+            2 => text.push(b'\n')?,
+            3 => text.push(b':')?,
+            _ => text.push(b'x')?,
+        }
+        rest /= 5;
+    }
+    Ok(text)
+}
+
+/// Whether the field at this index, from 0 on, is the same of both.
+fn is_field_of(record: &mut Record, index: usize, fields: &[Vec<u8>]) -> Result<bool, RecordFault> {
+    let value = record.field(index as i128 + 1)?;
+    Ok(match (value, fields.get(index)) {
+        (Value::Input(bytes), Some(field)) => bytes.as_slice() == field.as_slice(),
+        (Value::Nothing, None) => true,
+        _ => false,
+    })
+}
+
+/// Whether a record answers as its plain fields do, where the field at this
+/// index is asked first, others in front of it and behind it then, and how many
+/// there are last.
+fn agrees(record: &mut Record, first: usize, fields: &[Vec<u8>]) -> Result<bool, RecordFault> {
+    let others = [
+        first,
+        first.saturating_sub(1),
+        first.saturating_add(1),
+        0,
+        usize::MAX,
+    ];
+    for index in others {
+        if !is_field_of(record, index, fields)? {
+            return Ok(false);
+        }
+    }
+    Ok(record.count()? == fields.len())
+}
+
+#[test]
+fn goes_as_a_plain_split(rt: HostRuntime) -> Result<(), Fail> {
+    let mut record = Record::new(rt.alloc())?;
+    for number in 0..15_625 {
+        let text = text_of_number(rt.alloc(), number)?;
+        for separator in [Separator::Blanks, Separator::Byte(b':')] {
+            let fields = plain_fields(rt.alloc(), text.as_slice(), separator)?;
+            let first = (number % 7) as usize;
+            record.set_text(Bytes::from_slice(rt.alloc(), text.as_slice())?, separator)?;
+            let agreed = agrees(&mut record, first, fields.as_slice())?;
+            assert!(rt; agreed, "{number} {separator:?}");
+        }
+    }
+    assert_eq!(rt; record.splits(), 31_250);
+    Ok(())
+}
+
+#[test]
+fn splits_what_is_asked_once(rt: HostRuntime) -> Result<(), Fail> {
+    let mut record = Record::new(rt.alloc())?;
+    record.set_text(Bytes::from_slice(rt.alloc(), b"a b c")?, Separator::Blanks)?;
+    record.text()?;
+    record.field(0)?;
+    record.append_text(&mut Vec::new(rt.alloc()))?;
+    assert_eq!(rt; record.splits(), 0);
+    for _ in 0..10 {
+        record.set_text(Bytes::from_slice(rt.alloc(), b"a b c")?, Separator::Blanks)?;
+        assert!(rt; is_input(&record.field(1)?, "a"));
+        assert!(rt; is_input(&record.field(3)?, "c"));
+        assert!(rt; is_input(&record.field(2)?, "b"));
+        assert!(rt; matches!(record.field(4)?, Value::Nothing));
+        assert_eq!(rt; record.count()?, 3);
+    }
+    assert_eq!(rt; record.splits(), 10);
+    Ok(())
+}
+
+fn text_in(alloc: Global, text: &[u8]) -> Result<Bytes, AllocError> {
+    Bytes::from_slice(alloc, text)
+}
+
+#[test]
+fn joins_what_was_assigned(rt: HostRuntime) -> Result<(), Fail> {
+    let alloc = rt.alloc();
+    let mut record = Record::new(alloc)?;
+    record.set_text(text_in(alloc, b"a b c")?, Separator::Blanks)?;
+    record.set_field(1, Value::Number(7), text_in(alloc, b"-")?)?;
+    record.set_field(
+        2,
+        Value::Text(text_in(alloc, b"y")?),
+        text_in(alloc, b"--")?,
+    )?;
+    assert_eq!(rt; record.splits(), 1);
+    assert_eq!(rt; record.joins(), 0);
+    assert!(rt; matches!(record.field(1)?, Value::Number(7)));
+    assert!(rt; is_input(&record.field(3)?, "c"));
+    assert_eq!(rt; record.text()?.as_slice(), "7--y--c".as_bytes());
+    assert!(rt; is_input(&record.field(0)?, "7--y--c"));
+    assert_eq!(rt; record.joins(), 1);
+
+    record.set_field(
+        5,
+        Value::Input(text_in(alloc, b"z")?),
+        text_in(alloc, b":")?,
+    )?;
+    assert_eq!(rt; record.count()?, 5);
+    assert!(rt; matches!(record.field(4)?, Value::Nothing));
+    assert_eq!(rt; record.text()?.as_slice(), "7:y:c::z".as_bytes());
+    record.set_count(2, text_in(alloc, b"+")?)?;
+    let mut buffer = b"> ".to_vec(alloc)?;
+    record.append_text(&mut buffer)?;
+    assert_eq!(rt; buffer.as_slice(), "> 7+y".as_bytes());
+    record.set_count(0, text_in(alloc, b"+")?)?;
+    assert_eq!(rt; record.text()?.as_slice(), "".as_bytes());
+    assert_eq!(rt; record.splits(), 1);
+    assert_eq!(rt; record.joins(), 4);
+    Ok(())
+}
+
+fn is_refused(answer: Result<(), RecordFault>) -> bool {
+    matches!(answer, Err(RecordFault::FieldNumber))
+}
+
+#[test]
+fn refuses_numbers_out_of_range(rt: HostRuntime) -> Result<(), Fail> {
+    let alloc = rt.alloc();
+    let mut record = Record::new(alloc)?;
+    record.set_text(text_in(alloc, b"a b c")?, Separator::Blanks)?;
+    for number in [-1, 0, 1_000_001, i128::MAX] {
+        let result = record.set_field(number, Value::Number(1), text_in(alloc, b"-")?);
+        assert!(rt; is_refused(result));
+    }
+    for count in [-1, 1_000_001, i128::MIN] {
+        assert!(rt; is_refused(record.set_count(count, text_in(alloc, b"-")?)));
+    }
+    assert_eq!(rt; record.text()?.as_slice(), "a b c".as_bytes());
+    assert_eq!(rt; record.splits(), 0);
+
+    record.set_field(1_000_000, Value::Number(1), text_in(alloc, b"-")?)?;
+    assert_eq!(rt; record.count()?, 1_000_000);
+    assert_eq!(rt; record.text()?.len(), 1_000_003);
+    Ok(())
+}
+
+/// A record by a plain body, which splits and joins at once.
+#[derive(Drop)]
+struct PlainRecord {
+    text: Vec<u8>,
+    fields: Vec<Vec<u8>>,
+}
+
+impl PlainRecord {
+    fn set_text(&mut self, alloc: Global, text: &[u8], by: Separator) -> Result<(), AllocError> {
+        self.fields = plain_fields(alloc, text, by)?;
+        self.text = Vec::from_slice(alloc, text)?;
+        Ok(())
+    }
+
+    fn lengthen(&mut self, alloc: Global, count: usize) -> Result<(), AllocError> {
+        for _ in 0..count {
+            if self.fields.len() < count {
+                self.fields.push(Vec::new(alloc))?;
+            }
+        }
+        Ok(())
+    }
+
+    fn join(&mut self, alloc: Global, separator: u8) -> Result<(), AllocError> {
+        let mut text = Vec::new(alloc);
+        for (i, field) in self.fields.iter().enumerate() {
+            if i > 0 {
+                text.push(separator)?;
+            }
+            text.extend_from_slice(field.as_slice())?;
+        }
+        self.text = text;
+        Ok(())
+    }
+}
+
+/// Does the call of this number to both.
+fn call(
+    alloc: Global,
+    number: u32,
+    record: &mut Record,
+    plain: &mut PlainRecord,
+) -> Result<(), RecordFault> {
+    match number {
+        0 => {
+            record.set_text(text_in(alloc, b" a b c")?, Separator::Blanks)?;
+            plain.set_text(alloc, b" a b c", Separator::Blanks)?;
+        }
+        1 => {
+            record.set_text(text_in(alloc, b"x:y z:")?, Separator::Byte(b':'))?;
+            plain.set_text(alloc, b"x:y z:", Separator::Byte(b':'))?;
+        }
+        2 => {
+            record.set_field(4, Value::Text(text_in(alloc, b"p")?), text_in(alloc, b"-")?)?;
+            plain.lengthen(alloc, 4)?;
+            if let Some(field) = plain.fields.get_mut(3) {
+                *field = Vec::from_slice(alloc, b"p")?;
+            }
+            plain.join(alloc, b'-')?;
+        }
+        3 => {
+            record.set_count(2, text_in(alloc, b"+")?)?;
+            plain.fields.truncate(2);
+            plain.lengthen(alloc, 2)?;
+            plain.join(alloc, b'+')?;
+        }
+        4 => drop(record.text()?),
+        _ => drop(record.field(2)?),
+    }
+    Ok(())
+}
+
+/// Whether the text, the count and the texts of the fields are the same of both.
+fn are_alike(alloc: Global, record: &mut Record, plain: &PlainRecord) -> Result<bool, RecordFault> {
+    for (i, field) in plain.fields.iter().enumerate() {
+        let mut text = Vec::new(alloc);
+        if append_text(&record.field(i as i128 + 1)?, &mut text).is_err() {
+            return Err(RecordFault::Memory);
+        }
+        if text.as_slice() != field.as_slice() {
+            return Ok(false);
+        }
+    }
+    let counted = record.count()? == plain.fields.len();
+    Ok(counted && record.text()?.as_slice() == plain.text.as_slice())
+}
+
+#[test]
+fn goes_as_a_plain_record(rt: HostRuntime) -> Result<(), Fail> {
+    let alloc = rt.alloc();
+    for list in 0..7776 {
+        let mut record = Record::new(alloc)?;
+        let mut plain = PlainRecord {
+            text: Vec::new(alloc),
+            fields: Vec::new(alloc),
+        };
+        let mut calls: u32 = list;
+        for _ in 0..5 {
+            call(alloc, calls % 6, &mut record, &mut plain)?;
+            calls /= 6;
+        }
+        assert!(rt; are_alike(alloc, &mut record, &plain)?, "{list}");
+    }
     Ok(())
 }

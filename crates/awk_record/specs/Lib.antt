@@ -4,3 +4,5 @@ pub use Rattle.awk_record.specs.definitions.Buffer
 pub use Rattle.awk_record.specs.definitions.Cut
 pub use Rattle.awk_record.specs.definitions.Record
 pub use Rattle.awk_record.specs.support.Boundary
+pub use Rattle.awk_record.specs.support.Found
+pub use Rattle.awk_record.specs.support.Viewed

@@ -5,9 +5,11 @@ ghost use Rattle.std.specs.Prelude.{◌≡◌, ◌≢◌, ◌↔◌, ℕ, ◌<�
 ghost use Rattle.std.specs.List.{All};
 ghost use Rattle.awk_record.specs.Cut.{Ending, AtEnd, AtBreak, Found, BrokenOff, longest, cut_of, IsDecided};
 
+mod assigned;
 mod boundary;
 mod buffer;
 mod fault;
+mod fields;
 mod record;
 mod separator_search;
 

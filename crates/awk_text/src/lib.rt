@@ -1,8 +1,8 @@
 //! What the language makes of texts: the fields that separators leave, and the functions of texts.
 #![tactic(auto)]
 
-ghost use Rattle.std.specs.Prelude.{◌≡◌, ◌≢◌, ℕ, List, [], ◌∷◌, ◌++◌, true};
-ghost use Rattle.awk_text.specs.Pieces.{AreBlank, IsPiece, IsNotIn, is_blank_or_newline, pieces_of};
+ghost use Rattle.std.specs.Prelude.{◌≡◌, ◌≢◌, ◌<◌, ℕ, List, [], ◌∷◌, ◌++◌, length, true};
+ghost use Rattle.awk_text.specs.Pieces.{AreBlank, IsPiece, IsNotIn, is_blank_or_newline, pieces_from, pieces_of};
 
 mod fault;
 mod functions;
@@ -13,8 +13,8 @@ mod split;
 pub use fault::TextFault;
 pub use functions::{index, lower, substr, upper};
 pub use separator::Separator;
-pub use span::Span;
-pub use split::split_text;
+pub use span::{FoundField, Span};
+pub use split::{next_field, split_text};
 
 /// The pieces of a text between blanks, read off from its front: blanks are
 /// skipped, and a piece goes up to the next blank or to the end.
@@ -40,4 +40,13 @@ pub fn byte_pieces_law()
         ≡ piece ∷ pieces_of (Separator.Byte byte) rest }
     ensures end { (byte : ℕ) (piece : List ℕ) → IsNotIn byte piece →
         pieces_of (Separator.Byte byte) (piece ++ byte ∷ []) ≡ piece ∷ [] ∷ [] }
+{}
+
+/// From the front of a text on there are all of its pieces, and none past its
+/// end.
+pub fn pieces_from_law()
+    ensures front { (separator : Separator) (text : List ℕ) →
+        pieces_from separator text 0 ≡ pieces_of separator text }
+    ensures past { (separator : Separator) (text : List ℕ) (place : ℕ) →
+        length text < place → pieces_from separator text place ≡ [] }
 {}
