@@ -11,11 +11,11 @@ use Rattle.awk_meaning.specs.Semantics.{eval, store_by, post_increment}
 use Rattle.awk_interpreter.specs.declared.interpreter.Interpreter.{Interpreter}
 use Rattle.awk_interpreter.specs.Simulation.{Changes}
 use Rattle.awk_interpreter.proofs.Composition.{change_simulates}
-use Rattle.awk_machine.specs.support.Stack.{Entry, BeginExpr, weight}
-use Rattle.awk_machine.specs.declared.stack.Stack.{Stack}
-use Rattle.awk_machine.specs.support.Moves.{is_returned, with_value, stack_of, Steps}
-use Rattle.awk_machine.proofs.Moves.{leaf_leads, leaf_halts}
-use Rattle.awk_machine.proofs.Steps.{onward, halts}
+use Rattle.awk_control.specs.Stack.{Entry, BeginExpr, weight}
+use Rattle.awk_control.specs.declared.stack.Stack.{Stack}
+use Rattle.awk_control.specs.Moves.{is_returned, with_value, stack_of, Steps}
+use Rattle.awk_control.proofs.Moves.{leaf_leads, leaf_halts}
+use Rattle.awk_control.proofs.Steps.{onward, halts}
 
 weighs : (e : t.Expr) → 0 < weight e
 weighs (t.Number n) = omega arith

@@ -1,15 +1,4 @@
-mod Laws
-mod Moves
-mod ExprMoves
-mod StatementMoves
-mod PrintMoves
-mod LoopMoves
-mod Steps
 mod Leaves
 mod Stores
 mod LeafMoves
 mod OperandMoves
-mod KeptValues
-mod Walking
-mod InPlace
-mod Reaching

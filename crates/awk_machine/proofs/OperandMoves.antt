@@ -15,11 +15,11 @@ use Rattle.awk_meaning.specs.Semantics.{store, store_by}
 use Rattle.awk_interpreter.specs.declared.interpreter.Interpreter.{Interpreter}
 use Rattle.awk_interpreter.specs.Simulation.{Changes}
 use Rattle.awk_interpreter.proofs.Composition.{lift_changes}
-use Rattle.awk_machine.specs.support.Stack.{value_in, Entry, FieldNumber, UnaryOperand, RightOperand, LogicalRight, AssignedValue, AssignedByValue, Ended}
-use Rattle.awk_machine.specs.declared.stack.Stack.{Stack}
-use Rattle.awk_machine.specs.support.Moves.{is_returned, with_value, stack_of, Steps}
-use Rattle.awk_machine.proofs.ExprMoves.{field_gives, field_stops, unary_gives, unary_stops, right_gives, right_stops, logical_gives, assigned_gives, assigned_stops, assigned_by_gives, assigned_by_stops}
-use Rattle.awk_machine.proofs.Steps.{onward, halts}
+use Rattle.awk_control.specs.Stack.{value_in, Entry, FieldNumber, UnaryOperand, RightOperand, LogicalRight, AssignedValue, AssignedByValue, Ended}
+use Rattle.awk_control.specs.declared.stack.Stack.{Stack}
+use Rattle.awk_control.specs.Moves.{is_returned, with_value, stack_of, Steps}
+use Rattle.awk_control.proofs.ExprMoves.{field_gives, field_stops, unary_gives, unary_stops, right_gives, right_stops, logical_gives, assigned_gives, assigned_stops, assigned_by_gives, assigned_by_stops}
+use Rattle.awk_control.proofs.Steps.{onward, halts}
 
 module _ {plan : Program} (stack : Stack) (g : Flow) {v : Value} {m m' : Interpreter} where
   pub field_steps : Changes (field_at (value_in g)) m m' (Ok v) → Steps plan (Ended g) (FieldNumber ∷ stack_of plan stack) m (Ok is_returned) (with_value stack v) m'

@@ -9,12 +9,12 @@ ghost use Rattle.awk_plan.specs.declared.node.Node.TheVariants.{Expression};
 ghost use Rattle.awk_tree.specs.Tree.{Binary, Field};
 ghost use Rattle.awk_meaning.specs.Operators.{takes_pattern};
 ghost use Rattle.awk_machine.specs.support.Nodes.{IsPatternOperand};
-ghost use Rattle.awk_machine.specs.support.Stack.{BeginExpr, Ended, LeftOperand, AndLeft, OrLeft, Condition, value_in};
-ghost use Rattle.awk_machine.specs.support.Moves.{ReadsLeaf, Steps, Awaits, stack_of, topped, flow_of, with_value, is_returned};
+ghost use Rattle.awk_control.specs.Stack.{BeginExpr, Ended, LeftOperand, AndLeft, OrLeft, Condition, value_in};
+ghost use Rattle.awk_control.specs.Moves.{ReadsLeaf, Steps, Awaits, stack_of, topped, flow_of, with_value, is_returned};
 
 use crate::assignments::{post_increment, pre_increment, store, store_by};
 use crate::nodes::{constant, expression, name, pattern_operand, record_matches};
-use crate::stack::{Entry, Focus, Move, OperandEntry, Passed, Stack};
+use awk_control::stack::{Entry, Focus, Move, OperandEntry, Passed, Stack};
 use awk_interpreter::Interpreter;
 use awk_meaning::Halt;
 use awk_operators::{change, truth_value};

@@ -3,14 +3,12 @@
 
 mod assignments;
 mod expressions;
-pub mod in_place;
 mod loops;
 mod machine;
 mod nodes;
 mod prints;
-pub mod stack;
 mod statements;
 
+pub use awk_control::stack::Stack;
 pub use machine::{holds, run_action};
 pub use prints::print_record;
-pub use stack::Stack;

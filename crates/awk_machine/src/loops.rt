@@ -3,28 +3,16 @@
 ghost use Rattle.std.specs.Prelude.{◌≡◌, ◌∷◌, None};
 ghost use Rattle.std.specs.Option.{option_map};
 ghost use Rattle.awk_meaning.specs.Semantics.{ending};
-ghost use Rattle.awk_machine.specs.support.Stack.{BeginStatement, Ended, LastPart, LoopTurn};
-ghost use Rattle.awk_machine.specs.support.Moves.{Steps, SpendsFor, stack_of, loop_of, for_of, topped, flow_of};
+ghost use Rattle.awk_control.specs.Stack.{BeginStatement, Ended, LastPart, LoopTurn};
+ghost use Rattle.awk_control.specs.Moves.{Steps, SpendsFor, stack_of, loop_of, for_of, topped, flow_of};
 
 use crate::expressions::{await_value, is_returned_true};
-use crate::in_place::{Turns, execute_last, make_turns};
-use crate::nodes::simple;
-use crate::stack::{Entry, Focus, Loop, LoopEntry, Move, Passed, Stack};
+use awk_control::blocks::simple;
+use awk_control::in_place::{Turns, ending, execute_last, make_turns};
+use awk_control::stack::{Entry, Focus, Loop, LoopEntry, Move, Passed, Stack};
 use awk_interpreter::Interpreter;
 use awk_meaning::Halt;
 use awk_plan::plan::Plan;
-
-/// How a loop passes on behind a turn of its body, if it ends with it.
-pub(crate) fn ending(passed: Passed) -> Option<Passed>
-    ensures { (v : _) → ending (flow_of passed v) ≡ option_map (λ next. flow_of next v) result }
-{
-    match passed {
-        Passed::Normal => None,
-        Passed::Continue => None,
-        Passed::Break => Some(Passed::Normal),
-        Passed::Returned => Some(Passed::Returned),
-    }
-}
 
 /// Spends the step of a turn, and begins the body.
 fn begin_turn(l: Loop, stack: &mut Stack, interpreter: &mut Interpreter) -> Result<Move, Halt>

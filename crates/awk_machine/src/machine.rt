@@ -5,21 +5,21 @@ ghost use Rattle.awk_plan.specs.Plan.{operand_of, part_of, statement_in, stateme
 ghost use Rattle.awk_tree.specs.Tree.{Do};
 ghost use Rattle.awk_meaning.specs.Semantics.{run_action};
 ghost use Rattle.awk_interpreter.specs.Simulation.{Follows};
-ghost use Rattle.awk_machine.specs.support.Stack.{BeginStatement, BeginBlock, Ended};
-ghost use Rattle.awk_machine.specs.support.Moves.{Moves, Steps, Walks, Runs, Tests, stack_of, focus_of, topped, flow_of, ran};
+ghost use Rattle.awk_control.specs.Stack.{BeginStatement, BeginBlock, Ended};
+ghost use Rattle.awk_control.specs.Moves.{Moves, Steps, Walks, Runs, Tests, stack_of, focus_of, topped, flow_of, ran};
 
 use crate::expressions::{begin_expr, end_operand, is_returned_true};
 use crate::loops::{begin_for, begin_loop, end_loop};
-use crate::stack::{Entry, Focus, Loop, LoopEntry, Move, Passed, Stack, StatementEntry};
 use crate::statements::{begin_block, begin_simple, end_statement, spend_for};
+use awk_control::stack::{
+    Entry, Focus, Loop, LoopEntry, Move, Passed, Stack, Stage, StatementEntry,
+};
 use awk_fast_path::test;
 use awk_interpreter::Interpreter;
 use awk_meaning::Halt;
 use awk_plan::node::{Node, Operand, StatementNode};
 use awk_plan::plan::Plan;
 use awk_streams::World;
-use awk_value::Value;
-use std::alloc::Global;
 
 /// Begins a `do`: the step of the statement, and then that of its first turn.
 fn begin_do(
@@ -163,13 +163,6 @@ fn go_on<W: World>(
     }
 }
 
-/// Where moves without a step end: behind a step, or where nothing is left.
-#[derive(Clone, Copy)]
-pub enum Stage {
-    Spent(Focus),
-    Over(Passed),
-}
-
 /// Moves until one has spent a step.
 fn walk<W: World>(
     plan: &Plan,
@@ -209,17 +202,6 @@ fn run<W: World>(
         match walk(plan, place, stack, interpreter, world)? {
             Stage::Spent(next) => place = next,
             Stage::Over(passed) => return Ok(passed),
-        }
-    }
-}
-
-impl Stack {
-    /// A stack without entries.
-    pub fn new(alloc: Global) -> Stack {
-        Stack {
-            entries: Vec::new(alloc),
-            values: Vec::new(alloc),
-            returned: Value::Nothing,
         }
     }
 }

@@ -1,19 +1,19 @@
-// The nodes of a plan, each by its sort, and its leaves. A place of another sort stands for what is least: 0, the empty list, no
-// statement.
+// The expressions of a plan and their lists, and what leaves stand for. A place of another sort stands for what is least: 0, or
+// the empty list.
 
-ghost use Rattle.std.specs.Prelude.{◌≡◌, IfSome, option_map};
-ghost use Rattle.awk_plan.specs.Plan.{part_of, operand_of, name_at, statement_in, statements_in};
+ghost use Rattle.std.specs.Prelude.{◌≡◌, option_map};
+ghost use Rattle.awk_plan.specs.Plan.{operand_of, name_at};
 ghost use Rattle.awk_plan.specs.declared.node.Operand.TheVariants.{Constant, Variable};
-ghost use Rattle.awk_tree.specs.Tree.{Block, Ere as Pattern};
+ghost use Rattle.awk_tree.specs.Tree.{Ere as Pattern};
 ghost use Rattle.awk_meaning.specs.Operators.{takes_pattern};
 ghost use Rattle.awk_meaning.specs.Semantics.{eval};
 ghost use Rattle.awk_interpreter.specs.Simulation.{Changes};
-ghost use Rattle.awk_machine.specs.support.Nodes.{IsExpression, IsList, IsSimple, IsBlock, IsPatternOperand};
+ghost use Rattle.awk_machine.specs.support.Nodes.{IsExpression, IsList, IsPatternOperand};
 
 use awk_interpreter::Interpreter;
 use awk_meaning::Halt;
 use awk_operators::takes_pattern;
-use awk_plan::node::{BlockNode, ExprNode, ListNode, Node, Operand, SimpleNode, StatementNode};
+use awk_plan::node::{ExprNode, ListNode, Node, Operand};
 use awk_plan::plan::Plan;
 use awk_tree::tree::{BinaryOperator, Ere};
 use awk_value::Value;
@@ -45,46 +45,6 @@ pub(crate) fn list(plan: &Plan, place: u32) -> ListNode
         Some(Node::Block(_)) => ListNode::Nil,
         Some(Node::Absent) => ListNode::Nil,
         None => ListNode::Nil,
-    }
-}
-
-/// The statements at a place.
-pub(crate) fn block(plan: &Plan, place: u32) -> BlockNode
-    ensures { IsBlock plan.now place result }
-{
-    match plan.node(place) {
-        Some(Node::Block(node)) => node,
-        Some(Node::Expression(_)) => BlockNode::NoMore,
-        Some(Node::List(_)) => BlockNode::NoMore,
-        Some(Node::Simple(_)) => BlockNode::NoMore,
-        Some(Node::Statement(_)) => BlockNode::NoMore,
-        Some(Node::Absent) => BlockNode::NoMore,
-        None => BlockNode::NoMore,
-    }
-}
-
-/// The place of the statements of a block, if one stands at a place.
-pub(crate) fn block_at(plan: &Plan, place: u32) -> Option<u32>
-    ensures { IfSome result (λ all. statement_in (part_of plan.now place) ≡ Block (statements_in (part_of plan.now all))) }
-{
-    match plan.node(place) {
-        Some(Node::Statement(StatementNode::Block(all))) => Some(all),
-        _ => None,
-    }
-}
-
-/// The simple statement at a place, if one stands there.
-pub(crate) fn simple(plan: &Plan, place: u32) -> Option<SimpleNode>
-    ensures { IsSimple plan.now place result }
-{
-    match plan.node(place) {
-        Some(Node::Simple(node)) => Some(node),
-        Some(Node::Expression(_)) => None,
-        Some(Node::List(_)) => None,
-        Some(Node::Statement(_)) => None,
-        Some(Node::Block(_)) => None,
-        Some(Node::Absent) => None,
-        None => None,
     }
 }
 

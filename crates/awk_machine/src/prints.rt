@@ -4,13 +4,13 @@ ghost use Rattle.awk_plan.specs.Plan.{part_of, exprs_in};
 ghost use Rattle.awk_tree.specs.Tree.{Simple, Print, Nil};
 ghost use Rattle.awk_meaning.specs.Semantics.{print};
 ghost use Rattle.awk_interpreter.specs.Simulation.{Follows};
-ghost use Rattle.awk_machine.specs.support.Stack.{BeginStatement, Ended};
-ghost use Rattle.awk_machine.specs.support.Moves.{Moves, stack_of, topped, flow_of};
+ghost use Rattle.awk_control.specs.Stack.{BeginStatement, Ended};
+ghost use Rattle.awk_control.specs.Moves.{Moves, stack_of, topped, flow_of};
 
 use crate::expressions::{await_value, take_value};
 use crate::nodes::list;
-use crate::stack::{Entry, Focus, Move, Passed, Stack, StatementEntry};
 use crate::statements::spend_for;
+use awk_control::stack::{Entry, Focus, Move, Passed, Stack, StatementEntry};
 use awk_interpreter::Interpreter;
 use awk_meaning::{Fault, Halt};
 use awk_plan::node::ListNode;

@@ -3,14 +3,14 @@
 ghost use Rattle.std.specs.Prelude.{◌≡◌, [], ◌∷◌};
 ghost use Rattle.awk_plan.specs.Plan.{operand_of, made_simple, part_of, exprs_in, statement_in, statements_in};
 ghost use Rattle.awk_tree.specs.Tree.{Simple, Expression};
-ghost use Rattle.awk_machine.specs.support.Stack.{BeginStatement, BeginBlock, Ended};
-ghost use Rattle.awk_machine.specs.support.Moves.{Moves, Steps, SpendsFor, stack_of, topped, flow_of};
+ghost use Rattle.awk_control.specs.Stack.{BeginStatement, BeginBlock, Ended};
+ghost use Rattle.awk_control.specs.Moves.{Moves, Steps, SpendsFor, stack_of, topped, flow_of};
 
 use crate::expressions::{is_returned_true, take_value};
-use crate::in_place::{Reached, advance};
-use crate::nodes::block;
 use crate::prints::{begin_print, end_printed};
-use crate::stack::{Entry, Focus, Move, Passed, Stack, StatementEntry};
+use awk_control::blocks::block;
+use awk_control::in_place::{Reached, advance};
+use awk_control::stack::{Entry, Focus, Move, Passed, Stack, StatementEntry};
 use awk_interpreter::Interpreter;
 use awk_meaning::Halt;
 use awk_plan::node::{BlockNode, Operand, SimpleNode};

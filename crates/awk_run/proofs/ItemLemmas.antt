@@ -21,7 +21,7 @@ use Rattle.awk_meaning.specs.Meaning.{assign_all, assign_and_run}
 use Rattle.awk_meaning.specs.Semantics.{choose, print, run_action, in_range, go_through, selects, try_item, try_items, unless_next, until_next, begin_record, each_record, run_records, begin_item, begin_items, is_rule, has_rule, run_before_end, end_item, end_items, unless_exit, until_exit, run_items}
 use Rattle.awk_streams.specs.WorldState.{WorldState}
 use Rattle.awk_interpreter.specs.Simulation.{ResultRelation, SimulatesLogged, Simulates, Changes, Spends, Follows}
-use Rattle.awk_machine.specs.Moves.{Tests}
+use Rattle.awk_control.specs.Moves.{Tests}
 use Rattle.awk_run.specs.support.Items.{Tells, Selects, Tries, TriesAll, BeginsItem, BeginsAll, ReadsOn, ReadsAll, RunsBeforeEnd, EndsItem, EndsAll, RunsItems, Assigns, AssignsAndRuns}
 use Rattle.awk_interpreter.proofs.Composition.{then_changes, ends_changes, lift_changes, then_simulates, ends_simulates, lift_simulates, change_simulates}
 

@@ -20,13 +20,6 @@ module _ (plan : Program) (place : ℕ) where
   abbrev pub IsList : ListNode → Type 0
   IsList n = exprs_in (part_of plan place) ≡ made_list plan.tables (part_of plan) n
 
-  abbrev pub IsBlock : BlockNode → Type 0
-  IsBlock n = statements_in (part_of plan place) ≡ made_block plan.tables (part_of plan) n
-
-  abbrev pub IsSimple : Option SimpleNode → Type 0
-  IsSimple (Some n) = (statement_in (part_of plan place) ≡ t.Simple (made_simple plan.tables (part_of plan) n)) × (optional_simple_in (part_of plan place) ≡ t.ASimple (made_simple plan.tables (part_of plan) n))
-  IsSimple None = optional_simple_in (part_of plan place) ≡ t.NoSimple
-
 -- right of an operator stands this pattern, or an operand that is evaluated
 abbrev pub IsPatternOperand : Bool → t.Expr → Option (List ℕ) → Type 0
 IsPatternOperand takes e (Some text) = (takes ≡ true) × (e ≡ t.Ere text)

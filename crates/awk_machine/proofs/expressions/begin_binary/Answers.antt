@@ -1,8 +1,8 @@
 use Rattle.std.proofs.Common.{refl, arith}
 use Rattle.std.proofs.lemmas.Result.{err_from_is_err_and}
-use Rattle.awk_machine.proofs.ExprMoves.{binary_begins}
-use Rattle.awk_machine.proofs.Steps.{halts, awaited_plain}
-use Rattle.awk_machine.proofs.InPlace.{left_read, left_unread, steps_behind}
+use Rattle.awk_control.proofs.ExprMoves.{binary_begins}
+use Rattle.awk_control.proofs.Steps.{halts, awaited_plain}
+use Rattle.awk_control.proofs.InPlace.{left_read, left_unread, steps_behind}
 use Rattle.awk_machine.proofs.expressions.begin_binary.Goals as goal
 
 pub returns-in_err-left : goal.returns-in_err-left

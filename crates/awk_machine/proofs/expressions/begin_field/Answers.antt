@@ -1,9 +1,9 @@
 use Rattle.std.proofs.Common.{refl, arith}
 use Rattle.std.proofs.lemmas.Result.{err_from_is_err_and}
-use Rattle.awk_machine.proofs.ExprMoves.{field_begins}
-use Rattle.awk_machine.proofs.Steps.{halts, awaited_plain}
+use Rattle.awk_control.proofs.ExprMoves.{field_begins}
+use Rattle.awk_control.proofs.Steps.{halts, awaited_plain}
 use Rattle.awk_machine.proofs.OperandMoves.{field_steps, field_fails}
-use Rattle.awk_machine.proofs.InPlace.{number_read, number_unread, steps_behind}
+use Rattle.awk_control.proofs.InPlace.{number_read, number_unread, steps_behind}
 use Rattle.awk_machine.proofs.expressions.begin_field.Goals as goal
 
 pub returns-in_err-number : goal.returns-in_err-number

@@ -1,9 +1,9 @@
 use Rattle.std.proofs.Common.{refl, arith, []}
 use Rattle.std.proofs.lemmas.Result.{err_from_is_err_and}
 use Rattle.std.proofs.lemmas.Option.{get_or_from_slice_get}
-use Rattle.awk_machine.proofs.ExprMoves.{group_begins, unary_begins, and_begins, or_begins, conditional_begins, assign_begins, assign_by_begins}
+use Rattle.awk_control.proofs.ExprMoves.{group_begins, unary_begins, and_begins, or_begins, conditional_begins, assign_begins, assign_by_begins}
 use Rattle.awk_machine.proofs.LeafMoves.{leaf_steps, leaf_stops, name_evaluates, pre_evaluates, post_evaluates}
-use Rattle.awk_machine.proofs.Steps.{onward, awaited_plain}
+use Rattle.awk_control.proofs.Steps.{onward, awaited_plain}
 use Rattle.awk_machine.proofs.expressions.begin_node.Goals as goal
 
 pub returns-in-Group : goal.returns-in-Group

@@ -1,9 +1,9 @@
 use Rattle.std.proofs.Common.{arith}
 use Rattle.std.proofs.lemmas.Result.{err_from_is_err_and}
-use Rattle.awk_machine.proofs.ExprMoves.{right_begins}
-use Rattle.awk_machine.proofs.Steps.{halts, wants_memory, awaited_kept}
+use Rattle.awk_control.proofs.ExprMoves.{right_begins}
+use Rattle.awk_control.proofs.Steps.{halts, wants_memory, awaited_kept}
 use Rattle.awk_machine.proofs.OperandMoves.{right_steps, right_fails}
-use Rattle.awk_machine.proofs.InPlace.{right_read, right_unread, steps_behind}
+use Rattle.awk_control.proofs.InPlace.{right_read, right_unread, steps_behind}
 use Rattle.awk_machine.proofs.expressions.begin_right.Goals as goal
 
 pub returns-in_err-right : goal.returns-in_err-right

@@ -1,6 +1,6 @@
 use Rattle.std.proofs.Common.{refl, ◌∙◌, arith}
-use Rattle.awk_machine.proofs.ExprMoves.{condition_holds, condition_fails}
-use Rattle.awk_machine.proofs.Steps.{onward}
+use Rattle.awk_control.proofs.ExprMoves.{condition_holds, condition_fails}
+use Rattle.awk_control.proofs.Steps.{onward}
 use Rattle.awk_machine.proofs.expressions.chosen.Goals as goal
 
 pub returns-then-is_true : goal.returns-then-is_true

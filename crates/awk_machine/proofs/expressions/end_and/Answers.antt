@@ -1,6 +1,6 @@
 use Rattle.std.proofs.Common.{refl, ◌∙◌, arith}
-use Rattle.awk_machine.proofs.ExprMoves.{and_ends, and_goes_on}
-use Rattle.awk_machine.proofs.Steps.{onward, awaited_plain}
+use Rattle.awk_control.proofs.ExprMoves.{and_ends, and_goes_on}
+use Rattle.awk_control.proofs.Steps.{onward, awaited_plain}
 use Rattle.awk_machine.proofs.expressions.end_and.Goals as goal
 
 pub returns-then-is_true : goal.returns-then-is_true

@@ -1,7 +1,7 @@
 use Rattle.std.proofs.Common.{refl, arith}
 use Rattle.std.proofs.lemmas.Result.{err_from_is_err_and}
-use Rattle.awk_machine.proofs.ExprMoves.{pattern_gives, pattern_stops}
-use Rattle.awk_machine.proofs.Steps.{onward, halts}
+use Rattle.awk_control.proofs.ExprMoves.{pattern_gives, pattern_stops}
+use Rattle.awk_control.proofs.Steps.{onward, halts}
 use Rattle.awk_machine.proofs.expressions.end_left.Goals as goal
 
 pub returns-in_err-value-in-Some : goal.returns-in_err-value-in-Some

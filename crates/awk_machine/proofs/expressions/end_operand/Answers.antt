@@ -1,8 +1,8 @@
 use Rattle.std.proofs.Common.{sym}
 use Rattle.std.proofs.lemmas.Result.{err_from_is_err_and}
 use Rattle.awk_value.specs.declared.value.Value.TheVariants.{Nothing}
-use Rattle.awk_machine.specs.support.Moves.{flow_of, with_value}
-use Rattle.awk_machine.proofs.Steps.{kept_popped}
+use Rattle.awk_control.specs.Moves.{flow_of, with_value}
+use Rattle.awk_control.proofs.Steps.{kept_popped}
 use Rattle.awk_machine.proofs.OperandMoves.{field_steps, field_fails, unary_steps, unary_fails, right_steps, right_fails, logical_steps, assigned_steps, assigned_fails, assigned_by_steps, assigned_by_fails}
 use Rattle.awk_machine.proofs.expressions.end_operand.Goals as goal
 

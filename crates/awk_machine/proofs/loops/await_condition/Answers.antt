@@ -1,8 +1,8 @@
 use Rattle.std.proofs.Common.{refl, ap, arith}
-use Rattle.awk_machine.specs.support.Stack.{condition_weight}
-use Rattle.awk_machine.specs.support.Moves.{condition_of}
-use Rattle.awk_machine.proofs.LoopMoves.{condition_begins, endless_turns, endless_stops}
-use Rattle.awk_machine.proofs.Steps.{awaited_plain, spent_for}
+use Rattle.awk_control.specs.Stack.{condition_weight}
+use Rattle.awk_control.specs.Moves.{condition_of}
+use Rattle.awk_control.proofs.LoopMoves.{condition_begins, endless_turns, endless_stops}
+use Rattle.awk_control.proofs.Steps.{awaited_plain, spent_for}
 use Rattle.awk_machine.proofs.loops.await_condition.Goals as goal
 
 pub returns-in-Some : goal.returns-in-Some

@@ -1,8 +1,8 @@
 use Rattle.std.proofs.Common.{refl, arith}
 use Rattle.std.proofs.lemmas.Result.{err_from_is_err_and}
 use Rattle.awk_meaning.specs.declared.flow.Flow.TheVariants.{Normal}
-use Rattle.awk_machine.proofs.Steps.{onward, pushed_paid}
-use Rattle.awk_machine.proofs.InPlace.{steps_behind, wants_memory_later}
+use Rattle.awk_control.proofs.Steps.{onward, pushed_paid}
+use Rattle.awk_control.proofs.InPlace.{steps_behind, wants_memory_later}
 use Rattle.awk_machine.proofs.loops.begin_condition.Goals as goal
 
 pub returns-in-Ended : goal.returns-in-Ended

@@ -1,6 +1,6 @@
 use Rattle.std.proofs.Common.{refl}
-use Rattle.awk_machine.proofs.LoopMoves.{for_begins, for_begins_at_once, for_stops}
-use Rattle.awk_machine.proofs.Steps.{spent_for}
+use Rattle.awk_control.proofs.LoopMoves.{for_begins, for_begins_at_once, for_stops}
+use Rattle.awk_control.proofs.Steps.{spent_for}
 use Rattle.awk_machine.proofs.loops.begin_for.Goals as goal
 
 pub returns-in-Some : goal.returns-in-Some

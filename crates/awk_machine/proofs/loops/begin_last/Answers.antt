@@ -1,8 +1,8 @@
 use Rattle.std.proofs.Common.{refl, arith}
 use Rattle.std.proofs.lemmas.Result.{err_from_is_err_and}
 use Rattle.awk_meaning.specs.declared.flow.Flow.TheVariants.{Normal}
-use Rattle.awk_machine.proofs.Steps.{wants_memory, pushed_onward}
-use Rattle.awk_machine.proofs.InPlace.{steps_behind}
+use Rattle.awk_control.proofs.Steps.{wants_memory, pushed_onward}
+use Rattle.awk_control.proofs.InPlace.{steps_behind}
 use Rattle.awk_machine.proofs.loops.begin_last.Goals as goal
 
 pub returns-in-None : goal.returns-in-None

@@ -1,6 +1,6 @@
 use Rattle.std.proofs.Common.{refl}
 use Rattle.std.proofs.lemmas.Result.{err_from_is_err_and}
-use Rattle.awk_machine.proofs.Steps.{unspent_memory}
+use Rattle.awk_control.proofs.Steps.{unspent_memory}
 use Rattle.awk_machine.proofs.loops.begin_turn.Goals as goal
 
 pub returns-in_err-push : goal.returns-in_err-push

@@ -1,8 +1,8 @@
 use Rattle.std.proofs.Common.{refl, ap, sym, ◌∙◌, arith}
 use Rattle.std.specs.Option.{option_map}
-use Rattle.awk_machine.specs.support.Moves.{flow_of}
-use Rattle.awk_machine.proofs.LoopMoves.{entry_goes_on, first_turn_ends, first_turn_goes_on, turn_ends, loop_turns, loop_stops, loop_ends}
-use Rattle.awk_machine.proofs.Steps.{onward, spent_for, steps_from}
+use Rattle.awk_control.specs.Moves.{flow_of}
+use Rattle.awk_control.proofs.LoopMoves.{entry_goes_on, first_turn_ends, first_turn_goes_on, turn_ends, loop_turns, loop_stops, loop_ends}
+use Rattle.awk_control.proofs.Steps.{onward, spent_for, steps_from}
 use Rattle.awk_machine.proofs.loops.end_loop.Goals as goal
 
 pub returns-in-FirstPart : goal.returns-in-FirstPart

@@ -1,8 +1,8 @@
 use Rattle.std.proofs.Common.{refl, arith}
 use Rattle.awk_meaning.specs.declared.flow.Flow.TheVariants.{Normal}
-use Rattle.awk_machine.proofs.StatementMoves.{empty_ends, block_begins, if_begins, if_stops, if_else_begins, if_else_stops}
-use Rattle.awk_machine.proofs.LoopMoves.{while_begins, while_stops}
-use Rattle.awk_machine.proofs.Steps.{onward, spent_for}
+use Rattle.awk_control.proofs.StatementMoves.{empty_ends, block_begins, if_begins, if_stops, if_else_begins, if_else_stops}
+use Rattle.awk_control.proofs.LoopMoves.{while_begins, while_stops}
+use Rattle.awk_control.proofs.Steps.{onward, spent_for}
 use Rattle.awk_machine.proofs.machine.begin_compound.Goals as goal
 
 pub returns-in-Empty : goal.returns-in-Empty

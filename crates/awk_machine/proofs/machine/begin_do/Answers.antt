@@ -1,7 +1,7 @@
 use Rattle.std.proofs.Common.{refl, ◌∙◌, arith}
 use Rattle.std.proofs.lemmas.Result.{err_from_is_err_and}
-use Rattle.awk_machine.proofs.LoopMoves.{do_begins, do_stops, do_turn_stops}
-use Rattle.awk_machine.proofs.Steps.{halts, wants_memory, pushed_paid}
+use Rattle.awk_control.proofs.LoopMoves.{do_begins, do_stops, do_turn_stops}
+use Rattle.awk_control.proofs.Steps.{halts, wants_memory, pushed_paid}
 use Rattle.awk_machine.proofs.machine.begin_do.Goals as goal
 
 pub returns-in_err-push : goal.returns-in_err-push

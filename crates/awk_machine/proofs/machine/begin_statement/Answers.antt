@@ -1,7 +1,7 @@
 use Rattle.std.proofs.Common.{refl, ap, arith}
 use Rattle.awk_plan.specs.Plan.{statement_in}
-use Rattle.awk_machine.proofs.StatementMoves.{empty_ends}
-use Rattle.awk_machine.proofs.Steps.{onward, stepped}
+use Rattle.awk_control.proofs.StatementMoves.{empty_ends}
+use Rattle.awk_control.proofs.Steps.{onward, stepped}
 use Rattle.awk_machine.proofs.machine.begin_statement.Goals as goal
 
 pub returns-in-Some-Statement : goal.returns-in-Some-Statement

@@ -1,6 +1,6 @@
 use Rattle.std.proofs.lemmas.Result.{err_from_is_err_and}
-use Rattle.awk_machine.proofs.Walking.{tests, test_halts}
-use Rattle.awk_machine.proofs.InPlace.{tests_at_once}
+use Rattle.awk_control.proofs.Walking.{tests, test_halts}
+use Rattle.awk_control.proofs.InPlace.{tests_at_once}
 use Rattle.awk_machine.proofs.machine.holds.Goals as goal
 
 pub returns-in_err-passed : goal.returns-in_err-passed

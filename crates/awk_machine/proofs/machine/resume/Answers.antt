@@ -1,4 +1,4 @@
-use Rattle.awk_machine.proofs.Steps.{stepped}
+use Rattle.awk_control.proofs.Steps.{stepped}
 use Rattle.awk_machine.proofs.machine.resume.Goals as goal
 
 pub returns-in-Expr : goal.returns-in-Expr

@@ -1,5 +1,5 @@
 use Rattle.std.proofs.lemmas.Result.{err_from_is_err_and}
-use Rattle.awk_machine.proofs.Walking.{run_on, run_falls, run_ends, run_halts}
+use Rattle.awk_control.proofs.Walking.{run_on, run_falls, run_ends, run_halts}
 use Rattle.awk_machine.proofs.machine.run.Goals as goal
 
 pub steps-preserved : goal.steps-preserved

@@ -1,6 +1,6 @@
 use Rattle.std.proofs.Common.{[]}
-use Rattle.awk_machine.specs.support.Stack.{Leads}
-use Rattle.awk_machine.specs.support.Moves.{stack_of, focus_of}
+use Rattle.awk_control.specs.Stack.{Leads}
+use Rattle.awk_control.specs.Moves.{stack_of, focus_of}
 use Rattle.awk_machine.proofs.machine.run.Given as goal
 
 abbrev pub invariant-steps : goal.invariant-steps

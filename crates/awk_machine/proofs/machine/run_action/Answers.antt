@@ -1,5 +1,5 @@
 use Rattle.std.proofs.lemmas.Result.{err_from_is_err_and}
-use Rattle.awk_machine.proofs.Walking.{acts, act_halts}
+use Rattle.awk_control.proofs.Walking.{acts, act_halts}
 use Rattle.awk_machine.proofs.machine.run_action.Goals as goal
 
 pub returns-in_err-run : goal.returns-in_err-run

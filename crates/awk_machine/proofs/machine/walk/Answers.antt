@@ -1,5 +1,5 @@
 use Rattle.std.proofs.lemmas.Result.{err_from_is_err_and}
-use Rattle.awk_machine.proofs.Walking.{walk_starts, walk_on, walk_falls, walk_spends, walk_ends, walk_halts}
+use Rattle.awk_control.proofs.Walking.{walk_starts, walk_on, walk_falls, walk_spends, walk_ends, walk_halts}
 use Rattle.awk_machine.proofs.machine.walk.Goals as goal
 
 pub moves-init : goal.moves-init

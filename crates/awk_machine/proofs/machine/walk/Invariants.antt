@@ -1,6 +1,6 @@
-use Rattle.awk_machine.specs.support.Stack.{work}
-use Rattle.awk_machine.specs.support.Moves.{stack_of, focus_of}
-use Rattle.awk_machine.proofs.Walking.{Walking}
+use Rattle.awk_control.specs.Stack.{work}
+use Rattle.awk_control.specs.Moves.{stack_of, focus_of}
+use Rattle.awk_control.proofs.Walking.{Walking}
 use Rattle.awk_machine.proofs.machine.walk.Given as goal
 
 abbrev pub invariant-moves : goal.invariant-moves

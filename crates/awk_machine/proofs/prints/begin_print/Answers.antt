@@ -1,7 +1,7 @@
 use Rattle.std.proofs.Common.{refl, arith}
 use Rattle.std.proofs.lemmas.Result.{err_from_is_err_and}
-use Rattle.awk_machine.proofs.PrintMoves.{record_printed, record_stops, print_stops, print_begins}
-use Rattle.awk_machine.proofs.Steps.{spent_for, stepped}
+use Rattle.awk_control.proofs.PrintMoves.{record_printed, record_stops, print_stops, print_begins}
+use Rattle.awk_control.proofs.Steps.{spent_for, stepped}
 use Rattle.awk_machine.proofs.prints.begin_print.Goals as goal
 
 pub returns-in_err-print_record-in-Nil : goal.returns-in_err-print_record-in-Nil

@@ -1,12 +1,12 @@
 use Rattle.std.proofs.Common.{◌≡◌, suc, ◌-◌, ◌∷◌, [], ◌++◌, reverse, drop, length, ap, ◌∙◌, arith}
 use Rattle.std.proofs.lemmas.List.{take_rest}
 use Rattle.std.proofs.lemmas.Result.{err_from_is_err_and}
-use Rattle.awk_machine.specs.declared.stack.Stack.{Stack}
-use Rattle.awk_machine.specs.support.Stack.{value_in}
-use Rattle.awk_machine.specs.support.Moves.{entries_of, flow_of}
-use Rattle.awk_machine.proofs.PrintMoves.{list_goes_on, line_printed, line_stops}
-use Rattle.awk_machine.proofs.KeptValues.{line_kept, rest_kept}
-use Rattle.awk_machine.proofs.Steps.{wants_memory, awaited_printed, stepped, ended_over}
+use Rattle.awk_control.specs.declared.stack.Stack.{Stack}
+use Rattle.awk_control.specs.Stack.{value_in}
+use Rattle.awk_control.specs.Moves.{entries_of, flow_of}
+use Rattle.awk_control.proofs.PrintMoves.{list_goes_on, line_printed, line_stops}
+use Rattle.awk_control.proofs.KeptValues.{line_kept, rest_kept}
+use Rattle.awk_control.proofs.Steps.{wants_memory, awaited_printed, stepped, ended_over}
 use Rattle.awk_machine.proofs.prints.end_printed.Goals as goal
 
 pub returns-in_default : goal.returns-in_default

@@ -1,5 +1,5 @@
 use Rattle.std.proofs.lemmas.Result.{err_from_is_err_and}
-use Rattle.awk_machine.proofs.PrintMoves.{print_unspent, print_unread, print_wants, print_prints}
+use Rattle.awk_control.proofs.PrintMoves.{print_unspent, print_unread, print_wants, print_prints}
 use Rattle.awk_machine.proofs.prints.print_record.Goals as goal
 
 pub returns-in_err-spend : goal.returns-in_err-spend

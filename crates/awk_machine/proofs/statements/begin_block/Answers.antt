@@ -1,7 +1,7 @@
 use Rattle.std.proofs.Common.{refl}
-use Rattle.awk_machine.specs.support.Moves.{flow_of}
-use Rattle.awk_machine.proofs.Steps.{onward}
-use Rattle.awk_machine.proofs.Reaching.{block_falls, steps_later}
+use Rattle.awk_control.specs.Moves.{flow_of}
+use Rattle.awk_control.proofs.Steps.{onward}
+use Rattle.awk_control.proofs.Reaching.{block_falls, steps_later}
 use Rattle.awk_machine.proofs.statements.begin_block.Goals as goal
 
 pub returns-in-Before : goal.returns-in-Before

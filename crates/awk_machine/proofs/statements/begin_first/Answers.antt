@@ -1,7 +1,7 @@
 use Rattle.std.proofs.Common.{refl, arith}
 use Rattle.std.proofs.lemmas.Result.{err_from_is_err_and}
-use Rattle.awk_machine.proofs.StatementMoves.{no_more_ends, then_begins}
-use Rattle.awk_machine.proofs.Steps.{onward, wants_memory, pushed_onward}
+use Rattle.awk_control.proofs.StatementMoves.{no_more_ends, then_begins}
+use Rattle.awk_control.proofs.Steps.{onward, wants_memory, pushed_onward}
 use Rattle.awk_machine.proofs.statements.begin_first.Goals as goal
 
 pub returns-in-NoMore : goal.returns-in-NoMore

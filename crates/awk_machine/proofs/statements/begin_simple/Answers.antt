@@ -1,7 +1,7 @@
 use Rattle.std.proofs.Common.{refl}
 use Rattle.std.proofs.lemmas.Result.{err_from_is_err_and}
-use Rattle.awk_machine.proofs.StatementMoves.{expression_begins, expression_stops, exit_begins, exit_stops, exit_halts, next_stops, next_halts, break_stops, break_ends, continue_stops, continue_ends}
-use Rattle.awk_machine.proofs.Steps.{halts, paid, spent_for, stepped}
+use Rattle.awk_control.proofs.StatementMoves.{expression_begins, expression_stops, exit_begins, exit_stops, exit_halts, next_stops, next_halts, break_stops, break_ends, continue_stops, continue_ends}
+use Rattle.awk_control.proofs.Steps.{halts, paid, spent_for, stepped}
 use Rattle.awk_machine.proofs.statements.begin_simple.Goals as goal
 
 pub returns-in-Print : goal.returns-in-Print

@@ -1,7 +1,7 @@
 use Rattle.std.proofs.Common.{refl, sym, ◌∙◌, arith}
 use Rattle.std.proofs.lemmas.Result.{err_from_is_err_and}
-use Rattle.awk_machine.proofs.StatementMoves.{evaluated_ends, status_stops, status_halts, follows, follows_none, if_holds, if_fails, if_else_holds, if_else_fails}
-use Rattle.awk_machine.proofs.Steps.{onward, halts, stepped}
+use Rattle.awk_control.proofs.StatementMoves.{evaluated_ends, status_stops, status_halts, follows, follows_none, if_holds, if_fails, if_else_holds, if_else_fails}
+use Rattle.awk_control.proofs.Steps.{onward, halts, stepped}
 use Rattle.awk_machine.proofs.statements.end_statement.Goals as goal
 
 pub returns-in-Printed : goal.returns-in-Printed

@@ -1,0 +1,11 @@
+pub mod Laws
+pub mod Moves
+pub mod ExprMoves
+pub mod StatementMoves
+pub mod PrintMoves
+pub mod LoopMoves
+pub mod Steps
+pub mod KeptValues
+pub mod Walking
+pub mod InPlace
+pub mod Reaching

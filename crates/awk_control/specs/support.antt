@@ -1,0 +1,4 @@
+pub mod Stack
+pub mod Blocks
+pub mod Moves
+pub mod Reaching

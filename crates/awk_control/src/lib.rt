@@ -1,0 +1,6 @@
+//! The control of a run: what has begun and not ended, and the statements that are executed in place, without an entry.
+#![tactic(auto)]
+
+pub mod blocks;
+pub mod in_place;
+pub mod stack;
