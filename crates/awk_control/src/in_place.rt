@@ -1,6 +1,8 @@
 // Statements and turns of loops that are executed in place, as long as nothing in them has to wait: no entry is made for them.
 
 ghost use Rattle.std.specs.Prelude.{◌≡◌, IfSome};
+ghost use Rattle.std.specs.Option.{option_map};
+ghost use Rattle.awk_meaning.specs.Semantics.{ending};
 ghost use Rattle.awk_plan.specs.Plan.{part_of, statement_in, statements_in};
 ghost use Rattle.awk_control.specs.support.Stack.{BeginStatement, BeginBlock, Ended, LoopTurn};
 ghost use Rattle.awk_control.specs.support.Moves.{loop_of, flow_of};

@@ -1,2 +1,3 @@
 mod Lemmas
 mod Executing
+mod Writing

@@ -9,6 +9,7 @@ ghost use Rattle.awk_fast_path.specs.support.Found.{Evaluates};
 ghost use Rattle.awk_fast_path.specs.support.Executed.{Executes, RunsBy, IsIf, behind_simple, behind_if, branch_of, given_back};
 
 use crate::numbers::{expression, join, name, number, test};
+use crate::texts::assign_text;
 use awk_interpreter::Interpreter;
 use awk_lex::token::IncrementOperator;
 use awk_plan::node::{ExprNode, Node, Operand, SimpleNode, StatementNode};
@@ -25,7 +26,7 @@ fn by_one(operator: IncrementOperator) -> BinaryOperator
     }
 }
 
-/// Gives a variable the number of an expression.
+/// Gives a variable the number or the text of an expression.
 fn assign(plan: &Plan, x: u32, e: Operand, interpreter: &mut Interpreter) -> bool
     ensures done { result ≡ true → Evaluates (Assign (name_at plan.now.tables x) (operand_of plan.now e)) interpreter.old
         interpreter.new }
@@ -35,7 +36,10 @@ fn assign(plan: &Plan, x: u32, e: Operand, interpreter: &mut Interpreter) -> boo
         return false;
     };
     let n = number(plan, e, interpreter);
-    interpreter.put_number(x, name, n)
+    if interpreter.put_number(x, name, n) {
+        return true;
+    }
+    assign_text(plan, x, name, e, interpreter)
 }
 
 /// Gives a variable what an operator makes of its number and of an expression's.

@@ -167,6 +167,10 @@ pub number_read : (x : List ℕ) (m : Interpreter) (v : Value) (r : Option ℤ) 
 number_read x m v (Some n) is plain e = read_value x plain (still m) (sym e ∙ is)
 number_read x m v None is plain e = tt
 
+pub value_read : {R : Type 0} (now : R → Value) (x : List ℕ) (m : Interpreter) (r : Option R) → bytes_eq x (codes "NF") ≡ false → IfSome r (λ v. now v ≡ value_of m.variables x) → IfSome r (λ v. Changes (read_name x) m m (Ok (now v)))
+value_read now x m (Some v) plain is = read_value x plain (still m) is
+value_read now x m None plain is = tt
+
 pub itself_put : (x : List ℕ) (v : Value) (f : List ℕ → Value) → with_value f x v x ≡ v
 itself_put x v f = ap (λ b. if b then v else f x) ((bytes_eq-Decides x x).1 refl)
 

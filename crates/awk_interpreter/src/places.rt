@@ -1,15 +1,18 @@
 // Variables by their numbers in a program: each is looked for at its place, and else by its name.
 
-ghost use Rattle.std.specs.Prelude.{◌≡◌, ℕ, List, true, false, codes, bytes_eq, Ok, IfSome, IfErr};
+ghost use Rattle.std.specs.Prelude.{◌≡◌, ℕ, List, ◌++◌, true, false, codes, bytes_eq, Ok, IfSome, IfErr};
+ghost use Rattle.awk_value.specs.Values.{str_of};
+ghost use Rattle.awk_value.specs.declared.value.Value.{Value as Kept};
 ghost use Rattle.awk_variables.specs.Variables.{value_of};
 ghost use Rattle.awk_meaning.specs.State.{ret};
 ghost use Rattle.awk_meaning.specs.Primitives.{read_name, put};
 ghost use Rattle.awk_meaning.specs.Results.{IsWantOfMemory};
+ghost use Rattle.awk_meaning.specs.Semantics.{store};
 ghost use Rattle.awk_interpreter.specs.support.Simulation.{Changes, PutsNumber};
 
 use crate::interpreter::{Interpreter, is_field_count};
 use awk_meaning::Halt;
-use awk_value::Value;
+use awk_value::{Bytes, Value};
 use awk_variables::{Names, VariableFault, Variables};
 
 /// The name at an index.
@@ -49,9 +52,10 @@ impl Interpreter {
     }
 
     /// The value at a place, if it is this name's, which isn't NF.
-    fn value_at(&self, number: u32, name: &[u8]) -> Option<&Value>
+    pub fn value_at(&self, number: u32, name: &[u8]) -> Option<&Value>
         ensures value { IfSome result (λ value. value.now ≡ value_of self.now.variables name.now) }
         ensures plain { IfSome result (λ value. bytes_eq name.now (codes "NF") ≡ false) }
+        ensures read { IfSome result (λ value. Changes (read_name name.now) self.now self.now (Ok value.now)) }
     {
         if is_field_count(name) {
             return None;
@@ -97,6 +101,30 @@ impl Interpreter {
         if is_field_count(name) {
             return false;
         }
-        self.variables.set_number(number, name, n)
+        self.variables.replace_at(number, name, Value::Number(n))
+    }
+
+    /// Makes a text the value of a name at this place. Where the place is another's, nothing changes.
+    pub fn put_text(&mut self, number: u32, name: &[u8], text: Bytes) -> bool
+        ensures stored { result ≡ true → Changes (store name.now (Value.Text text)) self.old self.new (Ok (Value.Text text)) }
+        ensures kept { result ≡ false → self.new ≡ self.old }
+    {
+        if is_field_count(name) {
+            return false;
+        }
+        self.variables.replace_at(number, name, Value::Text(text))
+    }
+
+    /// Appends a value's text to that of a name's value at this place. Where the place is another's or memory is refused, nothing
+    /// changes.
+    pub fn append_at(&mut self, number: u32, name: &[u8], tail: &Value) -> bool
+        ensures stored { result ≡ true → (v : Kept) → v ≡ Value.Text (str_of (value_of self.old.variables name.now) ++ str_of tail.now) →
+            Changes (store name.now v) self.old self.new (Ok v) }
+        ensures kept { result ≡ false → self.new ≡ self.old }
+    {
+        if is_field_count(name) {
+            return false;
+        }
+        self.variables.append_at(number, name, tail)
     }
 }

@@ -15,6 +15,7 @@ ghost use Rattle.awk_control.specs.Moves.{ReadsLeaf, Steps, Awaits, stack_of, to
 use crate::assignments::{post_increment, pre_increment, store, store_by};
 use crate::nodes::{constant, expression, name, pattern_operand, record_matches};
 use awk_control::stack::{Entry, Focus, Move, OperandEntry, Passed, Stack};
+use awk_fast_path::found;
 use awk_interpreter::Interpreter;
 use awk_meaning::Halt;
 use awk_operators::{change, truth_value};
@@ -149,10 +150,26 @@ pub(crate) fn begin_expr(
             let value = interpreter.read_variable(number, name(plan, number))?;
             Ok(give(value, stack))
         }
-        Operand::Node(place) => match expression(plan, place) {
-            Some(node) => begin_node(plan, node, stack, interpreter),
-            None => Ok(give(Value::Number(0), stack)),
+        Operand::Node(place) => match found(plan, e, interpreter) {
+            Some(value) => Ok(give(value, stack)),
+            None => begin_place(plan, place, stack, interpreter),
         },
+    }
+}
+
+/// Begins the expression at a place, which isn't found in place.
+fn begin_place(
+    plan: &Plan,
+    place: u32,
+    stack: &mut Stack,
+    interpreter: &mut Interpreter,
+) -> Result<Move, Halt>
+    ensures { Steps plan.now (BeginExpr (operand_of plan.now (Operand.Node place))) (stack_of plan.now stack.old)
+        interpreter.old result stack.new interpreter.new }
+{
+    match expression(plan, place) {
+        Some(node) => begin_node(plan, node, stack, interpreter),
+        None => Ok(give(Value::Number(0), stack)),
     }
 }
 

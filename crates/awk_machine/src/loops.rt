@@ -1,7 +1,6 @@
 // The moves of loops: a turn spends a step, and between two of them stand the last part and the condition.
 
 ghost use Rattle.std.specs.Prelude.{◌≡◌, ◌∷◌, None};
-ghost use Rattle.std.specs.Option.{option_map};
 ghost use Rattle.awk_meaning.specs.Semantics.{ending};
 ghost use Rattle.awk_control.specs.Stack.{BeginStatement, Ended, LastPart, LoopTurn};
 ghost use Rattle.awk_control.specs.Moves.{Steps, SpendsFor, stack_of, loop_of, for_of, topped, flow_of};

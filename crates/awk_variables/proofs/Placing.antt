@@ -1,10 +1,12 @@
 -- The others at their places.
-use Rattle.std.proofs.Common.{◌≡◌, ℕ, Bool, true, false, List, Option, Some, None, unwrap_or, is_some, if◌then◌else◌, ◌&&◌, refl, sym, ap, ◌∙◌, true≢false}
+use Rattle.std.proofs.Common.{◌≡◌, ℕ, zero, suc, Bool, true, false, List, [], ◌∷◌, Option, Some, None, unwrap_or, is_some, if◌then◌else◌, ◌&&◌, refl, sym, ap, ◌∙◌, true≢false}
 use Rattle.std.specs.Prelude.{Result, Ok, Err, OnOk, OnErr}
 use Rattle.std.specs.Cmp.{IsEquivalence}
 use Rattle.std.specs.Global.{Vec}
 use Rattle.std.specs.Str.{bytes_eq}
-use Rattle.std.specs.Result.{is_err}
+use Rattle.std.specs.Result.{is_err, is_ok}
+use Rattle.std.specs.Prelude.{slice_get}
+use Rattle.indexmap.specs.IndexMap.{set_value_at}
 use Rattle.awk_value.specs.declared.value.Value.{Value}
 use Rattle.awk_value.specs.declared.value.Value.TheVariants.{Nothing}
 use Rattle.awk_value.specs.Values.{str_of}
@@ -67,3 +69,31 @@ nothing_more values name x is = by (bytes_eq name x) refl
     by : (b : Bool) → bytes_eq name x ≡ b → (if b then Nothing else values x) ≡ values x
     by true e = sym is ∙ ap values (same name x e)
     by false e = refl
+
+-- a value that is put again where it stands changes nothing
+abbrev second : {A B : Type 0} → Option (A × B) → B → B
+second None d = d
+second (Some p) d = p.1
+
+same_value : {A B : Type 0} {k l : A} {v w : B} → ◌≡◌ {A = Option (A × B)} (Some (k, v)) (Some (l, w)) → v ≡ w
+same_value {v = v} e = ap (λ o. second o v) e
+
+pub kept_value : (entries : List (Vec ℕ × Value)) (i : ℕ) (k : Vec ℕ) (v : Value) → slice_get entries i ≡ Some (k, v) → set_value_at entries i v ≡ entries
+kept_value [] i k v is = refl
+kept_value (e ∷ es) zero k v is = ap (λ w. (e.0, w) ∷ es) (sym (same_value is))
+kept_value (e ∷ es) (suc i) k v is = ap (λ r. e ∷ r) (kept_value es i k v is)
+
+pub one_value : (entries : List (Vec ℕ × Value)) (i : ℕ) (k l : Vec ℕ) (v w : Value) → slice_get entries i ≡ Some (k, v) → slice_get entries i ≡ Some (l, w) → v ≡ w
+one_value entries i k l v w p q = same_value (sym p ∙ q)
+
+pub where_ok : {T E P : Type 0} (r : Result T E) → is_ok r ≡ true → OnOk r P → P
+where_ok (Ok x) is p = p
+where_ok (Err e) is p = absurd (true≢false (sym is))
+
+pub where_err : {T E P : Type 0} (r : Result T E) → is_ok r ≡ false → OnErr r P → P
+where_err (Ok x) is p = absurd (true≢false is)
+where_err (Err e) is p = p
+
+pub by_truth : {P : Type 0} (b : Bool) → (b ≡ true → P) → (b ≡ false → P) → P
+by_truth true f g = f refl
+by_truth false f g = g refl

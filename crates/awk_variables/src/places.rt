@@ -1,15 +1,17 @@
 // The variables by the numbers of their names. A number is a hint: its place is used where the name stands there.
-ghost use Rattle.std.specs.Prelude.{◌≡◌, ◌↔◌, ℕ, ◌<◌, List, true, false, length, IfSome, IfErr, OnOk, OnErr, Some, None, bytes_eq, if◌then◌else◌};
+ghost use Rattle.std.specs.Prelude.{◌≡◌, ◌↔◌, ℕ, ◌<◌, List, ◌++◌, true, false, length, IfSome, IfErr, OnOk, OnErr, Some, None, bytes_eq, if◌then◌else◌};
 ghost use Rattle.awk_value.specs.declared.value.Value.TheVariants.{Nothing};
 ghost use Rattle.awk_value.specs.declared.value.Value.{Value as Kept};
+ghost use Rattle.awk_value.specs.Values.{str_of};
 ghost use Rattle.awk_variables.specs.support.Storage.{kept_at, Stands};
 ghost use Rattle.awk_variables.specs.definitions.Variables.{value_of, with_value, is_refused};
 
 use crate::fault::VariableFault;
 use crate::special::{NAMES, Special};
 use crate::variables::Variables;
-use awk_value::Value;
+use awk_value::{Value, concatenate_in_place};
 use indexmap::IndexMap;
+use std::alloc::Global;
 
 // The index of a number among the others with its value, if it is this name's.
 fn place<'a>(
@@ -37,6 +39,17 @@ fn write(others: &mut IndexMap<Vec<u8>, Value>, index: usize, value: Value)
     *place = value;
 }
 
+// Appends a value's text to that of the value at an index. Where memory is refused, nothing changes.
+fn append(others: &mut IndexMap<Vec<u8>, Value>, index: usize, alloc: Global, tail: &Value) -> bool
+    requires { index < length others.old.entries }
+    ensures appended { result ≡ true → (name : List ℕ) → (v : Kept) → Stands others.old.entries index name v → (x : List ℕ) →
+        kept_at others.new.entries x ≡ (if bytes_eq name x then Some (Value.Text (str_of v ++ str_of tail.now)) else kept_at others.old.entries x) }
+    ensures kept { result ≡ false → others.new.entries ≡ others.old.entries }
+{
+    let (_, place) = others.pair_mut(index);
+    concatenate_in_place(alloc, place, tail).is_ok()
+}
+
 impl Variables {
     /// Gives a name a place, in which it has no value yet. A name that has one is left as it is.
     /// No value changes. The only fault is `Memory`.
@@ -61,18 +74,31 @@ impl Variables {
         Some(value)
     }
 
-    /// Makes a number the value at a place behind the special variables, if it is this name's. Else nothing changes.
-    pub fn set_number(&mut self, number: u32, name: &[u8], n: i128) -> bool
-        ensures set { result ≡ true → (x : List ℕ) → value_of self.new x
-            ≡ with_value (value_of self.old) name.now (Value.Number n) x }
-        ensures accepted { result ≡ true → is_refused name.now (Value.Number n) ≡ false }
+    /// Makes a value the one at a place behind the special variables, if it is this name's. Else nothing changes.
+    pub fn replace_at(&mut self, number: u32, name: &[u8], value: Value) -> bool
+        ensures set { result ≡ true → (x : List ℕ) → value_of self.new x ≡ with_value (value_of self.old) name.now value x }
+        ensures accepted { result ≡ true → is_refused name.now value ≡ false }
+        ensures kept { result ≡ false → self.new ≡ self.old }
+    {
+        let Some((at, _)) = place(&self.others, number, name) else {
+            return false;
+        };
+        write(&mut self.others, at, value);
+        true
+    }
+
+    /// Appends a value's text to that of the value at a place behind the special variables, if it is this name's. A text that no
+    /// other value shares grows in place. Else nothing changes, and where memory is refused.
+    pub fn append_at(&mut self, number: u32, name: &[u8], tail: &Value) -> bool
+        ensures set { result ≡ true → (x : List ℕ) → value_of self.new x ≡ with_value (value_of self.old) name.now
+            (Value.Text (str_of (value_of self.old name.now) ++ str_of tail.now)) x }
+        ensures accepted { result ≡ true → (v : Kept) → is_refused name.now v ≡ false }
         ensures kept { result ≡ false → self.new ≡ self.old }
     {
         let Some((index, _)) = place(&self.others, number, name) else {
             return false;
         };
-        write(&mut self.others, index, Value::Number(n));
-        true
+        append(&mut self.others, index, self.alloc, tail)
     }
 
     /// Gives a name a value, at this place first. An `Err` is as that of `set`.

@@ -55,7 +55,7 @@ pub struct Variables {
     pub(crate) others: IndexMap<Vec<u8>, Value>,
     // what FS stands for
     separator: Separator,
-    alloc: Global,
+    pub(crate) alloc: Global,
 }
 
 impl Model for Variables {

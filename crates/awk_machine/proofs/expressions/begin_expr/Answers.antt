@@ -1,5 +1,4 @@
 use Rattle.std.proofs.lemmas.Result.{err_from_is_err_and}
-use Rattle.awk_machine.proofs.Leaves.{zero_evaluates}
 use Rattle.awk_machine.proofs.LeafMoves.{leaf_steps, leaf_stops, name_evaluates}
 use Rattle.awk_machine.proofs.expressions.begin_expr.Goals as goal
 
@@ -20,7 +19,7 @@ pub returns-in_ok-value-in-Variable : goal.returns-in_ok-value-in-Variable
 returns-in_ok-value-in-Variable c = rw (c.in-Variable.is, c.give-in-Variable.ensures.gives, c.give-in-Variable.ensures.stack) (leaf_steps c.args.stack.now _ (name_evaluates _ (rw c.name.ensures at c.in_ok-value-in-Variable.ensures)))
 
 pub returns-in-Some : goal.returns-in-Some
-returns-in-Some c = rw (c.in-Node.is, c.in-Some.ensures.0) c.begin_node.ensures
+returns-in-Some c = rw (c.in-Node.is, c.give-in-Some.ensures.gives, c.give-in-Some.ensures.stack) (leaf_steps c.args.stack.now _ c.in-Some.ensures)
 
 pub returns-in-None : goal.returns-in-None
-returns-in-None c = rw (c.in-Node.is, c.in-None.ensures, c.give-in-None.ensures.gives, c.give-in-None.ensures.stack) (leaf_steps c.args.stack.now _ (zero_evaluates _))
+returns-in-None c = rw c.in-Node.is c.begin_place.ensures

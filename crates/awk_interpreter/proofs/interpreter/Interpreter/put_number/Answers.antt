@@ -10,8 +10,8 @@ pub returns-clause-put : goal.returns-clause-put
 returns-clause-put c = λ is.
     let same : to_z w128 (of_z w128 c.in-Some.n) ≡ c.in-Some.n = omega (arith, ints) in
     let plain = sym c.is_field_count.ensures ∙ c.if-is_field_count.false in
-    let set = rw same at c.set_number.ensures.set is in
-    let put = put_changes c.args.name.now (Number c.in-Some.n) (rw same at c.set_number.ensures.accepted is) (record { variables = set; current = refl; arguments = refl; streams = refl; inside = refl; status = refl; steps = refl }) in
+    let set = rw same at c.replace_at.ensures.set is in
+    let put = put_changes c.args.name.now (Number c.in-Some.n) (rw same at c.replace_at.ensures.accepted is) (record { variables = set; current = refl; arguments = refl; streams = refl; inside = refl; status = refl; steps = refl }) in
     record {
       number = c.in-Some.n;
       is = c.in-Some.is;

@@ -1,11 +1,8 @@
-use Rattle.std.proofs.Common.{◌≡◌, ap, ◌∙◌, subst, arith, ℤ, to_z, of_z}
-use Rattle.std.proofs.lemmas.Int.{ints}
-use mir.Syntax.{w128}
-use Rattle.awk_value.specs.declared.value.Value.TheVariants.{Number}
+use Rattle.std.proofs.Common.{ap, ◌∙◌}
 use Rattle.awk_variables.specs.definitions.Variables.{value_of, with_value, Pairs}
-use Rattle.awk_variables.proofs.Storage.{value_of-put, Puts}
+use Rattle.awk_variables.proofs.Storage.{value_of-put}
 use Rattle.awk_variables.proofs.Placing.{not_special, no_special_put, not_refused}
-use Rattle.awk_variables.proofs.variables.Variables.set_number.Goals as goal
+use Rattle.awk_variables.proofs.variables.Variables.replace_at.Goals as goal
 
 pub invariant_of-self : goal.invariant_of-self
 invariant_of-self c =
@@ -18,17 +15,15 @@ invariant_of-self c =
 pub returns-clause-set : goal.returns-clause-set
 returns-clause-set c = λ _ x.
     let name = c.args.name.now in
+    let v = c.args.value in
     let stands = c.in-Some.ensures in
     let inside = c.self.inside in
     let old = inside.others.entries in
-    let new = c.write.new.others.entries in
     let is_other = not_special old name _ c.self.invariant.1 stands.kept in
-    let whole : to_z w128 (of_z w128 c.args.n) ≡ c.args.n = omega (arith, ints) in
-    let puts = subst (λ (n : ℤ). Puts old new name (Number n)) whole (c.write.ensures name _ stands) in
-    value_of-put inside.specials old new name (Number c.args.n) is_other puts x
-    ∙ ap (λ (p : Pairs). with_value (value_of p) name (Number c.args.n) x) c.self.view_is
+    value_of-put inside.specials old c.write.new.others.entries name v is_other (c.write.ensures name _ stands) x
+    ∙ ap (λ (p : Pairs). with_value (value_of p) name v x) c.self.view_is
 
 pub returns-clause-accepted : goal.returns-clause-accepted
 returns-clause-accepted c = λ _.
     let name = c.args.name.now in
-    not_refused name (Number c.args.n) (not_special c.self.inside.others.entries name _ c.self.invariant.1 c.in-Some.ensures.kept)
+    not_refused name c.args.value (not_special c.self.inside.others.entries name _ c.self.invariant.1 c.in-Some.ensures.kept)

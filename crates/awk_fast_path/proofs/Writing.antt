@@ -1,0 +1,120 @@
+-- Texts that are made in place.
+use Rattle.std.proofs.Common.{◌≡◌, ℕ, Bool, true, false, List, [], ◌++◌, Option, Some, None, Result, Ok, Err, refl, sym, ap, ◌∙◌, subst, true≢false}
+use Rattle.std.specs.Prelude.{IfSome, IfOk, OnOk, is_some, is_ok}
+use Rattle.std.specs.Result.{result_ok}
+use Rattle.std.proofs.lemmas.List.{append_assoc, append-nil}
+use Rattle.awk_value.specs.declared.value.Value.{Value}
+use Rattle.awk_value.specs.declared.value.Value.TheVariants.{Nothing, Number, Text, Input}
+use Rattle.awk_value.specs.Values.{str_of}
+use Rattle.awk_tree.specs.Tree as t
+use Rattle.awk_tree.specs.declared.tree.BinaryOperator.TheVariants.{Concatenate}
+use Rattle.awk_variables.specs.Variables.{value_of}
+use Rattle.awk_meaning.specs.State.{◌>>=◌, lift, ret}
+use Rattle.awk_plan.specs.Plan.{literal_of}
+use Rattle.awk_plan.specs.Order.{IsLiteral}
+use Rattle.awk_meaning.specs.Primitives.{read_name}
+use Rattle.awk_meaning.specs.Semantics.{right_operand, store, eval}
+use Rattle.awk_interpreter.specs.declared.interpreter.Interpreter.{Interpreter}
+use Rattle.awk_interpreter.specs.Simulation.{Changes}
+use Rattle.awk_interpreter.proofs.Composition.{then_changes, lift_changes}
+use Rattle.awk_fast_path.specs.support.Found.{Evaluates}
+use Rattle.awk_fast_path.specs.support.Written.{Writes, Continues, IsTail}
+
+concatenates : (a b : t.Expr) (v w : Value) {m : Interpreter} → Changes (eval a) m m (Ok v) → Changes (eval b) m m (Ok w) → Changes (eval (t.Binary Concatenate a b)) m m (Ok (Text (str_of v ++ str_of w)))
+unfolding eval
+concatenates a b v w {m = m} p q = then_changes _ p (then_changes _ q (lift_changes (Ok (Text (str_of v ++ str_of w))) m refl))
+
+literal_evaluates : (v : Value) (m : Interpreter) → IsLiteral v → Changes (eval (literal_of v)) m m (Ok v)
+unfolding eval
+literal_evaluates (Number n) m is = lift_changes (Ok (Number n)) m refl
+literal_evaluates (Text bytes) m is = lift_changes (Ok (Text bytes)) m refl
+literal_evaluates Nothing m is = absurd is
+literal_evaluates (Input bytes) m is = absurd is
+
+name_evaluates : (x : List ℕ) {m : Interpreter} {v : Value} → Changes (read_name x) m m (Ok v) → Changes (eval (t.Name x)) m m (Ok v)
+unfolding eval
+name_evaluates x p = p
+
+pub literal_reads : {R : Type 0} (now : R → Value) (e : t.Expr) (m : Interpreter) (r : Option R) → IfSome r (λ v. e ≡ literal_of (now v)) → IfSome r (λ v. IsLiteral (now v)) → IfSome r (λ v. Changes (eval e) m m (Ok (now v)))
+literal_reads now e m (Some v) is literal = subst (λ x. Changes (eval x) m m (Ok (now v))) (sym is) (literal_evaluates (now v) m literal)
+literal_reads now e m None is literal = tt
+
+pub name_reads : {R : Type 0} (now : R → Value) (x y : List ℕ) (m : Interpreter) (r : Option R) → y ≡ x → IfSome r (λ v. Changes (read_name y) m m (Ok (now v))) → IfSome r (λ v. Changes (eval (t.Name x)) m m (Ok (now v)))
+name_reads now x y m (Some v) is p = name_evaluates x (subst (λ z. Changes (read_name z) m m (Ok (now v))) is p)
+name_reads now x y m None is p = tt
+
+pub single_writes : (e : t.Expr) (v : Value) (m : Interpreter) (old new : List ℕ) → Changes (eval e) m m (Ok v) → new ≡ old ++ str_of v → Writes e m old new
+single_writes e v m old new p is = record { value = v; changes = p; text = is }
+
+pub where_ok : {T E P : Type 0} (r : Result T E) → is_ok r ≡ true → OnOk r P → P
+where_ok (Ok x) is p = p
+where_ok (Err e) is p = absurd (true≢false (sym is))
+
+pub join_writes : (a b : t.Expr) (m : Interpreter) (old mid new : List ℕ) → Writes a m old mid → Writes b m mid new → Writes (t.Binary Concatenate a b) m old new
+join_writes a b m old mid new p q = record {
+  value = Text (str_of p.value ++ str_of q.value);
+  changes = concatenates a b p.value q.value p.changes q.changes;
+  text = q.text ∙ ap (λ s. s ++ str_of q.value) p.text ∙ append_assoc old (str_of p.value) (str_of q.value);
+}
+
+pub join_continues : (x : List ℕ) (a b : t.Expr) (m : Interpreter) (old mid new : List ℕ) → Continues x a m old mid → Writes b m mid new → Continues x (t.Binary Concatenate a b) m old new
+join_continues x a b m old mid new p q = record {
+  value = Text (str_of p.value ++ str_of q.value);
+  changes = concatenates a b p.value q.value p.changes q.changes;
+  tail = p.tail ++ str_of q.value;
+  text = ap (λ s. s ++ str_of q.value) p.text ∙ append_assoc (str_of (value_of m.variables x)) p.tail (str_of q.value);
+  appended = q.text ∙ ap (λ s. s ++ str_of q.value) p.appended ∙ append_assoc old p.tail (str_of q.value);
+}
+
+pub name_continues : (x : List ℕ) (m : Interpreter) {R : Type 0} (now : R → Value) (r : Option R) → IfSome r (λ v. Changes (eval (t.Name x)) m m (Ok (now v))) → IfSome r (λ v. now v ≡ value_of m.variables x) → is_some r ≡ true → (bytes : List ℕ) → Continues x (t.Name x) m bytes bytes
+name_continues x m now (Some v) p is some bytes = record { value = now v; changes = p; tail = []; text = ap (λ u. str_of u) is ∙ sym (append-nil _); appended = sym (append-nil bytes) }
+name_continues x m now None p is some bytes = absurd (true≢false (sym some))
+
+pub text_made : (a b : t.Expr) (m : Interpreter) (mid new : List ℕ) → Writes a m [] mid → Writes b m mid new → Changes (eval (t.Binary Concatenate a b)) m m (Ok (Text new))
+text_made a b m mid new p q = subst (λ s. Changes (eval (t.Binary Concatenate a b)) m m (Ok (Text s))) (sym (q.text ∙ ap (λ s. s ++ str_of q.value) p.text)) (concatenates a b p.value q.value p.changes q.changes)
+
+pub tail_made : (x : List ℕ) (a b : t.Expr) (m : Interpreter) (mid new : List ℕ) → Continues x a m [] mid → Writes b m mid new → IsTail x (t.Binary Concatenate a b) m (Text new)
+tail_made x a b m mid new p q = record {
+  value = Text (str_of p.value ++ str_of q.value);
+  changes = concatenates a b p.value q.value p.changes q.changes;
+  text = ap Text (ap (λ s. s ++ str_of q.value) p.text ∙ append_assoc (str_of (value_of m.variables x)) p.tail (str_of q.value) ∙ ap (λ s. str_of (value_of m.variables x) ++ s) (sym (q.text ∙ ap (λ s. s ++ str_of q.value) p.appended)));
+}
+
+stores : (x : List ℕ) (e : t.Expr) (v : Value) {m m' : Interpreter} → Changes (eval e) m m (Ok v) → Changes (store x v) m m' (Ok v) → Changes (eval (t.Assign x e)) m m' (Ok v)
+unfolding eval
+stores x e v p q = then_changes _ p q
+
+pub stored : (x : List ℕ) (e : t.Expr) (v : Value) {m m' : Interpreter} → Changes (eval e) m m (Ok v) → Changes (store x v) m m' (Ok v) → Evaluates (t.Assign x e) m m'
+stored x e v p q = record { value = v; changes = stores x e v p q }
+
+pub appended : (x : List ℕ) (e : t.Expr) (tail : Value) {m m' : Interpreter} → IsTail x e m tail → ((v : Value) → v ≡ Text (str_of (value_of m.variables x) ++ str_of tail) → Changes (store x v) m m' (Ok v)) → Evaluates (t.Assign x e) m m'
+appended x e tail p f = stored x e p.value p.changes (f p.value p.text)
+
+pub tail_from : (x : List ℕ) (a b : t.Expr) (m : Interpreter) (old mid new : List ℕ) → old ≡ [] → Continues x a m old mid → Writes b m mid new → IsTail x (t.Binary Concatenate a b) m (Text new)
+tail_from x a b m old mid new none p q = tail_made x a b m mid new (subst (λ s. Continues x a m s mid) none p) q
+
+pub text_from : (a b : t.Expr) (m : Interpreter) (old mid new : List ℕ) → old ≡ [] → Writes a m old mid → Writes b m mid new → Changes (eval (t.Binary Concatenate a b)) m m (Ok (Text new))
+text_from a b m old mid new none p q = text_made a b m mid new (subst (λ s. Writes a m s mid) none p) q
+
+-- a text that was made of bytes is those
+
+pub ok_made : {A E : Type 0} (r : Result A E) (o : Option A) (b : A) → o ≡ result_ok r → IfOk r (λ x. x ≡ b) → IfSome o (λ x. x ≡ b)
+ok_made (Ok x) o b is p = subst (λ o. IfSome o (λ x. x ≡ b)) (sym is) p
+ok_made (Err e) o b is p = subst (λ o. IfSome o (λ x. x ≡ b)) (sym is) tt
+
+pub some_made : {A : Type 0} (o : Option A) (a b : A) → o ≡ Some a → IfSome o (λ x. x ≡ b) → a ≡ b
+some_made o a b is p = subst (λ o. IfSome o (λ x. x ≡ b)) is p
+
+pub text_given : (e : t.Expr) (m : Interpreter) (o : Option (List ℕ)) (b : List ℕ) → IfSome o (λ x. x ≡ b) → Changes (eval e) m m (Ok (Text b)) → IfSome o (λ x. Changes (eval e) m m (Ok (Text x)))
+text_given e m (Some x) b is p = subst (λ s. Changes (eval e) m m (Ok (Text s))) (sym is) p
+text_given e m None b is p = tt
+
+none_some : {A : Type 0} {a : A} → None ≡ Some a → ⊥
+none_some e = cc
+
+same_some : {A : Type 0} {a b : A} → Some a ≡ Some b → a ≡ b
+same_some e = cc
+
+pub ok_has : {A E : Type 0} (P : A → Type 0) (r : Result A E) (a : A) → Some a ≡ result_ok r → IfOk r P → P a
+ok_has P (Ok x) a is p = subst P (sym (same_some is)) p
+ok_has P (Err e) a is p = absurd (none_some (sym is))
