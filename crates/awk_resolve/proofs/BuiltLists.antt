@@ -13,7 +13,7 @@ use Rattle.awk_tree.specs.View.{expr_of, exprs_of, statement_of, statements_of, 
 use Rattle.awk_tree.specs.declared.tree.Expr.{Expr as CodeExpr}
 use Rattle.awk_tree.specs.declared.tree.Statement.{Statement as CodeStatement, Row_of-Statement, end_of-Statement, more_of-Statement, items-the_row-Statement}
 use Rattle.awk_tree.specs.declared.tree.Item.{Item as CodeItem}
-use Rattle.awk_resolve.specs.definitions.Built.{both, built_expr, built_list, built_statement, built_block, built_item, built_items}
+use Rattle.awk_resolve.specs.definitions.Built.{both, all_three, built_expr, built_list, built_statement, built_block, built_item, built_items}
 use Rattle.awk_resolve.specs.support.Builds.{Refuses}
 
 -- what is refused for a part is refused for the whole, where without the part there is no whole
@@ -23,6 +23,10 @@ passes_on r part whole h f = elim h [ inl m ↦ inl m | inr p ↦ inr (p.0, f p.
 pub both_some : {A B C : Type 0} (f : A → B → C) (a : A) (x : Option A) (r : Option B) → x ≡ Some a → both f x r ≡ option_map (f a) r
 both_some f a x (Some b) e = rw e refl
 both_some f a x None e = rw e refl
+
+pub all_three_some : {A B C D : Type 0} (f : A → B → C → D) (a : A) (b : B) (x : Option A) (y : Option B) (r : Option C) → x ≡ Some a → y ≡ Some b → all_three f x y r ≡ option_map (f a b) r
+all_three_some f a b x y (Some c) e h = rw (e, h) refl
+all_three_some f a b x y None e h = rw (e, h) refl
 
 pub both_none : {A B C : Type 0} (f : A → B → C) (x : Option A) (r : Option B) → x ≡ None → both f x r ≡ None
 both_none f x r e = rw e refl
