@@ -5,13 +5,13 @@ ghost use Rattle.awk_grammar.specs.View as g;
 ghost use Rattle.awk_tree.specs.Tree as t;
 ghost use Rattle.awk_tree.specs.View.{expr_of, exprs_of, optional_expr_of};
 ghost use Rattle.awk_resolve.specs.definitions.Built.{both, all_three, built_unary, binary, built_target, assigned, built_expr, built_list, built_print_list, built_optional_expr};
-ghost use Rattle.awk_resolve.specs.support.Builds.{Builds};
+ghost use Rattle.awk_resolve.specs.support.Builds.{Builds, built_leaf};
 ghost use Rattle.std.specs.Prelude.{◌≡◌, Some};
 ghost use Rattle.std.specs.Option.{option_map};
 
 use awk_grammar::tree as grammar;
 use awk_lex::refusal::{Refusal, RefusalCode};
-use awk_lex::token::{AssignmentOperator, IncrementOperator, Operator};
+use awk_lex::token::{AssignmentOperator, Operator};
 use awk_tree::tree::{BinaryOperator, Ere, Expr, UnaryOperator};
 use awk_value::Bytes;
 use std::alloc::Global;
@@ -109,69 +109,35 @@ fn boxed(alloc: Global, e: Expr) -> Result<Box<Expr>, Refusal>
     Ok(Box::new(alloc, e)?)
 }
 
-fn built_string(alloc: Global, bytes: &Bytes) -> Result<Box<Expr>, Refusal>
-    ensures { Builds (λ b. expr_of b.value) result (Some (t.String bytes.now)) }
+/// What no expression that can be run stands in.
+fn built_leaf(alloc: Global, e: &grammar::Expr) -> Result<Box<Expr>, Refusal>
+    ensures { Builds (λ b. expr_of b.value) result (built_leaf (g.expr_of e.now)) }
 {
-    let bytes = bytes.clone()?;
-    boxed(alloc, Expr::String(bytes))
-}
-
-fn built_ere(alloc: Global, ere: &grammar::Ere) -> Result<Box<Expr>, Refusal>
-    ensures { Builds (λ b. expr_of b.value) result (Some (t.Ere ere.now.text)) }
-{
-    let text = ere.text.clone()?;
-    boxed(
-        alloc,
-        Expr::Ere(Ere {
-            text,
-            number: ere.number,
-        }),
-    )
-}
-
-fn built_name(alloc: Global, name: &Bytes) -> Result<Box<Expr>, Refusal>
-    ensures { Builds (λ b. expr_of b.value) result (Some (t.Name name.now)) }
-{
-    let name = name.clone()?;
-    boxed(alloc, Expr::Name(name))
-}
-
-fn built_pre_increment(
-    alloc: Global,
-    operator: IncrementOperator,
-    place: &grammar::Expr,
-) -> Result<Box<Expr>, Refusal>
-    ensures { Builds (λ b. expr_of b.value) result (option_map (t.PreIncrement operator) (built_target (g.expr_of place.now))) }
-{
-    let name = built_place(place)?;
-    boxed(alloc, Expr::PreIncrement(operator, name))
-}
-
-fn built_post_increment(
-    alloc: Global,
-    operator: IncrementOperator,
-    place: &grammar::Expr,
-) -> Result<Box<Expr>, Refusal>
-    ensures { Builds (λ b. expr_of b.value) result (option_map (t.PostIncrement operator) (built_target (g.expr_of place.now))) }
-{
-    let name = built_place(place)?;
-    boxed(alloc, Expr::PostIncrement(operator, name))
-}
-
-#[cycle(expressions)]
-fn built_group(alloc: Global, e: &grammar::Expr) -> Result<Box<Expr>, Refusal>
-    ensures { Builds (λ b. expr_of b.value) result (option_map t.Group (built_expr (g.expr_of e.now))) }
-{
-    let e = built_operand(alloc, e)?;
-    boxed(alloc, Expr::Group(e))
-}
-
-#[cycle(expressions)]
-fn built_field(alloc: Global, e: &grammar::Expr) -> Result<Box<Expr>, Refusal>
-    ensures { Builds (λ b. expr_of b.value) result (option_map t.Field (built_expr (g.expr_of e.now))) }
-{
-    let e = built_operand(alloc, e)?;
-    boxed(alloc, Expr::Field(e))
+    match e {
+        grammar::Expr::Number(n) => boxed(alloc, Expr::Number(*n)),
+        grammar::Expr::String(bytes) => {
+            let bytes = bytes.clone()?;
+            boxed(alloc, Expr::String(bytes))
+        }
+        grammar::Expr::Ere(ere) => {
+            let text = ere.text.clone()?;
+            let number = ere.number;
+            boxed(alloc, Expr::Ere(Ere { text, number }))
+        }
+        grammar::Expr::Name(name) => {
+            let name = name.clone()?;
+            boxed(alloc, Expr::Name(name))
+        }
+        grammar::Expr::PreIncrement(operator, place) => {
+            let name = built_place(place)?;
+            boxed(alloc, Expr::PreIncrement(*operator, name))
+        }
+        grammar::Expr::PostIncrement(operator, place) => {
+            let name = built_place(place)?;
+            boxed(alloc, Expr::PostIncrement(*operator, name))
+        }
+        _ => Err(NOT_BUILT),
+    }
 }
 
 #[cycle(expressions)]
@@ -234,12 +200,14 @@ pub(crate) fn built_operand(alloc: Global, e: &grammar::Expr) -> Result<Box<Expr
     ensures { Builds (λ b. expr_of b.value) result (built_expr (g.expr_of e.now)) }
 {
     match e {
-        grammar::Expr::Number(n) => boxed(alloc, Expr::Number(*n)),
-        grammar::Expr::String(bytes) => built_string(alloc, bytes),
-        grammar::Expr::Ere(ere) => built_ere(alloc, ere),
-        grammar::Expr::Name(name) => built_name(alloc, name),
-        grammar::Expr::Group(e) => built_group(alloc, e),
-        grammar::Expr::Field(e) => built_field(alloc, e),
+        grammar::Expr::Group(e) => {
+            let e = built_operand(alloc, e)?;
+            boxed(alloc, Expr::Group(e))
+        }
+        grammar::Expr::Field(e) => {
+            let e = built_operand(alloc, e)?;
+            boxed(alloc, Expr::Field(e))
+        }
         grammar::Expr::Unary(operator, e) => built_signed(alloc, *operator, e),
         grammar::Expr::Binary(operator, a, b) => {
             let a = built_operand(alloc, a)?;
@@ -254,13 +222,7 @@ pub(crate) fn built_operand(alloc: Global, e: &grammar::Expr) -> Result<Box<Expr
             let name = built_place(place)?;
             built_assignment(alloc, *operator, name, e)
         }
-        grammar::Expr::PreIncrement(operator, place) => {
-            built_pre_increment(alloc, *operator, place)
-        }
-        grammar::Expr::PostIncrement(operator, place) => {
-            built_post_increment(alloc, *operator, place)
-        }
-        _ => Err(NOT_BUILT),
+        _ => built_leaf(alloc, e),
     }
 }
 
