@@ -13,7 +13,7 @@ use Rattle.awk_tree.specs.View.{expr_of, exprs_of, statement_of, statements_of, 
 use Rattle.awk_tree.specs.declared.tree.Expr.{Expr as CodeExpr}
 use Rattle.awk_tree.specs.declared.tree.Statement.{Statement as CodeStatement, Row_of-Statement, end_of-Statement, more_of-Statement, items-the_row-Statement}
 use Rattle.awk_tree.specs.declared.tree.Item.{Item as CodeItem}
-use Rattle.awk_resolve.specs.definitions.Built.{both, built_expr, built_list, built_statement, built_block, built_item, built_items}
+use Rattle.awk_resolve.specs.definitions.Built.{both, all_three, built_expr, built_list, built_statement, built_block, built_item, built_items}
 use Rattle.awk_resolve.specs.support.Builds.{Refuses}
 
 -- what is refused for a part is refused for the whole, where without the part there is no whole
@@ -24,8 +24,23 @@ pub both_some : {A B C : Type 0} (f : A → B → C) (a : A) (x : Option A) (r :
 both_some f a x (Some b) e = rw e refl
 both_some f a x None e = rw e refl
 
+pub all_three_some : {A B C D : Type 0} (f : A → B → C → D) (a : A) (b : B) (x : Option A) (y : Option B) (r : Option C) → x ≡ Some a → y ≡ Some b → all_three f x y r ≡ option_map (f a b) r
+all_three_some f a b x y (Some c) e h = rw (e, h) refl
+all_three_some f a b x y None e h = rw (e, h) refl
+
 pub both_none : {A B C : Type 0} (f : A → B → C) (x : Option A) (r : Option B) → x ≡ None → both f x r ≡ None
 both_none f x r e = rw e refl
+
+pub both_second : {A B C : Type 0} (f : A → B → C) (x : Option A) (r : Option B) → r ≡ None → both f x r ≡ None
+both_second f (Some a) r e = rw e refl
+both_second f None r e = refl
+
+pub all_three_first : {A B C D : Type 0} (f : A → B → C → D) (x : Option A) (y : Option B) (z : Option C) → x ≡ None → all_three f x y z ≡ None
+all_three_first f x y z e = rw e refl
+
+pub all_three_second : {A B C D : Type 0} (f : A → B → C → D) (x : Option A) (y : Option B) (z : Option C) → y ≡ None → all_three f x y z ≡ None
+all_three_second f (Some a) y z e = rw e refl
+all_three_second f None y z e = refl
 
 -- the forms that are built, in front of what comes of the rest
 abbrev pub front : {A C : Type 0} → (A → C → C) → List A → Option C → Option C

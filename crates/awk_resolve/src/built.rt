@@ -2,10 +2,11 @@
 // yet.
 
 ghost use Rattle.awk_grammar.specs.View as g;
+ghost use Rattle.awk_tree.specs.Tree as t;
 ghost use Rattle.awk_tree.specs.View.{expr_of, exprs_of, optional_expr_of};
-ghost use Rattle.awk_resolve.specs.definitions.Built.{built_unary, binary, built_target, assigned, built_expr, built_list, built_print_list, built_optional_expr};
-ghost use Rattle.awk_resolve.specs.support.Builds.{Builds};
-ghost use Rattle.std.specs.Prelude.{◌≡◌};
+ghost use Rattle.awk_resolve.specs.definitions.Built.{both, all_three, built_unary, binary, built_target, assigned, built_expr, built_list, built_print_list, built_optional_expr};
+ghost use Rattle.awk_resolve.specs.support.Builds.{Builds, built_leaf};
+ghost use Rattle.std.specs.Prelude.{◌≡◌, Some};
 ghost use Rattle.std.specs.Option.{option_map};
 
 use awk_grammar::tree as grammar;
@@ -101,55 +102,127 @@ fn built_place(place: &grammar::Expr) -> Result<Bytes, Refusal>
     }
 }
 
-/// An operand, in a box of its own.
+/// A box of its own for an expression that is built.
+fn boxed(alloc: Global, e: Expr) -> Result<Box<Expr>, Refusal>
+    ensures { Builds (λ b. expr_of b.value) result (Some (expr_of e)) }
+{
+    Ok(Box::new(alloc, e)?)
+}
+
+/// What no expression that can be run stands in.
+fn built_leaf(alloc: Global, e: &grammar::Expr) -> Result<Box<Expr>, Refusal>
+    ensures { Builds (λ b. expr_of b.value) result (built_leaf (g.expr_of e.now)) }
+{
+    match e {
+        grammar::Expr::Number(n) => boxed(alloc, Expr::Number(*n)),
+        grammar::Expr::String(bytes) => {
+            let bytes = bytes.clone()?;
+            boxed(alloc, Expr::String(bytes))
+        }
+        grammar::Expr::Ere(ere) => {
+            let text = ere.text.clone()?;
+            let number = ere.number;
+            boxed(alloc, Expr::Ere(Ere { text, number }))
+        }
+        grammar::Expr::Name(name) => {
+            let name = name.clone()?;
+            boxed(alloc, Expr::Name(name))
+        }
+        grammar::Expr::PreIncrement(operator, place) => {
+            let name = built_place(place)?;
+            boxed(alloc, Expr::PreIncrement(*operator, name))
+        }
+        grammar::Expr::PostIncrement(operator, place) => {
+            let name = built_place(place)?;
+            boxed(alloc, Expr::PostIncrement(*operator, name))
+        }
+        _ => Err(NOT_BUILT),
+    }
+}
+
+#[cycle(expressions)]
+fn built_signed(
+    alloc: Global,
+    operator: grammar::UnaryOperator,
+    e: &grammar::Expr,
+) -> Result<Box<Expr>, Refusal>
+    ensures { Builds (λ b. expr_of b.value) result (option_map (t.Unary (built_unary operator)) (built_expr (g.expr_of e.now))) }
+{
+    let e = built_operand(alloc, e)?;
+    boxed(alloc, Expr::Unary(built_unary(operator), e))
+}
+
+/// Two operands with their operator, where the left one is built.
+#[cycle(expressions)]
+fn built_binary(
+    alloc: Global,
+    operator: grammar::BinaryOperator,
+    a: Box<Expr>,
+    b: &grammar::Expr,
+) -> Result<Box<Expr>, Refusal>
+    ensures { Builds (λ b. expr_of b.value) result (option_map (binary operator (expr_of a.value)) (built_expr (g.expr_of b.now))) }
+{
+    let b = built_operand(alloc, b)?;
+    boxed(alloc, binary(operator, a, b))
+}
+
+/// A choice, where all but its last operand are built.
+#[cycle(expressions)]
+fn built_conditional(
+    alloc: Global,
+    c: Box<Expr>,
+    a: Box<Expr>,
+    b: &grammar::Expr,
+) -> Result<Box<Expr>, Refusal>
+    ensures { Builds (λ b. expr_of b.value) result (option_map (t.Conditional (expr_of c.value) (expr_of a.value)) (built_expr (g.expr_of b.now))) }
+{
+    let b = built_operand(alloc, b)?;
+    boxed(alloc, Expr::Conditional(c, a, b))
+}
+
+/// An assignment to a name.
+#[cycle(expressions)]
+fn built_assignment(
+    alloc: Global,
+    operator: AssignmentOperator,
+    name: Bytes,
+    e: &grammar::Expr,
+) -> Result<Box<Expr>, Refusal>
+    ensures { Builds (λ b. expr_of b.value) result (option_map (assigned operator name) (built_expr (g.expr_of e.now))) }
+{
+    let e = built_operand(alloc, e)?;
+    boxed(alloc, assigned(operator, name, e))
+}
+
+/// An expression, in a box of its own.
 #[cycle(expressions)]
 pub(crate) fn built_operand(alloc: Global, e: &grammar::Expr) -> Result<Box<Expr>, Refusal>
     ensures { Builds (λ b. expr_of b.value) result (built_expr (g.expr_of e.now)) }
 {
-    let e = built_expr(alloc, e)?;
-    Ok(Box::new(alloc, e)?)
-}
-
-#[cycle(expressions)]
-fn built_expr(alloc: Global, e: &grammar::Expr) -> Result<Expr, Refusal>
-    ensures { Builds expr_of result (built_expr (g.expr_of e.now)) }
-{
     match e {
-        grammar::Expr::Number(n) => Ok(Expr::Number(*n)),
-        grammar::Expr::String(bytes) => Ok(Expr::String(bytes.clone()?)),
-        grammar::Expr::Ere(ere) => Ok(Expr::Ere(Ere {
-            text: ere.text.clone()?,
-            number: ere.number,
-        })),
-        grammar::Expr::Name(name) => Ok(Expr::Name(name.clone()?)),
-        grammar::Expr::Group(e) => Ok(Expr::Group(built_operand(alloc, e)?)),
-        grammar::Expr::Field(e) => Ok(Expr::Field(built_operand(alloc, e)?)),
-        grammar::Expr::Unary(operator, e) => {
-            Ok(Expr::Unary(built_unary(*operator), built_operand(alloc, e)?))
+        grammar::Expr::Group(e) => {
+            let e = built_operand(alloc, e)?;
+            boxed(alloc, Expr::Group(e))
         }
+        grammar::Expr::Field(e) => {
+            let e = built_operand(alloc, e)?;
+            boxed(alloc, Expr::Field(e))
+        }
+        grammar::Expr::Unary(operator, e) => built_signed(alloc, *operator, e),
         grammar::Expr::Binary(operator, a, b) => {
             let a = built_operand(alloc, a)?;
-            let b = built_operand(alloc, b)?;
-            Ok(binary(*operator, a, b))
+            built_binary(alloc, *operator, a, b)
         }
         grammar::Expr::Conditional(c, a, b) => {
             let c = built_operand(alloc, c)?;
             let a = built_operand(alloc, a)?;
-            let b = built_operand(alloc, b)?;
-            Ok(Expr::Conditional(c, a, b))
+            built_conditional(alloc, c, a, b)
         }
         grammar::Expr::Assign(operator, place, e) => {
             let name = built_place(place)?;
-            let e = built_operand(alloc, e)?;
-            Ok(assigned(*operator, name, e))
+            built_assignment(alloc, *operator, name, e)
         }
-        grammar::Expr::PreIncrement(operator, place) => {
-            Ok(Expr::PreIncrement(*operator, built_place(place)?))
-        }
-        grammar::Expr::PostIncrement(operator, place) => {
-            Ok(Expr::PostIncrement(*operator, built_place(place)?))
-        }
-        _ => Err(NOT_BUILT),
+        _ => built_leaf(alloc, e),
     }
 }
 
@@ -158,8 +231,8 @@ fn built_list(alloc: Global, list: &[grammar::Expr]) -> Result<Vec<Expr>, Refusa
 {
     let mut built = Vec::new(alloc);
     for e in list {
-        let e = built_expr(alloc, e)?;
-        built.push(e)?;
+        let e = built_operand(alloc, e)?;
+        built.push(Box::into_inner(e))?;
     }
     Ok(built)
 }

@@ -2,14 +2,17 @@
 // none yet.
 
 ghost use Rattle.awk_grammar.specs.View as g;
-ghost use Rattle.awk_tree.specs.View.{simple_of, optional_simple_of, statement_of, statements_of, pattern_of, item_of, items_of};
-ghost use Rattle.awk_resolve.specs.definitions.Built.{built_simple, built_optional_simple, built_statement, built_block, built_pattern, built_item, built_items};
+ghost use Rattle.awk_tree.specs.Tree as t;
+ghost use Rattle.awk_tree.specs.View.{expr_of, simple_of, optional_simple_of, statement_of, statements_of, pattern_of, item_of, items_of};
+ghost use Rattle.awk_resolve.specs.definitions.Built.{both, all_four, built_expr, built_optional_expr, built_simple, built_optional_simple, built_statement, built_block, built_pattern, built_item, built_items};
 ghost use Rattle.awk_resolve.specs.support.Builds.{Builds};
+ghost use Rattle.std.specs.Prelude.{Some};
+ghost use Rattle.std.specs.Option.{option_map};
 
 use crate::built::{NOT_BUILT, built_operand, built_optional_expr, built_print_list};
 use awk_grammar::tree as grammar;
 use awk_lex::refusal::Refusal;
-use awk_tree::tree::{Item, Pattern, SimpleStatement, Statement};
+use awk_tree::tree::{Expr, Item, Pattern, SimpleStatement, Statement};
 use std::alloc::Global;
 
 fn built_simple(
@@ -50,46 +53,115 @@ fn built_part(
     }
 }
 
-/// A statement that stands in another, in a box of its own.
-#[cycle(statements)]
-fn built_body(alloc: Global, s: &grammar::Statement) -> Result<Box<Statement>, Refusal>
-    ensures { Builds (λ b. statement_of b.value) result (built_statement (g.statement_of s.now)) }
+/// A box of its own for a statement that is built.
+fn boxed(alloc: Global, s: Statement) -> Result<Box<Statement>, Refusal>
+    ensures { Builds (λ b. statement_of b.value) result (Some (statement_of s)) }
 {
-    let s = built_statement(alloc, s)?;
     Ok(Box::new(alloc, s)?)
 }
 
+fn built_simple_statement(
+    alloc: Global,
+    simple: &grammar::SimpleStatement,
+) -> Result<Box<Statement>, Refusal>
+    ensures { Builds (λ b. statement_of b.value) result (option_map t.Simple (built_simple (g.simple_of simple.now))) }
+{
+    let simple = built_simple(alloc, simple)?;
+    boxed(alloc, Statement::Simple(simple))
+}
+
 #[cycle(statements)]
-fn built_statement(alloc: Global, s: &grammar::Statement) -> Result<Statement, Refusal>
-    ensures { Builds statement_of result (built_statement (g.statement_of s.now)) }
+fn built_if(
+    alloc: Global,
+    c: &grammar::Expr,
+    s: &grammar::Statement,
+) -> Result<Box<Statement>, Refusal>
+    ensures { Builds (λ b. statement_of b.value) result (both t.If (built_expr (g.expr_of c.now)) (built_statement (g.statement_of s.now))) }
+{
+    let c = built_operand(alloc, c)?;
+    let s = built_statement(alloc, s)?;
+    boxed(alloc, Statement::If(c, s))
+}
+
+/// An `if` with an `else`, where the condition and the first statement are built.
+#[cycle(statements)]
+fn built_if_else(
+    alloc: Global,
+    c: Box<Expr>,
+    s: Box<Statement>,
+    other: &grammar::Statement,
+) -> Result<Box<Statement>, Refusal>
+    ensures { Builds (λ b. statement_of b.value) result (option_map (t.IfElse (expr_of c.value) (statement_of s.value)) (built_statement (g.statement_of other.now))) }
+{
+    let other = built_statement(alloc, other)?;
+    boxed(alloc, Statement::IfElse(c, s, other))
+}
+
+#[cycle(statements)]
+fn built_while(
+    alloc: Global,
+    c: &grammar::Expr,
+    s: &grammar::Statement,
+) -> Result<Box<Statement>, Refusal>
+    ensures { Builds (λ b. statement_of b.value) result (both t.While (built_expr (g.expr_of c.now)) (built_statement (g.statement_of s.now))) }
+{
+    let c = built_operand(alloc, c)?;
+    let s = built_statement(alloc, s)?;
+    boxed(alloc, Statement::While(c, s))
+}
+
+#[cycle(statements)]
+fn built_do(
+    alloc: Global,
+    s: &grammar::Statement,
+    c: &grammar::Expr,
+) -> Result<Box<Statement>, Refusal>
+    ensures { Builds (λ b. statement_of b.value) result (both t.Do (built_statement (g.statement_of s.now)) (built_expr (g.expr_of c.now))) }
+{
+    let s = built_statement(alloc, s)?;
+    let c = built_operand(alloc, c)?;
+    boxed(alloc, Statement::Do(s, c))
+}
+
+#[cycle(statements)]
+fn built_for(
+    alloc: Global,
+    first: &Option<grammar::SimpleStatement>,
+    c: &Option<Box<grammar::Expr>>,
+    last: &Option<grammar::SimpleStatement>,
+    s: &grammar::Statement,
+) -> Result<Box<Statement>, Refusal>
+    ensures { Builds (λ b. statement_of b.value) result (all_four t.For (built_optional_simple (g.optional_simple_of first.now)) (built_optional_expr (g.optional_expr_of c.now))
+        (built_optional_simple (g.optional_simple_of last.now)) (built_statement (g.statement_of s.now))) }
+{
+    let s = built_statement(alloc, s)?;
+    let c = built_optional_expr(alloc, c)?;
+    let first = built_part(alloc, first)?;
+    let last = built_part(alloc, last)?;
+    boxed(alloc, Statement::For(first, c, last, s))
+}
+
+/// A statement, in a box of its own.
+#[cycle(statements)]
+fn built_statement(alloc: Global, s: &grammar::Statement) -> Result<Box<Statement>, Refusal>
+    ensures { Builds (λ b. statement_of b.value) result (built_statement (g.statement_of s.now)) }
 {
     match s {
-        grammar::Statement::Empty => Ok(Statement::Empty),
-        grammar::Statement::Simple(simple) => Ok(Statement::Simple(built_simple(alloc, simple)?)),
-        grammar::Statement::Block(all) => Ok(Statement::Block(built_block(alloc, all)?)),
-        grammar::Statement::If(c, s) => {
-            let c = built_operand(alloc, c)?;
-            Ok(Statement::If(c, built_body(alloc, s)?))
+        grammar::Statement::Empty => boxed(alloc, Statement::Empty),
+        grammar::Statement::Simple(simple) => built_simple_statement(alloc, simple),
+        grammar::Statement::Block(all) => {
+            let all = built_block(alloc, all)?;
+            boxed(alloc, Statement::Block(all))
         }
+        grammar::Statement::If(c, s) => built_if(alloc, c, s),
         grammar::Statement::IfElse(c, s, other) => {
             let c = built_operand(alloc, c)?;
-            let s = built_body(alloc, s)?;
-            Ok(Statement::IfElse(c, s, built_body(alloc, other)?))
+            let s = built_statement(alloc, s)?;
+            built_if_else(alloc, c, s, other)
         }
-        grammar::Statement::While(c, s) => {
-            let c = built_operand(alloc, c)?;
-            Ok(Statement::While(c, built_body(alloc, s)?))
-        }
-        grammar::Statement::Do(s, c) => {
-            let s = built_body(alloc, s)?;
-            Ok(Statement::Do(s, built_operand(alloc, c)?))
-        }
-        grammar::Statement::For(first, c, last, s) => {
-            let first = built_part(alloc, first)?;
-            let c = built_optional_expr(alloc, c)?;
-            let last = built_part(alloc, last)?;
-            Ok(Statement::For(first, c, last, built_body(alloc, s)?))
-        }
+        grammar::Statement::While(c, s) => built_while(alloc, c, s),
+        grammar::Statement::Do(s, c) => built_do(alloc, s, c),
+        grammar::Statement::For(first, c, last, s) => built_for(alloc, first, c, last, s),
         grammar::Statement::ForIn(_, _, _) => Err(NOT_BUILT),
     }
 }
@@ -101,7 +173,7 @@ fn built_block(alloc: Global, all: &[grammar::Statement]) -> Result<Vec<Statemen
     let mut built = Vec::new(alloc);
     for s in all {
         let s = built_statement(alloc, s)?;
-        built.push(s)?;
+        built.push(Box::into_inner(s))?;
     }
     Ok(built)
 }
