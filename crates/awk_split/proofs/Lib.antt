@@ -1,0 +1,2 @@
+pub mod ChosenSeparators
+pub mod LongestEnd
