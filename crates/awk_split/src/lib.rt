@@ -9,6 +9,12 @@ ghost use Rattle.awk_split.specs.support.Chosen.{separators_from};
 ghost use Rattle.awk_split.specs.definitions.Separators.{AreSeparators};
 ghost use Rattle.awk_text.specs.declared.span.Span.{Span};
 
+mod kind;
+mod matcher;
+mod separator;
+
+pub use separator::FieldSeparator;
+
 /// Which stretches of a text separate, where a regular expression does whose counts are in order, is decided by
 /// `separators_from`: from a place on there is one choice.
 pub fn separators_law()

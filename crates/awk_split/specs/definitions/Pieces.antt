@@ -1,11 +1,12 @@
 -- The fields that a separator leaves of a text. POSIX awk, "Regular Expressions", the rules on FS, and "Variables and
 -- Special Variables", RS: where it is empty, a newline separates fields too, whatever FS is. An empty text has no fields.
-use Rattle.std.specs.Prelude.{ℕ, Bool, true, false, ◌||◌, ◌&&◌, not, ◌==◌, nat_lt, if◌then◌else◌, List, [], ◌∷◌, length, map, drop, slice_range}
+use Rattle.std.specs.Prelude.{◌≡◌, ◌+◌, ◌<◌, ◌≤◌, ℕ, Bool, true, false, ◌||◌, ◌&&◌, not, ◌==◌, nat_lt, if◌then◌else◌, List, [], ◌∷◌, length, map, drop, slice_range, Option, None, Some}
 use Rattle.std.specs.List.{filter, slice_split}
 use Rattle.awk_ere_syntax.specs.definitions.Tree.{Tree}
-use Rattle.awk_text.specs.definitions.Pieces.{blank_pieces, split_from}
+use Rattle.awk_text.specs.definitions.Pieces.{blank_pieces, split_from, stretch_at, IsSpanOf}
 use Rattle.awk_text.specs.declared.span.Span.{Span}
-use Rattle.awk_split.specs.definitions.Separators.{Separator, blanks, byte, each, ere, or_newline}
+use Rattle.awk_text.specs.declared.span.FoundField.{FoundField}
+use Rattle.awk_split.specs.definitions.Separators.{Separator, blanks, byte, each, ere, Rule, separator_by, or_newline}
 use Rattle.awk_split.specs.support.Chosen.{separators_from}
 
 -- whether a byte stands between fields, where one byte or a newline too does
@@ -59,3 +60,18 @@ pieces_from blanks newline_too text place = blank_pieces (drop place text)
 pieces_from (byte b) newline_too text place = kind_pieces_from (separates b newline_too) text place
 pieces_from each newline_too text place = each_piece newline_too (drop place text)
 pieces_from (ere t) newline_too text place = ere_pieces_from (or_newline newline_too t) text place
+
+abbrev pub pieces_by : Rule → (text : List ℕ) → List (List ℕ)
+pieces_by rule text = pieces_of (separator_by rule) rule.newline_too text
+
+abbrev pub pieces_from_by : Rule → (text : List ℕ) (place : ℕ) → List (List ℕ)
+pieces_from_by rule text place = pieces_from (separator_by rule) rule.newline_too text place
+
+-- the next piece from a place on, and the place from which on those behind it stand; or nothing, where no piece is left
+abbrev pub IsNextPiece : (pieces : ℕ → List (List ℕ)) → (text : List ℕ) → (place : ℕ) → Option FoundField → Type 0
+IsNextPiece pieces text place None = pieces place ≡ []
+IsNextPiece pieces text place (Some found) = pieces place ≡ stretch_at text found.span ∷ pieces found.rest
+
+-- it lies within the text, and what is left begins behind the place
+abbrev pub IsFurther : (text : List ℕ) → (place : ℕ) → FoundField → Type 0
+IsFurther text place found = IsSpanOf text found.span × (place < found.rest) × (found.rest ≤ length text + 1)

@@ -28,6 +28,19 @@ separator_of [] = Ok each
 separator_of (b ∷ []) = Ok (if b == 32 then blanks else byte b)
 separator_of (b ∷ c ∷ text) = ere_or_refused (pattern_of (b ∷ c ∷ text))
 
+-- a value of FS that is not refused, and whether newlines separate too
+pub record Rule : Type 0 where
+  pub text : List ℕ
+  pub newline_too : Bool
+
+-- what was made of a value that is not refused
+abbrev pub separator_made : Result Separator TextFault → Separator
+separator_made (Ok s) = s
+separator_made (Err fault) = blanks
+
+abbrev pub separator_by : Rule → Separator
+separator_by rule = separator_made (separator_of rule.text)
+
 -- the ERE with a newline as one more branch, where newlines separate too
 abbrev pub or_newline : (newline_too : Bool) → Tree → Tree
 or_newline false t = t

@@ -1,0 +1,48 @@
+-- What the code keeps, and the separator for which it stands.
+use Rattle.std.proofs.Common.{◌≡◌, ℕ, Bool, true, false, Option, Some, None, Result, Ok, Err, sym, subst, ap, ◌∙◌, refl}
+use Rattle.std.specs.Prelude.{option_map, is_ok, MatchResult}
+use Rattle.awk_ere_syntax.specs.definitions.Tree.{Tree, class_of, class, branches, none, next}
+use Rattle.awk_ere.specs.definitions.Means.{Means, ReadsAs as PatternReadsAs}
+use Rattle.awk_ere.specs.declared.pattern.Pattern.{Pattern}
+use Rattle.awk_ere_syntax.specs.declared.fault.PatternFault.{PatternFault}
+use Rattle.awk_ere_syntax.specs.declared.fault.PatternFault.TheVariants.{Memory}
+use Rattle.awk_text.specs.declared.fault.TextFault.{TextFault}
+use Rattle.awk_split.specs.declared.kind.Kind.{Kind}
+use Rattle.awk_split.specs.declared.kind.Kind.TheVariants as kinds
+use Rattle.awk_split.specs.declared.matcher.Matcher.{Matcher}
+use Rattle.awk_split.specs.definitions.Separators.{Separator, blanks, byte, each, ere, or_newline}
+use Rattle.awk_split.specs.support.Kinds.{Stands, ReadsAs}
+
+pub for_blanks : (newline_too : Bool) (P : Separator → Type 0) → P blanks → (s : Separator) → Stands s newline_too kinds.Blanks → P s
+for_blanks n P p blanks h = p
+for_blanks n P p (byte b) h = absurd h
+for_blanks n P p each h = absurd h
+for_blanks n P p (ere t) h = absurd h
+
+pub same_ere : (newline_too : Bool) (old new : Matcher) → new.pattern ≡ old.pattern → (s : Separator) → Stands s newline_too (kinds.Ere old) → Stands s newline_too (kinds.Ere new)
+same_ere n old new same blanks h = absurd h
+same_ere n old new same (byte b) h = absurd h
+same_ere n old new same each h = absurd h
+same_ere n old new same (ere t) h = subst (λ p. Means (or_newline n t) p) (sym same) h
+
+-- a pattern with a newline as one more branch
+pub newline_reads : (p : Pattern) (o : Option Tree) (r : Result Pattern PatternFault) → PatternReadsAs (Ok p) o →
+    ((t : Tree) → Means t p → MatchResult r (λ q. Means (or_newline true t) q) (λ fault. fault ≡ Memory)) → PatternReadsAs r (option_map (or_newline true) o)
+newline_reads p None r reads newline = absurd reads
+newline_reads p (Some t) (Ok q) reads newline = newline t reads
+newline_reads p (Some t) (Err fault) reads newline = newline t reads
+
+pub matcher_reads : (o : Option Tree) (m : Matcher) → PatternReadsAs (Ok m.pattern) o → ReadsAs o (Ok m)
+matcher_reads None m reads = reads
+matcher_reads (Some t) m reads = reads
+
+abbrev read_ok : Pattern → Result Pattern TextFault
+read_ok p = Ok p
+
+-- a pattern that was read stays it where only faults are changed
+pub ok_before : (o : Option Tree) (m : Matcher) (r : Result Pattern PatternFault) (Q : PatternFault → Type 0) → PatternReadsAs r o →
+    MatchResult r (λ q. read_ok m.pattern ≡ read_ok q) Q → true ≡ is_ok r → ReadsAs o (Ok m)
+ok_before o m (Ok q) Q reads same variant =
+    let is : m.pattern ≡ q = cc in
+    matcher_reads o m (subst (λ (p : Pattern). PatternReadsAs (Ok p) o) (sym is) reads)
+ok_before o m (Err fault) Q reads same variant = cc
