@@ -83,7 +83,7 @@ module _ (t : Tree) (s : List ℕ) where
       let next : IsNextSeparator t s place (next_separator t s place) = next_is ordered place in
       onto_next place (next_separator t s place) (separators_within t s n (place_behind place (next_separator t s place))) next
       (λ m is. subst (λ k. AreSeparators t s k (separators_within t s n (place_behind place (next_separator t s place)))) (behind_found place (next_separator t s place) m is)
-          (are_within ordered n (place_behind place (next_separator t s place)) (further n place (next_separator t s place) m le next is)))
+      (are_within ordered n (place_behind place (next_separator t s place)) (further n place (next_separator t s place) m le next is)))
 
   pub are_from : IsOrdered t → (place : ℕ) → AreSeparators t s place (separators_from t s place)
   unfolding separators_from

@@ -1,5 +1,7 @@
 -- What the code keeps, and the separator for which it stands.
-use Rattle.std.proofs.Common.{◌≡◌, ℕ, Bool, true, false, Option, Some, None, Result, Ok, Err, sym, subst, ap, ◌∙◌, refl}
+use Rattle.std.proofs.Common.{◌≡◌, ℕ, Bool, true, false, List, [], ◌∷◌, Option, Some, None, Result, Ok, Err, sym, subst, ap, ◌∙◌, refl}
+use Rattle.std.proofs.Math.Logic.{∥∥₁_elim, ∥∥₁_prop}
+use Rattle.std.specs.Coded.{Coded-set, coded_list, coded_ℕ}
 use Rattle.std.specs.Prelude.{option_map, is_ok, MatchResult}
 use Rattle.awk_ere_syntax.specs.definitions.Tree.{Tree, class_of, class, branches, none, next}
 use Rattle.awk_ere.specs.definitions.Means.{Means, ReadsAs as PatternReadsAs}
@@ -7,11 +9,14 @@ use Rattle.awk_ere.specs.declared.pattern.Pattern.{Pattern}
 use Rattle.awk_ere_syntax.specs.declared.fault.PatternFault.{PatternFault}
 use Rattle.awk_ere_syntax.specs.declared.fault.PatternFault.TheVariants.{Memory}
 use Rattle.awk_text.specs.declared.fault.TextFault.{TextFault}
+use Rattle.awk_text.specs.declared.span.FoundField.{FoundField}
+use Rattle.awk_text.specs.Pieces.{stretch_at}
 use Rattle.awk_split.specs.declared.kind.Kind.{Kind}
 use Rattle.awk_split.specs.declared.kind.Kind.TheVariants as kinds
 use Rattle.awk_split.specs.declared.matcher.Matcher.{Matcher}
-use Rattle.awk_split.specs.definitions.Separators.{Separator, blanks, byte, each, ere, or_newline}
-use Rattle.awk_split.specs.support.Kinds.{Stands, ReadsAs}
+use Rattle.awk_split.specs.definitions.Separators.{Separator, blanks, byte, each, ere, separator_made, or_newline}
+use Rattle.awk_split.specs.support.Kinds.{Stands, StandsFor, ReadsAs}
+use Rattle.awk_split.specs.definitions.Pieces.{pieces_from, IsNextPiece}
 
 pub for_blanks : (newline_too : Bool) (P : Separator → Type 0) → P blanks → (s : Separator) → Stands s newline_too kinds.Blanks → P s
 for_blanks n P p blanks h = p
@@ -46,3 +51,27 @@ ok_before o m (Ok q) Q reads same variant =
     let is : m.pattern ≡ q = cc in
     matcher_reads o m (subst (λ (p : Pattern). PatternReadsAs (Ok p) o) (sym is) reads)
 ok_before o m (Err fault) Q reads same variant = cc
+
+-- the same separator, by what the code keeps of it
+pub stands_still : (separator : Result Separator TextFault) (newline_too : Bool) (old new : Kind) → ((s : Separator) → Stands s newline_too old → Stands s newline_too new) →
+    ∥ StandsFor separator newline_too old ∥₁ → ∥ StandsFor separator newline_too new ∥₁
+stands_still separator n old new still stands = ∥∥₁_elim stands ∥∥₁_prop (λ h. ∣ still_for separator h ∣₁)
+  where
+    still_for : (separator : Result Separator TextFault) → StandsFor separator n old → StandsFor separator n new
+    still_for (Ok s) h = still s h
+    still_for (Err fault) h = h
+
+piece_prop : (pieces : ℕ → List (List ℕ)) (text : List ℕ) (place : ℕ) (found : Option FoundField) → IsProp (IsNextPiece pieces text place found)
+piece_prop pieces text place None = Coded-set (coded_list (coded_list coded_ℕ)) (pieces place) []
+piece_prop pieces text place (Some found) = Coded-set (coded_list (coded_list coded_ℕ)) (pieces place) (stretch_at text found.span ∷ pieces found.rest)
+
+-- the next piece by the separator that a value of FS stands for
+pub piece_for : (separator : Result Separator TextFault) (newline_too : Bool) (kind : Kind) (text : List ℕ) (place : ℕ) (found : Option FoundField) →
+    ((s : Separator) → Stands s newline_too kind → IsNextPiece (pieces_from s newline_too text) text place found) →
+    ∥ StandsFor separator newline_too kind ∥₁ → IsNextPiece (pieces_from (separator_made separator) newline_too text) text place found
+piece_for separator n kind text place found piece stands =
+    ∥∥₁_elim stands (piece_prop (pieces_from (separator_made separator) n text) text place found) (λ h. by_made separator h)
+  where
+    by_made : (separator : Result Separator TextFault) → StandsFor separator n kind → IsNextPiece (pieces_from (separator_made separator) n text) text place found
+    by_made (Ok s) h = piece s h
+    by_made (Err fault) h = absurd h

@@ -58,11 +58,14 @@ module _ (s : List ℕ) (r : Re) (from : ℕ → Bool) where
       → ((i : ℕ) → from i ≡ true → i ≤ k → MatchesRe s r i k → here ≡ true)
       → (later : Option ℕ) → IsLast (suc k) later → IsLast k (or_here here k later)
   one_before k here sound complete (Some e) last = (last.0, last.1, omega (arith, last.2))
-  one_before k true sound complete None none =
-      (sound refl, λ i j f order within m. elim (cases_lt k j) [
-        | inl far ↦ absurd (none i j f order (omega arith) within m)
-        | inr near ↦ near
-      ], omega arith)
+  one_before k true sound complete None none = (
+    sound refl,
+    λ i j f order within m. elim (cases_lt k j) [
+      | inl far ↦ absurd (none i j f order (omega arith) within m)
+      | inr near ↦ near
+    ],
+    omega arith,
+  )
   one_before k false sound complete None none = λ i j f order le within m. elim (cases_lt k j) [
     | inl far ↦ none i j f order (omega arith) within m
     | inr near ↦
@@ -84,7 +87,7 @@ module _ (s : List ℕ) (r : Re) (from : ℕ → Bool) where
       (λ i f le m. leaves_complete s r from k p t (nat_eq k 0) (starts k) false (λ end. absurd (omega (arith, end, long))) i f le m)
       (last_end from (step (nat_eq k 0) false x (from k) false p) (suc k) rest)
       (last_is (step (nat_eq k 0) false x (from k) false p) (suc k) rest
-          (tracks_step s r from k p t (nat_eq k 0) (starts k) x (here_at s k x rest a) (omega (arith, long))) (next_at s k x rest a))
+      (tracks_step s r from k p t (nat_eq k 0) (starts k) x (here_at s k x rest a) (omega (arith, long))) (next_at s k x rest a))
 
 -- of the tree
 longest_of : (t : Tree) (s : List ℕ) (place : ℕ) (end : Option ℕ) → IsOrdered t → place ≤ length s → IsLast s (desugar t) (λ k. nat_eq k place) place end → Longest t s place end
@@ -102,4 +105,4 @@ longest_is t s place ordered le =
     let from : ℕ → Bool = λ k. nat_eq k place in
     longest_of t s place (last_end from (fresh (desugar t)) place (drop place s)) ordered le
     (last_is s (desugar t) from (fresh (desugar t)) place (drop place s)
-        (tracks_fresh s (desugar t) from place (λ i f lt. let same = eqb-true i place f in omega (arith, same, lt))) (place_at s place le))
+    (tracks_fresh s (desugar t) from place (λ i f lt. let same = eqb-true i place f in omega (arith, same, lt))) (place_at s place le))

@@ -6,12 +6,12 @@ use Rattle.std.proofs.lemmas.Bool.{cases_lt, cond-true, cond-false, lt-ltb, le-l
 use Rattle.std.proofs.lemmas.List.{at_drop_more, drop_all, take_rest}
 use Rattle.awk_ere_syntax.specs.definitions.Tree.{Tree}
 use Rattle.awk_ere_compile.specs.definitions.Desugared.{IsOrdered}
-use Rattle.awk_text.specs.Pieces.{stretch_at}
+use Rattle.awk_text.specs.Pieces.{blank_pieces}
 use Rattle.awk_text.specs.Stretch.{IsStretchEnd}
 use Rattle.awk_text.specs.declared.span.Span.{Span}
 use Rattle.awk_text.proofs.NextPiece.{split_from-within, split_from-past, split_from-stretch}
-use Rattle.awk_split.specs.definitions.Separators.{IsNextSeparator}
-use Rattle.awk_split.specs.definitions.Pieces.{kind_pieces_from, is_field, each_piece, between, ere_pieces_from}
+use Rattle.awk_split.specs.definitions.Separators.{Separator, blanks, byte, each, ere, or_newline, IsNextSeparator}
+use Rattle.awk_split.specs.definitions.Pieces.{separates, kind_pieces_from, is_field, each_piece, between, ere_pieces_from, pieces_of, pieces_from}
 use Rattle.awk_split.specs.support.Chosen.{separators_from}
 use Rattle.awk_split.proofs.ChosenSeparators.{from_found, from_nothing}
 
@@ -61,3 +61,18 @@ module _ (t : Tree) where
   ere_ends text place ordered lt le none =
       ere_within text place lt le ∙ (ap (between text place) (from_nothing t text ordered place none)
       ∙ (ap (λ p. p ∷ []) (sym (take_rest text place)) ∙ ap (λ ps. slice_range text place (length text) ∷ ps) (sym (ere_past text (length text + 1) (omega arith)))))
+
+-- from the front on they are all the pieces
+pub pieces_from-front : (separator : Separator) (newline_too : Bool) (text : List ℕ) → pieces_from separator newline_too text 0 ≡ pieces_of separator newline_too text
+pieces_from-front blanks n text = refl
+pieces_from-front (byte b) n [] = refl
+pieces_from-front (byte b) n (first ∷ text) = split_from-within (separates b n) (first ∷ text) 0 (omega arith)
+pieces_from-front each n text = refl
+pieces_from-front (ere t) n [] = refl
+pieces_from-front (ere t) n (first ∷ text) = ere_within (or_newline n t) (first ∷ text) 0 (omega arith) (omega arith)
+
+pub pieces_from-past : (separator : Separator) (newline_too : Bool) (text : List ℕ) (place : ℕ) → length text < place → pieces_from separator newline_too text place ≡ []
+pieces_from-past blanks n text place lt = ap blank_pieces (drop_all place text (omega arith))
+pieces_from-past (byte b) n text place lt = no_kind_piece (separates b n) text place lt
+pieces_from-past each n text place lt = each_ends n text place (omega arith)
+pieces_from-past (ere t) n text place lt = ere_past (or_newline n t) text place lt

@@ -38,12 +38,7 @@ fn read_pattern(alloc: Global, text: &[u8], newline_too: bool) -> Result<Pattern
 
 // The next match with a byte in it that begins at a place or behind it: the first one, and of those that begin there the
 // longest. Where the longest that begins at a place is empty, the search goes on behind that place.
-fn next_full(
-    pattern: &Pattern,
-    scratch: &mut Scratch,
-    text: &[u8],
-    place: usize,
-) -> Option<Span>
+fn next_full(pattern: &Pattern, scratch: &mut Scratch, text: &[u8], place: usize) -> Option<Span>
     requires same { IsFor scratch.old pattern.now }
     requires within { place ≤ length text.now }
     ensures lies { IfSome result (λ m. (place ≤ m.start) × (m.start < m.end) × (m.end ≤ length text.now)) }
