@@ -1,9 +1,9 @@
 -- What the code keeps, and the separator for which it stands.
-use Rattle.std.proofs.Common.{◌≡◌, ℕ, Bool, true, false, List, [], ◌∷◌, Option, Some, None, Result, Ok, Err, sym, subst, ap, ◌∙◌, refl}
+use Rattle.std.proofs.Common.{◌≡◌, ℕ, Bool, true, List, [], ◌∷◌, Option, Some, None, Result, Ok, Err, sym, subst}
 use Rattle.std.proofs.Math.Logic.{∥∥₁_elim, ∥∥₁_prop}
 use Rattle.std.specs.Coded.{Coded-set, coded_list, coded_ℕ}
 use Rattle.std.specs.Prelude.{option_map, is_ok, MatchResult}
-use Rattle.awk_ere_syntax.specs.definitions.Tree.{Tree, class_of, class, branches, none, next}
+use Rattle.awk_ere_syntax.specs.definitions.Tree.{Tree}
 use Rattle.awk_ere.specs.definitions.Means.{Means, ReadsAs as PatternReadsAs}
 use Rattle.awk_ere.specs.declared.pattern.Pattern.{Pattern}
 use Rattle.awk_ere_syntax.specs.declared.fault.PatternFault.{PatternFault}

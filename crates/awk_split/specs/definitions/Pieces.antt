@@ -1,6 +1,6 @@
 -- The fields that a separator leaves of a text. POSIX awk, "Regular Expressions", the rules on FS, and "Variables and
 -- Special Variables", RS: where it is empty, a newline separates fields too, whatever FS is. An empty text has no fields.
-use Rattle.std.specs.Prelude.{◌≡◌, ◌+◌, ◌<◌, ◌≤◌, ℕ, Bool, true, false, ◌||◌, ◌&&◌, not, ◌==◌, nat_lt, if◌then◌else◌, List, [], ◌∷◌, length, map, drop, slice_range, Option, None, Some}
+use Rattle.std.specs.Prelude.{◌≡◌, ◌+◌, ◌<◌, ◌≤◌, ℕ, Bool, true, false, ◌||◌, not, ◌==◌, nat_lt, if◌then◌else◌, List, [], ◌∷◌, length, map, drop, slice_range, Option, None, Some}
 use Rattle.std.specs.List.{filter, slice_split}
 use Rattle.awk_ere_syntax.specs.definitions.Tree.{Tree}
 use Rattle.awk_text.specs.definitions.Pieces.{blank_pieces, split_from, stretch_at, IsSpanOf}

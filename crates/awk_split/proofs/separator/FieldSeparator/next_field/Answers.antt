@@ -1,4 +1,4 @@
-use Rattle.std.proofs.Common.{List, ℕ, subst}
+use Rattle.std.proofs.Common.{subst}
 use Rattle.awk_split.specs.definitions.Separators.{Rule, separator_of}
 use Rattle.awk_split.specs.definitions.Pieces.{pieces_from_by, IsNextPiece}
 use Rattle.awk_split.proofs.KindStands.{stands_still, piece_for}
