@@ -1,12 +1,10 @@
 -- The newlines in front, and the first blank line behind them.
-use Rattle.std.proofs.Common.{◌≡◌, inl, inr, ℕ, zero, suc, ◌+◌, ◌-◌, ◌<◌, ◌≤◌, true, false, ◌==◌, ◌&&◌, List, [], ◌∷◌, ◌++◌, length, take, drop, get_or, max, Option, Some, None, refl, sym, ◌∙◌, ap, subst, arith}
-use Rattle.std.proofs.lemmas.Bool.{cases_Bool, cases_lt, cond-true, cond-false, eqb-true, eq-eqb, false≢true}
-use Rattle.std.proofs.lemmas.Bool.Decides.{nat_tests}
-use Rattle.std.proofs.lemmas.List.{at_drop_more, drop-drop, drop-append-le, get_or-drop, get_or_append_left, length-append, length-drop, take_rest}
+use Rattle.std.proofs.Common.{◌≡◌, inl, inr, ℕ, zero, suc, ◌+◌, ◌-◌, ◌<◌, ◌≤◌, true, false, ◌==◌, ◌&&◌, List, [], ◌∷◌, length, drop, get_or, Option, Some, None, refl, sym, ◌∙◌, ap, subst, arith}
+use Rattle.std.proofs.lemmas.Bool.{cases_Bool, cond-true, cond-false, eqb-true, eq-eqb, false≢true}
+use Rattle.std.proofs.lemmas.List.{at_drop_more, drop-drop, get_or-drop, length-drop}
 use Rattle.memchr.specs.Find.{FindsNeedle}
 use Rattle.awk_record.specs.Cut.{Ending, BrokenOff, begins_with, one_later, first_at, newlines, without_newline, cut_of}
-use Rattle.awk_record.specs.Boundary.{IsNotAmong, AreNewlines, HasNoBlankLine, IsKnown, IsSkipped, IsSearched, separator_for}
-use Rattle.awk_record.specs.declared.separator_search.ResumedSearch.{ResumedSearch}
+use Rattle.awk_record.specs.Boundary.{AreNewlines, HasNoBlankLine, IsKnown, IsSkipped}
 use Rattle.awk_record.proofs.SearchFindsFirst.{byte_holds, begins_reads, found_needle, none_begins, not_among, nothing_found}
 
 -- ---- newlines in front
@@ -109,29 +107,3 @@ unfinished_known [] bytes ending skipped is counted =
 unfinished_known (c ∷ []) bytes ending skipped is counted =
     not_among c bytes (nothing_found (first_at (c ∷ []) bytes) 0 (c ∷ []) (λ b. b) bytes ending is)
 unfinished_known (c ∷ d ∷ separator) bytes ending skipped is counted = tt
-
--- it stays known where more bytes follow
-pub known_append : (separator : List ℕ) (skipped searched : ℕ) (bytes more : List ℕ) → skipped ≤ length bytes → searched ≤ length bytes → IsKnown separator skipped searched bytes → IsKnown separator skipped searched (bytes ++ more)
-known_append [] skipped searched bytes more front within known = (
-  λ k lt. get_or_append_left bytes more 0 k (omega arith) ∙ known.0 k lt,
-  λ k le lt first second. known.1 k le lt (sym (get_or_append_left bytes more 0 k (omega arith)) ∙ first) (sym (get_or_append_left bytes more 0 (k + 1) (omega arith)) ∙ second),
-)
-known_append (c ∷ []) skipped searched bytes more front within known = λ k lt is. known k lt (sym (get_or_append_left bytes more 0 k (omega arith)) ∙ is)
-known_append (c ∷ d ∷ separator) skipped searched bytes more front within known = tt
-
-pub searched_append : (items more : List ℕ) (start : ℕ) (search : ResumedSearch) → IsSearched items start search → IsSearched (items ++ more) start search
-searched_append items more start search is =
-    let skipped = is.skipped in
-    let searched = is.searched in
-    let size : length (drop start items) ≡ length items - start = length-drop start items in
-    record {
-      skipped = omega (arith, skipped, length-append items more);
-      searched = omega (arith, searched, length-append items more);
-      known = subst (IsKnown (separator_for search.byte) search.skipped search.searched) (sym (drop-append-le start items more (omega (arith, skipped))))
-          (known_append (separator_for search.byte) search.skipped search.searched (drop start items) more (omega arith) (omega arith) is.known);
-    }
-
-pub nothing_known : (separator bytes : List ℕ) → IsKnown separator 0 0 bytes
-nothing_known [] bytes = (λ k lt. absurd (omega arith), λ k le lt first second. absurd (omega arith))
-nothing_known (c ∷ []) bytes = λ k lt is. absurd (omega arith)
-nothing_known (c ∷ d ∷ separator) bytes = tt

@@ -1,4 +1,4 @@
-use Rattle.std.proofs.Common.{◌≡◌, ◌∙◌, ◌≤◌, ◌<◌, ◌+◌, ◌-◌, ℕ, None, Some, length, arith}
+use Rattle.std.proofs.Common.{◌∙◌, None, Some, arith}
 use Rattle.std.proofs.lemmas.List.{take_rest}
 use Rattle.awk_record.proofs.BlankLines.{blank_line_found}
 use Rattle.awk_record.proofs.separator_search.first_blank_line.Goals as goal
