@@ -43,7 +43,7 @@ two_hold bytes k lt first second =
     let next : begins_with (10 ∷ []) (drop (k + 1) bytes) ≡ true = byte_holds 10 bytes (k + 1) lt second in
     two_begin bytes k (omega arith) ∙ (ap (λ b. b && begins_with (10 ∷ []) (drop (k + 1) bytes)) here ∙ next)
 
-two_fail : (bytes : List ℕ) (k : ℕ) → (get_or bytes k 0 ≡ 10 → get_or bytes (k + 1) 0 ≡ 10 → ⊥) → begins_with (10 ∷ 10 ∷ []) (drop k bytes) ≡ false
+pub two_fail : (bytes : List ℕ) (k : ℕ) → (get_or bytes k 0 ≡ 10 → get_or bytes (k + 1) 0 ≡ 10 → ⊥) → begins_with (10 ∷ 10 ∷ []) (drop k bytes) ≡ false
 two_fail bytes k none = elim (cases_Bool (begins_with (10 ∷ 10 ∷ []) (drop k bytes))) [
   | inl holds ↦
       let place : k + 0 ≡ k = omega arith in
