@@ -6,6 +6,8 @@ mod format;
 #[cfg(test)]
 mod record;
 #[cfg(test)]
+mod split;
+#[cfg(test)]
 mod substitute;
 #[cfg(test)]
 mod table;

@@ -9,7 +9,7 @@ use Rattle.std.proofs.lemmas.List.Elements.{All-get_or}
 use Rattle.awk_record.specs.Cut.{Ending, AtEnd, AtBreak, Cut, Found, BrokenOff, longest, first_at, limited, unfinished, cut_at, cut_of}
 use Rattle.awk_record.proofs.SearchFindsFirst.{first_at_some, first_byte_none, byte_fails, byte_holds}
 
-limited-within : (stretch : ℕ) (cut : Cut) → stretch ≤ longest → limited stretch cut ≡ cut
+pub limited-within : (stretch : ℕ) (cut : Cut) → stretch ≤ longest → limited stretch cut ≡ cut
 limited-within stretch cut le = cond-false _ _ _ (le-ltb longest stretch le)
 
 -- the first place behind bytes among which the byte isn't

@@ -4,7 +4,7 @@ use Rattle.std.proofs.lemmas.Bool.{cases_Bool, cases_lt, cond-true, cond-false, 
 use Rattle.std.proofs.lemmas.Bool.Decides.{nat_tests}
 use Rattle.std.proofs.lemmas.List.{at_drop_more, get_or-drop, length-drop}
 use Rattle.memchr.specs.Find.{IsFirstByte, FindsNeedle, OccursAt, is_byte}
-use Rattle.awk_record.specs.Cut.{Ending, Found, BrokenOff, TooLong, longest, begins_with, one_later, first_at, cut_at, cut_of}
+use Rattle.awk_record.specs.Cut.{Ending, Found, BrokenOff, TooLong, longest, begins_with, one_later, first_at, cut_at}
 use Rattle.awk_record.specs.Boundary.{IsNotAmong}
 use Rattle.awk_record.proofs.CutIsDecided.{begins_with-length, one_later-none}
 
@@ -79,7 +79,7 @@ occurs_begins (c ∷ word) bytes k occurs =
     let both : ((get_or bytes k 0 == c) && begins_with word (drop (k + 1) bytes)) ≡ true = grind (arith, nat_tests) in
     at_drop_more (begins_with (c ∷ word)) bytes k 0 lt ∙ both
 
-begins_reads : (word bytes : List ℕ) (j : ℕ) → j < length word → begins_with word bytes ≡ true → get_or bytes j 0 ≡ get_or word j 0
+pub begins_reads : (word bytes : List ℕ) (j : ℕ) → j < length word → begins_with word bytes ≡ true → get_or bytes j 0 ≡ get_or word j 0
 begins_reads [] bytes j less holds = absurd (omega arith)
 begins_reads (c ∷ word) [] j less holds = absurd (false≢true holds)
 begins_reads (c ∷ word) (b ∷ bytes) zero less holds = grind (arith, nat_tests)
@@ -107,26 +107,25 @@ found_needle word bytes (Some i) some finds =
     let fits : i + length word ≤ length bytes = finds.1.fits in
     sym (first_at_some word bytes i (omega arith) (λ k lt. word_fails word bytes k (omega arith) (finds.0.before k (omega arith) lt)) (occurs_begins word bytes i finds.1))
 
+-- where a word isn't found, it begins at none of the places
+pub none_begins : (word bytes : List ℕ) → first_at word bytes ≡ None → (k : ℕ) → k < length bytes → begins_with word (drop k bytes) ≡ false
+none_begins word [] none k lt = absurd (omega arith)
+none_begins word (b ∷ bytes) none zero lt = elim (cases_Bool (begins_with word (b ∷ bytes))) [
+  | inl holds ↦ let bad : Some 0 ≡ None = sym (cond-true _ _ _ holds) ∙ none in cc
+  | inr fails ↦ fails
+]
+none_begins word (b ∷ bytes) none (suc k) lt = elim (cases_Bool (begins_with word (b ∷ bytes))) [
+  | inl holds ↦ let bad : Some 0 ≡ None = sym (cond-true _ _ _ holds) ∙ none in cc
+  | inr fails ↦ none_begins word bytes (one_later-none (first_at word bytes) (sym (cond-false _ _ _ fails) ∙ none)) k (omega arith)
+]
+
 -- where a cut finds no byte, it is none of the bytes
-not_among : (c : ℕ) (bytes : List ℕ) → first_at (c ∷ []) bytes ≡ None → IsNotAmong c (length bytes) bytes
-not_among c [] none k lt = absurd (omega arith)
-not_among c (b ∷ bytes) none zero lt = elim (cases_Bool (begins_with (c ∷ []) (b ∷ bytes))) [
-  | inl holds ↦ let bad : Some 0 ≡ None = sym (cond-true _ _ _ holds) ∙ none in cc
-  | inr fails ↦ λ is. false≢true (sym fails ∙ byte_holds c (b ∷ bytes) 0 (omega arith) is)
-]
-not_among c (b ∷ bytes) none (suc k) lt = elim (cases_Bool (begins_with (c ∷ []) (b ∷ bytes))) [
-  | inl holds ↦ let bad : Some 0 ≡ None = sym (cond-true _ _ _ holds) ∙ none in cc
-  | inr fails ↦ not_among c bytes (one_later-none (first_at (c ∷ []) bytes) (sym (cond-false _ _ _ fails) ∙ none)) k (omega arith)
-]
+pub not_among : (c : ℕ) (bytes : List ℕ) → first_at (c ∷ []) bytes ≡ None → IsNotAmong c (length bytes) bytes
+not_among c bytes none k lt = λ is. false≢true (sym (none_begins (c ∷ []) bytes none k lt) ∙ byte_holds c bytes k lt is)
 
-nothing_found : (c : ℕ) (place : Option ℕ) (bytes : List ℕ) (ending : Ending) → BrokenOff ≡ cut_at place 0 (c ∷ []) (λ b. b) bytes ending → place ≡ None
-nothing_found c None bytes ending is = refl
-nothing_found c (Some i) bytes ending is = elim (cases_Bool (nat_lt longest (0 + (i + 1)))) [
+pub nothing_found : (place : Option ℕ) (skipped : ℕ) (word : List ℕ) (trim : List ℕ → List ℕ) (bytes : List ℕ) (ending : Ending) → BrokenOff ≡ cut_at place skipped word trim bytes ending → place ≡ None
+nothing_found None skipped word trim bytes ending is = refl
+nothing_found (Some i) skipped word trim bytes ending is = elim (cases_Bool (nat_lt longest (skipped + (i + length word)))) [
   | inl over ↦ let bad : BrokenOff ≡ TooLong = is ∙ cond-true _ _ _ over in cc
-  | inr within ↦ let bad : BrokenOff ≡ Found (take i bytes) (drop (i + 1) bytes) = is ∙ cond-false _ _ _ within in cc
+  | inr within ↦ let bad : BrokenOff ≡ Found (take i bytes) (drop (i + length word) bytes) = is ∙ cond-false _ _ _ within in cc
 ]
-
-pub unfinished_searched : (separator bytes : List ℕ) (ending : Ending) → BrokenOff ≡ cut_of separator bytes ending → (c : ℕ) → separator ≡ c ∷ [] → IsNotAmong c (length bytes) bytes
-unfinished_searched separator bytes ending is c one =
-    let cut : BrokenOff ≡ cut_of (c ∷ []) bytes ending = is ∙ ap (λ (s : List ℕ). cut_of s bytes ending) one in
-    not_among c bytes (nothing_found c (first_at (c ∷ []) bytes) bytes ending cut)

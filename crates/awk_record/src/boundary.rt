@@ -1,9 +1,9 @@
 // Where the first record of the bytes at hand ends: at a byte, or at a blank line.
-ghost use Rattle.std.specs.Prelude.{◌≡◌, ℕ, ◌≤◌, ◌∷◌, [], length, take, drop};
-ghost use Rattle.awk_record.specs.Cut.{without_newline, cut_of, cut_behind, limited, unfinished, longest, Found};
-ghost use Rattle.awk_record.specs.Boundary.{cut_by, trim_if, end_if, IsWithin, IsNotAmong};
+ghost use Rattle.std.specs.Prelude.{◌≡◌, ℕ, List, ◌≤◌, ◌∷◌, [], length, take, drop};
+ghost use Rattle.awk_record.specs.Cut.{without_newline, cut_of, cut_behind, limited, unfinished, Found};
+ghost use Rattle.awk_record.specs.Boundary.{cut_by, trim_if, end_if, IsWithin, IsNotAmong, AreNewlines, HasNoBlankLine, IsKnown, IsSkipped, Skips, IsShort};
 
-use crate::separator_search::{first_blank_line, first_byte, leading_newlines};
+use crate::separator_search::{ResumedSearch, first_blank_line, first_byte, leading_newlines};
 
 /// Where the first record of the bytes at hand lies.
 #[derive(Clone, Copy)]
@@ -12,8 +12,8 @@ pub enum Boundary {
     Stretch { from: usize, to: usize, next: usize },
     /// The input has ended, and no record is left.
     Empty,
-    /// No record is whole.
-    Unfinished,
+    /// No record is whole. So many newlines were skipped.
+    Unfinished { skipped: usize },
     /// The record is too long.
     Over,
     /// The separator has two or more bytes.
@@ -42,13 +42,14 @@ fn boundary_at_end(skipped: usize, trims: bool, held: &[u8], at_end: bool) -> Bo
     ensures value { cut_by result held.now
         ≡ limited (length held.now) (unfinished (trim_if trims) (drop skipped held.now) (end_if at_end)) }
     ensures within { IsWithin (length held.now) result }
-    ensures short { result ≡ Boundary.Unfinished → length held.now ≤ longest }
+    ensures skips { (separator : List ℕ) → IsSkipped separator skipped held.now → Skips separator held.now result }
+    ensures short { IsShort (length held.now) result }
 {
     if held.len() > LONGEST {
         return Boundary::Over;
     }
     if !at_end {
-        return Boundary::Unfinished;
+        return Boundary::Unfinished { skipped };
     }
     let bytes = &held[skipped..];
     if bytes.is_empty() {
@@ -72,7 +73,8 @@ fn line_boundary(byte: u8, held: &[u8], searched: usize, at_end: bool) -> Bounda
     requires none { IsNotAmong byte searched held.now }
     ensures value { cut_by result held.now ≡ cut_behind 0 (byte ∷ []) (λ b. b) held.now (end_if at_end) }
     ensures within { IsWithin (length held.now) result }
-    ensures short { result ≡ Boundary.Unfinished → length held.now ≤ longest }
+    ensures skips { Skips (byte ∷ []) held.now result }
+    ensures short { IsShort (length held.now) result }
 {
     let Some(to) = first_byte(byte, held, searched) else {
         return boundary_at_end(0, false, held, at_end);
@@ -84,14 +86,20 @@ fn line_boundary(byte: u8, held: &[u8], searched: usize, at_end: bool) -> Bounda
     Boundary::Stretch { from: 0, to, next }
 }
 
-// The boundary at a blank line.
-fn paragraph_boundary(held: &[u8], at_end: bool) -> Boundary
+// The boundary at a blank line, which doesn't stand among the first `searched` bytes behind the newlines in front, of
+// which so many are known.
+fn paragraph_boundary(held: &[u8], known: usize, searched: usize, at_end: bool) -> Boundary
+    requires known { known ≤ length held.now }
+    requires within { searched ≤ length held.now }
+    requires front { AreNewlines known held.now }
+    requires none { HasNoBlankLine known searched held.now }
     ensures value { cut_by result held.now ≡ cut_of [] held.now (end_if at_end) }
     ensures within { IsWithin (length held.now) result }
-    ensures short { result ≡ Boundary.Unfinished → length held.now ≤ longest }
+    ensures skips { Skips [] held.now result }
+    ensures short { IsShort (length held.now) result }
 {
-    let from = leading_newlines(held);
-    let Some(len) = first_blank_line(&held[from..]) else {
+    let from = leading_newlines(held, known);
+    let Some(len) = first_blank_line(held, from, searched) else {
         return boundary_at_end(from, true, held, at_end);
     };
     let next = from + (len + 2);
@@ -106,18 +114,24 @@ fn paragraph_boundary(held: &[u8], at_end: bool) -> Boundary
 }
 
 /// The boundary of the first record, if the input has ended behind the bytes
-/// at hand, or else if it broke. A separator of one byte isn't among the first
-/// `searched` bytes.
-pub fn first_boundary(separator: &[u8], held: &[u8], searched: usize, at_end: bool) -> Boundary
-    requires within { searched ≤ length held.now }
-    requires none { (c : ℕ) → separator.now ≡ c ∷ [] → IsNotAmong c searched held.now }
+/// at hand, or else if it broke, where so much is known of the separator.
+pub fn first_boundary(
+    separator: &[u8],
+    held: &[u8],
+    search: ResumedSearch,
+    at_end: bool,
+) -> Boundary
+    requires skipped { search.skipped ≤ length held.now }
+    requires searched { search.searched ≤ length held.now }
+    requires known { IsKnown separator.now search.skipped search.searched held.now }
     ensures value { cut_by result held.now ≡ cut_of separator.now held.now (end_if at_end) }
     ensures within { IsWithin (length held.now) result }
-    ensures short { result ≡ Boundary.Unfinished → length held.now ≤ longest }
+    ensures skips { Skips separator.now held.now result }
+    ensures short { IsShort (length held.now) result }
 {
     match separator {
-        [] => paragraph_boundary(held, at_end),
-        [byte] => line_boundary(*byte, held, searched, at_end),
+        [] => paragraph_boundary(held, search.skipped, search.searched, at_end),
+        [byte] => line_boundary(*byte, held, search.searched, at_end),
         _ => Boundary::NoSeparator,
     }
 }

@@ -152,8 +152,8 @@ impl RecordBuffer {
         ensures short { result ≡ Ok Step.NeedMore → length self.old.bytes ≤ longest }
     {
         let held = &self.bytes[self.start..];
-        let searched = self.search.searched_for(separator);
-        match first_boundary(separator, held, searched, at_end(self.supply)) {
+        let search = self.search.resumed_for(separator);
+        match first_boundary(separator, held, search, at_end(self.supply)) {
             Boundary::Stretch { from, to, next } => {
                 let record = Bytes::from_slice(self.alloc, &held[from..to])?;
                 self.start += next;
@@ -164,9 +164,9 @@ impl RecordBuffer {
                 self.take_all();
                 Ok(Step::End)
             }
-            Boundary::Unfinished => match self.supply {
+            Boundary::Unfinished { skipped } => match self.supply {
                 Supply::Open => {
-                    self.search = ResumedSearch::of(separator, held.len());
+                    self.search = ResumedSearch::of(separator, skipped, held.len());
                     Ok(Step::NeedMore)
                 }
                 Supply::Ended | Supply::Broke => {

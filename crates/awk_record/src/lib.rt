@@ -1,9 +1,10 @@
 //! Cutting an input into records, and the record at hand.
 #![tactic(auto)]
 
-ghost use Rattle.std.specs.Prelude.{◌≡◌, ◌≢◌, ◌↔◌, ℕ, ◌<◌, ◌≤◌, List, [], ◌∷◌, ◌++◌, length};
+ghost use Rattle.std.specs.Prelude.{◌≡◌, ◌≢◌, ◌↔◌, ℕ, ◌+◌, ◌<◌, ◌≤◌, List, [], ◌∷◌, ◌++◌, length};
 ghost use Rattle.std.specs.List.{All};
-ghost use Rattle.awk_record.specs.Cut.{Ending, AtEnd, AtBreak, Found, BrokenOff, longest, cut_of, IsDecided};
+ghost use Rattle.awk_record.specs.Cut.{Ending, AtEnd, AtBreak, Found, NoMore, BrokenOff, longest, cut_of, IsDecided};
+ghost use Rattle.awk_record.specs.Paragraph.{AreNewline, IsParagraph};
 
 mod assigned;
 mod boundary;
@@ -36,4 +37,24 @@ pub fn line_law()
     ensures broken { (c : ℕ) (bytes : List ℕ) →
         All (λ b. b ≢ c) bytes → length bytes ≤ longest →
         cut_of (c ∷ []) bytes AtBreak ≡ BrokenOff }
+{}
+
+/// Where the separator is empty, newlines in front are skipped, and a paragraph goes up to the first two newlines in a row.
+/// The bytes behind the last of these are a paragraph, without one newline at their end, unless there are none or the input
+/// broke.
+pub fn paragraph_law()
+    ensures paragraph { (gap first rest : List ℕ) (ending : Ending) →
+        AreNewline gap → IsParagraph first → length gap + (length first + 2) ≤ longest →
+        cut_of [] (gap ++ (first ++ 10 ∷ 10 ∷ rest)) ending ≡ Found first rest }
+    ensures last { (gap first : List ℕ) →
+        AreNewline gap → IsParagraph first → length gap + length first ≤ longest →
+        cut_of [] (gap ++ first) AtEnd ≡ Found first [] }
+    ensures ended { (gap first : List ℕ) →
+        AreNewline gap → IsParagraph first → length gap + (length first + 1) ≤ longest →
+        cut_of [] (gap ++ (first ++ 10 ∷ [])) AtEnd ≡ Found first [] }
+    ensures none { (gap : List ℕ) → AreNewline gap → length gap ≤ longest →
+        cut_of [] gap AtEnd ≡ NoMore }
+    ensures broken { (gap first : List ℕ) →
+        AreNewline gap → IsParagraph first → length gap + length first ≤ longest →
+        cut_of [] (gap ++ first) AtBreak ≡ BrokenOff }
 {}

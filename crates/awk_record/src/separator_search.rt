@@ -1,51 +1,64 @@
-// Where in the bytes at hand a separator stands first. The search for a byte is resumed: it goes on where the last one,
-// over fewer bytes, found none, so that each byte is looked at once however small the pieces are that come.
-ghost use Rattle.std.specs.Prelude.{◌≡◌, ◌+◌, ◌≤◌, ℕ, List, ◌∷◌, [], length, IfSome};
+// Where in the bytes at hand a separator stands first. A search is resumed: it goes on where the last one, over fewer
+// bytes, found none, so that each byte is looked at once however small the pieces are that come.
+ghost use Rattle.std.specs.Prelude.{◌≡◌, ◌+◌, ◌≤◌, ℕ, List, ◌∷◌, [], length, drop, IfSome};
 ghost use Rattle.awk_record.specs.Cut.{first_at, newlines};
-ghost use Rattle.awk_record.specs.Boundary.{IsNotAmong};
+ghost use Rattle.awk_record.specs.Boundary.{separator_for, IsKnown, IsNotAmong, AreNewlines, HasNoBlankLine};
 
 use memchr::{memchr, memmem};
 
-/// A search for a byte that found none among so many bytes.
+/// What is known of the bytes at hand from a search that found no separator.
 #[derive(Clone, Copy)]
 pub struct ResumedSearch {
-    pub byte: u8,
+    /// The byte that was looked for, or none where that was a blank line.
+    pub byte: Option<u8>,
+    /// How many newlines stand in front, where it was a blank line behind these.
+    pub skipped: usize,
+    /// Among how many bytes it doesn't stand.
     pub searched: usize,
 }
 
 impl ResumedSearch {
     /// No byte was searched yet.
     pub const NONE: ResumedSearch = ResumedSearch {
-        byte: 0,
+        byte: None,
+        skipped: 0,
         searched: 0,
     };
 
-    /// A search for this separator that found none among so many bytes.
-    pub fn of(separator: &[u8], searched: usize) -> ResumedSearch
-        ensures none { (bytes : List ℕ) →
-            ((c : ℕ) → separator.now ≡ c ∷ [] → IsNotAmong c searched bytes) →
-            IsNotAmong result.byte result.searched bytes }
-        ensures within { result.searched ≤ searched }
+    /// A search for this separator that found none among so many bytes, of which so many newlines were skipped.
+    pub fn of(separator: &[u8], skipped: usize, searched: usize) -> ResumedSearch
+        ensures known { (bytes : List ℕ) → IsKnown separator.now skipped searched bytes →
+            IsKnown (separator_for result.byte) result.skipped result.searched bytes }
+        ensures skipped { result.skipped ≤ skipped }
+        ensures searched { result.searched ≤ searched }
     {
         match separator {
+            [] => ResumedSearch {
+                byte: None,
+                skipped,
+                searched,
+            },
             [byte] => ResumedSearch {
-                byte: *byte,
+                byte: Some(*byte),
+                skipped,
                 searched,
             },
             _ => ResumedSearch::NONE,
         }
     }
 
-    /// How many bytes need no further search for this separator.
-    pub fn searched_for(self, separator: &[u8]) -> usize
-        ensures none { (bytes : List ℕ) (c : ℕ) →
-            IsNotAmong self.byte self.searched bytes → separator.now ≡ c ∷ [] →
-            IsNotAmong c result bytes }
-        ensures within { result ≤ self.searched }
+    /// The search for this separator: this one, or one that has still to begin.
+    pub fn resumed_for(self, separator: &[u8]) -> ResumedSearch
+        ensures known { (bytes : List ℕ) →
+            IsKnown (separator_for self.byte) self.skipped self.searched bytes →
+            IsKnown separator.now result.skipped result.searched bytes }
+        ensures skipped { result.skipped ≤ self.skipped }
+        ensures searched { result.searched ≤ self.searched }
     {
-        match separator {
-            [byte] if *byte == self.byte => self.searched,
-            _ => 0,
+        match (separator, self.byte) {
+            ([], None) => self,
+            ([byte], Some(other)) if *byte == other => self,
+            _ => ResumedSearch::NONE,
         }
     }
 }
@@ -61,20 +74,29 @@ pub fn first_byte(byte: u8, bytes: &[u8], searched: usize) -> Option<usize>
     Some(searched + i)
 }
 
-/// The first place of two newlines in a row.
-pub fn first_blank_line(bytes: &[u8]) -> Option<usize>
-    ensures place { result ≡ first_at (10 ∷ 10 ∷ []) bytes.now }
-    ensures fits { IfSome result (λ i. i + 2 ≤ length bytes.now) }
+/// The first place of two newlines in a row behind those in front, counted from there. They don't stand among the first
+/// `searched` bytes, of which the last is looked at once more.
+pub fn first_blank_line(bytes: &[u8], front: usize, searched: usize) -> Option<usize>
+    requires front { front ≤ length bytes.now }
+    requires within { searched ≤ length bytes.now }
+    requires none { HasNoBlankLine front searched bytes.now }
+    ensures place { result ≡ first_at (10 ∷ 10 ∷ []) (drop front bytes.now) }
+    ensures fits { IfSome result (λ i. front + i + 2 ≤ length bytes.now) }
 {
-    memmem::find(bytes, b"\n\n")
+    let from = front.max(searched.saturating_sub(1));
+    let i = memmem::find(&bytes[from..], b"\n\n")?;
+    Some(from - front + i)
 }
 
-/// How many newlines stand in front.
-pub fn leading_newlines(bytes: &[u8]) -> usize
+/// How many newlines stand in front, where so many are known.
+pub fn leading_newlines(bytes: &[u8], known: usize) -> usize
+    requires within { known ≤ length bytes.now }
+    requires known { AreNewlines known bytes.now }
     ensures value { result ≡ newlines bytes.now }
     ensures within { result ≤ length bytes.now }
+    ensures more { known ≤ result }
 {
-    for i in 0..bytes.len() {
+    for i in known..bytes.len() {
         if bytes[i] != b'\n' {
             return i;
         }

@@ -2,27 +2,31 @@ use Rattle.std.proofs.Common.{◌≡◌, ◌∙◌, Ok, refl, sym, ap, subst, Li
 use Rattle.std.proofs.lemmas.List.{length-drop}
 use Rattle.awk_record.specs.Buffer.{Pending, Steps}
 use Rattle.awk_record.specs.Cut.{BrokenOff, NoMore, TooLong}
-use Rattle.awk_record.specs.Boundary.{IsNotAmong}
+use Rattle.awk_record.specs.Boundary.{IsKnown, separator_for}
 use Rattle.awk_record.specs.declared.buffer.Step.TheVariants.{Record, NeedMore}
 use Rattle.awk_record.proofs.NextAnswersSteps.{Steps-seen, Steps-waits, Steps-breaks, found_unbroken, held_is, drop_behind, something_met}
-use Rattle.awk_record.proofs.SearchFindsFirst.{unfinished_searched}
+use Rattle.awk_record.proofs.BlankLines.{unfinished_known}
 use Rattle.awk_record.proofs.buffer.RecordBuffer.next.Goals as goal
 
-pub first_boundary-requires-clause-none : goal.first_boundary-requires-clause-none
-first_boundary-requires-clause-none c = λ byte is.
+pub first_boundary-requires-clause-known : goal.first_boundary-requires-clause-known
+first_boundary-requires-clause-known c =
     let b = c.self.inside in
+    let search = c.resumed_for-search.result in
     let held = held_is c.deref.result.now b.bytes.items b.start c.deref.ensures.value in
-    subst (λ (bytes : List ℕ). IsNotAmong byte c.searched_for-searched.result bytes) (sym held) (c.searched_for-searched.ensures.none (drop b.start b.bytes.items) byte c.self.invariant.none is)
+    subst (IsKnown c.args.separator.now search.skipped search.searched) (sym held) (c.resumed_for-search.ensures.known (drop b.start b.bytes.items) c.self.invariant.known)
 
 pub invariant_of-self-in-Open : goal.invariant_of-self-in-Open
 invariant_of-self-in-Open c =
     let b = c.self.inside in
+    let search = c.of-self-inside.result in
     let held = held_is c.deref.result.now b.bytes.items b.start c.deref.ensures.value in
-    let none = unfinished_searched c.args.separator.now _ _ c.in-Unfinished.ensures.value in
+    let known = unfinished_known c.args.separator.now _ _ c.in-Unfinished.skipped c.in-Unfinished.ensures.value c.in-Unfinished.ensures.skips in
     let fits = ap (λ (bytes : List ℕ). length bytes) held in
+    let start = c.self.invariant.skipped in
     record {
-      within = omega (arith, fits, length-drop b.start b.bytes.items, c.of-self-inside.ensures.within, c.self.invariant.within);
-      none = subst (λ (bytes : List ℕ). IsNotAmong c.of-self-inside.result.byte c.of-self-inside.result.searched bytes) held (c.of-self-inside.ensures.none _ none);
+      skipped = omega (arith, fits, length-drop b.start b.bytes.items, c.of-self-inside.ensures.skipped, c.in-Unfinished.ensures.within, start);
+      searched = omega (arith, fits, length-drop b.start b.bytes.items, c.of-self-inside.ensures.searched, start);
+      known = subst (IsKnown (separator_for search.byte) search.skipped search.searched) held (c.of-self-inside.ensures.known _ known);
     }
 
 pub returns-in-Empty-clause-steps : goal.returns-in-Empty-clause-steps

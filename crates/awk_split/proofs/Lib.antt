@@ -1,0 +1,4 @@
+pub mod ChosenSeparators
+pub mod KindStands
+pub mod LongestEnd
+pub mod NextPiece

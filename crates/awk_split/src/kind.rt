@@ -1,0 +1,151 @@
+// The separators of every kind, and the next field by one.
+ghost use Rattle.std.specs.Prelude.{◌≡◌, ◌≤◌, ◌+◌, ◌<◌, ℕ, Bool, length, IfSome};
+ghost use Rattle.memchr.specs.Find.{IsFirstByte};
+ghost use Rattle.awk_text.specs.Stretch.{IsStretchEnd};
+ghost use Rattle.awk_ere_syntax.specs.definitions.Tree.{Tree};
+ghost use Rattle.awk_ere.specs.definitions.Means.{Means};
+ghost use Rattle.awk_split.specs.definitions.Separators.{Separator as SeparatorSpec, blanks, byte as at_byte, each, separator_of};
+ghost use Rattle.awk_split.specs.definitions.Pieces.{separates, is_field as field_test, pieces_from, ere_pieces_from, IsNextPiece, IsFurther};
+
+use crate::matcher::Matcher;
+use awk_text::{FoundField, Separator, Span, TextFault, next_field};
+use memchr::{memchr, memchr2};
+use std::alloc::Global;
+
+// The first place where a byte stands, or a newline too.
+fn first_separator(text: &[u8], byte: u8, newline_too: bool) -> Option<usize>
+    ensures { IsFirstByte (separates byte newline_too) text.now result }
+{
+    if newline_too {
+        memchr2(byte, b'\n', text)
+    } else {
+        memchr(byte, text)
+    }
+}
+
+// The first such place from here on, or the end.
+fn end_before_separator(text: &[u8], byte: u8, newline_too: bool, from: usize) -> usize
+    requires { from ≤ length text.now }
+    ensures { IsStretchEnd (separates byte newline_too) text.now from result }
+{
+    match first_separator(&text[from..], byte, newline_too) {
+        Some(len) => from + len,
+        None => text.len(),
+    }
+}
+
+fn next_at_byte(text: &[u8], byte: u8, newline_too: bool, from: usize) -> Option<FoundField>
+    ensures piece { IsNextPiece (pieces_from (at_byte byte) newline_too text.now) text.now from result }
+    ensures further { IfSome result (IsFurther text.now from) }
+{
+    if text.is_empty() || from > text.len() {
+        return None;
+    }
+    let end = end_before_separator(text, byte, newline_too, from);
+    Some(FoundField {
+        span: Span { start: from, end },
+        rest: end + 1,
+    })
+}
+
+// Whether a byte is a field where each one is, but newlines where they separate.
+fn is_field(byte: u8, newline_too: bool) -> bool
+    ensures { result ≡ field_test newline_too byte }
+{
+    !newline_too || byte != b'\n'
+}
+
+fn next_each(text: &[u8], newline_too: bool, from: usize) -> Option<FoundField>
+    ensures piece { IsNextPiece (pieces_from each newline_too text.now) text.now from result }
+    ensures further { IfSome result (IsFurther text.now from) }
+{
+    for start in from..text.len() {
+        if is_field(text[start], newline_too) {
+            let end = start + 1;
+            return Some(FoundField {
+                span: Span { start, end },
+                rest: end,
+            });
+        }
+    }
+    None
+}
+
+// The next field between the matches of a pattern.
+fn next_between_matches(matcher: &mut Matcher, text: &[u8], from: usize) -> Option<FoundField>
+    ensures piece { (t : Tree) → Means t matcher.old.pattern →
+        IsNextPiece (ere_pieces_from t text.now) text.now from result }
+    ensures further { IfSome result (IsFurther text.now from) }
+    ensures same { matcher.new.pattern ≡ matcher.old.pattern }
+{
+    if text.is_empty() || from > text.len() {
+        return None;
+    }
+    match matcher.next(text, from) {
+        Some(found) => Some(FoundField {
+            span: Span {
+                start: from,
+                end: found.start,
+            },
+            rest: found.end,
+        }),
+        None => Some(FoundField {
+            span: Span {
+                start: from,
+                end: text.len(),
+            },
+            rest: text.len() + 1,
+        }),
+    }
+}
+
+fn next_between_blanks(text: &[u8], from: usize) -> Option<FoundField>
+    ensures piece { (newline_too : Bool) → IsNextPiece (pieces_from blanks newline_too text.now) text.now from result }
+    ensures further { IfSome result (IsFurther text.now from) }
+{
+    next_field(text, Separator::Blanks, from)
+}
+
+/// What separates fields, without the rule on newlines.
+#[derive(Drop)]
+pub enum Kind {
+    /// Runs of spaces, tabs and newlines.
+    Blanks,
+    /// Each place of this byte.
+    Byte(u8),
+    /// Nothing: each byte is a field.
+    Each,
+    /// The matches of a pattern that has a newline as one more branch where newlines separate too.
+    Ere(Matcher),
+}
+
+impl Kind {
+    ghost use Rattle.awk_split.specs.support.Kinds.{Stands, MadeFor};
+
+    /// What the value of FS stands for.
+    pub fn of(alloc: Global, text: &[u8], newline_too: bool) -> Result<Kind, TextFault>
+        ensures { MadeFor (separator_of text.now) newline_too result }
+    {
+        match text {
+            [] => Ok(Kind::Each),
+            [b' '] => Ok(Kind::Blanks),
+            [byte] => Ok(Kind::Byte(*byte)),
+            _ => Ok(Kind::Ere(Matcher::read(alloc, text, newline_too)?)),
+        }
+    }
+
+    /// The next field from a place on.
+    pub fn next_field(&mut self, text: &[u8], newline_too: bool, from: usize) -> Option<FoundField>
+        ensures piece { (s : SeparatorSpec) → Stands s newline_too self.old →
+            IsNextPiece (pieces_from s newline_too text.now) text.now from result }
+        ensures further { IfSome result (IsFurther text.now from) }
+        ensures same { (s : SeparatorSpec) → Stands s newline_too self.old → Stands s newline_too self.new }
+    {
+        match self {
+            Kind::Blanks => next_between_blanks(text, from),
+            Kind::Byte(byte) => next_at_byte(text, *byte, newline_too, from),
+            Kind::Each => next_each(text, newline_too, from),
+            Kind::Ere(matcher) => next_between_matches(matcher, text, from),
+        }
+    }
+}
