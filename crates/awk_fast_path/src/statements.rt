@@ -220,8 +220,8 @@ fn execute_compound(plan: &Plan, node: StatementNode, interpreter: &mut Interpre
     }
 }
 
-/// Executes a statement, if that can be done in place: an assignment of a number or of a concatenation, an increment, `break`, `continue`, or an
-/// `if` over these. (POSIX awk, Actions)
+/// Executes a statement, if that can be done in place: an assignment of a number or of a concatenation, an increment,
+/// `break`, `continue`, or an `if` over these. (POSIX awk, Actions)
 pub fn execute(plan: &Plan, place: u32, interpreter: &mut Interpreter) -> Ran
     ensures { Executes (statement_in (part_of plan.now place)) interpreter.old result interpreter.new }
 {
