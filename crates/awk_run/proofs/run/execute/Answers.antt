@@ -20,7 +20,7 @@ returns-in_err-plan-clause-executed g c =
 
 pub returns-clause-executed : goal.returns-clause-executed
 returns-clause-executed g c =
-    let ran = rw c.in_ok-plan.ensures at c.run.ensures in
+    let ran = rw c.in_ok-plan.ensures at c.run_program.ensures in
     record {
       cause = tt;
       refused = tt;
