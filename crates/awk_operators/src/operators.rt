@@ -6,14 +6,15 @@ ghost use Rattle.awk_value.specs.Values.{str_of};
 ghost use Rattle.awk_value.specs.declared.value.Value.TheVariants.{Text};
 ghost use Rattle.awk_meaning.specs.Operators.{applied, changed, field_value, matched, raised, relates as related, takes_pattern, truth_value};
 ghost use Rattle.awk_meaning.specs.Results.{Yields};
+ghost use Rattle.awk_meaning.specs.Faults.{of_values};
 
 use crate::patterns::Patterns;
 use awk_meaning::Halt;
 use awk_record::Record;
 use awk_tree::tree::{BinaryOperator, Ere, UnaryOperator};
 use awk_value::{
-    Value, add, compare, concatenate, div, divide, is_true, minus, mul, multiply, negate,
-    number_of, plus, pow, power, rem, remainder, sub, text_of, to_number,
+    Value, ValueFault, add, compare, concatenate, div, divide, is_true, minus, mul, multiply,
+    negate, number_of, plus, pow, power, rem, remainder, sub, text_of, to_number,
 };
 use std::alloc::Global;
 use std::cmp::Ordering;
@@ -78,6 +79,31 @@ fn matches_value(patterns: &mut Patterns, alloc: Global, x: &Value, y: &Value) -
     patterns.matches(alloc, &pattern, text.as_slice())
 }
 
+/// What an operator that takes no pattern makes of two values.
+fn calculate(
+    operator: BinaryOperator,
+    x: &Value,
+    y: &Value,
+    alloc: Global,
+) -> Result<Value, ValueFault>
+    requires { takes_pattern operator ≡ false }
+    ensures { Yields (of_values result) (applied operator x.now y.now) }
+{
+    match operator {
+        BinaryOperator::Power => power(x, y),
+        BinaryOperator::Times => multiply(x, y),
+        BinaryOperator::Divide => divide(x, y),
+        BinaryOperator::Remainder => remainder(x, y),
+        BinaryOperator::Plus => plus(x, y),
+        BinaryOperator::Minus => minus(x, y),
+        BinaryOperator::Concatenate => concatenate(alloc, x, y),
+        _ => {
+            let order = compare(x, y)?;
+            Ok(truth_value(relates(operator, order)))
+        }
+    }
+}
+
 /// What an operator makes of two values.
 pub fn apply(
     operator: BinaryOperator,
@@ -91,22 +117,7 @@ pub fn apply(
     match operator {
         BinaryOperator::Matches => Ok(truth_value(matches_value(patterns, alloc, x, y)?)),
         BinaryOperator::NotMatches => Ok(truth_value(!matches_value(patterns, alloc, x, y)?)),
-        BinaryOperator::Concatenate => Ok(concatenate(alloc, x, y)?),
-        BinaryOperator::Power => Ok(power(x, y)?),
-        BinaryOperator::Divide => Ok(divide(x, y)?),
-        BinaryOperator::Times => Ok(multiply(x, y)?),
-        BinaryOperator::Remainder => Ok(remainder(x, y)?),
-        BinaryOperator::Plus => Ok(plus(x, y)?),
-        BinaryOperator::Minus => Ok(minus(x, y)?),
-        BinaryOperator::Less
-        | BinaryOperator::LessEqual
-        | BinaryOperator::Equal
-        | BinaryOperator::NotEqual
-        | BinaryOperator::Greater
-        | BinaryOperator::GreaterEqual => {
-            let order = compare(x, y)?;
-            Ok(truth_value(relates(operator, order)))
-        }
+        _ => Ok(calculate(operator, x, y, alloc)?),
     }
 }
 
