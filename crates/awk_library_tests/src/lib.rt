@@ -4,6 +4,8 @@
 #[cfg(test)]
 mod format;
 #[cfg(test)]
+mod paragraphs;
+#[cfg(test)]
 mod record;
 #[cfg(test)]
 mod split;

@@ -16,8 +16,8 @@ invariant_of-self c =
     let new = c.append.new.others.entries in
     let is_other = not_special old name _ c.self.invariant.1 stands.kept in
     let none = by_truth {P = HasNoSpecial new} c.append.result
-            (λ is. no_special_put old new name _ c.self.invariant.1 is_other (c.append.ensures.appended is name _ stands))
-            (λ is. subst HasNoSpecial (sym (c.append.ensures.kept is)) c.self.invariant.1) in
+    (λ is. no_special_put old new name _ c.self.invariant.1 is_other (c.append.ensures.appended is name _ stands))
+    (λ is. subst HasNoSpecial (sym (c.append.ensures.kept is)) c.self.invariant.1) in
     (c.self.invariant.0, none)
 
 pub returns-clause-set : goal.returns-clause-set
