@@ -1,7 +1,7 @@
 #!/bin/sh
 # Times reading program texts of a megabyte, and such with half a million parentheses: the least and the most seconds of
-# the rounds, the peak memory, and what is answered. Nothing is run: each text is refused once it is read, or has an empty
-# input. Needs GNU time, seq and sed.
+# the processor in user mode, the peak memory, and what is answered. Nothing is run: each text is refused once it is read,
+# or has an empty input. Needs GNU time, seq and sed.
 #
 #   bench/reading.sh [ROUNDS]
 set -eu
@@ -51,7 +51,7 @@ measure() {
     this) set -- "$1" "$root/out/awk" "$2" ;;
     *) set -- "$1" "$1" "$2" ;;
     esac
-    LC_ALL=C command time -q -f '%e %M' -o "$work/$1.times" -a timeout 60 "$2" -f "$work/$3" </dev/null \
+    LC_ALL=C command time -q -f '%U %M' -o "$work/$1.times" -a timeout 60 "$2" -f "$work/$3" </dev/null \
         >"$work/$1.output" 2>&1 || :
 }
 
