@@ -26,6 +26,7 @@ fn tree_of(alloc: Global, input: &str) -> Result<String, Fail> {
 }
 
 const TREES: &str = r#"
+ → 
 {} → (action)
 1 {} → (rule 1)
 { print } { print }; ␊{ print } → (action (print)) (action (print)) (action (print))
@@ -317,6 +318,12 @@ const HEIGHTS: &str = r#"
 ⟨1000 {print}⟩ → (action (print))⟨999  (action (print))⟩
 BEGIN{print ⟨196 (⟩1⟨196 )⟩} → (BEGIN (print ⟨196 (group ⟩1⟨198 )⟩
 BEGIN{print ⟨197 (⟩1⟨197 )⟩} → line 1: refusal S2: nested too deep
+substr(⟨300 (⟩1⟨300 )⟩) → line 1: refusal S1: not a program
+substr(1, ⟨300 (⟩1⟨300 )⟩) → line 1: refusal S2: nested too deep
+sub(1, 2, ⟨300 (⟩x⟨300 )⟩) → line 1: refusal S1: not a program
+sub(1, 2, $⟨300 (⟩x⟨300 )⟩) → line 1: refusal S2: nested too deep
+⟨300 (⟩x⟨300 )⟩ = 1 → line 1: refusal S1: not a program
+$⟨300 (⟩x⟨300 )⟩ = 1 → line 1: refusal S2: nested too deep
 ⟨500000 {⟩print⟨500000 }⟩ → line 1: refusal S2: nested too deep
 ⟨500000 {⟩print⟨499999 }⟩ → line 1: refusal S1: not a program
 ⟨500000 {⟩ → line 1: refusal S1: not a program

@@ -135,6 +135,40 @@ $ {print length}
 $ {getline}
 ! awk: line 1: refusal K9: not built yet
 = 2
+what can't be run yet, behind all that is no program
+$ BEGIN{f(1)}
+! awk: line 1: refusal K9: not built yet
+= 2
+$ {print substr("a", 1)}
+! awk: line 1: refusal K9: not built yet
+= 2
+$ {printf "%d", 1}
+! awk: line 1: refusal K9: not built yet
+= 2
+$ {print 1 | "c"}
+! awk: line 1: refusal K9: not built yet
+= 2
+$ {print 1 >> "f"}
+! awk: line 1: refusal K9: not built yet
+= 2
+$ x in a
+! awk: line 1: refusal K9: not built yet
+= 2
+$ (1, 2) in a
+! awk: line 1: refusal K9: not built yet
+= 2
+$ {"c" | getline x}
+! awk: line 1: refusal K9: not built yet
+= 2
+$ {getline x < "f"}
+! awk: line 1: refusal K9: not built yet
+= 2
+$ {$NF = 1}
+! awk: line 1: refusal K9: not built yet
+= 2
+$ function f() { return }
+! awk: line 1: refusal K9: not built yet
+= 2
 $ BEGIN
 . {print}
 ! awk: line 1: refusal S1: not a program
@@ -173,6 +207,9 @@ $ /(a{100}){100}/
 = 2
 $ /(a{100}){99}/
 = 0
+$ BEGIN{print sin(1)}
+! awk: line 1: refusal K7: name left out
+= 2
 $ BEGIN{x=2**3}
 ! awk: line 1: refusal S1: not a program
 = 2
