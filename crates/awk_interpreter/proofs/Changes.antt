@@ -1,15 +1,16 @@
 -- What the primitives that touch the code's own state alone do to it.
-use Rattle.std.proofs.Common.{◌≡◌, ℕ, ℤ, pos, suc, Bool, true, false, List, [], Option, Some, None, Result, Ok, Err, IfOk, IfErr, OnErr, ◌⊎◌, inl, inr, length, unwrap_or, slice_get, int_lt, refl, sym, ap, ◌∙◌, subst, arith}
+use Rattle.std.proofs.Common.{◌≡◌, ◌≢◌, true≢false, ℕ, ℤ, pos, suc, Bool, true, false, List, [], Option, Some, None, Result, Ok, Err, IfOk, IfErr, OnErr, ◌⊎◌, inl, inr, length, unwrap_or, slice_get, int_lt, refl, sym, ap, ◌∙◌, subst, arith}
 use Rattle.std.specs.Global.{Vec}
 use Rattle.std.specs.Prelude.{◌==◌, codes, bytes_eq, if◌then◌else◌, IfSome, IfNone}
-use Rattle.awk_text.specs.declared.separator.Separator.{Separator}
-use Rattle.awk_text.specs.Pieces.{separator_of}
+use Rattle.awk_split.specs.Separators.{Rule}
+use Rattle.awk_fields.specs.declared.fault.RecordFault.{RecordFault}
+use Rattle.awk_fields.specs.declared.fault.RecordFault.TheVariants as record_faults
 use Rattle.awk_value.specs.declared.value.Value.{Value}
 use Rattle.awk_value.specs.declared.value.Value.TheVariants as value
 use Rattle.awk_value.specs.declared.fault.ValueFault.{ValueFault}
 use Rattle.awk_value.specs.declared.fault.ValueFault.TheVariants as values
 use Rattle.awk_value.specs.Values.{num_of, str_of}
-use Rattle.awk_record.specs.Record.{split_by}
+use Rattle.awk_fields.specs.Record.{split_by}
 use Rattle.awk_interpreter.specs.declared.interpreter.Interpreter.{Interpreter}
 use Rattle.awk_operands.specs.declared.arguments.Arguments.{Arguments}
 use Rattle.awk_meaning.specs.declared.halt.Halt.{Halt}
@@ -20,11 +21,11 @@ use Rattle.awk_variables.specs.declared.special.Special.TheVariants.{Argc, Convf
 use Rattle.awk_variables.specs.declared.fault.VariableFault.{VariableFault}
 use Rattle.awk_variables.specs.declared.fault.VariableFault.TheVariants.{Memory, Pattern}
 use Rattle.std.proofs.lemmas.Slice.Eq.{bytes_eq-Decides}
-use Rattle.awk_meaning.specs.State.{State, lift, ret}
-use Rattle.awk_variables.specs.Variables.{value_of, name_of, with_value, is_refused}
+use Rattle.awk_meaning.specs.State.{State, Out, lift, ret}
+use Rattle.awk_variables.specs.Variables.{Pairs, value_of, name_of, with_value, is_refused}
 use Rattle.awk_meaning.specs.Operators.{exit_status, field_value, raised}
 use Rattle.awk_meaning.specs.Faults.{variable_fault, value_fault}
-use Rattle.awk_meaning.specs.Primitives.{spend_of, spend, value_in, read_name, put, put_unless, count_in, field_at, record_text, split_as, set_record, note_input, begin_input, argument_if, argument_below, take_argument, is_inside, with_range, set_inside, status_by, set_status, is_input_seen}
+use Rattle.awk_meaning.specs.Primitives.{spend_of, spend, value_in, read_name, put, put_unless, count_in, field_at, record_text, rule_of, set_record, note_input, begin_input, argument_if, argument_below, take_argument, is_inside, with_range, set_inside, status_by, set_status, is_input_seen}
 use Rattle.awk_meaning.specs.Semantics.{begin_record, store}
 use Rattle.awk_operands.specs.Operands.{is_below, IsFaultOf}
 use Rattle.awk_interpreter.specs.support.Simulation.{inside_of, OwnRelation, Changes, Spends, SameState}
@@ -232,13 +233,20 @@ unfolding record_text
 text_changes {v = v} same e =
     reads_changes _ (λ s. Ok (value.Input s.current.text)) (λ s. refl) same (λ s h. ap (λ r. Ok (value.Input r.text)) h.current ∙ ap (λ w. Ok w) (sym e))
 
-pub record_changes : (text : List ℕ) (separator : Separator) {old new : Interpreter} → separator_of (str_of (value_of old.variables (name_of Fs))) ≡ Ok separator → new.current ≡ split_by separator text → new.variables ≡ old.variables → new.arguments ≡ old.arguments → new.streams ≡ old.streams → new.inside ≡ old.inside → new.status ≡ old.status → new.steps ≡ old.steps → Changes (set_record text) old new (Ok tt)
+-- what separates fields, by the variables
+abbrev pub rule_in : Pairs → Rule
+rule_in variables = record { text = str_of (value_of variables (name_of Fs)); newline_too = length (str_of (value_of variables (name_of Rs))) == 0 }
+
+abbrev recorded : (text : List ℕ) → State → Rule → Out (Unit {0})
+recorded text s rule = record { result = Ok tt; state = record s { current = split_by rule text }; effects = [] }
+
+pub record_changes : (text : List ℕ) (rule : Rule) {old new : Interpreter} → rule ≡ rule_in old.variables → new.current ≡ split_by rule text → new.variables ≡ old.variables → new.arguments ≡ old.arguments → new.streams ≡ old.streams → new.inside ≡ old.inside → new.status ≡ old.status → new.steps ≡ old.steps → Changes (set_record text) old new (Ok tt)
 unfolding set_record
-record_changes text separator {old = old} {new = new} sep is variables arguments streams inside status steps =
+record_changes text rule {old = old} {new = new} now is variables arguments streams inside status steps =
     own_changes _ streams (omega (arith, steps)) (λ s h. record {
       result = Ok tt;
-      state = record s { current = split_by separator text };
-      is = ap (λ v. split_as (separator_of (str_of v)) text s) (h.variables (name_of Fs)) ∙ ap (λ r. split_as r text s) sep;
+      state = record s { current = split_by rule text };
+      is = (λ i. recorded text s (record { text = str_of (h.variables (name_of Fs) i); newline_too = length (str_of (h.variables (name_of Rs) i)) == 0 })) ∙ ap (recorded text s) (sym now);
       part = record { outside = refl; openings = refl; main = refl };
       matches = refl;
       holds = record {
@@ -252,6 +260,12 @@ record_changes text separator {old = old} {new = new} sep is variables arguments
         steps = h.steps ∙ sym steps;
       };
     })
+
+-- a separator that is accepted is refused for want of memory alone
+pub accepted_rule : (e : RecordFault) (refused : Bool) → (e ≢ record_faults.Memory → (e ≡ record_faults.Pattern) × (refused ≡ true)) → refused ≡ false → e ≡ record_faults.Memory
+accepted_rule record_faults.Memory refused why accepted = refl
+accepted_rule record_faults.Pattern refused why accepted = absurd (true≢false (sym ((why (λ e. absurd (cc))).1) ∙ accepted))
+accepted_rule record_faults.FieldNumber refused why accepted = absurd (true≢false (sym ((why (λ e. absurd (cc))).1) ∙ accepted))
 
 -- the elements of ARGV
 

@@ -278,43 +278,42 @@ asked_comes BadSeparator oracle new after r separator whole left s past told sta
 
 -- there is a rest in the model where the code has a main input
 taken_comes : (separator : List ℕ) (rest : Option Source) (main : Option InputView) (oracle : Oracle) (old new : Interpreter) (before after : WorldState) (r : Result (Option (List ℕ)) StreamFault) (s : State) (past : List Effect)
-    → Beside old new → main ≡ old.streams.main → is_some main ≡ true → separator ≢ [] → r ≢ Err Memory
+    → Beside old new → main ≡ old.streams.main → is_some main ≡ true → r ≢ Err Memory
     → AsksMain separator before old.streams r after new.streams
     → IsConsistent oracle after.log → StateRelation oracle old before s past → IsMainRest oracle before.log main rest
     → ResultRelation oracle new after (halted r) (taken_of rest separator s) past
-taken_comes separator rest None oracle old new before after r s past beside is there some kept told consistent stands main = absurd (cc)
-taken_comes separator None (Some v) oracle old new before after r s past beside is there some kept told consistent stands main = absurd main
-taken_comes [] (Some whole) (Some v) oracle old new before after r s past beside is there some kept told consistent stands main = absurd (some refl)
-taken_comes (b ∷ separator) (Some whole) (Some v) oracle old new before after r s past beside is there some kept told consistent stands main =
+taken_comes separator rest None oracle old new before after r s past beside is there kept told consistent stands main = absurd (cc)
+taken_comes separator None (Some v) oracle old new before after r s past beside is there kept told consistent stands main = absurd main
+taken_comes separator (Some whole) (Some v) oracle old new before after r s past beside is there kept told consistent stands main =
     let gives = told.answered kept oracle whole consistent (subst (λ m. IsMainRest oracle before.log m (Some whole)) is main) in
-    let reads = subst (λ m. ReadsMain (b ∷ separator) m before.log after.log) (sym is) told.request in
+    let reads = subst (λ m. ReadsMain separator m before.log after.log) (sym is) told.request in
     let readable = subst (λ m. ReadsOpen m before.log after.log) (sym is) told.readable in
-    let meets = asking_meets oracle (b ∷ separator) before after (Some v) old.streams new.streams whole is told.same main reads readable in
-    asked_comes (cut_of (b ∷ separator) whole.bytes whole.ending) oracle new after r (b ∷ separator) whole gives.0 s past gives.1
-    (asked_stands oracle old new before after s (b ∷ separator) whole gives.0 past beside (told.no_failure kept) told.counts.inputs told.outputs gives.2 meets stands)
+    let meets = asking_meets oracle separator before after (Some v) old.streams new.streams whole is told.same main reads readable in
+    asked_comes (cut_of separator whole.bytes whole.ending) oracle new after r separator whole gives.0 s past gives.1
+    (asked_stands oracle old new before after s separator whole gives.0 past beside (told.no_failure kept) told.counts.inputs told.outputs gives.2 meets stands)
 
 -- what the model takes, by the code's RS
 takes_as : (m : Interpreter) (s : State) → OwnRelation m s → take_record s ≡ taken_of s.main (str_of (value_of m.variables (name_of Rs))) s
 unfolding take_record
 takes_as m s h = ap (λ v. taken_of s.main (str_of v) s) (h.variables (name_of Rs))
 
-asks_logged : (separator : List ℕ) (r : Result (Option (List ℕ)) StreamFault) {old new : Interpreter} {before after : WorldState} → separator ≡ str_of (value_of old.variables (name_of Rs)) → Beside old new → is_some old.streams.main ≡ true → separator ≢ [] → r ≢ Err Memory
+asks_logged : (separator : List ℕ) (r : Result (Option (List ℕ)) StreamFault) {old new : Interpreter} {before after : WorldState} → separator ≡ str_of (value_of old.variables (name_of Rs)) → Beside old new → is_some old.streams.main ≡ true → r ≢ Err Memory
     → AsksMain separator before old.streams r after new.streams
     → SimulatesLogged old before new after (halted r) take_record
-asks_logged separator r {old = old} {new = new} {before = before} {after = after} rs beside there some kept told = record {
+asks_logged separator r {old = old} {new = new} {before = before} {after = after} rs beside there kept told = record {
   grows = told.grows;
   keeps = told.sound;
   keeps_main = λ sound. told.main;
   means = λ oracle s past consistent stands.
       subst (λ (o : Out (Option (List ℕ))). ResultRelation oracle new after (halted r) o past) (ap (λ l. taken_of s.main l s) rs ∙ sym (takes_as old s stands.holds))
-      (taken_comes separator s.main old.streams.main oracle old new before after r s past beside refl there some kept told consistent stands stands.main);
+      (taken_comes separator s.main old.streams.main oracle old new before after r s past beside refl there kept told consistent stands stands.main);
 }
 
-asks_by : (separator : List ℕ) (r : Result (Option (List ℕ)) StreamFault) {old new : Interpreter} {before after : WorldState} → separator ≡ str_of (value_of old.variables (name_of Rs)) → Beside old new → is_some old.streams.main ≡ true → separator ≢ []
+asks_by : (separator : List ℕ) (r : Result (Option (List ℕ)) StreamFault) {old new : Interpreter} {before after : WorldState} → separator ≡ str_of (value_of old.variables (name_of Rs)) → Beside old new → is_some old.streams.main ≡ true
     → AsksMain separator before old.streams r after new.streams
     → SimulatesLogged old before new after (halted r) take_record
-asks_by separator (Ok found) rs beside there some told = asks_logged separator (Ok found) rs beside there some (λ (e : Ok found ≡ Err Memory). absurd (cc)) told
-asks_by separator (Err Memory) {new = new} {before = before} {after = after} rs beside there some told = record {
+asks_by separator (Ok found) rs beside there told = asks_logged separator (Ok found) rs beside there (λ (e : Ok found ≡ Err Memory). absurd (cc)) told
+asks_by separator (Err Memory) {new = new} {before = before} {after = after} rs beside there told = record {
   grows = told.grows;
   keeps = told.sound;
   keeps_main = λ sound. told.main;
@@ -323,19 +322,19 @@ asks_by separator (Err Memory) {new = new} {before = before} {after = after} rs 
     failure = told.failure refl stands.clear;
   };
 }
-asks_by separator (Err WriteFailed) rs beside there some told = asks_logged separator (Err WriteFailed) rs beside there some (λ (e : Err WriteFailed ≡ Err Memory). absurd (cc)) told
-asks_by separator (Err InputNotReadable) rs beside there some told = asks_logged separator (Err InputNotReadable) rs beside there some (λ (e : Err InputNotReadable ≡ Err Memory). absurd (cc)) told
-asks_by separator (Err SeparatorTooLong) rs beside there some told = asks_logged separator (Err SeparatorTooLong) rs beside there some (λ (e : Err SeparatorTooLong ≡ Err Memory). absurd (cc)) told
-asks_by separator (Err RecordTooLong) rs beside there some told = asks_logged separator (Err RecordTooLong) rs beside there some (λ (e : Err RecordTooLong ≡ Err Memory). absurd (cc)) told
+asks_by separator (Err WriteFailed) rs beside there told = asks_logged separator (Err WriteFailed) rs beside there (λ (e : Err WriteFailed ≡ Err Memory). absurd (cc)) told
+asks_by separator (Err InputNotReadable) rs beside there told = asks_logged separator (Err InputNotReadable) rs beside there (λ (e : Err InputNotReadable ≡ Err Memory). absurd (cc)) told
+asks_by separator (Err SeparatorTooLong) rs beside there told = asks_logged separator (Err SeparatorTooLong) rs beside there (λ (e : Err SeparatorTooLong ≡ Err Memory). absurd (cc)) told
+asks_by separator (Err RecordTooLong) rs beside there told = asks_logged separator (Err RecordTooLong) rs beside there (λ (e : Err RecordTooLong ≡ Err Memory). absurd (cc)) told
 
-pub asks_simulates : {is_logged : Type 0} (separator : List ℕ) (r : Result (Option (List ℕ)) StreamFault) {old new : Interpreter} {before after : WorldState} → separator ≡ str_of (value_of old.variables (name_of Rs)) → Beside old new → is_some old.streams.main ≡ true → separator ≢ []
+pub asks_simulates : {is_logged : Type 0} (separator : List ℕ) (r : Result (Option (List ℕ)) StreamFault) {old new : Interpreter} {before after : WorldState} → separator ≡ str_of (value_of old.variables (name_of Rs)) → Beside old new → is_some old.streams.main ≡ true
     → (AreOpen before old.streams → AreOpen after new.streams)
     → (is_logged → AsksMain separator before old.streams r after new.streams)
     → Simulates is_logged old before new after (halted r) take_record
-asks_simulates separator r rs beside there some stays told = record {
+asks_simulates separator r rs beside there stays told = record {
   steps = omega (arith, beside.steps);
   kept_open = stays;
-  told = λ t. asks_by separator r rs beside there some (told t);
+  told = λ t. asks_by separator r rs beside there (told t);
 }
 
 -- where no main input is open, none is taken
@@ -357,41 +356,6 @@ takes_none_logged {m = m} {k = k} none = record {
 
 pub takes_none : {is_logged : Type 0} {m : Interpreter} {k : WorldState} → m.streams.main ≡ None → Simulates is_logged m k m k (Ok None) take_record
 takes_none none = record { steps = omega arith; kept_open = λ h. h; told = λ t. takes_none_logged none }
-
--- an empty separator is refused before a byte is read
-refuses_comes : (oracle : Oracle) (m : Interpreter) (k : WorldState) (s : State) (past : List Effect) (main : Option InputView) (rest : Option Source) → main ≡ m.streams.main → is_some main ≡ true → IsMainRest oracle k.log main rest → s.main ≡ rest → StateRelation oracle m k s past → ResultRelation oracle m k (Err (halt.Fault faults.RecordSeparatorTooLong)) (taken_of rest [] s) past
-refuses_comes oracle m k s past None rest is there main same stands = absurd (cc)
-refuses_comes oracle m k s past (Some v) None is there main same stands = absurd main
-refuses_comes oracle m k s past (Some v) (Some source) is there main same stands =
-    let unread : ReadsMain [] (Some v) k.log k.log = (v.pending, inl (refl, refl)) in
-    let meets : Meets oracle (ARecord [] source.bytes) (stage_of k.log m.streams.main) (stage_of k.log m.streams.main) = (
-      refl,
-      subst (λ (o : Option InputView). ReadsMainAsRequested oracle [] source.bytes (number_of o) k.log k.log) is (main_as_requested oracle [] k.log k.log v source main unread (inl refl)),
-    ) in (
-      refl,
-      record {
-        clear = stands.clear;
-        outside = stands.outside;
-        inputs = stands.inputs;
-        main = subst (λ x. IsMainRest oracle k.log x (Some source)) is main;
-        holds = at_main m s s.openings _ stands.holds;
-        outputs = stands.outputs ∙ standard_requested past (ARecord [] source.bytes);
-        turn = turn_requested oracle past (ARecord [] source.bytes) first_stage (stage_of k.log m.streams.main) (stage_of k.log m.streams.main) stands.turn meets;
-      },
-    )
-
-refuses_logged : {m : Interpreter} {k : WorldState} → str_of (value_of m.variables (name_of Rs)) ≡ [] → is_some m.streams.main ≡ true → SimulatesLogged m k m k (Err (halt.Fault faults.RecordSeparatorTooLong)) take_record
-refuses_logged {m = m} {k = k} empty there = record {
-  grows = Grows-self k;
-  keeps = λ sound. sound;
-  keeps_main = λ sound. sound;
-  means = λ oracle s past consistent stands.
-      subst (λ (o : Out (Option (List ℕ))). ResultRelation oracle m k (Err (halt.Fault faults.RecordSeparatorTooLong)) o past) (sym (takes_as m s stands.holds ∙ ap (λ l. taken_of s.main l s) empty))
-      (refuses_comes oracle m k s past m.streams.main s.main refl there stands.main refl stands);
-}
-
-pub takes_refused : {is_logged : Type 0} {m : Interpreter} {k : WorldState} → str_of (value_of m.variables (name_of Rs)) ≡ [] → is_some m.streams.main ≡ true → Simulates is_logged m k m k (Err (halt.Fault faults.RecordSeparatorTooLong)) take_record
-takes_refused empty there = record { steps = omega arith; kept_open = λ h. h; told = λ t. refuses_logged empty there }
 
 -- closing the main input
 
@@ -438,14 +402,6 @@ closes_simulates beside none stays told = record {
 pub none_of : (o : Option InputView) → is_some o ≡ false → o ≡ None
 none_of None e = refl
 none_of (Some v) e = absurd (cc)
-
-pub empty_of : (l : List ℕ) → (length l == 0) ≡ true → l ≡ []
-empty_of [] e = refl
-empty_of (b ∷ l) e = absurd (grind (arith, nat_tests))
-
-pub full_of : (l : List ℕ) → (length l == 0) ≡ false → l ≢ []
-full_of [] e = λ is. absurd (cc)
-full_of (b ∷ l) e = λ is. absurd (cc)
 
 pub line_same : (between between' behind behind' : Value) (vs : List Value) → between ≡ between' → behind ≡ behind' → line_of (str_of between) (str_of behind) vs ≡ line_of (str_of between') (str_of behind') vs
 line_same between between' behind behind' vs e f = ap (λ v. line_of (str_of v) (str_of behind) vs) e ∙ ap (λ v. line_of (str_of between') (str_of v) vs) f

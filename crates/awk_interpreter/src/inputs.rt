@@ -7,7 +7,7 @@ ghost use Rattle.awk_meaning.specs.Inputs.{assign_text, path_of, main_record, fi
 ghost use Rattle.awk_interpreter.specs.support.Simulation.{Changes, Follows, ClosesMainInput, OpensMainInput, Seeks};
 
 use crate::interpreter::Interpreter;
-use awk_meaning::{Fault, Halt};
+use awk_meaning::Halt;
 use awk_operands::{OperandForm, assigned_text, form_of};
 use awk_streams::{InputKind, World};
 use awk_value::{Bytes, Value, text_of};
@@ -77,9 +77,6 @@ impl Interpreter {
             return Ok(None);
         }
         let separator = text_of(self.alloc, self.variables.special(Special::Rs))?;
-        if separator.is_empty() {
-            return Err(Halt::Fault(Fault::RecordSeparatorTooLong));
-        }
         Ok(self.streams.next_main(world, separator.as_slice())?)
     }
 

@@ -10,10 +10,10 @@ ghost use Rattle.awk_meaning.specs.Operators.{applied, exit_status, takes_patter
 ghost use Rattle.awk_interpreter.specs.support.Simulation.{Spends, Changes, Follows, IsStart};
 ghost use Rattle.awk_meaning.specs.Results.{IsWantOfMemory};
 
+use awk_fields::Record;
 use awk_meaning::Halt;
 use awk_operands::Arguments;
 use awk_operators::{Patterns, make_line, raise};
-use awk_record::Record;
 use awk_streams::{Streams, World};
 use awk_tree::tree::{BinaryOperator, Ere};
 use awk_value::{Bytes, Value, number_of};
@@ -257,8 +257,9 @@ impl Interpreter {
     fn set_record(&mut self, text: Bytes) -> Result<(), Halt>
         ensures { Changes (set_record text) self.old self.new result }
     {
-        let separator = self.variables.separator();
-        Ok(self.current.set_text(text, separator)?)
+        let separator = self.variables.field_separator();
+        let newline_too = self.variables.newlines_separate();
+        Ok(self.current.set_text(text, separator, newline_too)?)
     }
 
     /// Makes the text the record at hand, and counts it in NR and FNR.

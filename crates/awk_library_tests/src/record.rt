@@ -1,6 +1,7 @@
 // Records and fields by hand, from the rules of the language.
 
-use awk_record::{BufferFault, Record, RecordBuffer, RecordFault, Step};
+use awk_fields::{Record, RecordFault};
+use awk_record::{BufferFault, RecordBuffer, Step};
 use awk_text::Separator;
 use awk_value::{Bytes, Value, append_text};
 use std::alloc::{AllocError, Global};
@@ -139,7 +140,7 @@ fn splits_a_record_into_fields(rt: HostRuntime) -> Result<(), Fail> {
 
     let text = " \tone two\n\nthree ";
     let bytes = Bytes::from_slice(rt.alloc(), text.as_bytes())?;
-    record.set_text(bytes, Separator::Blanks)?;
+    record.set_text(bytes, b" ", false)?;
     assert_eq!(rt; record.count()?, 3);
     assert!(rt; is_input(&record.field(0)?, text));
     assert!(rt; is_input(&record.field(1)?, "one"));
@@ -159,7 +160,7 @@ fn splits_a_record_into_fields(rt: HostRuntime) -> Result<(), Fail> {
 fn splits_a_record_at_a_byte(rt: HostRuntime) -> Result<(), Fail> {
     let mut record = Record::new(rt.alloc())?;
     let bytes = Bytes::from_slice(rt.alloc(), b"root: x::")?;
-    record.set_text(bytes, Separator::Byte(b':'))?;
+    record.set_text(bytes, b":", false)?;
     assert_eq!(rt; record.count()?, 4);
     assert!(rt; is_input(&record.field(0)?, "root: x::"));
     assert!(rt; is_input(&record.field(1)?, "root"));
@@ -167,7 +168,7 @@ fn splits_a_record_at_a_byte(rt: HostRuntime) -> Result<(), Fail> {
     assert!(rt; is_input(&record.field(4)?, ""));
     assert!(rt; matches!(record.field(5)?, Value::Nothing));
 
-    record.set_text(Bytes::from_slice(rt.alloc(), b"")?, Separator::Byte(b':'))?;
+    record.set_text(Bytes::from_slice(rt.alloc(), b"")?, b":", false)?;
     assert_eq!(rt; record.count()?, 0);
     Ok(())
 }
@@ -195,6 +196,14 @@ fn plain_fields(
         Separator::Byte(_) => {}
     }
     Ok(fields)
+}
+
+/// The value of FS that stands for a separator.
+fn value_of(separator: Separator) -> &'static [u8] {
+    match separator {
+        Separator::Blanks => b" ",
+        Separator::Byte(_) => b":",
+    }
 }
 
 /// The text of this number among those of up to six of these bytes.
@@ -251,7 +260,8 @@ fn goes_as_a_plain_split(rt: HostRuntime) -> Result<(), Fail> {
         for separator in [Separator::Blanks, Separator::Byte(b':')] {
             let fields = plain_fields(rt.alloc(), text.as_slice(), separator)?;
             let first = (number % 7) as usize;
-            record.set_text(Bytes::from_slice(rt.alloc(), text.as_slice())?, separator)?;
+            let bytes = Bytes::from_slice(rt.alloc(), text.as_slice())?;
+            record.set_text(bytes, value_of(separator), false)?;
             let agreed = agrees(&mut record, first, fields.as_slice())?;
             assert!(rt; agreed, "{number} {separator:?}");
         }
@@ -263,13 +273,13 @@ fn goes_as_a_plain_split(rt: HostRuntime) -> Result<(), Fail> {
 #[test]
 fn splits_what_is_asked_once(rt: HostRuntime) -> Result<(), Fail> {
     let mut record = Record::new(rt.alloc())?;
-    record.set_text(Bytes::from_slice(rt.alloc(), b"a b c")?, Separator::Blanks)?;
+    record.set_text(Bytes::from_slice(rt.alloc(), b"a b c")?, b" ", false)?;
     record.text()?;
     record.field(0)?;
     record.append_text(&mut Vec::new(rt.alloc()))?;
     assert_eq!(rt; record.splits(), 0);
     for _ in 0..10 {
-        record.set_text(Bytes::from_slice(rt.alloc(), b"a b c")?, Separator::Blanks)?;
+        record.set_text(Bytes::from_slice(rt.alloc(), b"a b c")?, b" ", false)?;
         assert!(rt; is_input(&record.field(1)?, "a"));
         assert!(rt; is_input(&record.field(3)?, "c"));
         assert!(rt; is_input(&record.field(2)?, "b"));
@@ -288,7 +298,7 @@ fn text_in(alloc: Global, text: &[u8]) -> Result<Bytes, AllocError> {
 fn joins_what_was_assigned(rt: HostRuntime) -> Result<(), Fail> {
     let alloc = rt.alloc();
     let mut record = Record::new(alloc)?;
-    record.set_text(text_in(alloc, b"a b c")?, Separator::Blanks)?;
+    record.set_text(text_in(alloc, b"a b c")?, b" ", false)?;
     record.set_field(1, Value::Number(7), text_in(alloc, b"-")?)?;
     record.set_field(
         2,
@@ -330,7 +340,7 @@ fn is_refused(answer: Result<(), RecordFault>) -> bool {
 fn refuses_numbers_out_of_range(rt: HostRuntime) -> Result<(), Fail> {
     let alloc = rt.alloc();
     let mut record = Record::new(alloc)?;
-    record.set_text(text_in(alloc, b"a b c")?, Separator::Blanks)?;
+    record.set_text(text_in(alloc, b"a b c")?, b" ", false)?;
     for number in [-1, 0, 1_000_001, i128::MAX] {
         let result = record.set_field(number, Value::Number(1), text_in(alloc, b"-")?);
         assert!(rt; is_refused(result));
@@ -392,11 +402,11 @@ fn call(
 ) -> Result<(), RecordFault> {
     match number {
         0 => {
-            record.set_text(text_in(alloc, b" a b c")?, Separator::Blanks)?;
+            record.set_text(text_in(alloc, b" a b c")?, b" ", false)?;
             plain.set_text(alloc, b" a b c", Separator::Blanks)?;
         }
         1 => {
-            record.set_text(text_in(alloc, b"x:y z:")?, Separator::Byte(b':'))?;
+            record.set_text(text_in(alloc, b"x:y z:")?, b":", false)?;
             plain.set_text(alloc, b"x:y z:", Separator::Byte(b':'))?;
         }
         2 => {

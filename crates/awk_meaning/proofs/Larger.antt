@@ -1,6 +1,5 @@
 -- What a run does with more steps, part by part: the primitives, and the main input.
 use Rattle.std.proofs.Common.{◌≡◌, ℕ, zero, suc, ◌+◌, ◌≤◌, Bool, true, false, List, [], ◌++◌, Option, Some, None, Result, Ok, Err, pos, ℤ, refl, sym, ap, ◌∙◌, append_assoc, append-nil, arith}
-use Rattle.awk_text.specs.declared.separator.Separator.{Separator}
 use Rattle.awk_text.specs.declared.fault.TextFault.{TextFault}
 use Rattle.awk_value.specs.declared.value.Value.{Value}
 use Rattle.awk_value.specs.declared.value.Value.TheVariants as value
@@ -15,7 +14,7 @@ use Rattle.awk_meaning.specs.declared.halt.Halt.TheVariants as halt
 use Rattle.awk_variables.specs.declared.special.Special.{Special}
 use Rattle.awk_variables.specs.declared.special.Special.TheVariants.{Filename, Fnr}
 use Rattle.awk_variables.specs.Variables.{name_of, is_refused}
-use Rattle.awk_meaning.specs.definitions.Primitives.{spend, spend_of, read_name, put_unless, put, count_in, field_at, record_text, split_as, set_record, print_bytes, print_line, opened, open_main, note_input, begin_input, taken, taken_of, take_record, close_main, argument_if, argument_below, take_argument, is_inside, set_inside, status_by, set_status, is_input_seen}
+use Rattle.awk_meaning.specs.definitions.Primitives.{spend, spend_of, read_name, put_unless, put, count_in, field_at, record_text, set_record, print_bytes, print_line, opened, open_main, note_input, begin_input, taken, taken_of, take_record, close_main, argument_if, argument_below, take_argument, is_inside, set_inside, status_by, set_status, is_input_seen}
 use Rattle.awk_meaning.specs.definitions.Operators.{raised}
 use Rattle.awk_meaning.specs.definitions.Inputs.{assigned_text, assign_text, Operand, Nothing, Assignment, StandardInput, AFile, operand_of, at_end, main_record, path_of, first_record, record_by, operand_record, standard_unless, standard_record, or_else, search_by, search_operands_within, search_operands, next_record}
 
@@ -111,13 +110,9 @@ pub text_larger : Larger record_text record_text
 unfolding record_text
 text_larger = record { covers = λ s d. refl }
 
-pub split_covers : (r : Result Separator TextFault) (text : List ℕ) (s : State) (d : ℕ) → Covers (split_as r text s).result d (split_as r text s) (split_as r text (richer_state d s))
-split_covers (Ok separator) text s d = refl
-split_covers (Err fault) text s d = refl
-
 pub set_larger : (text : List ℕ) → Larger (set_record text) (set_record text)
 unfolding set_record
-set_larger text = record { covers = λ s d. split_covers _ text s d }
+set_larger text = record { covers = λ s d. refl }
 
 pub show_larger : (vs : List Value) → Larger (print_line vs) (print_line vs)
 unfolding print_line print_bytes

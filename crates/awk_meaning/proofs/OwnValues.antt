@@ -9,7 +9,7 @@ use Rattle.awk_value.specs.declared.fault.ValueFault.TheVariants as values
 use Rattle.awk_value.specs.Values.{num_of, number_value, from_numbers, from_number}
 use Rattle.awk_value.specs.Arithmetic.{is_in_range, is_zero, range_checked, product_of, sum_of, difference_of, quotient_of, remainder_of, negative_of, power_of}
 use Rattle.awk_value.specs.Numbers.{spelled_number}
-use Rattle.awk_record.specs.Record.{RecordPair, field_of}
+use Rattle.awk_fields.specs.Record.{RecordPair, field_of}
 use Rattle.awk_ere.specs.Tree.{Tree}
 use Rattle.awk_tree.specs.declared.tree.UnaryOperator.{UnaryOperator}
 use Rattle.awk_tree.specs.declared.tree.UnaryOperator.TheVariants as unary

@@ -1,7 +1,5 @@
 -- Which halts a part of a run has: the primitives, and the main input.
 use Rattle.std.proofs.Common.{ℕ, zero, suc, ℤ, pos, Bool, true, false, if◌then◌else◌, List, [], Option, Some, None, Result, Ok, Err}
-use Rattle.awk_text.specs.declared.separator.Separator.{Separator}
-use Rattle.awk_text.specs.declared.fault.TextFault.{TextFault}
 use Rattle.awk_value.specs.declared.value.Value.{Value}
 use Rattle.awk_value.specs.declared.value.Value.TheVariants as value
 use Rattle.awk_value.specs.declared.fault.ValueFault.{ValueFault}
@@ -18,7 +16,7 @@ use Rattle.awk_variables.specs.declared.special.Special.{Special}
 use Rattle.awk_variables.specs.declared.special.Special.TheVariants.{Argc, Filename, Fnr}
 use Rattle.awk_variables.specs.Variables.{name_of, is_refused}
 use Rattle.awk_lex.specs.Escapes.{unescaped}
-use Rattle.awk_meaning.specs.definitions.Primitives.{spend, spend_of, read_name, put_unless, put, count_in, field_at, record_text, split_as, set_record, print_bytes, print_line, opened, open_main, note_input, begin_input, taken, taken_of, take_record, close_main, argument_if, argument_below, take_argument, is_inside, set_inside, status_by, set_status, is_input_seen}
+use Rattle.awk_meaning.specs.definitions.Primitives.{spend, spend_of, read_name, put_unless, put, count_in, field_at, record_text, set_record, print_bytes, print_line, opened, open_main, note_input, begin_input, taken, taken_of, take_record, close_main, argument_if, argument_below, take_argument, is_inside, set_inside, status_by, set_status, is_input_seen}
 use Rattle.awk_meaning.specs.definitions.Operators.{raised}
 use Rattle.awk_meaning.specs.definitions.Inputs.{is_unassignable, text_or_fault, assigned_text, assign_text, Operand, Nothing, Assignment, StandardInput, AFile, operand_of, at_end, main_record, path_of, first_record, record_by, operand_record, standard_unless, standard_record, or_else, search_by, search_operands_within, search_operands, next_record}
 use Rattle.awk_meaning.proofs.OwnValues.{Own, OwnNumber, num_own, fault_own, raised_own, field_by_own}
@@ -73,13 +71,9 @@ pub text_settles : Settles record_text
 unfolding record_text
 text_settles = record { own = λ s. tt }
 
-pub split_by_own : (r : Result Separator TextFault) (text : List ℕ) (s : State) → Own (split_as r text s).result
-split_by_own (Ok separator) text s = tt
-split_by_own (Err fault) text s = tt
-
 pub set_settles : (text : List ℕ) → Settles (set_record text)
 unfolding set_record
-set_settles text = record { own = λ s. split_by_own _ text s }
+set_settles text = record { own = λ s. tt }
 
 pub show_settles : (vs : List Value) → Settles (print_line vs)
 unfolding print_line print_bytes

@@ -5,7 +5,7 @@ ghost use Rattle.awk_meaning.specs.definitions.Faults.{value_fault, record_fault
 ghost use Rattle.awk_meaning.specs.definitions.Outcome.{fault_text};
 
 use awk_ere::PatternFault;
-use awk_record::RecordFault;
+use awk_fields::RecordFault;
 use awk_streams::StreamFault;
 use awk_value::ValueFault;
 use awk_variables::VariableFault;
@@ -90,6 +90,7 @@ impl From<RecordFault> for Fault {
     fn from(fault: RecordFault) -> Fault {
         match fault {
             RecordFault::Memory => Fault::OutOfMemory,
+            RecordFault::Pattern => Fault::PatternRefused,
             RecordFault::FieldNumber => Fault::FieldNumberOutOfRange,
         }
     }

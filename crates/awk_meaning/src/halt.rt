@@ -7,7 +7,7 @@ ghost use Rattle.awk_meaning.specs.declared.fault.Fault.TheVariants.{OutOfMemory
 
 use crate::fault::Fault;
 use awk_ere::PatternFault;
-use awk_record::RecordFault;
+use awk_fields::RecordFault;
 use awk_streams::StreamFault;
 use awk_value::ValueFault;
 use awk_variables::VariableFault;

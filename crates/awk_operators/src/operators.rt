@@ -9,8 +9,8 @@ ghost use Rattle.awk_meaning.specs.Results.{Yields};
 ghost use Rattle.awk_meaning.specs.Faults.{of_values};
 
 use crate::patterns::Patterns;
+use awk_fields::Record;
 use awk_meaning::Halt;
-use awk_record::Record;
 use awk_tree::tree::{BinaryOperator, Ere, UnaryOperator};
 use awk_value::{
     Value, ValueFault, add, compare, concatenate, div, divide, is_true, minus, mul, multiply,

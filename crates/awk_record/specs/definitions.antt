@@ -2,4 +2,3 @@
 pub mod Buffer
 pub mod Cut
 pub mod Paragraph
-pub mod Record

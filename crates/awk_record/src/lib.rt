@@ -1,4 +1,4 @@
-//! Cutting an input into records, and the record at hand.
+//! Cutting an input into records.
 #![tactic(auto)]
 
 ghost use Rattle.std.specs.Prelude.{◌≡◌, ◌≢◌, ◌↔◌, ℕ, ◌+◌, ◌<◌, ◌≤◌, List, [], ◌∷◌, ◌++◌, length};
@@ -6,17 +6,13 @@ ghost use Rattle.std.specs.List.{All};
 ghost use Rattle.awk_record.specs.Cut.{Ending, AtEnd, AtBreak, Found, NoMore, BrokenOff, longest, cut_of, IsDecided};
 ghost use Rattle.awk_record.specs.Paragraph.{AreNewline, IsParagraph};
 
-mod assigned;
 mod boundary;
 mod buffer;
 mod fault;
-mod fields;
-mod record;
 mod separator_search;
 
 pub use buffer::{RecordBuffer, Step};
-pub use fault::{BufferFault, RecordFault};
-pub use record::Record;
+pub use fault::BufferFault;
 
 /// Bytes decide the first record exactly where their cut would find one, or
 /// refuse it, even if the input broke behind them.

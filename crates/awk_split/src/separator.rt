@@ -1,5 +1,5 @@
 // What separates the fields of texts, by the value of FS.
-ghost use Rattle.std.specs.Prelude.{◌≡◌, ◌≢◌, Ok, Err, IfOk, IfErr, OnOk, IfSome};
+ghost use Rattle.std.specs.Prelude.{◌≡◌, ◌≢◌, ◌↔◌, true, Ok, Err, IfOk, IfErr, OnOk, IfSome};
 ghost use Rattle.awk_text.specs.Pieces.{stretches_at, AreSpansOf};
 ghost use Rattle.awk_split.specs.definitions.Separators.{separator_by, separator_of};
 ghost use Rattle.awk_split.specs.definitions.Pieces.{pieces_by, pieces_from_by, IsNextPiece, IsFurther};
@@ -45,6 +45,13 @@ impl FieldSeparator {
             newline_too,
             kind,
         })
+    }
+
+    /// Whether it is what this value of FS stands for, with newlines that separate or without.
+    pub fn is_of(&self, text: &[u8], newline_too: bool) -> bool
+        ensures { (result ≡ true) ↔ (self.now ≡ record { text = text.now; newline_too = newline_too }) }
+    {
+        self.newline_too == newline_too && self.text.as_slice() == text
     }
 
     /// The first field of the text from a place on where one may begin: its front, or the `rest` of the field before.

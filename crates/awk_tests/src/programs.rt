@@ -6,4 +6,5 @@ mod disturbed;
 mod execute;
 mod operators;
 mod refused;
+mod separators;
 mod witness;

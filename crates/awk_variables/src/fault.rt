@@ -10,7 +10,7 @@ pub enum VariableFault {
     /// F1.
     #[error("out of memory")]
     Memory,
-    /// F6: the text of FS is no field separator.
+    /// F6: the text of FS spells no ERE, where it is longer than a byte.
     #[error("bad pattern")]
     Pattern,
 }

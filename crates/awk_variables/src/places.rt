@@ -1,10 +1,10 @@
 // The variables by the numbers of their names. A number is a hint: its place is used where the name stands there.
-ghost use Rattle.std.specs.Prelude.{◌≡◌, ◌↔◌, ℕ, ◌<◌, List, ◌++◌, true, false, length, IfSome, IfErr, OnOk, OnErr, Some, None, bytes_eq, if◌then◌else◌};
+ghost use Rattle.std.specs.Prelude.{◌≡◌, ◌≢◌, ℕ, ◌<◌, List, ◌++◌, true, false, length, IfSome, IfErr, OnOk, OnErr, Some, None, bytes_eq, if◌then◌else◌};
 ghost use Rattle.awk_value.specs.declared.value.Value.TheVariants.{Nothing};
 ghost use Rattle.awk_value.specs.declared.value.Value.{Value as Kept};
 ghost use Rattle.awk_value.specs.Values.{str_of};
 ghost use Rattle.awk_variables.specs.support.Storage.{kept_at, Stands};
-ghost use Rattle.awk_variables.specs.definitions.Variables.{value_of, with_value, is_refused};
+ghost use Rattle.awk_variables.specs.definitions.Variables.{value_of, name_of, with_value, is_refused};
 
 use crate::fault::VariableFault;
 use crate::special::{NAMES, Special};
@@ -107,8 +107,9 @@ impl Variables {
             ≡ with_value (value_of self.old) name.now value x) }
         ensures accepted { OnOk result (is_refused name.now value ≡ false) }
         ensures err { OnErr result (self.new ≡ self.old) }
-        ensures absent { result ≡ Err VariableFault.Memory → value_of self.old name.now ≡ Nothing }
-        ensures refused { (result ≡ Err VariableFault.Pattern) ↔ (is_refused name.now value ≡ true) }
+        ensures absent { result ≡ Err VariableFault.Memory → name.now ≢ name_of Special.Fs →
+            value_of self.old name.now ≡ Nothing }
+        ensures refused { result ≡ Err VariableFault.Pattern → is_refused name.now value ≡ true }
     {
         let Some((index, _)) = place(&self.others, number, name) else {
             return self.set(name, value);

@@ -1,27 +1,40 @@
 // The variables of a run.
-ghost use Rattle.std.specs.Prelude.{◌≡◌, ◌↔◌, ℕ, List, true, false, IfOk, IfErr, OnOk, OnErr, Some, None, bytes_eq, if◌then◌else◌};
+ghost use Rattle.std.specs.Result.{is_err};
+ghost use Rattle.std.specs.Prelude.{◌≡◌, ◌≢◌, ◌==◌, ℕ, length, List, true, false, IfOk, IfErr, OnOk, OnErr, Some, None, bytes_eq, if◌then◌else◌};
 ghost use Rattle.awk_value.specs.Values.{str_of};
 ghost use Rattle.awk_value.specs.declared.value.Value.TheVariants.{Nothing};
-ghost use Rattle.awk_text.specs.Pieces.{separator_of};
+ghost use Rattle.awk_split.specs.Separators.{separator_of};
 ghost use Rattle.awk_variables.specs.support.Storage.{kept_at};
 
 use crate::fault::VariableFault;
 use crate::special::Special;
-use awk_text::{Separator, TextFault};
-use awk_value::{Bytes, Value};
+use awk_split::FieldSeparator;
+use awk_value::{Bytes, Value, text_of};
 use indexmap::IndexMap;
 use itoa::Buffer;
 use std::alloc::Global;
 use std::marker::Model;
 
-// The separator that the text of a value stands for.
-fn separator_in(value: &Value) -> Result<Separator, TextFault>
-    ensures { result ≡ separator_of (str_of value.now) }
+// The text of a value that FS is to have. One that is no field separator is refused.
+fn separator_text(alloc: Global, value: &Value) -> Result<Bytes, VariableFault>
+    ensures text { IfOk result (λ text. text ≡ str_of value.now) }
+    ensures accepted { OnOk result (is_err (separator_of (str_of value.now)) ≡ false) }
+    ensures refused { IfErr result (λ e. e ≢ VariableFault.Memory →
+        (e ≡ VariableFault.Pattern) × (is_err (separator_of (str_of value.now)) ≡ true)) }
+{
+    let text = text_of(alloc, value).map_err(|_| VariableFault::Memory)?;
+    FieldSeparator::of(alloc, text.as_slice(), false)?;
+    Ok(text)
+}
+
+// Whether the text of a value is empty.
+fn is_empty(value: &Value) -> bool
+    ensures { result ≡ (length (str_of value.now) == 0) }
 {
     match value {
-        Value::Nothing => Separator::of(b""),
-        Value::Number(n) => Separator::of(Buffer::new().format(*n).as_bytes()),
-        Value::Text(text) | Value::Input(text) => Separator::of(text.as_slice()),
+        Value::Nothing => true,
+        Value::Number(n) => Buffer::new().format(*n).is_empty(),
+        Value::Text(text) | Value::Input(text) => text.is_empty(),
     }
 }
 
@@ -53,24 +66,21 @@ fn put(
 pub struct Variables {
     specials: [Value; 13],
     pub(crate) others: IndexMap<Vec<u8>, Value>,
-    // what FS stands for
-    separator: Separator,
+    // the text of FS, which is a field separator
+    field_separator: Bytes,
     pub(crate) alloc: Global,
 }
 
 impl Model for Variables {
-    ghost use Rattle.std.specs.Prelude.{◌≡◌, ◌++◌, Ok};
-    ghost use Rattle.awk_value.specs.Values.{str_of};
-    ghost use Rattle.awk_text.specs.Pieces.{separator_of};
+    ghost use Rattle.std.specs.Prelude.{◌++◌};
     ghost use Rattle.awk_variables.specs.definitions.Variables.{Pairs};
-    ghost use Rattle.awk_variables.specs.support.Storage.{special_pairs, other_pairs, value_at, HasNoSpecial};
-    ghost use Rattle.awk_variables.specs.declared.special.Special.TheVariants.{Fs};
+    ghost use Rattle.awk_variables.specs.support.Storage.{special_pairs, other_pairs, IsSeparator, HasNoSpecial};
 
     ghost Value = { Pairs };
 
     ghost view = { λ v. special_pairs v.specials ++ other_pairs v.others.entries };
 
-    ghost invariant = { λ v. (separator_of (str_of (value_at v.specials Fs)) ≡ Ok v.separator) × HasNoSpecial v.others.entries };
+    ghost invariant = { λ v. IsSeparator v.specials v.field_separator × HasNoSpecial v.others.entries };
 }
 
 impl Variables {
@@ -108,7 +118,7 @@ impl Variables {
         Ok(Variables {
             specials,
             others: IndexMap::new(alloc),
-            separator: Separator::Blanks,
+            field_separator: Bytes::from_slice(alloc, b" ")?,
             alloc,
         })
     }
@@ -136,14 +146,15 @@ impl Variables {
 
     /// Gives a name a value. An `Err` changes nothing: it is `Pattern` where
     /// the name is FS and the value's text is no separator, and else
-    /// `Memory`. Only a name that was never assigned takes memory.
+    /// `Memory`. Only FS and a name that was never assigned take memory.
     pub fn set(&mut self, name: &[u8], value: Value) -> Result<(), VariableFault>
         ensures set { OnOk result ((x : List ℕ) → value_of self.new x
             ≡ with_value (value_of self.old) name.now value x) }
         ensures accepted { OnOk result (is_refused name.now value ≡ false) }
         ensures err { OnErr result (self.new ≡ self.old) }
-        ensures absent { result ≡ Err VariableFault.Memory → value_of self.old name.now ≡ Nothing }
-        ensures refused { (result ≡ Err VariableFault.Pattern) ↔ (is_refused name.now value ≡ true) }
+        ensures absent { result ≡ Err VariableFault.Memory → name.now ≢ name_of Special.Fs →
+            value_of self.old name.now ≡ Nothing }
+        ensures refused { result ≡ Err VariableFault.Pattern → is_refused name.now value ≡ true }
     {
         match Special::named(name) {
             Some(special) => self.set_special(special, value),
@@ -165,26 +176,35 @@ impl Variables {
 
     /// Gives a special variable a value. An `Err` changes nothing: it is
     /// `Pattern`, where the variable is FS and the value's text is no
-    /// separator. Takes no memory.
+    /// separator, or `Memory`. Only FS takes memory.
     pub fn set_special(&mut self, special: Special, value: Value) -> Result<(), VariableFault>
         ensures set { OnOk result ((x : List ℕ) → value_of self.new x
             ≡ with_value (value_of self.old) (name_of special) value x) }
         ensures accepted { OnOk result (is_refused (name_of special) value ≡ false) }
         ensures err { OnErr result (self.new ≡ self.old) }
-        ensures refused { IfErr result (λ e. (e ≡ VariableFault.Pattern) ×
-            (is_refused (name_of special) value ≡ true)) }
+        ensures absent { OnErr result (special ≡ Special.Fs) }
+        ensures refused { result ≡ Err VariableFault.Pattern → is_refused (name_of special) value ≡ true }
     {
         if let Special::Fs = special {
-            self.separator = separator_in(&value)?;
+            self.field_separator = separator_text(self.alloc, &value)?;
         }
         self.specials[special.index()] = value;
         Ok(())
     }
 
-    /// The separator that FS stands for.
-    pub fn separator(&self) -> Separator
-        ensures { separator_of (str_of (value_of self.now (name_of Special.Fs))) ≡ Ok result }
+    /// The text of FS, which is a field separator.
+    pub fn field_separator(&self) -> &[u8]
+        ensures text { result.now ≡ str_of (value_of self.now (name_of Special.Fs)) }
+        ensures accepted { is_err (separator_of result.now) ≡ false }
     {
-        self.separator
+        self.field_separator.as_slice()
+    }
+
+    /// Whether newlines separate fields too: where RS is empty. (POSIX awk,
+    /// Variables and Special Variables: RS)
+    pub fn newlines_separate(&self) -> bool
+        ensures { result ≡ (length (str_of (value_of self.now (name_of Special.Rs))) == 0) }
+    {
+        is_empty(self.special(Special::Rs))
     }
 }

@@ -4,8 +4,8 @@ use Rattle.awk_value.specs.declared.fault.ValueFault.{ValueFault}
 use Rattle.awk_value.specs.declared.fault.ValueFault.TheVariants as value
 use Rattle.awk_ere_syntax.specs.declared.fault.PatternFault.{PatternFault}
 use Rattle.awk_ere_syntax.specs.declared.fault.PatternFault.TheVariants as patterns
-use Rattle.awk_record.specs.declared.fault.RecordFault.{RecordFault}
-use Rattle.awk_record.specs.declared.fault.RecordFault.TheVariants as fields
+use Rattle.awk_fields.specs.declared.fault.RecordFault.{RecordFault}
+use Rattle.awk_fields.specs.declared.fault.RecordFault.TheVariants as fields
 use Rattle.awk_streams.specs.declared.fault.StreamFault.{StreamFault}
 use Rattle.awk_streams.specs.declared.fault.StreamFault.TheVariants as streams
 use Rattle.awk_variables.specs.declared.fault.VariableFault.{VariableFault}
@@ -23,6 +23,7 @@ value_fault value.NegativePower = fault.NegativeExponent
 
 abbrev pub record_fault : RecordFault → Fault
 record_fault fields.Memory = fault.OutOfMemory
+record_fault fields.Pattern = fault.PatternRefused
 record_fault fields.FieldNumber = fault.FieldNumberOutOfRange
 
 abbrev pub stream_fault : StreamFault → Fault

@@ -9,7 +9,7 @@ use Rattle.awk_value.specs.Arithmetic.{product_of, sum_of, difference_of, quotie
 use Rattle.awk_value.specs.Values.{num_of, str_of, truth_of, order_of, number_value, from_numbers, from_number}
 use Rattle.awk_ere.specs.Tree.{Tree}
 use Rattle.awk_ere.specs.Means.{pattern_of, occurs}
-use Rattle.awk_record.specs.Record.{RecordPair, field_of}
+use Rattle.awk_fields.specs.Record.{RecordPair, field_of}
 use Rattle.awk_lex.specs.declared.token.IncrementOperator.{IncrementOperator}
 use Rattle.awk_lex.specs.declared.token.IncrementOperator.TheVariants.{Increment, Decrement}
 use Rattle.awk_tree.specs.declared.tree.UnaryOperator.{UnaryOperator}

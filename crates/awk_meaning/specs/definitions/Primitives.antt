@@ -1,14 +1,12 @@
 -- The primitives of a run: all that looks into its state.
 use Rattle.std.specs.Prelude.{ℕ, zero, suc, ◌+◌, ◌==◌, pos, ℤ, int_lt, Bool, true, false, ◌&&◌, List, [], ◌∷◌, length, slice_get, Option, Some, None, unwrap_or, Result, Ok, Err, codes, bytes_eq, if◌then◌else◌}
-use Rattle.awk_text.specs.declared.separator.Separator.{Separator}
-use Rattle.awk_text.specs.declared.fault.TextFault.{TextFault}
-use Rattle.awk_text.specs.Pieces.{separator_of}
+use Rattle.awk_split.specs.Separators.{Rule}
 use Rattle.awk_value.specs.declared.value.Value.{Value}
 use Rattle.awk_value.specs.declared.value.Value.TheVariants.{Number, Input}
 use Rattle.awk_value.specs.declared.fault.ValueFault.{ValueFault}
 use Rattle.awk_value.specs.Values.{num_of, str_of}
 use Rattle.awk_record.specs.Cut.{Ending, Cut, Found, NoMore, BrokenOff, TooLong, BadSeparator, cut_of}
-use Rattle.awk_record.specs.Record.{split_by}
+use Rattle.awk_fields.specs.Record.{split_by}
 use Rattle.awk_world.specs.declared.world.InputKind.{InputKind}
 use Rattle.awk_streams.specs.Oracle.{Source, same_input, one_if}
 use Rattle.awk_streams.specs.Openings.{StandardOutput}
@@ -65,13 +63,13 @@ field_at v s = record { result = field_value s.current v; state = s; effects = [
 unfoldable pub record_text : Run Value
 record_text s = record { result = Ok (Input s.current.text); state = s; effects = [] }
 
-abbrev pub split_as : Result Separator TextFault → List ℕ → Run (Unit {0})
-split_as (Ok separator) text s = record { result = Ok tt; state = record s { current = split_by separator text }; effects = [] }
-split_as (Err fault) text s = record { result = Err (halt.Fault PatternRefused); state = s; effects = [] }
+-- what separates fields now: what FS stands for, and newlines too where RS is empty
+abbrev pub rule_of : State → Rule
+rule_of s = record { text = text_in s Fs; newline_too = length (text_in s Rs) == 0 }
 
--- the record at hand is this text, with the fields that FS separates now
+-- the record at hand is this text, with the fields that are separated by the FS and RS of this moment
 unfoldable pub set_record : List ℕ → Run (Unit {0})
-set_record text s = split_as (separator_of (text_in s Fs)) text s
+set_record text s = record { result = Ok tt; state = record s { current = split_by (rule_of s) text }; effects = [] }
 
 -- output
 
@@ -119,14 +117,10 @@ taken BrokenOff separator source s = record { result = Err (halt.Fault InputNotR
 taken TooLong separator source s = record { result = Err (halt.Fault RecordTooLong); state = with_rest s source.bytes source.ending; effects = Requested (ARecord separator source.bytes) ∷ [] }
 taken BadSeparator separator source s = record { result = Err (halt.Fault RecordSeparatorTooLong); state = with_rest s source.bytes source.ending; effects = Requested (ARecord separator source.bytes) ∷ [] }
 
--- a rest cut by a record separator; an empty one isn't built
-abbrev pub cut_by : List ℕ → Source → Cut
-cut_by [] source = BadSeparator
-cut_by (c ∷ separator) source = cut_of (c ∷ separator) source.bytes source.ending
-
+-- the first record of a rest, cut by a record separator
 abbrev pub taken_of : Option Source → List ℕ → Run (Option (List ℕ))
 taken_of None separator = ret None
-taken_of (Some source) separator = taken (cut_by separator source) separator source
+taken_of (Some source) separator = taken (cut_of separator source.bytes source.ending) separator source
 
 -- the next record of the open main input, by the RS of this moment; none at its end, and where none is open
 unfoldable pub take_record : Run (Option (List ℕ))

@@ -113,7 +113,7 @@ $ {print $1, _1}
 > a b a=b
 = 0
 $ -F
-$
+$ a(
 $ {print}
 ! awk: fault 6: pattern refused
 = 2

@@ -331,19 +331,16 @@ $ { print 1, 7 % x }
 < a
 ! awk: fault 4: division by zero
 = 2
-$ { FS = "ab" }
+$ { FS = "a(" }
 < a
 ! awk: fault 6: pattern refused
 = 2
-$ BEGIN { FS = "," } { print $2; FS = "" }
+$ BEGIN { FS = "," } { print $2; FS = "a{2,1}" }
 < a,b
 > b
 ! awk: fault 6: pattern refused
 = 2
-$ BEGIN { FS = x }
-! awk: fault 6: pattern refused
-= 2
-$ BEGIN { RS = "" } { print }
+$ BEGIN { RS = "ab" } { print }
 < a
 ! awk: fault 15: record separator too long
 = 2
@@ -383,7 +380,7 @@ $ cos=1
 ! awk: fault 14: assignment refused
 = 2
 $ -v
-$ FS=ab
+$ FS=a(
 $ { print }
 $ f
 [f] a

@@ -81,7 +81,7 @@ $ { NR += 10; print NR }
 $ BEGIN { x /= 0 }
 ! awk: fault 4: division by zero
 = 2
-$ BEGIN { FS = "ab" ; x += 1 }
+$ BEGIN { FS = "*a" ; x += 1 }
 ! awk: fault 6: pattern refused
 = 2
 "#;

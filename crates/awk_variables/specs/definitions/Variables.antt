@@ -5,7 +5,7 @@ use Rattle.std.specs.Result.{is_err}
 use Rattle.awk_value.specs.declared.value.Value.{Value}
 use Rattle.awk_value.specs.declared.value.Value.TheVariants.{Nothing, Number, Text}
 use Rattle.awk_value.specs.Values.{str_of}
-use Rattle.awk_text.specs.Pieces.{separator_of}
+use Rattle.awk_split.specs.Separators.{separator_of}
 use Rattle.awk_variables.specs.declared.special.Special.{Special}
 use Rattle.awk_variables.specs.declared.special.Special.TheVariants.{Argc, Convfmt, Filename, Fnr, Fs, Nr, Ofmt, Ofs, Ors, Rlength, Rs, Rstart, Subsep}
 
@@ -57,6 +57,6 @@ initial_value arguments name = value_of (initial_values arguments) name
 abbrev pub with_value : (List ℕ → Value) → List ℕ → Value → List ℕ → Value
 with_value values name value other = if bytes_eq name other then value else values other
 
--- the name is FS, and the value's text is no separator: FS of another length than one byte isn't built
+-- the name is FS, and the value's text is no separator: it is longer than a byte, and spells no ERE
 abbrev pub is_refused : List ℕ → Value → Bool
 is_refused name value = bytes_eq name (codes "FS") && is_err (separator_of (str_of value))

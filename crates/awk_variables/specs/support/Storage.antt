@@ -1,7 +1,10 @@
 -- How the variables are kept: the special ones each at its index, in their names' order, and the others in a map.
-use Rattle.std.specs.Prelude.{◌≡◌, ℕ, ◌<◌, List, [], ◌∷◌, length, map, slice_get, slice_index_or, bytes_eq, Option, Some, None}
+use Rattle.std.specs.Prelude.{◌≡◌, ℕ, ◌<◌, false, List, [], ◌∷◌, length, map, slice_get, slice_index_or, bytes_eq, Option, Some, None}
 use Rattle.std.specs.Map.{lookup}
 use Rattle.std.specs.Global.{Vec}
+use Rattle.std.specs.Result.{is_err}
+use Rattle.awk_split.specs.Separators.{separator_of}
+use Rattle.awk_value.specs.Values.{str_of}
 use Rattle.awk_value.specs.declared.value.Value.{Value}
 use Rattle.awk_text.specs.declared.fault.TextFault.{TextFault}
 use Rattle.awk_text.specs.declared.fault.TextFault.TheVariants as text
@@ -48,6 +51,10 @@ other_pairs entries = map (λ e. (e.0.items, e.1)) entries
 -- the value that the others' map keeps at a name, if there is one
 abbrev pub kept_at : List (Vec ℕ × Value) → List ℕ → Option Value
 kept_at entries name = lookup (λ k. bytes_eq name k.items) entries
+
+-- this is the text of FS, and a field separator
+abbrev pub IsSeparator : List Value → (text : List ℕ) → Type 0
+IsSeparator values text = (text ≡ str_of (value_at values Fs)) × (is_err (separator_of text) ≡ false)
 
 -- no special variable is among the others
 abbrev pub HasNoSpecial : List (Vec ℕ × Value) → Type 0

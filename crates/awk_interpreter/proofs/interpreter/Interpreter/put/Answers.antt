@@ -6,7 +6,7 @@ use Rattle.awk_interpreter.proofs.interpreter.Interpreter.put.Goals as goal
 pub returns-in_err-set : goal.returns-in_err-set
 returns-in_err-set c =
     let p = err_from_is_err_and c.from_residual.result c.from_residual.ensures.1 in
-    rw (p.1, p.2) (put_fails _ _ c.in_err-set.field-0.0 (λ e. c.in_err-set.ensures.refused.0 (ap failed e)) (record { beside = record { current = refl; variables = c.in_err-set.ensures.err; arguments = refl; inside = refl; status = refl; steps = refl }; streams = refl }))
+    rw (p.1, p.2) (put_fails _ _ c.in_err-set.field-0.0 (λ e. c.in_err-set.ensures.refused (ap failed e)) (record { beside = record { current = refl; variables = c.in_err-set.ensures.err; arguments = refl; inside = refl; status = refl; steps = refl }; streams = refl }))
 
 pub returns : goal.returns
 returns c = put_changes _ _ c.in_ok-set.ensures.accepted (record { variables = c.in_ok-set.ensures.set; current = refl; arguments = refl; streams = refl; inside = refl; status = refl; steps = refl })

@@ -1,13 +1,14 @@
 use Rattle.std.proofs.Common.{refl, arith}
-use Rattle.awk_interpreter.proofs.Changes.{record_changes}
+use Rattle.awk_fields.specs.declared.fault.RecordFault.{RecordFault}
+use Rattle.awk_interpreter.proofs.Changes.{record_changes, accepted_rule}
 use Rattle.std.proofs.lemmas.Result.{err_from_is_err_and}
 use Rattle.awk_interpreter.proofs.Composition.{memory_changes}
 use Rattle.awk_interpreter.proofs.interpreter.Interpreter.set_record.Goals as goal
 
 pub returns : goal.returns
-returns c = record_changes _ _ c.separator-separator.ensures c.in_ok-set_text.ensures.ok refl refl refl refl refl refl
+returns c = record_changes _ _ (λ i. record { text = c.field_separator-separator.ensures.text i; newline_too = c.newlines_separate-newline_too.ensures i }) c.in_ok-set_text.ensures.ok refl refl refl refl refl refl
 
 pub returns-in_err-set_text : goal.returns-in_err-set_text
 returns-in_err-set_text c =
     let p = err_from_is_err_and c.from_residual.result c.from_residual.ensures.1 in
-    rw (p.1, p.2, c.in_err-set_text.ensures.memory) (memory_changes _ refl (omega arith))
+    rw (p.1, p.2, accepted_rule c.in_err-set_text.field-0.0 _ c.in_err-set_text.ensures.refused c.field_separator-separator.ensures.accepted) (memory_changes _ refl (omega arith))

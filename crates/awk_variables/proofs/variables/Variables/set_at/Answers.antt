@@ -1,4 +1,4 @@
-use Rattle.std.proofs.Common.{ap, sym, ◌∙◌, true≢false}
+use Rattle.std.proofs.Common.{ap, ◌∙◌}
 use Rattle.awk_variables.specs.definitions.Variables.{value_of, with_value, Pairs}
 use Rattle.awk_variables.proofs.Storage.{value_of-put}
 use Rattle.awk_variables.proofs.Placing.{not_special, no_special_put, not_refused}
@@ -29,4 +29,4 @@ returns-clause-accepted c =
     not_refused name c.args.value (not_special c.self.inside.others.entries name _ c.self.invariant.1 c.in-Some.ensures.kept)
 
 pub returns-clause-refused : goal.returns-clause-refused
-returns-clause-refused c = (λ e. absurd (cc), λ e. absurd (true≢false (sym e ∙ returns-clause-accepted c)))
+returns-clause-refused c = λ e. absurd (cc)

@@ -1,0 +1,3 @@
+pub mod AssignedFields
+pub mod FieldOfPieces
+pub mod FoundFields

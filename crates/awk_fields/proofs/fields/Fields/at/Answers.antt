@@ -1,0 +1,19 @@
+use Rattle.std.proofs.Common.{◌≡◌, List, ◌∙◌, ap}
+use Rattle.std.specs.Prelude.{slice_get}
+use Rattle.std.specs.Option.{option_map}
+use Rattle.awk_text.specs.Pieces.{stretch_at}
+use Rattle.awk_split.specs.Pieces.{pieces_by}
+use Rattle.awk_split.specs.Separators.{Rule}
+use Rattle.awk_text.specs.declared.span.Span.{Span}
+use Rattle.awk_fields.proofs.FoundFields.{field-found}
+use Rattle.awk_fields.proofs.fields.Fields.at.Goals as goal
+
+pub returns-clause-value : goal.returns-clause-value
+returns-clause-value c =
+    let text = c.args.text.now in
+    let index = c.args.index in
+    let fields = c.find.new.self in
+    let found = c.in_ok-find.ensures in
+    let got : c.span_at.result ≡ slice_get fields.spans.items index = c.span_at.ensures ∙ ap (λ (spans : List Span). slice_get spans index) c.as_slice.ensures.value in
+    ap (option_map (stretch_at text)) got
+    ∙ (field-found text fields index found.fields found.found ∙ ap (λ (separator : Rule). slice_get (pieces_by separator text) index) found.separator)

@@ -1,0 +1,3 @@
+-- What serves the proofs.
+pub mod Found
+pub mod Viewed
