@@ -89,9 +89,9 @@ $ g
 > a
 = 0
 $ -v
-$ FS=\t+
+$ FS=\054+
 $ { print $2 }
-< a		b c
+< a,,b c
 > b c
 = 0
 $ { print $2 }
