@@ -105,7 +105,7 @@ pub enum Output {
     Redirected(Redirection, Box<Expr>),
 }
 
-/// A simple statement, except `do`.
+/// What a terminator ends (POSIX awk, terminatable_statement), except `do`.
 #[derive(Drop)]
 pub enum SimpleStatement {
     /// An expression, whose value is of no use.
