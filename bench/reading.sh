@@ -1,67 +1,157 @@
 #!/bin/sh
-# Times reading program texts of a megabyte, and such with half a million parentheses: the least and the most seconds of
-# the processor in user mode, the peak memory, and what is answered. Nothing is run: each text is refused once it is read,
-# or has an empty input. Needs GNU time, seq and sed.
+# Times reading program texts of a megabyte, of as many kinds as there are forms: the seconds of the processor, and the peak
+# memory and the answer of this awk. Nothing is run: a text is refused once it is read, or has an empty input. A `*` stands
+# behind the seconds of an awk that ends with another status than 0, `-` where it takes more than 20 seconds. Needs GNU
+# time, timeout and yes.
 #
-#   bench/reading.sh [ROUNDS]
+#   bench/reading.sh [ROUNDS [EXECUTABLE]]    without an executable: the one that the launcher builds
 set -eu
+export LC_ALL=C
 
 rounds=${1:-3}
 root=$(CDPATH='' cd "$(dirname "$0")/.." && pwd -P)
 work=$(mktemp -d)
 trap 'rm -rf "$work"' EXIT
 
-"$root/awk" '' </dev/null
+if [ "$#" -lt 2 ]; then
+    "$root/awk" '' </dev/null
+    set -- "$rounds" "$root/out/awk"
+fi
+executable=$2
 
 . "$root/bench/rounds.sh"
 
-# Writes a text so many times, with its head and its end.
-repeat() { # NAME COUNT TEXT [HEAD [END]]
+# The bytes of a text, about.
+size=1000000
+: >"$work/kinds"
+
+# A text that is repeated, in lines of its own, between a head and an end.
+lines() { # NAME HEAD TEXT [END]
+    echo "$1" >>"$work/kinds"
     {
-        printf '%s' "${4-}"
-        # (a line of seq for each, in its place the text)
-        seq "$2" | sed "s|.*|$3|"
-        printf '%s' "${5-}"
+        printf %s "$2"
+        yes -- "$3" | head -n "$((size / (${#3} + 1)))"
+        printf %s "${4-}"
     } >"$work/$1"
 }
 
-# The same on one line.
-join() { # NAME COUNT TEXT [HEAD [END]]
-    repeat "$@"
-    tr -d '\n' <"$work/$1" >"$work/joined"
-    mv "$work/joined" "$work/$1"
+# The same without newlines.
+joined() { # NAME HEAD TEXT [END]
+    echo "$1" >>"$work/kinds"
+    {
+        printf %s "$2"
+        yes -- "$3" | head -n "$((size / ${#3}))" | tr -d '\n'
+        printf %s "${4-}"
+    } >"$work/$1"
 }
 
-repeat 'many rules' 58000 '/a[0-9]/ { $2 }' '' 'END {}'
-repeat 'many statements' 74000 '  x = x y / 2' '{
-' '} END {}'
-join 'one long list' 250000 ', 1' '{ print 1' '} END {}'
-join 'one concatenation' 260000 '"a" ' '{ x = ' '} END {}'
-join 'one sum' 500000 '+1' '{ x = 1' '} END {}'
-join 'open blocks' 1000000 '{'
-join 'open parentheses' 500000 '(' '{ x = '
-join 'pairs of parentheses' 500000 '(' '{ x = '
-printf 1 >>"$work/pairs of parentheses"
-seq 500000 | sed 's/.*/)/' | tr -d '\n' >>"$work/pairs of parentheses"
-printf '}' >>"$work/pairs of parentheses"
+# A text as often before the middle as another behind it.
+nested() { # NAME HEAD TEXT MIDDLE TEXT [END]
+    echo "$1" >>"$work/kinds"
+    count=$((size / (${#3} + ${#5})))
+    {
+        printf %s "$2"
+        yes -- "$3" | head -n "$count" | tr -d '\n'
+        printf %s "$4"
+        yes -- "$5" | head -n "$count" | tr -d '\n'
+        printf %s "${6-}"
+    } >"$work/$1"
+}
+
+# Other names, numbers or texts in each line.
+numbered() { # NAME HEAD BEFORE BEHIND [END]
+    echo "$1" >>"$work/kinds"
+    {
+        printf %s "$2"
+        seq "$((size / (${#3} + ${#4} + 6)))" | sed "s|.*|$3&$4|"
+        printf %s "${5-}"
+    } >"$work/$1"
+}
+
+lines 'many rules' '' '/a[0-9]/ { $2 }'
+lines 'many BEGIN' '' 'BEGIN { }'
+lines 'many patterns alone' '' 'x'
+lines 'many functions' '' 'function f(a, b) { return a }'
+lines 'many statements' '{ ' '  x = x y / 2' '}'
+lines 'many prints' '{ ' '  print x, $1, "a" > "f"' '}'
+lines 'many assignments of fields' '{ ' '  $1 = $2; x++' '}'
+numbered 'many names' '{ ' '  x' ' = 1' '}'
+numbered 'many numbers' '{ ' '  x = ' '' '}'
+numbered 'many strings' '{ ' '  x = "' '\\n\\101"' '}'
+joined 'only ;' '{' ';' '}'
+joined 'only ; between items' '' ';'
+lines 'only newlines' '' ''
+joined 'only blanks' '' ' '
+lines 'only comments' '' '# a comment'
+joined 'one comment' '#' 'x'
+lines 'lines that go on' '{ x = 1 \
+' '\' '}'
+joined 'one name' '{ ' 'x' '}'
+joined 'one string' '{ x = "' 'x' '" }'
+joined 'escapes' '{ x = "' '\t' '" }'
+joined 'one pattern' '/' 'x' '/'
+joined 'one pattern that is too large' '/' 'x*' '/'
+joined 'one long list' '{ print 1' ', 1' '}'
+joined 'one call' '{ f(1' ', 1' ')}'
+joined 'one list of parameters' 'function f(a' ', a' ') { }'
+joined 'one concatenation' '{ x = ' '"a" ' '}'
+joined 'one sum' '{ x = 1' '+1' '}'
+joined 'one product' '{ x = 1' '*x' '}'
+joined 'one chain of &&' '{ x = 1' '&&y' '}'
+joined 'one chain of in' '{ x' ' in a' '}'
+joined 'one chain of pipes' '{ x' '|getline' '}'
+joined 'powers' '{ x = 1' '^2' '}'
+joined 'signs' '{ x = ' '!' '1 }'
+joined 'fields of fields' '{ x = ' '$' '1 }'
+joined 'assignments to the right' '{ ' 'x=' '1 }'
+joined 'conditions to the right' '{ x = ' '1?1:' '1 }'
+nested 'conditions between' '{ x = ' '1?' 1 ':1' '}'
+joined 'open blocks' '' '{'
+nested 'pairs of blocks' '' '{' ';' '}'
+joined 'open parentheses' '{ x = ' '('
+nested 'pairs of parentheses' '{ x = ' '(' 1 ')' '}'
+nested 'elements of elements' '{ x = ' 'a[' 1 ']' '}'
+nested 'calls of calls' '{ x = ' 'f(' 1 ')' '}'
+nested 'getline from getline' '{ x = ' '(getline<' 1 ')' '}'
+joined 'if in if' '{ ' 'if(1)' '; }'
+joined 'else behind else' '{ ' 'if(1);else ' '; }'
+joined 'while in while' '{ ' 'while(1)' '; }'
+joined 'for in for' '{ ' 'for(;;)' '; }'
+nested 'do in do' '{ ' 'do ' ';' 'while(1);' '}'
+joined 'no program at its last byte' '{' ';' ')'
 
 # Reads one of them, and notes the seconds and the peak memory.
-measure() {
+measure() { # NAME TEXT
     case $1 in
-    this) set -- "$1" "$root/out/awk" "$2" ;;
-    *) set -- "$1" "$1" "$2" ;;
+    this) command=$executable ;;
+    *) command=$1 ;;
     esac
-    LC_ALL=C command time -q -f '%U %M' -o "$work/$1.times" -a timeout 60 "$2" -f "$work/$3" </dev/null \
-        >"$work/$1.output" 2>&1 || :
+    code=0
+    command time -q -f '%U %S %M' -o "$work/$1.time" timeout 20 "$command" -f "$work/$2" </dev/null \
+        >"$work/$1.output" 2>&1 || code=$?
+    # (hundredths, as whole numbers with no zero in front)
+    read -r user system memory <<SECONDS
+$(sed 's/\.//g; s/^0*\([0-9]\)/\1/; s/ 0*\([0-9]\)/ \1/' "$work/$1.time")
+SECONDS
+    hundredths=$((user + system))
+    printf '%d.%02d %s\n' "$((hundredths / 100))" "$((hundredths % 100))" "$memory" >>"$work/$1.times"
+    case $code in
+    0) : >"$work/$1.mark" ;;
+    124) echo - >"$work/$1.mark" ;;
+    *) echo '\*' >"$work/$1.mark" ;;
+    esac
 }
 
-echo '| text | bytes | awk | seconds, least | seconds, most | peak memory, KB | answer |'
-echo '|---|---|---|---|---|---|---|'
-for text in 'many rules' 'many statements' 'one long list' 'one concatenation' 'one sum' 'open blocks' \
-    'open parentheses' 'pairs of parentheses'; do
+head_of_table text bytes answer 'peak memory, KB'
+while read -r text; do
     take_rounds "$text"
+    printf '| %s | %s | %s | %s |' "$(in_table "$text")" "$(wc -c <"$work/$text")" \
+        "$(head -n 1 "$work/this.output" | sed 's/.*refusal //' | cut -c 1-40)" "$(peak_memory this)"
     for name in $names; do
-        printf '| %s | %s | %s | %s | %s | %s | %s |\n' "$text" "$(wc -c <"$work/$text")" "$name" "$(least_seconds "$name")" \
-            "$(most_seconds "$name")" "$(peak_memory "$name")" "$(head -n 1 "$work/$name.output" | cut -c 1-60)"
+        case $(cat "$work/$name.mark") in
+        -) printf ' - |' ;;
+        *) printf ' %s%s |' "$(least_seconds "$name")" "$(cat "$work/$name.mark")" ;;
+        esac
     done
-done
+    echo
+done <"$work/kinds"

@@ -3,6 +3,7 @@
 #![tactic(auto)]
 
 pub mod arguments;
+pub mod height;
 pub mod laws;
 pub mod precedence;
 pub mod tree;

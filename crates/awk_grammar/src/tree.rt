@@ -105,7 +105,7 @@ pub enum Output {
     Redirected(Redirection, Box<Expr>),
 }
 
-/// A simple statement, except `do`.
+/// What a terminator ends (POSIX awk, terminatable_statement), except `do`.
 #[derive(Drop)]
 pub enum SimpleStatement {
     /// An expression, whose value is of no use.
@@ -118,6 +118,14 @@ pub enum SimpleStatement {
     Continue,
     Exit(Option<Box<Expr>>),
     Return(Option<Box<Expr>>),
+}
+
+/// What stands between the parentheses of a `for`. The outer parts are expressions, prints or deletions.
+#[derive(Drop)]
+pub struct ForParts {
+    pub first: Option<SimpleStatement>,
+    pub condition: Option<Box<Expr>>,
+    pub last: Option<SimpleStatement>,
 }
 
 /// A statement.
@@ -134,8 +142,8 @@ pub enum Statement {
     Do(Box<Statement>, Box<Expr>),
     /// `for (name in array)`: the name, the array and the body.
     ForIn(Bytes, Bytes, Box<Statement>),
-    /// `for (part; expr; part)`: the parts are expressions, prints or deletions.
-    For(Option<SimpleStatement>, Option<Box<Expr>>, Option<SimpleStatement>, Box<Statement>),
+    /// `for (part; expr; part)` and the body. Few statements have such parts, and each would be as large.
+    For(Box<ForParts>, Box<Statement>),
 }
 
 /// What tells for which records an action is (POSIX awk, normal_pattern).

@@ -7,9 +7,6 @@ ghost use Rattle.awk_grammar.specs.definitions.View.{expr_of, exprs_of};
 use awk_grammar::tree::Expr;
 use std::alloc::Global;
 
-/// No program is higher.
-pub const MAX_HEIGHT: u32 = 200;
-
 /// An expression that is not too high. It stands in a box, as it does in the node above it.
 #[derive(Drop)]
 pub struct CheckedExpr {

@@ -8,9 +8,10 @@ ghost use Rattle.awk_grammar.specs.support.Nodes.{limited, over_one, over_two, o
 ghost use Rattle.awk_nodes.specs.support.Checked.{checked_expr, checked_exprs, checked_child};
 ghost use Rattle.awk_nodes.specs.support.Held.{held_of};
 
-use crate::checked::{CheckedExpr, CheckedExprs, MAX_HEIGHT};
+use crate::checked::{CheckedExpr, CheckedExprs};
 use crate::child::OptionalChild;
 use crate::held::HeldChild;
+use awk_grammar::height::MAX_HEIGHT;
 use awk_grammar::tree::{BinaryOperator, Expr, UnaryOperator};
 use awk_lex::token::{AssignmentOperator, BuiltIn, IncrementOperator};
 use awk_value::Bytes;

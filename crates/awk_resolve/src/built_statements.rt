@@ -126,18 +126,16 @@ fn built_do(
 #[cycle(statements)]
 fn built_for(
     alloc: Global,
-    first: &Option<grammar::SimpleStatement>,
-    c: &Option<Box<grammar::Expr>>,
-    last: &Option<grammar::SimpleStatement>,
+    parts: &grammar::ForParts,
     s: &grammar::Statement,
 ) -> Result<Box<Statement>, Refusal>
-    ensures { Builds (λ b. statement_of b.value) result (all_four t.For (built_optional_simple (g.optional_simple_of first.now)) (built_optional_expr (g.optional_expr_of c.now))
-        (built_optional_simple (g.optional_simple_of last.now)) (built_statement (g.statement_of s.now))) }
+    ensures { Builds (λ b. statement_of b.value) result (all_four t.For (built_optional_simple (g.optional_simple_of parts.now.first)) (built_optional_expr (g.optional_expr_of parts.now.condition))
+        (built_optional_simple (g.optional_simple_of parts.now.last)) (built_statement (g.statement_of s.now))) }
 {
     let s = built_statement(alloc, s)?;
-    let c = built_optional_expr(alloc, c)?;
-    let first = built_part(alloc, first)?;
-    let last = built_part(alloc, last)?;
+    let c = built_optional_expr(alloc, &parts.condition)?;
+    let first = built_part(alloc, &parts.first)?;
+    let last = built_part(alloc, &parts.last)?;
     boxed(alloc, Statement::For(first, c, last, s))
 }
 
@@ -161,7 +159,7 @@ fn built_statement(alloc: Global, s: &grammar::Statement) -> Result<Box<Statemen
         }
         grammar::Statement::While(c, s) => built_while(alloc, c, s),
         grammar::Statement::Do(s, c) => built_do(alloc, s, c),
-        grammar::Statement::For(first, c, last, s) => built_for(alloc, first, c, last, s),
+        grammar::Statement::For(parts, s) => built_for(alloc, parts, s),
         grammar::Statement::ForIn(_, _, _) => Err(NOT_BUILT),
     }
 }

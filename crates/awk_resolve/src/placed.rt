@@ -70,7 +70,7 @@ fn statement_fits(place: Place, s: &grammar::Statement) -> bool
         grammar::Statement::While(_, s)
         | grammar::Statement::Do(s, _)
         | grammar::Statement::ForIn(_, _, s)
-        | grammar::Statement::For(_, _, _, s) => statement_fits(in_a_loop(place), s),
+        | grammar::Statement::For(_, s) => statement_fits(in_a_loop(place), s),
     }
 }
 

@@ -9,8 +9,9 @@ ghost use Rattle.awk_nodes.specs.support.Checked.{checked_expr};
 ghost use Rattle.awk_statement_nodes.specs.support.Checked.{checked_statements, checked_pattern, checked_item, checked_items};
 
 use crate::checked::{CheckedItem, CheckedItems, CheckedPattern, CheckedStatements};
+use awk_grammar::height::MAX_HEIGHT;
 use awk_grammar::tree::{Item, Pattern};
-use awk_nodes::checked::{CheckedExpr, MAX_HEIGHT};
+use awk_nodes::checked::CheckedExpr;
 use awk_value::Bytes;
 use std::alloc::AllocError;
 

@@ -10,8 +10,9 @@ ghost use Rattle.awk_nodes.specs.support.Checked.{checked_expr, checked_exprs};
 ghost use Rattle.awk_statement_nodes.specs.support.Checked.{checked_print_list, checked_simple, checked_part, checked_optional_expr};
 
 use crate::checked::{CheckedOptionalExpr, CheckedPart, CheckedPrintList, CheckedSimple};
+use awk_grammar::height::MAX_HEIGHT;
 use awk_grammar::tree::{Output, PrintForm, PrintList, Redirection, SimpleStatement};
-use awk_nodes::checked::{CheckedExpr, CheckedExprs, MAX_HEIGHT};
+use awk_nodes::checked::{CheckedExpr, CheckedExprs};
 use awk_value::Bytes;
 
 // The node of this height, unless that is too high.

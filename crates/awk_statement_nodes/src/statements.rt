@@ -11,8 +11,9 @@ ghost use Rattle.awk_statement_nodes.specs.support.Checked.{checked_simple, chec
 use crate::checked::{
     CheckedOptionalExpr, CheckedPart, CheckedSimple, CheckedStatement, CheckedStatements,
 };
-use awk_grammar::tree::Statement;
-use awk_nodes::checked::{CheckedExpr, MAX_HEIGHT};
+use awk_grammar::height::MAX_HEIGHT;
+use awk_grammar::tree::{ForParts, Statement};
+use awk_nodes::checked::CheckedExpr;
 use awk_value::Bytes;
 use std::alloc::{AllocError, Global};
 
@@ -218,11 +219,13 @@ pub fn for_loop(
         .height
         .max(condition.height.max(last.height.max(body.height)))
         + 1;
-    node(
-        alloc,
-        Statement::For(first.part, condition.expr, last.part, body.statement),
-        height,
-    )
+    let parts = ForParts {
+        first: first.part,
+        condition: condition.expr,
+        last: last.part,
+    };
+    let parts = Box::new(alloc, parts)?;
+    node(alloc, Statement::For(parts, body.statement), height)
 }
 
 /// A block with one statement more.

@@ -1,6 +1,7 @@
 // Texts and their trees, and which texts have none: what no clause says is that parsing finds memory, which line an S1
 // names, and how the EREs are numbered.
 
+mod heights;
 mod trees;
 
 use crate::tables::{bytes_of, expect_table};
@@ -26,6 +27,9 @@ fn tree_of(alloc: Global, input: &str) -> Result<String, Fail> {
 }
 
 const TREES: &str = r#"
+⟨0 x⟩ → ⟨0 x⟩
+␊;␊ → ⟨0 x⟩
+# a comment → ⟨0 x⟩
 {} → (action)
 1 {} → (rule 1)
 { print } { print }; ␊{ print } → (action (print)) (action (print)) (action (print))
@@ -300,31 +304,6 @@ const ERES: &str = r#"
 ⟨199 !⟩/(/ → line 1: refusal S2: nested too deep
 "#;
 
-// An item, its block, 196 more, a print and a number are 200 nodes.
-const HEIGHTS: &str = r#"
-⟨197 {⟩print 1⟨197 }⟩ → (action ⟨196 (block ⟩(print 1)⟨197 )⟩
-⟨198 {⟩print 1⟨198 }⟩ → line 1: refusal S2: nested too deep
-⟨198 !⟩1 → (pattern ⟨198 (! ⟩1⟨199 )⟩
-⟨199 !⟩1 {} → line 1: refusal S2: nested too deep
-⟨300 - ⟩1 { → line 1: refusal S1: not a program
-⟨198 x=⟩1 → (pattern ⟨198 (= x ⟩1⟨199 )⟩
-⟨199 x=⟩1 → line 1: refusal S2: nested too deep
-⟨198 1*⟩1 {} → (rule ⟨198 (* ⟩1⟨198  1)⟩)
-⟨300 1*⟩1 {} → line 1: refusal S2: nested too deep
-⟨300 1*⟩1 { → line 1: refusal S1: not a program
-⟨199 1 ⟩ → (pattern ⟨198 (cat ⟩1⟨198  1)⟩)
-⟨200 1 ⟩ → line 1: refusal S2: nested too deep
-⟨1000 {print}⟩ → (action (print))⟨999  (action (print))⟩
-BEGIN{print ⟨196 (⟩1⟨196 )⟩} → (BEGIN (print ⟨196 (group ⟩1⟨198 )⟩
-BEGIN{print ⟨197 (⟩1⟨197 )⟩} → line 1: refusal S2: nested too deep
-⟨500000 {⟩print⟨500000 }⟩ → line 1: refusal S2: nested too deep
-⟨500000 {⟩print⟨499999 }⟩ → line 1: refusal S1: not a program
-⟨500000 {⟩ → line 1: refusal S1: not a program
-⟨500000 (⟩1⟨500000 )⟩ → line 1: refusal S2: nested too deep
-⟨500000 (⟩1⟨499999 )⟩ → line 1: refusal S1: not a program
-⟨500000 (⟩ → line 1: refusal S1: not a program
-"#;
-
 #[test]
 fn texts_and_their_trees(rt: HostRuntime) -> Result<(), Fail> {
     let alloc = rt.alloc();
@@ -342,9 +321,4 @@ fn texts_and_their_trees(rt: HostRuntime) -> Result<(), Fail> {
     }
     one_tree();
     Ok(())
-}
-
-#[test]
-fn heights_of_trees(rt: HostRuntime) -> Result<(), Fail> {
-    expect_table(&rt, rt.alloc(), HEIGHTS, tree_of)
 }

@@ -4,10 +4,11 @@
 use Rattle.std.specs.Prelude.{ℕ, ◌+◌, max, List, [], ◌∷◌}
 use Rattle.awk_grammar.specs.definitions.Tree.{Expr, Number, String, Ere, Name, Element, Field, Group, Call, BuiltIn, Length, PreIncrement, PostIncrement, Getline, PipedGetline, Unary, Binary, Membership, ListMembership, Conditional, Assign, Exprs, Nil, Cons, OptionalExpr, NoExpr, AnExpr, PrintList, Bare, Parenthesized, Output, Standard, Redirected, SimpleStatement, OptionalSimple, NoSimple, ASimple, Statement, Empty, Simple, Block, If, IfElse, While, Do, ForIn, For, Statements, NoMore, Then, Pattern, Single, Range, Item, Action, PatternAction, PatternOnly}
 use Rattle.awk_grammar.specs.definitions.Tree as tree
+use Rattle.awk_grammar.specs.declared.height.TheConstants.{MAX_HEIGHT}
 
 -- no program is higher
 abbrev pub max_height : ℕ
-max_height = 200
+max_height = MAX_HEIGHT
 
 abbrev mutual
   pub height_of : Expr → ℕ

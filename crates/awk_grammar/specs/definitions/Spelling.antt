@@ -36,6 +36,7 @@ is_closed (t.Semicolon ∷ ts) = true
 is_closed (t.Newline ∷ ts) = true
 is_closed (y ∷ ts) = false
 
+-- item
 abbrev pub SpellsItem : Item → List Kind → List Kind → Type 0
 -- special_pattern action: Begin, End
 SpellsItem (tree.Begin all) ts rest = (u : List Kind) × (ts ≡ t.Keyword word.Begin ∷ u) × SpellsBlock all u rest
@@ -55,8 +56,8 @@ separators [] ts = ts
 separators (true ∷ bs) ts = t.Semicolon ∷ separators bs ts
 separators (false ∷ bs) ts = t.Newline ∷ separators bs ts
 
--- program: an item_list, with terminators before, between and behind the items. Wider: behind an item that ends in a
--- block none is needed.
+-- program: an item_list, with terminators before, between and behind the items. Wider: several may stand together, and
+-- behind an item that ends in a block none is needed.
 abbrev pub SpellsProgram : List Item → List Kind → Type 0
 SpellsProgram [] ts = (bs : List Bool) × (ts ≡ separators bs [])
 SpellsProgram (x ∷ xs) ts = (bs : List Bool) × (u v : List Kind) × (ts ≡ separators bs u) × SpellsItem x u v × SpellsProgram xs v

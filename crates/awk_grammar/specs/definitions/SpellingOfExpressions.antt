@@ -83,15 +83,15 @@ abbrev mutual
   Spells (Name x) ts rest = ts ≡ t.Name x ∷ rest
   -- NAME '[' expr_list ']'
   Spells (Element x xs) ts rest = (u : List Kind) × (ts ≡ t.Name x ∷ t.OpenBracket ∷ u) × SpellsList xs u (t.CloseBracket ∷ rest)
-  -- '$' expr
+  -- '$' expr; narrower: what stands alone, another field, or `++` or `--` before a place
   Spells (Field e) ts rest = (u : List Kind) × (ts ≡ t.Dollar ∷ u) × Spells e u rest
   -- '(' expr ')'
   Spells (Group e) ts rest = (u : List Kind) × (ts ≡ t.OpenParenthesis ∷ u) × Spells e u (t.CloseParenthesis ∷ rest)
   -- FUNC_NAME '(' expr_list_opt ')'
   Spells (Call f xs) ts rest = (u : List Kind) × (ts ≡ t.Called f ∷ t.OpenParenthesis ∷ u) × SpellsList xs u (t.CloseParenthesis ∷ rest)
-  -- BUILTIN_FUNC_NAME '(' expr_list_opt ')'
+  -- BUILTIN_FUNC_NAME '(' expr_list_opt ')'; narrower: so many arguments as it takes
   Spells (BuiltIn f xs) ts rest = (u : List Kind) × (ts ≡ t.BuiltIn f ∷ t.OpenParenthesis ∷ u) × SpellsList xs u (t.CloseParenthesis ∷ rest)
-  -- BUILTIN_FUNC_NAME: `length` alone
+  -- BUILTIN_FUNC_NAME; narrower: of `length` alone
   Spells Length ts rest = (ts ≡ t.BuiltIn built_in.Length ∷ rest) × (begins_parenthesis rest ≡ false)
   -- INCR lvalue, DECR lvalue
   Spells (PreIncrement o p) ts rest = (u : List Kind) × (ts ≡ t.Increment o ∷ u) × Spells p u rest
@@ -99,11 +99,12 @@ abbrev mutual
   Spells (PostIncrement o p) ts rest = Spells p ts (t.Increment o ∷ rest)
   -- simple_get, simple_get '<' expr
   Spells (Getline p file) ts rest = (u v : List Kind) × (ts ≡ t.Keyword word.Getline ∷ u) × SpellsPlace p u v × SpellsFile file v rest
-  -- unary_expr '|' simple_get, non_unary_expr '|' simple_get
+  -- unary_expr '|' simple_get, non_unary_expr '|' simple_get; narrower: its command is of the level
+  -- `pipe` at most
   Spells (PipedGetline c p) ts rest = (u : List Kind) × Spells c ts (t.Bar ∷ t.Keyword word.Getline ∷ u) × SpellsPlace p u rest
   -- '!' expr, '+' expr, '-' expr
   Spells (Unary o e) ts rest = (u : List Kind) × (ts ≡ prefix_of o ∷ u) × Spells e u rest × StandsAsOperand e rest
-  -- expr '^' expr .. expr Or newline_opt expr
+  -- expr '^' expr .. expr Or newline_opt expr, and non_unary_expr non_unary_expr
   Spells (Binary o a b) ts rest = (u v : List Kind) × Spells a ts u × StandsAsOperand a u × Joined o u v × Spells b v rest × StandsAsOperand b rest
   -- expr In NAME
   Spells (Membership e x) ts rest = Spells e ts (t.Keyword word.In ∷ t.Name x ∷ rest)
@@ -111,7 +112,7 @@ abbrev mutual
   Spells (ListMembership xs x) ts rest = (u : List Kind) × (ts ≡ t.OpenParenthesis ∷ u) × SpellsList xs u (t.CloseParenthesis ∷ t.Keyword word.In ∷ t.Name x ∷ rest)
   -- expr '?' expr ':' expr
   Spells (Conditional c a b) ts rest = (u v : List Kind) × Spells c ts (t.Question ∷ u) × Spells a u (t.Colon ∷ v) × Spells b v rest × StandsAsOperand b rest
-  -- lvalue POW_ASSIGN expr .. lvalue '=' expr
+  -- lvalue POW_ASSIGN expr .. lvalue '=' expr; narrower: it is no operand without parentheses, but of another assignment
   Spells (Assign o p e) ts rest = (u : List Kind) × Spells p ts (t.Assign o ∷ u) × Spells e u rest × StandsAsOperand e rest
 
   -- expr_list_opt
@@ -129,7 +130,8 @@ abbrev mutual
   SpellsPlace NoExpr ts rest = (ts ≡ rest) × (begins_place rest ≡ false)
   SpellsPlace (AnExpr p) ts rest = Spells p ts rest
 
-  -- '<' expr, the file of a getline that stands behind no pipe; without one, no `<` follows
+  -- '<' expr, the file of a getline that stands behind no pipe; narrower: what stands alone, or a
+  -- field. Without one, no `<` follows.
   pub SpellsFile : OptionalExpr → List Kind → List Kind → Type 0
   SpellsFile NoExpr ts rest = (ts ≡ rest) × (begins_less rest ≡ false)
   SpellsFile (AnExpr e) ts rest = (u : List Kind) × (ts ≡ t.Operator operator.Less ∷ u) × Spells e u rest

@@ -18,7 +18,8 @@ abbrev pub print_token : PrintForm → Kind
 print_token form.Print = t.Keyword word.Print
 print_token form.Printf = t.Keyword word.Printf
 
--- print_expr_list_opt, or '(' multiple_expr_list ')'; wider than the standard's print_expr_list, which has no comparison
+-- print_expr_list_opt, or '(' multiple_expr_list ')'; wider than the standard's print_expr_list, which has no comparison and
+-- no getline
 abbrev pub SpellsPrintList : PrintList → List Kind → List Kind → Type 0
 SpellsPrintList (Bare xs) ts rest = SpellsList xs ts rest
 SpellsPrintList (Parenthesized xs) ts rest = (u : List Kind) × (ts ≡ t.OpenParenthesis ∷ u) × SpellsList xs u (t.CloseParenthesis ∷ rest)
@@ -29,15 +30,16 @@ redirection_token redirection.Truncate = t.Operator operator.Greater
 redirection_token redirection.Append = t.Append
 redirection_token redirection.Pipe = t.Bar
 
--- output_redirection, or none
+-- output_redirection, or none; narrower: its expr is what stands alone, or a field
 abbrev pub SpellsOutput : Output → List Kind → List Kind → Type 0
 SpellsOutput Standard ts rest = ts ≡ rest
 SpellsOutput (Redirected way e) ts rest = (u : List Kind) × (ts ≡ redirection_token way ∷ u) × Spells e u rest
 
+-- terminatable_statement, without its `do`: a simple_statement is one
 abbrev pub SpellsSimple : SimpleStatement → List Kind → List Kind → Type 0
 -- expr
 SpellsSimple (tree.Expression e) ts rest = Spells e ts rest
--- print_statement
+-- print_statement: a simple_print_statement, and an output_redirection or none
 SpellsSimple (tree.Print form xs output) ts rest = (u v : List Kind) × (ts ≡ print_token form ∷ u) × SpellsPrintList xs u v × SpellsOutput output v rest
 -- Delete NAME '[' expr_list ']'
 SpellsSimple (tree.Delete x xs) ts rest = (u : List Kind) × (ts ≡ t.Keyword word.Delete ∷ t.Name x ∷ t.OpenBracket ∷ u) × SpellsList xs u (t.CloseBracket ∷ rest)
@@ -69,6 +71,7 @@ NoElse ts = Unit {0}
 
 -- newline_opt may follow a statement, each `{`, and the `)` of `if`, `while` and `for`
 abbrev mutual
+  -- terminated_statement, and unterminated_statement before `}`
   pub SpellsStatement : Statement → List Kind → List Kind → Type 0
   -- ';'
   SpellsStatement Empty ts rest = (n : ℕ) × (ts ≡ t.Semicolon ∷ newlines n rest)

@@ -32,7 +32,7 @@ SimpleKeepsPrecedence tree.Continue = Unit {0}
 SimpleKeepsPrecedence (tree.Exit e) = OptionalKeepsPrecedence e
 SimpleKeepsPrecedence (tree.Return e) = OptionalKeepsPrecedence e
 
--- what may be an outer part of a `for`
+-- simple_statement: what may be an outer part of a `for`
 abbrev pub is_for_part : SimpleStatement → Bool
 is_for_part (tree.Expression e) = true
 is_for_part (tree.Print form xs output) = true

@@ -56,7 +56,7 @@ pub data Output : Type 0 where
   Standard : Output
   Redirected : (way : Redirection) (target : Expr) → Output
 
--- a simple_statement, except `do`
+-- terminatable_statement, except `do`: a simple_statement is one
 pub data SimpleStatement : Type 0 where
   -- an expression as a statement
   Expression : (e : Expr) → SimpleStatement
@@ -74,6 +74,7 @@ pub data OptionalSimple : Type 0 where
   ASimple : (simple : SimpleStatement) → OptionalSimple
 
 mutual
+  -- terminated_statement, unterminated_statement
   pub data Statement : Type 0 where
     -- `;` alone
     Empty : Statement
@@ -96,6 +97,7 @@ pub data Pattern : Type 0 where
   Single : (e : Expr) → Pattern
   Range : (from to : Expr) → Pattern
 
+-- item
 pub data Item : Type 0 where
   Begin : (block : Statements) → Item
   End : (block : Statements) → Item

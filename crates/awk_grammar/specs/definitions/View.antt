@@ -90,7 +90,7 @@ abbrev mutual
   statement_of (s.While' c p x) = t.While (expr_of c.value) (statement_of x)
   statement_of (s.Do' p x c) = t.Do (statement_of x) (expr_of c.value)
   statement_of (s.ForIn' x a p y) = t.ForIn x a (statement_of y)
-  statement_of (s.For' first c last p x) = t.For (optional_simple_of first) (optional_expr_of c) (optional_simple_of last) (statement_of x)
+  statement_of (s.For' parts p x) = t.For (optional_simple_of parts.value.first) (optional_expr_of parts.value.condition) (optional_simple_of parts.value.last) (statement_of x)
 
   pub statements_of_row : {m : _} → Row_of-Statement m → t.Statements
   statements_of_row end_of-Statement = t.NoMore

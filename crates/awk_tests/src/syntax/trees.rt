@@ -5,8 +5,8 @@ mod expressions;
 
 use crate::tables::add_bytes;
 use awk_grammar::tree::{
-    Expr, Item, Output, Pattern, PrintForm, PrintList, Redirection, SimpleStatement, Statement,
-    Tree,
+    Expr, ForParts, Item, Output, Pattern, PrintForm, PrintList, Redirection, SimpleStatement,
+    Statement, Tree,
 };
 use awk_value::Bytes;
 use expressions::{add_expr, add_list};
@@ -111,16 +111,11 @@ fn add_names(name: &Bytes, array: &Bytes, text: &mut String) -> Result<(), Alloc
 }
 
 // The parts of a loop, before its body.
-fn add_parts(
-    first: &Option<SimpleStatement>,
-    condition: &Option<Box<Expr>>,
-    last: &Option<SimpleStatement>,
-    text: &mut String,
-) -> Result<(), AllocError> {
+fn add_parts(parts: &ForParts, text: &mut String) -> Result<(), AllocError> {
     text.push_str("(for")?;
-    add_part(first, text)?;
-    add_optional(condition, text)?;
-    add_part(last, text)?;
+    add_part(&parts.first, text)?;
+    add_optional(&parts.condition, text)?;
+    add_part(&parts.last, text)?;
     text.push(' ')
 }
 
@@ -157,8 +152,8 @@ fn add_statement(statement: &Statement, text: &mut String) -> Result<(), AllocEr
             add_names(name, array, text)?;
             add_statement(body, text)?;
         }
-        Statement::For(first, condition, last, body) => {
-            add_parts(first, condition, last, text)?;
+        Statement::For(parts, body) => {
+            add_parts(parts, text)?;
             add_statement(body, text)?;
         }
     }
