@@ -2,11 +2,11 @@
 #![tactic(auto)]
 
 mod items;
-mod run;
+mod program;
 mod start;
 
 pub use awk_meaning::{
     Fault, Outcome, fault_line, law_of_limits, law_of_outcomes, law_of_turns, status,
 };
-pub use run::{execute, one_program};
+pub use program::{execute, one_program, run};
 pub use start::{Assignment, Start};

@@ -1,14 +1,17 @@
-// What a program is lowered to.
+// What a program is lowered to, and a run of it.
 
 use awk_lex::lexer::tokens;
 use awk_plan::lower;
 use awk_plan::node::{BlockNode, ExprNode, Node, Operand, SimpleNode};
 use awk_plan::plan::{Item, Pattern, Plan};
 use awk_resolve::resolve;
+use awk_run::{Outcome, Start, run};
+use awk_streams::ScriptWorld;
 use awk_syntax::parse::parse;
 use awk_tree::tree::BinaryOperator;
 use awk_value::Value;
 use std::alloc::Global;
+use std::test::Fail;
 
 fn plan_of(alloc: Global, text: &[u8]) -> Option<Plan> {
     let tokens = tokens(alloc, text).ok()?;
@@ -75,4 +78,21 @@ fn numbers_names_once(rt: HostRuntime) {
     assert!(rt; matches!(names.find(b"x"), Some(13)));
     assert!(rt; matches!(names.get(14), Some(b"y")));
     assert!(rt; names.find(b"z").is_none());
+}
+
+#[test]
+fn a_run_of_a_plan(rt: HostRuntime) -> Result<(), Fail> {
+    let alloc = rt.alloc();
+    let Some(plan) = plan_of(alloc, b"BEGIN { print 1; print 2; exit 3 }") else {
+        assert!(rt; false);
+        return Ok(());
+    };
+    let start = Start::new(alloc);
+    let mut world = ScriptWorld::new(alloc, Vec::new(alloc));
+    assert!(rt; run(alloc, &plan, &start, 3, &mut world) == Outcome::Ended(3));
+    assert!(rt; world.received(0)?.as_slice() == b"1\n2\n".as_slice());
+    let mut world = ScriptWorld::new(alloc, Vec::new(alloc));
+    assert!(rt; run(alloc, &plan, &start, 1, &mut world) == Outcome::Stopped);
+    assert!(rt; world.received(0)?.as_slice() == b"1\n".as_slice());
+    Ok(())
 }

@@ -36,6 +36,10 @@ pub record Runs (items : List Item) (start : StartValues) (limit : ℕ) (world :
   pub turn : IsUndisturbed world result → (oracle : Oracle) → IsConsistent oracle world.log → IsInTurn oracle (meaning_of items start oracle limit) world.log
   pub failure : Fails (λ oracle. meaning_of items start oracle limit) world result
 
+-- from a world in which nothing was done, a run leaves what the items mean
+pub record RunsFrom (is_logged : Type 0) (items : List Item) (start : StartValues) (limit : ℕ) (before after : WorldState) (result : Outcome) : Type 0 where
+  pub runs : is_logged → IsUntouched before → Runs items start limit after result
+
 -- A text is refused for a cause other than memory exactly where it is no program, by the first cause that
 -- holds; else its one program was run, from a world that is logged.
 pub record Executed (is_logged : Type 0) (text : List ℕ) (start : StartValues) (limit : ℕ) (before after : WorldState) (result : Result Outcome Refusal) : Type 0 where

@@ -10,9 +10,7 @@ use Rattle.awk_tree.specs.declared.tree.Tree.{Tree}
 use Rattle.awk_meaning.specs.declared.outcome.Outcome.{Outcome}
 use Rattle.awk_meaning.specs.declared.outcome.Outcome.TheVariants.{Fault}
 use Rattle.awk_meaning.specs.Faults.{stream_fault}
-use Rattle.awk_meaning.specs.Meaning.{StartValues}
 use Rattle.awk_streams.specs.WorldState.{WorldState}
-use Rattle.awk_run.specs.definitions.Headline.{IsUntouched, Runs}
 
 -- a failure of the end of a run counts unless a fault came before it
 abbrev pub outcome_after : Outcome → Result (Unit {0}) StreamFault → Outcome
@@ -33,7 +31,3 @@ no_streams = record { main = None; held = [] }
 pub record EndsWithoutStreams (before : WorldState) (result : Result (Unit {0}) StreamFault) (after : WorldState) : Type 0 where
   pub last : StreamsView
   pub finishes : Finishes before no_streams result after last
-
--- from a world in which nothing was done, a run leaves what the items mean
-pub record RunsFrom (is_logged : Type 0) (items : List Item) (start : StartValues) (limit : ℕ) (before after : WorldState) (result : Outcome) : Type 0 where
-  pub runs : is_logged → IsUntouched before → Runs items start limit after result

@@ -93,6 +93,34 @@ $ -L5
 $ BEGIN { do ; while (i++ < 2); print i }
 > 3
 = 0
+$ -L6
+$ BEGIN{i=0; do print i++; while(i<2)}
+> 0
+> 1
+= 0
+$ -L5
+$ BEGIN{i=0; do print i++; while(i<2)}
+> 0
+! awk: stopped: step limit reached
+= 3
+$ -L11
+$ BEGIN{x=3; while(x) {print x; x=x-1}}
+> 3
+> 2
+> 1
+= 0
+$ -L10
+$ BEGIN{x=3; while(x) {print x; x=x-1}}
+> 3
+> 2
+> 1
+! awk: stopped: step limit reached
+= 3
+$ BEGIN{if(1&&
+. 1)print 1
+. else print 2}
+> 1
+= 0
 $ BEGIN { while (1) x = 1 / 0 }
 ! awk: fault 4: division by zero
 = 2

@@ -126,6 +126,16 @@ $ BEGIN { print 2^3^2, -2^2, 2^0, 0^0, (-2)^127 }
 $ BEGIN { print 1^(2^100), (-1)^(2^100+1), 0^(2^100) }
 > 1 -1 0
 = 0
+$ BEGIN{print 7%-3, -7%3, -7/2}
+> 1 -1 -3
+= 0
+$ BEGIN{print (-2)^127; print -(-2)^127}
+> -170141183460469231731687303715884105728
+! awk: fault 3: number out of range
+= 2
+$ BEGIN{print 1, 1/0}
+! awk: fault 4: division by zero
+= 2
 $ BEGIN { print 1; print 2^-1 }
 > 1
 ! awk: fault 5: negative exponent

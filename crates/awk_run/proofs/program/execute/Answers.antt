@@ -2,7 +2,7 @@ use Rattle.std.proofs.Common.{sym, subst}
 use Rattle.awk_run.specs.definitions.Accepted.{RefusedFor}
 use Rattle.std.proofs.lemmas.Result.{err_from_is_err_and}
 use Rattle.awk_tree.specs.View.{tree_of}
-use Rattle.awk_run.proofs.run.execute.Goals as goal
+use Rattle.awk_run.proofs.program.execute.Goals as goal
 
 pub returns-in_err-tree-clause-executed : goal.returns-in_err-tree-clause-executed
 returns-in_err-tree-clause-executed g c =
@@ -20,7 +20,7 @@ returns-in_err-plan-clause-executed g c =
 
 pub returns-clause-executed : goal.returns-clause-executed
 returns-clause-executed g c =
-    let ran = rw c.in_ok-plan.ensures at c.run_program.ensures in
+    let ran = rw c.in_ok-plan.ensures at c.run.ensures in
     record {
       cause = tt;
       refused = tt;

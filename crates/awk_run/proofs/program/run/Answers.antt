@@ -1,5 +1,5 @@
 use Rattle.awk_run.proofs.RunsFrom.{runs_from, runs_not}
-use Rattle.awk_run.proofs.run.run_program.Goals as goal
+use Rattle.awk_run.proofs.program.run.Goals as goal
 
 pub returns : goal.returns
 returns g c =

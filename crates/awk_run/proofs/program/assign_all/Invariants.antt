@@ -3,7 +3,7 @@ use Rattle.awk_interpreter.specs.declared.interpreter.Interpreter.{Interpreter}
 use Rattle.awk_meaning.specs.declared.halt.Halt.{Halt}
 use Rattle.awk_run.specs.definitions.Start.{pair_of}
 use Rattle.awk_run.specs.support.Items.{Assigns}
-use Rattle.awk_run.proofs.run.assign_all.Given as goal
+use Rattle.awk_run.proofs.program.assign_all.Given as goal
 
 abbrev pub invariant-loop-assignment : goal.invariant-loop-assignment
 invariant-loop-assignment l =

@@ -2,7 +2,7 @@ use Rattle.std.proofs.lemmas.Result.{err_from_is_err_and}
 use Rattle.awk_lex.specs.Told.{kinds_of}
 use Rattle.awk_grammar.specs.View.{tree_of as grammar_tree_of}
 use Rattle.awk_run.proofs.Accepted.{spelled, accepts, only_accepted, none_read, resolving_refused, lexing_refused, parsing_refused}
-use Rattle.awk_run.proofs.run.read_program.Goals as goal
+use Rattle.awk_run.proofs.program.read_program.Goals as goal
 
 pub returns-clause-accepted : goal.returns-clause-accepted
 returns-clause-accepted c =

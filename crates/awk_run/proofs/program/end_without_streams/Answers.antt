@@ -1,6 +1,6 @@
 use Rattle.std.proofs.Common.{subst}
 use Rattle.awk_streams.specs.Streams.{StreamsView, Finishes}
-use Rattle.awk_run.proofs.run.end_without_streams.Goals as goal
+use Rattle.awk_run.proofs.program.end_without_streams.Goals as goal
 
 pub returns-clause-told : goal.returns-clause-told
 returns-clause-told g c = λ t. record {

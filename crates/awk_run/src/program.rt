@@ -1,4 +1,4 @@
-// A whole run, of a tree and of a text.
+// A whole run, of a plan and of a text.
 
 ghost use Rattle.std.specs.Prelude.{◌≡◌, ◌⊎◌, List, ℕ, map, IfOk, IfErr, OnErr};
 ghost use Rattle.awk_lex.specs.Refused.{IsOutOfMemory};
@@ -11,8 +11,8 @@ ghost use Rattle.awk_meaning.specs.Meaning.{outcome_of};
 ghost use Rattle.awk_streams.specs.Outputs.{IsOutputFault};
 ghost use Rattle.awk_streams.specs.Streams.{AreOpen, IsSoundMain};
 ghost use Rattle.awk_run.specs.support.Items.{Assigns, AssignsAndRuns};
-ghost use Rattle.awk_run.specs.support.Verdict.{outcome_after, EndsWithoutStreams, ReadsOnly, RunsFrom};
-ghost use Rattle.awk_run.specs.definitions.Headline.{Executed};
+ghost use Rattle.awk_run.specs.support.Verdict.{outcome_after, EndsWithoutStreams, ReadsOnly};
+ghost use Rattle.awk_run.specs.definitions.Headline.{Executed, RunsFrom};
 
 use crate::items::run_items;
 use crate::start::{Assignment, Start};
@@ -91,9 +91,9 @@ fn end_without_streams<W: World>(alloc: Global, world: &mut W) -> Result<(), Str
     Streams::new(alloc).finish(world)
 }
 
-/// Runs the items from the start values, with at most so many steps (POSIX awk, Overall Program
-/// Structure).
-fn run_program<W: World>(
+/// Runs a plan from the start values, with at most so many steps: what it leaves in the world, and its outcome, are those of
+/// the items that the plan stands for. (POSIX awk, Overall Program Structure)
+pub fn run<W: World>(
     alloc: Global,
     plan: &Plan,
     start: &Start,
@@ -141,7 +141,7 @@ pub fn execute<W: World>(
 {
     let tree = read_program(alloc, text)?;
     let plan = lower(alloc, &tree)?;
-    Ok(run_program(alloc, &plan, start, limit, world))
+    Ok(run(alloc, &plan, start, limit, world))
 }
 
 /// A text is at most one program.
