@@ -95,7 +95,7 @@ $ { print $2 }
 > b c
 = 0
 $ { print $2 }
-$ FS=(
+$ FS=(a
 ! awk: fault 6: pattern refused
 = 2
 "#;
