@@ -5,9 +5,9 @@ use Rattle.awk_grammar.specs.Tree as g
 use Rattle.awk_grammar.specs.View.{expr_of as grammar_expr_of}
 use Rattle.awk_tree.specs.Tree as run
 use Rattle.awk_tree.specs.View.{expr_of}
-use Rattle.awk_resolve.specs.definitions.Built.{built_unary, binary, assigned, built_target, built_expr}
-use Rattle.awk_resolve.proofs.BuiltLists.{passes_on, both_some, both_none, all_three_some, all_three_first, all_three_second}
-use Rattle.awk_resolve.proofs.built.+expressions.Goals as goal
+use Rattle.awk_built.specs.definitions.Built.{built_unary, binary, assigned, built_target, built_expr}
+use Rattle.awk_built.proofs.BuiltLists.{passes_on, both_some, both_none, all_three_some, all_three_first, all_three_second}
+use Rattle.awk_built.proofs.expressions.+expressions.Goals as goal
 
 pub built_signed-returns-in_err-e : goal.built_signed-returns-in_err-e
 built_signed-returns-in_err-e t c =

@@ -4,12 +4,12 @@
 ghost use Rattle.awk_grammar.specs.View as g;
 ghost use Rattle.awk_tree.specs.Tree as t;
 ghost use Rattle.awk_tree.specs.View.{expr_of, simple_of, optional_simple_of, statement_of, statements_of, pattern_of, item_of, items_of};
-ghost use Rattle.awk_resolve.specs.definitions.Built.{both, all_four, built_expr, built_optional_expr, built_simple, built_optional_simple, built_statement, built_block, built_pattern, built_item, built_items};
-ghost use Rattle.awk_resolve.specs.support.Builds.{Builds};
+ghost use Rattle.awk_built.specs.definitions.Built.{both, all_four, built_expr, built_optional_expr, built_simple, built_optional_simple, built_statement, built_block, built_pattern, built_item, built_items};
+ghost use Rattle.awk_built.specs.support.Builds.{Builds};
 ghost use Rattle.std.specs.Prelude.{Some};
 ghost use Rattle.std.specs.Option.{option_map};
 
-use crate::built::{NOT_BUILT, built_operand, built_optional_expr, built_print_list};
+use crate::expressions::{NOT_BUILT, built_operand, built_optional_expr, built_print_list};
 use awk_grammar::tree as grammar;
 use awk_lex::refusal::Refusal;
 use awk_tree::tree::{Expr, Item, Pattern, SimpleStatement, Statement};
@@ -188,6 +188,19 @@ fn built_pattern(alloc: Global, pattern: &grammar::Pattern) -> Result<Pattern, R
     }
 }
 
+/// A pattern with its action.
+fn built_rule(
+    alloc: Global,
+    pattern: &grammar::Pattern,
+    block: &[grammar::Statement],
+) -> Result<Item, Refusal>
+    ensures { Builds item_of result (both t.PatternAction (built_pattern (g.pattern_of pattern.now)) (built_block (g.statements_of block.now))) }
+{
+    let pattern = built_pattern(alloc, pattern)?;
+    let block = built_block(alloc, block)?;
+    Ok(Item::PatternAction(pattern, block))
+}
+
 fn built_item(alloc: Global, item: &grammar::Item) -> Result<Item, Refusal>
     ensures { Builds item_of result (built_item (g.item_of item.now)) }
 {
@@ -195,10 +208,7 @@ fn built_item(alloc: Global, item: &grammar::Item) -> Result<Item, Refusal>
         grammar::Item::Begin(block) => Ok(Item::Begin(built_block(alloc, block)?)),
         grammar::Item::End(block) => Ok(Item::End(built_block(alloc, block)?)),
         grammar::Item::Action(block) => Ok(Item::Action(built_block(alloc, block)?)),
-        grammar::Item::PatternAction(pattern, block) => {
-            let pattern = built_pattern(alloc, pattern)?;
-            Ok(Item::PatternAction(pattern, built_block(alloc, block)?))
-        }
+        grammar::Item::PatternAction(pattern, block) => built_rule(alloc, pattern, block),
         grammar::Item::PatternOnly(pattern) => {
             Ok(Item::PatternOnly(built_pattern(alloc, pattern)?))
         }
@@ -207,7 +217,7 @@ fn built_item(alloc: Global, item: &grammar::Item) -> Result<Item, Refusal>
 }
 
 /// The items as what is run, or K9 where one of their forms isn't built yet.
-pub(crate) fn built_items(alloc: Global, items: &[grammar::Item]) -> Result<Vec<Item>, Refusal>
+pub fn built_items(alloc: Global, items: &[grammar::Item]) -> Result<Vec<Item>, Refusal>
     ensures { Builds (λ v. items_of v.items) result (built_items (g.items_of items.now)) }
 {
     let mut built = Vec::new(alloc);

@@ -6,7 +6,7 @@ use Rattle.awk_lex.specs.Refused.{IsOutOfMemory}
 use Rattle.std.specs.Option.{option_map}
 use Rattle.awk_grammar.specs.Tree as g
 use Rattle.awk_tree.specs.Tree as t
-use Rattle.awk_resolve.specs.definitions.Built.{built_target}
+use Rattle.awk_built.specs.definitions.Built.{built_target}
 
 -- a form is refused where it isn't built, or memory was
 abbrev pub Refuses : {B : Type 0} → Refusal → Option B → Type 0

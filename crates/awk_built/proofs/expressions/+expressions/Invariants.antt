@@ -1,6 +1,6 @@
 use Rattle.std.proofs.Common.{◌+◌, ◌*◌}
 use Rattle.awk_grammar.proofs.tree.Expr.TheLaws.{the_size}
-use Rattle.awk_resolve.proofs.built.+expressions.Given as goal
+use Rattle.awk_built.proofs.expressions.+expressions.Given as goal
 
 abbrev pub decreases-built_operand : goal.decreases-built_operand
 decreases-built_operand l = 2 * the_size l.e.now

@@ -1,9 +1,9 @@
 use Rattle.std.proofs.Common.{◌≡◌, ◌+◌, ◌*◌, drop}
 use Rattle.awk_grammar.proofs.tree.Statement.TheLaws.{the_size}
 use Rattle.awk_grammar.specs.View.{statements_of}
-use Rattle.awk_resolve.specs.definitions.Built.{built_block}
-use Rattle.awk_resolve.proofs.BuiltLists.{front, cons_statement}
-use Rattle.awk_resolve.proofs.built_statements.+statements.Given as goal
+use Rattle.awk_built.specs.definitions.Built.{built_block}
+use Rattle.awk_built.proofs.BuiltLists.{front, cons_statement}
+use Rattle.awk_built.proofs.statements.+statements.Given as goal
 
 abbrev pub decreases-built_statement : goal.decreases-built_statement
 decreases-built_statement l = 2 * the_size l.s.now

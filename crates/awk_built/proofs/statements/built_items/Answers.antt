@@ -1,9 +1,9 @@
 use Rattle.std.proofs.Common.{sym, refl, arith}
 use Rattle.std.proofs.lemmas.Result.{err_from_is_err_and}
 use Rattle.awk_grammar.specs.View.{item_of as grammar_item_of}
-use Rattle.awk_resolve.specs.definitions.Built.{built_item}
-use Rattle.awk_resolve.proofs.BuiltLists.{next_item, no_item, last_item, passes_on}
-use Rattle.awk_resolve.proofs.built_statements.built_items.Goals as goal
+use Rattle.awk_built.specs.definitions.Built.{built_item}
+use Rattle.awk_built.proofs.BuiltLists.{next_item, no_item, last_item, passes_on}
+use Rattle.awk_built.proofs.statements.built_items.Goals as goal
 
 pub loop-item-init : goal.loop-item-init
 loop-item-init c = rw c.new-built.ensures.items refl

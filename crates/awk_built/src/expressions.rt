@@ -4,8 +4,8 @@
 ghost use Rattle.awk_grammar.specs.View as g;
 ghost use Rattle.awk_tree.specs.Tree as t;
 ghost use Rattle.awk_tree.specs.View.{expr_of, exprs_of, optional_expr_of};
-ghost use Rattle.awk_resolve.specs.definitions.Built.{both, all_three, built_unary, binary, built_target, assigned, built_expr, built_list, built_print_list, built_optional_expr};
-ghost use Rattle.awk_resolve.specs.support.Builds.{Builds, built_leaf};
+ghost use Rattle.awk_built.specs.definitions.Built.{both, all_three, built_unary, binary, built_target, assigned, built_expr, built_list, built_print_list, built_optional_expr};
+ghost use Rattle.awk_built.specs.support.Builds.{Builds, built_leaf};
 ghost use Rattle.std.specs.Prelude.{◌≡◌, Some};
 ghost use Rattle.std.specs.Option.{option_map};
 

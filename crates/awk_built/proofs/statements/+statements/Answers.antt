@@ -8,9 +8,10 @@ use Rattle.awk_tree.specs.Tree as run
 use Rattle.awk_tree.specs.View.{statement_of, statements_of}
 use Rattle.awk_tree.specs.declared.tree.Statement.TheVariants.{Block}
 use Rattle.awk_tree.specs.declared.tree.Statement.TheViews.{the_lemmas}
-use Rattle.awk_resolve.specs.definitions.Built.{built_statement, built_block}
-use Rattle.awk_resolve.proofs.BuiltLists.{all_three_some, next_statement, no_statement, last_statement, passes_on, row_is_block, grammar_row_is_block}
-use Rattle.awk_resolve.proofs.built_statements.+statements.Goals as goal
+use Rattle.awk_built.specs.definitions.Built.{built_statement, built_block}
+use Rattle.awk_built.proofs.BuiltLists.{all_three_some, next_statement, no_statement, last_statement, passes_on}
+use Rattle.awk_built.proofs.Rows.{row_is_block, grammar_row_is_block}
+use Rattle.awk_built.proofs.statements.+statements.Goals as goal
 
 pub built_block-loop-s-init : goal.built_block-loop-s-init
 built_block-loop-s-init t c = rw c.new-built.ensures.items refl

@@ -1,9 +1,9 @@
 use Rattle.std.proofs.Common.{sym, refl, arith}
 use Rattle.std.proofs.lemmas.Result.{err_from_is_err_and}
 use Rattle.awk_grammar.specs.View.{expr_of as grammar_expr_of}
-use Rattle.awk_resolve.specs.definitions.Built.{built_expr}
-use Rattle.awk_resolve.proofs.BuiltLists.{next_expr, no_expr, last_expr, passes_on}
-use Rattle.awk_resolve.proofs.built.built_list.Goals as goal
+use Rattle.awk_built.specs.definitions.Built.{built_expr}
+use Rattle.awk_built.proofs.BuiltLists.{next_expr, no_expr, last_expr, passes_on}
+use Rattle.awk_built.proofs.expressions.built_list.Goals as goal
 
 pub loop-e-init : goal.loop-e-init
 loop-e-init c = rw c.new-built.ensures.items refl

@@ -3,18 +3,17 @@ use Rattle.std.proofs.Common.{◌≡◌, inl, inr, ℕ, ◌+◌, ◌≤◌, ◌<
 use Rattle.std.specs.Option.{option_map}
 use Rattle.std.proofs.lemmas.List.{drop_all}
 use Rattle.awk_lex.specs.declared.refusal.Refusal.{Refusal}
-use Rattle.awk_grammar.specs.Tree as g
 use Rattle.awk_grammar.specs.View as view
 use Rattle.awk_grammar.specs.declared.tree.Expr.{Expr as GrammarExpr}
-use Rattle.awk_grammar.specs.declared.tree.Statement.{Statement as GrammarStatement, Row_of-Statement as GrammarRow, end_of-Statement as end_of-GrammarStatement, more_of-Statement as more_of-GrammarStatement, items-the_row-Statement as items-the_row-GrammarStatement}
+use Rattle.awk_grammar.specs.declared.tree.Statement.{Statement as GrammarStatement}
 use Rattle.awk_grammar.specs.declared.tree.Item.{Item as GrammarItem}
 use Rattle.awk_tree.specs.Tree.{Exprs, Nil, Cons, Statements, NoMore, Then, Item}
-use Rattle.awk_tree.specs.View.{expr_of, exprs_of, statement_of, statements_of, statements_of_row, item_of, items_of}
+use Rattle.awk_tree.specs.View.{expr_of, exprs_of, statement_of, statements_of, item_of, items_of}
 use Rattle.awk_tree.specs.declared.tree.Expr.{Expr as CodeExpr}
-use Rattle.awk_tree.specs.declared.tree.Statement.{Statement as CodeStatement, Row_of-Statement, end_of-Statement, more_of-Statement, items-the_row-Statement}
+use Rattle.awk_tree.specs.declared.tree.Statement.{Statement as CodeStatement}
 use Rattle.awk_tree.specs.declared.tree.Item.{Item as CodeItem}
-use Rattle.awk_resolve.specs.definitions.Built.{both, all_three, built_expr, built_list, built_statement, built_block, built_item, built_items}
-use Rattle.awk_resolve.specs.support.Builds.{Refuses}
+use Rattle.awk_built.specs.definitions.Built.{both, all_three, built_expr, built_list, built_statement, built_block, built_item, built_items}
+use Rattle.awk_built.specs.support.Builds.{Refuses}
 
 -- what is refused for a part is refused for the whole, where without the part there is no whole
 pub passes_on : {B D : Type 0} (r : Refusal) (part : Option B) (whole : Option D) → Refuses r part → (part ≡ None → whole ≡ None) → Refuses r whole
@@ -108,15 +107,6 @@ no_statement ss i x done whole low is h e = no_more cons_statement done _ whole 
 
 pub last_statement : (ss : List GrammarStatement) (i : ℕ) (done : List CodeStatement) (whole : Option Statements) → length ss ≤ i → front cons_statement done (built_block (view.statements_of (drop i ss))) ≡ whole → whole ≡ Some (statements_of done)
 last_statement ss i done whole low h = sym h ∙ ap (λ x. front cons_statement done (built_block (view.statements_of x))) (drop_all i ss low) ∙ all_statements done
-
--- the statements that a block keeps
-pub row_is_block : (n : _) (all : Row_of-Statement n) → statements_of_row all ≡ statements_of (items-the_row-Statement n all)
-row_is_block n end_of-Statement = refl
-row_is_block n (more_of-Statement s rest) = ap (λ x. Then (statement_of s) x) (row_is_block _ rest)
-
-pub grammar_row_is_block : (n : _) (all : GrammarRow n) → view.statements_of_row all ≡ view.statements_of (items-the_row-GrammarStatement n all)
-grammar_row_is_block n end_of-GrammarStatement = refl
-grammar_row_is_block n (more_of-GrammarStatement s rest) = ap (λ x. g.Then (view.statement_of s) x) (grammar_row_is_block _ rest)
 
 -- the items of a program
 
