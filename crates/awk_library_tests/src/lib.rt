@@ -4,12 +4,6 @@
 #[cfg(test)]
 mod format;
 #[cfg(test)]
-mod paragraphs;
-#[cfg(test)]
-mod record;
-#[cfg(test)]
-mod split;
-#[cfg(test)]
 mod substitute;
 #[cfg(test)]
 mod table;

@@ -1,4 +1,3 @@
-pub mod Built
 pub mod Names
 pub mod Placed
 pub mod Resolved

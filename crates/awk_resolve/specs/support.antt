@@ -1,3 +1,2 @@
-pub mod Builds
 pub mod Misuse
 pub mod Place

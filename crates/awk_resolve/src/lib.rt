@@ -2,8 +2,6 @@
 //! whether each of its forms is built.
 #![tactic(auto)]
 
-mod built;
-mod built_statements;
 mod left_out;
 mod names;
 mod placed;

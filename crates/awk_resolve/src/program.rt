@@ -4,10 +4,10 @@ ghost use Rattle.awk_grammar.specs.View.{tree_of as grammar_tree_of};
 ghost use Rattle.awk_lex.specs.Told.{kinds_of};
 ghost use Rattle.awk_resolve.specs.definitions.Resolved.{Resolves, resolved};
 
-use crate::built_statements::built_items;
 use crate::left_out::names_left_out;
 use crate::names::has_misused_array;
 use crate::placed::are_in_place;
+use awk_built::built_items;
 use awk_grammar::tree as grammar;
 use awk_lex::refusal::{Refusal, RefusalCode};
 use awk_lex::token::Token;

@@ -9,7 +9,7 @@ use Rattle.awk_grammar.specs.Tree.{Item as GrammarItem}
 use Rattle.awk_tree.specs.Tree.{Item}
 use Rattle.awk_tree.specs.View.{tree_of}
 use Rattle.awk_tree.specs.declared.tree.Tree.{Tree}
-use Rattle.awk_resolve.specs.definitions.Built.{built_items}
+use Rattle.awk_built.specs.Built.{built_items}
 use Rattle.awk_resolve.specs.definitions.Placed.{are_in_place}
 use Rattle.awk_resolve.specs.definitions.Names.{names_left_out, scalar_names, array_names, are_apart}
 

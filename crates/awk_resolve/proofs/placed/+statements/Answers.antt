@@ -2,7 +2,7 @@ use Rattle.std.proofs.Common.{◌≡◌, rules}
 use Rattle.awk_grammar.specs.Tree as g
 use Rattle.awk_grammar.specs.View.{statement_of, statements_of}
 use Rattle.awk_grammar.specs.declared.tree.Statement.TheViews.{the_lemmas}
-use Rattle.awk_resolve.proofs.BuiltLists.{grammar_row_is_block}
+use Rattle.awk_built.proofs.Rows.{grammar_row_is_block}
 use Rattle.awk_resolve.proofs.placed.+statements.Goals as goal
 
 pub statement_fits-returns-in-Block : goal.statement_fits-returns-in-Block

@@ -2,7 +2,7 @@ use Rattle.std.proofs.Common.{◌≡◌, rules, sym, arith, inl, inr}
 use Rattle.awk_tree.specs.declared.tree.Statement.TheViews.{the_lemmas}
 use Rattle.awk_tree.specs.View.{expr_of, optional_expr_of, optional_simple_of, statement_of, statements_of}
 use Rattle.awk_tree.specs.Tree.{Block, If, IfElse, While, Do, For}
-use Rattle.awk_resolve.proofs.BuiltLists.{row_is_block}
+use Rattle.awk_built.proofs.Rows.{row_is_block}
 use Rattle.awk_resolve.proofs.Uses.{adds_none, adds_both, uses_at_statement, uses_over_block}
 use Rattle.awk_resolve.proofs.names.Misuse.+statements.Goals as goal
 

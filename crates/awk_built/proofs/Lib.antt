@@ -1,0 +1,2 @@
+mod BuiltLists
+pub mod Rows

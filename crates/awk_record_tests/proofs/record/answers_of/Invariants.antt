@@ -1,0 +1,5 @@
+use Rattle.std.proofs.Common.{◌≡◌, None}
+use Rattle.awk_record_tests.proofs.record.answers_of.Given as goal
+
+abbrev pub invariant-loop-byte : goal.invariant-loop-byte
+invariant-loop-byte l = l.buffer.ending ≡ None
