@@ -12,14 +12,15 @@ use awk_meaning::Halt;
 use awk_value::Bytes;
 use std::alloc::Global;
 
-/// A pattern that was read, the text that spells it, and the room of its searches.
+/// A pattern that was read, the text that spells it, and the room of its searches, which is large and stands elsewhere, so
+/// that this is moved as a few words.
 #[derive(Drop)]
 pub struct Compiled {
     pub text: Bytes,
     pattern: Pattern,
-    scratch: Scratch,
+    scratch: Box<Scratch>,
     ghost means: { ∥ MeansOf (pattern_of text) pattern ∥₁ },
-    ghost fits: { IsFor scratch pattern },
+    ghost fits: { IsFor scratch.value pattern },
 }
 
 impl Compiled {
@@ -29,7 +30,8 @@ impl Compiled {
     {
         read_law();
         let pattern = Pattern::read(alloc, text.as_slice())?;
-        let scratch = Scratch::for_pattern(alloc, &pattern)?;
+        let searches = Scratch::for_pattern(alloc, &pattern)?;
+        let scratch = Box::new(alloc, searches)?;
         Ok(Compiled {
             text: text.clone()?,
             pattern,

@@ -3,7 +3,7 @@
 ghost use Rattle.std.specs.Prelude.{◌≡◌, ◌<◌, vec_len, option_map, Some, Ok, IfOk, IfErr, OnOk, IfSome, OnSome};
 ghost use Rattle.awk_meaning.specs.Operators.{matched};
 ghost use Rattle.awk_meaning.specs.Results.{Yields, IsWantOfMemory};
-ghost use Rattle.awk_operators.specs.support.Kept.{IsFresh, room_of, spelling, fixed_at, cached_for};
+ghost use Rattle.awk_operators.specs.support.Kept.{KeepsNothing, room_of, spelling, fixed_at, cached_for};
 
 use crate::compiled::Compiled;
 use awk_meaning::Halt;
@@ -54,7 +54,7 @@ pub struct Patterns {
 impl Patterns {
     /// No pattern is kept at first. The only error is want of memory.
     pub fn new(alloc: Global) -> Result<Patterns, AllocError>
-        ensures { IfOk result (λ patterns. IsFresh patterns CACHED) }
+        ensures { IfOk result (λ patterns. KeepsNothing patterns CACHED) }
     {
         let room = NonZeroUsize::new(CACHED).unwrap_or(NonZeroUsize::MIN);
         Ok(Patterns {

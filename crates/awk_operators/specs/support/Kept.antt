@@ -6,7 +6,7 @@ use Rattle.awk_operators.specs.declared.compiled.Compiled.{Compiled}
 use Rattle.awk_operators.specs.declared.patterns.Patterns.{Patterns}
 
 -- nothing is kept, and of those that don't stand in the program so many may be
-pub record IsFresh (patterns : Patterns) (room : ℕ) : Type 0 where
+pub record KeepsNothing (patterns : Patterns) (room : ℕ) : Type 0 where
   pub fixed : patterns.fixed.items ≡ []
   pub cached : patterns.cached ≡ lru_cache [] room
 

@@ -15,5 +15,5 @@ invariant_of-result c =
     let m = means_of c.in_ok-pattern.pattern (pattern_of c.args.text.now) (c.read_law.ensures c.args.text.now (Ok c.in_ok-pattern.pattern) (rw c.as_slice.ensures at c.in_ok-pattern.ensures.found) tt) in
     record {
       means = rw c.in_ok-clone.ensures.cases (∣ m ∣₁);
-      fits = c.in_ok-scratch.ensures;
+      fits = rw c.in_ok-scratch.ensures.ok c.in_ok-searches.ensures;
     }
