@@ -9,14 +9,12 @@ ghost use Rattle.awk_command.specs.Parts.{ReadsChunk, reason_of};
 
 use crate::command_line::ProgramSource;
 use crate::report::NotRun;
+use awk_lex::lexer::LIMIT;
 use awk_streams::{InputKind, World, WorldFault};
 use std::alloc::{AllocError, Global};
 
 /// The most bytes of one reading.
 const CHUNK: usize = 1_024;
-
-/// The most bytes of a program: a file is read no further, since a longer text is refused.
-const LONGEST_TEXT: usize = 1_048_576;
 
 fn not_read(fault: WorldFault) -> NotRun
     ensures { result ≡ reason_of fault }
@@ -75,7 +73,8 @@ fn read_input<W: World>(alloc: Global, world: &mut W, id: u64) -> Result<Vec<u8>
 {
     let mut bytes = Vec::new(alloc);
     let mut chunk = [0u8; CHUNK];
-    while bytes.len() <= LONGEST_TEXT {
+    // (a longer text is refused, so a file is read no further)
+    while bytes.len() <= LIMIT {
         if !read_chunk(world, id, &mut bytes, &mut chunk)? {
             return Ok(bytes);
         }

@@ -7,13 +7,14 @@ use Rattle.awk_lex.specs.Lexes.{Lexes, Breaks}
 use Rattle.awk_grammar.specs.Tree.{Item as GrammarItem}
 use Rattle.awk_grammar.specs.Height.{max_height, height_of_program}
 use Rattle.awk_grammar.specs.Spelling.{IsProgram}
+use Rattle.awk_lex.specs.declared.lexer.TheConstants.{LIMIT}
 use Rattle.awk_syntax.specs.Patterns.{AreReadable, RefusesEre}
 use Rattle.awk_tree.specs.Tree.{Item}
 use Rattle.awk_resolve.specs.Resolved.{resolved}
 
 -- the most bytes of a program text
 abbrev pub longest_text : ℕ
-longest_text = 1048576
+longest_text = LIMIT
 
 -- the text is tokens
 pub record HasTokens (text : List ℕ) (tokens : List Kind) : Type 0 where
