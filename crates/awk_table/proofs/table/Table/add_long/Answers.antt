@@ -4,7 +4,7 @@ use Rattle.std.specs.Prelude.{bytes_eq}
 use Rattle.indexmap.proofs.CallerLemmas.{insert_entry-new}
 use Rattle.awk_table.specs.declared.table.Entry.{Entry}
 use Rattle.awk_table.proofs.Calls.{keeps, text-absent, text-add}
-use Rattle.awk_table.proofs.table.Table.add_text.Goals as goal
+use Rattle.awk_table.proofs.table.Table.add_long.Goals as goal
 
 pub invariant_of-self-2 : goal.invariant_of-self-2
 invariant_of-self-2 c =

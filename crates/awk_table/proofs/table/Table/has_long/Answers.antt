@@ -1,6 +1,6 @@
 use Rattle.std.proofs.Common.{◌∙◌}
 use Rattle.awk_table.proofs.Calls.{keeps, text-present}
-use Rattle.awk_table.proofs.table.Table.has_text.Goals as goal
+use Rattle.awk_table.proofs.table.Table.has_long.Goals as goal
 
 pub returns : goal.returns
 returns c =

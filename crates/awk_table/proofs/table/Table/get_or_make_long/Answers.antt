@@ -4,7 +4,7 @@ use Rattle.awk_value.specs.declared.value.Value.TheVariants.{Nothing}
 use Rattle.awk_table.specs.Arrays.{value_at}
 use Rattle.awk_table.proofs.Calls.{keeps, text-hit, text-miss}
 use Rattle.awk_table.proofs.NamedKeys.{chosen-none, chosen-some}
-use Rattle.awk_table.proofs.table.Table.get_or_make_text.Goals as goal
+use Rattle.awk_table.proofs.table.Table.get_or_make_long.Goals as goal
 
 pub returns-in_ok-clone-in-Some-clause-value : goal.returns-in_ok-clone-in-Some-clause-value
 returns-in_ok-clone-in-Some-clause-value c =
@@ -22,26 +22,26 @@ returns-in_ok-clone-in-Some-clause-made c =
     let key = c.args.key.now in
     sym (chosen-some (value_at old key) _ old (old ++ (key, Nothing) ∷ []) hit)
 
-pub add_text-requires-clause-new : goal.add_text-requires-clause-new
-add_text-requires-clause-new c =
+pub add_long-requires-clause-new : goal.add_long-requires-clause-new
+add_long-requires-clause-new c =
     let b = c.self.inside in
     let now = keeps b.next b.numbers.entries b.texts.entries _ c.self.invariant c.self.view_is in
     let miss = text-miss now c.args.key.now c.requires c.in-None.ensures.value in
     miss
 
-pub returns-in_ok-add_text-in-None-clause-value : goal.returns-in_ok-add_text-in-None-clause-value
-returns-in_ok-add_text-in-None-clause-value c =
+pub returns-in_ok-add_long-in-None-clause-value : goal.returns-in_ok-add_long-in-None-clause-value
+returns-in_ok-add_long-in-None-clause-value c =
     let b = c.self.inside in
     let now = keeps b.next b.numbers.entries b.texts.entries _ c.self.invariant c.self.view_is in
     let miss = text-miss now c.args.key.now c.requires c.in-None.ensures.value in
     ap (λ o. unwrap_or o Nothing) (sym miss)
 
-pub returns-in_ok-add_text-in-None-clause-made : goal.returns-in_ok-add_text-in-None-clause-made
-returns-in_ok-add_text-in-None-clause-made c =
+pub returns-in_ok-add_long-in-None-clause-made : goal.returns-in_ok-add_long-in-None-clause-made
+returns-in_ok-add_long-in-None-clause-made c =
     let b = c.self.inside in
     let now = keeps b.next b.numbers.entries b.texts.entries _ c.self.invariant c.self.view_is in
     let miss = text-miss now c.args.key.now c.requires c.in-None.ensures.value in
     let old = c.args.self.now in
     let key = c.args.key.now in
-    c.in_ok-add_text-in-None.ensures.added
+    c.in_ok-add_long-in-None.ensures.added
     ∙ sym (chosen-none (value_at old key) old (old ++ (key, Nothing) ∷ []) miss)

@@ -6,7 +6,7 @@ use Rattle.awk_table.specs.declared.table.Entry.{Entry}
 use Rattle.awk_table.specs.Arrays.{value_at}
 use Rattle.awk_table.proofs.Calls.{keeps, text-miss, text-put}
 use Rattle.awk_table.proofs.NamedKeys.{chosen-none, on_ok_to, on_err}
-use Rattle.awk_table.proofs.table.Table.put_text.Goals as goal
+use Rattle.awk_table.proofs.table.Table.put_long.Goals as goal
 
 pub invariant_of-self : goal.invariant_of-self
 invariant_of-self c =
@@ -28,8 +28,8 @@ returns-in-Some-clause-put c =
     let put = text-put now c.args.key.now c.requires x v c.in-Some.ensures.value in
     (put (c.get_mut.follows.lender w).entries (c.get_mut.follows.holds w).0).view
 
-pub add_text-requires-clause-new : goal.add_text-requires-clause-new
-add_text-requires-clause-new c =
+pub add_long-requires-clause-new : goal.add_long-requires-clause-new
+add_long-requires-clause-new c =
     let b = c.self.inside in
     let now = keeps b.next b.numbers.entries b.texts.entries _ c.self.invariant c.self.view_is in
     let miss = text-miss now c.args.key.now c.requires c.in-None.ensures.value in
@@ -45,7 +45,7 @@ returns-in-None-clause-put c =
     let old = c.args.self.now in
     let key = c.args.key.now in
     let v = c.args.value in
-    on_ok_to c.add_text.result _ _ _ c.add_text.ensures.added
+    on_ok_to c.add_long.result _ _ _ c.add_long.ensures.added
     (ap (λ m. the_view (record { numbers = b.numbers; texts = m; next = b.next }) ++ (key, v) ∷ []) c.get_mut.follows.holds-at-none
     ∙ ap (λ t. t ++ (key, v) ∷ []) c.self.view_is
     ∙ sym (chosen-none (value_at old key) (set_value (bytes_eq key) old v) (old ++ (key, v) ∷ []) miss))
@@ -55,4 +55,4 @@ returns-in-None-clause-absent c =
     let b = c.self.inside in
     let now = keeps b.next b.numbers.entries b.texts.entries _ c.self.invariant c.self.view_is in
     let miss = text-miss now c.args.key.now c.requires c.in-None.ensures.value in
-    on_err c.add_text.result miss
+    on_err c.add_long.result miss

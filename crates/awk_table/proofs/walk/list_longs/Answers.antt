@@ -1,7 +1,7 @@
 use Rattle.std.proofs.Common.{◌≡◌, ◌++◌, map, rules, ap, sym, ◌∙◌}
 use Rattle.std.proofs.lemmas.Map.Iter.{iter_end}
 use Rattle.awk_table.proofs.Moves.{map-twice}
-use Rattle.awk_table.proofs.walk.list_texts.Goals as goal
+use Rattle.awk_table.proofs.walk.list_longs.Goals as goal
 
 pub returns : goal.returns
 returns c =

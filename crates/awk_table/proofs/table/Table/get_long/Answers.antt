@@ -1,6 +1,6 @@
 use Rattle.std.proofs.Common.{sym}
 use Rattle.awk_table.proofs.Calls.{keeps, text-hit, text-miss}
-use Rattle.awk_table.proofs.table.Table.get_text.Goals as goal
+use Rattle.awk_table.proofs.table.Table.get_long.Goals as goal
 
 pub returns-in-Some : goal.returns-in-Some
 returns-in-Some c =
