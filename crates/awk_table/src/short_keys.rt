@@ -1,6 +1,6 @@
 // Keys that are texts of at most 23 bytes.
 
-ghost use Rattle.std.specs.Prelude.{◌≡◌, ◌<◌, ◌++◌, ◌∷◌, [], None, length, is_some, bytes_eq, IfOk, IfErr, OnOk, OnErr};
+ghost use Rattle.std.specs.Prelude.{◌≡◌, ◌++◌, ◌∷◌, ◌&&◌, [], None, nat_eq, is_some, bytes_eq, IfOk, IfErr, OnOk, OnErr};
 ghost use Rattle.std.specs.Option.{option_copied, unwrap_or};
 ghost use Rattle.indexmap.specs.IndexMap.{swap_remove_entry};
 ghost use Rattle.awk_value.specs.declared.value.Value.TheVariants.{Nothing};
@@ -85,7 +85,7 @@ impl Table {
         requires text { IsTextKey (short_text key.bytes key.len) }
         requires padded { IsPadded key.bytes key.len }
         requires new { value_at self.old (short_text key.bytes key.len) ≡ None }
-        ensures added { OnOk result (self.new ≡ self.old ++ ((short_text key.bytes key.len), value) ∷ []) }
+        ensures added { OnOk result (self.new ≡ self.old ++ (short_text key.bytes key.len, value) ∷ []) }
         ensures unchanged { OnErr result (self.new ≡ self.old) }
         ensures fault { IfErr result (λ fault. fault ≡ Memory) }
     {
@@ -101,7 +101,8 @@ impl Table {
 
 /// Takes a text's entry out of the map, whose last entry moves to its place.
 fn take_short(entries: &mut IndexMap<ShortText, Entry>, key: ShortText)
-    ensures { entries.new.entries ≡ swap_remove_entry (λ k. bytes_eq (short_text key.bytes key.len) k.items) entries.old.entries }
+    ensures { entries.new.entries ≡ swap_remove_entry (λ k. bytes_eq key.bytes k.bytes && nat_eq key.len k.len)
+        entries.old.entries }
 {
     let _ = entries.swap_remove(&key);
 }

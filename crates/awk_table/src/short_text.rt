@@ -9,8 +9,8 @@ const ROOM: usize = 23;
 /// A text of at most 23 bytes, and zeros up to the end.
 #[derive(Clone, Copy, PartialEq, Eq, Hash)]
 pub(crate) struct ShortText {
-    bytes: [u8; ROOM],
-    len: u8,
+    pub(crate) bytes: [u8; ROOM],
+    pub(crate) len: u8,
 }
 
 impl ShortText {
