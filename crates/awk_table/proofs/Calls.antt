@@ -70,7 +70,7 @@ same-short k q x p =
     let whole = bytes_eq-Decides (short_of k) (short_of x) in
     let room = bytes_eq-Decides k.bytes x.bytes in
     let Parts : Type 0 = (k.bytes ≡ x.bytes) × (k.len ≡ x.len) in
-    TwoMaps.same_tests (bytes_eq (short_of k) (short_of x)) (bytes_eq k.bytes x.bytes && nat_eq k.len x.len) whole.0 whole.1 {Q = Parts}
+    TwoMaps.same_tests {Q = Parts} (bytes_eq (short_of k) (short_of x)) (bytes_eq k.bytes x.bytes && nat_eq k.len x.len) whole.0 whole.1
     (λ e. let h = both (bytes_eq k.bytes x.bytes) (nat_eq k.len x.len) e in (room.0 h.0, equal_numbers k.len x.len h.1))
     (λ r. both_true (room.1 r.0) (numbers_equal k.len x.len r.1))
     (λ e. let len : k.len ≡ x.len = q.1 ∙ ap length e ∙ sym p.1 in (q.2 ∙ (λ j. e j ++ replicate (23 - len j) 0) ∙ sym p.2, len))

@@ -330,6 +330,11 @@ unfolding IsDistinct
 split_none items stamp value n ns ts e f =
     subst (λ l. IsConsistent items stamp value n l ts) (sym e) (subst (λ l. IsConsistent items stamp value n [] l) (sym f) ((tt, tt, tt), tt, tt))
 
+pub all_moved : {X : Type 0} (P : X → Type 0) (xs ys : List X) (x : X) → IsPermutation xs (x ∷ ys)
+    → AllByRecursion P xs → AllByRecursion P ys
+all_moved P xs ys x m a =
+    (recursion_from_All P (x ∷ ys) (All-permutation P xs (x ∷ ys) m (All-from_recursion P xs a))).1
+
 -- a key taken out
 module _ {T E V : Type 0} (items : T → List ℕ) (stamp : E → ℕ) (value : E → V) (n : ℕ) (ns : List (ℤ × E)) (ts : List (T × E)) (i : IsConsistent items stamp value n ns ts) where
   pub record Out (k : List ℕ) (ms : List (ℤ × E)) (us : List (T × E)) : Type 0 where
@@ -342,11 +347,6 @@ module _ {T E V : Type 0} (items : T → List ℕ) (stamp : E → ℕ) (value : 
     seen =
         sym (without-none (λ k. k) stamp value bytes_eq n (bytes_eq k) (λ x y. nat_list_eq_equiv.congr k x y) (all_entries items ns ts) i.0.0 i.0.1 i.0.2 e);
   }
-
-  pub all_moved : {X : Type 0} (P : X → Type 0) (xs ys : List X) (x : X) → IsPermutation xs (x ∷ ys)
-      → AllByRecursion P xs → AllByRecursion P ys
-  all_moved P xs ys x m a =
-      (recursion_from_All P (x ∷ ys) (All-permutation P xs (x ∷ ys) m (All-from_recursion P xs a))).1
 
   pub number-out : (z : ℤ) → IsInt64 z → (ms : List (ℤ × E)) → ms ≡ swap_remove_entry (int_eq z) ns
       → Out (signed_decimal z) ms ts
@@ -388,20 +388,20 @@ module _ {T E V : Type 0} (items : T → List ℕ) (stamp : E → ℕ) (value : 
 
 -- texts that change places
 module _ {T E V : Type 0} (items : T → List ℕ) (stamp : E → ℕ) (value : E → V) (n : ℕ) (ns : List (ℤ × E)) (ts us : List (T × E)) (m : IsPermutation ts us) (i : IsConsistent items stamp value n ns ts) where
-  moves : IsPermutation (all_entries items ns ts) (all_entries items ns us)
-  moves =
+  texts-moved : IsPermutation (all_entries items ns ts) (all_entries items ns us)
+  texts-moved =
       IsPermutation-append_right (map (λ e. (signed_decimal e.0, e.1)) ns) _ _ (IsPermutation-map (λ e. (items e.0, e.1)) ts us m)
 
   pub text-kept-moved : IsConsistent items stamp value n ns us
   text-kept-moved = (
-    kept-moved (λ k. k) stamp value bytes_eq turned_keys n (all_entries items ns ts) (all_entries items ns us) moves i.0,
+    kept-moved (λ k. k) stamp value bytes_eq turned_keys n (all_entries items ns ts) (all_entries items ns us) texts-moved i.0,
     i.1,
     recursion_from_All (λ t. IsTextKey (items t)) (keys_of us) (All-permutation (λ t. IsTextKey (items t)) (keys_of ts) (keys_of us) (IsPermutation-map (λ e. e.0) ts us m) (All-from_recursion (λ t. IsTextKey (items t)) (keys_of ts) i.2)),
   )
 
   pub text-seen-moved : stamp_order n (all_rows items stamp value ns us) ≡ stamp_order n (all_rows items stamp value ns ts)
   text-seen-moved =
-      ordered-moved (λ k. k) stamp value bytes_eq n (all_entries items ns ts) (all_entries items ns us) moves i.0
+      ordered-moved (λ k. k) stamp value bytes_eq n (all_entries items ns ts) (all_entries items ns us) texts-moved i.0
 
 -- the keys and their number
 module _ {T E V : Type 0} (items : T → List ℕ) (stamp : E → ℕ) (value : E → V) (n : ℕ) (ns : List (ℤ × E)) (ts : List (T × E)) (i : IsConsistent items stamp value n ns ts) where
