@@ -16,7 +16,7 @@ pub(crate) struct ShortText {
 impl ShortText {
     /// The text, if it is short.
     pub(crate) fn new(text: &[u8]) -> Option<ShortText>
-        ensures text { IfSome result (λ short. short_text short.bytes short.len ≡ text.now) }
+        ensures text { IfSome result (λ short. text.now ≡ short_text short.bytes short.len) }
         ensures padded { IfSome result (λ short. IsPadded short.bytes short.len) }
         ensures long { IfNone result (23 < length text.now) }
     {
