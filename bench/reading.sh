@@ -1,8 +1,9 @@
 #!/bin/sh
 # Times reading program texts of a megabyte, of as many kinds as there are forms: the seconds of the processor, and the peak
-# memory and the answer of this awk. Nothing is run: a text is refused once it is read, or has an empty input. A `*` stands
-# behind the seconds of an awk that ends with another status than 0, `-` where it takes more than 20 seconds. Needs GNU
-# time, timeout and yes.
+# memory and the answer of this awk. Nothing is run: a text is refused once it is read, or has an empty input. The column
+# `parse` is this awk's with a `)` behind the text: no program begins so, and it ends where the text is lexed and parsed. A
+# `*` stands behind the seconds of an awk that ends with another status than 0, `-` where it takes more than 20 seconds.
+# Needs GNU time, timeout and yes.
 #
 #   bench/reading.sh [ROUNDS [EXECUTABLE]]    without an executable: the one that the launcher builds
 set -eu
@@ -20,6 +21,7 @@ fi
 executable=$2
 
 . "$root/bench/rounds.sh"
+names="parse $names"
 
 # The bytes of a text, about.
 size=1000000
@@ -122,12 +124,14 @@ joined 'no program at its last byte' '{' ';' ')'
 
 # Reads one of them, and notes the seconds and the peak memory.
 measure() { # NAME TEXT
+    text=$2
     case $1 in
+    parse) command=$executable text="$2)" ;;
     this) command=$executable ;;
     *) command=$1 ;;
     esac
     code=0
-    command time -q -f '%U %S %M' -o "$work/$1.time" timeout 20 "$command" -f "$work/$2" </dev/null \
+    command time -q -f '%U %S %M' -o "$work/$1.time" timeout 20 "$command" -f "$work/$text" </dev/null \
         >"$work/$1.output" 2>&1 || code=$?
     # (hundredths, as whole numbers with no zero in front)
     read -r user system memory <<SECONDS
@@ -143,13 +147,18 @@ SECONDS
 }
 
 head_of_table text bytes answer 'peak memory, KB'
-while read -r text; do
-    take_rounds "$text"
-    printf '| %s | %s | %s | %s |' "$(in_table "$text")" "$(wc -c <"$work/$text")" \
+while read -r kind; do
+    {
+        cat "$work/$kind"
+        printf '\n)'
+    } >"$work/$kind)"
+    take_rounds "$kind"
+    printf '| %s | %s | %s | %s |' "$(in_table "$kind")" "$(wc -c <"$work/$kind")" \
         "$(head -n 1 "$work/this.output" | sed 's/.*refusal //' | cut -c 1-40)" "$(peak_memory this)"
     for name in $names; do
-        case $(cat "$work/$name.mark") in
-        -) printf ' - |' ;;
+        case $name$(cat "$work/$name.mark") in
+        *-) printf ' - |' ;;
+        parse*) printf ' %s |' "$(least_seconds "$name")" ;;
         *) printf ' %s%s |' "$(least_seconds "$name")" "$(cat "$work/$name.mark")" ;;
         esac
     done
