@@ -5,6 +5,7 @@ use awk_record::{BufferFault, RecordBuffer, Step};
 use awk_text::Separator;
 use awk_value::{Bytes, Value, append_text};
 use std::alloc::{AllocError, Global};
+use std::process::Abort;
 use std::test::Fail;
 
 /// An input, and the records that it is cut into.
@@ -125,6 +126,10 @@ fn cuts_inputs_into_records(rt: HostRuntime) -> Result<(), Fail> {
     Ok(())
 }
 
+fn text_in(alloc: Global, text: &[u8]) -> Result<Bytes, AllocError> {
+    Bytes::from_slice(alloc, text)
+}
+
 fn is_input(value: &Value, text: &str) -> bool {
     match value {
         Value::Input(bytes) => bytes.as_slice() == text.as_bytes(),
@@ -132,15 +137,13 @@ fn is_input(value: &Value, text: &str) -> bool {
     }
 }
 
-#[test]
-fn splits_a_record_into_fields(rt: HostRuntime) -> Result<(), Fail> {
-    let mut record = Record::new(rt.alloc())?;
+/// A record's fields between blanks.
+fn split_at_blanks(rt: &impl Abort, alloc: Global, record: &mut Record) -> Result<(), RecordFault> {
     assert_eq!(rt; record.count()?, 0);
     assert!(rt; is_input(&record.field(0)?, ""));
 
     let text = " \tone two\n\nthree ";
-    let bytes = Bytes::from_slice(rt.alloc(), text.as_bytes())?;
-    record.set_text(bytes, b" ", false)?;
+    record.set_text(text_in(alloc, text.as_bytes())?, b" ", false)?;
     assert_eq!(rt; record.count()?, 3);
     assert!(rt; is_input(&record.field(0)?, text));
     assert!(rt; is_input(&record.field(1)?, "one"));
@@ -149,18 +152,16 @@ fn splits_a_record_into_fields(rt: HostRuntime) -> Result<(), Fail> {
     assert!(rt; matches!(record.field(i128::MAX)?, Value::Nothing));
     assert!(rt; matches!(record.field(-1), Err(RecordFault::FieldNumber)));
 
-    let mut buffer = b"> ".to_vec(rt.alloc())?;
+    let mut buffer = b"> ".to_vec(alloc)?;
     record.append_text(&mut buffer)?;
     assert_eq!(rt; buffer.len(), text.len() + 2);
     assert_eq!(rt; record.text()?.as_slice(), text.as_bytes());
     Ok(())
 }
 
-#[test]
-fn splits_a_record_at_a_byte(rt: HostRuntime) -> Result<(), Fail> {
-    let mut record = Record::new(rt.alloc())?;
-    let bytes = Bytes::from_slice(rt.alloc(), b"root: x::")?;
-    record.set_text(bytes, b":", false)?;
+/// A record's fields between colons.
+fn split_at_colons(rt: &impl Abort, alloc: Global, record: &mut Record) -> Result<(), RecordFault> {
+    record.set_text(text_in(alloc, b"root: x::")?, b":", false)?;
     assert_eq!(rt; record.count()?, 4);
     assert!(rt; is_input(&record.field(0)?, "root: x::"));
     assert!(rt; is_input(&record.field(1)?, "root"));
@@ -168,8 +169,16 @@ fn splits_a_record_at_a_byte(rt: HostRuntime) -> Result<(), Fail> {
     assert!(rt; is_input(&record.field(4)?, ""));
     assert!(rt; matches!(record.field(5)?, Value::Nothing));
 
-    record.set_text(Bytes::from_slice(rt.alloc(), b"")?, b":", false)?;
+    record.set_text(text_in(alloc, b"")?, b":", false)?;
     assert_eq!(rt; record.count()?, 0);
+    Ok(())
+}
+
+#[test]
+fn splits_a_record_into_fields(rt: HostRuntime) -> Result<(), Fail> {
+    let mut record = Record::new(rt.alloc())?;
+    split_at_blanks(&rt, rt.alloc(), &mut record)?;
+    split_at_colons(&rt, rt.alloc(), &mut record)?;
     Ok(())
 }
 
@@ -252,34 +261,41 @@ fn agrees(record: &mut Record, first: usize, fields: &[Vec<u8>]) -> Result<bool,
     Ok(record.count()? == fields.len())
 }
 
+/// In how many ways to split the text of this number a record differs from its plain fields.
+fn count_differing(alloc: Global, record: &mut Record, number: u32) -> Result<u32, RecordFault> {
+    let text = text_of_number(alloc, number)?;
+    let first = (number % 7) as usize;
+    let mut differing: u32 = 0;
+    for separator in [Separator::Blanks, Separator::Byte(b':')] {
+        let fields = plain_fields(alloc, text.as_slice(), separator)?;
+        record.set_text(text_in(alloc, text.as_slice())?, value_of(separator), false)?;
+        if !agrees(record, first, fields.as_slice())? {
+            differing = differing.saturating_add(1);
+        }
+    }
+    Ok(differing)
+}
+
 #[test]
 fn goes_as_a_plain_split(rt: HostRuntime) -> Result<(), Fail> {
     let mut record = Record::new(rt.alloc())?;
     for number in 0..15_625 {
-        let text = text_of_number(rt.alloc(), number)?;
-        for separator in [Separator::Blanks, Separator::Byte(b':')] {
-            let fields = plain_fields(rt.alloc(), text.as_slice(), separator)?;
-            let first = (number % 7) as usize;
-            let bytes = Bytes::from_slice(rt.alloc(), text.as_slice())?;
-            record.set_text(bytes, value_of(separator), false)?;
-            let agreed = agrees(&mut record, first, fields.as_slice())?;
-            assert!(rt; agreed, "{number} {separator:?}");
-        }
+        let differing = count_differing(rt.alloc(), &mut record, number)?;
+        assert_eq!(rt; differing, 0, "{number}");
     }
     assert_eq!(rt; record.splits(), 31_250);
     Ok(())
 }
 
-#[test]
-fn splits_what_is_asked_once(rt: HostRuntime) -> Result<(), Fail> {
-    let mut record = Record::new(rt.alloc())?;
-    record.set_text(Bytes::from_slice(rt.alloc(), b"a b c")?, b" ", false)?;
+/// Asks for what needs no fields, and then for fields out of their order.
+fn ask(rt: &impl Abort, alloc: Global, record: &mut Record) -> Result<(), RecordFault> {
+    record.set_text(text_in(alloc, b"a b c")?, b" ", false)?;
     record.text()?;
     record.field(0)?;
-    record.append_text(&mut Vec::new(rt.alloc()))?;
+    record.append_text(&mut Vec::new(alloc))?;
     assert_eq!(rt; record.splits(), 0);
     for _ in 0..10 {
-        record.set_text(Bytes::from_slice(rt.alloc(), b"a b c")?, b" ", false)?;
+        record.set_text(text_in(alloc, b"a b c")?, b" ", false)?;
         assert!(rt; is_input(&record.field(1)?, "a"));
         assert!(rt; is_input(&record.field(3)?, "c"));
         assert!(rt; is_input(&record.field(2)?, "b"));
@@ -290,14 +306,15 @@ fn splits_what_is_asked_once(rt: HostRuntime) -> Result<(), Fail> {
     Ok(())
 }
 
-fn text_in(alloc: Global, text: &[u8]) -> Result<Bytes, AllocError> {
-    Bytes::from_slice(alloc, text)
+#[test]
+fn splits_what_is_asked_once(rt: HostRuntime) -> Result<(), Fail> {
+    let mut record = Record::new(rt.alloc())?;
+    ask(&rt, rt.alloc(), &mut record)?;
+    Ok(())
 }
 
-#[test]
-fn joins_what_was_assigned(rt: HostRuntime) -> Result<(), Fail> {
-    let alloc = rt.alloc();
-    let mut record = Record::new(alloc)?;
+/// Assigns fields that are there.
+fn assign_present(rt: &impl Abort, alloc: Global, record: &mut Record) -> Result<(), RecordFault> {
     record.set_text(text_in(alloc, b"a b c")?, b" ", false)?;
     record.set_field(1, Value::Number(7), text_in(alloc, b"-")?)?;
     record.set_field(
@@ -312,7 +329,11 @@ fn joins_what_was_assigned(rt: HostRuntime) -> Result<(), Fail> {
     assert_eq!(rt; record.text()?.as_slice(), "7--y--c".as_bytes());
     assert!(rt; is_input(&record.field(0)?, "7--y--c"));
     assert_eq!(rt; record.joins(), 1);
+    Ok(())
+}
 
+/// Assigns a field past the last one, and counts.
+fn assign_absent(rt: &impl Abort, alloc: Global, record: &mut Record) -> Result<(), RecordFault> {
     record.set_field(
         5,
         Value::Input(text_in(alloc, b"z")?),
@@ -332,14 +353,20 @@ fn joins_what_was_assigned(rt: HostRuntime) -> Result<(), Fail> {
     Ok(())
 }
 
+#[test]
+fn joins_what_was_assigned(rt: HostRuntime) -> Result<(), Fail> {
+    let mut record = Record::new(rt.alloc())?;
+    assign_present(&rt, rt.alloc(), &mut record)?;
+    assign_absent(&rt, rt.alloc(), &mut record)?;
+    Ok(())
+}
+
 fn is_refused(answer: Result<(), RecordFault>) -> bool {
     matches!(answer, Err(RecordFault::FieldNumber))
 }
 
-#[test]
-fn refuses_numbers_out_of_range(rt: HostRuntime) -> Result<(), Fail> {
-    let alloc = rt.alloc();
-    let mut record = Record::new(alloc)?;
+/// Assigns fields and counts out of their range, and the last one within.
+fn assign_beyond(rt: &impl Abort, alloc: Global, record: &mut Record) -> Result<(), RecordFault> {
     record.set_text(text_in(alloc, b"a b c")?, b" ", false)?;
     for number in [-1, 0, 1_000_001, i128::MAX] {
         let result = record.set_field(number, Value::Number(1), text_in(alloc, b"-")?);
@@ -354,6 +381,13 @@ fn refuses_numbers_out_of_range(rt: HostRuntime) -> Result<(), Fail> {
     record.set_field(1_000_000, Value::Number(1), text_in(alloc, b"-")?)?;
     assert_eq!(rt; record.count()?, 1_000_000);
     assert_eq!(rt; record.text()?.len(), 1_000_003);
+    Ok(())
+}
+
+#[test]
+fn refuses_numbers_out_of_range(rt: HostRuntime) -> Result<(), Fail> {
+    let mut record = Record::new(rt.alloc())?;
+    assign_beyond(&rt, rt.alloc(), &mut record)?;
     Ok(())
 }
 
@@ -444,6 +478,21 @@ fn are_alike(alloc: Global, record: &mut Record, plain: &PlainRecord) -> Result<
     Ok(counted && record.text()?.as_slice() == plain.text.as_slice())
 }
 
+/// Whether a record goes as a plain one in the five calls of this number.
+fn goes_as_plain(
+    alloc: Global,
+    list: u32,
+    record: &mut Record,
+    plain: &mut PlainRecord,
+) -> Result<bool, RecordFault> {
+    let mut calls = list;
+    for _ in 0..5 {
+        call(alloc, calls % 6, record, plain)?;
+        calls /= 6;
+    }
+    are_alike(alloc, record, plain)
+}
+
 #[test]
 fn goes_as_a_plain_record(rt: HostRuntime) -> Result<(), Fail> {
     let alloc = rt.alloc();
@@ -453,12 +502,10 @@ fn goes_as_a_plain_record(rt: HostRuntime) -> Result<(), Fail> {
             text: Vec::new(alloc),
             fields: Vec::new(alloc),
         };
-        let mut calls: u32 = list;
-        for _ in 0..5 {
-            call(alloc, calls % 6, &mut record, &mut plain)?;
-            calls /= 6;
-        }
-        assert!(rt; are_alike(alloc, &mut record, &plain)?, "{list}");
+        assert!(rt;
+            goes_as_plain(alloc, list, &mut record, &mut plain)?,
+            "{list}"
+        );
     }
     Ok(())
 }
