@@ -4,4 +4,5 @@ mod OneEntry
 mod Counts
 mod Moves
 mod TwoMaps
+mod Joined
 mod Calls
