@@ -7,7 +7,7 @@ use Rattle.std.specs.List.Sorted.{IsPermutation}
 use Rattle.std.proofs.lemmas.List.Sorted.{IsPermutation-append_left, IsPermutation-append_right, IsPermutation-append_comm, IsPermutation-map, IsPermutation-trans, IsPermutation-middle}
 use Rattle.awk_table.specs.support.Entries.{joined}
 use Rattle.awk_table.proofs.NamedKeys.{lookup-named, set_value-named, map-push}
-use Rattle.awk_table.proofs.TwoMaps.{not_bytes, lookup-left, lookup-right, set-left, set-right}
+use Rattle.awk_table.proofs.NumbersAndTexts.{not_bytes, lookup-left, lookup-right, set-left, set-right}
 
 -- keys that all differ from a text, and a test that answers as the comparison with it does
 module _ {K E : Type 0} (name : K → List ℕ) (Q : K → Type 0) (k : List ℕ) where

@@ -1,6 +1,6 @@
 // The array. A key that is the decimal form of a 64-bit number is kept as that number, any other
-// as its text: in place where it has at most 23 bytes. Each entry has the stamp of its making, and a removal may move entries: only a walk
-// looks at the order, by the stamps.
+// as its text: in place where it has at most 23 bytes. Each entry has the stamp of its making, and a
+// removal may move entries: only a walk looks at the order, by the stamps.
 
 ghost use Rattle.std.specs.Prelude.{◌≡◌, [], None, length, is_some, IfOk, IfErr, OnOk, OnErr};
 ghost use Rattle.std.specs.Option.{option_copied, unwrap_or};
@@ -48,7 +48,7 @@ impl Model for Table {
         (joined (λ s. short_text s.bytes s.len) (λ v. v.items) t.shorts.entries t.longs.entries)) };
 
     ghost invariant = { λ t. IsConsistent (λ k. k) (λ e. e.stamp) (λ e. e.value) t.next t.numbers.entries
-            (joined (λ s. short_text s.bytes s.len) (λ v. v.items) t.shorts.entries t.longs.entries)
+        (joined (λ s. short_text s.bytes s.len) (λ v. v.items) t.shorts.entries t.longs.entries)
         × AllByRecursion (λ s. IsPadded s.bytes s.len) (keys_of t.shorts.entries)
         × AllByRecursion (λ v. 23 < length v.items) (keys_of t.longs.entries) };
 }
@@ -71,6 +71,8 @@ impl Table {
         ensures len { result ≡ length self.now }
         ensures distinct { HasDistinctKeys self.now }
     {
+        // no more keys are present than were made
+        let _made = self.next;
         self.numbers.len() + self.shorts.len() + self.longs.len()
     }
 
