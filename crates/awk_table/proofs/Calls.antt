@@ -1,22 +1,49 @@
--- What a call shows of the two maps that keep an array: one lemma a call, at a number and at a text.
-use Rattle.std.proofs.Common.{◌≡◌, ℕ, ℤ, ◌+◌, FitsSigned, w64, to_z, of_z, to_z-of_z, List, [], ◌∷◌, ◌++◌, length, refl, sym, ap, subst, ◌∙◌, Option, Some, None, is_some}
+-- What a call shows of the three maps that keep an array: one lemma a call, at a number, a short text
+-- and a long one.
+use Rattle.std.proofs.Common.{◌≡◌, ℕ, ℤ, ◌+◌, ◌-◌, ◌<◌, ◌≤◌, Bool, true, false, nat_eq, true≢false, arith, append_assoc, length-append, FitsSigned, w64, to_z, of_z, to_z-of_z, List, [], ◌∷◌, ◌++◌, length, refl, sym, ap, subst, ◌∙◌, Option, Some, None, is_some}
 use Rattle.std.specs.Fmt.{signed_decimal}
-use Rattle.std.specs.Prelude.{bytes_eq, map}
+use Rattle.std.specs.Prelude.{bytes_eq, map, replicate, ◌&&◌}
 use Rattle.std.specs.Ordering.{int_eq}
 use Rattle.std.specs.Map.{lookup, set_value, keys_of}
+use Rattle.std.specs.List.{AllByRecursion}
 use Rattle.std.specs.List.Sorted.{IsPermutation, IsNonDecreasingBy}
+use Rattle.std.specs.Cmp.Derive.{both_true}
+use Rattle.std.proofs.lemmas.Bool.Decides.{nat_tests}
+use Rattle.std.proofs.lemmas.Slice.Eq.{bytes_eq-Decides}
+use Rattle.std.proofs.lemmas.List.{length-map}
+use Rattle.std.proofs.lemmas.List.Sorted.{IsPermutation-map, IsPermutation-refl}
 use Rattle.std.specs.Global.{Vec}
 use Rattle.indexmap.specs.IndexMap.{swap_remove_entry}
 use Rattle.awk_value.specs.declared.value.Value.{Value}
 use Rattle.awk_table.specs.declared.table.Entry.{Entry}
+use Rattle.awk_table.specs.declared.short_text.ShortText.{ShortText}
 use Rattle.awk_table.specs.Arrays.{Array, value_at, with_pair, without, HasDistinctKeys}
 use Rattle.awk_table.specs.support.StampOrder.{stamp_order}
-use Rattle.awk_table.specs.support.Entries.{IsInt64, IsTextKey, IsConsistent, all_rows}
+use Rattle.awk_table.specs.support.Entries.{IsInt64, IsTextKey, IsConsistent, all_rows, joined, short_text, IsPadded}
 use Rattle.awk_table.proofs.NamedKeys.{chosen-some}
-use Rattle.awk_table.proofs.TwoMaps
+use Rattle.awk_table.proofs.Moves.{swap-hit, swap-missed, map-both, map-twice}
+use Rattle.awk_table.proofs.Joined.{left-lookup, left-set, left-more, left-taken, right-lookup, right-set, right-more, right-taken}
+use Rattle.awk_table.proofs.Counts.{stamp_order-few}
+use Rattle.awk_table.proofs.NumbersAndTexts
 
-abbrev text_of : Vec ℕ → List ℕ
-text_of v = v.items
+abbrev text_of : List ℕ → List ℕ
+text_of k = k
+
+abbrev short_of : ShortText → List ℕ
+short_of s = short_text s.bytes s.len
+
+abbrev long_of : Vec ℕ → List ℕ
+long_of v = v.items
+
+abbrev IsShort : ShortText → Type 0
+IsShort s = IsPadded s.bytes s.len
+
+abbrev IsLong : Vec ℕ → Type 0
+IsLong v = 23 < length v.items
+
+-- the entries by texts
+abbrev texts_in : List (ShortText × Entry) → List (Vec ℕ × Entry) → List (List ℕ × Entry)
+texts_in ss ts = joined (λ s. short_text s.bytes s.len) (λ v. v.items) ss ts
 
 abbrev stamp_of : Entry → ℕ
 stamp_of e = e.stamp
@@ -24,17 +51,46 @@ stamp_of e = e.stamp
 abbrev value_of : Entry → Value
 value_of e = e.value
 
+both : (a b : Bool) → (a && b) ≡ true → (a ≡ true) × (b ≡ true)
+both true true e = (refl, refl)
+both true false e = absurd (true≢false (sym e))
+both false b e = absurd (true≢false (sym e))
+
+too_long : (len : ℕ) (short long : List ℕ) → len ≤ 23 → len ≡ length short → 23 < length long → short ≡ long → ⊥
+too_long len short long a b c e = let h : length short ≡ length long = ap length e in omega arith
+
+equal_numbers : (m n : ℕ) → nat_eq m n ≡ true → m ≡ n
+equal_numbers m n e = grind (arith, nat_tests)
+
+numbers_equal : (m n : ℕ) → m ≡ n → nat_eq m n ≡ true
+numbers_equal m n e = grind (arith, nat_tests)
+
+-- short texts are compared as their bytes and lengths are
+same-short : (k : ShortText) → IsPadded k.bytes k.len → (x : ShortText) → IsPadded x.bytes x.len
+    → bytes_eq (short_of k) (short_of x) ≡ (bytes_eq k.bytes x.bytes && nat_eq k.len x.len)
+same-short k q x p =
+    let whole = bytes_eq-Decides (short_of k) (short_of x) in
+    let room = bytes_eq-Decides k.bytes x.bytes in
+    let Parts : Type 0 = (k.bytes ≡ x.bytes) × (k.len ≡ x.len) in
+    NumbersAndTexts.same_tests {Q = Parts} (bytes_eq (short_of k) (short_of x)) (bytes_eq k.bytes x.bytes && nat_eq k.len x.len) whole.0 whole.1
+    (λ e. let h = both (bytes_eq k.bytes x.bytes) (nat_eq k.len x.len) e in (room.0 h.0, equal_numbers k.len x.len h.1))
+    (λ r. both_true (room.1 r.0) (numbers_equal k.len x.len r.1))
+    (λ e. let len : k.len ≡ x.len = q.1 ∙ ap length e ∙ sym p.1 in (q.2 ∙ (λ j. e j ++ replicate (23 - len j) 0) ∙ sym p.2, len))
+    (λ r. (λ j. short_text (r.0 j) (r.1 j)))
+
 -- the maps keep the array
-pub record Keeps (n : ℕ) (ns : List (ℤ × Entry)) (ts : List (Vec ℕ × Entry)) (a : Array) : Type 0 where
-  pub consistent : IsConsistent (λ v. v.items) (λ e. e.stamp) (λ e. e.value) n ns ts
-  pub view : stamp_order n (all_rows (λ v. v.items) (λ e. e.stamp) (λ e. e.value) ns ts) ≡ a
+pub record Keeps (n : ℕ) (ns : List (ℤ × Entry)) (ss : List (ShortText × Entry)) (ts : List (Vec ℕ × Entry)) (a : Array) : Type 0 where
+  pub consistent : IsConsistent (λ k. k) (λ e. e.stamp) (λ e. e.value) n ns (texts_in ss ts)
+      × AllByRecursion (λ s. IsPadded s.bytes s.len) (keys_of ss) × AllByRecursion (λ v. 23 < length v.items) (keys_of ts)
+  pub view : stamp_order n (all_rows (λ k. k) (λ e. e.stamp) (λ e. e.value) ns (texts_in ss ts)) ≡ a
 
-pub keeps : (n : ℕ) (ns : List (ℤ × Entry)) (ts : List (Vec ℕ × Entry)) (a : Array)
-    → IsConsistent (λ v. v.items) (λ e. e.stamp) (λ e. e.value) n ns ts
-    → stamp_order n (all_rows (λ v. v.items) (λ e. e.stamp) (λ e. e.value) ns ts) ≡ a → Keeps n ns ts a
-keeps n ns ts a i e = record { consistent = i; view = e }
+pub keeps : (n : ℕ) (ns : List (ℤ × Entry)) (ss : List (ShortText × Entry)) (ts : List (Vec ℕ × Entry)) (a : Array)
+    → IsConsistent (λ k. k) (λ e. e.stamp) (λ e. e.value) n ns (texts_in ss ts)
+    × AllByRecursion (λ s. IsPadded s.bytes s.len) (keys_of ss) × AllByRecursion (λ v. 23 < length v.items) (keys_of ts)
+    → stamp_order n (all_rows (λ k. k) (λ e. e.stamp) (λ e. e.value) ns (texts_in ss ts)) ≡ a → Keeps n ns ss ts a
+keeps n ns ss ts a i e = record { consistent = i; view = e }
 
-module _ {n : ℕ} {ns : List (ℤ × Entry)} {ts : List (Vec ℕ × Entry)} {a : Array} (now : Keeps n ns ts a) where
+module _ {n : ℕ} {ns : List (ℤ × Entry)} {ss : List (ShortText × Entry)} {ts : List (Vec ℕ × Entry)} {a : Array} (now : Keeps n ns ss ts a) where
   -- at a number z, which the code lends as `lent`
   module _ (z : ℤ) (f : FitsSigned w64 z) where
     abbrev lent : ℤ
@@ -44,7 +100,7 @@ module _ {n : ℕ} {ns : List (ℤ × Entry)} {ts : List (Vec ℕ × Entry)} {a 
     key = signed_decimal z
 
     s : IsInt64 z
-    s = TwoMaps.is_int64 z f
+    s = NumbersAndTexts.is_int64 z f
 
     own : (o : Option Entry) → o ≡ lookup (int_eq lent) ns → lookup (int_eq z) ns ≡ o
     own o e = ap (λ k. lookup (int_eq k) ns) (sym (to_z-of_z f)) ∙ sym e
@@ -52,113 +108,249 @@ module _ {n : ℕ} {ns : List (ℤ × Entry)} {ts : List (Vec ℕ × Entry)} {a 
     pub number-present : is_some (lookup (int_eq lent) ns) ≡ is_some (value_at a key)
     number-present =
         ap (λ k. is_some (lookup (int_eq k) ns)) (to_z-of_z f)
-        ∙ TwoMaps.number-is text_of stamp_of value_of n ns ts now.consistent z s
+        ∙ NumbersAndTexts.number-is text_of stamp_of value_of n ns (texts_in ss ts) now.consistent.0 z s
         ∙ ap (λ t. is_some (value_at t key)) now.view
 
     pub number-hit : (x : Entry) → Some x ≡ lookup (int_eq lent) ns → value_at a key ≡ Some x.value
     number-hit x e =
         sym (ap (λ t. value_at t key) now.view)
-        ∙ TwoMaps.number-some text_of stamp_of value_of n ns ts now.consistent z s x (own (Some x) e)
+        ∙ NumbersAndTexts.number-some text_of stamp_of value_of n ns (texts_in ss ts) now.consistent.0 z s x (own (Some x) e)
 
     pub number-miss : None ≡ lookup (int_eq lent) ns → value_at a key ≡ None
     number-miss e =
         sym (ap (λ t. value_at t key) now.view)
-        ∙ TwoMaps.number-none text_of stamp_of value_of n ns ts now.consistent z s (own None e)
+        ∙ NumbersAndTexts.number-none text_of stamp_of value_of n ns (texts_in ss ts) now.consistent.0 z s (own None e)
 
     pub number-put : (x : Entry) (v : Value) → Some x ≡ lookup (int_eq lent) ns → (ms : List (ℤ × Entry))
-        → ms ≡ set_value (int_eq lent) ns (record { stamp = x.stamp; value = v }) → Keeps n ms ts (with_pair a key v)
+        → ms ≡ set_value (int_eq lent) ns (record { stamp = x.stamp; value = v }) → Keeps n ms ss ts (with_pair a key v)
     number-put x v e ms m =
         let w : Entry = record { stamp = x.stamp; value = v } in
         let there = own (Some x) e in
         let set : ms ≡ set_value (int_eq z) ns w = m ∙ ap (λ k. set_value (int_eq k) ns w) (to_z-of_z f) in
         record {
-          consistent = TwoMaps.number-kept-set text_of stamp_of value_of n ns ts now.consistent z s x w refl there ms set;
+          consistent = (NumbersAndTexts.number-kept-set text_of stamp_of value_of n ns (texts_in ss ts) now.consistent.0 z s x w refl there ms set, now.consistent.1, now.consistent.2);
           view =
-              TwoMaps.number-seen-set text_of stamp_of value_of n ns ts now.consistent z s x w refl there ms set
+              NumbersAndTexts.number-seen-set text_of stamp_of value_of n ns (texts_in ss ts) now.consistent.0 z s x w refl there ms set
               ∙ ap (λ t. set_value (bytes_eq key) t v) now.view
               ∙ sym (chosen-some (value_at a key) x.value (set_value (bytes_eq key) a v) (a ++ (key, v) ∷ []) (number-hit x e));
         }
 
     pub number-absent : value_at a key ≡ None → lookup (int_eq z) ns ≡ None
     number-absent e =
-        TwoMaps.number-absent text_of stamp_of value_of n ns ts now.consistent z s (ap (λ t. value_at t key) now.view ∙ e)
+        NumbersAndTexts.number-absent text_of stamp_of value_of n ns (texts_in ss ts) now.consistent.0 z s (ap (λ t. value_at t key) now.view ∙ e)
 
     pub number-add : value_at a key ≡ None → (x : Entry) → x.stamp ≡ n → (m : ℕ) → m ≡ n + 1 → (ms : List (ℤ × Entry))
-        → ms ≡ ns ++ (z, x) ∷ [] → Keeps m ms ts (a ++ (key, x.value) ∷ [])
+        → ms ≡ ns ++ (z, x) ∷ [] → Keeps m ms ss ts (a ++ (key, x.value) ∷ [])
     number-add none x e m up ms h =
         let gone = number-absent none in
         record {
-          consistent = TwoMaps.number-kept-more text_of stamp_of value_of n ns ts now.consistent z s x m e up gone ms h;
+          consistent = (NumbersAndTexts.number-kept-more text_of stamp_of value_of n ns (texts_in ss ts) now.consistent.0 z s x m e up gone ms h, now.consistent.1, now.consistent.2);
           view =
-              TwoMaps.number-seen-more text_of stamp_of value_of n ns ts now.consistent z s x m e up gone ms h
+              NumbersAndTexts.number-seen-more text_of stamp_of value_of n ns (texts_in ss ts) now.consistent.0 z s x m e up gone ms h
               ∙ ap (λ t. t ++ (key, x.value) ∷ []) now.view;
         }
 
-    pub number-removed : (ms : List (ℤ × Entry)) → ms ≡ swap_remove_entry (int_eq lent) ns → Keeps n ms ts (without a key)
+    pub number-removed : (ms : List (ℤ × Entry)) → ms ≡ swap_remove_entry (int_eq lent) ns → Keeps n ms ss ts (without a key)
     number-removed ms h =
         let swapped : ms ≡ swap_remove_entry (int_eq z) ns = h ∙ ap (λ k. swap_remove_entry (int_eq k) ns) (to_z-of_z f) in
-        let out = TwoMaps.number-out text_of stamp_of value_of n ns ts now.consistent z s ms swapped in
-        record { consistent = out.kept; view = out.seen ∙ ap (λ t. without t key) now.view }
+        let out = NumbersAndTexts.number-out text_of stamp_of value_of n ns (texts_in ss ts) now.consistent.0 z s ms swapped in
+        record { consistent = (out.kept, now.consistent.1, now.consistent.2); view = out.seen ∙ ap (λ t. without t key) now.view }
 
-  -- at a text k
+  -- at a text k, by what is looked up among the texts
   module _ (k : List ℕ) (s : IsTextKey k) where
-    pub text-present : is_some (lookup (λ t. bytes_eq k t.items) ts) ≡ is_some (value_at a k)
-    text-present =
-        TwoMaps.text-is text_of stamp_of value_of n ns ts now.consistent k s ∙ ap (λ t. is_some (value_at t k)) now.view
+    text-present : (o : Option Entry) → lookup (bytes_eq k) (texts_in ss ts) ≡ o → is_some o ≡ is_some (value_at a k)
+    text-present o e =
+        ap is_some (sym e) ∙ NumbersAndTexts.text-is text_of stamp_of value_of n ns (texts_in ss ts) now.consistent.0 k s
+        ∙ ap (λ t. is_some (value_at t k)) now.view
 
-    pub text-hit : (x : Entry) → Some x ≡ lookup (λ t. bytes_eq k t.items) ts → value_at a k ≡ Some x.value
+    text-hit : (x : Entry) → lookup (bytes_eq k) (texts_in ss ts) ≡ Some x → value_at a k ≡ Some x.value
     text-hit x e =
-        sym (ap (λ t. value_at t k) now.view) ∙ TwoMaps.text-some text_of stamp_of value_of n ns ts now.consistent k s x (sym e)
+        sym (ap (λ t. value_at t k) now.view)
+        ∙ NumbersAndTexts.text-some text_of stamp_of value_of n ns (texts_in ss ts) now.consistent.0 k s x e
 
-    pub text-miss : None ≡ lookup (λ t. bytes_eq k t.items) ts → value_at a k ≡ None
+    text-miss : lookup (bytes_eq k) (texts_in ss ts) ≡ None → value_at a k ≡ None
     text-miss e =
-        sym (ap (λ t. value_at t k) now.view) ∙ TwoMaps.text-none text_of stamp_of value_of n ns ts now.consistent k s (sym e)
+        sym (ap (λ t. value_at t k) now.view)
+        ∙ NumbersAndTexts.text-none text_of stamp_of value_of n ns (texts_in ss ts) now.consistent.0 k s e
 
-    pub text-put : (x : Entry) (v : Value) → Some x ≡ lookup (λ t. bytes_eq k t.items) ts → (us : List (Vec ℕ × Entry))
-        → us ≡ set_value (λ t. bytes_eq k t.items) ts (record { stamp = x.stamp; value = v }) → Keeps n ns us (with_pair a k v)
-    text-put x v e us m =
-        let w : Entry = record { stamp = x.stamp; value = v } in
-        record {
-          consistent = TwoMaps.text-kept-set text_of stamp_of value_of n ns ts now.consistent k s x w refl (sym e) us m;
-          view =
-              TwoMaps.text-seen-set text_of stamp_of value_of n ns ts now.consistent k s x w refl (sym e) us m
-              ∙ ap (λ t. set_value (bytes_eq k) t v) now.view
-              ∙ sym (chosen-some (value_at a k) x.value (set_value (bytes_eq k) a v) (a ++ (k, v) ∷ []) (text-hit x e));
-        }
-
-    pub text-absent : value_at a k ≡ None → lookup (λ t. bytes_eq k t.items) ts ≡ None
+    text-absent : value_at a k ≡ None → lookup (bytes_eq k) (texts_in ss ts) ≡ None
     text-absent e =
-        TwoMaps.text-absent text_of stamp_of value_of n ns ts now.consistent k s (ap (λ t. value_at t k) now.view ∙ e)
+        NumbersAndTexts.text-absent text_of stamp_of value_of n ns (texts_in ss ts) now.consistent.0 k s (ap (λ t. value_at t k) now.view ∙ e)
 
-    pub text-add : value_at a k ≡ None → (t : Vec ℕ) → t.items ≡ k → (x : Entry) → x.stamp ≡ n → (m : ℕ) → m ≡ n + 1
-        → (us : List (Vec ℕ × Entry)) → us ≡ ts ++ (t, x) ∷ [] → Keeps m ns us (a ++ (k, x.value) ∷ [])
-    text-add none t is x e m up us h =
-        let gone = text-absent none in
-        record {
-          consistent = TwoMaps.text-kept-more text_of stamp_of value_of n ns ts now.consistent k s t is x m e up gone us h;
-          view =
-              TwoMaps.text-seen-more text_of stamp_of value_of n ns ts now.consistent k s t is x m e up gone us h
-              ∙ ap (λ t. t ++ (k, x.value) ∷ []) now.view;
-        }
+    -- other maps that keep what the texts become
+    module _ (rs : List (ShortText × Entry)) (us : List (Vec ℕ × Entry)) (shorts : AllByRecursion IsShort (keys_of rs)) (longs : AllByRecursion IsLong (keys_of us)) where
+      text-put : (x : Entry) (v : Value) → lookup (bytes_eq k) (texts_in ss ts) ≡ Some x
+          → texts_in rs us ≡ set_value (bytes_eq k) (texts_in ss ts) (record { stamp = x.stamp; value = v })
+          → Keeps n ns rs us (with_pair a k v)
+      text-put x v e m =
+          let w : Entry = record { stamp = x.stamp; value = v } in
+          record {
+            consistent = (NumbersAndTexts.text-kept-set text_of stamp_of value_of n ns (texts_in ss ts) now.consistent.0 k s x w refl e (texts_in rs us) m, shorts, longs);
+            view =
+                NumbersAndTexts.text-seen-set text_of stamp_of value_of n ns (texts_in ss ts) now.consistent.0 k s x w refl e (texts_in rs us) m
+                ∙ ap (λ t. set_value (bytes_eq k) t v) now.view
+                ∙ sym (chosen-some (value_at a k) x.value (set_value (bytes_eq k) a v) (a ++ (k, v) ∷ []) (text-hit x e));
+          }
 
-    pub text-removed : (us : List (Vec ℕ × Entry)) → us ≡ swap_remove_entry (λ t. bytes_eq k t.items) ts → Keeps n ns us (without a k)
-    text-removed us h =
-        let out = TwoMaps.text-out text_of stamp_of value_of n ns ts now.consistent k s us h in
-        record { consistent = out.kept; view = out.seen ∙ ap (λ t. without t k) now.view }
+      text-add : value_at a k ≡ None → (x : Entry) → x.stamp ≡ n → (m : ℕ) → m ≡ n + 1
+          → IsPermutation (texts_in ss ts ++ (k, x) ∷ []) (texts_in rs us) → Keeps m ns rs us (a ++ (k, x.value) ∷ [])
+      text-add none x e m up moves =
+          let gone = text-absent none in
+          let more : List (List ℕ × Entry) = texts_in ss ts ++ (k, x) ∷ [] in
+          let kept = NumbersAndTexts.text-kept-more text_of stamp_of value_of n ns (texts_in ss ts) now.consistent.0 k s k refl x m e up gone more refl in
+          record {
+            consistent = (NumbersAndTexts.text-kept-moved text_of stamp_of value_of m ns more (texts_in rs us) moves kept, shorts, longs);
+            view =
+                NumbersAndTexts.text-seen-moved text_of stamp_of value_of m ns more (texts_in rs us) moves kept
+                ∙ NumbersAndTexts.text-seen-more text_of stamp_of value_of n ns (texts_in ss ts) now.consistent.0 k s k refl x m e up gone more refl
+                ∙ ap (λ t. t ++ (k, x.value) ∷ []) now.view;
+          }
 
-  pub len-is : length ns + length ts ≡ length a
-  len-is = TwoMaps.length-all_entries text_of stamp_of value_of n ns ts now.consistent ∙ ap length now.view
+      text-gone : (t : List ℕ) (x : Entry) → lookup (bytes_eq k) (texts_in ss ts) ≡ Some x
+          → IsPermutation (texts_in ss ts) ((t, x) ∷ texts_in rs us) → Keeps n ns rs us (without a k)
+      text-gone t x e moves =
+          let out = NumbersAndTexts.text-out text_of stamp_of value_of n ns (texts_in ss ts) now.consistent.0 k s t x (texts_in rs us) e moves in
+          record { consistent = (out.kept, shorts, longs); view = out.seen ∙ ap (λ t. without t k) now.view }
+
+    text-stays : lookup (bytes_eq k) (texts_in ss ts) ≡ None → Keeps n ns ss ts (without a k)
+    text-stays e =
+        let out = NumbersAndTexts.text-missed text_of stamp_of value_of n ns (texts_in ss ts) now.consistent.0 k s e in
+        record { consistent = (out.kept, now.consistent.1, now.consistent.2); view = out.seen ∙ ap (λ t. without t k) now.view }
+
+  -- at a short text
+  module _ (k : ShortText) (s : IsTextKey (short_text k.bytes k.len)) (q : IsPadded k.bytes k.len) where
+    abbrev same : ShortText → Bool
+    same x = bytes_eq k.bytes x.bytes && nat_eq k.len x.len
+
+    far : (v : Vec ℕ) → 23 < length v.items → short_of k ≡ v.items → ⊥
+    far v l e = too_long k.len (short_of k) v.items q.0 q.1 l e
+
+    at : lookup (bytes_eq (short_of k)) (texts_in ss ts) ≡ lookup same ss
+    at = left-lookup short_of long_of IsShort IsLong ss ts now.consistent.1 now.consistent.2 (short_of k) same (same-short k q) far
+
+    pub short-present : is_some (lookup same ss) ≡ is_some (value_at a (short_of k))
+    short-present = text-present (short_of k) s (lookup same ss) at
+
+    pub short-hit : (x : Entry) → Some x ≡ lookup same ss → value_at a (short_of k) ≡ Some x.value
+    short-hit x e = text-hit (short_of k) s x (at ∙ sym e)
+
+    pub short-miss : None ≡ lookup same ss → value_at a (short_of k) ≡ None
+    short-miss e = text-miss (short_of k) s (at ∙ sym e)
+
+    pub short-put : (x : Entry) (v : Value) → Some x ≡ lookup same ss → (rs : List (ShortText × Entry))
+        → rs ≡ set_value same ss (record { stamp = x.stamp; value = v }) → Keeps n ns rs ts (with_pair a (short_of k) v)
+    short-put x v e rs m =
+        let w : Entry = record { stamp = x.stamp; value = v } in
+        text-put (short_of k) s rs ts (subst (AllByRecursion IsShort) (sym (ap keys_of m ∙ NumbersAndTexts.set-keys same ss w)) now.consistent.1) now.consistent.2 x v (at ∙ sym e)
+        (ap (λ l. texts_in l ts) m ∙ left-set short_of long_of IsShort IsLong ss ts now.consistent.1 now.consistent.2 (short_of k) same (same-short k q) far w)
+
+    pub short-absent : value_at a (short_of k) ≡ None → lookup same ss ≡ None
+    short-absent e = sym at ∙ text-absent (short_of k) s e
+
+    pub short-add : value_at a (short_of k) ≡ None → (x : Entry) → x.stamp ≡ n → (m : ℕ) → m ≡ n + 1
+        → (rs : List (ShortText × Entry)) → rs ≡ ss ++ (k, x) ∷ [] → Keeps m ns rs ts (a ++ (short_of k, x.value) ∷ [])
+    short-add none x e m up rs h =
+        text-add (short_of k) s rs ts (subst (AllByRecursion IsShort) (sym (ap keys_of h ∙ NumbersAndTexts.keys-more ss k x)) (NumbersAndTexts.all_more IsShort (keys_of ss) k now.consistent.1 q)) now.consistent.2 none x e m up
+        (subst (λ l. IsPermutation (texts_in ss ts ++ (short_of k, x) ∷ []) (texts_in l ts)) (sym h) (left-more short_of long_of ss ts k x))
+
+    pub short-removed : (rs : List (ShortText × Entry)) → rs ≡ swap_remove_entry same ss → Keeps n ns rs ts (without a (short_of k))
+    short-removed rs h = by (lookup same ss) refl
+      where
+        by : (o : Option Entry) → lookup same ss ≡ o → Keeps n ns rs ts (without a (short_of k))
+        by None e =
+            subst (λ l. Keeps n ns l ts (without a (short_of k))) (sym (h ∙ swap-missed same ss e)) (text-stays (short_of k) s (at ∙ e))
+        by (Some x) e =
+            let m = swap-hit same x ss e in
+            let moves : IsPermutation ss ((m.0, x) ∷ rs) = subst (λ l. IsPermutation ss ((m.0, x) ∷ l)) (sym h) m.1 in
+            text-gone (short_of k) s rs ts (NumbersAndTexts.all_moved IsShort (keys_of ss) (keys_of rs) m.0 (IsPermutation-map (λ e. e.0) ss ((m.0, x) ∷ rs) moves) now.consistent.1) now.consistent.2 (short_of m.0) x (at ∙ e) (left-taken short_of long_of ss ts m.0 x rs moves)
+
+  -- at a long text
+  module _ (k : List ℕ) (s : IsTextKey k) (q : 23 < length k) where
+    near : (x : ShortText) → IsPadded x.bytes x.len → k ≡ short_of x → ⊥
+    near x p e = too_long x.len (short_of x) k p.0 p.1 q (sym e)
+
+    at-long : lookup (bytes_eq k) (texts_in ss ts) ≡ lookup (λ t. bytes_eq k t.items) ts
+    at-long =
+        right-lookup short_of long_of IsShort IsLong ss ts now.consistent.1 now.consistent.2 k (λ t. bytes_eq k t.items) (λ t l. refl) near
+
+    pub long-present : is_some (lookup (λ t. bytes_eq k t.items) ts) ≡ is_some (value_at a k)
+    long-present = text-present k s (lookup (λ t. bytes_eq k t.items) ts) at-long
+
+    pub long-hit : (x : Entry) → Some x ≡ lookup (λ t. bytes_eq k t.items) ts → value_at a k ≡ Some x.value
+    long-hit x e = text-hit k s x (at-long ∙ sym e)
+
+    pub long-miss : None ≡ lookup (λ t. bytes_eq k t.items) ts → value_at a k ≡ None
+    long-miss e = text-miss k s (at-long ∙ sym e)
+
+    pub long-put : (x : Entry) (v : Value) → Some x ≡ lookup (λ t. bytes_eq k t.items) ts → (us : List (Vec ℕ × Entry))
+        → us ≡ set_value (λ t. bytes_eq k t.items) ts (record { stamp = x.stamp; value = v }) → Keeps n ns ss us (with_pair a k v)
+    long-put x v e us m =
+        let w : Entry = record { stamp = x.stamp; value = v } in
+        text-put k s ss us now.consistent.1 (subst (AllByRecursion IsLong) (sym (ap keys_of m ∙ NumbersAndTexts.set-keys (λ t. bytes_eq k t.items) ts w)) now.consistent.2) x v (at-long ∙ sym e)
+        (ap (λ l. texts_in ss l) m ∙ right-set short_of long_of IsShort IsLong ss ts now.consistent.1 now.consistent.2 k (λ t. bytes_eq k t.items) (λ t l. refl) near w)
+
+    pub long-absent : value_at a k ≡ None → lookup (λ t. bytes_eq k t.items) ts ≡ None
+    long-absent e = sym at-long ∙ text-absent k s e
+
+    pub long-add : value_at a k ≡ None → (t : Vec ℕ) → t.items ≡ k → (x : Entry) → x.stamp ≡ n → (m : ℕ) → m ≡ n + 1
+        → (us : List (Vec ℕ × Entry)) → us ≡ ts ++ (t, x) ∷ [] → Keeps m ns ss us (a ++ (k, x.value) ∷ [])
+    long-add none t is x e m up us h =
+        text-add k s ss us now.consistent.1 (subst (AllByRecursion IsLong) (sym (ap keys_of h ∙ NumbersAndTexts.keys-more ts t x)) (NumbersAndTexts.all_more IsLong (keys_of ts) t now.consistent.2 (subst (λ l. 23 < length l) (sym is) q))) none x e m up
+        (subst (λ l. IsPermutation (texts_in ss ts ++ (k, x) ∷ []) l) (sym (ap (λ l. texts_in ss l) h ∙ right-more short_of long_of ss ts t x ∙ ap (λ l. texts_in ss ts ++ (l, x) ∷ []) is)) (IsPermutation-refl _))
+
+    pub long-removed : (us : List (Vec ℕ × Entry)) → us ≡ swap_remove_entry (λ t. bytes_eq k t.items) ts → Keeps n ns ss us (without a k)
+    long-removed us h = by (lookup (λ t. bytes_eq k t.items) ts) refl
+      where
+        by : (o : Option Entry) → lookup (λ t. bytes_eq k t.items) ts ≡ o → Keeps n ns ss us (without a k)
+        by None e =
+            subst (λ l. Keeps n ns ss l (without a k)) (sym (h ∙ swap-missed (λ t. bytes_eq k t.items) ts e)) (text-stays k s (at-long ∙ e))
+        by (Some x) e =
+            let m = swap-hit (λ t. bytes_eq k t.items) x ts e in
+            let moves : IsPermutation ts ((m.0, x) ∷ us) = subst (λ l. IsPermutation ts ((m.0, x) ∷ l)) (sym h) m.1 in
+            text-gone k s ss us now.consistent.1 (NumbersAndTexts.all_moved IsLong (keys_of ts) (keys_of us) m.0 (IsPermutation-map (λ e. e.0) ts ((m.0, x) ∷ us) moves) now.consistent.2) (long_of m.0) x (at-long ∙ e) (right-taken short_of long_of ss ts m.0 x us moves)
+
+  pub len-is : length ns + length ss + length ts ≡ length a
+  len-is =
+      let short : ShortText × Entry → List ℕ × Entry = λ e. (short_of e.0, e.1) in
+      let long : Vec ℕ × Entry → List ℕ × Entry = λ e. (long_of e.0, e.1) in
+      let both = length-append (map short ss) (map long ts) in
+      let s = length-map ss short in
+      let l = length-map ts long in
+      let all = NumbersAndTexts.length-all_entries text_of stamp_of value_of n ns (texts_in ss ts) now.consistent.0 ∙ ap length now.view in
+      omega arith
+
+  pub few : length ns + length ss + length ts ≤ n
+  few =
+      let own = stamp_order-few n (all_rows (λ k. k) (λ e. e.stamp) (λ e. e.value) ns (texts_in ss ts)) in
+      let seen = ap length now.view in
+      let all = len-is in
+      omega arith
 
   pub keys-differ : HasDistinctKeys a
-  keys-differ = subst HasDistinctKeys now.view (TwoMaps.distinct-all_entries text_of stamp_of value_of n ns ts now.consistent)
+  keys-differ =
+      subst HasDistinctKeys now.view (NumbersAndTexts.distinct-all_entries text_of stamp_of value_of n ns (texts_in ss ts) now.consistent.0)
 
-  -- the rows of both maps, sorted by their stamps, have the keys in order
+  -- the rows of the maps, sorted by their stamps, have the keys in order
   pub keys-are : (ps qs : List (ℕ × List ℕ))
-      → ps ≡ map (λ e. (e.1.stamp, signed_decimal e.0)) ns ++ map (λ e. (e.1.stamp, e.0.items)) ts
+      → ps ≡ (map (λ e. (e.1.stamp, signed_decimal e.0)) ns ++ map (λ e. (e.1.stamp, short_text e.0.bytes e.0.len)) ss) ++ map (λ e. (e.1.stamp, e.0.items)) ts
       → IsPermutation ps qs → IsNonDecreasingBy (λ r. r.0) qs → map (λ r. r.1) qs ≡ keys_of a
-  keys-are ps qs e m s = TwoMaps.keys-rows text_of stamp_of value_of n ns ts now.consistent ps qs e m s ∙ ap keys_of now.view
+  keys-are ps qs e m s =
+      let own : List ℕ × Entry → ℕ × List ℕ = λ e. (e.1.stamp, e.0) in
+      let short : ShortText × Entry → List ℕ × Entry = λ e. (short_of e.0, e.1) in
+      let long : Vec ℕ × Entry → List ℕ × Entry = λ e. (long_of e.0, e.1) in
+      let numbers : List (ℕ × List ℕ) = map (λ e. (e.1.stamp, signed_decimal e.0)) ns in
+      let rows : map own (texts_in ss ts) ≡ map (λ e. own (short e)) ss ++ map (λ e. own (long e)) ts =
+      map-both own (map short ss) (map long ts) ∙ (λ j. map-twice own short ss j ++ map-twice own long ts j) in
+      NumbersAndTexts.keys-rows text_of stamp_of value_of n ns (texts_in ss ts) now.consistent.0 ps qs
+      (e ∙ append_assoc numbers (map (λ e. own (short e)) ss) (map (λ e. own (long e)) ts) ∙ ap (λ l. numbers ++ l) (sym rows)) m s
+      ∙ ap keys_of now.view
 
--- two empty maps keep the empty array
-pub none-kept : (n : ℕ) (ns : List (ℤ × Entry)) (ts : List (Vec ℕ × Entry)) → ns ≡ [] → ts ≡ []
-    → IsConsistent (λ v. v.items) (λ e. e.stamp) (λ e. e.value) n ns ts
-none-kept n ns ts e f = TwoMaps.split_none text_of stamp_of value_of n ns ts e f
+-- empty maps keep the empty array
+pub none-kept : (n : ℕ) (ns : List (ℤ × Entry)) (ss : List (ShortText × Entry)) (ts : List (Vec ℕ × Entry)) → ns ≡ [] → ss ≡ [] → ts ≡ []
+    → IsConsistent (λ k. k) (λ e. e.stamp) (λ e. e.value) n ns (texts_in ss ts)
+    × AllByRecursion (λ s. IsPadded s.bytes s.len) (keys_of ss) × AllByRecursion (λ v. 23 < length v.items) (keys_of ts)
+none-kept n ns ss ts e f g = (
+  NumbersAndTexts.split_none text_of stamp_of value_of n ns (texts_in ss ts) e (λ j. texts_in (f j) (g j)),
+  subst (λ l. AllByRecursion (λ s. IsPadded s.bytes s.len) (keys_of l)) (sym f) tt,
+  subst (λ l. AllByRecursion (λ v. 23 < length v.items) (keys_of l)) (sym g) tt,
+)

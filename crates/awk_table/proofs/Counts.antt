@@ -1,6 +1,7 @@
 -- As many items stand in the order of their stamps as there are rows.
-use Rattle.std.proofs.Common.{◌≡◌, ℕ, zero, suc, ◌<◌, nat_eq, List, [], ◌∷◌, ◌++◌, length, refl, ap, arith}
-use Rattle.std.specs.Map.{keys_of}
+use Rattle.std.proofs.Common.{◌≡◌, ℕ, zero, suc, ◌<◌, ◌≤◌, nat_eq, Option, Some, None, List, [], ◌∷◌, ◌++◌, length, length-append, refl, ap, arith}
+use Rattle.std.specs.Option.{option_to_list}
+use Rattle.std.specs.Map.{keys_of, lookup}
 use Rattle.std.specs.List.{IsDistinct, AllByRecursion}
 use Rattle.awk_table.specs.support.StampOrder.{stamp_order}
 use Rattle.awk_table.proofs.ByStamp.{split}
@@ -25,4 +26,17 @@ length-stamp_order n (r ∷ rs) d b =
     let e1 = ap length (s.with r.1) in
     let e2 = ap length s.without in
     let e3 = length-middle s.before s.after r.1 in
+    omega arith
+
+at_most_one : {P : Type 0} (o : Option P) → length (option_to_list o) ≤ 1
+at_most_one None = omega arith
+at_most_one (Some p) = omega arith
+
+-- no more are ordered than there are stamps
+pub stamp_order-few : {P : Type 0} (n : ℕ) (rows : List (ℕ × P)) → length (stamp_order n rows) ≤ n
+stamp_order-few zero rows = omega arith
+stamp_order-few (suc n) rows =
+    let ih = stamp_order-few n rows in
+    let one = at_most_one (lookup (nat_eq n) rows) in
+    let e = length-append (stamp_order n rows) (option_to_list (lookup (nat_eq n) rows)) in
     omega arith

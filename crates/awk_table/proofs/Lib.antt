@@ -3,5 +3,6 @@ mod ByStamp
 mod OneEntry
 mod Counts
 mod Moves
-mod TwoMaps
+mod NumbersAndTexts
+mod Joined
 mod Calls

@@ -391,5 +391,5 @@ module _ {K E L V : Type 0} (name : K → L) (stamp : E → ℕ) (value : E → 
       keyed [] a = tt
       keyed (f ∷ fs) a = (a.0, keyed fs a.1)
 
-pub three : {X : Type 0} (a b z x y : List X) → a ≡ b ++ y → b ≡ z ++ x → z ≡ [] → a ≡ x ++ y
-three a b z x y e f g = e ∙ ap (λ l. l ++ y) (f ∙ ap (λ l. l ++ x) g)
+pub four : {X : Type 0} (a b c z x y w : List X) → a ≡ b ++ y → b ≡ c ++ x → c ≡ z ++ w → z ≡ [] → a ≡ (w ++ x) ++ y
+four a b c z x y w e f g h = e ∙ ap (λ l. l ++ y) (f ∙ ap (λ l. l ++ x) (g ∙ ap (λ l. l ++ w) h))

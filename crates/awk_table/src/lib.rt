@@ -2,7 +2,10 @@
 #![tactic(auto)]
 
 mod decimal;
+mod long_keys;
 mod number_keys;
+mod short_keys;
+mod short_text;
 mod table;
 mod text_keys;
 mod walk;

@@ -1,6 +1,6 @@
 // The array. A key that is the decimal form of a 64-bit number is kept as that number, any other
-// as its text. Each entry has the stamp of its making, and a removal may move entries: only a walk
-// looks at the order, by the stamps.
+// as its text: in place where it has at most 23 bytes. Each entry has the stamp of its making, and a
+// removal may move entries: only a walk looks at the order, by the stamps.
 
 ghost use Rattle.std.specs.Prelude.{◌≡◌, [], None, length, is_some, IfOk, IfErr, OnOk, OnErr};
 ghost use Rattle.std.specs.Option.{option_copied, unwrap_or};
@@ -9,6 +9,7 @@ ghost use Rattle.awk_value.specs.declared.fault.ValueFault.TheVariants.{Memory};
 ghost use Rattle.awk_table.specs.Arrays.{Array, value_at, with_pair, with_key, without, HasDistinctKeys};
 
 use crate::decimal::decimal_number;
+use crate::short_text::ShortText;
 use awk_value::{Value, ValueFault};
 use indexmap::IndexMap;
 use std::alloc::Global;
@@ -27,7 +28,8 @@ pub(crate) struct Entry {
 #[derive(Drop)]
 pub struct Table {
     pub(crate) numbers: IndexMap<i64, Entry>,
-    pub(crate) texts: IndexMap<Vec<u8>, Entry>,
+    pub(crate) shorts: IndexMap<ShortText, Entry>,
+    pub(crate) longs: IndexMap<Vec<u8>, Entry>,
     // above all stamps
     pub(crate) next: u64,
 }
@@ -35,15 +37,20 @@ pub struct Table {
 impl Model for Table {
     ghost use Rattle.awk_table.specs.Arrays.{Array};
     ghost use Rattle.awk_table.specs.support.StampOrder.{stamp_order};
-    ghost use Rattle.awk_table.specs.support.Entries.{IsConsistent, all_rows};
+    ghost use Rattle.std.specs.Prelude.{◌<◌, length};
+    ghost use Rattle.std.specs.List.{AllByRecursion};
+    ghost use Rattle.std.specs.Map.{keys_of};
+    ghost use Rattle.awk_table.specs.support.Entries.{IsConsistent, all_rows, joined, short_text, IsPadded};
 
     ghost Value = { Array };
 
-    ghost view = { λ t. stamp_order t.next (all_rows (λ v. v.items) (λ e. e.stamp) (λ e. e.value)
-        t.numbers.entries t.texts.entries) };
+    ghost view = { λ t. stamp_order t.next (all_rows (λ k. k) (λ e. e.stamp) (λ e. e.value) t.numbers.entries
+        (joined (λ s. short_text s.bytes s.len) (λ v. v.items) t.shorts.entries t.longs.entries)) };
 
-    ghost invariant = { λ t. IsConsistent (λ v. v.items) (λ e. e.stamp) (λ e. e.value)
-        t.next t.numbers.entries t.texts.entries };
+    ghost invariant = { λ t. IsConsistent (λ k. k) (λ e. e.stamp) (λ e. e.value) t.next t.numbers.entries
+        (joined (λ s. short_text s.bytes s.len) (λ v. v.items) t.shorts.entries t.longs.entries)
+        × AllByRecursion (λ s. IsPadded s.bytes s.len) (keys_of t.shorts.entries)
+        × AllByRecursion (λ v. 23 < length v.items) (keys_of t.longs.entries) };
 }
 
 impl Table {
@@ -53,7 +60,8 @@ impl Table {
     {
         Table {
             numbers: IndexMap::new(alloc),
-            texts: IndexMap::new(alloc),
+            shorts: IndexMap::new(alloc),
+            longs: IndexMap::new(alloc),
             next: 0,
         }
     }
@@ -63,7 +71,9 @@ impl Table {
         ensures len { result ≡ length self.now }
         ensures distinct { HasDistinctKeys self.now }
     {
-        self.numbers.len() + self.texts.len()
+        // no more keys are present than were made
+        let _made = self.next;
+        self.numbers.len() + self.shorts.len() + self.longs.len()
     }
 
     /// Whether the key is present. Takes no memory. (POSIX awk, Expressions in awk: `in`)
@@ -133,7 +143,8 @@ impl Table {
         ensures { self.new ≡ [] }
     {
         self.numbers.clear();
-        self.texts.clear();
+        self.shorts.clear();
+        self.longs.clear();
         self.next = 0;
     }
 }

@@ -1,16 +1,15 @@
 // Keys that are texts, and no decimal form of a 64-bit number.
 
-ghost use Rattle.std.specs.Prelude.{◌≡◌, ◌++◌, ◌∷◌, [], None, is_some, bytes_eq, IfOk, IfErr, OnOk, OnErr};
+ghost use Rattle.std.specs.Prelude.{◌≡◌, None, is_some, IfOk, IfErr, OnOk, OnErr};
 ghost use Rattle.std.specs.Option.{option_copied, unwrap_or};
-ghost use Rattle.indexmap.specs.IndexMap.{swap_remove_entry};
 ghost use Rattle.awk_value.specs.declared.value.Value.TheVariants.{Nothing};
 ghost use Rattle.awk_value.specs.declared.fault.ValueFault.TheVariants.{Memory};
 ghost use Rattle.awk_table.specs.Arrays.{value_at, with_pair, with_key, without};
 ghost use Rattle.awk_table.specs.support.Entries.{IsTextKey};
 
-use crate::table::{Entry, Table};
+use crate::short_text::ShortText;
+use crate::table::Table;
 use awk_value::{Value, ValueFault};
-use indexmap::IndexMap;
 use std::alloc::Global;
 
 impl Table {
@@ -19,7 +18,10 @@ impl Table {
         requires { IsTextKey key.now }
         ensures { result ≡ is_some (value_at self.now key.now) }
     {
-        self.texts.contains_key(key)
+        match ShortText::new(key) {
+            Some(short) => self.has_short(short),
+            None => self.has_long(key),
+        }
     }
 
     /// As `get`.
@@ -27,9 +29,9 @@ impl Table {
         requires { IsTextKey key.now }
         ensures { option_copied result ≡ value_at self.now key.now }
     {
-        match self.texts.get(key) {
-            Some(entry) => Some(&entry.value),
-            None => None,
+        match ShortText::new(key) {
+            Some(short) => self.get_short(short),
+            None => self.get_long(key),
         }
     }
 
@@ -45,12 +47,9 @@ impl Table {
         ensures unchanged { OnErr result (self.new ≡ self.old) }
         ensures fault { IfErr result (λ fault. fault ≡ Memory) }
     {
-        match self.texts.get(key) {
-            Some(entry) => Ok(entry.value.clone()?),
-            None => {
-                self.add_text(alloc, key, Value::Nothing)?;
-                Ok(Value::Nothing)
-            }
+        match ShortText::new(key) {
+            Some(short) => self.get_or_make_short(short),
+            None => self.get_or_make_long(alloc, key),
         }
     }
 
@@ -67,12 +66,9 @@ impl Table {
         ensures absent { OnErr result (value_at self.old key.now ≡ None) }
         ensures fault { IfErr result (λ fault. fault ≡ Memory) }
     {
-        match self.texts.get_mut(key) {
-            Some(entry) => {
-                entry.value = value;
-                Ok(())
-            }
-            None => self.add_text(alloc, key, value),
+        match ShortText::new(key) {
+            Some(short) => self.put_short(short, value),
+            None => self.put_long(alloc, key, value),
         }
     }
 
@@ -81,31 +77,9 @@ impl Table {
         requires { IsTextKey key.now }
         ensures { self.new ≡ without self.old key.now }
     {
-        take_text(&mut self.texts, key);
+        match ShortText::new(key) {
+            Some(short) => self.remove_short(short),
+            None => self.remove_long(key),
+        }
     }
-
-    /// Adds a new text, which goes last.
-    fn add_text(&mut self, alloc: Global, key: &[u8], value: Value) -> Result<(), ValueFault>
-        requires text { IsTextKey key.now }
-        requires new { value_at self.old key.now ≡ None }
-        ensures added { OnOk result (self.new ≡ self.old ++ (key.now, value) ∷ []) }
-        ensures unchanged { OnErr result (self.new ≡ self.old) }
-        ensures fault { IfErr result (λ fault. fault ≡ Memory) }
-    {
-        let stamp = self.next;
-        let Some(next) = stamp.checked_add(1) else {
-            return Err(ValueFault::Memory);
-        };
-        let copy = Vec::from_slice(alloc, key)?;
-        self.texts.insert(copy, Entry { stamp, value })?;
-        self.next = next;
-        Ok(())
-    }
-}
-
-/// Takes a text's entry out of the map, whose last entry moves to its place.
-fn take_text(entries: &mut IndexMap<Vec<u8>, Entry>, key: &[u8])
-    ensures { entries.new.entries ≡ swap_remove_entry (λ k. bytes_eq key.now k.items) entries.old.entries }
-{
-    let _ = entries.swap_remove(key);
 }

@@ -4,8 +4,10 @@ ghost use Rattle.std.specs.Prelude.{◌≡◌, ◌++◌, map, nat_lt, IsPermutat
 ghost use Rattle.std.specs.Fmt.{signed_decimal};
 ghost use Rattle.std.specs.Map.{keys_of};
 ghost use Rattle.std.specs.List.Sorted.{IsNonDecreasingBy};
+ghost use Rattle.awk_table.specs.support.Entries.{short_text};
 ghost use Rattle.awk_value.specs.declared.fault.ValueFault.TheVariants.{Memory};
 
+use crate::short_text::ShortText;
 use crate::table::{Entry, Table};
 use awk_value::{Bytes, ValueFault};
 use indexmap::IndexMap;
@@ -20,7 +22,8 @@ impl Table {
     {
         let mut rows = Vec::with_capacity(alloc, self.len())?;
         list_numbers(alloc, &self.numbers, &mut rows)?;
-        list_texts(alloc, &self.texts, &mut rows)?;
+        list_shorts(alloc, &self.shorts, &mut rows)?;
+        list_longs(alloc, &self.longs, &mut rows)?;
         sort_rows(&mut rows)?;
         Ok(texts_of(alloc, rows)?)
     }
@@ -43,8 +46,24 @@ fn list_numbers(
     Ok(())
 }
 
-/// Adds the texts with their stamps, in the map's order.
-fn list_texts(
+/// Adds the short texts with their stamps, in the map's order.
+fn list_shorts(
+    alloc: Global,
+    entries: &IndexMap<ShortText, Entry>,
+    rows: &mut Vec<(u64, Bytes)>,
+) -> Result<(), AllocError>
+    ensures { OnOk result (rows.new.items
+        ≡ rows.old.items ++ map (λ e. (e.1.stamp, short_text e.0.bytes e.0.len)) entries.now.entries) }
+{
+    for (key, entry) in entries.iter() {
+        let text = Bytes::from_slice(alloc, key.as_slice())?;
+        rows.push((entry.stamp, text))?;
+    }
+    Ok(())
+}
+
+/// Adds the long texts with their stamps, in the map's order.
+fn list_longs(
     alloc: Global,
     entries: &IndexMap<Vec<u8>, Entry>,
     rows: &mut Vec<(u64, Bytes)>,

@@ -1,5 +1,6 @@
--- How an array is kept: a map by numbers and a map by texts, as one list of entries by texts.
-use Rattle.std.specs.Prelude.{◌≡◌, ℕ, ℤ, ◌<◌, ◌^◌, List, ◌++◌, nat_eq, bytes_eq, map}
+-- How an array is kept: a map by numbers, one by short texts and one by long texts, as one list of
+-- entries by texts.
+use Rattle.std.specs.Prelude.{◌≡◌, ℕ, ℤ, ◌<◌, ◌≤◌, ◌-◌, ◌^◌, List, ◌++◌, nat_eq, bytes_eq, map, take, length, replicate}
 use Rattle.std.specs.Int.Signed.{mag}
 use Rattle.std.specs.Fmt.{signed_decimal}
 use Rattle.std.specs.List.{IsDistinct, AllByRecursion}
@@ -13,9 +14,21 @@ IsInt64 n = mag n < 2 ^ 63
 abbrev pub IsTextKey : List ℕ → Type 0
 IsTextKey text = (n : ℤ) → IsInt64 n → text ≡ signed_decimal n → ⊥
 
+-- a short text of the length len, and zeros after it up to 23 bytes
+abbrev pub short_text : List ℕ → ℕ → List ℕ
+short_text bytes len = take len bytes
+
+abbrev pub IsPadded : List ℕ → ℕ → Type 0
+IsPadded bytes len =
+    (len ≤ 23) × (len ≡ length (short_text bytes len)) × (bytes ≡ short_text bytes len ++ replicate (23 - len) 0)
+
+-- the entries of two maps, their keys as texts
+abbrev pub joined : {A B E : Type 0} → (A → List ℕ) → (B → List ℕ) → List (A × E) → List (B × E) → List (List ℕ × E)
+joined f g xs ys = map (λ e. (f e.0, e.1)) xs ++ map (λ e. (g e.0, e.1)) ys
+
 -- the entries of both maps, where a number stands for its decimal form
 abbrev pub all_entries : {T E : Type 0} → (T → List ℕ) → List (ℤ × E) → List (T × E) → List (List ℕ × E)
-all_entries items ns ts = map (λ e. (signed_decimal e.0, e.1)) ns ++ map (λ e. (items e.0, e.1)) ts
+all_entries items ns ts = joined signed_decimal items ns ts
 
 module _ {T E V : Type 0} (items : T → List ℕ) (stamp : E → ℕ) (value : E → V) where
   abbrev pub all_rows : List (ℤ × E) → List (T × E) → List (ℕ × (List ℕ × V))

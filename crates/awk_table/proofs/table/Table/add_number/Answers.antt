@@ -9,7 +9,7 @@ use Rattle.awk_table.proofs.table.Table.add_number.Goals as goal
 pub invariant_of-self-2 : goal.invariant_of-self-2
 invariant_of-self-2 c =
     let b = c.self.inside in
-    let now = keeps b.next b.numbers.entries b.texts.entries _ c.self.invariant c.self.view_is in
+    let now = keeps b.next b.numbers.entries b.shorts.entries b.longs.entries _ c.self.invariant c.self.view_is in
     let x : Entry = record { stamp = b.next; value = c.args.value } in
     let absent = number-absent now c.args.key c.ranges.key c.requires in
     let entries =
@@ -21,7 +21,7 @@ invariant_of-self-2 c =
 pub returns-clause-added : goal.returns-clause-added
 returns-clause-added c =
     let b = c.self.inside in
-    let now = keeps b.next b.numbers.entries b.texts.entries _ c.self.invariant c.self.view_is in
+    let now = keeps b.next b.numbers.entries b.shorts.entries b.longs.entries _ c.self.invariant c.self.view_is in
     let x : Entry = record { stamp = b.next; value = c.args.value } in
     let absent = number-absent now c.args.key c.ranges.key c.requires in
     let entries =

@@ -10,14 +10,14 @@ use Rattle.awk_table.proofs.table.Table.get_or_make_number.Goals as goal
 pub returns-in_ok-clone-in-Some-clause-value : goal.returns-in_ok-clone-in-Some-clause-value
 returns-in_ok-clone-in-Some-clause-value c =
     let b = c.self.inside in
-    let now = keeps b.next b.numbers.entries b.texts.entries _ c.self.invariant c.self.view_is in
+    let now = keeps b.next b.numbers.entries b.shorts.entries b.longs.entries _ c.self.invariant c.self.view_is in
     let hit = number-hit now c.args.key c.ranges.key _ c.in-Some.ensures.value in
     c.in_ok-clone-in-Some.ensures.cases ∙ ap (λ o. unwrap_or o Nothing) (sym hit)
 
 pub returns-in_ok-clone-in-Some-clause-made : goal.returns-in_ok-clone-in-Some-clause-made
 returns-in_ok-clone-in-Some-clause-made c =
     let b = c.self.inside in
-    let now = keeps b.next b.numbers.entries b.texts.entries _ c.self.invariant c.self.view_is in
+    let now = keeps b.next b.numbers.entries b.shorts.entries b.longs.entries _ c.self.invariant c.self.view_is in
     let hit = number-hit now c.args.key c.ranges.key _ c.in-Some.ensures.value in
     let old = c.args.self.now in
     let key = (signed_decimal c.args.key) in
@@ -26,21 +26,21 @@ returns-in_ok-clone-in-Some-clause-made c =
 pub add_number-requires : goal.add_number-requires
 add_number-requires c =
     let b = c.self.inside in
-    let now = keeps b.next b.numbers.entries b.texts.entries _ c.self.invariant c.self.view_is in
+    let now = keeps b.next b.numbers.entries b.shorts.entries b.longs.entries _ c.self.invariant c.self.view_is in
     let miss = number-miss now c.args.key c.ranges.key c.in-None.ensures.value in
     ap (λ z. value_at c.args.self.now (signed_decimal z)) (to_z-of_z c.ranges.key) ∙ miss
 
 pub returns-in_ok-add_number-in-None-clause-value : goal.returns-in_ok-add_number-in-None-clause-value
 returns-in_ok-add_number-in-None-clause-value c =
     let b = c.self.inside in
-    let now = keeps b.next b.numbers.entries b.texts.entries _ c.self.invariant c.self.view_is in
+    let now = keeps b.next b.numbers.entries b.shorts.entries b.longs.entries _ c.self.invariant c.self.view_is in
     let miss = number-miss now c.args.key c.ranges.key c.in-None.ensures.value in
     ap (λ o. unwrap_or o Nothing) (sym miss)
 
 pub returns-in_ok-add_number-in-None-clause-made : goal.returns-in_ok-add_number-in-None-clause-made
 returns-in_ok-add_number-in-None-clause-made c =
     let b = c.self.inside in
-    let now = keeps b.next b.numbers.entries b.texts.entries _ c.self.invariant c.self.view_is in
+    let now = keeps b.next b.numbers.entries b.shorts.entries b.longs.entries _ c.self.invariant c.self.view_is in
     let miss = number-miss now c.args.key c.ranges.key c.in-None.ensures.value in
     let old = c.args.self.now in
     let key = (signed_decimal c.args.key) in

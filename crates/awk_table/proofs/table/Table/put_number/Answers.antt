@@ -12,7 +12,7 @@ use Rattle.awk_table.proofs.table.Table.put_number.Goals as goal
 pub invariant_of-self : goal.invariant_of-self
 invariant_of-self c =
     let b = c.self.inside in
-    let now = keeps b.next b.numbers.entries b.texts.entries _ c.self.invariant c.self.view_is in
+    let now = keeps b.next b.numbers.entries b.shorts.entries b.longs.entries _ c.self.invariant c.self.view_is in
     let v = c.args.value in
     let x = c.in-Some.entry.now in
     let w : Entry = record { stamp = x.stamp; value = v } in
@@ -22,7 +22,7 @@ invariant_of-self c =
 pub returns-in-Some-clause-put : goal.returns-in-Some-clause-put
 returns-in-Some-clause-put c =
     let b = c.self.inside in
-    let now = keeps b.next b.numbers.entries b.texts.entries _ c.self.invariant c.self.view_is in
+    let now = keeps b.next b.numbers.entries b.shorts.entries b.longs.entries _ c.self.invariant c.self.view_is in
     let v = c.args.value in
     let x = c.in-Some.entry.now in
     let w : Entry = record { stamp = x.stamp; value = v } in
@@ -32,34 +32,34 @@ returns-in-Some-clause-put c =
 pub add_number-requires : goal.add_number-requires
 add_number-requires c =
     let b = c.self.inside in
-    let now = keeps b.next b.numbers.entries b.texts.entries _ c.self.invariant c.self.view_is in
+    let now = keeps b.next b.numbers.entries b.shorts.entries b.longs.entries _ c.self.invariant c.self.view_is in
     let lent = c.get_mut.follows.lender-at-none in
     let miss = number-miss now c.args.key c.ranges.key c.in-None.ensures.value in
     let key = (signed_decimal c.args.key) in
-    ap (λ z. value_at (the_view (record { numbers = lent; texts = b.texts; next = b.next })) (signed_decimal z))
+    ap (λ z. value_at (the_view (record { numbers = lent; shorts = b.shorts; longs = b.longs; next = b.next })) (signed_decimal z))
     (to_z-of_z c.ranges.key)
-    ∙ ap (λ m. value_at (the_view (record { numbers = m; texts = b.texts; next = b.next })) key) c.get_mut.follows.holds-at-none
+    ∙ ap (λ m. value_at (the_view (record { numbers = m; shorts = b.shorts; longs = b.longs; next = b.next })) key) c.get_mut.follows.holds-at-none
     ∙ ap (λ t. value_at t key) c.self.view_is ∙ miss
 
 pub returns-in-None-clause-put : goal.returns-in-None-clause-put
 returns-in-None-clause-put c =
     let b = c.self.inside in
-    let now = keeps b.next b.numbers.entries b.texts.entries _ c.self.invariant c.self.view_is in
+    let now = keeps b.next b.numbers.entries b.shorts.entries b.longs.entries _ c.self.invariant c.self.view_is in
     let lent = c.get_mut.follows.lender-at-none in
     let miss = number-miss now c.args.key c.ranges.key c.in-None.ensures.value in
     let old = c.args.self.now in
     let key = (signed_decimal c.args.key) in
     let v = c.args.value in
     on_ok_to c.add_number.result _ _ _ c.add_number.ensures.added
-    (ap (λ z. the_view (record { numbers = lent; texts = b.texts; next = b.next }) ++ (signed_decimal z, v) ∷ [])
+    (ap (λ z. the_view (record { numbers = lent; shorts = b.shorts; longs = b.longs; next = b.next }) ++ (signed_decimal z, v) ∷ [])
     (to_z-of_z c.ranges.key)
-    ∙ ap (λ m. the_view (record { numbers = m; texts = b.texts; next = b.next }) ++ (key, v) ∷ []) c.get_mut.follows.holds-at-none
+    ∙ ap (λ m. the_view (record { numbers = m; shorts = b.shorts; longs = b.longs; next = b.next }) ++ (key, v) ∷ []) c.get_mut.follows.holds-at-none
     ∙ ap (λ t. t ++ (key, v) ∷ []) c.self.view_is
     ∙ sym (chosen-none (value_at old key) (set_value (bytes_eq key) old v) (old ++ (key, v) ∷ []) miss))
 
 pub returns-in-None-clause-absent : goal.returns-in-None-clause-absent
 returns-in-None-clause-absent c =
     let b = c.self.inside in
-    let now = keeps b.next b.numbers.entries b.texts.entries _ c.self.invariant c.self.view_is in
+    let now = keeps b.next b.numbers.entries b.shorts.entries b.longs.entries _ c.self.invariant c.self.view_is in
     let miss = number-miss now c.args.key c.ranges.key c.in-None.ensures.value in
     on_err c.add_number.result miss

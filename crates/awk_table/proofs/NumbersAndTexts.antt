@@ -13,7 +13,7 @@ use Rattle.std.proofs.lemmas.List.Sorted.{IsPermutation-refl, IsPermutation-appe
 use Rattle.awk_table.specs.support.Entries.{IsInt64, IsTextKey, all_entries, all_rows, IsConsistent}
 use Rattle.awk_table.specs.support.StampOrder.{stamp_order}
 use Rattle.awk_table.proofs.OneEntry.{rows, found-some, found-none, set-found, kept_put, absent-found, without-none}
-use Rattle.awk_table.proofs.Moves.{kept-more, ordered-more, kept-taken, ordered-taken, swap-hit, swap-missed, flips, map-twice, map-both, stamp_order-moved, stamp_order-made, stamp_order-ordered, ordered-distinct}
+use Rattle.awk_table.proofs.Moves.{kept-moved, ordered-moved, kept-more, ordered-more, kept-taken, ordered-taken, swap-hit, swap-missed, flips, map-twice, map-both, stamp_order-moved, stamp_order-made, stamp_order-ordered, ordered-distinct}
 use Rattle.awk_table.proofs.Counts.{length-stamp_order}
 use Rattle.std.proofs.lemmas.List.{length-map}
 use Rattle.std.proofs.lemmas.Map.Keys.{IsDistinct-IsPermutation}
@@ -23,7 +23,7 @@ use Rattle.std.specs.Cmp.Lexicographic.{nat_list_eq_equiv}
 use Rattle.awk_table.proofs.NamedKeys.{lookup-named, set_value-named, map-push}
 
 -- two tests that decide the same
-same_tests : {P Q : Type 0} (a b : Bool) → (a ≡ true → P) → (P → a ≡ true) → (b ≡ true → Q) → (Q → b ≡ true)
+pub same_tests : {P Q : Type 0} (a b : Bool) → (a ≡ true → P) → (P → a ≡ true) → (b ≡ true → Q) → (Q → b ≡ true)
     → (P → Q) → (Q → P) → a ≡ b
 same_tests true true p pp q qq f g = refl
 same_tests false false p pp q qq f g = refl
@@ -37,7 +37,7 @@ eq-numbers n m a b =
     let y = Decides-int_eq n m in
     same_tests (bytes_eq (signed_decimal n) (signed_decimal m)) (int_eq n m) x.0 x.1 y.0 y.1 (signed_decimal_injective n m a b) (ap signed_decimal)
 
-not_bytes : (xs ys : List ℕ) → (xs ≡ ys → ⊥) → bytes_eq xs ys ≡ false
+pub not_bytes : (xs ys : List ℕ) → (xs ≡ ys → ⊥) → bytes_eq xs ys ≡ false
 not_bytes xs ys h = by (bytes_eq xs ys) refl
   where
     by : (b : Bool) → bytes_eq xs ys ≡ b → bytes_eq xs ys ≡ false
@@ -55,15 +55,15 @@ module _ {L E : Type 0} (p : L → Bool) where
   set-free (x ∷ xs) w a =
       ap (λ b. cond b ((x.0, w) ∷ xs) (x ∷ set_value p xs w)) a.0 ∙ ap (λ l. x ∷ l) (set-free xs w a.1)
 
-  lookup-left : (xs ys : List (L × E)) → AllByRecursion (λ e. p e.0 ≡ false) ys → lookup p (xs ++ ys) ≡ lookup p xs
+  pub lookup-left : (xs ys : List (L × E)) → AllByRecursion (λ e. p e.0 ≡ false) ys → lookup p (xs ++ ys) ≡ lookup p xs
   lookup-left [] ys a = lookup-free ys a
   lookup-left (x ∷ xs) ys a = ap (cond (p x.0) (Some x.1)) (lookup-left xs ys a)
 
-  lookup-right : (xs ys : List (L × E)) → AllByRecursion (λ e. p e.0 ≡ false) xs → lookup p (xs ++ ys) ≡ lookup p ys
+  pub lookup-right : (xs ys : List (L × E)) → AllByRecursion (λ e. p e.0 ≡ false) xs → lookup p (xs ++ ys) ≡ lookup p ys
   lookup-right [] ys a = refl
   lookup-right (x ∷ xs) ys a = ap (λ b. cond b (Some x.1) (lookup p (xs ++ ys))) a.0 ∙ lookup-right xs ys a.1
 
-  set-left : (xs ys : List (L × E)) (w : E) → AllByRecursion (λ e. p e.0 ≡ false) ys
+  pub set-left : (xs ys : List (L × E)) (w : E) → AllByRecursion (λ e. p e.0 ≡ false) ys
       → set_value p (xs ++ ys) w ≡ set_value p xs w ++ ys
   set-left [] ys w a = set-free ys w a
   set-left (x ∷ xs) ys w a =
@@ -74,7 +74,7 @@ module _ {L E : Type 0} (p : L → Bool) where
       step true x w all xs l r h g = ap (λ l. (x.0, w) ∷ l) g
       step false x w all xs l r h g = ap (λ l. x ∷ l) h
 
-  set-right : (xs ys : List (L × E)) (w : E) → AllByRecursion (λ e. p e.0 ≡ false) xs
+  pub set-right : (xs ys : List (L × E)) (w : E) → AllByRecursion (λ e. p e.0 ≡ false) xs
       → set_value p (xs ++ ys) w ≡ xs ++ set_value p ys w
   set-right [] ys w a = refl
   set-right (x ∷ xs) ys w a =
@@ -330,6 +330,11 @@ unfolding IsDistinct
 split_none items stamp value n ns ts e f =
     subst (λ l. IsConsistent items stamp value n l ts) (sym e) (subst (λ l. IsConsistent items stamp value n [] l) (sym f) ((tt, tt, tt), tt, tt))
 
+pub all_moved : {X : Type 0} (P : X → Type 0) (xs ys : List X) (x : X) → IsPermutation xs (x ∷ ys)
+    → AllByRecursion P xs → AllByRecursion P ys
+all_moved P xs ys x m a =
+    (recursion_from_All P (x ∷ ys) (All-permutation P xs (x ∷ ys) m (All-from_recursion P xs a))).1
+
 -- a key taken out
 module _ {T E V : Type 0} (items : T → List ℕ) (stamp : E → ℕ) (value : E → V) (n : ℕ) (ns : List (ℤ × E)) (ts : List (T × E)) (i : IsConsistent items stamp value n ns ts) where
   pub record Out (k : List ℕ) (ms : List (ℤ × E)) (us : List (T × E)) : Type 0 where
@@ -342,11 +347,6 @@ module _ {T E V : Type 0} (items : T → List ℕ) (stamp : E → ℕ) (value : 
     seen =
         sym (without-none (λ k. k) stamp value bytes_eq n (bytes_eq k) (λ x y. nat_list_eq_equiv.congr k x y) (all_entries items ns ts) i.0.0 i.0.1 i.0.2 e);
   }
-
-  all_moved : {X : Type 0} (P : X → Type 0) (xs ys : List X) (x : X) → IsPermutation xs (x ∷ ys)
-      → AllByRecursion P xs → AllByRecursion P ys
-  all_moved P xs ys x m a =
-      (recursion_from_All P (x ∷ ys) (All-permutation P xs (x ∷ ys) m (All-from_recursion P xs a))).1
 
   pub number-out : (z : ℤ) → IsInt64 z → (ms : List (ℤ × E)) → ms ≡ swap_remove_entry (int_eq z) ns
       → Out (signed_decimal z) ms ts
@@ -369,26 +369,39 @@ module _ {T E V : Type 0} (items : T → List ℕ) (stamp : E → ℕ) (value : 
                 ordered-taken (λ k. k) stamp value bytes_eq turned_keys n (all_entries items ns ts) (all_entries items ms ts) (signed_decimal m.0) x all i.0 (bytes_eq (signed_decimal z)) (λ x y. nat_list_eq_equiv.congr (signed_decimal z) x y) (number-lookup items ns ts i.1 i.2 z s ∙ e);
           }
 
-  pub text-out : (k : List ℕ) → IsTextKey k → (us : List (T × E))
-      → us ≡ swap_remove_entry (λ t. bytes_eq k (items t)) ts → Out k ns us
-  text-out k s us h = by (lookup (λ t. bytes_eq k (items t)) ts) refl
-    where
-      by : (o : Option E) → lookup (λ t. bytes_eq k (items t)) ts ≡ o → Out k ns us
-      by None e =
-          subst (λ l. Out k ns l) (sym (h ∙ swap-missed (λ t. bytes_eq k (items t)) ts e)) (missed k (text-lookup items ns ts i.1 i.2 k s ∙ e))
-      by (Some x) e =
-          let m = swap-hit (λ t. bytes_eq k (items t)) x ts e in
-          let moves : IsPermutation ts ((m.0, x) ∷ us) = subst (λ l. IsPermutation ts ((m.0, x) ∷ l)) (sym h) m.1 in
-          let all = text-taken items ns ts i.1 i.2 m.0 x us moves in
-          record {
-            kept = (
-              kept-taken (λ k. k) stamp value bytes_eq turned_keys n (all_entries items ns ts) (all_entries items ns us) (items m.0) x all i.0,
-              i.1,
-              all_moved (λ t. IsTextKey (items t)) (keys_of ts) (keys_of us) m.0 (IsPermutation-map (λ e. e.0) ts ((m.0, x) ∷ us) moves) i.2,
-            );
-            seen =
-                ordered-taken (λ k. k) stamp value bytes_eq turned_keys n (all_entries items ns ts) (all_entries items ns us) (items m.0) x all i.0 (bytes_eq k) (λ x y. nat_list_eq_equiv.congr k x y) (text-lookup items ns ts i.1 i.2 k s ∙ e);
-          }
+  pub text-missed : (k : List ℕ) → IsTextKey k → lookup (λ t. bytes_eq k (items t)) ts ≡ None → Out k ns ts
+  text-missed k s e = missed k (text-lookup items ns ts i.1 i.2 k s ∙ e)
+
+  pub text-out : (k : List ℕ) → IsTextKey k → (t : T) (x : E) (us : List (T × E))
+      → lookup (λ t. bytes_eq k (items t)) ts ≡ Some x → IsPermutation ts ((t, x) ∷ us) → Out k ns us
+  text-out k s t x us e moves =
+      let all = text-taken items ns ts i.1 i.2 t x us moves in
+      record {
+        kept = (
+          kept-taken (λ k. k) stamp value bytes_eq turned_keys n (all_entries items ns ts) (all_entries items ns us) (items t) x all i.0,
+          i.1,
+          all_moved (λ t. IsTextKey (items t)) (keys_of ts) (keys_of us) t (IsPermutation-map (λ e. e.0) ts ((t, x) ∷ us) moves) i.2,
+        );
+        seen =
+            ordered-taken (λ k. k) stamp value bytes_eq turned_keys n (all_entries items ns ts) (all_entries items ns us) (items t) x all i.0 (bytes_eq k) (λ x y. nat_list_eq_equiv.congr k x y) (text-lookup items ns ts i.1 i.2 k s ∙ e);
+      }
+
+-- texts that change places
+module _ {T E V : Type 0} (items : T → List ℕ) (stamp : E → ℕ) (value : E → V) (n : ℕ) (ns : List (ℤ × E)) (ts us : List (T × E)) (m : IsPermutation ts us) (i : IsConsistent items stamp value n ns ts) where
+  texts-moved : IsPermutation (all_entries items ns ts) (all_entries items ns us)
+  texts-moved =
+      IsPermutation-append_right (map (λ e. (signed_decimal e.0, e.1)) ns) _ _ (IsPermutation-map (λ e. (items e.0, e.1)) ts us m)
+
+  pub text-kept-moved : IsConsistent items stamp value n ns us
+  text-kept-moved = (
+    kept-moved (λ k. k) stamp value bytes_eq turned_keys n (all_entries items ns ts) (all_entries items ns us) texts-moved i.0,
+    i.1,
+    recursion_from_All (λ t. IsTextKey (items t)) (keys_of us) (All-permutation (λ t. IsTextKey (items t)) (keys_of ts) (keys_of us) (IsPermutation-map (λ e. e.0) ts us m) (All-from_recursion (λ t. IsTextKey (items t)) (keys_of ts) i.2)),
+  )
+
+  pub text-seen-moved : stamp_order n (all_rows items stamp value ns us) ≡ stamp_order n (all_rows items stamp value ns ts)
+  text-seen-moved =
+      ordered-moved (λ k. k) stamp value bytes_eq n (all_entries items ns ts) (all_entries items ns us) texts-moved i.0
 
 -- the keys and their number
 module _ {T E V : Type 0} (items : T → List ℕ) (stamp : E → ℕ) (value : E → V) (n : ℕ) (ns : List (ℤ × E)) (ts : List (T × E)) (i : IsConsistent items stamp value n ns ts) where

@@ -1,0 +1,117 @@
+// Keys that are texts of more than 23 bytes.
+
+ghost use Rattle.std.specs.Prelude.{◌≡◌, ◌<◌, ◌++◌, ◌∷◌, [], None, length, is_some, bytes_eq, IfOk, IfErr, OnOk, OnErr};
+ghost use Rattle.std.specs.Option.{option_copied, unwrap_or};
+ghost use Rattle.indexmap.specs.IndexMap.{swap_remove_entry};
+ghost use Rattle.awk_value.specs.declared.value.Value.TheVariants.{Nothing};
+ghost use Rattle.awk_value.specs.declared.fault.ValueFault.TheVariants.{Memory};
+ghost use Rattle.awk_table.specs.Arrays.{value_at, with_pair, with_key, without};
+ghost use Rattle.awk_table.specs.support.Entries.{IsTextKey};
+
+use crate::table::{Entry, Table};
+use awk_value::{Value, ValueFault};
+use indexmap::IndexMap;
+use std::alloc::Global;
+
+impl Table {
+    /// As `has`.
+    pub(crate) fn has_long(&self, key: &[u8]) -> bool
+        requires text { IsTextKey key.now }
+        requires long { 23 < length key.now }
+        ensures { result ≡ is_some (value_at self.now key.now) }
+    {
+        self.longs.contains_key(key)
+    }
+
+    /// As `get`.
+    pub(crate) fn get_long(&self, key: &[u8]) -> Option<&Value>
+        requires text { IsTextKey key.now }
+        requires long { 23 < length key.now }
+        ensures { option_copied result ≡ value_at self.now key.now }
+    {
+        match self.longs.get(key) {
+            Some(entry) => Some(&entry.value),
+            None => None,
+        }
+    }
+
+    /// As `get_or_make`.
+    pub(crate) fn get_or_make_long(
+        &mut self,
+        alloc: Global,
+        key: &[u8],
+    ) -> Result<Value, ValueFault>
+        requires text { IsTextKey key.now }
+        requires long { 23 < length key.now }
+        ensures value { IfOk result (λ v. v ≡ unwrap_or (value_at self.old key.now) Nothing) }
+        ensures made { OnOk result (self.new ≡ with_key self.old key.now) }
+        ensures unchanged { OnErr result (self.new ≡ self.old) }
+        ensures fault { IfErr result (λ fault. fault ≡ Memory) }
+    {
+        match self.longs.get(key) {
+            Some(entry) => Ok(entry.value.clone()?),
+            None => {
+                self.add_long(alloc, key, Value::Nothing)?;
+                Ok(Value::Nothing)
+            }
+        }
+    }
+
+    /// As `put`.
+    pub(crate) fn put_long(
+        &mut self,
+        alloc: Global,
+        key: &[u8],
+        value: Value,
+    ) -> Result<(), ValueFault>
+        requires text { IsTextKey key.now }
+        requires long { 23 < length key.now }
+        ensures put { OnOk result (self.new ≡ with_pair self.old key.now value) }
+        ensures unchanged { OnErr result (self.new ≡ self.old) }
+        ensures absent { OnErr result (value_at self.old key.now ≡ None) }
+        ensures fault { IfErr result (λ fault. fault ≡ Memory) }
+    {
+        match self.longs.get_mut(key) {
+            Some(entry) => {
+                entry.value = value;
+                Ok(())
+            }
+            None => self.add_long(alloc, key, value),
+        }
+    }
+
+    /// As `remove`.
+    pub(crate) fn remove_long(&mut self, key: &[u8])
+        requires text { IsTextKey key.now }
+        requires long { 23 < length key.now }
+        ensures { self.new ≡ without self.old key.now }
+    {
+        take_long(&mut self.longs, key);
+    }
+
+    /// Adds a new long text, which goes last.
+    fn add_long(&mut self, alloc: Global, key: &[u8], value: Value) -> Result<(), ValueFault>
+        requires text { IsTextKey key.now }
+        requires long { 23 < length key.now }
+        requires new { value_at self.old key.now ≡ None }
+        ensures added { OnOk result (self.new ≡ self.old ++ (key.now, value) ∷ []) }
+        ensures unchanged { OnErr result (self.new ≡ self.old) }
+        ensures fault { IfErr result (λ fault. fault ≡ Memory) }
+    {
+        let stamp = self.next;
+        let Some(next) = stamp.checked_add(1) else {
+            return Err(ValueFault::Memory);
+        };
+        let copy = Vec::from_slice(alloc, key)?;
+        self.longs.insert(copy, Entry { stamp, value })?;
+        self.next = next;
+        Ok(())
+    }
+}
+
+/// Takes a text's entry out of the map, whose last entry moves to its place.
+fn take_long(entries: &mut IndexMap<Vec<u8>, Entry>, key: &[u8])
+    ensures { entries.new.entries ≡ swap_remove_entry (λ k. bytes_eq key.now k.items) entries.old.entries }
+{
+    let _ = entries.swap_remove(key);
+}

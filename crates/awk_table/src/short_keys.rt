@@ -1,0 +1,108 @@
+// Keys that are texts of at most 23 bytes.
+
+ghost use Rattle.std.specs.Prelude.{◌≡◌, ◌++◌, ◌∷◌, ◌&&◌, [], None, nat_eq, is_some, bytes_eq, IfOk, IfErr, OnOk, OnErr};
+ghost use Rattle.std.specs.Option.{option_copied, unwrap_or};
+ghost use Rattle.indexmap.specs.IndexMap.{swap_remove_entry};
+ghost use Rattle.awk_value.specs.declared.value.Value.TheVariants.{Nothing};
+ghost use Rattle.awk_value.specs.declared.fault.ValueFault.TheVariants.{Memory};
+ghost use Rattle.awk_table.specs.Arrays.{value_at, with_pair, with_key, without};
+ghost use Rattle.awk_table.specs.support.Entries.{IsTextKey, short_text, IsPadded};
+
+use crate::short_text::ShortText;
+use crate::table::{Entry, Table};
+use awk_value::{Value, ValueFault};
+use indexmap::IndexMap;
+
+impl Table {
+    /// As `has`.
+    pub(crate) fn has_short(&self, key: ShortText) -> bool
+        requires text { IsTextKey (short_text key.bytes key.len) }
+        requires padded { IsPadded key.bytes key.len }
+        ensures { result ≡ is_some (value_at self.now (short_text key.bytes key.len)) }
+    {
+        self.shorts.contains_key(&key)
+    }
+
+    /// As `get`.
+    pub(crate) fn get_short(&self, key: ShortText) -> Option<&Value>
+        requires text { IsTextKey (short_text key.bytes key.len) }
+        requires padded { IsPadded key.bytes key.len }
+        ensures { option_copied result ≡ value_at self.now (short_text key.bytes key.len) }
+    {
+        match self.shorts.get(&key) {
+            Some(entry) => Some(&entry.value),
+            None => None,
+        }
+    }
+
+    /// As `get_or_make`.
+    pub(crate) fn get_or_make_short(&mut self, key: ShortText) -> Result<Value, ValueFault>
+        requires text { IsTextKey (short_text key.bytes key.len) }
+        requires padded { IsPadded key.bytes key.len }
+        ensures value { IfOk result (λ v. v ≡ unwrap_or (value_at self.old (short_text key.bytes key.len)) Nothing) }
+        ensures made { OnOk result (self.new ≡ with_key self.old (short_text key.bytes key.len)) }
+        ensures unchanged { OnErr result (self.new ≡ self.old) }
+        ensures fault { IfErr result (λ fault. fault ≡ Memory) }
+    {
+        match self.shorts.get(&key) {
+            Some(entry) => Ok(entry.value.clone()?),
+            None => {
+                self.add_short(key, Value::Nothing)?;
+                Ok(Value::Nothing)
+            }
+        }
+    }
+
+    /// As `put`.
+    pub(crate) fn put_short(&mut self, key: ShortText, value: Value) -> Result<(), ValueFault>
+        requires text { IsTextKey (short_text key.bytes key.len) }
+        requires padded { IsPadded key.bytes key.len }
+        ensures put { OnOk result (self.new ≡ with_pair self.old (short_text key.bytes key.len) value) }
+        ensures unchanged { OnErr result (self.new ≡ self.old) }
+        ensures absent { OnErr result (value_at self.old (short_text key.bytes key.len) ≡ None) }
+        ensures fault { IfErr result (λ fault. fault ≡ Memory) }
+    {
+        match self.shorts.get_mut(&key) {
+            Some(entry) => {
+                entry.value = value;
+                Ok(())
+            }
+            None => self.add_short(key, value),
+        }
+    }
+
+    /// As `remove`.
+    pub(crate) fn remove_short(&mut self, key: ShortText)
+        requires text { IsTextKey (short_text key.bytes key.len) }
+        requires padded { IsPadded key.bytes key.len }
+        ensures { self.new ≡ without self.old (short_text key.bytes key.len) }
+    {
+        take_short(&mut self.shorts, key);
+    }
+
+    /// Adds a new short text, which goes last.
+    fn add_short(&mut self, key: ShortText, value: Value) -> Result<(), ValueFault>
+        requires text { IsTextKey (short_text key.bytes key.len) }
+        requires padded { IsPadded key.bytes key.len }
+        requires new { value_at self.old (short_text key.bytes key.len) ≡ None }
+        ensures added { OnOk result (self.new ≡ self.old ++ (short_text key.bytes key.len, value) ∷ []) }
+        ensures unchanged { OnErr result (self.new ≡ self.old) }
+        ensures fault { IfErr result (λ fault. fault ≡ Memory) }
+    {
+        let stamp = self.next;
+        let Some(next) = stamp.checked_add(1) else {
+            return Err(ValueFault::Memory);
+        };
+        self.shorts.insert(key, Entry { stamp, value })?;
+        self.next = next;
+        Ok(())
+    }
+}
+
+/// Takes a text's entry out of the map, whose last entry moves to its place.
+fn take_short(entries: &mut IndexMap<ShortText, Entry>, key: ShortText)
+    ensures { entries.new.entries ≡ swap_remove_entry (λ k. bytes_eq key.bytes k.bytes && nat_eq key.len k.len)
+        entries.old.entries }
+{
+    let _ = entries.swap_remove(&key);
+}
