@@ -3,6 +3,7 @@
 use awk_table::Table;
 use awk_value::{Bytes, Value, ValueFault, append_text};
 use std::alloc::Global;
+use std::process::Abort;
 use std::test::Fail;
 
 /// A call on an array.
@@ -23,7 +24,7 @@ struct Row {
     pairs: &'static str,
 }
 
-const ROWS: [Row; 9] = [
+const ROWS: [Row; 11] = [
     Row {
         calls: &[],
         pairs: "",
@@ -85,6 +86,30 @@ const ROWS: [Row; 9] = [
     Row {
         calls: &[
             Put("a", 1),
+            Put("a\0", 2),
+            Put("a\0\0", 3),
+            Make("a\0"),
+            Remove("a"),
+        ],
+        pairs: "a\0=2 a\0\0=3 ",
+    },
+    Row {
+        calls: &[
+            Put("a key of 22 bytes .22.", 1),
+            Put("a key of 23 bytes ..23.", 2),
+            Put("a key of 24 bytes ...24.", 3),
+            Put("a key of 25 bytes ....25.", 4),
+            Put("a key of 24 bytes ...24.", 5),
+            Put("a key of 23 bytes ..23.", 6),
+            Remove("a key of 22 bytes .22."),
+            Remove("a key of 25 bytes ....25."),
+            Make("a key of 25 bytes ....25."),
+        ],
+        pairs: "a key of 23 bytes ..23.=6 a key of 24 bytes ...24.=5 a key of 25 bytes ....25.= ",
+    },
+    Row {
+        calls: &[
+            Put("a", 1),
             Put("1", 2),
             Clear,
             Make("1"),
@@ -121,24 +146,28 @@ fn pairs_of(alloc: Global, table: &Table) -> Result<Vec<u8>, ValueFault> {
     Ok(pairs)
 }
 
+/// Makes calls, and gives the pairs that they leave.
+fn pairs_behind(alloc: Global, calls: &[Call], table: &mut Table) -> Result<Vec<u8>, ValueFault> {
+    for each in calls {
+        make_call(alloc, table, *each)?;
+    }
+    pairs_of(alloc, table)
+}
+
 #[test]
 fn calls_leave_pairs(rt: HostRuntime) -> Result<(), Fail> {
     for row in &ROWS {
         let mut table = Table::new(rt.alloc());
-        for each in row.calls {
-            make_call(rt.alloc(), &mut table, *each)?;
-        }
-        let pairs = pairs_of(rt.alloc(), &table)?;
+        let pairs = pairs_behind(rt.alloc(), row.calls, &mut table)?;
         assert_eq!(rt; pairs.as_slice(), row.pairs.as_bytes(), "{row:?}");
     }
     Ok(())
 }
 
-#[test]
-fn a_number_stands_for_its_decimal_form(rt: HostRuntime) -> Result<(), Fail> {
-    let mut table = Table::new(rt.alloc());
+/// Makes calls by numbers and by their decimal forms.
+fn call_by_numbers(rt: &impl Abort, alloc: Global, table: &mut Table) -> Result<(), ValueFault> {
     table.put_number(-7, Value::Number(1))?;
-    table.put(rt.alloc(), b"5", Value::Number(2))?;
+    table.put(alloc, b"5", Value::Number(2))?;
     table.get_or_make_number(6)?;
     assert!(rt; table.has(b"-7") && table.has(b"6") && table.has_number(5));
     assert!(rt; !table.has(b"7") && !table.has_number(7) && !table.has(b"-07"));
@@ -148,8 +177,15 @@ fn a_number_stands_for_its_decimal_form(rt: HostRuntime) -> Result<(), Fail> {
     assert!(rt; matches!(table.get(b"6"), Some(Value::Nothing)));
     table.remove_number(5);
     assert_eq!(rt; table.len(), 2);
-    let pairs = pairs_of(rt.alloc(), &table)?;
+    let pairs = pairs_of(alloc, table)?;
     assert_eq!(rt; pairs.as_slice(), b"-7=1 6= ".as_slice());
+    Ok(())
+}
+
+#[test]
+fn a_number_stands_for_its_decimal_form(rt: HostRuntime) -> Result<(), Fail> {
+    let mut table = Table::new(rt.alloc());
+    call_by_numbers(&rt, rt.alloc(), &mut table)?;
     Ok(())
 }
 
@@ -157,36 +193,57 @@ const KEYS: u32 = 100_000;
 
 const ROTATIONS: u32 = 10_000;
 
-/// The n-th key: half of them are numbers.
+/// Whether the n-th key is a number. Of the others half are short texts.
+fn is_number(n: u32) -> bool {
+    n % 4 < 2
+}
+
+/// The n-th key.
 fn key_of(alloc: Global, n: u32) -> Result<Bytes, ValueFault> {
-    let text = if n % 2 == 0 {
+    let text = if is_number(n) {
         format!(in alloc; "{n}")?
-    } else {
+    } else if n % 4 == 2 {
         format!(in alloc; "key {n}")?
+    } else {
+        format!(in alloc; "a key of more than 23 bytes {n}")?
     };
     Ok(Bytes::from_slice(alloc, text.as_bytes())?)
+}
+
+/// Puts all keys, and then removes one after the other and makes it again.
+fn rotate(alloc: Global, table: &mut Table) -> Result<(), ValueFault> {
+    for n in 0..KEYS {
+        let key = key_of(alloc, n)?;
+        table.put(alloc, key.as_slice(), Value::Number(n as i128))?;
+    }
+    for n in 0..ROTATIONS {
+        let key = key_of(alloc, n)?;
+        table.remove(key.as_slice());
+        table.get_or_make(alloc, key.as_slice())?;
+    }
+    Ok(())
+}
+
+/// How many keys aren't the one that follows the one before.
+fn count_out_of_turn(alloc: Global, keys: &[Bytes]) -> Result<u32, ValueFault> {
+    let mut n = ROTATIONS;
+    let mut differing: u32 = 0;
+    for key in keys {
+        if key.as_slice() != key_of(alloc, n % KEYS)?.as_slice() {
+            differing = differing.saturating_add(1);
+        }
+        n = n.wrapping_add(1);
+    }
+    Ok(differing)
 }
 
 #[test]
 fn rotations_cost_little(rt: HostRuntime) -> Result<(), Fail> {
     let mut table = Table::new(rt.alloc());
-    for n in 0..KEYS {
-        let key = key_of(rt.alloc(), n)?;
-        table.put(rt.alloc(), key.as_slice(), Value::Number(n as i128))?;
-    }
-    for n in 0..ROTATIONS {
-        let key = key_of(rt.alloc(), n)?;
-        table.remove(key.as_slice());
-        table.get_or_make(rt.alloc(), key.as_slice())?;
-    }
+    rotate(rt.alloc(), &mut table)?;
     let keys = table.keys(rt.alloc())?;
     assert_eq!(rt; keys.len(), KEYS as usize);
-    let mut n = ROTATIONS;
-    for key in &keys {
-        let expected = key_of(rt.alloc(), n % KEYS)?;
-        assert_eq!(rt; key.as_slice(), expected.as_slice());
-        n = n.wrapping_add(1);
-    }
+    assert_eq!(rt; count_out_of_turn(rt.alloc(), keys.as_slice())?, 0);
     Ok(())
 }
 
@@ -261,7 +318,7 @@ fn step(
     pairs: &mut Pairs,
 ) -> Result<(), ValueFault> {
     let key = random.below(20);
-    let by_number = key % 2 == 0 && random.below(2) == 0;
+    let by_number = is_number(key) && random.below(2) == 0;
     let text = key_of(alloc, key)?;
     match random.below(8) {
         0..3 => {
@@ -293,6 +350,26 @@ fn step(
     Ok(())
 }
 
+/// Behind how many of these steps the two differ.
+fn count_differing(
+    alloc: Global,
+    steps: u32,
+    random: &mut Random,
+    table: &mut Table,
+    pairs: &mut Pairs,
+) -> Result<u32, ValueFault> {
+    let mut differing: u32 = 0;
+    for _ in 0..steps {
+        step(alloc, random, table, pairs)?;
+        let shown = pairs_of(alloc, table)?;
+        let same = shown.as_slice() == pairs.text(alloc)?.as_slice();
+        if !same || table.len() != pairs.pairs.len() {
+            differing = differing.saturating_add(1);
+        }
+    }
+    Ok(differing)
+}
+
 #[test]
 fn goes_as_a_plain_list(rt: HostRuntime) -> Result<(), Fail> {
     let mut random = Random { state: 1 };
@@ -301,12 +378,8 @@ fn goes_as_a_plain_list(rt: HostRuntime) -> Result<(), Fail> {
         let mut pairs = Pairs {
             pairs: Vec::new(rt.alloc()),
         };
-        for _ in 0..200 {
-            step(rt.alloc(), &mut random, &mut table, &mut pairs)?;
-            let shown = pairs_of(rt.alloc(), &table)?;
-            assert_eq!(rt; shown.as_slice(), pairs.text(rt.alloc())?.as_slice());
-            assert_eq!(rt; table.len(), pairs.pairs.len());
-        }
+        let differing = count_differing(rt.alloc(), 200, &mut random, &mut table, &mut pairs)?;
+        assert_eq!(rt; differing, 0);
     }
     Ok(())
 }
