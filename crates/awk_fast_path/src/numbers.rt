@@ -93,21 +93,29 @@ fn is_nonzero(n: Option<i128>) -> Option<bool>
 
 /// How deep expressions are that are looked into. Each depth is a type of its own, so that no function calls itself.
 pub(crate) trait Depth {
-    /// The number of an expression, if it is found so deep.
-    fn number(plan: &Plan, e: Operand, interpreter: &Interpreter) -> Option<i128>
-        ensures { Finds (operand_of plan.now e) interpreter.now result };
+    /// The number of the expression at a place, if it is found so deep.
+    fn node_number(plan: &Plan, place: u32, interpreter: &Interpreter) -> Option<i128>
+        ensures { Finds (operand_of plan.now (Operand.Node place)) interpreter.now result };
 }
 
 /// Constants and variables.
 pub(crate) struct Leaf;
 
 impl Depth for Leaf {
-    fn number(plan: &Plan, e: Operand, interpreter: &Interpreter) -> Option<i128> {
-        match e {
-            Operand::Constant(number) => constant(plan, number, interpreter),
-            Operand::Variable(number) => variable(plan, number, interpreter),
-            Operand::Node(_) => None,
-        }
+    fn node_number(_plan: &Plan, _place: u32, _interpreter: &Interpreter) -> Option<i128> {
+        None
+    }
+}
+
+/// The number of an operand, if it is found so deep. A constant and a variable are read where they stand, without a call.
+#[inline(always)]
+fn operand<D: Depth>(plan: &Plan, e: Operand, interpreter: &Interpreter) -> Option<i128>
+    ensures { Finds (operand_of plan.now e) interpreter.now result }
+{
+    match e {
+        Operand::Constant(number) => constant(plan, number, interpreter),
+        Operand::Variable(number) => variable(plan, number, interpreter),
+        Operand::Node(place) => D::node_number(plan, place, interpreter),
     }
 }
 
@@ -115,19 +123,16 @@ impl Depth for Leaf {
 pub(crate) struct Over<D>(PhantomData<D>);
 
 impl<D: Depth> Depth for Over<D> {
-    fn number(plan: &Plan, e: Operand, interpreter: &Interpreter) -> Option<i128> {
-        let Operand::Node(place) = e else {
-            return Leaf::number(plan, e, interpreter);
-        };
+    fn node_number(plan: &Plan, place: u32, interpreter: &Interpreter) -> Option<i128> {
         let Some(node) = expression(plan, place) else {
             return None;
         };
         match node {
-            ExprNode::Group(e) => D::number(plan, e, interpreter),
-            ExprNode::Unary(operator, e) => changed(operator, D::number(plan, e, interpreter)),
+            ExprNode::Group(e) => operand::<D>(plan, e, interpreter),
+            ExprNode::Unary(operator, e) => changed(operator, operand::<D>(plan, e, interpreter)),
             ExprNode::Binary(operator, a, b) => {
-                let x = D::number(plan, a, interpreter);
-                let y = D::number(plan, b, interpreter);
+                let x = operand::<D>(plan, a, interpreter);
+                let y = operand::<D>(plan, b, interpreter);
                 join(operator, x, y)
             }
             ExprNode::And(a, b) => both::<D>(plan, a, b, interpreter),
@@ -142,7 +147,7 @@ impl<D: Depth> Depth for Over<D> {
 fn tested<D: Depth>(plan: &Plan, e: Operand, interpreter: &Interpreter) -> Option<bool>
     ensures { IfSome result (λ b. Tests (operand_of plan.now e) interpreter.now b) }
 {
-    is_nonzero(D::number(plan, e, interpreter))
+    is_nonzero(operand::<D>(plan, e, interpreter))
 }
 
 /// What a test gives: 1 or 0.
@@ -190,8 +195,8 @@ fn chosen<D: Depth>(
         interpreter.now result }
 {
     match tested::<D>(plan, c, interpreter) {
-        Some(true) => D::number(plan, a, interpreter),
-        Some(false) => D::number(plan, b, interpreter),
+        Some(true) => operand::<D>(plan, a, interpreter),
+        Some(false) => operand::<D>(plan, b, interpreter),
         None => None,
     }
 }
@@ -200,10 +205,11 @@ fn chosen<D: Depth>(
 pub(crate) type Deepest = Over<Over<Over<Over<Over<Leaf>>>>>;
 
 /// The number of an expression.
+#[inline(always)]
 pub(crate) fn number(plan: &Plan, e: Operand, interpreter: &Interpreter) -> Option<i128>
     ensures { Finds (operand_of plan.now e) interpreter.now result }
 {
-    Deepest::number(plan, e, interpreter)
+    operand::<Deepest>(plan, e, interpreter)
 }
 
 /// Whether an expression is true. `None` where that isn't found in place. (POSIX awk, Expressions in awk)
