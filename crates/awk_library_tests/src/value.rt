@@ -2,7 +2,7 @@
 
 use awk_value::{
     Bytes, Value, ValueFault, add, append_text, compare, concatenate, concatenate_in_place, divide,
-    is_true, minus, multiply, neg, negate, number_of, plus, pow, power, rem, remainder, sub,
+    is_true, minus, multiply, neg, negate, number_of, numeric_of, plus, pow, power, rem, remainder, sub,
     text_of, to_number,
 };
 use std::alloc::{AllocError, Global};
@@ -183,6 +183,25 @@ fn conversions(rt: HostRuntime) -> Result<(), Fail> {
     Ok(())
 }
 
+/// What counts as a number where values are tested and compared.
+#[test]
+fn numbers(rt: HostRuntime) -> Result<(), Fail> {
+    let rows = [
+        (Nothing, Some(0)),
+        (Number(LEAST), Some(LEAST)),
+        (Text("7"), None),
+        (Input(" -7 "), Some(-7)),
+        (Input(LEAST_TEXT), Some(LEAST)),
+        (Input("170141183460469231731687303715884105728"), None),
+        (Input("7x"), None),
+        (Input(""), None),
+    ];
+    for (given, number) in rows {
+        assert_eq!(rt; numeric_of(&given.value(rt.alloc())?), number, "{given:?}");
+    }
+    Ok(())
+}
+
 #[test]
 fn orders(rt: HostRuntime) -> Result<(), Fail> {
     for (left, right, order) in ORDERS {
@@ -316,6 +335,21 @@ fn appended_bytes(rt: HostRuntime) -> Result<(), Fail> {
     two.extend_from_slice(alloc, b"!")?;
     two.extend_from_slice(alloc, b"?")?;
     assert_eq!(rt; two.as_slice(), b"two!?".as_slice());
+    Ok(())
+}
+
+#[test]
+fn overwritten_bytes(rt: HostRuntime) -> Result<(), Fail> {
+    let alloc = rt.alloc();
+    let mut text = Bytes::from_slice(alloc, b"one two")?;
+    let held = text.cut(4, 7)?;
+    text.overwrite(alloc, b"three")?;
+    assert_eq!(rt; held.as_slice(), b"two".as_slice());
+    assert_eq!(rt; text.as_slice(), b"three".as_slice());
+    text.overwrite(alloc, b"")?;
+    assert!(rt; text.is_empty());
+    text.overwrite(alloc, b"four and five")?;
+    assert_eq!(rt; text.as_slice(), b"four and five".as_slice());
     Ok(())
 }
 

@@ -6,6 +6,7 @@ ghost use Rattle.awk_record.specs.Boundary.{end_if, ending_or_break};
 use crate::boundary::{Boundary, first_boundary};
 use crate::fault::BufferFault;
 use crate::separator_search::ResumedSearch;
+use crate::spare_records::SpareRecords;
 use awk_value::Bytes;
 use std::alloc::Global;
 use std::marker::Model;
@@ -58,6 +59,7 @@ pub struct RecordBuffer {
     start: usize,
     supply: Supply,
     search: ResumedSearch,
+    spares: SpareRecords,
 }
 
 impl Model for RecordBuffer {
@@ -86,6 +88,7 @@ impl RecordBuffer {
             start: 0,
             supply: Supply::Open,
             search: ResumedSearch::NONE,
+            spares: SpareRecords::new(),
         }
     }
 
@@ -155,7 +158,7 @@ impl RecordBuffer {
         let search = self.search.resumed_for(separator);
         match first_boundary(separator, held, search, at_end(self.supply)) {
             Boundary::Stretch { from, to, next } => {
-                let record = Bytes::from_slice(self.alloc, &held[from..to])?;
+                let record = self.spares.copy(self.alloc, &held[from..to])?;
                 self.start += next;
                 self.search = ResumedSearch::NONE;
                 Ok(Step::Record(record))

@@ -13,6 +13,7 @@ use crate::value::Value;
 const FAR_EXPONENT: i128 = 128;
 
 /// The product of two numbers. The fault is `Range`. (POSIX awk, Expressions in awk.)
+#[inline(never)]
 pub fn mul(m: i128, n: i128) -> Result<i128, ValueFault>
     ensures { result ≡ product_of m n }
 {
@@ -43,6 +44,7 @@ pub fn neg(n: i128) -> Result<i128, ValueFault>
 
 /// The quotient of two numbers, cut off toward zero. The faults are `ZeroDivisor`, and `Range` of
 /// -2^127 by -1 alone. (POSIX awk, Expressions in awk.)
+#[inline(never)]
 pub fn div(m: i128, n: i128) -> Result<i128, ValueFault>
     ensures { result ≡ quotient_of m n }
 {
@@ -54,6 +56,7 @@ pub fn div(m: i128, n: i128) -> Result<i128, ValueFault>
 
 /// What division leaves of `m`, with the sign of `m`; what -1 leaves is 0, of the least number too.
 /// The fault is `ZeroDivisor`. (POSIX awk, Expressions in awk.)
+#[inline(never)]
 pub fn rem(m: i128, n: i128) -> Result<i128, ValueFault>
     ensures { result ≡ remainder_of m n }
 {
@@ -65,6 +68,7 @@ pub fn rem(m: i128, n: i128) -> Result<i128, ValueFault>
 
 /// The power of `m` by `n`; by 0 it is 1, of every number. The faults are `NegativePower`, of an
 /// exponent below 0, and `Range`. No exponent takes long. (POSIX awk, Expressions in awk.)
+#[inline(never)]
 #[tactic(auto, using(crate::proofs::Powers::far_exponents))]
 pub fn pow(m: i128, n: i128) -> Result<i128, ValueFault>
     ensures { result ≡ power_of m n }

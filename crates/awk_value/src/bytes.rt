@@ -1,7 +1,7 @@
 // Texts of bytes that share their memory, which grows in place where one text alone holds it.
 
 ghost use Rattle.std.specs.Prelude.{◌≡◌, ℕ, ◌+◌, ◌-◌, ◌<◌, ◌≤◌, ◌==◌, if◌then◌else◌, true};
-ghost use Rattle.std.specs.Prelude.{List, ◌++◌, length, take, drop, IfOk, OnOk, OnErr};
+ghost use Rattle.std.specs.Prelude.{List, [], ◌++◌, length, take, drop, IfOk, OnOk, OnErr};
 
 use std::alloc::{AllocError, Global};
 use std::marker::Model;
@@ -103,6 +103,34 @@ impl Bytes {
         *self = Bytes::from_vec(alloc, copy)?;
         Ok(())
     }
+
+    /// Makes the text a copy of these bytes. Its memory is written anew in place where nothing else
+    /// shares it. Fails only where memory is refused, and then leaves the empty text.
+    pub fn overwrite(&mut self, alloc: Global, bytes: &[u8]) -> Result<(), AllocError>
+        ensures bytes { OnOk result (self.new ≡ bytes.now) }
+        ensures empty { OnErr result (self.new ≡ []) }
+    {
+        self.start = 0;
+        self.end = 0;
+        if overwrite_unshared(&mut self.shared, bytes)? {
+            self.end = bytes.len();
+            return Ok(());
+        }
+        *self = Bytes::from_slice(alloc, bytes)?;
+        Ok(())
+    }
+}
+
+/// Writes memory anew that has no other owner: whether it has none.
+fn overwrite_unshared(shared: &mut Rc<Vec<u8>>, bytes: &[u8]) -> Result<bool, AllocError>
+    ensures { IfOk result (λ written. written ≡ true → shared.new.value.items ≡ bytes.now) }
+{
+    let Some(memory) = Rc::get_mut(shared) else {
+        return Ok(false);
+    };
+    memory.clear();
+    memory.extend_from_slice(bytes)?;
+    Ok(true)
 }
 
 /// Appends to memory that has no other owner and ends at `end`: whether it is such memory.

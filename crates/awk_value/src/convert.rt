@@ -1,6 +1,6 @@
 // A value as a number, as a text and as a truth.
 
-ghost use Rattle.std.specs.Prelude.{◌≡◌, ◌++◌, IfOk, IfErr, OnOk, OnErr};
+ghost use Rattle.std.specs.Prelude.{◌≡◌, ◌++◌, Ok, IfSome, IfOk, IfErr, OnOk, OnErr};
 ghost use Rattle.awk_value.specs.Values.{num_of, str_of, numeric_of, truth_of};
 ghost use Rattle.awk_value.specs.declared.fault.ValueFault.TheVariants.{Memory};
 ghost use Rattle.awk_value.specs.declared.value.Value.TheVariants.{Text};
@@ -26,9 +26,13 @@ pub fn number_of(value: &Value) -> Result<i128, ValueFault>
     }
 }
 
-/// The number as which a value is tested and compared, if it counts as a number there.
-pub(crate) fn numeric(value: &Value) -> Option<i128>
-    ensures { result ≡ numeric_of value.now }
+/// The number as which a value is tested and compared: 0 of an uninitialized one, and of a text from outside the number that it
+/// is and nothing else, with blanks around it. `None` of any other text. Takes no memory. (POSIX awk, Expressions in awk: numeric
+/// strings.)
+pub fn numeric_of(value: &Value) -> Option<i128>
+    ensures numeric { result ≡ numeric_of value.now }
+    // It is the value's number too.
+    ensures number { IfSome result (λ n. num_of value.now ≡ Ok n) }
 {
     match value {
         Value::Nothing => Some(0),

@@ -16,7 +16,7 @@ pub use crate::arithmetic::{
 };
 pub use crate::bytes::Bytes;
 pub use crate::convert::{
-    append_text, concatenate, concatenate_in_place, is_true, number_of, text_of,
+    append_text, concatenate, concatenate_in_place, is_true, number_of, numeric_of, text_of,
 };
 pub use crate::fault::ValueFault;
 pub use crate::order::compare;

@@ -3,7 +3,7 @@
 ghost use Rattle.std.specs.Prelude.{◌≡◌, Ok};
 ghost use Rattle.awk_value.specs.Values.{order_of};
 
-use crate::convert::{numeric, text_in};
+use crate::convert::{numeric_of, text_in};
 use crate::fault::ValueFault;
 use crate::value::Value;
 use itoa::Buffer;
@@ -15,8 +15,8 @@ use std::cmp::Ordering;
 pub fn compare(left: &Value, right: &Value) -> Result<Ordering, ValueFault>
     ensures { result ≡ Ok (order_of left.now right.now) }
 {
-    if let Some(m) = numeric(left)
-        && let Some(n) = numeric(right)
+    if let Some(m) = numeric_of(left)
+        && let Some(n) = numeric_of(right)
     {
         return Ok(m.cmp(&n));
     }

@@ -54,7 +54,7 @@ returns-in_ok-record-in-Stretch-clause-steps c = λ _.
     let b = c.self.inside in
     Steps-seen c.args.separator.now c.deref.result.now b.bytes.items b.start b.supply _ c.args.self.now _ _ _
     c.in-Stretch.ensures.value c.at_end.ensures c.deref.ensures.value c.self.view_is (found_unbroken _ _)
-    (ap (λ (t : List ℕ). Ok (Record t)) c.in_ok-record-in-Stretch.ensures, drop_behind b.bytes.items c.deref.result.now b.start c.in-Stretch.next c.deref.ensures.value, refl)
+    (ap (λ (t : List ℕ). Ok (Record t)) c.in_ok-record-in-Stretch.ensures.text, drop_behind b.bytes.items c.deref.result.now b.start c.in-Stretch.next c.deref.ensures.value, refl)
 
 pub returns-in-Ended-clause-steps : goal.returns-in-Ended-clause-steps
 returns-in-Ended-clause-steps c = λ _.
