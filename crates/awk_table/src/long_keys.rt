@@ -8,21 +8,12 @@ ghost use Rattle.awk_value.specs.declared.fault.ValueFault.TheVariants.{Memory};
 ghost use Rattle.awk_table.specs.Arrays.{value_at, with_pair, with_key, without};
 ghost use Rattle.awk_table.specs.support.Entries.{IsTextKey};
 
-use crate::table::{Entry, Table};
+use crate::table::{Entry, Table, copy_of};
 use awk_value::{Value, ValueFault};
 use indexmap::IndexMap;
 use std::alloc::Global;
 
 impl Table {
-    /// As `has`.
-    pub(crate) fn has_long(&self, key: &[u8]) -> bool
-        requires text { IsTextKey key.now }
-        requires long { 23 < length key.now }
-        ensures { result ≡ is_some (value_at self.now key.now) }
-    {
-        self.longs.contains_key(key)
-    }
-
     /// As `get`.
     pub(crate) fn get_long(&self, key: &[u8]) -> Option<&Value>
         requires text { IsTextKey key.now }
@@ -48,12 +39,12 @@ impl Table {
         ensures unchanged { OnErr result (self.new ≡ self.old) }
         ensures fault { IfErr result (λ fault. fault ≡ Memory) }
     {
-        match self.longs.get(key) {
-            Some(entry) => Ok(entry.value.clone()?),
-            None => {
-                self.add_long(alloc, key, Value::Nothing)?;
-                Ok(Value::Nothing)
-            }
+        match self.get_long(key) {
+            Some(value) => copy_of(value),
+            None => match self.add_long(alloc, key, Value::Nothing) {
+                Ok(()) => Ok(Value::Nothing),
+                Err(fault) => Err(fault),
+            },
         }
     }
 
@@ -103,7 +94,9 @@ impl Table {
             return Err(ValueFault::Memory);
         };
         let copy = Vec::from_slice(alloc, key)?;
-        self.longs.insert(copy, Entry { stamp, value })?;
+        let Ok(_) = self.longs.insert(copy, Entry { stamp, value }) else {
+            return Err(ValueFault::Memory);
+        };
         self.next = next;
         Ok(())
     }

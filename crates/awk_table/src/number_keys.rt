@@ -10,7 +10,7 @@ ghost use Rattle.awk_value.specs.declared.value.Value.TheVariants.{Nothing};
 ghost use Rattle.awk_value.specs.declared.fault.ValueFault.TheVariants.{Memory};
 ghost use Rattle.awk_table.specs.Arrays.{value_at, with_pair, with_key, without};
 
-use crate::table::{Entry, Table};
+use crate::table::{Entry, Table, copy_of};
 use awk_value::{Value, ValueFault};
 use indexmap::IndexMap;
 
@@ -19,7 +19,7 @@ impl Table {
     pub fn has_number(&self, key: i64) -> bool
         ensures { result ≡ is_some (value_at self.now (signed_decimal key)) }
     {
-        self.numbers.contains_key(&key)
+        self.get_number(key).is_some()
     }
 
     /// The value at the number's decimal form, as `get` gives it.
@@ -40,12 +40,12 @@ impl Table {
         ensures unchanged { OnErr result (self.new ≡ self.old) }
         ensures fault { IfErr result (λ fault. fault ≡ Memory) }
     {
-        match self.numbers.get(&key) {
-            Some(entry) => Ok(entry.value.clone()?),
-            None => {
-                self.add_number(key, Value::Nothing)?;
-                Ok(Value::Nothing)
-            }
+        match self.get_number(key) {
+            Some(value) => copy_of(value),
+            None => match self.add_number(key, Value::Nothing) {
+                Ok(()) => Ok(Value::Nothing),
+                Err(fault) => Err(fault),
+            },
         }
     }
 
@@ -84,7 +84,9 @@ impl Table {
         let Some(next) = stamp.checked_add(1) else {
             return Err(ValueFault::Memory);
         };
-        self.numbers.insert(key, Entry { stamp, value })?;
+        let Ok(_) = self.numbers.insert(key, Entry { stamp, value }) else {
+            return Err(ValueFault::Memory);
+        };
         self.next = next;
         Ok(())
     }

@@ -9,20 +9,11 @@ ghost use Rattle.awk_table.specs.Arrays.{value_at, with_pair, with_key, without}
 ghost use Rattle.awk_table.specs.support.Entries.{IsTextKey, short_text, IsPadded};
 
 use crate::short_text::ShortText;
-use crate::table::{Entry, Table};
+use crate::table::{Entry, Table, copy_of};
 use awk_value::{Value, ValueFault};
 use indexmap::IndexMap;
 
 impl Table {
-    /// As `has`.
-    pub(crate) fn has_short(&self, key: ShortText) -> bool
-        requires text { IsTextKey (short_text key.bytes key.len) }
-        requires padded { IsPadded key.bytes key.len }
-        ensures { result ≡ is_some (value_at self.now (short_text key.bytes key.len)) }
-    {
-        self.shorts.contains_key(&key)
-    }
-
     /// As `get`.
     pub(crate) fn get_short(&self, key: ShortText) -> Option<&Value>
         requires text { IsTextKey (short_text key.bytes key.len) }
@@ -44,12 +35,12 @@ impl Table {
         ensures unchanged { OnErr result (self.new ≡ self.old) }
         ensures fault { IfErr result (λ fault. fault ≡ Memory) }
     {
-        match self.shorts.get(&key) {
-            Some(entry) => Ok(entry.value.clone()?),
-            None => {
-                self.add_short(key, Value::Nothing)?;
-                Ok(Value::Nothing)
-            }
+        match self.get_short(key) {
+            Some(value) => copy_of(value),
+            None => match self.add_short(key, Value::Nothing) {
+                Ok(()) => Ok(Value::Nothing),
+                Err(fault) => Err(fault),
+            },
         }
     }
 
@@ -93,7 +84,9 @@ impl Table {
         let Some(next) = stamp.checked_add(1) else {
             return Err(ValueFault::Memory);
         };
-        self.shorts.insert(key, Entry { stamp, value })?;
+        let Ok(_) = self.shorts.insert(key, Entry { stamp, value }) else {
+            return Err(ValueFault::Memory);
+        };
         self.next = next;
         Ok(())
     }

@@ -22,6 +22,14 @@ pub(crate) struct Entry {
     pub(crate) value: Value,
 }
 
+/// A copy of a value. The fault is `Memory`.
+pub(crate) fn copy_of(value: &Value) -> Result<Value, ValueFault>
+    ensures copy { IfOk result (λ copy. copy ≡ value.now) }
+    ensures fault { IfErr result (λ fault. fault ≡ Memory) }
+{
+    Ok(value.clone()?)
+}
+
 /// An array: pairs of a key and a value. A key is a text, and no two are equal. A new key goes last,
 /// a present key keeps its place, and the others close up where one is removed.
 /// (POSIX awk, Expressions in awk)
@@ -80,10 +88,7 @@ impl Table {
     pub fn has(&self, key: &[u8]) -> bool
         ensures { result ≡ is_some (value_at self.now key.now) }
     {
-        match decimal_number(key) {
-            Some(number) => self.has_number(number),
-            None => self.has_text(key),
-        }
+        self.get(key).is_some()
     }
 
     /// The value at the key, if it is present. Takes no memory.

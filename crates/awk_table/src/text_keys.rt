@@ -13,17 +13,6 @@ use awk_value::{Value, ValueFault};
 use std::alloc::Global;
 
 impl Table {
-    /// As `has`.
-    pub(crate) fn has_text(&self, key: &[u8]) -> bool
-        requires { IsTextKey key.now }
-        ensures { result ≡ is_some (value_at self.now key.now) }
-    {
-        match ShortText::new(key) {
-            Some(short) => self.has_short(short),
-            None => self.has_long(key),
-        }
-    }
-
     /// As `get`.
     pub(crate) fn get_text(&self, key: &[u8]) -> Option<&Value>
         requires { IsTextKey key.now }

@@ -1,6 +1,6 @@
 // The keys in their order: all entries' texts with their stamps, sorted where the stamps don't rise.
 
-ghost use Rattle.std.specs.Prelude.{◌≡◌, ◌++◌, map, nat_lt, IsPermutation, IfOk, IfErr, OnOk};
+ghost use Rattle.std.specs.Prelude.{◌≡◌, ◌++◌, ◌∷◌, [], map, nat_lt, IsPermutation, IfOk, IfErr, OnOk};
 ghost use Rattle.std.specs.Fmt.{signed_decimal};
 ghost use Rattle.std.specs.Map.{keys_of};
 ghost use Rattle.std.specs.List.Sorted.{IsNonDecreasingBy};
@@ -40,8 +40,7 @@ fn list_numbers(
 {
     let mut buffer = Buffer::new();
     for (key, entry) in entries.iter() {
-        let text = Bytes::from_slice(alloc, buffer.format(*key).as_bytes())?;
-        rows.push((entry.stamp, text))?;
+        add_row(alloc, rows, entry.stamp, buffer.format(*key).as_bytes())?;
     }
     Ok(())
 }
@@ -56,8 +55,7 @@ fn list_shorts(
         ≡ rows.old.items ++ map (λ e. (e.1.stamp, short_text e.0.bytes e.0.len)) entries.now.entries) }
 {
     for (key, entry) in entries.iter() {
-        let text = Bytes::from_slice(alloc, key.as_slice())?;
-        rows.push((entry.stamp, text))?;
+        add_row(alloc, rows, entry.stamp, key.as_slice())?;
     }
     Ok(())
 }
@@ -72,9 +70,22 @@ fn list_longs(
         ≡ rows.old.items ++ map (λ e. (e.1.stamp, e.0.items)) entries.now.entries) }
 {
     for (key, entry) in entries.iter() {
-        let text = Bytes::from_slice(alloc, key.as_slice())?;
-        rows.push((entry.stamp, text))?;
+        add_row(alloc, rows, entry.stamp, key.as_slice())?;
     }
+    Ok(())
+}
+
+/// Adds a row.
+fn add_row(
+    alloc: Global,
+    rows: &mut Vec<(u64, Bytes)>,
+    stamp: u64,
+    text: &[u8],
+) -> Result<(), AllocError>
+    ensures { OnOk result (rows.new.items ≡ rows.old.items ++ (stamp, text.now) ∷ []) }
+{
+    let text = Bytes::from_slice(alloc, text)?;
+    rows.push((stamp, text))?;
     Ok(())
 }
 

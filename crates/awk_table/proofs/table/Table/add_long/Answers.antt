@@ -15,7 +15,7 @@ invariant_of-self-2 c =
     let same = c.in_ok-copy.ensures.items in
     let absent = long-absent now c.args.key.now c.requires.text c.requires.long c.requires.new in
     let entries =
-    c.in_ok-insert.ensures.entries
+    c.in-Ok.ensures.entries
     ∙ insert_entry-new (λ x y. bytes_eq x.items y.items) b.longs copy x
     (ap (λ k. lookup (λ t. bytes_eq k t.items) b.longs.entries) same ∙ absent) in
     (long-add now c.args.key.now c.requires.text c.requires.long
@@ -30,7 +30,7 @@ returns-clause-added c =
     let same = c.in_ok-copy.ensures.items in
     let absent = long-absent now c.args.key.now c.requires.text c.requires.long c.requires.new in
     let entries =
-    c.in_ok-insert.ensures.entries
+    c.in-Ok.ensures.entries
     ∙ insert_entry-new (λ x y. bytes_eq x.items y.items) b.longs copy x
     (ap (λ k. lookup (λ t. bytes_eq k t.items) b.longs.entries) same ∙ absent) in
     (long-add now c.args.key.now c.requires.text c.requires.long

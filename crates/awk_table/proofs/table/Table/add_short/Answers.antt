@@ -12,7 +12,7 @@ invariant_of-self-2 c =
     let x : Entry = record { stamp = b.next; value = c.args.value } in
     let absent = short-absent now c.args.key c.requires.text c.requires.padded c.requires.new in
     let entries =
-    c.in_ok-insert.ensures.entries
+    c.in-Ok.ensures.entries
     ∙ insert_entry-new (λ x y. bytes_eq x.bytes y.bytes && nat_eq x.len y.len) b.shorts c.args.key x absent in
     (short-add now c.args.key c.requires.text c.requires.padded
     c.requires.new x refl c.in-Some.next c.in-Some.ensures.1 c.insert.new.self.entries entries).consistent
@@ -24,7 +24,7 @@ returns-clause-added c =
     let x : Entry = record { stamp = b.next; value = c.args.value } in
     let absent = short-absent now c.args.key c.requires.text c.requires.padded c.requires.new in
     let entries =
-    c.in_ok-insert.ensures.entries
+    c.in-Ok.ensures.entries
     ∙ insert_entry-new (λ x y. bytes_eq x.bytes y.bytes && nat_eq x.len y.len) b.shorts c.args.key x absent in
     (short-add now c.args.key c.requires.text c.requires.padded
     c.requires.new x refl c.in-Some.next c.in-Some.ensures.1 c.insert.new.self.entries entries).view
