@@ -2,9 +2,8 @@
 use Rattle.std.proofs.Common.{◌≡◌, ℕ, zero, suc, ◌+◌, ◌-◌, ◌<◌, ◌≤◌, Bool, true, false, cond, nat_eq, nat_lt, List, [], ◌∷◌, ◌++◌, map, length, get_or, refl, sym, ap, subst, ◌∙◌, Option, Some, None, position, not, take, slice_set, arith}
 use Rattle.std.specs.Option.{option_to_list, option_map_or, option_map}
 use Rattle.std.specs.Map.{lookup, remove_entry, keys_of}
-use Rattle.std.specs.List.{IsDistinct, AllByRecursion, IsAllAdjacentAnswer, position_or_len, swap_remove}
+use Rattle.std.specs.List.{IsDistinct, AllByRecursion, position_or_len, swap_remove}
 use Rattle.std.specs.List.Sorted.{IsPermutation, IsNonDecreasingBy}
-use Rattle.std.specs.Prelude.{Result, Ok, Err, OnOk}
 use Rattle.std.proofs.lemmas.Bool.Decides.{nat_tests}
 use Rattle.std.proofs.lemmas.Cmp.{nat_eq_equiv}
 use Rattle.std.proofs.lemmas.List.{get_or_default, length-map}
@@ -13,6 +12,7 @@ use Rattle.std.proofs.lemmas.List.Sorted.{IsPermutation-map, IsPermutation-sym, 
 use Rattle.std.proofs.lemmas.Map.Keys.{IsDistinct-IsPermutation}
 use Rattle.std.proofs.lemmas.Map.Views.{exact_unsigned_eq, Contains-from_lookup, lookup-from_Contains}
 use Rattle.indexmap.specs.IndexMap.{swap_remove_entry}
+use Rattle.awk_keys.proofs.Rows.{map-both}
 use Rattle.awk_table.specs.support.StampOrder.{stamp_order}
 use Rattle.awk_table.proofs.ByStamp.{stamp_order-same, stamp_order-past, split}
 use Rattle.awk_table.proofs.OneEntry.{rows, Kept, none_apart, some_same, ltb_apart, taken_there, below_there, remove-ordered, kept_push, stamp_order-push, ordered_free}
@@ -141,32 +141,6 @@ swap-missed {K} {X} t (f ∷ fs) e =
             ap (λ b. cond (not b) (1 + position_or_len t (keys_of fs)) 0) p
             ∙ next (position_or_len t (keys_of fs)) (length fs) (ih (sym (ap (λ b. cond b (Some f.1) (lookup t fs)) p) ∙ e))
 
--- adjacent numbers that rise, rise
-pub rises : {X : Type 0} (n : X → ℕ) (xs : List X)
-    → ((k : ℕ) (d : X) → k + 1 < length xs → n (get_or xs k d) ≤ n (get_or xs (k + 1) d)) → IsNonDecreasingBy n xs
-rises n xs h i zero d a b =
-    let e : i ≡ 0 = omega arith in
-    let s : n (get_or xs i d) ≡ n (get_or xs 0 d) = ap (λ j. n (get_or xs j d)) e in
-    omega arith
-rises {X} n xs h i (suc m) d a b = by (λ l. rises n xs h i m d l (omega arith)) (nat_eq i (suc m)) refl
-  where
-    up : suc m ≡ m + 1
-    up = omega arith
-
-    by : (i ≤ m → n (get_or xs i d) ≤ n (get_or xs m d)) → (c : Bool) → nat_eq i (suc m) ≡ c
-        → n (get_or xs i d) ≤ n (get_or xs (suc m) d)
-    by ih true p =
-        let e : i ≡ suc m = grind (arith, nat_tests) in
-        let s : n (get_or xs i d) ≡ n (get_or xs (suc m) d) = ap (λ j. n (get_or xs j d)) e in
-        omega arith
-    by ih false p =
-        let e : i ≡ suc m → ⊥ = λ x. grind (arith, nat_tests) in
-        let l : i ≤ m = omega arith in
-        let before = ih l in
-        let step : n (get_or xs m d) ≤ n (get_or xs (m + 1) d) = h m d (omega arith) in
-        let s : n (get_or xs (m + 1) d) ≡ n (get_or xs (suc m) d) = ap (λ j. n (get_or xs j d)) (sym up) in
-        omega arith
-
 all_from : {X : Type 0} (Q : X → Type 0) (xs : List X) → ((j : ℕ) (d : X) → j < length xs → Q (get_or xs j d))
     → AllByRecursion Q xs
 all_from Q [] h = tt
@@ -294,26 +268,6 @@ module _ {K E L V : Type 0} (name : K → L) (stamp : E → ℕ) (value : E → 
         ordered-moved eq m (es ++ (k, x) ∷ []) fs moves last_kept
         ∙ stamp_order-push name stamp value eq n m k x es (es ++ (k, x) ∷ []) refl s e i
 
-le_from_lt : (x y : ℕ) → true ≡ nat_lt x y → x ≤ y
-le_from_lt x y h = grind (arith, nat_tests)
-
-pub rises_by : {X : Type 0} (n : X → ℕ) (xs : List X) (r : Bool) → r ≡ true
-    → IsAllAdjacentAnswer (λ x y b. b ≡ nat_lt (n x) (n y)) xs r → IsNonDecreasingBy n xs
-rises_by n xs true e h = rises n xs (λ k d l. le_from_lt (n (get_or xs k d)) (n (get_or xs (k + 1) d)) (h k d l))
-rises_by n xs false e h = absurd (let f : true ≡ false = sym e in cc)
-
-pub on_ok_map : {R E : Type 0} (r : Result R E) (P Q : Type 0) → OnOk r P → (P → Q) → OnOk r Q
-on_ok_map (Ok v) P Q h f = f h
-on_ok_map (Err e) P Q h f = tt
-
-pub map-twice : {X Y Z : Type 0} (g : Y → Z) (f : X → Y) (xs : List X) → map g (map f xs) ≡ map (λ x. g (f x)) xs
-map-twice g f [] = refl
-map-twice g f (x ∷ xs) = ap (λ l. g (f x) ∷ l) (map-twice g f xs)
-
-pub map-both : {X Y : Type 0} (f : X → Y) (xs ys : List X) → map f (xs ++ ys) ≡ map f xs ++ map f ys
-map-both f [] ys = refl
-map-both f (x ∷ xs) ys = ap (λ l. f x ∷ l) (map-both f xs ys)
-
 -- rows in the order of their stamps are the array
 pub stamp_order-ordered : {P : Type 0} (n : ℕ) (rs : List (ℕ × P)) → IsNonDecreasingBy (λ r. r.0) rs
     → IsDistinct nat_eq (keys_of rs) → AllByRecursion (λ s. s < n) (keys_of rs) → stamp_order n rs ≡ map (λ r. r.1) rs
@@ -390,6 +344,3 @@ module _ {K E L V : Type 0} (name : K → L) (stamp : E → ℕ) (value : E → 
           → AllByRecursion (λ f. eq (name e.0) (name f.0) ≡ false) fs
       keyed [] a = tt
       keyed (f ∷ fs) a = (a.0, keyed fs a.1)
-
-pub four : {X : Type 0} (a b c z x y w : List X) → a ≡ b ++ y → b ≡ c ++ x → c ≡ z ++ w → z ≡ [] → a ≡ (w ++ x) ++ y
-four a b c z x y w e f g h = e ∙ ap (λ l. l ++ y) (f ∙ ap (λ l. l ++ x) (g ∙ ap (λ l. l ++ w) h))

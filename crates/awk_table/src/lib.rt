@@ -1,13 +1,10 @@
 //! Associative arrays: values by keys that are texts, in the order in which the keys were made.
 #![tactic(auto)]
 
-mod decimal;
 mod long_keys;
 mod number_keys;
 mod short_keys;
-mod short_text;
 mod table;
 mod text_keys;
-mod walk;
 
 pub use crate::table::Table;

@@ -10,7 +10,8 @@ ghost use Rattle.awk_value.specs.declared.value.Value.TheVariants.{Nothing};
 ghost use Rattle.awk_value.specs.declared.fault.ValueFault.TheVariants.{Memory};
 ghost use Rattle.awk_table.specs.Arrays.{value_at, with_pair, with_key, without};
 
-use crate::table::{Entry, Table, copy_of};
+use crate::table::{Table, copy_of};
+use awk_keys::Entry;
 use awk_value::{Value, ValueFault};
 use indexmap::IndexMap;
 

@@ -6,10 +6,10 @@ ghost use Rattle.indexmap.specs.IndexMap.{swap_remove_entry};
 ghost use Rattle.awk_value.specs.declared.value.Value.TheVariants.{Nothing};
 ghost use Rattle.awk_value.specs.declared.fault.ValueFault.TheVariants.{Memory};
 ghost use Rattle.awk_table.specs.Arrays.{value_at, with_pair, with_key, without};
-ghost use Rattle.awk_table.specs.support.Entries.{IsTextKey, short_text, IsPadded};
+ghost use Rattle.awk_keys.specs.support.Texts.{IsTextKey, short_text, IsPadded};
 
-use crate::short_text::ShortText;
-use crate::table::{Entry, Table, copy_of};
+use crate::table::{Table, copy_of};
+use awk_keys::{Entry, ShortText};
 use awk_value::{Value, ValueFault};
 use indexmap::IndexMap;
 

@@ -3,24 +3,17 @@
 // removal may move entries: only a walk looks at the order, by the stamps.
 
 ghost use Rattle.std.specs.Prelude.{◌≡◌, [], None, length, is_some, IfOk, IfErr, OnOk, OnErr};
+ghost use Rattle.std.specs.Map.{keys_of};
 ghost use Rattle.std.specs.Option.{option_copied, unwrap_or};
 ghost use Rattle.awk_value.specs.declared.value.Value.TheVariants.{Nothing};
 ghost use Rattle.awk_value.specs.declared.fault.ValueFault.TheVariants.{Memory};
 ghost use Rattle.awk_table.specs.Arrays.{Array, value_at, with_pair, with_key, without, HasDistinctKeys};
 
-use crate::decimal::decimal_number;
-use crate::short_text::ShortText;
-use awk_value::{Value, ValueFault};
+use awk_keys::{Entry, ShortText, decimal_number, keys_by_stamp};
+use awk_value::{Bytes, Value, ValueFault};
 use indexmap::IndexMap;
 use std::alloc::Global;
 use std::marker::Model;
-
-/// A value, and how many keys were made before its own.
-#[derive(Drop)]
-pub(crate) struct Entry {
-    pub(crate) stamp: u64,
-    pub(crate) value: Value,
-}
 
 /// A copy of a value. The fault is `Memory`.
 pub(crate) fn copy_of(value: &Value) -> Result<Value, ValueFault>
@@ -48,7 +41,8 @@ impl Model for Table {
     ghost use Rattle.std.specs.Prelude.{◌<◌, length};
     ghost use Rattle.std.specs.List.{AllByRecursion};
     ghost use Rattle.std.specs.Map.{keys_of};
-    ghost use Rattle.awk_table.specs.support.Entries.{IsConsistent, all_rows, joined, short_text, IsPadded};
+    ghost use Rattle.awk_keys.specs.support.Texts.{short_text, IsPadded};
+    ghost use Rattle.awk_table.specs.support.Entries.{IsConsistent, all_rows, joined};
 
     ghost Value = { Array };
 
@@ -141,6 +135,14 @@ impl Table {
             Some(number) => self.remove_number(number),
             None => self.remove_text(key),
         }
+    }
+
+    /// The texts of all keys, in order. The fault is `Memory`. (POSIX awk, Actions: for, in)
+    pub fn keys(&self, alloc: Global) -> Result<Vec<Bytes>, ValueFault>
+        ensures keys { IfOk result (λ keys. keys.items ≡ keys_of self.now) }
+        ensures fault { IfErr result (λ fault. fault ≡ Memory) }
+    {
+        Ok(keys_by_stamp(alloc, self.len(), &self.numbers, &self.shorts, &self.longs)?)
     }
 
     /// Removes all keys. Takes no memory.

@@ -5,10 +5,10 @@ ghost use Rattle.std.specs.Option.{option_copied, unwrap_or};
 ghost use Rattle.awk_value.specs.declared.value.Value.TheVariants.{Nothing};
 ghost use Rattle.awk_value.specs.declared.fault.ValueFault.TheVariants.{Memory};
 ghost use Rattle.awk_table.specs.Arrays.{value_at, with_pair, with_key, without};
-ghost use Rattle.awk_table.specs.support.Entries.{IsTextKey};
+ghost use Rattle.awk_keys.specs.support.Texts.{IsTextKey};
 
-use crate::short_text::ShortText;
 use crate::table::Table;
+use awk_keys::ShortText;
 use awk_value::{Value, ValueFault};
 use std::alloc::Global;
 

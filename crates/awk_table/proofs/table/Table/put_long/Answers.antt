@@ -2,7 +2,7 @@ use Rattle.std.proofs.Common.{ap, sym, ◌∙◌, ◌++◌, ◌∷◌, []}
 use Rattle.std.specs.Map.{set_value}
 use Rattle.std.specs.Prelude.{bytes_eq}
 use Rattle.awk_table.specs.contracts.table.Table.{the_view}
-use Rattle.awk_table.specs.declared.table.Entry.{Entry}
+use Rattle.awk_keys.specs.declared.entry.Entry.{Entry}
 use Rattle.awk_table.specs.Arrays.{value_at}
 use Rattle.awk_table.proofs.Calls.{keeps, long-miss, long-put}
 use Rattle.awk_table.proofs.NamedKeys.{chosen-none, on_ok_to, on_err}

@@ -1,8 +1,8 @@
 use Rattle.std.proofs.Common.{nat_lt, subst, rules}
 use Rattle.std.specs.List.Sorted.{IsNonDecreasingBy}
 use Rattle.std.proofs.lemmas.List.Sorted.{answers_always, IsNonDecreasingBy-from_sort}
-use Rattle.awk_table.proofs.Moves.{rises_by, on_ok_map}
-use Rattle.awk_table.proofs.walk.sort_rows.Goals as goal
+use Rattle.awk_keys.proofs.Rows.{rises_by, on_ok_map}
+use Rattle.awk_keys.proofs.walk.sort_rows.Goals as goal
 
 pub returns-then-rise-clause-ordered : goal.returns-then-rise-clause-ordered
 returns-then-rise-clause-ordered c =

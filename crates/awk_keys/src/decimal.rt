@@ -2,13 +2,13 @@
 
 ghost use Rattle.std.specs.Prelude.{◌≡◌, IfSome, IfNone};
 ghost use Rattle.std.specs.Fmt.{signed_decimal};
-ghost use Rattle.awk_table.specs.support.Entries.{IsTextKey};
+ghost use Rattle.awk_keys.specs.support.Texts.{IsTextKey};
 
 use itoa::Buffer;
 
 /// The 64-bit number whose decimal form the text is, if there is one: of `12`, `-3` and `0`, and
 /// not of `007`, `+1` and `-0`.
-pub(crate) fn decimal_number(text: &[u8]) -> Option<i64>
+pub fn decimal_number(text: &[u8]) -> Option<i64>
     ensures some { IfSome result (λ number. text.now ≡ signed_decimal number) }
     ensures none { IfNone result (IsTextKey text.now) }
 {

@@ -1,0 +1,13 @@
+//! The keys of arrays: which texts are kept as numbers and which in place, and the keys' texts in the
+//! order of their making.
+#![tactic(auto)]
+
+mod decimal;
+mod entry;
+mod short_text;
+mod walk;
+
+pub use crate::decimal::decimal_number;
+pub use crate::entry::Entry;
+pub use crate::short_text::ShortText;
+pub use crate::walk::keys_by_stamp;
