@@ -1,10 +1,37 @@
 // What is kept at a key.
 
-use awk_value::Value;
+ghost use Rattle.std.specs.Prelude.{◌≡◌, IfErr, OnOk, OnErr};
+ghost use Rattle.indexmap.specs.IndexMap.{insert_entry, swap_remove_entry, IsUnchanged};
+ghost use Rattle.awk_value.specs.declared.fault.ValueFault.TheVariants.{Memory};
+
+use awk_value::{Value, ValueFault};
+use indexmap::IndexMap;
+use std::hash::Hash;
 
 /// A value, and how many keys were made before its own.
 #[derive(Drop)]
 pub struct Entry {
     pub stamp: u64,
     pub value: Value,
+}
+
+/// Adds an entry to a map, where a new key goes last. The fault is `Memory`, and changes nothing.
+pub fn add_entry<K: Eq + Hash + Drop>(
+    entries: &mut IndexMap<K, Entry>,
+    key: K,
+    entry: Entry,
+) -> Result<(), ValueFault>
+    ensures added { OnOk result (entries.new.entries ≡ insert_entry K.eq entries.old.entries key entry) }
+    ensures unchanged { OnErr result (IsUnchanged entries.old entries.new) }
+    ensures fault { IfErr result (λ fault. fault ≡ Memory) }
+{
+    entries.insert(key, entry)?;
+    Ok(())
+}
+
+/// Takes a key's entry out of a map, whose last entry moves to its place.
+pub fn take_entry<K: Eq + Hash + Drop>(entries: &mut IndexMap<K, Entry>, key: &K)
+    ensures { entries.new.entries ≡ swap_remove_entry (K.eq key.now) entries.old.entries }
+{
+    let _ = entries.swap_remove(key);
 }

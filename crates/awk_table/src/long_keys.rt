@@ -9,7 +9,7 @@ ghost use Rattle.awk_table.specs.Arrays.{value_at, with_pair, with_key, without}
 ghost use Rattle.awk_keys.specs.support.Texts.{IsTextKey};
 
 use crate::table::{Table, copy_of};
-use awk_keys::Entry;
+use awk_keys::{Entry, add_entry};
 use awk_value::{Value, ValueFault};
 use indexmap::IndexMap;
 use std::alloc::Global;
@@ -95,9 +95,7 @@ impl Table {
             return Err(ValueFault::Memory);
         };
         let copy = Vec::from_slice(alloc, key)?;
-        let Ok(_) = self.longs.insert(copy, Entry { stamp, value }) else {
-            return Err(ValueFault::Memory);
-        };
+        add_entry(&mut self.longs, copy, Entry { stamp, value })?;
         self.next = next;
         Ok(())
     }

@@ -3,17 +3,14 @@
 
 ghost use Rattle.std.specs.Prelude.{◌≡◌, ◌++◌, ◌∷◌, [], None, is_some, IfOk, IfErr, OnOk, OnErr};
 ghost use Rattle.std.specs.Fmt.{signed_decimal};
-ghost use Rattle.std.specs.Ordering.{int_eq};
 ghost use Rattle.std.specs.Option.{option_copied, unwrap_or};
-ghost use Rattle.indexmap.specs.IndexMap.{swap_remove_entry};
 ghost use Rattle.awk_value.specs.declared.value.Value.TheVariants.{Nothing};
 ghost use Rattle.awk_value.specs.declared.fault.ValueFault.TheVariants.{Memory};
 ghost use Rattle.awk_table.specs.Arrays.{value_at, with_pair, with_key, without};
 
 use crate::table::{Table, copy_of};
-use awk_keys::Entry;
+use awk_keys::{Entry, add_entry, take_entry};
 use awk_value::{Value, ValueFault};
-use indexmap::IndexMap;
 
 impl Table {
     /// Whether the number's decimal form is a key, as `has` tells.
@@ -71,7 +68,7 @@ impl Table {
     pub fn remove_number(&mut self, key: i64)
         ensures { self.new ≡ without self.old (signed_decimal key) }
     {
-        take_number(&mut self.numbers, key);
+        take_entry(&mut self.numbers, &key);
     }
 
     /// Adds a new number, which goes last.
@@ -85,17 +82,8 @@ impl Table {
         let Some(next) = stamp.checked_add(1) else {
             return Err(ValueFault::Memory);
         };
-        let Ok(_) = self.numbers.insert(key, Entry { stamp, value }) else {
-            return Err(ValueFault::Memory);
-        };
+        add_entry(&mut self.numbers, key, Entry { stamp, value })?;
         self.next = next;
         Ok(())
     }
-}
-
-/// Takes a number's entry out of the map, whose last entry moves to its place.
-fn take_number(entries: &mut IndexMap<i64, Entry>, key: i64)
-    ensures { entries.new.entries ≡ swap_remove_entry (int_eq key) entries.old.entries }
-{
-    let _ = entries.swap_remove(&key);
 }

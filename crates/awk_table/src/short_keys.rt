@@ -1,17 +1,15 @@
 // Keys that are texts of at most 23 bytes.
 
-ghost use Rattle.std.specs.Prelude.{◌≡◌, ◌++◌, ◌∷◌, ◌&&◌, [], None, nat_eq, is_some, bytes_eq, IfOk, IfErr, OnOk, OnErr};
+ghost use Rattle.std.specs.Prelude.{◌≡◌, ◌++◌, ◌∷◌, [], None, is_some, IfOk, IfErr, OnOk, OnErr};
 ghost use Rattle.std.specs.Option.{option_copied, unwrap_or};
-ghost use Rattle.indexmap.specs.IndexMap.{swap_remove_entry};
 ghost use Rattle.awk_value.specs.declared.value.Value.TheVariants.{Nothing};
 ghost use Rattle.awk_value.specs.declared.fault.ValueFault.TheVariants.{Memory};
 ghost use Rattle.awk_table.specs.Arrays.{value_at, with_pair, with_key, without};
 ghost use Rattle.awk_keys.specs.support.Texts.{IsTextKey, short_text, IsPadded};
 
 use crate::table::{Table, copy_of};
-use awk_keys::{Entry, ShortText};
+use awk_keys::{Entry, ShortText, add_entry, take_entry};
 use awk_value::{Value, ValueFault};
-use indexmap::IndexMap;
 
 impl Table {
     /// As `get`.
@@ -68,7 +66,7 @@ impl Table {
         requires padded { IsPadded key.bytes key.len }
         ensures { self.new ≡ without self.old (short_text key.bytes key.len) }
     {
-        take_short(&mut self.shorts, key);
+        take_entry(&mut self.shorts, &key);
     }
 
     /// Adds a new short text, which goes last.
@@ -84,18 +82,8 @@ impl Table {
         let Some(next) = stamp.checked_add(1) else {
             return Err(ValueFault::Memory);
         };
-        let Ok(_) = self.shorts.insert(key, Entry { stamp, value }) else {
-            return Err(ValueFault::Memory);
-        };
+        add_entry(&mut self.shorts, key, Entry { stamp, value })?;
         self.next = next;
         Ok(())
     }
-}
-
-/// Takes a text's entry out of the map, whose last entry moves to its place.
-fn take_short(entries: &mut IndexMap<ShortText, Entry>, key: ShortText)
-    ensures { entries.new.entries ≡ swap_remove_entry (λ k. bytes_eq key.bytes k.bytes && nat_eq key.len k.len)
-        entries.old.entries }
-{
-    let _ = entries.swap_remove(&key);
 }

@@ -15,11 +15,11 @@ invariant_of-self-2 c =
     let same = c.in_ok-copy.ensures.items in
     let absent = long-absent now c.args.key.now c.requires.text c.requires.long c.requires.new in
     let entries =
-    c.in-Ok.ensures.entries
+    c.in_ok-add_entry.ensures.added
     ∙ insert_entry-new (λ x y. bytes_eq x.items y.items) b.longs copy x
     (ap (λ k. lookup (λ t. bytes_eq k t.items) b.longs.entries) same ∙ absent) in
     (long-add now c.args.key.now c.requires.text c.requires.long
-    c.requires.new copy same x refl c.in-Some.next c.in-Some.ensures.1 c.insert.new.self.entries entries).consistent
+    c.requires.new copy same x refl c.in-Some.next c.in-Some.ensures.1 c.add_entry.new.entries.entries entries).consistent
 
 pub returns-clause-added : goal.returns-clause-added
 returns-clause-added c =
@@ -30,8 +30,8 @@ returns-clause-added c =
     let same = c.in_ok-copy.ensures.items in
     let absent = long-absent now c.args.key.now c.requires.text c.requires.long c.requires.new in
     let entries =
-    c.in-Ok.ensures.entries
+    c.in_ok-add_entry.ensures.added
     ∙ insert_entry-new (λ x y. bytes_eq x.items y.items) b.longs copy x
     (ap (λ k. lookup (λ t. bytes_eq k t.items) b.longs.entries) same ∙ absent) in
     (long-add now c.args.key.now c.requires.text c.requires.long
-    c.requires.new copy same x refl c.in-Some.next c.in-Some.ensures.1 c.insert.new.self.entries entries).view
+    c.requires.new copy same x refl c.in-Some.next c.in-Some.ensures.1 c.add_entry.new.entries.entries entries).view
