@@ -1,7 +1,9 @@
 // What is kept at a key.
 
-ghost use Rattle.std.specs.Prelude.{◌≡◌, IfErr, OnOk, OnErr};
+ghost use Rattle.std.specs.Prelude.{◌≡◌, None, IfSome, IfNone, IfErr, OnOk, OnErr};
+ghost use Rattle.std.specs.Map.{lookup};
 ghost use Rattle.indexmap.specs.IndexMap.{insert_entry, swap_remove_entry, IsUnchanged};
+ghost use Rattle.awk_keys.specs.support.Rows.{IsSet};
 ghost use Rattle.awk_value.specs.declared.fault.ValueFault.TheVariants.{Memory};
 
 use awk_value::{Value, ValueFault};
@@ -27,6 +29,26 @@ pub fn add_entry<K: Eq + Hash + Drop>(
 {
     entries.insert(key, entry)?;
     Ok(())
+}
+
+/// Gives a key of a map the value. Where the key isn't there, the value comes back.
+pub fn set_entry<K: Eq + Hash>(
+    entries: &mut IndexMap<K, Entry>,
+    key: &K,
+    value: Value,
+) -> Option<Value>
+    ensures set { IfNone result (IsSet (K.eq key.now) entries.old.entries entries.new.entries value) }
+    ensures absent { IfSome result (λ v. lookup (K.eq key.now) entries.old.entries ≡ None) }
+    ensures unchanged { IfSome result (λ v. entries.new.entries ≡ entries.old.entries) }
+    ensures value { IfSome result (λ v. v ≡ value) }
+{
+    match entries.get_mut(key) {
+        Some(entry) => {
+            entry.value = value;
+            None
+        }
+        None => Some(value),
+    }
 }
 
 /// Takes a key's entry out of a map, whose last entry moves to its place.

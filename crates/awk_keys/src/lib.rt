@@ -8,6 +8,6 @@ mod short_text;
 mod walk;
 
 pub use crate::decimal::decimal_number;
-pub use crate::entry::{Entry, add_entry, take_entry};
+pub use crate::entry::{Entry, add_entry, set_entry, take_entry};
 pub use crate::short_text::ShortText;
 pub use crate::walk::keys_by_stamp;

@@ -2,7 +2,7 @@
 -- and a long one.
 use Rattle.std.proofs.Common.{◌≡◌, ℕ, ℤ, ◌+◌, ◌-◌, ◌<◌, ◌≤◌, Bool, true, false, nat_eq, true≢false, arith, append_assoc, length-append, FitsSigned, w64, to_z, of_z, to_z-of_z, List, [], ◌∷◌, ◌++◌, length, refl, sym, ap, subst, ◌∙◌, Option, Some, None}
 use Rattle.std.specs.Fmt.{signed_decimal}
-use Rattle.std.specs.Prelude.{bytes_eq, map, replicate, ◌&&◌}
+use Rattle.std.specs.Prelude.{Result, Ok, Err, OnOk, bytes_eq, map, replicate, ◌&&◌}
 use Rattle.std.specs.Ordering.{int_eq}
 use Rattle.std.specs.Map.{lookup, set_value, keys_of}
 use Rattle.std.specs.List.{AllByRecursion}
@@ -23,7 +23,7 @@ use Rattle.awk_keys.specs.support.Texts.{IsInt64, IsTextKey, short_text, IsPadde
 use Rattle.awk_keys.proofs.Numbers.{is_int64}
 use Rattle.awk_keys.proofs.Rows.{map-both, map-twice}
 use Rattle.awk_table.specs.support.Entries.{IsConsistent, all_rows, joined}
-use Rattle.awk_table.proofs.NamedKeys.{chosen-some}
+use Rattle.awk_table.proofs.NamedKeys.{chosen-none, chosen-some}
 use Rattle.awk_table.proofs.Moves.{swap-hit, swap-missed}
 use Rattle.awk_table.proofs.Joined.{left-lookup, left-set, left-more, left-taken, right-lookup, right-set, right-more, right-taken}
 use Rattle.awk_table.proofs.Counts.{stamp_order-few}
@@ -330,6 +330,15 @@ module _ {n : ℕ} {ns : List (ℤ × Entry)} {ss : List (ShortText × Entry)} {
       NumbersAndTexts.keys-rows text_of stamp_of value_of n ns (texts_in ss ts) now.consistent.0 ps qs
       (e ∙ append_assoc numbers (map (λ e. own (short e)) ss) (map (λ e. own (long e)) ts) ∙ ap (λ l. numbers ++ l) (sym rows)) m s
       ∙ ap keys_of now.view
+
+-- a value put at a new key, as the call that adds it tells
+pub put_new : {U E : Type 0} (r : Result U E) (new lent a : Array) (k h : List ℕ) (v w : Value)
+    → OnOk r (new ≡ lent ++ (h, w) ∷ []) → lent ≡ a → h ≡ k → w ≡ v → value_at a k ≡ None
+    → OnOk r (new ≡ with_pair a k v)
+put_new (Ok u) new lent a k h v w e l n m none =
+    e ∙ (λ j. l j ++ (n j, m j) ∷ [])
+    ∙ sym (chosen-none (value_at a k) (set_value (bytes_eq k) a v) (a ++ (k, v) ∷ []) none)
+put_new (Err e) new lent a k h v w p l n m none = tt
 
 -- empty maps keep the empty array
 pub none-kept : (n : ℕ) (ns : List (ℤ × Entry)) (ss : List (ShortText × Entry)) (ts : List (Vec ℕ × Entry)) → ns ≡ [] → ss ≡ [] → ts ≡ []

@@ -9,7 +9,7 @@ ghost use Rattle.awk_value.specs.declared.fault.ValueFault.TheVariants.{Memory};
 ghost use Rattle.awk_table.specs.Arrays.{value_at, with_pair, with_key, without};
 
 use crate::table::{Table, copy_of};
-use awk_keys::{Entry, add_entry, take_entry};
+use awk_keys::{Entry, add_entry, set_entry, take_entry};
 use awk_value::{Value, ValueFault};
 
 impl Table {
@@ -55,12 +55,9 @@ impl Table {
         ensures absent { OnErr result (value_at self.old (signed_decimal key) ≡ None) }
         ensures fault { IfErr result (λ fault. fault ≡ Memory) }
     {
-        match self.numbers.get_mut(&key) {
-            Some(entry) => {
-                entry.value = value;
-                Ok(())
-            }
-            None => self.add_number(key, value),
+        match set_entry(&mut self.numbers, &key, value) {
+            Some(value) => self.add_number(key, value),
+            None => Ok(()),
         }
     }
 

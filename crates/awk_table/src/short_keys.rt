@@ -8,7 +8,7 @@ ghost use Rattle.awk_table.specs.Arrays.{value_at, with_pair, with_key, without}
 ghost use Rattle.awk_keys.specs.support.Texts.{IsTextKey, short_text, IsPadded};
 
 use crate::table::{Table, copy_of};
-use awk_keys::{Entry, ShortText, add_entry, take_entry};
+use awk_keys::{Entry, ShortText, add_entry, set_entry, take_entry};
 use awk_value::{Value, ValueFault};
 
 impl Table {
@@ -51,12 +51,9 @@ impl Table {
         ensures absent { OnErr result (value_at self.old (short_text key.bytes key.len) ≡ None) }
         ensures fault { IfErr result (λ fault. fault ≡ Memory) }
     {
-        match self.shorts.get_mut(&key) {
-            Some(entry) => {
-                entry.value = value;
-                Ok(())
-            }
-            None => self.add_short(key, value),
+        match set_entry(&mut self.shorts, &key, value) {
+            Some(value) => self.add_short(key, value),
+            None => Ok(()),
         }
     }
 

@@ -1,6 +1,9 @@
--- Texts with stamps, in the order of the stamps.
-use Rattle.std.specs.Prelude.{◌≡◌, ℕ, List, map}
+-- The entries of a map and the texts of its keys, with their stamps.
+use Rattle.std.specs.Prelude.{◌≡◌, ℕ, Bool, Some, List, map}
+use Rattle.std.specs.Map.{lookup, set_value}
 use Rattle.std.specs.List.Sorted.{IsPermutation, IsNonDecreasingBy}
+use Rattle.awk_value.specs.declared.value.Value.{Value}
+use Rattle.awk_keys.specs.declared.entry.Entry.{Entry}
 
 -- the texts are those of the rows, which are sorted by their stamps
 pub record AreByStamp (texts : List (List ℕ)) (rows : List (ℕ × List ℕ)) : Type 0 where
@@ -8,3 +11,9 @@ pub record AreByStamp (texts : List (List ℕ)) (rows : List (ℕ × List ℕ)) 
   pub moved : IsPermutation rows sorted
   pub ordered : IsNonDecreasingBy (λ r. r.0) sorted
   pub are : texts ≡ map (λ r. r.1) sorted
+
+-- the entry that passes the test keeps its stamp and has the value
+pub record IsSet {K : Type 0} (test : K → Bool) (old new : List (K × Entry)) (v : Value) : Type 0 where
+  pub entry : Entry
+  pub there : lookup test old ≡ Some entry
+  pub set : new ≡ set_value test old (record { stamp = entry.stamp; value = v })
