@@ -51,10 +51,6 @@ pub map-both : {X Y : Type 0} (f : X → Y) (xs ys : List X) → map f (xs ++ ys
 map-both f [] ys = refl
 map-both f (x ∷ xs) ys = ap (λ l. f x ∷ l) (map-both f xs ys)
 
-pub if_ok_map : {R E : Type 0} (r : Result R E) (P Q : R → Type 0) → IfOk r P → ((v : R) → P v → Q v) → IfOk r Q
-if_ok_map (Ok v) P Q h f = f v h
-if_ok_map (Err e) P Q h f = tt
-
 -- three lists, one after the other
 pub joined-3 : {X : Type 0} (a b c z x y w : List X) → a ≡ b ++ y → b ≡ c ++ x → c ≡ z ++ w → z ≡ [] → a ≡ (w ++ x) ++ y
 joined-3 a b c z x y w e f g h = e ∙ ap (λ l. l ++ y) (f ∙ ap (λ l. l ++ x) (g ∙ ap (λ l. l ++ w) h))

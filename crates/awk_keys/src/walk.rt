@@ -1,37 +1,40 @@
 // The keys in their order: all entries' texts with their stamps, sorted where the stamps don't rise.
 
-ghost use Rattle.std.specs.Prelude.{◌≡◌, ◌++◌, ◌∷◌, [], map, nat_lt, IsPermutation, IfOk, OnOk};
+ghost use Rattle.std.specs.Prelude.{◌≡◌, ◌++◌, ◌∷◌, [], map, nat_lt, IsPermutation, IfOk, IfErr, OnOk};
 ghost use Rattle.std.specs.Fmt.{signed_decimal};
 ghost use Rattle.std.specs.List.Sorted.{IsNonDecreasingBy};
 ghost use Rattle.awk_keys.specs.support.Texts.{short_text};
 ghost use Rattle.awk_keys.specs.support.Rows.{AreByStamp};
+ghost use Rattle.awk_value.specs.declared.fault.ValueFault.TheVariants.{Memory};
 
 use crate::entry::Entry;
 use crate::short_text::ShortText;
-use awk_value::Bytes;
+use awk_value::{Bytes, ValueFault};
 use indexmap::IndexMap;
 use itoa::Buffer;
 use std::alloc::{AllocError, Global};
 
-/// The texts of the keys of three maps, in the order of their stamps, with room for so many rows.
+/// The texts of the keys of three maps, in the order of their stamps, with room for so many rows. The
+/// fault is `Memory`.
 pub fn keys_by_stamp(
     alloc: Global,
     count: usize,
     numbers: &IndexMap<i64, Entry>,
     shorts: &IndexMap<ShortText, Entry>,
     longs: &IndexMap<Vec<u8>, Entry>,
-) -> Result<Vec<Bytes>, AllocError>
-    ensures { IfOk result (λ texts. AreByStamp texts.items
+) -> Result<Vec<Bytes>, ValueFault>
+    ensures keys { IfOk result (λ texts. AreByStamp texts.items
         (map (λ e. (e.1.stamp, signed_decimal e.0)) numbers.now.entries
         ++ map (λ e. (e.1.stamp, short_text e.0.bytes e.0.len)) shorts.now.entries
         ++ map (λ e. (e.1.stamp, e.0.items)) longs.now.entries)) }
+    ensures fault { IfErr result (λ fault. fault ≡ Memory) }
 {
     let mut rows = Vec::with_capacity(alloc, count)?;
     list_numbers(alloc, numbers, &mut rows)?;
     list_shorts(alloc, shorts, &mut rows)?;
     list_longs(alloc, longs, &mut rows)?;
     sort_rows(&mut rows)?;
-    texts_of(alloc, rows)
+    Ok(texts_of(alloc, rows)?)
 }
 
 /// Adds the numbers' decimal forms with their stamps, in the map's order.

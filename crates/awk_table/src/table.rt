@@ -142,7 +142,7 @@ impl Table {
         ensures keys { IfOk result (λ keys. keys.items ≡ keys_of self.now) }
         ensures fault { IfErr result (λ fault. fault ≡ Memory) }
     {
-        Ok(keys_by_stamp(alloc, self.len(), &self.numbers, &self.shorts, &self.longs)?)
+        keys_by_stamp(alloc, self.len(), &self.numbers, &self.shorts, &self.longs)
     }
 
     /// Removes all keys. Takes no memory.
