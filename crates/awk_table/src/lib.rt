@@ -5,6 +5,5 @@ mod long_keys;
 mod number_keys;
 mod short_keys;
 mod table;
-mod text_keys;
 
 pub use crate::table::Table;

@@ -91,7 +91,10 @@ impl Table {
     {
         match decimal_number(key) {
             Some(number) => self.get_number(number),
-            None => self.get_text(key),
+            None => match ShortText::new(key) {
+                Some(short) => self.get_short(short),
+                None => self.get_long(key),
+            },
         }
     }
 
@@ -106,7 +109,10 @@ impl Table {
     {
         match decimal_number(key) {
             Some(number) => self.get_or_make_number(number),
-            None => self.get_or_make_text(alloc, key),
+            None => match ShortText::new(key) {
+                Some(short) => self.get_or_make_short(short),
+                None => self.get_or_make_long(alloc, key),
+            },
         }
     }
 
@@ -121,7 +127,10 @@ impl Table {
     {
         match decimal_number(key) {
             Some(number) => self.put_number(number, value),
-            None => self.put_text(alloc, key, value),
+            None => match ShortText::new(key) {
+                Some(short) => self.put_short(short, value),
+                None => self.put_long(alloc, key, value),
+            },
         }
     }
 
@@ -133,7 +142,10 @@ impl Table {
     {
         match decimal_number(key) {
             Some(number) => self.remove_number(number),
-            None => self.remove_text(key),
+            None => match ShortText::new(key) {
+                Some(short) => self.remove_short(short),
+                None => self.remove_long(key),
+            },
         }
     }
 
