@@ -1,2 +1,6 @@
 pub mod Numbers
 pub mod Rows
+pub mod ByStamp
+pub mod OneEntry
+pub mod Counts
+pub mod Moves

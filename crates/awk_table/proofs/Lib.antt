@@ -1,8 +1,4 @@
 mod NamedKeys
-mod ByStamp
-mod OneEntry
-mod Counts
-mod Moves
 mod NumbersAndTexts
 mod Joined
 mod Calls

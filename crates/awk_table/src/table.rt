@@ -37,7 +37,7 @@ pub struct Table {
 
 impl Model for Table {
     ghost use Rattle.awk_table.specs.Arrays.{Array};
-    ghost use Rattle.awk_table.specs.support.StampOrder.{stamp_order};
+    ghost use Rattle.awk_keys.specs.support.StampOrder.{stamp_order};
     ghost use Rattle.std.specs.Prelude.{◌<◌, length};
     ghost use Rattle.std.specs.List.{AllByRecursion};
     ghost use Rattle.std.specs.Map.{keys_of};

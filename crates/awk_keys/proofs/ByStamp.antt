@@ -4,7 +4,7 @@ use Rattle.std.specs.Option.{option_to_list}
 use Rattle.std.specs.Map.{lookup, set_value, remove_entry}
 use Rattle.std.specs.List.{AllByRecursion}
 use Rattle.std.proofs.lemmas.Bool.Decides.{nat_tests}
-use Rattle.awk_table.specs.support.StampOrder.{stamp_order}
+use Rattle.awk_keys.specs.support.StampOrder.{stamp_order}
 
 eqb_apart : (m n : ℕ) → (m ≡ n → ⊥) → nat_eq m n ≡ false
 eqb_apart m n h = grind (arith, nat_tests)

@@ -3,9 +3,9 @@ use Rattle.std.proofs.Common.{◌≡◌, ℕ, zero, suc, ◌<◌, ◌≤◌, nat
 use Rattle.std.specs.Option.{option_to_list}
 use Rattle.std.specs.Map.{keys_of, lookup}
 use Rattle.std.specs.List.{IsDistinct, AllByRecursion}
-use Rattle.awk_table.specs.support.StampOrder.{stamp_order}
-use Rattle.awk_table.proofs.ByStamp.{split}
-use Rattle.awk_table.proofs.OneEntry.{none_apart}
+use Rattle.awk_keys.specs.support.StampOrder.{stamp_order}
+use Rattle.awk_keys.proofs.ByStamp.{split}
+use Rattle.awk_keys.proofs.OneEntry.{none_apart}
 
 pub stamp_order-nil : {P : Type 0} (n : ℕ) → stamp_order {P = P} n [] ≡ []
 stamp_order-nil zero = refl

@@ -13,11 +13,11 @@ use Rattle.std.proofs.lemmas.Map.Keys.{IsDistinct-IsPermutation}
 use Rattle.std.proofs.lemmas.Map.Views.{exact_unsigned_eq, Contains-from_lookup, lookup-from_Contains}
 use Rattle.indexmap.specs.IndexMap.{swap_remove_entry}
 use Rattle.awk_keys.proofs.Rows.{map-both}
-use Rattle.awk_table.specs.support.StampOrder.{stamp_order}
-use Rattle.awk_table.proofs.ByStamp.{stamp_order-same, stamp_order-past, split}
-use Rattle.awk_table.proofs.OneEntry.{rows, Kept, none_apart, some_same, ltb_apart, taken_there, below_there, remove-ordered, kept_push, stamp_order-push, ordered_free}
+use Rattle.awk_keys.specs.support.StampOrder.{stamp_order}
+use Rattle.awk_keys.proofs.ByStamp.{stamp_order-same, stamp_order-past, split}
+use Rattle.awk_keys.proofs.OneEntry.{rows, Kept, none_apart, some_same, ltb_apart, taken_there, below_there, remove-ordered, kept_push, stamp_order-push, ordered_free}
 use Rattle.std.proofs.lemmas.Map.{none_passes_from_lookup}
-use Rattle.awk_table.proofs.Counts.{stamp_order-nil}
+use Rattle.awk_keys.proofs.Counts.{stamp_order-nil}
 
 pub flips : (x y : ℕ) → nat_eq x y ≡ nat_eq y x
 flips x y = by (nat_eq x y) (nat_eq y x) refl refl

@@ -5,8 +5,8 @@ use Rattle.std.specs.Map.{lookup, set_value, remove_entry, keys_of}
 use Rattle.std.specs.List.{IsDistinct, AllByRecursion}
 use Rattle.std.proofs.lemmas.Bool.Decides.{nat_tests}
 use Rattle.std.proofs.lemmas.Map.{none_passes_from_lookup}
-use Rattle.awk_table.specs.support.StampOrder.{stamp_order}
-use Rattle.awk_table.proofs.ByStamp.{stamp_order-same, split, all_stamp_order, all_left, lookup-between, remove-between, set-between}
+use Rattle.awk_keys.specs.support.StampOrder.{stamp_order}
+use Rattle.awk_keys.proofs.ByStamp.{stamp_order-same, split, all_stamp_order, all_left, lookup-between, remove-between, set-between}
 
 two_conds : {X : Type 0} (b c : Bool) (x y z : X) → (b ≡ true → c ≡ true → ⊥)
     → cond b x (cond c y z) ≡ cond c y (cond b x z)
