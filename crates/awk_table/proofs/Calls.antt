@@ -20,7 +20,7 @@ use Rattle.awk_keys.specs.declared.short_text.ShortText.{ShortText}
 use Rattle.awk_table.specs.Arrays.{Array, value_at, with_pair, without, HasDistinctKeys}
 use Rattle.awk_keys.specs.support.StampOrder.{stamp_order}
 use Rattle.awk_keys.specs.support.Texts.{IsInt64, IsTextKey, short_text, IsPadded}
-use Rattle.awk_keys.proofs.Numbers.{is_int64}
+use Rattle.awk_table.proofs.Numbers.{is_int64}
 use Rattle.awk_keys.proofs.Rows.{map-both, map-twice}
 use Rattle.awk_table.specs.support.Entries.{IsConsistent, all_rows, joined}
 use Rattle.awk_table.proofs.NamedKeys.{chosen-none, chosen-some}
@@ -332,13 +332,13 @@ module _ {n : ℕ} {ns : List (ℤ × Entry)} {ss : List (ShortText × Entry)} {
       ∙ ap keys_of now.view
 
 -- a value put at a new key, as the call that adds it tells
-pub put_new : {U E : Type 0} (r : Result U E) (new lent a : Array) (k h : List ℕ) (v w : Value)
-    → OnOk r (new ≡ lent ++ (h, w) ∷ []) → lent ≡ a → h ≡ k → w ≡ v → value_at a k ≡ None
+pub put_new : {U E : Type 0} (r : Result U E) (new was a : Array) (k h : List ℕ) (v w : Value)
+    → OnOk r (new ≡ was ++ (h, w) ∷ []) → was ≡ a → h ≡ k → w ≡ v → value_at a k ≡ None
     → OnOk r (new ≡ with_pair a k v)
-put_new (Ok u) new lent a k h v w e l n m none =
+put_new (Ok u) new was a k h v w e l n m none =
     e ∙ (λ j. l j ++ (n j, m j) ∷ [])
     ∙ sym (chosen-none (value_at a k) (set_value (bytes_eq k) a v) (a ++ (k, v) ∷ []) none)
-put_new (Err e) new lent a k h v w p l n m none = tt
+put_new (Err e) new was a k h v w p l n m none = tt
 
 -- empty maps keep the empty array
 pub none-kept : (n : ℕ) (ns : List (ℤ × Entry)) (ss : List (ShortText × Entry)) (ts : List (Vec ℕ × Entry)) → ns ≡ [] → ss ≡ [] → ts ≡ []

@@ -1,3 +1,4 @@
+mod Numbers
 mod NamedKeys
 mod NumbersAndTexts
 mod Joined

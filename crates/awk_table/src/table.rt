@@ -9,7 +9,8 @@ ghost use Rattle.awk_value.specs.declared.value.Value.TheVariants.{Nothing};
 ghost use Rattle.awk_value.specs.declared.fault.ValueFault.TheVariants.{Memory};
 ghost use Rattle.awk_table.specs.Arrays.{Array, value_at, with_pair, with_key, without, HasDistinctKeys};
 
-use awk_keys::{Entry, ShortText, decimal_number, keys_by_stamp};
+use crate::decimal::decimal_number;
+use awk_keys::{Entry, ShortText, keys_by_stamp};
 use awk_value::{Bytes, Value, ValueFault};
 use indexmap::IndexMap;
 use std::alloc::Global;

@@ -8,7 +8,7 @@ use itoa::Buffer;
 
 /// The 64-bit number whose decimal form the text is, if there is one: of `12`, `-3` and `0`, and
 /// not of `007`, `+1` and `-0`.
-pub fn decimal_number(text: &[u8]) -> Option<i64>
+pub(crate) fn decimal_number(text: &[u8]) -> Option<i64>
     ensures some { IfSome result (λ number. text.now ≡ signed_decimal number) }
     ensures none { IfNone result (IsTextKey text.now) }
 {
