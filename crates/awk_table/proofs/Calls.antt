@@ -1,8 +1,8 @@
 -- What a call shows of the three maps that keep an array: one lemma a call, at a number, a short text
 -- and a long one.
-use Rattle.std.proofs.Common.{◌≡◌, ℕ, ℤ, ◌+◌, ◌-◌, ◌<◌, ◌≤◌, Bool, true, false, nat_eq, true≢false, arith, append_assoc, length-append, FitsSigned, w64, to_z, of_z, to_z-of_z, List, [], ◌∷◌, ◌++◌, length, refl, sym, ap, subst, ◌∙◌, Option, Some, None, is_some}
+use Rattle.std.proofs.Common.{◌≡◌, ℕ, ℤ, ◌+◌, ◌-◌, ◌<◌, ◌≤◌, Bool, true, false, nat_eq, true≢false, arith, append_assoc, length-append, FitsSigned, w64, to_z, of_z, to_z-of_z, List, [], ◌∷◌, ◌++◌, length, refl, sym, ap, subst, ◌∙◌, Option, Some, None}
 use Rattle.std.specs.Fmt.{signed_decimal}
-use Rattle.std.specs.Prelude.{bytes_eq, map, replicate, ◌&&◌}
+use Rattle.std.specs.Prelude.{Result, Ok, Err, OnOk, bytes_eq, map, replicate, ◌&&◌}
 use Rattle.std.specs.Ordering.{int_eq}
 use Rattle.std.specs.Map.{lookup, set_value, keys_of}
 use Rattle.std.specs.List.{AllByRecursion}
@@ -15,15 +15,18 @@ use Rattle.std.proofs.lemmas.List.Sorted.{IsPermutation-map, IsPermutation-refl}
 use Rattle.std.specs.Global.{Vec}
 use Rattle.indexmap.specs.IndexMap.{swap_remove_entry}
 use Rattle.awk_value.specs.declared.value.Value.{Value}
-use Rattle.awk_table.specs.declared.table.Entry.{Entry}
-use Rattle.awk_table.specs.declared.short_text.ShortText.{ShortText}
+use Rattle.awk_keys.specs.declared.entry.Entry.{Entry}
+use Rattle.awk_keys.specs.declared.short_text.ShortText.{ShortText}
 use Rattle.awk_table.specs.Arrays.{Array, value_at, with_pair, without, HasDistinctKeys}
-use Rattle.awk_table.specs.support.StampOrder.{stamp_order}
-use Rattle.awk_table.specs.support.Entries.{IsInt64, IsTextKey, IsConsistent, all_rows, joined, short_text, IsPadded}
-use Rattle.awk_table.proofs.NamedKeys.{chosen-some}
-use Rattle.awk_table.proofs.Moves.{swap-hit, swap-missed, map-both, map-twice}
+use Rattle.awk_keys.specs.support.StampOrder.{stamp_order}
+use Rattle.awk_keys.specs.support.Texts.{IsInt64, IsTextKey, short_text, IsPadded}
+use Rattle.awk_table.proofs.Numbers.{is_int64}
+use Rattle.awk_keys.proofs.Rows.{map-both, map-twice}
+use Rattle.awk_table.specs.support.Entries.{IsConsistent, all_rows, joined}
+use Rattle.awk_table.proofs.NamedKeys.{chosen-none, chosen-some}
+use Rattle.awk_keys.proofs.Moves.{swap-hit, swap-missed}
 use Rattle.awk_table.proofs.Joined.{left-lookup, left-set, left-more, left-taken, right-lookup, right-set, right-more, right-taken}
-use Rattle.awk_table.proofs.Counts.{stamp_order-few}
+use Rattle.awk_keys.proofs.Counts.{stamp_order-few}
 use Rattle.awk_table.proofs.NumbersAndTexts
 
 abbrev text_of : List ℕ → List ℕ
@@ -100,16 +103,10 @@ module _ {n : ℕ} {ns : List (ℤ × Entry)} {ss : List (ShortText × Entry)} {
     key = signed_decimal z
 
     s : IsInt64 z
-    s = NumbersAndTexts.is_int64 z f
+    s = is_int64 z f
 
     own : (o : Option Entry) → o ≡ lookup (int_eq lent) ns → lookup (int_eq z) ns ≡ o
     own o e = ap (λ k. lookup (int_eq k) ns) (sym (to_z-of_z f)) ∙ sym e
-
-    pub number-present : is_some (lookup (int_eq lent) ns) ≡ is_some (value_at a key)
-    number-present =
-        ap (λ k. is_some (lookup (int_eq k) ns)) (to_z-of_z f)
-        ∙ NumbersAndTexts.number-is text_of stamp_of value_of n ns (texts_in ss ts) now.consistent.0 z s
-        ∙ ap (λ t. is_some (value_at t key)) now.view
 
     pub number-hit : (x : Entry) → Some x ≡ lookup (int_eq lent) ns → value_at a key ≡ Some x.value
     number-hit x e =
@@ -158,11 +155,6 @@ module _ {n : ℕ} {ns : List (ℤ × Entry)} {ss : List (ShortText × Entry)} {
 
   -- at a text k, by what is looked up among the texts
   module _ (k : List ℕ) (s : IsTextKey k) where
-    text-present : (o : Option Entry) → lookup (bytes_eq k) (texts_in ss ts) ≡ o → is_some o ≡ is_some (value_at a k)
-    text-present o e =
-        ap is_some (sym e) ∙ NumbersAndTexts.text-is text_of stamp_of value_of n ns (texts_in ss ts) now.consistent.0 k s
-        ∙ ap (λ t. is_some (value_at t k)) now.view
-
     text-hit : (x : Entry) → lookup (bytes_eq k) (texts_in ss ts) ≡ Some x → value_at a k ≡ Some x.value
     text-hit x e =
         sym (ap (λ t. value_at t k) now.view)
@@ -228,9 +220,6 @@ module _ {n : ℕ} {ns : List (ℤ × Entry)} {ss : List (ShortText × Entry)} {
     at : lookup (bytes_eq (short_of k)) (texts_in ss ts) ≡ lookup same ss
     at = left-lookup short_of long_of IsShort IsLong ss ts now.consistent.1 now.consistent.2 (short_of k) same (same-short k q) far
 
-    pub short-present : is_some (lookup same ss) ≡ is_some (value_at a (short_of k))
-    short-present = text-present (short_of k) s (lookup same ss) at
-
     pub short-hit : (x : Entry) → Some x ≡ lookup same ss → value_at a (short_of k) ≡ Some x.value
     short-hit x e = text-hit (short_of k) s x (at ∙ sym e)
 
@@ -272,9 +261,6 @@ module _ {n : ℕ} {ns : List (ℤ × Entry)} {ss : List (ShortText × Entry)} {
     at-long : lookup (bytes_eq k) (texts_in ss ts) ≡ lookup (λ t. bytes_eq k t.items) ts
     at-long =
         right-lookup short_of long_of IsShort IsLong ss ts now.consistent.1 now.consistent.2 k (λ t. bytes_eq k t.items) (λ t l. refl) near
-
-    pub long-present : is_some (lookup (λ t. bytes_eq k t.items) ts) ≡ is_some (value_at a k)
-    long-present = text-present k s (lookup (λ t. bytes_eq k t.items) ts) at-long
 
     pub long-hit : (x : Entry) → Some x ≡ lookup (λ t. bytes_eq k t.items) ts → value_at a k ≡ Some x.value
     long-hit x e = text-hit k s x (at-long ∙ sym e)
@@ -332,7 +318,7 @@ module _ {n : ℕ} {ns : List (ℤ × Entry)} {ss : List (ShortText × Entry)} {
 
   -- the rows of the maps, sorted by their stamps, have the keys in order
   pub keys-are : (ps qs : List (ℕ × List ℕ))
-      → ps ≡ (map (λ e. (e.1.stamp, signed_decimal e.0)) ns ++ map (λ e. (e.1.stamp, short_text e.0.bytes e.0.len)) ss) ++ map (λ e. (e.1.stamp, e.0.items)) ts
+      → ps ≡ map (λ e. (e.1.stamp, signed_decimal e.0)) ns ++ map (λ e. (e.1.stamp, short_text e.0.bytes e.0.len)) ss ++ map (λ e. (e.1.stamp, e.0.items)) ts
       → IsPermutation ps qs → IsNonDecreasingBy (λ r. r.0) qs → map (λ r. r.1) qs ≡ keys_of a
   keys-are ps qs e m s =
       let own : List ℕ × Entry → ℕ × List ℕ = λ e. (e.1.stamp, e.0) in
@@ -344,6 +330,15 @@ module _ {n : ℕ} {ns : List (ℤ × Entry)} {ss : List (ShortText × Entry)} {
       NumbersAndTexts.keys-rows text_of stamp_of value_of n ns (texts_in ss ts) now.consistent.0 ps qs
       (e ∙ append_assoc numbers (map (λ e. own (short e)) ss) (map (λ e. own (long e)) ts) ∙ ap (λ l. numbers ++ l) (sym rows)) m s
       ∙ ap keys_of now.view
+
+-- a value put at a new key, as the call that adds it tells
+pub put_new : {U E : Type 0} (r : Result U E) (new was a : Array) (k h : List ℕ) (v w : Value)
+    → OnOk r (new ≡ was ++ (h, w) ∷ []) → was ≡ a → h ≡ k → w ≡ v → value_at a k ≡ None
+    → OnOk r (new ≡ with_pair a k v)
+put_new (Ok u) new was a k h v w e l n m none =
+    e ∙ (λ j. l j ++ (n j, m j) ∷ [])
+    ∙ sym (chosen-none (value_at a k) (set_value (bytes_eq k) a v) (a ++ (k, v) ∷ []) none)
+put_new (Err e) new was a k h v w p l n m none = tt
 
 -- empty maps keep the empty array
 pub none-kept : (n : ℕ) (ns : List (ℤ × Entry)) (ss : List (ShortText × Entry)) (ts : List (Vec ℕ × Entry)) → ns ≡ [] → ss ≡ [] → ts ≡ []

@@ -1,8 +1,5 @@
+mod Numbers
 mod NamedKeys
-mod ByStamp
-mod OneEntry
-mod Counts
-mod Moves
 mod NumbersAndTexts
 mod Joined
 mod Calls

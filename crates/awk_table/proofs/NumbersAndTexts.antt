@@ -1,5 +1,5 @@
 -- Two maps, one by numbers and one by texts, seen as one list of entries by texts.
-use Rattle.std.proofs.Common.{◌≡◌, ℕ, ℤ, pos, negsuc, FitsSigned, w64, is_some, ◌<◌, ◌+◌, Bool, true, false, cond, List, [], ◌∷◌, ◌++◌, map, refl, sym, ap, subst, ◌∙◌, Option, Some, None, append_assoc, nat_eq, length, length-append}
+use Rattle.std.proofs.Common.{◌≡◌, ℕ, ℤ, ◌<◌, ◌+◌, Bool, true, false, cond, List, [], ◌∷◌, ◌++◌, map, refl, sym, ap, subst, ◌∙◌, Option, Some, None, append_assoc, nat_eq, length, length-append}
 use Rattle.std.specs.Fmt.{signed_decimal}
 use Rattle.std.specs.Prelude.{bytes_eq}
 use Rattle.std.specs.Ordering.{int_eq}
@@ -10,17 +10,19 @@ use Rattle.std.proofs.lemmas.Fmt.{signed_decimal_injective}
 use Rattle.std.proofs.lemmas.Bool.Decides.{Decides-int_eq}
 use Rattle.std.proofs.lemmas.Slice.Eq.{bytes_eq-Decides}
 use Rattle.std.proofs.lemmas.List.Sorted.{IsPermutation-refl, IsPermutation-append_left, IsPermutation-append_right, IsPermutation-append_comm, IsPermutation-map, IsPermutation-trans, IsPermutation-middle, All-permutation}
-use Rattle.awk_table.specs.support.Entries.{IsInt64, IsTextKey, all_entries, all_rows, IsConsistent}
-use Rattle.awk_table.specs.support.StampOrder.{stamp_order}
-use Rattle.awk_table.proofs.OneEntry.{rows, found-some, found-none, set-found, kept_put, absent-found, without-none}
-use Rattle.awk_table.proofs.Moves.{kept-moved, ordered-moved, kept-more, ordered-more, kept-taken, ordered-taken, swap-hit, swap-missed, flips, map-twice, map-both, stamp_order-moved, stamp_order-made, stamp_order-ordered, ordered-distinct}
-use Rattle.awk_table.proofs.Counts.{length-stamp_order}
+use Rattle.awk_keys.specs.support.Texts.{IsInt64, IsTextKey}
+use Rattle.awk_keys.proofs.Rows.{map-twice, map-both, map-push}
+use Rattle.awk_table.specs.support.Entries.{all_entries, all_rows, IsConsistent}
+use Rattle.awk_keys.specs.support.StampOrder.{stamp_order}
+use Rattle.awk_keys.proofs.OneEntry.{rows, found-some, found-none, set-found, kept_put, absent-found, without-none}
+use Rattle.awk_keys.proofs.Moves.{kept-moved, ordered-moved, kept-more, ordered-more, kept-taken, ordered-taken, swap-hit, swap-missed, flips, stamp_order-moved, stamp_order-made, stamp_order-ordered, ordered-distinct}
+use Rattle.awk_keys.proofs.Counts.{length-stamp_order}
 use Rattle.std.proofs.lemmas.List.{length-map}
 use Rattle.std.proofs.lemmas.Map.Keys.{IsDistinct-IsPermutation}
 use Rattle.std.proofs.lemmas.List.Elements.{recursion_from_All, All-from_recursion}
 use Rattle.indexmap.specs.IndexMap.{swap_remove_entry}
 use Rattle.std.specs.Cmp.Lexicographic.{nat_list_eq_equiv}
-use Rattle.awk_table.proofs.NamedKeys.{lookup-named, set_value-named, map-push}
+use Rattle.awk_table.proofs.NamedKeys.{lookup-named, set_value-named}
 
 -- two tests that decide the same
 pub same_tests : {P Q : Type 0} (a b : Bool) → (a ≡ true → P) → (P → a ≡ true) → (b ≡ true → Q) → (Q → b ≡ true)
@@ -177,14 +179,6 @@ module _ {T E : Type 0} (items : T → List ℕ) (ns : List (ℤ × E)) (ts : Li
       IsPermutation-trans _ _ _ (IsPermutation-append_right xs _ _ (IsPermutation-map (λ e. (items e.0, e.1)) ts ((t, x) ∷ us) m))
       (IsPermutation-middle xs (items t, x) ys)
 
-pub is_int64 : (z : ℤ) → FitsSigned w64 z → IsInt64 z
-is_int64 (pos n) h = h.sfits
-is_int64 (negsuc n) h = h.sfits
-
-pub fits_int64 : (z : ℤ) → IsInt64 z → FitsSigned w64 z
-fits_int64 (pos n) h = record { sfits = h }
-fits_int64 (negsuc n) h = record { sfits = h }
-
 pub all_more : {X : Type 0} (P : X → Type 0) (xs : List X) (x : X) → AllByRecursion P xs → P x
     → AllByRecursion P (xs ++ x ∷ [])
 all_more P [] x a h = (h, tt)
@@ -210,11 +204,6 @@ module _ {T E V : Type 0} (items : T → List ℕ) (stamp : E → ℕ) (value : 
     looked-none e =
         found-none (λ k. k) stamp value bytes_eq n (bytes_eq k) (λ x y. nat_list_eq_equiv.congr k x y) (all_entries items ns ts) i.0.0 i.0.1 i.0.2 e
 
-    looked-is : (o : Option E) → lookup (bytes_eq k) (all_entries items ns ts) ≡ o
-        → is_some o ≡ is_some (lookup (bytes_eq k) (stamp_order n (all_rows items stamp value ns ts)))
-    looked-is None e = sym (ap is_some (looked-none e))
-    looked-is (Some x) e = sym (ap is_some (looked-some x e))
-
     absent : lookup (bytes_eq k) (stamp_order n (all_rows items stamp value ns ts)) ≡ None
         → lookup (bytes_eq k) (all_entries items ns ts) ≡ None
     absent e =
@@ -223,9 +212,6 @@ module _ {T E V : Type 0} (items : T → List ℕ) (stamp : E → ℕ) (value : 
   module _ (z : ℤ) (s : IsInt64 z) where
     at : lookup (bytes_eq (signed_decimal z)) (all_entries items ns ts) ≡ lookup (int_eq z) ns
     at = number-lookup items ns ts i.1 i.2 z s
-
-    pub number-is : is_some (lookup (int_eq z) ns) ≡ is_some (lookup (bytes_eq (signed_decimal z)) (stamp_order n (all_rows items stamp value ns ts)))
-    number-is = looked-is (signed_decimal z) (lookup (int_eq z) ns) at
 
     pub number-some : (x : E) → lookup (int_eq z) ns ≡ Some x
         → lookup (bytes_eq (signed_decimal z)) (stamp_order n (all_rows items stamp value ns ts)) ≡ Some (value x)
@@ -276,9 +262,6 @@ module _ {T E V : Type 0} (items : T → List ℕ) (stamp : E → ℕ) (value : 
   module _ (k : List ℕ) (s : IsTextKey k) where
     text-at : lookup (bytes_eq k) (all_entries items ns ts) ≡ lookup (λ t. bytes_eq k (items t)) ts
     text-at = text-lookup items ns ts i.1 i.2 k s
-
-    pub text-is : is_some (lookup (λ t. bytes_eq k (items t)) ts) ≡ is_some (lookup (bytes_eq k) (stamp_order n (all_rows items stamp value ns ts)))
-    text-is = looked-is k (lookup (λ t. bytes_eq k (items t)) ts) text-at
 
     pub text-some : (x : E) → lookup (λ t. bytes_eq k (items t)) ts ≡ Some x
         → lookup (bytes_eq k) (stamp_order n (all_rows items stamp value ns ts)) ≡ Some (value x)

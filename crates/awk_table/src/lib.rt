@@ -5,9 +5,6 @@ mod decimal;
 mod long_keys;
 mod number_keys;
 mod short_keys;
-mod short_text;
 mod table;
-mod text_keys;
-mod walk;
 
 pub use crate::table::Table;

@@ -1,28 +1,18 @@
 // Keys that are texts of more than 23 bytes.
 
-ghost use Rattle.std.specs.Prelude.{◌≡◌, ◌<◌, ◌++◌, ◌∷◌, [], None, length, is_some, bytes_eq, IfOk, IfErr, OnOk, OnErr};
+ghost use Rattle.std.specs.Prelude.{◌≡◌, ◌<◌, ◌++◌, ◌∷◌, [], None, length, is_some, IfOk, IfErr, OnOk, OnErr};
 ghost use Rattle.std.specs.Option.{option_copied, unwrap_or};
-ghost use Rattle.indexmap.specs.IndexMap.{swap_remove_entry};
 ghost use Rattle.awk_value.specs.declared.value.Value.TheVariants.{Nothing};
 ghost use Rattle.awk_value.specs.declared.fault.ValueFault.TheVariants.{Memory};
 ghost use Rattle.awk_table.specs.Arrays.{value_at, with_pair, with_key, without};
-ghost use Rattle.awk_table.specs.support.Entries.{IsTextKey};
+ghost use Rattle.awk_keys.specs.support.Texts.{IsTextKey};
 
-use crate::table::{Entry, Table};
+use crate::table::{Table, copy_of};
+use awk_keys::{Entry, add_text, set_text, take_text};
 use awk_value::{Value, ValueFault};
-use indexmap::IndexMap;
 use std::alloc::Global;
 
 impl Table {
-    /// As `has`.
-    pub(crate) fn has_long(&self, key: &[u8]) -> bool
-        requires text { IsTextKey key.now }
-        requires long { 23 < length key.now }
-        ensures { result ≡ is_some (value_at self.now key.now) }
-    {
-        self.longs.contains_key(key)
-    }
-
     /// As `get`.
     pub(crate) fn get_long(&self, key: &[u8]) -> Option<&Value>
         requires text { IsTextKey key.now }
@@ -48,12 +38,12 @@ impl Table {
         ensures unchanged { OnErr result (self.new ≡ self.old) }
         ensures fault { IfErr result (λ fault. fault ≡ Memory) }
     {
-        match self.longs.get(key) {
-            Some(entry) => Ok(entry.value.clone()?),
-            None => {
-                self.add_long(alloc, key, Value::Nothing)?;
-                Ok(Value::Nothing)
-            }
+        match self.get_long(key) {
+            Some(value) => copy_of(value),
+            None => match self.add_long(alloc, key, Value::Nothing) {
+                Ok(()) => Ok(Value::Nothing),
+                Err(fault) => Err(fault),
+            },
         }
     }
 
@@ -71,12 +61,9 @@ impl Table {
         ensures absent { OnErr result (value_at self.old key.now ≡ None) }
         ensures fault { IfErr result (λ fault. fault ≡ Memory) }
     {
-        match self.longs.get_mut(key) {
-            Some(entry) => {
-                entry.value = value;
-                Ok(())
-            }
-            None => self.add_long(alloc, key, value),
+        match set_text(&mut self.longs, key, value) {
+            Some(value) => self.add_long(alloc, key, value),
+            None => Ok(()),
         }
     }
 
@@ -86,7 +73,7 @@ impl Table {
         requires long { 23 < length key.now }
         ensures { self.new ≡ without self.old key.now }
     {
-        take_long(&mut self.longs, key);
+        take_text(&mut self.longs, key);
     }
 
     /// Adds a new long text, which goes last.
@@ -102,16 +89,8 @@ impl Table {
         let Some(next) = stamp.checked_add(1) else {
             return Err(ValueFault::Memory);
         };
-        let copy = Vec::from_slice(alloc, key)?;
-        self.longs.insert(copy, Entry { stamp, value })?;
+        add_text(alloc, &mut self.longs, key, Entry { stamp, value })?;
         self.next = next;
         Ok(())
     }
-}
-
-/// Takes a text's entry out of the map, whose last entry moves to its place.
-fn take_long(entries: &mut IndexMap<Vec<u8>, Entry>, key: &[u8])
-    ensures { entries.new.entries ≡ swap_remove_entry (λ k. bytes_eq key.now k.items) entries.old.entries }
-{
-    let _ = entries.swap_remove(key);
 }

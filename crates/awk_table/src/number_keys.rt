@@ -3,23 +3,21 @@
 
 ghost use Rattle.std.specs.Prelude.{◌≡◌, ◌++◌, ◌∷◌, [], None, is_some, IfOk, IfErr, OnOk, OnErr};
 ghost use Rattle.std.specs.Fmt.{signed_decimal};
-ghost use Rattle.std.specs.Ordering.{int_eq};
 ghost use Rattle.std.specs.Option.{option_copied, unwrap_or};
-ghost use Rattle.indexmap.specs.IndexMap.{swap_remove_entry};
 ghost use Rattle.awk_value.specs.declared.value.Value.TheVariants.{Nothing};
 ghost use Rattle.awk_value.specs.declared.fault.ValueFault.TheVariants.{Memory};
 ghost use Rattle.awk_table.specs.Arrays.{value_at, with_pair, with_key, without};
 
-use crate::table::{Entry, Table};
+use crate::table::{Table, copy_of};
+use awk_keys::{Entry, add_entry, set_entry, take_entry};
 use awk_value::{Value, ValueFault};
-use indexmap::IndexMap;
 
 impl Table {
     /// Whether the number's decimal form is a key, as `has` tells.
     pub fn has_number(&self, key: i64) -> bool
         ensures { result ≡ is_some (value_at self.now (signed_decimal key)) }
     {
-        self.numbers.contains_key(&key)
+        self.get_number(key).is_some()
     }
 
     /// The value at the number's decimal form, as `get` gives it.
@@ -40,12 +38,12 @@ impl Table {
         ensures unchanged { OnErr result (self.new ≡ self.old) }
         ensures fault { IfErr result (λ fault. fault ≡ Memory) }
     {
-        match self.numbers.get(&key) {
-            Some(entry) => Ok(entry.value.clone()?),
-            None => {
-                self.add_number(key, Value::Nothing)?;
-                Ok(Value::Nothing)
-            }
+        match self.get_number(key) {
+            Some(value) => copy_of(value),
+            None => match self.add_number(key, Value::Nothing) {
+                Ok(()) => Ok(Value::Nothing),
+                Err(fault) => Err(fault),
+            },
         }
     }
 
@@ -57,12 +55,9 @@ impl Table {
         ensures absent { OnErr result (value_at self.old (signed_decimal key) ≡ None) }
         ensures fault { IfErr result (λ fault. fault ≡ Memory) }
     {
-        match self.numbers.get_mut(&key) {
-            Some(entry) => {
-                entry.value = value;
-                Ok(())
-            }
-            None => self.add_number(key, value),
+        match set_entry(&mut self.numbers, &key, value) {
+            Some(value) => self.add_number(key, value),
+            None => Ok(()),
         }
     }
 
@@ -70,7 +65,7 @@ impl Table {
     pub fn remove_number(&mut self, key: i64)
         ensures { self.new ≡ without self.old (signed_decimal key) }
     {
-        take_number(&mut self.numbers, key);
+        take_entry(&mut self.numbers, &key);
     }
 
     /// Adds a new number, which goes last.
@@ -84,15 +79,8 @@ impl Table {
         let Some(next) = stamp.checked_add(1) else {
             return Err(ValueFault::Memory);
         };
-        self.numbers.insert(key, Entry { stamp, value })?;
+        add_entry(&mut self.numbers, key, Entry { stamp, value })?;
         self.next = next;
         Ok(())
     }
-}
-
-/// Takes a number's entry out of the map, whose last entry moves to its place.
-fn take_number(entries: &mut IndexMap<i64, Entry>, key: i64)
-    ensures { entries.new.entries ≡ swap_remove_entry (int_eq key) entries.old.entries }
-{
-    let _ = entries.swap_remove(&key);
 }

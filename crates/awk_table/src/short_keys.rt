@@ -1,28 +1,17 @@
 // Keys that are texts of at most 23 bytes.
 
-ghost use Rattle.std.specs.Prelude.{◌≡◌, ◌++◌, ◌∷◌, ◌&&◌, [], None, nat_eq, is_some, bytes_eq, IfOk, IfErr, OnOk, OnErr};
+ghost use Rattle.std.specs.Prelude.{◌≡◌, ◌++◌, ◌∷◌, [], None, is_some, IfOk, IfErr, OnOk, OnErr};
 ghost use Rattle.std.specs.Option.{option_copied, unwrap_or};
-ghost use Rattle.indexmap.specs.IndexMap.{swap_remove_entry};
 ghost use Rattle.awk_value.specs.declared.value.Value.TheVariants.{Nothing};
 ghost use Rattle.awk_value.specs.declared.fault.ValueFault.TheVariants.{Memory};
 ghost use Rattle.awk_table.specs.Arrays.{value_at, with_pair, with_key, without};
-ghost use Rattle.awk_table.specs.support.Entries.{IsTextKey, short_text, IsPadded};
+ghost use Rattle.awk_keys.specs.support.Texts.{IsTextKey, short_text, IsPadded};
 
-use crate::short_text::ShortText;
-use crate::table::{Entry, Table};
+use crate::table::{Table, copy_of};
+use awk_keys::{Entry, ShortText, add_entry, set_entry, take_entry};
 use awk_value::{Value, ValueFault};
-use indexmap::IndexMap;
 
 impl Table {
-    /// As `has`.
-    pub(crate) fn has_short(&self, key: ShortText) -> bool
-        requires text { IsTextKey (short_text key.bytes key.len) }
-        requires padded { IsPadded key.bytes key.len }
-        ensures { result ≡ is_some (value_at self.now (short_text key.bytes key.len)) }
-    {
-        self.shorts.contains_key(&key)
-    }
-
     /// As `get`.
     pub(crate) fn get_short(&self, key: ShortText) -> Option<&Value>
         requires text { IsTextKey (short_text key.bytes key.len) }
@@ -44,12 +33,12 @@ impl Table {
         ensures unchanged { OnErr result (self.new ≡ self.old) }
         ensures fault { IfErr result (λ fault. fault ≡ Memory) }
     {
-        match self.shorts.get(&key) {
-            Some(entry) => Ok(entry.value.clone()?),
-            None => {
-                self.add_short(key, Value::Nothing)?;
-                Ok(Value::Nothing)
-            }
+        match self.get_short(key) {
+            Some(value) => copy_of(value),
+            None => match self.add_short(key, Value::Nothing) {
+                Ok(()) => Ok(Value::Nothing),
+                Err(fault) => Err(fault),
+            },
         }
     }
 
@@ -62,12 +51,9 @@ impl Table {
         ensures absent { OnErr result (value_at self.old (short_text key.bytes key.len) ≡ None) }
         ensures fault { IfErr result (λ fault. fault ≡ Memory) }
     {
-        match self.shorts.get_mut(&key) {
-            Some(entry) => {
-                entry.value = value;
-                Ok(())
-            }
-            None => self.add_short(key, value),
+        match set_entry(&mut self.shorts, &key, value) {
+            Some(value) => self.add_short(key, value),
+            None => Ok(()),
         }
     }
 
@@ -77,7 +63,7 @@ impl Table {
         requires padded { IsPadded key.bytes key.len }
         ensures { self.new ≡ without self.old (short_text key.bytes key.len) }
     {
-        take_short(&mut self.shorts, key);
+        take_entry(&mut self.shorts, &key);
     }
 
     /// Adds a new short text, which goes last.
@@ -93,16 +79,8 @@ impl Table {
         let Some(next) = stamp.checked_add(1) else {
             return Err(ValueFault::Memory);
         };
-        self.shorts.insert(key, Entry { stamp, value })?;
+        add_entry(&mut self.shorts, key, Entry { stamp, value })?;
         self.next = next;
         Ok(())
     }
-}
-
-/// Takes a text's entry out of the map, whose last entry moves to its place.
-fn take_short(entries: &mut IndexMap<ShortText, Entry>, key: ShortText)
-    ensures { entries.new.entries ≡ swap_remove_entry (λ k. bytes_eq key.bytes k.bytes && nat_eq key.len k.len)
-        entries.old.entries }
-{
-    let _ = entries.swap_remove(&key);
 }

@@ -3,23 +3,25 @@
 // removal may move entries: only a walk looks at the order, by the stamps.
 
 ghost use Rattle.std.specs.Prelude.{◌≡◌, [], None, length, is_some, IfOk, IfErr, OnOk, OnErr};
+ghost use Rattle.std.specs.Map.{keys_of};
 ghost use Rattle.std.specs.Option.{option_copied, unwrap_or};
 ghost use Rattle.awk_value.specs.declared.value.Value.TheVariants.{Nothing};
 ghost use Rattle.awk_value.specs.declared.fault.ValueFault.TheVariants.{Memory};
 ghost use Rattle.awk_table.specs.Arrays.{Array, value_at, with_pair, with_key, without, HasDistinctKeys};
 
 use crate::decimal::decimal_number;
-use crate::short_text::ShortText;
-use awk_value::{Value, ValueFault};
+use awk_keys::{Entry, ShortText, keys_by_stamp};
+use awk_value::{Bytes, Value, ValueFault};
 use indexmap::IndexMap;
 use std::alloc::Global;
 use std::marker::Model;
 
-/// A value, and how many keys were made before its own.
-#[derive(Drop)]
-pub(crate) struct Entry {
-    pub(crate) stamp: u64,
-    pub(crate) value: Value,
+/// A copy of a value. The fault is `Memory`.
+pub(crate) fn copy_of(value: &Value) -> Result<Value, ValueFault>
+    ensures copy { IfOk result (λ copy. copy ≡ value.now) }
+    ensures fault { IfErr result (λ fault. fault ≡ Memory) }
+{
+    Ok(value.clone()?)
 }
 
 /// An array: pairs of a key and a value. A key is a text, and no two are equal. A new key goes last,
@@ -36,11 +38,12 @@ pub struct Table {
 
 impl Model for Table {
     ghost use Rattle.awk_table.specs.Arrays.{Array};
-    ghost use Rattle.awk_table.specs.support.StampOrder.{stamp_order};
+    ghost use Rattle.awk_keys.specs.support.StampOrder.{stamp_order};
     ghost use Rattle.std.specs.Prelude.{◌<◌, length};
     ghost use Rattle.std.specs.List.{AllByRecursion};
     ghost use Rattle.std.specs.Map.{keys_of};
-    ghost use Rattle.awk_table.specs.support.Entries.{IsConsistent, all_rows, joined, short_text, IsPadded};
+    ghost use Rattle.awk_keys.specs.support.Texts.{short_text, IsPadded};
+    ghost use Rattle.awk_table.specs.support.Entries.{IsConsistent, all_rows, joined};
 
     ghost Value = { Array };
 
@@ -80,10 +83,7 @@ impl Table {
     pub fn has(&self, key: &[u8]) -> bool
         ensures { result ≡ is_some (value_at self.now key.now) }
     {
-        match decimal_number(key) {
-            Some(number) => self.has_number(number),
-            None => self.has_text(key),
-        }
+        self.get(key).is_some()
     }
 
     /// The value at the key, if it is present. Takes no memory.
@@ -92,7 +92,10 @@ impl Table {
     {
         match decimal_number(key) {
             Some(number) => self.get_number(number),
-            None => self.get_text(key),
+            None => match ShortText::new(key) {
+                Some(short) => self.get_short(short),
+                None => self.get_long(key),
+            },
         }
     }
 
@@ -107,7 +110,10 @@ impl Table {
     {
         match decimal_number(key) {
             Some(number) => self.get_or_make_number(number),
-            None => self.get_or_make_text(alloc, key),
+            None => match ShortText::new(key) {
+                Some(short) => self.get_or_make_short(short),
+                None => self.get_or_make_long(alloc, key),
+            },
         }
     }
 
@@ -122,7 +128,10 @@ impl Table {
     {
         match decimal_number(key) {
             Some(number) => self.put_number(number, value),
-            None => self.put_text(alloc, key, value),
+            None => match ShortText::new(key) {
+                Some(short) => self.put_short(short, value),
+                None => self.put_long(alloc, key, value),
+            },
         }
     }
 
@@ -134,8 +143,19 @@ impl Table {
     {
         match decimal_number(key) {
             Some(number) => self.remove_number(number),
-            None => self.remove_text(key),
+            None => match ShortText::new(key) {
+                Some(short) => self.remove_short(short),
+                None => self.remove_long(key),
+            },
         }
+    }
+
+    /// The texts of all keys, in order. The fault is `Memory`. (POSIX awk, Actions: for, in)
+    pub fn keys(&self, alloc: Global) -> Result<Vec<Bytes>, ValueFault>
+        ensures keys { IfOk result (λ keys. keys.items ≡ keys_of self.now) }
+        ensures fault { IfErr result (λ fault. fault ≡ Memory) }
+    {
+        keys_by_stamp(alloc, self.len(), &self.numbers, &self.shorts, &self.longs)
     }
 
     /// Removes all keys. Takes no memory.

@@ -1,26 +1,10 @@
 -- How an array is kept: a map by numbers, one by short texts and one by long texts, as one list of
 -- entries by texts.
-use Rattle.std.specs.Prelude.{◌≡◌, ℕ, ℤ, ◌<◌, ◌≤◌, ◌-◌, ◌^◌, List, ◌++◌, nat_eq, bytes_eq, map, take, length, replicate}
-use Rattle.std.specs.Int.Signed.{mag}
+use Rattle.std.specs.Prelude.{ℕ, ℤ, ◌<◌, List, ◌++◌, nat_eq, bytes_eq, map}
 use Rattle.std.specs.Fmt.{signed_decimal}
 use Rattle.std.specs.List.{IsDistinct, AllByRecursion}
 use Rattle.std.specs.Map.{keys_of}
-
--- from -2^63 to 2^63 - 1
-abbrev pub IsInt64 : ℤ → Type 0
-IsInt64 n = mag n < 2 ^ 63
-
--- the text is no decimal form of a 64-bit number
-abbrev pub IsTextKey : List ℕ → Type 0
-IsTextKey text = (n : ℤ) → IsInt64 n → text ≡ signed_decimal n → ⊥
-
--- a short text of the length len, and zeros after it up to 23 bytes
-abbrev pub short_text : List ℕ → ℕ → List ℕ
-short_text bytes len = take len bytes
-
-abbrev pub IsPadded : List ℕ → ℕ → Type 0
-IsPadded bytes len =
-    (len ≤ 23) × (len ≡ length (short_text bytes len)) × (bytes ≡ short_text bytes len ++ replicate (23 - len) 0)
+use Rattle.awk_keys.specs.support.Texts.{IsInt64, IsTextKey}
 
 -- the entries of two maps, their keys as texts
 abbrev pub joined : {A B E : Type 0} → (A → List ℕ) → (B → List ℕ) → List (A × E) → List (B × E) → List (List ℕ × E)

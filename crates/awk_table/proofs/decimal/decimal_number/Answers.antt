@@ -4,7 +4,7 @@ use Rattle.std.specs.Str.{IsAscii}
 use Rattle.std.proofs.lemmas.Fmt.{length_signed_le, IsAscii-signed, parse-signed_decimal}
 use Rattle.std.proofs.lemmas.Str.{IsUtf8-from_ascii}
 use Rattle.std.proofs.lemmas.Slice.Eq.{bytes_eq-Decides}
-use Rattle.awk_table.proofs.NumbersAndTexts.{fits_int64}
+use Rattle.awk_table.proofs.Numbers.{fits_int64}
 use Rattle.awk_table.proofs.decimal.decimal_number.Goals as goal
 
 ok_same : {X E : Type 0} (r : Result X E) (x y : X) → r ≡ Ok x → r ≡ Ok y → x ≡ y

@@ -2,7 +2,7 @@ use Rattle.std.proofs.Common.{ap, ◌∙◌, refl}
 use Rattle.std.specs.Map.{lookup}
 use Rattle.std.specs.Prelude.{bytes_eq}
 use Rattle.indexmap.proofs.CallerLemmas.{insert_entry-new}
-use Rattle.awk_table.specs.declared.table.Entry.{Entry}
+use Rattle.awk_keys.specs.declared.entry.Entry.{Entry}
 use Rattle.awk_table.proofs.Calls.{keeps, long-absent, long-add}
 use Rattle.awk_table.proofs.table.Table.add_long.Goals as goal
 
@@ -11,27 +11,25 @@ invariant_of-self-2 c =
     let b = c.self.inside in
     let now = keeps b.next b.numbers.entries b.shorts.entries b.longs.entries _ c.self.invariant c.self.view_is in
     let x : Entry = record { stamp = b.next; value = c.args.value } in
-    let copy = c.in_ok-copy.copy in
-    let same = c.in_ok-copy.ensures.items in
+    let told = c.in_ok-add_text.ensures.added in
     let absent = long-absent now c.args.key.now c.requires.text c.requires.long c.requires.new in
     let entries =
-    c.in_ok-insert.ensures.entries
-    ∙ insert_entry-new (λ x y. bytes_eq x.items y.items) b.longs copy x
-    (ap (λ k. lookup (λ t. bytes_eq k t.items) b.longs.entries) same ∙ absent) in
+    told.added
+    ∙ insert_entry-new (λ x y. bytes_eq x.items y.items) b.longs told.copy x
+    (ap (λ k. lookup (λ t. bytes_eq k t.items) b.longs.entries) told.same ∙ absent) in
     (long-add now c.args.key.now c.requires.text c.requires.long
-    c.requires.new copy same x refl c.in-Some.next c.in-Some.ensures.1 c.insert.new.self.entries entries).consistent
+    c.requires.new told.copy told.same x refl c.in-Some.next c.in-Some.ensures.1 c.add_text.new.entries.entries entries).consistent
 
 pub returns-clause-added : goal.returns-clause-added
 returns-clause-added c =
     let b = c.self.inside in
     let now = keeps b.next b.numbers.entries b.shorts.entries b.longs.entries _ c.self.invariant c.self.view_is in
     let x : Entry = record { stamp = b.next; value = c.args.value } in
-    let copy = c.in_ok-copy.copy in
-    let same = c.in_ok-copy.ensures.items in
+    let told = c.in_ok-add_text.ensures.added in
     let absent = long-absent now c.args.key.now c.requires.text c.requires.long c.requires.new in
     let entries =
-    c.in_ok-insert.ensures.entries
-    ∙ insert_entry-new (λ x y. bytes_eq x.items y.items) b.longs copy x
-    (ap (λ k. lookup (λ t. bytes_eq k t.items) b.longs.entries) same ∙ absent) in
+    told.added
+    ∙ insert_entry-new (λ x y. bytes_eq x.items y.items) b.longs told.copy x
+    (ap (λ k. lookup (λ t. bytes_eq k t.items) b.longs.entries) told.same ∙ absent) in
     (long-add now c.args.key.now c.requires.text c.requires.long
-    c.requires.new copy same x refl c.in-Some.next c.in-Some.ensures.1 c.insert.new.self.entries entries).view
+    c.requires.new told.copy told.same x refl c.in-Some.next c.in-Some.ensures.1 c.add_text.new.entries.entries entries).view

@@ -2,7 +2,7 @@ use Rattle.std.proofs.Common.{ap, ◌∙◌, refl, to_z-of_z}
 use Rattle.std.specs.Ordering.{int_eq}
 use Rattle.indexmap.specs.IndexMap.{insert_entry}
 use Rattle.indexmap.proofs.CallerLemmas.{insert_entry-new}
-use Rattle.awk_table.specs.declared.table.Entry.{Entry}
+use Rattle.awk_keys.specs.declared.entry.Entry.{Entry}
 use Rattle.awk_table.proofs.Calls.{keeps, number-absent, number-add}
 use Rattle.awk_table.proofs.table.Table.add_number.Goals as goal
 
@@ -13,10 +13,10 @@ invariant_of-self-2 c =
     let x : Entry = record { stamp = b.next; value = c.args.value } in
     let absent = number-absent now c.args.key c.ranges.key c.requires in
     let entries =
-    c.in_ok-insert.ensures.entries ∙ ap (λ k. insert_entry int_eq b.numbers.entries k x) (to_z-of_z c.ranges.key)
+    c.in_ok-add_entry.ensures.added ∙ ap (λ k. insert_entry int_eq b.numbers.entries k x) (to_z-of_z c.ranges.key)
     ∙ insert_entry-new int_eq b.numbers c.args.key x absent in
     (number-add now c.args.key c.ranges.key
-    c.requires x refl c.in-Some.next c.in-Some.ensures.1 c.insert.new.self.entries entries).consistent
+    c.requires x refl c.in-Some.next c.in-Some.ensures.1 c.add_entry.new.entries.entries entries).consistent
 
 pub returns-clause-added : goal.returns-clause-added
 returns-clause-added c =
@@ -25,7 +25,7 @@ returns-clause-added c =
     let x : Entry = record { stamp = b.next; value = c.args.value } in
     let absent = number-absent now c.args.key c.ranges.key c.requires in
     let entries =
-    c.in_ok-insert.ensures.entries ∙ ap (λ k. insert_entry int_eq b.numbers.entries k x) (to_z-of_z c.ranges.key)
+    c.in_ok-add_entry.ensures.added ∙ ap (λ k. insert_entry int_eq b.numbers.entries k x) (to_z-of_z c.ranges.key)
     ∙ insert_entry-new int_eq b.numbers c.args.key x absent in
     (number-add now c.args.key c.ranges.key
-    c.requires x refl c.in-Some.next c.in-Some.ensures.1 c.insert.new.self.entries entries).view
+    c.requires x refl c.in-Some.next c.in-Some.ensures.1 c.add_entry.new.entries.entries entries).view

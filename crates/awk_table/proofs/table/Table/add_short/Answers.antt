@@ -1,7 +1,7 @@
 use Rattle.std.proofs.Common.{◌∙◌, refl, nat_eq, ◌&&◌}
 use Rattle.std.specs.Prelude.{bytes_eq}
 use Rattle.indexmap.proofs.CallerLemmas.{insert_entry-new}
-use Rattle.awk_table.specs.declared.table.Entry.{Entry}
+use Rattle.awk_keys.specs.declared.entry.Entry.{Entry}
 use Rattle.awk_table.proofs.Calls.{keeps, short-absent, short-add}
 use Rattle.awk_table.proofs.table.Table.add_short.Goals as goal
 
@@ -12,10 +12,10 @@ invariant_of-self-2 c =
     let x : Entry = record { stamp = b.next; value = c.args.value } in
     let absent = short-absent now c.args.key c.requires.text c.requires.padded c.requires.new in
     let entries =
-    c.in_ok-insert.ensures.entries
+    c.in_ok-add_entry.ensures.added
     ∙ insert_entry-new (λ x y. bytes_eq x.bytes y.bytes && nat_eq x.len y.len) b.shorts c.args.key x absent in
     (short-add now c.args.key c.requires.text c.requires.padded
-    c.requires.new x refl c.in-Some.next c.in-Some.ensures.1 c.insert.new.self.entries entries).consistent
+    c.requires.new x refl c.in-Some.next c.in-Some.ensures.1 c.add_entry.new.entries.entries entries).consistent
 
 pub returns-clause-added : goal.returns-clause-added
 returns-clause-added c =
@@ -24,7 +24,7 @@ returns-clause-added c =
     let x : Entry = record { stamp = b.next; value = c.args.value } in
     let absent = short-absent now c.args.key c.requires.text c.requires.padded c.requires.new in
     let entries =
-    c.in_ok-insert.ensures.entries
+    c.in_ok-add_entry.ensures.added
     ∙ insert_entry-new (λ x y. bytes_eq x.bytes y.bytes && nat_eq x.len y.len) b.shorts c.args.key x absent in
     (short-add now c.args.key c.requires.text c.requires.padded
-    c.requires.new x refl c.in-Some.next c.in-Some.ensures.1 c.insert.new.self.entries entries).view
+    c.requires.new x refl c.in-Some.next c.in-Some.ensures.1 c.add_entry.new.entries.entries entries).view

@@ -1,65 +1,45 @@
-use Rattle.std.proofs.Common.{ap, sym, ◌∙◌, ◌++◌, ◌∷◌, [], to_z-of_z}
-use Rattle.std.specs.Map.{set_value}
-use Rattle.std.specs.Prelude.{bytes_eq}
+use Rattle.std.proofs.Common.{ap, subst, sym, ◌∙◌, to_z-of_z}
 use Rattle.std.specs.Fmt.{signed_decimal}
 use Rattle.awk_table.specs.contracts.table.Table.{the_view}
-use Rattle.awk_table.specs.declared.table.Entry.{Entry}
-use Rattle.awk_table.specs.Arrays.{value_at}
-use Rattle.awk_table.proofs.Calls.{keeps, number-miss, number-put}
-use Rattle.awk_table.proofs.NamedKeys.{chosen-none, on_ok_to, on_err}
+use Rattle.awk_table.specs.Arrays.{Array, value_at}
+use Rattle.awk_table.proofs.Calls.{Keeps, keeps, put_new, number-miss, number-put}
+use Rattle.awk_table.proofs.NamedKeys.{on_err}
 use Rattle.awk_table.proofs.table.Table.put_number.Goals as goal
 
-pub invariant_of-self : goal.invariant_of-self
-invariant_of-self c =
+pub invariant_of-self-in-None : goal.invariant_of-self-in-None
+invariant_of-self-in-None c =
     let b = c.self.inside in
     let now = keeps b.next b.numbers.entries b.shorts.entries b.longs.entries _ c.self.invariant c.self.view_is in
-    let v = c.args.value in
-    let x = c.in-Some.entry.now in
-    let w : Entry = record { stamp = x.stamp; value = v } in
-    let put = number-put now c.args.key c.ranges.key x v c.in-Some.ensures.value in
-    (put (c.get_mut.follows.lender w).entries (c.get_mut.follows.holds w).0).consistent
-
-pub returns-in-Some-clause-put : goal.returns-in-Some-clause-put
-returns-in-Some-clause-put c =
-    let b = c.self.inside in
-    let now = keeps b.next b.numbers.entries b.shorts.entries b.longs.entries _ c.self.invariant c.self.view_is in
-    let v = c.args.value in
-    let x = c.in-Some.entry.now in
-    let w : Entry = record { stamp = x.stamp; value = v } in
-    let put = number-put now c.args.key c.ranges.key x v c.in-Some.ensures.value in
-    (put (c.get_mut.follows.lender w).entries (c.get_mut.follows.holds w).0).view
-
-pub add_number-requires : goal.add_number-requires
-add_number-requires c =
-    let b = c.self.inside in
-    let now = keeps b.next b.numbers.entries b.shorts.entries b.longs.entries _ c.self.invariant c.self.view_is in
-    let lent = c.get_mut.follows.lender-at-none in
-    let miss = number-miss now c.args.key c.ranges.key c.in-None.ensures.value in
-    let key = (signed_decimal c.args.key) in
-    ap (λ z. value_at (the_view (record { numbers = lent; shorts = b.shorts; longs = b.longs; next = b.next })) (signed_decimal z))
-    (to_z-of_z c.ranges.key)
-    ∙ ap (λ m. value_at (the_view (record { numbers = m; shorts = b.shorts; longs = b.longs; next = b.next })) key) c.get_mut.follows.holds-at-none
-    ∙ ap (λ t. value_at t key) c.self.view_is ∙ miss
+    let set = c.in-None.ensures.set in
+    (number-put now c.args.key c.ranges.key set.entry c.args.value (sym set.there) c.set_entry.new.entries.entries set.set).consistent
 
 pub returns-in-None-clause-put : goal.returns-in-None-clause-put
 returns-in-None-clause-put c =
     let b = c.self.inside in
     let now = keeps b.next b.numbers.entries b.shorts.entries b.longs.entries _ c.self.invariant c.self.view_is in
-    let lent = c.get_mut.follows.lender-at-none in
-    let miss = number-miss now c.args.key c.ranges.key c.in-None.ensures.value in
-    let old = c.args.self.now in
-    let key = (signed_decimal c.args.key) in
-    let v = c.args.value in
-    on_ok_to c.add_number.result _ _ _ c.add_number.ensures.added
-    (ap (λ z. the_view (record { numbers = lent; shorts = b.shorts; longs = b.longs; next = b.next }) ++ (signed_decimal z, v) ∷ [])
-    (to_z-of_z c.ranges.key)
-    ∙ ap (λ m. the_view (record { numbers = m; shorts = b.shorts; longs = b.longs; next = b.next }) ++ (key, v) ∷ []) c.get_mut.follows.holds-at-none
-    ∙ ap (λ t. t ++ (key, v) ∷ []) c.self.view_is
-    ∙ sym (chosen-none (value_at old key) (set_value (bytes_eq key) old v) (old ++ (key, v) ∷ []) miss))
+    let set = c.in-None.ensures.set in
+    (number-put now c.args.key c.ranges.key set.entry c.args.value (sym set.there) c.set_entry.new.entries.entries set.set).view
 
-pub returns-in-None-clause-absent : goal.returns-in-None-clause-absent
-returns-in-None-clause-absent c =
+pub add_number-requires : goal.add_number-requires
+add_number-requires c =
     let b = c.self.inside in
     let now = keeps b.next b.numbers.entries b.shorts.entries b.longs.entries _ c.self.invariant c.self.view_is in
-    let miss = number-miss now c.args.key c.ranges.key c.in-None.ensures.value in
+    let miss = number-miss now c.args.key c.ranges.key (sym c.in-Some.ensures.absent) in
+    let still = subst (λ l. Keeps b.next l b.shorts.entries b.longs.entries c.args.self.now) (sym c.in-Some.ensures.unchanged) now in
+    let lent : Array = the_view (record { numbers = c.set_entry.new.entries; shorts = b.shorts; longs = b.longs; next = b.next }) in
+    ap (λ z. value_at lent (signed_decimal z)) (to_z-of_z c.ranges.key) ∙ ap (λ t. value_at t (signed_decimal c.args.key)) still.view ∙ miss
+
+pub returns-in-Some-clause-put : goal.returns-in-Some-clause-put
+returns-in-Some-clause-put c =
+    let b = c.self.inside in
+    let now = keeps b.next b.numbers.entries b.shorts.entries b.longs.entries _ c.self.invariant c.self.view_is in
+    let miss = number-miss now c.args.key c.ranges.key (sym c.in-Some.ensures.absent) in
+    let still = subst (λ l. Keeps b.next l b.shorts.entries b.longs.entries c.args.self.now) (sym c.in-Some.ensures.unchanged) now in
+    put_new c.add_number.result _ _ c.args.self.now (signed_decimal c.args.key) _ c.args.value _ c.add_number.ensures.added still.view (ap signed_decimal (to_z-of_z c.ranges.key)) c.in-Some.ensures.value miss
+
+pub returns-in-Some-clause-absent : goal.returns-in-Some-clause-absent
+returns-in-Some-clause-absent c =
+    let b = c.self.inside in
+    let now = keeps b.next b.numbers.entries b.shorts.entries b.longs.entries _ c.self.invariant c.self.view_is in
+    let miss = number-miss now c.args.key c.ranges.key (sym c.in-Some.ensures.absent) in
     on_err c.add_number.result miss

@@ -1,59 +1,43 @@
-use Rattle.std.proofs.Common.{ap, sym, ◌∙◌, ◌++◌, ◌∷◌, []}
-use Rattle.std.specs.Map.{set_value}
-use Rattle.std.specs.Prelude.{bytes_eq}
-use Rattle.awk_table.specs.contracts.table.Table.{the_view}
-use Rattle.awk_table.specs.declared.table.Entry.{Entry}
-use Rattle.awk_table.specs.support.Entries.{short_text}
+use Rattle.std.proofs.Common.{ap, subst, sym, ◌∙◌, refl}
+use Rattle.awk_keys.specs.support.Texts.{short_text}
 use Rattle.awk_table.specs.Arrays.{value_at}
-use Rattle.awk_table.proofs.Calls.{keeps, short-miss, short-put}
-use Rattle.awk_table.proofs.NamedKeys.{chosen-none, on_ok_to, on_err}
+use Rattle.awk_table.proofs.Calls.{Keeps, keeps, put_new, short-miss, short-put}
+use Rattle.awk_table.proofs.NamedKeys.{on_err}
 use Rattle.awk_table.proofs.table.Table.put_short.Goals as goal
 
-pub invariant_of-self : goal.invariant_of-self
-invariant_of-self c =
+pub invariant_of-self-in-None : goal.invariant_of-self-in-None
+invariant_of-self-in-None c =
     let b = c.self.inside in
     let now = keeps b.next b.numbers.entries b.shorts.entries b.longs.entries _ c.self.invariant c.self.view_is in
-    let v = c.args.value in
-    let x = c.in-Some.entry.now in
-    let w : Entry = record { stamp = x.stamp; value = v } in
-    let put = short-put now c.args.key c.requires.text c.requires.padded x v c.in-Some.ensures.value in
-    (put (c.get_mut.follows.lender w).entries (c.get_mut.follows.holds w).0).consistent
-
-pub returns-in-Some-clause-put : goal.returns-in-Some-clause-put
-returns-in-Some-clause-put c =
-    let b = c.self.inside in
-    let now = keeps b.next b.numbers.entries b.shorts.entries b.longs.entries _ c.self.invariant c.self.view_is in
-    let v = c.args.value in
-    let x = c.in-Some.entry.now in
-    let w : Entry = record { stamp = x.stamp; value = v } in
-    let put = short-put now c.args.key c.requires.text c.requires.padded x v c.in-Some.ensures.value in
-    (put (c.get_mut.follows.lender w).entries (c.get_mut.follows.holds w).0).view
-
-pub add_short-requires-clause-new : goal.add_short-requires-clause-new
-add_short-requires-clause-new c =
-    let b = c.self.inside in
-    let now = keeps b.next b.numbers.entries b.shorts.entries b.longs.entries _ c.self.invariant c.self.view_is in
-    let miss = short-miss now c.args.key c.requires.text c.requires.padded c.in-None.ensures.value in
-    let key = short_text c.args.key.bytes c.args.key.len in
-    ap (λ m. value_at (the_view (record { numbers = b.numbers; shorts = m; longs = b.longs; next = b.next })) key) c.get_mut.follows.holds-at-none
-    ∙ ap (λ t. value_at t key) c.self.view_is ∙ miss
+    let set = c.in-None.ensures.set in
+    (short-put now c.args.key c.requires.text c.requires.padded set.entry c.args.value (sym set.there) c.set_entry.new.entries.entries set.set).consistent
 
 pub returns-in-None-clause-put : goal.returns-in-None-clause-put
 returns-in-None-clause-put c =
     let b = c.self.inside in
     let now = keeps b.next b.numbers.entries b.shorts.entries b.longs.entries _ c.self.invariant c.self.view_is in
-    let miss = short-miss now c.args.key c.requires.text c.requires.padded c.in-None.ensures.value in
-    let old = c.args.self.now in
-    let key = short_text c.args.key.bytes c.args.key.len in
-    let v = c.args.value in
-    on_ok_to c.add_short.result _ _ _ c.add_short.ensures.added
-    (ap (λ m. the_view (record { numbers = b.numbers; shorts = m; longs = b.longs; next = b.next }) ++ (key, v) ∷ []) c.get_mut.follows.holds-at-none
-    ∙ ap (λ t. t ++ (key, v) ∷ []) c.self.view_is
-    ∙ sym (chosen-none (value_at old key) (set_value (bytes_eq key) old v) (old ++ (key, v) ∷ []) miss))
+    let set = c.in-None.ensures.set in
+    (short-put now c.args.key c.requires.text c.requires.padded set.entry c.args.value (sym set.there) c.set_entry.new.entries.entries set.set).view
 
-pub returns-in-None-clause-absent : goal.returns-in-None-clause-absent
-returns-in-None-clause-absent c =
+pub add_short-requires-clause-new : goal.add_short-requires-clause-new
+add_short-requires-clause-new c =
     let b = c.self.inside in
     let now = keeps b.next b.numbers.entries b.shorts.entries b.longs.entries _ c.self.invariant c.self.view_is in
-    let miss = short-miss now c.args.key c.requires.text c.requires.padded c.in-None.ensures.value in
+    let miss = short-miss now c.args.key c.requires.text c.requires.padded (sym c.in-Some.ensures.absent) in
+    let still = subst (λ l. Keeps b.next b.numbers.entries l b.longs.entries c.args.self.now) (sym c.in-Some.ensures.unchanged) now in
+    ap (λ t. value_at t (short_text c.args.key.bytes c.args.key.len)) still.view ∙ miss
+
+pub returns-in-Some-clause-put : goal.returns-in-Some-clause-put
+returns-in-Some-clause-put c =
+    let b = c.self.inside in
+    let now = keeps b.next b.numbers.entries b.shorts.entries b.longs.entries _ c.self.invariant c.self.view_is in
+    let miss = short-miss now c.args.key c.requires.text c.requires.padded (sym c.in-Some.ensures.absent) in
+    let still = subst (λ l. Keeps b.next b.numbers.entries l b.longs.entries c.args.self.now) (sym c.in-Some.ensures.unchanged) now in
+    put_new c.add_short.result _ _ c.args.self.now (short_text c.args.key.bytes c.args.key.len) _ c.args.value _ c.add_short.ensures.added still.view refl c.in-Some.ensures.value miss
+
+pub returns-in-Some-clause-absent : goal.returns-in-Some-clause-absent
+returns-in-Some-clause-absent c =
+    let b = c.self.inside in
+    let now = keeps b.next b.numbers.entries b.shorts.entries b.longs.entries _ c.self.invariant c.self.view_is in
+    let miss = short-miss now c.args.key c.requires.text c.requires.padded (sym c.in-Some.ensures.absent) in
     on_err c.add_short.result miss

@@ -5,10 +5,10 @@ pub invariant_of-self : goal.invariant_of-self
 invariant_of-self c =
     let b = c.self.inside in
     let now = keeps b.next b.numbers.entries b.shorts.entries b.longs.entries _ c.self.invariant c.self.view_is in
-    (short-removed now c.args.key c.requires.text c.requires.padded c.take_short.new.entries.entries c.take_short.ensures).consistent
+    (short-removed now c.args.key c.requires.text c.requires.padded c.take_entry.new.entries.entries c.take_entry.ensures).consistent
 
 pub returns : goal.returns
 returns c =
     let b = c.self.inside in
     let now = keeps b.next b.numbers.entries b.shorts.entries b.longs.entries _ c.self.invariant c.self.view_is in
-    (short-removed now c.args.key c.requires.text c.requires.padded c.take_short.new.entries.entries c.take_short.ensures).view
+    (short-removed now c.args.key c.requires.text c.requires.padded c.take_entry.new.entries.entries c.take_entry.ensures).view

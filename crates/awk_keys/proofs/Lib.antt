@@ -1,0 +1,5 @@
+pub mod Rows
+pub mod ByStamp
+pub mod OneEntry
+pub mod Counts
+pub mod Moves
