@@ -91,7 +91,7 @@ steps_from e (Err h) l w p = record { moved = λ k. record { moved = (l k).leads
 
 -- any world may stand beside such a move
 
-any_leads : {is_logged : Type 0} {f f' : Focus} {st st' : List Entry} {m m' : Interpreter} {k : WorldState} → Leads (Unit {0}) f st m k f' st' m' k → m'.steps ≤ m.steps → m'.streams ≡ m.streams → Leads is_logged f st m k f' st' m' k
+pub any_leads : {is_logged : Type 0} {f f' : Focus} {st st' : List Entry} {m m' : Interpreter} {k : WorldState} → Leads (Unit {0}) f st m k f' st' m' k → m'.steps ≤ m.steps → m'.streams ≡ m.streams → Leads is_logged f st m k f' st' m' k
 any_leads {m = m} {m' = m'} {k = k} l low same = record {
   leads = λ new after r d.
       let at = d.simulates (λ i. m'.steps) (λ i. omega arith) in

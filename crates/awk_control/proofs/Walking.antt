@@ -50,7 +50,7 @@ pub walk_falls : {is_logged : Type 0} {plan : Program} {f1 : Focus} {st1 : List 
 walk_falls q = q.moved.less
 
 -- nothing is left
-over_rest : {is_logged : Type 0} (g : Flow) (m : Interpreter) (k : WorldState) → Rest is_logged (Ended g) [] m k m k (Ok g)
+pub over_rest : {is_logged : Type 0} (g : Flow) (m : Interpreter) (k : WorldState) → Rest is_logged (Ended g) [] m k m k (Ok g)
 unfolding run_of resume
 over_rest g m k = record { simulates = λ bs all. then_simulates _ (lift_simulates (Ok g) m k refl) (lift_simulates (Ok g) m k refl) }
 

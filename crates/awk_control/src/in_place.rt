@@ -92,8 +92,9 @@ pub enum Turns {
 }
 
 /// Whether a loop goes on, where its condition is found in place; without one it does.
-fn holds_in_place(plan: &Plan, l: Loop, interpreter: &Interpreter) -> Option<bool>
-    ensures { IfSome result (λ b. HoldsInPlace (loop_of plan.now l).condition interpreter.now b) }
+fn holds_in_place(plan: &Plan, l: Loop, interpreter: &mut Interpreter) -> Option<bool>
+    ensures holds { IfSome result (λ b. HoldsInPlace (loop_of plan.now l).condition interpreter.old b) }
+    ensures kept { interpreter.new ≡ interpreter.old }
 {
     match l.condition {
         Some(e) => test(plan, e, interpreter),

@@ -1,29 +1,38 @@
 -- What evaluation gives where numbers are found in place.
 use Rattle.std.proofs.Common.{◌≡◌, ℤ, pos, Bool, true, false, List, ℕ, Option, Some, None, Result, Ok, refl, sym, ap, ◌∙◌, subst}
+use Rattle.std.specs.Prelude.{IfSome, OnSome}
+use Rattle.std.specs.Option.{option_map}
 use Rattle.awk_value.specs.declared.value.Value.{Value}
 use Rattle.awk_value.specs.declared.value.Value.TheVariants.{Number}
+use Rattle.awk_value.specs.Values.{truth_of}
 use Rattle.awk_lex.specs.declared.token.IncrementOperator.{IncrementOperator}
 use Rattle.awk_tree.specs.Tree as t
 use Rattle.awk_tree.specs.declared.tree.BinaryOperator.{BinaryOperator}
-use Rattle.awk_meaning.specs.declared.halt.Halt.{Halt}
 use Rattle.awk_tree.specs.declared.tree.UnaryOperator.{UnaryOperator}
+use Rattle.awk_tree.specs.declared.tree.UnaryOperator.TheVariants.{Plus}
+use Rattle.awk_plan.specs.Plan.{literal_of}
+use Rattle.awk_meaning.specs.declared.halt.Halt.{Halt}
 use Rattle.awk_meaning.specs.Operators.{applied, changed, truth_value, by_one, one, takes_pattern}
 use Rattle.awk_meaning.specs.State.{◌>>=◌, lift, ret}
 use Rattle.awk_meaning.specs.Primitives.{read_name, put}
 use Rattle.awk_meaning.specs.Semantics.{right_operand, tested, store, store_by, post_increment, eval}
 use Rattle.awk_interpreter.specs.declared.interpreter.Interpreter.{Interpreter}
-use Rattle.awk_interpreter.specs.Simulation.{Changes}
+use Rattle.awk_interpreter.specs.Simulation.{Changes, PutsNumber}
 use Rattle.awk_interpreter.proofs.Composition.{then_changes, lift_changes}
-use Rattle.std.specs.Prelude.{IfSome, OnSome}
-use Rattle.std.specs.Option.{option_map}
-use Rattle.awk_value.specs.Values.{truth_of}
-use Rattle.awk_plan.specs.Plan.{literal_of}
-use Rattle.awk_interpreter.specs.Simulation.{PutsNumber}
-use Rattle.awk_fast_path.specs.support.Found.{Finds, Joins, IsChanged, Tests, Evaluates}
+use Rattle.awk_fast_path.specs.support.Found.{Finds, CountsAs, HasNumber, Counts, IsChanged, Tests, Evaluates}
+use Rattle.awk_fast_path.proofs.Counting.{changed_alike, applied_alike, truth_alike}
+
+same_number : {m n : ℤ} → Some m ≡ Some n → m ≡ n
+same_number e = cc
+
+none_made : {A : Type 0} {r : A} → None ≡ Some r → ⊥
+none_made e = cc
 
 -- a result that is known
 known : (v : Value) (m : Interpreter) {r : Result Value Halt} → r ≡ Ok v → Changes (lift r) m m (Ok v)
 known v m is = subst (λ x. Changes (lift x) m m (Ok v)) (sym is) (lift_changes (Ok v) m refl)
+
+-- leaves
 
 number_found : (n : ℤ) (m : Interpreter) → Changes (eval (t.Number n)) m m (Ok (Number n))
 unfolding eval
@@ -33,57 +42,6 @@ name_found : (x : List ℕ) {m m' : Interpreter} {r : Result Value Halt} → Cha
 unfolding eval
 name_found x p = p
 
-plain_operand : (takes : Bool) (b : t.Expr) {m : Interpreter} {v : Value} → takes ≡ false → Changes (eval b) m m (Ok v) → Changes (right_operand takes b (eval b)) m m (Ok v)
-plain_operand false b is p = p
-plain_operand true b is p = cc
-
-joined_by : (o : BinaryOperator) (a b : t.Expr) (x y n : ℤ) {m : Interpreter} → takes_pattern o ≡ false → Changes (eval a) m m (Ok (Number x)) → Changes (eval b) m m (Ok (Number y)) → applied o (Number x) (Number y) ≡ Ok (Number n) → Changes (eval (t.Binary o a b)) m m (Ok (Number n))
-unfolding eval
-joined_by o a b x y n {m = m} plain p q is = then_changes _ p (then_changes _ (plain_operand (takes_pattern o) b plain q) (known (Number n) m is))
-
-assigned : (x : List ℕ) (e : t.Expr) (n : ℤ) {m m' : Interpreter} → Changes (eval e) m m (Ok (Number n)) → Changes (store x (Number n)) m m' (Ok (Number n)) → Evaluates (t.Assign x e) m m'
-unfolding eval
-assigned x e n p q = record { value = Number n; changes = all p q }
-  where
-    all : {m m' : Interpreter} → Changes (eval e) m m (Ok (Number n)) → Changes (store x (Number n)) m m' (Ok (Number n)) → Changes (eval (t.Assign x e)) m m' (Ok (Number n))
-    all p q = then_changes _ p q
-
-stored_by : (o : BinaryOperator) (x : List ℕ) (v : Value) (old n : ℤ) {m m' : Interpreter} → Changes (read_name x) m m (Ok (Number old)) → applied o (Number old) v ≡ Ok (Number n) → Changes (store x (Number n)) m m' (Ok (Number n)) → Changes (store_by o x v) m m' (Ok (Number n))
-unfolding store_by
-stored_by o x v old n {m = m} r is q = then_changes _ r (then_changes _ (known (Number n) m is) q)
-
-assigned_by : (o : BinaryOperator) (x : List ℕ) (e : t.Expr) (y old n : ℤ) {m m' : Interpreter} → Changes (eval e) m m (Ok (Number y)) → Changes (read_name x) m m (Ok (Number old)) → applied o (Number old) (Number y) ≡ Ok (Number n) → Changes (store x (Number n)) m m' (Ok (Number n)) → Evaluates (t.AssignBy o x e) m m'
-unfolding eval
-assigned_by o x e y old n p r is q = record { value = Number n; changes = all p (stored_by o x (Number y) old n r is q) }
-  where
-    all : {m m' : Interpreter} → Changes (eval e) m m (Ok (Number y)) → Changes (store_by o x (Number y)) m m' (Ok (Number n)) → Changes (eval (t.AssignBy o x e)) m m' (Ok (Number n))
-    all p q = then_changes _ p q
-
-incremented_before : (o : IncrementOperator) (x : List ℕ) (old n : ℤ) {m m' : Interpreter} → Changes (read_name x) m m (Ok (Number old)) → applied (by_one o) (Number old) one ≡ Ok (Number n) → Changes (store x (Number n)) m m' (Ok (Number n)) → Evaluates (t.PreIncrement o x) m m'
-unfolding eval
-incremented_before o x old n r is q = record { value = Number n; changes = all (stored_by (by_one o) x one old n r is q) }
-  where
-    all : {m m' : Interpreter} → Changes (store_by (by_one o) x one) m m' (Ok (Number n)) → Changes (eval (t.PreIncrement o x)) m m' (Ok (Number n))
-    all p = p
-
-incremented_behind : (o : IncrementOperator) (x : List ℕ) (old n : ℤ) {m m' : Interpreter} → Changes (read_name x) m m (Ok (Number old)) → applied (by_one o) (Number old) one ≡ Ok (Number n) → Changes (put x (Number n)) m m' (Ok tt) → Evaluates (t.PostIncrement o x) m m'
-unfolding eval post_increment
-incremented_behind o x old n {m = m} {m' = m'} r is q = record { value = Number old; changes = all }
-  where
-    all : Changes (eval (t.PostIncrement o x)) m m' (Ok (Number old))
-    all = then_changes _ r (then_changes _ (known (Number old) m refl) (then_changes _ (known (Number n) m is) (then_changes _ q (lift_changes (Ok (Number old)) m' refl))))
-
--- the same, of numbers that may be there
-
-same_result : {r s : Result Value Halt} → Some r ≡ Some s → r ≡ s
-same_result e = cc
-
-same_number : {m n : ℤ} → Some m ≡ Some n → m ≡ n
-same_number e = cc
-
-none_made : {A : Type 0} {r : A} → None ≡ Some r → ⊥
-none_made e = cc
-
 pub named_finds : (x y : List ℕ) (m : Interpreter) (r : Option ℤ) → y ≡ x → IfSome r (λ n. Changes (read_name y) m m (Ok (Number n))) → Finds (t.Name x) m r
 named_finds x y m (Some n) is p = name_found x (subst (λ z. Changes (read_name z) m m (Ok (Number n))) is p)
 named_finds x y m None is p = tt
@@ -92,41 +50,96 @@ pub literal_finds : (e : t.Expr) (v : Value) (m : Interpreter) (r : Option ℤ) 
 literal_finds e v m (Some n) is p = subst (λ x. Changes (eval x) m m (Ok (Number n))) (sym (is ∙ ap literal_of p)) (number_found n m)
 literal_finds e v m None is p = tt
 
-pub joined_finds : (o : BinaryOperator) (a b : t.Expr) (x y r : Option ℤ) (m : Interpreter) → Joins o x y r → Finds a m x → Finds b m y → Finds (t.Binary o a b) m r
-joined_finds o a b (Some x) (Some y) (Some n) m j p q = joined_by o a b x y n j.1 p q (same_result j.0)
-joined_finds o a b (Some x) None (Some n) m j p q = absurd (none_made j.0)
-joined_finds o a b None (Some y) (Some n) m j p q = absurd (none_made j.0)
-joined_finds o a b None None (Some n) m j p q = absurd (none_made j.0)
-joined_finds o a b x y None m j p q = tt
+pub read_finds : (x : List ℕ) (v : Value) {m m' : Interpreter} (r : Option ℤ) → m' ≡ m → Changes (read_name x) m m' (Ok v) → IfSome r (λ n. v ≡ Number n) → Finds (t.Name x) m r
+read_finds x v {m = m} (Some n) same p is = name_found x (subst (λ w. Changes (read_name x) m m (Ok w)) is (subst (λ i. Changes (read_name x) m i (Ok v)) same p))
+read_finds x v None same p is = tt
 
-pub found_tests : (e : t.Expr) (m : Interpreter) (r : Option ℤ) → Finds e m r → IfSome (option_map (λ n. truth_of (Number n)) r) (λ b. Tests e m b)
-found_tests e m (Some n) p = record { value = Number n; changes = p; truth = refl }
-found_tests e m None p = tt
+-- operators, and groups
+
+plain_operand : (takes : Bool) (b : t.Expr) {m : Interpreter} {v : Value} → takes ≡ false → Changes (eval b) m m (Ok v) → Changes (right_operand takes b (eval b)) m m (Ok v)
+plain_operand false b is p = p
+plain_operand true b is p = cc
+
+joined_by : (o : BinaryOperator) (a b : t.Expr) (v w : Value) (n : ℤ) {m : Interpreter} → takes_pattern o ≡ false → Changes (eval a) m m (Ok v) → Changes (eval b) m m (Ok w) → applied o v w ≡ Ok (Number n) → Changes (eval (t.Binary o a b)) m m (Ok (Number n))
+unfolding eval
+joined_by o a b v w n {m = m} plain p q is = then_changes _ p (then_changes _ (plain_operand (takes_pattern o) b plain q) (known (Number n) m is))
+
+pub joined_finds : (o : BinaryOperator) (a b : t.Expr) (x y : ℤ) (r : Option ℤ) {m mid : Interpreter} → mid ≡ m → HasNumber (eval a) m x → HasNumber (eval b) mid y → IfSome r (λ n. applied o (Number x) (Number y) ≡ Ok (Number n)) → OnSome r (takes_pattern o ≡ false) → Finds (t.Binary o a b) m r
+joined_finds o a b x y (Some n) {m = m} same p other is plain =
+    let q = subst (λ i. HasNumber (eval b) i y) same other in
+    joined_by o a b p.value q.value n plain p.changes q.changes (applied_alike o p.value q.value plain p.counts q.counts is)
+joined_finds o a b x y None same p q is plain = tt
+
+changed_by : (o : UnaryOperator) (e : t.Expr) (v : Value) (n : ℤ) (m : Interpreter) → Changes (eval e) m m (Ok v) → changed o v ≡ Ok (Number n) → Changes (eval (t.Unary o e)) m m (Ok (Number n))
+unfolding eval
+changed_by o e v n m p is = then_changes _ p (known (Number n) m is)
+
+pub changed_finds : (o : UnaryOperator) (e : t.Expr) (x : ℤ) (r : Option ℤ) (m : Interpreter) → IsChanged o x r → HasNumber (eval e) m x → Finds (t.Unary o e) m r
+changed_finds o e x (Some n) m is p = changed_by o e p.value n m p.changes (changed_alike o p.value p.counts is)
+changed_finds o e x None m is p = tt
+
+pub group_finds : (e : t.Expr) (m : Interpreter) (r : Option ℤ) → Finds e m r → Finds (t.Group e) m r
+unfolding eval
+group_finds e m (Some n) p = p
+group_finds e m None p = tt
+
+-- what is stored
+
+assigned : (x : List ℕ) (e : t.Expr) (n : ℤ) {m m' : Interpreter} → Changes (eval e) m m (Ok (Number n)) → Changes (store x (Number n)) m m' (Ok (Number n)) → Evaluates (t.Assign x e) m m'
+unfolding eval
+assigned x e n p q = record { value = Number n; changes = all p q }
+  where
+    all : {m m' : Interpreter} → Changes (eval e) m m (Ok (Number n)) → Changes (store x (Number n)) m m' (Ok (Number n)) → Changes (eval (t.Assign x e)) m m' (Ok (Number n))
+    all p q = then_changes _ p q
 
 pub found_assigned : (x : List ℕ) (e : t.Expr) {m m' : Interpreter} (r : Option ℤ) → Finds e m r → PutsNumber x r m m' → Evaluates (t.Assign x e) m m'
 found_assigned x e {m = m} (Some n) p w = assigned x e w.number (subst (λ i. Changes (eval e) m m (Ok (Number i))) (same_number w.is) p) w.stored
 found_assigned x e None p w = absurd (none_made w.is)
 
-pub found_assigned_by : (o : BinaryOperator) (x : List ℕ) (e : t.Expr) {m m' : Interpreter} (y old r : Option ℤ) → Finds e m y → IfSome old (λ n. Changes (read_name x) m m (Ok (Number n))) → Joins o old y r → PutsNumber x r m m' → Evaluates (t.AssignBy o x e) m m'
-found_assigned_by o x e (Some y) (Some old) (Some n) p q j w = assigned_by o x e y old w.number p q (same_result j.0 ∙ ap (λ i. Ok (Number i)) (same_number w.is)) w.stored
-found_assigned_by o x e None (Some old) (Some n) p q j w = absurd (none_made j.0)
-found_assigned_by o x e (Some y) None (Some n) p q j w = absurd (none_made j.0)
-found_assigned_by o x e None None (Some n) p q j w = absurd (none_made j.0)
-found_assigned_by o x e y old None p q j w = absurd (none_made w.is)
+-- the number that is stored is the one that an operator makes of what a name has and of another
+stored_number : (o : BinaryOperator) (v w : Value) {x y : ℤ} (r : Option ℤ) {n : ℤ} → r ≡ Some n → CountsAs v x → CountsAs w y → IfSome r (λ n. applied o (Number x) (Number y) ≡ Ok (Number n)) → OnSome r (takes_pattern o ≡ false) → applied o v w ≡ Ok (Number n)
+stored_number o v w (Some i) is p q made plain = applied_alike o v w plain p q (made ∙ ap (λ k. Ok (Number k)) (same_number is))
+stored_number o v w None is p q made plain = absurd (none_made is)
 
-pub found_before : (o : IncrementOperator) (x : List ℕ) {m m' : Interpreter} (old r : Option ℤ) → IfSome old (λ n. Changes (read_name x) m m (Ok (Number n))) → Joins (by_one o) old (Some (pos 1)) r → PutsNumber x r m m' → Evaluates (t.PreIncrement o x) m m'
-found_before o x (Some old) (Some n) q j w = incremented_before o x old w.number q (same_result j.0 ∙ ap (λ i. Ok (Number i)) (same_number w.is)) w.stored
-found_before o x None (Some n) q j w = absurd (none_made j.0)
-found_before o x old None q j w = absurd (none_made w.is)
+stored_by : (o : BinaryOperator) (x : List ℕ) (v old : Value) (n : ℤ) {m m' : Interpreter} → Changes (read_name x) m m (Ok old) → applied o old v ≡ Ok (Number n) → Changes (store x (Number n)) m m' (Ok (Number n)) → Changes (store_by o x v) m m' (Ok (Number n))
+unfolding store_by
+stored_by o x v old n {m = m} r is q = then_changes _ r (then_changes _ (known (Number n) m is) q)
 
-pub found_behind : (o : IncrementOperator) (x : List ℕ) {m m' : Interpreter} (old r : Option ℤ) → IfSome old (λ n. Changes (read_name x) m m (Ok (Number n))) → Joins (by_one o) old (Some (pos 1)) r → PutsNumber x r m m' → Evaluates (t.PostIncrement o x) m m'
-found_behind o x (Some old) (Some n) q j w = incremented_behind o x old w.number q (same_result j.0 ∙ ap (λ i. Ok (Number i)) (same_number w.is)) w.put
-found_behind o x None (Some n) q j w = absurd (none_made j.0)
-found_behind o x old None q j w = absurd (none_made w.is)
+assigned_by : (o : BinaryOperator) (x : List ℕ) (e : t.Expr) (v : Value) (n : ℤ) {m m' : Interpreter} → Changes (eval e) m m (Ok v) → Changes (store_by o x v) m m' (Ok (Number n)) → Changes (eval (t.AssignBy o x e)) m m' (Ok (Number n))
+unfolding eval
+assigned_by o x e v n p q = then_changes _ p q
 
-pub numbers_join : (o : BinaryOperator) (i j : ℤ) (r : Option ℤ) → IfSome r (λ n. applied o (Number i) (Number j) ≡ Ok (Number n)) → OnSome r (takes_pattern o ≡ false) → Joins o (Some i) (Some j) r
-numbers_join o i j (Some n) p q = (ap Some p, q)
-numbers_join o i j None p q = tt
+pub found_assigned_by : (o : BinaryOperator) (x : List ℕ) (e : t.Expr) {m m' : Interpreter} (y old : ℤ) (r : Option ℤ) → HasNumber (eval e) m y → HasNumber (read_name x) m old → IfSome r (λ n. applied o (Number old) (Number y) ≡ Ok (Number n)) → OnSome r (takes_pattern o ≡ false) → PutsNumber x r m m' → Evaluates (t.AssignBy o x e) m m'
+found_assigned_by o x e y old r p q made plain w = record {
+  value = Number w.number;
+  changes = assigned_by o x e p.value w.number p.changes (stored_by o x p.value q.value w.number q.changes (stored_number o q.value p.value r w.is q.counts p.counts made plain) w.stored);
+}
+
+incremented_before : (o : IncrementOperator) (x : List ℕ) (n : ℤ) {m m' : Interpreter} → Changes (store_by (by_one o) x one) m m' (Ok (Number n)) → Changes (eval (t.PreIncrement o x)) m m' (Ok (Number n))
+unfolding eval
+incremented_before o x n p = p
+
+pub found_before : (o : IncrementOperator) (x : List ℕ) {m m' : Interpreter} (old : ℤ) (r : Option ℤ) → HasNumber (read_name x) m old → IfSome r (λ n. applied (by_one o) (Number old) one ≡ Ok (Number n)) → OnSome r (takes_pattern (by_one o) ≡ false) → PutsNumber x r m m' → Evaluates (t.PreIncrement o x) m m'
+found_before o x old r q made plain w = record {
+  value = Number w.number;
+  changes = incremented_before o x w.number (stored_by (by_one o) x one q.value w.number q.changes (stored_number (by_one o) q.value one r w.is q.counts (refl, refl) made plain) w.stored);
+}
+
+incremented_behind : (o : IncrementOperator) (x : List ℕ) (v : Value) (old n : ℤ) {m m' : Interpreter} → Changes (read_name x) m m (Ok v) → changed Plus v ≡ Ok (Number old) → applied (by_one o) (Number old) one ≡ Ok (Number n) → Changes (put x (Number n)) m m' (Ok tt) → Changes (eval (t.PostIncrement o x)) m m' (Ok (Number old))
+unfolding eval post_increment
+incremented_behind o x v old n {m = m} {m' = m'} r number is q = then_changes _ r (then_changes _ (known (Number old) m number) (then_changes _ (known (Number n) m is) (then_changes _ q (lift_changes (Ok (Number old)) m' refl))))
+
+pub found_behind : (o : IncrementOperator) (x : List ℕ) {m m' : Interpreter} (old : ℤ) (r : Option ℤ) → HasNumber (read_name x) m old → IfSome r (λ n. applied (by_one o) (Number old) one ≡ Ok (Number n)) → OnSome r (takes_pattern (by_one o) ≡ false) → PutsNumber x r m m' → Evaluates (t.PostIncrement o x) m m'
+found_behind o x old r q made plain w = record {
+  value = Number old;
+  changes = incremented_behind o x q.value old w.number q.changes (changed_alike Plus q.value q.counts refl) (stored_number (by_one o) (Number old) one r w.is (refl, refl) (refl, refl) made plain) w.put;
+}
+
+-- truths
+
+pub counted_tests : (e : t.Expr) (m : Interpreter) (r : Option ℤ) → Counts e m r → IfSome (option_map (λ n. truth_of (Number n)) r) (λ b. Tests e m b)
+counted_tests e m (Some n) p = record { value = p.value; changes = p.changes; truth = truth_alike p.value p.counts }
+counted_tests e m None p = tt
 
 -- operators that choose
 
@@ -176,19 +189,3 @@ pub chosen_second : (c a b : t.Expr) {m : Interpreter} (r : Option ℤ) → Test
 unfolding eval
 chosen_second c a b (Some n) p q = then_changes _ (tests_tested c p) q
 chosen_second c a b None p q = tt
-
--- groups, and an operator before an expression
-
-pub group_finds : (e : t.Expr) (m : Interpreter) (r : Option ℤ) → Finds e m r → Finds (t.Group e) m r
-unfolding eval
-group_finds e m (Some n) p = p
-group_finds e m None p = tt
-
-changed_finds_at : (o : UnaryOperator) (e : t.Expr) (x n : ℤ) (m : Interpreter) → Changes (eval e) m m (Ok (Number x)) → changed o (Number x) ≡ Ok (Number n) → Changes (eval (t.Unary o e)) m m (Ok (Number n))
-unfolding eval
-changed_finds_at o e x n m p is = then_changes _ p (known (Number n) m is)
-
-pub changed_finds : (o : UnaryOperator) (e : t.Expr) (x r : Option ℤ) (m : Interpreter) → IsChanged o x r → Finds e m x → Finds (t.Unary o e) m r
-changed_finds o e (Some x) (Some n) m is p = changed_finds_at o e x n m p (same_result is)
-changed_finds o e None (Some n) m is p = absurd (none_made is)
-changed_finds o e x None m is p = tt

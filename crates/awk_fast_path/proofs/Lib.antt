@@ -1,3 +1,4 @@
+mod Counting
 mod Lemmas
 mod Executing
 mod Writing

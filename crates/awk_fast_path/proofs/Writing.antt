@@ -1,5 +1,5 @@
 -- Texts that are made in place.
-use Rattle.std.proofs.Common.{◌≡◌, ℕ, Bool, true, false, List, [], ◌++◌, Option, Some, None, Result, Ok, Err, refl, sym, ap, ◌∙◌, subst, true≢false}
+use Rattle.std.proofs.Common.{◌≡◌, ℕ, ℤ, Bool, true, false, List, [], ◌++◌, Option, Some, None, Result, Ok, Err, refl, sym, ap, ◌∙◌, subst, true≢false}
 use Rattle.std.specs.Prelude.{IfSome, IfOk, OnOk, is_some, is_ok}
 use Rattle.std.specs.Result.{result_ok}
 use Rattle.std.proofs.lemmas.List.{append_assoc, append-nil}
@@ -12,13 +12,15 @@ use Rattle.awk_variables.specs.Variables.{value_of}
 use Rattle.awk_meaning.specs.State.{◌>>=◌, lift, ret}
 use Rattle.awk_plan.specs.Plan.{literal_of}
 use Rattle.awk_plan.specs.Order.{IsLiteral}
-use Rattle.awk_meaning.specs.Primitives.{read_name}
+use Rattle.awk_meaning.specs.declared.halt.Halt.{Halt}
+use Rattle.awk_meaning.specs.Primitives.{read_name, field_at}
 use Rattle.awk_meaning.specs.Semantics.{right_operand, store, eval}
 use Rattle.awk_interpreter.specs.declared.interpreter.Interpreter.{Interpreter}
 use Rattle.awk_interpreter.specs.Simulation.{Changes}
 use Rattle.awk_interpreter.proofs.Composition.{then_changes, lift_changes}
-use Rattle.awk_fast_path.specs.support.Found.{Evaluates}
+use Rattle.awk_fast_path.specs.support.Found.{HasNumber, Evaluates}
 use Rattle.awk_fast_path.specs.support.Written.{Writes, Continues, IsTail}
+use Rattle.awk_fast_path.proofs.Counting.{field_reads}
 
 concatenates : (a b : t.Expr) (v w : Value) {m : Interpreter} → Changes (eval a) m m (Ok v) → Changes (eval b) m m (Ok w) → Changes (eval (t.Binary Concatenate a b)) m m (Ok (Text (str_of v ++ str_of w)))
 unfolding eval
@@ -118,3 +120,13 @@ same_some e = cc
 pub ok_has : {A E : Type 0} (P : A → Type 0) (r : Result A E) (a : A) → Some a ≡ result_ok r → IfOk r P → P a
 ok_has P (Ok x) a is p = subst P (sym (same_some is)) p
 ok_has P (Err e) a is p = absurd (none_some (sym is))
+
+-- a field, and a copy of a leaf's value
+
+pub ok_gives : {A E : Type 0} (P : A → Type 0) (r : Result A E) (o : Option A) → o ≡ result_ok r → IfOk r P → IfSome o P
+ok_gives P (Ok x) o is p = subst (λ o. IfSome o P) (sym is) p
+ok_gives P (Err e) o is p = subst (λ o. IfSome o P) (sym is) tt
+
+pub field_given : (e : t.Expr) {m m' : Interpreter} {n : ℤ} (r : Result Value Halt) → m' ≡ m → HasNumber (eval e) m n → Changes (field_at (Number n)) m m' r → IfOk r (λ v. Changes (eval (t.Field e)) m m (Ok v))
+field_given e (Ok v) same p q = field_reads e same p q
+field_given e (Err h) same p q = tt

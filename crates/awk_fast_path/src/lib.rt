@@ -1,6 +1,6 @@
-//! What is evaluated in place: arithmetic on numbers that variables and constants have, without a stack and without a copy
-//! of a value, and concatenations of these and of texts, written into one buffer. It takes operands five deep, each
-//! depth by a function of its own, so that none calls itself; a fault is left to the evaluator.
+//! What is evaluated in place, without a stack: arithmetic on the numbers as which constants, variables and fields count, and
+//! concatenations, written into one buffer. It takes operands five deep, each depth by a function of its own, so that none
+//! calls itself; a fault is left to the evaluator.
 #![tactic(auto)]
 
 mod numbers;

@@ -1,20 +1,22 @@
-// The number that an expression has, where it is found in place.
+// The number that an expression has, or as which its value counts, where it is found in place.
 
-ghost use Rattle.std.specs.Prelude.{◌≡◌, IfSome};
+ghost use Rattle.std.specs.Prelude.{◌≡◌, codes, IfSome};
 ghost use Rattle.std.specs.Option.{option_map};
 ghost use Rattle.awk_value.specs.Values.{truth_of};
 ghost use Rattle.awk_value.specs.declared.value.Value.TheVariants.{Number};
-ghost use Rattle.awk_tree.specs.Tree.{And, Or, Conditional};
+ghost use Rattle.awk_tree.specs.Tree.{And, Or, Conditional, Binary, Field, Name};
 ghost use Rattle.awk_meaning.specs.Operators.{truth_value};
+ghost use Rattle.awk_meaning.specs.Primitives.{read_name};
+ghost use Rattle.awk_meaning.specs.Semantics.{eval};
 ghost use Rattle.awk_plan.specs.Plan.{operand_of, part_of, expr_in, made_expr, name_at};
-ghost use Rattle.awk_fast_path.specs.support.Found.{Finds, Joins, IsChanged, Tests};
+ghost use Rattle.awk_fast_path.specs.support.Found.{Counts, Finds, HasNumber, IsChanged, Tests};
 
 use awk_interpreter::{Interpreter, number_in};
 use awk_operators::{apply_to_numbers, change};
 use awk_plan::node::{ExprNode, Node, Operand};
 use awk_plan::plan::Plan;
 use awk_tree::tree::{BinaryOperator, UnaryOperator};
-use awk_value::Value;
+use awk_value::{Value, numeric_of};
 use std::marker::PhantomData;
 
 /// The name of a variable.
@@ -30,6 +32,26 @@ fn variable(plan: &Plan, number: u32, interpreter: &Interpreter) -> Option<i128>
 {
     match name(plan, number) {
         Some(name) => interpreter.number_at(number, name),
+        None => None,
+    }
+}
+
+/// The number as which the value of a name counts that stands at its place.
+pub(crate) fn named_number(number: u32, name: &[u8], interpreter: &Interpreter) -> Option<i128>
+    ensures { IfSome result (λ n. HasNumber (read_name name.now) interpreter.now n) }
+{
+    match interpreter.value_at(number, name) {
+        Some(value) => numeric_of(value),
+        None => None,
+    }
+}
+
+/// The number as which the value of a variable counts.
+fn counted_variable(plan: &Plan, number: u32, interpreter: &Interpreter) -> Option<i128>
+    ensures { Counts (operand_of plan.now (Operand.Variable number)) interpreter.now result }
+{
+    match name(plan, number) {
+        Some(name) => named_number(number, name, interpreter),
         None => None,
     }
 }
@@ -55,30 +77,153 @@ pub(crate) fn expression(plan: &Plan, place: u32) -> Option<ExprNode>
     }
 }
 
-/// The number that an operator makes of two numbers, if both are there.
-pub(crate) fn join(operator: BinaryOperator, x: Option<i128>, y: Option<i128>) -> Option<i128>
-    ensures { Joins operator x y result }
+/// The number as which a field counts, by the field's number.
+fn field_number(number: i128, interpreter: &mut Interpreter) -> Option<i128>
+    ensures counted { (e : _) → HasNumber (eval e) interpreter.old number → Counts (Field e) interpreter.old result }
+    ensures kept { interpreter.new ≡ interpreter.old }
 {
-    let Some(m) = x else {
-        return None;
-    };
-    let Some(n) = y else {
-        return None;
-    };
-    apply_to_numbers(operator, m, n)
+    match interpreter.field_at(&Value::Number(number)) {
+        Ok(value) => numeric_of(&value),
+        Err(_) => None,
+    }
 }
 
-/// The number that an operator makes of the one behind it, if that is there.
-fn changed(operator: UnaryOperator, x: Option<i128>) -> Option<i128>
-    ensures { IsChanged operator x result }
+/// NF, which is counted in the record.
+fn field_count(interpreter: &mut Interpreter) -> Option<i128>
+    ensures found { Finds (Name (codes "NF")) interpreter.old result }
+    ensures kept { interpreter.new ≡ interpreter.old }
 {
-    let Some(n) = x else {
-        return None;
-    };
-    match change(operator, &Value::Number(n)) {
+    match interpreter.read_name(b"NF") {
         Ok(value) => number_in(&value),
         Err(_) => None,
     }
+}
+
+/// The number that an operator makes of the one behind it.
+fn changed(operator: UnaryOperator, number: i128) -> Option<i128>
+    ensures { IsChanged operator number result }
+{
+    match change(operator, &Value::Number(number)) {
+        Ok(value) => number_in(&value),
+        Err(_) => None,
+    }
+}
+
+/// How deep expressions are that are looked into. Each depth is a type of its own, so that no function calls itself.
+pub(crate) trait Depth {
+    /// The number that the expression of a node has, if it is found so deep. Nothing changes.
+    fn number(plan: &Plan, node: ExprNode, interpreter: &mut Interpreter) -> Option<i128>
+        ensures found { Finds (made_expr plan.now.tables (part_of plan.now) node) interpreter.old result }
+        ensures kept { interpreter.new ≡ interpreter.old };
+
+    /// The number as which the value of the expression counts: of a field or a group too that isn't a number.
+    fn counted(plan: &Plan, node: ExprNode, interpreter: &mut Interpreter) -> Option<i128>
+        ensures found { Counts (made_expr plan.now.tables (part_of plan.now) node) interpreter.old result }
+        ensures kept { interpreter.new ≡ interpreter.old };
+}
+
+/// Constants and variables.
+pub(crate) struct Leaf;
+
+impl Depth for Leaf {
+    fn number(_plan: &Plan, _node: ExprNode, _interpreter: &mut Interpreter) -> Option<i128> {
+        None
+    }
+
+    fn counted(_plan: &Plan, _node: ExprNode, _interpreter: &mut Interpreter) -> Option<i128> {
+        None
+    }
+}
+
+/// The number of an operand, if it is found so deep. A constant and a variable are read where they stand, without a call.
+#[inline(always)]
+fn operand<D: Depth>(plan: &Plan, e: Operand, interpreter: &mut Interpreter) -> Option<i128>
+    ensures found { Finds (operand_of plan.now e) interpreter.old result }
+    ensures kept { interpreter.new ≡ interpreter.old }
+{
+    match e {
+        Operand::Constant(number) => constant(plan, number, interpreter),
+        Operand::Variable(number) => variable(plan, number, interpreter),
+        Operand::Node(place) => match expression(plan, place) {
+            Some(node) => D::number(plan, node, interpreter),
+            None => None,
+        },
+    }
+}
+
+/// The number as which the value of an operand counts, if it is found so deep.
+#[inline(always)]
+fn counted<D: Depth>(plan: &Plan, e: Operand, interpreter: &mut Interpreter) -> Option<i128>
+    ensures found { Counts (operand_of plan.now e) interpreter.old result }
+    ensures kept { interpreter.new ≡ interpreter.old }
+{
+    match e {
+        Operand::Constant(number) => constant(plan, number, interpreter),
+        Operand::Variable(number) => counted_variable(plan, number, interpreter),
+        Operand::Node(place) => match expression(plan, place) {
+            Some(node) => D::counted(plan, node, interpreter),
+            None => None,
+        },
+    }
+}
+
+/// An operator over expressions of a depth.
+pub(crate) struct Over<D>(PhantomData<D>);
+
+impl<D: Depth> Depth for Over<D> {
+    fn number(plan: &Plan, node: ExprNode, interpreter: &mut Interpreter) -> Option<i128> {
+        match node {
+            ExprNode::Group(e) => operand::<D>(plan, e, interpreter),
+            ExprNode::FieldCount => field_count(interpreter),
+            ExprNode::Unary(operator, e) => match counted::<D>(plan, e, interpreter) {
+                Some(n) => changed(operator, n),
+                None => None,
+            },
+            ExprNode::Binary(operator, a, b) => joined::<D>(plan, operator, a, b, interpreter),
+            ExprNode::And(a, b) => both::<D>(plan, a, b, interpreter),
+            ExprNode::Or(a, b) => either::<D>(plan, a, b, interpreter),
+            ExprNode::Conditional(c, a, b) => chosen::<D>(plan, c, a, b, interpreter),
+            _ => None,
+        }
+    }
+
+    fn counted(plan: &Plan, node: ExprNode, interpreter: &mut Interpreter) -> Option<i128> {
+        match node {
+            ExprNode::Field(e) => match counted::<D>(plan, e, interpreter) {
+                Some(n) => field_number(n, interpreter),
+                None => None,
+            },
+            ExprNode::Group(e) => counted::<D>(plan, e, interpreter),
+            _ => Over::<D>::number(plan, node, interpreter),
+        }
+    }
+}
+
+/// Whether an operator makes a text, or matches one.
+fn is_of_texts(operator: BinaryOperator) -> bool {
+    matches!(
+        operator,
+        BinaryOperator::Concatenate | BinaryOperator::Matches | BinaryOperator::NotMatches
+    )
+}
+
+/// The number that an operator makes of two operands.
+fn joined<D: Depth>(
+    plan: &Plan,
+    operator: BinaryOperator,
+    a: Operand,
+    b: Operand,
+    interpreter: &mut Interpreter,
+) -> Option<i128>
+    ensures found { Finds (Binary operator (operand_of plan.now a) (operand_of plan.now b)) interpreter.old result }
+    ensures kept { interpreter.new ≡ interpreter.old }
+{
+    if is_of_texts(operator) {
+        return None;
+    }
+    let x = counted::<D>(plan, a, interpreter)?;
+    let y = counted::<D>(plan, b, interpreter)?;
+    apply_to_numbers(operator, x, y)
 }
 
 /// Whether a number isn't zero.
@@ -91,63 +236,12 @@ fn is_nonzero(n: Option<i128>) -> Option<bool>
     }
 }
 
-/// How deep expressions are that are looked into. Each depth is a type of its own, so that no function calls itself.
-pub(crate) trait Depth {
-    /// The number of the expression at a place, if it is found so deep.
-    fn node_number(plan: &Plan, place: u32, interpreter: &Interpreter) -> Option<i128>
-        ensures { Finds (operand_of plan.now (Operand.Node place)) interpreter.now result };
-}
-
-/// Constants and variables.
-pub(crate) struct Leaf;
-
-impl Depth for Leaf {
-    fn node_number(_plan: &Plan, _place: u32, _interpreter: &Interpreter) -> Option<i128> {
-        None
-    }
-}
-
-/// The number of an operand, if it is found so deep. A constant and a variable are read where they stand, without a call.
-#[inline(always)]
-fn operand<D: Depth>(plan: &Plan, e: Operand, interpreter: &Interpreter) -> Option<i128>
-    ensures { Finds (operand_of plan.now e) interpreter.now result }
-{
-    match e {
-        Operand::Constant(number) => constant(plan, number, interpreter),
-        Operand::Variable(number) => variable(plan, number, interpreter),
-        Operand::Node(place) => D::node_number(plan, place, interpreter),
-    }
-}
-
-/// An operator over expressions of a depth.
-pub(crate) struct Over<D>(PhantomData<D>);
-
-impl<D: Depth> Depth for Over<D> {
-    fn node_number(plan: &Plan, place: u32, interpreter: &Interpreter) -> Option<i128> {
-        let Some(node) = expression(plan, place) else {
-            return None;
-        };
-        match node {
-            ExprNode::Group(e) => operand::<D>(plan, e, interpreter),
-            ExprNode::Unary(operator, e) => changed(operator, operand::<D>(plan, e, interpreter)),
-            ExprNode::Binary(operator, a, b) => {
-                let x = operand::<D>(plan, a, interpreter);
-                let y = operand::<D>(plan, b, interpreter);
-                join(operator, x, y)
-            }
-            ExprNode::And(a, b) => both::<D>(plan, a, b, interpreter),
-            ExprNode::Or(a, b) => either::<D>(plan, a, b, interpreter),
-            ExprNode::Conditional(c, a, b) => chosen::<D>(plan, c, a, b, interpreter),
-            _ => None,
-        }
-    }
-}
-
 /// Whether an expression is true, if that is found so deep.
-fn tested<D: Depth>(plan: &Plan, e: Operand, interpreter: &Interpreter) -> Option<bool>
-    ensures { IfSome result (λ b. Tests (operand_of plan.now e) interpreter.now b) }
+fn tested<D: Depth>(plan: &Plan, e: Operand, interpreter: &mut Interpreter) -> Option<bool>
+    ensures found { IfSome result (λ b. Tests (operand_of plan.now e) interpreter.old b) }
+    ensures kept { interpreter.new ≡ interpreter.old }
 {
-    is_nonzero(operand::<D>(plan, e, interpreter))
+    is_nonzero(counted::<D>(plan, e, interpreter))
 }
 
 /// What a test gives: 1 or 0.
@@ -162,8 +256,14 @@ fn truth(holds: Option<bool>) -> Option<i128>
 }
 
 /// The number of an `&&`.
-fn both<D: Depth>(plan: &Plan, a: Operand, b: Operand, interpreter: &Interpreter) -> Option<i128>
-    ensures { Finds (And (operand_of plan.now a) (operand_of plan.now b)) interpreter.now result }
+fn both<D: Depth>(
+    plan: &Plan,
+    a: Operand,
+    b: Operand,
+    interpreter: &mut Interpreter,
+) -> Option<i128>
+    ensures found { Finds (And (operand_of plan.now a) (operand_of plan.now b)) interpreter.old result }
+    ensures kept { interpreter.new ≡ interpreter.old }
 {
     match tested::<D>(plan, a, interpreter) {
         Some(true) => truth(tested::<D>(plan, b, interpreter)),
@@ -173,8 +273,14 @@ fn both<D: Depth>(plan: &Plan, a: Operand, b: Operand, interpreter: &Interpreter
 }
 
 /// The number of an `||`.
-fn either<D: Depth>(plan: &Plan, a: Operand, b: Operand, interpreter: &Interpreter) -> Option<i128>
-    ensures { Finds (Or (operand_of plan.now a) (operand_of plan.now b)) interpreter.now result }
+fn either<D: Depth>(
+    plan: &Plan,
+    a: Operand,
+    b: Operand,
+    interpreter: &mut Interpreter,
+) -> Option<i128>
+    ensures found { Finds (Or (operand_of plan.now a) (operand_of plan.now b)) interpreter.old result }
+    ensures kept { interpreter.new ≡ interpreter.old }
 {
     match tested::<D>(plan, a, interpreter) {
         Some(false) => truth(tested::<D>(plan, b, interpreter)),
@@ -189,10 +295,11 @@ fn chosen<D: Depth>(
     c: Operand,
     a: Operand,
     b: Operand,
-    interpreter: &Interpreter,
+    interpreter: &mut Interpreter,
 ) -> Option<i128>
-    ensures { Finds (Conditional (operand_of plan.now c) (operand_of plan.now a) (operand_of plan.now b))
-        interpreter.now result }
+    ensures found { Finds (Conditional (operand_of plan.now c) (operand_of plan.now a) (operand_of plan.now b))
+        interpreter.old result }
+    ensures kept { interpreter.new ≡ interpreter.old }
 {
     match tested::<D>(plan, c, interpreter) {
         Some(true) => operand::<D>(plan, a, interpreter),
@@ -201,20 +308,32 @@ fn chosen<D: Depth>(
     }
 }
 
-/// So deep is looked: five operators, groups among them.
+/// So deep is looked: five operators, groups and fields among them.
 pub(crate) type Deepest = Over<Over<Over<Over<Over<Leaf>>>>>;
 
 /// The number of an expression.
 #[inline(always)]
-pub(crate) fn number(plan: &Plan, e: Operand, interpreter: &Interpreter) -> Option<i128>
-    ensures { Finds (operand_of plan.now e) interpreter.now result }
+pub(crate) fn number(plan: &Plan, e: Operand, interpreter: &mut Interpreter) -> Option<i128>
+    ensures found { Finds (operand_of plan.now e) interpreter.old result }
+    ensures kept { interpreter.new ≡ interpreter.old }
 {
     operand::<Deepest>(plan, e, interpreter)
 }
 
-/// Whether an expression is true. `None` where that isn't found in place. (POSIX awk, Expressions in awk)
-pub fn test(plan: &Plan, e: Operand, interpreter: &Interpreter) -> Option<bool>
-    ensures { IfSome result (λ b. Tests (operand_of plan.now e) interpreter.now b) }
+/// The number as which the value of an expression counts.
+#[inline(always)]
+pub(crate) fn counted_number(plan: &Plan, e: Operand, interpreter: &mut Interpreter) -> Option<i128>
+    ensures found { Counts (operand_of plan.now e) interpreter.old result }
+    ensures kept { interpreter.new ≡ interpreter.old }
+{
+    counted::<Deepest>(plan, e, interpreter)
+}
+
+/// Whether an expression is true, where its value counts as a number that is found in place. Else `None`. Nothing changes.
+/// (POSIX awk, Expressions in awk)
+pub fn test(plan: &Plan, e: Operand, interpreter: &mut Interpreter) -> Option<bool>
+    ensures found { IfSome result (λ b. Tests (operand_of plan.now e) interpreter.old b) }
+    ensures kept { interpreter.new ≡ interpreter.old }
 {
     tested::<Deepest>(plan, e, interpreter)
 }

@@ -8,10 +8,11 @@ ghost use Rattle.awk_meaning.specs.Semantics.{exec};
 ghost use Rattle.awk_fast_path.specs.support.Found.{Evaluates};
 ghost use Rattle.awk_fast_path.specs.support.Executed.{Executes, RunsBy, IsIf, behind_simple, behind_if, branch_of, given_back};
 
-use crate::numbers::{expression, join, name, number, test};
-use crate::texts::assign_text;
+use crate::numbers::{counted_number, expression, name, named_number, number, test};
+use crate::texts::assign_value;
 use awk_interpreter::Interpreter;
 use awk_lex::token::IncrementOperator;
+use awk_operators::apply_to_numbers;
 use awk_plan::node::{ExprNode, Node, Operand, SimpleNode, StatementNode};
 use awk_plan::plan::Plan;
 use awk_tree::tree::BinaryOperator;
@@ -26,7 +27,7 @@ fn by_one(operator: IncrementOperator) -> BinaryOperator
     }
 }
 
-/// Gives a variable the number or the text of an expression.
+/// Gives a variable the value of an expression. A number is stored as such, and a text that begins with the variable appended.
 fn assign(plan: &Plan, x: u32, e: Operand, interpreter: &mut Interpreter) -> bool
     ensures done { result ≡ true → Evaluates (Assign (name_at plan.now.tables x) (operand_of plan.now e)) interpreter.old
         interpreter.new }
@@ -39,7 +40,7 @@ fn assign(plan: &Plan, x: u32, e: Operand, interpreter: &mut Interpreter) -> boo
     if interpreter.put_number(x, name, n) {
         return true;
     }
-    assign_text(plan, x, name, e, interpreter)
+    assign_value(plan, x, name, e, interpreter)
 }
 
 /// Gives a variable what an operator makes of its number and of an expression's.
@@ -57,9 +58,13 @@ fn assign_by(
     let Some(name) = name(plan, x) else {
         return false;
     };
-    let y = number(plan, e, interpreter);
-    let old = interpreter.number_at(x, name);
-    interpreter.put_number(x, name, join(operator, old, y))
+    let Some(n) = counted_number(plan, e, interpreter) else {
+        return false;
+    };
+    let Some(old) = named_number(x, name, interpreter) else {
+        return false;
+    };
+    interpreter.put_number(x, name, apply_to_numbers(operator, old, n))
 }
 
 /// Adds 1 to a variable's number or takes 1 away.
@@ -78,8 +83,10 @@ fn increment(
     let Some(name) = name(plan, x) else {
         return false;
     };
-    let old = interpreter.number_at(x, name);
-    interpreter.put_number(x, name, join(by_one(operator), old, Some(1)))
+    let Some(old) = named_number(x, name, interpreter) else {
+        return false;
+    };
+    interpreter.put_number(x, name, apply_to_numbers(by_one(operator), old, 1))
 }
 
 /// Evaluates an expression whose value nothing waits for, if that can be done in place. Else nothing changes. (POSIX awk,
@@ -220,8 +227,8 @@ fn execute_compound(plan: &Plan, node: StatementNode, interpreter: &mut Interpre
     }
 }
 
-/// Executes a statement, if that can be done in place: an assignment of a number or of a concatenation, an increment,
-/// `break`, `continue`, or an `if` over these. (POSIX awk, Actions)
+/// Executes a statement, if that can be done in place: an assignment of a value that is found, an increment, `break`,
+/// `continue`, or an `if` over these. (POSIX awk, Actions)
 pub fn execute(plan: &Plan, place: u32, interpreter: &mut Interpreter) -> Ran
     ensures { Executes (statement_in (part_of plan.now place)) interpreter.old result interpreter.new }
 {

@@ -1,16 +1,16 @@
-// Texts that are made in place: the parts of a concatenation are written one behind the other into one buffer.
+// Values that are found in place. The parts of a concatenation are written one behind the other into one buffer.
 
 ghost use Rattle.std.specs.Prelude.{◌≡◌, ◌++◌, true, false, Ok, IfSome};
 ghost use Rattle.awk_value.specs.Values.{str_of};
-ghost use Rattle.awk_tree.specs.Tree.{Assign, Binary};
-ghost use Rattle.awk_plan.specs.Plan.{operand_of, name_at};
+ghost use Rattle.awk_tree.specs.Tree.{Assign, Binary, Field};
+ghost use Rattle.awk_plan.specs.Plan.{operand_of, made_expr, part_of, name_at};
 ghost use Rattle.awk_variables.specs.Variables.{value_of};
 ghost use Rattle.awk_meaning.specs.Semantics.{eval};
 ghost use Rattle.awk_interpreter.specs.Simulation.{Changes};
 ghost use Rattle.awk_fast_path.specs.support.Found.{Evaluates};
 ghost use Rattle.awk_fast_path.specs.support.Written.{Writes, Continues, IsTail};
 
-use crate::numbers::{Leaf, Over, expression, name, number};
+use crate::numbers::{Deepest as Depths, Depth, Leaf, Over, counted_number, expression, name};
 use awk_interpreter::Interpreter;
 use awk_plan::node::{ExprNode, Operand};
 use awk_plan::plan::Plan;
@@ -54,6 +54,30 @@ fn leaf<'a>(plan: &'a Plan, e: Operand, interpreter: &'a Interpreter) -> Option<
     }
 }
 
+/// The field whose number an expression has.
+fn field(plan: &Plan, e: Operand, interpreter: &mut Interpreter) -> Option<Value>
+    ensures found { IfSome result (λ v. Changes (eval (Field (operand_of plan.now e))) interpreter.old interpreter.old (Ok v)) }
+    ensures kept { interpreter.new ≡ interpreter.old }
+{
+    let number = counted_number(plan, e, interpreter)?;
+    interpreter.field_at(&Value::Number(number)).ok()
+}
+
+/// The value of the expression of a node, where it is a field or a number.
+fn single(plan: &Plan, node: ExprNode, interpreter: &mut Interpreter) -> Option<Value>
+    ensures found { IfSome result (λ v. Changes (eval (made_expr plan.now.tables (part_of plan.now) node)) interpreter.old
+        interpreter.old (Ok v)) }
+    ensures kept { interpreter.new ≡ interpreter.old }
+{
+    match node {
+        ExprNode::Field(e) => field(plan, e, interpreter),
+        _ => match Depths::number(plan, node, interpreter) {
+            Some(n) => Some(Value::Number(n)),
+            None => None,
+        },
+    }
+}
+
 /// Appends the text of a value.
 fn write(value: &Value, buffer: &mut Vec<u8>) -> bool
     ensures { result ≡ true → buffer.new.items ≡ buffer.old.items ++ str_of value.now }
@@ -61,39 +85,60 @@ fn write(value: &Value, buffer: &mut Vec<u8>) -> bool
     append_text(value, buffer).is_ok()
 }
 
-/// Appends the text of a leaf, or of a number that is found in place.
-fn write_single(plan: &Plan, e: Operand, interpreter: &Interpreter, buffer: &mut Vec<u8>) -> bool
+/// Appends the text of a leaf.
+fn write_leaf(plan: &Plan, e: Operand, interpreter: &Interpreter, buffer: &mut Vec<u8>) -> bool
     ensures { result ≡ true → Writes (operand_of plan.now e) interpreter.now buffer.old.items buffer.new.items }
 {
     match leaf(plan, e, interpreter) {
         Some(value) => write(value, buffer),
-        None => match number(plan, e, interpreter) {
-            Some(n) => write(&Value::Number(n), buffer),
-            None => false,
-        },
+        None => false,
+    }
+}
+
+/// Appends the text of a leaf, or of a field or a number that is found in place.
+fn write_single(
+    plan: &Plan,
+    e: Operand,
+    interpreter: &mut Interpreter,
+    buffer: &mut Vec<u8>,
+) -> bool
+    ensures written { result ≡ true → Writes (operand_of plan.now e) interpreter.old buffer.old.items buffer.new.items }
+    ensures kept { interpreter.new ≡ interpreter.old }
+{
+    let Operand::Node(place) = e else {
+        return write_leaf(plan, e, interpreter, buffer);
+    };
+    let Some(node) = expression(plan, place) else {
+        return false;
+    };
+    match single(plan, node, interpreter) {
+        Some(value) => write(&value, buffer),
+        None => false,
     }
 }
 
 /// How deep concatenations are that are looked into. Each depth is a type of its own, so that no function calls itself.
 pub(crate) trait Parts {
     /// Appends the text of an expression, if it is found so deep.
-    fn write(plan: &Plan, e: Operand, interpreter: &Interpreter, buffer: &mut Vec<u8>) -> bool
-        ensures { result ≡ true → Writes (operand_of plan.now e) interpreter.now buffer.old.items buffer.new.items };
+    fn write(plan: &Plan, e: Operand, interpreter: &mut Interpreter, buffer: &mut Vec<u8>) -> bool
+        ensures written { result ≡ true → Writes (operand_of plan.now e) interpreter.old buffer.old.items buffer.new.items }
+        ensures kept { interpreter.new ≡ interpreter.old };
 
     /// Appends what stands behind a variable in an expression that begins with it, if that is found so deep.
     fn write_behind(
         plan: &Plan,
         x: u32,
         e: Operand,
-        interpreter: &Interpreter,
+        interpreter: &mut Interpreter,
         buffer: &mut Vec<u8>,
     ) -> bool
-        ensures { result ≡ true → Continues (name_at plan.now.tables x) (operand_of plan.now e) interpreter.now buffer.old.items
-            buffer.new.items };
+        ensures written { result ≡ true → Continues (name_at plan.now.tables x) (operand_of plan.now e) interpreter.old
+            buffer.old.items buffer.new.items }
+        ensures kept { interpreter.new ≡ interpreter.old };
 }
 
 impl Parts for Leaf {
-    fn write(plan: &Plan, e: Operand, interpreter: &Interpreter, buffer: &mut Vec<u8>) -> bool {
+    fn write(plan: &Plan, e: Operand, interpreter: &mut Interpreter, buffer: &mut Vec<u8>) -> bool {
         write_single(plan, e, interpreter, buffer)
     }
 
@@ -101,7 +146,7 @@ impl Parts for Leaf {
         plan: &Plan,
         x: u32,
         e: Operand,
-        interpreter: &Interpreter,
+        interpreter: &mut Interpreter,
         _buffer: &mut Vec<u8>,
     ) -> bool {
         is_variable(plan, x, e, interpreter)
@@ -109,7 +154,7 @@ impl Parts for Leaf {
 }
 
 impl<D: Parts> Parts for Over<D> {
-    fn write(plan: &Plan, e: Operand, interpreter: &Interpreter, buffer: &mut Vec<u8>) -> bool {
+    fn write(plan: &Plan, e: Operand, interpreter: &mut Interpreter, buffer: &mut Vec<u8>) -> bool {
         match concatenation(plan, e) {
             Some((a, b)) => {
                 if D::write(plan, a, interpreter, buffer) {
@@ -125,7 +170,7 @@ impl<D: Parts> Parts for Over<D> {
         plan: &Plan,
         x: u32,
         e: Operand,
-        interpreter: &Interpreter,
+        interpreter: &mut Interpreter,
         buffer: &mut Vec<u8>,
     ) -> bool {
         match concatenation(plan, e) {
@@ -160,11 +205,12 @@ type Deepest = Over<Over<Over<Over<Over<Leaf>>>>>;
 // Room for most texts, so that their buffer grows seldom.
 const ROOM: usize = 24;
 
-/// The text of a concatenation, if it is found in place.
-pub(crate) fn text(plan: &Plan, e: Operand, interpreter: &Interpreter) -> Option<Bytes>
-    ensures { IfSome result (λ t. Changes (eval (operand_of plan.now e)) interpreter.now interpreter.now (Ok (Value.Text t))) }
+/// The text of a concatenation of two operands, if it is found in place.
+fn text(plan: &Plan, a: Operand, b: Operand, interpreter: &mut Interpreter) -> Option<Bytes>
+    ensures found { IfSome result (λ t. Changes (eval (Binary BinaryOperator.Concatenate (operand_of plan.now a)
+        (operand_of plan.now b))) interpreter.old interpreter.old (Ok (Value.Text t))) }
+    ensures kept { interpreter.new ≡ interpreter.old }
 {
-    let (a, b) = concatenation(plan, e)?;
     let mut buffer = Vec::with_capacity(interpreter.alloc, ROOM).ok()?;
     if Deepest::write(plan, a, interpreter, &mut buffer) {
         if Deepest::write(plan, b, interpreter, &mut buffer) {
@@ -175,8 +221,9 @@ pub(crate) fn text(plan: &Plan, e: Operand, interpreter: &Interpreter) -> Option
 }
 
 /// What stands behind a variable in a concatenation that begins with it, if that is found in place.
-fn tail(plan: &Plan, x: u32, e: Operand, interpreter: &Interpreter) -> Option<Value>
-    ensures { IfSome result (λ t. IsTail (name_at plan.now.tables x) (operand_of plan.now e) interpreter.now t) }
+fn tail(plan: &Plan, x: u32, e: Operand, interpreter: &mut Interpreter) -> Option<Value>
+    ensures found { IfSome result (λ t. IsTail (name_at plan.now.tables x) (operand_of plan.now e) interpreter.old t) }
+    ensures kept { interpreter.new ≡ interpreter.old }
 {
     let (a, b) = concatenation(plan, e)?;
     let mut buffer = Vec::new(interpreter.alloc);
@@ -188,8 +235,8 @@ fn tail(plan: &Plan, x: u32, e: Operand, interpreter: &Interpreter) -> Option<Va
     None
 }
 
-/// Gives a variable the text of a concatenation. One that begins with the variable is appended to its text.
-pub(crate) fn assign_text(
+/// Gives a variable the value of an expression. A concatenation that begins with the variable is appended to its text.
+pub(crate) fn assign_value(
     plan: &Plan,
     x: u32,
     name: &[u8],
@@ -204,22 +251,36 @@ pub(crate) fn assign_text(
     if let Some(tail) = tail(plan, x, e, interpreter) {
         return interpreter.append_at(x, name, &tail);
     }
-    match text(plan, e, interpreter) {
-        Some(text) => interpreter.put_text(x, name, text),
+    match found(plan, e, interpreter) {
+        Some(value) => interpreter.put_value(x, name, value),
         None => false,
     }
 }
 
-/// The value of an expression, if it is found in place: a number, or the text of a concatenation. Its evaluation changes
-/// nothing. (POSIX awk, Expressions in awk)
-pub fn found(plan: &Plan, e: Operand, interpreter: &Interpreter) -> Option<Value>
+/// A copy of the value of a leaf.
+fn leaf_value(plan: &Plan, e: Operand, interpreter: &Interpreter) -> Option<Value>
     ensures { IfSome result (λ v. Changes (eval (operand_of plan.now e)) interpreter.now interpreter.now (Ok v)) }
 {
-    match number(plan, e, interpreter) {
-        Some(n) => Some(Value::Number(n)),
-        None => match text(plan, e, interpreter) {
-            Some(text) => Some(Value::Text(text)),
-            None => None,
-        },
+    leaf(plan, e, interpreter)?.clone().ok()
+}
+
+/// The value of an expression, if it is found in place: that of a leaf, a field, a number, or the text of a concatenation. Its
+/// evaluation changes nothing. (POSIX awk, Expressions in awk)
+pub fn found(plan: &Plan, e: Operand, interpreter: &mut Interpreter) -> Option<Value>
+    ensures found { IfSome result (λ v. Changes (eval (operand_of plan.now e)) interpreter.old interpreter.old (Ok v)) }
+    ensures kept { interpreter.new ≡ interpreter.old }
+{
+    let Operand::Node(place) = e else {
+        return leaf_value(plan, e, interpreter);
+    };
+    let node = expression(plan, place)?;
+    match node {
+        ExprNode::Binary(BinaryOperator::Concatenate, a, b) => {
+            match text(plan, a, b, interpreter) {
+                Some(text) => Some(Value::Text(text)),
+                None => None,
+            }
+        }
+        _ => single(plan, node, interpreter),
     }
 }

@@ -144,7 +144,8 @@ impl Interpreter {
 
     /// The value of a name. (POSIX awk, Variables and Special Variables)
     pub fn read_name(&mut self, name: &[u8]) -> Result<Value, Halt>
-        ensures { Changes (read_name name.now) self.old self.new result }
+        ensures read { Changes (read_name name.now) self.old self.new result }
+        ensures same { self.new ≡ self.old }
     {
         if is_field_count(name) {
             return Ok(count_value(self.current.count()?));
@@ -194,7 +195,8 @@ impl Interpreter {
 
     /// The field whose number is the value's.
     pub fn field_at(&mut self, at: &Value) -> Result<Value, Halt>
-        ensures { Changes (field_at at.now) self.old self.new result }
+        ensures read { Changes (field_at at.now) self.old self.new result }
+        ensures same { self.new ≡ self.old }
     {
         awk_operators::field_at(&mut self.current, at)
     }

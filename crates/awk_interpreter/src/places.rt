@@ -12,7 +12,7 @@ ghost use Rattle.awk_interpreter.specs.support.Simulation.{Changes, PutsNumber};
 
 use crate::interpreter::{Interpreter, is_field_count};
 use awk_meaning::Halt;
-use awk_value::{Bytes, Value};
+use awk_value::Value;
 use awk_variables::{Names, VariableFault, Variables};
 
 /// The name at an index.
@@ -104,15 +104,15 @@ impl Interpreter {
         self.variables.replace_at(number, name, Value::Number(n))
     }
 
-    /// Makes a text the value of a name at this place. Where the place is another's, nothing changes.
-    pub fn put_text(&mut self, number: u32, name: &[u8], text: Bytes) -> bool
-        ensures stored { result ≡ true → Changes (store name.now (Value.Text text)) self.old self.new (Ok (Value.Text text)) }
+    /// Makes a value the one of a name at this place. Where the place is another's, nothing changes.
+    pub fn put_value(&mut self, number: u32, name: &[u8], value: Value) -> bool
+        ensures stored { result ≡ true → Changes (store name.now value) self.old self.new (Ok value) }
         ensures kept { result ≡ false → self.new ≡ self.old }
     {
         if is_field_count(name) {
             return false;
         }
-        self.variables.replace_at(number, name, Value::Text(text))
+        self.variables.replace_at(number, name, value)
     }
 
     /// Appends a value's text to that of a name's value at this place. Where the place is another's or memory is refused, nothing

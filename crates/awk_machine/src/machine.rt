@@ -11,6 +11,7 @@ ghost use Rattle.awk_control.specs.Moves.{Moves, Steps, Walks, Runs, Tests, stac
 use crate::expressions::{begin_expr, end_operand, is_returned_true};
 use crate::loops::{begin_for, begin_loop, end_loop};
 use crate::statements::{begin_block, begin_simple, end_statement, spend_for};
+use awk_control::in_place::{Reached, advance};
 use awk_control::stack::{
     Entry, Focus, Loop, LoopEntry, Move, Passed, Stack, Stage, StatementEntry,
 };
@@ -224,7 +225,8 @@ pub fn holds<W: World>(
     Ok(is_returned_true(passed, stack))
 }
 
-/// Runs an action, which ends with its statements. What was in the stack is gone. (POSIX awk, Actions)
+/// Runs an action, which ends with its statements: in place as far as that goes, and the rest on the stack. What was in the stack
+/// is gone. (POSIX awk, Actions)
 pub fn run_action<W: World>(
     plan: &Plan,
     place: u32,
@@ -235,6 +237,10 @@ pub fn run_action<W: World>(
     ensures { Follows W.is_logged (run_action (statements_in (part_of plan.now place))) interpreter.old
         (W.state world.old) interpreter.new (W.state world.new) result }
 {
-    run(plan, Focus::Block(place), stack, interpreter, world)?;
+    let at = match advance(plan, place, interpreter) {
+        Reached::Ended(_) => return Ok(()),
+        Reached::Before(at) => at,
+    };
+    run(plan, Focus::Block(at), stack, interpreter, world)?;
     Ok(())
 }

@@ -1,13 +1,12 @@
 -- What is found in place: a number, a truth, or the end of a statement's expression.
-use Rattle.std.specs.Prelude.{◌≡◌, ℤ, Bool, false, Option, Some, None, IfSome, Result, Ok}
+use Rattle.std.specs.Prelude.{◌≡◌, ℤ, Bool, Option, Some, IfSome, Result, Ok}
 use Rattle.awk_value.specs.declared.value.Value.{Value}
 use Rattle.awk_value.specs.declared.value.Value.TheVariants.{Number}
-use Rattle.awk_value.specs.Values.{truth_of}
+use Rattle.awk_value.specs.Values.{num_of, numeric_of, truth_of}
 use Rattle.awk_tree.specs.Tree.{Expr}
-use Rattle.awk_tree.specs.declared.tree.BinaryOperator.{BinaryOperator}
 use Rattle.awk_tree.specs.declared.tree.UnaryOperator.{UnaryOperator}
-use Rattle.awk_meaning.specs.declared.halt.Halt.{Halt}
-use Rattle.awk_meaning.specs.Operators.{applied, changed, takes_pattern}
+use Rattle.awk_meaning.specs.Operators.{changed}
+use Rattle.awk_meaning.specs.State.{Run}
 use Rattle.awk_meaning.specs.Semantics.{eval}
 use Rattle.awk_interpreter.specs.declared.interpreter.Interpreter.{Interpreter}
 use Rattle.awk_interpreter.specs.Simulation.{Changes}
@@ -16,22 +15,23 @@ use Rattle.awk_interpreter.specs.Simulation.{Changes}
 abbrev pub Finds : Expr → Interpreter → Option ℤ → Type 0
 Finds e m found = IfSome found (λ n. Changes (eval e) m m (Ok (Number n)))
 
--- what an operator makes of two numbers, if both are there
-abbrev pub joined : BinaryOperator → Option ℤ → Option ℤ → Option (Result Value Halt)
-joined o (Some x) (Some y) = Some (applied o (Number x) (Number y))
-joined o x y = None
+-- the value counts as the number, which is its number too
+abbrev pub CountsAs : Value → ℤ → Type 0
+CountsAs v n = (numeric_of v ≡ Some n) × (num_of v ≡ Ok n)
 
--- if a number is made, the operator makes it of two numbers
-abbrev pub Joins : BinaryOperator → Option ℤ → Option ℤ → Option ℤ → Type 0
-Joins o x y made = IfSome made (λ n. (joined o x y ≡ Some (Ok (Number n))) × (takes_pattern o ≡ false))
+-- a part gives a value that counts as the number, and changes nothing
+pub record HasNumber (run : Run Value) (m : Interpreter) (n : ℤ) : Type 0 where
+  pub value : Value
+  pub changes : Changes run m m (Ok value)
+  pub counts : CountsAs value n
+
+-- if a number is found, the expression's value counts as it, and its evaluation changes nothing
+abbrev pub Counts : Expr → Interpreter → Option ℤ → Type 0
+Counts e m found = IfSome found (λ n. HasNumber (eval e) m n)
 
 -- if a number is made, the operator makes it of the one behind it
-abbrev pub made_behind : UnaryOperator → Option ℤ → Option (Result Value Halt)
-made_behind o (Some x) = Some (changed o (Number x))
-made_behind o None = None
-
-abbrev pub IsChanged : UnaryOperator → Option ℤ → Option ℤ → Type 0
-IsChanged o x made = IfSome made (λ n. made_behind o x ≡ Some (Ok (Number n)))
+abbrev pub IsChanged : UnaryOperator → ℤ → Option ℤ → Type 0
+IsChanged o x made = IfSome made (λ n. changed o (Number x) ≡ Ok (Number n))
 
 -- the expression has this truth, and its evaluation changes nothing
 pub record Tests (e : Expr) (m : Interpreter) (b : Bool) : Type 0 where

@@ -1,5 +1,11 @@
+use Rattle.std.proofs.Common.{◌≡◌, to_z, of_z, arith}
+use Rattle.std.specs.Int.{w128}
+use Rattle.std.proofs.lemmas.Int.{ints}
 use Rattle.awk_fast_path.proofs.Lemmas.{found_assigned_by}
 use Rattle.awk_fast_path.proofs.statements.assign_by.Goals as goal
 
 pub returns-clause-done : goal.returns-clause-done
-returns-clause-done c = λ is. found_assigned_by _ _ _ _ _ _ c.number-y.ensures (rw c.in-Some.ensures at c.number_at-old.ensures) c.join.ensures (rw c.in-Some.ensures at c.put_number.ensures.put is)
+returns-clause-done c = λ is.
+    let left : to_z w128 (of_z w128 c.in-Some-named_number.old) ≡ c.in-Some-named_number.old = omega (arith, ints) in
+    let right : to_z w128 (of_z w128 c.in-Some-counted_number.n) ≡ c.in-Some-counted_number.n = omega (arith, ints) in
+    found_assigned_by _ _ _ _ _ _ c.in-Some-counted_number.ensures.found (rw (c.in-Some.ensures, c.counted_number.ensures.kept) at c.in-Some-named_number.ensures) (rw (left, right) at c.apply_to_numbers.ensures.applied) c.apply_to_numbers.ensures.plain (rw (c.in-Some.ensures, c.counted_number.ensures.kept) at c.put_number.ensures.put is)

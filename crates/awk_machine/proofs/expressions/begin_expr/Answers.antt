@@ -19,7 +19,7 @@ pub returns-in_ok-value-in-Variable : goal.returns-in_ok-value-in-Variable
 returns-in_ok-value-in-Variable c = rw (c.in-Variable.is, c.give-in-Variable.ensures.gives, c.give-in-Variable.ensures.stack) (leaf_steps c.args.stack.now _ (name_evaluates _ (rw c.name.ensures at c.in_ok-value-in-Variable.ensures)))
 
 pub returns-in-Some : goal.returns-in-Some
-returns-in-Some c = rw (c.in-Node.is, c.give-in-Some.ensures.gives, c.give-in-Some.ensures.stack) (leaf_steps c.args.stack.now _ c.in-Some.ensures)
+returns-in-Some c = rw (c.in-Node.is, c.found.ensures.kept, c.give-in-Some.ensures.gives, c.give-in-Some.ensures.stack) (leaf_steps c.args.stack.now _ c.in-Some.ensures.found)
 
 pub returns-in-None : goal.returns-in-None
-returns-in-None c = rw c.in-Node.is c.begin_place.ensures
+returns-in-None c = rw c.in-Node.is (rw c.found.ensures.kept at c.begin_place.ensures)

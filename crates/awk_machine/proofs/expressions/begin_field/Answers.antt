@@ -16,12 +16,12 @@ pub returns-in_err-value-in-Some : goal.returns-in_err-value-in-Some
 returns-in_err-value-in-Some c =
     let p = err_from_is_err_and c.from_residual-in_err-value-in-Some.result c.from_residual-in_err-value-in-Some.ensures.1 in
     let q = rw c.in-Some.is at c.in_ok-number.ensures.reads in
-    rw (p.1, p.2) (steps_behind _ _ (λ k. number_read _ q) q.steps q.streams (omega arith) (field_fails _ c.in_err-value-in-Some.ensures))
+    rw (p.1, p.2) (steps_behind _ _ (λ k. number_read _ q) q.steps q.streams (omega arith) (field_fails _ c.in_err-value-in-Some.ensures.read))
 
 pub returns-in_ok-value-in-Some : goal.returns-in_ok-value-in-Some
 returns-in_ok-value-in-Some c =
     let q = rw c.in-Some.is at c.in_ok-number.ensures.reads in
-    rw (c.give.ensures.gives, c.give.ensures.stack) (steps_behind _ _ (λ k. number_read _ q) q.steps q.streams (omega arith) (field_steps c.args.stack.now _ c.in_ok-value-in-Some.ensures))
+    rw (c.give.ensures.gives, c.give.ensures.stack) (steps_behind _ _ (λ k. number_read _ q) q.steps q.streams (omega arith) (field_steps c.args.stack.now _ c.in_ok-value-in-Some.ensures.read))
 
 pub returns-in-None : goal.returns-in-None
 returns-in-None c =

@@ -47,10 +47,10 @@ returns-in_ok-value-in-Ere c =
 pub returns-in_err-value-in-FieldCount : goal.returns-in_err-value-in-FieldCount
 returns-in_err-value-in-FieldCount c =
     let p = err_from_is_err_and c.from_residual-in_err-value-in-FieldCount.result c.from_residual-in_err-value-in-FieldCount.ensures.1 in
-    rw (p.1, p.2, c.in-FieldCount.is) (leaf_stops _ (name_evaluates _ c.in_err-value-in-FieldCount.ensures))
+    rw (p.1, p.2, c.in-FieldCount.is) (leaf_stops _ (name_evaluates _ c.in_err-value-in-FieldCount.ensures.read))
 
 pub returns-in_ok-value-in-FieldCount : goal.returns-in_ok-value-in-FieldCount
-returns-in_ok-value-in-FieldCount c = rw (c.in-FieldCount.is, c.give-in-FieldCount.ensures.gives, c.give-in-FieldCount.ensures.stack) (leaf_steps c.args.stack.now _ (name_evaluates _ c.in_ok-value-in-FieldCount.ensures))
+returns-in_ok-value-in-FieldCount c = rw (c.in-FieldCount.is, c.give-in-FieldCount.ensures.gives, c.give-in-FieldCount.ensures.stack) (leaf_steps c.args.stack.now _ (name_evaluates _ c.in_ok-value-in-FieldCount.ensures.read))
 
 pub returns-in_err-value-in-PreIncrement : goal.returns-in_err-value-in-PreIncrement
 returns-in_err-value-in-PreIncrement c =

@@ -9,11 +9,11 @@ use Rattle.awk_machine.proofs.expressions.end_operand.Goals as goal
 pub returns-in_err-field-in-FieldNumber : goal.returns-in_err-field-in-FieldNumber
 returns-in_err-field-in-FieldNumber c =
     let p = err_from_is_err_and c.from_residual.result c.from_residual.ensures.1 in
-    rw (p.1, p.2, c.in-FieldNumber.is) (field_fails _ (rw c.take_value-value.ensures.value at c.in_err-field-in-FieldNumber.ensures))
+    rw (p.1, p.2, c.in-FieldNumber.is) (field_fails _ (rw c.take_value-value.ensures.value at c.in_err-field-in-FieldNumber.ensures.read))
 
 pub returns-in_ok-field-in-FieldNumber : goal.returns-in_ok-field-in-FieldNumber
 returns-in_ok-field-in-FieldNumber c =
-    rw (c.in-FieldNumber.is, c.give.ensures.gives, c.give.ensures.stack, c.take_value-value.ensures.stack) (field_steps (with_value c.args.stack.now Nothing) _ (rw c.take_value-value.ensures.value at c.in_ok-field-in-FieldNumber.ensures))
+    rw (c.in-FieldNumber.is, c.give.ensures.gives, c.give.ensures.stack, c.take_value-value.ensures.stack) (field_steps (with_value c.args.stack.now Nothing) _ (rw c.take_value-value.ensures.value at c.in_ok-field-in-FieldNumber.ensures.read))
 
 pub returns-in_err-changed-in-Unary : goal.returns-in_err-changed-in-Unary
 returns-in_err-changed-in-Unary c =

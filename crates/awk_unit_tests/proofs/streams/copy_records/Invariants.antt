@@ -1,7 +1,7 @@
 use Rattle.std.proofs.Common.{IsTrue}
 use Rattle.std.specs.Prelude.{is_some}
 use Rattle.awk_streams.specs.Streams.{AreOpen, IsSoundMain}
-use Rattle.awk_tests.proofs.streams.copy_records.Given as goal
+use Rattle.awk_unit_tests.proofs.streams.copy_records.Given as goal
 
 pub record Ready (input opened told : Type 0) : Type 0 where
   pub main : input
