@@ -2,8 +2,8 @@
 
 use awk_value::{
     Bytes, Value, ValueFault, add, append_text, compare, concatenate, concatenate_in_place, divide,
-    is_true, minus, multiply, neg, negate, number_of, numeric_of, plus, pow, power, rem, remainder, sub,
-    text_of, to_number,
+    is_true, minus, multiply, neg, negate, number_of, numeric_of, plus, pow, power, rem, remainder,
+    sub, text_of, to_number,
 };
 use std::alloc::{AllocError, Global};
 use std::cmp::Ordering;
