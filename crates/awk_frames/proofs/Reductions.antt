@@ -43,7 +43,8 @@ list_stays r e (list.Delete a) xs = stays r e (list_frame_of (list.Delete a) xs)
 expression_stays : (r : role.InfixRole) (e : parser.Operand) (f : ExpressionFrame) → false ≡ is_ended r e (expression_frame_of f)
 expression_stays r e (expression.FirstChoice c) = stays r e (expression_frame_of (expression.FirstChoice c)) refl
 expression_stays r e expression.Statement = stays r e (expression_frame_of expression.Statement) refl
-expression_stays r e (expression.Output how what way) = stays r e (expression_frame_of (expression.Output how what way)) refl
+expression_stays r e (expression.Group g) = stays r e (expression_frame_of (expression.Group g)) refl
+expression_stays r e (expression.Output b) = stays r e (expression_frame_of (expression.Output b)) refl
 expression_stays r e expression.Exit = stays r e (expression_frame_of expression.Exit) refl
 expression_stays r e expression.Return = stays r e (expression_frame_of expression.Return) refl
 expression_stays r e expression.IfCondition = stays r e (expression_frame_of expression.IfCondition) refl
@@ -63,7 +64,7 @@ body_stays r e (body.For p c q) = stays r e (body_frame_of (body.For p c q)) ref
 
 pub open_frame : (r : role.InfixRole) (e : parser.Operand) (f : Frame) → ((n : NodeFrame) → f ≡ frame.Node n → ⊥) → false ≡ is_ended r e (frame_of f)
 open_frame r e (frame.Node n) h = absurd (h n refl)
-open_frame r e (frame.List head xs) h = list_stays r e head (list_of xs)
+open_frame r e (frame.List b) h = list_stays r e b.value.head (list_of b.value.list)
 open_frame r e (frame.Expression f) h = expression_stays r e f
 open_frame r e frame.ForFirst h = stays r e (frame_of frame.ForFirst) refl
 open_frame r e (frame.ForLast b) h = stays r e (frame_of (frame.ForLast b)) refl

@@ -1,4 +1,8 @@
-// The nodes that have begun, with what is read of them. What is large stands in a box, so that the stack's entries are small.
+// The nodes that have begun, with what is read of them. What is large stands in a box, so that the stack's entries are small:
+// each is written and read once for its node, and moved beside that.
+
+ghost use Rattle.std.specs.Prelude.{◌≡◌, IfOk};
+ghost use Rattle.awk_frames.specs.support.FrameView.{list_of, list_frame_of, frame_of};
 
 use crate::operand::{Operand, OperandList};
 use awk_grammar::tree::{BinaryOperator, PrintForm, Redirection, UnaryOperator};
@@ -9,6 +13,7 @@ use awk_statement_nodes::checked::{
     CheckedStatement, CheckedStatements,
 };
 use awk_value::Bytes;
+use std::alloc::{AllocError, Global};
 
 /// A node that has begun. Trees are none where they are too high.
 #[derive(Drop)]
@@ -16,7 +21,7 @@ pub enum Frame {
     /// The operand that is read next ends it.
     Node(NodeFrame),
     /// A list, and what it belongs to.
-    List(ListHead, OperandList),
+    List(Box<ListFrame>),
     /// An expression that a token behind it ends.
     Expression(ExpressionFrame),
     /// The first part of a `for`.
@@ -29,6 +34,22 @@ pub enum Frame {
     Block(Option<Box<Head>>, Option<CheckedStatements>),
     /// The program, with its items.
     Program(Option<CheckedItems>),
+}
+
+/// A list that is read, and what it belongs to.
+#[derive(Drop)]
+pub struct ListFrame {
+    pub head: ListHead,
+    pub list: OperandList,
+}
+
+impl Frame {
+    /// A list, of what is read of it so far.
+    pub fn list(alloc: Global, head: ListHead, list: OperandList) -> Result<Frame, AllocError>
+        ensures { IfOk result (λ frame. frame_of frame ≡ list_frame_of head (list_of list)) }
+    {
+        Ok(Frame::List(Box::new(alloc, ListFrame { head, list })?))
+    }
 }
 
 /// A node that is made of the operand that is read next.
@@ -64,7 +85,7 @@ pub struct ForHead {
 /// What a list belongs to. `in_print_list`: it stands in the list of a print.
 #[derive(Drop)]
 pub enum ListHead {
-    /// Parentheses alone.
+    /// Parentheses alone, behind a comma.
     Group {
         in_print_list: bool,
     },
@@ -90,8 +111,10 @@ pub enum ExpressionFrame {
     /// The first choice of a conditional, with its condition.
     FirstChoice(Operand),
     Statement,
+    /// The first expression in parentheses alone.
+    Group { in_print_list: bool },
     /// Where a print writes to.
-    Output(PrintForm, Option<CheckedPrintList>, Redirection),
+    Output(Box<OutputFrame>),
     Exit,
     Return,
     IfCondition,
@@ -103,6 +126,14 @@ pub enum ExpressionFrame {
     Pattern,
     /// The end of a range, with its begin.
     RangeEnd(Option<CheckedExpr>),
+}
+
+/// A print before the expression that tells where it writes to.
+#[derive(Drop)]
+pub struct OutputFrame {
+    pub form: PrintForm,
+    pub list: Option<CheckedPrintList>,
+    pub redirection: Redirection,
 }
 
 /// A statement whose body is read.

@@ -1,12 +1,10 @@
-// Where the parser stands, above what it has begun.
+// Where the parser stands, above what it has begun. What is large and rare stands in a box: a state is handed on at each token.
 
-use crate::frame::{Frame, Head};
+use crate::frame::{ForHead, Frame, Head};
 use crate::operand::{Operand, OperandList};
 use awk_grammar::tree::PrintForm;
 use awk_lex::token::Kind;
-use awk_statement_nodes::checked::{
-    CheckedOptionalExpr, CheckedPart, CheckedSimple, CheckedStatement,
-};
+use awk_statement_nodes::checked::{CheckedPart, CheckedSimple, CheckedStatement};
 use awk_value::Bytes;
 
 /// The token that is read next, and how many EREs of the program stand before it.
@@ -36,18 +34,20 @@ pub enum ExpressionState {
     AfterOperand(Operand),
     AfterName(Bytes),
     AfterLength,
-    /// After the word `getline`, with the command before its `|`.
-    AfterGetline(Option<Operand>),
+    /// After the word `getline`.
+    AfterGetline,
+    /// After the same, behind a command and a `|`.
+    AfterPipedGetline(Operand),
     /// After a `|`.
     AfterBar(Operand),
     /// Before the `(` that opens this frame.
-    BeforeParenthesis(Frame),
+    BeforeParenthesis(Box<Frame>),
     /// After a list in parentheses.
-    AfterList(OperandList),
+    AfterList(Box<OperandList>),
     /// After an operand and `in`.
     AfterIn(Operand),
     /// After a list and `in`.
-    AfterListIn(OperandList),
+    AfterListIn(Box<OperandList>),
 }
 
 /// Where it stands in a statement.
@@ -59,13 +59,13 @@ pub enum StatementState {
     AfterExit,
     AfterReturn,
     /// A simple statement is whole, and must end.
-    AfterSimple(Option<CheckedSimple>),
+    AfterSimple(Box<Option<CheckedSimple>>),
     /// A `do` is whole, and must end.
     AfterDo(Option<CheckedStatement>),
     AfterFor,
     BeforeForFirst,
-    BeforeForCondition(Option<CheckedPart>),
-    BeforeForLast(Option<CheckedPart>, Option<CheckedOptionalExpr>),
+    BeforeForCondition(Box<Option<CheckedPart>>),
+    BeforeForLast(Box<ForHead>),
     /// Before a statement or the end of a block.
     BeforeStatement,
     AfterStatement(Option<CheckedStatement>),
@@ -77,19 +77,22 @@ pub enum ItemState {
     BetweenItems,
     /// Before an action; newlines may stand first.
     BeforeAction {
-        head: Head,
+        head: Box<Head>,
         skips_newlines: bool,
     },
     AfterFunction,
     AfterFunctionName(Bytes),
     /// Before a parameter; behind a comma newlines may stand first.
     BeforeParameter {
-        name: Bytes,
-        parameters: Vec<Bytes>,
+        signature: Box<Signature>,
         is_behind_comma: bool,
     },
-    AfterParameter {
-        name: Bytes,
-        parameters: Vec<Bytes>,
-    },
+    AfterParameter(Box<Signature>),
+}
+
+/// A function's name, and its parameters as far as they are read.
+#[derive(Drop)]
+pub struct Signature {
+    pub name: Bytes,
+    pub parameters: Vec<Bytes>,
 }

@@ -10,7 +10,9 @@ ghost use Rattle.awk_grammar.specs.support.Parser as parser;
 ghost use Rattle.awk_frames.specs.support.FrameView.{operand_of, optional_operand_of, list_of, list_frame_of, expression_frame_of, body_frame_of, stack_of, next_of};
 
 use crate::lists::{close_built_in, close_call, close_element, close_group};
-use awk_frames::frame::{BodyFrame, Choice, ExpressionFrame, Frame, ListHead, NodeFrame};
+use awk_frames::frame::{
+    BodyFrame, Choice, ExpressionFrame, ForHead, Frame, ListFrame, ListHead, NodeFrame, OutputFrame,
+};
 use awk_frames::operand::{Operand, OperandList};
 use awk_frames::stack::pop;
 use awk_frames::state::{NextToken, ParserState, StatementState};
@@ -29,14 +31,14 @@ use std::alloc::{AllocError, Global};
 fn end_element(
     alloc: Global,
     next: NextToken,
-    head: ListHead,
-    list: OperandList,
+    frame: ListFrame,
     operand: Operand,
     stack: &mut Vec<Frame>,
 ) -> Result<Option<ParserState>, AllocError>
     ensures { (g : Bool) → IfOk result (λ state. next_of state stack.new.items
-        ≡ parser.end_operand max_height next.entry.kind.now g (operand_of operand) (list_frame_of head (list_of list) ∷ stack_of stack.old.items)) }
+        ≡ parser.end_operand max_height next.entry.kind.now g (operand_of operand) (list_frame_of frame.head (list_of frame.list) ∷ stack_of stack.old.items)) }
 {
+    let ListFrame { head, list } = frame;
     match head {
         ListHead::Group { in_print_list } => {
             close_group(alloc, next, in_print_list, list, operand, stack)
@@ -61,7 +63,9 @@ fn end_element(
             in_print_list,
         } => close_element(alloc, next, name, in_print_list, list.with(operand)?, stack),
         ListHead::Print(form) => after_print_expr(alloc, next, form, list.with(operand)?, stack),
-        ListHead::Delete(name) => after_delete_subscript(next, name, list.with(operand)?, stack),
+        ListHead::Delete(name) => {
+            after_delete_subscript(alloc, next, name, list.with(operand)?, stack)
+        }
     }
 }
 
@@ -153,21 +157,23 @@ fn end_do(
 
 /// Behind the condition of a `for`.
 fn end_for_condition(
+    alloc: Global,
     next: NextToken,
     first: Option<CheckedPart>,
     condition: Operand,
-) -> Option<ParserState>
-    ensures { (frames : List Frame) → next_of result frames
+) -> Result<Option<ParserState>, AllocError>
+    ensures { (frames : List Frame) → IfOk result (λ state. next_of state frames
         ≡ parser.close_for_condition next.entry.kind.now (parser.BeforeForLast
-        (checked_part first) (parser.optional_tree max_height (operand_of condition)) (stack_of frames)) }
+        (checked_part first) (parser.optional_tree max_height (operand_of condition)) (stack_of frames))) }
 {
     if matches!(next.kind, Kind::Semicolon) {
         let condition = present(condition.tree);
-        return Some(ParserState::Statement(StatementState::BeforeForLast(first, condition)));
+        let head = Box::new(alloc, ForHead { first, condition })?;
+        return Ok(Some(ParserState::Statement(StatementState::BeforeForLast(head))));
     }
     drop(first);
     drop(condition);
-    None
+    Ok(None)
 }
 
 /// Behind an expression that the next token must end.
@@ -187,7 +193,16 @@ fn end_expression(
             close_first_choice(alloc, next, in_print_list, condition, operand, stack)
         }
         ExpressionFrame::Statement => end_simple(alloc, next, expression(operand.tree), stack),
-        ExpressionFrame::Output(form, list, redirection) => {
+        ExpressionFrame::Group { in_print_list } => {
+            let none = OperandList::new(alloc);
+            close_group(alloc, next, in_print_list, none, operand, stack)
+        }
+        ExpressionFrame::Output(output) => {
+            let OutputFrame {
+                form,
+                list,
+                redirection,
+            } = Box::into_inner(output);
             let statement = print_to(form, redirection, list, operand.tree);
             end_simple(alloc, next, statement, stack)
         }
@@ -206,7 +221,7 @@ fn end_expression(
         }
         ExpressionFrame::DoCondition(body) => end_do(alloc, next, Box::into_inner(body), operand),
         ExpressionFrame::ForCondition(first) => {
-            Ok(end_for_condition(next, Box::into_inner(first), operand))
+            end_for_condition(alloc, next, Box::into_inner(first), operand)
         }
         ExpressionFrame::Pattern => after_pattern_expr(alloc, next, operand, stack),
         ExpressionFrame::RangeEnd(begin) => {
@@ -227,7 +242,9 @@ pub(crate) fn end_operand(
         ≡ parser.end_operand max_height next.entry.kind.now in_print_list (operand_of operand) (stack_of stack.old.items)) }
 {
     match pop(stack) {
-        Some(Frame::List(head, list)) => end_element(alloc, next, head, list, operand, stack),
+        Some(Frame::List(frame)) => {
+            end_element(alloc, next, Box::into_inner(frame), operand, stack)
+        }
         Some(Frame::Expression(frame)) => {
             end_expression(alloc, next, in_print_list, frame, operand, stack)
         }

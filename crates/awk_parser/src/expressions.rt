@@ -158,12 +158,8 @@ pub(crate) fn after_name(
             name,
             in_print_list,
         };
-        return begin(
-            Frame::List(head, OperandList::new(alloc)),
-            false,
-            false,
-            stack,
-        );
+        let frame = Frame::list(alloc, head, OperandList::new(alloc))?;
+        return begin(frame, false, false, stack);
     }
     after_operand(
         alloc,
@@ -189,12 +185,8 @@ pub(crate) fn after_length(
             function: BuiltIn::Length,
             in_print_list,
         };
-        return begin(
-            Frame::List(head, OperandList::new(alloc)),
-            false,
-            false,
-            stack,
-        );
+        let frame = Frame::list(alloc, head, OperandList::new(alloc))?;
+        return begin(frame, false, false, stack);
     }
     after_operand(alloc, next, in_print_list, Operand::length(alloc)?, stack)
 }
@@ -254,7 +246,7 @@ pub(crate) fn after_bar(
         if InfixRole::Pipes.continues(&operand, greatest_allowed_on(stack)) {
             return Ok(Some(ParserState::Expression {
                 in_print_list,
-                state: ExpressionState::AfterGetline(Some(operand)),
+                state: ExpressionState::AfterPipedGetline(operand),
             }));
         }
         drop(operand);
@@ -269,14 +261,14 @@ pub(crate) fn after_list(
     alloc: Global,
     next: NextToken,
     in_print_list: bool,
-    list: OperandList,
+    list: Box<OperandList>,
     stack: &mut Vec<Frame>,
 ) -> Result<Option<ParserState>, AllocError>
     ensures { IfOk result (λ state. next_of state stack.new.items
-        ≡ parser.after_list max_height in_print_list (list_of list) (stack_of stack.old.items) next.entry.kind.now) }
+        ≡ parser.after_list max_height in_print_list (list_of list.value) (stack_of stack.old.items) next.entry.kind.now) }
 {
     if !matches!(next.kind, Kind::Keyword(Keyword::In)) {
-        return end_list(alloc, next, list, stack);
+        return end_list(alloc, next, Box::into_inner(list), stack);
     }
     if greatest_allowed_on(stack) < MEMBERSHIP {
         drop(list);

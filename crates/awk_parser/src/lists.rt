@@ -30,7 +30,8 @@ pub(crate) fn close_group(
 {
     match next.kind {
         Kind::Comma => {
-            let frame = Frame::List(ListHead::Group { in_print_list }, list.with(last)?);
+            let list = list.with(last)?;
+            let frame = Frame::list(alloc, ListHead::Group { in_print_list }, list)?;
             begin(frame, true, false, stack)
         }
         Kind::CloseParenthesis if list.count == 0 => {
@@ -38,10 +39,13 @@ pub(crate) fn close_group(
             let tree = group(alloc, last.tree)?;
             Ok(operand(in_print_list, Operand::new(PRIMARY, tree)))
         }
-        Kind::CloseParenthesis => Ok(Some(ParserState::Expression {
-            in_print_list,
-            state: ExpressionState::AfterList(list.with(last)?),
-        })),
+        Kind::CloseParenthesis => {
+            let list = Box::new(alloc, list.with(last)?)?;
+            Ok(Some(ParserState::Expression {
+                in_print_list,
+                state: ExpressionState::AfterList(list),
+            }))
+        }
         _ => {
             drop(list);
             drop(last);
@@ -68,7 +72,7 @@ pub(crate) fn close_call(
                 name,
                 in_print_list,
             };
-            begin(Frame::List(head, list), true, false, stack)
+            begin(Frame::list(alloc, head, list)?, true, false, stack)
         }
         Kind::CloseParenthesis => {
             let tree = call(alloc, name, list.exprs)?;
@@ -99,7 +103,7 @@ pub(crate) fn close_built_in(
                 function,
                 in_print_list,
             };
-            begin(Frame::List(head, list), true, false, stack)
+            begin(Frame::list(alloc, head, list)?, true, false, stack)
         }
         Kind::CloseParenthesis if accepts(function, list.count, list.third_is_place) => {
             let tree = built_in(alloc, function, list.exprs)?;
@@ -130,7 +134,7 @@ pub(crate) fn close_element(
                 name,
                 in_print_list,
             };
-            begin(Frame::List(head, list), true, false, stack)
+            begin(Frame::list(alloc, head, list)?, true, false, stack)
         }
         Kind::CloseBracket => {
             let tree = element(alloc, name, list.exprs)?;

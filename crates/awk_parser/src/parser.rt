@@ -13,7 +13,9 @@ use crate::expressions::{
 use awk_frames::frame::{ExpressionFrame, Frame};
 use awk_frames::operand::{Operand, OperandList};
 use awk_frames::stack::{pop, push};
-use awk_frames::state::{ExpressionState, ItemState, NextToken, ParserState, StatementState};
+use awk_frames::state::{
+    ExpressionState, ItemState, NextToken, ParserState, Signature, StatementState,
+};
 use awk_grammar::precedence::MEMBERSHIP;
 use awk_lex::token::Kind;
 use awk_nodes::expressions::{list_membership, membership};
@@ -107,14 +109,21 @@ fn step_expression(
         }
         ExpressionState::AfterName(name) => after_name(alloc, next, in_print_list, name, stack),
         ExpressionState::AfterLength => after_length(alloc, next, in_print_list, stack),
-        ExpressionState::AfterGetline(command) => {
-            after_getline(alloc, next, in_print_list, command, stack)
+        ExpressionState::AfterGetline => after_getline(alloc, next, in_print_list, None, stack),
+        ExpressionState::AfterPipedGetline(command) => {
+            after_getline(alloc, next, in_print_list, Some(command), stack)
         }
         ExpressionState::AfterBar(operand) => after_bar(alloc, next, in_print_list, operand, stack),
-        ExpressionState::BeforeParenthesis(frame) => open_frame(next, frame, stack),
+        ExpressionState::BeforeParenthesis(frame) => open_frame(
+            next,
+            Box::into_inner(frame),
+            stack,
+        ),
         ExpressionState::AfterList(list) => after_list(alloc, next, in_print_list, list, stack),
         ExpressionState::AfterIn(operand) => after_in(alloc, next, in_print_list, operand),
-        ExpressionState::AfterListIn(list) => after_list_in(alloc, next, in_print_list, list),
+        ExpressionState::AfterListIn(list) => {
+            after_list_in(alloc, next, in_print_list, Box::into_inner(list))
+        }
     }
 }
 
@@ -180,34 +189,39 @@ fn step_statement(
             let without_value = return_statement(Some(CheckedOptionalExpr::absent()));
             after_exit(alloc, next, without_value, ExpressionFrame::Return, stack)
         }
-        StatementState::AfterSimple(statement) => end_simple(alloc, next, statement, stack),
+        StatementState::AfterSimple(statement) => {
+            end_simple(alloc, next, Box::into_inner(statement), stack)
+        }
         StatementState::AfterDo(statement) => end_simple_statement(alloc, next, statement, stack),
         StatementState::AfterFor => Ok(after_for(next)),
         StatementState::BeforeForFirst => before_for_first(alloc, next, stack),
         StatementState::BeforeForCondition(first) => {
             before_for_condition(alloc, next, first, stack)
         }
-        StatementState::BeforeForLast(first, condition) => {
-            before_for_last(alloc, next, first, condition, stack)
-        }
+        StatementState::BeforeForLast(head) => before_for_last(alloc, next, head, stack),
         StatementState::BeforeStatement => start_statement(alloc, next, stack),
         StatementState::AfterStatement(statement) => after_statement(alloc, next, statement, stack),
     }
 }
 
 /// The `(` behind the name of a function.
-fn after_function_name(next: NextToken, name: Bytes, alloc: Global) -> Option<ParserState>
-    ensures { (frames : List Frame) → next_of result frames
-        ≡ parser.at_parenthesis next.entry.kind.now (parser.BeforeParameter name false [] (stack_of frames)) }
+fn after_function_name(
+    alloc: Global,
+    next: NextToken,
+    name: Bytes,
+) -> Result<Option<ParserState>, AllocError>
+    ensures { (frames : List Frame) → IfOk result (λ state. next_of state frames
+        ≡ parser.at_parenthesis next.entry.kind.now (parser.BeforeParameter name false [] (stack_of frames))) }
 {
-    match next.kind {
-        Kind::OpenParenthesis => Some(ParserState::Item(ItemState::BeforeParameter {
-            name,
-            parameters: Vec::new(alloc),
-            is_behind_comma: false,
-        })),
-        _ => None,
+    if !matches!(next.kind, Kind::OpenParenthesis) {
+        return Ok(None);
     }
+    let parameters = Vec::new(alloc);
+    let signature = Box::new(alloc, Signature { name, parameters })?;
+    Ok(Some(ParserState::Item(ItemState::BeforeParameter {
+        signature,
+        is_behind_comma: false,
+    })))
 }
 
 /// Takes a token in an item.
@@ -227,15 +241,12 @@ fn step_item(
             skips_newlines,
         } => before_action(alloc, next, head, skips_newlines, stack),
         ItemState::AfterFunction => after_function(next),
-        ItemState::AfterFunctionName(name) => Ok(after_function_name(next, name, alloc)),
+        ItemState::AfterFunctionName(name) => after_function_name(alloc, next, name),
         ItemState::BeforeParameter {
-            name,
-            parameters,
+            signature,
             is_behind_comma,
-        } => before_parameter(next, name, parameters, is_behind_comma),
-        ItemState::AfterParameter { name, parameters } => {
-            Ok(after_parameter(next, name, parameters))
-        }
+        } => before_parameter(alloc, next, signature, is_behind_comma),
+        ItemState::AfterParameter(signature) => after_parameter(alloc, next, signature),
     }
 }
 

@@ -1,6 +1,6 @@
 // Items: patterns, actions and functions.
 
-ghost use Rattle.std.specs.Prelude.{◌≡◌, false, ◌∷◌, List, IfOk};
+ghost use Rattle.std.specs.Prelude.{◌≡◌, true, false, ◌∷◌, List, IfOk};
 ghost use Rattle.awk_grammar.specs.definitions.Height.{max_height};
 ghost use Rattle.awk_grammar.specs.definitions.Tree.{NoMore};
 ghost use Rattle.awk_grammar.specs.support.Nodes.{limited};
@@ -15,13 +15,12 @@ use crate::taken::{begin, begin_statement};
 use awk_frames::frame::{ExpressionFrame, Frame, Head};
 use awk_frames::operand::Operand;
 use awk_frames::stack::{pop, push};
-use awk_frames::state::{ItemState, NextToken, ParserState};
+use awk_frames::state::{ItemState, NextToken, ParserState, Signature};
 use awk_lex::token::{Keyword, Kind};
 use awk_statement_nodes::checked::{CheckedItem, CheckedPattern, CheckedStatements};
 use awk_statement_nodes::items::{
     action, begin as begin_item, end, function, one_more_item, pattern_action, pattern_only, single,
 };
-use awk_value::Bytes;
 use std::alloc::{AllocError, Global};
 
 /// The item of an action and what stands before it.
@@ -61,13 +60,12 @@ pub fn end_item(
 /// An action begins.
 pub fn start_action(
     alloc: Global,
-    head: Head,
+    head: Box<Head>,
     stack: &mut Vec<Frame>,
 ) -> Result<Option<ParserState>, AllocError>
     ensures { IfOk result (λ state. next_of state stack.new.items
-        ≡ parser.BeforeStatement (parser.InAction (head_of head) (limited max_height 0 NoMore) ∷ stack_of stack.old.items)) }
+        ≡ parser.BeforeStatement (parser.InAction (head_of head.value) (limited max_height 0 NoMore) ∷ stack_of stack.old.items)) }
 {
-    let head = Box::new(alloc, head)?;
     let statements = Some(CheckedStatements::new(alloc));
     begin_statement(Frame::Block(Some(head), statements), stack)
 }
@@ -83,7 +81,10 @@ pub fn after_pattern(
         ≡ parser.after_pattern max_height next.entry.kind.now (checked_pattern pattern) (stack_of stack.old.items)) }
 {
     match next.kind {
-        Kind::OpenBrace => start_action(alloc, Head::Pattern(pattern), stack),
+        Kind::OpenBrace => {
+            let head = Box::new(alloc, Head::Pattern(pattern))?;
+            start_action(alloc, head, stack)
+        }
         Kind::Semicolon | Kind::Newline => end_item(pattern_only(pattern), stack),
         _ => {
             drop(pattern);
@@ -134,8 +135,8 @@ fn start_item_keyword(
         ≡ parser.start_item max_height (stack_of stack.old.items) (token.Keyword keyword)) }
 {
     match keyword {
-        Keyword::Begin => Ok(before_action_of(Head::Begin, false)),
-        Keyword::End => Ok(before_action_of(Head::End, false)),
+        Keyword::Begin => Ok(before_action_of(Box::new(alloc, Head::Begin)?, false)),
+        Keyword::End => Ok(before_action_of(Box::new(alloc, Head::End)?, false)),
         Keyword::Function => Ok(Some(ParserState::Item(ItemState::AfterFunction))),
         _ => start_pattern(alloc, next, stack),
     }
@@ -152,15 +153,15 @@ pub fn start_item(
 {
     match next.kind {
         Kind::Semicolon | Kind::Newline => Ok(Some(ParserState::Item(ItemState::BetweenItems))),
-        Kind::OpenBrace => start_action(alloc, Head::NoPattern, stack),
+        Kind::OpenBrace => start_action(alloc, Box::new(alloc, Head::NoPattern)?, stack),
         Kind::Keyword(keyword) => start_item_keyword(alloc, next, *keyword, stack),
         _ => start_pattern(alloc, next, stack),
     }
 }
 
 /// Before an action.
-fn before_action_of(head: Head, skips_newlines: bool) -> Option<ParserState>
-    ensures { (frames : List Frame) → next_of result frames ≡ parser.BeforeAction (head_of head) skips_newlines (stack_of frames) }
+fn before_action_of(head: Box<Head>, skips_newlines: bool) -> Option<ParserState>
+    ensures { (frames : List Frame) → next_of result frames ≡ parser.BeforeAction (head_of head.value) skips_newlines (stack_of frames) }
 {
     Some(ParserState::Item(ItemState::BeforeAction {
         head,
@@ -172,12 +173,12 @@ fn before_action_of(head: Head, skips_newlines: bool) -> Option<ParserState>
 pub fn before_action(
     alloc: Global,
     next: NextToken,
-    head: Head,
+    head: Box<Head>,
     skips_newlines: bool,
     stack: &mut Vec<Frame>,
 ) -> Result<Option<ParserState>, AllocError>
     ensures { IfOk result (λ state. next_of state stack.new.items
-        ≡ parser.before_action max_height (head_of head) skips_newlines (stack_of stack.old.items) next.entry.kind.now) }
+        ≡ parser.before_action max_height (head_of head.value) skips_newlines (stack_of stack.old.items) next.entry.kind.now) }
 {
     match next.kind {
         Kind::Newline if skips_newlines => Ok(before_action_of(head, skips_newlines)),
@@ -202,48 +203,61 @@ pub fn after_function(next: NextToken) -> Result<Option<ParserState>, AllocError
     }
 }
 
+/// The `)` behind a function's parameters.
+fn before_function_body(
+    alloc: Global,
+    signature: Box<Signature>,
+) -> Result<Option<ParserState>, AllocError>
+    ensures { (frames : List Frame) → IfOk result (λ state. next_of state frames
+        ≡ parser.BeforeAction (parser.OfFunction signature.value.name signature.value.parameters.items) true (stack_of frames)) }
+{
+    let Signature { name, parameters } = Box::into_inner(signature);
+    let head = Box::new(alloc, Head::Function(name, parameters))?;
+    Ok(before_action_of(head, true))
+}
+
 /// A parameter, or the `)` of a function without parameters.
 pub fn before_parameter(
+    alloc: Global,
     next: NextToken,
-    name: Bytes,
-    parameters: Vec<Bytes>,
+    signature: Box<Signature>,
     is_behind_comma: bool,
 ) -> Result<Option<ParserState>, AllocError>
     ensures { (frames : List Frame) → IfOk result (λ state. next_of state frames
-        ≡ parser.before_parameter name is_behind_comma parameters.items (stack_of frames) next.entry.kind.now) }
+        ≡ parser.before_parameter signature.value.name is_behind_comma signature.value.parameters.items (stack_of frames) next.entry.kind.now) }
 {
-    let mut parameters = parameters;
+    let mut signature = signature;
     match next.kind {
         Kind::Name(parameter) => {
-            parameters.push(parameter.clone()?)?;
-            Ok(Some(ParserState::Item(ItemState::AfterParameter { name, parameters })))
+            signature.parameters.push(parameter.clone()?)?;
+            Ok(Some(ParserState::Item(ItemState::AfterParameter(signature))))
         }
         Kind::Newline if is_behind_comma => Ok(Some(ParserState::Item(
             ItemState::BeforeParameter {
-                name,
-                parameters,
+                signature,
                 is_behind_comma,
             },
         ))),
-        Kind::CloseParenthesis if !is_behind_comma => {
-            Ok(before_action_of(Head::Function(name, parameters), true))
-        }
+        Kind::CloseParenthesis if !is_behind_comma => before_function_body(alloc, signature),
         _ => Ok(None),
     }
 }
 
 /// Behind a parameter.
-pub fn after_parameter(next: NextToken, name: Bytes, parameters: Vec<Bytes>) -> Option<ParserState>
-    ensures { (frames : List Frame) → next_of result frames
-        ≡ parser.after_parameter name parameters.items (stack_of frames) next.entry.kind.now }
+pub fn after_parameter(
+    alloc: Global,
+    next: NextToken,
+    signature: Box<Signature>,
+) -> Result<Option<ParserState>, AllocError>
+    ensures { (frames : List Frame) → IfOk result (λ state. next_of state frames
+        ≡ parser.after_parameter signature.value.name signature.value.parameters.items (stack_of frames) next.entry.kind.now) }
 {
     match next.kind {
-        Kind::Comma => Some(ParserState::Item(ItemState::BeforeParameter {
-            name,
-            parameters,
+        Kind::Comma => Ok(Some(ParserState::Item(ItemState::BeforeParameter {
+            signature,
             is_behind_comma: true,
-        })),
-        Kind::CloseParenthesis => before_action_of(Head::Function(name, parameters), true),
-        _ => None,
+        }))),
+        Kind::CloseParenthesis => before_function_body(alloc, signature),
+        _ => Ok(None),
     }
 }

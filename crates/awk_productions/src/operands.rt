@@ -6,10 +6,10 @@ ghost use Rattle.awk_grammar.specs.definitions.Precedence.{pre_increment, post_i
 ghost use Rattle.awk_grammar.specs.definitions.Tree as t;
 ghost use Rattle.awk_lex.specs.declared.token.Kind.TheVariants as token;
 ghost use Rattle.awk_grammar.specs.support.Parser as parser;
-ghost use Rattle.awk_frames.specs.support.FrameView.{list_of, frame_of, stack_of, next_of};
+ghost use Rattle.awk_frames.specs.support.FrameView.{list_of, list_frame_of, frame_of, stack_of, next_of};
 
 use crate::taken::{begin, operand};
-use awk_frames::frame::{Frame, ListHead, NodeFrame};
+use awk_frames::frame::{ExpressionFrame, Frame, ListFrame, ListHead, NodeFrame};
 use awk_frames::operand::{Operand, OperandList};
 use awk_frames::stack::{greatest_allowed_on, pop};
 use awk_frames::state::{ExpressionState, NextToken, ParserState};
@@ -92,6 +92,35 @@ fn after_name(name: &Bytes, in_print_list: bool) -> Result<Option<ParserState>, 
     }))
 }
 
+/// Before the `(` that opens a frame.
+pub fn before_parenthesis(
+    alloc: Global,
+    frame: Frame,
+    in_print_list: bool,
+) -> Result<Option<ParserState>, AllocError>
+    ensures { (frames : List Frame) → IfOk result (λ state. next_of state frames
+        ≡ parser.BeforeParenthesis (frame_of frame) in_print_list (stack_of frames)) }
+{
+    let frame = Box::new(alloc, frame)?;
+    Ok(Some(ParserState::Expression {
+        in_print_list,
+        state: ExpressionState::BeforeParenthesis(frame),
+    }))
+}
+
+/// A list before its `(`.
+fn before_list(
+    alloc: Global,
+    head: ListHead,
+    in_print_list: bool,
+) -> Result<Option<ParserState>, AllocError>
+    ensures { (frames : List Frame) → IfOk result (λ state. next_of state frames
+        ≡ parser.BeforeParenthesis (list_frame_of head (parser.no_operands max_height)) in_print_list (stack_of frames)) }
+{
+    let frame = Frame::list(alloc, head, OperandList::new(alloc))?;
+    before_parenthesis(alloc, frame, in_print_list)
+}
+
 /// The name of a function, before its `(`.
 fn before_call(
     alloc: Global,
@@ -106,36 +135,29 @@ fn before_call(
         name,
         in_print_list,
     };
-    Ok(before_parenthesis(Frame::List(head, OperandList::new(alloc)), in_print_list))
+    before_list(alloc, head, in_print_list)
 }
 
 /// The name of a built-in function, before its `(`, which `length` may lack.
-fn after_built_in(alloc: Global, function: BuiltIn, in_print_list: bool) -> Option<ParserState>
-    ensures { (skips : Bool) (frames : List Frame) → next_of result frames
-        ≡ parser.start_operand max_height (token.BuiltIn function) skips in_print_list (stack_of frames) }
+fn after_built_in(
+    alloc: Global,
+    function: BuiltIn,
+    in_print_list: bool,
+) -> Result<Option<ParserState>, AllocError>
+    ensures { (skips : Bool) (frames : List Frame) → IfOk result (λ state. next_of state frames
+        ≡ parser.start_operand max_height (token.BuiltIn function) skips in_print_list (stack_of frames)) }
 {
     if matches!(function, BuiltIn::Length) {
-        return Some(ParserState::Expression {
+        return Ok(Some(ParserState::Expression {
             in_print_list,
             state: ExpressionState::AfterLength,
-        });
+        }));
     }
     let head = ListHead::BuiltIn {
         function,
         in_print_list,
     };
-    before_parenthesis(Frame::List(head, OperandList::new(alloc)), in_print_list)
-}
-
-/// Before the `(` that opens a frame.
-pub fn before_parenthesis(frame: Frame, in_print_list: bool) -> Option<ParserState>
-    ensures { (frames : List Frame) → next_of result frames
-        ≡ parser.BeforeParenthesis (frame_of frame) in_print_list (stack_of frames) }
-{
-    Some(ParserState::Expression {
-        in_print_list,
-        state: ExpressionState::BeforeParenthesis(frame),
-    })
+    before_list(alloc, head, in_print_list)
 }
 
 /// The word `getline`.
@@ -149,7 +171,7 @@ fn start_getline(in_print_list: bool, stack: &Vec<Frame>) -> Option<ParserState>
     }
     Some(ParserState::Expression {
         in_print_list,
-        state: ExpressionState::AfterGetline(None),
+        state: ExpressionState::AfterGetline,
     })
 }
 
@@ -189,6 +211,29 @@ fn close_empty_built_in(
     Ok(operand(in_print_list, Operand::new(PRIMARY, tree)))
 }
 
+/// `)` behind the `(` of a list.
+fn close_empty(alloc: Global, frame: ListFrame) -> Result<Option<ParserState>, AllocError>
+    ensures { (frames : List Frame) → IfOk result (λ state. next_of state frames
+        ≡ parser.close_empty_list max_height (list_frame_of frame.head (list_of frame.list) ∷ stack_of frames)) }
+{
+    let ListFrame { head, list } = frame;
+    match head {
+        ListHead::Call {
+            name,
+            in_print_list,
+        } => close_empty_call(alloc, name, in_print_list, list),
+        ListHead::BuiltIn {
+            function,
+            in_print_list,
+        } => close_empty_built_in(alloc, function, in_print_list, list),
+        rest => {
+            drop(rest);
+            drop(list);
+            Ok(None)
+        }
+    }
+}
+
 /// `)` where an argument could begin.
 fn close_empty_list(
     alloc: Global,
@@ -198,21 +243,7 @@ fn close_empty_list(
         ≡ parser.close_empty_list max_height (stack_of stack.old.items)) }
 {
     match pop(stack) {
-        Some(Frame::List(head, list)) => match head {
-            ListHead::Call {
-                name,
-                in_print_list,
-            } => close_empty_call(alloc, name, in_print_list, list),
-            ListHead::BuiltIn {
-                function,
-                in_print_list,
-            } => close_empty_built_in(alloc, function, in_print_list, list),
-            rest => {
-                drop(rest);
-                drop(list);
-                Ok(None)
-            }
-        },
+        Some(Frame::List(frame)) => close_empty(alloc, Box::into_inner(frame)),
         rest => {
             drop(rest);
             Ok(None)
@@ -237,9 +268,9 @@ pub fn start_operand(
         Kind::Ere(text) => after_ere(alloc, text, next.eres, in_print_list),
         Kind::Name(name) => after_name(name, in_print_list),
         Kind::Called(name) => before_call(alloc, name, in_print_list),
-        Kind::BuiltIn(function) => Ok(after_built_in(alloc, *function, in_print_list)),
+        Kind::BuiltIn(function) => after_built_in(alloc, *function, in_print_list),
         Kind::OpenParenthesis => {
-            let frame = Frame::List(ListHead::Group { in_print_list }, OperandList::new(alloc));
+            let frame = Frame::Expression(ExpressionFrame::Group { in_print_list });
             begin(frame, false, false, stack)
         }
         Kind::Dollar => begin(Frame::Node(NodeFrame::Field), false, in_print_list, stack),

@@ -5,10 +5,10 @@ ghost use Rattle.awk_grammar.specs.definitions.Height.{max_height};
 ghost use Rattle.awk_grammar.specs.support.Parser as parser;
 ghost use Rattle.awk_statement_nodes.specs.support.Checked.{checked_print_list};
 ghost use Rattle.awk_statement_productions.specs.support.Ending.{ends_print};
-ghost use Rattle.awk_frames.specs.support.FrameView.{operand_of, list_of, stack_of, next_of};
+ghost use Rattle.awk_frames.specs.support.FrameView.{operand_of, list_of, list_frame_of, stack_of, next_of};
 
 use crate::simple::end_simple;
-use awk_frames::frame::{ExpressionFrame, Frame, ListHead};
+use awk_frames::frame::{ExpressionFrame, Frame, ListFrame, ListHead, OutputFrame};
 use awk_frames::operand::{Operand, OperandList};
 use awk_frames::stack::{pop, push};
 use awk_frames::state::{NextToken, ParserState};
@@ -38,8 +38,13 @@ fn end_print_list(
         Kind::Bar => Redirection::Pipe,
         _ => return end_simple(alloc, next, print(form, list), stack),
     };
-    let frame = Frame::Expression(ExpressionFrame::Output(form, list, redirection));
-    begin(frame, false, false, stack)
+    let output = OutputFrame {
+        form,
+        list,
+        redirection,
+    };
+    let frame = ExpressionFrame::Output(Box::new(alloc, output)?);
+    begin(Frame::Expression(frame), false, false, stack)
 }
 
 /// Behind an expression of a print without parentheses.
@@ -54,9 +59,37 @@ pub fn after_print_expr(
         ≡ parser.after_print_expr max_height next.entry.kind.now form (list_of list) (stack_of stack.old.items)) }
 {
     if matches!(next.kind, Kind::Comma) {
-        return begin(Frame::List(ListHead::Print(form), list), true, true, stack);
+        let frame = Frame::list(alloc, ListHead::Print(form), list)?;
+        return begin(frame, true, true, stack);
     }
     end_print_list(alloc, next, form, bare(list.exprs), stack)
+}
+
+/// The expression behind a `|` and the list of a print.
+fn pipe_list(
+    alloc: Global,
+    next: NextToken,
+    frame: ListFrame,
+    operand: Operand,
+    stack: &mut Vec<Frame>,
+) -> Result<Option<ParserState>, AllocError>
+    ensures { IfOk result (λ state. next_of state stack.new.items
+        ≡ parser.redirect_to_pipe max_height next.entry.kind.now (operand_of operand) (list_frame_of frame.head (list_of frame.list) ∷ stack_of stack.old.items)) }
+{
+    let ListFrame { head, list } = frame;
+    let ListHead::Print(form) = head else {
+        drop(list);
+        drop(operand);
+        return Ok(None);
+    };
+    let output = OutputFrame {
+        form,
+        list: bare(list.with(operand)?.exprs),
+        redirection: Redirection::Pipe,
+    };
+    let frame = ExpressionFrame::Output(Box::new(alloc, output)?);
+    push(stack, Frame::Expression(frame))?;
+    start_operand(alloc, next, false, false, stack)
 }
 
 /// Behind a `|` that no `getline` follows.
@@ -70,17 +103,38 @@ pub fn redirect_to_pipe(
         ≡ parser.redirect_to_pipe max_height next.entry.kind.now (operand_of operand) (stack_of stack.old.items)) }
 {
     match pop(stack) {
-        Some(Frame::List(ListHead::Print(form), list)) => {
-            let list = bare(list.with(operand)?.exprs);
-            push(
-                stack,
-                Frame::Expression(ExpressionFrame::Output(form, list, Redirection::Pipe)),
-            )?;
-            start_operand(alloc, next, false, false, stack)
+        Some(Frame::List(frame)) => {
+            pipe_list(alloc, next, Box::into_inner(frame), operand, stack)
         }
         rest => {
             drop(rest);
             drop(operand);
+            Ok(None)
+        }
+    }
+}
+
+/// Behind a list in parentheses that may be the whole list of a print.
+fn end_parenthesized(
+    alloc: Global,
+    next: NextToken,
+    frame: ListFrame,
+    list: OperandList,
+    stack: &mut Vec<Frame>,
+) -> Result<Option<ParserState>, AllocError>
+    ensures { IfOk result (λ state. next_of state stack.new.items
+        ≡ parser.end_list max_height next.entry.kind.now (list_of list) (list_frame_of frame.head (list_of frame.list) ∷ stack_of stack.old.items)) }
+{
+    let ListFrame { head, list: before } = frame;
+    match head {
+        ListHead::Print(form) if before.count == 0 => {
+            drop(before);
+            end_print_list(alloc, next, form, parenthesized(list.exprs), stack)
+        }
+        rest => {
+            drop(rest);
+            drop(before);
+            drop(list);
             Ok(None)
         }
     }
@@ -97,9 +151,8 @@ pub fn end_list(
         ≡ parser.end_list max_height next.entry.kind.now (list_of list) (stack_of stack.old.items)) }
 {
     match pop(stack) {
-        Some(Frame::List(ListHead::Print(form), none)) if none.count == 0 => {
-            drop(none);
-            end_print_list(alloc, next, form, parenthesized(list.exprs), stack)
+        Some(Frame::List(frame)) => {
+            end_parenthesized(alloc, next, Box::into_inner(frame), list, stack)
         }
         rest => {
             drop(rest);
@@ -136,7 +189,7 @@ fn start_print_list(
         ≡ parser.start_operand max_height next.entry.kind.now false true
         (parser.InPrint form (parser.no_operands max_height) ∷ stack_of stack.old.items)) }
 {
-    let frame = Frame::List(ListHead::Print(form), OperandList::new(alloc));
+    let frame = Frame::list(alloc, ListHead::Print(form), OperandList::new(alloc))?;
     push(stack, frame)?;
     start_operand(alloc, next, false, true, stack)
 }

@@ -95,9 +95,10 @@ fn end_for_first(
         ≡ parser.end_for_first max_height next.entry.kind.now (checked_simple statement) (stack_of stack.old.items)) }
 {
     match next.kind {
-        Kind::Semicolon => Ok(Some(ParserState::Statement(StatementState::BeforeForCondition(part(
-            statement,
-        ))))),
+        Kind::Semicolon => {
+            let first = Box::new(alloc, part(statement))?;
+            Ok(Some(ParserState::Statement(StatementState::BeforeForCondition(first))))
+        }
         Kind::CloseParenthesis => start_for_in(alloc, statement, stack),
         _ => {
             drop(statement);
@@ -155,6 +156,7 @@ pub fn end_simple(
 
 /// Behind a subscript of a deletion.
 pub fn after_delete_subscript(
+    alloc: Global,
     next: NextToken,
     name: Bytes,
     list: OperandList,
@@ -164,15 +166,14 @@ pub fn after_delete_subscript(
         ≡ parser.after_delete_subscript max_height next.entry.kind.now name (list_of list) (stack_of stack.old.items)) }
 {
     match next.kind {
-        Kind::Comma => begin(
-            Frame::List(ListHead::Delete(name), list),
-            true,
-            false,
-            stack,
-        ),
-        Kind::CloseBracket => Ok(Some(ParserState::Statement(StatementState::AfterSimple(delete(
-            name, list.exprs,
-        ))))),
+        Kind::Comma => {
+            let frame = Frame::list(alloc, ListHead::Delete(name), list)?;
+            begin(frame, true, false, stack)
+        }
+        Kind::CloseBracket => {
+            let statement = Box::new(alloc, delete(name, list.exprs))?;
+            Ok(Some(ParserState::Statement(StatementState::AfterSimple(statement))))
+        }
         _ => {
             drop(list);
             Ok(None)
@@ -192,7 +193,8 @@ pub fn after_delete_name(
 {
     match next.kind {
         Kind::OpenBracket => {
-            let frame = Frame::List(ListHead::Delete(name), OperandList::new(alloc));
+            let list = OperandList::new(alloc);
+            let frame = Frame::list(alloc, ListHead::Delete(name), list)?;
             begin(frame, false, false, stack)
         }
         _ => Ok(None),
@@ -233,9 +235,8 @@ pub fn before_for_first(
         ≡ parser.before_for_first max_height (stack_of stack.old.items) next.entry.kind.now) }
 {
     if matches!(next.kind, Kind::Semicolon) {
-        return Ok(Some(ParserState::Statement(StatementState::BeforeForCondition(Some(
-            CheckedPart::absent(),
-        )))));
+        let first = Box::new(alloc, Some(CheckedPart::absent()))?;
+        return Ok(Some(ParserState::Statement(StatementState::BeforeForCondition(first))));
     }
     push(stack, Frame::ForFirst)?;
     start_part(alloc, next, stack)
@@ -245,17 +246,18 @@ pub fn before_for_first(
 pub fn before_for_condition(
     alloc: Global,
     next: NextToken,
-    first: Option<CheckedPart>,
+    first: Box<Option<CheckedPart>>,
     stack: &mut Vec<Frame>,
 ) -> Result<Option<ParserState>, AllocError>
     ensures { IfOk result (λ state. next_of state stack.new.items
-        ≡ parser.before_for_condition max_height (checked_part first) (stack_of stack.old.items) next.entry.kind.now) }
+        ≡ parser.before_for_condition max_height (checked_part first.value) (stack_of stack.old.items) next.entry.kind.now) }
 {
     if matches!(next.kind, Kind::Semicolon) {
+        let first = Box::into_inner(first);
         let condition = Some(CheckedOptionalExpr::absent());
-        return Ok(Some(ParserState::Statement(StatementState::BeforeForLast(first, condition))));
+        let head = Box::new(alloc, ForHead { first, condition })?;
+        return Ok(Some(ParserState::Statement(StatementState::BeforeForLast(head))));
     }
-    let first = Box::new(alloc, first)?;
     push(
         stack,
         Frame::Expression(ExpressionFrame::ForCondition(first)),
@@ -267,18 +269,17 @@ pub fn before_for_condition(
 pub fn before_for_last(
     alloc: Global,
     next: NextToken,
-    first: Option<CheckedPart>,
-    condition: Option<CheckedOptionalExpr>,
+    head: Box<ForHead>,
     stack: &mut Vec<Frame>,
 ) -> Result<Option<ParserState>, AllocError>
     ensures { IfOk result (λ state. next_of state stack.new.items
-        ≡ parser.before_for_last max_height (checked_part first) (checked_optional_expr condition) (stack_of stack.old.items) next.entry.kind.now) }
+        ≡ parser.before_for_last max_height (checked_part head.value.first) (checked_optional_expr head.value.condition) (stack_of stack.old.items) next.entry.kind.now) }
 {
     if matches!(next.kind, Kind::CloseParenthesis) {
+        let ForHead { first, condition } = Box::into_inner(head);
         let body = BodyFrame::For(first, condition, Some(CheckedPart::absent()));
         return begin_body(alloc, body, stack);
     }
-    let head = Box::new(alloc, ForHead { first, condition })?;
     push(stack, Frame::ForLast(head))?;
     start_part(alloc, next, stack)
 }

@@ -103,20 +103,22 @@ fn start_keyword(
         ≡ parser.start_statement max_height (token.Keyword keyword) (stack_of stack.old.items)) }
 {
     let state = match keyword {
-        Keyword::Next => StatementState::AfterSimple(Some(next_statement())),
-        Keyword::Break => StatementState::AfterSimple(Some(break_statement())),
-        Keyword::Continue => StatementState::AfterSimple(Some(continue_statement())),
+        Keyword::Next => { StatementState::AfterSimple(Box::new(alloc, Some(next_statement()))?) }
+        Keyword::Break => { StatementState::AfterSimple(Box::new(alloc, Some(break_statement()))?) }
+        Keyword::Continue => {
+            StatementState::AfterSimple(Box::new(alloc, Some(continue_statement()))?)
+        }
         Keyword::Exit => StatementState::AfterExit,
         Keyword::Return => StatementState::AfterReturn,
         Keyword::For => StatementState::AfterFor,
         Keyword::Do => return begin_body(alloc, BodyFrame::Do, stack),
         Keyword::If => {
             let frame = Frame::Expression(ExpressionFrame::IfCondition);
-            return Ok(before_parenthesis(frame, false));
+            return before_parenthesis(alloc, frame, false);
         }
         Keyword::While => {
             let frame = Frame::Expression(ExpressionFrame::WhileCondition);
-            return Ok(before_parenthesis(frame, false));
+            return before_parenthesis(alloc, frame, false);
         }
         _ => return start_part_keyword(alloc, next, keyword, stack),
     };
@@ -159,7 +161,7 @@ fn after_do_body(
     if matches!(next.kind, Kind::Keyword(Keyword::While)) {
         let body = Box::new(alloc, body)?;
         let frame = Frame::Expression(ExpressionFrame::DoCondition(body));
-        return Ok(before_parenthesis(frame, false));
+        return before_parenthesis(alloc, frame, false);
     }
     drop(body);
     Ok(None)

@@ -1,6 +1,7 @@
 -- Operands, frames and states of the code, seen as those of the parser over lists.
 use Rattle.std.specs.Prelude.{Bool, List, [], ◌∷◌, map, reverse, Option, Some, None}
 use Rattle.awk_grammar.specs.support.InfixRole as role
+use Rattle.awk_grammar.specs.definitions.Height.{max_height}
 use Rattle.awk_grammar.specs.support.Parser as parser
 use Rattle.awk_nodes.specs.support.Checked.{checked_expr, checked_exprs}
 use Rattle.awk_statement_nodes.specs.support.Checked.{checked_print_list, checked_simple, checked_part, checked_optional_expr, checked_statement, checked_statements, checked_pattern, checked_items}
@@ -71,7 +72,8 @@ list_frame_of (list.Delete a) xs = parser.InDelete a xs
 abbrev pub expression_frame_of : ExpressionFrame → parser.Frame
 expression_frame_of (expression.FirstChoice c) = parser.InFirstChoice (operand_of c)
 expression_frame_of expression.Statement = parser.InExpression
-expression_frame_of (expression.Output how what way) = parser.InOutput how (checked_print_list what) way
+expression_frame_of (expression.Group g) = parser.InGroup g (parser.no_operands max_height)
+expression_frame_of (expression.Output b) = parser.InOutput b.value.form (checked_print_list b.value.list) b.value.redirection
 expression_frame_of expression.Exit = parser.InExit
 expression_frame_of expression.Return = parser.InReturn
 expression_frame_of expression.IfCondition = parser.InIfCondition
@@ -98,7 +100,7 @@ head_of (head.Function f xs) = parser.OfFunction f xs.items
 
 abbrev pub frame_of : Frame → parser.Frame
 frame_of (frame.Node f) = node_frame_of f
-frame_of (frame.List h xs) = list_frame_of h (list_of xs)
+frame_of (frame.List b) = list_frame_of b.value.head (list_of b.value.list)
 frame_of (frame.Expression f) = expression_frame_of f
 frame_of frame.ForFirst = parser.InForFirst
 frame_of (frame.ForLast b) = parser.InForLast (checked_part b.value.first) (checked_optional_expr b.value.condition)
@@ -125,12 +127,13 @@ expression_state_of (in_expression.BeforeOperand skips) g k = parser.BeforeOpera
 expression_state_of (in_expression.AfterOperand e) g k = parser.AfterOperand g (operand_of e) k
 expression_state_of (in_expression.AfterName a) g k = parser.AfterName a g k
 expression_state_of in_expression.AfterLength g k = parser.AfterLength g k
-expression_state_of (in_expression.AfterGetline c) g k = parser.AfterGetline (optional_operand_of c) g k
+expression_state_of in_expression.AfterGetline g k = parser.AfterGetline parser.NoOperand g k
+expression_state_of (in_expression.AfterPipedGetline e) g k = parser.AfterGetline (parser.AnOperand (operand_of e)) g k
 expression_state_of (in_expression.AfterBar e) g k = parser.AfterBar g (operand_of e) k
-expression_state_of (in_expression.BeforeParenthesis f) g k = parser.BeforeParenthesis (frame_of f) g k
-expression_state_of (in_expression.AfterList xs) g k = parser.AfterList g (list_of xs) k
+expression_state_of (in_expression.BeforeParenthesis b) g k = parser.BeforeParenthesis (frame_of b.value) g k
+expression_state_of (in_expression.AfterList b) g k = parser.AfterList g (list_of b.value) k
 expression_state_of (in_expression.AfterIn e) g k = parser.AfterIn (operand_of e) g k
-expression_state_of (in_expression.AfterListIn xs) g k = parser.AfterListIn (list_of xs) g k
+expression_state_of (in_expression.AfterListIn b) g k = parser.AfterListIn (list_of b.value) g k
 
 abbrev pub statement_state_of : StatementState → List parser.Frame → parser.ParserState
 statement_state_of (in_statement.AfterPrint how) k = parser.AfterPrint how k
@@ -138,22 +141,22 @@ statement_state_of in_statement.AfterDelete k = parser.AfterDelete k
 statement_state_of (in_statement.AfterDeleteName a) k = parser.AfterDeleteName a k
 statement_state_of in_statement.AfterExit k = parser.AfterExit k
 statement_state_of in_statement.AfterReturn k = parser.AfterReturn k
-statement_state_of (in_statement.AfterSimple x) k = parser.AfterSimpleStatement (checked_simple x) k
+statement_state_of (in_statement.AfterSimple b) k = parser.AfterSimpleStatement (checked_simple b.value) k
 statement_state_of (in_statement.AfterDo x) k = parser.AfterDo (checked_statement x) k
 statement_state_of in_statement.AfterFor k = parser.AfterFor k
 statement_state_of in_statement.BeforeForFirst k = parser.BeforeForFirst k
-statement_state_of (in_statement.BeforeForCondition p) k = parser.BeforeForCondition (checked_part p) k
-statement_state_of (in_statement.BeforeForLast p c) k = parser.BeforeForLast (checked_part p) (checked_optional_expr c) k
+statement_state_of (in_statement.BeforeForCondition b) k = parser.BeforeForCondition (checked_part b.value) k
+statement_state_of (in_statement.BeforeForLast b) k = parser.BeforeForLast (checked_part b.value.first) (checked_optional_expr b.value.condition) k
 statement_state_of in_statement.BeforeStatement k = parser.BeforeStatement k
 statement_state_of (in_statement.AfterStatement x) k = parser.AfterStatement (checked_statement x) k
 
 abbrev pub item_state_of : ItemState → List parser.Frame → parser.ParserState
 item_state_of in_item.BetweenItems k = parser.BetweenItems k
-item_state_of (in_item.BeforeAction h skips) k = parser.BeforeAction (head_of h) skips k
+item_state_of (in_item.BeforeAction b skips) k = parser.BeforeAction (head_of b.value) skips k
 item_state_of in_item.AfterFunction k = parser.AfterFunction k
 item_state_of (in_item.AfterFunctionName f) k = parser.AfterFunctionName f k
-item_state_of (in_item.BeforeParameter f xs is_behind_comma) k = parser.BeforeParameter f is_behind_comma xs.items k
-item_state_of (in_item.AfterParameter f xs) k = parser.AfterParameter f xs.items k
+item_state_of (in_item.BeforeParameter b is_behind_comma) k = parser.BeforeParameter b.value.name is_behind_comma b.value.parameters.items k
+item_state_of (in_item.AfterParameter b) k = parser.AfterParameter b.value.name b.value.parameters.items k
 
 abbrev pub state_of : ParserState → List Frame → parser.ParserState
 state_of (Expression g x) fs = expression_state_of x g (stack_of fs)

@@ -3,4 +3,4 @@ use Rattle.awk_frames.specs.support.FrameView.{popped}
 use Rattle.awk_parser.proofs.endings.end_operand.Goals as goal
 
 pub returns-in-Some-List : goal.returns-in-Some-List
-returns-in-Some-List c = rw (c.pop.ensures ∙ ap (λ z. popped z c.pop.new.stack.items) (c.in-Some-List.is ∙ ap (λ z. Some z) c.in-Some-List.field-0-is)) (c.end_element.ensures c.args.in_print_list)
+returns-in-Some-List c = rw (c.pop.ensures ∙ ap (λ z. popped z c.pop.new.stack.items) (c.in-Some-List.is ∙ ap (λ z. Some z) c.in-Some-List.field-0-is)) (rw c.into_inner.ensures at c.end_element.ensures c.args.in_print_list)

@@ -5,3 +5,9 @@ returns-in-AfterFunction c = rw c.in-AfterFunction.is (c.after_function.ensures 
 
 pub returns-in-BeforeParameter : goal.returns-in-BeforeParameter
 returns-in-BeforeParameter c = rw c.in-BeforeParameter.is (c.before_parameter.ensures c.args.stack.now.items)
+
+pub returns-in-AfterFunctionName : goal.returns-in-AfterFunctionName
+returns-in-AfterFunctionName c = rw c.in-AfterFunctionName.is (c.after_function_name.ensures c.args.stack.now.items)
+
+pub returns-in-AfterParameter : goal.returns-in-AfterParameter
+returns-in-AfterParameter c = rw c.in-AfterParameter.is (c.after_parameter.ensures c.args.stack.now.items)
