@@ -18,14 +18,14 @@ use Rattle.awk_control.specs.support.Stack.{value_in, valued, step, Entry, Print
 use Rattle.awk_control.proofs.Laws.{given_first, same_rest, then_rest, halted_rest, pop_rest}
 use Rattle.awk_control.proofs.Moves.{later_same, awaited_at, awaits_more, unspent, spent_awaits}
 
--- a print without a list
-pub record_printed : {is_logged : Type 0} {st : List Entry} {m m' : Interpreter} {k k' : WorldState} → Follows is_logged (print t.Nil) m k m' k' (Ok tt) → Leads is_logged (BeginStatement (t.Simple (t.Print t.Nil))) st m k (Ended flow.Normal) st m' k'
+-- a print that is executed whole
+pub whole_printed : {is_logged : Type 0} (list : t.Exprs) {st : List Entry} {m m' : Interpreter} {k k' : WorldState} → Follows is_logged (print list) m k m' k' (Ok tt) → Leads is_logged (BeginStatement (t.Simple (t.Print list))) st m k (Ended flow.Normal) st m' k'
 unfolding run_of exec exec_simple
-record_printed p = record { leads = λ new after r d. then_rest (λ _. ret flow.Normal) p.simulates d }
+whole_printed list p = record { leads = λ new after r d. then_rest (λ _. ret flow.Normal) p.simulates d }
 
-pub record_stops : {is_logged : Type 0} {h : Halt} {st : List Entry} {m m' : Interpreter} {k k' : WorldState} → Follows is_logged (print t.Nil) m k m' k' (Err h) → Rest is_logged (BeginStatement (t.Simple (t.Print t.Nil))) st m k m' k' (Err h)
+pub whole_stops : {is_logged : Type 0} (list : t.Exprs) {h : Halt} {st : List Entry} {m m' : Interpreter} {k k' : WorldState} → Follows is_logged (print list) m k m' k' (Err h) → Rest is_logged (BeginStatement (t.Simple (t.Print list))) st m k m' k' (Err h)
 unfolding run_of exec exec_simple
-record_stops p = halted_rest (λ _. ret flow.Normal) p.simulates
+whole_stops list p = halted_rest (λ _. ret flow.Normal) p.simulates
 
 -- a line of values, and then what follows a print
 abbrev line_of : List Value → Run Flow
@@ -76,6 +76,11 @@ print_unread p q = record { simulates = then_simulates _ (change_simulates p.sim
 pub print_wants : {is_logged : Type 0} {v : Value} {m m1 m' : Interpreter} {k : WorldState} → Spends m m1 (Ok tt) → Changes record_text m1 m' (Ok v) → Follows is_logged (print t.Nil) m k m' k (Err (halt.Fault OutOfMemory))
 unfolding print printed_values
 print_wants {m' = m'} {k = k} p q = record { simulates = then_simulates _ (change_simulates p.simulates) (ends_simulates _ (then_simulates _ (change_simulates q) (memory_simulates m' k _))) }
+
+-- behind its step
+pub list_follows : {is_logged : Type 0} (e : t.Expr) (rest : t.Exprs) {m m1 m' : Interpreter} {k k' : WorldState} {r : Result (Unit {0}) Halt} → Spends m m1 (Ok tt) → Follows is_logged (eval_all [] (t.Cons e rest) >>= λ vs. print_line vs) m1 k m' k' r → Follows is_logged (print (t.Cons e rest)) m k m' k' r
+unfolding print printed_values
+list_follows e rest p q = record { simulates = then_simulates _ (change_simulates p.simulates) q.simulates }
 
 pub print_prints : {is_logged : Type 0} {v : Value} {m m1 m2 m' : Interpreter} {k k' : WorldState} {r : Result (Unit {0}) Halt} → Spends m m1 (Ok tt) → Changes record_text m1 m2 (Ok v) → Follows is_logged (print_line (v ∷ [])) m2 k m' k' r → Follows is_logged (print t.Nil) m k m' k' r
 unfolding print printed_values

@@ -70,12 +70,14 @@ pub enum Entry {
     Loop(LoopEntry, Loop),
 }
 
-/// The entries and the values that are kept for them, the newest last, and the value that an expression returned.
+/// The entries and the values that are kept for them, the newest last, the value that an expression returned, and the room for the
+/// values of a line that is printed in place.
 #[derive(Drop)]
 pub struct Stack {
     pub entries: Vec<Entry>,
     pub values: Vec<Value>,
     pub returned: Value,
+    pub line: Vec<Value>,
 }
 
 impl Stack {
@@ -85,6 +87,7 @@ impl Stack {
             entries: Vec::new(alloc),
             values: Vec::new(alloc),
             returned: Value::Nothing,
+            line: Vec::new(alloc),
         }
     }
 }

@@ -10,5 +10,5 @@ mod prints;
 mod statements;
 
 pub use awk_control::stack::Stack;
+pub use awk_prints::prints::print_record;
 pub use machine::{holds, run_action};
-pub use prints::print_record;

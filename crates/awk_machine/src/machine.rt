@@ -20,6 +20,7 @@ use awk_interpreter::Interpreter;
 use awk_meaning::Halt;
 use awk_plan::node::{Node, Operand, StatementNode};
 use awk_plan::plan::Plan;
+use awk_prints::prints::print_first;
 use awk_streams::World;
 
 /// Begins a `do`: the step of the statement, and then that of its first turn.
@@ -225,7 +226,7 @@ pub fn holds<W: World>(
     Ok(is_returned_true(passed, stack))
 }
 
-/// Runs an action, which ends with its statements: in place as far as that goes, and the rest on the stack. What was in the stack
+/// Runs an action, which ends with its statements: in place as far as that goes, prints too, and the rest on the stack. What was in the stack
 /// is gone. (POSIX awk, Actions)
 pub fn run_action<W: World>(
     plan: &Plan,
@@ -237,10 +238,19 @@ pub fn run_action<W: World>(
     ensures { Follows W.is_logged (run_action (statements_in (part_of plan.now place))) interpreter.old
         (W.state world.old) interpreter.new (W.state world.new) result }
 {
-    let at = match advance(plan, place, interpreter) {
-        Reached::Ended(_) => return Ok(()),
-        Reached::Before(at) => at,
-    };
-    run(plan, Focus::Block(at), stack, interpreter, world)?;
-    Ok(())
+    let mut at = place;
+    'prints: loop {
+        match advance(plan, at, interpreter) {
+            Reached::Ended(_) => return Ok(()),
+            Reached::Before(next) => {
+                match print_first(plan, next, &mut stack.line, interpreter, world)? {
+                    Some(rest) => at = rest,
+                    None => {
+                        run(plan, Focus::Block(next), stack, interpreter, world)?;
+                        return Ok(());
+                    }
+                }
+            }
+        }
+    }
 }

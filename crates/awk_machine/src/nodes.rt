@@ -1,5 +1,4 @@
-// The expressions of a plan and their lists, and what leaves stand for. A place of another sort stands for what is least: 0, or
-// the empty list.
+// The expressions of a plan, and what leaves stand for. A place of another sort stands for 0.
 
 ghost use Rattle.std.specs.Prelude.{◌≡◌, option_map};
 ghost use Rattle.awk_plan.specs.Plan.{operand_of, name_at};
@@ -8,12 +7,12 @@ ghost use Rattle.awk_tree.specs.Tree.{Ere as Pattern};
 ghost use Rattle.awk_meaning.specs.Operators.{takes_pattern};
 ghost use Rattle.awk_meaning.specs.Semantics.{eval};
 ghost use Rattle.awk_interpreter.specs.Simulation.{Changes};
-ghost use Rattle.awk_machine.specs.support.Nodes.{IsExpression, IsList, IsPatternOperand};
+ghost use Rattle.awk_machine.specs.support.Nodes.{IsExpression, IsPatternOperand};
 
 use awk_interpreter::Interpreter;
 use awk_meaning::Halt;
 use awk_operators::takes_pattern;
-use awk_plan::node::{ExprNode, ListNode, Node, Operand};
+use awk_plan::node::{ExprNode, Node, Operand};
 use awk_plan::plan::Plan;
 use awk_tree::tree::{BinaryOperator, Ere};
 use awk_value::Value;
@@ -30,21 +29,6 @@ pub(crate) fn expression(plan: &Plan, place: u32) -> Option<ExprNode>
         Some(Node::Block(_)) => None,
         Some(Node::Absent) => None,
         None => None,
-    }
-}
-
-/// The list of expressions at a place.
-pub(crate) fn list(plan: &Plan, place: u32) -> ListNode
-    ensures { IsList plan.now place result }
-{
-    match plan.node(place) {
-        Some(Node::List(node)) => node,
-        Some(Node::Expression(_)) => ListNode::Nil,
-        Some(Node::Simple(_)) => ListNode::Nil,
-        Some(Node::Statement(_)) => ListNode::Nil,
-        Some(Node::Block(_)) => ListNode::Nil,
-        Some(Node::Absent) => ListNode::Nil,
-        None => ListNode::Nil,
     }
 }
 

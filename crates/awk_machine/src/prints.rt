@@ -1,32 +1,19 @@
 // The moves of prints.
 
 ghost use Rattle.awk_plan.specs.Plan.{part_of, exprs_in};
-ghost use Rattle.awk_tree.specs.Tree.{Simple, Print, Nil};
-ghost use Rattle.awk_meaning.specs.Semantics.{print};
-ghost use Rattle.awk_interpreter.specs.Simulation.{Follows};
+ghost use Rattle.awk_tree.specs.Tree.{Simple, Print};
 ghost use Rattle.awk_control.specs.Stack.{BeginStatement, Ended};
 ghost use Rattle.awk_control.specs.Moves.{Moves, stack_of, topped, flow_of};
 
 use crate::expressions::{await_value, take_value};
-use crate::nodes::list;
 use crate::statements::spend_for;
 use awk_control::stack::{Entry, Focus, Move, Passed, Stack, StatementEntry};
 use awk_interpreter::Interpreter;
 use awk_meaning::{Fault, Halt};
 use awk_plan::node::ListNode;
 use awk_plan::plan::Plan;
+use awk_prints::prints::{list, print_record};
 use awk_streams::World;
-
-/// Prints the record (POSIX awk, Output Statements).
-pub fn print_record<W: World>(interpreter: &mut Interpreter, world: &mut W) -> Result<(), Halt>
-    ensures { Follows W.is_logged (print Nil) interpreter.old (W.state world.old) interpreter.new
-        (W.state world.new) result }
-{
-    interpreter.spend()?;
-    let text = interpreter.record_text()?;
-    let values = vec![in interpreter.alloc; text]?;
-    interpreter.print_line(world, &values)
-}
 
 /// Begins a print: the record is printed at once, and a list is evaluated first.
 pub(crate) fn begin_print<W: World>(

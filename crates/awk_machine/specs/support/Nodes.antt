@@ -3,11 +3,8 @@ use Rattle.std.specs.Prelude.{◌≡◌, ℕ, pos, List, length, Bool, true, Opt
 use Rattle.awk_value.specs.declared.value.Value.{Value}
 use Rattle.awk_tree.specs.Tree as t
 use Rattle.awk_plan.specs.declared.node.ExprNode.{ExprNode}
-use Rattle.awk_plan.specs.declared.node.ListNode.{ListNode}
-use Rattle.awk_plan.specs.declared.node.SimpleNode.{SimpleNode}
-use Rattle.awk_plan.specs.declared.node.BlockNode.{BlockNode}
 use Rattle.awk_plan.specs.declared.node.Node.TheVariants as node
-use Rattle.awk_plan.specs.Plan.{Program, part_of, expr_in, exprs_in, statement_in, statements_in, optional_simple_in, made_expr, made_list, made_simple, made_block}
+use Rattle.awk_plan.specs.Plan.{Program, part_of, expr_in, made_expr}
 use Rattle.awk_plan.specs.Order.{HasEre}
 use Rattle.awk_meaning.specs.State.{Run}
 use Rattle.awk_meaning.specs.Semantics.{right_operand}
@@ -16,9 +13,6 @@ module _ (plan : Program) (place : ℕ) where
   abbrev pub IsExpression : Option ExprNode → Type 0
   IsExpression (Some n) = (expr_in (part_of plan place) ≡ made_expr plan.tables (part_of plan) n) × HasEre (length plan.tables.eres) (node.Expression n)
   IsExpression None = expr_in (part_of plan place) ≡ t.Number (pos 0)
-
-  abbrev pub IsList : ListNode → Type 0
-  IsList n = exprs_in (part_of plan place) ≡ made_list plan.tables (part_of plan) n
 
 -- right of an operator stands this pattern, or an operand that is evaluated
 abbrev pub IsPatternOperand : Bool → t.Expr → Option (List ℕ) → Type 0

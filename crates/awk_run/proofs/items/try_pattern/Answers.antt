@@ -8,7 +8,7 @@ returns-in_err-selects g c =
     rw (p.1, p.2) (pattern_halts c.in_err-selects.ensures)
 
 pub returns-then-branch : goal.returns-then-branch
-returns-then-branch g c = pattern_holds (rw c.if-branch.true at (c.in_ok-selects.ensures {u = tt})) c.print_record.ensures
+returns-then-branch g c = pattern_holds (rw c.if-branch.true at (c.in_ok-selects.ensures {u = tt})) c.print_record.ensures.prints
 
 pub returns-else-branch : goal.returns-else-branch
 returns-else-branch g c = pattern_fails (rw c.if-branch.false at (c.in_ok-selects.ensures {u = tt}))

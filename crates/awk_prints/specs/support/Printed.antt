@@ -1,0 +1,60 @@
+-- What is printed in place.
+use Rattle.std.specs.Prelude.{◌≡◌, ℕ, suc, ◌<◌, List, [], ◌++◌, Bool, true, false, Option, None, Some, Result, Ok, Err}
+use Rattle.awk_value.specs.declared.value.Value.{Value}
+use Rattle.awk_streams.specs.WorldState.{WorldState}
+use Rattle.awk_tree.specs.Tree.{Exprs, Nil, Cons}
+use Rattle.awk_plan.specs.declared.node.ListNode.{ListNode}
+use Rattle.awk_plan.specs.Plan.{Program, part_of, exprs_in, statements_in, made_list}
+use Rattle.awk_meaning.specs.declared.halt.Halt.{Halt}
+use Rattle.awk_meaning.specs.State.{Run, ◌>>=◌}
+use Rattle.awk_meaning.specs.Primitives.{print_line}
+use Rattle.awk_meaning.specs.Semantics.{eval_all, print}
+use Rattle.awk_interpreter.specs.declared.interpreter.Interpreter.{Interpreter}
+use Rattle.awk_interpreter.specs.Simulation.{Changes, Follows}
+use Rattle.awk_control.specs.Stack.{BeginBlock, Rest, Leads}
+
+abbrev pub IsList : Program → (place : ℕ) → ListNode → Type 0
+IsList plan place n = exprs_in (part_of plan place) ≡ made_list plan.tables (part_of plan) n
+
+-- how many expressions a list has
+abbrev pub count_of : Exprs → ℕ
+count_of Nil = 0
+count_of (Cons e rest) = suc (count_of rest)
+
+-- the values of a list are found, and stand behind others; nothing changes
+pub record FindsAll (list : Exprs) (m : Interpreter) (old new : List Value) : Type 0 where
+  pub values : List Value
+  pub behind : new ≡ old ++ values
+  pub changes : (front : List Value) → Changes (eval_all front list) m m (Ok (front ++ values))
+
+-- what a print with a list does behind its step
+abbrev pub list_printed : Exprs → Run (Unit {0})
+list_printed list = eval_all [] list >>= λ vs. print_line vs
+
+-- a list is printed behind the step, or some value isn't found, and nothing changes
+abbrev pub PrintsList : Type 0 → Exprs → Interpreter → WorldState → Result Bool Halt → Interpreter → WorldState → Type 0
+PrintsList is_logged list m k (Ok true) m' k' = Follows is_logged (list_printed list) m k m' k' (Ok tt)
+PrintsList is_logged list m k (Ok false) m' k' = (m' ≡ m) × (k' ≡ k)
+PrintsList is_logged list m k (Err h) m' k' = Follows is_logged (list_printed list) m k m' k' (Err h)
+
+-- a print is executed, and spends its step
+pub record Prints (is_logged : Type 0) (list : Exprs) (m : Interpreter) (k : WorldState) (m' : Interpreter) (k' : WorldState) : Type 0 where
+  pub follows : Follows is_logged (print list) m k m' k' (Ok tt)
+  pub falls : m'.steps < m.steps
+
+-- a print is executed, or some value isn't found, and nothing changes
+abbrev pub PrintsBy : Type 0 → Exprs → Interpreter → WorldState → Result Bool Halt → Interpreter → WorldState → Type 0
+PrintsBy is_logged list m k (Ok true) m' k' = Prints is_logged list m k m' k'
+PrintsBy is_logged list m k (Ok false) m' k' = (m' ≡ m) × (k' ≡ k)
+PrintsBy is_logged list m k (Err h) m' k' = Follows is_logged (print list) m k m' k' (Err h)
+
+-- statements lead to others, and spend a step
+pub record Passes (is_logged : Type 0) (plan : Program) (from to : ℕ) (m : Interpreter) (k : WorldState) (m' : Interpreter) (k' : WorldState) : Type 0 where
+  pub leads : Leads is_logged (BeginBlock (statements_in (part_of plan from))) [] m k (BeginBlock (statements_in (part_of plan to))) [] m' k'
+  pub falls : m'.steps < m.steps
+
+-- the first of some statements is executed, which is a print, or nothing changes
+abbrev pub PrintsFirst : Type 0 → Program → (place : ℕ) → Interpreter → WorldState → Result (Option ℕ) Halt → Interpreter → WorldState → Type 0
+PrintsFirst is_logged plan place m k (Ok (Some rest)) m' k' = Passes is_logged plan place rest m k m' k'
+PrintsFirst is_logged plan place m k (Ok None) m' k' = (m' ≡ m) × (k' ≡ k)
+PrintsFirst is_logged plan place m k (Err h) m' k' = Rest is_logged (BeginBlock (statements_in (part_of plan place))) [] m k m' k' (Err h)

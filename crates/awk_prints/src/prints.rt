@@ -1,0 +1,147 @@
+// Prints. The values of a list are looked for in place, in its order, and a list of which one isn't found is left to the stack:
+// what was found until then has changed nothing.
+
+ghost use Rattle.std.specs.Prelude.{◌≡◌, true, ◌<◌, IfOk};
+ghost use Rattle.awk_plan.specs.Plan.{part_of, exprs_in};
+ghost use Rattle.awk_tree.specs.Tree.{Nil};
+ghost use Rattle.awk_meaning.specs.Semantics.{print};
+ghost use Rattle.awk_interpreter.specs.Simulation.{Follows};
+ghost use Rattle.awk_prints.specs.support.Printed.{IsList, FindsAll, PrintsList, PrintsBy, PrintsFirst};
+
+use awk_control::blocks::{block, simple};
+use awk_fast_path::found;
+use awk_interpreter::Interpreter;
+use awk_meaning::Halt;
+use awk_plan::node::{BlockNode, ListNode, Node, SimpleNode};
+use awk_plan::plan::Plan;
+use awk_streams::World;
+use awk_value::Value;
+use std::alloc::AllocError;
+
+/// The list of expressions at a place. A place of another sort stands for the empty list.
+pub fn list(plan: &Plan, place: u32) -> ListNode
+    ensures { IsList plan.now place result }
+{
+    match plan.node(place) {
+        Some(Node::List(node)) => node,
+        Some(Node::Expression(_)) => ListNode::Nil,
+        Some(Node::Simple(_)) => ListNode::Nil,
+        Some(Node::Statement(_)) => ListNode::Nil,
+        Some(Node::Block(_)) => ListNode::Nil,
+        Some(Node::Absent) => ListNode::Nil,
+        None => ListNode::Nil,
+    }
+}
+
+/// Prints the record (POSIX awk, Output Statements).
+pub fn print_record<W: World>(interpreter: &mut Interpreter, world: &mut W) -> Result<(), Halt>
+    ensures prints { Follows W.is_logged (print Nil) interpreter.old (W.state world.old) interpreter.new
+        (W.state world.new) result }
+    ensures falls { IfOk result (λ _. interpreter.new.steps < interpreter.old.steps) }
+{
+    interpreter.spend()?;
+    let text = interpreter.record_text()?;
+    interpreter.print_line(world, &[text])
+}
+
+/// Puts the values of a list's expressions behind those that stand in the room, as far as they are found in place: whether all are.
+fn find_values(
+    plan: &Plan,
+    place: u32,
+    values: &mut Vec<Value>,
+    interpreter: &mut Interpreter,
+) -> Result<bool, AllocError>
+    ensures found { IfOk result (λ all. all ≡ true → FindsAll (exprs_in (part_of plan.now place)) interpreter.old
+        values.old.items values.new.items) }
+    ensures kept { interpreter.new ≡ interpreter.old }
+{
+    let mut at = place;
+    'values: loop {
+        match list(plan, at) {
+            ListNode::Nil => return Ok(true),
+            ListNode::Cons(e, rest) => match found(plan, e, interpreter) {
+                Some(value) => {
+                    values.push(value)?;
+                    at = rest;
+                }
+                None => return Ok(false),
+            },
+        }
+    }
+}
+
+/// Prints the values of a list behind the step of its statement, if each is found in place. Else nothing changes. What stood in
+/// the room is gone. (POSIX awk, Output Statements)
+pub fn print_list<W: World>(
+    plan: &Plan,
+    place: u32,
+    values: &mut Vec<Value>,
+    interpreter: &mut Interpreter,
+    world: &mut W,
+) -> Result<bool, Halt>
+    ensures { PrintsList W.is_logged (exprs_in (part_of plan.now place)) interpreter.old (W.state world.old) result
+        interpreter.new (W.state world.new) }
+{
+    values.clear();
+    let all = find_values(plan, place, values, interpreter)?;
+    if all {
+        interpreter.print_line(world, values)?;
+        values.clear();
+        return Ok(true);
+    }
+    values.clear();
+    Ok(false)
+}
+
+/// Executes a print whose values are found in place. Else nothing changes.
+fn execute_print<W: World>(
+    plan: &Plan,
+    place: u32,
+    values: &mut Vec<Value>,
+    interpreter: &mut Interpreter,
+    world: &mut W,
+) -> Result<bool, Halt>
+    ensures { PrintsBy W.is_logged (exprs_in (part_of plan.now place)) interpreter.old (W.state world.old) result
+        interpreter.new (W.state world.new) }
+{
+    match list(plan, place) {
+        ListNode::Nil => {
+            print_record(interpreter, world)?;
+            Ok(true)
+        }
+        ListNode::Cons(_, _) => {
+            let steps = interpreter.steps;
+            if interpreter.take_step() {
+                if print_list(plan, place, values, interpreter, world)? {
+                    return Ok(true);
+                }
+                interpreter.steps = steps;
+            }
+            Ok(false)
+        }
+    }
+}
+
+/// Executes the first statement of a block, if that is a print whose values are found in place: where the statements behind it
+/// stand. Else nothing changes. What stood in the room is gone. (POSIX awk, Actions)
+pub fn print_first<W: World>(
+    plan: &Plan,
+    place: u32,
+    values: &mut Vec<Value>,
+    interpreter: &mut Interpreter,
+    world: &mut W,
+) -> Result<Option<u32>, Halt>
+    ensures { PrintsFirst W.is_logged plan.now place interpreter.old (W.state world.old) result interpreter.new
+        (W.state world.new) }
+{
+    let BlockNode::Then(statement, rest) = block(plan, place) else {
+        return Ok(None);
+    };
+    let Some(SimpleNode::Print(list)) = simple(plan, statement) else {
+        return Ok(None);
+    };
+    if execute_print(plan, list, values, interpreter, world)? {
+        return Ok(Some(rest));
+    }
+    Ok(None)
+}
