@@ -2,7 +2,7 @@
 # Times loops, operators, texts that are joined and loops over records, beside the other awks of this machine, and prints
 # the least seconds of the rounds. Needs GNU time and seq.
 #
-#   bench/control/times.sh [ROUNDS]
+#   bench/control/times.sh [ROUNDS [EXECUTABLE]]    without an executable: the one that the launcher builds
 set -eu
 
 rounds=${1:-3}
@@ -12,14 +12,18 @@ trap 'rm -rf "$work"' EXIT
 
 seq 1 500000 | sed 's/.*/word & line/' >"$work/input"
 
-"$root/awk" '' </dev/null
+if [ "$#" -lt 2 ]; then
+    "$root/awk" '' </dev/null
+    set -- "$rounds" "$root/out/awk"
+fi
+executable=$2
 
 . "$root/bench/rounds.sh"
 
 # Runs one of them on the input, and notes its seconds and its peak memory.
 measure() {
     case $1 in
-    this) set -- "$1" "$root/out/awk" "$2" ;;
+    this) set -- "$1" "$executable" "$2" ;;
     *) set -- "$1" "$1" "$2" ;;
     esac
     LC_ALL=C command time -f '%e %M' -o "$work/$1.times" -a "$2" "$3" <"$work/input" >"$work/$1.output"
