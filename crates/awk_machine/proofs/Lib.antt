@@ -1,4 +1,1 @@
-mod Leaves
-mod Stores
-mod LeafMoves
-mod OperandMoves
+mod Printing

@@ -1,11 +1,8 @@
-//! The evaluator: expressions and statements of a plan, over the state of a run and a world.
+//! The machine: statements of a plan and their moves, over the state of a run and a world.
 #![tactic(auto)]
 
-mod assignments;
-mod expressions;
 mod loops;
 mod machine;
-mod nodes;
 mod prints;
 mod statements;
 

@@ -5,10 +5,10 @@ ghost use Rattle.awk_meaning.specs.Semantics.{ending};
 ghost use Rattle.awk_control.specs.Stack.{BeginStatement, Ended, LastPart, LoopTurn};
 ghost use Rattle.awk_control.specs.Moves.{Steps, SpendsFor, stack_of, loop_of, for_of, topped, flow_of};
 
-use crate::expressions::{await_value, is_returned_true};
 use awk_control::blocks::simple;
 use awk_control::in_place::{Turns, ending, execute_last, make_turns};
 use awk_control::stack::{Entry, Focus, Loop, LoopEntry, Move, Passed, Stack};
+use awk_expressions::expressions::{await_value, is_returned_true};
 use awk_interpreter::Interpreter;
 use awk_meaning::Halt;
 use awk_plan::plan::Plan;

@@ -8,13 +8,14 @@ ghost use Rattle.awk_interpreter.specs.Simulation.{Follows};
 ghost use Rattle.awk_control.specs.Stack.{BeginStatement, BeginBlock, Ended};
 ghost use Rattle.awk_control.specs.Moves.{Moves, Steps, Walks, Runs, Tests, stack_of, focus_of, topped, flow_of, ran};
 
-use crate::expressions::{begin_expr, end_operand, is_returned_true};
 use crate::loops::{begin_for, begin_loop, end_loop};
 use crate::statements::{begin_block, begin_simple, end_statement, spend_for};
 use awk_control::in_place::{Reached, advance};
 use awk_control::stack::{
     Entry, Focus, Loop, LoopEntry, Move, Passed, Stack, Stage, StatementEntry,
 };
+use awk_expressions::expressions::{begin_expr, end_operand, is_returned_true};
+use awk_expressions::patterns::test_match;
 use awk_fast_path::test;
 use awk_interpreter::Interpreter;
 use awk_meaning::Halt;
@@ -219,6 +220,9 @@ pub fn holds<W: World>(
     ensures { Tests W.is_logged (operand_of plan.now e) interpreter.old (W.state world.old) interpreter.new
         (W.state world.new) result }
 {
+    if let Some(matches) = test_match(plan, e, interpreter)? {
+        return Ok(matches);
+    }
     if let Some(holds) = test(plan, e, interpreter) {
         return Ok(holds);
     }
@@ -226,8 +230,8 @@ pub fn holds<W: World>(
     Ok(is_returned_true(passed, stack))
 }
 
-/// Runs an action, which ends with its statements: in place as far as that goes, prints too, and the rest on the stack. What was in the stack
-/// is gone. (POSIX awk, Actions)
+/// Runs an action, which ends with its statements: in place as far as that goes, prints too, and the rest on the stack. What
+/// was in the stack is gone. (POSIX awk, Actions)
 pub fn run_action<W: World>(
     plan: &Plan,
     place: u32,

@@ -5,17 +5,17 @@ ghost use Rattle.awk_tree.specs.Tree.{Simple, Print};
 ghost use Rattle.awk_control.specs.Stack.{BeginStatement, Ended};
 ghost use Rattle.awk_control.specs.Moves.{Moves, stack_of, topped, flow_of};
 
-use crate::expressions::{await_value, take_value};
-use crate::statements::spend_for;
 use awk_control::stack::{Entry, Focus, Move, Passed, Stack, StatementEntry};
+use awk_expressions::expressions::{await_value, take_value};
 use awk_interpreter::Interpreter;
 use awk_meaning::{Fault, Halt};
 use awk_plan::node::ListNode;
 use awk_plan::plan::Plan;
-use awk_prints::prints::{list, print_record};
+use awk_prints::prints::{list, print_list, print_record};
 use awk_streams::World;
 
-/// Begins a print: the record is printed at once, and a list is evaluated first.
+/// Begins a print, behind its step: the record is printed at once, and so is a list whose values are found in place; of another
+/// the first expression is evaluated.
 pub(crate) fn begin_print<W: World>(
     plan: &Plan,
     place: u32,
@@ -33,8 +33,13 @@ pub(crate) fn begin_print<W: World>(
             Ok(Move::On(Focus::Ended(Passed::Normal)))
         }
         ListNode::Cons(e, rest) => {
+            interpreter.spend()?;
+            if print_list(plan, place, &mut stack.line, interpreter, world)? {
+                return Ok(Move::Spent(Focus::Ended(Passed::Normal)));
+            }
             let entry = Entry::Statement(StatementEntry::Printed(rest, 0));
-            spend_for(entry, e, stack, interpreter)
+            stack.entries.push(entry)?;
+            Ok(Move::Spent(Focus::Expr(e)))
         }
     }
 }

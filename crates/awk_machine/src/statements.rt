@@ -1,16 +1,16 @@
 // The moves of statements that are no loops.
 
-ghost use Rattle.std.specs.Prelude.{◌≡◌, [], ◌∷◌};
+ghost use Rattle.std.specs.Prelude.{◌≡◌, [], ◌∷◌, Ok};
 ghost use Rattle.awk_plan.specs.Plan.{operand_of, made_simple, part_of, exprs_in, statement_in, statements_in};
 ghost use Rattle.awk_tree.specs.Tree.{Simple, Expression};
 ghost use Rattle.awk_control.specs.Stack.{BeginStatement, BeginBlock, Ended};
 ghost use Rattle.awk_control.specs.Moves.{Moves, Steps, SpendsFor, stack_of, topped, flow_of};
 
-use crate::expressions::{is_returned_true, take_value};
 use crate::prints::{begin_print, end_printed};
 use awk_control::blocks::block;
 use awk_control::in_place::{Reached, advance};
 use awk_control::stack::{Entry, Focus, Move, Passed, Stack, StatementEntry};
+use awk_expressions::expressions::{is_returned_true, take_value};
 use awk_interpreter::Interpreter;
 use awk_meaning::Halt;
 use awk_plan::node::{BlockNode, Operand, SimpleNode};
@@ -111,6 +111,33 @@ pub(crate) fn begin_block(
     }
 }
 
+/// Goes on behind the value of an `exit`, which is the status then.
+fn end_status(
+    passed: Passed,
+    stack: &mut Stack,
+    interpreter: &mut Interpreter,
+) -> Result<Move, Halt>
+    ensures { (plan : _) → Steps plan (Ended (flow_of passed stack.old.returned)) (topped plan (Entry.Statement
+        StatementEntry.ExitStatus) stack.old) interpreter.old result stack.new interpreter.new }
+{
+    let value = take_value(passed, stack);
+    interpreter.set_status(&value)?;
+    Err(Halt::Exit)
+}
+
+/// Where a statement leads that has others behind it.
+fn end_followed(rest: u32, passed: Passed) -> Move
+    ensures { (plan : _) (stack : _) (m : _) → Steps plan (Ended (flow_of passed stack.returned)) (topped plan (Entry.Statement
+        (StatementEntry.Followed rest)) stack) m (Ok result) stack m }
+{
+    match passed {
+        Passed::Normal => Move::On(Focus::Block(rest)),
+        Passed::Break => Move::On(Focus::Ended(Passed::Break)),
+        Passed::Continue => Move::On(Focus::Ended(Passed::Continue)),
+        Passed::Returned => Move::On(Focus::Ended(Passed::Returned)),
+    }
+}
+
 /// Goes on behind what a statement waits for.
 pub(crate) fn end_statement<W: World>(
     plan: &Plan,
@@ -129,17 +156,8 @@ pub(crate) fn end_statement<W: World>(
             end_printed(plan, rest, count, passed, stack, interpreter, world)
         }
         StatementEntry::Evaluated => Ok(Move::On(Focus::Ended(Passed::Normal))),
-        StatementEntry::ExitStatus => {
-            let value = take_value(passed, stack);
-            interpreter.set_status(&value)?;
-            Err(Halt::Exit)
-        }
-        StatementEntry::Followed(rest) => match passed {
-            Passed::Normal => Ok(Move::On(Focus::Block(rest))),
-            Passed::Break => Ok(Move::On(Focus::Ended(Passed::Break))),
-            Passed::Continue => Ok(Move::On(Focus::Ended(Passed::Continue))),
-            Passed::Returned => Ok(Move::On(Focus::Ended(Passed::Returned))),
-        },
+        StatementEntry::ExitStatus => end_status(passed, stack, interpreter),
+        StatementEntry::Followed(rest) => Ok(end_followed(rest, passed)),
         StatementEntry::IfCondition(body) => {
             if is_returned_true(passed, stack) {
                 Ok(Move::On(Focus::Statement(body)))

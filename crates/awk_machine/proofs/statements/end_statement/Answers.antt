@@ -1,7 +1,6 @@
 use Rattle.std.proofs.Common.{refl, sym, ◌∙◌, arith}
-use Rattle.std.proofs.lemmas.Result.{err_from_is_err_and}
-use Rattle.awk_control.proofs.StatementMoves.{evaluated_ends, status_stops, status_halts, follows, follows_none, if_holds, if_fails, if_else_holds, if_else_fails}
-use Rattle.awk_control.proofs.Steps.{onward, halts, stepped}
+use Rattle.awk_control.proofs.StatementMoves.{evaluated_ends, if_holds, if_fails, if_else_holds, if_else_fails}
+use Rattle.awk_control.proofs.Steps.{onward, stepped}
 use Rattle.awk_machine.proofs.statements.end_statement.Goals as goal
 
 pub returns-in-Printed : goal.returns-in-Printed
@@ -10,28 +9,11 @@ returns-in-Printed g c = rw c.in-Printed.is c.end_printed.ensures
 pub returns-in-Evaluated : goal.returns-in-Evaluated
 returns-in-Evaluated g c = rw c.in-Evaluated.is (stepped _ (onward refl (λ k. evaluated_ends _) (omega arith) (omega arith) refl))
 
-pub returns-in_err-set_status-in-ExitStatus : goal.returns-in_err-set_status-in-ExitStatus
-returns-in_err-set_status-in-ExitStatus g c =
-    let p = err_from_is_err_and c.from_residual.result c.from_residual.ensures.1 in
-    let q = rw c.take_value-value.ensures.value at c.in_err-set_status-in-ExitStatus.ensures in
-    rw (p.1, p.2, c.in-ExitStatus.is) (stepped _ (halts (λ k. status_stops _ q) q.steps q.streams))
+pub returns-in-ExitStatus : goal.returns-in-ExitStatus
+returns-in-ExitStatus g c = rw c.in-ExitStatus.is (stepped _ (c.end_status.ensures c.args.plan.now))
 
-pub returns-in_ok-set_status-in-ExitStatus : goal.returns-in_ok-set_status-in-ExitStatus
-returns-in_ok-set_status-in-ExitStatus g c =
-    let q = rw c.take_value-value.ensures.value at c.in_ok-set_status-in-ExitStatus.ensures in
-    rw c.in-ExitStatus.is (stepped _ (halts (λ k. status_halts _ q) q.steps q.streams))
-
-pub returns-in-Normal : goal.returns-in-Normal
-returns-in-Normal g c = rw (c.in-Followed.is, c.in-Normal.is) (stepped _ (onward refl (λ k. follows _) (omega arith) (omega arith) refl))
-
-pub returns-in-Break : goal.returns-in-Break
-returns-in-Break g c = rw (c.in-Followed.is, c.in-Break.is) (stepped _ (onward refl (λ k. follows_none _ _ (λ q. absurd (cc))) (omega arith) (omega arith) refl))
-
-pub returns-in-Continue : goal.returns-in-Continue
-returns-in-Continue g c = rw (c.in-Followed.is, c.in-Continue.is) (stepped _ (onward refl (λ k. follows_none _ _ (λ q. absurd (cc))) (omega arith) (omega arith) refl))
-
-pub returns-in-Returned : goal.returns-in-Returned
-returns-in-Returned g c = rw (c.in-Followed.is, c.in-Returned.is) (stepped _ (onward refl (λ k. follows_none _ _ (λ q. absurd (cc))) (omega arith) (omega arith) refl))
+pub returns-in-Followed : goal.returns-in-Followed
+returns-in-Followed g c = rw c.in-Followed.is (stepped _ (c.end_followed.ensures c.args.plan.now c.args.stack.now c.args.interpreter.now))
 
 pub returns-then-is_returned_true : goal.returns-then-is_returned_true
 returns-then-is_returned_true g c =

@@ -1,0 +1,5 @@
+mod Leaves
+mod Stores
+mod LeafMoves
+mod OperandMoves
+mod Tested

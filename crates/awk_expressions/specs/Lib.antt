@@ -1,0 +1,3 @@
+pub mod support
+pub use Rattle.awk_expressions.specs.support.Matches
+pub use Rattle.awk_expressions.specs.support.Nodes
