@@ -2,7 +2,7 @@
 // they leave, beside what the same programs leave undisturbed.
 ghost use Rattle.std.specs.Prelude.{◌≤◌};
 
-use super::accepted::PROGRAMS;
+use super::{accepted, separators};
 use crate::rows::{Row, expect_rows, rows_of};
 use awk_command::{CommandLine, ProgramSource, read_command_line};
 use awk_run::{Fault, Outcome, Start, execute};
@@ -302,16 +302,29 @@ fn expect_disturbances(rt: &impl Abort, alloc: Global, program: Program) -> Resu
     expect_limits(rt, alloc, &program, &whole)
 }
 
+fn expect_disturbed_rows(rt: &impl Abort, alloc: Global, table: &str) -> Result<(), Fail> {
+    for buffer in [3, OUTPUT_BUFFER_SIZE] {
+        for row in rows_of(alloc, table)? {
+            let program = program_of(alloc, row, buffer)?;
+            expect_disturbances(rt, alloc, program)?;
+        }
+    }
+    Ok(())
+}
+
 #[test]
 fn disturbed_programs(rt: HostRuntime) -> Result<(), Fail> {
     expect_rows(&rt, rt.alloc(), FAILED)?;
-    for table in PROGRAMS {
-        for buffer in [3, OUTPUT_BUFFER_SIZE] {
-            for row in rows_of(rt.alloc(), table)? {
-                let program = program_of(rt.alloc(), row, buffer)?;
-                expect_disturbances(&rt, rt.alloc(), program)?;
-            }
-        }
+    for table in accepted::PROGRAMS {
+        expect_disturbed_rows(&rt, rt.alloc(), table)?;
+    }
+    Ok(())
+}
+
+#[test]
+fn disturbed_separators(rt: HostRuntime) -> Result<(), Fail> {
+    for table in separators::PROGRAMS {
+        expect_disturbed_rows(&rt, rt.alloc(), table)?;
     }
     Ok(())
 }
