@@ -146,39 +146,58 @@ fn pairs_of(alloc: Global, table: &Table) -> Result<Vec<u8>, ValueFault> {
     Ok(pairs)
 }
 
-/// Makes calls, and gives the pairs that they leave.
-fn pairs_behind(alloc: Global, calls: &[Call], table: &mut Table) -> Result<Vec<u8>, ValueFault> {
+fn make_calls(alloc: Global, calls: &[Call], table: &mut Table) -> Result<(), ValueFault> {
     for each in calls {
         make_call(alloc, table, *each)?;
-    }
-    pairs_of(alloc, table)
-}
-
-#[test]
-fn calls_leave_pairs(rt: HostRuntime) -> Result<(), Fail> {
-    for row in &ROWS {
-        let mut table = Table::new(rt.alloc());
-        let pairs = pairs_behind(rt.alloc(), row.calls, &mut table)?;
-        assert_eq!(rt; pairs.as_slice(), row.pairs.as_bytes(), "{row:?}");
     }
     Ok(())
 }
 
+/// That each row's calls leave its pairs.
+fn call_rows(rt: &impl Abort, alloc: Global, table: &mut Table) -> Result<(), ValueFault> {
+    for row in &ROWS {
+        table.clear();
+        make_calls(alloc, row.calls, table)?;
+        assert!(rt; leaves(alloc, table, row.pairs)?, "{row:?}");
+    }
+    Ok(())
+}
+
+#[test]
+fn calls_leave_pairs(rt: HostRuntime) -> Result<(), Fail> {
+    let mut table = Table::new(rt.alloc());
+    call_rows(&rt, rt.alloc(), &mut table)?;
+    Ok(())
+}
+
+/// Whether these pairs are left, each with a blank behind it.
+fn leaves(alloc: Global, table: &Table, pairs: &str) -> Result<bool, ValueFault> {
+    Ok(pairs_of(alloc, table)?.as_slice() == pairs.as_bytes())
+}
+
 /// Makes calls by numbers and by their decimal forms.
-fn call_by_numbers(rt: &impl Abort, alloc: Global, table: &mut Table) -> Result<(), ValueFault> {
+fn put_by_numbers(alloc: Global, table: &mut Table) -> Result<(), ValueFault> {
     table.put_number(-7, Value::Number(1))?;
     table.put(alloc, b"5", Value::Number(2))?;
     table.get_or_make_number(6)?;
+    Ok(())
+}
+
+fn ask_by_numbers(rt: &impl Abort, table: &Table) {
     assert!(rt; table.has(b"-7") && table.has(b"6") && table.has_number(5));
     assert!(rt; !table.has(b"7") && !table.has_number(7) && !table.has(b"-07"));
     assert!(rt; matches!(table.get(b"-7"), Some(Value::Number(1))));
     assert!(rt; matches!(table.get_number(5), Some(Value::Number(2))));
-    assert!(rt; matches!(table.get_or_make_number(5)?, Value::Number(2)));
     assert!(rt; matches!(table.get(b"6"), Some(Value::Nothing)));
+}
+
+fn call_by_numbers(rt: &impl Abort, alloc: Global, table: &mut Table) -> Result<(), ValueFault> {
+    put_by_numbers(alloc, table)?;
+    ask_by_numbers(rt, table);
+    assert!(rt; matches!(table.get_or_make_number(5)?, Value::Number(2)));
     table.remove_number(5);
     assert_eq!(rt; table.len(), 2);
-    let pairs = pairs_of(alloc, table)?;
-    assert_eq!(rt; pairs.as_slice(), b"-7=1 6= ".as_slice());
+    assert!(rt; leaves(alloc, table, "-7=1 6= ")?);
     Ok(())
 }
 
@@ -237,13 +256,17 @@ fn count_out_of_turn(alloc: Global, keys: &[Bytes]) -> Result<u32, ValueFault> {
     Ok(differing)
 }
 
+/// Whether all keys are left behind the rotations, in their order.
+fn goes_round(alloc: Global, table: &mut Table) -> Result<bool, ValueFault> {
+    rotate(alloc, table)?;
+    let keys = table.keys(alloc)?;
+    Ok(keys.len() == KEYS as usize && count_out_of_turn(alloc, keys.as_slice())? == 0)
+}
+
 #[test]
 fn rotations_cost_little(rt: HostRuntime) -> Result<(), Fail> {
     let mut table = Table::new(rt.alloc());
-    rotate(rt.alloc(), &mut table)?;
-    let keys = table.keys(rt.alloc())?;
-    assert_eq!(rt; keys.len(), KEYS as usize);
-    assert_eq!(rt; count_out_of_turn(rt.alloc(), keys.as_slice())?, 0);
+    assert!(rt; goes_round(rt.alloc(), &mut table)?);
     Ok(())
 }
 
@@ -370,16 +393,29 @@ fn count_differing(
     Ok(differing)
 }
 
-#[test]
-fn goes_as_a_plain_list(rt: HostRuntime) -> Result<(), Fail> {
+/// Takes 20 times 200 steps, each time from no pairs on.
+fn walk(
+    rt: &impl Abort,
+    alloc: Global,
+    table: &mut Table,
+    pairs: &mut Pairs,
+) -> Result<(), ValueFault> {
     let mut random = Random { state: 1 };
     for _ in 0..20 {
-        let mut table = Table::new(rt.alloc());
-        let mut pairs = Pairs {
-            pairs: Vec::new(rt.alloc()),
-        };
-        let differing = count_differing(rt.alloc(), 200, &mut random, &mut table, &mut pairs)?;
+        table.clear();
+        pairs.pairs.clear();
+        let differing = count_differing(alloc, 200, &mut random, table, pairs)?;
         assert_eq!(rt; differing, 0);
     }
+    Ok(())
+}
+
+#[test]
+fn goes_as_a_plain_list(rt: HostRuntime) -> Result<(), Fail> {
+    let mut table = Table::new(rt.alloc());
+    let mut pairs = Pairs {
+        pairs: Vec::new(rt.alloc()),
+    };
+    walk(&rt, rt.alloc(), &mut table, &mut pairs)?;
     Ok(())
 }

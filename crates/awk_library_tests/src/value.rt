@@ -8,6 +8,7 @@ use awk_value::{
 use std::alloc::{AllocError, Global};
 use std::cmp::Ordering;
 use std::cmp::Ordering::{Equal, Greater, Less};
+use std::process::Abort;
 use std::test::Fail;
 
 /// A value before its text is in memory.
@@ -167,18 +168,19 @@ const TEXTS: [(Given, &str); 5] = [
     (Input(" 7 "), " 7 "),
 ];
 
+/// The number of a value, and whether it is true.
+fn conversion(alloc: Global, given: Given) -> Result<(Result<i128, ValueFault>, bool), AllocError> {
+    let value = given.value(alloc)?;
+    Ok((number_of(&value), is_true(&value)))
+}
+
 #[test]
 fn conversions(rt: HostRuntime) -> Result<(), Fail> {
-    for (text, number, text_true, input_true) in CONVERSIONS {
-        let made = Text(text).value(rt.alloc())?;
-        let given = Input(text).value(rt.alloc())?;
-        let numbers = (number_of(&made), number_of(&given));
-        assert_eq!(rt; numbers, (number, number), "{text:?}");
-        assert_eq!(rt;
-            (is_true(&made), is_true(&given)),
-            (text_true, input_true),
-            "{text:?}"
-        );
+    for (text, number, text_true, input_true) in &CONVERSIONS {
+        let made = conversion(rt.alloc(), Text(text))?;
+        assert_eq!(rt; made, (*number, *text_true), "{text:?}");
+        let given = conversion(rt.alloc(), Input(text))?;
+        assert_eq!(rt; given, (*number, *input_true), "{text:?}");
     }
     Ok(())
 }
@@ -202,88 +204,128 @@ fn numbers(rt: HostRuntime) -> Result<(), Fail> {
     Ok(())
 }
 
+fn order(alloc: Global, left: Given, right: Given) -> Result<Option<Ordering>, AllocError> {
+    Ok(compare(&left.value(alloc)?, &right.value(alloc)?).ok())
+}
+
 #[test]
 fn orders(rt: HostRuntime) -> Result<(), Fail> {
-    for (left, right, order) in ORDERS {
-        let compared = compare(&left.value(rt.alloc())?, &right.value(rt.alloc())?);
-        assert_eq!(rt; compared, Ok(order), "{left:?} {right:?}");
+    for (left, right, ordering) in &ORDERS {
+        let compared = order(rt.alloc(), *left, *right)?;
+        assert_eq!(rt; compared, Some(*ordering), "{left:?} {right:?}");
     }
     Ok(())
 }
 
+fn number(value: Result<Value, ValueFault>) -> Result<i128, ValueFault> {
+    value.and_then(|value| number_of(&value))
+}
+
+fn product(
+    alloc: Global,
+    left: Given,
+    right: Given,
+) -> Result<Result<i128, ValueFault>, AllocError> {
+    Ok(number(multiply(&left.value(alloc)?, &right.value(alloc)?)))
+}
+
 #[test]
 fn products(rt: HostRuntime) -> Result<(), Fail> {
-    for (left, right, product) in PRODUCTS {
-        let value = multiply(&left.value(rt.alloc())?, &right.value(rt.alloc())?);
-        let number = value.and_then(|value| number_of(&value));
-        assert_eq!(rt; number, product, "{left:?} {right:?}");
+    for (left, right, expected) in &PRODUCTS {
+        let multiplied = product(rt.alloc(), *left, *right)?;
+        assert_eq!(rt; multiplied, *expected, "{left:?} {right:?}");
     }
     Ok(())
 }
 
 #[test]
 fn sums(rt: HostRuntime) {
-    for (m, n, sum, difference, remainder) in SUMS {
-        assert_eq!(rt; add(m, n), sum, "{m} {n}");
-        assert_eq!(rt; sub(m, n), difference, "{m} {n}");
-        assert_eq!(rt; rem(m, n), remainder, "{m} {n}");
+    for (m, n, sum, difference, left) in &SUMS {
+        assert_eq!(rt; add(*m, *n), *sum, "{m} {n}");
+        assert_eq!(rt; sub(*m, *n), *difference, "{m} {n}");
+        assert_eq!(rt; rem(*m, *n), *left, "{m} {n}");
     }
-    for (n, negative) in NEGATIVES {
-        assert_eq!(rt; neg(n), negative, "{n}");
+}
+
+#[test]
+fn negatives(rt: HostRuntime) {
+    for (n, negative) in &NEGATIVES {
+        assert_eq!(rt; neg(*n), *negative, "{n}");
     }
 }
 
 #[test]
 fn powers(rt: HostRuntime) {
-    for (m, n, power) in POWERS {
-        assert_eq!(rt; pow(m, n), power, "{m} {n}");
+    for (m, n, power) in &POWERS {
+        assert_eq!(rt; pow(*m, *n), *power, "{m} {n}");
     }
 }
 
-/// What the operations make of the numbers of a text from outside and of a number.
+/// What the operations make of the numbers of these values.
+fn operate(rt: &impl Abort, seven: &Value, three: &Value) {
+    assert_eq!(rt; number(plus(seven, three)), Ok(4));
+    assert_eq!(rt; number(minus(seven, three)), Ok(10));
+    assert_eq!(rt; number(remainder(seven, three)), Ok(1));
+    assert_eq!(rt; number(divide(seven, three)), Ok(-2));
+    assert_eq!(rt; number(power(three, seven)), Ok(-2187));
+    assert_eq!(rt; number(power(seven, three)), Err(ValueFault::NegativePower));
+    assert_eq!(rt; number(negate(seven)), Ok(-7));
+    assert_eq!(rt; number(to_number(seven)), Ok(7));
+}
+
+/// The same beside the least number, and beside no value.
+fn operate_at_limits(rt: &impl Abort, seven: &Value) {
+    let least = Value::Number(LEAST);
+    assert_eq!(rt; number(minus(&least, seven)), Err(ValueFault::Range));
+    assert_eq!(rt; number(negate(&least)), Err(ValueFault::Range));
+    assert_eq!(rt;
+        number(divide(&least, &Value::Number(-1))),
+        Err(ValueFault::Range)
+    );
+    assert_eq!(rt;
+        number(divide(seven, &Value::Nothing)),
+        Err(ValueFault::ZeroDivisor)
+    );
+    assert_eq!(rt;
+        number(remainder(seven, &Value::Nothing)),
+        Err(ValueFault::ZeroDivisor)
+    );
+    assert_eq!(rt; number(to_number(&Value::Nothing)), Ok(0));
+}
+
 #[test]
 fn operations(rt: HostRuntime) -> Result<(), Fail> {
     let seven = Input(" 7x").value(rt.alloc())?;
-    let three = Number(-3).value(rt.alloc())?;
-    let least = Number(LEAST).value(rt.alloc())?;
-    let rows = [
-        (plus(&seven, &three), Ok(4)),
-        (minus(&seven, &three), Ok(10)),
-        (remainder(&seven, &three), Ok(1)),
-        (divide(&seven, &three), Ok(-2)),
-        (
-            divide(&seven, &Value::Nothing),
-            Err(ValueFault::ZeroDivisor),
-        ),
-        (
-            divide(&least, &Number(-1).value(rt.alloc())?),
-            Err(ValueFault::Range),
-        ),
-        (
-            remainder(&seven, &Value::Nothing),
-            Err(ValueFault::ZeroDivisor),
-        ),
-        (power(&three, &seven), Ok(-2187)),
-        (power(&seven, &three), Err(ValueFault::NegativePower)),
-        (negate(&seven), Ok(-7)),
-        (negate(&least), Err(ValueFault::Range)),
-        (to_number(&seven), Ok(7)),
-        (to_number(&Value::Nothing), Ok(0)),
-        (minus(&least, &seven), Err(ValueFault::Range)),
-    ];
-    for (value, number) in rows {
-        assert_eq!(rt; value.and_then(|value| number_of(&value)), number);
-    }
+    operate(&rt, &seven, &Value::Number(-3));
+    operate_at_limits(&rt, &seven);
     Ok(())
+}
+
+/// Whether this is the text of a value.
+fn has_text(alloc: Global, value: &Value, text: &str) -> Result<bool, ValueFault> {
+    Ok(text_of(alloc, value)?.as_slice() == text.as_bytes())
+}
+
+/// Whether a value has this text, which is appended to the line.
+fn add_to_line(
+    alloc: Global,
+    given: Given,
+    text: &str,
+    line: &mut Vec<u8>,
+) -> Result<bool, ValueFault> {
+    let value = given.value(alloc)?.clone()?;
+    append_text(&value, line)?;
+    has_text(alloc, &value, text)
 }
 
 #[test]
 fn texts(rt: HostRuntime) -> Result<(), Fail> {
     let mut line = Vec::new(rt.alloc());
-    for (given, text) in TEXTS {
-        let value = given.value(rt.alloc())?.clone()?;
-        assert_eq!(rt; text_of(rt.alloc(), &value)?.as_slice(), text.as_bytes());
-        append_text(&value, &mut line)?;
+    for (given, text) in &TEXTS {
+        assert!(rt;
+            add_to_line(rt.alloc(), *given, text, &mut line)?,
+            "{given:?}"
+        );
     }
     assert_eq!(rt;
         line.as_slice(),
@@ -292,64 +334,109 @@ fn texts(rt: HostRuntime) -> Result<(), Fail> {
     Ok(())
 }
 
+/// Whether two values together make this text, and whether it is true.
+fn joined(
+    alloc: Global,
+    left: Given,
+    right: Given,
+    text: &str,
+) -> Result<(bool, bool), ValueFault> {
+    let both = concatenate(alloc, &left.value(alloc)?, &right.value(alloc)?)?;
+    Ok((has_text(alloc, &both, text)?, is_true(&both)))
+}
+
 #[test]
 fn concatenations(rt: HostRuntime) -> Result<(), Fail> {
     let alloc = rt.alloc();
-    let left = Input(" 7x").value(alloc)?;
-    let both = concatenate(alloc, &left, &Number(-3).value(alloc)?)?;
-    assert!(rt; text_of(alloc, &both)?.as_slice() == b" 7x-3".as_slice());
-    let none = concatenate(alloc, &Value::Nothing, &Value::Nothing)?;
-    assert!(rt; text_of(alloc, &none)?.is_empty() && !is_true(&none));
+    assert_eq!(rt;
+        joined(alloc, Input(" 7x"), Number(-3), " 7x-3")?,
+        (true, true)
+    );
+    assert_eq!(rt; joined(alloc, Nothing, Nothing, "")?, (true, false));
     Ok(())
+}
+
+fn lengthen(alloc: Global, value: &mut Value, tail: Given) -> Result<(), ValueFault> {
+    concatenate_in_place(alloc, value, &tail.value(alloc)?)?;
+    Ok(())
+}
+
+/// Lengthens a value by two texts, and then by itself. It gives the value before the last.
+fn grow(alloc: Global, value: &mut Value) -> Result<Value, ValueFault> {
+    lengthen(alloc, value, Number(-3))?;
+    lengthen(alloc, value, Text("x"))?;
+    let held = value.clone()?;
+    concatenate_in_place(alloc, value, &held)?;
+    Ok(held)
 }
 
 /// A value that grows becomes a text that was made, and no text that shares its memory changes.
 #[test]
 fn concatenations_in_place(rt: HostRuntime) -> Result<(), Fail> {
-    let alloc = rt.alloc();
     let mut value = Value::Nothing;
-    concatenate_in_place(alloc, &mut value, &Number(-3).value(alloc)?)?;
-    concatenate_in_place(alloc, &mut value, &Text("x").value(alloc)?)?;
-    let held = value.clone()?;
-    concatenate_in_place(alloc, &mut value, &held)?;
-    assert!(rt; text_of(alloc, &held)?.as_slice() == b"-3x".as_slice());
-    assert!(rt; text_of(alloc, &value)?.as_slice() == b"-3x-3x".as_slice());
-    let mut zero = Input("0").value(alloc)?;
+    let held = grow(rt.alloc(), &mut value)?;
+    assert!(rt; has_text(rt.alloc(), &held, "-3x")?);
+    assert!(rt; has_text(rt.alloc(), &value, "-3x-3x")?);
+    Ok(())
+}
+
+#[test]
+fn a_lengthened_input_is_a_text(rt: HostRuntime) -> Result<(), Fail> {
+    let mut zero = Input("0").value(rt.alloc())?;
     assert!(rt; !is_true(&zero));
-    concatenate_in_place(alloc, &mut zero, &Value::Nothing)?;
+    lengthen(rt.alloc(), &mut zero, Nothing)?;
     assert!(rt; is_true(&zero));
     Ok(())
 }
 
-#[test]
-fn appended_bytes(rt: HostRuntime) -> Result<(), Fail> {
-    let alloc = rt.alloc();
-    let mut text = Bytes::from_slice(alloc, b"one")?;
+/// Appends to a text that another holds too, and gives the other.
+fn append_beside(alloc: Global, text: &mut Bytes) -> Result<Bytes, AllocError> {
     text.extend_from_slice(alloc, b" two")?;
     let held = text.clone()?;
     text.extend_from_slice(alloc, b" three")?;
+    Ok(held)
+}
+
+#[test]
+fn appended_bytes(rt: HostRuntime) -> Result<(), Fail> {
+    let mut text = Bytes::from_slice(rt.alloc(), b"one")?;
+    let held = append_beside(rt.alloc(), &mut text)?;
     assert_eq!(rt; held.as_slice(), b"one two".as_slice());
     assert_eq!(rt; text.as_slice(), b"one two three".as_slice());
-    let mut two = text.cut(4, 7)?;
-    drop(text);
-    two.extend_from_slice(alloc, b"!")?;
-    two.extend_from_slice(alloc, b"?")?;
+    Ok(())
+}
+
+/// A part of a text that nothing holds any longer.
+fn part(alloc: Global) -> Result<Bytes, AllocError> {
+    let text = Bytes::from_slice(alloc, b"one two three")?;
+    text.cut(4, 7)
+}
+
+#[test]
+fn a_part_grows(rt: HostRuntime) -> Result<(), Fail> {
+    let mut two = part(rt.alloc())?;
+    two.extend_from_slice(rt.alloc(), b"!")?;
+    two.extend_from_slice(rt.alloc(), b"?")?;
     assert_eq!(rt; two.as_slice(), b"two!?".as_slice());
     Ok(())
 }
 
+/// Overwrites a text with each of two others, and tells whether it is each then.
+fn overwrite_twice(alloc: Global, text: &mut Bytes) -> Result<bool, AllocError> {
+    text.overwrite(alloc, b"")?;
+    let is_empty = text.is_empty();
+    text.overwrite(alloc, b"four and five")?;
+    Ok(is_empty && text.as_slice() == b"four and five".as_slice())
+}
+
 #[test]
 fn overwritten_bytes(rt: HostRuntime) -> Result<(), Fail> {
-    let alloc = rt.alloc();
-    let mut text = Bytes::from_slice(alloc, b"one two")?;
+    let mut text = Bytes::from_slice(rt.alloc(), b"one two")?;
     let held = text.cut(4, 7)?;
-    text.overwrite(alloc, b"three")?;
+    text.overwrite(rt.alloc(), b"three")?;
     assert_eq!(rt; held.as_slice(), b"two".as_slice());
     assert_eq!(rt; text.as_slice(), b"three".as_slice());
-    text.overwrite(alloc, b"")?;
-    assert!(rt; text.is_empty());
-    text.overwrite(alloc, b"four and five")?;
-    assert_eq!(rt; text.as_slice(), b"four and five".as_slice());
+    assert!(rt; overwrite_twice(rt.alloc(), &mut text)?);
     Ok(())
 }
 

@@ -2,7 +2,11 @@
 #![tactic(auto)]
 
 #[cfg(test)]
+mod cutting;
+#[cfg(test)]
 mod paragraphs;
+#[cfg(test)]
+mod plain;
 #[cfg(test)]
 mod record;
 #[cfg(test)]

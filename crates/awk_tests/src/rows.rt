@@ -13,6 +13,7 @@
 use awk_command::main_words;
 use awk_streams::{Answer, InputKind, ScriptWorld};
 use std::alloc::{AllocError, Global};
+use std::mem;
 use std::process::Abort;
 
 /// A call of the program, and what it leaves.
@@ -138,37 +139,34 @@ pub fn rows_of(alloc: Global, text: &str) -> Result<Vec<Row>, AllocError> {
     Ok(rows)
 }
 
-// That the row leaves what it says.
-fn expect(rt: &impl Abort, alloc: Global, row: Row) -> Result<(), AllocError> {
-    let Row {
-        words,
-        answers,
-        is_full,
-        output,
-        errors,
-        status,
-        line,
-    } = row;
+// Whether an output was given this.
+fn was_given(world: &ScriptWorld, id: u64, bytes: &[u8]) -> Result<bool, AllocError> {
+    Ok(world.received(id)?.as_slice() == bytes)
+}
+
+fn is_written(alloc: Global, status: u8, digits: &[u8]) -> Result<bool, AllocError> {
+    Ok(status.to_string(alloc)?.as_bytes() == digits)
+}
+
+// Whether the row leaves what it says.
+fn leaves(alloc: Global, row: &Row, world: &mut ScriptWorld) -> Result<bool, AllocError> {
+    let status = main_words(alloc, &row.words, Vec::new(alloc), world);
+    Ok(
+        was_given(world, 0, &row.output)?
+            && was_given(world, 1, &row.errors)?
+            && is_written(alloc, status, &row.status)?,
+    )
+}
+
+fn expect(rt: &impl Abort, alloc: Global, mut row: Row) -> Result<(), AllocError> {
+    let answers = mem::replace(&mut row.answers, Vec::new(alloc));
     let mut world = ScriptWorld::new(alloc, answers);
-    if is_full {
+    if row.is_full {
         world.fail_write(1);
     }
-    let answered = main_words(alloc, &words, Vec::new(alloc), &mut world);
-    let left = world.received(0)?;
-    assert!(rt;
-        left.as_slice() == output.as_slice(),
-        "row that ends on line {line}"
-    );
-    let told = world.received(1)?;
-    assert!(rt;
-        told.as_slice() == errors.as_slice(),
-        "row that ends on line {line}"
-    );
-    let said = answered.to_string(alloc)?;
-    assert!(rt;
-        said.as_bytes() == status.as_slice(),
-        "row that ends on line {line}"
-    );
+    let is_left = leaves(alloc, &row, &mut world)?;
+    let line = row.line;
+    assert!(rt; is_left, "row that ends on line {line}");
     Ok(())
 }
 

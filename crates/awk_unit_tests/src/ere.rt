@@ -167,6 +167,13 @@ fn checks_and_brackets(rt: HostRuntime) -> Result<(), Fail> {
     Ok(())
 }
 
+fn add_found(finds: &mut String, found: Option<(usize, usize)>) -> Result<(), AllocError> {
+    match found {
+        Some((begin, end)) => write!(finds, "{begin}-{end} "),
+        None => finds.push_str("none "),
+    }
+}
+
 // What searches from each of the starts find with one scratch, and whether the pattern matches at all.
 fn finds(alloc: Global, pattern: &Pattern, text: &[u8], starts: &str) -> Result<String, Fail> {
     let mut scratch = Scratch::for_pattern(alloc, pattern)?;
@@ -176,16 +183,10 @@ fn finds(alloc: Global, pattern: &Pattern, text: &[u8], starts: &str) -> Result<
         if from > text.len() {
             return Err(Fail::new("a start behind the text"));
         }
-        match pattern.find_from(text, from, &mut scratch) {
-            Some((begin, end)) => write!(finds, "{begin}-{end} ")?,
-            None => finds.push_str("none ")?,
-        }
+        add_found(&mut finds, pattern.find_from(text, from, &mut scratch))?;
     }
-    finds.push_str(if pattern.is_match(text, &mut scratch) {
-        "match"
-    } else {
-        "no match"
-    })?;
+    let is_match = pattern.is_match(text, &mut scratch);
+    finds.push_str(if is_match { "match" } else { "no match" })?;
     Ok(finds)
 }
 

@@ -11,6 +11,7 @@ use awk_streams::{
 };
 use failing_world::FailingWorld;
 use std::alloc::{AllocError, Global};
+use std::process::Abort;
 use std::test::Fail;
 
 // Adds an entry of a log.
@@ -133,29 +134,41 @@ fn copies(rt: HostRuntime) -> Result<(), Fail> {
     Ok(())
 }
 
-#[test]
-fn main_inputs_and_messages(rt: HostRuntime) -> Result<(), Fail> {
-    let alloc = rt.alloc();
-    let mut world = ScriptWorld::new(alloc, Vec::new(alloc));
+// Whether standard error was given these bytes, and this is the log.
+fn was_called(
+    alloc: Global,
+    world: &ScriptWorld,
+    bytes: &[u8],
+    log: &str,
+) -> Result<bool, AllocError> {
+    Ok(world.received(1)?.as_slice() == bytes && log_text(alloc, world)?.as_str() == log)
+}
+
+// Opens standard input as the main one, and then a file that isn't there.
+fn open_two(rt: &impl Abort, alloc: Global, world: &mut ScriptWorld) -> Result<(), StreamFault> {
     let mut streams = Streams::new(alloc);
-    streams.open_main(&mut world, InputKind::Standard, b"")?;
-    streams.close_main(&mut world);
+    streams.open_main(world, InputKind::Standard, b"")?;
+    streams.close_main(world);
     assert!(rt; !streams.has_main());
-    let refused = streams.open_main(&mut world, InputKind::File, b"f");
+    let refused = streams.open_main(world, InputKind::File, b"f");
     assert_eq!(rt; refused, Err(StreamFault::InputNotReadable));
-    streams.close_main(&mut world);
-    print_error(&mut world, b"awk: fault 2\n")?;
-    assert_eq!(rt;
-        log_text(alloc, &world)?.as_str(),
-        "open Standard Some(2) ;close 2 0;open File None f;write 1 awk: fault 2␊;"
-    );
+    streams.close_main(world);
     Ok(())
 }
 
 #[test]
-fn what_no_answer_is_listed_for(rt: HostRuntime) -> Result<(), Fail> {
+fn main_inputs_and_messages(rt: HostRuntime) -> Result<(), Fail> {
     let alloc = rt.alloc();
     let mut world = ScriptWorld::new(alloc, Vec::new(alloc));
+    open_two(&rt, alloc, &mut world)?;
+    print_error(&mut world, b"awk: fault 2\n")?;
+    let log = "open Standard Some(2) ;close 2 0;open File None f;write 1 awk: fault 2␊;";
+    assert!(rt; was_called(alloc, &world, b"awk: fault 2\n", log)?);
+    Ok(())
+}
+
+// Opens what no answer is listed for, and standard input; reads, prints, and runs a command.
+fn call_unlisted(rt: &impl Abort, world: &mut ScriptWorld) -> Result<(), WorldFault> {
     let refused = Err(WorldFault::Failed);
     assert_eq!(rt; world.open_input(InputKind::File, b"f"), refused);
     let opened = world.open_output(OutputKind::File, b"f", Mode::Append);
@@ -166,11 +179,17 @@ fn what_no_answer_is_listed_for(rt: HostRuntime) -> Result<(), Fail> {
     assert_eq!(rt; world.write(1, b"ab"), Ok(2));
     assert_eq!(rt; world.flush(1), Ok(()));
     assert_eq!(rt; world.close(id), 0);
-    assert_eq!(rt; world.received(1)?.as_slice(), b"ab".as_slice());
-    assert_eq!(rt;
-        log_text(alloc, &world)?.as_str(),
-        "open File None f;open File Append None f;run 0 true;open Standard Some(2) ;end 2;write 1 ab;flush 1;close 2 0;"
-    );
+    Ok(())
+}
+
+#[test]
+fn what_no_answer_is_listed_for(rt: HostRuntime) -> Result<(), Fail> {
+    let alloc = rt.alloc();
+    let mut world = ScriptWorld::new(alloc, Vec::new(alloc));
+    call_unlisted(&rt, &mut world)?;
+    let log =
+        "open File None f;open File Append None f;run 0 true;open Standard Some(2) ;end 2;write 1 ab;flush 1;close 2 0;";
+    assert!(rt; was_called(alloc, &world, b"ab", log)?);
     Ok(())
 }
 
@@ -202,24 +221,40 @@ fn answer_of(word: &str) -> Result<(), WorldFault> {
     }
 }
 
-// What a print of `abc`, a finish and a message of `awk` answer, and what was taken, where the outputs have so much room,
-// are full by this fault, and their flushes answer so.
-fn failed(alloc: Global, input: &str) -> Result<String, Fail> {
+// A world whose outputs have so much room, are full by this fault, and whose flushes answer so.
+fn world_that_fails(alloc: Global, input: &str) -> Result<FailingWorld, Fail> {
     let mut words = input.split(' ');
-    let mut world = FailingWorld {
+    let room = words.next().unwrap_or("").parse::<usize>()?;
+    Ok(FailingWorld {
         input: false,
         taken: Vec::new(alloc),
-        room: words.next().unwrap_or("").parse::<usize>()?,
+        room,
         full: answer_of(words.next().unwrap_or("")),
         flushes: [
             answer_of(words.next().unwrap_or("")),
             answer_of(words.next().unwrap_or("")),
         ],
-    };
+    })
+}
+
+type Answered = Result<(), StreamFault>;
+
+// What a print of `abc` and a finish answer.
+fn print_and_finish(
+    alloc: Global,
+    world: &mut FailingWorld,
+) -> Result<(Answered, Answered), StreamFault> {
     let mut streams = Streams::new(alloc);
-    let printed = streams.print(&mut world, b"abc");
-    streams.open_main(&mut world, InputKind::File, b"f")?;
-    let ended = streams.finish(&mut world);
+    let printed = streams.print(world, b"abc");
+    streams.open_main(world, InputKind::File, b"f")?;
+    let ended = streams.finish(world);
+    Ok((printed, ended))
+}
+
+// What these and a message of `awk` answer, what was taken, and whether the input is open.
+fn failed(alloc: Global, input: &str) -> Result<String, Fail> {
+    let mut world = world_that_fails(alloc, input)?;
+    let (printed, ended) = print_and_finish(alloc, &mut world)?;
     let told = print_error(&mut world, b"awk");
     let mut taken = String::new(alloc);
     add_bytes(&mut taken, &world.taken)?;
