@@ -3,7 +3,7 @@
 # fields, separators of every kind, empty lines and paragraphs; and prints the least seconds of the rounds. The log is made
 # here: lines of some 100 bytes and 20 fields. Needs GNU time.
 #
-#   bench/records.sh [ROUNDS [LINES]]
+#   bench/records.sh [ROUNDS [LINES [EXECUTABLE]]]    without an executable: the one that the launcher builds
 set -eu
 
 rounds=${1:-3} lines=${2:-1000000}
@@ -11,7 +11,12 @@ root=$(CDPATH='' cd "$(dirname "$0")/.." && pwd -P)
 work=$(mktemp -d)
 trap 'rm -rf "$work"' EXIT
 
-"$root/awk" '' </dev/null
+if [ "$#" -lt 3 ]; then
+    "$root/awk" '' </dev/null
+    executable=$root/out/awk
+else
+    executable=$3
+fi
 
 . "$root/bench/rounds.sh"
 
@@ -29,7 +34,7 @@ measure() {
     name=$1 input=$2
     shift 2
     case $name in
-    this) command=$root/out/awk ;;
+    this) command=$executable ;;
     *) command=$name ;;
     esac
     LC_ALL=C command time -f '%e %M' -o "$work/$name.times" -a "$command" "$@" <"$work/$input" >"$work/$name.output"
