@@ -31,6 +31,7 @@ impl ResumedSearch {
             IsKnown (separator_for result.byte) result.skipped result.searched bytes }
         ensures skipped { result.skipped ≤ skipped }
         ensures searched { result.searched ≤ searched }
+        ensures all { length separator.now ≤ 1 → result.searched ≡ searched }
     {
         match separator {
             [] => ResumedSearch {
@@ -54,6 +55,7 @@ impl ResumedSearch {
             IsKnown separator.now result.skipped result.searched bytes }
         ensures skipped { result.skipped ≤ self.skipped }
         ensures searched { result.searched ≤ self.searched }
+        ensures resumed { separator.now ≡ separator_for self.byte → result ≡ self }
     {
         match (separator, self.byte) {
             ([], None) => self,
