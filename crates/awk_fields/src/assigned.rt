@@ -1,7 +1,8 @@
 // Fields that were assigned, as values, and the text that they make.
-ghost use Rattle.std.specs.Prelude.{◌≡◌, ◌<◌, ◌-◌, max, length, slice_set, OnOk, OnErr, IfOk, IfErr};
+ghost use Rattle.std.specs.Prelude.{◌≡◌, ◌<◌, ◌-◌, ◌++◌, max, length, slice_set, OnOk, OnErr, IfOk, IfErr};
+ghost use Rattle.awk_value.specs.Values.{str_of};
 ghost use Rattle.awk_text.specs.Pieces.{stretches_at, AreSpansOf};
-ghost use Rattle.awk_fields.specs.Record.{assignable, inputs_of, joined, resized};
+ghost use Rattle.awk_fields.specs.Record.{assignable, inputs_of, joined, joined_behind, resized};
 
 use crate::fault::RecordFault;
 use awk_text::Span;
@@ -60,6 +61,27 @@ pub fn set_value(values: &mut Vec<Value>, number: usize, value: Value) -> Result
     Ok(())
 }
 
+/// Appends the text of a value. The only error is `Memory`.
+fn append_value(value: &Value, text: &mut Vec<u8>) -> Result<(), RecordFault>
+    ensures text { OnOk result (text.new.items ≡ text.old.items ++ str_of value.now) }
+    ensures memory { IfErr result (λ e. e ≡ RecordFault.Memory) }
+{
+    append_text(value, text).map_err(|_| RecordFault::Memory)
+}
+
+/// Appends the texts of the values, each behind the separator. The only error
+/// is `Memory`.
+fn append_behind(values: &[Value], separator: &[u8], text: &mut Vec<u8>) -> Result<(), RecordFault>
+    ensures text { OnOk result (text.new.items ≡ text.old.items ++ joined_behind separator.now values.now) }
+    ensures memory { IfErr result (λ e. e ≡ RecordFault.Memory) }
+{
+    for value in values {
+        text.extend_from_slice(separator)?;
+        append_value(value, text)?;
+    }
+    Ok(())
+}
+
 /// The texts of the values, with the separator between them. The only error is
 /// `Memory`.
 pub fn join(alloc: Global, values: &[Value], separator: &[u8]) -> Result<Bytes, RecordFault>
@@ -68,11 +90,8 @@ pub fn join(alloc: Global, values: &[Value], separator: &[u8]) -> Result<Bytes, 
 {
     let mut text = Vec::new(alloc);
     if let Some((first, rest)) = values.split_first() {
-        append_text(first, &mut text).map_err(|_| RecordFault::Memory)?;
-        for value in rest {
-            text.extend_from_slice(separator)?;
-            append_text(value, &mut text).map_err(|_| RecordFault::Memory)?;
-        }
+        append_value(first, &mut text)?;
+        append_behind(rest, separator, &mut text)?;
     }
     Ok(Bytes::from_vec(alloc, text)?)
 }
