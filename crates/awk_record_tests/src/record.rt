@@ -1,11 +1,127 @@
-// Fields by hand, from the rules of the language. Each question and each assignment is a function of its own: what a call
-// answers is freed there, and the tests hold nothing but records.
+// Fields by hand, from the rules of the language: calls on a record, and what each answers.
 
 use awk_fields::{Record, RecordFault};
-use awk_value::{Bytes, Value};
+use awk_value::{Bytes, Value, append_text};
 use std::alloc::{AllocError, Global};
 use std::process::Abort;
 use std::test::Fail;
+
+/// A call on a record, or a question.
+#[derive(Clone, Copy)]
+enum Call {
+    /// Gives it a text, which the value of FS splits.
+    Begin(&'static str, &'static str),
+    /// Gives a field a text, with the value of OFS.
+    Put(i128, &'static str, &'static str),
+    /// Gives a field a number, with the value of OFS.
+    PutNumber(i128, i128, &'static str),
+    /// Makes so many fields, with the value of OFS.
+    PutCount(i128, &'static str),
+    Field(i128),
+    Text,
+    /// The length of the text.
+    Length,
+    /// The text behind another.
+    Append,
+    Count,
+    Splits,
+    Joins,
+}
+
+use Call::{Append, Begin, Count, Field, Joins, Length, Put, PutCount, PutNumber, Splits, Text};
+
+/// A call, and its answer: a value behind its kind, nothing for what answers none.
+type Row = (Call, &'static str);
+
+const BLANKS: [Row; 13] = [
+    (Count, "0"),
+    (Field(0), "input "),
+    (Begin(" \tone two\n\nthree ", " "), ""),
+    (Count, "3"),
+    (Field(0), "input  \tone two\n\nthree "),
+    (Field(1), "input one"),
+    (Field(3), "input three"),
+    (Field(4), "nothing"),
+    (Field(i128::MAX), "nothing"),
+    (Field(-1), "refused"),
+    (Append, ">  \tone two\n\nthree "),
+    (Text, " \tone two\n\nthree "),
+    (Count, "3"),
+];
+
+const COLONS: [Row; 9] = [
+    (Begin("root: x::", ":"), ""),
+    (Count, "4"),
+    (Field(0), "input root: x::"),
+    (Field(1), "input root"),
+    (Field(2), "input  x"),
+    (Field(4), "input "),
+    (Field(5), "nothing"),
+    (Begin("", ":"), ""),
+    (Count, "0"),
+];
+
+/// What needs no fields.
+const TEXTS: [Row; 5] = [
+    (Begin("a b c", " "), ""),
+    (Text, "a b c"),
+    (Field(0), "input a b c"),
+    (Append, "> a b c"),
+    (Splits, "0"),
+];
+
+/// Fields that are asked for out of their order.
+const ASKED: [Row; 6] = [
+    (Begin("a b c", " "), ""),
+    (Field(1), "input a"),
+    (Field(3), "input c"),
+    (Field(2), "input b"),
+    (Field(4), "nothing"),
+    (Count, "3"),
+];
+
+const TEN_SPLITS: [Row; 2] = [(Splits, "10"), (Joins, "0")];
+
+/// Fields that are there, and then one past the last, and counts.
+const ASSIGNED: [Row; 20] = [
+    (Begin("a b c", " "), ""),
+    (PutNumber(1, 7, "-"), ""),
+    (Put(2, "y", "--"), ""),
+    (Splits, "1"),
+    (Joins, "0"),
+    (Field(1), "number 7"),
+    (Field(3), "input c"),
+    (Text, "7--y--c"),
+    (Field(0), "input 7--y--c"),
+    (Joins, "1"),
+    (Put(5, "z", ":"), ""),
+    (Count, "5"),
+    (Field(4), "nothing"),
+    (Text, "7:y:c::z"),
+    (PutCount(2, "+"), ""),
+    (Append, "> 7+y"),
+    (PutCount(0, "+"), ""),
+    (Text, ""),
+    (Splits, "1"),
+    (Joins, "4"),
+];
+
+/// Fields and counts out of their range, and the last one within.
+const BEYOND: [Row; 13] = [
+    (Begin("a b c", " "), ""),
+    (PutNumber(-1, 1, "-"), "refused"),
+    (PutNumber(0, 1, "-"), "refused"),
+    (PutNumber(1_000_001, 1, "-"), "refused"),
+    (PutNumber(i128::MAX, 1, "-"), "refused"),
+    (PutCount(-1, "-"), "refused"),
+    (PutCount(1_000_001, "-"), "refused"),
+    (PutCount(i128::MIN, "-"), "refused"),
+    (Text, "a b c"),
+    (Splits, "0"),
+    (PutNumber(1_000_000, 1, "-"), ""),
+    (Count, "1000000"),
+    (Length, "1000003"),
+];
 
 fn text_in(alloc: Global, text: &[u8]) -> Result<Bytes, AllocError> {
     Bytes::from_slice(alloc, text)
@@ -32,7 +148,6 @@ pub(crate) fn put(
     record.set_field(number, value, text_in(alloc, ofs)?)
 }
 
-/// Assigns a number to a field.
 fn put_number(
     alloc: Global,
     record: &mut Record,
@@ -52,179 +167,126 @@ pub(crate) fn put_count(
     record.set_count(count, text_in(alloc, ofs)?)
 }
 
-/// Whether a field is an input text, and this one.
-fn has(record: &mut Record, number: i128, text: &str) -> Result<bool, RecordFault> {
-    match record.field(number)? {
-        Value::Input(bytes) => Ok(bytes.as_slice() == text.as_bytes()),
-        _ => Ok(false),
+fn kind(value: &Value) -> &'static str {
+    match value {
+        Value::Nothing => "nothing",
+        Value::Number(_) => "number ",
+        Value::Text(_) => "text ",
+        Value::Input(_) => "input ",
     }
 }
 
-fn has_number(record: &mut Record, number: i128, value: i128) -> Result<bool, RecordFault> {
-    Ok(matches!(record.field(number)?, Value::Number(n) if n == value))
+/// Adds the text of a value.
+fn add(value: &Value, answer: &mut Vec<u8>) -> Result<(), RecordFault> {
+    append_text(value, answer).map_err(|_| RecordFault::Memory)
 }
 
-fn is_absent(record: &mut Record, number: i128) -> Result<bool, RecordFault> {
-    Ok(matches!(record.field(number)?, Value::Nothing))
+fn add_number(n: i128, answer: &mut Vec<u8>) -> Result<(), RecordFault> {
+    add(&Value::Number(n), answer)
 }
 
-fn has_text(record: &mut Record, text: &str) -> Result<bool, RecordFault> {
-    Ok(record.text()?.as_slice() == text.as_bytes())
+fn add_field(record: &mut Record, number: i128, answer: &mut Vec<u8>) -> Result<(), RecordFault> {
+    let value = record.field(number)?;
+    answer.extend_from_slice(kind(&value).as_bytes())?;
+    add(&value, answer)
 }
 
-/// Whether this is appended, and nothing that stands before it is lost.
-fn appends(alloc: Global, record: &mut Record, text: &str) -> Result<bool, RecordFault> {
-    let mut buffer = b"> ".to_vec(alloc)?;
-    record.append_text(&mut buffer)?;
-    Ok(buffer.starts_with(b"> ") && &buffer[2..] == text.as_bytes())
-}
-
-/// A record's fields between blanks.
-fn split_at_blanks(rt: &impl Abort, alloc: Global, record: &mut Record) -> Result<(), RecordFault> {
-    assert_eq!(rt; record.count()?, 0);
-    assert!(rt; has(record, 0, "")?);
-
-    let text = " \tone two\n\nthree ";
-    begin(alloc, record, text.as_bytes(), b" ")?;
-    assert_eq!(rt; record.count()?, 3);
-    assert!(rt; has(record, 0, text)?);
-    assert!(rt; has(record, 1, "one")?);
-    assert!(rt; has(record, 3, "three")?);
-    assert!(rt; is_absent(record, 4)?);
-    assert!(rt; is_absent(record, i128::MAX)?);
-    assert!(rt; is_absent(record, -1) == Err(RecordFault::FieldNumber));
-    assert!(rt; appends(alloc, record, text)?);
-    assert!(rt; has_text(record, text)?);
+fn add_text(record: &mut Record, answer: &mut Vec<u8>) -> Result<(), RecordFault> {
+    answer.extend_from_slice(record.text()?.as_slice())?;
     Ok(())
 }
 
-/// A record's fields between colons.
-fn split_at_colons(rt: &impl Abort, alloc: Global, record: &mut Record) -> Result<(), RecordFault> {
-    begin(alloc, record, b"root: x::", b":")?;
-    assert_eq!(rt; record.count()?, 4);
-    assert!(rt; has(record, 0, "root: x::")?);
-    assert!(rt; has(record, 1, "root")?);
-    assert!(rt; has(record, 2, " x")?);
-    assert!(rt; has(record, 4, "")?);
-    assert!(rt; is_absent(record, 5)?);
-
-    begin(alloc, record, b"", b":")?;
-    assert_eq!(rt; record.count()?, 0);
-    Ok(())
+/// Adds the text behind another, which it must not change.
+fn add_behind(record: &mut Record, answer: &mut Vec<u8>) -> Result<(), RecordFault> {
+    answer.extend_from_slice(b"> ")?;
+    record.append_text(answer)
 }
 
-fn split(rt: &impl Abort, alloc: Global, record: &mut Record) -> Result<(), RecordFault> {
-    split_at_blanks(rt, alloc, record)?;
-    split_at_colons(rt, alloc, record)
+/// Makes a call, and adds its answer.
+fn make_call(
+    alloc: Global,
+    record: &mut Record,
+    call: Call,
+    answer: &mut Vec<u8>,
+) -> Result<(), RecordFault> {
+    match call {
+        Begin(text, fs) => begin(alloc, record, text.as_bytes(), fs.as_bytes()),
+        Put(number, text, ofs) => put(alloc, record, number, text, ofs.as_bytes()),
+        PutNumber(number, value, ofs) => put_number(alloc, record, number, value, ofs.as_bytes()),
+        PutCount(count, ofs) => put_count(alloc, record, count, ofs.as_bytes()),
+        Field(number) => add_field(record, number, answer),
+        Text => add_text(record, answer),
+        Length => add_number(record.text()?.len() as i128, answer),
+        Append => add_behind(record, answer),
+        Count => add_number(record.count()? as i128, answer),
+        Splits => add_number(record.splits() as i128, answer),
+        Joins => add_number(record.joins() as i128, answer),
+    }
+}
+
+/// The answer to a call, or that its number was refused.
+fn answer_to(
+    alloc: Global,
+    record: &mut Record,
+    asked: Call,
+    answer: &mut Vec<u8>,
+) -> Result<(), RecordFault> {
+    answer.clear();
+    match make_call(alloc, record, asked, answer) {
+        Err(RecordFault::FieldNumber) => Ok(answer.extend_from_slice(b"refused")?),
+        other => other,
+    }
+}
+
+/// Makes the calls of the rows one after the other.
+fn call_all(
+    rt: &impl Abort,
+    alloc: Global,
+    record: &mut Record,
+    rows: &[Row],
+) -> Result<(), RecordFault> {
+    let mut answer = Vec::new(alloc);
+    for (i, (asked, wanted)) in rows.iter().enumerate() {
+        answer_to(alloc, record, *asked, &mut answer)?;
+        assert_eq!(rt; answer.as_slice(), wanted.as_bytes(), "{i}: {wanted}");
+    }
+    Ok(())
 }
 
 #[test]
 fn splits_a_record_into_fields(rt: HostRuntime) -> Result<(), Fail> {
     let mut record = Record::new(rt.alloc())?;
-    split(&rt, rt.alloc(), &mut record)?;
+    call_all(&rt, rt.alloc(), &mut record, &BLANKS)?;
+    call_all(&rt, rt.alloc(), &mut record, &COLONS)?;
     Ok(())
 }
 
-/// Whether fields are told that are asked for out of their order.
-fn tells_fields(alloc: Global, record: &mut Record) -> Result<bool, RecordFault> {
-    begin(alloc, record, b"a b c", b" ")?;
-    Ok(
-        has(record, 1, "a")?
-            && has(record, 3, "c")?
-            && has(record, 2, "b")?
-            && is_absent(record, 4)?
-            && record.count()? == 3,
-    )
-}
-
-/// Asks for what needs no fields, and then for fields.
-fn ask(rt: &impl Abort, alloc: Global, record: &mut Record) -> Result<(), RecordFault> {
-    begin(alloc, record, b"a b c", b" ")?;
-    assert!(rt; has_text(record, "a b c")?);
-    assert!(rt; has(record, 0, "a b c")?);
-    assert!(rt; appends(alloc, record, "a b c")?);
-    assert_eq!(rt; record.splits(), 0);
+/// Splits ten records.
+fn ask_ten_times(rt: &impl Abort, alloc: Global, record: &mut Record) -> Result<(), RecordFault> {
     for _ in 0..10 {
-        assert!(rt; tells_fields(alloc, record)?);
+        call_all(rt, alloc, record, &ASKED)?;
     }
-    assert_eq!(rt; record.splits(), 10);
-    Ok(())
+    call_all(rt, alloc, record, &TEN_SPLITS)
 }
 
 #[test]
 fn splits_what_is_asked_once(rt: HostRuntime) -> Result<(), Fail> {
     let mut record = Record::new(rt.alloc())?;
-    ask(&rt, rt.alloc(), &mut record)?;
+    call_all(&rt, rt.alloc(), &mut record, &TEXTS)?;
+    ask_ten_times(&rt, rt.alloc(), &mut record)?;
     Ok(())
-}
-
-/// Assigns fields that are there.
-fn assign_present(rt: &impl Abort, alloc: Global, record: &mut Record) -> Result<(), RecordFault> {
-    begin(alloc, record, b"a b c", b" ")?;
-    put_number(alloc, record, 1, 7, b"-")?;
-    put(alloc, record, 2, "y", b"--")?;
-    assert_eq!(rt; record.splits(), 1);
-    assert_eq!(rt; record.joins(), 0);
-    assert!(rt; has_number(record, 1, 7)?);
-    assert!(rt; has(record, 3, "c")?);
-    assert!(rt; has_text(record, "7--y--c")?);
-    assert!(rt; has(record, 0, "7--y--c")?);
-    assert_eq!(rt; record.joins(), 1);
-    Ok(())
-}
-
-/// Assigns a field past the last one, and counts.
-fn assign_absent(rt: &impl Abort, alloc: Global, record: &mut Record) -> Result<(), RecordFault> {
-    put(alloc, record, 5, "z", b":")?;
-    assert_eq!(rt; record.count()?, 5);
-    assert!(rt; is_absent(record, 4)?);
-    assert!(rt; has_text(record, "7:y:c::z")?);
-    put_count(alloc, record, 2, b"+")?;
-    assert!(rt; appends(alloc, record, "7+y")?);
-    put_count(alloc, record, 0, b"+")?;
-    assert!(rt; has_text(record, "")?);
-    assert_eq!(rt; record.splits(), 1);
-    assert_eq!(rt; record.joins(), 4);
-    Ok(())
-}
-
-fn assign(rt: &impl Abort, alloc: Global, record: &mut Record) -> Result<(), RecordFault> {
-    assign_present(rt, alloc, record)?;
-    assign_absent(rt, alloc, record)
 }
 
 #[test]
 fn joins_what_was_assigned(rt: HostRuntime) -> Result<(), Fail> {
     let mut record = Record::new(rt.alloc())?;
-    assign(&rt, rt.alloc(), &mut record)?;
-    Ok(())
-}
-
-fn is_refused(answer: Result<(), RecordFault>) -> bool {
-    matches!(answer, Err(RecordFault::FieldNumber))
-}
-
-/// Assigns fields and counts out of their range, and the last one within.
-fn assign_beyond(rt: &impl Abort, alloc: Global, record: &mut Record) -> Result<(), RecordFault> {
-    begin(alloc, record, b"a b c", b" ")?;
-    for number in [-1, 0, 1_000_001, i128::MAX] {
-        assert!(rt; is_refused(put_number(alloc, record, number, 1, b"-")));
-    }
-    for count in [-1, 1_000_001, i128::MIN] {
-        assert!(rt; is_refused(put_count(alloc, record, count, b"-")));
-    }
-    assert!(rt; has_text(record, "a b c")?);
-    assert_eq!(rt; record.splits(), 0);
-
-    put_number(alloc, record, 1_000_000, 1, b"-")?;
-    assert_eq!(rt; record.count()?, 1_000_000);
-    assert_eq!(rt; record.text()?.len(), 1_000_003);
+    call_all(&rt, rt.alloc(), &mut record, &ASSIGNED)?;
     Ok(())
 }
 
 #[test]
 fn refuses_numbers_out_of_range(rt: HostRuntime) -> Result<(), Fail> {
     let mut record = Record::new(rt.alloc())?;
-    assign_beyond(&rt, rt.alloc(), &mut record)?;
+    call_all(&rt, rt.alloc(), &mut record, &BEYOND)?;
     Ok(())
 }
