@@ -6,7 +6,7 @@ use std::alloc::{AllocError, Global};
 use std::test::Fail;
 
 /// A value before its text is in memory.
-#[derive(Clone, Copy, Debug)]
+#[derive(Clone, Copy)]
 enum Given {
     Nothing,
     Number(i128),
@@ -227,8 +227,9 @@ fn values_of(alloc: Global, given: &[Given]) -> Result<Vec<Value>, Fail> {
     Ok(values)
 }
 
-/// Whether a format makes this text of the values.
-fn makes(alloc: Global, text: &str, given: &[Given], formatted: &str) -> Result<bool, Fail> {
+/// Whether a row's format makes its text of the values.
+fn makes(alloc: Global, row: &Row) -> Result<bool, Fail> {
+    let (text, given, formatted) = *row;
     let values = values_of(alloc, given)?;
     let bytes = format(alloc, text.as_bytes(), &values)?;
     Ok(bytes.as_slice() == formatted.as_bytes())
@@ -236,9 +237,8 @@ fn makes(alloc: Global, text: &str, given: &[Given], formatted: &str) -> Result<
 
 #[test]
 fn formats_values(rt: HostRuntime) -> Result<(), Fail> {
-    for (text, given, formatted) in ROWS {
-        let is_made = makes(rt.alloc(), text, given, formatted)?;
-        assert!(rt; is_made, "{text:?} {given:?}");
+    for row in &ROWS {
+        assert!(rt; makes(rt.alloc(), row)?, "{:?}", row.0);
     }
     Ok(())
 }
@@ -273,9 +273,9 @@ fn refusal_behind(alloc: Global, text: &str, given: Given) -> Result<Option<Form
 fn refuses_formats(rt: HostRuntime) -> Result<(), Fail> {
     for (text, given, fault) in &REFUSED {
         let told = refusal(rt.alloc(), text, *given)?;
-        assert_eq!(rt; told, Some(*fault), "{text:?} {given:?}");
+        assert_eq!(rt; told, Some(*fault), "{text:?}");
         let told = refusal_behind(rt.alloc(), text, *given)?;
-        assert_eq!(rt; told, Some(*fault), "{text:?} {given:?}");
+        assert_eq!(rt; told, Some(*fault), "{text:?}");
     }
     Ok(())
 }

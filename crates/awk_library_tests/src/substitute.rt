@@ -7,7 +7,7 @@ use std::alloc::Global;
 use std::test::Fail;
 
 /// A pattern, a replacement and a text; how many of its matches are replaced, and the text then.
-#[derive(Clone, Copy, Debug)]
+#[derive(Clone, Copy)]
 struct Row {
     pattern: &'static str,
     replacement: &'static str,
@@ -167,7 +167,12 @@ fn goes_as_told(alloc: Global, row: &Row, out: &mut Vec<u8>) -> Result<bool, Fai
 fn replaces_matches(rt: HostRuntime) -> Result<(), Fail> {
     let mut out = Vec::from_slice(rt.alloc(), b"left")?;
     for row in &ROWS {
-        assert!(rt; goes_as_told(rt.alloc(), row, &mut out)?, "{row:?}");
+        assert!(rt;
+            goes_as_told(rt.alloc(), row, &mut out)?,
+            "{} in {}",
+            row.pattern,
+            row.text
+        );
     }
     Ok(())
 }

@@ -7,7 +7,7 @@ use std::process::Abort;
 use std::test::Fail;
 
 /// A call on an array.
-#[derive(Clone, Copy, Debug)]
+#[derive(Clone, Copy)]
 enum Call {
     Make(&'static str),
     Put(&'static str, i128),
@@ -18,7 +18,7 @@ enum Call {
 use Call::{Clear, Make, Put, Remove};
 
 /// Calls, and the pairs that they leave.
-#[derive(Clone, Copy, Debug)]
+#[derive(Clone, Copy)]
 struct Row {
     calls: &'static [Call],
     pairs: &'static str,
@@ -158,7 +158,7 @@ fn call_rows(rt: &impl Abort, alloc: Global, table: &mut Table) -> Result<(), Va
     for row in &ROWS {
         table.clear();
         make_calls(alloc, row.calls, table)?;
-        assert!(rt; leaves(alloc, table, row.pairs)?, "{row:?}");
+        assert!(rt; leaves(alloc, table, row.pairs)?, "{}", row.pairs);
     }
     Ok(())
 }
@@ -373,6 +373,12 @@ fn step(
     Ok(())
 }
 
+/// Whether the two hold the same pairs.
+fn are_alike(alloc: Global, table: &Table, pairs: &Pairs) -> Result<bool, ValueFault> {
+    let text = pairs.text(alloc)?;
+    Ok(table.len() == pairs.pairs.len() && pairs_of(alloc, table)?.as_slice() == text.as_slice())
+}
+
 /// Behind how many of these steps the two differ.
 fn count_differing(
     alloc: Global,
@@ -384,9 +390,7 @@ fn count_differing(
     let mut differing: u32 = 0;
     for _ in 0..steps {
         step(alloc, random, table, pairs)?;
-        let shown = pairs_of(alloc, table)?;
-        let same = shown.as_slice() == pairs.text(alloc)?.as_slice();
-        if !same || table.len() != pairs.pairs.len() {
+        if !are_alike(alloc, table, pairs)? {
             differing = differing.saturating_add(1);
         }
     }

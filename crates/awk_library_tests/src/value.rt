@@ -12,7 +12,7 @@ use std::process::Abort;
 use std::test::Fail;
 
 /// A value before its text is in memory.
-#[derive(Clone, Copy, Debug)]
+#[derive(Clone, Copy)]
 enum Given {
     Nothing,
     Number(i128),
@@ -185,6 +185,10 @@ fn conversions(rt: HostRuntime) -> Result<(), Fail> {
     Ok(())
 }
 
+fn numeric(alloc: Global, given: Given) -> Result<Option<i128>, AllocError> {
+    Ok(numeric_of(&given.value(alloc)?))
+}
+
 /// What counts as a number where values are tested and compared.
 #[test]
 fn numbers(rt: HostRuntime) -> Result<(), Fail> {
@@ -198,8 +202,8 @@ fn numbers(rt: HostRuntime) -> Result<(), Fail> {
         (Input("7x"), None),
         (Input(""), None),
     ];
-    for (given, number) in rows {
-        assert_eq!(rt; numeric_of(&given.value(rt.alloc())?), number, "{given:?}");
+    for (given, number) in &rows {
+        assert_eq!(rt; numeric(rt.alloc(), *given)?, *number);
     }
     Ok(())
 }
@@ -210,9 +214,9 @@ fn order(alloc: Global, left: Given, right: Given) -> Result<Option<Ordering>, A
 
 #[test]
 fn orders(rt: HostRuntime) -> Result<(), Fail> {
-    for (left, right, ordering) in &ORDERS {
+    for (i, (left, right, ordering)) in ORDERS.iter().enumerate() {
         let compared = order(rt.alloc(), *left, *right)?;
-        assert_eq!(rt; compared, Some(*ordering), "{left:?} {right:?}");
+        assert_eq!(rt; compared, Some(*ordering), "row {i}");
     }
     Ok(())
 }
@@ -231,9 +235,9 @@ fn product(
 
 #[test]
 fn products(rt: HostRuntime) -> Result<(), Fail> {
-    for (left, right, expected) in &PRODUCTS {
+    for (i, (left, right, expected)) in PRODUCTS.iter().enumerate() {
         let multiplied = product(rt.alloc(), *left, *right)?;
-        assert_eq!(rt; multiplied, *expected, "{left:?} {right:?}");
+        assert_eq!(rt; multiplied, *expected, "row {i}");
     }
     Ok(())
 }
@@ -322,10 +326,7 @@ fn add_to_line(
 fn texts(rt: HostRuntime) -> Result<(), Fail> {
     let mut line = Vec::new(rt.alloc());
     for (given, text) in &TEXTS {
-        assert!(rt;
-            add_to_line(rt.alloc(), *given, text, &mut line)?,
-            "{given:?}"
-        );
+        assert!(rt; add_to_line(rt.alloc(), *given, text, &mut line)?, "{text}");
     }
     assert_eq!(rt;
         line.as_slice(),
