@@ -1,2 +1,3 @@
 pub mod FrameView
 pub mod Ended
+pub mod Held

@@ -5,14 +5,14 @@ ghost use Rattle.awk_grammar.specs.definitions.Height.{max_height};
 ghost use Rattle.awk_grammar.specs.support.Parser as parser;
 ghost use Rattle.awk_frames.specs.support.FrameView.{role_of, operand_of, optional_operand_of, node_frame_of};
 
+use crate::expression_nodes::{
+    assign, binary, conditional, field, getline, piped_getline, pre_increment, unary,
+};
 use crate::frame::{Choice, NodeFrame};
 use crate::infix_role::InfixRole;
 use crate::operand::{Operand, child_of};
 use awk_grammar::precedence::{
     CONDITIONAL, EXPR, FIELD_REFERENCE, PIPE, POST_INCREMENT, PRE_INCREMENT, UNARY,
-};
-use awk_nodes::expressions::{
-    assign, binary, conditional, field, getline, piped_getline, pre_increment, unary,
 };
 use std::alloc::{AllocError, Global};
 

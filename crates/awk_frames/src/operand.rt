@@ -97,7 +97,7 @@ impl Operand {
 }
 
 /// An operand that may be left out, as a child of a node.
-pub fn child_of(operand: Option<Operand>) -> OptionalChild
+pub(crate) fn child_of(operand: Option<Operand>) -> OptionalChild
     ensures { checked_child result ≡ parser.optional_expr max_height (optional_operand_of operand) }
 {
     match operand {

@@ -1,8 +1,8 @@
-//! Checked trees: expressions, statements and items known not to be too high, and the makers of their nodes.
+//! Checked expressions: each known not to be too high, with its height beside it, and their lists.
 #![tactic(auto)]
 
 pub mod checked;
 pub mod child;
 pub mod expressions;
-mod held;
+pub mod limited;
 pub mod lists;

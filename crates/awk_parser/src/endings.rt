@@ -9,6 +9,7 @@ ghost use Rattle.awk_statement_nodes.specs.support.Checked.{checked_part, checke
 ghost use Rattle.awk_grammar.specs.support.Parser as parser;
 ghost use Rattle.awk_frames.specs.support.FrameView.{operand_of, optional_operand_of, list_of, list_frame_of, expression_frame_of, body_frame_of, stack_of, next_of};
 
+use crate::ended_nodes::{do_loop, expression, present, print_to, range};
 use crate::lists::{close_built_in, close_call, close_element, close_group};
 use awk_frames::frame::{
     BodyFrame, Choice, ExpressionFrame, ForHead, Frame, ListFrame, ListHead, NodeFrame, OutputFrame,
@@ -20,11 +21,9 @@ use awk_lex::token::{Kind, Operator};
 use awk_productions::items::{after_pattern, after_pattern_expr};
 use awk_productions::taken::{begin, begin_body};
 use awk_statement_nodes::checked::{CheckedPart, CheckedStatement};
-use awk_statement_nodes::items::range;
-use awk_statement_nodes::simple::{exit, expression, present, print_to, return_statement};
-use awk_statement_nodes::statements::do_loop;
 use awk_statement_productions::prints::after_print_expr;
 use awk_statement_productions::simple::{after_delete_subscript, end_simple};
+use awk_statement_productions::simple_nodes::{exit, return_statement};
 use std::alloc::{AllocError, Global};
 
 /// Behind the last operand of a list.

@@ -6,6 +6,7 @@ ghost use Rattle.awk_grammar.specs.support.Parser as parser;
 ghost use Rattle.awk_grammar.specs.support.InfixRole as role;
 ghost use Rattle.awk_frames.specs.support.FrameView.{role_of, operand_of, optional_operand_of, list_of, stack_of, reduced, next_of};
 
+use crate::ended_nodes::post_increment;
 use crate::endings::end_operand;
 use awk_frames::frame::{ExpressionFrame, Frame, ListHead, NodeFrame};
 use awk_frames::infix_role::InfixRole;
@@ -17,7 +18,6 @@ use awk_frames::state::{ExpressionState, NextToken, ParserState};
 use awk_grammar::precedence::{MEMBERSHIP, POST_INCREMENT};
 use awk_grammar::tree::BinaryOperator;
 use awk_lex::token::{BuiltIn, IncrementOperator, Keyword, Kind, Operator};
-use awk_nodes::expressions::post_increment;
 use awk_productions::operands::start_operand;
 use awk_productions::taken::{begin, operand as after};
 use awk_statement_productions::prints::{end_list, redirect_to_pipe};

@@ -5,13 +5,14 @@ ghost use Rattle.awk_grammar.specs.definitions.Height.{max_height};
 ghost use Rattle.awk_grammar.specs.support.Parser as parser;
 ghost use Rattle.awk_frames.specs.support.FrameView.{operand_of, list_of, stack_of, next_of};
 
+use crate::ended_nodes::group;
 use awk_frames::frame::{Frame, ListHead};
 use awk_frames::operand::{Operand, OperandList};
 use awk_frames::state::{ExpressionState, NextToken, ParserState};
 use awk_grammar::arguments::accepts;
 use awk_grammar::precedence::PRIMARY;
 use awk_lex::token::{BuiltIn, Kind};
-use awk_nodes::expressions::{built_in, call, element, group};
+use awk_nodes::expressions::{built_in, call, element};
 use awk_productions::taken::{begin, operand};
 use awk_value::Bytes;
 use std::alloc::{AllocError, Global};

@@ -1,37 +1,27 @@
 // One token at a time.
 
-ghost use Rattle.std.specs.Prelude.{◌≡◌, ◌∷◌, [], false, List, IfOk};
+ghost use Rattle.std.specs.Prelude.{◌≡◌, ◌∷◌, false, List, IfOk};
 ghost use Rattle.awk_grammar.specs.definitions.Height.{max_height};
 ghost use Rattle.awk_grammar.specs.support.Parser as parser;
-ghost use Rattle.awk_statement_nodes.specs.support.Checked.{checked_statement};
 ghost use Rattle.awk_parser.specs.support.Answered.{found_of};
-ghost use Rattle.awk_frames.specs.support.FrameView.{operand_of, list_of, frame_of, state_of, expression_state_of, statement_state_of, item_state_of, stack_of, next_of};
+ghost use Rattle.awk_frames.specs.support.FrameView.{operand_of, list_of, frame_of, state_of, expression_state_of, stack_of, next_of};
 
+use crate::ended_nodes::membership;
 use crate::expressions::{
     after_bar, after_getline, after_length, after_list, after_name, after_operand,
 };
-use awk_frames::frame::{ExpressionFrame, Frame};
+use awk_frames::frame::Frame;
 use awk_frames::operand::{Operand, OperandList};
 use awk_frames::stack::{pop, push};
-use awk_frames::state::{
-    ExpressionState, ItemState, NextToken, ParserState, Signature, StatementState,
-};
+use awk_frames::state::{ExpressionState, ItemState, NextToken, ParserState};
 use awk_grammar::precedence::MEMBERSHIP;
 use awk_lex::token::Kind;
-use awk_nodes::expressions::{list_membership, membership};
-use awk_productions::items::{
-    after_function, after_parameter, before_action, before_parameter, start_item,
-};
+use awk_nodes::expressions::list_membership;
+use awk_productions::items::step_item;
 use awk_productions::operands::start_operand;
 use awk_productions::taken::{begin, operand as after};
-use awk_statement_nodes::checked::{CheckedItems, CheckedOptionalExpr, CheckedStatement};
-use awk_statement_nodes::simple::{exit, return_statement};
-use awk_statement_productions::prints::after_print;
-use awk_statement_productions::simple::{
-    after_delete_name, after_exit, before_for_condition, before_for_first, before_for_last,
-    end_simple,
-};
-use awk_statement_productions::statements::{end_simple_statement, end_statement, start_statement};
+use awk_statement_nodes::checked::CheckedItems;
+use awk_statement_productions::step::step_statement;
 use awk_value::Bytes;
 use std::alloc::{AllocError, Global};
 
@@ -124,129 +114,6 @@ fn step_expression(
         ExpressionState::AfterListIn(list) => {
             after_list_in(alloc, next, in_print_list, Box::into_inner(list))
         }
-    }
-}
-
-/// The token behind a statement.
-fn after_statement(
-    alloc: Global,
-    next: NextToken,
-    statement: Option<CheckedStatement>,
-    stack: &mut Vec<Frame>,
-) -> Result<Option<ParserState>, AllocError>
-    ensures { IfOk result (λ state. next_of state stack.new.items
-        ≡ parser.after_statement max_height (checked_statement statement) (stack_of stack.old.items) next.entry.kind.now) }
-{
-    if matches!(next.kind, Kind::Newline) {
-        let state = StatementState::AfterStatement(statement);
-        return Ok(Some(ParserState::Statement(state)));
-    }
-    end_statement(alloc, next, statement, stack)
-}
-
-/// The name behind the word `delete`.
-fn after_delete(next: NextToken) -> Result<Option<ParserState>, AllocError>
-    ensures { (frames : List Frame) → IfOk result (λ state. next_of state frames
-        ≡ parser.name_then next.entry.kind.now (λ a. parser.AfterDeleteName a (stack_of frames))) }
-{
-    let Kind::Name(name) = next.kind else {
-        return Ok(None);
-    };
-    let state = StatementState::AfterDeleteName(name.clone()?);
-    Ok(Some(ParserState::Statement(state)))
-}
-
-/// The `(` behind the word `for`.
-fn after_for(next: NextToken) -> Option<ParserState>
-    ensures { (frames : List Frame) → next_of result frames
-        ≡ parser.at_parenthesis next.entry.kind.now (parser.BeforeForFirst (stack_of frames)) }
-{
-    match next.kind {
-        Kind::OpenParenthesis => Some(ParserState::Statement(StatementState::BeforeForFirst)),
-        _ => None,
-    }
-}
-
-/// Takes a token in a statement.
-fn step_statement(
-    alloc: Global,
-    state: StatementState,
-    next: NextToken,
-    stack: &mut Vec<Frame>,
-) -> Result<Option<ParserState>, AllocError>
-    ensures { IfOk result (λ reached. next_of reached stack.new.items
-        ≡ parser.step max_height (statement_state_of state (stack_of stack.old.items)) next.entry.kind.now) }
-{
-    match state {
-        StatementState::AfterPrint(form) => after_print(alloc, next, form, stack),
-        StatementState::AfterDelete => after_delete(next),
-        StatementState::AfterDeleteName(name) => after_delete_name(alloc, next, name, stack),
-        StatementState::AfterExit => {
-            let without_value = exit(Some(CheckedOptionalExpr::absent()));
-            after_exit(alloc, next, without_value, ExpressionFrame::Exit, stack)
-        }
-        StatementState::AfterReturn => {
-            let without_value = return_statement(Some(CheckedOptionalExpr::absent()));
-            after_exit(alloc, next, without_value, ExpressionFrame::Return, stack)
-        }
-        StatementState::AfterSimple(statement) => {
-            end_simple(alloc, next, Box::into_inner(statement), stack)
-        }
-        StatementState::AfterDo(statement) => end_simple_statement(alloc, next, statement, stack),
-        StatementState::AfterFor => Ok(after_for(next)),
-        StatementState::BeforeForFirst => before_for_first(alloc, next, stack),
-        StatementState::BeforeForCondition(first) => {
-            before_for_condition(alloc, next, first, stack)
-        }
-        StatementState::BeforeForLast(head) => before_for_last(alloc, next, head, stack),
-        StatementState::BeforeStatement => start_statement(alloc, next, stack),
-        StatementState::AfterStatement(statement) => after_statement(alloc, next, statement, stack),
-    }
-}
-
-/// The `(` behind the name of a function.
-fn after_function_name(
-    alloc: Global,
-    next: NextToken,
-    name: Bytes,
-) -> Result<Option<ParserState>, AllocError>
-    ensures { (frames : List Frame) → IfOk result (λ state. next_of state frames
-        ≡ parser.at_parenthesis next.entry.kind.now (parser.BeforeParameter name false [] (stack_of frames))) }
-{
-    if !matches!(next.kind, Kind::OpenParenthesis) {
-        return Ok(None);
-    }
-    let parameters = Vec::new(alloc);
-    let signature = Box::new(alloc, Signature { name, parameters })?;
-    Ok(Some(ParserState::Item(ItemState::BeforeParameter {
-        signature,
-        is_behind_comma: false,
-    })))
-}
-
-/// Takes a token in an item.
-fn step_item(
-    alloc: Global,
-    state: ItemState,
-    next: NextToken,
-    stack: &mut Vec<Frame>,
-) -> Result<Option<ParserState>, AllocError>
-    ensures { IfOk result (λ reached. next_of reached stack.new.items
-        ≡ parser.step max_height (item_state_of state (stack_of stack.old.items)) next.entry.kind.now) }
-{
-    match state {
-        ItemState::BetweenItems => start_item(alloc, next, stack),
-        ItemState::BeforeAction {
-            head,
-            skips_newlines,
-        } => before_action(alloc, next, head, skips_newlines, stack),
-        ItemState::AfterFunction => after_function(next),
-        ItemState::AfterFunctionName(name) => after_function_name(alloc, next, name),
-        ItemState::BeforeParameter {
-            signature,
-            is_behind_comma,
-        } => before_parameter(alloc, next, signature, is_behind_comma),
-        ItemState::AfterParameter(signature) => after_parameter(alloc, next, signature),
     }
 }
 

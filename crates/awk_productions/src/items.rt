@@ -1,6 +1,6 @@
 // Items: patterns, actions and functions.
 
-ghost use Rattle.std.specs.Prelude.{◌≡◌, true, false, ◌∷◌, List, IfOk};
+ghost use Rattle.std.specs.Prelude.{◌≡◌, true, false, ◌∷◌, [], List, IfOk};
 ghost use Rattle.awk_grammar.specs.definitions.Height.{max_height};
 ghost use Rattle.awk_grammar.specs.definitions.Tree.{NoMore};
 ghost use Rattle.awk_grammar.specs.support.Nodes.{limited};
@@ -8,8 +8,11 @@ ghost use Rattle.awk_grammar.specs.support.Parser as parser;
 ghost use Rattle.awk_lex.specs.declared.token.Kind.TheVariants as token;
 ghost use Rattle.awk_nodes.specs.support.Checked.{checked_expr};
 ghost use Rattle.awk_statement_nodes.specs.support.Checked.{checked_statements, checked_pattern, checked_item};
-ghost use Rattle.awk_frames.specs.support.FrameView.{operand_of, head_of, stack_of, next_of};
+ghost use Rattle.awk_frames.specs.support.FrameView.{operand_of, head_of, item_state_of, stack_of, next_of};
 
+use crate::item_nodes::{
+    action, begin as begin_item, end, function, one_more_item, pattern_action, pattern_only, single,
+};
 use crate::operands::start_operand;
 use crate::taken::{begin, begin_statement};
 use awk_frames::frame::{ExpressionFrame, Frame, Head};
@@ -18,9 +21,7 @@ use awk_frames::stack::{pop, push};
 use awk_frames::state::{ItemState, NextToken, ParserState, Signature};
 use awk_lex::token::{Keyword, Kind};
 use awk_statement_nodes::checked::{CheckedItem, CheckedPattern, CheckedStatements};
-use awk_statement_nodes::items::{
-    action, begin as begin_item, end, function, one_more_item, pattern_action, pattern_only, single,
-};
+use awk_value::Bytes;
 use std::alloc::{AllocError, Global};
 
 /// The item of an action and what stands before it.
@@ -58,7 +59,7 @@ pub fn end_item(
 }
 
 /// An action begins.
-pub fn start_action(
+fn start_action(
     alloc: Global,
     head: Box<Head>,
     stack: &mut Vec<Frame>,
@@ -143,7 +144,7 @@ fn start_item_keyword(
 }
 
 /// Where an item begins.
-pub fn start_item(
+fn start_item(
     alloc: Global,
     next: NextToken,
     stack: &mut Vec<Frame>,
@@ -170,7 +171,7 @@ fn before_action_of(head: Box<Head>, skips_newlines: bool) -> Option<ParserState
 }
 
 /// Where an action must begin.
-pub fn before_action(
+fn before_action(
     alloc: Global,
     next: NextToken,
     head: Box<Head>,
@@ -191,7 +192,7 @@ pub fn before_action(
 }
 
 /// Behind the word `function`.
-pub fn after_function(next: NextToken) -> Result<Option<ParserState>, AllocError>
+fn after_function(next: NextToken) -> Result<Option<ParserState>, AllocError>
     ensures { (frames : List Frame) → IfOk result (λ state. next_of state frames
         ≡ parser.after_function (stack_of frames) next.entry.kind.now) }
 {
@@ -217,7 +218,7 @@ fn before_function_body(
 }
 
 /// A parameter, or the `)` of a function without parameters.
-pub fn before_parameter(
+fn before_parameter(
     alloc: Global,
     next: NextToken,
     signature: Box<Signature>,
@@ -244,7 +245,7 @@ pub fn before_parameter(
 }
 
 /// Behind a parameter.
-pub fn after_parameter(
+fn after_parameter(
     alloc: Global,
     next: NextToken,
     signature: Box<Signature>,
@@ -259,5 +260,51 @@ pub fn after_parameter(
         }))),
         Kind::CloseParenthesis => before_function_body(alloc, signature),
         _ => Ok(None),
+    }
+}
+
+/// The `(` behind the name of a function.
+fn after_function_name(
+    alloc: Global,
+    next: NextToken,
+    name: Bytes,
+) -> Result<Option<ParserState>, AllocError>
+    ensures { (frames : List Frame) → IfOk result (λ state. next_of state frames
+        ≡ parser.at_parenthesis next.entry.kind.now (parser.BeforeParameter name false [] (stack_of frames))) }
+{
+    if !matches!(next.kind, Kind::OpenParenthesis) {
+        return Ok(None);
+    }
+    let parameters = Vec::new(alloc);
+    let signature = Box::new(alloc, Signature { name, parameters })?;
+    Ok(Some(ParserState::Item(ItemState::BeforeParameter {
+        signature,
+        is_behind_comma: false,
+    })))
+}
+
+/// Takes a token in an item.
+pub fn step_item(
+    alloc: Global,
+    state: ItemState,
+    next: NextToken,
+    stack: &mut Vec<Frame>,
+) -> Result<Option<ParserState>, AllocError>
+    ensures { IfOk result (λ reached. next_of reached stack.new.items
+        ≡ parser.step max_height (item_state_of state (stack_of stack.old.items)) next.entry.kind.now) }
+{
+    match state {
+        ItemState::BetweenItems => start_item(alloc, next, stack),
+        ItemState::BeforeAction {
+            head,
+            skips_newlines,
+        } => before_action(alloc, next, head, skips_newlines, stack),
+        ItemState::AfterFunction => after_function(next),
+        ItemState::AfterFunctionName(name) => after_function_name(alloc, next, name),
+        ItemState::BeforeParameter {
+            signature,
+            is_behind_comma,
+        } => before_parameter(alloc, next, signature, is_behind_comma),
+        ItemState::AfterParameter(signature) => after_parameter(alloc, next, signature),
     }
 }

@@ -1,7 +1,5 @@
-//! Checked statements and items, known not to be too high, and the makers of their nodes.
+//! Checked statements and items: each known not to be too high, with its height beside it.
 #![tactic(auto)]
 
 pub mod checked;
-pub mod items;
-pub mod simple;
-pub mod statements;
+pub mod limited;

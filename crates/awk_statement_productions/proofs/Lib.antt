@@ -1,2 +1,3 @@
-pub mod OtherTokens
 pub mod DoBodies
+pub mod OtherTokens
+pub mod StatementLists

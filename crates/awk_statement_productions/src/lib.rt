@@ -3,4 +3,7 @@
 
 pub mod prints;
 pub mod simple;
+pub mod simple_nodes;
+mod statement_nodes;
 pub mod statements;
+pub mod step;

@@ -8,6 +8,7 @@ ghost use Rattle.awk_statement_productions.specs.support.Ending.{ends_print};
 ghost use Rattle.awk_frames.specs.support.FrameView.{operand_of, list_of, list_frame_of, stack_of, next_of};
 
 use crate::simple::end_simple;
+use crate::simple_nodes::{bare, parenthesized, print};
 use awk_frames::frame::{ExpressionFrame, Frame, ListFrame, ListHead, OutputFrame};
 use awk_frames::operand::{Operand, OperandList};
 use awk_frames::stack::{pop, push};
@@ -18,7 +19,6 @@ use awk_nodes::checked::CheckedExprs;
 use awk_productions::operands::start_operand;
 use awk_productions::taken::begin;
 use awk_statement_nodes::checked::CheckedPrintList;
-use awk_statement_nodes::simple::{bare, parenthesized, print};
 use std::alloc::{AllocError, Global};
 
 /// Behind what is printed: a redirection may follow.
@@ -195,7 +195,7 @@ fn start_print_list(
 }
 
 /// Behind the word `print` or `printf`.
-pub fn after_print(
+pub(crate) fn after_print(
     alloc: Global,
     next: NextToken,
     form: PrintForm,

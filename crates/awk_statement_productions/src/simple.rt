@@ -8,6 +8,8 @@ ghost use Rattle.awk_grammar.specs.support.Parser as parser;
 ghost use Rattle.awk_statement_nodes.specs.support.Checked.{checked_simple, checked_statement, checked_part, checked_optional_expr};
 ghost use Rattle.awk_frames.specs.support.FrameView.{list_of, body_frame_of, expression_frame_of, stack_of, next_of};
 
+use crate::simple_nodes::{delete, part};
+use crate::statement_nodes::simple;
 use crate::statements::{end_simple_statement, start_part};
 use awk_frames::frame::{BodyFrame, ExpressionFrame, ForHead, Frame, ListHead};
 use awk_frames::operand::OperandList;
@@ -18,8 +20,6 @@ use awk_lex::token::Kind;
 use awk_productions::operands::start_operand;
 use awk_productions::taken::{begin, begin_body};
 use awk_statement_nodes::checked::{CheckedOptionalExpr, CheckedPart, CheckedSimple};
-use awk_statement_nodes::simple::{delete, part};
-use awk_statement_nodes::statements::simple;
 use awk_value::Bytes;
 use std::alloc::{AllocError, Global};
 
@@ -182,7 +182,7 @@ pub fn after_delete_subscript(
 }
 
 /// Behind the word `delete` and a name.
-pub fn after_delete_name(
+pub(crate) fn after_delete_name(
     alloc: Global,
     next: NextToken,
     name: Bytes,
@@ -202,7 +202,7 @@ pub fn after_delete_name(
 }
 
 /// Behind the word `exit` or `return`: the statement without a value, unless an expression follows.
-pub fn after_exit(
+pub(crate) fn after_exit(
     alloc: Global,
     next: NextToken,
     without_value: Option<CheckedSimple>,
@@ -226,7 +226,7 @@ pub fn after_exit(
 }
 
 /// Before the first part of a `for`.
-pub fn before_for_first(
+pub(crate) fn before_for_first(
     alloc: Global,
     next: NextToken,
     stack: &mut Vec<Frame>,
@@ -243,7 +243,7 @@ pub fn before_for_first(
 }
 
 /// Before its condition.
-pub fn before_for_condition(
+pub(crate) fn before_for_condition(
     alloc: Global,
     next: NextToken,
     first: Box<Option<CheckedPart>>,
@@ -266,7 +266,7 @@ pub fn before_for_condition(
 }
 
 /// Before its last part.
-pub fn before_for_last(
+pub(crate) fn before_for_last(
     alloc: Global,
     next: NextToken,
     head: Box<ForHead>,

@@ -8,6 +8,10 @@ ghost use Rattle.awk_statement_nodes.specs.support.Checked.{checked_statement};
 ghost use Rattle.awk_frames.specs.declared.frame.Frame.TheVariants as frame;
 ghost use Rattle.awk_frames.specs.support.FrameView.{frame_of, stack_of, next_of};
 
+use crate::simple_nodes::{break_statement, continue_statement, next as next_statement};
+use crate::statement_nodes::{
+    block, empty, for_in, for_loop, if_else, if_statement, one_more_statement, while_loop,
+};
 use awk_frames::frame::{BodyFrame, ExpressionFrame, Frame, Head};
 use awk_frames::stack::{pop, push};
 use awk_frames::state::{NextToken, ParserState, StatementState};
@@ -17,10 +21,6 @@ use awk_productions::items::{end_item, make_item};
 use awk_productions::operands::{before_parenthesis, start_operand};
 use awk_productions::taken::{begin_body, begin_statement};
 use awk_statement_nodes::checked::{CheckedStatement, CheckedStatements};
-use awk_statement_nodes::simple::{break_statement, continue_statement, next as next_statement};
-use awk_statement_nodes::statements::{
-    block, empty, for_in, for_loop, if_else, if_statement, one_more_statement, while_loop,
-};
 use std::alloc::{AllocError, Global};
 
 /// `}`
@@ -77,7 +77,7 @@ fn start_part_keyword(
 }
 
 /// An expression, a print or a deletion begins.
-pub fn start_part(
+pub(crate) fn start_part(
     alloc: Global,
     next: NextToken,
     stack: &mut Vec<Frame>,
@@ -126,7 +126,7 @@ fn start_keyword(
 }
 
 /// Where a statement or the end of its block begins.
-pub fn start_statement(
+pub(crate) fn start_statement(
     alloc: Global,
     next: NextToken,
     stack: &mut Vec<Frame>,
@@ -186,7 +186,7 @@ fn continue_block(
 }
 
 /// A statement is done, and the next token isn't a newline.
-pub fn end_statement(
+pub(crate) fn end_statement(
     alloc: Global,
     next: NextToken,
     statement: Option<CheckedStatement>,
@@ -226,7 +226,7 @@ pub fn end_statement(
 }
 
 /// At the end of a statement that needs one.
-pub fn end_simple_statement(
+pub(crate) fn end_simple_statement(
     alloc: Global,
     next: NextToken,
     statement: Option<CheckedStatement>,

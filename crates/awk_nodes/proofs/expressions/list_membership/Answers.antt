@@ -3,8 +3,8 @@ use Rattle.awk_grammar.specs.declared.tree.Expr.TheViews.{the_lemmas}
 use Rattle.awk_nodes.proofs.CheckedLists.{exprs_of_row-items}
 use Rattle.awk_nodes.proofs.expressions.list_membership.Goals as goal
 
-pub node-requires : goal.node-requires
-node-requires c = search (rules, the_lemmas, exprs_of_row-items)
+pub of-requires : goal.of-requires
+of-requires c = search (rules, the_lemmas, exprs_of_row-items)
 
 pub returns : goal.returns
 returns c = search (rules, the_lemmas, exprs_of_row-items)

@@ -1,5 +1,0 @@
-use Rattle.std.proofs.Common.{arith}
-use Rattle.awk_nodes.proofs.expressions.group.Goals as goal
-
-pub node-requires : goal.node-requires
-node-requires c = omega (arith, c.in-Some.inside.counted)

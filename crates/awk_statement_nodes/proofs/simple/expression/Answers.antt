@@ -1,5 +1,0 @@
-use Rattle.std.proofs.Common.{rules}
-use Rattle.awk_statement_nodes.proofs.simple.expression.Goals as goal
-
-pub node-requires : goal.node-requires
-node-requires c = search rules
