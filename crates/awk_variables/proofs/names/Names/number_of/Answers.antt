@@ -17,3 +17,6 @@ returns-clause-names c =
 pub returns-clause-number : goal.returns-clause-number
 returns-clause-number c =
     numbers_new c.args.self.now _ c.in-Ok.number c.args.name.now c.in_default.ensures.none (returns-clause-names c) (search rules)
+
+pub returns-in-Some-clause-number : goal.returns-in-Some-clause-number
+returns-in-Some-clause-number c = search rules
