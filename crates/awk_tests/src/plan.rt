@@ -1,5 +1,6 @@
 // What a program is lowered to, and a run of it.
 
+use crate::rows::was_given;
 use awk_lex::lexer::tokens;
 use awk_plan::lower;
 use awk_plan::node::{BlockNode, ExprNode, Node, Operand, SimpleNode};
@@ -10,7 +11,7 @@ use awk_streams::ScriptWorld;
 use awk_syntax::parse::parse;
 use awk_tree::tree::BinaryOperator;
 use awk_value::Value;
-use std::alloc::Global;
+use std::alloc::{AllocError, Global};
 use std::test::Fail;
 
 fn plan_of(alloc: Global, text: &[u8]) -> Option<Plan> {
@@ -80,6 +81,19 @@ fn numbers_names_once(rt: HostRuntime) {
     assert!(rt; names.find(b"z").is_none());
 }
 
+/// Whether a run of the plan in so many steps ends so and prints these bytes.
+fn prints(
+    alloc: Global,
+    plan: &Plan,
+    limit: u64,
+    wanted: Outcome,
+    output: &[u8],
+) -> Result<bool, AllocError> {
+    let mut world = ScriptWorld::new(alloc, Vec::new(alloc));
+    let outcome = run(alloc, plan, &Start::new(alloc), limit, &mut world);
+    Ok(outcome == wanted && was_given(&world, 0, output)?)
+}
+
 #[test]
 fn a_run_of_a_plan(rt: HostRuntime) -> Result<(), Fail> {
     let alloc = rt.alloc();
@@ -87,12 +101,7 @@ fn a_run_of_a_plan(rt: HostRuntime) -> Result<(), Fail> {
         assert!(rt; false);
         return Ok(());
     };
-    let start = Start::new(alloc);
-    let mut world = ScriptWorld::new(alloc, Vec::new(alloc));
-    assert!(rt; run(alloc, &plan, &start, 3, &mut world) == Outcome::Ended(3));
-    assert!(rt; world.received(0)?.as_slice() == b"1\n2\n".as_slice());
-    let mut world = ScriptWorld::new(alloc, Vec::new(alloc));
-    assert!(rt; run(alloc, &plan, &start, 1, &mut world) == Outcome::Stopped);
-    assert!(rt; world.received(0)?.as_slice() == b"1\n".as_slice());
+    assert!(rt; prints(alloc, &plan, 3, Outcome::Ended(3), b"1\n2\n")?);
+    assert!(rt; prints(alloc, &plan, 1, Outcome::Stopped, b"1\n")?);
     Ok(())
 }

@@ -121,26 +121,35 @@ fn add_line(lines: &mut Vec<u8>, text: &[u8]) -> Result<(), AllocError> {
     Ok(())
 }
 
+// One line more, at this place: of the row that has begun, or its last.
+fn take_line(
+    alloc: Global,
+    place: usize,
+    line: &[u8],
+    row: &mut Row,
+    rows: &mut Vec<Row>,
+) -> Result<(), AllocError> {
+    let [b'=', b' ', status @ ..] = line else {
+        return row.take_in(alloc, line);
+    };
+    row.status.extend_from_slice(status)?;
+    row.line = place;
+    rows.push(mem::replace(row, Row::new(alloc)))?;
+    Ok(())
+}
+
 /// The rows of a text.
 pub fn rows_of(alloc: Global, text: &str) -> Result<Vec<Row>, AllocError> {
     let mut rows = Vec::new(alloc);
     let mut row = Row::new(alloc);
     for (i, line) in text.lines().enumerate() {
-        match line.as_bytes() {
-            [b'=', b' ', status @ ..] => {
-                row.status.extend_from_slice(status)?;
-                row.line = i;
-                rows.push(row)?;
-                row = Row::new(alloc);
-            }
-            line => row.take_in(alloc, line)?,
-        }
+        take_line(alloc, i, line.as_bytes(), &mut row, &mut rows)?;
     }
     Ok(rows)
 }
 
-// Whether an output was given this.
-fn was_given(world: &ScriptWorld, id: u64, bytes: &[u8]) -> Result<bool, AllocError> {
+/// Whether an output was given this.
+pub fn was_given(world: &ScriptWorld, id: u64, bytes: &[u8]) -> Result<bool, AllocError> {
     Ok(world.received(id)?.as_slice() == bytes)
 }
 

@@ -1,5 +1,6 @@
 // What no row of text can say of program files: that one breaks, or is long.
 
+use crate::rows::was_given;
 use awk_command::main_words;
 use awk_streams::{Answer, Entry, InputKind, ScriptWorld};
 use std::alloc::{AllocError, Global};
@@ -53,16 +54,11 @@ fn a_broken_program_file(rt: HostRuntime) -> Result<(), Fail> {
     Ok(())
 }
 
-// Whether a message says this.
-fn is_told(world: &ScriptWorld, message: &str) -> Result<bool, AllocError> {
-    Ok(world.received(1)?.as_slice() == message.as_bytes())
-}
-
 #[test]
 fn a_long_program_file(rt: HostRuntime) -> Result<(), Fail> {
     let bytes = vec![in rt.alloc(); b' '; 1_100_000]?;
     let mut world = broken_file(rt.alloc(), bytes)?;
     assert_eq!(rt; run_file(rt.alloc(), &mut world)?, 2);
-    assert!(rt; is_told(&world, "awk: line 1: refusal L6: program too long\n")?);
+    assert!(rt; was_given(&world, 1, b"awk: line 1: refusal L6: program too long\n")?);
     Ok(())
 }

@@ -1,5 +1,6 @@
 // Runs by `execute` itself, which the program is made of.
 
+use crate::rows::was_given;
 use awk_lex::refusal::{Refusal, RefusalCode};
 use awk_run::{
     Assignment, Fault, Outcome, Start, execute, fault_line, law_of_limits, law_of_outcomes,
@@ -23,20 +24,32 @@ fn world_of(alloc: Global, input: &[u8], refused: bool) -> Result<ScriptWorld, A
     Ok(ScriptWorld::new(alloc, answers))
 }
 
+// The assignment of a text with an escape.
+fn assignment_of_x(alloc: Global) -> Result<Assignment, AllocError> {
+    Ok(Assignment {
+        name: b"x".to_vec(alloc)?,
+        text: b"a\\tb".to_vec(alloc)?,
+    })
+}
+
+// Runs a program from these start values in a world of two records.
+fn runs(alloc: Global, start: &Start, world: &mut ScriptWorld) -> Result<bool, AllocError> {
+    let text = b"$1 > 9 { print $2, $1 * 2, x }";
+    let outcome = execute(alloc, text, start, 3, world);
+    Ok(
+        outcome == Ok(Outcome::Ended(0))
+            && was_given(world, 0, b"a 20 a\tb\n")?
+            && was_given(world, 1, b"")?,
+    )
+}
+
 #[test]
 fn a_run(rt: HostRuntime) -> Result<(), Fail> {
     let alloc = rt.alloc();
-    let mut start = Start::new(alloc);
-    start.pre.push(Assignment {
-        name: b"x".to_vec(alloc)?,
-        text: b"a\\tb".to_vec(alloc)?,
-    })?;
     let mut world = world_of(alloc, b"10 a\n9 b\n", false)?;
-    let text = b"$1 > 9 { print $2, $1 * 2, x }";
-    let outcome = execute(alloc, text, &start, 3, &mut world);
-    assert!(rt; outcome == Ok(Outcome::Ended(0)));
-    assert!(rt; world.received(0)?.as_slice() == b"a 20 a\tb\n".as_slice());
-    assert!(rt; world.received(1)?.is_empty());
+    let mut start = Start::new(alloc);
+    start.pre.push(assignment_of_x(alloc)?)?;
+    assert!(rt; runs(alloc, &start, &mut world)?);
     law_of_limits();
     law_of_outcomes();
     law_of_turns();
@@ -51,7 +64,7 @@ fn a_refused_input(rt: HostRuntime) -> Result<(), Fail> {
     let text = b"BEGIN { print 1 } { print }";
     let outcome = execute(alloc, text, &Start::new(alloc), 9, &mut world);
     assert!(rt; outcome == Ok(Outcome::Fault(Fault::InputNotReadable)));
-    assert!(rt; world.received(0)?.as_slice() == b"1\n".as_slice());
+    assert!(rt; was_given(&world, 0, b"1\n")?);
     Ok(())
 }
 
@@ -64,22 +77,35 @@ fn outcomes(rt: HostRuntime) -> Result<(), Fail> {
     Ok(())
 }
 
+// Whether a text is refused so, and nothing is done in the world.
+fn is_refused(
+    alloc: Global,
+    text: &[u8],
+    code: RefusalCode,
+    line: u64,
+) -> Result<bool, AllocError> {
+    let mut world = world_of(alloc, b"a\n", false)?;
+    let refused = execute(alloc, text, &Start::new(alloc), 9, &mut world);
+    Ok(refused == Err(Refusal { code, line }) && world.entries().is_empty())
+}
+
+// Whether a text of one byte so often is refused so, on its first line.
+fn is_refused_long(
+    alloc: Global,
+    byte: u8,
+    count: usize,
+    code: RefusalCode,
+) -> Result<bool, AllocError> {
+    let text = vec![in alloc; byte; count]?;
+    is_refused(alloc, &text, code, 1)
+}
+
 #[test]
 fn refusals(rt: HostRuntime) -> Result<(), Fail> {
     let alloc = rt.alloc();
-    let long = vec![in alloc; b' '; 1_048_577]?;
-    let braces = vec![in alloc; b'{'; 500_000]?;
-    let parentheses = vec![in alloc; b'('; 500_000]?;
-    for (text, code, line) in [
-        (b"{print}\n\0".as_slice(), RefusalCode::UnexpectedByte, 2),
-        (long.as_slice(), RefusalCode::ProgramTooLong, 1),
-        (braces.as_slice(), RefusalCode::NotAProgram, 1),
-        (parentheses.as_slice(), RefusalCode::NotAProgram, 1),
-    ] {
-        let mut world = world_of(alloc, b"a\n", false)?;
-        let refused = execute(alloc, text, &Start::new(alloc), 9, &mut world);
-        assert!(rt; refused == Err(Refusal { code, line }));
-        assert!(rt; world.entries().is_empty());
-    }
+    assert!(rt; is_refused(alloc, b"{print}\n\0", RefusalCode::UnexpectedByte, 2)?);
+    assert!(rt; is_refused_long(alloc, b' ', 1_048_577, RefusalCode::ProgramTooLong)?);
+    assert!(rt; is_refused_long(alloc, b'{', 500_000, RefusalCode::NotAProgram)?);
+    assert!(rt; is_refused_long(alloc, b'(', 500_000, RefusalCode::NotAProgram)?);
     Ok(())
 }
