@@ -100,8 +100,8 @@ impl Interpreter {
     {
         let streams = streams_with_room(alloc)?;
         let arguments = Arguments::new(alloc, operands)?;
-        let variables = Variables::new(alloc, arguments.words.len())?;
         let (current, patterns) = record_and_patterns(alloc)?;
+        let variables = Variables::new(alloc, arguments.words.len())?;
         Ok(Interpreter {
             alloc,
             current,
