@@ -14,7 +14,7 @@ limit=20
 
 # The program: its first word says what an array is filled with, the second what is done with it, and it prints a number
 # as a check.
-program_over use_table 'awk_value awk_keys awk_table' 'awk_value awk_keys awk_table itoa'
+program_over use_table 'awk_value awk_table' 'awk_value awk_table itoa'
 cat >"$program/src/main.rt" <<'PROGRAM'
 //! Fills an array of 1,000,000 keys as its first word says, and does with it what the second says.
 #![tactic(auto)]

@@ -15,18 +15,18 @@ use Rattle.std.proofs.lemmas.List.Sorted.{IsPermutation-map, IsPermutation-refl}
 use Rattle.std.specs.Global.{Vec}
 use Rattle.indexmap.specs.IndexMap.{swap_remove_entry}
 use Rattle.awk_value.specs.declared.value.Value.{Value}
-use Rattle.awk_keys.specs.declared.entry.Entry.{Entry}
-use Rattle.awk_keys.specs.declared.short_text.ShortText.{ShortText}
+use Rattle.awk_table.specs.declared.entry.Entry.{Entry}
+use Rattle.awk_table.specs.declared.short_text.ShortText.{ShortText}
 use Rattle.awk_table.specs.Arrays.{Array, value_at, with_pair, without, HasDistinctKeys}
-use Rattle.awk_keys.specs.support.StampOrder.{stamp_order}
-use Rattle.awk_keys.specs.support.Texts.{IsInt64, IsTextKey, short_text, IsPadded}
+use Rattle.awk_table.specs.support.StampOrder.{stamp_order}
+use Rattle.awk_table.specs.support.Texts.{IsInt64, IsTextKey, short_text, IsPadded}
 use Rattle.awk_table.proofs.Numbers.{is_int64}
-use Rattle.awk_keys.proofs.Rows.{map-both, map-twice}
+use Rattle.awk_table.proofs.Rows.{map-both, map-twice}
 use Rattle.awk_table.specs.support.Entries.{IsConsistent, all_rows, joined}
 use Rattle.awk_table.proofs.NamedKeys.{chosen-none, chosen-some}
-use Rattle.awk_keys.proofs.Moves.{swap-hit, swap-missed}
+use Rattle.awk_table.proofs.Moves.{swap-hit, swap-missed}
 use Rattle.awk_table.proofs.Joined.{left-lookup, left-set, left-more, left-taken, right-lookup, right-set, right-more, right-taken}
-use Rattle.awk_keys.proofs.Counts.{stamp_order-few}
+use Rattle.awk_table.proofs.Counts.{stamp_order-few}
 use Rattle.awk_table.proofs.NumbersAndTexts
 
 abbrev text_of : List ℕ → List ℕ

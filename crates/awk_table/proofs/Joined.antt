@@ -5,7 +5,7 @@ use Rattle.std.specs.Map.{lookup, set_value, keys_of}
 use Rattle.std.specs.List.{AllByRecursion}
 use Rattle.std.specs.List.Sorted.{IsPermutation}
 use Rattle.std.proofs.lemmas.List.Sorted.{IsPermutation-append_left, IsPermutation-append_right, IsPermutation-append_comm, IsPermutation-map, IsPermutation-trans, IsPermutation-middle}
-use Rattle.awk_keys.proofs.Rows.{map-push}
+use Rattle.awk_table.proofs.Rows.{map-push}
 use Rattle.awk_table.specs.support.Entries.{joined}
 use Rattle.awk_table.proofs.NamedKeys.{lookup-named, set_value-named}
 use Rattle.awk_table.proofs.NumbersAndTexts.{not_bytes, lookup-left, lookup-right, set-left, set-right}

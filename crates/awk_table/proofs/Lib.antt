@@ -1,3 +1,8 @@
+mod Rows
+mod ByStamp
+mod OneEntry
+mod Counts
+mod Moves
 mod Numbers
 mod NamedKeys
 mod NumbersAndTexts

@@ -10,13 +10,13 @@ use Rattle.std.proofs.lemmas.Fmt.{signed_decimal_injective}
 use Rattle.std.proofs.lemmas.Bool.Decides.{Decides-int_eq}
 use Rattle.std.proofs.lemmas.Slice.Eq.{bytes_eq-Decides}
 use Rattle.std.proofs.lemmas.List.Sorted.{IsPermutation-refl, IsPermutation-append_left, IsPermutation-append_right, IsPermutation-append_comm, IsPermutation-map, IsPermutation-trans, IsPermutation-middle, All-permutation}
-use Rattle.awk_keys.specs.support.Texts.{IsInt64, IsTextKey}
-use Rattle.awk_keys.proofs.Rows.{map-twice, map-both, map-push}
+use Rattle.awk_table.specs.support.Texts.{IsInt64, IsTextKey}
+use Rattle.awk_table.proofs.Rows.{map-twice, map-both, map-push}
 use Rattle.awk_table.specs.support.Entries.{all_entries, all_rows, IsConsistent}
-use Rattle.awk_keys.specs.support.StampOrder.{stamp_order}
-use Rattle.awk_keys.proofs.OneEntry.{rows, found-some, found-none, set-found, kept_put, absent-found, without-none}
-use Rattle.awk_keys.proofs.Moves.{kept-moved, ordered-moved, kept-more, ordered-more, kept-taken, ordered-taken, swap-hit, swap-missed, flips, stamp_order-moved, stamp_order-made, stamp_order-ordered, ordered-distinct}
-use Rattle.awk_keys.proofs.Counts.{length-stamp_order}
+use Rattle.awk_table.specs.support.StampOrder.{stamp_order}
+use Rattle.awk_table.proofs.OneEntry.{rows, found-some, found-none, set-found, kept_put, absent-found, without-none}
+use Rattle.awk_table.proofs.Moves.{kept-moved, ordered-moved, kept-more, ordered-more, kept-taken, ordered-taken, swap-hit, swap-missed, flips, stamp_order-moved, stamp_order-made, stamp_order-ordered, ordered-distinct}
+use Rattle.awk_table.proofs.Counts.{length-stamp_order}
 use Rattle.std.proofs.lemmas.List.{length-map}
 use Rattle.std.proofs.lemmas.Map.Keys.{IsDistinct-IsPermutation}
 use Rattle.std.proofs.lemmas.List.Elements.{recursion_from_All, All-from_recursion}

@@ -2,7 +2,7 @@
 
 ghost use Rattle.std.specs.Prelude.{◌≡◌, IfSome, IfNone};
 ghost use Rattle.std.specs.Fmt.{signed_decimal};
-ghost use Rattle.awk_keys.specs.support.Texts.{IsTextKey};
+ghost use Rattle.awk_table.specs.support.Texts.{IsTextKey};
 
 use itoa::Buffer;
 

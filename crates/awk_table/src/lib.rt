@@ -2,9 +2,13 @@
 #![tactic(auto)]
 
 mod decimal;
+mod entry;
 mod long_keys;
 mod number_keys;
 mod short_keys;
+mod short_text;
 mod table;
+mod text_entry;
+mod walk;
 
 pub use crate::table::Table;

@@ -5,10 +5,11 @@ ghost use Rattle.std.specs.Option.{option_copied, unwrap_or};
 ghost use Rattle.awk_value.specs.declared.value.Value.TheVariants.{Nothing};
 ghost use Rattle.awk_value.specs.declared.fault.ValueFault.TheVariants.{Memory};
 ghost use Rattle.awk_table.specs.Arrays.{value_at, with_pair, with_key, without};
-ghost use Rattle.awk_keys.specs.support.Texts.{IsTextKey};
+ghost use Rattle.awk_table.specs.support.Texts.{IsTextKey};
 
+use crate::entry::Entry;
 use crate::table::{Table, copy_of};
-use awk_keys::{Entry, add_text, set_text, take_text};
+use crate::text_entry::{add_text, set_text, take_text};
 use awk_value::{Value, ValueFault};
 use std::alloc::Global;
 

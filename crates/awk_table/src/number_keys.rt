@@ -8,8 +8,8 @@ ghost use Rattle.awk_value.specs.declared.value.Value.TheVariants.{Nothing};
 ghost use Rattle.awk_value.specs.declared.fault.ValueFault.TheVariants.{Memory};
 ghost use Rattle.awk_table.specs.Arrays.{value_at, with_pair, with_key, without};
 
+use crate::entry::{Entry, add_entry, set_entry, take_entry};
 use crate::table::{Table, copy_of};
-use awk_keys::{Entry, add_entry, set_entry, take_entry};
 use awk_value::{Value, ValueFault};
 
 impl Table {

@@ -5,10 +5,11 @@ ghost use Rattle.std.specs.Option.{option_copied, unwrap_or};
 ghost use Rattle.awk_value.specs.declared.value.Value.TheVariants.{Nothing};
 ghost use Rattle.awk_value.specs.declared.fault.ValueFault.TheVariants.{Memory};
 ghost use Rattle.awk_table.specs.Arrays.{value_at, with_pair, with_key, without};
-ghost use Rattle.awk_keys.specs.support.Texts.{IsTextKey, short_text, IsPadded};
+ghost use Rattle.awk_table.specs.support.Texts.{IsTextKey, short_text, IsPadded};
 
+use crate::entry::{Entry, add_entry, set_entry, take_entry};
+use crate::short_text::ShortText;
 use crate::table::{Table, copy_of};
-use awk_keys::{Entry, ShortText, add_entry, set_entry, take_entry};
 use awk_value::{Value, ValueFault};
 
 impl Table {

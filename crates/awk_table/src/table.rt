@@ -10,7 +10,9 @@ ghost use Rattle.awk_value.specs.declared.fault.ValueFault.TheVariants.{Memory};
 ghost use Rattle.awk_table.specs.Arrays.{Array, value_at, with_pair, with_key, without, HasDistinctKeys};
 
 use crate::decimal::decimal_number;
-use awk_keys::{Entry, ShortText, keys_by_stamp};
+use crate::entry::Entry;
+use crate::short_text::ShortText;
+use crate::walk::keys_by_stamp;
 use awk_value::{Bytes, Value, ValueFault};
 use indexmap::IndexMap;
 use std::alloc::Global;
@@ -38,11 +40,11 @@ pub struct Table {
 
 impl Model for Table {
     ghost use Rattle.awk_table.specs.Arrays.{Array};
-    ghost use Rattle.awk_keys.specs.support.StampOrder.{stamp_order};
+    ghost use Rattle.awk_table.specs.support.StampOrder.{stamp_order};
     ghost use Rattle.std.specs.Prelude.{◌<◌, length};
     ghost use Rattle.std.specs.List.{AllByRecursion};
     ghost use Rattle.std.specs.Map.{keys_of};
-    ghost use Rattle.awk_keys.specs.support.Texts.{short_text, IsPadded};
+    ghost use Rattle.awk_table.specs.support.Texts.{short_text, IsPadded};
     ghost use Rattle.awk_table.specs.support.Entries.{IsConsistent, all_rows, joined};
 
     ghost Value = { Array };

@@ -4,7 +4,7 @@ use Rattle.std.specs.Prelude.{ℕ, ℤ, ◌<◌, List, ◌++◌, nat_eq, bytes_e
 use Rattle.std.specs.Fmt.{signed_decimal}
 use Rattle.std.specs.List.{IsDistinct, AllByRecursion}
 use Rattle.std.specs.Map.{keys_of}
-use Rattle.awk_keys.specs.support.Texts.{IsInt64, IsTextKey}
+use Rattle.awk_table.specs.support.Texts.{IsInt64, IsTextKey}
 
 -- the entries of two maps, their keys as texts
 abbrev pub joined : {A B E : Type 0} → (A → List ℕ) → (B → List ℕ) → List (A × E) → List (B × E) → List (List ℕ × E)

@@ -2,7 +2,7 @@ use Rattle.std.proofs.Common.{ap, ◌∙◌, refl, to_z-of_z}
 use Rattle.std.specs.Ordering.{int_eq}
 use Rattle.indexmap.specs.IndexMap.{insert_entry}
 use Rattle.indexmap.proofs.CallerLemmas.{insert_entry-new}
-use Rattle.awk_keys.specs.declared.entry.Entry.{Entry}
+use Rattle.awk_table.specs.declared.entry.Entry.{Entry}
 use Rattle.awk_table.proofs.Calls.{keeps, number-absent, number-add}
 use Rattle.awk_table.proofs.table.Table.add_number.Goals as goal
 

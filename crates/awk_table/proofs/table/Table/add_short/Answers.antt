@@ -1,7 +1,7 @@
 use Rattle.std.proofs.Common.{◌∙◌, refl, nat_eq, ◌&&◌}
 use Rattle.std.specs.Prelude.{bytes_eq}
 use Rattle.indexmap.proofs.CallerLemmas.{insert_entry-new}
-use Rattle.awk_keys.specs.declared.entry.Entry.{Entry}
+use Rattle.awk_table.specs.declared.entry.Entry.{Entry}
 use Rattle.awk_table.proofs.Calls.{keeps, short-absent, short-add}
 use Rattle.awk_table.proofs.table.Table.add_short.Goals as goal
 

@@ -1,5 +1,5 @@
 use Rattle.std.proofs.Common.{ap, subst, sym, ◌∙◌, refl}
-use Rattle.awk_keys.specs.support.Texts.{short_text}
+use Rattle.awk_table.specs.support.Texts.{short_text}
 use Rattle.awk_table.specs.Arrays.{value_at}
 use Rattle.awk_table.proofs.Calls.{Keeps, keeps, put_new, short-miss, short-put}
 use Rattle.awk_table.proofs.NamedKeys.{on_err}
