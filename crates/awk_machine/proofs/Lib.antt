@@ -1,1 +1,2 @@
+mod PrintsInPlace
 mod Printing

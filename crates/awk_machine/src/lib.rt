@@ -4,8 +4,9 @@
 mod loops;
 mod machine;
 mod prints;
+mod prints_in_place;
 mod statements;
 
+pub use crate::prints_in_place::print_record;
 pub use awk_control::stack::Stack;
-pub use awk_prints::prints::print_record;
 pub use machine::{holds, run_action};

@@ -9,6 +9,7 @@ ghost use Rattle.awk_control.specs.Stack.{BeginStatement, BeginBlock, Ended};
 ghost use Rattle.awk_control.specs.Moves.{Moves, Steps, Walks, Runs, Tests, stack_of, focus_of, topped, flow_of, ran};
 
 use crate::loops::{begin_for, begin_loop, end_loop};
+use crate::prints_in_place::print_first;
 use crate::statements::{begin_block, begin_simple, end_statement, spend_for};
 use awk_control::in_place::{Reached, advance};
 use awk_control::stack::{
@@ -21,7 +22,6 @@ use awk_interpreter::Interpreter;
 use awk_meaning::Halt;
 use awk_plan::node::{Node, Operand, StatementNode};
 use awk_plan::plan::Plan;
-use awk_prints::prints::print_first;
 use awk_streams::World;
 
 /// Begins a `do`: the step of the statement, and then that of its first turn.

@@ -5,13 +5,13 @@ ghost use Rattle.awk_tree.specs.Tree.{Simple, Print};
 ghost use Rattle.awk_control.specs.Stack.{BeginStatement, Ended};
 ghost use Rattle.awk_control.specs.Moves.{Moves, stack_of, topped, flow_of};
 
+use crate::prints_in_place::{list, print_list, print_record};
 use awk_control::stack::{Entry, Focus, Move, Passed, Stack, StatementEntry};
 use awk_expressions::expressions::{await_value, take_value};
 use awk_interpreter::Interpreter;
 use awk_meaning::{Fault, Halt};
 use awk_plan::node::ListNode;
 use awk_plan::plan::Plan;
-use awk_prints::prints::{list, print_list, print_record};
 use awk_streams::World;
 
 /// Begins a print, behind its step: the record is printed at once, and so is a list whose values are found in place; of another

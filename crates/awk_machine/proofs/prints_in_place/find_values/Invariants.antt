@@ -1,8 +1,8 @@
 use Rattle.std.proofs.Common.{◌≡◌, List, ℕ}
 use Rattle.awk_value.specs.declared.value.Value.{Value}
 use Rattle.awk_plan.specs.Plan.{part_of, exprs_in}
-use Rattle.awk_prints.specs.support.Printed.{FindsAll, count_of}
-use Rattle.awk_prints.proofs.prints.find_values.Given as goal
+use Rattle.awk_machine.specs.support.Printed.{FindsAll, count_of}
+use Rattle.awk_machine.proofs.prints_in_place.find_values.Given as goal
 
 -- what stands behind these values is found with what is left of the list
 abbrev pub invariant-values : goal.invariant-values

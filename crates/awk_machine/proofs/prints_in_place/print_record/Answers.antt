@@ -1,6 +1,6 @@
 use Rattle.std.proofs.lemmas.Result.{err_from_is_err_and}
 use Rattle.awk_control.proofs.PrintMoves.{print_unspent, print_unread, print_prints}
-use Rattle.awk_prints.proofs.prints.print_record.Goals as goal
+use Rattle.awk_machine.proofs.prints_in_place.print_record.Goals as goal
 
 pub returns-in_err-spend-clause-prints : goal.returns-in_err-spend-clause-prints
 returns-in_err-spend-clause-prints g c =

@@ -6,7 +6,7 @@ ghost use Rattle.awk_plan.specs.Plan.{part_of, exprs_in};
 ghost use Rattle.awk_tree.specs.Tree.{Nil};
 ghost use Rattle.awk_meaning.specs.Semantics.{print};
 ghost use Rattle.awk_interpreter.specs.Simulation.{Follows};
-ghost use Rattle.awk_prints.specs.support.Printed.{IsList, FindsAll, PrintsList, PrintsBy, PrintsFirst};
+ghost use Rattle.awk_machine.specs.support.Printed.{IsList, FindsAll, PrintsList, PrintsBy, PrintsFirst};
 
 use awk_control::blocks::{block, simple};
 use awk_fast_path::found;
@@ -19,7 +19,7 @@ use awk_value::Value;
 use std::alloc::AllocError;
 
 /// The list of expressions at a place. A place of another sort stands for the empty list.
-pub fn list(plan: &Plan, place: u32) -> ListNode
+pub(crate) fn list(plan: &Plan, place: u32) -> ListNode
     ensures { IsList plan.now place result }
 {
     match plan.node(place) {
@@ -72,7 +72,7 @@ fn find_values(
 
 /// Prints the values of a list behind the step of its statement, if each is found in place. Else nothing changes. What stood in
 /// the room is gone. (POSIX awk, Output Statements)
-pub fn print_list<W: World>(
+pub(crate) fn print_list<W: World>(
     plan: &Plan,
     place: u32,
     values: &mut Vec<Value>,
@@ -124,7 +124,7 @@ fn execute_print<W: World>(
 
 /// Executes the first statement of a block, if that is a print whose values are found in place: where the statements behind it
 /// stand. Else nothing changes. What stood in the room is gone. (POSIX awk, Actions)
-pub fn print_first<W: World>(
+pub(crate) fn print_first<W: World>(
     plan: &Plan,
     place: u32,
     values: &mut Vec<Value>,

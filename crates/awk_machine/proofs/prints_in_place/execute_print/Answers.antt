@@ -1,7 +1,7 @@
 use Rattle.std.proofs.Common.{arith}
 use Rattle.std.proofs.lemmas.Result.{err_from_is_err_and}
 use Rattle.awk_control.proofs.PrintMoves.{list_follows}
-use Rattle.awk_prints.proofs.prints.execute_print.Goals as goal
+use Rattle.awk_machine.proofs.prints_in_place.execute_print.Goals as goal
 
 pub returns-in_err-print_list-in-Cons : goal.returns-in_err-print_list-in-Cons
 returns-in_err-print_list-in-Cons g c =

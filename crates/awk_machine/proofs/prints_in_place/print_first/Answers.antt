@@ -1,6 +1,6 @@
 use Rattle.std.proofs.lemmas.Result.{err_from_is_err_and}
-use Rattle.awk_prints.proofs.Printing.{print_passes, print_stops_there}
-use Rattle.awk_prints.proofs.prints.print_first.Goals as goal
+use Rattle.awk_machine.proofs.PrintsInPlace.{print_passes, print_stops_there}
+use Rattle.awk_machine.proofs.prints_in_place.print_first.Goals as goal
 
 pub returns-in_err-execute_print : goal.returns-in_err-execute_print
 returns-in_err-execute_print g c =

@@ -1,6 +1,6 @@
 use Rattle.std.proofs.Common.{◌∙◌}
-use Rattle.awk_prints.proofs.Printing.{all_found, one_more_found}
-use Rattle.awk_prints.proofs.prints.find_values.Goals as goal
+use Rattle.awk_machine.proofs.PrintsInPlace.{all_found, one_more_found}
+use Rattle.awk_machine.proofs.prints_in_place.find_values.Goals as goal
 
 pub returns-in-Nil-clause-found : goal.returns-in-Nil-clause-found
 returns-in-Nil-clause-found c = λ is. c.values.invariant.1 _ (rw (c.list.ensures, c.in-Nil.is) (all_found _ _))

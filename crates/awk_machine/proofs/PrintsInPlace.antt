@@ -17,7 +17,7 @@ use Rattle.awk_control.specs.Stack.{Followed, BeginStatement, BeginBlock, Rest, 
 use Rattle.awk_control.proofs.InPlace.{leads_on}
 use Rattle.awk_control.proofs.PrintMoves.{whole_printed, whole_stops}
 use Rattle.awk_control.proofs.StatementMoves.{then_begins, follows}
-use Rattle.awk_prints.specs.support.Printed.{FindsAll, list_printed}
+use Rattle.awk_machine.specs.support.Printed.{FindsAll, list_printed}
 
 -- the values of a list
 

@@ -1,6 +1,6 @@
 use Rattle.std.proofs.lemmas.Result.{err_from_is_err_and}
-use Rattle.awk_prints.proofs.Printing.{list_follows_found, list_wants}
-use Rattle.awk_prints.proofs.prints.print_list.Goals as goal
+use Rattle.awk_machine.proofs.PrintsInPlace.{list_follows_found, list_wants}
+use Rattle.awk_machine.proofs.prints_in_place.print_list.Goals as goal
 
 pub returns-in_err-all : goal.returns-in_err-all
 returns-in_err-all g c =

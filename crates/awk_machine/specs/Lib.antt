@@ -1,0 +1,2 @@
+pub mod support
+pub use Rattle.awk_machine.specs.support.Printed
