@@ -154,7 +154,7 @@ impl Interpreter {
     }
 
     /// Gives a name a value.
-    pub fn put(&mut self, name: &[u8], value: Value) -> Result<(), Halt>
+    pub(crate) fn put(&mut self, name: &[u8], value: Value) -> Result<(), Halt>
         ensures { Changes (put name.now value) self.old self.new result }
     {
         Ok(self.variables.set(name, value)?)

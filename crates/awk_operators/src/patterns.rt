@@ -89,7 +89,12 @@ impl Patterns {
     }
 
     /// Whether a pattern of the program matches somewhere in the text.
-    pub fn matches_ere(&mut self, alloc: Global, ere: &Ere, text: &[u8]) -> Result<bool, Halt>
+    pub(crate) fn matches_ere(
+        &mut self,
+        alloc: Global,
+        ere: &Ere,
+        text: &[u8],
+    ) -> Result<bool, Halt>
         ensures matched { Yields result (matched ere.now.text text.now) }
         ensures kept { OnOk result (fixed_at self.new ere.now.number ≡ Some ere.now.text) }
         ensures room { room_of self.new ≡ room_of self.old }
@@ -107,7 +112,12 @@ impl Patterns {
 
     /// Whether the pattern that a text spells matches somewhere in another. One that spells none is
     /// the fault F6. (POSIX awk, Regular Expressions)
-    pub fn matches(&mut self, alloc: Global, pattern: &Bytes, text: &[u8]) -> Result<bool, Halt>
+    pub(crate) fn matches(
+        &mut self,
+        alloc: Global,
+        pattern: &Bytes,
+        text: &[u8],
+    ) -> Result<bool, Halt>
         ensures matched { Yields result (matched pattern.now text.now) }
         ensures kept { OnOk result (cached_for self.new pattern.now ≡ Some pattern.now) }
         ensures room { room_of self.new ≡ room_of self.old }
