@@ -2,7 +2,17 @@
 #![tactic(auto)]
 
 #[cfg(test)]
+mod cutting;
+#[cfg(test)]
 mod format;
+#[cfg(test)]
+mod paragraphs;
+#[cfg(test)]
+mod plain;
+#[cfg(test)]
+mod record;
+#[cfg(test)]
+mod split;
 #[cfg(test)]
 mod substitute;
 #[cfg(test)]

@@ -1,5 +1,5 @@
 use Rattle.std.proofs.Common.{◌≡◌}
-use Rattle.awk_record_tests.proofs.paragraphs.take_decided.Given as goal
+use Rattle.awk_library_tests.proofs.paragraphs.take_decided.Given as goal
 
 abbrev pub invariant-loop : goal.invariant-loop
 invariant-loop l = l.buffer.ending ≡ l.initial.buffer.ending
