@@ -1,5 +1,5 @@
 -- Actions, whose first statements are executed in place.
-use Rattle.std.proofs.Common.{◌≡◌, ℕ, List, [], Result, Ok, Err, sym}
+use Rattle.std.proofs.Common.{ℕ, [], Result, Ok, Err, sym}
 use Rattle.awk_value.specs.declared.value.Value.TheVariants.{Nothing}
 use Rattle.awk_streams.specs.WorldState.{WorldState}
 use Rattle.awk_tree.specs.Tree as t

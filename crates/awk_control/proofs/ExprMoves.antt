@@ -1,5 +1,5 @@
 -- The moves of expressions.
-use Rattle.std.proofs.Common.{◌≡◌, ℕ, Bool, true, false, List, ◌∷◌, Ok, Err, refl, ap, ◌∙◌}
+use Rattle.std.proofs.Common.{◌≡◌, ℕ, Bool, true, false, List, ◌∷◌, Ok, Err, refl, ap, ◌∙◌, arith}
 use Rattle.awk_value.specs.declared.value.Value.{Value}
 use Rattle.awk_value.specs.declared.value.Value.TheVariants as value
 use Rattle.awk_value.specs.Values.{truth_of}
@@ -25,39 +25,39 @@ use Rattle.awk_control.proofs.Moves.{value_awaited, tested_at, awaits, gives, st
 
 pub group_begins : {is_logged : Type 0} (e : t.Expr) {st : List Entry} {m : Interpreter} {k : WorldState} → Leads is_logged (BeginExpr (t.Group e)) st m k (BeginExpr e) st m k
 unfolding run_of eval
-group_begins e = begins_as (BeginExpr (t.Group e)) (BeginExpr e) (λ s. refl)
+group_begins e = begins_as (BeginExpr (t.Group e)) (BeginExpr e) (λ s. refl) (omega arith)
 
 pub field_begins : {is_logged : Type 0} (e : t.Expr) {st : List Entry} {m : Interpreter} {k : WorldState} → Leads is_logged (BeginExpr (t.Field e)) st m k (BeginExpr e) (FieldNumber ∷ st) m k
 unfolding eval step
-field_begins e = awaits (t.Field e) e FieldNumber field_at (λ s. refl) (λ n v. refl)
+field_begins e = awaits (t.Field e) e FieldNumber field_at (λ s. refl) (λ n v. refl) (omega arith)
 
 pub unary_begins : {is_logged : Type 0} (o : UnaryOperator) (e : t.Expr) {st : List Entry} {m : Interpreter} {k : WorldState} → Leads is_logged (BeginExpr (t.Unary o e)) st m k (BeginExpr e) (UnaryOperand o ∷ st) m k
 unfolding eval step
-unary_begins o e = awaits (t.Unary o e) e (UnaryOperand o) (λ v. lift (changed o v)) (λ s. refl) (λ n v. refl)
+unary_begins o e = awaits (t.Unary o e) e (UnaryOperand o) (λ v. lift (changed o v)) (λ s. refl) (λ n v. refl) (omega arith)
 
 pub binary_begins : {is_logged : Type 0} (o : BinaryOperator) (a b : t.Expr) {st : List Entry} {m : Interpreter} {k : WorldState} → Leads is_logged (BeginExpr (t.Binary o a b)) st m k (BeginExpr a) (LeftOperand o b ∷ st) m k
 unfolding eval step
-binary_begins o a b = awaits (t.Binary o a b) a (LeftOperand o b) (λ x. right_operand (takes_pattern o) b (eval b) >>= λ y. lift (applied o x y)) (λ s. refl) (λ n v. refl)
+binary_begins o a b = awaits (t.Binary o a b) a (LeftOperand o b) (λ x. right_operand (takes_pattern o) b (eval b) >>= λ y. lift (applied o x y)) (λ s. refl) (λ n v. refl) (omega arith)
 
 pub and_begins : {is_logged : Type 0} (a b : t.Expr) {st : List Entry} {m : Interpreter} {k : WorldState} → Leads is_logged (BeginExpr (t.And a b)) st m k (BeginExpr a) (AndLeft b ∷ st) m k
 unfolding eval step
-and_begins a b = awaits (t.And a b) a (AndLeft b) (λ v. choose (truth_of v) (tested (eval b)) (ret false) >>= λ y. ret (truth_value y)) (λ s. tested_at (eval a) (λ x. choose x (tested (eval b)) (ret false) >>= λ y. ret (truth_value y)) s) (λ n v. refl)
+and_begins a b = awaits (t.And a b) a (AndLeft b) (λ v. choose (truth_of v) (tested (eval b)) (ret false) >>= λ y. ret (truth_value y)) (λ s. tested_at (eval a) (λ x. choose x (tested (eval b)) (ret false) >>= λ y. ret (truth_value y)) s) (λ n v. refl) (omega arith)
 
 pub or_begins : {is_logged : Type 0} (a b : t.Expr) {st : List Entry} {m : Interpreter} {k : WorldState} → Leads is_logged (BeginExpr (t.Or a b)) st m k (BeginExpr a) (OrLeft b ∷ st) m k
 unfolding eval step
-or_begins a b = awaits (t.Or a b) a (OrLeft b) (λ v. choose (truth_of v) (ret true) (tested (eval b)) >>= λ y. ret (truth_value y)) (λ s. tested_at (eval a) (λ x. choose x (ret true) (tested (eval b)) >>= λ y. ret (truth_value y)) s) (λ n v. refl)
+or_begins a b = awaits (t.Or a b) a (OrLeft b) (λ v. choose (truth_of v) (ret true) (tested (eval b)) >>= λ y. ret (truth_value y)) (λ s. tested_at (eval a) (λ x. choose x (ret true) (tested (eval b)) >>= λ y. ret (truth_value y)) s) (λ n v. refl) (omega arith)
 
 pub conditional_begins : {is_logged : Type 0} (c a b : t.Expr) {st : List Entry} {m : Interpreter} {k : WorldState} → Leads is_logged (BeginExpr (t.Conditional c a b)) st m k (BeginExpr c) (Condition a b ∷ st) m k
 unfolding eval step
-conditional_begins c a b = awaits (t.Conditional c a b) c (Condition a b) (λ v. choose (truth_of v) (eval a) (eval b)) (λ s. tested_at (eval c) (λ x. choose x (eval a) (eval b)) s) (λ n v. refl)
+conditional_begins c a b = awaits (t.Conditional c a b) c (Condition a b) (λ v. choose (truth_of v) (eval a) (eval b)) (λ s. tested_at (eval c) (λ x. choose x (eval a) (eval b)) s) (λ n v. refl) (omega arith)
 
 pub assign_begins : {is_logged : Type 0} (x : List ℕ) (e : t.Expr) {st : List Entry} {m : Interpreter} {k : WorldState} → Leads is_logged (BeginExpr (t.Assign x e)) st m k (BeginExpr e) (AssignedValue x ∷ st) m k
 unfolding eval step
-assign_begins x e = awaits (t.Assign x e) e (AssignedValue x) (store x) (λ s. refl) (λ n v. refl)
+assign_begins x e = awaits (t.Assign x e) e (AssignedValue x) (store x) (λ s. refl) (λ n v. refl) (omega arith)
 
 pub assign_by_begins : {is_logged : Type 0} (o : BinaryOperator) (x : List ℕ) (e : t.Expr) {st : List Entry} {m : Interpreter} {k : WorldState} → Leads is_logged (BeginExpr (t.AssignBy o x e)) st m k (BeginExpr e) (AssignedByValue o x ∷ st) m k
 unfolding eval step
-assign_by_begins o x e = awaits (t.AssignBy o x e) e (AssignedByValue o x) (store_by o x) (λ s. refl) (λ n v. refl)
+assign_by_begins o x e = awaits (t.AssignBy o x e) e (AssignedByValue o x) (store_by o x) (λ s. refl) (λ n v. refl) (omega arith)
 
 -- behind an operand
 
@@ -82,7 +82,7 @@ pub right_begins : {is_logged : Type 0} (o : BinaryOperator) (b : t.Expr) (g : F
 unfolding step run_of
 right_begins o b g plain = awaits_more g (LeftOperand o b) (BeginExpr b) (RightOperand o (value_in g)) (λ n s.
     ap (λ (x : Run Value). valued (x >>= λ y. lift (applied o (value_in g) y)) s) (plain (eval b))
-    ∙ value_awaited (eval b) (λ y. lift (applied o (value_in g) y)) s)
+    ∙ value_awaited (eval b) (λ y. lift (applied o (value_in g) y)) s) (omega arith)
 
 -- the right operand is a pattern
 pub pattern_gives : {is_logged : Type 0} (o : BinaryOperator) (text : List ℕ) (g : Flow) {v : Value} {st : List Entry} {m m' : Interpreter} {k : WorldState} → takes_pattern o ≡ true → Changes (lift (applied o (value_in g) (value.Text text))) m m' (Ok v) → Leads is_logged (Ended g) (LeftOperand o (t.Ere text) ∷ st) m k (Ended (flow.Return v)) st m' k
@@ -117,11 +117,11 @@ logical_at b s = first_same _ _ (λ v. ret (flow.Return v)) s (tested_at (eval b
 
 pub and_goes_on : {is_logged : Type 0} (b : t.Expr) (g : Flow) {st : List Entry} {m : Interpreter} {k : WorldState} → truth_of (value_in g) ≡ true → Leads is_logged (Ended g) (AndLeft b ∷ st) m k (BeginExpr b) (LogicalRight ∷ st) m k
 unfolding step run_of
-and_goes_on b g is = awaits_more g (AndLeft b) (BeginExpr b) LogicalRight (λ n s. ap (λ x. valued (choose x (tested (eval b)) (ret false) >>= λ y. ret (truth_value y)) s) is ∙ logical_at b s)
+and_goes_on b g is = awaits_more g (AndLeft b) (BeginExpr b) LogicalRight (λ n s. ap (λ x. valued (choose x (tested (eval b)) (ret false) >>= λ y. ret (truth_value y)) s) is ∙ logical_at b s) (omega arith)
 
 pub or_goes_on : {is_logged : Type 0} (b : t.Expr) (g : Flow) {st : List Entry} {m : Interpreter} {k : WorldState} → truth_of (value_in g) ≡ false → Leads is_logged (Ended g) (OrLeft b ∷ st) m k (BeginExpr b) (LogicalRight ∷ st) m k
 unfolding step run_of
-or_goes_on b g is = awaits_more g (OrLeft b) (BeginExpr b) LogicalRight (λ n s. ap (λ x. valued (choose x (ret true) (tested (eval b)) >>= λ y. ret (truth_value y)) s) is ∙ logical_at b s)
+or_goes_on b g is = awaits_more g (OrLeft b) (BeginExpr b) LogicalRight (λ n s. ap (λ x. valued (choose x (ret true) (tested (eval b)) >>= λ y. ret (truth_value y)) s) is ∙ logical_at b s) (omega arith)
 
 pub logical_gives : {is_logged : Type 0} (g : Flow) {st : List Entry} {m : Interpreter} {k : WorldState} → Leads is_logged (Ended g) (LogicalRight ∷ st) m k (Ended (flow.Return (truth_value (truth_of (value_in g))))) st m k
 unfolding step
@@ -129,11 +129,11 @@ logical_gives g = gives g LogicalRight (ret (truth_value (truth_of (value_in g))
 
 pub condition_holds : {is_logged : Type 0} (a b : t.Expr) (g : Flow) {st : List Entry} {m : Interpreter} {k : WorldState} → truth_of (value_in g) ≡ true → Leads is_logged (Ended g) (Condition a b ∷ st) m k (BeginExpr a) st m k
 unfolding step run_of
-condition_holds a b g is = passes_on g (Condition a b) (BeginExpr a) (λ n s. ap (λ x. valued (choose x (eval a) (eval b)) s) is)
+condition_holds a b g is = passes_on g (Condition a b) (BeginExpr a) (λ n s. ap (λ x. valued (choose x (eval a) (eval b)) s) is) (omega arith)
 
 pub condition_fails : {is_logged : Type 0} (a b : t.Expr) (g : Flow) {st : List Entry} {m : Interpreter} {k : WorldState} → truth_of (value_in g) ≡ false → Leads is_logged (Ended g) (Condition a b ∷ st) m k (BeginExpr b) st m k
 unfolding step run_of
-condition_fails a b g is = passes_on g (Condition a b) (BeginExpr b) (λ n s. ap (λ x. valued (choose x (eval a) (eval b)) s) is)
+condition_fails a b g is = passes_on g (Condition a b) (BeginExpr b) (λ n s. ap (λ x. valued (choose x (eval a) (eval b)) s) is) (omega arith)
 
 -- assignments
 

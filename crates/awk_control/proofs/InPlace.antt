@@ -31,7 +31,7 @@ use Rattle.awk_control.proofs.Steps.{halts}
 
 -- one place leads to a second one, and that to a third
 pub leads_on : {is_logged : Type 0} {f f1 f2 : Focus} {st st1 st2 : List Entry} {m m1 m2 : Interpreter} {k k1 k2 : WorldState} → Leads is_logged f st m k f1 st1 m1 k1 → Leads is_logged f1 st1 m1 k1 f2 st2 m2 k2 → Leads is_logged f st m k f2 st2 m2 k2
-leads_on p q = record { leads = λ new after r d. p.leads new after r (q.leads new after r d) }
+leads_on p q = record { leads = λ new after r d. p.leads new after r (q.leads new after r d); deep = let a = p.deep in let b = q.deep in omega (arith, a, b) }
 
 -- a test
 
@@ -57,7 +57,7 @@ ends_at_once l c g is p = leads_on (condition_found l c g is p) (loop_ends l (fl
 
 pub evaluated_at_once : {is_logged : Type 0} (e : t.Expr) {st : List Entry} {m m1 m2 : Interpreter} {k : WorldState} → Spends m m1 (Ok tt) → Evaluates e m1 m2 → Leads is_logged (BeginStatement (t.Simple (t.Expression e))) st m k (Ended flow.Normal) st m2 k
 unfolding run_of exec exec_simple
-evaluated_at_once e p q = record { leads = λ new after r d. then_rest (λ _. eval e >>= λ v. ret flow.Normal) (change_simulates p.simulates) (then_rest (λ v. ret flow.Normal) (change_simulates q.changes) d) }
+evaluated_at_once e p q = record { leads = λ new after r d. then_rest (λ _. eval e >>= λ v. ret flow.Normal) (change_simulates p.simulates) (then_rest (λ v. ret flow.Normal) (change_simulates q.changes) d); deep = omega arith }
 
 -- a move that goes on behind what was done at once
 pub steps_behind : {plan : Program} {f g : Focus} {st st1 : List Entry} {new : Stack} {m m1 m' : Interpreter} (e : Entry) (r : Result Move Halt) → ((k : WorldState) → Leads (Unit {0}) f st m k g (e ∷ st1) m1 k) → m1.steps ≤ m.steps → m1.streams ≡ m.streams → work g (e ∷ st1) ≤ work f st → Steps plan g (e ∷ st1) m1 r new m' → Steps plan f st m r new m'

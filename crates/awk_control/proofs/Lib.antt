@@ -10,3 +10,4 @@ pub mod Walking
 pub mod InPlace
 pub mod Reaching
 pub mod ActionsInPlace
+pub mod Depth

@@ -1,5 +1,5 @@
 -- The moves of prints.
-use Rattle.std.proofs.Common.{◌≡◌, ℕ, List, [], ◌∷◌, ◌++◌, Result, Ok, Err, refl, sym, ◌∙◌}
+use Rattle.std.proofs.Common.{◌≡◌, ℕ, List, [], ◌∷◌, ◌++◌, Result, Ok, Err, refl, sym, ◌∙◌, arith}
 use Rattle.awk_value.specs.declared.value.Value.{Value}
 use Rattle.awk_streams.specs.WorldState.{WorldState}
 use Rattle.awk_tree.specs.Tree as t
@@ -21,7 +21,7 @@ use Rattle.awk_control.proofs.Moves.{later_same, awaited_at, awaits_more, unspen
 -- a print that is executed whole
 pub whole_printed : {is_logged : Type 0} (list : t.Exprs) {st : List Entry} {m m' : Interpreter} {k k' : WorldState} → Follows is_logged (print list) m k m' k' (Ok tt) → Leads is_logged (BeginStatement (t.Simple (t.Print list))) st m k (Ended flow.Normal) st m' k'
 unfolding run_of exec exec_simple
-whole_printed list p = record { leads = λ new after r d. then_rest (λ _. ret flow.Normal) p.simulates d }
+whole_printed list p = record { leads = λ new after r d. then_rest (λ _. ret flow.Normal) p.simulates d; deep = omega arith }
 
 pub whole_stops : {is_logged : Type 0} (list : t.Exprs) {h : Halt} {st : List Entry} {m m' : Interpreter} {k k' : WorldState} → Follows is_logged (print list) m k m' k' (Err h) → Rest is_logged (BeginStatement (t.Simple (t.Print list))) st m k m' k' (Err h)
 unfolding run_of exec exec_simple
@@ -45,11 +45,11 @@ print_stops list p = unspent (BeginStatement (t.Simple (t.Print list))) (λ _. p
 
 pub print_begins : {is_logged : Type 0} (e : t.Expr) (rest : t.Exprs) {st : List Entry} {m m' : Interpreter} {k : WorldState} → Spends m m' (Ok tt) → Leads is_logged (BeginStatement (t.Simple (t.Print (t.Cons e rest)))) st m k (BeginExpr e) (Printed [] rest ∷ st) m' k
 unfolding run_of exec exec_simple printed_values step
-print_begins e rest p = spent_awaits (BeginStatement (t.Simple (t.Print (t.Cons e rest)))) (BeginExpr e) (Printed [] rest) (λ _. printed_values (t.Cons e rest) >>= line_of) (λ s. print_at (t.Cons e rest) s) (λ s _. list_at [] e rest s) p
+print_begins e rest p = spent_awaits (BeginStatement (t.Simple (t.Print (t.Cons e rest)))) (BeginExpr e) (Printed [] rest) (λ _. printed_values (t.Cons e rest) >>= line_of) (λ s. print_at (t.Cons e rest) s) (λ s _. list_at [] e rest s) (omega arith) p
 
 pub list_goes_on : {is_logged : Type 0} (front : List Value) (e : t.Expr) (rest : t.Exprs) (g : Flow) {st : List Entry} {m : Interpreter} {k : WorldState} → Leads is_logged (Ended g) (Printed front (t.Cons e rest) ∷ st) m k (BeginExpr e) (Printed (front ++ value_in g ∷ []) rest ∷ st) m k
 unfolding run_of step
-list_goes_on front e rest g = awaits_more g (Printed front (t.Cons e rest)) (BeginExpr e) (Printed (front ++ value_in g ∷ []) rest) (λ n s. list_at (front ++ value_in g ∷ []) e rest s)
+list_goes_on front e rest g = awaits_more g (Printed front (t.Cons e rest)) (BeginExpr e) (Printed (front ++ value_in g ∷ []) rest) (λ n s. list_at (front ++ value_in g ∷ []) e rest s) (omega arith)
 
 listed_at : (vs : List Value) (s : State) → (eval_all vs t.Nil >>= line_of) s ≡ line_of vs s
 unfolding eval_all
@@ -57,7 +57,7 @@ listed_at vs s = given_first vs line_of s
 
 pub line_printed : {is_logged : Type 0} (front : List Value) (g : Flow) {st : List Entry} {m m' : Interpreter} {k k' : WorldState} → Follows is_logged (print_line (front ++ value_in g ∷ [])) m k m' k' (Ok tt) → Leads is_logged (Ended g) (Printed front t.Nil ∷ st) m k (Ended flow.Normal) st m' k'
 unfolding run_of step
-line_printed front g p = record { leads = λ new after r d. pop_rest g (Printed front t.Nil) (λ n low. same_rest _ _ (λ s _. listed_at (front ++ value_in g ∷ []) s) (then_rest (λ _. ret flow.Normal) p.simulates d)) }
+line_printed front g p = record { leads = λ new after r d. pop_rest g (Printed front t.Nil) (λ n low. same_rest _ _ (λ s _. listed_at (front ++ value_in g ∷ []) s) (then_rest (λ _. ret flow.Normal) p.simulates d)); deep = omega arith }
 
 pub line_stops : {is_logged : Type 0} (front : List Value) (g : Flow) {h : Halt} {st : List Entry} {m m' : Interpreter} {k k' : WorldState} → Follows is_logged (print_line (front ++ value_in g ∷ [])) m k m' k' (Err h) → Rest is_logged (Ended g) (Printed front t.Nil ∷ st) m k m' k' (Err h)
 unfolding step

@@ -35,7 +35,7 @@ use Rattle.awk_control.proofs.InPlace.{leads_on, turns_at_once, ends_at_once}
 -- from place to place
 
 pub comes_here : (f : Focus) (above : List Entry) (m : Interpreter) → Comes f above m f above m
-comes_here f above m = record { leads = λ st k. record { leads = λ new after r d. d }; steps = omega arith; streams = refl }
+comes_here f above m = record { leads = λ st k. record { leads = λ new after r d. d; deep = omega arith }; steps = omega arith; streams = refl }
 
 pub comes_on : {f f1 f2 : Focus} {above above1 above2 : List Entry} {m m1 m2 : Interpreter} → Comes f above m f1 above1 m1 → Comes f1 above1 m1 f2 above2 m2 → Comes f above m f2 above2 m2
 comes_on p q = record {
@@ -52,7 +52,7 @@ over e p = record { leads = λ st k. p.leads (e ∷ st) k; steps = p.steps; stre
 
 statement_leads : {is_logged : Type 0} (x : t.Statement) {g : Flow} {st : List Entry} {m m' : Interpreter} {k : WorldState} → Changes (exec x) m m' (Ok g) → Leads is_logged (BeginStatement x) st m k (Ended g) st m' k
 unfolding run_of
-statement_leads x p = record { leads = λ new after r d. same_rest _ _ (λ s _. unit_at (exec x) s) (then_rest ret (change_simulates p) d) }
+statement_leads x p = record { leads = λ new after r d. same_rest _ _ (λ s _. unit_at (exec x) s) (then_rest ret (change_simulates p) d); deep = omega arith }
 
 pub statement_comes : (x : t.Statement) {g : Flow} {m m' : Interpreter} → IsExecuted x g m m' → Comes (BeginStatement x) [] m (Ended g) [] m'
 statement_comes x p = record { leads = λ st k. statement_leads x p.changes; steps = p.changes.steps; streams = p.changes.streams }
@@ -124,7 +124,7 @@ loop_over l (t.AnExpr c) g is holds = record { leads = λ st k. ends_at_once l c
 -- whatever the last part passed on by, the condition is next
 pub any_flow : (l : Loop) (g : Flow) (m : Interpreter) → Comes (Ended g) (LastPart l ∷ []) m (Ended flow.Normal) (LastPart l ∷ []) m
 unfolding run_of step
-any_flow l g m = record { leads = λ st k. awaits_more g (LastPart l) (Ended flow.Normal) (LastPart l) (λ n s. sym (given_first flow.Normal (λ x. step n (LastPart l) x) s)); steps = omega arith; streams = refl }
+any_flow l g m = record { leads = λ st k. awaits_more g (LastPart l) (Ended flow.Normal) (LastPart l) (λ n s. sym (given_first flow.Normal (λ x. step n (LastPart l) x) s)) (omega arith); steps = omega arith; streams = refl }
 
 pub without_last : (l : Loop) (g : Flow) (m : Interpreter) → ending g ≡ None → l.last ≡ t.NoSimple → Comes (Ended g) (LoopTurn l ∷ []) m (Ended flow.Normal) (LastPart l ∷ []) m
 without_last l g m ends is = comes_on (record { leads = λ st k. no_last_begins l g ends is; steps = omega arith; streams = refl }) (any_flow l g m)

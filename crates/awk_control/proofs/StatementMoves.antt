@@ -1,5 +1,5 @@
 -- The moves of statements that are no loops.
-use Rattle.std.proofs.Common.{◌≡◌, ◌≢◌, Bool, true, false, List, ◌∷◌, Ok, Err, refl, sym, ap, ◌∙◌}
+use Rattle.std.proofs.Common.{◌≡◌, ◌≢◌, Bool, true, false, List, ◌∷◌, Ok, Err, refl, sym, ap, ◌∙◌, arith}
 use Rattle.awk_value.specs.Values.{truth_of}
 use Rattle.awk_streams.specs.WorldState.{WorldState}
 use Rattle.awk_tree.specs.Tree as t
@@ -21,23 +21,23 @@ use Rattle.awk_control.proofs.Moves.{awaited_at, tested_at, stops, passes_on, be
 
 pub empty_ends : {is_logged : Type 0} {st : List Entry} {m : Interpreter} {k : WorldState} → Leads is_logged (BeginStatement t.Empty) st m k (Ended flow.Normal) st m k
 unfolding run_of exec
-empty_ends = begins_as (BeginStatement t.Empty) (Ended flow.Normal) (λ s. refl)
+empty_ends = begins_as (BeginStatement t.Empty) (Ended flow.Normal) (λ s. refl) (omega arith)
 
 pub block_begins : {is_logged : Type 0} (all : t.Statements) {st : List Entry} {m : Interpreter} {k : WorldState} → Leads is_logged (BeginStatement (t.Block all)) st m k (BeginBlock all) st m k
 unfolding run_of exec
-block_begins all = begins_as (BeginStatement (t.Block all)) (BeginBlock all) (λ s. refl)
+block_begins all = begins_as (BeginStatement (t.Block all)) (BeginBlock all) (λ s. refl) (omega arith)
 
 pub no_more_ends : {is_logged : Type 0} {st : List Entry} {m : Interpreter} {k : WorldState} → Leads is_logged (BeginBlock t.NoMore) st m k (Ended flow.Normal) st m k
 unfolding run_of exec_all
-no_more_ends = begins_as (BeginBlock t.NoMore) (Ended flow.Normal) (λ s. refl)
+no_more_ends = begins_as (BeginBlock t.NoMore) (Ended flow.Normal) (λ s. refl) (omega arith)
 
 pub then_begins : {is_logged : Type 0} (x : t.Statement) (all : t.Statements) {st : List Entry} {m : Interpreter} {k : WorldState} → Leads is_logged (BeginBlock (t.Then x all)) st m k (BeginStatement x) (Followed all ∷ st) m k
 unfolding run_of exec_all step
-then_begins x all = begins_with (BeginBlock (t.Then x all)) (BeginStatement x) (Followed all) (λ s. refl)
+then_begins x all = begins_with (BeginBlock (t.Then x all)) (BeginStatement x) (Followed all) (λ s. refl) (omega arith)
 
 pub follows : {is_logged : Type 0} (rest : t.Statements) {st : List Entry} {m : Interpreter} {k : WorldState} → Leads is_logged (Ended flow.Normal) (Followed rest ∷ st) m k (BeginBlock rest) st m k
 unfolding run_of step
-follows rest = passes_on flow.Normal (Followed rest) (BeginBlock rest) (λ n s. refl)
+follows rest = passes_on flow.Normal (Followed rest) (BeginBlock rest) (λ n s. refl) (omega arith)
 
 passed : (g : Flow) (x : Run Flow) → g ≢ flow.Normal → pass_on g x ≡ ret g
 passed flow.Normal x not = absurd (not refl)
@@ -47,7 +47,7 @@ passed (flow.Return v) x not = refl
 
 pub follows_none : {is_logged : Type 0} (rest : t.Statements) (g : Flow) {st : List Entry} {m : Interpreter} {k : WorldState} → g ≢ flow.Normal → Leads is_logged (Ended g) (Followed rest ∷ st) m k (Ended g) st m k
 unfolding run_of step
-follows_none rest g not = passes_on g (Followed rest) (Ended g) (λ n s. ap (λ (x : Run Flow). x s) (passed g (exec_all rest) not))
+follows_none rest g not = passes_on g (Followed rest) (Ended g) (λ n s. ap (λ (x : Run Flow). x s) (passed g (exec_all rest) not)) (omega arith)
 
 -- `if`
 
@@ -70,7 +70,7 @@ if_stops c x p = unspent (BeginStatement (t.If c x)) (λ _. tested (eval c) >>= 
 
 pub if_begins : {is_logged : Type 0} (c : t.Expr) (x : t.Statement) {st : List Entry} {m m' : Interpreter} {k : WorldState} → Spends m m' (Ok tt) → Leads is_logged (BeginStatement (t.If c x)) st m k (BeginExpr c) (IfCondition x ∷ st) m' k
 unfolding run_of exec step
-if_begins c x p = spent_awaits (BeginStatement (t.If c x)) (BeginExpr c) (IfCondition x) (λ _. tested (eval c) >>= if_rest x) (λ s. test_at c (if_rest x) s) (λ s _. tested_awaited c (if_rest x) s) p
+if_begins c x p = spent_awaits (BeginStatement (t.If c x)) (BeginExpr c) (IfCondition x) (λ _. tested (eval c) >>= if_rest x) (λ s. test_at c (if_rest x) s) (λ s _. tested_awaited c (if_rest x) s) (omega arith) p
 
 pub if_else_stops : {is_logged : Type 0} (c : t.Expr) (x y : t.Statement) {h : Halt} {st : List Entry} {m m' : Interpreter} {k : WorldState} → Spends m m' (Err h) → Rest is_logged (BeginStatement (t.IfElse c x y)) st m k m' k (Err h)
 unfolding run_of exec
@@ -78,23 +78,23 @@ if_else_stops c x y p = unspent (BeginStatement (t.IfElse c x y)) (λ _. tested 
 
 pub if_else_begins : {is_logged : Type 0} (c : t.Expr) (x y : t.Statement) {st : List Entry} {m m' : Interpreter} {k : WorldState} → Spends m m' (Ok tt) → Leads is_logged (BeginStatement (t.IfElse c x y)) st m k (BeginExpr c) (IfElseCondition x y ∷ st) m' k
 unfolding run_of exec step
-if_else_begins c x y p = spent_awaits (BeginStatement (t.IfElse c x y)) (BeginExpr c) (IfElseCondition x y) (λ _. tested (eval c) >>= if_else_rest x y) (λ s. test_at c (if_else_rest x y) s) (λ s _. tested_awaited c (if_else_rest x y) s) p
+if_else_begins c x y p = spent_awaits (BeginStatement (t.IfElse c x y)) (BeginExpr c) (IfElseCondition x y) (λ _. tested (eval c) >>= if_else_rest x y) (λ s. test_at c (if_else_rest x y) s) (λ s _. tested_awaited c (if_else_rest x y) s) (omega arith) p
 
 pub if_holds : {is_logged : Type 0} (x : t.Statement) (g : Flow) {st : List Entry} {m : Interpreter} {k : WorldState} → truth_of (value_in g) ≡ true → Leads is_logged (Ended g) (IfCondition x ∷ st) m k (BeginStatement x) st m k
 unfolding run_of step
-if_holds x g is = passes_on g (IfCondition x) (BeginStatement x) (λ n s. ap (λ b. if_rest x b s) is)
+if_holds x g is = passes_on g (IfCondition x) (BeginStatement x) (λ n s. ap (λ b. if_rest x b s) is) (omega arith)
 
 pub if_fails : {is_logged : Type 0} (x : t.Statement) (g : Flow) {st : List Entry} {m : Interpreter} {k : WorldState} → truth_of (value_in g) ≡ false → Leads is_logged (Ended g) (IfCondition x ∷ st) m k (Ended flow.Normal) st m k
 unfolding run_of step
-if_fails x g is = passes_on g (IfCondition x) (Ended flow.Normal) (λ n s. ap (λ b. if_rest x b s) is)
+if_fails x g is = passes_on g (IfCondition x) (Ended flow.Normal) (λ n s. ap (λ b. if_rest x b s) is) (omega arith)
 
 pub if_else_holds : {is_logged : Type 0} (x y : t.Statement) (g : Flow) {st : List Entry} {m : Interpreter} {k : WorldState} → truth_of (value_in g) ≡ true → Leads is_logged (Ended g) (IfElseCondition x y ∷ st) m k (BeginStatement x) st m k
 unfolding run_of step
-if_else_holds x y g is = passes_on g (IfElseCondition x y) (BeginStatement x) (λ n s. ap (λ b. if_else_rest x y b s) is)
+if_else_holds x y g is = passes_on g (IfElseCondition x y) (BeginStatement x) (λ n s. ap (λ b. if_else_rest x y b s) is) (omega arith)
 
 pub if_else_fails : {is_logged : Type 0} (x y : t.Statement) (g : Flow) {st : List Entry} {m : Interpreter} {k : WorldState} → truth_of (value_in g) ≡ false → Leads is_logged (Ended g) (IfElseCondition x y ∷ st) m k (BeginStatement y) st m k
 unfolding run_of step
-if_else_fails x y g is = passes_on g (IfElseCondition x y) (BeginStatement y) (λ n s. ap (λ b. if_else_rest x y b s) is)
+if_else_fails x y g is = passes_on g (IfElseCondition x y) (BeginStatement y) (λ n s. ap (λ b. if_else_rest x y b s) is) (omega arith)
 
 -- simple statements
 
@@ -104,11 +104,11 @@ expression_stops e p = unspent (BeginStatement (t.Simple (t.Expression e))) (λ 
 
 pub expression_begins : {is_logged : Type 0} (e : t.Expr) {st : List Entry} {m m' : Interpreter} {k : WorldState} → Spends m m' (Ok tt) → Leads is_logged (BeginStatement (t.Simple (t.Expression e))) st m k (BeginExpr e) (Evaluated ∷ st) m' k
 unfolding run_of exec exec_simple step
-expression_begins e p = spent_awaits (BeginStatement (t.Simple (t.Expression e))) (BeginExpr e) Evaluated (λ _. eval e >>= λ v. ret flow.Normal) (λ s. refl) (λ s _. sym (awaited_at (eval e) (λ g. ret flow.Normal) s)) p
+expression_begins e p = spent_awaits (BeginStatement (t.Simple (t.Expression e))) (BeginExpr e) Evaluated (λ _. eval e >>= λ v. ret flow.Normal) (λ s. refl) (λ s _. sym (awaited_at (eval e) (λ g. ret flow.Normal) s)) (omega arith) p
 
 pub evaluated_ends : {is_logged : Type 0} (g : Flow) {st : List Entry} {m : Interpreter} {k : WorldState} → Leads is_logged (Ended g) (Evaluated ∷ st) m k (Ended flow.Normal) st m k
 unfolding run_of step
-evaluated_ends g = passes_on g Evaluated (Ended flow.Normal) (λ n s. refl)
+evaluated_ends g = passes_on g Evaluated (Ended flow.Normal) (λ n s. refl) (omega arith)
 
 pub next_stops : {is_logged : Type 0} {h : Halt} {st : List Entry} {m m' : Interpreter} {k : WorldState} → Spends m m' (Err h) → Rest is_logged (BeginStatement (t.Simple t.Next)) st m k m' k (Err h)
 unfolding run_of exec exec_simple
@@ -124,7 +124,7 @@ break_stops p = unspent (BeginStatement (t.Simple t.Break)) (λ _. ret flow.Brea
 
 pub break_ends : {is_logged : Type 0} {st : List Entry} {m m' : Interpreter} {k : WorldState} → Spends m m' (Ok tt) → Leads is_logged (BeginStatement (t.Simple t.Break)) st m k (Ended flow.Break) st m' k
 unfolding run_of exec exec_simple
-break_ends p = spent (BeginStatement (t.Simple t.Break)) (Ended flow.Break) (λ _. ret flow.Break) (λ s. refl) (λ s. refl) p
+break_ends p = spent (BeginStatement (t.Simple t.Break)) (Ended flow.Break) (λ _. ret flow.Break) (λ s. refl) (λ s. refl) (omega arith) p
 
 pub continue_stops : {is_logged : Type 0} {h : Halt} {st : List Entry} {m m' : Interpreter} {k : WorldState} → Spends m m' (Err h) → Rest is_logged (BeginStatement (t.Simple t.Continue)) st m k m' k (Err h)
 unfolding run_of exec exec_simple
@@ -132,7 +132,7 @@ continue_stops p = unspent (BeginStatement (t.Simple t.Continue)) (λ _. ret flo
 
 pub continue_ends : {is_logged : Type 0} {st : List Entry} {m m' : Interpreter} {k : WorldState} → Spends m m' (Ok tt) → Leads is_logged (BeginStatement (t.Simple t.Continue)) st m k (Ended flow.Continue) st m' k
 unfolding run_of exec exec_simple
-continue_ends p = spent (BeginStatement (t.Simple t.Continue)) (Ended flow.Continue) (λ _. ret flow.Continue) (λ s. refl) (λ s. refl) p
+continue_ends p = spent (BeginStatement (t.Simple t.Continue)) (Ended flow.Continue) (λ _. ret flow.Continue) (λ s. refl) (λ s. refl) (omega arith) p
 
 pub exit_stops : {is_logged : Type 0} (e : t.OptionalExpr) {h : Halt} {st : List Entry} {m m' : Interpreter} {k : WorldState} → Spends m m' (Err h) → Rest is_logged (BeginStatement (t.Simple (t.Exit e))) st m k m' k (Err h)
 unfolding run_of exec exec_simple
@@ -144,7 +144,7 @@ exit_halts {m' = m'} {k = k} p = then_rest (λ _. lift (Err halt.Exit)) (change_
 
 pub exit_begins : {is_logged : Type 0} (e : t.Expr) {st : List Entry} {m m' : Interpreter} {k : WorldState} → Spends m m' (Ok tt) → Leads is_logged (BeginStatement (t.Simple (t.Exit (t.AnExpr e)))) st m k (BeginExpr e) (ExitStatus ∷ st) m' k
 unfolding run_of exec exec_simple exit_with step
-exit_begins e p = spent_awaits (BeginStatement (t.Simple (t.Exit (t.AnExpr e)))) (BeginExpr e) ExitStatus (λ _. eval e >>= λ v. set_status v >>= λ _. lift (Err halt.Exit)) (λ s. refl) (λ s _. sym (awaited_at (eval e) (λ g. set_status (value_in g) >>= λ _. lift (Err halt.Exit)) s)) p
+exit_begins e p = spent_awaits (BeginStatement (t.Simple (t.Exit (t.AnExpr e)))) (BeginExpr e) ExitStatus (λ _. eval e >>= λ v. set_status v >>= λ _. lift (Err halt.Exit)) (λ s. refl) (λ s _. sym (awaited_at (eval e) (λ g. set_status (value_in g) >>= λ _. lift (Err halt.Exit)) s)) (omega arith) p
 
 pub status_stops : {is_logged : Type 0} (g : Flow) {h : Halt} {st : List Entry} {m m' : Interpreter} {k : WorldState} → Changes (set_status (value_in g)) m m' (Err h) → Rest is_logged (Ended g) (ExitStatus ∷ st) m k m' k (Err h)
 unfolding step

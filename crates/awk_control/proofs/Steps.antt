@@ -38,19 +38,19 @@ pub entries_pushed : (plan : Program) (es : List CodeEntry) (e : CodeEntry) (vs 
 entries_pushed plan es e vs = ap (λ l. entries_of plan l vs) (reverse-append es (e ∷ []))
 
 -- an entry for which no value is kept
-pub stack_pushed : (plan : Program) (old new : Stack) (e : CodeEntry) → new.entries.items ≡ old.entries.items ++ e ∷ [] → new.values ≡ old.values → kept_for e ≡ 0 → stack_of plan new ≡ entry_of plan e (reverse old.values.items) ∷ stack_of plan old
+pub stack_pushed : (plan : Program) (old new : Stack) (e : CodeEntry) → new.control.entries ≡ old.control.entries ++ e ∷ [] → new.values ≡ old.values → kept_for e ≡ 0 → stack_of plan new ≡ entry_of plan e (reverse old.values.items) ∷ stack_of plan old
 stack_pushed plan old new e entries values none =
-    ap (λ v. entries_of plan (reverse new.entries.items) (reverse v.items)) values
+    ap (λ v. entries_of plan (reverse new.control.entries) (reverse v.items)) values
     ∙ ap (λ l. entries_of plan (reverse l) (reverse old.values.items)) entries
-    ∙ entries_pushed plan old.entries.items e (reverse old.values.items)
-    ∙ ap (λ n. entry_of plan e (reverse old.values.items) ∷ entries_of plan (reverse old.entries.items) (drop n (reverse old.values.items))) none
+    ∙ entries_pushed plan old.control.entries e (reverse old.values.items)
+    ∙ ap (λ n. entry_of plan e (reverse old.values.items) ∷ entries_of plan (reverse old.control.entries) (drop n (reverse old.values.items))) none
 
 -- an entry that is taken off
-pub stack_popped : (plan : Program) (old new : Stack) (e : CodeEntry) → old.entries.items ≡ new.entries.items ++ e ∷ [] → new.values ≡ old.values → stack_of plan old ≡ topped plan e new
+pub stack_popped : (plan : Program) (old new : Stack) (e : CodeEntry) → old.control.entries ≡ new.control.entries ++ e ∷ [] → new.values ≡ old.values → stack_of plan old ≡ topped plan e new
 stack_popped plan old new e entries values =
     ap (λ l. entries_of plan (reverse l) (reverse old.values.items)) entries
-    ∙ entries_pushed plan new.entries.items e (reverse old.values.items)
-    ∙ ap (λ v. entry_of plan e (reverse v.items) ∷ entries_of plan (reverse new.entries.items) (drop (kept_for e) (reverse v.items))) (sym values)
+    ∙ entries_pushed plan new.control.entries e (reverse old.values.items)
+    ∙ ap (λ v. entry_of plan e (reverse v.items) ∷ entries_of plan (reverse new.control.entries) (drop (kept_for e) (reverse v.items))) (sym values)
 
 -- moves without a world
 
@@ -77,12 +77,12 @@ wants_memory {f = f} = halts (λ k. memory_rest (run_of f)) (omega arith) refl
 -- a move stays one where it begins as another
 pub steps_from : {plan : Program} {f g : Focus} {st st1 : List Entry} {new : Stack} {m m' : Interpreter} (e : Entry) (r : Result Move Halt) → ((k : WorldState) → Leads (Unit {0}) f st m k g (e ∷ st1) m k) → work g (e ∷ st1) ≤ work f st → Steps plan g (e ∷ st1) m r new m' → Steps plan f st m r new m'
 steps_from e (Ok (move.On f')) l w p = record {
-  moved = λ k. record { moved = record { leads = record { leads = λ new after x d. (l k).leads new after x ((p.moved k).moved.leads.leads new after x d) }; less = let q = (p.moved k).moved.less in omega (arith, q, w); steps = (p.moved k).moved.steps } };
+  moved = λ k. record { moved = record { leads = record { leads = λ new after x d. (l k).leads new after x ((p.moved k).moved.leads.leads new after x d); deep = let a = (l k).deep in let b = (p.moved k).moved.leads.deep in omega (arith, a, b) }; less = let q = (p.moved k).moved.less in omega (arith, q, w); steps = (p.moved k).moved.steps } };
   steps = p.steps;
   streams = p.streams;
 }
 steps_from e (Ok (move.Spent f')) l w p = record {
-  moved = λ k. record { moved = record { leads = record { leads = λ new after x d. (l k).leads new after x ((p.moved k).moved.leads.leads new after x d) }; falls = (p.moved k).moved.falls } };
+  moved = λ k. record { moved = record { leads = record { leads = λ new after x d. (l k).leads new after x ((p.moved k).moved.leads.leads new after x d); deep = let a = (l k).deep in let b = (p.moved k).moved.leads.deep in omega (arith, a, b) }; falls = (p.moved k).moved.falls } };
   steps = p.steps;
   streams = p.streams;
 }
@@ -108,6 +108,7 @@ any_leads {m = m} {m' = m'} {k = k} l low same = record {
           })).simulates bs all).told tt;
         };
       };
+  deep = l.deep;
 }
 
 any_rest : {is_logged : Type 0} (f : Focus) {st : List Entry} {m m' : Interpreter} {k : WorldState} {r : Result Flow Halt} → Rest (Unit {0}) f st m k m' k r → m'.steps ≤ m.steps → m'.streams ≡ m.streams → Rest is_logged f st m k m' k r
@@ -127,7 +128,7 @@ stepped {k = k} (Err h) p = record { moved = any_rest _ (p.moved k).moved p.step
 
 -- an expression is begun for an entry
 
-pub awaited : {plan : Program} {f : Focus} {entry : CodeEntry} {e : Operand} {old new : Stack} {m : Interpreter} {st0 st : List Entry} (r : Result Move Halt) → Awaits entry e old r new → (new.entries.items ≡ old.entries.items ++ entry ∷ [] → new.values ≡ old.values → stack_of plan new ≡ st) → ((k : WorldState) → Leads (Unit {0}) f st0 m k (BeginExpr (operand_of plan e)) st m k) → work (BeginExpr (operand_of plan e)) st < work f st0 → Steps plan f st0 m r new m
+pub awaited : {plan : Program} {f : Focus} {entry : CodeEntry} {e : Operand} {old new : Stack} {m : Interpreter} {st0 st : List Entry} (r : Result Move Halt) → Awaits entry e old r new → (new.control.entries ≡ old.control.entries ++ entry ∷ [] → new.values ≡ old.values → stack_of plan new ≡ st) → ((k : WorldState) → Leads (Unit {0}) f st0 m k (BeginExpr (operand_of plan e)) st m k) → work (BeginExpr (operand_of plan e)) st < work f st0 → Steps plan f st0 m r new m
 awaited {plan = plan} {f = f} {e = e} {old = old} {new = new} {m = m} {st0 = st0} (Ok x) a is l w =
     let same = is a.awaits.1 a.awaits.2 in
     subst (λ y. Steps plan f st0 m (Ok y) new m) (sym a.awaits.0) (onward refl (λ k. subst (λ z. Leads (Unit {0}) f st0 m k (BeginExpr (operand_of plan e)) z m k) (sym same) (l k)) (subst (λ z. work (BeginExpr (operand_of plan e)) z < work f st0) (sym same) w) (omega arith) refl)
@@ -138,14 +139,14 @@ pub awaited_plain : {plan : Program} {f : Focus} {entry : CodeEntry} {e : Operan
 awaited_plain {plan = plan} {entry = entry} {old = old} {new = new} r none a l w = awaited r a (λ p q. stack_pushed plan old new entry p q none) l w
 
 -- an entry for which one value is kept
-pub value_pushed : (plan : Program) (old new : Stack) (op : BinaryOperator) (vs : List Value) (x : Value) → old.values.items ≡ vs ++ x ∷ [] → new.entries.items ≡ old.entries.items ++ code.Expr (o.Right op) ∷ [] → new.values ≡ old.values → stack_of plan new ≡ RightOperand op x ∷ entries_of plan (reverse old.entries.items) (reverse vs)
+pub value_pushed : (plan : Program) (old new : Stack) (op : BinaryOperator) (vs : List Value) (x : Value) → old.values.items ≡ vs ++ x ∷ [] → new.control.entries ≡ old.control.entries ++ code.Expr (o.Right op) ∷ [] → new.values ≡ old.values → stack_of plan new ≡ RightOperand op x ∷ entries_of plan (reverse old.control.entries) (reverse vs)
 value_pushed plan old new op vs x kept entries values =
-    ap (λ v. entries_of plan (reverse new.entries.items) (reverse v.items)) values
+    ap (λ v. entries_of plan (reverse new.control.entries) (reverse v.items)) values
     ∙ ap (λ l. entries_of plan (reverse l) (reverse old.values.items)) entries
-    ∙ entries_pushed plan old.entries.items (code.Expr (o.Right op)) (reverse old.values.items)
-    ∙ ap (λ l. entry_of plan (code.Expr (o.Right op)) l ∷ entries_of plan (reverse old.entries.items) (drop 1 l)) (ap reverse kept ∙ reverse-append vs (x ∷ []))
+    ∙ entries_pushed plan old.control.entries (code.Expr (o.Right op)) (reverse old.values.items)
+    ∙ ap (λ l. entry_of plan (code.Expr (o.Right op)) l ∷ entries_of plan (reverse old.control.entries) (drop 1 l)) (ap reverse kept ∙ reverse-append vs (x ∷ []))
 
-pub awaited_kept : {plan : Program} {f : Focus} {op : BinaryOperator} {e : Operand} {old new : Stack} {m : Interpreter} {st0 : List Entry} (r : Result Move Halt) (vs : List Value) (x : Value) → old.values.items ≡ vs ++ x ∷ [] → Awaits (code.Expr (o.Right op)) e old r new → ((k : WorldState) → Leads (Unit {0}) f st0 m k (BeginExpr (operand_of plan e)) (RightOperand op x ∷ entries_of plan (reverse old.entries.items) (reverse vs)) m k) → work (BeginExpr (operand_of plan e)) (RightOperand op x ∷ entries_of plan (reverse old.entries.items) (reverse vs)) < work f st0 → Steps plan f st0 m r new m
+pub awaited_kept : {plan : Program} {f : Focus} {op : BinaryOperator} {e : Operand} {old new : Stack} {m : Interpreter} {st0 : List Entry} (r : Result Move Halt) (vs : List Value) (x : Value) → old.values.items ≡ vs ++ x ∷ [] → Awaits (code.Expr (o.Right op)) e old r new → ((k : WorldState) → Leads (Unit {0}) f st0 m k (BeginExpr (operand_of plan e)) (RightOperand op x ∷ entries_of plan (reverse old.control.entries) (reverse vs)) m k) → work (BeginExpr (operand_of plan e)) (RightOperand op x ∷ entries_of plan (reverse old.control.entries) (reverse vs)) < work f st0 → Steps plan f st0 m r new m
 awaited_kept {plan = plan} {op = op} {old = old} {new = new} r vs x kept a l w = awaited r a (λ p q. value_pushed plan old new op vs x kept p q) l w
 
 -- the newest value is taken off
@@ -170,39 +171,39 @@ spent_for {plan = plan} {f = f} {f' = f'} {entry = entry} {old = old} {new = new
 spent_for (Err h) s none l w = halts (w h s.spends) s.spends.simulates.steps s.spends.simulates.streams
 
 -- an entry is put on the stack
-one_pushed : (plan : Program) (new : Stack) (es : List CodeEntry) (vs : List Value) (entry : CodeEntry) → new.entries.items ≡ es ++ entry ∷ [] → new.values.items ≡ vs → kept_for entry ≡ 0 → stack_of plan new ≡ entry_of plan entry (reverse vs) ∷ entries_of plan (reverse es) (reverse vs)
+one_pushed : (plan : Program) (new : Stack) (es : List CodeEntry) (vs : List Value) (entry : CodeEntry) → new.control.entries ≡ es ++ entry ∷ [] → new.values.items ≡ vs → kept_for entry ≡ 0 → stack_of plan new ≡ entry_of plan entry (reverse vs) ∷ entries_of plan (reverse es) (reverse vs)
 one_pushed plan new es vs entry entries values none =
-    ap (λ l. entries_of plan (reverse new.entries.items) (reverse l)) values
+    ap (λ l. entries_of plan (reverse new.control.entries) (reverse l)) values
     ∙ ap (λ x. entries_of plan (reverse x) (reverse vs)) entries
     ∙ entries_pushed plan es entry (reverse vs)
     ∙ ap (λ n. entry_of plan entry (reverse vs) ∷ entries_of plan (reverse es) (drop n (reverse vs))) none
 
 -- an entry is put on the stack, and a part begins
-pub pushed_onward : {plan : Program} {f : Focus} {f' : CodeFocus} {new : Stack} {m : Interpreter} {st0 : List Entry} (es : List CodeEntry) (vs : List Value) (entry : CodeEntry) → new.entries.items ≡ es ++ entry ∷ [] → new.values.items ≡ vs → kept_for entry ≡ 0 → ((k : WorldState) → Leads (Unit {0}) f st0 m k (focus_of plan f' new.returned) (entry_of plan entry (reverse vs) ∷ entries_of plan (reverse es) (reverse vs)) m k) → work (focus_of plan f' new.returned) (entry_of plan entry (reverse vs) ∷ entries_of plan (reverse es) (reverse vs)) < work f st0 → Steps plan f st0 m (Ok (move.On f')) new m
+pub pushed_onward : {plan : Program} {f : Focus} {f' : CodeFocus} {new : Stack} {m : Interpreter} {st0 : List Entry} (es : List CodeEntry) (vs : List Value) (entry : CodeEntry) → new.control.entries ≡ es ++ entry ∷ [] → new.values.items ≡ vs → kept_for entry ≡ 0 → ((k : WorldState) → Leads (Unit {0}) f st0 m k (focus_of plan f' new.returned) (entry_of plan entry (reverse vs) ∷ entries_of plan (reverse es) (reverse vs)) m k) → work (focus_of plan f' new.returned) (entry_of plan entry (reverse vs) ∷ entries_of plan (reverse es) (reverse vs)) < work f st0 → Steps plan f st0 m (Ok (move.On f')) new m
 pushed_onward {plan = plan} {f = f} {f' = f'} {new = new} {m = m} {st0 = st0} es vs entry entries values none l w =
     let same = one_pushed plan new es vs entry entries values none in
     onward refl (λ k. subst (λ z. Leads (Unit {0}) f st0 m k (focus_of plan f' new.returned) z m k) (sym same) (l k)) (subst (λ z. work (focus_of plan f' new.returned) z < work f st0) (sym same) w) (omega arith) refl
 
 -- an expression more of a print
 pub awaited_printed : {plan : Program} {f : Focus} {rest : ℕ} {e : Operand} {old new : Stack} {m : Interpreter} {st0 : List Entry} (r : Result Move Halt) (vs : List Value) (x : Value) (n n' : ℕ) → n' ≡ suc n → old.values.items ≡ vs ++ x ∷ [] → Awaits (code.Statement (s.Printed rest n')) e old r new
-    → ((k : WorldState) → Leads (Unit {0}) f st0 m k (BeginExpr (operand_of plan e)) (Printed (reverse (take n (reverse vs)) ++ x ∷ []) (exprs_in (part_of plan rest)) ∷ entries_of plan (reverse old.entries.items) (drop n (reverse vs))) m k)
-    → work (BeginExpr (operand_of plan e)) (Printed (reverse (take n (reverse vs)) ++ x ∷ []) (exprs_in (part_of plan rest)) ∷ entries_of plan (reverse old.entries.items) (drop n (reverse vs))) < work f st0 → Steps plan f st0 m r new m
+    → ((k : WorldState) → Leads (Unit {0}) f st0 m k (BeginExpr (operand_of plan e)) (Printed (reverse (take n (reverse vs)) ++ x ∷ []) (exprs_in (part_of plan rest)) ∷ entries_of plan (reverse old.control.entries) (drop n (reverse vs))) m k)
+    → work (BeginExpr (operand_of plan e)) (Printed (reverse (take n (reverse vs)) ++ x ∷ []) (exprs_in (part_of plan rest)) ∷ entries_of plan (reverse old.control.entries) (drop n (reverse vs))) < work f st0 → Steps plan f st0 m r new m
 awaited_printed {plan = plan} {rest = rest} {old = old} {new = new} r vs x n n' count kept a l w = awaited r a (λ p q.
-    ap (λ v. entries_of plan (reverse new.entries.items) (reverse v.items)) q
+    ap (λ v. entries_of plan (reverse new.control.entries) (reverse v.items)) q
     ∙ ap (λ l. entries_of plan (reverse l) (reverse old.values.items)) p
-    ∙ entries_pushed plan old.entries.items (code.Statement (s.Printed rest n')) (reverse old.values.items)
-    ∙ ap (λ i. Printed (reverse (take i (reverse old.values.items))) (exprs_in (part_of plan rest)) ∷ entries_of plan (reverse old.entries.items) (drop i (reverse old.values.items))) count
-    ∙ ap (λ l. Printed (reverse (take (suc n) l)) (exprs_in (part_of plan rest)) ∷ entries_of plan (reverse old.entries.items) (drop (suc n) l)) (ap reverse kept ∙ one_more vs x)
-    ∙ ap (λ front. Printed front (exprs_in (part_of plan rest)) ∷ entries_of plan (reverse old.entries.items) (drop n (reverse vs))) (front_grows x (take n (reverse vs)))) l w
+    ∙ entries_pushed plan old.control.entries (code.Statement (s.Printed rest n')) (reverse old.values.items)
+    ∙ ap (λ i. Printed (reverse (take i (reverse old.values.items))) (exprs_in (part_of plan rest)) ∷ entries_of plan (reverse old.control.entries) (drop i (reverse old.values.items))) count
+    ∙ ap (λ l. Printed (reverse (take (suc n) l)) (exprs_in (part_of plan rest)) ∷ entries_of plan (reverse old.control.entries) (drop (suc n) l)) (ap reverse kept ∙ one_more vs x)
+    ∙ ap (λ front. Printed front (exprs_in (part_of plan rest)) ∷ entries_of plan (reverse old.control.entries) (drop n (reverse vs))) (front_grows x (take n (reverse vs)))) l w
 
 -- an entry is put on the stack, and a part begins behind a step
-pub pushed_paid : {plan : Program} {f : Focus} {f' : CodeFocus} {new : Stack} {m m' : Interpreter} {st0 : List Entry} (es : List CodeEntry) (vs : List Value) (entry : CodeEntry) → new.entries.items ≡ es ++ entry ∷ [] → new.values.items ≡ vs → kept_for entry ≡ 0 → ((k : WorldState) → Leads (Unit {0}) f st0 m k (focus_of plan f' new.returned) (entry_of plan entry (reverse vs) ∷ entries_of plan (reverse es) (reverse vs)) m' k) → m'.steps < m.steps → m'.streams ≡ m.streams → Steps plan f st0 m (Ok (move.Spent f')) new m'
+pub pushed_paid : {plan : Program} {f : Focus} {f' : CodeFocus} {new : Stack} {m m' : Interpreter} {st0 : List Entry} (es : List CodeEntry) (vs : List Value) (entry : CodeEntry) → new.control.entries ≡ es ++ entry ∷ [] → new.values.items ≡ vs → kept_for entry ≡ 0 → ((k : WorldState) → Leads (Unit {0}) f st0 m k (focus_of plan f' new.returned) (entry_of plan entry (reverse vs) ∷ entries_of plan (reverse es) (reverse vs)) m' k) → m'.steps < m.steps → m'.streams ≡ m.streams → Steps plan f st0 m (Ok (move.Spent f')) new m'
 pushed_paid {plan = plan} {f = f} {f' = f'} {new = new} {m = m} {m' = m'} {st0 = st0} es vs entry entries values none l falls same =
     let is = one_pushed plan new es vs entry entries values none in
     paid refl (λ k. subst (λ z. Leads (Unit {0}) f st0 m k (focus_of plan f' new.returned) z m' k) (sym is) (l k)) falls same
 
 -- two entries are put on the stack, and a part begins behind a step
-pub twice_paid : {plan : Program} {f : Focus} {f' : CodeFocus} {new : Stack} {m m' : Interpreter} {st0 : List Entry} (es es1 : List CodeEntry) (vs : List Value) (e1 e2 : CodeEntry) → es1 ≡ es ++ e1 ∷ [] → new.entries.items ≡ es1 ++ e2 ∷ [] → new.values.items ≡ vs → kept_for e1 ≡ 0 → kept_for e2 ≡ 0 → ((k : WorldState) → Leads (Unit {0}) f st0 m k (focus_of plan f' new.returned) (entry_of plan e2 (reverse vs) ∷ entry_of plan e1 (reverse vs) ∷ entries_of plan (reverse es) (reverse vs)) m' k) → m'.steps < m.steps → m'.streams ≡ m.streams → Steps plan f st0 m (Ok (move.Spent f')) new m'
+pub twice_paid : {plan : Program} {f : Focus} {f' : CodeFocus} {new : Stack} {m m' : Interpreter} {st0 : List Entry} (es es1 : List CodeEntry) (vs : List Value) (e1 e2 : CodeEntry) → es1 ≡ es ++ e1 ∷ [] → new.control.entries ≡ es1 ++ e2 ∷ [] → new.values.items ≡ vs → kept_for e1 ≡ 0 → kept_for e2 ≡ 0 → ((k : WorldState) → Leads (Unit {0}) f st0 m k (focus_of plan f' new.returned) (entry_of plan e2 (reverse vs) ∷ entry_of plan e1 (reverse vs) ∷ entries_of plan (reverse es) (reverse vs)) m' k) → m'.steps < m.steps → m'.streams ≡ m.streams → Steps plan f st0 m (Ok (move.Spent f')) new m'
 twice_paid {plan = plan} {f = f} {f' = f'} {new = new} {m = m} {m' = m'} {st0 = st0} es es1 vs e1 e2 first second values none none2 l falls same =
     let below : entries_of plan (reverse es1) (reverse vs) ≡ entry_of plan e1 (reverse vs) ∷ entries_of plan (reverse es) (reverse vs) = ap (λ x. entries_of plan (reverse x) (reverse vs)) first ∙ entries_pushed plan es e1 (reverse vs) ∙ ap (λ n. entry_of plan e1 (reverse vs) ∷ entries_of plan (reverse es) (drop n (reverse vs))) none in
     pushed_paid es1 vs e2 second values none2 (λ k. subst (λ z. Leads (Unit {0}) f st0 m k (focus_of plan f' new.returned) (entry_of plan e2 (reverse vs) ∷ z) m' k) (sym below) (l k)) falls same

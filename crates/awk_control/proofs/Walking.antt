@@ -34,14 +34,14 @@ pub record Walking (is_logged : Type 0) (f : Focus) (st : List Entry) (m : Inter
   pub steps : m'.steps ≤ m.steps
 
 pub walk_starts : {is_logged : Type 0} {f : Focus} {st : List Entry} {m : Interpreter} {k : WorldState} → Walking is_logged f st m k f st m k
-walk_starts = record { leads = record { leads = λ new after r d. d }; steps = omega arith }
+walk_starts = record { leads = record { leads = λ new after r d. d; deep = omega arith }; steps = omega arith }
 
 module _ {is_logged : Type 0} {plan : Program} {f f1 : Focus} {st st1 : List Entry} {new : Stack} {m m1 m2 : Interpreter} {k k1 k2 : WorldState} (p : Walking is_logged f st m k f1 st1 m1 k1) where
   pub walk_on : {c : CodeFocus} → Moves is_logged plan f1 st1 m1 k1 (Ok (move.On c)) new m2 k2 → Walking is_logged f st m k (focus_of plan c new.returned) (stack_of plan new) m2 k2
-  walk_on q = record { leads = record { leads = λ new after r d. p.leads.leads new after r (q.moved.leads.leads new after r d) }; steps = let x = p.steps in let y = q.moved.steps in omega (arith, x, y) }
+  walk_on q = record { leads = record { leads = λ new after r d. p.leads.leads new after r (q.moved.leads.leads new after r d); deep = let a = p.leads.deep in let b = q.moved.leads.deep in omega (arith, a, b) }; steps = let x = p.steps in let y = q.moved.steps in omega (arith, x, y) }
 
   pub walk_spends : {c : CodeFocus} → Moves is_logged plan f1 st1 m1 k1 (Ok (move.Spent c)) new m2 k2 → Walks is_logged plan f st m k (Ok (stage.Spent c)) new m2 k2
-  walk_spends q = record { walked = record { leads = record { leads = λ new after r d. p.leads.leads new after r (q.moved.leads.leads new after r d) }; falls = let x = p.steps in let y = q.moved.falls in omega (arith, x, y) } }
+  walk_spends q = record { walked = record { leads = record { leads = λ new after r d. p.leads.leads new after r (q.moved.leads.leads new after r d); deep = let a = p.leads.deep in let b = q.moved.leads.deep in omega (arith, a, b) }; falls = let x = p.steps in let y = q.moved.falls in omega (arith, x, y) } }
 
   pub walk_halts : {h : Halt} → Moves is_logged plan f1 st1 m1 k1 (Err h) new m2 k2 → Walks is_logged plan f st m k (Err h) new m2 k2
   walk_halts q = record { walked = p.leads.leads _ _ _ q.moved }
@@ -76,11 +76,11 @@ unfolding resume
 whole f {m = m} d = record { simulates = same_simulates _ _ (λ s low. unit_at (run_of f) s) (d.simulates (λ i. m.steps) (λ i. omega arith)) }
 
 pub run_starts : {is_logged : Type 0} {f : Focus} {m : Interpreter} {k : WorldState} → Leads is_logged f [] m k f [] m k
-run_starts = record { leads = λ new after r d. d }
+run_starts = record { leads = λ new after r d. d; deep = omega arith }
 
 module _ {is_logged : Type 0} {plan : Program} {f f1 : Focus} {st1 : List Entry} {left : Stack} {m m1 m2 : Interpreter} {k k1 k2 : WorldState} (p : Leads is_logged f [] m k f1 st1 m1 k1) where
   pub run_on : {c : CodeFocus} → Walks is_logged plan f1 st1 m1 k1 (Ok (stage.Spent c)) left m2 k2 → Leads is_logged f [] m k (focus_of plan c left.returned) (stack_of plan left) m2 k2
-  run_on q = record { leads = λ new after r d. p.leads new after r (q.walked.leads.leads new after r d) }
+  run_on q = record { leads = λ new after r d. p.leads new after r (q.walked.leads.leads new after r d); deep = let a = p.deep in let b = q.walked.leads.deep in omega (arith, a, b) }
 
   pub run_ends : {x : Passed} → Walks is_logged plan f1 st1 m1 k1 (Ok (stage.Over x)) left m2 k2 → Runs is_logged f m k m2 k2 (Ok (flow_of x left.returned))
   run_ends q = whole f (p.leads _ _ _ q.walked)

@@ -1,4 +1,8 @@
+-- What has begun and not ended, as its contracts see it.
+pub mod definitions
+-- What serves the proofs.
 pub mod support
+pub use Rattle.awk_control.specs.definitions.Control
 pub use Rattle.awk_control.specs.support.Stack
 pub use Rattle.awk_control.specs.support.Blocks
 pub use Rattle.awk_control.specs.support.Moves

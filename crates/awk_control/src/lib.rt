@@ -2,5 +2,6 @@
 #![tactic(auto)]
 
 pub mod blocks;
+pub mod control;
 pub mod in_place;
 pub mod stack;

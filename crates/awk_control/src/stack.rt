@@ -1,5 +1,6 @@
 // What has begun and not ended: an entry for each part of the program, and the values that are kept for them.
 
+use crate::control::Control;
 use awk_plan::node::Operand;
 use awk_tree::tree::{BinaryOperator, UnaryOperator};
 use awk_value::Value;
@@ -74,7 +75,7 @@ pub enum Entry {
 /// values of a line that is printed in place.
 #[derive(Drop)]
 pub struct Stack {
-    pub entries: Vec<Entry>,
+    pub control: Control,
     pub values: Vec<Value>,
     pub returned: Value,
     pub line: Vec<Value>,
@@ -84,7 +85,7 @@ impl Stack {
     /// A stack without entries.
     pub fn new(alloc: Global) -> Stack {
         Stack {
-            entries: Vec::new(alloc),
+            control: Control::new(alloc),
             values: Vec::new(alloc),
             returned: Value::Nothing,
             line: Vec::new(alloc),

@@ -9,6 +9,7 @@ ghost use Rattle.awk_plan.specs.declared.node.Node.TheVariants.{Expression};
 ghost use Rattle.awk_tree.specs.Tree.{Binary, Field};
 ghost use Rattle.awk_meaning.specs.Operators.{takes_pattern};
 ghost use Rattle.awk_expressions.specs.support.Nodes.{IsPatternOperand};
+ghost use Rattle.awk_control.specs.Control.{HasRoom};
 ghost use Rattle.awk_control.specs.Stack.{BeginExpr, Ended, LeftOperand, AndLeft, OrLeft, Condition, value_in};
 ghost use Rattle.awk_control.specs.Moves.{ReadsLeaf, Steps, Awaits, stack_of, topped, flow_of, with_value, is_returned};
 
@@ -62,14 +63,16 @@ pub fn is_returned_true(passed: Passed, stack: &Stack) -> bool
 
 /// Begins an expression for an entry that waits for it.
 pub fn await_value(entry: Entry, e: Operand, stack: &mut Stack) -> Result<Move, Halt>
+    requires room { HasRoom stack.old.control }
     ensures { Awaits entry e stack.old result stack.new }
 {
-    stack.entries.push(entry)?;
+    stack.control.push(entry)?;
     Ok(Move::On(Focus::Expr(e)))
 }
 
 /// Begins an operand of an expression.
 fn await_operand(entry: OperandEntry, e: Operand, stack: &mut Stack) -> Result<Move, Halt>
+    requires room { HasRoom stack.old.control }
     ensures { Awaits (Entry.Expr entry) e stack.old result stack.new }
 {
     await_value(Entry::Expr(entry), e, stack)
@@ -101,6 +104,7 @@ fn begin_binary(
     stack: &mut Stack,
     interpreter: &mut Interpreter,
 ) -> Result<Move, Halt>
+    requires room { HasRoom stack.old.control }
     ensures { Steps plan.now (BeginExpr (Binary operator (operand_of plan.now a) (operand_of plan.now b)))
         (stack_of plan.now stack.old) interpreter.old result stack.new interpreter.new }
 {
@@ -118,6 +122,7 @@ fn begin_field(
     stack: &mut Stack,
     interpreter: &mut Interpreter,
 ) -> Result<Move, Halt>
+    requires room { HasRoom stack.old.control }
     ensures { Steps plan.now (BeginExpr (Field (operand_of plan.now e))) (stack_of plan.now stack.old) interpreter.old
         result stack.new interpreter.new }
 {
@@ -138,6 +143,7 @@ pub fn begin_expr(
     stack: &mut Stack,
     interpreter: &mut Interpreter,
 ) -> Result<Move, Halt>
+    requires room { HasRoom stack.old.control }
     ensures { Steps plan.now (BeginExpr (operand_of plan.now e)) (stack_of plan.now stack.old) interpreter.old
         result stack.new interpreter.new }
 {
@@ -164,6 +170,7 @@ fn begin_place(
     stack: &mut Stack,
     interpreter: &mut Interpreter,
 ) -> Result<Move, Halt>
+    requires room { HasRoom stack.old.control }
     ensures { Steps plan.now (BeginExpr (operand_of plan.now (Operand.Node place))) (stack_of plan.now stack.old)
         interpreter.old result stack.new interpreter.new }
 {
@@ -180,7 +187,8 @@ fn begin_node(
     stack: &mut Stack,
     interpreter: &mut Interpreter,
 ) -> Result<Move, Halt>
-    requires { HasEre (length plan.now.tables.eres) (Expression node) }
+    requires room { HasRoom stack.old.control }
+    requires read { HasEre (length plan.now.tables.eres) (Expression node) }
     ensures { Steps plan.now (BeginExpr (made_expr plan.now.tables (part_of plan.now) node))
         (stack_of plan.now stack.old) interpreter.old result stack.new interpreter.new }
 {
@@ -226,6 +234,7 @@ fn begin_right(
     stack: &mut Stack,
     interpreter: &mut Interpreter,
 ) -> Result<Move, Halt>
+    requires room { HasRoom stack.old.control }
     ensures { IsPatternOperand (takes_pattern operator) (operand_of plan.now b) None → (g : _) → value_in g ≡ x →
         Steps plan.now (Ended g) (LeftOperand operator (operand_of plan.now b) ∷ stack_of plan.now stack.old)
         interpreter.old result stack.new interpreter.new }
@@ -252,6 +261,7 @@ fn end_left(
     stack: &mut Stack,
     interpreter: &mut Interpreter,
 ) -> Result<Move, Halt>
+    requires room { HasRoom stack.old.control }
     ensures { (g : _) → value_in g ≡ x → Steps plan.now (Ended g) (topped plan.now (Entry.Expr
         (OperandEntry.Left operator b)) stack.old) interpreter.old result stack.new interpreter.new }
 {
@@ -266,6 +276,7 @@ fn end_left(
 
 /// Goes on behind the left operand of `&&`: the right one is evaluated where that is true.
 fn end_and(b: Operand, is_true: bool, stack: &mut Stack) -> Result<Move, Halt>
+    requires room { HasRoom stack.old.control }
     ensures { (plan : _) (g : _) (m : _) → truth_of (value_in g) ≡ is_true → Steps plan (Ended g) (AndLeft (operand_of plan b)
         ∷ stack_of plan stack.old) m result stack.new m }
 {
@@ -278,6 +289,7 @@ fn end_and(b: Operand, is_true: bool, stack: &mut Stack) -> Result<Move, Halt>
 
 /// Goes on behind the left operand of `||`: the right one is evaluated where that is false.
 fn end_or(b: Operand, is_true: bool, stack: &mut Stack) -> Result<Move, Halt>
+    requires room { HasRoom stack.old.control }
     ensures { (plan : _) (g : _) (m : _) → truth_of (value_in g) ≡ is_true → Steps plan (Ended g) (OrLeft (operand_of plan b)
         ∷ stack_of plan stack.old) m result stack.new m }
 {
@@ -377,6 +389,7 @@ pub fn end_operand(
     stack: &mut Stack,
     interpreter: &mut Interpreter,
 ) -> Result<Move, Halt>
+    requires room { HasRoom stack.old.control }
     ensures { Steps plan.now (Ended (flow_of passed stack.old.returned)) (topped plan.now (Entry.Expr entry) stack.old)
         interpreter.old result stack.new interpreter.new }
 {

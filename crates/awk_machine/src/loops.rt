@@ -2,6 +2,7 @@
 
 ghost use Rattle.std.specs.Prelude.{◌≡◌, ◌∷◌, None};
 ghost use Rattle.awk_meaning.specs.Semantics.{ending};
+ghost use Rattle.awk_control.specs.Control.{HasRoom};
 ghost use Rattle.awk_control.specs.Stack.{BeginStatement, Ended, LastPart, LoopTurn};
 ghost use Rattle.awk_control.specs.Moves.{Steps, SpendsFor, stack_of, loop_of, for_of, topped, flow_of};
 
@@ -15,16 +16,18 @@ use awk_plan::plan::Plan;
 
 /// Spends the step of a turn, and begins the body.
 fn begin_turn(l: Loop, stack: &mut Stack, interpreter: &mut Interpreter) -> Result<Move, Halt>
+    requires room { HasRoom stack.old.control }
     ensures { SpendsFor (Entry.Loop LoopEntry.Turn l) (Focus.Statement l.body) stack.old interpreter.old result stack.new
         interpreter.new }
 {
-    stack.entries.push(Entry::Loop(LoopEntry::Turn, l))?;
+    stack.control.push(Entry::Loop(LoopEntry::Turn, l))?;
     interpreter.spend()?;
     Ok(Move::Spent(Focus::Statement(l.body)))
 }
 
 /// Begins the condition of a loop; without one the next turn.
 fn await_condition(l: Loop, stack: &mut Stack, interpreter: &mut Interpreter) -> Result<Move, Halt>
+    requires room { HasRoom stack.old.control }
     ensures { (plan : _) (g : _) → Steps plan (Ended g) (LastPart (loop_of plan l) ∷ stack_of plan stack.old) interpreter.old
         result stack.new interpreter.new }
 {
@@ -41,6 +44,7 @@ fn begin_condition(
     stack: &mut Stack,
     interpreter: &mut Interpreter,
 ) -> Result<Move, Halt>
+    requires room { HasRoom stack.old.control }
     ensures { (g : _) → Steps plan.now (Ended g) (LastPart (loop_of plan.now l) ∷ stack_of plan.now stack.old) interpreter.old
         result stack.new interpreter.new }
 {
@@ -48,11 +52,11 @@ fn begin_condition(
         Turns::Ended(passed) => Ok(Move::On(Focus::Ended(passed))),
         Turns::Condition => await_condition(l, stack, interpreter),
         Turns::Body(focus) => {
-            stack.entries.push(Entry::Loop(LoopEntry::Turn, l))?;
+            stack.control.push(Entry::Loop(LoopEntry::Turn, l))?;
             Ok(Move::Spent(focus))
         }
         Turns::Last(place) => {
-            stack.entries.push(Entry::Loop(LoopEntry::LastPart, l))?;
+            stack.control.push(Entry::Loop(LoopEntry::LastPart, l))?;
             Ok(Move::Spent(Focus::Statement(place)))
         }
     }
@@ -65,13 +69,14 @@ fn begin_last(
     stack: &mut Stack,
     interpreter: &mut Interpreter,
 ) -> Result<Move, Halt>
+    requires room { HasRoom stack.old.control }
     ensures { (g : _) → ending g ≡ None → Steps plan.now (Ended g) (LoopTurn (loop_of plan.now l) ∷ stack_of plan.now stack.old)
         interpreter.old result stack.new interpreter.new }
 {
     match execute_last(plan, l, interpreter) {
         None => begin_condition(plan, l, stack, interpreter),
         Some(place) => {
-            stack.entries.push(Entry::Loop(LoopEntry::LastPart, l))?;
+            stack.control.push(Entry::Loop(LoopEntry::LastPart, l))?;
             Ok(Move::On(Focus::Statement(place)))
         }
     }
@@ -86,6 +91,7 @@ pub(crate) fn end_loop(
     stack: &mut Stack,
     interpreter: &mut Interpreter,
 ) -> Result<Move, Halt>
+    requires room { HasRoom stack.old.control }
     ensures { Steps plan.now (Ended (flow_of passed stack.old.returned)) (topped plan.now (Entry.Loop entry l) stack.old)
         interpreter.old result stack.new interpreter.new }
 {
@@ -118,9 +124,10 @@ pub(crate) fn begin_loop(
     stack: &mut Stack,
     interpreter: &mut Interpreter,
 ) -> Result<Move, Halt>
+    requires room { HasRoom stack.old.control }
     ensures { SpendsFor (Entry.Loop entry l) next stack.old interpreter.old result stack.new interpreter.new }
 {
-    stack.entries.push(Entry::Loop(entry, l))?;
+    stack.control.push(Entry::Loop(entry, l))?;
     interpreter.spend()?;
     Ok(Move::Spent(next))
 }
@@ -133,6 +140,7 @@ pub(crate) fn begin_for(
     stack: &mut Stack,
     interpreter: &mut Interpreter,
 ) -> Result<Move, Halt>
+    requires room { HasRoom stack.old.control }
     ensures { Steps plan.now (BeginStatement (for_of plan.now first l)) (stack_of plan.now stack.old) interpreter.old result
         stack.new interpreter.new }
 {

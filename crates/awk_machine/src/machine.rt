@@ -1,11 +1,13 @@
 // The machine: moves from place to place, until nothing is left. No function of it calls itself.
 
-ghost use Rattle.std.specs.Prelude.{◌≡◌};
+ghost use Rattle.std.specs.Prelude.{◌≡◌, ◌≤◌};
 ghost use Rattle.awk_plan.specs.Plan.{operand_of, part_of, statement_in, statements_in, made_statement};
+ghost use Rattle.awk_tree.specs.Height.{max_height, height_of, height_of_block};
 ghost use Rattle.awk_tree.specs.Tree.{Do};
 ghost use Rattle.awk_meaning.specs.Semantics.{run_action};
 ghost use Rattle.awk_interpreter.specs.Simulation.{Follows};
-ghost use Rattle.awk_control.specs.Stack.{BeginStatement, BeginBlock, Ended};
+ghost use Rattle.awk_control.specs.Control.{HasRoom};
+ghost use Rattle.awk_control.specs.Stack.{BeginStatement, BeginBlock, Ended, focus_height, depth};
 ghost use Rattle.awk_control.specs.Moves.{Moves, Steps, Walks, Runs, Tests, stack_of, focus_of, topped, flow_of, ran};
 
 use crate::loops::{begin_for, begin_loop, end_loop};
@@ -32,6 +34,7 @@ fn begin_do(
     stack: &mut Stack,
     interpreter: &mut Interpreter,
 ) -> Result<Move, Halt>
+    requires room { HasRoom stack.old.control }
     ensures { Steps plan.now (BeginStatement (Do (statement_in (part_of plan.now body)) (operand_of plan.now condition))) (stack_of
         plan.now stack.old) interpreter.old result stack.new interpreter.new }
 {
@@ -40,7 +43,7 @@ fn begin_do(
         last: None,
         body,
     };
-    stack.entries.push(Entry::Loop(LoopEntry::FirstTurn, l))?;
+    stack.control.push(Entry::Loop(LoopEntry::FirstTurn, l))?;
     interpreter.spend()?;
     interpreter.spend()?;
     Ok(Move::Spent(Focus::Statement(body)))
@@ -53,6 +56,7 @@ fn begin_compound(
     stack: &mut Stack,
     interpreter: &mut Interpreter,
 ) -> Result<Move, Halt>
+    requires room { HasRoom stack.old.control }
     ensures { Steps plan.now (BeginStatement (made_statement plan.now.tables (part_of plan.now) node)) (stack_of plan.now
         stack.old) interpreter.old result stack.new interpreter.new }
 {
@@ -111,6 +115,7 @@ fn begin_statement<W: World>(
     interpreter: &mut Interpreter,
     world: &mut W,
 ) -> Result<Move, Halt>
+    requires room { HasRoom stack.old.control }
     ensures { Moves W.is_logged plan.now (BeginStatement (statement_in (part_of plan.now place))) (stack_of plan.now
         stack.old) interpreter.old (W.state world.old) result stack.new interpreter.new (W.state world.new) }
 {
@@ -134,6 +139,7 @@ fn resume<W: World>(
     interpreter: &mut Interpreter,
     world: &mut W,
 ) -> Result<Move, Halt>
+    requires room { HasRoom stack.old.control }
     ensures { Moves W.is_logged plan.now (Ended (flow_of passed stack.old.returned)) (topped plan.now entry stack.old)
         interpreter.old (W.state world.old) result stack.new interpreter.new (W.state world.new) }
 {
@@ -152,6 +158,7 @@ fn go_on<W: World>(
     interpreter: &mut Interpreter,
     world: &mut W,
 ) -> Result<Move, Halt>
+    requires low { depth (focus_of plan.now focus stack.old.returned) (stack_of plan.now stack.old) ≤ max_height }
     ensures { Moves W.is_logged plan.now (focus_of plan.now focus stack.old.returned) (stack_of plan.now stack.old)
         interpreter.old (W.state world.old) result stack.new interpreter.new (W.state world.new) }
 {
@@ -159,7 +166,7 @@ fn go_on<W: World>(
         Focus::Expr(e) => begin_expr(plan, e, stack, interpreter),
         Focus::Statement(place) => begin_statement(plan, place, stack, interpreter, world),
         Focus::Block(place) => begin_block(plan, place, stack, interpreter),
-        Focus::Ended(passed) => match stack.entries.pop() {
+        Focus::Ended(passed) => match stack.control.pop() {
             None => Ok(Move::Over(passed)),
             Some(entry) => resume(plan, entry, passed, stack, interpreter, world),
         },
@@ -174,6 +181,7 @@ fn walk<W: World>(
     interpreter: &mut Interpreter,
     world: &mut W,
 ) -> Result<Stage, Halt>
+    requires low { depth (focus_of plan.now focus stack.old.returned) (stack_of plan.now stack.old) ≤ max_height }
     ensures { Walks W.is_logged plan.now (focus_of plan.now focus stack.old.returned) (stack_of plan.now stack.old)
         interpreter.old (W.state world.old) result stack.new interpreter.new (W.state world.new) }
 {
@@ -195,10 +203,11 @@ fn run<W: World>(
     interpreter: &mut Interpreter,
     world: &mut W,
 ) -> Result<Passed, Halt>
+    requires low { focus_height (focus_of plan.now focus stack.old.returned) ≤ max_height }
     ensures { Runs W.is_logged (focus_of plan.now focus stack.old.returned) interpreter.old (W.state world.old)
         interpreter.new (W.state world.new) (ran result stack.new.returned) }
 {
-    stack.entries.clear();
+    stack.control.clear();
     stack.values.clear();
     let mut place = focus;
     'steps: loop {
@@ -217,6 +226,7 @@ pub fn holds<W: World>(
     interpreter: &mut Interpreter,
     world: &mut W,
 ) -> Result<bool, Halt>
+    requires low { height_of (operand_of plan.now e) ≤ max_height }
     ensures { Tests W.is_logged (operand_of plan.now e) interpreter.old (W.state world.old) interpreter.new
         (W.state world.new) result }
 {
@@ -239,6 +249,7 @@ pub fn run_action<W: World>(
     interpreter: &mut Interpreter,
     world: &mut W,
 ) -> Result<(), Halt>
+    requires low { height_of_block (statements_in (part_of plan.now place)) ≤ max_height }
     ensures { Follows W.is_logged (run_action (statements_in (part_of plan.now place))) interpreter.old
         (W.state world.old) interpreter.new (W.state world.new) result }
 {

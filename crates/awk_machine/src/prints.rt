@@ -2,6 +2,7 @@
 
 ghost use Rattle.awk_plan.specs.Plan.{part_of, exprs_in};
 ghost use Rattle.awk_tree.specs.Tree.{Simple, Print};
+ghost use Rattle.awk_control.specs.Control.{HasRoom};
 ghost use Rattle.awk_control.specs.Stack.{BeginStatement, Ended};
 ghost use Rattle.awk_control.specs.Moves.{Moves, stack_of, topped, flow_of};
 
@@ -23,6 +24,7 @@ pub(crate) fn begin_print<W: World>(
     interpreter: &mut Interpreter,
     world: &mut W,
 ) -> Result<Move, Halt>
+    requires room { HasRoom stack.old.control }
     ensures { Moves W.is_logged plan.now (BeginStatement (Simple (Print (exprs_in (part_of plan.now place)))))
         (stack_of plan.now stack.old) interpreter.old (W.state world.old) result stack.new interpreter.new
         (W.state world.new) }
@@ -38,7 +40,7 @@ pub(crate) fn begin_print<W: World>(
                 return Ok(Move::Spent(Focus::Ended(Passed::Normal)));
             }
             let entry = Entry::Statement(StatementEntry::Printed(rest, 0));
-            stack.entries.push(entry)?;
+            stack.control.push(entry)?;
             Ok(Move::Spent(Focus::Expr(e)))
         }
     }
@@ -54,6 +56,7 @@ pub(crate) fn end_printed<W: World>(
     interpreter: &mut Interpreter,
     world: &mut W,
 ) -> Result<Move, Halt>
+    requires room { HasRoom stack.old.control }
     ensures { Moves W.is_logged plan.now (Ended (flow_of passed stack.old.returned)) (topped plan.now
         (Entry.Statement (StatementEntry.Printed rest count)) stack.old) interpreter.old (W.state world.old) result
         stack.new interpreter.new (W.state world.new) }

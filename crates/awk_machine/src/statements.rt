@@ -3,6 +3,7 @@
 ghost use Rattle.std.specs.Prelude.{◌≡◌, [], ◌∷◌, Ok};
 ghost use Rattle.awk_plan.specs.Plan.{operand_of, made_simple, part_of, exprs_in, statement_in, statements_in};
 ghost use Rattle.awk_tree.specs.Tree.{Simple, Expression};
+ghost use Rattle.awk_control.specs.Control.{HasRoom};
 ghost use Rattle.awk_control.specs.Stack.{BeginStatement, BeginBlock, Ended};
 ghost use Rattle.awk_control.specs.Moves.{Moves, Steps, SpendsFor, stack_of, topped, flow_of};
 
@@ -24,9 +25,10 @@ pub(crate) fn spend_for(
     stack: &mut Stack,
     interpreter: &mut Interpreter,
 ) -> Result<Move, Halt>
+    requires room { HasRoom stack.old.control }
     ensures { SpendsFor entry (Focus.Expr e) stack.old interpreter.old result stack.new interpreter.new }
 {
-    stack.entries.push(entry)?;
+    stack.control.push(entry)?;
     interpreter.spend()?;
     Ok(Move::Spent(Focus::Expr(e)))
 }
@@ -39,6 +41,7 @@ pub(crate) fn begin_simple<W: World>(
     interpreter: &mut Interpreter,
     world: &mut W,
 ) -> Result<Move, Halt>
+    requires room { HasRoom stack.old.control }
     ensures { Moves W.is_logged plan.now (BeginStatement (Simple (made_simple plan.now.tables (part_of plan.now) simple)))
         (stack_of plan.now stack.old) interpreter.old (W.state world.old) result stack.new interpreter.new
         (W.state world.new) }
@@ -82,6 +85,7 @@ pub(crate) fn begin_simple<W: World>(
 
 /// Begins the first of statements.
 fn begin_first(plan: &Plan, place: u32, stack: &mut Stack) -> Result<Move, Halt>
+    requires room { HasRoom stack.old.control }
     ensures { (m : _) → Steps plan.now (BeginBlock (statements_in (part_of plan.now place))) (stack_of plan.now stack.old) m
         result stack.new m }
 {
@@ -89,7 +93,7 @@ fn begin_first(plan: &Plan, place: u32, stack: &mut Stack) -> Result<Move, Halt>
         BlockNode::NoMore => Ok(Move::On(Focus::Ended(Passed::Normal))),
         BlockNode::Then(statement, rest) => {
             let entry = Entry::Statement(StatementEntry::Followed(rest));
-            stack.entries.push(entry)?;
+            stack.control.push(entry)?;
             Ok(Move::On(Focus::Statement(statement)))
         }
     }
@@ -102,6 +106,7 @@ pub(crate) fn begin_block(
     stack: &mut Stack,
     interpreter: &mut Interpreter,
 ) -> Result<Move, Halt>
+    requires room { HasRoom stack.old.control }
     ensures { Steps plan.now (BeginBlock (statements_in (part_of plan.now place))) (stack_of plan.now stack.old)
         interpreter.old result stack.new interpreter.new }
 {
@@ -147,6 +152,7 @@ pub(crate) fn end_statement<W: World>(
     interpreter: &mut Interpreter,
     world: &mut W,
 ) -> Result<Move, Halt>
+    requires room { HasRoom stack.old.control }
     ensures { Moves W.is_logged plan.now (Ended (flow_of passed stack.old.returned)) (topped plan.now
         (Entry.Statement entry) stack.old) interpreter.old (W.state world.old) result stack.new interpreter.new
         (W.state world.new) }

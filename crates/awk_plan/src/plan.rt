@@ -1,8 +1,9 @@
 // A program as one list of nodes.
 
-ghost use Rattle.std.specs.Prelude.{◌≡◌, ◌<◌, IfSome, IfNone, length, slice_get, Some};
+ghost use Rattle.std.specs.Prelude.{◌≡◌, ◌<◌, ◌≤◌, IfSome, IfNone, length, slice_get, Some};
 ghost use Rattle.std.specs.Option.{option_map};
-ghost use Rattle.awk_plan.specs.definitions.Plan.{NoPart, made, part_of, operand_of, literal_of};
+ghost use Rattle.awk_tree.specs.Height.{height_of_items, max_height};
+ghost use Rattle.awk_plan.specs.definitions.Plan.{NoPart, made, part_of, operand_of, literal_of, items_of};
 ghost use Rattle.awk_plan.specs.definitions.Order.{AreBelow, HasEre, IsLiteral};
 
 use crate::node::{Node, Operand};
@@ -39,8 +40,9 @@ pub struct Plan {
 }
 
 impl Model for Plan {
-    ghost use Rattle.awk_plan.specs.definitions.Plan.{Program, texts_of};
-    ghost use Rattle.std.specs.Prelude.{length};
+    ghost use Rattle.awk_plan.specs.definitions.Plan.{Program, texts_of, items_of};
+    ghost use Rattle.awk_tree.specs.Height.{height_of_items, max_height};
+    ghost use Rattle.std.specs.Prelude.{length, ◌≤◌};
     ghost use Rattle.awk_plan.specs.definitions.Order.{IsOrdered, AreLiterals, HaveEres};
 
     ghost Value = { Program };
@@ -52,7 +54,12 @@ impl Model for Plan {
     } };
 
     ghost invariant = { λ p. IsOrdered p.nodes.items × AreLiterals p.constants.items
-        × HaveEres (length (texts_of p.eres.items)) p.nodes.items };
+        × HaveEres (length (texts_of p.eres.items)) p.nodes.items
+        × (height_of_items (items_of (record {
+          tables = record { constants = p.constants.items; eres = texts_of p.eres.items; names = p.names };
+          nodes = p.nodes.items;
+          items = p.items.items;
+        })) ≤ max_height) };
 }
 
 impl Plan {
@@ -95,7 +102,8 @@ impl Plan {
 
     /// The items of the program.
     pub fn items(&self) -> &[Item]
-        ensures { result.now ≡ self.now.items }
+        ensures value { result.now ≡ self.now.items }
+        ensures low { height_of_items (items_of self.now) ≤ max_height }
     {
         self.items.as_slice()
     }

@@ -1,6 +1,7 @@
 // Programs as plans.
 
-ghost use Rattle.std.specs.Prelude.{◌≡◌, IfOk};
+ghost use Rattle.std.specs.Prelude.{◌≡◌, ◌≤◌, IfOk};
+ghost use Rattle.awk_tree.specs.Height.{height_of_items, max_height};
 ghost use Rattle.awk_tree.specs.View.{pattern_of, item_of, items_of, tree_of};
 ghost use Rattle.awk_plan.specs.definitions.Plan as plan;
 ghost use Rattle.awk_plan.specs.support.Builds.{BuildsPattern, BuildsItem, BuildsItems};
@@ -55,6 +56,7 @@ impl Builder {
 
 /// A program as a plan. The only error is want of memory.
 pub fn lower(alloc: Global, tree: &tree::Tree) -> Result<Plan, AllocError>
+    requires { height_of_items (tree_of tree.now) ≤ max_height }
     ensures { IfOk result (λ made. plan.items_of made ≡ tree_of tree.now) }
 {
     let Ok(names) = Names::new(alloc) else {

@@ -1,7 +1,11 @@
 // What is run of a program.
 
+ghost use Rattle.std.specs.Prelude.{◌≡◌, IfOk};
+ghost use Rattle.awk_grammar.specs.Height.{height_of_program};
 ghost use Rattle.awk_grammar.specs.View.{tree_of as grammar_tree_of};
 ghost use Rattle.awk_lex.specs.Told.{kinds_of};
+ghost use Rattle.awk_tree.specs.Height.{height_of_items};
+ghost use Rattle.awk_tree.specs.View.{tree_of};
 ghost use Rattle.awk_resolve.specs.definitions.Resolved.{Resolves, resolved};
 
 use crate::left_out::names_left_out;
@@ -19,9 +23,10 @@ use std::alloc::Global;
 ///
 /// The first cause that holds refuses it: a statement stands where it ends nothing (K6), a name is
 /// left out (K7), a form isn't built yet (K9), or a name is used as an array and as a scalar (K1).
-/// Each names line 1.
+/// Each names line 1. What is run of a program is as high as its tree.
 pub fn resolve(alloc: Global, tokens: &[Token], tree: &grammar::Tree) -> Result<Tree, Refusal>
-    ensures { Resolves result (resolved (kinds_of tokens.now) (grammar_tree_of tree.now)) }
+    ensures resolved { Resolves result (resolved (kinds_of tokens.now) (grammar_tree_of tree.now)) }
+    ensures height { IfOk result (λ made. height_of_items (tree_of made) ≡ height_of_program (grammar_tree_of tree.now)) }
 {
     if !are_in_place(&tree.items) {
         return Err(Refusal {

@@ -4,8 +4,9 @@ use Rattle.std.proofs.lemmas.List.{drop_all, get_or_default}
 use Rattle.awk_streams.specs.Streams.{AreOpen, IsSoundMain}
 use Rattle.awk_plan.specs.declared.plan.Item.{Item as CodeItem}
 use Rattle.awk_plan.specs.declared.plan.Item.TheVariants as items
-use Rattle.awk_plan.specs.Plan.{Program}
+use Rattle.awk_plan.specs.Plan.{Program, items_of}
 use Rattle.awk_run.specs.support.Planned.{item_of}
+use Rattle.awk_tree.specs.Height.{height_of_item, height_of_items}
 use Rattle.awk_tree.specs.Tree.{Expr, Nil, Statements, Pattern, Single, Range, Item, Begin, End, Action, PatternAction, PatternOnly}
 use Rattle.awk_interpreter.specs.declared.interpreter.Interpreter.{Interpreter}
 use Rattle.awk_run.specs.declared.start.Assignment.{Assignment}
@@ -351,6 +352,15 @@ planned_at plan es i low = item_at plan es i (get_or es i (items.Begin 0)) low (
 
 pub items_over : (plan : Program) (es : List CodeItem) (i : ℕ) → length es ≤ i → map (item_of plan) (drop i es) ≡ []
 items_over plan es i low = ap (map (item_of plan)) (drop_all i es low)
+
+-- no item of a plan is higher than all are
+low_in : (plan : Program) (es : List CodeItem) (i n : ℕ) → i < length es → height_of_items (map (item_of plan) es) ≤ n → height_of_item (item_of plan (get_or es i (items.Begin 0))) ≤ n
+low_in plan [] i n low all = absurd (omega (arith, low))
+low_in plan (e ∷ es) zero n low all = omega (arith, all)
+low_in plan (e ∷ es) (suc i) n low all = low_in plan es i n (omega (arith, low)) (omega (arith, all))
+
+pub low_at : (plan : Program) (es : List CodeItem) (i n : ℕ) → i < length es → es ≡ plan.items → height_of_items (items_of plan) ≤ n → height_of_item (item_of plan (get_or es i (items.Begin 0))) ≤ n
+low_at plan es i n low is all = low_in plan es i n low (subst (λ l. height_of_items (map (item_of plan) l) ≤ n) (sym is) all)
 
 -- what is no action before all records is a rule
 pub rule_of : (plan : Program) (x : CodeItem) → ((block : ℕ) → x ≡ items.Begin block → ⊥) → is_rule (item_of plan x) ≡ true

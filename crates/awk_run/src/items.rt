@@ -1,7 +1,8 @@
 // Items and records.
 
 ghost use Rattle.awk_streams.specs.Streams.{AreOpen, IsSoundMain};
-ghost use Rattle.std.specs.Prelude.{◌≡◌};
+ghost use Rattle.std.specs.Prelude.{◌≡◌, ◌≤◌};
+ghost use Rattle.awk_tree.specs.Height.{max_height, height_of, height_of_pattern, height_of_item};
 ghost use Rattle.awk_tree.specs.Tree.{PatternOnly};
 ghost use Rattle.awk_plan.specs.Plan.{operand_of, items_of};
 ghost use Rattle.awk_run.specs.support.Planned.{pattern_of, item_of};
@@ -25,6 +26,7 @@ fn in_range<W: World>(
     interpreter: &mut Interpreter,
     world: &mut W,
 ) -> Result<bool, Halt>
+    requires low { height_of (operand_of plan.now from) ≤ max_height }
     ensures { Tells W.is_logged (in_range number (operand_of plan.now from)) interpreter.old (W.state world.old)
         interpreter.new (W.state world.new) result }
 {
@@ -43,6 +45,7 @@ fn go_through<W: World>(
     interpreter: &mut Interpreter,
     world: &mut W,
 ) -> Result<bool, Halt>
+    requires low { height_of (operand_of plan.now to) ≤ max_height }
     ensures { Tells W.is_logged (go_through number (operand_of plan.now to)) interpreter.old (W.state world.old)
         interpreter.new (W.state world.new) result }
 {
@@ -60,6 +63,7 @@ fn selects<W: World>(
     interpreter: &mut Interpreter,
     world: &mut W,
 ) -> Result<bool, Halt>
+    requires low { height_of_pattern (pattern_of plan.now pattern) ≤ max_height }
     ensures { Selects W.is_logged number (pattern_of plan.now pattern) interpreter.old (W.state world.old)
         interpreter.new (W.state world.new) result }
 {
@@ -84,6 +88,7 @@ fn try_pattern<W: World>(
     interpreter: &mut Interpreter,
     world: &mut W,
 ) -> Result<(), Halt>
+    requires low { height_of_pattern (pattern_of plan.now pattern) ≤ max_height }
     ensures { Tries W.is_logged number (PatternOnly (pattern_of plan.now pattern)) interpreter.old (W.state world.old)
         interpreter.new (W.state world.new) result }
 {
@@ -103,6 +108,7 @@ fn try_item<W: World>(
     interpreter: &mut Interpreter,
     world: &mut W,
 ) -> Result<(), Halt>
+    requires low { height_of_item (item_of plan.now item) ≤ max_height }
     ensures { Tries W.is_logged number (item_of plan.now item) interpreter.old (W.state world.old) interpreter.new
         (W.state world.new) result }
 {
@@ -169,6 +175,7 @@ fn begin_item<W: World>(
     interpreter: &mut Interpreter,
     world: &mut W,
 ) -> Result<(), Halt>
+    requires low { height_of_item (item_of plan.now item) ≤ max_height }
     ensures { BeginsItem W.is_logged (item_of plan.now item) interpreter.old (W.state world.old) interpreter.new
         (W.state world.new) result }
 {
@@ -267,6 +274,7 @@ fn end_item<W: World>(
     interpreter: &mut Interpreter,
     world: &mut W,
 ) -> Result<(), Halt>
+    requires low { height_of_item (item_of plan.now item) ≤ max_height }
     ensures { EndsItem W.is_logged (item_of plan.now item) interpreter.old (W.state world.old) interpreter.new
         (W.state world.new) result }
 {

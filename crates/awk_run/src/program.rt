@@ -1,7 +1,8 @@
 // A whole run, of a plan and of a text.
 
-ghost use Rattle.std.specs.Prelude.{◌≡◌, ◌⊎◌, List, ℕ, map, IfOk, IfErr, OnErr};
+ghost use Rattle.std.specs.Prelude.{◌≡◌, ◌≤◌, ◌⊎◌, List, ℕ, map, IfOk, IfErr, OnErr};
 ghost use Rattle.awk_lex.specs.Refused.{IsOutOfMemory};
+ghost use Rattle.awk_tree.specs.Height.{max_height, height_of_items};
 ghost use Rattle.awk_tree.specs.Tree.{Item as ItemTree};
 ghost use Rattle.awk_tree.specs.View.{tree_of};
 ghost use Rattle.awk_plan.specs.Plan.{items_of};
@@ -118,6 +119,7 @@ fn read_program(alloc: Global, text: &[u8]) -> Result<Tree, Refusal>
     ensures accepted { IfOk result (λ tree. Accepted text.now (tree_of tree)) }
     ensures only { (items : List ItemTree) → Accepted text.now items → ReadsOnly result items }
     ensures cause { IfErr result (λ refusal. RefusedFor refusal.code text.now) }
+    ensures low { IfOk result (λ tree. height_of_items (tree_of tree) ≤ max_height) }
 {
     let tokens = tokens(alloc, text)?;
     let tree = parse(alloc, &tokens)?;

@@ -4,6 +4,8 @@
 #[cfg(test)]
 mod command;
 #[cfg(test)]
+mod control;
+#[cfg(test)]
 mod plan;
 #[cfg(test)]
 mod programs;

@@ -111,11 +111,11 @@ module _ (plan : Program) where
   entries_of (e ∷ es) vs = entry_of e vs ∷ entries_of es (drop (kept_for e) vs)
 
   abbrev pub stack_of : Stack → List Entry
-  stack_of stack = entries_of (reverse stack.entries.items) (reverse stack.values.items)
+  stack_of stack = entries_of (reverse stack.control.entries) (reverse stack.values.items)
 
   -- a stack with an entry on top that was taken off
   abbrev pub topped : CodeEntry → Stack → List Entry
-  topped e stack = entries_of (e ∷ reverse stack.entries.items) (reverse stack.values.items)
+  topped e stack = entries_of (e ∷ reverse stack.control.entries) (reverse stack.values.items)
 
   abbrev pub focus_of : CodeFocus → Value → Focus
   focus_of (focus.Expr e) v = BeginExpr (operand_of plan e)
@@ -159,7 +159,7 @@ pub record Steps (plan : Program) (f : Focus) (st : List Entry) (m : Interpreter
 
 -- an entry waits for an expression, which is begun
 abbrev pub AwaitsBy : CodeEntry → Operand → Stack → Result Move Halt → Stack → Type 0
-AwaitsBy entry e old (Ok m) new = (m ≡ move.On (focus.Expr e)) × (new.entries.items ≡ old.entries.items ++ entry ∷ []) × (new.values ≡ old.values)
+AwaitsBy entry e old (Ok m) new = (m ≡ move.On (focus.Expr e)) × (new.control.entries ≡ old.control.entries ++ entry ∷ []) × (new.values ≡ old.values)
 AwaitsBy entry e old (Err h) new = h ≡ halt.Fault OutOfMemory
 
 pub record Awaits (entry : CodeEntry) (e : Operand) (old : Stack) (r : Result Move Halt) (new : Stack) : Type 0 where
@@ -197,7 +197,7 @@ pub record Tests (is_logged : Type 0) (e : t.Expr) (m : Interpreter) (k : WorldS
 
 -- an entry waits for what begins behind a step, or there is none; nothing else changes
 abbrev pub SpendsForBy : CodeEntry → CodeFocus → Stack → Interpreter → Result Move Halt → Stack → Interpreter → Type 0
-SpendsForBy entry f old m (Ok x) new m' = (x ≡ move.Spent f) × (new.entries.items ≡ old.entries.items ++ entry ∷ []) × (new.values ≡ old.values) × Spends m m' (Ok tt)
+SpendsForBy entry f old m (Ok x) new m' = (x ≡ move.Spent f) × (new.control.entries ≡ old.control.entries ++ entry ∷ []) × (new.values ≡ old.values) × Spends m m' (Ok tt)
 SpendsForBy entry f old m (Err h) new m' = Spends m m' (Err h)
 
 pub record SpendsFor (entry : CodeEntry) (f : CodeFocus) (old : Stack) (m : Interpreter) (r : Result Move Halt) (new : Stack) (m' : Interpreter) : Type 0 where

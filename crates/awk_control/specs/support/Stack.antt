@@ -1,10 +1,11 @@
 -- What is left of a run in which parts of the program have begun and not ended.
-use Rattle.std.specs.Prelude.{ℕ, zero, suc, ◌+◌, ◌≤◌, true, false, List, [], ◌∷◌, ◌++◌, Result, Err}
+use Rattle.std.specs.Prelude.{ℕ, zero, suc, ◌+◌, ◌≤◌, max, length, true, false, List, [], ◌∷◌, ◌++◌, Result, Err}
 use Rattle.awk_value.specs.declared.value.Value.{Value}
 use Rattle.awk_value.specs.declared.value.Value.TheVariants.{Nothing}
 use Rattle.awk_value.specs.Values.{truth_of}
 use Rattle.awk_streams.specs.WorldState.{WorldState}
 use Rattle.awk_tree.specs.Tree as t
+use Rattle.awk_tree.specs.Height.{height_of, tallest, height_of_optional, height_of_optional_simple, height_of_statement, tallest_of, height_of_block}
 use Rattle.awk_tree.specs.declared.tree.UnaryOperator.{UnaryOperator}
 use Rattle.awk_tree.specs.declared.tree.BinaryOperator.{BinaryOperator}
 use Rattle.awk_meaning.specs.declared.flow.Flow.{Flow}
@@ -128,9 +129,44 @@ pub record RestOf (is_logged : Type 0) (x : Run Flow) (stack : List Entry) (m : 
 abbrev pub Rest : (is_logged : Type 0) → Focus → List Entry → Interpreter → WorldState → Interpreter → WorldState → Result Flow Halt → Type 0
 Rest is_logged f stack m k new after r = RestOf is_logged (run_of f) stack m k new after r
 
--- the rest from the second place is the rest from the first
+-- how high what a loop, an entry or a place still begins is
+abbrev pub loop_height : Loop → ℕ
+loop_height l = max (height_of_optional l.condition) (max (height_of_optional_simple l.last) (height_of_statement l.body))
+
+abbrev pub entry_height : Entry → ℕ
+entry_height (LeftOperand o b) = height_of b
+entry_height (AndLeft b) = height_of b
+entry_height (OrLeft b) = height_of b
+entry_height (Condition a b) = max (height_of a) (height_of b)
+entry_height (Printed front rest) = tallest rest
+entry_height (Followed rest) = tallest_of rest
+entry_height (IfCondition s) = height_of_statement s
+entry_height (IfElseCondition s other) = max (height_of_statement s) (height_of_statement other)
+entry_height (LoopEntry l) = loop_height l
+entry_height (FirstTurn l) = loop_height l
+entry_height (LoopCondition l) = loop_height l
+entry_height (LoopTurn l) = loop_height l
+entry_height (LastPart l) = loop_height l
+entry_height e = 0
+
+abbrev pub focus_height : Focus → ℕ
+focus_height (BeginExpr e) = height_of e
+focus_height (BeginStatement s) = height_of_statement s
+focus_height (BeginBlock all) = height_of_block all
+focus_height (Ended g) = 0
+
+-- how many entries stand at a time, at most, where each part has one while it is under way
+abbrev pub stack_depth : List Entry → ℕ
+stack_depth [] = 0
+stack_depth (e ∷ below) = max (suc (length below + entry_height e)) (stack_depth below)
+
+abbrev pub depth : Focus → List Entry → ℕ
+depth f stack = max (length stack + focus_height f) (stack_depth stack)
+
+-- the rest from the second place is the rest from the first, and no more entries will stand than from there
 pub record Leads (is_logged : Type 0) (f : Focus) (stack : List Entry) (m : Interpreter) (k : WorldState) (f' : Focus) (stack' : List Entry) (m' : Interpreter) (k' : WorldState) : Type 0 where
   pub leads : (new : Interpreter) (after : WorldState) (r : Result Flow Halt) → Rest is_logged f' stack' m' k' new after r → Rest is_logged f stack m k new after r
+  pub deep : depth f' stack' ≤ depth f stack
 
 -- how many moves without a step may follow: of an expression, a list, a statement, statements
 abbrev pub weight : t.Expr → ℕ

@@ -2,4 +2,4 @@ use Rattle.std.proofs.Common.{refl}
 use Rattle.awk_expressions.proofs.expressions.await_value.Goals as goal
 
 pub returns : goal.returns
-returns c = record { awaits = (refl, c.in_ok-push.ensures.items, refl) }
+returns c = record { awaits = (refl, c.in_ok-push.ensures.entries, refl) }

@@ -25,7 +25,7 @@ returns-in_err-push-in-Body c =
 pub returns-in_ok-push-in-Body : goal.returns-in_ok-push-in-Body
 returns-in_ok-push-in-Body c = λ g.
     let p = c.in-Body.ensures.stops c.args.stack.now.returned g in
-    pushed_paid _ c.args.stack.now.values.items _ c.in_ok-push-in-Body.ensures.items refl refl (λ k. p.leads _ k) c.in-Body.ensures.falls p.streams
+    pushed_paid _ c.args.stack.now.values.items _ c.in_ok-push-in-Body.ensures.entries refl refl (λ k. p.leads _ k) c.in-Body.ensures.falls p.streams
 
 pub returns-in_err-push-in-Last : goal.returns-in_err-push-in-Last
 returns-in_err-push-in-Last c =
@@ -37,4 +37,4 @@ returns-in_err-push-in-Last c =
 pub returns-in_ok-push-in-Last : goal.returns-in_ok-push-in-Last
 returns-in_ok-push-in-Last c = λ g.
     let p = c.in-Last.ensures.stops c.args.stack.now.returned g in
-    pushed_paid _ c.args.stack.now.values.items _ c.in_ok-push-in-Last.ensures.items refl refl (λ k. p.leads _ k) c.in-Last.ensures.falls p.streams
+    pushed_paid _ c.args.stack.now.values.items _ c.in_ok-push-in-Last.ensures.entries refl refl (λ k. p.leads _ k) c.in-Last.ensures.falls p.streams

@@ -19,4 +19,4 @@ pub returns-in_ok-push-in-Some : goal.returns-in_ok-push-in-Some
 returns-in_ok-push-in-Some c = λ g ends.
     let p = rw c.in-Some.ensures.0 at (c.in-Some.ensures.2 g ends) in
     let w = c.in-Some.ensures.1 in
-    rw c.in-Some.ensures.0 (pushed_onward _ c.args.stack.now.values.items _ c.in_ok-push-in-Some.ensures.items refl refl (λ k. p.leads _ k) (omega (arith, w)))
+    rw c.in-Some.ensures.0 (pushed_onward _ c.args.stack.now.values.items _ c.in_ok-push-in-Some.ensures.entries refl refl (λ k. p.leads _ k) (omega (arith, w)))

@@ -26,4 +26,4 @@ pub returns : goal.returns
 returns c =
     let p = c.in_ok-spend.ensures in
     let q = c.in_ok-spend-2.ensures in
-    pushed_paid _ c.args.stack.now.values.items _ c.in_ok-push.ensures.items refl refl (λ k. do_begins _ _ p q) (omega (arith, p.falls, q.falls)) (q.simulates.streams ∙ p.simulates.streams)
+    pushed_paid _ c.args.stack.now.values.items _ c.in_ok-push.ensures.entries refl refl (λ k. do_begins _ _ p q) (omega (arith, p.falls, q.falls)) (q.simulates.streams ∙ p.simulates.streams)

@@ -1,4 +1,4 @@
-use Rattle.std.proofs.Common.{arith}
+use Rattle.std.proofs.Common.{[], arith}
 use Rattle.std.proofs.lemmas.Result.{err_from_is_err_and}
 use Rattle.awk_value.specs.declared.value.Value.TheVariants.{Nothing}
 use Rattle.awk_control.proofs.ActionsInPlace.{acts_in_place, acts_on, act_halts_later, acts_further, act_halts_there}
@@ -35,3 +35,10 @@ pub returns-in-None : goal.returns-in-None
 returns-in-None g c =
     let same = rw c.in-None.is at (c.in_ok-rest-in-Before.ensures {u = tt}) in
     acts_on _ c.prints.invariant _ c.in-Before.ensures (rw (same.0, same.1) at c.in_ok-run-in-None.ensures)
+
+pub run-requires : goal.run-requires
+run-requires g c =
+    let here = c.prints.invariant.deep in
+    let there = ((c.in-Before.ensures.comes Nothing).leads [] (g.W.World.state c.prints.world)).deep in
+    let low = c.requires.low in
+    record { low = omega (arith, here, there, low) }

@@ -43,4 +43,4 @@ pub returns-in_ok-push-in-Cons : goal.returns-in_ok-push-in-Cons
 returns-in_ok-push-in-Cons g c =
     let s = c.in_ok-spend-in-Cons.ensures in
     let q = rw c.if-branch.false at c.in_ok-print_list-in-Cons.ensures in
-    rw (c.list.ensures, c.in-Cons.is, q.0, q.1) (stepped _ (pushed_paid _ _ _ c.in_ok-push-in-Cons.ensures.items refl refl (λ k. print_begins _ _ s) s.falls s.simulates.streams))
+    rw (c.list.ensures, c.in-Cons.is, q.0, q.1) (stepped _ (pushed_paid _ _ _ c.in_ok-push-in-Cons.ensures.entries refl refl (λ k. print_begins _ _ s) s.falls s.simulates.streams))

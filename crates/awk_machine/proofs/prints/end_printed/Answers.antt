@@ -35,7 +35,7 @@ returns-in_ok-print_line-in-Nil g c =
     let from : c.saturating_sub-from.result ≡ length (vs ++ x ∷ []) - suc c.args.count = omega (arith, c.saturating_sub-from.ensures, len, more) in
     let p = rw (c.deref.ensures.value, items, take_rest (vs ++ x ∷ []) c.saturating_sub-from.result, line_kept vs x c.args.count c.saturating_sub-from.result from) at c.in_ok-print_line-in-Nil.ensures in
     let kept : reverse c.truncate.new.self.items ≡ drop c.args.count (reverse vs) = rw (c.truncate.ensures.items, items) (rest_kept vs x c.args.count c.saturating_sub-from.result from) in
-    let same = ap (λ (s : Stack). entries_of c.args.plan.now (reverse s.entries.items) (reverse c.truncate.new.self.items)) c.take_value-value.ensures.stack ∙ ap (entries_of c.args.plan.now (reverse c.args.stack.now.entries.items)) kept in
+    let same = ap (λ (s : Stack). entries_of c.args.plan.now (reverse s.control.entries) (reverse c.truncate.new.self.items)) c.take_value-value.ensures.stack ∙ ap (entries_of c.args.plan.now (reverse c.args.stack.now.control.entries)) kept in
     rw (c.list.ensures, c.in-Nil.is) (ended_over same (line_printed _ _ p) (omega arith) p.simulates.steps)
 
 pub returns-in_err-print_line-in-Nil : goal.returns-in_err-print_line-in-Nil

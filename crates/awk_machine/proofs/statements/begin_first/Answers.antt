@@ -13,4 +13,4 @@ returns-in_err-push-in-Then c =
     λ m. rw (p.1, p.2) wants_memory
 
 pub returns-in_ok-push-in-Then : goal.returns-in_ok-push-in-Then
-returns-in_ok-push-in-Then c = λ m. rw (c.block.ensures, c.in-Then.is) (pushed_onward _ c.args.stack.now.values.items _ c.in_ok-push-in-Then.ensures.items refl refl (λ k. then_begins _ _) (omega arith))
+returns-in_ok-push-in-Then c = λ m. rw (c.block.ensures, c.in-Then.is) (pushed_onward _ c.args.stack.now.values.items _ c.in_ok-push-in-Then.ensures.entries refl refl (λ k. then_begins _ _) (omega arith))

@@ -13,6 +13,6 @@ list_any-has_rule plan [] = refl
 list_any-has_rule plan (x ∷ xs) = ap (λ b. is_rule (item_of plan x) || b) (list_any-has_rule plan xs)
 
 pub returns : goal.returns
-returns c = rw (← c.items.ensures)
+returns c = rw (← c.items.ensures.value)
     (any_from_yields_List (λ item. is_rule (item_of c.args.plan.now item)) _ _ c.any.result c.any.ensures.ran (YieldsList-from_slice c.items.result.now cc) (λ x b q k. search (rules, tests))
     ∙ list_any-has_rule c.args.plan.now c.items.result.now)

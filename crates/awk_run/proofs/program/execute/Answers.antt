@@ -26,3 +26,6 @@ returns-clause-executed g c =
       refused = tt;
       run = (tree_of c.in_ok-tree.tree, c.in_ok-tree.ensures.accepted, λ t fresh. ran.runs t fresh);
     }
+
+pub lower-requires : goal.lower-requires
+lower-requires g c = c.in_ok-tree.ensures.low

@@ -1,26 +1,26 @@
 use Rattle.std.proofs.lemmas.Result.{err_from_is_err_and}
 use Rattle.awk_lex.specs.Told.{kinds_of}
 use Rattle.awk_grammar.specs.View.{tree_of as grammar_tree_of}
-use Rattle.awk_run.proofs.Accepted.{spelled, accepts, only_accepted, none_read, resolving_refused, lexing_refused, parsing_refused}
+use Rattle.awk_run.proofs.Accepted.{spelled, accepts, only_accepted, none_read, resolving_refused, lexing_refused, parsing_refused, low_resolved}
 use Rattle.awk_run.proofs.program.read_program.Goals as goal
 
 pub returns-clause-accepted : goal.returns-clause-accepted
 returns-clause-accepted c =
     let lexes = rw (← c.deref.ensures.value) at (c.in_ok-tokens.ensures.found) in
     let s = spelled c.args.text.now (kinds_of c.deref.result.now) (grammar_tree_of c.in_ok-tree.tree) c.in_ok-tokens.ensures.short lexes c.in_ok-tree.ensures.found c.in_ok-tree.ensures.readable in
-    let r = rw (c.deref-2.ensures.value, ← c.deref.ensures.value) at c.resolve.ensures in
+    let r = rw (c.deref-2.ensures.value, ← c.deref.ensures.value) at c.resolve.ensures.resolved in
     accepts c.resolve.result c.args.text.now _ _ s r
 
 pub returns-clause-only : goal.returns-clause-only
 returns-clause-only c =
-    let r = rw (c.deref-2.ensures.value, ← c.deref.ensures.value) at c.resolve.ensures in
+    let r = rw (c.deref-2.ensures.value, ← c.deref.ensures.value) at c.resolve.ensures.resolved in
     only_accepted c.resolve.result c.args.text.now (kinds_of c.deref.result.now) c.in_ok-tree.tree (rw (← c.deref.ensures.value) at (c.in_ok-tokens.ensures.only)) c.in_ok-tree.ensures.only r
 
 pub returns-clause-cause : goal.returns-clause-cause
 returns-clause-cause c =
     let lexes = rw (← c.deref.ensures.value) at (c.in_ok-tokens.ensures.found) in
     let s = spelled c.args.text.now (kinds_of c.deref.result.now) (grammar_tree_of c.in_ok-tree.tree) c.in_ok-tokens.ensures.short lexes c.in_ok-tree.ensures.found c.in_ok-tree.ensures.readable in
-    let r = rw (c.deref-2.ensures.value, ← c.deref.ensures.value) at c.resolve.ensures in
+    let r = rw (c.deref-2.ensures.value, ← c.deref.ensures.value) at c.resolve.ensures.resolved in
     resolving_refused c.resolve.result c.args.text.now _ _ s r
 
 pub returns-in_err-tree-clause-only : goal.returns-in_err-tree-clause-only
@@ -42,3 +42,6 @@ pub returns-in_err-tokens-clause-cause : goal.returns-in_err-tokens-clause-cause
 returns-in_err-tokens-clause-cause c =
     let p = err_from_is_err_and c.from_residual.result c.from_residual.ensures.1 in
     rw (p.1, p.2) (lexing_refused c.in_err-tokens.field-0.0 c.args.text.now c.in_err-tokens.ensures.refused)
+
+pub returns-clause-low : goal.returns-clause-low
+returns-clause-low c = low_resolved c.resolve.result _ c.in_ok-tree.ensures.found.1 c.resolve.ensures.height
