@@ -1,5 +1,5 @@
 -- The stack of the code, and what its moves are made of.
-use Rattle.std.proofs.Common.{◌≡◌, ℕ, suc, ◌≤◌, ◌<◌, ◌↔◌, true, false, List, [], ◌∷◌, ◌++◌, reverse, take, drop, length, Option, Some, None, IsSome, unwrap_or, option_to_list, Result, Ok, Err, refl, sym, ap, ◌∙◌, subst, arith}
+use Rattle.std.proofs.Common.{◌≡◌, ℕ, suc, ◌≤◌, ◌<◌, ◌↔◌, true, false, List, [], ◌∷◌, ◌++◌, reverse, take, drop, length, Option, Some, None, IsSome, unwrap_or, option_to_list, Result, Ok, Err, refl, sym, ap, ◌∙◌, subst, arith, ◌⊎◌}
 use Rattle.std.proofs.lemmas.List.{reverse-append}
 use Rattle.awk_value.specs.declared.value.Value.{Value}
 use Rattle.awk_value.specs.declared.value.Value.TheVariants.{Nothing}
@@ -22,7 +22,7 @@ use Rattle.awk_tree.specs.declared.tree.BinaryOperator.{BinaryOperator}
 use Rattle.awk_control.specs.declared.stack.Entry.TheVariants as code
 use Rattle.awk_control.specs.declared.stack.OperandEntry.TheVariants as o
 use Rattle.awk_control.specs.declared.stack.StatementEntry.TheVariants as s
-use Rattle.awk_control.proofs.KeptValues.{one_more, front_grows}
+use Rattle.awk_control.proofs.KeptValues.{one_more, front_grows, taken_on, left_on}
 use Rattle.awk_control.specs.declared.stack.Stack.{Stack}
 use Rattle.awk_control.specs.declared.stack.Focus.{Focus as CodeFocus}
 use Rattle.awk_control.specs.declared.stack.Focus.TheVariants as focus
@@ -185,14 +185,15 @@ pushed_onward {plan = plan} {f = f} {f' = f'} {new = new} {m = m} {st0 = st0} es
     onward refl (λ k. subst (λ z. Leads (Unit {0}) f st0 m k (focus_of plan f' new.returned) z m k) (sym same) (l k)) (subst (λ z. work (focus_of plan f' new.returned) z < work f st0) (sym same) w) (omega arith) refl
 
 -- an expression more of a print
-pub awaited_printed : {plan : Program} {f : Focus} {rest : ℕ} {e : Operand} {old new : Stack} {m : Interpreter} {st0 : List Entry} (r : Result Move Halt) (vs : List Value) (x : Value) (n n' : ℕ) → n' ≡ suc n → old.values.items ≡ vs ++ x ∷ [] → Awaits (code.Statement (s.Printed rest n')) e old r new
+pub awaited_printed : {plan : Program} {f : Focus} {rest : ℕ} {e : Operand} {old new : Stack} {m : Interpreter} {st0 : List Entry} (r : Result Move Halt) (vs : List Value) (x : Value) (n n' : ℕ) → (n' ≡ suc n) ⊎ ((length old.values.items ≤ n) × (length old.values.items ≤ n')) → old.values.items ≡ vs ++ x ∷ [] → Awaits (code.Statement (s.Printed rest n')) e old r new
     → ((k : WorldState) → Leads (Unit {0}) f st0 m k (BeginExpr (operand_of plan e)) (Printed (reverse (take n (reverse vs)) ++ x ∷ []) (exprs_in (part_of plan rest)) ∷ entries_of plan (reverse old.control.entries) (drop n (reverse vs))) m k)
     → work (BeginExpr (operand_of plan e)) (Printed (reverse (take n (reverse vs)) ++ x ∷ []) (exprs_in (part_of plan rest)) ∷ entries_of plan (reverse old.control.entries) (drop n (reverse vs))) < work f st0 → Steps plan f st0 m r new m
 awaited_printed {plan = plan} {rest = rest} {old = old} {new = new} r vs x n n' count kept a l w = awaited r a (λ p q.
     ap (λ v. entries_of plan (reverse new.control.entries) (reverse v.items)) q
     ∙ ap (λ l. entries_of plan (reverse l) (reverse old.values.items)) p
     ∙ entries_pushed plan old.control.entries (code.Statement (s.Printed rest n')) (reverse old.values.items)
-    ∙ ap (λ i. Printed (reverse (take i (reverse old.values.items))) (exprs_in (part_of plan rest)) ∷ entries_of plan (reverse old.control.entries) (drop i (reverse old.values.items))) count
+    ∙ ap (λ front. Printed (reverse front) (exprs_in (part_of plan rest)) ∷ entries_of plan (reverse old.control.entries) (drop n' (reverse old.values.items))) (taken_on old.values.items n n' count)
+    ∙ ap (λ left. Printed (reverse (take (suc n) (reverse old.values.items))) (exprs_in (part_of plan rest)) ∷ entries_of plan (reverse old.control.entries) left) (left_on old.values.items n n' count)
     ∙ ap (λ l. Printed (reverse (take (suc n) l)) (exprs_in (part_of plan rest)) ∷ entries_of plan (reverse old.control.entries) (drop (suc n) l)) (ap reverse kept ∙ one_more vs x)
     ∙ ap (λ front. Printed front (exprs_in (part_of plan rest)) ∷ entries_of plan (reverse old.control.entries) (drop n (reverse vs))) (front_grows x (take n (reverse vs)))) l w
 

@@ -10,7 +10,7 @@ use crate::prints_in_place::{list, print_list, print_record};
 use awk_control::stack::{Entry, Focus, Move, Passed, Stack, StatementEntry};
 use awk_expressions::expressions::{await_value, take_value};
 use awk_interpreter::Interpreter;
-use awk_meaning::{Fault, Halt};
+use awk_meaning::Halt;
 use awk_plan::node::ListNode;
 use awk_plan::plan::Plan;
 use awk_streams::World;
@@ -61,9 +61,8 @@ pub(crate) fn end_printed<W: World>(
         (Entry.Statement (StatementEntry.Printed rest count)) stack.old) interpreter.old (W.state world.old) result
         stack.new interpreter.new (W.state world.new) }
 {
-    let Some(count) = count.checked_add(1) else {
-        return Err(Halt::Fault(Fault::OutOfMemory));
-    };
+    // (where the sum isn't exact, fewer values are kept than that)
+    let count = count.saturating_add(1);
     let value = take_value(passed, stack);
     stack.values.push(value)?;
     match list(plan, rest) {
