@@ -3,7 +3,8 @@ use Rattle.std.proofs.Common.{◌≡◌, suc, ◌≤◌, ◌<◌, List, [], ◌�
 use Rattle.std.proofs.lemmas.List.{length-reverse}
 use Rattle.awk_value.specs.declared.value.Value.{Value}
 use Rattle.awk_tree.specs.Tree as t
-use Rattle.awk_tree.specs.Height.{max_height, height_of, height_of_simple, height_of_statement}
+use Rattle.awk_grammar.specs.Height.{max_height}
+use Rattle.awk_tree.specs.Height.{height_of, height_of_simple, height_of_statement}
 use Rattle.awk_plan.specs.Plan.{Program}
 use Rattle.awk_control.specs.declared.stack.Entry.{Entry as CodeEntry}
 use Rattle.awk_control.specs.declared.stack.Stack.{Stack}
@@ -60,5 +61,5 @@ all_counted plan stack = counted plan (reverse stack.control.entries) (reverse s
 pub has_room : (plan : Program) (f : Focus) (stack : Stack) → 0 < focus_height f → depth f (stack_of plan stack) ≤ max_height → HasRoom stack.control
 has_room plan f stack high low =
     let n = all_counted plan stack in
-    let first : FIRST_BOUND ≡ 200 = refl in
+    let first : FIRST_BOUND ≡ max_height = refl in
     omega (arith, high, low, n, first)

@@ -6,11 +6,12 @@ ghost use Rattle.awk_control.specs.declared.control.TheConstants.{FIRST_BOUND};
 ghost use Rattle.awk_control.specs.definitions.Control.{Controlled, highest_sum, but_last, bound_of, HasRoom};
 
 use crate::stack::Entry;
+use awk_grammar::height::MAX_HEIGHT;
 use std::alloc::{AllocError, Global};
 use std::marker::Model;
 
 /// The most entries where no body is entered, which is the most levels that a tree has.
-pub const FIRST_BOUND: usize = 200;
+pub const FIRST_BOUND: usize = MAX_HEIGHT as usize;
 
 /// The entries of the parts that have begun and not ended, and the heights of the bodies that were entered and not left, the
 /// newest last. The entries are never more than `bound`.

@@ -2,7 +2,8 @@
 
 ghost use Rattle.std.specs.Prelude.{◌≡◌, ◌≤◌};
 ghost use Rattle.awk_plan.specs.Plan.{operand_of, part_of, statement_in, statements_in, made_statement};
-ghost use Rattle.awk_tree.specs.Height.{max_height, height_of, height_of_block};
+ghost use Rattle.awk_grammar.specs.Height.{max_height};
+ghost use Rattle.awk_tree.specs.Height.{height_of, height_of_block};
 ghost use Rattle.awk_tree.specs.Tree.{Do};
 ghost use Rattle.awk_meaning.specs.Semantics.{run_action};
 ghost use Rattle.awk_interpreter.specs.Simulation.{Follows};

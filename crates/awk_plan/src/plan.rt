@@ -2,7 +2,8 @@
 
 ghost use Rattle.std.specs.Prelude.{◌≡◌, ◌<◌, ◌≤◌, IfSome, IfNone, length, slice_get, Some};
 ghost use Rattle.std.specs.Option.{option_map};
-ghost use Rattle.awk_tree.specs.Height.{height_of_items, max_height};
+ghost use Rattle.awk_grammar.specs.Height.{max_height};
+ghost use Rattle.awk_tree.specs.Height.{height_of_items};
 ghost use Rattle.awk_plan.specs.definitions.Plan.{NoPart, made, part_of, operand_of, literal_of, items_of};
 ghost use Rattle.awk_plan.specs.definitions.Order.{AreBelow, HasEre, IsLiteral};
 
@@ -41,7 +42,8 @@ pub struct Plan {
 
 impl Model for Plan {
     ghost use Rattle.awk_plan.specs.definitions.Plan.{Program, texts_of, items_of};
-    ghost use Rattle.awk_tree.specs.Height.{height_of_items, max_height};
+    ghost use Rattle.awk_grammar.specs.Height.{max_height};
+    ghost use Rattle.awk_tree.specs.Height.{height_of_items};
     ghost use Rattle.std.specs.Prelude.{length, ◌≤◌};
     ghost use Rattle.awk_plan.specs.definitions.Order.{IsOrdered, AreLiterals, HaveEres};
 

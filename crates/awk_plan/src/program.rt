@@ -1,7 +1,8 @@
 // Programs as plans.
 
 ghost use Rattle.std.specs.Prelude.{◌≡◌, ◌≤◌, IfOk};
-ghost use Rattle.awk_tree.specs.Height.{height_of_items, max_height};
+ghost use Rattle.awk_grammar.specs.Height.{max_height};
+ghost use Rattle.awk_tree.specs.Height.{height_of_items};
 ghost use Rattle.awk_tree.specs.View.{pattern_of, item_of, items_of, tree_of};
 ghost use Rattle.awk_plan.specs.definitions.Plan as plan;
 ghost use Rattle.awk_plan.specs.support.Builds.{BuildsPattern, BuildsItem, BuildsItems};

@@ -10,13 +10,13 @@ use Rattle.awk_lex.specs.Lexes.{Lexes}
 use Rattle.awk_lex.specs.Told.{Refuses, kinds_of}
 use Rattle.awk_lex.specs.declared.token.Token.{Token}
 use Rattle.awk_grammar.specs.Tree.{Item as GrammarItem}
-use Rattle.awk_grammar.specs.Height.{max_height as grammar_max}
+use Rattle.awk_grammar.specs.Height.{max_height}
 use Rattle.awk_grammar.specs.Spelling.{IsProgram}
 use Rattle.awk_grammar.specs.View.{tree_of as grammar_tree_of}
 use Rattle.awk_grammar.specs.declared.tree.Tree.{Tree as GrammarTree}
 use Rattle.awk_syntax.specs.Outcome.{Reads, IsProgramWithinHeight, RefusesPattern, Justifies}
 use Rattle.awk_syntax.specs.Patterns.{AreReadable}
-use Rattle.awk_tree.specs.Height.{max_height, height_of_items}
+use Rattle.awk_tree.specs.Height.{height_of_items}
 use Rattle.awk_tree.specs.Tree.{Item}
 use Rattle.awk_tree.specs.View.{tree_of}
 use Rattle.awk_tree.specs.declared.tree.Tree.{Tree}
@@ -173,6 +173,6 @@ pub parsing_refused : (refusal : Refusal) (text : List ℕ) (tokens : List Token
 parsing_refused refusal text tokens short lexes why = justified refusal.code refusal.line text tokens (short, lexes) why
 
 -- what is run is no higher than may be
-pub low_resolved : (r : Result Tree Refusal) (n : ℕ) → n ≤ grammar_max → IfOk r (λ tree. height_of_items (tree_of tree) ≡ n) → IfOk r (λ tree. height_of_items (tree_of tree) ≤ max_height)
+pub low_resolved : (r : Result Tree Refusal) (n : ℕ) → n ≤ max_height → IfOk r (λ tree. height_of_items (tree_of tree) ≡ n) → IfOk r (λ tree. height_of_items (tree_of tree) ≤ max_height)
 low_resolved (Ok tree) n low is = omega (arith, low, is)
 low_resolved (Err refusal) n low is = tt

@@ -2,7 +2,8 @@
 
 ghost use Rattle.awk_streams.specs.Streams.{AreOpen, IsSoundMain};
 ghost use Rattle.std.specs.Prelude.{◌≡◌, ◌≤◌};
-ghost use Rattle.awk_tree.specs.Height.{max_height, height_of, height_of_pattern, height_of_item};
+ghost use Rattle.awk_grammar.specs.Height.{max_height};
+ghost use Rattle.awk_tree.specs.Height.{height_of, height_of_pattern, height_of_item};
 ghost use Rattle.awk_tree.specs.Tree.{PatternOnly};
 ghost use Rattle.awk_plan.specs.Plan.{operand_of, items_of};
 ghost use Rattle.awk_run.specs.support.Planned.{pattern_of, item_of};

@@ -2,7 +2,8 @@
 
 ghost use Rattle.std.specs.Prelude.{◌≡◌, ◌≤◌, ◌⊎◌, List, ℕ, map, IfOk, IfErr, OnErr};
 ghost use Rattle.awk_lex.specs.Refused.{IsOutOfMemory};
-ghost use Rattle.awk_tree.specs.Height.{max_height, height_of_items};
+ghost use Rattle.awk_grammar.specs.Height.{max_height};
+ghost use Rattle.awk_tree.specs.Height.{height_of_items};
 ghost use Rattle.awk_tree.specs.Tree.{Item as ItemTree};
 ghost use Rattle.awk_tree.specs.View.{tree_of};
 ghost use Rattle.awk_plan.specs.Plan.{items_of};

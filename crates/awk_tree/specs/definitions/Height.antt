@@ -4,10 +4,6 @@
 use Rattle.std.specs.Prelude.{ℕ, ◌+◌, max, List, [], ◌∷◌}
 use Rattle.awk_tree.specs.definitions.Tree.{Expr, Number, String, Ere, Name, Group, Field, Unary, Binary, And, Or, Conditional, Assign, AssignBy, PreIncrement, PostIncrement, Exprs, Nil, Cons, OptionalExpr, NoExpr, AnExpr, SimpleStatement, Expression, Print, Next, Break, Continue, Exit, OptionalSimple, NoSimple, ASimple, Statement, Empty, Simple, Block, If, IfElse, While, Do, For, Statements, NoMore, Then, Pattern, Single, Range, Item, Begin, End, Action, PatternAction, PatternOnly}
 
--- nothing that is run is higher
-abbrev pub max_height : ℕ
-max_height = 200
-
 abbrev pub height_of : Expr → ℕ
 height_of (Number n) = 1
 height_of (String bytes) = 1

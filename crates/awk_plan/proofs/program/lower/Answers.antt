@@ -1,6 +1,7 @@
 use Rattle.std.proofs.Common.{◌≤◌, List, sym, subst, ap, ◌∙◌, rules}
 use Rattle.awk_tree.specs.Tree.{Item}
-use Rattle.awk_tree.specs.Height.{height_of_items, max_height}
+use Rattle.awk_grammar.specs.Height.{max_height}
+use Rattle.awk_tree.specs.Height.{height_of_items}
 use Rattle.awk_tree.specs.View.{items_of}
 use Rattle.awk_plan.proofs.Growing.{grows_refl}
 use Rattle.awk_plan.proofs.program.lower.Goals as goal

@@ -1,6 +1,6 @@
 use Rattle.std.proofs.Common.{arith}
 use Rattle.std.proofs.lemmas.Result.{err_from_is_err_and}
-use Rattle.awk_tree.specs.Height.{max_height}
+use Rattle.awk_grammar.specs.Height.{max_height}
 use Rattle.awk_run.proofs.ItemLemmas.{begins_end, begins_halt, begins_step, planned_at, items_over, low_at}
 use Rattle.awk_run.proofs.items.begin_items.Goals as goal
 

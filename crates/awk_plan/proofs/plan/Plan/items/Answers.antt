@@ -1,5 +1,6 @@
 use Rattle.std.proofs.Common.{◌≤◌, subst, rules}
-use Rattle.awk_tree.specs.Height.{height_of_items, max_height}
+use Rattle.awk_grammar.specs.Height.{max_height}
+use Rattle.awk_tree.specs.Height.{height_of_items}
 use Rattle.awk_plan.specs.definitions.Plan.{Program, items_of}
 use Rattle.awk_plan.proofs.plan.Plan.items.Goals as goal
 
