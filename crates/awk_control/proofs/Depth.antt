@@ -6,11 +6,12 @@ use Rattle.awk_tree.specs.Tree as t
 use Rattle.awk_grammar.specs.Height.{max_height}
 use Rattle.awk_tree.specs.Height.{height_of, height_of_simple, height_of_statement}
 use Rattle.awk_plan.specs.Plan.{Program}
-use Rattle.awk_control.specs.declared.stack.Entry.{Entry as CodeEntry}
+use Rattle.awk_control.specs.declared.entry.Entry.{Entry as CodeEntry}
 use Rattle.awk_control.specs.declared.stack.Stack.{Stack}
 use Rattle.awk_control.specs.declared.control.TheConstants.{FIRST_BOUND}
 use Rattle.awk_control.specs.definitions.Control.{HasRoom}
 use Rattle.awk_control.specs.support.Stack.{Focus, focus_height, depth}
+use Rattle.awk_control.specs.support.Entries.{awaited_at}
 use Rattle.awk_control.specs.support.Moves.{kept_for, entries_of, stack_of}
 
 -- each part has a height
@@ -52,7 +53,7 @@ statement_high (t.For first c last s) = omega arith
 -- the stack has an entry for each of the code's
 counted : (plan : Program) (es : List CodeEntry) (vs : List Value) → length (entries_of plan es vs) ≡ length es
 counted plan [] vs = refl
-counted plan (e ∷ es) vs = ap suc (counted plan es (drop (kept_for e) vs))
+counted plan (e ∷ es) vs = ap suc (counted plan es (drop (kept_for (awaited_at plan e)) vs))
 
 all_counted : (plan : Program) (stack : Stack) → length (stack_of plan stack) ≡ length stack.control.entries
 all_counted plan stack = counted plan (reverse stack.control.entries) (reverse stack.values.items) ∙ length-reverse stack.control.entries

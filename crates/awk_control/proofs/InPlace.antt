@@ -21,7 +21,7 @@ use Rattle.awk_control.specs.declared.stack.Move.TheVariants as move
 use Rattle.awk_control.specs.declared.stack.Stack.{Stack}
 use Rattle.awk_control.specs.support.Stack.{Loop, Entry, FieldNumber, LeftOperand, RightOperand, LastPart, LoopCondition, LoopTurn, Focus, value_in, BeginStatement, Ended, run_of, Rest, Leads, work, BeginExpr}
 use Rattle.awk_control.specs.support.Moves.{Tests, Steps}
-use Rattle.awk_control.proofs.Laws.{then_rest, memory_rest}
+use Rattle.awk_control.proofs.Laws.{then_rest, halted_rest, memory_rest}
 use Rattle.awk_control.proofs.Moves.{leaf_leads, leaf_halts}
 use Rattle.awk_control.proofs.ExprMoves.{binary_begins, right_begins, field_begins}
 use Rattle.awk_tree.specs.declared.tree.BinaryOperator.{BinaryOperator}
@@ -58,6 +58,10 @@ ends_at_once l c g is p = leads_on (condition_found l c g is p) (loop_ends l (fl
 pub evaluated_at_once : {is_logged : Type 0} (e : t.Expr) {st : List Entry} {m m1 m2 : Interpreter} {k : WorldState} → Spends m m1 (Ok tt) → Evaluates e m1 m2 → Leads is_logged (BeginStatement (t.Simple (t.Expression e))) st m k (Ended flow.Normal) st m2 k
 unfolding run_of exec exec_simple
 evaluated_at_once e p q = record { leads = λ new after r d. then_rest (λ _. eval e >>= λ v. ret flow.Normal) (change_simulates p.simulates) (then_rest (λ v. ret flow.Normal) (change_simulates q.changes) d); deep = omega arith }
+
+pub evaluated_stops : {is_logged : Type 0} (e : t.Expr) {h : Halt} {st : List Entry} {m m1 m2 : Interpreter} {k : WorldState} → Spends m m1 (Ok tt) → Changes (eval e) m1 m2 (Err h) → Rest is_logged (BeginStatement (t.Simple (t.Expression e))) st m k m2 k (Err h)
+unfolding run_of exec exec_simple
+evaluated_stops e p q = then_rest (λ _. eval e >>= λ v. ret flow.Normal) (change_simulates p.simulates) (halted_rest (λ v. ret flow.Normal) (change_simulates q))
 
 -- a move that goes on behind what was done at once
 pub steps_behind : {plan : Program} {f g : Focus} {st st1 : List Entry} {new : Stack} {m m1 m' : Interpreter} (e : Entry) (r : Result Move Halt) → ((k : WorldState) → Leads (Unit {0}) f st m k g (e ∷ st1) m1 k) → m1.steps ≤ m.steps → m1.streams ≡ m.streams → work g (e ∷ st1) ≤ work f st → Steps plan g (e ∷ st1) m1 r new m' → Steps plan f st m r new m'

@@ -1,7 +1,7 @@
 -- The values that are kept for a print, as the newest of a list.
-use Rattle.std.proofs.Common.{◌≡◌, ℕ, zero, suc, ◌+◌, ◌-◌, ◌≤◌, min, ◌⊎◌, inl, inr, List, [], ◌∷◌, ◌++◌, reverse, take, drop, length, refl, sym, ap, ◌∙◌, arith}
+use Rattle.std.proofs.Common.{◌≡◌, ℕ, suc, ◌-◌, List, [], ◌∷◌, ◌++◌, reverse, take, drop, length, sym, ap, ◌∙◌}
 use Rattle.std.proofs.Math.Seq.{drop-append_seam, take-append_seam}
-use Rattle.std.proofs.lemmas.List.{reverse-append, reverse-reverse, take-append-drop, length-reverse, length-drop, take_all, drop_all}
+use Rattle.std.proofs.lemmas.List.{reverse-append, reverse-reverse, take-append-drop, length-reverse, length-drop}
 use Rattle.awk_value.specs.declared.value.Value.{Value}
 
 -- a list as the older values and the newest n
@@ -44,23 +44,3 @@ rest_kept vs v n i is =
     ap (λ j. reverse (take j (vs ++ v ∷ []))) is
     ∙ older_of (vs ++ v ∷ []) (suc n)
     ∙ ap (drop (suc n)) (one_more vs v)
-
--- a count that is the next one, or at least that of all
-
-pub taken_on : (vs : List Value) (n n' : ℕ) → (n' ≡ suc n) ⊎ ((length vs ≤ n) × (length vs ≤ n')) → take n' (reverse vs) ≡ take (suc n) (reverse vs)
-taken_on vs n n' (inl is) = ap (λ i. take i (reverse vs)) is
-taken_on vs n n' (inr all) =
-    take_all n' (reverse vs) (omega (arith, all.1, length-reverse vs))
-    ∙ sym (take_all (suc n) (reverse vs) (omega (arith, all.0, length-reverse vs)))
-
-pub left_on : (vs : List Value) (n n' : ℕ) → (n' ≡ suc n) ⊎ ((length vs ≤ n) × (length vs ≤ n')) → drop n' (reverse vs) ≡ drop (suc n) (reverse vs)
-left_on vs n n' (inl is) = ap (λ i. drop i (reverse vs)) is
-left_on vs n n' (inr all) =
-    drop_all n' (reverse vs) (omega (arith, all.1, length-reverse vs))
-    ∙ sym (drop_all (suc n) (reverse vs) (omega (arith, all.0, length-reverse vs)))
-
--- the next count, where that may be the greatest number and as many are never kept
-pub next_or_all : (n n' most count : ℕ) → n' ≡ min (n + 1) most → count ≤ most → (n' ≡ suc n) ⊎ ((count ≤ n) × (count ≤ n'))
-next_or_all n n' zero count is low = inr (omega (arith, low), omega (arith, low))
-next_or_all zero n' (suc most) count is low = inl (omega (arith, is))
-next_or_all (suc n) n' (suc most) count is low = elim (next_or_all n (min (n + 1) most) most (count - 1) refl (omega (arith, low))) [ inl e ↦ inl (omega (arith, is, e)) | inr e ↦ inr (omega (arith, e.0), omega (arith, is, e.1)) ]

@@ -1,18 +1,20 @@
 -- The moves of statements that are no loops.
-use Rattle.std.proofs.Common.{◌≡◌, ◌≢◌, Bool, true, false, List, ◌∷◌, Ok, Err, refl, sym, ap, ◌∙◌, arith}
+use Rattle.std.proofs.Common.{◌≡◌, ◌≢◌, ℕ, Bool, true, false, List, ◌∷◌, Ok, Err, refl, sym, ap, ◌∙◌, arith}
+use Rattle.awk_value.specs.declared.value.Value.{Value}
 use Rattle.awk_value.specs.Values.{truth_of}
 use Rattle.awk_streams.specs.WorldState.{WorldState}
 use Rattle.awk_tree.specs.Tree as t
+use Rattle.awk_tree.specs.declared.tree.BinaryOperator.{BinaryOperator}
 use Rattle.awk_meaning.specs.declared.flow.Flow.{Flow}
 use Rattle.awk_meaning.specs.declared.flow.Flow.TheVariants as flow
 use Rattle.awk_meaning.specs.declared.halt.Halt.{Halt}
 use Rattle.awk_meaning.specs.declared.halt.Halt.TheVariants as halt
 use Rattle.awk_meaning.specs.State.{Run, State, ◌>>=◌, lift, ret}
 use Rattle.awk_meaning.specs.Primitives.{spend, set_status}
-use Rattle.awk_meaning.specs.Semantics.{tested, choose, eval, begin_test, exit_with, exec_simple, pass_on, exec, exec_all}
+use Rattle.awk_meaning.specs.Semantics.{tested, choose, eval, begin_test, exit_with, exec_simple, pass_on, store, store_by, exec, exec_all}
 use Rattle.awk_interpreter.specs.declared.interpreter.Interpreter.{Interpreter}
 use Rattle.awk_interpreter.specs.Simulation.{Changes, Spends}
-use Rattle.awk_control.specs.support.Stack.{value_in, valued, step, Entry, Evaluated, ExitStatus, Followed, IfCondition, IfElseCondition, BeginExpr, BeginStatement, BeginBlock, Ended, run_of, Rest, Leads}
+use Rattle.awk_control.specs.support.Stack.{value_in, valued, step, Entry, Stored, StoredBy, Evaluated, ExitStatus, Followed, IfCondition, IfElseCondition, BeginExpr, BeginStatement, BeginBlock, Ended, run_of, Rest, Leads}
 use Rattle.awk_interpreter.proofs.Composition.{assoc_at, ends_simulates, lift_simulates, change_simulates}
 use Rattle.awk_control.proofs.Laws.{then_rest, pop_rest}
 use Rattle.awk_control.proofs.Moves.{awaited_at, tested_at, stops, passes_on, begins_as, begins_with, unspent, spent, spent_awaits}
@@ -105,6 +107,32 @@ expression_stops e p = unspent (BeginStatement (t.Simple (t.Expression e))) (λ 
 pub expression_begins : {is_logged : Type 0} (e : t.Expr) {st : List Entry} {m m' : Interpreter} {k : WorldState} → Spends m m' (Ok tt) → Leads is_logged (BeginStatement (t.Simple (t.Expression e))) st m k (BeginExpr e) (Evaluated ∷ st) m' k
 unfolding run_of exec exec_simple step
 expression_begins e p = spent_awaits (BeginStatement (t.Simple (t.Expression e))) (BeginExpr e) Evaluated (λ _. eval e >>= λ v. ret flow.Normal) (λ s. refl) (λ s _. sym (awaited_at (eval e) (λ g. ret flow.Normal) s)) (omega arith) p
+
+-- an assignment that is a statement
+
+pub stored_begins : {is_logged : Type 0} (x : List ℕ) (e : t.Expr) {st : List Entry} {m m' : Interpreter} {k : WorldState} → Spends m m' (Ok tt) → Leads is_logged (BeginStatement (t.Simple (t.Expression (t.Assign x e)))) st m k (BeginExpr e) (Stored x ∷ st) m' k
+unfolding run_of exec exec_simple eval step
+stored_begins x e p = spent_awaits (BeginStatement (t.Simple (t.Expression (t.Assign x e)))) (BeginExpr e) (Stored x) (λ _. eval (t.Assign x e) >>= λ v. ret flow.Normal) (λ s. refl) (λ s _. assoc_at (eval e) (store x) (λ v. ret flow.Normal) s ∙ sym (awaited_at (eval e) (λ g. store x (value_in g) >>= λ v. ret flow.Normal) s)) (omega arith) p
+
+pub stored_by_begins : {is_logged : Type 0} (o : BinaryOperator) (x : List ℕ) (e : t.Expr) {st : List Entry} {m m' : Interpreter} {k : WorldState} → Spends m m' (Ok tt) → Leads is_logged (BeginStatement (t.Simple (t.Expression (t.AssignBy o x e)))) st m k (BeginExpr e) (StoredBy o x ∷ st) m' k
+unfolding run_of exec exec_simple eval step
+stored_by_begins o x e p = spent_awaits (BeginStatement (t.Simple (t.Expression (t.AssignBy o x e)))) (BeginExpr e) (StoredBy o x) (λ _. eval (t.AssignBy o x e) >>= λ v. ret flow.Normal) (λ s. refl) (λ s _. assoc_at (eval e) (store_by o x) (λ v. ret flow.Normal) s ∙ sym (awaited_at (eval e) (λ g. store_by o x (value_in g) >>= λ v. ret flow.Normal) s)) (omega arith) p
+
+pub stored_ends : {is_logged : Type 0} (x : List ℕ) (g : Flow) {v : Value} {st : List Entry} {m m' : Interpreter} {k : WorldState} → Changes (store x (value_in g)) m m' (Ok v) → Leads is_logged (Ended g) (Stored x ∷ st) m k (Ended flow.Normal) st m' k
+unfolding run_of step
+stored_ends x g p = record { leads = λ new after r d. pop_rest g (Stored x) (λ n low. then_rest (λ v. ret flow.Normal) (change_simulates p) d); deep = omega arith }
+
+pub stored_by_ends : {is_logged : Type 0} (o : BinaryOperator) (x : List ℕ) (g : Flow) {v : Value} {st : List Entry} {m m' : Interpreter} {k : WorldState} → Changes (store_by o x (value_in g)) m m' (Ok v) → Leads is_logged (Ended g) (StoredBy o x ∷ st) m k (Ended flow.Normal) st m' k
+unfolding run_of step
+stored_by_ends o x g p = record { leads = λ new after r d. pop_rest g (StoredBy o x) (λ n low. then_rest (λ v. ret flow.Normal) (change_simulates p) d); deep = omega arith }
+
+pub stored_stops : {is_logged : Type 0} (x : List ℕ) (g : Flow) {h : Halt} {st : List Entry} {m m' : Interpreter} {k : WorldState} → Changes (store x (value_in g)) m m' (Err h) → Rest is_logged (Ended g) (Stored x ∷ st) m k m' k (Err h)
+unfolding step
+stored_stops x g p = stops g (Stored x) (store x (value_in g)) _ (λ n. refl) (change_simulates p)
+
+pub stored_by_stops : {is_logged : Type 0} (o : BinaryOperator) (x : List ℕ) (g : Flow) {h : Halt} {st : List Entry} {m m' : Interpreter} {k : WorldState} → Changes (store_by o x (value_in g)) m m' (Err h) → Rest is_logged (Ended g) (StoredBy o x ∷ st) m k m' k (Err h)
+unfolding step
+stored_by_stops o x g p = stops g (StoredBy o x) (store_by o x (value_in g)) _ (λ n. refl) (change_simulates p)
 
 pub evaluated_ends : {is_logged : Type 0} (g : Flow) {st : List Entry} {m : Interpreter} {k : WorldState} → Leads is_logged (Ended g) (Evaluated ∷ st) m k (Ended flow.Normal) st m k
 unfolding run_of step

@@ -1,5 +1,5 @@
 -- The stack of the code, and what its moves are made of.
-use Rattle.std.proofs.Common.{◌≡◌, ℕ, suc, ◌≤◌, ◌<◌, ◌↔◌, true, false, List, [], ◌∷◌, ◌++◌, reverse, take, drop, length, Option, Some, None, IsSome, unwrap_or, option_to_list, Result, Ok, Err, refl, sym, ap, ◌∙◌, subst, arith, ◌⊎◌}
+use Rattle.std.proofs.Common.{◌≡◌, ℕ, suc, ◌≤◌, ◌<◌, ◌↔◌, true, false, List, [], ◌∷◌, ◌++◌, reverse, take, drop, length, Option, Some, None, IsSome, unwrap_or, option_to_list, Result, Ok, Err, refl, sym, ap, ◌∙◌, subst, arith}
 use Rattle.std.proofs.lemmas.List.{reverse-append}
 use Rattle.awk_value.specs.declared.value.Value.{Value}
 use Rattle.awk_value.specs.declared.value.Value.TheVariants.{Nothing}
@@ -17,12 +17,14 @@ use Rattle.awk_interpreter.specs.declared.interpreter.Interpreter.{Interpreter}
 use Rattle.awk_meaning.specs.Primitives.{spend}
 use Rattle.awk_interpreter.specs.Simulation.{Spends}
 use Rattle.awk_interpreter.proofs.Composition.{memory_changes}
-use Rattle.awk_control.specs.declared.stack.Entry.{Entry as CodeEntry}
+use Rattle.awk_control.specs.declared.entry.Entry.{Entry as CodeEntry}
 use Rattle.awk_tree.specs.declared.tree.BinaryOperator.{BinaryOperator}
-use Rattle.awk_control.specs.declared.stack.Entry.TheVariants as code
-use Rattle.awk_control.specs.declared.stack.OperandEntry.TheVariants as o
-use Rattle.awk_control.specs.declared.stack.StatementEntry.TheVariants as s
-use Rattle.awk_control.proofs.KeptValues.{one_more, front_grows, taken_on, left_on}
+use Rattle.awk_control.specs.declared.entry.Awaited.{Awaited}
+use Rattle.awk_control.specs.declared.entry.Awaited.TheVariants as code
+use Rattle.awk_control.specs.support.Entries.{awaited_at}
+use Rattle.awk_control.specs.declared.entry.OperandEntry.TheVariants as o
+use Rattle.awk_control.specs.declared.entry.StatementEntry.TheVariants as s
+use Rattle.awk_control.proofs.KeptValues.{one_more, front_grows}
 use Rattle.awk_control.specs.declared.stack.Stack.{Stack}
 use Rattle.awk_control.specs.declared.stack.Focus.{Focus as CodeFocus}
 use Rattle.awk_control.specs.declared.stack.Focus.TheVariants as focus
@@ -34,23 +36,25 @@ use Rattle.awk_control.proofs.Laws.{memory_rest}
 
 -- entries are put on top
 
-pub entries_pushed : (plan : Program) (es : List CodeEntry) (e : CodeEntry) (vs : List Value) → entries_of plan (reverse (es ++ e ∷ [])) vs ≡ entry_of plan e vs ∷ entries_of plan (reverse es) (drop (kept_for e) vs)
-entries_pushed plan es e vs = ap (λ l. entries_of plan l vs) (reverse-append es (e ∷ []))
+pub entries_pushed : (plan : Program) (es : List CodeEntry) (e : CodeEntry) (a : Awaited) (vs : List Value) → awaited_at plan e ≡ a → entries_of plan (reverse (es ++ e ∷ [])) vs ≡ entry_of plan a vs ∷ entries_of plan (reverse es) (drop (kept_for a) vs)
+entries_pushed plan es e a vs is =
+    ap (λ l. entries_of plan l vs) (reverse-append es (e ∷ []))
+    ∙ ap (λ x. entry_of plan x vs ∷ entries_of plan (reverse es) (drop (kept_for x) vs)) is
 
 -- an entry for which no value is kept
-pub stack_pushed : (plan : Program) (old new : Stack) (e : CodeEntry) → new.control.entries ≡ old.control.entries ++ e ∷ [] → new.values ≡ old.values → kept_for e ≡ 0 → stack_of plan new ≡ entry_of plan e (reverse old.values.items) ∷ stack_of plan old
-stack_pushed plan old new e entries values none =
+pub stack_pushed : (plan : Program) (old new : Stack) (e : CodeEntry) (a : Awaited) → new.control.entries ≡ old.control.entries ++ e ∷ [] → new.values ≡ old.values → awaited_at plan e ≡ a → kept_for a ≡ 0 → stack_of plan new ≡ entry_of plan a (reverse old.values.items) ∷ stack_of plan old
+stack_pushed plan old new e a entries values is none =
     ap (λ v. entries_of plan (reverse new.control.entries) (reverse v.items)) values
     ∙ ap (λ l. entries_of plan (reverse l) (reverse old.values.items)) entries
-    ∙ entries_pushed plan old.control.entries e (reverse old.values.items)
-    ∙ ap (λ n. entry_of plan e (reverse old.values.items) ∷ entries_of plan (reverse old.control.entries) (drop n (reverse old.values.items))) none
+    ∙ entries_pushed plan old.control.entries e a (reverse old.values.items) is
+    ∙ ap (λ n. entry_of plan a (reverse old.values.items) ∷ entries_of plan (reverse old.control.entries) (drop n (reverse old.values.items))) none
 
 -- an entry that is taken off
-pub stack_popped : (plan : Program) (old new : Stack) (e : CodeEntry) → old.control.entries ≡ new.control.entries ++ e ∷ [] → new.values ≡ old.values → stack_of plan old ≡ topped plan e new
-stack_popped plan old new e entries values =
+pub stack_popped : (plan : Program) (old new : Stack) (e : CodeEntry) (a : Awaited) → old.control.entries ≡ new.control.entries ++ e ∷ [] → new.values ≡ old.values → awaited_at plan e ≡ a → stack_of plan old ≡ topped plan a new
+stack_popped plan old new e a entries values is =
     ap (λ l. entries_of plan (reverse l) (reverse old.values.items)) entries
-    ∙ entries_pushed plan new.control.entries e (reverse old.values.items)
-    ∙ ap (λ v. entry_of plan e (reverse v.items) ∷ entries_of plan (reverse new.control.entries) (drop (kept_for e) (reverse v.items))) (sym values)
+    ∙ entries_pushed plan new.control.entries e a (reverse old.values.items) is
+    ∙ ap (λ v. entry_of plan a (reverse v.items) ∷ entries_of plan (reverse new.control.entries) (drop (kept_for a) (reverse v.items))) (sym values)
 
 -- moves without a world
 
@@ -135,19 +139,19 @@ awaited {plan = plan} {f = f} {e = e} {old = old} {new = new} {m = m} {st0 = st0
 awaited {plan = plan} {f = f} {old = old} {new = new} {m = m} {st0 = st0} (Err h) a is l w = subst (λ y. Steps plan f st0 m (Err y) new m) (sym a.awaits) wants_memory
 
 -- an entry for which no value is kept
-pub awaited_plain : {plan : Program} {f : Focus} {entry : CodeEntry} {e : Operand} {old new : Stack} {m : Interpreter} {st0 : List Entry} (r : Result Move Halt) → kept_for entry ≡ 0 → Awaits entry e old r new → ((k : WorldState) → Leads (Unit {0}) f st0 m k (BeginExpr (operand_of plan e)) (entry_of plan entry (reverse old.values.items) ∷ stack_of plan old) m k) → work (BeginExpr (operand_of plan e)) (entry_of plan entry (reverse old.values.items) ∷ stack_of plan old) < work f st0 → Steps plan f st0 m r new m
-awaited_plain {plan = plan} {entry = entry} {old = old} {new = new} r none a l w = awaited r a (λ p q. stack_pushed plan old new entry p q none) l w
+pub awaited_plain : {plan : Program} {f : Focus} {entry : CodeEntry} {a : Awaited} {e : Operand} {old new : Stack} {m : Interpreter} {st0 : List Entry} (r : Result Move Halt) → awaited_at plan entry ≡ a → kept_for a ≡ 0 → Awaits entry e old r new → ((k : WorldState) → Leads (Unit {0}) f st0 m k (BeginExpr (operand_of plan e)) (entry_of plan a (reverse old.values.items) ∷ stack_of plan old) m k) → work (BeginExpr (operand_of plan e)) (entry_of plan a (reverse old.values.items) ∷ stack_of plan old) < work f st0 → Steps plan f st0 m r new m
+awaited_plain {plan = plan} {entry = entry} {a = a} {old = old} {new = new} r is none h l w = awaited r h (λ p q. stack_pushed plan old new entry a p q is none) l w
 
 -- an entry for which one value is kept
-pub value_pushed : (plan : Program) (old new : Stack) (op : BinaryOperator) (vs : List Value) (x : Value) → old.values.items ≡ vs ++ x ∷ [] → new.control.entries ≡ old.control.entries ++ code.Expr (o.Right op) ∷ [] → new.values ≡ old.values → stack_of plan new ≡ RightOperand op x ∷ entries_of plan (reverse old.control.entries) (reverse vs)
-value_pushed plan old new op vs x kept entries values =
+pub value_pushed : (plan : Program) (old new : Stack) (e : CodeEntry) (op : BinaryOperator) (vs : List Value) (x : Value) → awaited_at plan e ≡ code.Expr (o.Right op) → old.values.items ≡ vs ++ x ∷ [] → new.control.entries ≡ old.control.entries ++ e ∷ [] → new.values ≡ old.values → stack_of plan new ≡ RightOperand op x ∷ entries_of plan (reverse old.control.entries) (reverse vs)
+value_pushed plan old new e op vs x is kept entries values =
     ap (λ v. entries_of plan (reverse new.control.entries) (reverse v.items)) values
     ∙ ap (λ l. entries_of plan (reverse l) (reverse old.values.items)) entries
-    ∙ entries_pushed plan old.control.entries (code.Expr (o.Right op)) (reverse old.values.items)
+    ∙ entries_pushed plan old.control.entries e (code.Expr (o.Right op)) (reverse old.values.items) is
     ∙ ap (λ l. entry_of plan (code.Expr (o.Right op)) l ∷ entries_of plan (reverse old.control.entries) (drop 1 l)) (ap reverse kept ∙ reverse-append vs (x ∷ []))
 
-pub awaited_kept : {plan : Program} {f : Focus} {op : BinaryOperator} {e : Operand} {old new : Stack} {m : Interpreter} {st0 : List Entry} (r : Result Move Halt) (vs : List Value) (x : Value) → old.values.items ≡ vs ++ x ∷ [] → Awaits (code.Expr (o.Right op)) e old r new → ((k : WorldState) → Leads (Unit {0}) f st0 m k (BeginExpr (operand_of plan e)) (RightOperand op x ∷ entries_of plan (reverse old.control.entries) (reverse vs)) m k) → work (BeginExpr (operand_of plan e)) (RightOperand op x ∷ entries_of plan (reverse old.control.entries) (reverse vs)) < work f st0 → Steps plan f st0 m r new m
-awaited_kept {plan = plan} {op = op} {old = old} {new = new} r vs x kept a l w = awaited r a (λ p q. value_pushed plan old new op vs x kept p q) l w
+pub awaited_kept : {plan : Program} {f : Focus} {entry : CodeEntry} {op : BinaryOperator} {e : Operand} {old new : Stack} {m : Interpreter} {st0 : List Entry} (r : Result Move Halt) (vs : List Value) (x : Value) → awaited_at plan entry ≡ code.Expr (o.Right op) → old.values.items ≡ vs ++ x ∷ [] → Awaits entry e old r new → ((k : WorldState) → Leads (Unit {0}) f st0 m k (BeginExpr (operand_of plan e)) (RightOperand op x ∷ entries_of plan (reverse old.control.entries) (reverse vs)) m k) → work (BeginExpr (operand_of plan e)) (RightOperand op x ∷ entries_of plan (reverse old.control.entries) (reverse vs)) < work f st0 → Steps plan f st0 m r new m
+awaited_kept {plan = plan} {entry = entry} {op = op} {old = old} {new = new} r vs x is kept a l w = awaited r a (λ p q. value_pushed plan old new entry op vs x is kept p q) l w
 
 -- the newest value is taken off
 pub kept_popped : (vs ws : List Value) (r : Option Value) (n : ℕ) → n ≡ length vs → vs ≡ ws ++ option_to_list r → (IsSome r ↔ (0 < n)) → (newest (reverse vs) ≡ unwrap_or r Nothing) × (drop 1 (reverse vs) ≡ reverse ws)
@@ -161,53 +165,45 @@ kept_popped (v ∷ vs) ws None n len is some = let bad : false ≡ true = some.1
 pub unspent_memory : {m : Interpreter} → Spends m m (Err (halt.Fault OutOfMemory))
 unspent_memory = record { simulates = memory_changes spend refl (omega arith); falls = tt }
 
-pub spent_for : {plan : Program} {f : Focus} {f' : CodeFocus} {entry : CodeEntry} {old new : Stack} {m m' : Interpreter} {st0 : List Entry} (r : Result Move Halt) → SpendsFor entry f' old m r new m' → kept_for entry ≡ 0
-    → (Spends m m' (Ok tt) → (k : WorldState) → Leads (Unit {0}) f st0 m k (focus_of plan f' new.returned) (entry_of plan entry (reverse old.values.items) ∷ stack_of plan old) m' k)
+pub spent_for : {plan : Program} {f : Focus} {f' : CodeFocus} {entry : CodeEntry} {a : Awaited} {old new : Stack} {m m' : Interpreter} {st0 : List Entry} (r : Result Move Halt) → SpendsFor entry f' old m r new m' → awaited_at plan entry ≡ a → kept_for a ≡ 0
+    → (Spends m m' (Ok tt) → (k : WorldState) → Leads (Unit {0}) f st0 m k (focus_of plan f' new.returned) (entry_of plan a (reverse old.values.items) ∷ stack_of plan old) m' k)
     → ((h : Halt) → Spends m m' (Err h) → (k : WorldState) → Rest (Unit {0}) f st0 m k m' k (Err h)) → Steps plan f st0 m r new m'
-spent_for {plan = plan} {f = f} {f' = f'} {entry = entry} {old = old} {new = new} {m = m} {m' = m'} {st0 = st0} (Ok x) s none l w =
-    let same = stack_pushed plan old new entry s.spends.1 s.spends.2 none in
+spent_for {plan = plan} {f = f} {f' = f'} {entry = entry} {a = a} {old = old} {new = new} {m = m} {m' = m'} {st0 = st0} (Ok x) s is none l w =
+    let same = stack_pushed plan old new entry a s.spends.1 s.spends.2 is none in
     let p = s.spends.3 in
     subst (λ y. Steps plan f st0 m (Ok y) new m') (sym s.spends.0) (paid refl (λ k. subst (λ z. Leads (Unit {0}) f st0 m k (focus_of plan f' new.returned) z m' k) (sym same) (l p k)) p.falls p.simulates.streams)
-spent_for (Err h) s none l w = halts (w h s.spends) s.spends.simulates.steps s.spends.simulates.streams
+spent_for (Err h) s is none l w = halts (w h s.spends) s.spends.simulates.steps s.spends.simulates.streams
 
 -- an entry is put on the stack
-one_pushed : (plan : Program) (new : Stack) (es : List CodeEntry) (vs : List Value) (entry : CodeEntry) → new.control.entries ≡ es ++ entry ∷ [] → new.values.items ≡ vs → kept_for entry ≡ 0 → stack_of plan new ≡ entry_of plan entry (reverse vs) ∷ entries_of plan (reverse es) (reverse vs)
-one_pushed plan new es vs entry entries values none =
+one_pushed : (plan : Program) (new : Stack) (es : List CodeEntry) (vs : List Value) (entry : CodeEntry) {a : Awaited} → new.control.entries ≡ es ++ entry ∷ [] → new.values.items ≡ vs → awaited_at plan entry ≡ a → kept_for a ≡ 0 → stack_of plan new ≡ entry_of plan a (reverse vs) ∷ entries_of plan (reverse es) (reverse vs)
+one_pushed plan new es vs entry {a} entries values is none =
     ap (λ l. entries_of plan (reverse new.control.entries) (reverse l)) values
     ∙ ap (λ x. entries_of plan (reverse x) (reverse vs)) entries
-    ∙ entries_pushed plan es entry (reverse vs)
-    ∙ ap (λ n. entry_of plan entry (reverse vs) ∷ entries_of plan (reverse es) (drop n (reverse vs))) none
+    ∙ entries_pushed plan es entry a (reverse vs) is
+    ∙ ap (λ n. entry_of plan a (reverse vs) ∷ entries_of plan (reverse es) (drop n (reverse vs))) none
 
 -- an entry is put on the stack, and a part begins
-pub pushed_onward : {plan : Program} {f : Focus} {f' : CodeFocus} {new : Stack} {m : Interpreter} {st0 : List Entry} (es : List CodeEntry) (vs : List Value) (entry : CodeEntry) → new.control.entries ≡ es ++ entry ∷ [] → new.values.items ≡ vs → kept_for entry ≡ 0 → ((k : WorldState) → Leads (Unit {0}) f st0 m k (focus_of plan f' new.returned) (entry_of plan entry (reverse vs) ∷ entries_of plan (reverse es) (reverse vs)) m k) → work (focus_of plan f' new.returned) (entry_of plan entry (reverse vs) ∷ entries_of plan (reverse es) (reverse vs)) < work f st0 → Steps plan f st0 m (Ok (move.On f')) new m
-pushed_onward {plan = plan} {f = f} {f' = f'} {new = new} {m = m} {st0 = st0} es vs entry entries values none l w =
-    let same = one_pushed plan new es vs entry entries values none in
+pub pushed_onward : {plan : Program} {f : Focus} {f' : CodeFocus} {new : Stack} {m : Interpreter} {st0 : List Entry} (es : List CodeEntry) (vs : List Value) (entry : CodeEntry) {a : Awaited} → new.control.entries ≡ es ++ entry ∷ [] → new.values.items ≡ vs → awaited_at plan entry ≡ a → kept_for a ≡ 0 → ((k : WorldState) → Leads (Unit {0}) f st0 m k (focus_of plan f' new.returned) (entry_of plan a (reverse vs) ∷ entries_of plan (reverse es) (reverse vs)) m k) → work (focus_of plan f' new.returned) (entry_of plan a (reverse vs) ∷ entries_of plan (reverse es) (reverse vs)) < work f st0 → Steps plan f st0 m (Ok (move.On f')) new m
+pushed_onward {plan = plan} {f = f} {f' = f'} {new = new} {m = m} {st0 = st0} es vs entry {a} entries values is none l w =
+    let same = one_pushed plan new es vs entry entries values is none in
     onward refl (λ k. subst (λ z. Leads (Unit {0}) f st0 m k (focus_of plan f' new.returned) z m k) (sym same) (l k)) (subst (λ z. work (focus_of plan f' new.returned) z < work f st0) (sym same) w) (omega arith) refl
 
 -- an expression more of a print
-pub awaited_printed : {plan : Program} {f : Focus} {rest : ℕ} {e : Operand} {old new : Stack} {m : Interpreter} {st0 : List Entry} (r : Result Move Halt) (vs : List Value) (x : Value) (n n' : ℕ) → (n' ≡ suc n) ⊎ ((length old.values.items ≤ n) × (length old.values.items ≤ n')) → old.values.items ≡ vs ++ x ∷ [] → Awaits (code.Statement (s.Printed rest n')) e old r new
+pub awaited_printed : {plan : Program} {f : Focus} {entry : CodeEntry} {rest : ℕ} {e : Operand} {old new : Stack} {m : Interpreter} {st0 : List Entry} (r : Result Move Halt) (vs : List Value) (x : Value) (n : ℕ) → awaited_at plan entry ≡ code.Statement (s.Printed rest (suc n)) → old.values.items ≡ vs ++ x ∷ [] → Awaits entry e old r new
     → ((k : WorldState) → Leads (Unit {0}) f st0 m k (BeginExpr (operand_of plan e)) (Printed (reverse (take n (reverse vs)) ++ x ∷ []) (exprs_in (part_of plan rest)) ∷ entries_of plan (reverse old.control.entries) (drop n (reverse vs))) m k)
     → work (BeginExpr (operand_of plan e)) (Printed (reverse (take n (reverse vs)) ++ x ∷ []) (exprs_in (part_of plan rest)) ∷ entries_of plan (reverse old.control.entries) (drop n (reverse vs))) < work f st0 → Steps plan f st0 m r new m
-awaited_printed {plan = plan} {rest = rest} {old = old} {new = new} r vs x n n' count kept a l w = awaited r a (λ p q.
+awaited_printed {plan = plan} {entry = entry} {rest = rest} {old = old} {new = new} r vs x n is kept a l w = awaited r a (λ p q.
     ap (λ v. entries_of plan (reverse new.control.entries) (reverse v.items)) q
     ∙ ap (λ l. entries_of plan (reverse l) (reverse old.values.items)) p
-    ∙ entries_pushed plan old.control.entries (code.Statement (s.Printed rest n')) (reverse old.values.items)
-    ∙ ap (λ front. Printed (reverse front) (exprs_in (part_of plan rest)) ∷ entries_of plan (reverse old.control.entries) (drop n' (reverse old.values.items))) (taken_on old.values.items n n' count)
-    ∙ ap (λ left. Printed (reverse (take (suc n) (reverse old.values.items))) (exprs_in (part_of plan rest)) ∷ entries_of plan (reverse old.control.entries) left) (left_on old.values.items n n' count)
+    ∙ entries_pushed plan old.control.entries entry (code.Statement (s.Printed rest (suc n))) (reverse old.values.items) is
     ∙ ap (λ l. Printed (reverse (take (suc n) l)) (exprs_in (part_of plan rest)) ∷ entries_of plan (reverse old.control.entries) (drop (suc n) l)) (ap reverse kept ∙ one_more vs x)
     ∙ ap (λ front. Printed front (exprs_in (part_of plan rest)) ∷ entries_of plan (reverse old.control.entries) (drop n (reverse vs))) (front_grows x (take n (reverse vs)))) l w
 
 -- an entry is put on the stack, and a part begins behind a step
-pub pushed_paid : {plan : Program} {f : Focus} {f' : CodeFocus} {new : Stack} {m m' : Interpreter} {st0 : List Entry} (es : List CodeEntry) (vs : List Value) (entry : CodeEntry) → new.control.entries ≡ es ++ entry ∷ [] → new.values.items ≡ vs → kept_for entry ≡ 0 → ((k : WorldState) → Leads (Unit {0}) f st0 m k (focus_of plan f' new.returned) (entry_of plan entry (reverse vs) ∷ entries_of plan (reverse es) (reverse vs)) m' k) → m'.steps < m.steps → m'.streams ≡ m.streams → Steps plan f st0 m (Ok (move.Spent f')) new m'
-pushed_paid {plan = plan} {f = f} {f' = f'} {new = new} {m = m} {m' = m'} {st0 = st0} es vs entry entries values none l falls same =
-    let is = one_pushed plan new es vs entry entries values none in
-    paid refl (λ k. subst (λ z. Leads (Unit {0}) f st0 m k (focus_of plan f' new.returned) z m' k) (sym is) (l k)) falls same
-
--- two entries are put on the stack, and a part begins behind a step
-pub twice_paid : {plan : Program} {f : Focus} {f' : CodeFocus} {new : Stack} {m m' : Interpreter} {st0 : List Entry} (es es1 : List CodeEntry) (vs : List Value) (e1 e2 : CodeEntry) → es1 ≡ es ++ e1 ∷ [] → new.control.entries ≡ es1 ++ e2 ∷ [] → new.values.items ≡ vs → kept_for e1 ≡ 0 → kept_for e2 ≡ 0 → ((k : WorldState) → Leads (Unit {0}) f st0 m k (focus_of plan f' new.returned) (entry_of plan e2 (reverse vs) ∷ entry_of plan e1 (reverse vs) ∷ entries_of plan (reverse es) (reverse vs)) m' k) → m'.steps < m.steps → m'.streams ≡ m.streams → Steps plan f st0 m (Ok (move.Spent f')) new m'
-twice_paid {plan = plan} {f = f} {f' = f'} {new = new} {m = m} {m' = m'} {st0 = st0} es es1 vs e1 e2 first second values none none2 l falls same =
-    let below : entries_of plan (reverse es1) (reverse vs) ≡ entry_of plan e1 (reverse vs) ∷ entries_of plan (reverse es) (reverse vs) = ap (λ x. entries_of plan (reverse x) (reverse vs)) first ∙ entries_pushed plan es e1 (reverse vs) ∙ ap (λ n. entry_of plan e1 (reverse vs) ∷ entries_of plan (reverse es) (drop n (reverse vs))) none in
-    pushed_paid es1 vs e2 second values none2 (λ k. subst (λ z. Leads (Unit {0}) f st0 m k (focus_of plan f' new.returned) (entry_of plan e2 (reverse vs) ∷ z) m' k) (sym below) (l k)) falls same
+pub pushed_paid : {plan : Program} {f : Focus} {f' : CodeFocus} {new : Stack} {m m' : Interpreter} {st0 : List Entry} (es : List CodeEntry) (vs : List Value) (entry : CodeEntry) {a : Awaited} → new.control.entries ≡ es ++ entry ∷ [] → new.values.items ≡ vs → awaited_at plan entry ≡ a → kept_for a ≡ 0 → ((k : WorldState) → Leads (Unit {0}) f st0 m k (focus_of plan f' new.returned) (entry_of plan a (reverse vs) ∷ entries_of plan (reverse es) (reverse vs)) m' k) → m'.steps < m.steps → m'.streams ≡ m.streams → Steps plan f st0 m (Ok (move.Spent f')) new m'
+pushed_paid {plan = plan} {f = f} {f' = f'} {new = new} {m = m} {m' = m'} {st0 = st0} es vs entry {a} entries values is none l falls same =
+    let found = one_pushed plan new es vs entry entries values is none in
+    paid refl (λ k. subst (λ z. Leads (Unit {0}) f st0 m k (focus_of plan f' new.returned) z m' k) (sym found) (l k)) falls same
 
 -- a statement has ended, with this stack
 pub ended_over : {is_logged : Type 0} {plan : Program} {f : Focus} {new : Stack} {m m' : Interpreter} {k k' : WorldState} {st0 st : List Entry} → stack_of plan new ≡ st → Leads is_logged f st0 m k (Ended flow.Normal) st m' k' → work (Ended flow.Normal) st < work f st0 → m'.steps ≤ m.steps → Moves is_logged plan f st0 m k (Ok (move.On (focus.Ended passed.Normal))) new m' k'

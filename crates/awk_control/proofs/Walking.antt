@@ -10,7 +10,7 @@ use Rattle.awk_meaning.specs.State.{Effect, State, Run, go_on, ◌>>=◌, lift, 
 use Rattle.awk_meaning.specs.Semantics.{tested, eval, run_action}
 use Rattle.awk_interpreter.specs.declared.interpreter.Interpreter.{Interpreter}
 use Rattle.awk_interpreter.specs.Simulation.{Follows}
-use Rattle.awk_control.specs.declared.stack.Entry.{Entry as CodeEntry}
+use Rattle.awk_control.specs.declared.entry.Entry.{Entry as CodeEntry}
 use Rattle.awk_control.specs.declared.stack.Focus.{Focus as CodeFocus}
 use Rattle.awk_control.specs.declared.stack.Passed.{Passed}
 use Rattle.awk_control.specs.declared.stack.Stack.{Stack}

@@ -1,4 +1,5 @@
 pub mod Stack
 pub mod Blocks
+pub mod Entries
 pub mod Moves
 pub mod Reaching

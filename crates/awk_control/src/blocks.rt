@@ -1,16 +1,17 @@
 // The statements of a plan by their sort. A place of another sort stands for no statement.
 
-ghost use Rattle.std.specs.Prelude.{◌≡◌, IfSome};
+ghost use Rattle.std.specs.Prelude.{◌≡◌, IfSome, slice_get};
 ghost use Rattle.awk_plan.specs.Plan.{part_of, statement_in, statements_in};
 ghost use Rattle.awk_tree.specs.Tree.{Block};
-ghost use Rattle.awk_control.specs.support.Blocks.{IsSimple, IsBlock};
+ghost use Rattle.awk_control.specs.support.Blocks.{IsSimple, IsBlock, block_node};
 
 use awk_plan::node::{BlockNode, Node, SimpleNode, StatementNode};
 use awk_plan::plan::Plan;
 
 /// The statements at a place.
 pub fn block(plan: &Plan, place: u32) -> BlockNode
-    ensures { IsBlock plan.now place result }
+    ensures statements { IsBlock plan.now place result }
+    ensures found { result ≡ block_node (slice_get plan.now.nodes place) }
 {
     match plan.node(place) {
         Some(Node::Block(node)) => node,

@@ -5,7 +5,7 @@ ghost use Rattle.std.specs.List.{sum};
 ghost use Rattle.awk_control.specs.declared.control.TheConstants.{FIRST_BOUND};
 ghost use Rattle.awk_control.specs.definitions.Control.{Controlled, highest_sum, but_last, bound_of, HasRoom};
 
-use crate::stack::Entry;
+use crate::entry::Entry;
 use awk_grammar::height::MAX_HEIGHT;
 use std::alloc::{AllocError, Global};
 use std::marker::Model;

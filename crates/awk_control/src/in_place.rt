@@ -9,7 +9,8 @@ ghost use Rattle.awk_control.specs.support.Moves.{loop_of, flow_of};
 ghost use Rattle.awk_control.specs.support.Reaching.{place_of, Reaches, HoldsInPlace, TurnBegins, GoesOnBehind, TurnStops, MakesTurn, MakesTurns};
 
 use crate::blocks::{block, block_at, simple};
-use crate::stack::{Focus, Loop, Passed};
+use crate::entry::Loop;
+use crate::stack::{Focus, Passed};
 use awk_fast_path::{Ran, execute, test};
 use awk_interpreter::Interpreter;
 use awk_plan::node::BlockNode;

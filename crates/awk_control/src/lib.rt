@@ -3,5 +3,6 @@
 
 pub mod blocks;
 pub mod control;
+pub mod entry;
 pub mod in_place;
 pub mod stack;

@@ -1,7 +1,9 @@
 //! The moves of expressions: each begins with its first operand, and goes on where that has returned its value.
 #![tactic(auto)]
 
+pub mod assignment_moves;
 mod assignments;
+pub mod awaiting;
 pub mod expressions;
 mod nodes;
 pub mod patterns;

@@ -1,6 +1,6 @@
 // The expressions of a plan, and what leaves stand for. A place of another sort stands for 0.
 
-ghost use Rattle.std.specs.Prelude.{◌≡◌, option_map};
+ghost use Rattle.std.specs.Prelude.{◌≡◌, IfSome, Some, option_map, slice_get};
 ghost use Rattle.awk_plan.specs.Plan.{operand_of, name_at};
 ghost use Rattle.awk_plan.specs.declared.node.Operand.TheVariants.{Constant, Variable};
 ghost use Rattle.awk_tree.specs.Tree.{Ere as Pattern};
@@ -19,7 +19,8 @@ use awk_value::Value;
 
 /// The expression at a place.
 pub(crate) fn expression(plan: &Plan, place: u32) -> Option<ExprNode>
-    ensures { IsExpression plan.now place result }
+    ensures expression { IsExpression plan.now place result }
+    ensures found { IfSome result (λ node. slice_get plan.now.nodes place ≡ Some (Node.Expression node)) }
 {
     match plan.node(place) {
         Some(Node::Expression(node)) => Some(node),

@@ -2,18 +2,18 @@
 
 ghost use Rattle.std.specs.Prelude.{◌≡◌, true, false, Some};
 ghost use Rattle.awk_tree.specs.Tree.{Assign, AssignBy, PreIncrement, PostIncrement, Simple};
-ghost use Rattle.awk_plan.specs.Plan.{operand_of, part_of, name_at, made_simple, made_statement, statement_in};
+ghost use Rattle.awk_plan.specs.Plan.{operand_of, part_of, name_at, made_assignment, made_simple, made_statement, statement_in};
 ghost use Rattle.awk_meaning.specs.Operators.{by_one};
 ghost use Rattle.awk_meaning.specs.Semantics.{exec};
 ghost use Rattle.awk_fast_path.specs.support.Found.{Evaluates};
 ghost use Rattle.awk_fast_path.specs.support.Executed.{Executes, RunsBy, IsIf, behind_simple, behind_if, branch_of, given_back};
 
-use crate::numbers::{counted_number, expression, name, named_number, number, test};
+use crate::numbers::{counted_number, name, named_number, number, test};
 use crate::texts::assign_value;
 use awk_interpreter::Interpreter;
 use awk_lex::token::IncrementOperator;
 use awk_operators::apply_to_numbers;
-use awk_plan::node::{ExprNode, Node, Operand, SimpleNode, StatementNode};
+use awk_plan::node::{AssignmentNode, Node, Operand, SimpleNode, StatementNode};
 use awk_plan::plan::Plan;
 use awk_tree::tree::BinaryOperator;
 
@@ -89,24 +89,18 @@ fn increment(
     interpreter.put_number(x, name, apply_to_numbers(by_one(operator), old, 1))
 }
 
-/// Evaluates an expression whose value nothing waits for, if that can be done in place. Else nothing changes. (POSIX awk,
+/// Evaluates an assignment whose value nothing waits for, if that can be done in place. Else nothing changes. (POSIX awk,
 /// Expressions in awk)
-pub fn evaluate(plan: &Plan, e: Operand, interpreter: &mut Interpreter) -> bool
-    ensures done { result ≡ true → Evaluates (operand_of plan.now e) interpreter.old interpreter.new }
+fn evaluate(plan: &Plan, node: AssignmentNode, interpreter: &mut Interpreter) -> bool
+    ensures done { result ≡ true → Evaluates (made_assignment plan.now.tables (part_of plan.now) node) interpreter.old
+        interpreter.new }
     ensures kept { result ≡ false → interpreter.new ≡ interpreter.old }
 {
-    let Operand::Node(place) = e else {
-        return false;
-    };
-    let Some(node) = expression(plan, place) else {
-        return false;
-    };
     match node {
-        ExprNode::Assign(x, e) => assign(plan, x, e, interpreter),
-        ExprNode::AssignBy(operator, x, e) => assign_by(plan, operator, x, e, interpreter),
-        ExprNode::PreIncrement(operator, x) => increment(plan, operator, x, interpreter),
-        ExprNode::PostIncrement(operator, x) => increment(plan, operator, x, interpreter),
-        _ => false,
+        AssignmentNode::Assign(x, e) => assign(plan, x, e, interpreter),
+        AssignmentNode::AssignBy(operator, x, e) => assign_by(plan, operator, x, e, interpreter),
+        AssignmentNode::PreIncrement(operator, x) => increment(plan, operator, x, interpreter),
+        AssignmentNode::PostIncrement(operator, x) => increment(plan, operator, x, interpreter),
     }
 }
 
@@ -137,8 +131,8 @@ fn behind_simple(plan: &Plan, simple: SimpleNode, interpreter: &mut Interpreter)
         interpreter.new }
 {
     match simple {
-        SimpleNode::Evaluate(e) => {
-            if evaluate(plan, e, interpreter) {
+        SimpleNode::Assignment(node) => {
+            if evaluate(plan, node, interpreter) {
                 return Ran::Normal;
             }
             Ran::Not

@@ -1,5 +1,5 @@
 -- Prints whose values are found in place.
-use Rattle.std.proofs.Common.{◌≡◌, ℕ, List, [], ◌∷◌, ◌++◌, Result, Ok, Err, refl, sym, ◌∙◌, subst}
+use Rattle.std.proofs.Common.{List, [], ◌∷◌, ◌++◌, Result, Ok, Err, refl, sym, ◌∙◌, subst}
 use Rattle.std.proofs.lemmas.List.{append-nil, append_assoc}
 use Rattle.awk_value.specs.declared.value.Value.{Value}
 use Rattle.awk_streams.specs.WorldState.{WorldState}
@@ -13,7 +13,7 @@ use Rattle.awk_meaning.specs.Semantics.{eval, eval_all, print}
 use Rattle.awk_interpreter.specs.declared.interpreter.Interpreter.{Interpreter}
 use Rattle.awk_interpreter.specs.Simulation.{Simulates, Changes, Follows}
 use Rattle.awk_interpreter.proofs.Composition.{then_simulates, change_simulates, memory_simulates, then_changes, lift_changes}
-use Rattle.awk_control.specs.Stack.{Followed, BeginStatement, BeginBlock, Rest, Leads}
+use Rattle.awk_control.specs.Stack.{BeginBlock, Rest, Leads}
 use Rattle.awk_control.proofs.InPlace.{leads_on}
 use Rattle.awk_control.proofs.PrintMoves.{whole_printed, whole_stops}
 use Rattle.awk_control.proofs.StatementMoves.{then_begins, follows}

@@ -3,13 +3,16 @@
 ghost use Rattle.std.specs.Prelude.{◌≡◌, ◌∷◌, None};
 ghost use Rattle.awk_meaning.specs.Semantics.{ending};
 ghost use Rattle.awk_control.specs.Control.{HasRoom};
+ghost use Rattle.awk_control.specs.declared.entry.Awaited.TheVariants as awaited;
+ghost use Rattle.awk_control.specs.Entries.{IsLoop};
 ghost use Rattle.awk_control.specs.Stack.{BeginStatement, Ended, LastPart, LoopTurn};
 ghost use Rattle.awk_control.specs.Moves.{Steps, SpendsFor, stack_of, loop_of, for_of, topped, flow_of};
 
 use awk_control::blocks::simple;
+use awk_control::entry::{Loop, LoopEntry, State};
 use awk_control::in_place::{Turns, ending, execute_last, make_turns};
-use awk_control::stack::{Entry, Focus, Loop, LoopEntry, Move, Passed, Stack};
-use awk_expressions::expressions::{await_value, is_returned_true};
+use awk_control::stack::{Focus, Move, Passed, Stack};
+use awk_expressions::awaiting::{await_value, is_returned_true};
 use awk_interpreter::Interpreter;
 use awk_meaning::Halt;
 use awk_plan::plan::Plan;
@@ -17,10 +20,10 @@ use awk_plan::plan::Plan;
 /// Spends the step of a turn, and begins the body.
 fn begin_turn(l: Loop, stack: &mut Stack, interpreter: &mut Interpreter) -> Result<Move, Halt>
     requires room { HasRoom stack.old.control }
-    ensures { SpendsFor (Entry.Loop LoopEntry.Turn l) (Focus.Statement l.body) stack.old interpreter.old result stack.new
-        interpreter.new }
+    ensures { SpendsFor (record { node = l.place; state = State.Loop LoopEntry.Turn }) (Focus.Statement l.body) stack.old
+        interpreter.old result stack.new interpreter.new }
 {
-    stack.control.push(Entry::Loop(LoopEntry::Turn, l))?;
+    stack.control.push(l.entry(LoopEntry::Turn))?;
     interpreter.spend()?;
     Ok(Move::Spent(Focus::Statement(l.body)))
 }
@@ -28,11 +31,11 @@ fn begin_turn(l: Loop, stack: &mut Stack, interpreter: &mut Interpreter) -> Resu
 /// Begins the condition of a loop; without one the next turn.
 fn await_condition(l: Loop, stack: &mut Stack, interpreter: &mut Interpreter) -> Result<Move, Halt>
     requires room { HasRoom stack.old.control }
-    ensures { (plan : _) (g : _) → Steps plan (Ended g) (LastPart (loop_of plan l) ∷ stack_of plan stack.old) interpreter.old
-        result stack.new interpreter.new }
+    ensures { (plan : _) (g : _) → IsLoop plan l → Steps plan (Ended g) (LastPart (loop_of plan l) ∷ stack_of plan stack.old)
+        interpreter.old result stack.new interpreter.new }
 {
     match l.condition {
-        Some(e) => await_value(Entry::Loop(LoopEntry::Condition, l), e, stack),
+        Some(e) => await_value(l.entry(LoopEntry::Condition), e, stack),
         None => begin_turn(l, stack, interpreter),
     }
 }
@@ -45,6 +48,7 @@ fn begin_condition(
     interpreter: &mut Interpreter,
 ) -> Result<Move, Halt>
     requires room { HasRoom stack.old.control }
+    requires at { IsLoop plan.now l }
     ensures { (g : _) → Steps plan.now (Ended g) (LastPart (loop_of plan.now l) ∷ stack_of plan.now stack.old) interpreter.old
         result stack.new interpreter.new }
 {
@@ -52,11 +56,11 @@ fn begin_condition(
         Turns::Ended(passed) => Ok(Move::On(Focus::Ended(passed))),
         Turns::Condition => await_condition(l, stack, interpreter),
         Turns::Body(focus) => {
-            stack.control.push(Entry::Loop(LoopEntry::Turn, l))?;
+            stack.control.push(l.entry(LoopEntry::Turn))?;
             Ok(Move::Spent(focus))
         }
         Turns::Last(place) => {
-            stack.control.push(Entry::Loop(LoopEntry::LastPart, l))?;
+            stack.control.push(l.entry(LoopEntry::LastPart))?;
             Ok(Move::Spent(Focus::Statement(place)))
         }
     }
@@ -70,13 +74,14 @@ fn begin_last(
     interpreter: &mut Interpreter,
 ) -> Result<Move, Halt>
     requires room { HasRoom stack.old.control }
+    requires at { IsLoop plan.now l }
     ensures { (g : _) → ending g ≡ None → Steps plan.now (Ended g) (LoopTurn (loop_of plan.now l) ∷ stack_of plan.now stack.old)
         interpreter.old result stack.new interpreter.new }
 {
     match execute_last(plan, l, interpreter) {
         None => begin_condition(plan, l, stack, interpreter),
         Some(place) => {
-            stack.control.push(Entry::Loop(LoopEntry::LastPart, l))?;
+            stack.control.push(l.entry(LoopEntry::LastPart))?;
             Ok(Move::On(Focus::Statement(place)))
         }
     }
@@ -92,7 +97,8 @@ pub(crate) fn end_loop(
     interpreter: &mut Interpreter,
 ) -> Result<Move, Halt>
     requires room { HasRoom stack.old.control }
-    ensures { Steps plan.now (Ended (flow_of passed stack.old.returned)) (topped plan.now (Entry.Loop entry l) stack.old)
+    requires at { IsLoop plan.now l }
+    ensures { Steps plan.now (Ended (flow_of passed stack.old.returned)) (topped plan.now (awaited.Loop entry l) stack.old)
         interpreter.old result stack.new interpreter.new }
 {
     match entry {
@@ -125,9 +131,9 @@ pub(crate) fn begin_loop(
     interpreter: &mut Interpreter,
 ) -> Result<Move, Halt>
     requires room { HasRoom stack.old.control }
-    ensures { SpendsFor (Entry.Loop entry l) next stack.old interpreter.old result stack.new interpreter.new }
+    ensures { SpendsFor (record { node = l.place; state = State.Loop entry }) next stack.old interpreter.old result stack.new interpreter.new }
 {
-    stack.control.push(Entry::Loop(entry, l))?;
+    stack.control.push(l.entry(entry))?;
     interpreter.spend()?;
     Ok(Move::Spent(next))
 }
@@ -141,6 +147,7 @@ pub(crate) fn begin_for(
     interpreter: &mut Interpreter,
 ) -> Result<Move, Halt>
     requires room { HasRoom stack.old.control }
+    requires at { IsLoop plan.now l }
     ensures { Steps plan.now (BeginStatement (for_of plan.now first l)) (stack_of plan.now stack.old) interpreter.old result
         stack.new interpreter.new }
 {

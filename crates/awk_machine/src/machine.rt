@@ -1,6 +1,6 @@
 // The machine: moves from place to place, until nothing is left. No function of it calls itself.
 
-ghost use Rattle.std.specs.Prelude.{◌≡◌, ◌≤◌};
+ghost use Rattle.std.specs.Prelude.{◌≡◌, ◌≤◌, Some, slice_get};
 ghost use Rattle.awk_plan.specs.Plan.{operand_of, part_of, statement_in, statements_in, made_statement};
 ghost use Rattle.awk_grammar.specs.Height.{max_height};
 ghost use Rattle.awk_tree.specs.Height.{height_of, height_of_block};
@@ -8,17 +8,18 @@ ghost use Rattle.awk_tree.specs.Tree.{Do};
 ghost use Rattle.awk_meaning.specs.Semantics.{run_action};
 ghost use Rattle.awk_interpreter.specs.Simulation.{Follows};
 ghost use Rattle.awk_control.specs.Control.{HasRoom};
+ghost use Rattle.awk_control.specs.Entries.{awaited_at};
 ghost use Rattle.awk_control.specs.Stack.{BeginStatement, BeginBlock, Ended, focus_height, depth};
 ghost use Rattle.awk_control.specs.Moves.{Moves, Steps, Walks, Runs, Tests, stack_of, focus_of, topped, flow_of, ran};
 
 use crate::loops::{begin_for, begin_loop, end_loop};
 use crate::prints_in_place::print_first;
-use crate::statements::{begin_block, begin_simple, end_statement, spend_for};
+use crate::statements::{begin_block, begin_simple, end_statement};
+use awk_control::entry::{Awaited, Entry, Loop, LoopEntry, State, read_entry};
 use awk_control::in_place::{Reached, advance};
-use awk_control::stack::{
-    Entry, Focus, Loop, LoopEntry, Move, Passed, Stack, Stage, StatementEntry,
-};
-use awk_expressions::expressions::{begin_expr, end_operand, is_returned_true};
+use awk_control::stack::{Focus, Move, Passed, Stack, Stage};
+use awk_expressions::awaiting::{is_returned_true, spend_for};
+use awk_expressions::expressions::{begin_expr, end_operand};
 use awk_expressions::patterns::test_match;
 use awk_fast_path::test;
 use awk_interpreter::Interpreter;
@@ -30,21 +31,24 @@ use awk_streams::World;
 /// Begins a `do`: the step of the statement, and then that of its first turn.
 fn begin_do(
     plan: &Plan,
+    place: u32,
     condition: Operand,
     body: u32,
     stack: &mut Stack,
     interpreter: &mut Interpreter,
 ) -> Result<Move, Halt>
     requires room { HasRoom stack.old.control }
+    requires at { slice_get plan.now.nodes place ≡ Some (Node.Statement (StatementNode.Do body condition)) }
     ensures { Steps plan.now (BeginStatement (Do (statement_in (part_of plan.now body)) (operand_of plan.now condition))) (stack_of
         plan.now stack.old) interpreter.old result stack.new interpreter.new }
 {
     let l = Loop {
+        place,
         condition: Some(condition),
         last: None,
         body,
     };
-    stack.control.push(Entry::Loop(LoopEntry::FirstTurn, l))?;
+    stack.control.push(l.entry(LoopEntry::FirstTurn))?;
     interpreter.spend()?;
     interpreter.spend()?;
     Ok(Move::Spent(Focus::Statement(body)))
@@ -53,27 +57,30 @@ fn begin_do(
 /// Begins a statement that isn't simple (POSIX awk, Actions).
 fn begin_compound(
     plan: &Plan,
+    place: u32,
     node: StatementNode,
     stack: &mut Stack,
     interpreter: &mut Interpreter,
 ) -> Result<Move, Halt>
     requires room { HasRoom stack.old.control }
+    requires at { slice_get plan.now.nodes place ≡ Some (Node.Statement node) }
     ensures { Steps plan.now (BeginStatement (made_statement plan.now.tables (part_of plan.now) node)) (stack_of plan.now
         stack.old) interpreter.old result stack.new interpreter.new }
 {
     match node {
         StatementNode::Empty => Ok(Move::On(Focus::Ended(Passed::Normal))),
-        StatementNode::Block(place) => Ok(Move::On(Focus::Block(place))),
-        StatementNode::If(condition, body) => {
-            let entry = Entry::Statement(StatementEntry::IfCondition(body));
-            spend_for(entry, condition, stack, interpreter)
+        StatementNode::Block(all) => Ok(Move::On(Focus::Block(all))),
+        StatementNode::If(condition, _) => {
+            let state = State::Condition;
+            spend_for(Entry { node: place, state }, condition, stack, interpreter)
         }
-        StatementNode::IfElse(condition, body, other) => {
-            let entry = Entry::Statement(StatementEntry::IfElseCondition(body, other));
-            spend_for(entry, condition, stack, interpreter)
+        StatementNode::IfElse(condition, _, _) => {
+            let state = State::Condition;
+            spend_for(Entry { node: place, state }, condition, stack, interpreter)
         }
         StatementNode::While(condition, body) => {
             let l = Loop {
+                place,
                 condition: Some(condition),
                 last: None,
                 body,
@@ -87,10 +94,11 @@ fn begin_compound(
             )
         }
         StatementNode::Do(body, condition) => {
-            begin_do(plan, condition, body, stack, interpreter)
+            begin_do(plan, place, condition, body, stack, interpreter)
         }
         StatementNode::For(first, condition, last, body) => {
             let l = Loop {
+                place,
                 condition: Some(condition),
                 last: Some(last),
                 body,
@@ -99,6 +107,7 @@ fn begin_compound(
         }
         StatementNode::Forever(first, last, body) => {
             let l = Loop {
+                place,
                 condition: None,
                 last: Some(last),
                 body,
@@ -121,8 +130,8 @@ fn begin_statement<W: World>(
         stack.old) interpreter.old (W.state world.old) result stack.new interpreter.new (W.state world.new) }
 {
     match plan.node(place) {
-        Some(Node::Simple(node)) => begin_simple(plan, node, stack, interpreter, world),
-        Some(Node::Statement(node)) => begin_compound(plan, node, stack, interpreter),
+        Some(Node::Simple(node)) => begin_simple(plan, place, node, stack, interpreter, world),
+        Some(Node::Statement(node)) => begin_compound(plan, place, node, stack, interpreter),
         Some(Node::Expression(_)) => Ok(Move::On(Focus::Ended(Passed::Normal))),
         Some(Node::List(_)) => Ok(Move::On(Focus::Ended(Passed::Normal))),
         Some(Node::Block(_)) => Ok(Move::On(Focus::Ended(Passed::Normal))),
@@ -141,13 +150,17 @@ fn resume<W: World>(
     world: &mut W,
 ) -> Result<Move, Halt>
     requires room { HasRoom stack.old.control }
-    ensures { Moves W.is_logged plan.now (Ended (flow_of passed stack.old.returned)) (topped plan.now entry stack.old)
+    ensures { Moves W.is_logged plan.now (Ended (flow_of passed stack.old.returned)) (topped plan.now (awaited_at plan.now entry) stack.old)
         interpreter.old (W.state world.old) result stack.new interpreter.new (W.state world.new) }
 {
-    match entry {
-        Entry::Expr(entry) => end_operand(plan, entry, passed, stack, interpreter),
-        Entry::Statement(entry) => end_statement(plan, entry, passed, stack, interpreter, world),
-        Entry::Loop(entry, l) => end_loop(plan, entry, l, passed, stack, interpreter),
+    match read_entry(plan, entry) {
+        Awaited::Expr(awaited) => {
+            end_operand(plan, entry.node, awaited, passed, stack, interpreter)
+        }
+        Awaited::Statement(awaited) => {
+            end_statement(plan, awaited, passed, stack, interpreter, world)
+        }
+        Awaited::Loop(awaited, l) => end_loop(plan, awaited, l, passed, stack, interpreter),
     }
 }
 

@@ -1,12 +1,12 @@
 // Prints. The values of a list are looked for in place, in its order, and a list of which one isn't found is left to the stack:
 // what was found until then has changed nothing.
 
-ghost use Rattle.std.specs.Prelude.{◌≡◌, true, ◌<◌, IfOk};
+ghost use Rattle.std.specs.Prelude.{◌≡◌, true, ◌<◌, IfOk, slice_get};
 ghost use Rattle.awk_plan.specs.Plan.{part_of, exprs_in};
 ghost use Rattle.awk_tree.specs.Tree.{Nil};
 ghost use Rattle.awk_meaning.specs.Semantics.{print};
 ghost use Rattle.awk_interpreter.specs.Simulation.{Follows};
-ghost use Rattle.awk_machine.specs.support.Printed.{IsList, FindsAll, PrintsList, PrintsBy, PrintsFirst};
+ghost use Rattle.awk_machine.specs.support.Printed.{IsList, list_node, FindsAll, PrintsList, PrintsBy, PrintsFirst};
 
 use awk_control::blocks::{block, simple};
 use awk_fast_path::found;
@@ -20,7 +20,8 @@ use std::alloc::AllocError;
 
 /// The list of expressions at a place. A place of another sort stands for the empty list.
 pub(crate) fn list(plan: &Plan, place: u32) -> ListNode
-    ensures { IsList plan.now place result }
+    ensures list { IsList plan.now place result }
+    ensures found { result ≡ list_node (slice_get plan.now.nodes place) }
 {
     match plan.node(place) {
         Some(Node::List(node)) => node,
@@ -59,7 +60,7 @@ fn find_values(
     'values: loop {
         match list(plan, at) {
             ListNode::Nil => return Ok(true),
-            ListNode::Cons(e, rest) => match found(plan, e, interpreter) {
+            ListNode::Cons(_, e, rest) => match found(plan, e, interpreter) {
                 Some(value) => {
                     values.push(value)?;
                     at = rest;
@@ -109,7 +110,7 @@ fn execute_print<W: World>(
             print_record(interpreter, world)?;
             Ok(true)
         }
-        ListNode::Cons(_, _) => {
+        ListNode::Cons(_, _, _) => {
             let steps = interpreter.steps;
             if interpreter.take_step() {
                 if print_list(plan, place, values, interpreter, world)? {

@@ -1,68 +1,55 @@
 // The moves of statements that are no loops.
 
-ghost use Rattle.std.specs.Prelude.{◌≡◌, [], ◌∷◌, Ok};
+ghost use Rattle.std.specs.Prelude.{◌≡◌, [], ◌∷◌, Ok, Some, slice_get};
 ghost use Rattle.awk_plan.specs.Plan.{operand_of, made_simple, part_of, exprs_in, statement_in, statements_in};
-ghost use Rattle.awk_tree.specs.Tree.{Simple, Expression};
+ghost use Rattle.awk_plan.specs.Order.{IsCounted};
+ghost use Rattle.awk_plan.specs.declared.node.Node.TheVariants.{Simple};
+ghost use Rattle.awk_tree.specs.Tree as t;
 ghost use Rattle.awk_control.specs.Control.{HasRoom};
+ghost use Rattle.awk_control.specs.declared.entry.Awaited.TheVariants as awaited;
+ghost use Rattle.awk_control.specs.Entries.{CountsOn};
 ghost use Rattle.awk_control.specs.Stack.{BeginStatement, BeginBlock, Ended};
 ghost use Rattle.awk_control.specs.Moves.{Moves, Steps, SpendsFor, stack_of, topped, flow_of};
 
 use crate::prints::{begin_print, end_printed};
 use awk_control::blocks::block;
+use awk_control::entry::{Entry, State, StatementEntry};
 use awk_control::in_place::{Reached, advance};
-use awk_control::stack::{Entry, Focus, Move, Passed, Stack, StatementEntry};
-use awk_expressions::expressions::{is_returned_true, take_value};
+use awk_control::stack::{Focus, Move, Passed, Stack};
+use awk_expressions::assignment_moves::begin_store;
+use awk_expressions::awaiting::{is_returned_true, spend_for, take_value};
 use awk_interpreter::Interpreter;
 use awk_meaning::Halt;
 use awk_plan::node::{BlockNode, Operand, SimpleNode};
 use awk_plan::plan::Plan;
 use awk_streams::World;
 
-/// Begins an expression of a statement, behind the statement's step.
-pub(crate) fn spend_for(
-    entry: Entry,
-    e: Operand,
-    stack: &mut Stack,
-    interpreter: &mut Interpreter,
-) -> Result<Move, Halt>
-    requires room { HasRoom stack.old.control }
-    ensures { SpendsFor entry (Focus.Expr e) stack.old interpreter.old result stack.new interpreter.new }
-{
-    stack.control.push(entry)?;
-    interpreter.spend()?;
-    Ok(Move::Spent(Focus::Expr(e)))
-}
-
 /// Begins a simple statement (POSIX awk, Actions).
 pub(crate) fn begin_simple<W: World>(
     plan: &Plan,
+    place: u32,
     simple: SimpleNode,
     stack: &mut Stack,
     interpreter: &mut Interpreter,
     world: &mut W,
 ) -> Result<Move, Halt>
     requires room { HasRoom stack.old.control }
-    ensures { Moves W.is_logged plan.now (BeginStatement (Simple (made_simple plan.now.tables (part_of plan.now) simple)))
+    requires at { slice_get plan.now.nodes place ≡ Some (Simple simple) }
+    requires counted { IsCounted plan.now.nodes (Simple simple) }
+    ensures { Moves W.is_logged plan.now (BeginStatement (t.Simple (made_simple plan.now.tables (part_of plan.now) simple)))
         (stack_of plan.now stack.old) interpreter.old (W.state world.old) result stack.new interpreter.new
         (W.state world.new) }
 {
     match simple {
         SimpleNode::Print(list) => begin_print(plan, list, stack, interpreter, world),
         SimpleNode::Evaluate(e) => {
-            spend_for(
-                Entry::Statement(StatementEntry::Evaluated),
-                e,
-                stack,
-                interpreter,
-            )
+            let state = State::Evaluated;
+            spend_for(Entry { node: place, state }, e, stack, interpreter)
         }
+        SimpleNode::Assignment(node) => begin_store(plan, place, node, stack, interpreter),
         SimpleNode::ExitWith(e) => {
-            spend_for(
-                Entry::Statement(StatementEntry::ExitStatus),
-                e,
-                stack,
-                interpreter,
-            )
+            let state = State::ExitStatus;
+            spend_for(Entry { node: place, state }, e, stack, interpreter)
         }
         SimpleNode::Next => {
             interpreter.spend()?;
@@ -91,9 +78,9 @@ fn begin_first(plan: &Plan, place: u32, stack: &mut Stack) -> Result<Move, Halt>
 {
     match block(plan, place) {
         BlockNode::NoMore => Ok(Move::On(Focus::Ended(Passed::Normal))),
-        BlockNode::Then(statement, rest) => {
-            let entry = Entry::Statement(StatementEntry::Followed(rest));
-            stack.control.push(entry)?;
+        BlockNode::Then(statement, _) => {
+            let state = State::Followed;
+            stack.control.push(Entry { node: place, state })?;
             Ok(Move::On(Focus::Statement(statement)))
         }
     }
@@ -122,7 +109,7 @@ fn end_status(
     stack: &mut Stack,
     interpreter: &mut Interpreter,
 ) -> Result<Move, Halt>
-    ensures { (plan : _) → Steps plan (Ended (flow_of passed stack.old.returned)) (topped plan (Entry.Statement
+    ensures { (plan : _) → Steps plan (Ended (flow_of passed stack.old.returned)) (topped plan (awaited.Statement
         StatementEntry.ExitStatus) stack.old) interpreter.old result stack.new interpreter.new }
 {
     let value = take_value(passed, stack);
@@ -132,7 +119,7 @@ fn end_status(
 
 /// Where a statement leads that has others behind it.
 fn end_followed(rest: u32, passed: Passed) -> Move
-    ensures { (plan : _) (stack : _) (m : _) → Steps plan (Ended (flow_of passed stack.returned)) (topped plan (Entry.Statement
+    ensures { (plan : _) (stack : _) (m : _) → Steps plan (Ended (flow_of passed stack.returned)) (topped plan (awaited.Statement
         (StatementEntry.Followed rest)) stack) m (Ok result) stack m }
 {
     match passed {
@@ -153,8 +140,9 @@ pub(crate) fn end_statement<W: World>(
     world: &mut W,
 ) -> Result<Move, Halt>
     requires room { HasRoom stack.old.control }
+    requires counted { CountsOn plan.now.nodes (awaited.Statement entry) }
     ensures { Moves W.is_logged plan.now (Ended (flow_of passed stack.old.returned)) (topped plan.now
-        (Entry.Statement entry) stack.old) interpreter.old (W.state world.old) result stack.new interpreter.new
+        (awaited.Statement entry) stack.old) interpreter.old (W.state world.old) result stack.new interpreter.new
         (W.state world.new) }
 {
     match entry {

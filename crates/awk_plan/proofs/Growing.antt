@@ -12,9 +12,11 @@ use Rattle.awk_plan.specs.declared.node.Operand.TheVariants.{Constant, Variable,
 use Rattle.awk_plan.specs.declared.node.Node.{Node}
 use Rattle.awk_plan.specs.declared.node.Node.TheVariants as n
 use Rattle.awk_plan.specs.declared.node.ExprNode.TheVariants as exprs
+use Rattle.awk_plan.specs.declared.node.ListNode.TheVariants as lists
+use Rattle.awk_plan.specs.declared.node.SimpleNode.TheVariants as simples
 use Rattle.awk_plan.specs.declared.builder.Builder.{Builder}
 use Rattle.awk_plan.specs.definitions.Plan.{texts_of, Part, AnExpr, expr_in, literal_of, name_at, ere_at}
-use Rattle.awk_plan.specs.definitions.Order.{IsBelow, AreBelow, IsOrdered, IsLiteral, AreLiterals, HasEre, HaveEres}
+use Rattle.awk_plan.specs.definitions.Order.{IsBelow, AreBelow, IsOrdered, IsLiteral, AreLiterals, HasEre, HaveEres, HasBefore, IsCounted, AreCounted}
 use Rattle.awk_plan.specs.support.Builds.{tables_of, built_at, operand_at, Grows, Pushes, AddsConstant, AddsEre, AddsName, Builds, Operates, Makes}
 use Rattle.awk_plan.proofs.Listed.{node_behind}
 
@@ -47,8 +49,23 @@ get_pushed (z ∷ zs) x (suc i) y h = elim (get_pushed zs x i y h) [ inl e ↦ i
 each_pushed : {A : Type 0} (P : ℕ → A → Type 0) (xs : List A) (x : A) → P (length xs) x → ((i : ℕ) (y : A) → slice_get xs i ≡ Some y → P i y) → (i : ℕ) (y : A) → slice_get (xs ++ x ∷ []) i ≡ Some y → P i y
 each_pushed P xs x last each i y h = elim (get_pushed xs x i y h) [ inl e ↦ each i y e | inr e ↦ subst (λ k. P k y) (sym e.0) (subst (P (length xs)) (sym e.1) last) ]
 
+slice_get_left : {A : Type 0} (xs ys : List A) (i : ℕ) → i < length xs → slice_get (xs ++ ys) i ≡ slice_get xs i
+slice_get_left [] ys i low = absurd (omega (arith, low))
+slice_get_left (x ∷ xs) ys zero low = refl
+slice_get_left (x ∷ xs) ys (suc i) low = slice_get_left xs ys i (omega (arith, low))
+
+slice_get_front : {A : Type 0} (xs ys : List A) (i : ℕ) → IsFront xs ys → i < length xs → slice_get ys i ≡ slice_get xs i
+slice_get_front xs ys i p low = ap (λ l. slice_get l i) p.1 ∙ slice_get_left xs p.0 i low
+
+slice_get_last : {A : Type 0} (xs : List A) (x : A) → slice_get (xs ++ x ∷ []) (length xs) ≡ Some x
+slice_get_last [] x = refl
+slice_get_last (y ∷ xs) x = slice_get_last xs x
+
+last_pushed : {a b : Builder} {x : Node} {i : ℕ} → Pushes a b x i → slice_get b.nodes.items i ≡ Some x
+last_pushed {a = a} {b = b} {x = x} {i = i} p = ap (λ l. slice_get l i) p.nodes ∙ ap (slice_get (a.nodes.items ++ x ∷ [])) p.last ∙ slice_get_last a.nodes.items x
+
 pub grows_refl : (b : Builder) → Grows b b
-grows_refl b = record { constants = front_refl _; eres = front_refl _; names = front_refl _; nodes = front_refl _; ordered = λ h. h; literals = λ h. h; read = λ h. h }
+grows_refl b = record { constants = front_refl _; eres = front_refl _; names = front_refl _; nodes = front_refl _; ordered = λ h. h; literals = λ h. h; read = λ h. h; counted = λ _ h. h }
 
 pub grows : {a b c : Builder} → Grows a b → Grows b c → Grows a c
 grows p q = record {
@@ -59,10 +76,36 @@ grows p q = record {
   ordered = λ h. q.ordered (p.ordered h);
   literals = λ h. q.literals (p.literals h);
   read = λ h. q.read (p.read h);
+  counted = λ o h. q.counted (p.ordered o) (p.counted o h);
 }
 
-grows_pushed : {a b : Builder} {x : Node} {i : ℕ} → Pushes a b x i → AreBelow (length a.nodes.items) x → HasEre (length (texts_of a.eres.items)) x → Grows a b
-grows_pushed {a = a} {b = b} {x = x} p below has = record {
+-- what stands at a place isn't counted anew by a node behind it
+pub before_longer : (xs : List Node) (x : Node) (count place : ℕ) → place < length xs → HasBefore xs count place → HasBefore (xs ++ x ∷ []) count place
+before_longer xs x count place low h before e rest at = elim (get_pushed xs x place _ at) [ inl is ↦ h before e rest is | inr is ↦ absurd (omega (arith, low, is.0)) ]
+
+counted_longer : (xs : List Node) (x node : Node) (place : ℕ) → place ≤ length xs → AreBelow place node → IsCounted xs node → IsCounted (xs ++ x ∷ []) node
+counted_longer xs x (n.Expression e) place low below h = tt
+counted_longer xs x (n.List lists.Nil) place low below h = tt
+counted_longer xs x (n.List (lists.Cons before e rest)) place low below h = before_longer xs x (suc before) rest (omega (arith, low, below.1)) h
+counted_longer xs x (n.Simple (simples.Print list)) place low below h = before_longer xs x 0 list (omega (arith, low, below)) h
+counted_longer xs x (n.Simple (simples.Evaluate e)) place low below h = tt
+counted_longer xs x (n.Simple (simples.Assignment e)) place low below h = tt
+counted_longer xs x (n.Simple simples.Next) place low below h = tt
+counted_longer xs x (n.Simple simples.Break) place low below h = tt
+counted_longer xs x (n.Simple simples.Continue) place low below h = tt
+counted_longer xs x (n.Simple simples.Exit) place low below h = tt
+counted_longer xs x (n.Simple (simples.ExitWith e)) place low below h = tt
+counted_longer xs x (n.Statement s) place low below h = tt
+counted_longer xs x (n.Block s) place low below h = tt
+counted_longer xs x n.Absent place low below h = tt
+
+all_counted : (xs : List Node) (x : Node) → AreBelow (length xs) x → IsCounted xs x → IsOrdered xs → AreCounted xs → AreCounted (xs ++ x ∷ [])
+all_counted xs x below is ordered h = each_pushed (λ _ y. IsCounted (xs ++ x ∷ []) y) xs x (counted_longer xs x x (length xs) (omega arith) below is) (λ i y at.
+    let within : i < length xs = slice_get_within xs i y at in
+    counted_longer xs x y i (omega (arith, within)) (ordered i y at) (h i y at))
+
+grows_pushed : {a b : Builder} {x : Node} {i : ℕ} → Pushes a b x i → AreBelow (length a.nodes.items) x → HasEre (length (texts_of a.eres.items)) x → IsCounted a.nodes.items x → Grows a b
+grows_pushed {a = a} {b = b} {x = x} p below has counted = record {
   constants = front_same _ _ (ap (λ t. t.constants) p.tables);
   eres = front_same _ _ (ap (λ t. t.eres) p.tables);
   names = front_same _ _ (ap (λ t. t.names) p.tables);
@@ -70,6 +113,7 @@ grows_pushed {a = a} {b = b} {x = x} p below has = record {
   ordered = λ h. subst IsOrdered (sym p.nodes) (each_pushed AreBelow a.nodes.items x below h);
   literals = λ h. subst AreLiterals (sym (ap (λ t. t.constants) p.tables)) h;
   read = λ h. subst (λ l. HaveEres (length l) b.nodes.items) (sym (ap (λ t. t.eres) p.tables)) (subst (HaveEres (length (texts_of a.eres.items))) (sym p.nodes) (each_pushed (λ _. HasEre (length (texts_of a.eres.items))) a.nodes.items x has h));
+  counted = λ ordered h. subst AreCounted (sym p.nodes) (all_counted a.nodes.items x below counted ordered h);
 }
 
 -- neither the EREs nor the nodes change
@@ -79,7 +123,7 @@ same_read a b eres nodes h = subst (λ l. HaveEres (length l) b.nodes.items) (sy
 -- a node that is added is what it makes
 pub pushed : {a b c : Builder} {x : Node} {i : ℕ} {p : Part} → Makes a b x p → Pushes b c x i → Builds a c i p
 pushed {b = b} {c = c} {x = x} {i = i} {p = p} m q =
-    let g : Grows b c = grows_pushed q m.below m.read in
+    let g : Grows b c = grows_pushed q m.below m.read m.counted in
     record {
       grows = grows m.grows g;
       below = subst (λ l. i < length l) (sym q.nodes) (omega (arith, q.last, length-append b.nodes.items (x ∷ [])));
@@ -103,6 +147,7 @@ constant_added {a = a} {b = b} {v = v} {operand = operand} q is = record {
     ordered = λ h. subst IsOrdered (sym q.nodes) h;
     literals = λ h. subst AreLiterals (sym q.constants) (each_pushed (λ k. IsLiteral) a.constants.items v is h);
     read = same_read a b q.eres q.nodes;
+    counted = λ _ h. subst AreCounted (sym q.nodes) h;
   };
   below = subst (IsBelow (length b.nodes.items)) (sym q.last) tt;
   stays = λ later h. ap (operand_at later) q.last ∙ ap literal_of (front_last a.constants.items b.constants.items later.constants.items v Nothing q.constants h.constants);
@@ -119,10 +164,7 @@ more_eres i j low (n.Expression (exprs.Binary o x y)) h = tt
 more_eres i j low (n.Expression (exprs.And x y)) h = tt
 more_eres i j low (n.Expression (exprs.Or x y)) h = tt
 more_eres i j low (n.Expression (exprs.Conditional c x y)) h = tt
-more_eres i j low (n.Expression (exprs.Assign x e)) h = tt
-more_eres i j low (n.Expression (exprs.AssignBy o x e)) h = tt
-more_eres i j low (n.Expression (exprs.PreIncrement o x)) h = tt
-more_eres i j low (n.Expression (exprs.PostIncrement o x)) h = tt
+more_eres i j low (n.Expression (exprs.Assignment x)) h = tt
 more_eres i j low (n.List x) h = tt
 more_eres i j low (n.Simple x) h = tt
 more_eres i j low (n.Statement x) h = tt
@@ -141,6 +183,7 @@ grows_ere {a = a} {b = b} {text = text} q = record {
   ordered = λ h. subst IsOrdered (sym q.nodes) h;
   literals = λ h. subst AreLiterals (sym q.constants) h;
   read = λ h place node at. more_eres (length (texts_of a.eres.items)) (length (texts_of b.eres.items)) (subst (λ l. length (texts_of a.eres.items) ≤ length l) (sym q.eres) (omega (arith, length-append (texts_of a.eres.items) (text ∷ [])))) node (subst (HaveEres (length (texts_of a.eres.items))) (sym q.nodes) h place node at);
+  counted = λ _ h. subst AreCounted (sym q.nodes) h;
 }
 
 pub ere_stays : {a b : Builder} {text : List ℕ} {k : ℕ} → AddsEre a b text k → (later : Builder) → Grows b later → ere_at (tables_of later) k ≡ text
@@ -155,6 +198,7 @@ grows_name {a = a} {b = b} q = record {
   ordered = λ h. subst IsOrdered (sym q.nodes) h;
   literals = λ h. subst AreLiterals (sym q.constants) h;
   read = same_read a b q.eres q.nodes;
+  counted = λ _ h. subst AreCounted (sym q.nodes) h;
 }
 
 pub name_stays : {a b : Builder} {x : List ℕ} {k : ℕ} → AddsName a b x k → (later : Builder) → Grows b later → name_at (tables_of later) k ≡ x
@@ -168,3 +212,18 @@ operand_below (ANode i) g h = front_longer _ _ i g.nodes h
 
 pub place_below : (i : ℕ) {b c : Builder} → Grows b c → i < length b.nodes.items → i < length c.nodes.items
 place_below i g h = front_longer _ _ i g.nodes h
+
+-- the first of a list that is added, and what stays so
+
+pub nil_first : {a b : Builder} {i : ℕ} → Pushes a b (n.List lists.Nil) i → (count : ℕ) → HasBefore b.nodes.items count i
+nil_first {a = a} {b = b} {i = i} p count before e rest at =
+    let last : slice_get b.nodes.items i ≡ Some (n.List lists.Nil) = last_pushed p in
+    cc
+
+pub cons_first : {a b : Builder} {i before rest : ℕ} {e : Operand} → Pushes a b (n.List (lists.Cons before e rest)) i → HasBefore b.nodes.items before i
+cons_first {a = a} {b = b} {i = i} {before = before} {rest = rest} {e = e} p before' e' rest' at =
+    let last : slice_get b.nodes.items i ≡ Some (n.List (lists.Cons before e rest)) = last_pushed p in
+    cc
+
+pub first_stays : (count i : ℕ) {b c : Builder} → Grows b c → i < length b.nodes.items → HasBefore b.nodes.items count i → HasBefore c.nodes.items count i
+first_stays count i {b = b} {c = c} g low h before e rest at = h before e rest (sym (slice_get_front b.nodes.items c.nodes.items i g.nodes low) ∙ at)

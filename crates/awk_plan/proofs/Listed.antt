@@ -5,13 +5,15 @@ use Rattle.awk_plan.specs.declared.node.Operand.{Operand}
 use Rattle.awk_plan.specs.declared.node.Operand.TheVariants.{Constant, Variable, Node as ANode}
 use Rattle.awk_plan.specs.declared.node.Node.{Node}
 use Rattle.awk_plan.specs.declared.node.Node.TheVariants as n
+use Rattle.awk_plan.specs.declared.node.AssignmentNode.{AssignmentNode}
+use Rattle.awk_plan.specs.declared.node.AssignmentNode.TheVariants as assigns
 use Rattle.awk_plan.specs.declared.node.ExprNode.TheVariants as exprs
 use Rattle.awk_plan.specs.declared.node.ListNode.TheVariants as lists
 use Rattle.awk_plan.specs.declared.node.SimpleNode.TheVariants as simples
 use Rattle.awk_plan.specs.declared.node.StatementNode.TheVariants as statements
 use Rattle.awk_plan.specs.declared.node.BlockNode.TheVariants as blocks
-use Rattle.awk_plan.specs.definitions.Plan.{Tables, Part, AnExpr, SomeExprs, AStatement, SomeStatements, NoPart, expr_in, exprs_in, statement_in, statements_in, optional_simple_in, name_at, operand_in, made, parts, part_at}
-use Rattle.awk_plan.specs.definitions.Order.{IsBelow, AreBelow, IsOrdered}
+use Rattle.awk_plan.specs.definitions.Plan.{Tables, Part, AnExpr, SomeExprs, AStatement, SomeStatements, NoPart, expr_in, exprs_in, statement_in, statements_in, optional_simple_in, name_at, operand_in, made_assignment, made, parts, part_at}
+use Rattle.awk_plan.specs.definitions.Order.{IsBelow, IsValueBelow, AreBelow, IsOrdered}
 
 -- a node is made of its children alone
 module _ (tables : Tables) (f g : ℕ → Part) (k : ℕ) (same : (i : ℕ) → i < k → f i ≡ g i) where
@@ -32,6 +34,12 @@ module _ (tables : Tables) (f g : ℕ → Part) (k : ℕ) (same : (i : ℕ) → 
   outer_alike : (i : ℕ) → i < k → optional_simple_in (f i) ≡ optional_simple_in (g i)
   outer_alike i h = ap optional_simple_in (same i h)
 
+  assignment_alike : (x : AssignmentNode) → IsValueBelow k x → made_assignment tables f x ≡ made_assignment tables g x
+  assignment_alike (assigns.Assign x e) h = λ j. t.Assign (name_at tables x) (operand_alike e h j)
+  assignment_alike (assigns.AssignBy o x e) h = λ j. t.AssignBy o (name_at tables x) (operand_alike e h j)
+  assignment_alike (assigns.PreIncrement o x) h = refl
+  assignment_alike (assigns.PostIncrement o x) h = refl
+
   made_alike : (node : Node) → AreBelow k node → made tables f node ≡ made tables g node
   made_alike (n.Expression (exprs.Group e)) h = λ j. AnExpr (t.Group (operand_alike e h j))
   made_alike (n.Expression (exprs.Ere i)) h = refl
@@ -42,14 +50,12 @@ module _ (tables : Tables) (f g : ℕ → Part) (k : ℕ) (same : (i : ℕ) → 
   made_alike (n.Expression (exprs.And a b)) h = λ j. AnExpr (t.And (operand_alike a h.0 j) (operand_alike b h.1 j))
   made_alike (n.Expression (exprs.Or a b)) h = λ j. AnExpr (t.Or (operand_alike a h.0 j) (operand_alike b h.1 j))
   made_alike (n.Expression (exprs.Conditional c a b)) h = λ j. AnExpr (t.Conditional (operand_alike c h.0 j) (operand_alike a h.1 j) (operand_alike b h.2 j))
-  made_alike (n.Expression (exprs.Assign x e)) h = λ j. AnExpr (t.Assign (name_at tables x) (operand_alike e h j))
-  made_alike (n.Expression (exprs.AssignBy o x e)) h = λ j. AnExpr (t.AssignBy o (name_at tables x) (operand_alike e h j))
-  made_alike (n.Expression (exprs.PreIncrement o x)) h = refl
-  made_alike (n.Expression (exprs.PostIncrement o x)) h = refl
+  made_alike (n.Expression (exprs.Assignment x)) h = ap AnExpr (assignment_alike x h)
   made_alike (n.List lists.Nil) h = refl
-  made_alike (n.List (lists.Cons e rest)) h = λ j. SomeExprs (t.Cons (operand_alike e h.0 j) (list_alike rest h.1 j))
+  made_alike (n.List (lists.Cons before e rest)) h = λ j. SomeExprs (t.Cons (operand_alike e h.0 j) (list_alike rest h.1 j))
   made_alike (n.Statement statements.Empty) h = refl
   made_alike (n.Simple (simples.Evaluate e)) h = λ j. AStatement (t.Simple (t.Expression (operand_alike e h j)))
+  made_alike (n.Simple (simples.Assignment x)) h = ap (λ e. AStatement (t.Simple (t.Expression e))) (assignment_alike x h)
   made_alike (n.Simple (simples.Print list)) h = λ j. AStatement (t.Simple (t.Print (list_alike list h j)))
   made_alike (n.Simple simples.Next) h = refl
   made_alike (n.Simple simples.Break) h = refl

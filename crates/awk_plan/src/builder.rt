@@ -23,7 +23,7 @@ pub(crate) struct Builder {
 }
 
 /// A length as the number of what comes next. A number that does not fit is want of memory.
-fn next_number(length: usize) -> Result<u32, AllocError>
+pub(crate) fn next_number(length: usize) -> Result<u32, AllocError>
     ensures { IfOk result (λ number. number ≡ length) }
 {
     u32::try_from(length).map_err(|_| AllocError)

@@ -1,13 +1,14 @@
 // Expressions as nodes of a plan.
 
-ghost use Rattle.std.specs.Prelude.{IfOk};
+ghost use Rattle.std.specs.Prelude.{◌≡◌, IfOk};
 ghost use Rattle.awk_tree.specs.Tree.{Name};
 ghost use Rattle.awk_tree.specs.View.{expr_of, exprs_of};
 ghost use Rattle.awk_plan.specs.definitions.Plan.{SomeExprs};
+ghost use Rattle.awk_plan.specs.definitions.Order.{HasBefore};
 ghost use Rattle.awk_plan.specs.support.Builds.{Lowers, Operates, Builds};
 
-use crate::builder::Builder;
-use crate::node::{ExprNode, ListNode, Node, Operand};
+use crate::builder::{Builder, next_number};
+use crate::node::{AssignmentNode, ExprNode, ListNode, Node, Operand};
 use awk_tree::tree::Expr;
 use awk_value::{Bytes, Value};
 use std::alloc::AllocError;
@@ -16,6 +17,13 @@ use std::alloc::AllocError;
 pub(crate) enum Lowered {
     Leaf(Operand),
     Inner(ExprNode),
+}
+
+/// An assignment as an expression.
+fn assignment(node: AssignmentNode) -> Lowered
+    ensures { result ≡ Lowered.Inner (ExprNode.Assignment node) }
+{
+    Lowered::Inner(ExprNode::Assignment(node))
 }
 
 impl Builder {
@@ -32,7 +40,7 @@ impl Builder {
 
     /// An expression, whose own operands are added.
     #[cycle(expressions)]
-    fn lowered(&mut self, e: &Expr) -> Result<Lowered, AllocError>
+    pub(crate) fn lowered(&mut self, e: &Expr) -> Result<Lowered, AllocError>
         ensures { IfOk result (λ made. Lowers self.old self.new made (expr_of e.now)) }
     {
         match e {
@@ -63,17 +71,18 @@ impl Builder {
                 Ok(Lowered::Inner(ExprNode::Conditional(c, a, self.add_expr(b)?)))
             }
             Expr::Assign(name, e) => {
-                Ok(Lowered::Inner(ExprNode::Assign(self.number_of(name)?, self.add_expr(e)?)))
+                let name = self.number_of(name)?;
+                Ok(assignment(AssignmentNode::Assign(name, self.add_expr(e)?)))
             }
             Expr::AssignBy(o, name, e) => {
                 let name = self.number_of(name)?;
-                Ok(Lowered::Inner(ExprNode::AssignBy(*o, name, self.add_expr(e)?)))
+                Ok(assignment(AssignmentNode::AssignBy(*o, name, self.add_expr(e)?)))
             }
             Expr::PreIncrement(o, name) => {
-                Ok(Lowered::Inner(ExprNode::PreIncrement(*o, self.number_of(name)?)))
+                Ok(assignment(AssignmentNode::PreIncrement(*o, self.number_of(name)?)))
             }
             Expr::PostIncrement(o, name) => {
-                Ok(Lowered::Inner(ExprNode::PostIncrement(*o, self.number_of(name)?)))
+                Ok(assignment(AssignmentNode::PostIncrement(*o, self.number_of(name)?)))
             }
         }
     }
@@ -91,12 +100,14 @@ impl Builder {
 
     /// Adds a list of expressions, from its end.
     pub(crate) fn add_list(&mut self, list: &[Expr]) -> Result<u32, AllocError>
-        ensures { IfOk result (λ place. Builds self.old self.new place (SomeExprs (exprs_of list.now))) }
+        ensures built { IfOk result (λ place. Builds self.old self.new place (SomeExprs (exprs_of list.now))) }
+        ensures counted { IfOk result (λ place. HasBefore self.new.nodes.items 0 place) }
     {
         let mut rest = self.push(Node::List(ListNode::Nil))?;
         for i in (0..list.len()).rev() {
+            let before = next_number(i)?;
             let e = self.add_expr(&list[i])?;
-            rest = self.push(Node::List(ListNode::Cons(e, rest)))?;
+            rest = self.push(Node::List(ListNode::Cons(before, e, rest)))?;
         }
         Ok(rest)
     }

@@ -11,6 +11,15 @@ pub enum Operand {
     Node(u32),
 }
 
+/// What gives a variable a value. The variable stands by its number.
+#[derive(Clone, Copy)]
+pub enum AssignmentNode {
+    Assign(u32, Operand),
+    AssignBy(BinaryOperator, u32, Operand),
+    PreIncrement(IncrementOperator, u32),
+    PostIncrement(IncrementOperator, u32),
+}
+
 /// An expression that is no leaf.
 #[derive(Clone, Copy)]
 pub enum ExprNode {
@@ -25,24 +34,24 @@ pub enum ExprNode {
     And(Operand, Operand),
     Or(Operand, Operand),
     Conditional(Operand, Operand, Operand),
-    /// A variable, by its number, and the value that it gets.
-    Assign(u32, Operand),
-    AssignBy(BinaryOperator, u32, Operand),
-    PreIncrement(IncrementOperator, u32),
-    PostIncrement(IncrementOperator, u32),
+    /// An assignment whose value is used.
+    Assignment(AssignmentNode),
 }
 
 /// A list of expressions: none, or one and the rest.
 #[derive(Clone, Copy)]
 pub enum ListNode {
     Nil,
-    Cons(Operand, u32),
+    /// How many expressions stand before this one, it, and the rest.
+    Cons(u32, Operand, u32),
 }
 
 /// A simple statement.
 #[derive(Clone, Copy)]
 pub enum SimpleNode {
     Evaluate(Operand),
+    /// An assignment that is a statement of its own.
+    Assignment(AssignmentNode),
     /// A `print` of a list.
     Print(u32),
     Next,

@@ -5,7 +5,7 @@ ghost use Rattle.std.specs.Option.{option_map};
 ghost use Rattle.awk_grammar.specs.Height.{max_height};
 ghost use Rattle.awk_tree.specs.Height.{height_of_items};
 ghost use Rattle.awk_plan.specs.definitions.Plan.{NoPart, made, part_of, operand_of, literal_of, items_of};
-ghost use Rattle.awk_plan.specs.definitions.Order.{AreBelow, HasEre, IsLiteral};
+ghost use Rattle.awk_plan.specs.definitions.Order.{AreBelow, HasEre, IsCounted, IsLiteral};
 
 use crate::node::{Node, Operand};
 use awk_tree::tree::Ere;
@@ -45,7 +45,7 @@ impl Model for Plan {
     ghost use Rattle.awk_grammar.specs.Height.{max_height};
     ghost use Rattle.awk_tree.specs.Height.{height_of_items};
     ghost use Rattle.std.specs.Prelude.{length, ◌≤◌};
-    ghost use Rattle.awk_plan.specs.definitions.Order.{IsOrdered, AreLiterals, HaveEres};
+    ghost use Rattle.awk_plan.specs.definitions.Order.{IsOrdered, AreLiterals, HaveEres, AreCounted};
 
     ghost Value = { Program };
 
@@ -57,6 +57,7 @@ impl Model for Plan {
 
     ghost invariant = { λ p. IsOrdered p.nodes.items × AreLiterals p.constants.items
         × HaveEres (length (texts_of p.eres.items)) p.nodes.items
+        × AreCounted p.nodes.items
         × (height_of_items (items_of (record {
           tables = record { constants = p.constants.items; eres = texts_of p.eres.items; names = p.names };
           nodes = p.nodes.items;
@@ -67,9 +68,11 @@ impl Model for Plan {
 impl Plan {
     /// The node at a place. Its children stand before it.
     pub fn node(&self, place: u32) -> Option<Node>
+        ensures found { result ≡ slice_get self.now.nodes place }
         ensures some { IfSome result (λ node. part_of self.now place ≡ made self.now.tables (part_of self.now) node) }
         ensures before { IfSome result (λ node. AreBelow place node) }
         ensures read { IfSome result (λ node. HasEre (length self.now.tables.eres) node) }
+        ensures counted { IfSome result (λ node. IsCounted self.now.nodes node) }
         ensures none { IfNone result (part_of self.now place ≡ NoPart) }
     {
         match self.nodes.get(place as usize) {

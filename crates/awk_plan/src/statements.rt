@@ -1,23 +1,38 @@
 // Statements as nodes of a plan.
 
 ghost use Rattle.std.specs.Prelude.{IfOk};
-ghost use Rattle.awk_tree.specs.Tree.{Simple};
-ghost use Rattle.awk_tree.specs.View.{simple_of, optional_simple_of, statement_of, statements_of};
+ghost use Rattle.awk_tree.specs.Tree.{Expression, Simple};
+ghost use Rattle.awk_tree.specs.View.{expr_of, simple_of, optional_simple_of, statement_of, statements_of};
 ghost use Rattle.awk_plan.specs.definitions.Plan.{AStatement, SomeStatements};
 ghost use Rattle.awk_plan.specs.support.Builds.{Makes, Builds, part_of_outer};
 
 use crate::builder::Builder;
-use crate::node::{BlockNode, Node, SimpleNode, StatementNode};
-use awk_tree::tree::{SimpleStatement, Statement};
+use crate::expressions::Lowered;
+use crate::node::{BlockNode, ExprNode, Node, Operand, SimpleNode, StatementNode};
+use awk_tree::tree::{Expr, SimpleStatement, Statement};
 use std::alloc::AllocError;
 
 impl Builder {
+    /// The node of an expression that is a statement.
+    fn expression_node(&mut self, e: &Expr) -> Result<SimpleNode, AllocError>
+        ensures { IfOk result (λ node. Makes self.old self.new (Node.Simple node) (AStatement (Simple (Expression (expr_of e.now))))) }
+    {
+        match self.lowered(e)? {
+            Lowered::Leaf(operand) => Ok(SimpleNode::Evaluate(operand)),
+            Lowered::Inner(ExprNode::Assignment(node)) => Ok(SimpleNode::Assignment(node)),
+            Lowered::Inner(node) => {
+                let place = self.push(Node::Expression(node))?;
+                Ok(SimpleNode::Evaluate(Operand::Node(place)))
+            }
+        }
+    }
+
     /// The node of a simple statement, whose operands are added.
     fn simple_node(&mut self, simple: &SimpleStatement) -> Result<SimpleNode, AllocError>
         ensures { IfOk result (λ node. Makes self.old self.new (Node.Simple node) (AStatement (Simple (simple_of simple.now)))) }
     {
         match simple {
-            SimpleStatement::Expression(e) => Ok(SimpleNode::Evaluate(self.add_expr(e)?)),
+            SimpleStatement::Expression(e) => self.expression_node(e),
             SimpleStatement::Print(list) => Ok(SimpleNode::Print(self.add_list(list)?)),
             SimpleStatement::Next => Ok(SimpleNode::Next),
             SimpleStatement::Break => Ok(SimpleNode::Break),

@@ -6,6 +6,7 @@ mod program;
 mod start;
 
 pub use awk_control::control::Control;
+pub use awk_control::entry::{Entry, State};
 pub use awk_meaning::{
     Fault, Outcome, fault_line, law_of_limits, law_of_outcomes, law_of_turns, status,
 };

@@ -3,7 +3,7 @@
 use crate::rows::was_given;
 use awk_lex::lexer::tokens;
 use awk_plan::lower;
-use awk_plan::node::{BlockNode, ExprNode, Node, Operand, SimpleNode};
+use awk_plan::node::{AssignmentNode, BlockNode, ExprNode, Node, Operand, SimpleNode};
 use awk_plan::plan::{Item, Pattern, Plan};
 use awk_resolve::resolve;
 use awk_run::{Outcome, Start, run};
@@ -14,7 +14,7 @@ use awk_value::Value;
 use std::alloc::{AllocError, Global};
 use std::test::Fail;
 
-fn plan_of(alloc: Global, text: &[u8]) -> Option<Plan> {
+pub(crate) fn plan_of(alloc: Global, text: &[u8]) -> Option<Plan> {
     let tokens = tokens(alloc, text).ok()?;
     let tree = parse(alloc, &tokens).ok()?;
     let tree = resolve(alloc, &tokens, &tree).ok()?;
@@ -41,15 +41,12 @@ fn counts_matches(plan: &Plan, block: u32) -> bool {
     let Some(Node::Block(BlockNode::Then(statement, _))) = plan.node(block) else {
         return false;
     };
-    let Some(Node::Simple(SimpleNode::Evaluate(Operand::Node(place)))) = plan.node(statement) else {
-        return false;
-    };
-    let Some(Node::Expression(node)) = plan.node(place) else {
+    let Some(Node::Simple(SimpleNode::Assignment(node))) = plan.node(statement) else {
         return false;
     };
     matches!(
         node,
-        ExprNode::AssignBy(BinaryOperator::Plus, 13, Operand::Node(_))
+        AssignmentNode::AssignBy(BinaryOperator::Plus, 13, Operand::Node(_))
     )
 }
 

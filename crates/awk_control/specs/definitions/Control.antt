@@ -1,7 +1,7 @@
 -- What has begun and not ended, as the contracts see it, and how many entries that may be.
 use Rattle.std.specs.Prelude.{ℕ, ◌+◌, ◌-◌, ◌<◌, List, take, length}
 use Rattle.std.specs.List.{sum}
-use Rattle.awk_control.specs.declared.stack.Entry.{Entry}
+use Rattle.awk_control.specs.declared.entry.Entry.{Entry}
 use Rattle.awk_control.specs.declared.control.TheConstants.{FIRST_BOUND}
 
 -- the entries, and the heights of the bodies that were entered and not left, the newest last

@@ -3,7 +3,15 @@ use Rattle.std.specs.Prelude.{◌≡◌, ℕ, Option, Some, None}
 use Rattle.awk_tree.specs.Tree as t
 use Rattle.awk_plan.specs.declared.node.SimpleNode.{SimpleNode}
 use Rattle.awk_plan.specs.declared.node.BlockNode.{BlockNode}
+use Rattle.awk_plan.specs.declared.node.BlockNode.TheVariants as blocks
+use Rattle.awk_plan.specs.declared.node.Node.{Node}
+use Rattle.awk_plan.specs.declared.node.Node.TheVariants as n
 use Rattle.awk_plan.specs.Plan.{Program, part_of, statement_in, statements_in, optional_simple_in, made_simple, made_block}
+
+-- the statements that a node is; another node is none
+abbrev pub block_node : Option Node → BlockNode
+block_node (Some (n.Block x)) = x
+block_node other = blocks.NoMore
 
 module _ (plan : Program) (place : ℕ) where
   abbrev pub IsBlock : BlockNode → Type 0

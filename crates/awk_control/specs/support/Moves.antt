@@ -12,15 +12,17 @@ use Rattle.awk_meaning.specs.declared.halt.Halt.{Halt}
 use Rattle.awk_meaning.specs.declared.halt.Halt.TheVariants as halt
 use Rattle.awk_meaning.specs.declared.fault.Fault.TheVariants.{OutOfMemory}
 use Rattle.awk_interpreter.specs.declared.interpreter.Interpreter.{Interpreter}
-use Rattle.awk_control.specs.declared.stack.Loop.{Loop as CodeLoop}
-use Rattle.awk_control.specs.declared.stack.OperandEntry.{OperandEntry}
-use Rattle.awk_control.specs.declared.stack.OperandEntry.TheVariants as o
-use Rattle.awk_control.specs.declared.stack.StatementEntry.{StatementEntry}
-use Rattle.awk_control.specs.declared.stack.StatementEntry.TheVariants as s
-use Rattle.awk_control.specs.declared.stack.LoopEntry.{LoopEntry as CodeLoopEntry}
-use Rattle.awk_control.specs.declared.stack.LoopEntry.TheVariants as l
-use Rattle.awk_control.specs.declared.stack.Entry.{Entry as CodeEntry}
-use Rattle.awk_control.specs.declared.stack.Entry.TheVariants as code
+use Rattle.awk_control.specs.declared.entry.Loop.{Loop as CodeLoop}
+use Rattle.awk_control.specs.declared.entry.OperandEntry.{OperandEntry}
+use Rattle.awk_control.specs.declared.entry.OperandEntry.TheVariants as o
+use Rattle.awk_control.specs.declared.entry.StatementEntry.{StatementEntry}
+use Rattle.awk_control.specs.declared.entry.StatementEntry.TheVariants as s
+use Rattle.awk_control.specs.declared.entry.LoopEntry.{LoopEntry as CodeLoopEntry}
+use Rattle.awk_control.specs.declared.entry.LoopEntry.TheVariants as l
+use Rattle.awk_control.specs.declared.entry.Entry.{Entry as CodeEntry}
+use Rattle.awk_control.specs.declared.entry.Awaited.{Awaited}
+use Rattle.awk_control.specs.declared.entry.Awaited.TheVariants as code
+use Rattle.awk_control.specs.support.Entries.{awaited_at}
 use Rattle.awk_control.specs.declared.stack.Stack.{Stack}
 use Rattle.awk_control.specs.declared.stack.Passed.{Passed}
 use Rattle.awk_control.specs.declared.stack.Passed.TheVariants as passed
@@ -32,7 +34,7 @@ use Rattle.awk_control.specs.declared.stack.Stage.{Stage}
 use Rattle.awk_control.specs.declared.stack.Stage.TheVariants as stage
 use Rattle.awk_meaning.specs.Semantics.{tested, eval}
 use Rattle.awk_interpreter.specs.Simulation.{Simulates, Changes, Spends}
-use Rattle.awk_control.specs.support.Stack.{Loop, Entry, FieldNumber, UnaryOperand, LeftOperand, RightOperand, AndLeft, OrLeft, LogicalRight, Condition, AssignedValue, AssignedByValue, Printed, Evaluated, ExitStatus, Followed, IfCondition, IfElseCondition, LoopEntry, FirstTurn, LoopCondition, LoopTurn, LastPart, Focus, BeginExpr, BeginStatement, BeginBlock, Ended, run_of, Rest, Leads, work}
+use Rattle.awk_control.specs.support.Stack.{Loop, Entry, FieldNumber, UnaryOperand, LeftOperand, RightOperand, AndLeft, OrLeft, LogicalRight, Condition, AssignedValue, AssignedByValue, Stored, StoredBy, Printed, Evaluated, ExitStatus, Followed, IfCondition, IfElseCondition, LoopEntry, FirstTurn, LoopCondition, LoopTurn, LastPart, Focus, BeginExpr, BeginStatement, BeginBlock, Ended, run_of, Rest, Leads, work}
 
 -- the newest value that is kept
 abbrev pub newest : List Value → Value
@@ -40,7 +42,7 @@ newest [] = Nothing
 newest (v ∷ vs) = v
 
 -- how many values are kept for an entry
-abbrev pub kept_for : CodeEntry → ℕ
+abbrev pub kept_for : Awaited → ℕ
 kept_for (code.Expr (o.Right op)) = 1
 kept_for (code.Statement (s.Printed rest n)) = n
 kept_for e = 0
@@ -84,6 +86,8 @@ module _ (plan : Program) where
   operand_entry_of (o.Condition a b) vs = Condition (operand_of plan a) (operand_of plan b)
   operand_entry_of (o.Assigned x) vs = AssignedValue (name_at plan.tables x)
   operand_entry_of (o.AssignedBy op x) vs = AssignedByValue op (name_at plan.tables x)
+  operand_entry_of (o.Stored x) vs = Stored (name_at plan.tables x)
+  operand_entry_of (o.StoredBy op x) vs = StoredBy op (name_at plan.tables x)
 
   abbrev pub statement_entry_of : StatementEntry → List Value → Entry
   statement_entry_of (s.Printed rest n) vs = Printed (reverse (take n vs)) (exprs_in (part_of plan rest))
@@ -100,7 +104,7 @@ module _ (plan : Program) where
   loop_entry_of l.Turn x = LoopTurn (loop_of x)
   loop_entry_of l.LastPart x = LastPart (loop_of x)
 
-  abbrev pub entry_of : CodeEntry → List Value → Entry
+  abbrev pub entry_of : Awaited → List Value → Entry
   entry_of (code.Expr e) vs = operand_entry_of e vs
   entry_of (code.Statement e) vs = statement_entry_of e vs
   entry_of (code.Loop e x) vs = loop_entry_of e x
@@ -108,14 +112,14 @@ module _ (plan : Program) where
   -- entries and values, the topmost and the newest first
   abbrev pub entries_of : List CodeEntry → List Value → List Entry
   entries_of [] vs = []
-  entries_of (e ∷ es) vs = entry_of e vs ∷ entries_of es (drop (kept_for e) vs)
+  entries_of (e ∷ es) vs = entry_of (awaited_at plan e) vs ∷ entries_of es (drop (kept_for (awaited_at plan e)) vs)
 
   abbrev pub stack_of : Stack → List Entry
   stack_of stack = entries_of (reverse stack.control.entries) (reverse stack.values.items)
 
-  -- a stack with an entry on top that was taken off
-  abbrev pub topped : CodeEntry → Stack → List Entry
-  topped e stack = entries_of (e ∷ reverse stack.control.entries) (reverse stack.values.items)
+  -- a stack with an entry on top that was taken off, by what that waited for
+  abbrev pub topped : Awaited → Stack → List Entry
+  topped e stack = entry_of e (reverse stack.values.items) ∷ entries_of (reverse stack.control.entries) (drop (kept_for e) (reverse stack.values.items))
 
   abbrev pub focus_of : CodeFocus → Value → Focus
   focus_of (focus.Expr e) v = BeginExpr (operand_of plan e)

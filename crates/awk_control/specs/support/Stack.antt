@@ -38,6 +38,9 @@ pub data Entry : Type 0 where
   Condition : (a b : t.Expr) → Entry
   AssignedValue : (name : List ℕ) → Entry
   AssignedByValue : (o : BinaryOperator) (name : List ℕ) → Entry
+  -- the value of an assignment that is a statement
+  Stored : (name : List ℕ) → Entry
+  StoredBy : (o : BinaryOperator) (name : List ℕ) → Entry
   -- an expression of a simple statement
   Printed : (front : List Value) (rest : t.Exprs) → Entry
   Evaluated : Entry
@@ -92,6 +95,8 @@ step n LogicalRight g = valued (ret (truth_value (truth_of (value_in g))))
 step n (Condition a b) g = valued (choose (truth_of (value_in g)) (eval a) (eval b))
 step n (AssignedValue x) g = valued (store x (value_in g))
 step n (AssignedByValue o x) g = valued (store_by o x (value_in g))
+step n (Stored x) g = store x (value_in g) >>= λ _. ret flow.Normal
+step n (StoredBy o x) g = store_by o x (value_in g) >>= λ _. ret flow.Normal
 step n (Printed front rest) g = eval_all (front ++ value_in g ∷ []) rest >>= λ vs. print_line vs >>= λ _. ret flow.Normal
 step n Evaluated g = ret flow.Normal
 step n ExitStatus g = set_status (value_in g) >>= λ _. lift (Err halt.Exit)

@@ -4,6 +4,9 @@ use Rattle.awk_value.specs.declared.value.Value.{Value}
 use Rattle.awk_streams.specs.WorldState.{WorldState}
 use Rattle.awk_tree.specs.Tree.{Exprs, Nil, Cons}
 use Rattle.awk_plan.specs.declared.node.ListNode.{ListNode}
+use Rattle.awk_plan.specs.declared.node.ListNode.TheVariants as lists
+use Rattle.awk_plan.specs.declared.node.Node.{Node}
+use Rattle.awk_plan.specs.declared.node.Node.TheVariants as n
 use Rattle.awk_plan.specs.Plan.{Program, part_of, exprs_in, statements_in, made_list}
 use Rattle.awk_meaning.specs.declared.halt.Halt.{Halt}
 use Rattle.awk_meaning.specs.State.{Run, ◌>>=◌}
@@ -12,6 +15,11 @@ use Rattle.awk_meaning.specs.Semantics.{eval_all, print}
 use Rattle.awk_interpreter.specs.declared.interpreter.Interpreter.{Interpreter}
 use Rattle.awk_interpreter.specs.Simulation.{Changes, Follows}
 use Rattle.awk_control.specs.Stack.{BeginBlock, Rest, Leads}
+
+-- the list that a node is; another node is none
+abbrev pub list_node : Option Node → ListNode
+list_node (Some (n.List x)) = x
+list_node other = lists.Nil
 
 abbrev pub IsList : Program → (place : ℕ) → ListNode → Type 0
 IsList plan place n = exprs_in (part_of plan place) ≡ made_list plan.tables (part_of plan) n

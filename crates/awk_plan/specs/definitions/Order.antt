@@ -1,11 +1,13 @@
 -- The order of a plan's nodes: children stand before their parents, and what they name is in the tables.
-use Rattle.std.specs.Prelude.{◌≡◌, ℕ, ◌<◌, List, Some, slice_get}
+use Rattle.std.specs.Prelude.{◌≡◌, ℕ, suc, ◌<◌, List, Some, slice_get}
 use Rattle.awk_value.specs.declared.value.Value.{Value}
 use Rattle.awk_value.specs.declared.value.Value.TheVariants as value
 use Rattle.awk_plan.specs.declared.node.Operand.{Operand}
 use Rattle.awk_plan.specs.declared.node.Operand.TheVariants.{Constant, Variable, Node as ANode}
 use Rattle.awk_plan.specs.declared.node.Node.{Node}
 use Rattle.awk_plan.specs.declared.node.Node.TheVariants as n
+use Rattle.awk_plan.specs.declared.node.AssignmentNode.{AssignmentNode}
+use Rattle.awk_plan.specs.declared.node.AssignmentNode.TheVariants as assigns
 use Rattle.awk_plan.specs.declared.node.ExprNode.TheVariants as exprs
 use Rattle.awk_plan.specs.declared.node.ListNode.TheVariants as lists
 use Rattle.awk_plan.specs.declared.node.SimpleNode.TheVariants as simples
@@ -19,6 +21,12 @@ module _ (place : ℕ) where
   IsBelow (Variable x) = Unit {0}
   IsBelow (ANode i) = i < place
 
+  abbrev pub IsValueBelow : AssignmentNode → Type 0
+  IsValueBelow (assigns.Assign x e) = IsBelow e
+  IsValueBelow (assigns.AssignBy o x e) = IsBelow e
+  IsValueBelow (assigns.PreIncrement o x) = Unit {0}
+  IsValueBelow (assigns.PostIncrement o x) = Unit {0}
+
   -- the children of a node stand before the place
   abbrev pub AreBelow : Node → Type 0
   AreBelow (n.Expression (exprs.Group e)) = IsBelow e
@@ -30,14 +38,12 @@ module _ (place : ℕ) where
   AreBelow (n.Expression (exprs.And a b)) = IsBelow a × IsBelow b
   AreBelow (n.Expression (exprs.Or a b)) = IsBelow a × IsBelow b
   AreBelow (n.Expression (exprs.Conditional c a b)) = IsBelow c × IsBelow a × IsBelow b
-  AreBelow (n.Expression (exprs.Assign x e)) = IsBelow e
-  AreBelow (n.Expression (exprs.AssignBy o x e)) = IsBelow e
-  AreBelow (n.Expression (exprs.PreIncrement o x)) = Unit {0}
-  AreBelow (n.Expression (exprs.PostIncrement o x)) = Unit {0}
+  AreBelow (n.Expression (exprs.Assignment node)) = IsValueBelow node
   AreBelow (n.List lists.Nil) = Unit {0}
-  AreBelow (n.List (lists.Cons e rest)) = IsBelow e × (rest < place)
+  AreBelow (n.List (lists.Cons before e rest)) = IsBelow e × (rest < place)
   AreBelow (n.Statement statements.Empty) = Unit {0}
   AreBelow (n.Simple (simples.Evaluate e)) = IsBelow e
+  AreBelow (n.Simple (simples.Assignment node)) = IsValueBelow node
   AreBelow (n.Simple (simples.Print list)) = list < place
   AreBelow (n.Simple simples.Next) = Unit {0}
   AreBelow (n.Simple simples.Break) = Unit {0}
@@ -76,3 +82,16 @@ HasEre count node = Unit {0}
 
 abbrev pub HaveEres : ℕ → List Node → Type 0
 HaveEres count nodes = (place : ℕ) (node : Node) → slice_get nodes place ≡ Some node → HasEre count node
+
+-- so many expressions of a list stand before the one at a place, if there is one
+abbrev pub HasBefore : List Node → ℕ → ℕ → Type 0
+HasBefore nodes count place = (before : ℕ) (e : Operand) (rest : ℕ) → slice_get nodes place ≡ Some (n.List (lists.Cons before e rest)) → before ≡ count
+
+-- the expressions of a print's list are counted from 0, each by those that stand before it
+abbrev pub IsCounted : List Node → Node → Type 0
+IsCounted nodes (n.List (lists.Cons before e rest)) = HasBefore nodes (suc before) rest
+IsCounted nodes (n.Simple (simples.Print list)) = HasBefore nodes 0 list
+IsCounted nodes node = Unit {0}
+
+abbrev pub AreCounted : List Node → Type 0
+AreCounted nodes = (place : ℕ) (node : Node) → slice_get nodes place ≡ Some node → IsCounted nodes node

@@ -7,12 +7,14 @@ use Rattle.awk_tree.specs.declared.tree.Ere.{Ere}
 use Rattle.awk_plan.specs.declared.node.Operand.{Operand}
 use Rattle.awk_plan.specs.declared.node.Operand.TheVariants.{Constant, Variable, Node as ANode}
 use Rattle.awk_plan.specs.declared.node.Node.{Node}
+use Rattle.awk_plan.specs.declared.node.AssignmentNode.{AssignmentNode}
 use Rattle.awk_plan.specs.declared.node.ExprNode.{ExprNode}
 use Rattle.awk_plan.specs.declared.node.ListNode.{ListNode}
 use Rattle.awk_plan.specs.declared.node.SimpleNode.{SimpleNode}
 use Rattle.awk_plan.specs.declared.node.StatementNode.{StatementNode}
 use Rattle.awk_plan.specs.declared.node.BlockNode.{BlockNode}
 use Rattle.awk_plan.specs.declared.node.Node.TheVariants as n
+use Rattle.awk_plan.specs.declared.node.AssignmentNode.TheVariants as assigns
 use Rattle.awk_plan.specs.declared.node.ExprNode.TheVariants as exprs
 use Rattle.awk_plan.specs.declared.node.ListNode.TheVariants as lists
 use Rattle.awk_plan.specs.declared.node.SimpleNode.TheVariants as simples
@@ -90,6 +92,12 @@ module _ (tables : Tables) where
     operand_in (ANode i) = expr_in (at i)
 
     -- what a node stands for, by what its children stand for
+    abbrev pub made_assignment : AssignmentNode → t.Expr
+    made_assignment (assigns.Assign x e) = t.Assign (name_at x) (operand_in e)
+    made_assignment (assigns.AssignBy o x e) = t.AssignBy o (name_at x) (operand_in e)
+    made_assignment (assigns.PreIncrement o x) = t.PreIncrement o (name_at x)
+    made_assignment (assigns.PostIncrement o x) = t.PostIncrement o (name_at x)
+
     abbrev pub made_expr : ExprNode → t.Expr
     made_expr (exprs.Group e) = t.Group (operand_in e)
     made_expr (exprs.Ere k) = t.Ere (ere_at k)
@@ -100,17 +108,15 @@ module _ (tables : Tables) where
     made_expr (exprs.And a b) = t.And (operand_in a) (operand_in b)
     made_expr (exprs.Or a b) = t.Or (operand_in a) (operand_in b)
     made_expr (exprs.Conditional c a b) = t.Conditional (operand_in c) (operand_in a) (operand_in b)
-    made_expr (exprs.Assign x e) = t.Assign (name_at x) (operand_in e)
-    made_expr (exprs.AssignBy o x e) = t.AssignBy o (name_at x) (operand_in e)
-    made_expr (exprs.PreIncrement o x) = t.PreIncrement o (name_at x)
-    made_expr (exprs.PostIncrement o x) = t.PostIncrement o (name_at x)
+    made_expr (exprs.Assignment node) = made_assignment node
 
     abbrev pub made_list : ListNode → t.Exprs
     made_list lists.Nil = t.Nil
-    made_list (lists.Cons e rest) = t.Cons (operand_in e) (exprs_in (at rest))
+    made_list (lists.Cons before e rest) = t.Cons (operand_in e) (exprs_in (at rest))
 
     abbrev pub made_simple : SimpleNode → t.SimpleStatement
     made_simple (simples.Evaluate e) = t.Expression (operand_in e)
+    made_simple (simples.Assignment node) = t.Expression (made_assignment node)
     made_simple (simples.Print list) = t.Print (exprs_in (at list))
     made_simple simples.Next = t.Next
     made_simple simples.Break = t.Break

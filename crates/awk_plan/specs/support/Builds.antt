@@ -13,7 +13,7 @@ use Rattle.awk_plan.specs.declared.builder.Builder.{Builder}
 use Rattle.awk_plan.specs.declared.expressions.Lowered.{Lowered}
 use Rattle.awk_plan.specs.declared.expressions.Lowered.TheVariants.{Leaf, Inner}
 use Rattle.awk_plan.specs.definitions.Plan.{Tables, texts_of, Part, AnExpr, AStatement, NoPart, operand_in, made, pattern_in, item_in, part_at}
-use Rattle.awk_plan.specs.definitions.Order.{IsBelow, AreBelow, IsOrdered, AreLiterals, HasEre, HaveEres}
+use Rattle.awk_plan.specs.definitions.Order.{IsBelow, AreBelow, IsOrdered, AreLiterals, HasEre, HaveEres, IsCounted, AreCounted}
 
 abbrev pub tables_of : Builder → Tables
 tables_of b = record { constants = b.constants.items; eres = texts_of b.eres.items; names = b.names }
@@ -33,6 +33,7 @@ pub record Grows (old new : Builder) : Type 0 where
   pub ordered : IsOrdered old.nodes.items → IsOrdered new.nodes.items
   pub literals : AreLiterals old.constants.items → AreLiterals new.constants.items
   pub read : HaveEres (length (texts_of old.eres.items)) old.nodes.items → HaveEres (length (texts_of new.eres.items)) new.nodes.items
+  pub counted : IsOrdered old.nodes.items → AreCounted old.nodes.items → AreCounted new.nodes.items
 
 -- a node is added
 pub record Pushes (old new : Builder) (node : Node) (place : ℕ) : Type 0 where
@@ -80,6 +81,7 @@ pub record Makes (old new : Builder) (node : Node) (part : Part) : Type 0 where
   pub grows : Grows old new
   pub below : AreBelow (length new.nodes.items) node
   pub read : HasEre (length (texts_of new.eres.items)) node
+  pub counted : IsCounted new.nodes.items node
   pub stays : (later : Builder) → Grows new later → made (tables_of later) (built_at later) node ≡ part
 
 -- a leaf, or a node once it is added, is the expression

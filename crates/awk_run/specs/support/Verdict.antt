@@ -1,5 +1,5 @@
 -- What the parts of a whole run answer.
-use Rattle.std.specs.Prelude.{◌≡◌, ℕ, List, [], None, Result, Ok, Err}
+use Rattle.std.specs.Prelude.{◌≡◌, List, [], None, Result, Ok, Err}
 use Rattle.awk_lex.specs.declared.refusal.Refusal.{Refusal}
 use Rattle.awk_lex.specs.Refused.{IsOutOfMemory}
 use Rattle.awk_streams.specs.declared.fault.StreamFault.{StreamFault}

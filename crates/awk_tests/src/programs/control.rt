@@ -24,6 +24,14 @@ $ BEGIN { for (i = 0; i < 3; i++) print i; print "end", i }
 > 2
 > end 3
 = 0
+assignments that are statements, to variables that are not replaced in place, and of values that are not found there
+$ BEGIN { NR = 7; NR += 2; print NR; NR++; ++NR; print NR; NR = x++ + 3; NR -= x++; print NR, x; y = x++ " " x; print y; y += x--; print y }
+> 9
+> 11
+> 2 2
+> 2 3
+> 5
+= 0
 parts that are left out
 $ BEGIN { for (;;) { if (i++ > 1) break; print i } for (; j < 2;) print j++; for (print "a"; k < 1; print "c") print k++ }
 > 1

@@ -2,6 +2,8 @@ use Rattle.std.proofs.Common.{refl, arith}
 use Rattle.std.proofs.lemmas.Result.{err_from_is_err_and}
 use Rattle.awk_control.proofs.ExprMoves.{binary_begins}
 use Rattle.awk_control.proofs.Steps.{halts, awaited_plain}
+use Rattle.awk_control.proofs.Entries.{waits}
+use Rattle.awk_control.specs.declared.entry.State.TheVariants as state
 use Rattle.awk_control.proofs.InPlace.{left_read, left_unread, steps_behind}
 use Rattle.awk_expressions.proofs.expressions.begin_binary.Goals as goal
 
@@ -19,4 +21,7 @@ returns-in-Some c =
 pub returns-in-None : goal.returns-in-None
 returns-in-None c =
     let same = rw c.in-None.is at c.in_ok-left.ensures.reads in
-    rw same (awaited_plain _ refl c.await_operand.ensures (λ k. binary_begins _ _ _) (omega arith))
+    rw same (awaited_plain _ (waits c.args.plan.now state.Left c.args.place c.requires.at) refl c.await_operand.ensures (λ k. binary_begins _ _ _) (omega arith))
+
+pub end_left-requires : goal.end_left-requires
+end_left-requires c = record { room = c.requires.room; right = waits c.args.plan.now state.Right c.args.place c.requires.at }

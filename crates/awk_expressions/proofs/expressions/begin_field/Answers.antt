@@ -26,4 +26,4 @@ returns-in_ok-value-in-Some c =
 pub returns-in-None : goal.returns-in-None
 returns-in-None c =
     let same = rw c.in-None.is at c.in_ok-number.ensures.reads in
-    rw same (awaited_plain _ refl c.await_operand.ensures (λ k. field_begins _) (omega arith))
+    rw same (awaited_plain _ refl refl c.await_operand.ensures (λ k. field_begins _) (omega arith))

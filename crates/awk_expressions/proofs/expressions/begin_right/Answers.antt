@@ -32,4 +32,4 @@ returns-in_err-push-in-None c = λ plain g is.
 pub returns-in_ok-push-in-None : goal.returns-in_ok-push-in-None
 returns-in_ok-push-in-None c = λ plain g is.
     let same = rw c.in-None.is at c.in_ok-right.ensures.reads in
-    rw same (awaited_kept _ c.args.stack.now.values.items c.args.x c.in_ok-push-in-None.ensures.items c.await_operand.ensures (λ k. rw (← is) (right_begins _ _ g plain)) (omega arith))
+    rw same (awaited_kept _ c.args.stack.now.values.items c.args.x c.requires.right c.in_ok-push-in-None.ensures.items c.await_operand.ensures (λ k. rw (← is) (right_begins _ _ g plain)) (omega arith))

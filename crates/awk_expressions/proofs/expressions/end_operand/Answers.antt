@@ -32,3 +32,12 @@ returns-in-LogicalRight c = rw (c.in-LogicalRight.is, c.give.ensures.gives, c.gi
 
 pub returns-in-Condition : goal.returns-in-Condition
 returns-in-Condition c = rw c.in-Condition.is (c.chosen.ensures _ _ _ _ (sym c.is_returned_true-in-Condition.ensures))
+
+pub returns-in-Stored : goal.returns-in-Stored
+returns-in-Stored c = rw c.in-Stored.is c.end_stored.ensures
+
+pub returns-in-StoredBy : goal.returns-in-StoredBy
+returns-in-StoredBy c = rw c.in-StoredBy.is c.end_stored_by.ensures
+
+pub end_left-requires : goal.end_left-requires
+end_left-requires c = record { room = rw c.take_value-x.ensures.stack c.requires.room; right = rw c.in-Left.is at c.requires.right }

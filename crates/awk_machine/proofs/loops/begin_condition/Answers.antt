@@ -3,6 +3,8 @@ use Rattle.std.proofs.lemmas.Result.{err_from_is_err_and}
 use Rattle.awk_meaning.specs.declared.flow.Flow.TheVariants.{Normal}
 use Rattle.awk_control.proofs.Steps.{onward, pushed_paid}
 use Rattle.awk_control.proofs.InPlace.{steps_behind, wants_memory_later}
+use Rattle.awk_control.proofs.Entries.{waits_in_loop}
+use Rattle.awk_control.specs.declared.entry.LoopEntry.TheVariants as l
 use Rattle.awk_machine.proofs.loops.begin_condition.Goals as goal
 
 pub returns-in-Ended : goal.returns-in-Ended
@@ -13,7 +15,7 @@ returns-in-Ended c = λ g.
 pub returns-in-Condition : goal.returns-in-Condition
 returns-in-Condition c = λ g.
     let p = c.in-Condition.ensures.stops c.args.stack.now.returned g in
-    steps_behind _ _ (λ k. p.leads _ k) p.steps p.streams (omega arith) (c.await_condition.ensures c.args.plan.now Normal)
+    steps_behind _ _ (λ k. p.leads _ k) p.steps p.streams (omega arith) (c.await_condition.ensures c.args.plan.now Normal c.requires.at)
 
 pub returns-in_err-push-in-Body : goal.returns-in_err-push-in-Body
 returns-in_err-push-in-Body c =
@@ -25,7 +27,7 @@ returns-in_err-push-in-Body c =
 pub returns-in_ok-push-in-Body : goal.returns-in_ok-push-in-Body
 returns-in_ok-push-in-Body c = λ g.
     let p = c.in-Body.ensures.stops c.args.stack.now.returned g in
-    pushed_paid _ c.args.stack.now.values.items _ c.in_ok-push-in-Body.ensures.entries refl refl (λ k. p.leads _ k) c.in-Body.ensures.falls p.streams
+    pushed_paid _ c.args.stack.now.values.items _ (rw c.entry.ensures at c.in_ok-push-in-Body.ensures.entries) refl (waits_in_loop c.args.plan.now l.Turn c.args.l c.requires.at) refl (λ k. p.leads _ k) c.in-Body.ensures.falls p.streams
 
 pub returns-in_err-push-in-Last : goal.returns-in_err-push-in-Last
 returns-in_err-push-in-Last c =
@@ -37,4 +39,4 @@ returns-in_err-push-in-Last c =
 pub returns-in_ok-push-in-Last : goal.returns-in_ok-push-in-Last
 returns-in_ok-push-in-Last c = λ g.
     let p = c.in-Last.ensures.stops c.args.stack.now.returned g in
-    pushed_paid _ c.args.stack.now.values.items _ c.in_ok-push-in-Last.ensures.entries refl refl (λ k. p.leads _ k) c.in-Last.ensures.falls p.streams
+    pushed_paid _ c.args.stack.now.values.items _ (rw c.entry-in-Last.ensures at c.in_ok-push-in-Last.ensures.entries) refl (waits_in_loop c.args.plan.now l.LastPart c.args.l c.requires.at) refl (λ k. p.leads _ k) c.in-Last.ensures.falls p.streams

@@ -3,6 +3,8 @@ use Rattle.std.proofs.lemmas.Result.{err_from_is_err_and}
 use Rattle.awk_meaning.specs.declared.flow.Flow.TheVariants.{Normal}
 use Rattle.awk_control.proofs.Steps.{wants_memory, pushed_onward}
 use Rattle.awk_control.proofs.InPlace.{steps_behind}
+use Rattle.awk_control.proofs.Entries.{waits_in_loop}
+use Rattle.awk_control.specs.declared.entry.LoopEntry.TheVariants as l
 use Rattle.awk_machine.proofs.loops.begin_last.Goals as goal
 
 pub returns-in-None : goal.returns-in-None
@@ -19,4 +21,7 @@ pub returns-in_ok-push-in-Some : goal.returns-in_ok-push-in-Some
 returns-in_ok-push-in-Some c = λ g ends.
     let p = rw c.in-Some.ensures.0 at (c.in-Some.ensures.2 g ends) in
     let w = c.in-Some.ensures.1 in
-    rw c.in-Some.ensures.0 (pushed_onward _ c.args.stack.now.values.items _ c.in_ok-push-in-Some.ensures.entries refl refl (λ k. p.leads _ k) (omega (arith, w)))
+    rw c.in-Some.ensures.0 (pushed_onward _ c.args.stack.now.values.items _ (rw c.entry.ensures at c.in_ok-push-in-Some.ensures.entries) refl (waits_in_loop c.args.plan.now l.LastPart c.args.l c.requires.at) refl (λ k. p.leads _ k) (omega (arith, w)))
+
+pub begin_condition-requires : goal.begin_condition-requires
+begin_condition-requires c = record { room = c.requires.room; at = c.requires.at }

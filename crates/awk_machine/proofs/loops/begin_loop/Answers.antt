@@ -14,4 +14,4 @@ returns-in_err-spend c =
     rw (p.1, p.2) (record { spends = c.in_err-spend.ensures })
 
 pub returns : goal.returns
-returns c = record { spends = (refl, c.in_ok-push.ensures.entries, refl, c.in_ok-spend.ensures) }
+returns c = record { spends = (refl, rw c.entry.ensures at c.in_ok-push.ensures.entries, refl, c.in_ok-spend.ensures) }

@@ -3,6 +3,8 @@ use Rattle.std.specs.Option.{option_map}
 use Rattle.awk_control.specs.Moves.{flow_of}
 use Rattle.awk_control.proofs.LoopMoves.{entry_goes_on, first_turn_ends, first_turn_goes_on, turn_ends, loop_turns, loop_stops, loop_ends}
 use Rattle.awk_control.proofs.Steps.{onward, spent_for, steps_from}
+use Rattle.awk_control.proofs.Entries.{waits_in_loop}
+use Rattle.awk_control.specs.declared.entry.LoopEntry.TheVariants as l
 use Rattle.awk_machine.proofs.loops.end_loop.Goals as goal
 
 pub returns-in-FirstPart : goal.returns-in-FirstPart
@@ -34,7 +36,7 @@ returns-in-None-ending c =
 pub returns-then-is_returned_true : goal.returns-then-is_returned_true
 returns-then-is_returned_true c =
     let holds = sym c.is_returned_true.ensures ∙ c.if-is_returned_true.true in
-    rw c.in-Condition.is (spent_for _ c.begin_turn.ensures refl (λ p k. loop_turns _ _ holds p) (λ h p k. loop_stops _ _ holds p))
+    rw c.in-Condition.is (spent_for _ c.begin_turn.ensures (waits_in_loop c.args.plan.now l.Turn c.args.l c.requires.at) refl (λ p k. loop_turns _ _ holds p) (λ h p k. loop_stops _ _ holds p))
 
 pub returns-else-is_returned_true : goal.returns-else-is_returned_true
 returns-else-is_returned_true c =

@@ -2,6 +2,9 @@ use Rattle.std.proofs.Common.{refl, ◌∙◌, arith}
 use Rattle.std.proofs.lemmas.Result.{err_from_is_err_and}
 use Rattle.awk_control.proofs.LoopMoves.{do_begins, do_stops, do_turn_stops}
 use Rattle.awk_control.proofs.Steps.{halts, wants_memory, pushed_paid}
+use Rattle.awk_control.proofs.Entries.{waits}
+use Rattle.awk_control.specs.declared.entry.State.TheVariants as state
+use Rattle.awk_control.specs.declared.entry.LoopEntry.TheVariants as l
 use Rattle.awk_machine.proofs.machine.begin_do.Goals as goal
 
 pub returns-in_err-push : goal.returns-in_err-push
@@ -26,4 +29,4 @@ pub returns : goal.returns
 returns c =
     let p = c.in_ok-spend.ensures in
     let q = c.in_ok-spend-2.ensures in
-    pushed_paid _ c.args.stack.now.values.items _ c.in_ok-push.ensures.entries refl refl (λ k. do_begins _ _ p q) (omega (arith, p.falls, q.falls)) (q.simulates.streams ∙ p.simulates.streams)
+    pushed_paid _ c.args.stack.now.values.items _ (rw c.entry.ensures at c.in_ok-push.ensures.entries) refl (waits c.args.plan.now (state.Loop l.FirstTurn) c.args.place c.requires.at) refl (λ k. do_begins _ _ p q) (omega (arith, p.falls, q.falls)) (q.simulates.streams ∙ p.simulates.streams)

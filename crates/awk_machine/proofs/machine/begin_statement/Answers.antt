@@ -1,4 +1,4 @@
-use Rattle.std.proofs.Common.{refl, ap, arith}
+use Rattle.std.proofs.Common.{refl, sym, ap, arith}
 use Rattle.awk_plan.specs.Plan.{statement_in}
 use Rattle.awk_control.proofs.StatementMoves.{empty_ends}
 use Rattle.awk_control.proofs.Steps.{onward, stepped}
@@ -21,3 +21,13 @@ returns-in-Some-Absent g c = rw (ap statement_in c.in-Some-Absent.ensures.some, 
 
 pub returns-in-None : goal.returns-in-None
 returns-in-None g c = rw (ap statement_in c.in-None.ensures.none) (stepped _ (onward refl (λ k. empty_ends) (omega arith) (omega arith) refl))
+
+pub begin_simple-requires : goal.begin_simple-requires
+begin_simple-requires g c = record {
+  room = c.requires.room;
+  at = sym (rw c.in-Some-Simple.field-0-is at c.in-Some-Simple.ensures.found);
+  counted = rw c.in-Some-Simple.field-0-is at c.in-Some-Simple.ensures.counted;
+}
+
+pub begin_compound-requires : goal.begin_compound-requires
+begin_compound-requires g c = record { room = c.requires.room; at = sym (rw c.in-Some-Statement.field-0-is at c.in-Some-Statement.ensures.found) }

@@ -6,7 +6,7 @@ use Rattle.awk_machine.proofs.prints_in_place.execute_print.Goals as goal
 pub returns-in_err-print_list-in-Cons : goal.returns-in_err-print_list-in-Cons
 returns-in_err-print_list-in-Cons g c =
     let p = err_from_is_err_and c.from_residual-in_err-print_list-in-Cons.result c.from_residual-in_err-print_list-in-Cons.ensures.1 in
-    rw (p.1, p.2, c.list.ensures, c.in-Cons.is) (list_follows _ _ (c.take_step.ensures.spends c.if-take_step.true) (rw (c.list.ensures, c.in-Cons.is) at c.in_err-print_list-in-Cons.ensures))
+    rw (p.1, p.2, c.list.ensures.list, c.in-Cons.is) (list_follows _ _ (c.take_step.ensures.spends c.if-take_step.true) (rw (c.list.ensures.list, c.in-Cons.is) at c.in_err-print_list-in-Cons.ensures))
 
 pub returns-then-branch : goal.returns-then-branch
 returns-then-branch g c =
@@ -14,4 +14,4 @@ returns-then-branch g c =
     let q = rw c.if-branch.true at c.in_ok-print_list-in-Cons.ensures in
     let low = s.falls in
     let less = q.simulates.steps in
-    rw (c.list.ensures, c.in-Cons.is) (record { follows = list_follows _ _ s (rw (c.list.ensures, c.in-Cons.is) at q); falls = omega (arith, low, less) })
+    rw (c.list.ensures.list, c.in-Cons.is) (record { follows = list_follows _ _ s (rw (c.list.ensures.list, c.in-Cons.is) at q); falls = omega (arith, low, less) })

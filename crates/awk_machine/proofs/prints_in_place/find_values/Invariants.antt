@@ -1,4 +1,4 @@
-use Rattle.std.proofs.Common.{◌≡◌, List, ℕ}
+use Rattle.std.proofs.Common.{◌≡◌, List}
 use Rattle.awk_value.specs.declared.value.Value.{Value}
 use Rattle.awk_plan.specs.Plan.{part_of, exprs_in}
 use Rattle.awk_machine.specs.support.Printed.{FindsAll, count_of}

@@ -6,10 +6,10 @@ pub returns-in_err-execute_print : goal.returns-in_err-execute_print
 returns-in_err-execute_print g c =
     let p = err_from_is_err_and c.from_residual.result c.from_residual.ensures.1 in
     let s = rw c.in-Some-Print.field-0-is at c.in-Some-Print.ensures.0 in
-    rw (p.1, p.2, c.block.ensures, c.in-Then.is, s) (print_stops_there _ _ c.in_err-execute_print.ensures)
+    rw (p.1, p.2, c.block.ensures.statements, c.in-Then.is, s) (print_stops_there _ _ c.in_err-execute_print.ensures)
 
 pub returns-then-branch : goal.returns-then-branch
 returns-then-branch g c =
     let s = rw c.in-Some-Print.field-0-is at c.in-Some-Print.ensures.0 in
     let q = rw c.if-branch.true at c.in_ok-execute_print.ensures in
-    record { leads = rw (c.block.ensures, c.in-Then.is, s) (print_passes _ _ q.follows); falls = q.falls }
+    record { leads = rw (c.block.ensures.statements, c.in-Then.is, s) (print_passes _ _ q.follows); falls = q.falls }

@@ -7,11 +7,20 @@ use Rattle.awk_machine.proofs.statements.begin_simple.Goals as goal
 pub returns-in-Print : goal.returns-in-Print
 returns-in-Print g c = rw c.in-Print.is c.begin_print.ensures
 
+pub begin_print-requires : goal.begin_print-requires
+begin_print-requires g c = record { room = c.requires.room; counted = rw c.in-Print.is at c.requires.counted }
+
+pub returns-in-Assignment : goal.returns-in-Assignment
+returns-in-Assignment g c = rw c.in-Assignment.is (stepped _ c.begin_store.ensures)
+
+pub begin_store-requires : goal.begin_store-requires
+begin_store-requires g c = record { room = c.requires.room; at = rw c.in-Assignment.is at c.requires.at }
+
 pub returns-in-Evaluate : goal.returns-in-Evaluate
-returns-in-Evaluate g c = rw c.in-Evaluate.is (stepped _ (spent_for _ c.spend_for.ensures refl (λ p k. expression_begins _ p) (λ h p k. expression_stops _ p)))
+returns-in-Evaluate g c = rw c.in-Evaluate.is (stepped _ (spent_for _ c.spend_for.ensures refl refl (λ p k. expression_begins _ p) (λ h p k. expression_stops _ p)))
 
 pub returns-in-ExitWith : goal.returns-in-ExitWith
-returns-in-ExitWith g c = rw c.in-ExitWith.is (stepped _ (spent_for _ c.spend_for-in-ExitWith.ensures refl (λ p k. exit_begins _ p) (λ h p k. exit_stops _ p)))
+returns-in-ExitWith g c = rw c.in-ExitWith.is (stepped _ (spent_for _ c.spend_for-in-ExitWith.ensures refl refl (λ p k. exit_begins _ p) (λ h p k. exit_stops _ p)))
 
 pub returns-in_err-spend-in-Next : goal.returns-in_err-spend-in-Next
 returns-in_err-spend-in-Next g c =

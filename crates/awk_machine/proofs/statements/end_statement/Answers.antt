@@ -34,3 +34,6 @@ pub returns-else-is_returned_true-2 : goal.returns-else-is_returned_true-2
 returns-else-is_returned_true-2 g c =
     let fails = sym c.is_returned_true-in-IfElseCondition.ensures ∙ c.if-is_returned_true-2.false in
     rw c.in-IfElseCondition.is (stepped _ (onward refl (λ k. if_else_fails _ _ _ fails) (omega arith) (omega arith) refl))
+
+pub end_printed-requires : goal.end_printed-requires
+end_printed-requires g c = record { room = c.requires.room; counted = rw c.in-Printed.is at c.requires.counted }

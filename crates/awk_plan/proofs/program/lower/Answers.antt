@@ -12,4 +12,4 @@ returns c = c.in_ok-items.ensures.stays c.add_items.new.self (grows_refl c.add_i
 pub invariant_of-result : goal.invariant_of-result
 invariant_of-result c =
     let same = c.in_ok-items.ensures.stays c.add_items.new.self (grows_refl c.add_items.new.self) ∙ ap items_of c.deref.ensures.value in
-    (search rules, search rules, search rules, subst (λ (all : List Item). height_of_items all ≤ max_height) (sym same) c.requires)
+    (search rules, search rules, search rules, search rules, subst (λ (all : List Item). height_of_items all ≤ max_height) (sym same) c.requires)

@@ -37,17 +37,17 @@ lowered-returns-in_ok-add_expr-in-Conditional t c =
 
 pub lowered-returns-in_ok-add_expr-in-Assign : goal.lowered-returns-in_ok-add_expr-in-Assign
 lowered-returns-in_ok-add_expr-in-Assign t c =
-    rw (ap expr_of c.in-Assign.is) (assign_made c.in_ok-number_of-in-Assign.ensures (rw c.deref-in-Assign.ensures at c.in_ok-add_expr-in-Assign.ensures))
+    rw (ap expr_of c.in-Assign.is, c.assignment.ensures) (assign_made c.in_ok-name-in-Assign.ensures (rw c.deref-in-Assign.ensures at c.in_ok-add_expr-in-Assign.ensures))
 
 pub lowered-returns-in_ok-add_expr-in-AssignBy : goal.lowered-returns-in_ok-add_expr-in-AssignBy
 lowered-returns-in_ok-add_expr-in-AssignBy t c =
-    rw (ap expr_of c.in-AssignBy.is) (assign_by_made c.in_ok-name-in-AssignBy.ensures (rw c.deref-in-AssignBy.ensures at c.in_ok-add_expr-in-AssignBy.ensures) c.in-AssignBy.o)
+    rw (ap expr_of c.in-AssignBy.is, c.assignment-in-AssignBy.ensures) (assign_by_made c.in_ok-name-in-AssignBy.ensures (rw c.deref-in-AssignBy.ensures at c.in_ok-add_expr-in-AssignBy.ensures) c.in-AssignBy.o)
 
 pub lowered-returns-in_ok-number_of-in-PreIncrement : goal.lowered-returns-in_ok-number_of-in-PreIncrement
-lowered-returns-in_ok-number_of-in-PreIncrement t c = rw (ap expr_of c.in-PreIncrement.is) (pre_increment_made c.in_ok-number_of-in-PreIncrement.ensures c.in-PreIncrement.o)
+lowered-returns-in_ok-number_of-in-PreIncrement t c = rw (ap expr_of c.in-PreIncrement.is, c.assignment-in-PreIncrement.ensures) (pre_increment_made c.in_ok-number_of-in-PreIncrement.ensures c.in-PreIncrement.o)
 
 pub lowered-returns-in_ok-number_of-in-PostIncrement : goal.lowered-returns-in_ok-number_of-in-PostIncrement
-lowered-returns-in_ok-number_of-in-PostIncrement t c = rw (ap expr_of c.in-PostIncrement.is) (post_increment_made c.in_ok-number_of-in-PostIncrement.ensures c.in-PostIncrement.o)
+lowered-returns-in_ok-number_of-in-PostIncrement t c = rw (ap expr_of c.in-PostIncrement.is, c.assignment-in-PostIncrement.ensures) (post_increment_made c.in_ok-number_of-in-PostIncrement.ensures c.in-PostIncrement.o)
 
 pub lowered-returns-in_ok-add_ere-in-Ere : goal.lowered-returns-in_ok-add_ere-in-Ere
 lowered-returns-in_ok-add_ere-in-Ere t c = rw (ap expr_of c.in-Ere.is) (ere_made c.in_ok-add_ere-in-Ere.ensures)

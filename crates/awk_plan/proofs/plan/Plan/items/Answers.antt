@@ -8,4 +8,4 @@ pub returns-clause-value : goal.returns-clause-value
 returns-clause-value c = search rules
 
 pub returns-clause-low : goal.returns-clause-low
-returns-clause-low c = subst (λ (p : Program). height_of_items (items_of p) ≤ max_height) c.self.view_is c.self.invariant.3
+returns-clause-low c = subst (λ (p : Program). height_of_items (items_of p) ≤ max_height) c.self.view_is c.self.invariant.4

@@ -2,7 +2,7 @@ use Rattle.std.proofs.lemmas.Result.{err_from_is_err_and}
 use Rattle.awk_value.specs.declared.value.Value.TheVariants.{Nothing}
 use Rattle.awk_control.specs.Moves.{with_value}
 use Rattle.awk_expressions.proofs.OperandMoves.{assigned_by_steps, assigned_by_fails}
-use Rattle.awk_expressions.proofs.expressions.end_assigned_by.Goals as goal
+use Rattle.awk_expressions.proofs.assignment_moves.end_assigned_by.Goals as goal
 
 pub returns-in_err-stored : goal.returns-in_err-stored
 returns-in_err-stored c =
