@@ -1,5 +1,5 @@
 -- Values that count as numbers: operators make the same of them as of the numbers.
-use Rattle.std.proofs.Common.{◌≡◌, ℤ, Bool, true, false, not, Option, Some, None, List, [], ℕ, Result, Ok, refl, sym, ap, ◌∙◌, subst, true≢false}
+use Rattle.std.proofs.Common.{◌≡◌, ℤ, false, not, Option, Some, None, List, [], ℕ, Result, Ok, refl, sym, ap, ◌∙◌, subst, true≢false}
 use Rattle.std.specs.Prelude.{IfSome}
 use Rattle.std.specs.Ordering.{int_cmp}
 use Rattle.awk_value.specs.declared.value.Value.{Value}
@@ -14,8 +14,8 @@ use Rattle.awk_tree.specs.declared.tree.UnaryOperator.{UnaryOperator}
 use Rattle.awk_tree.specs.declared.tree.UnaryOperator.TheVariants as unary
 use Rattle.awk_meaning.specs.declared.halt.Halt.{Halt}
 use Rattle.awk_meaning.specs.Faults.{of_values}
-use Rattle.awk_meaning.specs.Operators.{applied, changed, field_by, field_value, relates, truth_value, takes_pattern}
-use Rattle.awk_meaning.specs.State.{State, Run, ◌>>=◌}
+use Rattle.awk_meaning.specs.Operators.{applied, changed, field_by, relates, truth_value, takes_pattern}
+use Rattle.awk_meaning.specs.State.{State, Run}
 use Rattle.awk_meaning.specs.Primitives.{read_name, field_at}
 use Rattle.awk_meaning.specs.Semantics.{eval}
 use Rattle.awk_interpreter.specs.declared.interpreter.Interpreter.{Interpreter}

@@ -1,10 +1,9 @@
 -- Statements that are executed in place.
-use Rattle.std.proofs.Common.{◌≡◌, ℕ, suc, ◌-◌, ◌<◌, Bool, true, false, Result, Ok, refl, sym, ap, ◌∙◌, subst, arith}
+use Rattle.std.proofs.Common.{◌≡◌, ◌-◌, true, false, Ok, refl, ap, ◌∙◌, arith}
 use Rattle.awk_tree.specs.Tree as t
 use Rattle.awk_meaning.specs.declared.flow.Flow.{Flow}
 use Rattle.awk_meaning.specs.declared.flow.Flow.TheVariants as flow
-use Rattle.awk_meaning.specs.declared.halt.Halt.{Halt}
-use Rattle.awk_meaning.specs.State.{State, Run, ◌>>=◌, lift, ret}
+use Rattle.awk_meaning.specs.State.{State, Run, ◌>>=◌, ret}
 use Rattle.awk_meaning.specs.Primitives.{spend, print_line}
 use Rattle.awk_meaning.specs.Semantics.{tested, choose, eval, printed_values, print, begin_test, exec_simple, exec}
 use Rattle.awk_interpreter.specs.declared.interpreter.Interpreter.{Interpreter}

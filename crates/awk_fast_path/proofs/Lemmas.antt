@@ -1,10 +1,16 @@
 -- What evaluation gives where numbers are found in place.
-use Rattle.std.proofs.Common.{◌≡◌, ℤ, pos, Bool, true, false, List, ℕ, Option, Some, None, Result, Ok, refl, sym, ap, ◌∙◌, subst}
+use Rattle.std.proofs.Common.{◌≡◌, ℤ, pos, Bool, true, false, List, ℕ, Option, Some, None, Result, Ok, Err, refl, sym, ap, ◌∙◌, subst, arith, to_z}
 use Rattle.std.specs.Prelude.{IfSome, OnSome}
+use Rattle.std.specs.Result.{result_ok}
+use Rattle.std.proofs.lemmas.Int.{ints}
+use mir.Syntax.{w128}
+use mir.Val.{of_z, SFits}
+use Rattle.awk_value.specs.declared.fault.ValueFault.{ValueFault}
 use Rattle.std.specs.Option.{option_map}
 use Rattle.awk_value.specs.declared.value.Value.{Value}
 use Rattle.awk_value.specs.declared.value.Value.TheVariants.{Number}
-use Rattle.awk_value.specs.Values.{truth_of}
+use Rattle.awk_value.specs.Values.{truth_of, number_value}
+use Rattle.awk_meaning.specs.Faults.{of_values}
 use Rattle.awk_lex.specs.declared.token.IncrementOperator.{IncrementOperator}
 use Rattle.awk_tree.specs.Tree as t
 use Rattle.awk_tree.specs.declared.tree.BinaryOperator.{BinaryOperator}
@@ -64,11 +70,32 @@ joined_by : (o : BinaryOperator) (a b : t.Expr) (v w : Value) (n : ℤ) {m : Int
 unfolding eval
 joined_by o a b v w n {m = m} plain p q is = then_changes _ p (then_changes _ (plain_operand (takes_pattern o) b plain q) (known (Number n) m is))
 
+-- a number is passed as it is
+pub passed : (n : ℤ) → SFits w128 n → to_z w128 (of_z w128 n) ≡ n
+passed n fits = omega (arith, ints)
+
+-- the number of an operation that gives one
+made : (r : Result ℤ ValueFault) → IfSome (result_ok r) (λ n. of_values (number_value r) ≡ Ok (Number n))
+made (Ok n) = refl
+made (Err fault) = tt
+
+pub made_of : (operation : ℤ → ℤ → Result ℤ ValueFault) (x y a b : ℤ) → a ≡ x → b ≡ y → IfSome (result_ok (operation a b)) (λ n. of_values (number_value (operation x y)) ≡ Ok (Number n))
+made_of operation x y a b e h = rw (e, h) (made (operation x y))
+
+pub if_some : {P : Type 0} (r : Option ℤ) → P → OnSome r P
+if_some None p = tt
+if_some (Some n) p = p
+
 pub joined_finds : (o : BinaryOperator) (a b : t.Expr) (x y : ℤ) (r : Option ℤ) {m mid : Interpreter} → mid ≡ m → HasNumber (eval a) m x → HasNumber (eval b) mid y → IfSome r (λ n. applied o (Number x) (Number y) ≡ Ok (Number n)) → OnSome r (takes_pattern o ≡ false) → Finds (t.Binary o a b) m r
 joined_finds o a b x y (Some n) {m = m} same p other is plain =
     let q = subst (λ i. HasNumber (eval b) i y) same other in
     joined_by o a b p.value q.value n plain p.changes q.changes (applied_alike o p.value q.value plain p.counts q.counts is)
 joined_finds o a b x y None same p q is plain = tt
+
+pub compared_tests : (o : BinaryOperator) (a b : t.Expr) (x y : ℤ) (r : Option Bool) {m mid : Interpreter} → mid ≡ m → HasNumber (eval a) m x → HasNumber (eval b) mid y → IfSome r (λ c. applied o (Number x) (Number y) ≡ Ok (truth_value c)) → OnSome r (takes_pattern o ≡ false) → IfSome r (λ c. Tests (t.Binary o a b) m c)
+compared_tests o a b x y (Some true) same p q is plain = record { value = Number (pos 1); changes = joined_finds o a b x y (Some (pos 1)) same p q is plain; truth = refl }
+compared_tests o a b x y (Some false) same p q is plain = record { value = Number (pos 0); changes = joined_finds o a b x y (Some (pos 0)) same p q is plain; truth = refl }
+compared_tests o a b x y None same p q is plain = tt
 
 changed_by : (o : UnaryOperator) (e : t.Expr) (v : Value) (n : ℤ) (m : Interpreter) → Changes (eval e) m m (Ok v) → changed o v ≡ Ok (Number n) → Changes (eval (t.Unary o e)) m m (Ok (Number n))
 unfolding eval

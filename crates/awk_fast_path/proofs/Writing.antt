@@ -1,5 +1,5 @@
 -- Texts that are made in place.
-use Rattle.std.proofs.Common.{◌≡◌, ℕ, ℤ, Bool, true, false, List, [], ◌++◌, Option, Some, None, Result, Ok, Err, refl, sym, ap, ◌∙◌, subst, true≢false}
+use Rattle.std.proofs.Common.{◌≡◌, ℕ, ℤ, true, List, [], ◌++◌, Option, Some, None, Result, Ok, Err, refl, sym, ap, ◌∙◌, subst, true≢false}
 use Rattle.std.specs.Prelude.{IfSome, IfOk, OnOk, is_some, is_ok}
 use Rattle.std.specs.Result.{result_ok}
 use Rattle.std.proofs.lemmas.List.{append_assoc, append-nil}
@@ -9,12 +9,11 @@ use Rattle.awk_value.specs.Values.{str_of}
 use Rattle.awk_tree.specs.Tree as t
 use Rattle.awk_tree.specs.declared.tree.BinaryOperator.TheVariants.{Concatenate}
 use Rattle.awk_variables.specs.Variables.{value_of}
-use Rattle.awk_meaning.specs.State.{◌>>=◌, lift, ret}
 use Rattle.awk_plan.specs.Plan.{literal_of}
 use Rattle.awk_plan.specs.Order.{IsLiteral}
 use Rattle.awk_meaning.specs.declared.halt.Halt.{Halt}
 use Rattle.awk_meaning.specs.Primitives.{read_name, field_at}
-use Rattle.awk_meaning.specs.Semantics.{right_operand, store, eval}
+use Rattle.awk_meaning.specs.Semantics.{store, eval}
 use Rattle.awk_interpreter.specs.declared.interpreter.Interpreter.{Interpreter}
 use Rattle.awk_interpreter.specs.Simulation.{Changes}
 use Rattle.awk_interpreter.proofs.Composition.{then_changes, lift_changes}

@@ -1,11 +1,11 @@
 // The number that an expression has, or as which its value counts, where it is found in place.
 
-ghost use Rattle.std.specs.Prelude.{◌≡◌, codes, IfSome};
+ghost use Rattle.std.specs.Prelude.{◌≡◌, codes, false, IfSome, OnSome, Ok};
 ghost use Rattle.std.specs.Option.{option_map};
 ghost use Rattle.awk_value.specs.Values.{truth_of};
 ghost use Rattle.awk_value.specs.declared.value.Value.TheVariants.{Number};
 ghost use Rattle.awk_tree.specs.Tree.{And, Or, Conditional, Binary, Field, Name};
-ghost use Rattle.awk_meaning.specs.Operators.{truth_value};
+ghost use Rattle.awk_meaning.specs.Operators.{applied, takes_pattern, truth_value};
 ghost use Rattle.awk_meaning.specs.Primitives.{read_name};
 ghost use Rattle.awk_meaning.specs.Semantics.{eval};
 ghost use Rattle.awk_plan.specs.Plan.{operand_of, part_of, expr_in, made_expr, name_at};
@@ -16,7 +16,8 @@ use awk_operators::{apply_to_numbers, change};
 use awk_plan::node::{ExprNode, Node, Operand};
 use awk_plan::plan::Plan;
 use awk_tree::tree::{BinaryOperator, UnaryOperator};
-use awk_value::{Value, numeric_of};
+use awk_value::{Value, add, numeric_of, sub};
+use std::cmp::Ordering;
 use std::marker::PhantomData;
 
 /// The name of a variable.
@@ -37,6 +38,7 @@ fn variable(plan: &Plan, number: u32, interpreter: &Interpreter) -> Option<i128>
 }
 
 /// The number as which the value of a name counts that stands at its place.
+#[inline(always)]
 pub(crate) fn named_number(number: u32, name: &[u8], interpreter: &Interpreter) -> Option<i128>
     ensures { IfSome result (λ n. HasNumber (read_name name.now) interpreter.now n) }
 {
@@ -47,6 +49,7 @@ pub(crate) fn named_number(number: u32, name: &[u8], interpreter: &Interpreter) 
 }
 
 /// The number as which the value of a variable counts.
+#[inline(always)]
 fn counted_variable(plan: &Plan, number: u32, interpreter: &Interpreter) -> Option<i128>
     ensures { Counts (operand_of plan.now (Operand.Variable number)) interpreter.now result }
 {
@@ -137,7 +140,11 @@ impl Depth for Leaf {
 
 /// The number of an operand, if it is found so deep. A constant and a variable are read where they stand, without a call.
 #[inline(always)]
-fn operand<D: Depth>(plan: &Plan, e: Operand, interpreter: &mut Interpreter) -> Option<i128>
+pub(crate) fn operand<D: Depth>(
+    plan: &Plan,
+    e: Operand,
+    interpreter: &mut Interpreter,
+) -> Option<i128>
     ensures found { Finds (operand_of plan.now e) interpreter.old result }
     ensures kept { interpreter.new ≡ interpreter.old }
 {
@@ -161,7 +168,10 @@ fn counted<D: Depth>(plan: &Plan, e: Operand, interpreter: &mut Interpreter) -> 
         Operand::Constant(number) => constant(plan, number, interpreter),
         Operand::Variable(number) => counted_variable(plan, number, interpreter),
         Operand::Node(place) => match expression(plan, place) {
-            Some(node) => D::counted(plan, node, interpreter),
+            Some(node) => match node {
+                ExprNode::Field(_) | ExprNode::Group(_) => D::counted(plan, node, interpreter),
+                _ => D::number(plan, node, interpreter),
+            },
             None => None,
         },
     }
@@ -207,6 +217,19 @@ fn is_of_texts(operator: BinaryOperator) -> bool {
     )
 }
 
+/// The number that an operator makes of two numbers. Sums and differences, which are the most frequent, take no call.
+#[inline(always)]
+pub(crate) fn joined_numbers(operator: BinaryOperator, x: i128, y: i128) -> Option<i128>
+    ensures applied { IfSome result (λ n. applied operator (Number x) (Number y) ≡ Ok (Number n)) }
+    ensures plain { OnSome result (takes_pattern operator ≡ false) }
+{
+    match operator {
+        BinaryOperator::Plus => add(x, y).ok(),
+        BinaryOperator::Minus => sub(x, y).ok(),
+        _ => apply_to_numbers(operator, x, y),
+    }
+}
+
 /// The number that an operator makes of two operands.
 fn joined<D: Depth>(
     plan: &Plan,
@@ -223,7 +246,7 @@ fn joined<D: Depth>(
     }
     let x = counted::<D>(plan, a, interpreter)?;
     let y = counted::<D>(plan, b, interpreter)?;
-    apply_to_numbers(operator, x, y)
+    joined_numbers(operator, x, y)
 }
 
 /// Whether a number isn't zero.
@@ -308,17 +331,65 @@ fn chosen<D: Depth>(
     }
 }
 
-/// So deep is looked: five operators, groups and fields among them.
-pub(crate) type Deepest = Over<Over<Over<Over<Over<Leaf>>>>>;
+/// Whether a comparison of two numbers is true. `None` for an operator that doesn't compare.
+fn compare(operator: BinaryOperator, x: i128, y: i128) -> Option<bool>
+    ensures applied { IfSome result (λ b. applied operator (Number x) (Number y) ≡ Ok (truth_value b)) }
+    ensures plain { OnSome result (takes_pattern operator ≡ false) }
+{
+    let order = x.cmp(&y);
+    match operator {
+        BinaryOperator::Less => Some(order == Ordering::Less),
+        BinaryOperator::LessEqual => Some(order != Ordering::Greater),
+        BinaryOperator::Equal => Some(order == Ordering::Equal),
+        BinaryOperator::NotEqual => Some(order != Ordering::Equal),
+        BinaryOperator::Greater => Some(order == Ordering::Greater),
+        BinaryOperator::GreaterEqual => Some(order != Ordering::Less),
+        _ => None,
+    }
+}
 
-/// The number of an expression.
-#[inline(always)]
-pub(crate) fn number(plan: &Plan, e: Operand, interpreter: &mut Interpreter) -> Option<i128>
-    ensures found { Finds (operand_of plan.now e) interpreter.old result }
+/// Whether a comparison of two operands is true, if both count as numbers that are found so deep.
+fn compared<D: Depth>(
+    plan: &Plan,
+    operator: BinaryOperator,
+    a: Operand,
+    b: Operand,
+    interpreter: &mut Interpreter,
+) -> Option<bool>
+    ensures found { IfSome result (λ c. Tests (Binary operator (operand_of plan.now a) (operand_of plan.now b))
+        interpreter.old c) }
     ensures kept { interpreter.new ≡ interpreter.old }
 {
-    operand::<Deepest>(plan, e, interpreter)
+    let x = counted::<D>(plan, a, interpreter)?;
+    let y = counted::<D>(plan, b, interpreter)?;
+    compare(operator, x, y)
 }
+
+/// The operator and the operands of a comparison.
+fn comparison(plan: &Plan, e: Operand) -> Option<(BinaryOperator, Operand, Operand)>
+    ensures { IfSome result (λ r. operand_of plan.now e ≡ Binary r.0 (operand_of plan.now r.1) (operand_of plan.now r.2)) }
+{
+    let Operand::Node(place) = e else {
+        return None;
+    };
+    match expression(plan, place) {
+        Some(ExprNode::Binary(operator, a, b)) => match operator {
+            BinaryOperator::Less
+            | BinaryOperator::LessEqual
+            | BinaryOperator::Equal
+            | BinaryOperator::NotEqual
+            | BinaryOperator::Greater
+            | BinaryOperator::GreaterEqual => Some((operator, a, b)),
+            _ => None,
+        },
+        _ => None,
+    }
+}
+
+type Operands = Over<Over<Over<Over<Leaf>>>>;
+
+/// So deep is looked: five operators, groups and fields among them.
+pub(crate) type Deepest = Over<Operands>;
 
 /// The number as which the value of an expression counts.
 #[inline(always)]
@@ -335,5 +406,8 @@ pub fn test(plan: &Plan, e: Operand, interpreter: &mut Interpreter) -> Option<bo
     ensures found { IfSome result (λ b. Tests (operand_of plan.now e) interpreter.old b) }
     ensures kept { interpreter.new ≡ interpreter.old }
 {
-    tested::<Deepest>(plan, e, interpreter)
+    match comparison(plan, e) {
+        Some((operator, a, b)) => compared::<Operands>(plan, operator, a, b, interpreter),
+        None => tested::<Deepest>(plan, e, interpreter),
+    }
 }

@@ -8,11 +8,10 @@ ghost use Rattle.awk_meaning.specs.Semantics.{exec};
 ghost use Rattle.awk_fast_path.specs.support.Found.{Evaluates};
 ghost use Rattle.awk_fast_path.specs.support.Executed.{Executes, RunsBy, IsIf, behind_simple, behind_if, branch_of, given_back};
 
-use crate::numbers::{counted_number, name, named_number, number, test};
+use crate::numbers::{Deepest, counted_number, joined_numbers, name, named_number, operand, test};
 use crate::texts::assign_value;
 use awk_interpreter::Interpreter;
 use awk_lex::token::IncrementOperator;
-use awk_operators::apply_to_numbers;
 use awk_plan::node::{AssignmentNode, Node, Operand, SimpleNode, StatementNode};
 use awk_plan::plan::Plan;
 use awk_tree::tree::BinaryOperator;
@@ -36,7 +35,7 @@ fn assign(plan: &Plan, x: u32, e: Operand, interpreter: &mut Interpreter) -> boo
     let Some(name) = name(plan, x) else {
         return false;
     };
-    let n = number(plan, e, interpreter);
+    let n = operand::<Deepest>(plan, e, interpreter);
     if interpreter.put_number(x, name, n) {
         return true;
     }
@@ -44,6 +43,7 @@ fn assign(plan: &Plan, x: u32, e: Operand, interpreter: &mut Interpreter) -> boo
 }
 
 /// Gives a variable what an operator makes of its number and of an expression's.
+#[inline(always)]
 fn assign_by(
     plan: &Plan,
     operator: BinaryOperator,
@@ -64,10 +64,11 @@ fn assign_by(
     let Some(old) = named_number(x, name, interpreter) else {
         return false;
     };
-    interpreter.put_number(x, name, apply_to_numbers(operator, old, n))
+    interpreter.put_number(x, name, joined_numbers(operator, old, n))
 }
 
 /// Adds 1 to a variable's number or takes 1 away.
+#[inline(always)]
 fn increment(
     plan: &Plan,
     operator: IncrementOperator,
@@ -86,11 +87,12 @@ fn increment(
     let Some(old) = named_number(x, name, interpreter) else {
         return false;
     };
-    interpreter.put_number(x, name, apply_to_numbers(by_one(operator), old, 1))
+    interpreter.put_number(x, name, joined_numbers(by_one(operator), old, 1))
 }
 
 /// Evaluates an assignment whose value nothing waits for, if that can be done in place. Else nothing changes. (POSIX awk,
 /// Expressions in awk)
+#[inline(always)]
 fn evaluate(plan: &Plan, node: AssignmentNode, interpreter: &mut Interpreter) -> bool
     ensures done { result ≡ true → Evaluates (made_assignment plan.now.tables (part_of plan.now) node) interpreter.old
         interpreter.new }
@@ -126,6 +128,7 @@ fn give_back(ran: Ran, steps: u64, interpreter: &mut Interpreter)
 }
 
 /// What a simple statement does behind its step.
+#[inline(always)]
 fn behind_simple(plan: &Plan, simple: SimpleNode, interpreter: &mut Interpreter) -> Ran
     ensures { RunsBy (behind_simple (made_simple plan.now.tables (part_of plan.now) simple)) interpreter.old result
         interpreter.new }
@@ -144,6 +147,7 @@ fn behind_simple(plan: &Plan, simple: SimpleNode, interpreter: &mut Interpreter)
 }
 
 /// Executes a simple statement.
+#[inline(always)]
 fn execute_simple(plan: &Plan, simple: SimpleNode, interpreter: &mut Interpreter) -> Ran
     ensures { Executes (Simple (made_simple plan.now.tables (part_of plan.now) simple)) interpreter.old result
         interpreter.new }
@@ -189,6 +193,7 @@ fn behind_if(
 }
 
 /// Executes an `if`.
+#[inline(always)]
 fn execute_if(
     plan: &Plan,
     c: Operand,
@@ -209,6 +214,7 @@ fn execute_if(
 }
 
 /// Executes a statement that isn't simple.
+#[inline(always)]
 fn execute_compound(plan: &Plan, node: StatementNode, interpreter: &mut Interpreter) -> Ran
     ensures { Executes (made_statement plan.now.tables (part_of plan.now) node) interpreter.old result interpreter.new }
 {

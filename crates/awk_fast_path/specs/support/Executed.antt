@@ -1,6 +1,6 @@
 -- Statements that are executed in place.
-use Rattle.std.specs.Prelude.{◌≡◌, ℕ, ◌<◌, Option, Some, None, Result, Ok, Err}
-use Rattle.awk_tree.specs.Tree.{Expr, SimpleStatement, Expression, Print, Next, Break, Continue, Exit, Statement, Empty, If, IfElse, Simple}
+use Rattle.std.specs.Prelude.{◌≡◌, ℕ, ◌<◌, Option, Some, None, Ok, Err}
+use Rattle.awk_tree.specs.Tree.{Expr, SimpleStatement, Expression, Print, Next, Break, Continue, Exit, Statement, Empty, If, IfElse}
 use Rattle.awk_plan.specs.Plan.{Program, part_of, statement_in}
 use Rattle.awk_meaning.specs.declared.flow.Flow.{Flow}
 use Rattle.awk_meaning.specs.declared.flow.Flow.TheVariants as flow

@@ -1,5 +1,5 @@
 -- What is found in place: a number, a truth, or the end of a statement's expression.
-use Rattle.std.specs.Prelude.{◌≡◌, ℤ, Bool, Option, Some, IfSome, Result, Ok}
+use Rattle.std.specs.Prelude.{◌≡◌, ℤ, Bool, Option, Some, IfSome, Ok}
 use Rattle.awk_value.specs.declared.value.Value.{Value}
 use Rattle.awk_value.specs.declared.value.Value.TheVariants.{Number}
 use Rattle.awk_value.specs.Values.{num_of, numeric_of, truth_of}
