@@ -1,7 +1,9 @@
 -- The trees that the code keeps, or none where they are too high.
 use Rattle.std.specs.Prelude.{Option, Some, None}
+use Rattle.std.specs.Global.{Box}
 use Rattle.awk_grammar.specs.definitions.Tree as t
 use Rattle.awk_grammar.specs.definitions.View.{expr_of, exprs_of}
+use Rattle.awk_grammar.specs.declared.tree.Expr.{Expr}
 use Rattle.awk_nodes.specs.declared.checked.CheckedExpr.{CheckedExpr}
 use Rattle.awk_nodes.specs.declared.checked.CheckedExprs.{CheckedExprs}
 use Rattle.awk_nodes.specs.declared.child.OptionalChild.{OptionalChild}
@@ -20,3 +22,8 @@ abbrev pub checked_child : OptionalChild → Option t.OptionalExpr
 checked_child Absent = Some t.NoExpr
 checked_child (Present None) = None
 checked_child (Present (Some x)) = Some (t.AnExpr (expr_of x.expr.value))
+
+-- a child in a box, which may be left out
+abbrev pub optional_of : Option (Box Expr) → t.OptionalExpr
+optional_of None = t.NoExpr
+optional_of (Some a) = t.AnExpr (expr_of a.value)
