@@ -6,7 +6,7 @@ use Rattle.std.proofs.lemmas.List.{length-append}
 use Rattle.std.proofs.lemmas.Option.{same_Some, none-some}
 use Rattle.std.proofs.lemmas.Bool.{false≢true, eqb-true, and_parts, and_from, not-true, not_from_false, cond-true, cond-false}
 use Rattle.awk_ere_syntax.specs.definitions.Escapes.{starts, escape_bytes}
-use Rattle.awk_ere_syntax.specs.definitions.Brackets.{Mark, plain, escaped, mark_bytes, mark_fits, is_name_mark, Item, single, range, class, item_bytes, begins_range, is_barred, may_begin, may_end, item_fits, items_bytes, items_fit, Bracket, these, others, bracket_bytes, bracket_fits}
+use Rattle.awk_ere_syntax.specs.definitions.Brackets.{Mark, plain, escaped, mark_bytes, mark_fits, is_name_mark, BracketItem, single, range, class, item_bytes, begins_range, is_barred, may_begin, may_end, item_fits, items_bytes, items_fit, Bracket, these, others, bracket_bytes, bracket_fits}
 use Rattle.awk_ere_syntax.specs.support.Lexer.{◌>>=◌, tail, escape_at, as_mark, mark_at, name_at, as_range, range_at, as_class, item_at, closes, with_item, items_at, as_these, as_others, bracket_at}
 use Rattle.awk_ere_syntax.proofs.Choices.{chosen, bind_some, refuted, Takes}
 use Rattle.awk_ere_syntax.proofs.EscapeRoundTrip.{escape_takes, escape_again}
@@ -46,7 +46,7 @@ mark_again (escaped e) rest h = ap (λ o. o >>= as_mark) (escape_again e rest h)
 
 -- ---- items
 
-abbrev pub TakesItem : Bool → List ℕ → Item × List ℕ → Type 0
+abbrev pub TakesItem : Bool → List ℕ → BracketItem × List ℕ → Type 0
 TakesItem first text i = Takes text (item_bytes i.0) i.1 (item_fits first i.0 i.1)
 
 abbrev barred_at : Bool → List ℕ → Bool
@@ -66,7 +66,7 @@ dash_is [] h = absurd (false≢true h)
 dash_is (a ∷ []) h = absurd (false≢true h)
 dash_is (a ∷ c ∷ cs) h = ap (λ (x : ℕ). x ∷ c ∷ cs) (eqb-true a 45 (and_parts (a == 45) _ h).0)
 
-range_takes : (first : Bool) (text : List ℕ) (m : Mark × List ℕ) (i : Item × List ℕ) → TakesMark text m → barred_at first text ≡ false → range_at m ≡ Some i → TakesItem first text i
+range_takes : (first : Bool) (text : List ℕ) (m : Mark × List ℕ) (i : BracketItem × List ℕ) → TakesMark text m → barred_at first text ≡ false → range_at m ≡ Some i → TakesItem first text i
 range_takes first text m i t free h =
     let may : may_begin first m.0 m.1 ≡ true = begin_from first m.0 m.1 (subst (λ (l : List ℕ). barred_at first l ≡ false) t.parts free) in
     elim (chosen (begins_range m.1) (mark_at (tail m.1) >>= as_range m.0) (Some (single m.0, m.1)) (Some i) h) [
@@ -85,7 +85,7 @@ range_takes first text m i t free h =
           (record { parts = t.parts; fits = and_from (mark_fits m.0 m.1) _ t.fits (and_from (may_begin first m.0 m.1) _ may (not_from_false (begins_range m.1) x.0)) })
     ]
 
-pub item_takes : (first : Bool) (text : List ℕ) (i : Item × List ℕ) → item_at first text ≡ Some i → TakesItem first text i
+pub item_takes : (first : Bool) (text : List ℕ) (i : BracketItem × List ℕ) → item_at first text ≡ Some i → TakesItem first text i
 item_takes first [] i h = absurd (none-some i h)
 item_takes first (b ∷ bs) i h =
     elim (chosen (b == 91 && starts (λ c. c == 58) bs) (name_at (tail bs) >>= as_class) _ (Some i) h) [
@@ -128,7 +128,7 @@ begins_again : (m : Mark) (rest : List ℕ) → may_end m ≡ true → begins_ra
 begins_again (plain b) rest h = h
 begins_again (escaped e) rest h = refl
 
-pub item_again : (first : Bool) (i : Item) (rest : List ℕ) → item_fits first i rest ≡ true → item_at first (item_bytes i ++ rest) ≡ Some (i, rest)
+pub item_again : (first : Bool) (i : BracketItem) (rest : List ℕ) → item_fits first i rest ≡ true → item_at first (item_bytes i ++ rest) ≡ Some (i, rest)
 item_again first (single m) rest h =
     let p = and_parts (mark_fits m rest) _ h in let q = and_parts (may_begin first m rest) _ p.1 in
     begun_again first m rest p.0 q.0
@@ -144,10 +144,10 @@ item_again first (class n) rest h = ap (λ o. o >>= as_class) (name_again n rest
 
 -- ---- the items of a bracket
 
-abbrev pub TakesItems : Bool → List ℕ → List Item × List ℕ → Type 0
+abbrev pub TakesItems : Bool → List ℕ → List BracketItem × List ℕ → Type 0
 TakesItems first text r = Takes text (items_bytes r.0) r.1 (items_fit first r.0 r.1)
 
-pub items_takes : (n : ℕ) (first : Bool) (text : List ℕ) (r : List Item × List ℕ) → items_at n first text ≡ Some r → TakesItems first text r
+pub items_takes : (n : ℕ) (first : Bool) (text : List ℕ) (r : List BracketItem × List ℕ) → items_at n first text ≡ Some r → TakesItems first text r
 items_takes zero first text r h = absurd (none-some r h)
 items_takes (suc n) first text r h =
     elim (chosen (closes first text) (Some ([], tail text)) (item_at first text >>= λ i. items_at n false i.1 >>= with_item i.0) (Some r) h) [
@@ -175,7 +175,7 @@ mark_opens : (first : Bool) (m : Mark) (more : List ℕ) → may_begin first m m
 mark_opens first (plain b) more h = or_first (not first) (b == 93) _ (not-true (is_barred first b more) h)
 mark_opens first (escaped e) more h = and-false (not first)
 
-item_opens : (first : Bool) (i : Item) (more : List ℕ) → item_fits first i more ≡ true → closes first (item_bytes i ++ more) ≡ false
+item_opens : (first : Bool) (i : BracketItem) (more : List ℕ) → item_fits first i more ≡ true → closes first (item_bytes i ++ more) ≡ false
 item_opens first (single m) more h =
     mark_opens first m more (and_parts (may_begin first m more) _ (and_parts (mark_fits m more) _ h).1).0
 item_opens first (range x y) more h =
@@ -187,12 +187,12 @@ mark_long : (m : Mark) → 1 ≤ length (mark_bytes m)
 mark_long (plain b) = omega arith
 mark_long (escaped e) = omega arith
 
-pub item_long : (i : Item) → 1 ≤ length (item_bytes i)
+pub item_long : (i : BracketItem) → 1 ≤ length (item_bytes i)
 item_long (single m) = mark_long m
 item_long (range x y) = omega (arith, length-append (mark_bytes x) (45 ∷ mark_bytes y))
 item_long (class n) = omega arith
 
-pub items_again : (n : ℕ) (first : Bool) (is : List Item) (rest : List ℕ) → length (items_bytes is ++ rest) ≤ n → items_fit first is rest ≡ true → items_at n first (items_bytes is ++ rest) ≡ Some (is, rest)
+pub items_again : (n : ℕ) (first : Bool) (is : List BracketItem) (rest : List ℕ) → length (items_bytes is ++ rest) ≤ n → items_fit first is rest ≡ true → items_at n first (items_bytes is ++ rest) ≡ Some (is, rest)
 items_again zero first [] rest le h = absurd (omega arith)
 items_again (suc n) first [] rest le h = cond-true (not first && true) (Some ([], rest)) _ (and_from (not first) true h refl)
 items_again zero first (i ∷ is) rest le h = absurd (omega (arith, item_long i, length-append (item_bytes i) (items_bytes is), length-append (item_bytes i ++ items_bytes is) rest))

@@ -8,11 +8,11 @@ use Rattle.std.proofs.lemmas.List.FromFn.{length-map-range_with_len, get_or-map-
 use Rattle.std.proofs.lemmas.Option.{none-some, same_Some, some_pair_parts, cond_some, slice_get-get_or}
 use Rattle.std.proofs.lemmas.Bool.{false≢true, ne_eqb, cond-true, cond-false}
 use Rattle.awk_ere_syntax.specs.declared.class_name.ClassName.{ClassName}
-use Rattle.awk_ere_syntax.specs.declared.reading.bracket.Item.{Item as SeenItem}
-use Rattle.awk_ere_syntax.specs.declared.reading.bracket.Item.TheVariants as parts
+use Rattle.awk_ere_syntax.specs.declared.reading.bracket.BracketItem.{BracketItem as SeenItem}
+use Rattle.awk_ere_syntax.specs.declared.reading.bracket.BracketItem.TheVariants as parts
 use Rattle.awk_ere_syntax.specs.definitions.Tree.{class_of}
 use Rattle.awk_ere_syntax.specs.definitions.Escapes.{starts}
-use Rattle.awk_ere_syntax.specs.definitions.Brackets.{Mark, Item, single, range, class, begins_range, is_barred, item_bytes, item_has, any_has, Bracket, these, others, bracket_has}
+use Rattle.awk_ere_syntax.specs.definitions.Brackets.{Mark, BracketItem, single, range, class, begins_range, is_barred, item_bytes, item_has, any_has, Bracket, these, others, bracket_has}
 use Rattle.awk_ere_syntax.specs.definitions.Tokens.{atom, bracket}
 use Rattle.awk_ere_syntax.specs.definitions.Limits.{any_descends}
 use Rattle.awk_ere_syntax.specs.support.Lexer.{◌>>=◌, tail, mark_at, name_at, as_range, range_at, as_class, item_at, closes, with_item, items_at, as_these, as_others, bracket_at, as_bracket, bracket_token, token_at}
@@ -64,7 +64,7 @@ pub mapped_none : {A B : Type 0} (f : A → B) (o : Option A) → option_map f o
 mapped_none f None e = refl
 mapped_none f (Some i) e = absurd (none-some (f i) (sym e))
 
-seen_item_at : (first : Bool) (rest more : List ℕ) (p : SeenItem) → item_seen first rest ≡ Some (p, more) → (i : Item) × (item_at first rest ≡ Some (i, more)) × (part_of i ≡ p)
+seen_item_at : (first : Bool) (rest more : List ℕ) (p : SeenItem) → item_seen first rest ≡ Some (p, more) → (i : BracketItem) × (item_at first rest ≡ Some (i, more)) × (part_of i ≡ p)
 seen_item_at first rest more p e = mapped_some part_of (item_at first rest) p more (item_follows first rest ∙ e)
 
 pub item_shortens : (first : Bool) (rest more : List ℕ) (p : SeenItem) → item_seen first rest ≡ Some (p, more) → length more < length rest
@@ -75,21 +75,21 @@ item_shortens first rest more p e =
 
 -- ---- the loop over the items
 
-abbrev pub fronted : List Item → Option (List Item × List ℕ) → Option (List Item × List ℕ)
+abbrev pub fronted : List BracketItem → Option (List BracketItem × List ℕ) → Option (List BracketItem × List ℕ)
 fronted done None = None
 fronted done (Some r) = Some (done ++ r.0, r.1)
 
-fronted_nothing : (o : Option (List Item × List ℕ)) → fronted [] o ≡ o
+fronted_nothing : (o : Option (List BracketItem × List ℕ)) → fronted [] o ≡ o
 fronted_nothing None = refl
 fronted_nothing (Some r) = refl
 
-fronted_more : (done : List Item) (i : Item) (o : Option (List Item × List ℕ)) → fronted done (o >>= with_item i) ≡ fronted (done ++ i ∷ []) o
+fronted_more : (done : List BracketItem) (i : BracketItem) (o : Option (List BracketItem × List ℕ)) → fronted done (o >>= with_item i) ≡ fronted (done ++ i ∷ []) o
 fronted_more done i None = refl
-fronted_more done i (Some r) = ap (λ (l : List Item). Some (l, r.1)) (sym (append_assoc done (i ∷ []) r.0))
+fronted_more done i (Some r) = ap (λ (l : List BracketItem). Some (l, r.1)) (sym (append_assoc done (i ∷ []) r.0))
 
 -- the items so far, and that reading goes on with the rest of the text
 pub record Stand (text rest : List ℕ) (first falls : Bool) (set : List Bool) : Type 0 where
-  pub done : List Item
+  pub done : List BracketItem
   pub left : ℕ
   pub enough : length rest ≤ left
   pub goes_on : items_at (length text) true text ≡ fronted done (items_at left first rest)
@@ -108,7 +108,7 @@ stays_open : (first : Bool) (rest : List ℕ) → end_at first rest ≡ None →
 stays_open first rest e = chosen_none (closes first rest) (tail rest) e
 
 -- the next item, where the bracket isn't closed
-abbrev unrolled : ℕ → Bool → List ℕ → Option (List Item × List ℕ)
+abbrev unrolled : ℕ → Bool → List ℕ → Option (List BracketItem × List ℕ)
 unrolled n first rest = item_at first rest >>= λ i. items_at n false i.1 >>= with_item i.0
 
 not_closed : (n : ℕ) (first : Bool) (rest : List ℕ) → closes first rest ≡ false → items_at (suc n) first rest ≡ unrolled n first rest
@@ -118,7 +118,7 @@ some_left : (n : ℕ) → 1 ≤ n → (m : ℕ) × (n ≡ suc m)
 some_left zero h = absurd (omega arith)
 some_left (suc m) h = (m, refl)
 
-falls_more : (done : List Item) (i : Item) → any_descends (done ++ i ∷ []) ≡ (any_descends done || descends (part_of i))
+falls_more : (done : List BracketItem) (i : BracketItem) → any_descends (done ++ i ∷ []) ≡ (any_descends done || descends (part_of i))
 falls_more [] (single m) = refl
 falls_more [] (range x y) = or-false (descends (part_of (range x y)))
 falls_more [] (class n) = refl
@@ -127,11 +127,11 @@ falls_more (range x y ∷ done) i =
     ap (λ (b : Bool). descends (part_of (range x y)) || b) (falls_more done i) ∙ sym (or_assoc (descends (part_of (range x y))) (any_descends done) (descends (part_of i)))
 falls_more (class n ∷ done) i = falls_more done i
 
-has_more : (done : List Item) (i : Item) (b : ℕ) → any_has (done ++ i ∷ []) b ≡ (any_has done b || item_has i b)
+has_more : (done : List BracketItem) (i : BracketItem) (b : ℕ) → any_has (done ++ i ∷ []) b ≡ (any_has done b || item_has i b)
 has_more [] i b = or-false (item_has i b)
 has_more (d ∷ done) i b = ap (λ (x : Bool). item_has d b || x) (has_more done i b) ∙ sym (or_assoc (item_has d b) (any_has done b) (item_has i b))
 
-holds_item : (i : Item) (b : ℕ) → holds (part_of i) b ≡ item_has i b
+holds_item : (i : BracketItem) (b : ℕ) → holds (part_of i) b ≡ item_has i b
 holds_item (single m) b = refl
 holds_item (range x y) b = refl
 holds_item (class n) b = refl
@@ -150,7 +150,7 @@ stand_next text rest more first falls set new p h free e add =
           h.goes_on
           ∙ ap (λ (l : ℕ). fronted h.done (items_at l first rest)) m.1
           ∙ ap (fronted h.done) (not_closed m.0 first rest (stays_open first rest free))
-          ∙ ap (λ (o : Option (Item × List ℕ)). fronted h.done (o >>= λ j. items_at m.0 false j.1 >>= with_item j.0)) i.1
+          ∙ ap (λ (o : Option (BracketItem × List ℕ)). fronted h.done (o >>= λ j. items_at m.0 false j.1 >>= with_item j.0)) i.1
           ∙ fronted_more h.done i.0 (items_at m.0 false more);
       order = ap (λ (b : Bool). b || descends p) h.order ∙ ap (λ (q : SeenItem). any_descends h.done || descends q) (sym i.2) ∙ sym (falls_more h.done i.0);
       has = λ b below.
@@ -171,13 +171,13 @@ stand_closed text rest first falls set h behind f =
     h.goes_on
     ∙ ap (λ (l : ℕ). fronted h.done (items_at l first rest)) m.1
     ∙ ap (fronted h.done) (cond-true (closes first rest) (Some ([], tail rest)) (unrolled m.0 first rest) e)
-    ∙ ap (λ (l : List Item). Some (l, tail rest)) (append-nil h.done)
+    ∙ ap (λ (l : List BracketItem). Some (l, tail rest)) (append-nil h.done)
     ∙ ap (λ (l : List ℕ). Some (h.done, l)) at_end.1
 
 nothing_left : (n : ℕ) (first : Bool) (rest : List ℕ) → closes first rest ≡ false → item_at first rest ≡ None → items_at n first rest ≡ None
 nothing_left zero first rest free e = refl
 nothing_left (suc n) first rest free e =
-    not_closed n first rest free ∙ ap (λ (o : Option (Item × List ℕ)). o >>= λ j. items_at n false j.1 >>= with_item j.0) e
+    not_closed n first rest free ∙ ap (λ (o : Option (BracketItem × List ℕ)). o >>= λ j. items_at n false j.1 >>= with_item j.0) e
 
 pub stand_stuck : (text rest : List ℕ) (first falls : Bool) (set : List Bool) → Stand text rest first falls set → end_at first rest ≡ None → item_seen first rest ≡ None → items_at (length text) true text ≡ None
 stand_stuck text rest first falls set h free e =
@@ -192,11 +192,11 @@ these_at (b ∷ bs) h =
     cond-false (b == 94) (items_at (length bs) true bs >>= as_others) (items_at (length (b ∷ bs)) true (b ∷ bs) >>= as_these)
     (ne_eqb b 94 (λ e. h bs (ap (λ (c : ℕ). c ∷ bs) e)))
 
-these_seen : (o : Option (List Item × List ℕ)) → option_map seen_items o ≡ option_map seen_front ((o >>= as_these) >>= as_bracket)
+these_seen : (o : Option (List BracketItem × List ℕ)) → option_map seen_items o ≡ option_map seen_front ((o >>= as_these) >>= as_bracket)
 these_seen None = refl
 these_seen (Some r) = refl
 
-others_seen : (o : Option (List Item × List ℕ)) → option_map seen_items o ≡ option_map seen_front ((o >>= as_others) >>= as_bracket)
+others_seen : (o : Option (List BracketItem × List ℕ)) → option_map seen_items o ≡ option_map seen_front ((o >>= as_others) >>= as_bracket)
 others_seen None = refl
 others_seen (Some r) = refl
 
@@ -213,7 +213,7 @@ none_set (suc n) (suc b) = none_set n b
 
 -- the flags are those of the items
 abbrev pub Filled : List ℕ → List Bool → Type 0
-Filled text set = (r : List Item × List ℕ) → items_at (length text) true text ≡ Some r → (b : ℕ) → b < 256 → slice_index_or set b false ≡ any_has r.0 b
+Filled text set = (r : List BracketItem × List ℕ) → items_at (length text) true text ≡ Some r → (b : ℕ) → b < 256 → slice_index_or set b false ≡ any_has r.0 b
 
 flags_class : (set : List Bool) (p : ℕ → Bool) → length set ≡ 256 → ((b : ℕ) → b < 256 → slice_index_or set b false ≡ p b) → set ≡ class_of p
 flags_class set p long h =

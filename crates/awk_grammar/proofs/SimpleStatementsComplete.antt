@@ -149,35 +149,35 @@ outputs how what (Redirected way e) v y r k l p h =
     ∙ targeted how what way e y r k h
 
 -- the tokens behind what is printed
-abbrev Closes : List Kind → Type 0
-Closes [] = ⊥
-Closes (t.Operator operator.Greater ∷ ts) = Unit {0}
-Closes (t.Append ∷ ts) = Unit {0}
-Closes (t.Bar ∷ []) = ⊥
-Closes (t.Bar ∷ ts) = pipes ts ≡ Ends
-Closes (y ∷ ts) = ender y ≡ true
+abbrev FollowsPrint : List Kind → Type 0
+FollowsPrint [] = ⊥
+FollowsPrint (t.Operator operator.Greater ∷ ts) = Unit {0}
+FollowsPrint (t.Append ∷ ts) = Unit {0}
+FollowsPrint (t.Bar ∷ []) = ⊥
+FollowsPrint (t.Bar ∷ ts) = pipes ts ≡ Ends
+FollowsPrint (y ∷ ts) = ender y ≡ true
 
-closes_here : (y : Kind) (r : List Kind) → ender y ≡ true → Closes (y ∷ r)
+closes_here : (y : Kind) (r : List Kind) → ender y ≡ true → FollowsPrint (y ∷ r)
 closes_here t.Semicolon r h = h
 closes_here t.Newline r h = h
 closes_here t.CloseBrace r h = h
 closes_here t.CloseParenthesis r h = h
 closes_here y r h = absurd (cc)
 
-closes_bar : (u : List Kind) → started u ≡ true → pipes u ≡ Ends → Closes (t.Bar ∷ u)
+closes_bar : (u : List Kind) → started u ≡ true → pipes u ≡ Ends → FollowsPrint (t.Bar ∷ u)
 closes_bar [] h i = absurd (cc)
 closes_bar (y ∷ u) h i = i
 
-closes_to : (way : Redirection) (u : List Kind) → started u ≡ true → pipes u ≡ Ends → Closes (redirection_token way ∷ u)
+closes_to : (way : Redirection) (u : List Kind) → started u ≡ true → pipes u ≡ Ends → FollowsPrint (redirection_token way ∷ u)
 closes_to redirection.Truncate u h i = tt
 closes_to redirection.Append u h i = tt
 closes_to redirection.Pipe u h i = closes_bar u h i
 
-closes : (to : Output) (v : List Kind) (y : Kind) (r : List Kind) → OutputKeepsPrecedence to → SpellsOutput to v (y ∷ r) → ender y ≡ true → Closes v
-closes Standard v y r l p h = subst Closes (sym p) (closes_here y r h)
-closes (Redirected way e) v y r l p h = subst Closes (sym p.1) (closes_to way p.0 (starts_so e p.0 (y ∷ r) p.2) (no_getline e p.0 (y ∷ r) l.0 p.2))
+closes : (to : Output) (v : List Kind) (y : Kind) (r : List Kind) → OutputKeepsPrecedence to → SpellsOutput to v (y ∷ r) → ender y ≡ true → FollowsPrint v
+closes Standard v y r l p h = subst FollowsPrint (sym p) (closes_here y r h)
+closes (Redirected way e) v y r l p h = subst FollowsPrint (sym p.1) (closes_to way p.0 (starts_so e p.0 (y ∷ r) p.2) (no_getline e p.0 (y ∷ r) l.0 p.2))
 
-close_role : (v : List Kind) → Closes v → next true v ≡ Ends
+close_role : (v : List Kind) → FollowsPrint v → next true v ≡ Ends
 close_role [] h = absurd h
 close_role (t.Operator operator.Greater ∷ ts) h = refl
 close_role (t.Append ∷ ts) h = refl
@@ -190,12 +190,12 @@ close_role (t.CloseParenthesis ∷ ts) h = refl
 close_role (t.Operator o ∷ ts) h = absurd (cc)
 close_role (y ∷ ts) h = absurd (cc)
 
-bar_closed : (how : PrintForm) (done : Exprs) (e : Expr) (k : List Frame) (v : List Kind) → Closes (t.Bar ∷ v) → answer (AfterOperand true e (InPrint how done ∷ k)) (t.Bar ∷ v) ≡ answer (BeforeOperand false false (InOutput how (Bare (append done e)) redirection.Pipe ∷ k)) v
+bar_closed : (how : PrintForm) (done : Exprs) (e : Expr) (k : List Frame) (v : List Kind) → FollowsPrint (t.Bar ∷ v) → answer (AfterOperand true e (InPrint how done ∷ k)) (t.Bar ∷ v) ≡ answer (BeforeOperand false false (InOutput how (Bare (append done e)) redirection.Pipe ∷ k)) v
 bar_closed how done e k [] h = absurd h
 bar_closed how done e k (t.Keyword word.Getline ∷ v) h = absurd (cc)
 bar_closed how done e k (y ∷ v) h = ap (λ z. answer (redirect_to_pipe y z.operand z.stack) v) (reduced_twice e (InPrint how done ∷ k))
 
-list_closed : (how : PrintForm) (done : Exprs) (e : Expr) (k : List Frame) (v : List Kind) → Closes v → answer (AfterOperand true e (InPrint how done ∷ k)) v ≡ printed_from how (Bare (append done e)) k v
+list_closed : (how : PrintForm) (done : Exprs) (e : Expr) (k : List Frame) (v : List Kind) → FollowsPrint v → answer (AfterOperand true e (InPrint how done ∷ k)) v ≡ printed_from how (Bare (append done e)) k v
 list_closed how done e k [] h = absurd h
 list_closed how done e k (t.Bar ∷ v) h = bar_closed how done e k v h
 list_closed how done e k (t.Operator operator.Greater ∷ v) h = refl
@@ -207,7 +207,7 @@ list_closed how done e k (t.CloseParenthesis ∷ v) h = refl
 list_closed how done e k (t.Operator o ∷ v) h = absurd (cc)
 list_closed how done e k (y ∷ v) h = absurd (cc)
 
-enclosed_closed : (how : PrintForm) (xs : Exprs) (k : List Frame) (v : List Kind) → Closes v → answer (AfterList true xs (InPrint how Nil ∷ k)) v ≡ printed_from how (Parenthesized xs) k v
+enclosed_closed : (how : PrintForm) (xs : Exprs) (k : List Frame) (v : List Kind) → FollowsPrint v → answer (AfterList true xs (InPrint how Nil ∷ k)) v ≡ printed_from how (Parenthesized xs) k v
 enclosed_closed how xs k [] h = absurd h
 enclosed_closed how xs k (t.Bar ∷ v) h = refl
 enclosed_closed how xs k (t.Operator operator.Greater ∷ v) h = refl
@@ -219,7 +219,7 @@ enclosed_closed how xs k (t.CloseParenthesis ∷ v) h = refl
 enclosed_closed how xs k (t.Operator o ∷ v) h = absurd (cc)
 enclosed_closed how xs k (y ∷ v) h = absurd (cc)
 
-none_closed : (k : List Frame) (v : List Kind) → Closes v → answer (AfterPrint form.Print k) v ≡ printed_from form.Print (Bare Nil) k v
+none_closed : (k : List Frame) (v : List Kind) → FollowsPrint v → answer (AfterPrint form.Print k) v ≡ printed_from form.Print (Bare Nil) k v
 none_closed k [] h = absurd h
 none_closed k (t.Bar ∷ v) h = refl
 none_closed k (t.Operator operator.Greater ∷ v) h = refl
@@ -252,12 +252,12 @@ print_starts form.Print k ts h = prints_plain k ts h
 print_starts form.Printf k [] h = absurd (cc)
 print_starts form.Printf k (y ∷ ts) h = refl
 
-enclosed_read : (how : PrintForm) (xs : Exprs) (k : List Frame) (u v : List Kind) → 2 ≤ count xs → Closes v → ListRead (OfGroup true) xs Nil u (t.CloseParenthesis ∷ v) false (InPrint how Nil ∷ k) → answer (BeforeOperand false false (InGroup true Nil ∷ InPrint how Nil ∷ k)) u ≡ printed_from how (Parenthesized xs) k v
+enclosed_read : (how : PrintForm) (xs : Exprs) (k : List Frame) (u v : List Kind) → 2 ≤ count xs → FollowsPrint v → ListRead (OfGroup true) xs Nil u (t.CloseParenthesis ∷ v) false (InPrint how Nil ∷ k) → answer (BeforeOperand false false (InGroup true Nil ∷ InPrint how Nil ∷ k)) u ≡ printed_from how (Parenthesized xs) k v
 enclosed_read how Nil k u v l c r = absurd (omega (arith, l))
 enclosed_read how (Cons d Nil) k u v l c r = absurd (omega (arith, l))
 enclosed_read how (Cons d (Cons e xs)) k u v l c r = r ∙ close_list true d e xs (InPrint how Nil ∷ k) v ∙ enclosed_closed how (Cons d (Cons e xs)) k v c
 
-prints_read : (how : PrintForm) (what : PrintList) (u v : List Kind) (k : List Frame) → PrintListKeepsPrecedence how what → SpellsPrintList what u v → Closes v → answer (AfterPrint how k) u ≡ printed_from how what k v
+prints_read : (how : PrintForm) (what : PrintList) (u v : List Kind) (k : List Frame) → PrintListKeepsPrecedence how what → SpellsPrintList what u v → FollowsPrint v → answer (AfterPrint how k) u ≡ printed_from how what k v
 prints_read form.Print (Bare Nil) u v k l p c = ap (answer (AfterPrint form.Print k)) p ∙ none_closed k v c
 prints_read form.Printf (Bare Nil) u v k l p c = absurd (omega (arith, l.0))
 prints_read how (Bare (Cons e xs)) u v k l p c =

@@ -9,7 +9,7 @@ use Rattle.awk_world.specs.declared.world.InputKind.{InputKind}
 use Rattle.awk_streams.specs.declared.fault.StreamFault.{StreamFault}
 use Rattle.awk_streams.specs.declared.fault.StreamFault.TheVariants.{Memory, WriteFailed, InputNotReadable, SeparatorTooLong, RecordTooLong}
 use Rattle.awk_streams.specs.Log as log
-use Rattle.awk_streams.specs.Oracle.{Oracle, Source, IsConsistent, one_if, same_input, how_many, opens_input}
+use Rattle.awk_streams.specs.Oracle.{Oracle, Source, IsConsistent, one_if, same_input_kind, how_many, opens_input}
 use Rattle.awk_streams.specs.Openings.{StandardOutput, Opening, in_order, receives, Begins}
 use Rattle.awk_streams.specs.Inputs.{NextTold}
 use Rattle.awk_streams.specs.Streams.{InputView, StreamsView, AreOpen, IsMainRest, IsSameMain, IsFreshMain, main_opening, printed_openings, OpensMain, ReadsMain, ReadsOpen, AsksMain, closed_main, EndsMain, Prints}
@@ -143,7 +143,7 @@ opening_meets oracle kind path before after old new r id none number is =
     (ap number_of none, (id, ap (λ (l : List log.Event). record { log = l; main = number_of new.main }) is ∙ ap (λ (main : Option ℕ). record { log = log.OpenedInput kind path id ∷ before.log; main = main }) number))
 
 opens_stands : (oracle : Oracle) (old new : Interpreter) (before after : WorldState) (s : State) (kind : InputKind) (path : List ℕ) (rest : Option Source) (past : List Effect) → Beside old new
-    → (after.first_failure ≡ before.first_failure) → ((k : InputKind) (n : List ℕ) → how_many (opens_input k n) after.log ≡ one_if (same_input k kind && bytes_eq n path) + how_many (opens_input k n) before.log)
+    → (after.first_failure ≡ before.first_failure) → ((k : InputKind) (n : List ℕ) → how_many (opens_input k n) after.log ≡ one_if (same_input_kind k kind && bytes_eq n path) + how_many (opens_input k n) before.log)
     → printed_openings after new.streams ≡ printed_openings before old.streams
     → IsMainRest oracle after.log new.streams.main rest
     → Meets oracle (AnOpening kind path) (stage_of before.log old.streams.main) (stage_of after.log new.streams.main)
@@ -151,7 +151,7 @@ opens_stands : (oracle : Oracle) (old new : Interpreter) (before after : WorldSt
 opens_stands oracle old new before after s kind path rest past beside first_failure counts outputs main meets stands = record {
   clear = first_failure ∙ stands.clear;
   outside = stands.outside;
-  inputs = λ k name. ap (λ n. one_if (same_input k kind && bytes_eq name path) + n) (stands.inputs k name) ∙ sym (counts k name);
+  inputs = λ k name. ap (λ n. one_if (same_input_kind k kind && bytes_eq name path) + n) (stands.inputs k name) ∙ sym (counts k name);
   main = main;
   holds = at_main new s _ rest (beside_holds beside stands.holds);
   outputs = outputs ∙ (stands.outputs ∙ standard_requested past (AnOpening kind path));

@@ -7,7 +7,7 @@ use Rattle.awk_world.specs.declared.world.OutputKind.{OutputKind}
 use Rattle.awk_world.specs.declared.world.OutputKind.TheVariants.{File as ToFile, Command as ToCommand}
 use Rattle.awk_world.specs.definitions.Log.{Event, OpenedInput, OpenedOutput, Read, Ended, Broke, Wrote, Flushed, Closed, Ran}
 use Rattle.awk_record.specs.Cut.{AtEnd, AtBreak}
-use Rattle.awk_world.specs.definitions.Oracle.{Source, Oracle, same_input, same_output, one_if, how_many, opens_input, opens_output, closes_command, runs, Reading, read_on, over, new_reading, reading_of, Gives, EndsWith, IsConsistentAt, IsConsistent}
+use Rattle.awk_world.specs.definitions.Oracle.{Source, Oracle, same_input_kind, same_output_kind, one_if, how_many, opens_input, opens_output, closes_command, runs, Reading, read_on, over, new_reading, reading_of, Gives, EndsWith, IsConsistentAt, IsConsistent}
 use Rattle.awk_world.specs.definitions.Writes.{with_events}
 use Rattle.awk_world.specs.definitions.Orderly.{IsOrderlyAt, IsOrderly}
 
@@ -70,12 +70,12 @@ same_name : (name : List ℕ) → bytes_eq name name ≡ true
 same_name [] = refl
 same_name (x ∷ xs) = ap (λ b. b && bytes_eq xs xs) (eq-eqb x x refl) ∙ same_name xs
 
-pub opens_input-self : (kind : InputKind) (name : List ℕ) → (same_input kind kind && bytes_eq name name) ≡ true
+pub opens_input-self : (kind : InputKind) (name : List ℕ) → (same_input_kind kind kind && bytes_eq name name) ≡ true
 opens_input-self Standard name = same_name name
 opens_input-self File name = same_name name
 opens_input-self Command name = same_name name
 
-opens_output-self : (kind : OutputKind) (name : List ℕ) → (same_output kind kind && bytes_eq name name) ≡ true
+opens_output-self : (kind : OutputKind) (name : List ℕ) → (same_output_kind kind kind && bytes_eq name name) ≡ true
 opens_output-self ToFile name = same_name name
 opens_output-self ToCommand name = same_name name
 

@@ -55,17 +55,17 @@ named_class Space b = within 9 13 b || b == 32
 named_class Upper b = within 65 90 b
 named_class Xdigit b = is_digit b || (within 65 70 b || within 97 102 b)
 
-pub data Item : Type 0 where
-  single : Mark → Item
-  range : Mark → Mark → Item
-  class : ClassName → Item
+pub data BracketItem : Type 0 where
+  single : Mark → BracketItem
+  range : Mark → Mark → BracketItem
+  class : ClassName → BracketItem
 
-abbrev pub item_bytes : Item → List ℕ
+abbrev pub item_bytes : BracketItem → List ℕ
 item_bytes (single m) = mark_bytes m
 item_bytes (range x y) = mark_bytes x ++ 45 ∷ mark_bytes y
 item_bytes (class n) = 91 ∷ 58 ∷ name_bytes n
 
-abbrev pub item_has : Item → ℕ → Bool
+abbrev pub item_has : BracketItem → ℕ → Bool
 item_has (single m) b = mark_value m == b
 item_has (range x y) b = within (mark_value x) (mark_value y) b
 item_has (class n) b = named_class n b
@@ -89,28 +89,28 @@ abbrev pub may_end : Mark → Bool
 may_end (plain b) = not (b == 93)
 may_end (escaped e) = true
 
-abbrev pub item_fits : Bool → Item → List ℕ → Bool
+abbrev pub item_fits : Bool → BracketItem → List ℕ → Bool
 item_fits first (single m) rest = mark_fits m rest && (may_begin first m rest && not (begins_range rest))
 item_fits first (range x y) rest =
     mark_fits x (45 ∷ (mark_bytes y ++ rest)) && (may_begin first x (45 ∷ (mark_bytes y ++ rest)) && (mark_fits y rest && may_end y))
 item_fits first (class n) rest = true
 
-abbrev pub items_bytes : List Item → List ℕ
+abbrev pub items_bytes : List BracketItem → List ℕ
 items_bytes [] = 93 ∷ []
 items_bytes (i ∷ is) = item_bytes i ++ items_bytes is
 
 -- the items may stand before the rest
-abbrev pub items_fit : Bool → List Item → List ℕ → Bool
+abbrev pub items_fit : Bool → List BracketItem → List ℕ → Bool
 items_fit first [] rest = not first
 items_fit first (i ∷ is) rest = item_fits first i (items_bytes is ++ rest) && items_fit false is rest
 
-abbrev pub any_has : List Item → ℕ → Bool
+abbrev pub any_has : List BracketItem → ℕ → Bool
 any_has [] b = false
 any_has (i ∷ is) b = item_has i b || any_has is b
 
 pub data Bracket : Type 0 where
-  these : List Item → Bracket
-  others : List Item → Bracket
+  these : List BracketItem → Bracket
+  others : List BracketItem → Bracket
 
 -- what stands behind the [
 abbrev pub bracket_bytes : Bracket → List ℕ

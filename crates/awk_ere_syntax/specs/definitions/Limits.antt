@@ -1,7 +1,7 @@
 -- What a written pattern must not exceed, and which refusal a text gets.
 use Rattle.std.specs.Prelude.{◌≡◌, ◌<◌, ◌≤◌, ℕ, Bool, true, false, ◌||◌, not, nat_le, ◌⊎◌, List, [], ◌∷◌, codes}
 use Rattle.awk_ere_syntax.specs.definitions.Tree.{Tree, size}
-use Rattle.awk_ere_syntax.specs.definitions.Brackets.{mark_value, Item, single, range, class, Bracket, these, others}
+use Rattle.awk_ere_syntax.specs.definitions.Brackets.{mark_value, BracketItem, single, range, class, Bracket, these, others}
 use Rattle.awk_ere_syntax.specs.definitions.Tokens.{Atom, ordinary, any, escape, bracket, Repeat, star, plus, option, exactly, at_least, between, number, Token, atom, at_start, at_end, opening, closing, bar, again}
 use Rattle.awk_ere_syntax.specs.definitions.Written.{Whole, whole_tokens, tree_of, whole_opened, IsWritten}
 use Rattle.awk_ere_syntax.specs.declared.fault.PatternFault.{PatternFault}
@@ -18,7 +18,7 @@ abbrev pub greatest_size : ℕ
 greatest_size = 10000
 
 -- a range that descends
-abbrev pub any_descends : List Item → Bool
+abbrev pub any_descends : List BracketItem → Bool
 any_descends [] = false
 any_descends (single m ∷ is) = any_descends is
 any_descends (range x y ∷ is) = not (nat_le (mark_value x) (mark_value y)) || any_descends is

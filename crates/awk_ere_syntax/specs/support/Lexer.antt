@@ -3,7 +3,7 @@ use Rattle.std.specs.Prelude.{ℕ, zero, suc, Bool, true, false, ◌&&◌, ◌||
 use Rattle.awk_ere_syntax.specs.declared.class_name.ClassName.{ClassName}
 use Rattle.awk_ere_syntax.specs.declared.class_name.ClassName.TheVariants.{Alnum, Alpha, Blank, Cntrl, Digit, Graph, Lower, Print, Punct, Space, Upper, Xdigit}
 use Rattle.awk_ere_syntax.specs.definitions.Escapes.{is_octal, is_digit, is_letter, starts, names_byte, Escape, letter, octal1, octal2, octal3, itself, octal}
-use Rattle.awk_ere_syntax.specs.definitions.Brackets.{Mark, plain, escaped, is_name_mark, name_bytes, Item, single, range, class, begins_range, is_barred, Bracket, these, others}
+use Rattle.awk_ere_syntax.specs.definitions.Brackets.{Mark, plain, escaped, is_name_mark, name_bytes, BracketItem, single, range, class, begins_range, is_barred, Bracket, these, others}
 use Rattle.awk_ere_syntax.specs.definitions.Tokens.{some_bytes, ordinary, any, escape, bracket, Repeat, star, plus, option, exactly, at_least, between, Token, atom, at_start, at_end, opening, closing, bar, again}
 
 infixl 10 ◌>>=◌
@@ -67,17 +67,17 @@ all_names = Alnum ∷ Alpha ∷ Blank ∷ Cntrl ∷ Digit ∷ Graph ∷ Lower �
 abbrev pub name_at : List ℕ → Option (ClassName × List ℕ)
 name_at text = first_name all_names text
 
-abbrev pub as_range : Mark → Mark × List ℕ → Option (Item × List ℕ)
+abbrev pub as_range : Mark → Mark × List ℕ → Option (BracketItem × List ℕ)
 as_range x y = Some (range x y.0, y.1)
 
 -- what goes on from a byte: a range, or nothing more
-abbrev pub range_at : Mark × List ℕ → Option (Item × List ℕ)
+abbrev pub range_at : Mark × List ℕ → Option (BracketItem × List ℕ)
 range_at m = if begins_range m.1 then (mark_at (tail m.1) >>= as_range m.0) else Some (single m.0, m.1)
 
-abbrev pub as_class : ClassName × List ℕ → Option (Item × List ℕ)
+abbrev pub as_class : ClassName × List ℕ → Option (BracketItem × List ℕ)
 as_class n = Some (class n.0, n.1)
 
-abbrev pub item_at : Bool → List ℕ → Option (Item × List ℕ)
+abbrev pub item_at : Bool → List ℕ → Option (BracketItem × List ℕ)
 item_at first [] = None
 item_at first (b ∷ bs) =
     if b == 91 && starts (λ c. c == 58) bs then (name_at (tail bs) >>= as_class) else (
@@ -86,19 +86,19 @@ item_at first (b ∷ bs) =
 abbrev pub closes : Bool → List ℕ → Bool
 closes first text = not first && starts (λ b. b == 93) text
 
-abbrev pub with_item : Item → List Item × List ℕ → Option (List Item × List ℕ)
+abbrev pub with_item : BracketItem → List BracketItem × List ℕ → Option (List BracketItem × List ℕ)
 with_item i r = Some (i ∷ r.0, r.1)
 
 -- fewer than so many items, and the ] behind them
-abbrev pub items_at : ℕ → Bool → List ℕ → Option (List Item × List ℕ)
+abbrev pub items_at : ℕ → Bool → List ℕ → Option (List BracketItem × List ℕ)
 items_at zero first text = None
 items_at (suc n) first text =
     if closes first text then Some ([], tail text) else (item_at first text >>= λ i. items_at n false i.1 >>= with_item i.0)
 
-abbrev pub as_these : List Item × List ℕ → Option (Bracket × List ℕ)
+abbrev pub as_these : List BracketItem × List ℕ → Option (Bracket × List ℕ)
 as_these r = Some (these r.0, r.1)
 
-abbrev pub as_others : List Item × List ℕ → Option (Bracket × List ℕ)
+abbrev pub as_others : List BracketItem × List ℕ → Option (Bracket × List ℕ)
 as_others r = Some (others r.0, r.1)
 
 abbrev pub bracket_at : List ℕ → Option (Bracket × List ℕ)

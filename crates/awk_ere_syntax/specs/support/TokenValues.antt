@@ -2,14 +2,14 @@
 use Rattle.std.specs.Prelude.{ℕ, suc, ◌-◌, min, Bool, false, ◌&&◌, ◌||◌, not, nat_le, ◌==◌, List, [], ◌∷◌, Option, Some, None, if◌then◌else◌}
 use Rattle.std.specs.Option.{option_map}
 use Rattle.awk_ere_syntax.specs.declared.class_name.ClassName.{ClassName}
-use Rattle.awk_ere_syntax.specs.declared.reading.bracket.Item.{Item as SeenItem}
-use Rattle.awk_ere_syntax.specs.declared.reading.bracket.Item.TheVariants as items
+use Rattle.awk_ere_syntax.specs.declared.reading.bracket.BracketItem.{BracketItem as SeenItem}
+use Rattle.awk_ere_syntax.specs.declared.reading.bracket.BracketItem.TheVariants as items
 use Rattle.awk_ere_syntax.specs.declared.token.Repeat.{Repeat as SeenRepeat}
 use Rattle.awk_ere_syntax.specs.declared.token.Repeat.TheVariants as repeats
 use Rattle.awk_ere_syntax.specs.declared.token.Token.{Token as SeenToken}
 use Rattle.awk_ere_syntax.specs.declared.token.Token.TheVariants as seen
 use Rattle.awk_ere_syntax.specs.definitions.Escapes.{within, starts, names_byte, named, is_letter, is_digit, Escape, escape_value}
-use Rattle.awk_ere_syntax.specs.definitions.Brackets.{Mark, mark_value, named_class, Item, single, range, class, begins_range, is_barred}
+use Rattle.awk_ere_syntax.specs.definitions.Brackets.{Mark, mark_value, named_class, BracketItem, single, range, class, begins_range, is_barred}
 use Rattle.awk_ere_syntax.specs.definitions.Tokens.{some_bytes, Atom, ordinary, any, escape, bracket, Repeat, star, plus, option, exactly, at_least, between, number, Token, atom, at_start, at_end, opening, closing, bar, again}
 use Rattle.awk_ere_syntax.specs.definitions.Limits.{greatest_count, any_descends, bracket_is_bad}
 use Rattle.awk_ere_syntax.specs.support.Lexer.{tail, mark_at, name_at, closes, digits, after_digits}
@@ -62,12 +62,12 @@ seen_escape e = (escape_value e.0, e.1)
 abbrev pub seen_mark : Mark × List ℕ → ℕ × List ℕ
 seen_mark m = (mark_value m.0, m.1)
 
-abbrev pub part_of : Item → SeenItem
+abbrev pub part_of : BracketItem → SeenItem
 part_of (single m) = items.Single (mark_value m)
 part_of (range x y) = items.Range (mark_value x) (mark_value y)
 part_of (class n) = items.Class n
 
-abbrev pub seen_item : Item × List ℕ → SeenItem × List ℕ
+abbrev pub seen_item : BracketItem × List ℕ → SeenItem × List ℕ
 seen_item i = (part_of i.0, i.1)
 
 abbrev pub holds : SeenItem → ℕ → Bool
@@ -109,7 +109,7 @@ abbrev pub end_at : Bool → List ℕ → Option (List ℕ)
 end_at first text = if closes first text then Some (tail text) else None
 
 -- the items of a bracket, and what follows the ]
-abbrev pub seen_items : List Item × List ℕ → SeenToken × List ℕ
+abbrev pub seen_items : List BracketItem × List ℕ → SeenToken × List ℕ
 seen_items r = (seen.Bracket (not (any_descends r.0)), r.1)
 
 -- ---- intervals

@@ -3,10 +3,12 @@
 ghost use Rattle.std.specs.Prelude.{◌≡◌, ◌||◌, ◌<◌, ℕ, List, not, true, false, length, Some, slice_index_or};
 ghost use Rattle.std.specs.Option.{option_map};
 ghost use Rattle.awk_ere_syntax.specs.definitions.Tree.{byte_count, class_of};
-ghost use Rattle.awk_ere_syntax.specs.definitions.Brackets.{Item as ItemForm, any_has, begins_range, is_barred, Bracket, bracket_has};
+ghost use Rattle.awk_ere_syntax.specs.definitions.Brackets.{BracketItem as ItemForm, any_has, begins_range};
+ghost use Rattle.awk_ere_syntax.specs.definitions.Brackets.{is_barred, Bracket, bracket_has};
 ghost use Rattle.awk_ere_syntax.specs.definitions.Tokens.{atom, bracket};
 ghost use Rattle.awk_ere_syntax.specs.support.Lexer.{mark_at, name_at, items_at, bracket_token};
-ghost use Rattle.awk_ere_syntax.specs.support.TokenValues.{seen_mark, descends, holds, range_seen, class_seen, mark_seen, item_seen, end_at, seen_items, seen_front};
+ghost use Rattle.awk_ere_syntax.specs.support.TokenValues.{seen_mark, descends, holds, range_seen, class_seen};
+ghost use Rattle.awk_ere_syntax.specs.support.TokenValues.{mark_seen, item_seen, end_at, seen_items, seen_front};
 
 use crate::class_name::{ClassName, name_at};
 use crate::reading::escape::escape_at;
@@ -14,21 +16,21 @@ use crate::token::{BYTE_COUNT, Token};
 
 /// An item of a bracket.
 #[derive(Clone, Copy)]
-enum Item {
+enum BracketItem {
     Single(u8),
     Range(u8, u8),
     Class(ClassName),
 }
 
-impl Item {
+impl BracketItem {
     /// Whether the byte is one of its bytes.
     fn has(self, byte: u8) -> bool
         ensures { result ≡ holds self byte }
     {
         match self {
-            Item::Single(single) => single == byte,
-            Item::Range(low, high) => low <= byte && byte <= high,
-            Item::Class(name) => name.has(byte),
+            BracketItem::Single(single) => single == byte,
+            BracketItem::Range(low, high) => low <= byte && byte <= high,
+            BracketItem::Class(name) => name.has(byte),
         }
     }
 
@@ -36,14 +38,14 @@ impl Item {
     fn descends(self) -> bool
         ensures { result ≡ descends self }
     {
-        matches!(self, Item::Range(low, high) if low > high)
+        matches!(self, BracketItem::Range(low, high) if low > high)
     }
 
     /// Sets the flags of its bytes, and leaves the others.
     fn add_to(self, set: &mut [bool; BYTE_COUNT])
         ensures { (b : ℕ) → b < byte_count → slice_index_or set.new b false ≡ (slice_index_or set.old b false || holds self b) }
     {
-        if let Item::Single(byte) = self {
+        if let BracketItem::Single(byte) = self {
             set[usize::from(byte)] = true;
             return;
         }
@@ -75,20 +77,20 @@ fn begins_range(rest: &[u8]) -> bool
 }
 
 /// What goes on from a byte: a range, or nothing more.
-fn range_at(low: u8, rest: &[u8]) -> Option<(Item, &[u8])>
+fn range_at(low: u8, rest: &[u8]) -> Option<(BracketItem, &[u8])>
     ensures { option_map (λ r. (r.0, r.1.now)) result ≡ range_seen low rest.now }
 {
     match rest {
         [_, end @ ..] if begins_range(rest) => {
             let (high, rest) = mark_at(end)?;
-            Some((Item::Range(low, high), rest))
+            Some((BracketItem::Range(low, high), rest))
         }
-        _ => Some((Item::Single(low), rest)),
+        _ => Some((BracketItem::Single(low), rest)),
     }
 }
 
 /// A byte, or a range that it begins, and what follows.
-fn single_or_range_at(bytes: &[u8]) -> Option<(Item, &[u8])>
+fn single_or_range_at(bytes: &[u8]) -> Option<(BracketItem, &[u8])>
     ensures { option_map (λ r. (r.0, r.1.now)) result ≡ mark_seen (option_map seen_mark (mark_at bytes.now)) }
 {
     let (byte, rest) = mark_at(bytes)?;
@@ -96,11 +98,11 @@ fn single_or_range_at(bytes: &[u8]) -> Option<(Item, &[u8])>
 }
 
 /// The class whose name stands behind a `[:`, and what follows.
-fn class_at(bytes: &[u8]) -> Option<(Item, &[u8])>
+fn class_at(bytes: &[u8]) -> Option<(BracketItem, &[u8])>
     ensures { option_map (λ r. (r.0, r.1.now)) result ≡ class_seen (name_at bytes.now) }
 {
     let (name, rest) = name_at(bytes)?;
-    Some((Item::Class(name), rest))
+    Some((BracketItem::Class(name), rest))
 }
 
 /// Whether the byte closes the bracket, or is a `-` that is neither first nor last.
@@ -111,7 +113,7 @@ fn is_barred(first: bool, byte: u8, rest: &[u8]) -> bool
 }
 
 /// The item in front, which is the first or not, and what follows it.
-fn item_at(first: bool, bytes: &[u8]) -> Option<(Item, &[u8])>
+fn item_at(first: bool, bytes: &[u8]) -> Option<(BracketItem, &[u8])>
     ensures { option_map (λ r. (r.0, r.1.now)) result ≡ item_seen first bytes.now }
 {
     match bytes {
@@ -135,8 +137,10 @@ fn end_at(first: bool, bytes: &[u8]) -> Option<&[u8]>
 /// The items of a bracket and the `]` behind them, and what follows. Their bytes are left in `set`.
 fn items_at<'a>(bytes: &'a [u8], set: &mut [bool; BYTE_COUNT]) -> Option<(Token, &'a [u8])>
     requires { (b : ℕ) → b < byte_count → slice_index_or set.old b false ≡ false }
-    ensures found { option_map (λ r. (r.0, r.1.now)) result ≡ option_map seen_items (items_at (length bytes.now) true bytes.now) }
-    ensures set { (r : List ItemForm × List ℕ) → items_at (length bytes.now) true bytes.now ≡ Some r → (b : ℕ) → b < byte_count → slice_index_or set.new b false ≡ any_has r.0 b }
+    ensures found { option_map (λ r. (r.0, r.1.now)) result
+        ≡ option_map seen_items (items_at (length bytes.now) true bytes.now) }
+    ensures set { (r : List ItemForm × List ℕ) → items_at (length bytes.now) true bytes.now ≡ Some r → (b : ℕ) →
+        b < byte_count → slice_index_or set.new b false ≡ any_has r.0 b }
 {
     let mut rest = bytes;
     let mut first = true;
@@ -165,7 +169,8 @@ fn flip(set: &mut [bool; BYTE_COUNT])
 /// A bracket behind its `[`, and what follows it. Its class is left in `set`.
 pub fn bracket_at<'a>(bytes: &'a [u8], set: &mut [bool; BYTE_COUNT]) -> Option<(Token, &'a [u8])>
     ensures found { option_map (λ r. (r.0, r.1.now)) result ≡ option_map seen_front (bracket_token bytes.now) }
-    ensures set { (k : Bracket) (rest : List ℕ) → bracket_token bytes.now ≡ Some (atom (bracket k), rest) → set.new ≡ class_of (bracket_has k) }
+    ensures set { (k : Bracket) (rest : List ℕ) → bracket_token bytes.now ≡ Some (atom (bracket k), rest) →
+        set.new ≡ class_of (bracket_has k) }
 {
     *set = [false; BYTE_COUNT];
     if let Some(rest) = bytes.strip_prefix(b"^") {

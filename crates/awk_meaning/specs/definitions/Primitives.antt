@@ -8,7 +8,7 @@ use Rattle.awk_value.specs.Values.{num_of, str_of}
 use Rattle.awk_record.specs.Cut.{Ending, Cut, Found, NoMore, BrokenOff, TooLong, BadSeparator, cut_of}
 use Rattle.awk_fields.specs.Record.{split_by}
 use Rattle.awk_world.specs.declared.world.InputKind.{InputKind}
-use Rattle.awk_streams.specs.Oracle.{Source, same_input, one_if}
+use Rattle.awk_streams.specs.Oracle.{Source, same_input_kind, one_if}
 use Rattle.awk_streams.specs.Openings.{StandardOutput}
 use Rattle.awk_meaning.specs.declared.fault.Fault.TheVariants.{InputNotReadable, RecordTooLong, RecordSeparatorTooLong, PatternRefused}
 use Rattle.awk_meaning.specs.definitions.State.{AnOpening, ARecord, Printed, Requested, State, Run, ◌>>=◌, lift, ret}
@@ -85,7 +85,7 @@ print_line vs s = print_bytes (line_of (text_in s Ofs) (text_in s Ors) vs) s
 
 -- one opening more of this kind and name
 abbrev pub one_more : InputKind → List ℕ → (InputKind → List ℕ → ℕ) → InputKind → List ℕ → ℕ
-one_more kind name openings k n = one_if (same_input k kind && bytes_eq n name) + openings k n
+one_more kind name openings k n = one_if (same_input_kind k kind && bytes_eq n name) + openings k n
 
 abbrev pub counted : InputKind → List ℕ → State → State
 counted kind name s = record s { openings = one_more kind name s.openings }

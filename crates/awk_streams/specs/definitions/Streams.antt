@@ -11,7 +11,7 @@ use Rattle.awk_world.specs.definitions.WorldState.{WorldState, Closes, SameOpen,
 use Rattle.awk_world.specs.definitions.Log.{Event, OpenedInput, Closed, logged}
 use Rattle.awk_record.specs.Cut.{cut_of}
 use Rattle.awk_record.specs.Buffer.{Pending}
-use Rattle.awk_world.specs.definitions.Oracle.{Oracle, Source, IsConsistent, one_if, how_many, opens_input, opens_output, closes_command, runs, same_input, AnInput, standing}
+use Rattle.awk_world.specs.definitions.Oracle.{Oracle, Source, IsConsistent, one_if, how_many, opens_input, opens_output, closes_command, runs, same_input_kind, AnInput, standing}
 use Rattle.awk_world.specs.definitions.Orderly.{IsReadable, IsInOrder}
 use Rattle.awk_world.specs.definitions.Writes.{OnlyWritesTo, flushed_if}
 use Rattle.awk_world.specs.definitions.Openings.{Opening, openings, in_order, outputs_of, receives, Begins}
@@ -93,7 +93,7 @@ IsMainRest a log (Some v) None = ⊥
 -- one more opening of this input was answered, and no other opening, no closing of a command and no run
 pub record CountsInput (kind : InputKind) (name : List ℕ) (old new : List Event) : Type 0 where
   pub one_more : how_many (opens_input kind name) new ≡ how_many (opens_input kind name) old + 1
-  pub inputs : (k : InputKind) (n : List ℕ) → how_many (opens_input k n) new ≡ one_if (same_input k kind && bytes_eq n name) + how_many (opens_input k n) old
+  pub inputs : (k : InputKind) (n : List ℕ) → how_many (opens_input k n) new ≡ one_if (same_input_kind k kind && bytes_eq n name) + how_many (opens_input k n) old
   pub outputs : (k : OutputKind) (n : List ℕ) → how_many (opens_output k n) new ≡ how_many (opens_output k n) old
   pub closings : how_many closes_command new ≡ how_many closes_command old
   pub runs : how_many runs new ≡ how_many runs old

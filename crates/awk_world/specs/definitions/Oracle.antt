@@ -30,23 +30,23 @@ abbrev pub how_many : (Event → List Event → Bool) → List Event → ℕ
 how_many sort [] = 0
 how_many sort (e ∷ older) = one_if (sort e older) + how_many sort older
 
-abbrev pub same_input : InputKind → InputKind → Bool
-same_input Standard Standard = true
-same_input File File = true
-same_input Command Command = true
-same_input j k = false
+abbrev pub same_input_kind : InputKind → InputKind → Bool
+same_input_kind Standard Standard = true
+same_input_kind File File = true
+same_input_kind Command Command = true
+same_input_kind j k = false
 
-abbrev pub same_output : OutputKind → OutputKind → Bool
-same_output ToFile ToFile = true
-same_output ToCommand ToCommand = true
-same_output j k = false
+abbrev pub same_output_kind : OutputKind → OutputKind → Bool
+same_output_kind ToFile ToFile = true
+same_output_kind ToCommand ToCommand = true
+same_output_kind j k = false
 
 abbrev pub opens_input : InputKind → List ℕ → Event → List Event → Bool
-opens_input kind name (OpenedInput k n id) older = same_input kind k && bytes_eq name n
+opens_input kind name (OpenedInput k n id) older = same_input_kind kind k && bytes_eq name n
 opens_input kind name e older = false
 
 abbrev pub opens_output : OutputKind → List ℕ → Event → List Event → Bool
-opens_output kind name (OpenedOutput k n mode id) older = same_output kind k && bytes_eq name n
+opens_output kind name (OpenedOutput k n mode id) older = same_output_kind kind k && bytes_eq name n
 opens_output kind name e older = false
 
 pub data Standing : Type 0 where

@@ -9,7 +9,7 @@ use Rattle.awk_world.specs.declared.world.InputKind.{InputKind}
 use Rattle.awk_world.specs.declared.world.InputKind.TheVariants.{Standard}
 use Rattle.awk_world.specs.declared.world.WorldFault.{WorldFault}
 use Rattle.awk_world.specs.declared.world.WorldFault.TheVariants.{Memory, Failed}
-use Rattle.awk_world.specs.definitions.Oracle.{same_input}
+use Rattle.awk_world.specs.definitions.Oracle.{same_input_kind}
 use Rattle.awk_world.specs.definitions.Script.{GrantedInput, Script}
 
 -- what the script says is answered, unless memory is refused
@@ -73,7 +73,7 @@ flush_answer plan = unless_refused plan (if is_due plan.flushes_before_failure t
 -- Openings of inputs: each takes the first answer that is listed for its kind and name.
 
 abbrev pub is_for : InputKind → List ℕ → Answer → Bool
-is_for kind name answer = same_input kind answer.kind && bytes_eq name answer.name.items
+is_for kind name answer = same_input_kind kind answer.kind && bytes_eq name answer.name.items
 
 abbrev pub place_for : InputKind → List ℕ → List Answer → Option ℕ
 place_for kind name answers = position (is_for kind name) answers

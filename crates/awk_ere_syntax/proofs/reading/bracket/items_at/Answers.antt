@@ -3,7 +3,7 @@ use Rattle.std.specs.Prelude.{◌||◌, not, false}
 use Rattle.std.specs.Option.{option_map}
 use Rattle.std.proofs.lemmas.Option.{same_Some, none-some}
 use Rattle.awk_ere_syntax.specs.declared.token.Token.TheVariants as tokens
-use Rattle.awk_ere_syntax.specs.definitions.Brackets.{Item, any_has}
+use Rattle.awk_ere_syntax.specs.definitions.Brackets.{BracketItem, any_has}
 use Rattle.awk_ere_syntax.specs.support.TokenValues.{seen_items}
 use Rattle.awk_ere_syntax.proofs.BracketValue.{Stand, stand_first, stand_next, stand_closed, stand_stuck, item_shortens}
 use Rattle.awk_ere_syntax.proofs.reading.bracket.items_at.Goals as goal
@@ -21,7 +21,7 @@ pub returns-in-Some-clause-set : goal.returns-in-Some-clause-set
 returns-in-Some-clause-set c =
     let h = c.loop-behind.invariant in
     λ r e b lt. h.has b lt
-    ∙ ap (λ (x : List Item × List ℕ). any_has x.0 b) (same_Some _ r (sym (stand_closed _ _ _ _ _ h c.in-Some.behind.now (sym c.in-Some.ensures)) ∙ e))
+    ∙ ap (λ (x : List BracketItem × List ℕ). any_has x.0 b) (same_Some _ r (sym (stand_closed _ _ _ _ _ h c.in-Some.behind.now (sym c.in-Some.ensures)) ∙ e))
 
 pub returns-in_err-item-clause-found : goal.returns-in_err-item-clause-found
 returns-in_err-item-clause-found c =

@@ -1,7 +1,7 @@
 use Rattle.std.proofs.Common.{◌≡◌, ◌≤◌, ◌<◌, ℕ}
 use Rattle.std.specs.Prelude.{false, ◌||◌, slice_index_or}
 use Rattle.awk_ere_syntax.specs.support.TokenValues.{holds}
-use Rattle.awk_ere_syntax.proofs.reading.bracket.Item.add_to.Given as goal
+use Rattle.awk_ere_syntax.proofs.reading.bracket.BracketItem.add_to.Given as goal
 
 abbrev pub invariant-loop-byte : goal.invariant-loop-byte
 invariant-loop-byte l = record {
