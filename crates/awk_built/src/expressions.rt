@@ -4,7 +4,8 @@
 ghost use Rattle.awk_grammar.specs.View as g;
 ghost use Rattle.awk_tree.specs.Tree as t;
 ghost use Rattle.awk_tree.specs.View.{expr_of, exprs_of, optional_expr_of};
-ghost use Rattle.awk_built.specs.definitions.Built.{both, all_three, built_unary, binary, built_target, assigned, built_expr, built_list, built_print_list, built_optional_expr};
+ghost use Rattle.awk_built.specs.definitions.Built.{both, all_three, built_unary, binary, built_target, assigned};
+ghost use Rattle.awk_built.specs.definitions.Built.{built_expr, built_list, built_print_list, built_optional_expr};
 ghost use Rattle.awk_built.specs.support.Builds.{Builds, built_leaf};
 ghost use Rattle.std.specs.Prelude.{◌≡◌, Some};
 ghost use Rattle.std.specs.Option.{option_map};
@@ -146,7 +147,8 @@ fn built_signed(
     operator: grammar::UnaryOperator,
     e: &grammar::Expr,
 ) -> Result<Box<Expr>, Refusal>
-    ensures { Builds (λ b. expr_of b.value) result (option_map (t.Unary (built_unary operator)) (built_expr (g.expr_of e.now))) }
+    ensures { Builds (λ b. expr_of b.value) result
+        (option_map (t.Unary (built_unary operator)) (built_expr (g.expr_of e.now))) }
 {
     let e = built_operand(alloc, e)?;
     boxed(alloc, Expr::Unary(built_unary(operator), e))
@@ -160,7 +162,8 @@ fn built_binary(
     a: Box<Expr>,
     b: &grammar::Expr,
 ) -> Result<Box<Expr>, Refusal>
-    ensures { Builds (λ b. expr_of b.value) result (option_map (binary operator (expr_of a.value)) (built_expr (g.expr_of b.now))) }
+    ensures { Builds (λ b. expr_of b.value) result
+        (option_map (binary operator (expr_of a.value)) (built_expr (g.expr_of b.now))) }
 {
     let b = built_operand(alloc, b)?;
     boxed(alloc, binary(operator, a, b))
@@ -174,7 +177,8 @@ fn built_conditional(
     a: Box<Expr>,
     b: &grammar::Expr,
 ) -> Result<Box<Expr>, Refusal>
-    ensures { Builds (λ b. expr_of b.value) result (option_map (t.Conditional (expr_of c.value) (expr_of a.value)) (built_expr (g.expr_of b.now))) }
+    ensures { Builds (λ b. expr_of b.value) result
+        (option_map (t.Conditional (expr_of c.value) (expr_of a.value)) (built_expr (g.expr_of b.now))) }
 {
     let b = built_operand(alloc, b)?;
     boxed(alloc, Expr::Conditional(c, a, b))

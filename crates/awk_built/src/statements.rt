@@ -3,8 +3,11 @@
 
 ghost use Rattle.awk_grammar.specs.View as g;
 ghost use Rattle.awk_tree.specs.Tree as t;
-ghost use Rattle.awk_tree.specs.View.{expr_of, simple_of, optional_simple_of, statement_of, statements_of, pattern_of, item_of, items_of};
-ghost use Rattle.awk_built.specs.definitions.Built.{both, all_four, built_expr, built_optional_expr, built_simple, built_optional_simple, built_statement, built_block, built_pattern, built_item, built_items};
+ghost use Rattle.awk_tree.specs.View.{expr_of, simple_of, optional_simple_of, statement_of};
+ghost use Rattle.awk_tree.specs.View.{statements_of, pattern_of, item_of, items_of};
+ghost use Rattle.awk_built.specs.definitions.Built.{both, all_four, built_expr, built_optional_expr};
+ghost use Rattle.awk_built.specs.definitions.Built.{built_simple, built_optional_simple, built_statement};
+ghost use Rattle.awk_built.specs.definitions.Built.{built_block, built_pattern, built_item, built_items};
 ghost use Rattle.awk_built.specs.support.Builds.{Builds};
 ghost use Rattle.std.specs.Prelude.{Some};
 ghost use Rattle.std.specs.Option.{option_map};
@@ -76,7 +79,8 @@ fn built_if(
     c: &grammar::Expr,
     s: &grammar::Statement,
 ) -> Result<Box<Statement>, Refusal>
-    ensures { Builds (λ b. statement_of b.value) result (both t.If (built_expr (g.expr_of c.now)) (built_statement (g.statement_of s.now))) }
+    ensures { Builds (λ b. statement_of b.value) result
+        (both t.If (built_expr (g.expr_of c.now)) (built_statement (g.statement_of s.now))) }
 {
     let c = built_operand(alloc, c)?;
     let s = built_statement(alloc, s)?;
@@ -91,7 +95,8 @@ fn built_if_else(
     s: Box<Statement>,
     other: &grammar::Statement,
 ) -> Result<Box<Statement>, Refusal>
-    ensures { Builds (λ b. statement_of b.value) result (option_map (t.IfElse (expr_of c.value) (statement_of s.value)) (built_statement (g.statement_of other.now))) }
+    ensures { Builds (λ b. statement_of b.value) result
+        (option_map (t.IfElse (expr_of c.value) (statement_of s.value)) (built_statement (g.statement_of other.now))) }
 {
     let other = built_statement(alloc, other)?;
     boxed(alloc, Statement::IfElse(c, s, other))
@@ -103,7 +108,8 @@ fn built_while(
     c: &grammar::Expr,
     s: &grammar::Statement,
 ) -> Result<Box<Statement>, Refusal>
-    ensures { Builds (λ b. statement_of b.value) result (both t.While (built_expr (g.expr_of c.now)) (built_statement (g.statement_of s.now))) }
+    ensures { Builds (λ b. statement_of b.value) result
+        (both t.While (built_expr (g.expr_of c.now)) (built_statement (g.statement_of s.now))) }
 {
     let c = built_operand(alloc, c)?;
     let s = built_statement(alloc, s)?;
@@ -116,7 +122,8 @@ fn built_do(
     s: &grammar::Statement,
     c: &grammar::Expr,
 ) -> Result<Box<Statement>, Refusal>
-    ensures { Builds (λ b. statement_of b.value) result (both t.Do (built_statement (g.statement_of s.now)) (built_expr (g.expr_of c.now))) }
+    ensures { Builds (λ b. statement_of b.value) result
+        (both t.Do (built_statement (g.statement_of s.now)) (built_expr (g.expr_of c.now))) }
 {
     let s = built_statement(alloc, s)?;
     let c = built_operand(alloc, c)?;
@@ -129,7 +136,9 @@ fn built_for(
     parts: &grammar::ForParts,
     s: &grammar::Statement,
 ) -> Result<Box<Statement>, Refusal>
-    ensures { Builds (λ b. statement_of b.value) result (all_four t.For (built_optional_simple (g.optional_simple_of parts.now.first)) (built_optional_expr (g.optional_expr_of parts.now.condition))
+    ensures { Builds (λ b. statement_of b.value) result
+        (all_four t.For (built_optional_simple (g.optional_simple_of parts.now.first))
+        (built_optional_expr (g.optional_expr_of parts.now.condition))
         (built_optional_simple (g.optional_simple_of parts.now.last)) (built_statement (g.statement_of s.now))) }
 {
     let s = built_statement(alloc, s)?;
@@ -194,7 +203,8 @@ fn built_rule(
     pattern: &grammar::Pattern,
     block: &[grammar::Statement],
 ) -> Result<Item, Refusal>
-    ensures { Builds item_of result (both t.PatternAction (built_pattern (g.pattern_of pattern.now)) (built_block (g.statements_of block.now))) }
+    ensures { Builds item_of result
+        (both t.PatternAction (built_pattern (g.pattern_of pattern.now)) (built_block (g.statements_of block.now))) }
 {
     let pattern = built_pattern(alloc, pattern)?;
     let block = built_block(alloc, block)?;

@@ -3,7 +3,8 @@
 ghost use Rattle.std.specs.Prelude.{◌≡◌, None, Some, Err, IfOk};
 ghost use Rattle.std.specs.List.{list_all};
 ghost use Rattle.std.specs.Str.{is_utf8};
-ghost use Rattle.awk_command.specs.CommandLine.{Settings as SettingsView, command_line_with, command_line_of, texts, source_of, view_of};
+ghost use Rattle.awk_command.specs.CommandLine.{Settings as SettingsView, command_line_with};
+ghost use Rattle.awk_command.specs.CommandLine.{command_line_of, texts, source_of, view_of};
 
 use crate::options::{CommandFault, Settings, read_options};
 use awk_run::Assignment;
@@ -52,8 +53,11 @@ fn sources(
     files: Vec<Vec<u8>>,
     behind: &[Vec<u8>],
 ) -> Result<(ProgramSource, Vec<Vec<u8>>), CommandFault>
-    ensures ok { (s : SettingsView) → IfOk result (λ p. command_line_with s (texts files.items) (texts behind.now) ≡ Some (record { pre = s.pre; limit = s.limit; source = source_of p.0; operands = texts p.1.items })) }
-    ensures usage { (s : SettingsView) → result ≡ Err CommandFault.Usage → command_line_with s (texts files.items) (texts behind.now) ≡ None }
+    ensures ok { (s : SettingsView) →
+        IfOk result (λ p. command_line_with s (texts files.items) (texts behind.now)
+        ≡ Some (record { pre = s.pre; limit = s.limit; source = source_of p.0; operands = texts p.1.items })) }
+    ensures usage { (s : SettingsView) → result ≡ Err CommandFault.Usage →
+        command_line_with s (texts files.items) (texts behind.now) ≡ None }
 {
     if !files.is_empty() {
         return Ok((ProgramSource::Files(files), copies(alloc, behind)?));

@@ -25,7 +25,8 @@ fn is_text_entry(entry: &Assignment) -> bool
 
 /// The entries that are UTF-8.
 fn text_entries(alloc: Global, environ: Vec<Assignment>) -> Result<Vec<Assignment>, AllocError>
-    ensures { IfOk result (λ kept. kept.items ≡ filter (λ entry. is_utf8 entry.name.items && is_utf8 entry.text.items) environ.items) }
+    ensures { IfOk result
+        (λ kept. kept.items ≡ filter (λ entry. is_utf8 entry.name.items && is_utf8 entry.text.items) environ.items) }
 {
     environ
         .into_iter()

@@ -1,12 +1,14 @@
 // The options before the operands, read one word at a time (POSIX awk, OPTIONS; Utility Syntax Guidelines).
 
-ghost use Rattle.std.specs.Prelude.{◌≡◌, ◌≤◌, ◌^◌, ◌==◌, true, None, Some, Err, IfOk, OnOk, MatchOption, drop, length, position};
+ghost use Rattle.std.specs.Prelude.{◌≡◌, ◌≤◌, ◌^◌, ◌==◌, true, None, Some, Err};
+ghost use Rattle.std.specs.Prelude.{IfOk, OnOk, MatchOption, drop, length, position};
 ghost use Rattle.std.specs.List.{list_all};
 ghost use Rattle.std.specs.Option.{option_map};
 ghost use Rattle.std.specs.Char.{is_ascii_digit};
 ghost use Rattle.std.specs.Str.Parse.{digits_value};
 ghost use Rattle.awk_run.specs.Start.{pair_of};
-ghost use Rattle.awk_command.specs.CommandLine.{option_of, word_kind, assignment_of, steps_of, with_option, with_pre, no_settings, parse_options, texts};
+ghost use Rattle.awk_command.specs.CommandLine.{option_of, word_kind, assignment_of, steps_of};
+ghost use Rattle.awk_command.specs.CommandLine.{with_option, with_pre, no_settings, parse_options, texts};
 ghost use Rattle.awk_command.specs.Parts.{settings_of};
 ghost use Rattle.awk_command.specs.declared.options.CommandFault.TheVariants.{Memory};
 
@@ -196,7 +198,9 @@ pub(crate) fn read_options(
     alloc: Global,
     words: &[Vec<u8>],
 ) -> Result<(Settings, usize), CommandFault>
-    ensures ok { IfOk result (λ p. parse_options None no_settings (texts words.now) ≡ Some record { settings = settings_of p.0; words = drop p.1 (texts words.now) }) }
+    ensures ok { IfOk result
+        (λ p. parse_options None no_settings (texts words.now)
+        ≡ Some record { settings = settings_of p.0; words = drop p.1 (texts words.now) }) }
     ensures usage { result ≡ Err CommandFault.Usage → parse_options None no_settings (texts words.now) ≡ None }
     ensures count { IfOk result (λ p. p.1 ≤ length words.now) }
 {

@@ -4,7 +4,8 @@ ghost use Rattle.std.specs.Prelude.{◌≡◌, ◌<◌, ◌++◌, true, IsTrue, 
 ghost use Rattle.awk_streams.specs.WorldState.{IsFresh, Opens, SameOpen};
 ghost use Rattle.awk_streams.specs.Log.{logged, input_opening};
 ghost use Rattle.awk_command.specs.CommandLine.{texts, source_of};
-ghost use Rattle.awk_command.specs.ProgramText.{kind_of, opened_name, with_newline, ReadsInput, ReadsFile, ReadsFiles, IsNotRead, IsBroken, IsUnreadable, ProvidesText};
+ghost use Rattle.awk_command.specs.ProgramText.{kind_of, opened_name, with_newline, ReadsInput, ReadsFile};
+ghost use Rattle.awk_command.specs.ProgramText.{ReadsFiles, IsNotRead, IsBroken, IsUnreadable, ProvidesText};
 ghost use Rattle.awk_command.specs.Parts.{ReadsChunk, reason_of};
 
 use crate::command_line::ProgramSource;
@@ -29,7 +30,9 @@ fn not_read(fault: WorldFault) -> NotRun
 fn open<W: World>(world: &mut W, name: &[u8]) -> Result<u64, WorldFault>
     ensures fresh { IfOk result (IsFresh (W.state world.old)) }
     ensures opens { IfOk result (Opens (W.state world.old) (W.state world.new)) }
-    ensures log { W.is_logged → (W.state world.new).log ≡ logged (input_opening (kind_of name.now) (opened_name name.now) result) (W.state world.old).log }
+    ensures log { W.is_logged →
+        (W.state world.new).log
+        ≡ logged (input_opening (kind_of name.now) (opened_name name.now) result) (W.state world.old).log }
 {
     if name == b"-".as_slice() {
         world.open_input(InputKind::Standard, b"")
@@ -48,7 +51,9 @@ fn read_chunk<W: World>(
     requires open { IsTrue ((W.state world.old).is_open id) }
     requires room { 0 < length chunk.old }
     ensures open { SameOpen (W.state world.old) (W.state world.new) }
-    ensures read { IfOk result (λ more. W.is_logged → ReadsChunk id more bytes.old.items bytes.new.items (W.state world.old).log (W.state world.new).log) }
+    ensures read { IfOk result
+        (λ more. W.is_logged →
+        ReadsChunk id more bytes.old.items bytes.new.items (W.state world.old).log (W.state world.new).log) }
     ensures more { result ≡ Ok true → length bytes.old.items < length bytes.new.items }
     ensures err { IfErr result IsNotRead }
     ensures broken { result ≡ Err NotRun.NotReadable → W.is_logged → IsBroken id (W.state world.new).log }
@@ -67,7 +72,8 @@ fn read_chunk<W: World>(
 fn read_input<W: World>(alloc: Global, world: &mut W, id: u64) -> Result<Vec<u8>, NotRun>
     requires open { IsTrue ((W.state world.old).is_open id) }
     ensures open { SameOpen (W.state world.old) (W.state world.new) }
-    ensures read { IfOk result (λ bytes. W.is_logged → ReadsInput id bytes.items (W.state world.old).log (W.state world.new).log) }
+    ensures read { IfOk result
+        (λ bytes. W.is_logged → ReadsInput id bytes.items (W.state world.old).log (W.state world.new).log) }
     ensures err { IfErr result IsNotRead }
     ensures broken { result ≡ Err NotRun.NotReadable → W.is_logged → IsBroken id (W.state world.new).log }
 {
@@ -84,7 +90,8 @@ fn read_input<W: World>(alloc: Global, world: &mut W, id: u64) -> Result<Vec<u8>
 
 /// Reads a file.
 fn read_file<W: World>(alloc: Global, world: &mut W, name: &[u8]) -> Result<Vec<u8>, NotRun>
-    ensures read { IfOk result (λ bytes. W.is_logged → ReadsFile name.now bytes.items (W.state world.old).log (W.state world.new).log) }
+    ensures read { IfOk result
+        (λ bytes. W.is_logged → ReadsFile name.now bytes.items (W.state world.old).log (W.state world.new).log) }
     ensures err { IfErr result IsNotRead }
     ensures unreadable { result ≡ Err NotRun.NotReadable → W.is_logged → IsUnreadable (W.state world.new).log }
 {
@@ -107,7 +114,8 @@ fn append_file(text: &mut Vec<u8>, bytes: &[u8]) -> Result<(), AllocError>
 
 /// The joined texts of files.
 fn read_files<W: World>(alloc: Global, world: &mut W, names: &[Vec<u8>]) -> Result<Vec<u8>, NotRun>
-    ensures read { IfOk result (λ text. W.is_logged → ReadsFiles (texts names.now) text.items (W.state world.old).log (W.state world.new).log) }
+    ensures read { IfOk result
+        (λ text. W.is_logged → ReadsFiles (texts names.now) text.items (W.state world.old).log (W.state world.new).log) }
     ensures err { IfErr result IsNotRead }
     ensures unreadable { result ≡ Err NotRun.NotReadable → W.is_logged → IsUnreadable (W.state world.new).log }
 {

@@ -2,7 +2,8 @@
 // is read from the node where the entry is taken off.
 
 ghost use Rattle.std.specs.Prelude.{◌≡◌, IfSome, slice_get};
-ghost use Rattle.awk_control.specs.support.Entries.{awaited_at, awaited_in, assigned_in, stored_in, loop_in, HasLoop, HasLoopIn, CountsOn, GoesRight};
+ghost use Rattle.awk_control.specs.support.Entries.{awaited_at, awaited_in, assigned_in, stored_in};
+ghost use Rattle.awk_control.specs.support.Entries.{loop_in, HasLoop, HasLoopIn, CountsOn, GoesRight};
 ghost use Rattle.awk_plan.specs.Order.{IsCounted};
 
 use awk_plan::node::{

@@ -6,7 +6,8 @@ ghost use Rattle.awk_meaning.specs.Semantics.{ending};
 ghost use Rattle.awk_plan.specs.Plan.{part_of, statement_in, statements_in};
 ghost use Rattle.awk_control.specs.support.Stack.{BeginStatement, BeginBlock, Ended, LoopTurn};
 ghost use Rattle.awk_control.specs.support.Moves.{loop_of, flow_of};
-ghost use Rattle.awk_control.specs.support.Reaching.{place_of, Reaches, HoldsInPlace, TurnBegins, GoesOnBehind, TurnStops, MakesTurn, MakesTurns};
+ghost use Rattle.awk_control.specs.support.Reaching.{place_of, Reaches, HoldsInPlace, TurnBegins};
+ghost use Rattle.awk_control.specs.support.Reaching.{GoesOnBehind, TurnStops, MakesTurn, MakesTurns};
 
 use crate::blocks::{block, block_at, simple};
 use crate::entry::Loop;

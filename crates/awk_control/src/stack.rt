@@ -5,8 +5,8 @@ use awk_plan::node::Operand;
 use awk_value::Value;
 use std::alloc::Global;
 
-/// The entries and the values that are kept for them, the newest last, the value that an expression returned, and the room for the
-/// values of a line that is printed in place.
+/// The entries and the values that are kept for them, the newest last, the value that an expression
+/// returned, and the room for the values of a line that is printed in place.
 #[derive(Drop)]
 pub struct Stack {
     pub control: Control,

@@ -105,7 +105,8 @@ impl Pattern {
         requires high { high ≤ length text.now }
         ensures order { low ≤ result }
         ensures within { result ≤ length text.now }
-        ensures found { (t : Tree) → Means t self.now → OccursBetween t text.now low high → Begins t text.now low (Some result) }
+        ensures found { (t : Tree) → Means t self.now → OccursBetween t text.now low high →
+            Begins t text.now low (Some result) }
         ensures same { IsFor scratch.new self.now }
     {
         let mut first = low;

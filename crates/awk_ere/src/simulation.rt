@@ -2,7 +2,8 @@
 // flows through it, which tells of each point of the program whether a match has come there. Forks keep the signal for their
 // second branch on a stack.
 
-ghost use Rattle.std.specs.Prelude.{◌≡◌, ℕ, ◌+◌, ◌<◌, ◌≤◌, ◌&&◌, ◌||◌, false, true, [], ◌∷◌, length, drop, replicate, slice_set, slice_index_or, MatchResult};
+ghost use Rattle.std.specs.Prelude.{◌≡◌, ℕ, ◌+◌, ◌<◌, ◌≤◌, ◌&&◌, ◌||◌, false, true, [], ◌∷◌, length};
+ghost use Rattle.std.specs.Prelude.{drop, replicate, slice_set, slice_index_or, MatchResult};
 ghost use Rattle.awk_ere_syntax.specs.definitions.Tree.{has};
 ghost use Rattle.awk_ere_compile.specs.definitions.Program.{resolve};
 ghost use Rattle.awk_ere.specs.support.Simulation.{swapped, joined, act, read_off};
@@ -57,7 +58,14 @@ fn is_in(classes: &[[bool; BYTE_COUNT]], number: u32, byte: u8) -> bool
 // this byte reaches the position where the byte passes.
 fn read(positions: &mut [bool], i: usize, at: Flow, passes: bool) -> Flow
     requires { i < length positions.old }
-    ensures flow { result ≡ record { now = record { before = slice_index_or positions.old i false; after = at.now.before && passes }; kept = at.kept } }
+    ensures flow { result
+        ≡ record {
+          now = record {
+            before = slice_index_or positions.old i false;
+            after = at.now.before && passes;
+          };
+          kept = at.kept;
+        } }
     ensures positions { positions.new ≡ slice_set positions.old i (at.now.before && passes) }
 {
     let before = positions[i];
@@ -71,7 +79,8 @@ fn read(positions: &mut [bool], i: usize, at: Flow, passes: bool) -> Flow
 
 // An anchor: only what flows before the byte goes on, and only where the test holds.
 fn guard(at: Flow, holds: bool) -> Flow
-    ensures { result ≡ record { now = record { before = at.now.before && holds; after = at.now.after && false }; kept = at.kept } }
+    ensures { result
+        ≡ record { now = record { before = at.now.before && holds; after = at.now.after && false }; kept = at.kept } }
 {
     Flow {
         now: Signal {
@@ -132,7 +141,14 @@ fn join(kept: &[Signal], at: Flow) -> Flow
 // Where the body is complete, what flows behind it flows before it too.
 fn enter(positions: &[bool], i: usize, far: u32, at: Flow) -> Flow
     requires { i < length positions.now }
-    ensures { result ≡ record { now = record { before = at.now.before || slice_index_or (drop i positions.now) far false; after = at.now.after }; kept = at.kept } }
+    ensures { result
+        ≡ record {
+          now = record {
+            before = at.now.before || slice_index_or (drop i positions.now) far false;
+            after = at.now.after;
+          };
+          kept = at.kept;
+        } }
 {
     let complete = match positions[i..].get(far as usize) {
         Some(complete) => *complete,
@@ -161,9 +177,12 @@ fn step_instruction(
     requires room { 0 < at.kept }
     requires stacked { at.kept ≤ length kept.old }
     ensures flow { read_off result kept.new
-        ≡ (act input.start input.end input.byte (resolve classes.now instruction) (drop i positions.old) (read_off at kept.old)).0 }
+        ≡ (act input.start input.end input.byte (resolve classes.now instruction) (drop i positions.old)
+        (read_off at kept.old)).0 }
     ensures positions { positions.new
-        ≡ slice_set positions.old i (act input.start input.end input.byte (resolve classes.now instruction) (drop i positions.old) (read_off at kept.old)).1 }
+        ≡ slice_set positions.old i
+        (act input.start input.end input.byte (resolve classes.now instruction) (drop i positions.old)
+        (read_off at kept.old)).1 }
     ensures room { at.kept ≤ result.kept + 1 }
     ensures stacked { result.kept ≤ length kept.old }
 {

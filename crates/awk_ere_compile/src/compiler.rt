@@ -1,9 +1,11 @@
 // A program that is being made, token by token.
 
-ghost use Rattle.std.specs.Prelude.{◌≡◌, suc, ◌≤◌, ◌+◌, ◌-◌, ◌*◌, ◌++◌, ◌∷◌, [], replicate, reverse, length, nat_le, OnOk, IfOk, Some, if◌then◌else◌};
+ghost use Rattle.std.specs.Prelude.{◌≡◌, suc, ◌≤◌, ◌+◌, ◌-◌, ◌*◌, ◌++◌, ◌∷◌, [], replicate};
+ghost use Rattle.std.specs.Prelude.{reverse, length, nat_le, OnOk, IfOk, Some, if◌then◌else◌};
 ghost use Rattle.awk_ere_syntax.specs.definitions.Limits.{greatest_size};
 ghost use Rattle.awk_ere_compile.specs.support.CompilerState as compiler;
-ghost use Rattle.awk_ere_compile.specs.support.CompilerState.{IsSound, IsWithin, taken, limited, is_small, most_instructions, state_of};
+ghost use Rattle.awk_ere_compile.specs.support.CompilerState.{IsSound, IsWithin, taken, limited};
+ghost use Rattle.awk_ere_compile.specs.support.CompilerState.{is_small, most_instructions, state_of};
 ghost use Rattle.awk_ere_compile.specs.support.CompilerResult.{Finishes};
 
 pub mod checkpoint;
@@ -137,7 +139,9 @@ impl Compiler {
     fn end(&mut self) -> Result<(), AllocError>
         requires short { length self.old.instructions.items ≤ most_instructions }
         requires bars { self.old.group.bars ≤ greatest_size }
-        ensures { OnOk result (state_of self.new ≡ record (state_of self.old) { instructions = compiler.ended_instructions (state_of self.old) }) }
+        ensures { OnOk result
+            (state_of self.new
+            ≡ record (state_of self.old) { instructions = compiler.ended_instructions (state_of self.old) }) }
     {
         if self.size <= GREATEST_SIZE {
             self.instructions.resize(self.instructions.len() + self.group.bars, Instruction::Join)?;

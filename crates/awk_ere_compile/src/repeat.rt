@@ -1,7 +1,8 @@
 // The instructions of repeats.
 
 ghost use Rattle.std.specs.Prelude.{◌≡◌, ◌<◌, ◌≤◌, ◌+◌, ◌^◌, ◌++◌, length, take, drop, OnOk};
-ghost use Rattle.awk_ere_compile.specs.support.RepeatInstructions.{rounds, some_rounds, any_rounds, forks, joins, up_to_rounds, repeat_instructions};
+ghost use Rattle.awk_ere_compile.specs.support.RepeatInstructions.{rounds, some_rounds, any_rounds, forks};
+ghost use Rattle.awk_ere_compile.specs.support.RepeatInstructions.{joins, up_to_rounds, repeat_instructions};
 
 use crate::program::Instruction;
 use awk_ere_syntax::token::Repeat;
@@ -113,7 +114,9 @@ pub fn repeat_from(
 ) -> Result<(), AllocError>
     requires within { start ≤ length instructions.old.items }
     requires short { length instructions.old.items + 1 < 2 ^ 32 }
-    ensures { OnOk result (instructions.new.items ≡ take start instructions.old.items ++ repeat_instructions repeat (drop start instructions.old.items)) }
+    ensures { OnOk result
+        (instructions.new.items
+        ≡ take start instructions.old.items ++ repeat_instructions repeat (drop start instructions.old.items)) }
 {
     let alloc = *instructions.allocator();
     let body = Vec::from_slice(alloc, &instructions[start..])?;

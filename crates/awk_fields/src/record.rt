@@ -1,5 +1,6 @@
 // The record at hand, with its fields.
-ghost use Rattle.std.specs.Prelude.{◌≡◌, ◌≢◌, ℕ, true, suc, pos, ◌<ℤ◌, min, ◌++◌, [], length, slice_get, unwrap_or, OnOk, OnErr, IfOk, IfErr, Ok, Err, None, List};
+ghost use Rattle.std.specs.Prelude.{◌≡◌, ◌≢◌, ℕ, true, suc, pos, ◌<ℤ◌, min, ◌++◌, [], length, slice_get};
+ghost use Rattle.std.specs.Prelude.{unwrap_or, OnOk, OnErr, IfOk, IfErr, Ok, Err, None, List};
 ghost use Rattle.std.specs.Result.{is_err};
 ghost use Rattle.awk_split.specs.Separators.{separator_of};
 ghost use Rattle.awk_split.specs.Pieces.{pieces_by};
@@ -253,7 +254,8 @@ impl Record {
         separator: Bytes,
     ) -> Result<(), RecordFault>
         ensures ok { OnOk result (Ok self.new ≡ with_field (assignable number) value separator self.old) }
-        ensures refused { IfErr result (λ e. e ≢ RecordFault.Memory → Err e ≡ with_field (assignable number) value separator self.old) }
+        ensures refused { IfErr result
+            (λ e. e ≢ RecordFault.Memory → Err e ≡ with_field (assignable number) value separator self.old) }
         ensures err { OnErr result (self.new ≡ self.old) }
     {
         let number = assigned_number(number)?;
@@ -274,7 +276,8 @@ impl Record {
     /// nothing. (POSIX awk, Variables and Special Variables: NF)
     pub fn set_count(&mut self, count: i128, separator: Bytes) -> Result<(), RecordFault>
         ensures ok { OnOk result (Ok self.new ≡ with_count (assignable count) separator self.old) }
-        ensures refused { IfErr result (λ e. e ≢ RecordFault.Memory → Err e ≡ with_count (assignable count) separator self.old) }
+        ensures refused { IfErr result
+            (λ e. e ≢ RecordFault.Memory → Err e ≡ with_count (assignable count) separator self.old) }
         ensures err { OnErr result (self.new ≡ self.old) }
     {
         let count = assigned_number(count)?;

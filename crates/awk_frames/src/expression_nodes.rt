@@ -65,7 +65,8 @@ pub(crate) fn binary(
     left: Option<CheckedExpr>,
     right: Option<CheckedExpr>,
 ) -> Result<Option<CheckedExpr>, AllocError>
-    ensures { IfOk result (λ e. checked_expr e ≡ over_two max_height height_of (t.Binary operator) (checked_expr left) (checked_expr right)) }
+    ensures { IfOk result
+        (λ e. checked_expr e ≡ over_two max_height height_of (t.Binary operator) (checked_expr left) (checked_expr right)) }
 {
     let Some(left) = left else {
         drop(right);
@@ -86,7 +87,8 @@ pub(crate) fn assign(
     place: Option<CheckedExpr>,
     value: Option<CheckedExpr>,
 ) -> Result<Option<CheckedExpr>, AllocError>
-    ensures { IfOk result (λ e. checked_expr e ≡ over_two max_height height_of (t.Assign operator) (checked_expr place) (checked_expr value)) }
+    ensures { IfOk result
+        (λ e. checked_expr e ≡ over_two max_height height_of (t.Assign operator) (checked_expr place) (checked_expr value)) }
 {
     let Some(place) = place else {
         drop(value);
@@ -111,7 +113,10 @@ pub(crate) fn conditional(
     first: Option<CheckedExpr>,
     second: Option<CheckedExpr>,
 ) -> Result<Option<CheckedExpr>, AllocError>
-    ensures { IfOk result (λ e. checked_expr e ≡ over_three max_height height_of t.Conditional (checked_expr condition) (checked_expr first) (checked_expr second)) }
+    ensures { IfOk result
+        (λ e. checked_expr e
+        ≡ over_three max_height height_of t.Conditional (checked_expr condition) (checked_expr first)
+        (checked_expr second)) }
 {
     let Some(condition) = condition else {
         drop(first);
@@ -159,7 +164,8 @@ pub(crate) fn getline(
     place: OptionalChild,
     file: OptionalChild,
 ) -> Result<Option<CheckedExpr>, AllocError>
-    ensures { IfOk result (λ e. checked_expr e ≡ over_two max_height height_of t.Getline (checked_child place) (checked_child file)) }
+    ensures { IfOk result
+        (λ e. checked_expr e ≡ over_two max_height height_of t.Getline (checked_child place) (checked_child file)) }
 {
     let place = held(place);
     let file = held(file);
@@ -181,7 +187,8 @@ pub(crate) fn piped_getline(
     command: Option<CheckedExpr>,
     place: OptionalChild,
 ) -> Result<Option<CheckedExpr>, AllocError>
-    ensures { IfOk result (λ e. checked_expr e ≡ over_two max_height height_of t.PipedGetline (checked_expr command) (checked_child place)) }
+    ensures { IfOk result
+        (λ e. checked_expr e ≡ over_two max_height height_of t.PipedGetline (checked_expr command) (checked_child place)) }
 {
     let place = held(place);
     let Some(command) = command else {

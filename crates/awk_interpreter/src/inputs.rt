@@ -3,7 +3,8 @@
 ghost use Rattle.std.specs.Prelude.{◌≡◌, ◌≢◌, [], None, true, is_some};
 ghost use Rattle.awk_streams.specs.Streams.{AreOpen, IsSoundMain};
 ghost use Rattle.awk_meaning.specs.Primitives.{take_record, close_main, take_argument};
-ghost use Rattle.awk_meaning.specs.Inputs.{assign_text, path_of, main_record, first_record, operand_record, standard_record, search_operands, next_record};
+ghost use Rattle.awk_meaning.specs.Inputs.{assign_text, path_of, main_record, first_record};
+ghost use Rattle.awk_meaning.specs.Inputs.{operand_record, standard_record, search_operands, next_record};
 ghost use Rattle.awk_interpreter.specs.support.Simulation.{Changes, Follows, ClosesMainInput, OpensMainInput, Seeks};
 
 use crate::interpreter::Interpreter;

@@ -1,10 +1,12 @@
 // The interpreter: the state of a run, and what it can do by itself.
 
-ghost use Rattle.std.specs.Prelude.{◌≡◌, ◌<◌, ◌-◌, ℕ, pos, true, false, None, [], codes, bytes_eq, map, slice_get, unwrap_or, vec_len, Ok, IfOk, IfErr, OnOk};
+ghost use Rattle.std.specs.Prelude.{◌≡◌, ◌<◌, ◌-◌, ℕ, pos, true, false, None, [], codes, bytes_eq};
+ghost use Rattle.std.specs.Prelude.{map, slice_get, unwrap_or, vec_len, Ok, IfOk, IfErr, OnOk};
 ghost use Rattle.awk_value.specs.declared.value.Value.TheVariants.{Text};
 ghost use Rattle.awk_meaning.specs.State.{lift};
 ghost use Rattle.awk_variables.specs.Variables.{name_of};
-ghost use Rattle.awk_meaning.specs.Primitives.{read_name, put, count_in, field_at, record_text, set_record, print_line, note_input, begin_input, is_inside, set_inside, set_status};
+ghost use Rattle.awk_meaning.specs.Primitives.{read_name, put, count_in, field_at, record_text, set_record};
+ghost use Rattle.awk_meaning.specs.Primitives.{print_line, note_input, begin_input, is_inside, set_inside, set_status};
 ghost use Rattle.awk_meaning.specs.Semantics.{begin_record};
 ghost use Rattle.awk_meaning.specs.Operators.{applied, exit_status, takes_pattern};
 ghost use Rattle.awk_interpreter.specs.support.Simulation.{Spends, Changes, Follows, IsStart};

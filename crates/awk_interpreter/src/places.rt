@@ -115,10 +115,11 @@ impl Interpreter {
         self.variables.replace_at(number, name, value)
     }
 
-    /// Appends a value's text to that of a name's value at this place. Where the place is another's or memory is refused, nothing
-    /// changes.
+    /// Appends a value's text to that of a name's value at this place. Where the place is another's
+    /// or memory is refused, nothing changes.
     pub fn append_at(&mut self, number: u32, name: &[u8], tail: &Value) -> bool
-        ensures stored { result ≡ true → (v : Kept) → v ≡ Value.Text (str_of (value_of self.old.variables name.now) ++ str_of tail.now) →
+        ensures stored { result ≡ true → (v : Kept) →
+            v ≡ Value.Text (str_of (value_of self.old.variables name.now) ++ str_of tail.now) →
             Changes (store name.now v) self.old self.new (Ok v) }
         ensures kept { result ≡ false → self.new ≡ self.old }
     {

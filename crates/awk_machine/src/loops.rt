@@ -131,7 +131,8 @@ pub(crate) fn begin_loop(
     interpreter: &mut Interpreter,
 ) -> Result<Move, Halt>
     requires room { HasRoom stack.old.control }
-    ensures { SpendsFor (record { node = l.place; state = State.Loop entry }) next stack.old interpreter.old result stack.new interpreter.new }
+    ensures { SpendsFor
+        (record { node = l.place; state = State.Loop entry }) next stack.old interpreter.old result stack.new interpreter.new }
 {
     stack.control.push(l.entry(entry))?;
     interpreter.spend()?;

@@ -39,8 +39,8 @@ fn begin_do(
 ) -> Result<Move, Halt>
     requires room { HasRoom stack.old.control }
     requires at { slice_get plan.now.nodes place ≡ Some (Node.Statement (StatementNode.Do body condition)) }
-    ensures { Steps plan.now (BeginStatement (Do (statement_in (part_of plan.now body)) (operand_of plan.now condition))) (stack_of
-        plan.now stack.old) interpreter.old result stack.new interpreter.new }
+    ensures { Steps plan.now (BeginStatement (Do (statement_in (part_of plan.now body)) (operand_of plan.now condition)))
+        (stack_of plan.now stack.old) interpreter.old result stack.new interpreter.new }
 {
     let l = Loop {
         place,
@@ -150,7 +150,8 @@ fn resume<W: World>(
     world: &mut W,
 ) -> Result<Move, Halt>
     requires room { HasRoom stack.old.control }
-    ensures { Moves W.is_logged plan.now (Ended (flow_of passed stack.old.returned)) (topped plan.now (awaited_at plan.now entry) stack.old)
+    ensures { Moves W.is_logged plan.now (Ended (flow_of passed stack.old.returned))
+        (topped plan.now (awaited_at plan.now entry) stack.old)
         interpreter.old (W.state world.old) result stack.new interpreter.new (W.state world.new) }
 {
     match read_entry(plan, entry) {

@@ -45,7 +45,8 @@ pub fn print_record<W: World>(interpreter: &mut Interpreter, world: &mut W) -> R
     interpreter.print_line(world, &[text])
 }
 
-/// Puts the values of a list's expressions behind those that stand in the room, as far as they are found in place: whether all are.
+/// Puts the values of a list's expressions behind those that stand in the room, as far as they are
+/// found in place: whether all are.
 fn find_values(
     plan: &Plan,
     place: u32,

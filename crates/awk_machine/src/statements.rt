@@ -119,8 +119,9 @@ fn end_status(
 
 /// Where a statement leads that has others behind it.
 fn end_followed(rest: u32, passed: Passed) -> Move
-    ensures { (plan : _) (stack : _) (m : _) → Steps plan (Ended (flow_of passed stack.returned)) (topped plan (awaited.Statement
-        (StatementEntry.Followed rest)) stack) m (Ok result) stack m }
+    ensures { (plan : _) (stack : _) (m : _) →
+        Steps plan (Ended (flow_of passed stack.returned))
+        (topped plan (awaited.Statement (StatementEntry.Followed rest)) stack) m (Ok result) stack m }
 {
     match passed {
         Passed::Normal => Move::On(Focus::Block(rest)),

@@ -18,12 +18,14 @@ pub fn law_of_limits()
 /// Parts of a run that meet their requests in turn meet them all, one part after the other.
 #[tactic(auto, using(crate::proofs::Requests::meets_append))]
 pub fn law_of_turns()
-    ensures { (oracle : Oracle) (xs ys : List Asked) (a b c : Stage) → MeetsAll oracle xs a b → MeetsAll oracle ys b c → MeetsAll oracle (xs ++ ys) a c }
+    ensures { (oracle : Oracle) (xs ys : List Asked) (a b c : Stage) → MeetsAll oracle xs a b →
+        MeetsAll oracle ys b c → MeetsAll oracle (xs ++ ys) a c }
 {}
 
 /// The language itself knows no want of memory and no failed write: no program means F1 or F2.
 #[tactic(auto, using(crate::proofs::OwnOutcomes::law_of_outcomes))]
 pub fn law_of_outcomes()
     ensures { (items : List Item) (start : StartValues) (oracle : Oracle) (limit : ℕ) →
-        ((meaning_of items start oracle limit).outcome ≢ Fault OutOfMemory) × ((meaning_of items start oracle limit).outcome ≢ Fault WriteFailed) }
+        ((meaning_of items start oracle limit).outcome ≢ Fault OutOfMemory) ×
+        ((meaning_of items start oracle limit).outcome ≢ Fault WriteFailed) }
 {}

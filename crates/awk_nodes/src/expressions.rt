@@ -63,7 +63,8 @@ pub fn list_membership(
     subscripts: Option<CheckedExprs>,
     array: Bytes,
 ) -> Result<Option<CheckedExpr>, AllocError>
-    ensures { IfOk result (λ e. checked_expr e ≡ over_one max_height height_of (λ x. t.ListMembership x array) (checked_exprs subscripts)) }
+    ensures { IfOk result
+        (λ e. checked_expr e ≡ over_one max_height height_of (λ x. t.ListMembership x array) (checked_exprs subscripts)) }
 {
     let Some(subscripts) = subscripts else {
         return Ok(None);

@@ -1,6 +1,7 @@
 // The elements of ARGV, and what each asks for.
 
-ghost use Rattle.std.specs.Prelude.{◌≡◌, ℕ, pos, suc, int_lt, true, false, map, slice_get, unwrap_or, [], IfOk, IfErr, IfSome, IfNone, OnErr, Ok, ◌⊎◌};
+ghost use Rattle.std.specs.Prelude.{◌≡◌, ℕ, pos, suc, int_lt, true, false, map, slice_get};
+ghost use Rattle.std.specs.Prelude.{unwrap_or, [], IfOk, IfErr, IfSome, IfNone, OnErr, Ok, ◌⊎◌};
 ghost use Rattle.std.specs.List.{prefix_len};
 ghost use Rattle.awk_value.specs.Values.{num_of};
 ghost use Rattle.awk_lex.specs.Words.{is_word_byte};

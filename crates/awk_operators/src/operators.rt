@@ -4,7 +4,8 @@ ghost use Rattle.std.specs.Prelude.{◌≡◌, true, false, if◌then◌else◌,
 ghost use Rattle.std.specs.declared.cmp.Ordering.{Ordering as Order};
 ghost use Rattle.awk_value.specs.Values.{str_of};
 ghost use Rattle.awk_value.specs.declared.value.Value.TheVariants.{Text};
-ghost use Rattle.awk_meaning.specs.Operators.{applied, changed, field_value, matched, raised, relates as related, takes_pattern, truth_value};
+ghost use Rattle.awk_meaning.specs.Operators.{applied, changed, field_value, matched, raised};
+ghost use Rattle.awk_meaning.specs.Operators.{relates as related, takes_pattern, truth_value};
 ghost use Rattle.awk_meaning.specs.Results.{Yields};
 ghost use Rattle.awk_meaning.specs.Faults.{of_values};
 

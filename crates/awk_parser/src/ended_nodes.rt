@@ -2,11 +2,13 @@
 
 ghost use Rattle.std.specs.Prelude.{◌≡◌, IfOk};
 ghost use Rattle.awk_grammar.specs.definitions.Tree as t;
-ghost use Rattle.awk_grammar.specs.definitions.Height.{max_height, height_of, optional_height, height_of_simple, height_of_statement, height_of_pattern};
+ghost use Rattle.awk_grammar.specs.definitions.Height.{max_height, height_of, optional_height, height_of_simple};
+ghost use Rattle.awk_grammar.specs.definitions.Height.{height_of_statement, height_of_pattern};
 ghost use Rattle.awk_grammar.specs.support.Nodes.{over_one, over_two};
 ghost use Rattle.awk_grammar.specs.support.ParserStatements as parser;
 ghost use Rattle.awk_nodes.specs.support.Checked.{checked_expr};
-ghost use Rattle.awk_statement_nodes.specs.support.Checked.{checked_print_list, checked_simple, checked_optional_expr, checked_statement, checked_pattern};
+ghost use Rattle.awk_statement_nodes.specs.support.Checked.{checked_print_list, checked_simple, checked_optional_expr};
+ghost use Rattle.awk_statement_nodes.specs.support.Checked.{checked_statement, checked_pattern};
 
 use awk_grammar::tree::{
     Expr, Output, Pattern, PrintForm, Redirection, SimpleStatement, Statement,
@@ -39,7 +41,8 @@ pub(crate) fn post_increment(
     operator: IncrementOperator,
     place: Option<CheckedExpr>,
 ) -> Result<Option<CheckedExpr>, AllocError>
-    ensures { IfOk result (λ e. checked_expr e ≡ over_one max_height height_of (t.PostIncrement operator) (checked_expr place)) }
+    ensures { IfOk result
+        (λ e. checked_expr e ≡ over_one max_height height_of (t.PostIncrement operator) (checked_expr place)) }
 {
     let Some(place) = place else {
         return Ok(None);
@@ -54,7 +57,8 @@ pub(crate) fn membership(
     subscript: Option<CheckedExpr>,
     array: Bytes,
 ) -> Result<Option<CheckedExpr>, AllocError>
-    ensures { IfOk result (λ e. checked_expr e ≡ over_one max_height height_of (λ x. t.Membership x array) (checked_expr subscript)) }
+    ensures { IfOk result
+        (λ e. checked_expr e ≡ over_one max_height height_of (λ x. t.Membership x array) (checked_expr subscript)) }
 {
     let Some(subscript) = subscript else {
         return Ok(None);
@@ -80,7 +84,8 @@ pub(crate) fn print_to(
     target: Option<CheckedExpr>,
 ) -> Option<CheckedSimple>
     ensures { checked_simple result
-        ≡ over_two max_height height_of_simple (parser.printed_to form redirection) (checked_print_list list) (checked_expr target) }
+        ≡ over_two max_height height_of_simple (parser.printed_to form redirection) (checked_print_list list)
+        (checked_expr target) }
 {
     let Some(list) = list else {
         drop(target);
@@ -111,7 +116,9 @@ pub(crate) fn do_loop(
     body: Option<CheckedStatement>,
     condition: Option<CheckedExpr>,
 ) -> Result<Option<CheckedStatement>, AllocError>
-    ensures { IfOk result (λ s. checked_statement s ≡ over_two max_height height_of_statement t.Do (checked_statement body) (checked_expr condition)) }
+    ensures { IfOk result
+        (λ s. checked_statement s
+        ≡ over_two max_height height_of_statement t.Do (checked_statement body) (checked_expr condition)) }
 {
     let Some(body) = body else {
         drop(condition);

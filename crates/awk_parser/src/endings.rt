@@ -7,7 +7,8 @@ ghost use Rattle.awk_grammar.specs.support.Nodes.{over_two};
 ghost use Rattle.awk_nodes.specs.support.Checked.{checked_expr};
 ghost use Rattle.awk_statement_nodes.specs.support.Checked.{checked_part, checked_statement};
 ghost use Rattle.awk_grammar.specs.support.Parser as parser;
-ghost use Rattle.awk_frames.specs.support.FrameView.{operand_of, optional_operand_of, list_of, list_frame_of, expression_frame_of, body_frame_of, stack_of, next_of};
+ghost use Rattle.awk_frames.specs.support.FrameView.{operand_of, optional_operand_of, list_of, list_frame_of};
+ghost use Rattle.awk_frames.specs.support.FrameView.{expression_frame_of, body_frame_of, stack_of, next_of};
 
 use crate::ended_nodes::{do_loop, expression, present, print_to, range};
 use crate::lists::{close_built_in, close_call, close_element, close_group};
@@ -35,7 +36,8 @@ fn end_element(
     stack: &mut Vec<Frame>,
 ) -> Result<Option<ParserState>, AllocError>
     ensures { (g : Bool) → IfOk result (λ state. next_of state stack.new.items
-        ≡ parser.end_operand max_height next.entry.kind.now g (operand_of operand) (list_frame_of frame.head (list_of frame.list) ∷ stack_of stack.old.items)) }
+        ≡ parser.end_operand max_height next.entry.kind.now g (operand_of operand)
+        (list_frame_of frame.head (list_of frame.list) ∷ stack_of stack.old.items)) }
 {
     let ListFrame { head, list } = frame;
     match head {
@@ -78,7 +80,8 @@ fn close_first_choice(
     stack: &mut Vec<Frame>,
 ) -> Result<Option<ParserState>, AllocError>
     ensures { IfOk result (λ state. next_of state stack.new.items
-        ≡ parser.close_first_choice next.entry.kind.now in_print_list (operand_of condition) (operand_of first) (stack_of stack.old.items)) }
+        ≡ parser.close_first_choice next.entry.kind.now in_print_list (operand_of condition) (operand_of first)
+        (stack_of stack.old.items)) }
 {
     if matches!(next.kind, Kind::Colon) {
         let choice = Box::new(alloc, Choice { condition, first })?;
@@ -103,7 +106,8 @@ fn after_getline_place(
     stack: &mut Vec<Frame>,
 ) -> Result<Option<ParserState>, AllocError>
     ensures { IfOk result (λ state. next_of state stack.new.items
-        ≡ parser.after_getline_place next.entry.kind.now in_print_list (optional_operand_of command) (operand_of place) (stack_of stack.old.items)) }
+        ≡ parser.after_getline_place next.entry.kind.now in_print_list (optional_operand_of command)
+        (operand_of place) (stack_of stack.old.items)) }
 {
     let is_file = command.is_none()
         && place.is_place
@@ -143,7 +147,8 @@ fn end_do(
 ) -> Result<Option<ParserState>, AllocError>
     ensures { (frames : List Frame) → IfOk result (λ state. next_of state frames
         ≡ parser.close_condition next.entry.kind.now (parser.AfterDo
-        (over_two max_height height_of_statement t.Do (checked_statement body) (checked_expr condition.tree)) (stack_of frames))) }
+        (over_two max_height height_of_statement t.Do (checked_statement body) (checked_expr condition.tree))
+        (stack_of frames))) }
 {
     if matches!(next.kind, Kind::CloseParenthesis) {
         let statement = do_loop(alloc, body, condition.tree)?;
@@ -185,7 +190,8 @@ fn end_expression(
     stack: &mut Vec<Frame>,
 ) -> Result<Option<ParserState>, AllocError>
     ensures { IfOk result (λ state. next_of state stack.new.items
-        ≡ parser.end_operand max_height next.entry.kind.now in_print_list (operand_of operand) (expression_frame_of frame ∷ stack_of stack.old.items)) }
+        ≡ parser.end_operand max_height next.entry.kind.now in_print_list (operand_of operand)
+        (expression_frame_of frame ∷ stack_of stack.old.items)) }
 {
     match frame {
         ExpressionFrame::FirstChoice(condition) => {

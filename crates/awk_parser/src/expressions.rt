@@ -4,7 +4,8 @@ ghost use Rattle.std.specs.Prelude.{◌≡◌, IfOk};
 ghost use Rattle.awk_grammar.specs.definitions.Height.{max_height};
 ghost use Rattle.awk_grammar.specs.support.Parser as parser;
 ghost use Rattle.awk_grammar.specs.support.InfixRole as role;
-ghost use Rattle.awk_frames.specs.support.FrameView.{role_of, operand_of, optional_operand_of, list_of, stack_of, reduced, next_of};
+ghost use Rattle.awk_frames.specs.support.FrameView.{role_of, operand_of, optional_operand_of};
+ghost use Rattle.awk_frames.specs.support.FrameView.{list_of, stack_of, reduced, next_of};
 
 use crate::ended_nodes::post_increment;
 use crate::endings::end_operand;
@@ -34,7 +35,8 @@ fn after_increment(
     stack: &mut Vec<Frame>,
 ) -> Result<Option<ParserState>, AllocError>
     ensures { IfOk result (λ state. next_of state stack.new.items
-        ≡ parser.shift max_height (role.Increments operator) next.entry.kind.now in_print_list (operand_of operand) (stack_of stack.old.items)) }
+        ≡ parser.shift max_height (role.Increments operator) next.entry.kind.now in_print_list (operand_of operand)
+        (stack_of stack.old.items)) }
 {
     if operand.is_place {
         let tree = post_increment(alloc, operator, operand.tree)?;
@@ -52,7 +54,8 @@ fn concatenate(
     stack: &mut Vec<Frame>,
 ) -> Result<Option<ParserState>, AllocError>
     ensures { IfOk result (λ state. next_of state stack.new.items
-        ≡ parser.shift max_height role.Starts next.entry.kind.now in_print_list (operand_of operand) (stack_of stack.old.items)) }
+        ≡ parser.shift max_height role.Starts next.entry.kind.now in_print_list (operand_of operand)
+        (stack_of stack.old.items)) }
 {
     push(
         stack,
@@ -71,7 +74,8 @@ fn shift(
     stack: &mut Vec<Frame>,
 ) -> Result<Option<ParserState>, AllocError>
     ensures { IfOk result (λ state. next_of state stack.new.items
-        ≡ parser.shift max_height (role_of role) next.entry.kind.now in_print_list (operand_of operand) (stack_of stack.old.items)) }
+        ≡ parser.shift max_height (role_of role) next.entry.kind.now in_print_list (operand_of operand)
+        (stack_of stack.old.items)) }
 {
     match role {
         InfixRole::Operates(operator) => {
@@ -200,7 +204,8 @@ pub(crate) fn after_getline(
     stack: &mut Vec<Frame>,
 ) -> Result<Option<ParserState>, AllocError>
     ensures { IfOk result (λ state. next_of state stack.new.items
-        ≡ parser.after_getline max_height (optional_operand_of command) in_print_list (stack_of stack.old.items) next.entry.kind.now) }
+        ≡ parser.after_getline max_height (optional_operand_of command) in_print_list
+        (stack_of stack.old.items) next.entry.kind.now) }
 {
     match next.kind {
         Kind::Name(name) => {

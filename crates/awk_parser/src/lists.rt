@@ -27,7 +27,8 @@ pub(crate) fn close_group(
     stack: &mut Vec<Frame>,
 ) -> Result<Option<ParserState>, AllocError>
     ensures { IfOk result (λ state. next_of state stack.new.items
-        ≡ parser.close_group max_height next.entry.kind.now in_print_list (list_of list) (operand_of last) (stack_of stack.old.items)) }
+        ≡ parser.close_group max_height next.entry.kind.now in_print_list (list_of list) (operand_of last)
+        (stack_of stack.old.items)) }
 {
     match next.kind {
         Kind::Comma => {
@@ -96,7 +97,8 @@ pub(crate) fn close_built_in(
     stack: &mut Vec<Frame>,
 ) -> Result<Option<ParserState>, AllocError>
     ensures { IfOk result (λ state. next_of state stack.new.items
-        ≡ parser.close_built_in max_height next.entry.kind.now function in_print_list (list_of list) (stack_of stack.old.items)) }
+        ≡ parser.close_built_in max_height next.entry.kind.now function in_print_list (list_of list)
+        (stack_of stack.old.items)) }
 {
     match next.kind {
         Kind::Comma => {

@@ -4,7 +4,8 @@ ghost use Rattle.std.specs.Prelude.{◌≡◌, ◌∷◌, false, List, IfOk};
 ghost use Rattle.awk_grammar.specs.definitions.Height.{max_height};
 ghost use Rattle.awk_grammar.specs.support.Parser as parser;
 ghost use Rattle.awk_parser.specs.support.Answered.{found_of};
-ghost use Rattle.awk_frames.specs.support.FrameView.{operand_of, list_of, frame_of, state_of, expression_state_of, stack_of, next_of};
+ghost use Rattle.awk_frames.specs.support.FrameView.{operand_of, list_of, frame_of, state_of};
+ghost use Rattle.awk_frames.specs.support.FrameView.{expression_state_of, stack_of, next_of};
 
 use crate::ended_nodes::membership;
 use crate::expressions::{
@@ -33,7 +34,9 @@ fn after_in(
     subscript: Operand,
 ) -> Result<Option<ParserState>, AllocError>
     ensures { (frames : List Frame) → IfOk result (λ state. next_of state frames
-        ≡ parser.name_then next.entry.kind.now (λ a. parser.AfterOperand in_print_list (parser.membership_operand max_height (operand_of subscript) a) (stack_of frames))) }
+        ≡ parser.name_then next.entry.kind.now
+        (λ a. parser.AfterOperand in_print_list (parser.membership_operand max_height (operand_of subscript) a)
+        (stack_of frames))) }
 {
     let Kind::Name(array) = next.kind else {
         drop(subscript);
@@ -52,7 +55,9 @@ fn after_list_in(
     subscripts: OperandList,
 ) -> Result<Option<ParserState>, AllocError>
     ensures { (frames : List Frame) → IfOk result (λ state. next_of state frames
-        ≡ parser.name_then next.entry.kind.now (λ a. parser.AfterOperand in_print_list (parser.list_membership_operand max_height (list_of subscripts) a) (stack_of frames))) }
+        ≡ parser.name_then next.entry.kind.now
+        (λ a. parser.AfterOperand in_print_list (parser.list_membership_operand max_height (list_of subscripts) a)
+        (stack_of frames))) }
 {
     let Kind::Name(array) = next.kind else {
         drop(subscripts);
@@ -70,7 +75,8 @@ fn open_frame(
     stack: &mut Vec<Frame>,
 ) -> Result<Option<ParserState>, AllocError>
     ensures { IfOk result (λ state. next_of state stack.new.items
-        ≡ parser.at_parenthesis next.entry.kind.now (parser.BeforeOperand false false (frame_of frame ∷ stack_of stack.old.items))) }
+        ≡ parser.at_parenthesis next.entry.kind.now
+        (parser.BeforeOperand false false (frame_of frame ∷ stack_of stack.old.items))) }
 {
     if matches!(next.kind, Kind::OpenParenthesis) {
         return begin(frame, false, false, stack);

@@ -15,7 +15,8 @@ use std::alloc::AllocError;
 impl Builder {
     /// The node of an expression that is a statement.
     fn expression_node(&mut self, e: &Expr) -> Result<SimpleNode, AllocError>
-        ensures { IfOk result (λ node. Makes self.old self.new (Node.Simple node) (AStatement (Simple (Expression (expr_of e.now))))) }
+        ensures { IfOk result
+            (λ node. Makes self.old self.new (Node.Simple node) (AStatement (Simple (Expression (expr_of e.now))))) }
     {
         match self.lowered(e)? {
             Lowered::Leaf(operand) => Ok(SimpleNode::Evaluate(operand)),
@@ -29,7 +30,8 @@ impl Builder {
 
     /// The node of a simple statement, whose operands are added.
     fn simple_node(&mut self, simple: &SimpleStatement) -> Result<SimpleNode, AllocError>
-        ensures { IfOk result (λ node. Makes self.old self.new (Node.Simple node) (AStatement (Simple (simple_of simple.now)))) }
+        ensures { IfOk result
+            (λ node. Makes self.old self.new (Node.Simple node) (AStatement (Simple (simple_of simple.now)))) }
     {
         match simple {
             SimpleStatement::Expression(e) => self.expression_node(e),

@@ -69,7 +69,8 @@ pub(crate) fn pattern_action(
     pattern: Option<CheckedPattern>,
     statements: Option<CheckedStatements>,
 ) -> Option<CheckedItem>
-    ensures { checked_item result ≡ over_two max_height height_of_item t.PatternAction (checked_pattern pattern) (checked_statements statements) }
+    ensures { checked_item result
+        ≡ over_two max_height height_of_item t.PatternAction (checked_pattern pattern) (checked_statements statements) }
 {
     let Some(pattern) = pattern else {
         drop(statements);
@@ -101,7 +102,8 @@ pub(crate) fn function(
     parameters: Vec<Bytes>,
     body: Option<CheckedStatements>,
 ) -> Option<CheckedItem>
-    ensures { checked_item result ≡ over_one max_height height_of_item (t.Function name parameters.items) (checked_statements body) }
+    ensures { checked_item result
+        ≡ over_one max_height height_of_item (t.Function name parameters.items) (checked_statements body) }
 {
     let Some(body) = body else {
         drop(parameters);

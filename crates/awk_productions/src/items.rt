@@ -65,7 +65,8 @@ fn start_action(
     stack: &mut Vec<Frame>,
 ) -> Result<Option<ParserState>, AllocError>
     ensures { IfOk result (λ state. next_of state stack.new.items
-        ≡ parser.BeforeStatement (parser.InAction (head_of head.value) (limited max_height 0 NoMore) ∷ stack_of stack.old.items)) }
+        ≡ parser.BeforeStatement
+        (parser.InAction (head_of head.value) (limited max_height 0 NoMore) ∷ stack_of stack.old.items)) }
 {
     let statements = Some(CheckedStatements::new(alloc));
     begin_statement(Frame::Block(Some(head), statements), stack)
@@ -162,7 +163,8 @@ fn start_item(
 
 /// Before an action.
 fn before_action_of(head: Box<Head>, skips_newlines: bool) -> Option<ParserState>
-    ensures { (frames : List Frame) → next_of result frames ≡ parser.BeforeAction (head_of head.value) skips_newlines (stack_of frames) }
+    ensures { (frames : List Frame) →
+        next_of result frames ≡ parser.BeforeAction (head_of head.value) skips_newlines (stack_of frames) }
 {
     Some(ParserState::Item(ItemState::BeforeAction {
         head,
@@ -210,7 +212,8 @@ fn before_function_body(
     signature: Box<Signature>,
 ) -> Result<Option<ParserState>, AllocError>
     ensures { (frames : List Frame) → IfOk result (λ state. next_of state frames
-        ≡ parser.BeforeAction (parser.OfFunction signature.value.name signature.value.parameters.items) true (stack_of frames)) }
+        ≡ parser.BeforeAction (parser.OfFunction signature.value.name signature.value.parameters.items) true
+        (stack_of frames)) }
 {
     let Signature { name, parameters } = Box::into_inner(signature);
     let head = Box::new(alloc, Head::Function(name, parameters))?;
@@ -225,7 +228,8 @@ fn before_parameter(
     is_behind_comma: bool,
 ) -> Result<Option<ParserState>, AllocError>
     ensures { (frames : List Frame) → IfOk result (λ state. next_of state frames
-        ≡ parser.before_parameter signature.value.name is_behind_comma signature.value.parameters.items (stack_of frames) next.entry.kind.now) }
+        ≡ parser.before_parameter signature.value.name is_behind_comma signature.value.parameters.items
+        (stack_of frames) next.entry.kind.now) }
 {
     let mut signature = signature;
     match next.kind {

@@ -128,7 +128,8 @@ fn before_call(
     in_print_list: bool,
 ) -> Result<Option<ParserState>, AllocError>
     ensures { (frames : List Frame) → IfOk result (λ state. next_of state frames
-        ≡ parser.BeforeParenthesis (parser.InCall name.now in_print_list (parser.no_operands max_height)) in_print_list (stack_of frames)) }
+        ≡ parser.BeforeParenthesis
+        (parser.InCall name.now in_print_list (parser.no_operands max_height)) in_print_list (stack_of frames)) }
 {
     let name = name.clone()?;
     let head = ListHead::Call {

@@ -12,7 +12,8 @@ use std::alloc::{AllocError, Global};
 
 /// Behind an operand.
 pub fn operand(in_print_list: bool, operand: Operand) -> Option<ParserState>
-    ensures { (frames : List Frame) → next_of result frames ≡ parser.AfterOperand in_print_list (operand_of operand) (stack_of frames) }
+    ensures { (frames : List Frame) →
+        next_of result frames ≡ parser.AfterOperand in_print_list (operand_of operand) (stack_of frames) }
 {
     Some(ParserState::Expression {
         in_print_list,

@@ -1,7 +1,8 @@
 // Where the first record of the bytes at hand ends: at a byte, or at a blank line.
 ghost use Rattle.std.specs.Prelude.{◌≡◌, ℕ, List, ◌≤◌, ◌∷◌, [], length, take, drop};
 ghost use Rattle.awk_record.specs.Cut.{without_newline, cut_of, cut_behind, limited, unfinished, Found};
-ghost use Rattle.awk_record.specs.Boundary.{cut_by, trim_if, end_if, IsWithin, IsNotAmong, AreNewlines, HasNoBlankLine, IsKnown, IsSkipped, Skips, IsShort};
+ghost use Rattle.awk_record.specs.Boundary.{cut_by, trim_if, end_if, IsWithin, IsNotAmong, AreNewlines};
+ghost use Rattle.awk_record.specs.Boundary.{HasNoBlankLine, IsKnown, IsSkipped, Skips, IsShort};
 
 use crate::separator_search::{ResumedSearch, first_blank_line, first_byte, leading_newlines};
 

@@ -1,8 +1,12 @@
 // Whether a name of a program is used both as an array and as a scalar.
 
 ghost use Rattle.std.specs.Prelude.{◌≡◌, not, [], ◌∷◌};
-ghost use Rattle.awk_tree.specs.View.{expr_of, exprs_of, optional_expr_of, simple_of, optional_simple_of, statement_of, statements_of, pattern_of, item_of, items_of};
-ghost use Rattle.awk_resolve.specs.definitions.Names.{scalar, uses_in_expr, uses_in_list, uses_in_optional_expr, uses_in_simple, uses_in_optional_simple, uses_in_statement, uses_in_block, uses_in_pattern, uses_in_item, uses_in, scalar_names, array_names, are_apart};
+ghost use Rattle.awk_tree.specs.View.{expr_of, exprs_of, optional_expr_of, simple_of, optional_simple_of};
+ghost use Rattle.awk_tree.specs.View.{statement_of, statements_of, pattern_of, item_of, items_of};
+ghost use Rattle.awk_resolve.specs.definitions.Names.{scalar, uses_in_expr, uses_in_list, uses_in_optional_expr};
+ghost use Rattle.awk_resolve.specs.definitions.Names.{uses_in_simple, uses_in_optional_simple, uses_in_statement};
+ghost use Rattle.awk_resolve.specs.definitions.Names.{uses_in_block, uses_in_pattern, uses_in_item, uses_in};
+ghost use Rattle.awk_resolve.specs.definitions.Names.{scalar_names, array_names, are_apart};
 ghost use Rattle.awk_resolve.specs.support.Misuse.{is_special_array, Adds};
 
 use awk_tree::tree::{Expr, Item, Pattern, SimpleStatement, Statement};

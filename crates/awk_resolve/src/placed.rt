@@ -2,7 +2,8 @@
 
 ghost use Rattle.std.specs.Prelude.{◌≡◌};
 ghost use Rattle.awk_grammar.specs.View as g;
-ghost use Rattle.awk_resolve.specs.definitions.Placed.{in_a_loop, simple_fits, statement_fits, block_fits, item_fits, are_in_place};
+ghost use Rattle.awk_resolve.specs.definitions.Placed.{in_a_loop, simple_fits, statement_fits};
+ghost use Rattle.awk_resolve.specs.definitions.Placed.{block_fits, item_fits, are_in_place};
 ghost use Rattle.awk_resolve.specs.support.Place.{place_of};
 
 use awk_grammar::tree as grammar;

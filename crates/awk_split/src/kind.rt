@@ -4,8 +4,10 @@ ghost use Rattle.memchr.specs.Find.{IsFirstByte};
 ghost use Rattle.awk_text.specs.Stretch.{IsStretchEnd};
 ghost use Rattle.awk_ere_syntax.specs.definitions.Tree.{Tree};
 ghost use Rattle.awk_ere.specs.definitions.Means.{Means};
-ghost use Rattle.awk_split.specs.definitions.Separators.{Separator as SeparatorSpec, blanks, byte as at_byte, each, separator_of};
-ghost use Rattle.awk_split.specs.definitions.Pieces.{separates, is_field as field_test, pieces_from, ere_pieces_from, IsNextPiece, IsFurther};
+ghost use Rattle.awk_split.specs.definitions.Separators.{Separator as SeparatorSpec, blanks};
+ghost use Rattle.awk_split.specs.definitions.Separators.{byte as at_byte, each, separator_of};
+ghost use Rattle.awk_split.specs.definitions.Pieces.{separates, is_field as field_test, pieces_from};
+ghost use Rattle.awk_split.specs.definitions.Pieces.{ere_pieces_from, IsNextPiece, IsFurther};
 
 use crate::matcher::Matcher;
 use awk_text::{FoundField, Separator, Span, TextFault, next_field};

@@ -1,8 +1,11 @@
 // Checked statements and items: each is known not to be too high, and has its height beside it.
 
 ghost use Rattle.std.specs.Prelude.{◌≡◌, ◌≤◌, [], None};
-ghost use Rattle.awk_grammar.specs.definitions.Height.{max_height, optional_height, height_of_print_list, height_of_simple, height_of_optional_simple, height_of_statement, tallest_of, height_of_pattern, height_of_item, height_of_program};
-ghost use Rattle.awk_grammar.specs.definitions.View.{optional_expr_of, print_list_of, simple_of, optional_simple_of, statement_of, statements_of, pattern_of, item_of, items_of};
+ghost use Rattle.awk_grammar.specs.definitions.Height.{max_height, optional_height, height_of_print_list};
+ghost use Rattle.awk_grammar.specs.definitions.Height.{height_of_simple, height_of_optional_simple, height_of_statement};
+ghost use Rattle.awk_grammar.specs.definitions.Height.{tallest_of, height_of_pattern, height_of_item, height_of_program};
+ghost use Rattle.awk_grammar.specs.definitions.View.{optional_expr_of, print_list_of, simple_of, optional_simple_of};
+ghost use Rattle.awk_grammar.specs.definitions.View.{statement_of, statements_of, pattern_of, item_of, items_of};
 
 use awk_grammar::tree::{Expr, Item, Pattern, PrintList, SimpleStatement, Statement};
 use std::alloc::Global;

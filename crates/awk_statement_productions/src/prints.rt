@@ -74,7 +74,8 @@ fn pipe_list(
     stack: &mut Vec<Frame>,
 ) -> Result<Option<ParserState>, AllocError>
     ensures { IfOk result (λ state. next_of state stack.new.items
-        ≡ parser.redirect_to_pipe max_height next.entry.kind.now (operand_of operand) (list_frame_of frame.head (list_of frame.list) ∷ stack_of stack.old.items)) }
+        ≡ parser.redirect_to_pipe max_height next.entry.kind.now (operand_of operand)
+        (list_frame_of frame.head (list_of frame.list) ∷ stack_of stack.old.items)) }
 {
     let ListFrame { head, list } = frame;
     let ListHead::Print(form) = head else {
@@ -123,7 +124,8 @@ fn end_parenthesized(
     stack: &mut Vec<Frame>,
 ) -> Result<Option<ParserState>, AllocError>
     ensures { IfOk result (λ state. next_of state stack.new.items
-        ≡ parser.end_list max_height next.entry.kind.now (list_of list) (list_frame_of frame.head (list_of frame.list) ∷ stack_of stack.old.items)) }
+        ≡ parser.end_list max_height next.entry.kind.now (list_of list)
+        (list_frame_of frame.head (list_of frame.list) ∷ stack_of stack.old.items)) }
 {
     let ListFrame { head, list: before } = frame;
     match head {

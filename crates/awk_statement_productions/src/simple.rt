@@ -5,7 +5,8 @@ ghost use Rattle.awk_grammar.specs.definitions.Height.{max_height};
 ghost use Rattle.awk_grammar.specs.definitions.Tree as t;
 ghost use Rattle.awk_grammar.specs.definitions.View.{expr_of};
 ghost use Rattle.awk_grammar.specs.support.Parser as parser;
-ghost use Rattle.awk_statement_nodes.specs.support.Checked.{checked_simple, checked_statement, checked_part, checked_optional_expr};
+ghost use Rattle.awk_statement_nodes.specs.support.Checked.{checked_simple, checked_statement};
+ghost use Rattle.awk_statement_nodes.specs.support.Checked.{checked_part, checked_optional_expr};
 ghost use Rattle.awk_frames.specs.support.FrameView.{list_of, body_frame_of, expression_frame_of, stack_of, next_of};
 
 use crate::simple_nodes::{delete, part};
@@ -117,7 +118,8 @@ fn end_for_last(
 ) -> Result<Option<ParserState>, AllocError>
     ensures { IfOk result (λ state. next_of state stack.new.items
         ≡ parser.close_condition next.entry.kind.now (parser.BeforeStatement
-        (parser.InForBody (checked_part head.first) (checked_optional_expr head.condition) (checked_part last) ∷ stack_of stack.old.items))) }
+        (parser.InForBody (checked_part head.first) (checked_optional_expr head.condition) (checked_part last)
+        ∷ stack_of stack.old.items))) }
 {
     if matches!(next.kind, Kind::CloseParenthesis) {
         let body = BodyFrame::For(head.first, head.condition, last);
@@ -210,7 +212,8 @@ pub(crate) fn after_exit(
     stack: &mut Vec<Frame>,
 ) -> Result<Option<ParserState>, AllocError>
     ensures { IfOk result (λ state. next_of state stack.new.items
-        ≡ parser.after_exit max_height (checked_simple without_value) (expression_frame_of frame) (stack_of stack.old.items) next.entry.kind.now) }
+        ≡ parser.after_exit max_height (checked_simple without_value) (expression_frame_of frame)
+        (stack_of stack.old.items) next.entry.kind.now) }
 {
     match next.kind {
         Kind::Semicolon | Kind::Newline | Kind::CloseBrace => {
@@ -273,7 +276,8 @@ pub(crate) fn before_for_last(
     stack: &mut Vec<Frame>,
 ) -> Result<Option<ParserState>, AllocError>
     ensures { IfOk result (λ state. next_of state stack.new.items
-        ≡ parser.before_for_last max_height (checked_part head.value.first) (checked_optional_expr head.value.condition) (stack_of stack.old.items) next.entry.kind.now) }
+        ≡ parser.before_for_last max_height (checked_part head.value.first)
+        (checked_optional_expr head.value.condition) (stack_of stack.old.items) next.entry.kind.now) }
 {
     if matches!(next.kind, Kind::CloseParenthesis) {
         let ForHead { first, condition } = Box::into_inner(head);

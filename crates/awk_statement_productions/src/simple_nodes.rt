@@ -2,11 +2,13 @@
 
 ghost use Rattle.std.specs.Prelude.{◌≡◌, Some};
 ghost use Rattle.awk_grammar.specs.definitions.Tree as t;
-ghost use Rattle.awk_grammar.specs.definitions.Height.{max_height, height_of_print_list, height_of_simple, height_of_optional_simple};
+ghost use Rattle.awk_grammar.specs.definitions.Height.{max_height, height_of_print_list};
+ghost use Rattle.awk_grammar.specs.definitions.Height.{height_of_simple, height_of_optional_simple};
 ghost use Rattle.awk_grammar.specs.support.Nodes.{limited, over_one};
 ghost use Rattle.awk_grammar.specs.support.ParserStatements as parser;
 ghost use Rattle.awk_nodes.specs.support.Checked.{checked_exprs};
-ghost use Rattle.awk_statement_nodes.specs.support.Checked.{checked_print_list, checked_simple, checked_part, checked_optional_expr};
+ghost use Rattle.awk_statement_nodes.specs.support.Checked.{checked_print_list, checked_simple};
+ghost use Rattle.awk_statement_nodes.specs.support.Checked.{checked_part, checked_optional_expr};
 
 use awk_grammar::tree::{Output, PrintForm, PrintList, SimpleStatement};
 use awk_nodes::checked::CheckedExprs;
@@ -37,7 +39,8 @@ pub(crate) fn parenthesized(list: Option<CheckedExprs>) -> Option<CheckedPrintLi
 
 /// A print to standard output.
 pub(crate) fn print(form: PrintForm, list: Option<CheckedPrintList>) -> Option<CheckedSimple>
-    ensures { checked_simple result ≡ over_one max_height height_of_simple (parser.printed_here form) (checked_print_list list) }
+    ensures { checked_simple result
+        ≡ over_one max_height height_of_simple (parser.printed_here form) (checked_print_list list) }
 {
     let list = list?;
     let height = list.height + 1;

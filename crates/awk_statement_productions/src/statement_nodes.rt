@@ -5,7 +5,8 @@ ghost use Rattle.awk_grammar.specs.definitions.Tree as t;
 ghost use Rattle.awk_grammar.specs.definitions.Height.{max_height, height_of_statement, tallest_of};
 ghost use Rattle.awk_grammar.specs.support.Nodes.{limited, over_one, over_two, over_three, over_four, push};
 ghost use Rattle.awk_nodes.specs.support.Checked.{checked_expr};
-ghost use Rattle.awk_statement_nodes.specs.support.Checked.{checked_simple, checked_part, checked_optional_expr, checked_statement, checked_statements};
+ghost use Rattle.awk_statement_nodes.specs.support.Checked.{checked_simple, checked_part, checked_optional_expr};
+ghost use Rattle.awk_statement_nodes.specs.support.Checked.{checked_statement, checked_statements};
 
 use awk_grammar::tree::{ForParts, Statement};
 use awk_nodes::checked::CheckedExpr;
@@ -27,7 +28,8 @@ pub(crate) fn simple(
     alloc: Global,
     simple: Option<CheckedSimple>,
 ) -> Result<Option<CheckedStatement>, AllocError>
-    ensures { IfOk result (λ s. checked_statement s ≡ over_one max_height height_of_statement t.Simple (checked_simple simple)) }
+    ensures { IfOk result
+        (λ s. checked_statement s ≡ over_one max_height height_of_statement t.Simple (checked_simple simple)) }
 {
     let Some(simple) = simple else {
         return Ok(None);
@@ -40,7 +42,8 @@ pub(crate) fn block(
     alloc: Global,
     statements: Option<CheckedStatements>,
 ) -> Result<Option<CheckedStatement>, AllocError>
-    ensures { IfOk result (λ s. checked_statement s ≡ over_one max_height height_of_statement t.Block (checked_statements statements)) }
+    ensures { IfOk result
+        (λ s. checked_statement s ≡ over_one max_height height_of_statement t.Block (checked_statements statements)) }
 {
     let Some(statements) = statements else {
         return Ok(None);
@@ -55,7 +58,9 @@ pub(crate) fn if_statement(
     condition: Option<CheckedExpr>,
     body: Option<CheckedStatement>,
 ) -> Result<Option<CheckedStatement>, AllocError>
-    ensures { IfOk result (λ s. checked_statement s ≡ over_two max_height height_of_statement t.If (checked_expr condition) (checked_statement body)) }
+    ensures { IfOk result
+        (λ s. checked_statement s
+        ≡ over_two max_height height_of_statement t.If (checked_expr condition) (checked_statement body)) }
 {
     let Some(condition) = condition else {
         drop(body);
@@ -76,7 +81,10 @@ pub(crate) fn if_else(
     body: Option<CheckedStatement>,
     other: Option<CheckedStatement>,
 ) -> Result<Option<CheckedStatement>, AllocError>
-    ensures { IfOk result (λ s. checked_statement s ≡ over_three max_height height_of_statement t.IfElse (checked_expr condition) (checked_statement body) (checked_statement other)) }
+    ensures { IfOk result
+        (λ s. checked_statement s
+        ≡ over_three max_height height_of_statement t.IfElse (checked_expr condition) (checked_statement body)
+        (checked_statement other)) }
 {
     let Some(condition) = condition else {
         drop(body);
@@ -107,7 +115,9 @@ pub(crate) fn while_loop(
     condition: Option<CheckedExpr>,
     body: Option<CheckedStatement>,
 ) -> Result<Option<CheckedStatement>, AllocError>
-    ensures { IfOk result (λ s. checked_statement s ≡ over_two max_height height_of_statement t.While (checked_expr condition) (checked_statement body)) }
+    ensures { IfOk result
+        (λ s. checked_statement s
+        ≡ over_two max_height height_of_statement t.While (checked_expr condition) (checked_statement body)) }
 {
     let Some(condition) = condition else {
         drop(body);
@@ -132,7 +142,8 @@ pub(crate) fn for_in(
     array: Bytes,
     body: Option<CheckedStatement>,
 ) -> Result<Option<CheckedStatement>, AllocError>
-    ensures { IfOk result (λ s. checked_statement s ≡ over_one max_height height_of_statement (t.ForIn name array) (checked_statement body)) }
+    ensures { IfOk result
+        (λ s. checked_statement s ≡ over_one max_height height_of_statement (t.ForIn name array) (checked_statement body)) }
 {
     let Some(body) = body else {
         return Ok(None);
@@ -149,7 +160,10 @@ pub(crate) fn for_loop(
     last: Option<CheckedPart>,
     body: Option<CheckedStatement>,
 ) -> Result<Option<CheckedStatement>, AllocError>
-    ensures { IfOk result (λ s. checked_statement s ≡ over_four max_height height_of_statement t.For (checked_part first) (checked_optional_expr condition) (checked_part last) (checked_statement body)) }
+    ensures { IfOk result
+        (λ s. checked_statement s
+        ≡ over_four max_height height_of_statement t.For (checked_part first) (checked_optional_expr condition)
+        (checked_part last) (checked_statement body)) }
 {
     let Some(first) = first else {
         drop(condition);

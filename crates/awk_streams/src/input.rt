@@ -1,5 +1,6 @@
 // Inputs: records out of the bytes that a world hands over.
-ghost use Rattle.std.specs.Prelude.{◌≡◌, ◌≢◌, ◌≤◌, ◌<◌, ◌⊎◌, ℕ, List, ◌∷◌, length, IsTrue, ◌↔◌, OnOk, OnErr, IfErr, None, Err, Ok};
+ghost use Rattle.std.specs.Prelude.{◌≡◌, ◌≢◌, ◌≤◌, ◌<◌, ◌⊎◌, ℕ, List, ◌∷◌, length};
+ghost use Rattle.std.specs.Prelude.{IsTrue, ◌↔◌, OnOk, OnErr, IfErr, None, Err, Ok};
 ghost use Rattle.awk_record.specs.Cut.{longest};
 ghost use Rattle.awk_world.specs.definitions.WorldState.{SameOpen, MayFailNow};
 ghost use Rattle.awk_world.specs.definitions.Grows.{Grows};
@@ -43,11 +44,16 @@ fn read_into<W: World>(
     requires unended { buffer.old.ending ≡ None }
     requires short { length buffer.old.bytes ≤ longest }
     ensures open { SameOpen (W.state world.old) (W.state world.new) }
-    ensures read { OnOk result (W.is_logged → ((e : Event) × ((W.state world.new).log ≡ e ∷ (W.state world.old).log) × Brings id e buffer.old buffer.new)) }
-    ensures lost { OnErr result (W.is_logged → ((W.state world.new).log ≡ (W.state world.old).log) ⊎ ((bytes : List ℕ) × ((W.state world.new).log ≡ Read id bytes ∷ (W.state world.old).log))) }
+    ensures read { OnOk result
+        (W.is_logged → ((e : Event) × ((W.state world.new).log ≡ e ∷ (W.state world.old).log) ×
+        Brings id e buffer.old buffer.new)) }
+    ensures lost { OnErr result
+        (W.is_logged → ((W.state world.new).log ≡ (W.state world.old).log) ⊎
+        ((bytes : List ℕ) × ((W.state world.new).log ≡ Read id bytes ∷ (W.state world.old).log))) }
     ensures err { OnErr result (buffer.new ≡ buffer.old) }
     ensures memory { IfErr result (λ e. e ≡ BufferFault.Memory) }
-    ensures less { OnOk result (room_of buffer.new.ending (length buffer.new.bytes) < room_of buffer.old.ending (length buffer.old.bytes)) }
+    ensures less { OnOk result
+        (room_of buffer.new.ending (length buffer.new.bytes) < room_of buffer.old.ending (length buffer.old.bytes)) }
     ensures no_failure { OnOk result (W.is_logged → (W.state world.new).first_failure ≡ (W.state world.old).first_failure) }
     ensures failure { OnErr result (W.is_logged → MayFailNow (W.state world.old) (W.state world.new)) }
     ensures grows { W.is_logged → Grows (W.state world.old) (W.state world.new) }
@@ -72,11 +78,16 @@ fn read_more<W: World>(
     requires unended { buffer.old.ending ≡ None }
     requires short { length buffer.old.bytes ≤ longest }
     ensures open { SameOpen (W.state world.old) (W.state world.new) }
-    ensures read { OnOk result (W.is_logged → ((e : Event) × ((W.state world.new).log ≡ e ∷ (W.state world.old).log) × Brings id e buffer.old buffer.new)) }
-    ensures lost { OnErr result (W.is_logged → ((W.state world.new).log ≡ (W.state world.old).log) ⊎ ((bytes : List ℕ) × ((W.state world.new).log ≡ Read id bytes ∷ (W.state world.old).log))) }
+    ensures read { OnOk result
+        (W.is_logged → ((e : Event) × ((W.state world.new).log ≡ e ∷ (W.state world.old).log) ×
+        Brings id e buffer.old buffer.new)) }
+    ensures lost { OnErr result
+        (W.is_logged → ((W.state world.new).log ≡ (W.state world.old).log) ⊎
+        ((bytes : List ℕ) × ((W.state world.new).log ≡ Read id bytes ∷ (W.state world.old).log))) }
     ensures err { OnErr result (buffer.new ≡ buffer.old) }
     ensures memory { IfErr result (λ e. e ≡ BufferFault.Memory) }
-    ensures less { OnOk result (room_of buffer.new.ending (length buffer.new.bytes) < room_of buffer.old.ending (length buffer.old.bytes)) }
+    ensures less { OnOk result
+        (room_of buffer.new.ending (length buffer.new.bytes) < room_of buffer.old.ending (length buffer.old.bytes)) }
     ensures no_failure { OnOk result (W.is_logged → (W.state world.new).first_failure ≡ (W.state world.old).first_failure) }
     ensures failure { OnErr result (W.is_logged → MayFailNow (W.state world.old) (W.state world.new)) }
     ensures grows { W.is_logged → Grows (W.state world.old) (W.state world.new) }
@@ -105,8 +116,10 @@ pub fn next_from<W: World>(
     requires open { IsTrue ((W.state world.old).is_open id) }
     ensures open { SameOpen (W.state world.old) (W.state world.new) }
     ensures step { result ≢ Ok Step.NeedMore }
-    ensures pulls { W.is_logged → Pulls id separator.now buffer.old (W.state world.old).log result buffer.new (W.state world.new).log }
-    ensures no_failure { W.is_logged → result ≢ Err BufferFault.Memory → (W.state world.new).first_failure ≡ (W.state world.old).first_failure }
+    ensures pulls { W.is_logged →
+        Pulls id separator.now buffer.old (W.state world.old).log result buffer.new (W.state world.new).log }
+    ensures no_failure { W.is_logged → result ≢ Err BufferFault.Memory →
+        (W.state world.new).first_failure ≡ (W.state world.old).first_failure }
     ensures failure { W.is_logged → result ≡ Err BufferFault.Memory → MayFailNow (W.state world.old) (W.state world.new) }
     ensures grows { W.is_logged → Grows (W.state world.old) (W.state world.new) }
 {

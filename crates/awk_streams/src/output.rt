@@ -99,7 +99,8 @@ pub fn print_held<W: World>(
     requires { IsTrue ((W.state world.old).is_open id) }
     ensures open { SameOpen (W.state world.old) (W.state world.new) }
     ensures fault { IfErr result IsOutputFault }
-    ensures told { W.is_logged → PrintsOrHolds id held.old.items bytes.now (W.state world.old) result held.new.items (W.state world.new) }
+    ensures told { W.is_logged →
+        PrintsOrHolds id held.old.items bytes.now (W.state world.old) result held.new.items (W.state world.new) }
 {
     let size = world.output_buffer_size();
     if hold(held, size, bytes) {

@@ -2,7 +2,9 @@
 ghost use Rattle.std.specs.Prelude.{◌≡◌, ◌≢◌, ◌⊎◌, ℕ, ℤ, [], Some, None, is_some, IsTrue, OnOk, OnErr, IfErr, Ok, Err, List};
 ghost use Rattle.awk_world.specs.definitions.WorldState.{SameOpen};
 ghost use Rattle.awk_streams.specs.definitions.Outputs.{IsOutputFault};
-ghost use Rattle.awk_streams.specs.definitions.Streams.{AreOpen, IsSoundMain, StandsAsMain, IsOpenMain, view_of, main_of, IsFreshMain, IsSameMain, ClosesMain, closed_main, OpensMain, AsksMain, Prints, EndsMain, Finishes};
+ghost use Rattle.awk_streams.specs.definitions.Streams.{AreOpen, IsSoundMain, StandsAsMain, IsOpenMain, view_of};
+ghost use Rattle.awk_streams.specs.definitions.Streams.{main_of, IsFreshMain, IsSameMain, ClosesMain, closed_main};
+ghost use Rattle.awk_streams.specs.definitions.Streams.{OpensMain, AsksMain, Prints, EndsMain, Finishes};
 ghost use Rattle.awk_streams.specs.support.Pulls.{IsToldAs};
 
 use crate::fault::StreamFault;
@@ -39,7 +41,8 @@ fn next_of<W: World>(
     ensures open { SameOpen (W.state world.old) (W.state world.new) }
     ensures fault { result ≢ Err StreamFault.WriteFailed }
     ensures told { W.is_logged → StandsAsMain (W.state world.old).log (view_of input.old) → (held : List ℕ) →
-        AsksMain separator.now (W.state world.old) (record { main = Some (view_of input.old); held = held }) result (W.state world.new) (record { main = Some (view_of input.new); held = held }) }
+        AsksMain separator.now (W.state world.old) (record { main = Some (view_of input.old); held = held }) result
+        (W.state world.new) (record { main = Some (view_of input.new); held = held }) }
 {
     told(next_from(world, input.id, &mut input.buffer, chunk, separator))
 }
@@ -48,7 +51,8 @@ fn next_of<W: World>(
 fn close<W: World>(world: &mut W, input: Option<Input>)
     requires { IsOpenMain (W.state world.old) (main_of input) }
     ensures open { ClosesMain (W.state world.old) (W.state world.new) (main_of input) }
-    ensures log { W.is_logged → (answer : ℤ) × ((W.state world.new).log ≡ closed_main (main_of input) answer (W.state world.old).log) }
+    ensures log { W.is_logged →
+        (answer : ℤ) × ((W.state world.new).log ≡ closed_main (main_of input) answer (W.state world.old).log) }
     ensures no_failure { W.is_logged → (W.state world.new).first_failure ≡ (W.state world.old).first_failure }
 {
     if let Some(input) = input {

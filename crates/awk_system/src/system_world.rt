@@ -1,5 +1,6 @@
 // The system as the outside of a run.
-ghost use Rattle.std.specs.Prelude.{◌≡◌, ◌≤◌, ◌⊎◌, ℕ, Ok, Err, [], None, Some, IfOk, OnErr, IsTrue, false, is_some, length, nat_lt, pos, if◌then◌else◌};
+ghost use Rattle.std.specs.Prelude.{◌≡◌, ◌≤◌, ◌⊎◌, ℕ, Ok, Err, [], None, Some, IfOk, OnErr};
+ghost use Rattle.std.specs.Prelude.{IsTrue, false, is_some, length, nat_lt, pos, if◌then◌else◌};
 ghost use Rattle.std.specs.Ordering.{nat_cmp};
 ghost use Rattle.std.specs.BTreeMap.{get};
 ghost use Rattle.std.specs.Io.KnownBytes.{Keeps, ReadConsumes, WriteAppends};
@@ -91,9 +92,11 @@ impl<R: Files<File = File> + Drop, I: Read + Drop, O: Write + Drop, E: Write + D
     /// Keeps what was opened, and answers its number. `Failed`: no number is left.
     fn keep(&mut self, opened: Opened) -> Result<u64, WorldFault>
         ensures fresh { IfOk result (IsFresh (⟦<SysWorld<R, I, O, E> as World>⟧.state self.old)) }
-        ensures opens { IfOk result (Opens (⟦<SysWorld<R, I, O, E> as World>⟧.state self.old) (⟦<SysWorld<R, I, O, E> as World>⟧.state self.new)) }
+        ensures opens { IfOk result
+            (Opens (⟦<SysWorld<R, I, O, E> as World>⟧.state self.old) (⟦<SysWorld<R, I, O, E> as World>⟧.state self.new)) }
         ensures kept { IfOk result (λ id. get nat_cmp self.new.opened id ≡ Some opened) }
-        ensures err { OnErr result (SameOpen (⟦<SysWorld<R, I, O, E> as World>⟧.state self.old) (⟦<SysWorld<R, I, O, E> as World>⟧.state self.new)) }
+        ensures err { OnErr result
+            (SameOpen (⟦<SysWorld<R, I, O, E> as World>⟧.state self.old) (⟦<SysWorld<R, I, O, E> as World>⟧.state self.new)) }
         ensures failed { result ≡ Err WorldFault.Failed → self.old.next ≡ u64.MAX }
     {
         let id = self.next;
@@ -136,9 +139,12 @@ impl<R: Files<File = File> + Drop, I: Read + Drop, O: Write + Drop, E: Write + D
 
     fn open_input(&mut self, kind: InputKind, name: &[u8]) -> Result<u64, WorldFault>
         ensures fresh { IfOk result (IsFresh (⟦<SysWorld<R, I, O, E> as World>⟧.state self.old)) }
-        ensures opens { IfOk result (Opens (⟦<SysWorld<R, I, O, E> as World>⟧.state self.old) (⟦<SysWorld<R, I, O, E> as World>⟧.state self.new)) }
-        ensures err { OnErr result (SameOpen (⟦<SysWorld<R, I, O, E> as World>⟧.state self.old) (⟦<SysWorld<R, I, O, E> as World>⟧.state self.new)) }
-        ensures standard { kind ≡ InputKind.Standard → IfOk result (λ id. get nat_cmp self.new.opened id ≡ Some Opened.StandardInput) }
+        ensures opens { IfOk result
+            (Opens (⟦<SysWorld<R, I, O, E> as World>⟧.state self.old) (⟦<SysWorld<R, I, O, E> as World>⟧.state self.new)) }
+        ensures err { OnErr result
+            (SameOpen (⟦<SysWorld<R, I, O, E> as World>⟧.state self.old) (⟦<SysWorld<R, I, O, E> as World>⟧.state self.new)) }
+        ensures standard { kind ≡ InputKind.Standard →
+            IfOk result (λ id. get nat_cmp self.new.opened id ≡ Some Opened.StandardInput) }
     {
         match kind {
             InputKind::Standard => self.keep(Opened::StandardInput),
@@ -153,8 +159,10 @@ impl<R: Files<File = File> + Drop, I: Read + Drop, O: Write + Drop, E: Write + D
 
     fn read(&mut self, id: u64, into: &mut [u8]) -> Result<usize, WorldFault>
         ensures count { IfOk result (λ n. n ≤ length into.old) }
-        ensures open { SameOpen (⟦<SysWorld<R, I, O, E> as World>⟧.state self.old) (⟦<SysWorld<R, I, O, E> as World>⟧.state self.new) }
-        ensures standard { get nat_cmp self.old.opened id ≡ Some Opened.StandardInput → ReadConsumes (I.remaining self.old.stdin) (I.remaining self.new.stdin) result into.new }
+        ensures open { SameOpen (⟦<SysWorld<R, I, O, E> as World>⟧.state self.old)
+            (⟦<SysWorld<R, I, O, E> as World>⟧.state self.new) }
+        ensures standard { get nat_cmp self.old.opened id ≡ Some Opened.StandardInput →
+            ReadConsumes (I.remaining self.old.stdin) (I.remaining self.new.stdin) result into.new }
     {
         match self.opened.get(&id) {
             Some(Opened::StandardInput) => read_from(&mut self.stdin, into),
@@ -183,7 +191,8 @@ impl<R: Files<File = File> + Drop, I: Read + Drop, O: Write + Drop, E: Write + D
 
     fn write(&mut self, id: u64, bytes: &[u8]) -> Result<usize, WorldFault>
         ensures count { IfOk result (λ n. n ≤ length bytes.now) }
-        ensures open { SameOpen (⟦<SysWorld<R, I, O, E> as World>⟧.state self.old) (⟦<SysWorld<R, I, O, E> as World>⟧.state self.new) }
+        ensures open { SameOpen (⟦<SysWorld<R, I, O, E> as World>⟧.state self.old)
+            (⟦<SysWorld<R, I, O, E> as World>⟧.state self.new) }
         ensures output { id ≡ 0 → WriteAppends (O.contents self.old.stdout) (O.contents self.new.stdout) result bytes.now }
         ensures error { id ≡ 1 → WriteAppends (E.contents self.old.stderr) (E.contents self.new.stderr) result bytes.now }
     {
@@ -211,7 +220,8 @@ impl<R: Files<File = File> + Drop, I: Read + Drop, O: Write + Drop, E: Write + D
     }
 
     fn flush(&mut self, id: u64) -> Result<(), WorldFault>
-        ensures open { SameOpen (⟦<SysWorld<R, I, O, E> as World>⟧.state self.old) (⟦<SysWorld<R, I, O, E> as World>⟧.state self.new) }
+        ensures open { SameOpen (⟦<SysWorld<R, I, O, E> as World>⟧.state self.old)
+            (⟦<SysWorld<R, I, O, E> as World>⟧.state self.new) }
         ensures output { Keeps (O.contents self.old.stdout) (O.contents self.new.stdout) }
         ensures error { Keeps (E.contents self.old.stderr) (E.contents self.new.stderr) }
     {
@@ -225,7 +235,8 @@ impl<R: Files<File = File> + Drop, I: Read + Drop, O: Write + Drop, E: Write + D
     fn close(&mut self, id: u64) -> i128
         requires open { IsTrue ((⟦<SysWorld<R, I, O, E> as World>⟧.state self.old).is_open id) }
         requires opened { 2 ≤ id }
-        ensures closes { Closes (⟦<SysWorld<R, I, O, E> as World>⟧.state self.old) (⟦<SysWorld<R, I, O, E> as World>⟧.state self.new) id }
+        ensures closes { Closes (⟦<SysWorld<R, I, O, E> as World>⟧.state self.old)
+            (⟦<SysWorld<R, I, O, E> as World>⟧.state self.new) id }
         ensures answer { result ≡ pos 0 }
     {
         let _ = self.opened.remove(&id);
@@ -233,7 +244,8 @@ impl<R: Files<File = File> + Drop, I: Read + Drop, O: Write + Drop, E: Write + D
     }
 
     fn run(&mut self, _command: &[u8]) -> Result<i128, WorldFault>
-        ensures open { SameOpen (⟦<SysWorld<R, I, O, E> as World>⟧.state self.old) (⟦<SysWorld<R, I, O, E> as World>⟧.state self.new) }
+        ensures open { SameOpen (⟦<SysWorld<R, I, O, E> as World>⟧.state self.old)
+            (⟦<SysWorld<R, I, O, E> as World>⟧.state self.new) }
         ensures never_failed { result ≡ Err WorldFault.Failed → ⊥ }
         ensures answer { result ≡ Ok (pos 127) }
     {

@@ -1,6 +1,8 @@
 // Splitting a text at its separators.
-ghost use Rattle.std.specs.Prelude.{◌≡◌, ◌≤◌, ◌<◌, ◌+◌, ◌==◌, ℕ, true, false, [], ◌∷◌, length, drop, slice_index, MatchOption, IfSome, OnOk, IfErr};
-ghost use Rattle.awk_text.specs.Pieces.{is_blank_or_newline as blank_or_newline, blank_pieces, pieces_from, pieces_of, stretch_at, stretches_at, IsSpanOf, AreSpansOf};
+ghost use Rattle.std.specs.Prelude.{◌≡◌, ◌≤◌, ◌<◌, ◌+◌, ◌==◌, ℕ, true, false, [], ◌∷◌, length};
+ghost use Rattle.std.specs.Prelude.{drop, slice_index, MatchOption, IfSome, OnOk, IfErr};
+ghost use Rattle.awk_text.specs.Pieces.{is_blank_or_newline as blank_or_newline, blank_pieces, pieces_from};
+ghost use Rattle.awk_text.specs.Pieces.{pieces_of, stretch_at, stretches_at, IsSpanOf, AreSpansOf};
 ghost use Rattle.awk_text.specs.Stretch.{IsStretchEnd};
 
 use crate::fault::TextFault;

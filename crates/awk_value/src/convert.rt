@@ -26,9 +26,9 @@ pub fn number_of(value: &Value) -> Result<i128, ValueFault>
     }
 }
 
-/// The number as which a value is tested and compared: 0 of an uninitialized one, and of a text from outside the number that it
-/// is and nothing else, with blanks around it. `None` of any other text. Takes no memory. (POSIX awk, Expressions in awk: numeric
-/// strings.)
+/// The number as which a value is tested and compared: 0 of an uninitialized one, and of a text
+/// from outside the number that it is and nothing else, with blanks around it. `None` of any other
+/// text. Takes no memory. (POSIX awk, Expressions in awk: numeric strings.)
 pub fn numeric_of(value: &Value) -> Option<i128>
     ensures numeric { result ≡ numeric_of value.now }
     // It is the value's number too.

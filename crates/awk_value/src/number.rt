@@ -2,7 +2,8 @@
 
 ghost use Rattle.std.specs.Prelude.{◌≡◌, ℕ, ◌+◌, ◌*◌, ◌^◌, ◌<◌, ◌≤◌, length, MatchOption};
 ghost use Rattle.awk_value.specs.Arithmetic.{range_checked};
-ghost use Rattle.awk_value.specs.Numbers.{after_blanks, has_minus, after_sign, digits_value, after_digits, signed_number, text_number, numeric_text};
+ghost use Rattle.awk_value.specs.Numbers.{after_blanks, has_minus, after_sign, digits_value};
+ghost use Rattle.awk_value.specs.Numbers.{after_digits, signed_number, text_number, numeric_text};
 ghost use Rattle.awk_value.specs.Numbers.{is_blank_or_newline as blank_or_newline};
 
 use crate::fault::ValueFault;

@@ -1,5 +1,6 @@
 // The variables by the numbers of their names. A number is a hint: its place is used where the name stands there.
-ghost use Rattle.std.specs.Prelude.{◌≡◌, ◌≢◌, ℕ, ◌<◌, List, ◌++◌, true, false, length, IfSome, IfErr, OnOk, OnErr, Some, None, bytes_eq, if◌then◌else◌};
+ghost use Rattle.std.specs.Prelude.{◌≡◌, ◌≢◌, ℕ, ◌<◌, List, ◌++◌, true, false, length, IfSome};
+ghost use Rattle.std.specs.Prelude.{IfErr, OnOk, OnErr, Some, None, bytes_eq, if◌then◌else◌};
 ghost use Rattle.awk_value.specs.declared.value.Value.TheVariants.{Nothing};
 ghost use Rattle.awk_value.specs.declared.value.Value.{Value as Kept};
 ghost use Rattle.awk_value.specs.Values.{str_of};
@@ -43,7 +44,8 @@ fn write(others: &mut IndexMap<Vec<u8>, Value>, index: usize, value: Value)
 fn append(others: &mut IndexMap<Vec<u8>, Value>, index: usize, alloc: Global, tail: &Value) -> bool
     requires { index < length others.old.entries }
     ensures appended { result ≡ true → (name : List ℕ) → (v : Kept) → Stands others.old.entries index name v → (x : List ℕ) →
-        kept_at others.new.entries x ≡ (if bytes_eq name x then Some (Value.Text (str_of v ++ str_of tail.now)) else kept_at others.old.entries x) }
+        kept_at others.new.entries x
+        ≡ (if bytes_eq name x then Some (Value.Text (str_of v ++ str_of tail.now)) else kept_at others.old.entries x) }
     ensures kept { result ≡ false → others.new.entries ≡ others.old.entries }
 {
     let (_, place) = others.pair_mut(index);
@@ -87,8 +89,9 @@ impl Variables {
         true
     }
 
-    /// Appends a value's text to that of the value at a place behind the special variables, if it is this name's. A text that no
-    /// other value shares grows in place. Else nothing changes, and where memory is refused.
+    /// Appends a value's text to that of the value at a place behind the special variables, if it
+    /// is this name's. A text that no other value shares grows in place. Else nothing changes, and
+    /// where memory is refused.
     pub fn append_at(&mut self, number: u32, name: &[u8], tail: &Value) -> bool
         ensures set { result ≡ true → (x : List ℕ) → value_of self.new x ≡ with_value (value_of self.old) name.now
             (Value.Text (str_of (value_of self.old name.now) ++ str_of tail.now)) x }

@@ -1,6 +1,7 @@
 // The failures that are planned of a world in memory.
 ghost use Rattle.std.specs.Prelude.{◌≡◌, ◌≤◌, IfOk};
-ghost use Rattle.awk_world.specs.definitions.ScriptAnswers.{is_due, one_less, no_faults, after_call, after_write, after_flush, write_answer, flush_answer};
+ghost use Rattle.awk_world.specs.definitions.ScriptAnswers.{is_due, one_less, no_faults, after_call, after_write};
+ghost use Rattle.awk_world.specs.definitions.ScriptAnswers.{after_flush, write_answer, flush_answer};
 
 use crate::world::WorldFault;
 

@@ -1,9 +1,11 @@
 // The streams of a world in memory. A stream's number is its place plus two, behind the standard
 // outputs; a closed one keeps its place, so that no number is granted twice.
-ghost use Rattle.std.specs.Prelude.{◌≡◌, ◌≤◌, ◌<◌, ◌+◌, ◌∷◌, ◌++◌, ◌^◌, ◌==◌, ◌-◌, [], if◌then◌else◌, true, false, ℕ, take, drop, vec_len, vec_capacity, IsTrue, IfSome, length, slice_get};
+ghost use Rattle.std.specs.Prelude.{◌≡◌, ◌≤◌, ◌<◌, ◌+◌, ◌∷◌, ◌++◌, ◌^◌, ◌==◌, ◌-◌, [], if◌then◌else◌, true, false};
+ghost use Rattle.std.specs.Prelude.{ℕ, take, drop, vec_len, vec_capacity, IsTrue, IfSome, length, slice_get};
 ghost use Rattle.std.specs.List.{fold};
 ghost use Rattle.awk_world.specs.definitions.Script.{input_of, inputs_of};
-ghost use Rattle.awk_world.specs.definitions.ScriptAnswers.{nearer, read_count, portion_of, input_under, input_at, unread, advanced};
+ghost use Rattle.awk_world.specs.definitions.ScriptAnswers.{nearer, read_count, portion_of};
+ghost use Rattle.awk_world.specs.definitions.ScriptAnswers.{input_under, input_at, unread, advanced};
 ghost use Rattle.awk_world.specs.support.ScriptStreams.{is_open_in, open_at, open_count, CanAdvance};
 
 // An input that was granted: its bytes, whether it breaks behind them, and how many were read.
@@ -85,7 +87,8 @@ pub fn read_next(
     into: &mut [u8],
 ) -> Portion
     ensures portion { result ≡ portion_of piece_ends.now (input_under id (inputs_of streams.now)) (length into.old) }
-    ensures bytes { (n : ℕ) → result ≡ Portion.Bytes n → take n into.new ≡ take n (unread (input_under id (inputs_of streams.now))) }
+    ensures bytes { (n : ℕ) → result ≡ Portion.Bytes n →
+        take n into.new ≡ take n (unread (input_under id (inputs_of streams.now))) }
     ensures within { (n : ℕ) → result ≡ Portion.Bytes n → n ≤ length into.old }
     ensures fits { (n : ℕ) → result ≡ Portion.Bytes n → CanAdvance streams.now id n }
 {
@@ -117,7 +120,8 @@ pub fn advance(streams: &mut Vec<ScriptStream>, id: u64, count: usize)
 
 pub fn shut(streams: &mut Vec<ScriptStream>, place: usize)
     requires { IsTrue (open_at (slice_get streams.old.items place)) }
-    ensures closes { (j : ℕ) → is_open_in streams.new.items j ≡ (if j == place + 2 then false else is_open_in streams.old.items j) }
+    ensures closes { (j : ℕ) →
+        is_open_in streams.new.items j ≡ (if j == place + 2 then false else is_open_in streams.old.items j) }
     ensures count { open_count streams.new.items + 1 ≡ open_count streams.old.items }
     ensures inputs { inputs_of streams.new.items ≡ inputs_of streams.old.items }
 {
@@ -129,7 +133,8 @@ pub fn shut(streams: &mut Vec<ScriptStream>, place: usize)
 pub fn add(streams: &mut Vec<ScriptStream>, stream: ScriptStream)
     requires open { IsTrue stream.open }
     requires room { vec_len streams.old < vec_capacity streams.old }
-    ensures opens { (j : ℕ) → is_open_in streams.new.items j ≡ (if j == vec_len streams.old + 2 then true else is_open_in streams.old.items j) }
+    ensures opens { (j : ℕ) →
+        is_open_in streams.new.items j ≡ (if j == vec_len streams.old + 2 then true else is_open_in streams.old.items j) }
     ensures fresh { is_open_in streams.old.items (vec_len streams.old + 2) ≡ false }
     ensures count { open_count streams.new.items ≡ open_count streams.old.items + 1 }
     ensures inputs { inputs_of streams.new.items ≡ inputs_of streams.old.items ++ input_of stream ∷ [] }

@@ -1,10 +1,16 @@
 // A world in memory that follows a script and stores its log.
-ghost use Rattle.std.specs.Prelude.{◌≡◌, ◌≤◌, ◌<◌, ◌+◌, [], ◌∷◌, vec_len, vec_capacity, OnOk, OnErr, IfErr, Some, None, IsTrue, IfOk, Ok, Err, length, take, slice_get, pos};
+ghost use Rattle.std.specs.Prelude.{◌≡◌, ◌≤◌, ◌<◌, ◌+◌, [], ◌∷◌, vec_len, vec_capacity, OnOk, OnErr, IfErr};
+ghost use Rattle.std.specs.Prelude.{Some, None, IsTrue, IfOk, Ok, Err, length, take, slice_get, pos};
 ghost use Rattle.awk_world.specs.definitions.WorldState.{Logs, IsFresh, Opens, Closes, SameOpen};
-ghost use Rattle.awk_world.specs.definitions.Log.{Event, Closed, failure_after, logged, input_opening, output_opening, reading, writing, flushing, running};
+ghost use Rattle.awk_world.specs.definitions.Log.{Event, Closed, failure_after, logged, input_opening};
+ghost use Rattle.awk_world.specs.definitions.Log.{output_opening, reading, writing, flushing, running};
 ghost use Rattle.awk_world.specs.definitions.Writes.{received};
 ghost use Rattle.awk_world.specs.definitions.Script.{event_of, events};
-ghost use Rattle.awk_world.specs.definitions.ScriptAnswers.{IsAnswer, no_faults, refusing_memory, failing_write, failing_flush, writing_at_most, with_plan, in_pieces, buffering, after_call, after_write, after_flush, unless_refused, write_answer, flush_answer, opening_answer, after_opening, reading_answer, after_reading, input_under, unread};
+ghost use Rattle.awk_world.specs.definitions.ScriptAnswers.{IsAnswer, no_faults, refusing_memory, failing_write};
+ghost use Rattle.awk_world.specs.definitions.ScriptAnswers.{failing_flush, writing_at_most, with_plan, in_pieces, buffering};
+ghost use Rattle.awk_world.specs.definitions.ScriptAnswers.{after_call, after_write, after_flush, unless_refused};
+ghost use Rattle.awk_world.specs.definitions.ScriptAnswers.{write_answer, flush_answer, opening_answer, after_opening};
+ghost use Rattle.awk_world.specs.definitions.ScriptAnswers.{reading_answer, after_reading, input_under, unread};
 ghost use Rattle.awk_world.specs.support.ScriptStreams.{is_open_in, open_at, open_count, standard_outputs_open};
 
 use crate::answer::{Answer, take_answer};
@@ -63,7 +69,8 @@ impl ScriptWorld {
     pub fn new(alloc: Global, answers: Vec<Answer>) -> Self
         ensures log { (⟦<ScriptWorld as World>⟧.state result).log ≡ [] }
         ensures first_failure { (⟦<ScriptWorld as World>⟧.state result).first_failure ≡ None }
-        ensures script { script_of result ≡ record { answers = answers.items; inputs = []; piece_ends = []; buffer_size = 65536; faults = no_faults } }
+        ensures script { script_of result
+            ≡ record { answers = answers.items; inputs = []; piece_ends = []; buffer_size = 65536; faults = no_faults } }
     {
         ScriptWorld {
             alloc,
@@ -117,7 +124,8 @@ impl ScriptWorld {
     /// The k-th of the calls from now on that can answer `Memory`, from 1, answers it.
     pub fn refuse_memory(&mut self, k: u64)
         requires { 1 ≤ k }
-        ensures script { let script = script_of self.old in script_of self.new ≡ with_plan (refusing_memory k script.faults) script }
+        ensures script { let script = script_of self.old in
+            script_of self.new ≡ with_plan (refusing_memory k script.faults) script }
         ensures state { ⟦<ScriptWorld as World>⟧.state self.new ≡ ⟦<ScriptWorld as World>⟧.state self.old }
     {
         self.faults.calls_before_refusal = Some(k - 1);
@@ -126,7 +134,8 @@ impl ScriptWorld {
     /// The k-th write from now on, from 1, fails.
     pub fn fail_write(&mut self, k: u64)
         requires { 1 ≤ k }
-        ensures script { let script = script_of self.old in script_of self.new ≡ with_plan (failing_write k script.faults) script }
+        ensures script { let script = script_of self.old in
+            script_of self.new ≡ with_plan (failing_write k script.faults) script }
         ensures state { ⟦<ScriptWorld as World>⟧.state self.new ≡ ⟦<ScriptWorld as World>⟧.state self.old }
     {
         self.faults.writes_before_failure = Some(k - 1);
@@ -135,7 +144,8 @@ impl ScriptWorld {
     /// The k-th flush from now on, from 1, fails.
     pub fn fail_flush(&mut self, k: u64)
         requires { 1 ≤ k }
-        ensures script { let script = script_of self.old in script_of self.new ≡ with_plan (failing_flush k script.faults) script }
+        ensures script { let script = script_of self.old in
+            script_of self.new ≡ with_plan (failing_flush k script.faults) script }
         ensures state { ⟦<ScriptWorld as World>⟧.state self.new ≡ ⟦<ScriptWorld as World>⟧.state self.old }
     {
         self.faults.flushes_before_failure = Some(k - 1);
@@ -144,7 +154,8 @@ impl ScriptWorld {
     /// Each write takes at most n bytes. Where n is 0 it takes none, which is a failure if there
     /// are some.
     pub fn short_writes(&mut self, n: usize)
-        ensures script { let script = script_of self.old in script_of self.new ≡ with_plan (writing_at_most n script.faults) script }
+        ensures script { let script = script_of self.old in
+            script_of self.new ≡ with_plan (writing_at_most n script.faults) script }
         ensures state { ⟦<ScriptWorld as World>⟧.state self.new ≡ ⟦<ScriptWorld as World>⟧.state self.old }
     {
         self.faults.longest_write = Some(n);
@@ -179,7 +190,8 @@ impl ScriptWorld {
     fn try_open_input(&mut self, kind: InputKind, name: &[u8]) -> Result<u64, WorldFault>
         ensures log { events self.new.log.items ≡ logged (input_opening kind name.now result) (events self.old.log.items) }
         ensures fresh { IfOk result (IsFresh (⟦<ScriptWorld as World>⟧.state self.old)) }
-        ensures opens { IfOk result (Opens (⟦<ScriptWorld as World>⟧.state self.old) (⟦<ScriptWorld as World>⟧.state self.new)) }
+        ensures opens { IfOk result
+            (Opens (⟦<ScriptWorld as World>⟧.state self.old) (⟦<ScriptWorld as World>⟧.state self.new)) }
         ensures refused { OnErr result (self.new.streams.items ≡ self.old.streams.items) }
         ensures answer { IsAnswer (opening_answer kind name.now (script_of self.old)) result }
         ensures script { script_of self.new ≡ after_opening kind name.now result (script_of self.old) }
@@ -238,7 +250,8 @@ impl ScriptWorld {
         name: &[u8],
         mode: Mode,
     ) -> Result<u64, WorldFault>
-        ensures log { events self.new.log.items ≡ logged (output_opening kind name.now mode result) (events self.old.log.items) }
+        ensures log { events self.new.log.items
+            ≡ logged (output_opening kind name.now mode result) (events self.old.log.items) }
         ensures answer { IsAnswer (unless_refused self.old.faults (Err WorldFault.Failed)) result }
         ensures script { script_of self.new ≡ with_plan (after_call self.old.faults) (script_of self.old) }
         ensures streams { self.new.streams.items ≡ self.old.streams.items }
@@ -300,7 +313,8 @@ impl ScriptWorld {
     fn note_closing(&mut self, place: usize)
         requires { IsTrue (open_at (slice_get self.old.streams.items place)) }
         ensures log { events self.new.log.items ≡ Event.Closed (place + 2) (pos 0) ∷ events self.old.log.items }
-        ensures closes { Closes (⟦<ScriptWorld as World>⟧.state self.old) (⟦<ScriptWorld as World>⟧.state self.new) (place + 2) }
+        ensures closes { Closes (⟦<ScriptWorld as World>⟧.state self.old) (⟦<ScriptWorld as World>⟧.state self.new)
+            (place + 2) }
         ensures script { script_of self.new ≡ script_of self.old }
         ensures first_failure { self.new.first_failure ≡ self.old.first_failure }
     {
@@ -315,15 +329,19 @@ impl World for ScriptWorld {
 
     ghost is_logged = { Unit {0} };
 
-    ghost state = { λ w. record { is_open = is_open_in w.streams.items; log = events w.log.items; first_failure = w.first_failure } };
+    ghost state = { λ w.
+        record { is_open = is_open_in w.streams.items; log = events w.log.items; first_failure = w.first_failure } };
 
     ghost standard_open = { λ w id h. standard_outputs_open w.streams.items id h };
 
     fn open_input(&mut self, kind: InputKind, name: &[u8]) -> Result<u64, WorldFault>
         ensures fresh { IfOk result (IsFresh (⟦<ScriptWorld as World>⟧.state self.old)) }
-        ensures opens { IfOk result (Opens (⟦<ScriptWorld as World>⟧.state self.old) (⟦<ScriptWorld as World>⟧.state self.new)) }
-        ensures err { OnErr result (SameOpen (⟦<ScriptWorld as World>⟧.state self.old) (⟦<ScriptWorld as World>⟧.state self.new)) }
-        ensures logs { Logs (input_opening kind name.now result) (⟦<ScriptWorld as World>⟧.state self.old) (⟦<ScriptWorld as World>⟧.state self.new) }
+        ensures opens { IfOk result
+            (Opens (⟦<ScriptWorld as World>⟧.state self.old) (⟦<ScriptWorld as World>⟧.state self.new)) }
+        ensures err { OnErr result
+            (SameOpen (⟦<ScriptWorld as World>⟧.state self.old) (⟦<ScriptWorld as World>⟧.state self.new)) }
+        ensures logs { Logs (input_opening kind name.now result) (⟦<ScriptWorld as World>⟧.state self.old)
+            (⟦<ScriptWorld as World>⟧.state self.new) }
         ensures answer { IsAnswer (opening_answer kind name.now (script_of self.old)) result }
         ensures script { script_of self.new ≡ after_opening kind name.now result (script_of self.old) }
     {
@@ -340,7 +358,8 @@ impl World for ScriptWorld {
     fn read(&mut self, id: u64, into: &mut [u8]) -> Result<usize, WorldFault>
         ensures count { IfOk result (λ n. n ≤ length into.old) }
         ensures open { SameOpen (⟦<ScriptWorld as World>⟧.state self.old) (⟦<ScriptWorld as World>⟧.state self.new) }
-        ensures logs { Logs (reading id result into.new) (⟦<ScriptWorld as World>⟧.state self.old) (⟦<ScriptWorld as World>⟧.state self.new) }
+        ensures logs { Logs (reading id result into.new) (⟦<ScriptWorld as World>⟧.state self.old)
+            (⟦<ScriptWorld as World>⟧.state self.new) }
         ensures answer { IsAnswer (reading_answer id (length into.old) (script_of self.old)) result }
         ensures bytes { IfOk result (λ n. take n into.new ≡ take n (unread (input_under id (script_of self.old).inputs))) }
         ensures script { script_of self.new ≡ after_reading id (length into.old) result (script_of self.old) }
@@ -357,9 +376,12 @@ impl World for ScriptWorld {
 
     fn open_output(&mut self, kind: OutputKind, name: &[u8], mode: Mode) -> Result<u64, WorldFault>
         ensures fresh { IfOk result (IsFresh (⟦<ScriptWorld as World>⟧.state self.old)) }
-        ensures opens { IfOk result (Opens (⟦<ScriptWorld as World>⟧.state self.old) (⟦<ScriptWorld as World>⟧.state self.new)) }
-        ensures err { OnErr result (SameOpen (⟦<ScriptWorld as World>⟧.state self.old) (⟦<ScriptWorld as World>⟧.state self.new)) }
-        ensures logs { Logs (output_opening kind name.now mode result) (⟦<ScriptWorld as World>⟧.state self.old) (⟦<ScriptWorld as World>⟧.state self.new) }
+        ensures opens { IfOk result
+            (Opens (⟦<ScriptWorld as World>⟧.state self.old) (⟦<ScriptWorld as World>⟧.state self.new)) }
+        ensures err { OnErr result
+            (SameOpen (⟦<ScriptWorld as World>⟧.state self.old) (⟦<ScriptWorld as World>⟧.state self.new)) }
+        ensures logs { Logs (output_opening kind name.now mode result) (⟦<ScriptWorld as World>⟧.state self.old)
+            (⟦<ScriptWorld as World>⟧.state self.new) }
         ensures answer { IsAnswer (unless_refused (script_of self.old).faults (Err WorldFault.Failed)) result }
         ensures script { script_of self.new ≡ with_plan (after_call (script_of self.old).faults) (script_of self.old) }
     {
@@ -376,7 +398,8 @@ impl World for ScriptWorld {
     fn write(&mut self, id: u64, bytes: &[u8]) -> Result<usize, WorldFault>
         ensures count { IfOk result (λ n. n ≤ length bytes.now) }
         ensures open { SameOpen (⟦<ScriptWorld as World>⟧.state self.old) (⟦<ScriptWorld as World>⟧.state self.new) }
-        ensures logs { Logs (writing id result bytes.now) (⟦<ScriptWorld as World>⟧.state self.old) (⟦<ScriptWorld as World>⟧.state self.new) }
+        ensures logs { Logs (writing id result bytes.now) (⟦<ScriptWorld as World>⟧.state self.old)
+            (⟦<ScriptWorld as World>⟧.state self.new) }
         ensures answer { IsAnswer (write_answer (length bytes.now) (script_of self.old).faults) result }
         ensures script { script_of self.new ≡ with_plan (after_write (script_of self.old).faults) (script_of self.old) }
     {
@@ -401,7 +424,8 @@ impl World for ScriptWorld {
 
     fn flush(&mut self, id: u64) -> Result<(), WorldFault>
         ensures open { SameOpen (⟦<ScriptWorld as World>⟧.state self.old) (⟦<ScriptWorld as World>⟧.state self.new) }
-        ensures logs { Logs (flushing id result) (⟦<ScriptWorld as World>⟧.state self.old) (⟦<ScriptWorld as World>⟧.state self.new) }
+        ensures logs { Logs (flushing id result) (⟦<ScriptWorld as World>⟧.state self.old)
+            (⟦<ScriptWorld as World>⟧.state self.new) }
         ensures answer { IsAnswer (flush_answer (script_of self.old).faults) result }
         ensures script { script_of self.new ≡ with_plan (after_flush (script_of self.old).faults) (script_of self.old) }
     {
@@ -418,7 +442,8 @@ impl World for ScriptWorld {
         requires open { IsTrue ((⟦<ScriptWorld as World>⟧.state self.old).is_open id) }
         requires opened { 2 ≤ id }
         ensures closes { Closes (⟦<ScriptWorld as World>⟧.state self.old) (⟦<ScriptWorld as World>⟧.state self.new) id }
-        ensures logs { Logs (Some (Closed id result)) (⟦<ScriptWorld as World>⟧.state self.old) (⟦<ScriptWorld as World>⟧.state self.new) }
+        ensures logs { Logs (Some (Closed id result)) (⟦<ScriptWorld as World>⟧.state self.old)
+            (⟦<ScriptWorld as World>⟧.state self.new) }
         ensures answer { result ≡ pos 0 }
         ensures script { script_of self.new ≡ script_of self.old }
     {
@@ -429,7 +454,8 @@ impl World for ScriptWorld {
     fn run(&mut self, command: &[u8]) -> Result<i128, WorldFault>
         ensures open { SameOpen (⟦<ScriptWorld as World>⟧.state self.old) (⟦<ScriptWorld as World>⟧.state self.new) }
         ensures never_failed { result ≡ Err WorldFault.Failed → ⊥ }
-        ensures logs { Logs (running command.now result) (⟦<ScriptWorld as World>⟧.state self.old) (⟦<ScriptWorld as World>⟧.state self.new) }
+        ensures logs { Logs (running command.now result) (⟦<ScriptWorld as World>⟧.state self.old)
+            (⟦<ScriptWorld as World>⟧.state self.new) }
         ensures answer { IsAnswer (unless_refused (script_of self.old).faults (Ok (pos 0))) result }
         ensures script { script_of self.new ≡ with_plan (after_call (script_of self.old).faults) (script_of self.old) }
     {

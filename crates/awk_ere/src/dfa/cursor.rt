@@ -1,6 +1,7 @@
 // A cursor over a text, which the transition table moves on.
 
-ghost use Rattle.std.specs.Prelude.{◌≡◌, ◌⊎◌, ℕ, ◌+◌, ◌<◌, ◌≤◌, Bool, List, true, false, length, Option, None, Some, IsSome, ◌-◌, ◌^◌};
+ghost use Rattle.std.specs.Prelude.{◌≡◌, ◌⊎◌, ℕ, ◌+◌, ◌<◌, ◌≤◌, Bool, List, true, false};
+ghost use Rattle.std.specs.Prelude.{length, Option, None, Some, IsSome, ◌-◌, ◌^◌};
 ghost use Rattle.awk_ere_syntax.specs.definitions.Tree.{Tree};
 ghost use Rattle.awk_ere.specs.definitions.Means.{Means};
 ghost use Rattle.awk_ere.specs.support.Layout.{first_state, dead_state, match_flag};
@@ -97,7 +98,8 @@ impl Pattern {
         requires known { IsKnown scratch.old.table cursor.state }
         requires within { cursor.place < length text.now }
         ensures place { result.place ≡ cursor.place + 1 }
-        ensures end { (low : ℕ) → low ≤ cursor.place → EndsWithin low cursor.place cursor.end → EndsWithin low result.place result.end }
+        ensures end { (low : ℕ) → low ≤ cursor.place → EndsWithin low cursor.place cursor.end →
+            EndsWithin low result.place result.end }
         ensures known { IsKnown scratch.new.table result.state }
         ensures stood { (t : Tree) (from : ℕ → Bool) → Means t self.now → entering ≡ from cursor.place →
             Stood self.now scratch.old.table text.now t from cursor → Stood self.now scratch.new.table text.now t from result }
@@ -259,7 +261,8 @@ impl Pattern {
         requires within { cursor.place ≤ length text.now }
         ensures order { cursor.place ≤ result.place }
         ensures within { result.place ≤ length text.now }
-        ensures end { (low : ℕ) → low ≤ cursor.place → EndsWithin low cursor.place cursor.end → EndsWithin low result.place result.end }
+        ensures end { (low : ℕ) → low ≤ cursor.place → EndsWithin low cursor.place cursor.end →
+            EndsWithin low result.place result.end }
         ensures known { IsKnown table.now result.state }
         ensures stood { (t : Tree) (from : ℕ → Bool) → Means t self.now → Enters from false cursor.place (length text.now) →
             Stood self.now table.now text.now t from cursor → Stood self.now table.now text.now t from result }

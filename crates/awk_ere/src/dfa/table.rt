@@ -1,6 +1,7 @@
 // The transition table: the states that are known, and where each byte leads from them.
 
-ghost use Rattle.std.specs.Prelude.{◌≡◌, ℕ, suc, ◌+◌, ◌*◌, ◌<◌, ◌≤◌, length, take, drop, slice_index, slice_set, true, IfSome, IfOk, IfErr, replicate, false, if◌then◌else◌};
+ghost use Rattle.std.specs.Prelude.{◌≡◌, ℕ, suc, ◌+◌, ◌*◌, ◌<◌, ◌≤◌, length, take, drop, slice_index};
+ghost use Rattle.std.specs.Prelude.{slice_set, true, IfSome, IfOk, IfErr, replicate, false, if◌then◌else◌};
 ghost use Rattle.awk_ere.specs.support.Layout.{stride, match_flag, state_bound, fixed_states, least_limit};
 ghost use Rattle.awk_ere.specs.support.SimulationStep.{count_of};
 ghost use Rattle.awk_ere.specs.support.Table.{Grows, positions_at};
@@ -180,8 +181,10 @@ impl Table {
     // Writes an entry.
     pub(crate) fn set(&mut self, entering: bool, at: usize, entry: u32)
         requires { at < length (if entering then self.old.unanchored.items else self.old.anchored.items) }
-        ensures unanchored { self.new.unanchored.items ≡ (if entering then slice_set self.old.unanchored.items at entry else self.old.unanchored.items) }
-        ensures anchored { self.new.anchored.items ≡ (if entering then self.old.anchored.items else slice_set self.old.anchored.items at entry) }
+        ensures unanchored { self.new.unanchored.items
+            ≡ (if entering then slice_set self.old.unanchored.items at entry else self.old.unanchored.items) }
+        ensures anchored { self.new.anchored.items
+            ≡ (if entering then self.old.anchored.items else slice_set self.old.anchored.items at entry) }
         ensures rows { self.new.rows.items ≡ self.old.rows.items }
         ensures count { self.new.count ≡ self.old.count }
         ensures limit { self.new.limit ≡ self.old.limit }
@@ -224,7 +227,8 @@ impl Table {
     // Whether the state with a number has these positions.
     fn has_row(&self, number: usize, positions: &[bool]) -> bool
         requires { number * length positions.now + length positions.now ≤ length self.now.rows.items }
-        ensures { result ≡ true → take (length positions.now) (drop (number * length positions.now) self.now.rows.items) ≡ positions.now }
+        ensures { result ≡ true →
+            take (length positions.now) (drop (number * length positions.now) self.now.rows.items) ≡ positions.now }
     {
         let n = positions.len();
         let at = number * n;
@@ -275,7 +279,8 @@ impl Table {
         requires few { self.old.limit < state_bound }
         requires rows { self.old.limit * length positions.now ≤ length self.old.rows.items }
         ensures known { IfSome result (λ d. (0 < d) × (d < self.new.count)) }
-        ensures positions { IfSome result (λ d. (p : Pattern) → length positions.now ≡ count_of p → positions_at p self.new.rows.items d ≡ positions.now) }
+        ensures positions { IfSome result
+            (λ d. (p : Pattern) → length positions.now ≡ count_of p → positions_at p self.new.rows.items d ≡ positions.now) }
         ensures grows { (p : Pattern) → length positions.now ≡ count_of p → Grows p self.old self.new }
         ensures unanchored { self.new.unanchored.items ≡ self.old.unanchored.items }
         ensures anchored { self.new.anchored.items ≡ self.old.anchored.items }
@@ -293,7 +298,8 @@ impl Table {
         requires few { self.old.limit < state_bound }
         requires rows { self.old.limit * length positions.now ≤ length self.old.rows.items }
         ensures number { result ≡ self.old.count }
-        ensures positions { (p : Pattern) → length positions.now ≡ count_of p → positions_at p self.new.rows.items result ≡ positions.now }
+        ensures positions { (p : Pattern) → length positions.now ≡ count_of p →
+            positions_at p self.new.rows.items result ≡ positions.now }
         ensures grows { (p : Pattern) → length positions.now ≡ count_of p → Grows p self.old self.new }
         ensures count { self.new.count ≡ self.old.count + 1 }
         ensures unanchored { self.new.unanchored.items ≡ self.old.unanchored.items }

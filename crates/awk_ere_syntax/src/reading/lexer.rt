@@ -43,7 +43,8 @@ fn escaped(bytes: &[u8]) -> Option<(Token, &[u8])>
 /// A bracket leaves its class in `set`; what any other token leaves there may be anything.
 pub fn token_at<'a>(bytes: &'a [u8], set: &mut [bool; BYTE_COUNT]) -> Option<(Token, &'a [u8])>
     ensures found { option_map (λ r. (r.0, r.1.now)) result ≡ option_map seen_front (token_at bytes.now) }
-    ensures set { (k : Bracket) (rest : List ℕ) → token_at bytes.now ≡ Some (atom (bracket k), rest) → set.new ≡ class_of (bracket_has k) }
+    ensures set { (k : Bracket) (rest : List ℕ) → token_at bytes.now ≡ Some (atom (bracket k), rest) →
+        set.new ≡ class_of (bracket_has k) }
 {
     match bytes {
         [] => None,
