@@ -1,2 +1,3 @@
 mod PrintsInPlace
 mod Printing
+mod Acting

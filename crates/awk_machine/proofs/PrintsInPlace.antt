@@ -9,14 +9,10 @@ use Rattle.awk_meaning.specs.declared.halt.Halt.TheVariants as halt
 use Rattle.awk_meaning.specs.declared.fault.Fault.TheVariants.{OutOfMemory}
 use Rattle.awk_meaning.specs.State.{ret}
 use Rattle.awk_meaning.specs.Primitives.{print_line}
-use Rattle.awk_meaning.specs.Semantics.{eval, eval_all, print}
+use Rattle.awk_meaning.specs.Semantics.{eval, eval_all}
 use Rattle.awk_interpreter.specs.declared.interpreter.Interpreter.{Interpreter}
 use Rattle.awk_interpreter.specs.Simulation.{Simulates, Changes, Follows}
 use Rattle.awk_interpreter.proofs.Composition.{then_simulates, change_simulates, memory_simulates, then_changes, lift_changes}
-use Rattle.awk_control.specs.Stack.{BeginBlock, Rest, Leads}
-use Rattle.awk_control.proofs.InPlace.{leads_on}
-use Rattle.awk_control.proofs.PrintMoves.{whole_printed, whole_stops}
-use Rattle.awk_control.proofs.StatementMoves.{then_begins, follows}
 use Rattle.awk_machine.specs.support.Printed.{FindsAll, list_printed}
 
 -- the values of a list
@@ -39,11 +35,3 @@ module _ {is_logged : Type 0} (list : t.Exprs) {m m' : Interpreter} {k k' : Worl
 
 pub list_wants : {is_logged : Type 0} (list : t.Exprs) (m : Interpreter) (k : WorldState) → Follows is_logged (list_printed list) m k m k (Err (halt.Fault OutOfMemory))
 list_wants list m k = record { simulates = memory_simulates m k _ }
-
--- a print that stands first
-
-pub print_passes : {is_logged : Type 0} (list : t.Exprs) (rest : t.Statements) {m m' : Interpreter} {k k' : WorldState} → Follows is_logged (print list) m k m' k' (Ok tt) → Leads is_logged (BeginBlock (t.Then (t.Simple (t.Print list)) rest)) [] m k (BeginBlock rest) [] m' k'
-print_passes list rest p = leads_on (then_begins _ rest) (leads_on (whole_printed list p) (follows rest))
-
-pub print_stops_there : {is_logged : Type 0} (list : t.Exprs) (rest : t.Statements) {h : Halt} {m m' : Interpreter} {k k' : WorldState} → Follows is_logged (print list) m k m' k' (Err h) → Rest is_logged (BeginBlock (t.Then (t.Simple (t.Print list)) rest)) [] m k m' k' (Err h)
-print_stops_there list rest p = (then_begins _ rest).leads _ _ _ (whole_stops list p)

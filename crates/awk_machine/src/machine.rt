@@ -3,20 +3,16 @@
 ghost use Rattle.std.specs.Prelude.{◌≡◌, ◌≤◌, Some, slice_get};
 ghost use Rattle.awk_plan.specs.Plan.{operand_of, part_of, statement_in, statements_in, made_statement};
 ghost use Rattle.awk_grammar.specs.Height.{max_height};
-ghost use Rattle.awk_tree.specs.Height.{height_of, height_of_block};
+ghost use Rattle.awk_tree.specs.Height.{height_of};
 ghost use Rattle.awk_tree.specs.Tree.{Do};
-ghost use Rattle.awk_meaning.specs.Semantics.{run_action};
-ghost use Rattle.awk_interpreter.specs.Simulation.{Follows};
 ghost use Rattle.awk_control.specs.Control.{HasRoom};
 ghost use Rattle.awk_control.specs.Entries.{awaited_at};
 ghost use Rattle.awk_control.specs.Stack.{BeginStatement, BeginBlock, Ended, focus_height, depth};
 ghost use Rattle.awk_control.specs.Moves.{Moves, Steps, Walks, Runs, Tests, stack_of, focus_of, topped, flow_of, ran};
 
 use crate::loops::{begin_for, begin_loop, end_loop};
-use crate::prints_in_place::print_first;
 use crate::statements::{begin_block, begin_simple, end_statement};
 use awk_control::entry::{Awaited, Entry, Loop, LoopEntry, State, read_entry};
-use awk_control::in_place::{Reached, advance};
 use awk_control::stack::{Focus, Move, Passed, Stack, Stage};
 use awk_expressions::awaiting::{is_returned_true, spend_for};
 use awk_expressions::expressions::{begin_expr, end_operand};
@@ -211,7 +207,7 @@ fn walk<W: World>(
 }
 
 /// Runs from a place until nothing is left, and answers how that passed on.
-fn run<W: World>(
+pub(crate) fn run<W: World>(
     plan: &Plan,
     focus: Focus,
     stack: &mut Stack,
@@ -253,34 +249,4 @@ pub fn holds<W: World>(
     }
     let passed = run(plan, Focus::Expr(e), stack, interpreter, world)?;
     Ok(is_returned_true(passed, stack))
-}
-
-/// Runs an action, which ends with its statements: in place as far as that goes, prints too, and the rest on the stack. What
-/// was in the stack is gone. (POSIX awk, Actions)
-pub fn run_action<W: World>(
-    plan: &Plan,
-    place: u32,
-    stack: &mut Stack,
-    interpreter: &mut Interpreter,
-    world: &mut W,
-) -> Result<(), Halt>
-    requires low { height_of_block (statements_in (part_of plan.now place)) ≤ max_height }
-    ensures { Follows W.is_logged (run_action (statements_in (part_of plan.now place))) interpreter.old
-        (W.state world.old) interpreter.new (W.state world.new) result }
-{
-    let mut at = place;
-    'prints: loop {
-        match advance(plan, at, interpreter) {
-            Reached::Ended(_) => return Ok(()),
-            Reached::Before(next) => {
-                match print_first(plan, next, &mut stack.line, interpreter, world)? {
-                    Some(rest) => at = rest,
-                    None => {
-                        run(plan, Focus::Block(next), stack, interpreter, world)?;
-                        return Ok(());
-                    }
-                }
-            }
-        }
-    }
 }

@@ -6,13 +6,12 @@ ghost use Rattle.awk_plan.specs.Plan.{part_of, exprs_in};
 ghost use Rattle.awk_tree.specs.Tree.{Nil};
 ghost use Rattle.awk_meaning.specs.Semantics.{print};
 ghost use Rattle.awk_interpreter.specs.Simulation.{Follows};
-ghost use Rattle.awk_machine.specs.support.Printed.{IsList, list_node, FindsAll, PrintsList, PrintsBy, PrintsFirst};
+ghost use Rattle.awk_machine.specs.support.Printed.{IsList, list_node, FindsAll, PrintsList, PrintsBy};
 
-use awk_control::blocks::{block, simple};
 use awk_fast_path::found;
 use awk_interpreter::Interpreter;
 use awk_meaning::Halt;
-use awk_plan::node::{BlockNode, ListNode, Node, SimpleNode};
+use awk_plan::node::{ListNode, Node};
 use awk_plan::plan::Plan;
 use awk_streams::World;
 use awk_value::Value;
@@ -95,8 +94,9 @@ pub(crate) fn print_list<W: World>(
     Ok(false)
 }
 
-/// Executes a print whose values are found in place. Else nothing changes.
-fn execute_print<W: World>(
+/// Executes a print whose values are found in place. Else nothing changes. What stood in the room is gone. (POSIX awk, Output
+/// Statements)
+pub(crate) fn execute_print<W: World>(
     plan: &Plan,
     place: u32,
     values: &mut Vec<Value>,
@@ -122,28 +122,4 @@ fn execute_print<W: World>(
             Ok(false)
         }
     }
-}
-
-/// Executes the first statement of a block, if that is a print whose values are found in place: where the statements behind it
-/// stand. Else nothing changes. What stood in the room is gone. (POSIX awk, Actions)
-pub(crate) fn print_first<W: World>(
-    plan: &Plan,
-    place: u32,
-    values: &mut Vec<Value>,
-    interpreter: &mut Interpreter,
-    world: &mut W,
-) -> Result<Option<u32>, Halt>
-    ensures { PrintsFirst W.is_logged plan.now place interpreter.old (W.state world.old) result interpreter.new
-        (W.state world.new) }
-{
-    let BlockNode::Then(statement, rest) = block(plan, place) else {
-        return Ok(None);
-    };
-    let Some(SimpleNode::Print(list)) = simple(plan, statement) else {
-        return Ok(None);
-    };
-    if execute_print(plan, list, values, interpreter, world)? {
-        return Ok(Some(rest));
-    }
-    Ok(None)
 }

@@ -1,5 +1,5 @@
 -- What is printed in place.
-use Rattle.std.specs.Prelude.{◌≡◌, ℕ, suc, ◌<◌, List, [], ◌++◌, Bool, true, false, Option, None, Some, Result, Ok, Err}
+use Rattle.std.specs.Prelude.{◌≡◌, ℕ, suc, List, [], ◌++◌, Bool, true, false, Option, Some, Result, Ok, Err}
 use Rattle.awk_value.specs.declared.value.Value.{Value}
 use Rattle.awk_streams.specs.WorldState.{WorldState}
 use Rattle.awk_tree.specs.Tree.{Exprs, Nil, Cons}
@@ -7,14 +7,13 @@ use Rattle.awk_plan.specs.declared.node.ListNode.{ListNode}
 use Rattle.awk_plan.specs.declared.node.ListNode.TheVariants as lists
 use Rattle.awk_plan.specs.declared.node.Node.{Node}
 use Rattle.awk_plan.specs.declared.node.Node.TheVariants as n
-use Rattle.awk_plan.specs.Plan.{Program, part_of, exprs_in, statements_in, made_list}
+use Rattle.awk_plan.specs.Plan.{Program, part_of, exprs_in, made_list}
 use Rattle.awk_meaning.specs.declared.halt.Halt.{Halt}
 use Rattle.awk_meaning.specs.State.{Run, ◌>>=◌}
 use Rattle.awk_meaning.specs.Primitives.{print_line}
 use Rattle.awk_meaning.specs.Semantics.{eval_all, print}
 use Rattle.awk_interpreter.specs.declared.interpreter.Interpreter.{Interpreter}
 use Rattle.awk_interpreter.specs.Simulation.{Changes, Follows}
-use Rattle.awk_control.specs.Stack.{BeginBlock, Rest, Leads}
 
 -- the list that a node is; another node is none
 abbrev pub list_node : Option Node → ListNode
@@ -45,24 +44,8 @@ PrintsList is_logged list m k (Ok true) m' k' = Follows is_logged (list_printed 
 PrintsList is_logged list m k (Ok false) m' k' = (m' ≡ m) × (k' ≡ k)
 PrintsList is_logged list m k (Err h) m' k' = Follows is_logged (list_printed list) m k m' k' (Err h)
 
--- a print is executed, and spends its step
-pub record Prints (is_logged : Type 0) (list : Exprs) (m : Interpreter) (k : WorldState) (m' : Interpreter) (k' : WorldState) : Type 0 where
-  pub follows : Follows is_logged (print list) m k m' k' (Ok tt)
-  pub falls : m'.steps < m.steps
-
 -- a print is executed, or some value isn't found, and nothing changes
 abbrev pub PrintsBy : Type 0 → Exprs → Interpreter → WorldState → Result Bool Halt → Interpreter → WorldState → Type 0
-PrintsBy is_logged list m k (Ok true) m' k' = Prints is_logged list m k m' k'
+PrintsBy is_logged list m k (Ok true) m' k' = Follows is_logged (print list) m k m' k' (Ok tt)
 PrintsBy is_logged list m k (Ok false) m' k' = (m' ≡ m) × (k' ≡ k)
 PrintsBy is_logged list m k (Err h) m' k' = Follows is_logged (print list) m k m' k' (Err h)
-
--- statements lead to others, and spend a step
-pub record Passes (is_logged : Type 0) (plan : Program) (from to : ℕ) (m : Interpreter) (k : WorldState) (m' : Interpreter) (k' : WorldState) : Type 0 where
-  pub leads : Leads is_logged (BeginBlock (statements_in (part_of plan from))) [] m k (BeginBlock (statements_in (part_of plan to))) [] m' k'
-  pub falls : m'.steps < m.steps
-
--- the first of some statements is executed, which is a print, or nothing changes
-abbrev pub PrintsFirst : Type 0 → Program → (place : ℕ) → Interpreter → WorldState → Result (Option ℕ) Halt → Interpreter → WorldState → Type 0
-PrintsFirst is_logged plan place m k (Ok (Some rest)) m' k' = Passes is_logged plan place rest m k m' k'
-PrintsFirst is_logged plan place m k (Ok None) m' k' = (m' ≡ m) × (k' ≡ k)
-PrintsFirst is_logged plan place m k (Err h) m' k' = Rest is_logged (BeginBlock (statements_in (part_of plan place))) [] m k m' k' (Err h)

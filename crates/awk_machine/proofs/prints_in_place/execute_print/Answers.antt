@@ -1,4 +1,3 @@
-use Rattle.std.proofs.Common.{arith}
 use Rattle.std.proofs.lemmas.Result.{err_from_is_err_and}
 use Rattle.awk_control.proofs.PrintMoves.{list_follows}
 use Rattle.awk_machine.proofs.prints_in_place.execute_print.Goals as goal
@@ -10,8 +9,5 @@ returns-in_err-print_list-in-Cons g c =
 
 pub returns-then-branch : goal.returns-then-branch
 returns-then-branch g c =
-    let s = c.take_step.ensures.spends c.if-take_step.true in
     let q = rw c.if-branch.true at c.in_ok-print_list-in-Cons.ensures in
-    let low = s.falls in
-    let less = q.simulates.steps in
-    rw (c.list.ensures.list, c.in-Cons.is) (record { follows = list_follows _ _ s (rw (c.list.ensures.list, c.in-Cons.is) at q); falls = omega (arith, low, less) })
+    rw (c.list.ensures.list, c.in-Cons.is) (list_follows _ _ (c.take_step.ensures.spends c.if-take_step.true) (rw (c.list.ensures.list, c.in-Cons.is) at q))

@@ -1,15 +1,14 @@
 use Rattle.std.proofs.lemmas.Result.{err_from_is_err_and}
-use Rattle.awk_machine.proofs.PrintsInPlace.{print_passes, print_stops_there}
-use Rattle.awk_machine.proofs.prints_in_place.print_first.Goals as goal
+use Rattle.awk_machine.proofs.Acting.{printed, print_halted}
+use Rattle.awk_machine.proofs.actions.print_or_run.Goals as goal
 
 pub returns-in_err-execute_print : goal.returns-in_err-execute_print
 returns-in_err-execute_print g c =
     let p = err_from_is_err_and c.from_residual.result c.from_residual.ensures.1 in
     let s = rw c.in-Some-Print.field-0-is at c.in-Some-Print.ensures.0 in
-    rw (p.1, p.2, c.block.ensures.statements, c.in-Then.is, s) (print_stops_there _ _ c.in_err-execute_print.ensures)
+    rw (p.1, p.2, s) (print_halted _ c.in_err-execute_print.ensures)
 
 pub returns-then-branch : goal.returns-then-branch
 returns-then-branch g c =
     let s = rw c.in-Some-Print.field-0-is at c.in-Some-Print.ensures.0 in
-    let q = rw c.if-branch.true at c.in_ok-execute_print.ensures in
-    record { leads = rw (c.block.ensures.statements, c.in-Then.is, s) (print_passes _ _ q.follows); falls = q.falls }
+    rw s (printed _ (rw c.if-branch.true at c.in_ok-execute_print.ensures))
