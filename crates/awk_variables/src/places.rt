@@ -68,10 +68,13 @@ impl Variables {
         self.set_other(name, Value::Nothing)
     }
 
-    /// The value that stands at a place behind the special variables, if it is this name's.
+    /// The value that stands at a place, if it is this name's.
     pub fn at(&self, number: u32, name: &[u8]) -> Option<&Value>
         ensures { IfSome result (λ value. value.now ≡ value_of self.now name.now) }
     {
+        if let Some(special) = Special::numbered(number, name) {
+            return Some(self.special(special));
+        }
         let (_, value) = place(&self.others, number, name)?;
         Some(value)
     }
