@@ -1,5 +1,5 @@
 -- What evaluation gives where numbers are found in place.
-use Rattle.std.proofs.Common.{◌≡◌, ℤ, pos, Bool, true, false, List, ℕ, Option, Some, None, Result, Ok, Err, refl, sym, ap, ◌∙◌, subst, arith, to_z}
+use Rattle.std.proofs.Common.{◌≡◌, ℤ, pos, Ordering, Bool, true, false, List, ℕ, Option, Some, None, Result, Ok, Err, refl, sym, ap, ◌∙◌, subst, arith, to_z}
 use Rattle.std.specs.Prelude.{IfSome, OnSome}
 use Rattle.std.specs.Result.{result_ok}
 use Rattle.std.proofs.lemmas.Int.{ints}
@@ -9,7 +9,7 @@ use Rattle.awk_value.specs.declared.fault.ValueFault.{ValueFault}
 use Rattle.std.specs.Option.{option_map}
 use Rattle.awk_value.specs.declared.value.Value.{Value}
 use Rattle.awk_value.specs.declared.value.Value.TheVariants.{Number}
-use Rattle.awk_value.specs.Values.{truth_of, number_value}
+use Rattle.awk_value.specs.Values.{truth_of, number_value, order_of}
 use Rattle.awk_meaning.specs.Faults.{of_values}
 use Rattle.awk_lex.specs.declared.token.IncrementOperator.{IncrementOperator}
 use Rattle.awk_tree.specs.Tree as t
@@ -92,10 +92,22 @@ joined_finds o a b x y (Some n) {m = m} same p other is plain =
     joined_by o a b p.value q.value n plain p.changes q.changes (applied_alike o p.value q.value plain p.counts q.counts is)
 joined_finds o a b x y None same p q is plain = tt
 
-pub compared_tests : (o : BinaryOperator) (a b : t.Expr) (x y : ℤ) (r : Option Bool) {m mid : Interpreter} → mid ≡ m → HasNumber (eval a) m x → HasNumber (eval b) mid y → IfSome r (λ c. applied o (Number x) (Number y) ≡ Ok (truth_value c)) → OnSome r (takes_pattern o ≡ false) → IfSome r (λ c. Tests (t.Binary o a b) m c)
-compared_tests o a b x y (Some true) same p q is plain = record { value = Number (pos 1); changes = joined_finds o a b x y (Some (pos 1)) same p q is plain; truth = refl }
-compared_tests o a b x y (Some false) same p q is plain = record { value = Number (pos 0); changes = joined_finds o a b x y (Some (pos 0)) same p q is plain; truth = refl }
-compared_tests o a b x y None same p q is plain = tt
+-- a comparison, by the order of two values
+abbrev pub Related : BinaryOperator → Ordering → Option Bool → Type 0
+Related o order r = IfSome r (λ c. (x y : Value) → order_of x y ≡ order → applied o x y ≡ Ok (truth_value c))
+
+pub same_order : {o p : Ordering} → Some o ≡ Some p → o ≡ p
+same_order e = cc
+
+pub compared_tests : (o : BinaryOperator) (a b : t.Expr) (x y : ℤ) (order : Ordering) (r : Option Bool) {m mid : Interpreter} → mid ≡ m → HasNumber (eval a) mid x → HasNumber (eval b) m y → order_of (Number x) (Number y) ≡ order → Related o order r → OnSome r (takes_pattern o ≡ false) → IfSome r (λ c. Tests (t.Binary o a b) m c)
+compared_tests o a b x y order (Some true) {m = m} same p q e is plain = record { value = Number (pos 1); changes = joined_finds o a b x y (Some (pos 1)) {m = m} {mid = m} refl (subst (λ i. HasNumber (eval a) i x) same p) q (is _ _ e) plain; truth = refl }
+compared_tests o a b x y order (Some false) {m = m} same p q e is plain = record { value = Number (pos 0); changes = joined_finds o a b x y (Some (pos 0)) {m = m} {mid = m} refl (subst (λ i. HasNumber (eval a) i x) same p) q (is _ _ e) plain; truth = refl }
+compared_tests o a b x y order None same p q e is plain = tt
+
+pub values_compare : (o : BinaryOperator) (a b : t.Expr) (x y : Value) (order : Ordering) (r : Option Bool) {m mid : Interpreter} → mid ≡ m → Changes (eval a) m m (Ok x) → Changes (eval b) mid mid (Ok y) → order_of x y ≡ order → Related o order r → OnSome r (takes_pattern o ≡ false) → IfSome r (λ c. Tests (t.Binary o a b) m c)
+values_compare o a b x y order (Some true) same p q e is plain = record { value = Number (pos 1); changes = joined_by o a b x y (pos 1) plain p (subst (λ i. Changes (eval b) i i (Ok y)) same q) (is _ _ e); truth = refl }
+values_compare o a b x y order (Some false) same p q e is plain = record { value = Number (pos 0); changes = joined_by o a b x y (pos 0) plain p (subst (λ i. Changes (eval b) i i (Ok y)) same q) (is _ _ e); truth = refl }
+values_compare o a b x y order None same p q e is plain = tt
 
 changed_by : (o : UnaryOperator) (e : t.Expr) (v : Value) (n : ℤ) (m : Interpreter) → Changes (eval e) m m (Ok v) → changed o v ≡ Ok (Number n) → Changes (eval (t.Unary o e)) m m (Ok (Number n))
 unfolding eval

@@ -1,12 +1,13 @@
-//! What is evaluated in place, without a stack: arithmetic on the numbers as which constants, variables and fields count, and
-//! concatenations, written into one buffer. It takes operands five deep, each depth by a function of its own, so that none
+//! What is evaluated in place, without a stack: arithmetic on the numbers as which constants, variables and fields count,
+//! comparisons, of texts too, and concatenations, written into one buffer. It takes operands five deep, each depth by a function of its own, so that none
 //! calls itself; a fault is left to the evaluator.
 #![tactic(auto)]
 
+mod conditions;
 mod numbers;
 mod statements;
 mod texts;
 
-pub use numbers::test;
+pub use conditions::test;
 pub use statements::{Ran, execute};
 pub use texts::found;

@@ -2,7 +2,7 @@
 
 ghost use Rattle.std.specs.Prelude.{◌≡◌, codes, false, IfSome, OnSome, Ok};
 ghost use Rattle.std.specs.Option.{option_map};
-ghost use Rattle.awk_value.specs.Values.{truth_of};
+ghost use Rattle.awk_value.specs.Values.{truth_of, order_of};
 ghost use Rattle.awk_value.specs.declared.value.Value.TheVariants.{Number};
 ghost use Rattle.awk_tree.specs.Tree.{And, Or, Conditional, Binary, Field, Name};
 ghost use Rattle.awk_meaning.specs.Operators.{applied, takes_pattern, truth_value};
@@ -160,7 +160,11 @@ pub(crate) fn operand<D: Depth>(
 
 /// The number as which the value of an operand counts, if it is found so deep.
 #[inline(always)]
-fn counted<D: Depth>(plan: &Plan, e: Operand, interpreter: &mut Interpreter) -> Option<i128>
+pub(crate) fn counted<D: Depth>(
+    plan: &Plan,
+    e: Operand,
+    interpreter: &mut Interpreter,
+) -> Option<i128>
     ensures found { Counts (operand_of plan.now e) interpreter.old result }
     ensures kept { interpreter.new ≡ interpreter.old }
 {
@@ -260,7 +264,11 @@ fn is_nonzero(n: Option<i128>) -> Option<bool>
 }
 
 /// Whether an expression is true, if that is found so deep.
-fn tested<D: Depth>(plan: &Plan, e: Operand, interpreter: &mut Interpreter) -> Option<bool>
+pub(crate) fn tested<D: Depth>(
+    plan: &Plan,
+    e: Operand,
+    interpreter: &mut Interpreter,
+) -> Option<bool>
     ensures found { IfSome result (λ b. Tests (operand_of plan.now e) interpreter.old b) }
     ensures kept { interpreter.new ≡ interpreter.old }
 {
@@ -331,12 +339,11 @@ fn chosen<D: Depth>(
     }
 }
 
-/// Whether a comparison of two numbers is true. `None` for an operator that doesn't compare.
-fn compare(operator: BinaryOperator, x: i128, y: i128) -> Option<bool>
-    ensures applied { IfSome result (λ b. applied operator (Number x) (Number y) ≡ Ok (truth_value b)) }
+/// Whether values in this order are so related. `None` for an operator that doesn't compare.
+pub(crate) fn related(operator: BinaryOperator, order: Ordering) -> Option<bool>
+    ensures related { IfSome result (λ b. (x y : Value) → order_of x y ≡ order → applied operator x y ≡ Ok (truth_value b)) }
     ensures plain { OnSome result (takes_pattern operator ≡ false) }
 {
-    let order = x.cmp(&y);
     match operator {
         BinaryOperator::Less => Some(order == Ordering::Less),
         BinaryOperator::LessEqual => Some(order != Ordering::Greater),
@@ -348,8 +355,9 @@ fn compare(operator: BinaryOperator, x: i128, y: i128) -> Option<bool>
     }
 }
 
-/// Whether a comparison of two operands is true, if both count as numbers that are found so deep.
-fn compared<D: Depth>(
+/// Whether a comparison of two operands is true, if both count as numbers that are found so deep. The right one, which is a text
+/// of the program often, is looked for first.
+pub(crate) fn compared<D: Depth>(
     plan: &Plan,
     operator: BinaryOperator,
     a: Operand,
@@ -360,13 +368,13 @@ fn compared<D: Depth>(
         interpreter.old c) }
     ensures kept { interpreter.new ≡ interpreter.old }
 {
-    let x = counted::<D>(plan, a, interpreter)?;
     let y = counted::<D>(plan, b, interpreter)?;
-    compare(operator, x, y)
+    let x = counted::<D>(plan, a, interpreter)?;
+    related(operator, x.cmp(&y))
 }
 
 /// The operator and the operands of a comparison.
-fn comparison(plan: &Plan, e: Operand) -> Option<(BinaryOperator, Operand, Operand)>
+pub(crate) fn comparison(plan: &Plan, e: Operand) -> Option<(BinaryOperator, Operand, Operand)>
     ensures { IfSome result (λ r. operand_of plan.now e ≡ Binary r.0 (operand_of plan.now r.1) (operand_of plan.now r.2)) }
 {
     let Operand::Node(place) = e else {
@@ -386,28 +394,8 @@ fn comparison(plan: &Plan, e: Operand) -> Option<(BinaryOperator, Operand, Opera
     }
 }
 
-type Operands = Over<Over<Over<Over<Leaf>>>>;
+/// So deep the operands of a comparison are looked for.
+pub(crate) type Operands = Over<Over<Over<Over<Leaf>>>>;
 
 /// So deep is looked: five operators, groups and fields among them.
 pub(crate) type Deepest = Over<Operands>;
-
-/// The number as which the value of an expression counts.
-#[inline(always)]
-pub(crate) fn counted_number(plan: &Plan, e: Operand, interpreter: &mut Interpreter) -> Option<i128>
-    ensures found { Counts (operand_of plan.now e) interpreter.old result }
-    ensures kept { interpreter.new ≡ interpreter.old }
-{
-    counted::<Deepest>(plan, e, interpreter)
-}
-
-/// Whether an expression is true, where its value counts as a number that is found in place. Else `None`. Nothing changes.
-/// (POSIX awk, Expressions in awk)
-pub fn test(plan: &Plan, e: Operand, interpreter: &mut Interpreter) -> Option<bool>
-    ensures found { IfSome result (λ b. Tests (operand_of plan.now e) interpreter.old b) }
-    ensures kept { interpreter.new ≡ interpreter.old }
-{
-    match comparison(plan, e) {
-        Some((operator, a, b)) => compared::<Operands>(plan, operator, a, b, interpreter),
-        None => tested::<Deepest>(plan, e, interpreter),
-    }
-}

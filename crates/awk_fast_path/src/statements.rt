@@ -8,7 +8,8 @@ ghost use Rattle.awk_meaning.specs.Semantics.{exec};
 ghost use Rattle.awk_fast_path.specs.support.Found.{Evaluates};
 ghost use Rattle.awk_fast_path.specs.support.Executed.{Executes, RunsBy, IsIf, behind_simple, behind_if, branch_of, given_back};
 
-use crate::numbers::{Deepest, counted_number, joined_numbers, name, named_number, operand, test};
+use crate::conditions::test;
+use crate::numbers::{Deepest, counted, joined_numbers, name, named_number, operand};
 use crate::texts::assign_value;
 use awk_interpreter::Interpreter;
 use awk_lex::token::IncrementOperator;
@@ -58,7 +59,7 @@ fn assign_by(
     let Some(name) = name(plan, x) else {
         return false;
     };
-    let Some(n) = counted_number(plan, e, interpreter) else {
+    let Some(n) = counted::<Deepest>(plan, e, interpreter) else {
         return false;
     };
     let Some(old) = named_number(x, name, interpreter) else {

@@ -10,7 +10,7 @@ ghost use Rattle.awk_interpreter.specs.Simulation.{Changes};
 ghost use Rattle.awk_fast_path.specs.support.Found.{Evaluates};
 ghost use Rattle.awk_fast_path.specs.support.Written.{Writes, Continues, IsTail};
 
-use crate::numbers::{Deepest as Depths, Depth, Leaf, Over, counted_number, expression, name};
+use crate::numbers::{Deepest as Depths, Depth, Leaf, Over, counted, expression, name};
 use awk_interpreter::Interpreter;
 use awk_plan::node::{ExprNode, Operand};
 use awk_plan::plan::Plan;
@@ -59,7 +59,7 @@ fn field(plan: &Plan, e: Operand, interpreter: &mut Interpreter) -> Option<Value
     ensures found { IfSome result (λ v. Changes (eval (Field (operand_of plan.now e))) interpreter.old interpreter.old (Ok v)) }
     ensures kept { interpreter.new ≡ interpreter.old }
 {
-    let number = counted_number(plan, e, interpreter)?;
+    let number = counted::<Depths>(plan, e, interpreter)?;
     interpreter.field_at(&Value::Number(number)).ok()
 }
 
