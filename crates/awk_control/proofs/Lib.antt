@@ -10,5 +10,4 @@ pub mod KeptValues
 pub mod Walking
 pub mod InPlace
 pub mod Reaching
-pub mod ActionsInPlace
 pub mod Depth

@@ -278,9 +278,73 @@ $ 1 / x, 1
 = 2
 "#;
 
+const ACTIONS: &str = r#"
+the condition of an if is tested once, and the action goes on with the statement that it chooses
+$ { if (NR == 1) print "first"; else if ($1 == "b") print "second", $2; else if ($2 ~ /^3/) { print "third"; n++ } else print "other"; print n + 0 }
+< a 1
+< b 2
+< c 3
+< d 4
+> first
+> 0
+> second 2
+> 0
+> third
+> 1
+> other
+> 1
+= 0
+$ { if ($1 == "a") next; else if ($1 == "c") exit 4; print } END { print "end" }
+< a
+< b
+< c
+< d
+> b
+> end
+= 4
+$ BEGIN { for (;;) { if (i++ == 2) break; else if (i == 1) continue; print i } if (i != 3) ; else if (j) print "no"; print i }
+> 2
+> 3
+= 0
+$ BEGIN { if (i++) print "no"; else print i; if (s = "x") if (s > "w") print s }
+> 1
+> x
+= 0
+$ -L1
+$ BEGIN { if (1) print 1 }
+! awk: stopped: step limit reached
+= 3
+$ -L2
+$ BEGIN { if (1) print 1 }
+> 1
+= 0
+$ BEGIN { if (1 / 0) print 1 }
+! awk: fault 4: division by zero
+= 2
+texts are compared in place, special variables too
+$ NR == 2; $1 < "b" { print "low", $1 } "b" <= $1 { print "high", $1 } $2 { print "told" }
+< a x
+< b
+< 9 10
+> low a
+> told
+> b
+> high b
+> low 9
+> told
+= 0
+$ BEGIN { FS = ":" } FNR > 1 && FS == ":" { print NR, FNR, $2 == "x", $2 >= $1 }
+< a:b
+< 10:9
+< y:x
+> 2 2 0 0
+> 3 3 1 0
+= 0
+"#;
+
 #[test]
 fn control(rt: HostRuntime) -> Result<(), Fail> {
-    for table in [LOOPS, ENDS, RANGES] {
+    for table in [LOOPS, ENDS, RANGES, ACTIONS] {
         expect_rows(&rt, rt.alloc(), table)?;
     }
     Ok(())
