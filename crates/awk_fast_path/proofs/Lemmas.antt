@@ -1,5 +1,5 @@
 -- What evaluation gives where numbers are found in place.
-use Rattle.std.proofs.Common.{◌≡◌, ℤ, pos, Ordering, Bool, true, false, List, ℕ, Option, Some, None, Result, Ok, Err, refl, sym, ap, ◌∙◌, subst, arith, to_z}
+use Rattle.std.proofs.Common.{◌≡◌, ℤ, pos, Ordering, Bool, true, false, not, List, ℕ, Option, Some, None, Result, Ok, Err, refl, sym, ap, ◌∙◌, subst, arith, to_z}
 use Rattle.std.specs.Prelude.{IfSome, OnSome}
 use Rattle.std.specs.Result.{result_ok}
 use Rattle.std.proofs.lemmas.Int.{ints}
@@ -15,7 +15,7 @@ use Rattle.awk_lex.specs.declared.token.IncrementOperator.{IncrementOperator}
 use Rattle.awk_tree.specs.Tree as t
 use Rattle.awk_tree.specs.declared.tree.BinaryOperator.{BinaryOperator}
 use Rattle.awk_tree.specs.declared.tree.UnaryOperator.{UnaryOperator}
-use Rattle.awk_tree.specs.declared.tree.UnaryOperator.TheVariants.{Plus}
+use Rattle.awk_tree.specs.declared.tree.UnaryOperator.TheVariants.{Plus, Not}
 use Rattle.awk_plan.specs.Plan.{literal_of}
 use Rattle.awk_meaning.specs.declared.halt.Halt.{Halt}
 use Rattle.awk_meaning.specs.Operators.{applied, changed, truth_value, by_one, one, takes_pattern}
@@ -202,6 +202,38 @@ module _ (a b : t.Expr) {m : Interpreter} where
   pub or_false : {x : Bool} → Tests a m false → Tests b m x → Changes (eval (t.Or a b)) m m (Ok (truth_value x))
   unfolding eval
   or_false {x = x} p q = then_changes _ (tests_tested a p) (then_changes _ (tests_tested b q) (lift_changes (Ok (truth_value x)) m refl))
+
+-- a condition that gives a truth
+truth_tests : (e : t.Expr) (x : Bool) {m : Interpreter} → Changes (eval e) m m (Ok (truth_value x)) → Tests e m x
+truth_tests e true p = record { value = truth_value true; changes = p; truth = refl }
+truth_tests e false p = record { value = truth_value false; changes = p; truth = refl }
+
+module _ (a b : t.Expr) {m mid : Interpreter} (same : mid ≡ m) where
+  pub and_tests : (r : Option Bool) → Tests a m true → IfSome r (λ x. Tests b mid x) → IfSome r (λ x. Tests (t.And a b) m x)
+  and_tests (Some x) p q = truth_tests _ x (and_true a b p (subst (λ i. Tests b i x) same q))
+  and_tests None p q = tt
+
+  pub or_tests : (r : Option Bool) → Tests a m false → IfSome r (λ x. Tests b mid x) → IfSome r (λ x. Tests (t.Or a b) m x)
+  or_tests (Some x) p q = truth_tests _ x (or_false a b p (subst (λ i. Tests b i x) same q))
+  or_tests None p q = tt
+
+pub and_fails : (a b : t.Expr) {m : Interpreter} → Tests a m false → Tests (t.And a b) m false
+and_fails a b p = truth_tests _ false (and_false a b p)
+
+pub or_holds : (a b : t.Expr) {m : Interpreter} → Tests a m true → Tests (t.Or a b) m true
+or_holds a b p = truth_tests _ true (or_true a b p)
+
+not_by : (e : t.Expr) (v : Value) {m : Interpreter} → Changes (eval e) m m (Ok v) → Changes (eval (t.Unary Not e)) m m (Ok (truth_value (not (truth_of v))))
+unfolding eval
+not_by e v {m = m} p = then_changes _ p (lift_changes (Ok (truth_value (not (truth_of v)))) m refl)
+
+pub not_tests : (e : t.Expr) (b : Bool) {m : Interpreter} → Tests e m b → Tests (t.Unary Not e) m (not b)
+not_tests e b {m} p = truth_tests _ (not b) (subst (λ x. Changes (eval (t.Unary Not e)) m m (Ok (truth_value (not x)))) p.truth (not_by e p.value p.changes))
+
+pub group_tests : (e : t.Expr) (r : Option Bool) (m : Interpreter) → IfSome r (λ x. Tests e m x) → IfSome r (λ x. Tests (t.Group e) m x)
+unfolding eval
+group_tests e (Some x) m p = record { value = p.value; changes = p.changes; truth = p.truth }
+group_tests e None m p = tt
 
 same_truth : {v w : Value} → Some v ≡ Some w → v ≡ w
 same_truth e = cc

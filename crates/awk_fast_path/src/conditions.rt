@@ -1,20 +1,22 @@
-// Conditions that are tested in place.
+// Conditions that are tested in place: comparisons, what counts as a number or has a text, and `&&`, `||` and `!` over these.
 
 ghost use Rattle.std.specs.Prelude.{◌≡◌, IfSome};
 ghost use Rattle.awk_tree.specs.Tree.{Binary};
 ghost use Rattle.awk_plan.specs.Plan.{operand_of};
 ghost use Rattle.awk_fast_path.specs.support.Found.{Tests};
 
-use crate::numbers::{Deepest, Operands, compared, comparison, related, tested};
+use crate::numbers::{
+    Deepest, Leaf, Operands, Over, compared, comparison, expression, related, tested,
+};
 use crate::texts::found;
 use awk_interpreter::Interpreter;
-use awk_plan::node::Operand;
+use awk_plan::node::{ExprNode, Operand};
 use awk_plan::plan::Plan;
-use awk_tree::tree::BinaryOperator;
+use awk_tree::tree::{BinaryOperator, UnaryOperator};
 use awk_value::{compare, is_true};
 
-/// Whether a comparison of two operands is true, if their values are found in place.
-fn compared_values(
+/// Whether a comparison of two operands is true, if they are found in place: their numbers first, and else their values.
+fn compare_operands(
     plan: &Plan,
     operator: BinaryOperator,
     a: Operand,
@@ -25,28 +27,71 @@ fn compared_values(
         interpreter.old c) }
     ensures kept { interpreter.new ≡ interpreter.old }
 {
+    if let Some(holds) = compared::<Operands>(plan, operator, a, b, interpreter) {
+        return Some(holds);
+    }
     let x = found(plan, a, interpreter)?;
     let y = found(plan, b, interpreter)?;
     related(operator, compare(&x, &y).ok()?)
 }
 
-/// Whether an expression is true: a comparison of what is found in place, another expression that counts as a number there, or
-/// one whose value is found. Else `None`. Nothing changes. (POSIX awk, Expressions in awk)
+/// How deep conditions are looked into. Each depth is a type of its own, so that no function calls itself.
+trait Conditions {
+    /// Whether an expression is true, if that is found so deep. Nothing changes.
+    fn holds(plan: &Plan, e: Operand, interpreter: &mut Interpreter) -> Option<bool>
+        ensures found { IfSome result (λ b. Tests (operand_of plan.now e) interpreter.old b) }
+        ensures kept { interpreter.new ≡ interpreter.old };
+}
+
+impl Conditions for Leaf {
+    fn holds(plan: &Plan, e: Operand, interpreter: &mut Interpreter) -> Option<bool> {
+        if let Some((operator, a, b)) = comparison(plan, e) {
+            return compare_operands(plan, operator, a, b, interpreter);
+        }
+        if let Some(holds) = tested::<Deepest>(plan, e, interpreter) {
+            return Some(holds);
+        }
+        let value = found(plan, e, interpreter)?;
+        Some(is_true(&value))
+    }
+}
+
+impl<D: Conditions> Conditions for Over<D> {
+    fn holds(plan: &Plan, e: Operand, interpreter: &mut Interpreter) -> Option<bool> {
+        let Operand::Node(place) = e else {
+            return Leaf::holds(plan, e, interpreter);
+        };
+        match expression(plan, place) {
+            Some(ExprNode::And(a, b)) => match D::holds(plan, a, interpreter) {
+                Some(true) => D::holds(plan, b, interpreter),
+                Some(false) => Some(false),
+                None => None,
+            },
+            Some(ExprNode::Or(a, b)) => match D::holds(plan, a, interpreter) {
+                Some(true) => Some(true),
+                Some(false) => D::holds(plan, b, interpreter),
+                None => None,
+            },
+            Some(ExprNode::Unary(UnaryOperator::Not, a)) => match D::holds(plan, a, interpreter) {
+                Some(holds) => Some(!holds),
+                None => None,
+            },
+            Some(ExprNode::Group(a)) => D::holds(plan, a, interpreter),
+            _ => Leaf::holds(plan, e, interpreter),
+        }
+    }
+}
+
+/// So deep is looked: four of `&&`, `||`, `!` and groups.
+type DeepestCondition = Over<Over<Over<Over<Leaf>>>>;
+
+/// Whether an expression is true, if that is found in place. Nothing changes. (POSIX awk, Expressions in awk)
 pub fn test(plan: &Plan, e: Operand, interpreter: &mut Interpreter) -> Option<bool>
     ensures found { IfSome result (λ b. Tests (operand_of plan.now e) interpreter.old b) }
     ensures kept { interpreter.new ≡ interpreter.old }
 {
-    if let Some((operator, a, b)) = comparison(plan, e) {
-        return match compared::<Operands>(plan, operator, a, b, interpreter) {
-            Some(holds) => Some(holds),
-            None => compared_values(plan, operator, a, b, interpreter),
-        };
-    }
-    match tested::<Deepest>(plan, e, interpreter) {
-        Some(holds) => Some(holds),
-        None => {
-            let value = found(plan, e, interpreter)?;
-            Some(is_true(&value))
-        }
+    match comparison(plan, e) {
+        Some((operator, a, b)) => compare_operands(plan, operator, a, b, interpreter),
+        None => DeepestCondition::holds(plan, e, interpreter),
     }
 }

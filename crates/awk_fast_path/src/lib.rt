@@ -1,6 +1,6 @@
 //! What is evaluated in place, without a stack: arithmetic on the numbers as which constants, variables and fields count,
-//! comparisons, of texts too, and concatenations, written into one buffer. It takes operands five deep, each depth by a function of its own, so that none
-//! calls itself; a fault is left to the evaluator.
+//! comparisons, of texts too, `&&`, `||` and `!` over these, and concatenations, written into one buffer. It takes operands
+//! five deep, each depth by a function of its own, so that none calls itself; a fault is left to the evaluator.
 #![tactic(auto)]
 
 mod conditions;

@@ -213,14 +213,6 @@ impl<D: Depth> Depth for Over<D> {
     }
 }
 
-/// Whether an operator makes a text, or matches one.
-fn is_of_texts(operator: BinaryOperator) -> bool {
-    matches!(
-        operator,
-        BinaryOperator::Concatenate | BinaryOperator::Matches | BinaryOperator::NotMatches
-    )
-}
-
 /// The number that an operator makes of two numbers. Sums and differences, which are the most frequent, take no call.
 #[inline(always)]
 pub(crate) fn joined_numbers(operator: BinaryOperator, x: i128, y: i128) -> Option<i128>
@@ -245,7 +237,10 @@ fn joined<D: Depth>(
     ensures found { Finds (Binary operator (operand_of plan.now a) (operand_of plan.now b)) interpreter.old result }
     ensures kept { interpreter.new ≡ interpreter.old }
 {
-    if is_of_texts(operator) {
+    if matches!(
+        operator,
+        BinaryOperator::Concatenate | BinaryOperator::Matches | BinaryOperator::NotMatches
+    ) {
         return None;
     }
     let x = counted::<D>(plan, a, interpreter)?;
@@ -355,8 +350,8 @@ pub(crate) fn related(operator: BinaryOperator, order: Ordering) -> Option<bool>
     }
 }
 
-/// Whether a comparison of two operands is true, if both count as numbers that are found so deep. The right one, which is a text
-/// of the program often, is looked for first.
+/// Whether a comparison of two operands is true, if both count as numbers that are found so deep. The right one, which often is
+/// a text of the program, is looked for first.
 pub(crate) fn compared<D: Depth>(
     plan: &Plan,
     operator: BinaryOperator,

@@ -2,7 +2,7 @@
 
 ghost use Rattle.std.specs.Prelude.{◌≡◌, true, false, Some};
 ghost use Rattle.awk_tree.specs.Tree.{Assign, AssignBy, PreIncrement, PostIncrement, Simple};
-ghost use Rattle.awk_plan.specs.Plan.{operand_of, part_of, name_at, made_assignment, made_simple, made_statement, statement_in};
+ghost use Rattle.awk_plan.specs.Plan.{operand_of, part_of, name_at, made_assignment, made_simple, statement_in};
 ghost use Rattle.awk_meaning.specs.Operators.{by_one};
 ghost use Rattle.awk_meaning.specs.Semantics.{exec};
 ghost use Rattle.awk_fast_path.specs.support.Found.{Evaluates};
@@ -214,20 +214,6 @@ fn execute_if(
     Ran::Not
 }
 
-/// Executes a statement that isn't simple.
-#[inline(always)]
-fn execute_compound(plan: &Plan, node: StatementNode, interpreter: &mut Interpreter) -> Ran
-    ensures { Executes (made_statement plan.now.tables (part_of plan.now) node) interpreter.old result interpreter.new }
-{
-    match node {
-        StatementNode::If(c, body) => execute_if(plan, c, body, None, interpreter),
-        StatementNode::IfElse(c, body, other) => {
-            execute_if(plan, c, body, Some(other), interpreter)
-        }
-        _ => Ran::Not,
-    }
-}
-
 /// Executes a statement, if that can be done in place: an assignment of a value that is found, an increment, `break`,
 /// `continue`, or an `if` over these. (POSIX awk, Actions)
 pub fn execute(plan: &Plan, place: u32, interpreter: &mut Interpreter) -> Ran
@@ -235,7 +221,12 @@ pub fn execute(plan: &Plan, place: u32, interpreter: &mut Interpreter) -> Ran
 {
     match plan.node(place) {
         Some(Node::Simple(simple)) => execute_simple(plan, simple, interpreter),
-        Some(Node::Statement(node)) => execute_compound(plan, node, interpreter),
+        Some(Node::Statement(StatementNode::If(c, body))) => {
+            execute_if(plan, c, body, None, interpreter)
+        }
+        Some(Node::Statement(StatementNode::IfElse(c, body, other))) => {
+            execute_if(plan, c, body, Some(other), interpreter)
+        }
         _ => Ran::Not,
     }
 }
