@@ -1,17 +1,18 @@
-// EREs of the program that are tested without an entry: one that stands alone, with the record, and one right of `~` or `!~`,
-// where the operand left of it is found in place.
+// Conditions with EREs of the program that are tested without an entry: one that stands alone, with the record, and one right of
+// `~` or `!~`, where the operand left of it is found in place; and `&&`, `||` and `!` over these and what is tested in place.
 
+ghost use Rattle.std.specs.Prelude.{◌≡◌};
 ghost use Rattle.awk_plan.specs.Plan.{operand_of};
 ghost use Rattle.awk_tree.specs.Tree.{Binary};
-ghost use Rattle.awk_expressions.specs.support.Matches.{TestsMatch};
+ghost use Rattle.awk_expressions.specs.support.Matches.{TestsMatch, TestsCondition, known_of};
 
 use crate::nodes::{expression, pattern_operand, record_matches};
-use awk_fast_path::found;
+use awk_fast_path::{found, test};
 use awk_interpreter::Interpreter;
 use awk_meaning::Halt;
 use awk_plan::node::{ExprNode, Operand};
 use awk_plan::plan::Plan;
-use awk_tree::tree::BinaryOperator;
+use awk_tree::tree::{BinaryOperator, UnaryOperator};
 use awk_value::is_true;
 
 /// Whether `~` or `!~` is true of an operand that is found in place, and of an ERE.
@@ -36,12 +37,8 @@ fn test_operand(
 }
 
 /// Whether an expression is true that is an ERE of the program, or `~` or `!~` with one behind an operand that is found in
-/// place. Of another expression nothing is told, and nothing changes. (POSIX awk, Regular Expressions)
-pub fn test_match(
-    plan: &Plan,
-    e: Operand,
-    interpreter: &mut Interpreter,
-) -> Result<Option<bool>, Halt>
+/// place. Of another expression nothing is told, and nothing changes.
+fn test_match(plan: &Plan, e: Operand, interpreter: &mut Interpreter) -> Result<Option<bool>, Halt>
     ensures { TestsMatch (operand_of plan.now e) interpreter.old result interpreter.new }
 {
     let Operand::Node(place) = e else {
@@ -54,5 +51,69 @@ pub fn test_match(
         }
         Some(ExprNode::Binary(operator, a, b)) => test_operand(plan, operator, a, b, interpreter),
         _ => Ok(None),
+    }
+}
+
+/// Whether an expression is true, if that is a match or is found in place. Else nothing changes.
+fn test_alone(plan: &Plan, e: Operand, interpreter: &mut Interpreter) -> Result<Option<bool>, Halt>
+    ensures { TestsMatch (operand_of plan.now e) interpreter.old result interpreter.new }
+{
+    if let Some(matches) = test_match(plan, e, interpreter)? {
+        return Ok(Some(matches));
+    }
+    Ok(test(plan, e, interpreter))
+}
+
+/// What is known of a condition.
+#[derive(Clone, Copy)]
+pub enum Known {
+    Truth(bool),
+    /// It is true where this operand is, which is still to be tested.
+    As(Operand),
+    /// Nothing, and nothing changed.
+    Nothing,
+}
+
+impl Known {
+    /// What is known of a condition whose truth was looked for.
+    fn of(truth: Option<bool>) -> Known
+        ensures { result ≡ known_of truth }
+    {
+        match truth {
+            Some(truth) => Known::Truth(truth),
+            None => Known::Nothing,
+        }
+    }
+}
+
+/// What is known of an expression without an entry: of an ERE of the program, of `~` or `!~` with one behind an operand that is
+/// found in place, of what is found in place itself, and of `!` before one of these, whether it is true; of `&&` and `||`
+/// behind one of these, that, or that the right operand decides. (POSIX awk, Expressions in awk, Regular Expressions)
+pub fn test_condition(plan: &Plan, e: Operand, interpreter: &mut Interpreter) -> Result<Known, Halt>
+    ensures { TestsCondition plan.now (operand_of plan.now e) interpreter.old result interpreter.new }
+{
+    let Operand::Node(place) = e else {
+        return Ok(Known::of(test(plan, e, interpreter)));
+    };
+    match expression(plan, place) {
+        Some(ExprNode::Group(a)) => Ok(Known::As(a)),
+        Some(ExprNode::Unary(UnaryOperator::Not, a)) => match test_alone(plan, a, interpreter)? {
+            Some(holds) => Ok(Known::Truth(!holds)),
+            None => Ok(Known::Nothing),
+        },
+        Some(ExprNode::And(a, b)) => match test_alone(plan, a, interpreter)? {
+            Some(true) => Ok(Known::As(b)),
+            Some(false) => Ok(Known::Truth(false)),
+            None => Ok(Known::Nothing),
+        },
+        Some(ExprNode::Or(a, b)) => match test_alone(plan, a, interpreter)? {
+            Some(true) => Ok(Known::Truth(true)),
+            Some(false) => Ok(Known::As(b)),
+            None => Ok(Known::Nothing),
+        },
+        _ => {
+            let truth = test_alone(plan, e, interpreter)?;
+            Ok(Known::of(truth))
+        }
     }
 }

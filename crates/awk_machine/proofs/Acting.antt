@@ -1,26 +1,27 @@
 -- Actions: each statement leads to the next one, and an `if` to the statement that it chooses.
-use Rattle.std.proofs.Common.{◌≢◌, ◌<◌, Bool, true, false, List, [], ◌∷◌, Result, Ok, Err, refl, sym, subst, arith}
+use Rattle.std.proofs.Common.{◌≢◌, ◌<◌, Bool, true, false, List, [], ◌∷◌, Result, Ok, Err, refl, sym, arith}
 use Rattle.awk_value.specs.Values.{truth_of}
 use Rattle.awk_streams.specs.WorldState.{WorldState}
 use Rattle.awk_tree.specs.Tree as t
+use Rattle.awk_tree.specs.Height.{height_of}
 use Rattle.awk_meaning.specs.declared.flow.Flow.{Flow}
 use Rattle.awk_meaning.specs.declared.flow.Flow.TheVariants as flow
 use Rattle.awk_meaning.specs.declared.halt.Halt.{Halt}
-use Rattle.awk_meaning.specs.State.{◌>>=◌, ret}
+use Rattle.awk_meaning.specs.State.{Run, ◌>>=◌, ret}
+use Rattle.awk_meaning.specs.Operators.{truth_value}
 use Rattle.awk_meaning.specs.Semantics.{tested, choose, eval, begin_test, print, exec, run_action}
 use Rattle.awk_interpreter.specs.declared.interpreter.Interpreter.{Interpreter}
-use Rattle.awk_interpreter.specs.Simulation.{Changes, Spends, Follows}
-use Rattle.awk_interpreter.proofs.Composition.{ends_simulates, change_simulates, then_changes, ends_changes, lift_changes}
-use Rattle.awk_fast_path.specs.Found.{Tests}
+use Rattle.awk_interpreter.specs.Simulation.{Simulates, Changes, Spends, Follows}
+use Rattle.awk_interpreter.proofs.Composition.{then_simulates, ends_simulates, lift_simulates, change_simulates}
+use Rattle.awk_expressions.specs.Matches.{TestsAs, Inside, AndThen, OrElse}
 use Rattle.awk_control.specs.Stack.{Entry, Followed, Focus, BeginStatement, BeginBlock, Ended, resume, run_of, Rest, Leads}
-use Rattle.awk_control.specs.Moves.{Runs}
+use Rattle.awk_control.specs.Moves.{Runs, Tests}
 use Rattle.awk_control.proofs.InPlace.{leads_on}
-use Rattle.awk_control.proofs.Laws.{same_rest, same_simulates, then_rest}
+use Rattle.awk_control.proofs.Laws.{same_rest, same_simulates, assoc_simulates, then_rest}
 use Rattle.awk_control.proofs.PrintMoves.{whole_printed, whole_stops}
 use Rattle.awk_control.proofs.StatementMoves.{no_more_ends, then_begins, follows, follows_none}
-use Rattle.awk_control.proofs.Steps.{any_leads}
 use Rattle.awk_control.proofs.Walking.{unit_at, whole, over_rest, acts, act_halts}
-use Rattle.awk_machine.specs.support.Acted.{Takes}
+use Rattle.awk_machine.specs.support.Acted.{ComesToTest, Takes}
 
 -- the whole of a part, and what stands behind it
 
@@ -57,65 +58,78 @@ print_halted list p = whole _ (whole_stops list p)
 
 -- `if`
 
-pub test_begun : (c : t.Expr) {m m1 m2 : Interpreter} {r : Result Bool Halt} → Spends m m1 (Ok tt) → Changes (tested (eval c)) m1 m2 r → Changes (begin_test c) m m2 r
-unfolding begin_test
-test_begun c p q = then_changes (λ _. tested (eval c)) p.simulates q
-
-pub tested_so : (c : t.Expr) {m : Interpreter} {b : Bool} → Tests c m b → Changes (tested (eval c)) m m (Ok b)
-unfolding tested
-tested_so c {m} p = subst (λ x. Changes (eval c >>= λ v. ret (truth_of v)) m m (Ok x)) p.truth (then_changes _ p.changes (lift_changes (Ok (truth_of p.value)) m refl))
-
-module _ (c : t.Expr) (x : t.Statement) {m m1 : Interpreter} where
-  pub if_taken : Changes (begin_test c) m m1 (Ok true) × (m1.steps < m.steps) → Takes (t.If c x) x m m1
+module _ {is_logged : Type 0} (c : t.Expr) (x : t.Statement) {m m1 : Interpreter} {k k1 : WorldState} where
+  pub if_taken : Simulates is_logged m k m1 k1 (Ok true) (begin_test c) → m1.steps < m.steps → Takes is_logged (t.If c x) x m k m1 k1
   unfolding run_of exec
-  if_taken p = record {
-    comes = record {
-      leads = λ st k. record { leads = λ new after r d. then_rest (λ b. choose b (exec x) (ret flow.Normal)) (change_simulates p.0) d; deep = omega arith };
-      steps = p.0.steps;
-      streams = p.0.streams;
-    };
-    falls = p.1;
-  }
+  if_taken p less = record { leads = record { leads = λ new after r d. then_rest (λ b. choose b (exec x) (ret flow.Normal)) p d; deep = omega arith }; falls = less }
 
-  pub if_skipped : Changes (begin_test c) m m1 (Ok false) → Changes (exec (t.If c x)) m m1 (Ok flow.Normal)
-  unfolding exec
-  if_skipped p = then_changes (λ b. choose b (exec x) (ret flow.Normal)) p (lift_changes (Ok flow.Normal) m1 refl)
+  pub if_skipped : Simulates is_logged m k m1 k1 (Ok false) (begin_test c) → Runs is_logged (BeginStatement (t.If c x)) m k m1 k1 (Ok flow.Normal)
+  unfolding run_of exec
+  if_skipped p = record { simulates = then_simulates (λ b. choose b (exec x) (ret flow.Normal)) p (lift_simulates (Ok flow.Normal) m1 k1 refl) }
 
-  pub if_halts : {h : Halt} → Changes (begin_test c) m m1 (Err h) → Changes (exec (t.If c x)) m m1 (Err h)
-  unfolding exec
-  if_halts p = ends_changes _ p
+  pub if_halts : {h : Halt} → Simulates is_logged m k m1 k1 (Err h) (begin_test c) → Runs is_logged (BeginStatement (t.If c x)) m k m1 k1 (Err h)
+  unfolding run_of exec
+  if_halts p = record { simulates = ends_simulates _ p }
 
-  module _ (y : t.Statement) where
-    pub if_else_taken : Changes (begin_test c) m m1 (Ok true) × (m1.steps < m.steps) → Takes (t.IfElse c x y) x m m1
-    unfolding run_of exec
-    if_else_taken p = record {
-      comes = record {
-        leads = λ st k. record { leads = λ new after r d. then_rest (λ b. choose b (exec x) (exec y)) (change_simulates p.0) d; deep = omega arith };
-        steps = p.0.steps;
-        streams = p.0.streams;
-      };
-      falls = p.1;
-    }
+module _ {is_logged : Type 0} (c : t.Expr) (x y : t.Statement) {m m1 : Interpreter} {k k1 : WorldState} where
+  pub if_else_taken : Simulates is_logged m k m1 k1 (Ok true) (begin_test c) → m1.steps < m.steps → Takes is_logged (t.IfElse c x y) x m k m1 k1
+  unfolding run_of exec
+  if_else_taken p less = record { leads = record { leads = λ new after r d. then_rest (λ b. choose b (exec x) (exec y)) p d; deep = omega arith }; falls = less }
 
-    pub if_else_left : Changes (begin_test c) m m1 (Ok false) × (m1.steps < m.steps) → Takes (t.IfElse c x y) y m m1
-    unfolding run_of exec
-    if_else_left p = record {
-      comes = record {
-        leads = λ st k. record { leads = λ new after r d. then_rest (λ b. choose b (exec x) (exec y)) (change_simulates p.0) d; deep = omega arith };
-        steps = p.0.steps;
-        streams = p.0.streams;
-      };
-      falls = p.1;
-    }
+  pub if_else_left : Simulates is_logged m k m1 k1 (Ok false) (begin_test c) → m1.steps < m.steps → Takes is_logged (t.IfElse c x y) y m k m1 k1
+  unfolding run_of exec
+  if_else_left p less = record { leads = record { leads = λ new after r d. then_rest (λ b. choose b (exec x) (exec y)) p d; deep = omega arith }; falls = less }
 
-    pub if_else_halts : {h : Halt} → Changes (begin_test c) m m1 (Err h) → Changes (exec (t.IfElse c x y)) m m1 (Err h)
-    unfolding exec
-    if_else_halts p = ends_changes _ p
+  pub if_else_halts : {h : Halt} → Simulates is_logged m k m1 k1 (Err h) (begin_test c) → Runs is_logged (BeginStatement (t.IfElse c x y)) m k m1 k1 (Err h)
+  unfolding run_of exec
+  if_else_halts p = record { simulates = ends_simulates _ p }
 
--- a choice that a run makes on its way
+pub taken_on : {is_logged : Type 0} {f : Focus} (x y : t.Statement) {m m1 m2 : Interpreter} {k k1 k2 : WorldState} → Leads is_logged f [] m k (BeginStatement x) [] m1 k1 → Takes is_logged x y m1 k1 m2 k2 → Leads is_logged f [] m k (BeginStatement y) [] m2 k2
+taken_on x y l p = leads_on l p.leads
 
-pub taken_on : {is_logged : Type 0} {f : Focus} (x y : t.Statement) {m m1 m2 : Interpreter} {k k1 : WorldState} → Leads is_logged f [] m k (BeginStatement x) [] m1 k1 → Takes x y m1 m2 → Leads is_logged f [] m k (BeginStatement y) [] m2 k1
-taken_on x y l p = leads_on l (any_leads (p.comes.leads [] _) p.comes.steps p.comes.streams)
+pub test_begins : {is_logged : Type 0} (c : t.Expr) {m m1 m2 : Interpreter} {k k2 : WorldState} {r : Result Bool Halt} → Spends m m1 (Ok tt) → Tests is_logged c m1 k m2 k2 r → Follows is_logged (begin_test c) m k m2 k2 r
+unfolding begin_test
+test_begins c p q = record { simulates = then_simulates (λ _. tested (eval c)) (change_simulates p.simulates) q.simulates }
+
+pub test_unspent : {is_logged : Type 0} (c : t.Expr) {h : Halt} {m m1 : Interpreter} {k : WorldState} → Spends m m1 (Err h) → Follows is_logged (begin_test c) m k m1 k (Err h)
+unfolding begin_test
+test_unspent c p = record { simulates = ends_simulates _ (change_simulates p.simulates) }
+
+-- a condition that comes to another one
+
+truth_back : {is_logged : Type 0} (r : Result Bool Halt) {m new : Interpreter} {k after : WorldState} (x : Run Bool) → Simulates is_logged m k new after r x → Simulates is_logged m k new after r ((x >>= λ y. ret (truth_value y)) >>= λ v. ret (truth_of v))
+truth_back (Ok true) {new = new} {after = after} x p = then_simulates _ (then_simulates _ p (lift_simulates (Ok (truth_value true)) new after refl)) (lift_simulates (Ok true) new after refl)
+truth_back (Ok false) {new = new} {after = after} x p = then_simulates _ (then_simulates _ p (lift_simulates (Ok (truth_value false)) new after refl)) (lift_simulates (Ok false) new after refl)
+truth_back (Err h) x p = ends_simulates _ (ends_simulates _ p)
+
+and_simulates : {is_logged : Type 0} (a b : t.Expr) (r : Result Bool Halt) {m m' new : Interpreter} {k after : WorldState} → Changes (tested (eval a)) m m' (Ok true) → Simulates is_logged m' k new after r (tested (eval b)) → Simulates is_logged m k new after r (tested (eval (t.And a b)))
+unfolding tested eval
+and_simulates a b r p d = assoc_simulates _ _ _ (then_simulates _ (change_simulates p) (truth_back r (tested (eval b)) d))
+
+or_simulates : {is_logged : Type 0} (a b : t.Expr) (r : Result Bool Halt) {m m' new : Interpreter} {k after : WorldState} → Changes (tested (eval a)) m m' (Ok false) → Simulates is_logged m' k new after r (tested (eval b)) → Simulates is_logged m k new after r (tested (eval (t.Or a b)))
+unfolding tested eval
+or_simulates a b r p d = assoc_simulates _ _ _ (then_simulates _ (change_simulates p) (truth_back r (tested (eval b)) d))
+
+pub comes_at_once : {is_logged : Type 0} (e : t.Expr) {m : Interpreter} {k : WorldState} → ComesToTest is_logged e m k e m k
+comes_at_once e = record { leads = λ new after r d. d; low = omega arith }
+
+pub comes_lower : {a b : t.Expr} {m m' : Interpreter} → TestsAs a m b m' → height_of b < height_of a
+comes_lower (Inside a m) = omega arith
+comes_lower (AndThen a b m m' p) = omega arith
+comes_lower (OrElse a b m m' p) = omega arith
+
+module _ {is_logged : Type 0} (e : t.Expr) {m m1 : Interpreter} {k k1 : WorldState} where
+  pub comes_on : (a b : t.Expr) {m2 : Interpreter} → ComesToTest is_logged e m k a m1 k1 → TestsAs a m1 b m2 → ComesToTest is_logged e m k b m2 k1
+  unfolding eval
+  comes_on _ _ l (Inside a m) = record { leads = λ new after r d. l.leads new after r d; low = let low = l.low in omega (arith, low) }
+  comes_on _ _ l (AndThen a b m m' p) = record { leads = λ new after r d. l.leads new after r (and_simulates a b r p d); low = let low = l.low in omega (arith, low) }
+  comes_on _ _ l (OrElse a b m m' p) = record { leads = λ new after r d. l.leads new after r (or_simulates a b r p d); low = let low = l.low in omega (arith, low) }
+
+  pub comes_to_end : (a : t.Expr) {m2 : Interpreter} {r : Result Bool Halt} → ComesToTest is_logged e m k a m1 k1 → Changes (tested (eval a)) m1 m2 r → Tests is_logged e m k m2 k1 r
+  comes_to_end a l p = record { simulates = l.leads _ _ _ (change_simulates p) }
+
+  pub comes_to_test : (a : t.Expr) {new : Interpreter} {after : WorldState} {r : Result Bool Halt} → ComesToTest is_logged e m k a m1 k1 → Tests is_logged a m1 k1 new after r → Tests is_logged e m k new after r
+  comes_to_test a l p = record { simulates = l.leads _ _ _ p.simulates }
 
 -- the statements of an action
 

@@ -1,22 +1,21 @@
 // Actions: their statements one after the other, each in place where that goes, and else on the stack. The condition of an `if`
-// that is found in place is tested once, and the statement that it chooses is the next one.
+// is tested once, and the statement that it chooses is the next one.
 
-ghost use Rattle.std.specs.Prelude.{◌≡◌, ◌≤◌};
+ghost use Rattle.std.specs.Prelude.{◌≡◌, ◌≤◌, ◌<◌, OnOk};
 ghost use Rattle.awk_plan.specs.Plan.{operand_of, part_of, statement_in, statements_in};
 ghost use Rattle.awk_grammar.specs.Height.{max_height};
-ghost use Rattle.awk_tree.specs.Height.{height_of_statement, height_of_block};
-ghost use Rattle.awk_meaning.specs.Semantics.{run_action};
+ghost use Rattle.awk_tree.specs.Height.{height_of, height_of_statement, height_of_block};
+ghost use Rattle.awk_meaning.specs.Semantics.{begin_test, run_action};
 ghost use Rattle.awk_interpreter.specs.Simulation.{Follows};
 ghost use Rattle.awk_control.specs.Stack.{BeginStatement};
 ghost use Rattle.awk_control.specs.Moves.{Runs, ran};
-ghost use Rattle.awk_machine.specs.support.Acted.{Chooses, Decides};
+ghost use Rattle.awk_machine.specs.support.Acted.{Decides};
 
-use crate::machine::run;
+use crate::machine::{holds, run};
 use crate::prints_in_place::execute_print;
 use awk_control::blocks::{block, simple};
 use awk_control::stack::{Focus, Passed, Stack};
-use awk_expressions::patterns::test_match;
-use awk_fast_path::{Ran, execute, test};
+use awk_fast_path::{Ran, execute};
 use awk_interpreter::Interpreter;
 use awk_meaning::Halt;
 use awk_plan::node::{BlockNode, Node, Operand, SimpleNode, StatementNode};
@@ -63,28 +62,6 @@ fn perform<W: World>(
     }
 }
 
-/// Spends the step of an `if` and tests its condition. `None` where that isn't found in place, and then nothing changes.
-fn choose(
-    plan: &Plan,
-    condition: Operand,
-    interpreter: &mut Interpreter,
-) -> Result<Option<bool>, Halt>
-    ensures { Chooses (operand_of plan.now condition) interpreter.old result interpreter.new }
-{
-    let steps = interpreter.steps;
-    if !interpreter.take_step() {
-        return Ok(None);
-    }
-    if let Some(matches) = test_match(plan, condition, interpreter)? {
-        return Ok(Some(matches));
-    }
-    if let Some(holds) = test(plan, condition, interpreter) {
-        return Ok(Some(holds));
-    }
-    interpreter.steps = steps;
-    Ok(None)
-}
-
 /// What an `if` chooses.
 #[derive(Clone, Copy)]
 pub(crate) enum Choice {
@@ -92,29 +69,52 @@ pub(crate) enum Choice {
     Taken(u32),
     /// None: the condition is false, and there is no `else`.
     Skipped,
-    /// Its condition isn't found in place.
-    Open,
     /// The statement is no `if`.
     Other,
 }
 
+/// Spends the step of an `if`, and tests its condition.
+fn begin_if<W: World>(
+    plan: &Plan,
+    condition: Operand,
+    stack: &mut Stack,
+    interpreter: &mut Interpreter,
+    world: &mut W,
+) -> Result<bool, Halt>
+    requires low { height_of (operand_of plan.now condition) ≤ max_height }
+    ensures begins { Follows W.is_logged (begin_test (operand_of plan.now condition)) interpreter.old (W.state world.old)
+        interpreter.new (W.state world.new) result }
+    ensures falls { OnOk result (interpreter.new.steps < interpreter.old.steps) }
+{
+    interpreter.spend()?;
+    holds(plan, condition, stack, interpreter, world)
+}
+
 /// What a statement chooses if it is an `if`, behind its step.
-fn decide(plan: &Plan, place: u32, interpreter: &mut Interpreter) -> Result<Choice, Halt>
-    ensures { Decides plan.now place interpreter.old result interpreter.new }
+fn decide<W: World>(
+    plan: &Plan,
+    place: u32,
+    stack: &mut Stack,
+    interpreter: &mut Interpreter,
+    world: &mut W,
+) -> Result<Choice, Halt>
+    requires low { height_of_statement (statement_in (part_of plan.now place)) ≤ max_height }
+    ensures { Decides W.is_logged plan.now place interpreter.old (W.state world.old) result interpreter.new
+        (W.state world.new) }
 {
     let chosen = match plan.node(place) {
         Some(Node::Statement(StatementNode::If(condition, body))) => {
-            match choose(plan, condition, interpreter)? {
-                Some(true) => Choice::Taken(body),
-                Some(false) => Choice::Skipped,
-                None => Choice::Open,
+            if begin_if(plan, condition, stack, interpreter, world)? {
+                Choice::Taken(body)
+            } else {
+                Choice::Skipped
             }
         }
         Some(Node::Statement(StatementNode::IfElse(condition, body, other))) => {
-            match choose(plan, condition, interpreter)? {
-                Some(true) => Choice::Taken(body),
-                Some(false) => Choice::Taken(other),
-                None => Choice::Open,
+            if begin_if(plan, condition, stack, interpreter, world)? {
+                Choice::Taken(body)
+            } else {
+                Choice::Taken(other)
             }
         }
         _ => Choice::Other,
@@ -136,10 +136,9 @@ fn act<W: World>(
 {
     let mut at = place;
     'choices: loop {
-        match decide(plan, at, interpreter)? {
+        match decide(plan, at, stack, interpreter, world)? {
             Choice::Taken(next) => at = next,
             Choice::Skipped => return Ok(Passed::Normal),
-            Choice::Open => return run(plan, Focus::Statement(at), stack, interpreter, world),
             Choice::Other => return perform(plan, at, stack, interpreter, world),
         }
     }

@@ -16,8 +16,7 @@ use awk_control::entry::{Awaited, Entry, Loop, LoopEntry, State, read_entry};
 use awk_control::stack::{Focus, Move, Passed, Stack, Stage};
 use awk_expressions::awaiting::{is_returned_true, spend_for};
 use awk_expressions::expressions::{begin_expr, end_operand};
-use awk_expressions::patterns::test_match;
-use awk_fast_path::test;
+use awk_expressions::patterns::{Known, test_condition};
 use awk_interpreter::Interpreter;
 use awk_meaning::Halt;
 use awk_plan::node::{Node, Operand, StatementNode};
@@ -229,7 +228,7 @@ pub(crate) fn run<W: World>(
     }
 }
 
-/// Whether an expression is true. What was in the stack is gone.
+/// Whether an expression is true: without an entry as far as that is known, and else on the stack. What was in the stack is gone.
 pub fn holds<W: World>(
     plan: &Plan,
     e: Operand,
@@ -241,12 +240,15 @@ pub fn holds<W: World>(
     ensures { Tests W.is_logged (operand_of plan.now e) interpreter.old (W.state world.old) interpreter.new
         (W.state world.new) result }
 {
-    if let Some(matches) = test_match(plan, e, interpreter)? {
-        return Ok(matches);
+    let mut at = e;
+    'conditions: loop {
+        match test_condition(plan, at, interpreter)? {
+            Known::Truth(holds) => return Ok(holds),
+            Known::As(next) => at = next,
+            Known::Nothing => {
+                let passed = run(plan, Focus::Expr(at), stack, interpreter, world)?;
+                return Ok(is_returned_true(passed, stack));
+            }
+        }
     }
-    if let Some(holds) = test(plan, e, interpreter) {
-        return Ok(holds);
-    }
-    let passed = run(plan, Focus::Expr(e), stack, interpreter, world)?;
-    Ok(is_returned_true(passed, stack))
 }

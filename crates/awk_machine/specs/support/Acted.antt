@@ -1,32 +1,32 @@
 -- Statements of an action that are executed one after the other.
-use Rattle.std.specs.Prelude.{◌≡◌, ℕ, ◌<◌, Bool, [], Option, None, Some, Result, Ok, Err}
+use Rattle.std.specs.Prelude.{◌≡◌, ℕ, ◌≤◌, ◌<◌, Bool, [], Result, Ok, Err}
+use Rattle.awk_streams.specs.WorldState.{WorldState}
 use Rattle.awk_tree.specs.Tree.{Expr, Statement}
+use Rattle.awk_tree.specs.Height.{height_of}
 use Rattle.awk_plan.specs.Plan.{Program, part_of, statement_in}
 use Rattle.awk_meaning.specs.declared.flow.Flow.TheVariants as flow
 use Rattle.awk_meaning.specs.declared.halt.Halt.{Halt}
-use Rattle.awk_meaning.specs.Semantics.{begin_test, exec}
+use Rattle.awk_meaning.specs.Semantics.{tested, eval}
 use Rattle.awk_interpreter.specs.declared.interpreter.Interpreter.{Interpreter}
-use Rattle.awk_interpreter.specs.Simulation.{Changes}
-use Rattle.awk_control.specs.Stack.{BeginStatement}
-use Rattle.awk_control.specs.Reaching.{Comes}
+use Rattle.awk_interpreter.specs.Simulation.{Simulates}
+use Rattle.awk_control.specs.Stack.{BeginStatement, Leads}
+use Rattle.awk_control.specs.Moves.{Runs}
 use Rattle.awk_machine.specs.declared.actions.Choice.{Choice}
-use Rattle.awk_machine.specs.declared.actions.Choice.TheVariants.{Taken, Skipped, Open, Other}
+use Rattle.awk_machine.specs.declared.actions.Choice.TheVariants.{Taken, Skipped, Other}
 
--- behind a step, the condition has this truth; or that isn't found, and nothing changes
-abbrev pub Chooses : Expr → Interpreter → Result (Option Bool) Halt → Interpreter → Type 0
-Chooses c old (Ok (Some b)) new = Changes (begin_test c) old new (Ok b) × (new.steps < old.steps)
-Chooses c old (Ok None) new = new ≡ old
-Chooses c old (Err h) new = Changes (begin_test c) old new (Err h)
+-- the test of an expression comes to that of another one
+pub record ComesToTest (is_logged : Type 0) (e : Expr) (m : Interpreter) (k : WorldState) (e' : Expr) (m' : Interpreter) (k' : WorldState) : Type 0 where
+  pub leads : (new : Interpreter) (after : WorldState) (r : Result Bool Halt) → Simulates is_logged m' k' new after r (tested (eval e')) → Simulates is_logged m k new after r (tested (eval e))
+  pub low : height_of e' ≤ height_of e
 
 -- a statement comes to the one that it chooses, behind a step
-pub record Takes (from to : Statement) (old new : Interpreter) : Type 0 where
-  pub comes : Comes (BeginStatement from) [] old (BeginStatement to) [] new
-  pub falls : new.steps < old.steps
+pub record Takes (is_logged : Type 0) (from to : Statement) (m : Interpreter) (k : WorldState) (m' : Interpreter) (k' : WorldState) : Type 0 where
+  pub leads : Leads is_logged (BeginStatement from) [] m k (BeginStatement to) [] m' k'
+  pub falls : m'.steps < m.steps
 
--- a statement makes this choice; or it makes none, and nothing changes
-abbrev pub Decides : Program → ℕ → Interpreter → Result Choice Halt → Interpreter → Type 0
-Decides plan place old (Ok (Taken next)) new = Takes (statement_in (part_of plan place)) (statement_in (part_of plan next)) old new
-Decides plan place old (Ok Skipped) new = Changes (exec (statement_in (part_of plan place))) old new (Ok flow.Normal)
-Decides plan place old (Ok Open) new = new ≡ old
-Decides plan place old (Ok Other) new = new ≡ old
-Decides plan place old (Err h) new = Changes (exec (statement_in (part_of plan place))) old new (Err h)
+-- a statement makes this choice; or it is no `if`, and nothing changes
+abbrev pub Decides : Type 0 → Program → ℕ → Interpreter → WorldState → Result Choice Halt → Interpreter → WorldState → Type 0
+Decides is_logged plan place m k (Ok (Taken next)) m' k' = Takes is_logged (statement_in (part_of plan place)) (statement_in (part_of plan next)) m k m' k'
+Decides is_logged plan place m k (Ok Skipped) m' k' = Runs is_logged (BeginStatement (statement_in (part_of plan place))) m k m' k' (Ok flow.Normal)
+Decides is_logged plan place m k (Ok Other) m' k' = (m' ≡ m) × (k' ≡ k)
+Decides is_logged plan place m k (Err h) m' k' = Runs is_logged (BeginStatement (statement_in (part_of plan place))) m k m' k' (Err h)
