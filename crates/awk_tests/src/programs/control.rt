@@ -340,6 +340,30 @@ $ BEGIN { FS = ":" } FNR > 1 && FS == ":" { print NR, FNR, $2 == "x", $2 >= $1 }
 > 2 2 0 0
 > 3 3 1 0
 = 0
+conditions with EREs, alone and beside others
+$ /a/ && /b/ { print "both", $0 } !/a/ { print "none", $0 } /c/ || $2 > 5 { print "one", $0 } !(/a/ || /b/) && NR > 1 { print "neither", $0 }
+< ab 1
+< a 9
+< b c
+< d 7
+> both ab 1
+> one a 9
+> none b c
+> one b c
+> none d 7
+> one d 7
+> neither d 7
+= 0
+$ { if (/a/ && $2 == "x" && !/c/) print "if", $0; else if (n++ || /b/) print "else", n, $0; if ((/a/) && (n + 0)) print n }
+< a x
+< ac x
+< b
+< d
+> if a x
+> 1
+> else 2 b
+> else 3 d
+= 0
 "#;
 
 #[test]
