@@ -38,6 +38,9 @@ class Programs:
             self.pick('"x"', '""', '"3"', '"2y"', '"0"'),
         )
 
+    def ere(self):
+        return self.pick("1", "^x", "[0-9]$", "a|2", "0*7", "-")
+
     def expr(self, height):
         if height == 0:
             return self.leaf()
@@ -55,7 +58,8 @@ class Programs:
             f"(- {a} + 0)",
             f"(({a}) % 3 + 3) ^ {self.random.randrange(4)}",
             f"({a} \" \" {b})",
-            f"({a} ~ /{self.pick('1', '^x', '[0-9]$', 'a|2')}/)",
+            f"({a} {self.pick('~', '!~')} /{self.ere()}/)",
+            self.pick(f"(/{self.ere()}/)", f"(! /{self.ere()}/)", f"(/{self.ere()}/ && {b})", f"({a} || /{self.ere()}/)"),
             f"({self.name()} = {a})",
             f"({self.name()} {self.pick('+=', '-=')} {a})",
             self.pick(f"{self.name()}++", f"{self.name()}--", f"++{self.name()}", f"--{self.name()}"),
@@ -70,6 +74,7 @@ class Programs:
             lambda: self.expr(2),
             lambda: f"if ({self.expr(2)}) {{ {s()} }}",
             lambda: f"if ({self.expr(2)}) {{ {s()} }} else {{ {s()} }}",
+            lambda: f"if ({self.expr(2)}) {{ {s()} }} else if ({self.expr(1)}) {{ {s()} }} else {{ {s()} }}",
             lambda: f"{{ {s()}; {s()} }}",
             lambda: f"{s()}; {s()}",
         ]
