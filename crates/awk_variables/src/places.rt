@@ -72,11 +72,11 @@ impl Variables {
     pub fn at(&self, number: u32, name: &[u8]) -> Option<&Value>
         ensures { IfSome result (λ value. value.now ≡ value_of self.now name.now) }
     {
-        if let Some(special) = Special::numbered(number, name) {
-            return Some(self.special(special));
+        if let Some((_, value)) = place(&self.others, number, name) {
+            return Some(value);
         }
-        let (_, value) = place(&self.others, number, name)?;
-        Some(value)
+        let special = Special::numbered(number, name)?;
+        Some(self.special(special))
     }
 
     /// Makes a value the one at a place behind the special variables, if it is this name's. Else nothing changes.

@@ -47,7 +47,8 @@ fn look_up<T: Copy>(table: &[(&[u8], T)], name: &[u8]) -> Option<T>
 
 /// A row of a table.
 fn row<'a, T: Copy>(table: &[(&'a [u8], T)], index: usize) -> Option<(&'a [u8], T)>
-    ensures { option_map {U = List ℕ × T} (λ row. (row.0.now, row.1)) result ≡ option_map {U = List ℕ × T} (λ row. (row.0.now, row.1)) (slice_get table.now index) }
+    ensures { option_map {U = List ℕ × T} (λ row. (row.0.now, row.1)) result
+        ≡ option_map {U = List ℕ × T} (λ row. (row.0.now, row.1)) (slice_get table.now index) }
 {
     let (name, meaning) = table.get(index)?;
     Some((*name, *meaning))

@@ -54,8 +54,8 @@ const FIXED_STATES: usize = 2;
 fn write_row(rows: &mut [bool], number: usize, row: &[bool])
     requires { number * length row.now + length row.now ≤ length rows.old }
     ensures row { take (length row.now) (drop (number * length row.now) rows.new) ≡ row.now }
-    ensures others { (d : ℕ) → d < number →
-        take (length row.now) (drop (d * length row.now) rows.new) ≡ take (length row.now) (drop (d * length row.now) rows.old) }
+    ensures others { (d : ℕ) → d < number → take (length row.now) (drop (d * length row.now) rows.new)
+        ≡ take (length row.now) (drop (d * length row.now) rows.old) }
     ensures len { length rows.new ≡ length rows.old }
 {
     let n = row.len();
