@@ -2,6 +2,9 @@
 use Rattle.std.proofs.Common.{◌≡◌, ◌≢◌, ◌↔◌, ℕ, ◌<◌, Bool, true, false, cond, List, [], ◌∷◌, ◌++◌, map, length, get_or, set, Option, Some, None, unwrap_or, if◌then◌else◌, refl, sym, ap, ◌∙◌, true≢false, arith, get_or-set_same, get_or-set_other}
 use Rattle.std.specs.Prelude.{Result, Ok, Err, OnOk, OnErr}
 use Rattle.std.specs.Global.{Vec}
+use Rattle.std.specs.Prelude.{pos}
+use Rattle.std.specs.List.{fold}
+use Rattle.std.proofs.lemmas.List.Sums.{fold_push}
 use Rattle.std.specs.Str.{bytes_eq}
 use Rattle.std.specs.Option.{option_map}
 use Rattle.std.specs.Map.{lookup, KeepsOthers, IsKeyTest, AreApart}
@@ -9,7 +12,7 @@ use Rattle.std.proofs.lemmas.Bool.{false_from_ne_true}
 use Rattle.std.proofs.lemmas.List.{get_or_default}
 use Rattle.std.proofs.lemmas.Slice.Eq.{bytes_eq-Decides}
 use Rattle.awk_value.specs.declared.value.Value.{Value}
-use Rattle.awk_value.specs.declared.value.Value.TheVariants.{Nothing}
+use Rattle.awk_value.specs.declared.value.Value.TheVariants.{Nothing, Number, Text}
 use Rattle.awk_variables.specs.declared.special.Special.{Special}
 use Rattle.awk_variables.specs.declared.special.Special.TheVariants.{Argc, Convfmt, Filename, Fnr, Fs, Nr, Ofmt, Ofs, Ors, Rlength, Rs, Rstart, Subsep}
 use Rattle.awk_variables.specs.definitions.Variables.{Pairs, value_of, name_of, with_value}
@@ -230,3 +233,18 @@ puts old new name v keeps has x = by (bytes_eq name x) refl
     by false e =
         let apart : AreApart (λ (k : Vec ℕ). bytes_eq name k.items) (λ (k : Vec ℕ). bytes_eq x k.items) = λ k is. other x k.items (λ h. differs name x e (same name k.items is ∙ sym h)) in
         keeps (λ (k : Vec ℕ). bytes_eq x k.items) tests apart
+
+-- the special variables as the run begins
+
+abbrev pub special_numbers : (arguments : ℕ) → List Value
+special_numbers arguments = Number (pos arguments) ∷ Nothing ∷ Nothing ∷ Number (pos 0) ∷ Nothing ∷ Number (pos 0) ∷ Nothing ∷ Nothing ∷ Nothing ∷ Nothing ∷ Nothing ∷ Nothing ∷ Nothing ∷ []
+
+abbrev pub with_text : List Value → Special × List ℕ → List Value
+with_text values row = set values (index_of row.0) (Text row.1)
+
+-- the values, with texts for some
+abbrev pub with_texts : List Value → List (Special × List ℕ) → List Value
+with_texts values rows = fold with_text values rows
+
+pub with_texts-more : (values : List Value) (rows : List (Special × List ℕ)) (row : Special × List ℕ) → with_texts values (rows ++ row ∷ []) ≡ with_text (with_texts values rows) row
+with_texts-more values rows row = fold_push with_text values rows row

@@ -5,7 +5,7 @@ ghost use Rattle.std.specs.Prelude.{IfErr, OnOk, OnErr, Some, None, bytes_eq, if
 ghost use Rattle.awk_value.specs.Values.{str_of};
 ghost use Rattle.awk_value.specs.declared.value.Value.TheVariants.{Nothing};
 ghost use Rattle.awk_split.specs.Separators.{separator_of};
-ghost use Rattle.awk_variables.specs.support.Storage.{kept_at};
+ghost use Rattle.awk_variables.specs.support.Storage.{kept_at, initial_specials};
 
 use crate::fault::VariableFault;
 use crate::special::Special;
@@ -23,7 +23,9 @@ fn separator_text(alloc: Global, value: &Value) -> Result<Bytes, VariableFault>
     ensures refused { IfErr result (λ e. e ≢ VariableFault.Memory →
         (e ≡ VariableFault.Pattern) × (is_err (separator_of (str_of value.now)) ≡ true)) }
 {
-    let text = text_of(alloc, value).map_err(|_| VariableFault::Memory)?;
+    let Ok(text) = text_of(alloc, value) else {
+        return Err(VariableFault::Memory);
+    };
     FieldSeparator::of(alloc, text.as_slice(), false)?;
     Ok(text)
 }
@@ -61,6 +63,43 @@ fn put(
     Ok(())
 }
 
+// The special variables that are texts as the run begins. (POSIX awk, Variables and Special Variables)
+const TEXTS: [(Special, &[u8]); 7] = [
+    (Special::Convfmt, b"%.6g"),
+    (Special::Fs, b" "),
+    (Special::Ofmt, b"%.6g"),
+    (Special::Ofs, b" "),
+    (Special::Ors, b"\n"),
+    (Special::Rs, b"\n"),
+    (Special::Subsep, b"\x1c"),
+];
+
+// The values of the special variables as the run begins, each at its index.
+fn initial_specials(alloc: Global, arguments: usize) -> Result<[Value; 13], VariableFault>
+    ensures specials { IfOk result (λ values. values ≡ initial_specials arguments) }
+    ensures memory { IfErr result (λ e. e ≡ VariableFault.Memory) }
+{
+    let mut values = [
+        Value::Number(arguments as i128), // ARGC
+        Value::Nothing,
+        Value::Nothing,
+        Value::Number(0), // FNR
+        Value::Nothing,
+        Value::Number(0), // NR
+        Value::Nothing,
+        Value::Nothing,
+        Value::Nothing,
+        Value::Nothing,
+        Value::Nothing,
+        Value::Nothing,
+        Value::Nothing,
+    ];
+    for (special, text) in &TEXTS {
+        values[special.index()] = Value::Text(Bytes::from_slice(alloc, text)?);
+    }
+    Ok(values)
+}
+
 /// The variables of a run: the values of all names, of which most were never
 /// assigned.
 #[derive(Drop)]
@@ -94,28 +133,7 @@ impl Variables {
         ensures start { IfOk result (λ v. (x : List ℕ) → value_of v x ≡ initial_value arguments x) }
         ensures memory { IfErr result (λ e. e ≡ VariableFault.Memory) }
     {
-        let convfmt = Bytes::from_slice(alloc, b"%.6g")?;
-        let fs = Bytes::from_slice(alloc, b" ")?;
-        let ofmt = Bytes::from_slice(alloc, b"%.6g")?;
-        let ofs = Bytes::from_slice(alloc, b" ")?;
-        let ors = Bytes::from_slice(alloc, b"\n")?;
-        let rs = Bytes::from_slice(alloc, b"\n")?;
-        let subsep = Bytes::from_slice(alloc, b"\x1c")?;
-        let specials = [
-            Value::Number(arguments as i128), // ARGC
-            Value::Text(convfmt),
-            Value::Nothing, // FILENAME
-            Value::Number(0), // FNR
-            Value::Text(fs),
-            Value::Number(0), // NR
-            Value::Text(ofmt),
-            Value::Text(ofs),
-            Value::Text(ors),
-            Value::Nothing, // RLENGTH
-            Value::Text(rs),
-            Value::Nothing, // RSTART
-            Value::Text(subsep),
-        ];
+        let specials = initial_specials(alloc, arguments)?;
         Ok(Variables {
             specials,
             others: IndexMap::new(alloc),

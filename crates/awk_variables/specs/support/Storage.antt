@@ -13,7 +13,7 @@ use Rattle.awk_variables.specs.declared.fault.VariableFault.TheVariants.{Memory,
 use Rattle.awk_value.specs.declared.value.Value.TheVariants.{Nothing}
 use Rattle.awk_variables.specs.declared.special.Special.{Special}
 use Rattle.awk_variables.specs.declared.special.Special.TheVariants.{Argc, Convfmt, Filename, Fnr, Fs, Nr, Ofmt, Ofs, Ors, Rlength, Rs, Rstart, Subsep}
-use Rattle.awk_variables.specs.definitions.Variables.{Pairs, name_of}
+use Rattle.awk_variables.specs.definitions.Variables.{Pairs, name_of, initial_values}
 
 abbrev pub all_specials : List Special
 all_specials = Argc ∷ Convfmt ∷ Filename ∷ Fnr ∷ Fs ∷ Nr ∷ Ofmt ∷ Ofs ∷ Ors ∷ Rlength ∷ Rs ∷ Rstart ∷ Subsep ∷ []
@@ -43,6 +43,10 @@ value_at values special = slice_index_or values (index_of special) Nothing
 -- the special variables with their values
 abbrev pub special_pairs : List Value → Pairs
 special_pairs values = map (λ s. (name_of s, value_at values s)) all_specials
+
+-- the special variables' values as the run begins
+abbrev pub initial_specials : (arguments : ℕ) → List Value
+initial_specials arguments = map (λ pair. pair.1) (initial_values arguments)
 
 -- the pairs of the others' map
 abbrev pub other_pairs : List (Vec ℕ × Value) → Pairs

@@ -1,4 +1,4 @@
-use Rattle.std.proofs.Common.{sym, ap, ◌∙◌, slice_get, rules}
+use Rattle.std.proofs.Common.{sym, ap, ◌∙◌, slice_get}
 use Rattle.awk_variables.specs.definitions.Names.{has_name}
 use Rattle.awk_variables.proofs.Numbering.{if_none, has_name-keys, stands_found}
 use Rattle.awk_variables.proofs.names.Names.find.Goals as goal
