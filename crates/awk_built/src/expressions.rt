@@ -7,7 +7,8 @@ ghost use Rattle.awk_tree.specs.View.{expr_of, exprs_of, optional_expr_of};
 ghost use Rattle.awk_built.specs.definitions.Built.{both, all_three, built_unary, binary, built_target, assigned};
 ghost use Rattle.awk_built.specs.definitions.Built.{built_expr, built_list, built_print_list, built_optional_expr};
 ghost use Rattle.awk_built.specs.support.Builds.{Builds, built_leaf};
-ghost use Rattle.std.specs.Prelude.{◌≡◌, Some};
+ghost use Rattle.awk_lex.specs.Refused.{IsOutOfMemory};
+ghost use Rattle.std.specs.Prelude.{◌≡◌, ◌++◌, ◌∷◌, [], IfErr, OnOk, Some};
 ghost use Rattle.std.specs.Option.{option_map};
 
 use awk_grammar::tree as grammar;
@@ -230,13 +231,22 @@ pub(crate) fn built_operand(alloc: Global, e: &grammar::Expr) -> Result<Box<Expr
     }
 }
 
+/// Puts what a box holds behind others.
+pub(crate) fn push<T: Drop>(built: &mut Vec<T>, part: Box<T>) -> Result<(), Refusal>
+    ensures pushed { OnOk result (built.new.items ≡ built.old.items ++ part.value ∷ []) }
+    ensures memory { IfErr result (λ refusal. IsOutOfMemory refusal) }
+{
+    built.push(Box::into_inner(part))?;
+    Ok(())
+}
+
 fn built_list(alloc: Global, list: &[grammar::Expr]) -> Result<Vec<Expr>, Refusal>
     ensures { Builds (λ v. exprs_of v.items) result (built_list (g.exprs_of list.now)) }
 {
     let mut built = Vec::new(alloc);
     for e in list {
         let e = built_operand(alloc, e)?;
-        built.push(Box::into_inner(e))?;
+        push(&mut built, e)?;
     }
     Ok(built)
 }

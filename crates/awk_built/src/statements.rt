@@ -12,7 +12,7 @@ ghost use Rattle.awk_built.specs.support.Builds.{Builds};
 ghost use Rattle.std.specs.Prelude.{Some};
 ghost use Rattle.std.specs.Option.{option_map};
 
-use crate::expressions::{NOT_BUILT, built_operand, built_optional_expr, built_print_list};
+use crate::expressions::{NOT_BUILT, built_operand, built_optional_expr, built_print_list, push};
 use awk_grammar::tree as grammar;
 use awk_lex::refusal::Refusal;
 use awk_tree::tree::{Expr, Item, Pattern, SimpleStatement, Statement};
@@ -180,7 +180,7 @@ fn built_block(alloc: Global, all: &[grammar::Statement]) -> Result<Vec<Statemen
     let mut built = Vec::new(alloc);
     for s in all {
         let s = built_statement(alloc, s)?;
-        built.push(Box::into_inner(s))?;
+        push(&mut built, s)?;
     }
     Ok(built)
 }

@@ -15,7 +15,7 @@ returns-in_err-e c =
 
 pub loop-e-preserved : goal.loop-e-preserved
 loop-e-preserved c =
-    rw (c.in_ok-push.ensures.items, c.into_inner.ensures) (next_expr c.args.list.now c.loop-e.e-index c.e-item.result c.loop-e.built.items c.in_ok-e.e.value _ (omega arith) (sym c.e-item.is) c.in_ok-e.ensures c.loop-e.invariant)
+    rw (c.in_ok-push.ensures.pushed) (next_expr c.args.list.now c.loop-e.e-index c.e-item.result c.loop-e.built.items c.in_ok-e.e.value _ (omega arith) (sym c.e-item.is) c.in_ok-e.ensures c.loop-e.invariant)
 
 pub returns : goal.returns
 returns c = last_expr c.args.list.now c.loop-e.e-index c.loop-e.built.items _ (omega arith) c.loop-e.invariant

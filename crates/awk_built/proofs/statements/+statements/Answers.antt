@@ -23,7 +23,7 @@ built_block-returns-in_err-s t c =
 
 pub built_block-loop-s-preserved : goal.built_block-loop-s-preserved
 built_block-loop-s-preserved t c =
-    rw (c.in_ok-push.ensures.items, c.into_inner.ensures) (next_statement c.args.all.now c.loop-s.s-index c.s-item.result c.loop-s.built.items c.in_ok-s.s.value _ (omega arith) (sym c.s-item.is) c.in_ok-s.ensures c.loop-s.invariant)
+    rw (c.in_ok-push.ensures.pushed) (next_statement c.args.all.now c.loop-s.s-index c.s-item.result c.loop-s.built.items c.in_ok-s.s.value _ (omega arith) (sym c.s-item.is) c.in_ok-s.ensures c.loop-s.invariant)
 
 pub built_block-returns : goal.built_block-returns
 built_block-returns t c = last_statement c.args.all.now c.loop-s.s-index c.loop-s.built.items _ (omega arith) c.loop-s.invariant
