@@ -1,5 +1,6 @@
 mod Leaves
 mod Stores
 mod LeafMoves
+mod LeafOperands
 mod OperandMoves
 mod Tested

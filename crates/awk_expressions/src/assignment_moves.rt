@@ -1,7 +1,7 @@
 // The moves of assignments, whose value is used or which are statements of their own.
 
 ghost use Rattle.std.specs.Prelude.{◌≡◌, Some, slice_get};
-ghost use Rattle.awk_plan.specs.Plan.{made_assignment, part_of};
+ghost use Rattle.awk_plan.specs.Plan.{made_assignment, name_at, operand_of, part_of};
 ghost use Rattle.awk_plan.specs.declared.node.Node.TheVariants.{Expression, Simple};
 ghost use Rattle.awk_plan.specs.declared.node.ExprNode.TheVariants as exprs;
 ghost use Rattle.awk_plan.specs.declared.node.SimpleNode.TheVariants as simples;
@@ -13,14 +13,64 @@ ghost use Rattle.awk_control.specs.Moves.{Steps, stack_of, topped, flow_of};
 
 use crate::assignments::{post_increment, pre_increment, store, store_by};
 use crate::awaiting::{await_operand, give, spend_for, take_value};
-use crate::nodes::name;
+use crate::nodes::{leaf, name};
 use awk_control::entry::{Entry, OperandEntry, State};
 use awk_control::stack::{Focus, Move, Passed, Stack};
 use awk_interpreter::Interpreter;
 use awk_meaning::Halt;
-use awk_plan::node::AssignmentNode;
+use awk_plan::node::{AssignmentNode, Operand};
 use awk_plan::plan::Plan;
 use awk_tree::tree::BinaryOperator;
+
+/// Begins `=`; a value that is a leaf is read at once.
+fn begin_assign(
+    plan: &Plan,
+    place: u32,
+    number: u32,
+    e: Operand,
+    stack: &mut Stack,
+    interpreter: &mut Interpreter,
+) -> Result<Move, Halt>
+    requires room { HasRoom stack.old.control }
+    requires at { slice_get plan.now.nodes place ≡ Some (Expression (exprs.Assignment (AssignmentNode.Assign number e))) }
+    ensures { Steps plan.now (BeginExpr (t.Assign (name_at plan.now.tables number) (operand_of plan.now e)))
+        (stack_of plan.now stack.old) interpreter.old result stack.new interpreter.new }
+{
+    let assigned = leaf(plan, e, interpreter)?;
+    match assigned {
+        Some(value) => {
+            stack.returned = value;
+            end_assigned(plan, number, Passed::Returned, stack, interpreter)
+        }
+        None => await_operand(place, State::Assigned, e, stack),
+    }
+}
+
+/// Begins an assignment by an operator; a right operand that is a leaf is read at once.
+fn begin_assign_by(
+    plan: &Plan,
+    place: u32,
+    operator: BinaryOperator,
+    number: u32,
+    e: Operand,
+    stack: &mut Stack,
+    interpreter: &mut Interpreter,
+) -> Result<Move, Halt>
+    requires room { HasRoom stack.old.control }
+    requires at { slice_get plan.now.nodes place
+        ≡ Some (Expression (exprs.Assignment (AssignmentNode.AssignBy operator number e))) }
+    ensures { Steps plan.now (BeginExpr (t.AssignBy operator (name_at plan.now.tables number) (operand_of plan.now e)))
+        (stack_of plan.now stack.old) interpreter.old result stack.new interpreter.new }
+{
+    let right = leaf(plan, e, interpreter)?;
+    match right {
+        Some(value) => {
+            stack.returned = value;
+            end_assigned_by(plan, operator, number, Passed::Returned, stack, interpreter)
+        }
+        None => await_operand(place, State::Assigned, e, stack),
+    }
+}
 
 /// Begins an assignment whose value is used.
 pub(crate) fn begin_assignment(
@@ -36,8 +86,12 @@ pub(crate) fn begin_assignment(
         (stack_of plan.now stack.old) interpreter.old result stack.new interpreter.new }
 {
     match node {
-        AssignmentNode::Assign(_, e) => await_operand(place, State::Assigned, e, stack),
-        AssignmentNode::AssignBy(_, _, e) => await_operand(place, State::Assigned, e, stack),
+        AssignmentNode::Assign(number, e) => {
+            begin_assign(plan, place, number, e, stack, interpreter)
+        }
+        AssignmentNode::AssignBy(operator, number, e) => {
+            begin_assign_by(plan, place, operator, number, e, stack, interpreter)
+        }
         AssignmentNode::PreIncrement(operator, number) => {
             let value = pre_increment(operator, number, name(plan, number), interpreter)?;
             Ok(give(value, stack))

@@ -1,24 +1,24 @@
 // The moves of expressions: each begins with its first operand, and goes on where that has returned its value.
 
 ghost use Rattle.std.specs.Prelude.{◌≡◌, ◌∷◌, ◌<◌, length, None, Ok, Some, slice_get};
-ghost use Rattle.awk_value.specs.Values.{truth_of};
 ghost use Rattle.awk_plan.specs.Plan.{operand_of, made_expr, part_of};
 ghost use Rattle.awk_plan.specs.Order.{HasEre};
 ghost use Rattle.awk_plan.specs.declared.node.Node.TheVariants.{Expression};
-ghost use Rattle.awk_tree.specs.Tree.{Binary, Field};
+ghost use Rattle.awk_tree.specs.Tree.{Unary, Binary, Field};
 ghost use Rattle.awk_meaning.specs.Operators.{takes_pattern};
 ghost use Rattle.awk_expressions.specs.support.Nodes.{IsPatternOperand};
 ghost use Rattle.awk_control.specs.Control.{HasRoom};
 ghost use Rattle.awk_control.specs.declared.entry.Awaited.TheVariants as awaited;
 ghost use Rattle.awk_control.specs.Entries.{awaited_at, GoesRight};
-ghost use Rattle.awk_control.specs.Stack.{BeginExpr, Ended, LeftOperand, AndLeft, OrLeft, Condition, value_in};
-ghost use Rattle.awk_control.specs.Moves.{ReadsLeaf, Steps, stack_of, topped, flow_of};
+ghost use Rattle.awk_control.specs.Stack.{BeginExpr, Ended, LeftOperand, value_in};
+ghost use Rattle.awk_control.specs.Moves.{Steps, stack_of, topped, flow_of};
 
 use crate::assignment_moves::{
     begin_assignment, end_assigned, end_assigned_by, end_stored, end_stored_by,
 };
 use crate::awaiting::{await_operand, give, is_returned_true, take_value};
-use crate::nodes::{constant, expression, name, pattern_operand, record_matches};
+use crate::nodes::{constant, expression, leaf, name, pattern_operand, record_matches};
+use crate::short_circuit::{begin_and, begin_conditional, begin_or, chosen, end_and, end_or};
 use awk_control::entry::{OperandEntry, State};
 use awk_control::stack::{Focus, Move, Passed, Stack};
 use awk_fast_path::found;
@@ -29,23 +29,6 @@ use awk_plan::node::{ExprNode, Operand};
 use awk_plan::plan::Plan;
 use awk_tree::tree::{BinaryOperator, UnaryOperator};
 use awk_value::Value;
-
-/// The value of an operand that is a constant or a variable.
-fn leaf(plan: &Plan, e: Operand, interpreter: &mut Interpreter) -> Result<Option<Value>, Halt>
-    ensures { ReadsLeaf (operand_of plan.now e) interpreter.old result interpreter.new }
-{
-    match e {
-        Operand::Constant(number) => {
-            let value = constant(plan, number)?;
-            Ok(Some(value))
-        }
-        Operand::Variable(number) => {
-            let value = interpreter.read_variable(number, name(plan, number))?;
-            Ok(Some(value))
-        }
-        Operand::Node(_) => Ok(None),
-    }
-}
 
 /// Begins an operator between two operands; a left one that is a leaf is read at once.
 fn begin_binary(
@@ -88,6 +71,30 @@ fn begin_field(
             Ok(give(value, stack))
         }
         None => await_operand(place, State::FieldNumber, e, stack),
+    }
+}
+
+/// Begins an operator that has one operand; one that is a leaf is read at once.
+fn begin_unary(
+    plan: &Plan,
+    place: u32,
+    operator: UnaryOperator,
+    e: Operand,
+    stack: &mut Stack,
+    interpreter: &mut Interpreter,
+) -> Result<Move, Halt>
+    requires room { HasRoom stack.old.control }
+    requires at { slice_get plan.now.nodes place ≡ Some (Expression (ExprNode.Unary operator e)) }
+    ensures { Steps plan.now (BeginExpr (Unary operator (operand_of plan.now e))) (stack_of plan.now stack.old)
+        interpreter.old result stack.new interpreter.new }
+{
+    let operand = leaf(plan, e, interpreter)?;
+    match operand {
+        Some(value) => {
+            let changed = change(operator, &value)?;
+            Ok(give(changed, stack))
+        }
+        None => await_operand(place, State::Unary, e, stack),
     }
 }
 
@@ -160,13 +167,15 @@ fn begin_node(
             Ok(give(value, stack))
         }
         ExprNode::Field(e) => begin_field(plan, place, e, stack, interpreter),
-        ExprNode::Unary(_, e) => await_operand(place, State::Unary, e, stack),
+        ExprNode::Unary(operator, e) => begin_unary(plan, place, operator, e, stack, interpreter),
         ExprNode::Binary(operator, a, b) => {
             begin_binary(plan, place, operator, a, b, stack, interpreter)
         }
-        ExprNode::And(a, _) => await_operand(place, State::Left, a, stack),
-        ExprNode::Or(a, _) => await_operand(place, State::Left, a, stack),
-        ExprNode::Conditional(c, _, _) => await_operand(place, State::Condition, c, stack),
+        ExprNode::And(a, b) => begin_and(plan, place, a, b, stack, interpreter),
+        ExprNode::Or(a, b) => begin_or(plan, place, a, b, stack, interpreter),
+        ExprNode::Conditional(c, a, b) => {
+            begin_conditional(plan, place, c, a, b, stack, interpreter)
+        }
         ExprNode::Assignment(node) => begin_assignment(plan, place, node, stack, interpreter),
     }
 }
@@ -223,44 +232,6 @@ fn end_left(
             Ok(give(value, stack))
         }
         None => begin_right(plan, place, operator, b, x, stack, interpreter),
-    }
-}
-
-/// Goes on behind the left operand of `&&`: the right one is evaluated where that is true.
-fn end_and(place: u32, b: Operand, is_true: bool, stack: &mut Stack) -> Result<Move, Halt>
-    requires room { HasRoom stack.old.control }
-    ensures { (plan : _) (g : _) (m : _) → truth_of (value_in g) ≡ is_true → Steps plan (Ended g) (AndLeft (operand_of plan b)
-        ∷ stack_of plan stack.old) m result stack.new m }
-{
-    if is_true {
-        await_operand(place, State::LogicalRight, b, stack)
-    } else {
-        Ok(give(truth_value(false), stack))
-    }
-}
-
-/// Goes on behind the left operand of `||`: the right one is evaluated where that is false.
-fn end_or(place: u32, b: Operand, is_true: bool, stack: &mut Stack) -> Result<Move, Halt>
-    requires room { HasRoom stack.old.control }
-    ensures { (plan : _) (g : _) (m : _) → truth_of (value_in g) ≡ is_true → Steps plan (Ended g) (OrLeft (operand_of plan b)
-        ∷ stack_of plan stack.old) m result stack.new m }
-{
-    if is_true {
-        Ok(give(truth_value(true), stack))
-    } else {
-        await_operand(place, State::LogicalRight, b, stack)
-    }
-}
-
-/// What `?:` goes on with behind its condition.
-fn chosen(a: Operand, b: Operand, is_true: bool) -> Move
-    ensures { (plan : _) (g : _) (stack : _) (m : _) → truth_of (value_in g) ≡ is_true → Steps plan (Ended g) (Condition
-        (operand_of plan a) (operand_of plan b) ∷ stack_of plan stack) m (Ok result) stack m }
-{
-    if is_true {
-        Move::On(Focus::Expr(a))
-    } else {
-        Move::On(Focus::Expr(b))
     }
 }
 
@@ -330,8 +301,14 @@ pub fn end_operand(
         OperandEntry::StoredBy(operator, number) => {
             end_stored_by(plan, operator, number, passed, stack, interpreter)
         }
-        OperandEntry::AndLeft(b) => end_and(place, b, is_returned_true(passed, stack), stack),
-        OperandEntry::OrLeft(b) => end_or(place, b, is_returned_true(passed, stack), stack),
+        OperandEntry::AndLeft(b) => {
+            let holds = is_returned_true(passed, stack);
+            end_and(plan, place, b, holds, stack, interpreter)
+        }
+        OperandEntry::OrLeft(b) => {
+            let holds = is_returned_true(passed, stack);
+            end_or(plan, place, b, holds, stack, interpreter)
+        }
         OperandEntry::LogicalRight => {
             let truth = truth_value(is_returned_true(passed, stack));
             Ok(give(truth, stack))

@@ -7,3 +7,4 @@ pub mod awaiting;
 pub mod expressions;
 mod nodes;
 pub mod patterns;
+mod short_circuit;

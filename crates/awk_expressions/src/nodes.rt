@@ -3,7 +3,8 @@
 ghost use Rattle.std.specs.Prelude.{◌≡◌, IfSome, Some, option_map, slice_get};
 ghost use Rattle.awk_plan.specs.Plan.{operand_of, name_at};
 ghost use Rattle.awk_plan.specs.declared.node.Operand.TheVariants.{Constant, Variable};
-ghost use Rattle.awk_tree.specs.Tree.{Ere as Pattern};
+ghost use Rattle.awk_tree.specs.Tree.{Ere as Pattern, Field};
+ghost use Rattle.awk_control.specs.Moves.{ReadsLeaf};
 ghost use Rattle.awk_meaning.specs.Operators.{takes_pattern};
 ghost use Rattle.awk_meaning.specs.Semantics.{eval};
 ghost use Rattle.awk_interpreter.specs.Simulation.{Changes};
@@ -50,6 +51,41 @@ pub(crate) fn name(plan: &Plan, number: u32) -> &[u8]
     match plan.names().get(number) {
         Some(name) => name,
         None => b"",
+    }
+}
+
+/// The field of a constant number.
+fn constant_field(plan: &Plan, number: u32, interpreter: &mut Interpreter) -> Result<Value, Halt>
+    ensures { Changes (eval (Field (operand_of plan.now (Constant number)))) interpreter.old interpreter.new result }
+{
+    let at = constant(plan, number)?;
+    interpreter.field_at(&at)
+}
+
+/// The value of a leaf: a constant, a variable, or the field of a constant number. Of another operand nothing changes.
+pub(crate) fn leaf(
+    plan: &Plan,
+    e: Operand,
+    interpreter: &mut Interpreter,
+) -> Result<Option<Value>, Halt>
+    ensures { ReadsLeaf (operand_of plan.now e) interpreter.old result interpreter.new }
+{
+    match e {
+        Operand::Constant(number) => {
+            let value = constant(plan, number)?;
+            Ok(Some(value))
+        }
+        Operand::Variable(number) => {
+            let value = interpreter.read_variable(number, name(plan, number))?;
+            Ok(Some(value))
+        }
+        Operand::Node(place) => match expression(plan, place) {
+            Some(ExprNode::Field(Operand::Constant(number))) => {
+                let value = constant_field(plan, number, interpreter)?;
+                Ok(Some(value))
+            }
+            _ => Ok(None),
+        },
     }
 }
 

@@ -1,8 +1,10 @@
 // Conditions with EREs of the program that are tested without an entry: one that stands alone, with the record, and one right of
 // `~` or `!~`, where the operand left of it is found in place; and `&&`, `||` and `!` over these and what is tested in place.
 
-ghost use Rattle.std.specs.Prelude.{◌≡◌};
-ghost use Rattle.awk_plan.specs.Plan.{operand_of};
+ghost use Rattle.std.specs.Prelude.{◌≡◌, length};
+ghost use Rattle.awk_plan.specs.Plan.{operand_of, made_expr, part_of};
+ghost use Rattle.awk_plan.specs.Order.{HasEre};
+ghost use Rattle.awk_plan.specs.declared.node.Node.TheVariants.{Expression};
 ghost use Rattle.awk_tree.specs.Tree.{Binary};
 ghost use Rattle.awk_expressions.specs.support.Matches.{TestsMatch, TestsCondition, known_of};
 
@@ -10,6 +12,7 @@ use crate::nodes::{expression, pattern_operand, record_matches};
 use awk_fast_path::{found, test};
 use awk_interpreter::Interpreter;
 use awk_meaning::Halt;
+use awk_operators::takes_pattern;
 use awk_plan::node::{ExprNode, Operand};
 use awk_plan::plan::Plan;
 use awk_tree::tree::{BinaryOperator, UnaryOperator};
@@ -36,21 +39,27 @@ fn test_operand(
     Ok(Some(is_true(&value)))
 }
 
-/// Whether an expression is true that is an ERE of the program, or `~` or `!~` with one behind an operand that is found in
-/// place. Of another expression nothing is told, and nothing changes.
-fn test_match(plan: &Plan, e: Operand, interpreter: &mut Interpreter) -> Result<Option<bool>, Halt>
+/// Whether the expression of a node is true: of an ERE of the program, of `~` or `!~` with one behind an operand that is found
+/// in place, or of what is found in place itself. Of another one nothing is told, and nothing changes.
+fn test_node(
+    plan: &Plan,
+    e: Operand,
+    node: ExprNode,
+    interpreter: &mut Interpreter,
+) -> Result<Option<bool>, Halt>
+    requires read { HasEre (length plan.now.tables.eres) (Expression node) }
+    requires at { operand_of plan.now e ≡ made_expr plan.now.tables (part_of plan.now) node }
     ensures { TestsMatch (operand_of plan.now e) interpreter.old result interpreter.new }
 {
-    let Operand::Node(place) = e else {
-        return Ok(None);
-    };
-    match expression(plan, place) {
-        Some(ExprNode::Ere(number)) => {
+    match node {
+        ExprNode::Ere(number) => {
             let value = record_matches(plan.ere(number), interpreter)?;
             Ok(Some(is_true(&value)))
         }
-        Some(ExprNode::Binary(operator, a, b)) => test_operand(plan, operator, a, b, interpreter),
-        _ => Ok(None),
+        ExprNode::Binary(operator, a, b) if takes_pattern(operator) => {
+            test_operand(plan, operator, a, b, interpreter)
+        }
+        _ => Ok(test(plan, e, interpreter)),
     }
 }
 
@@ -58,10 +67,13 @@ fn test_match(plan: &Plan, e: Operand, interpreter: &mut Interpreter) -> Result<
 fn test_alone(plan: &Plan, e: Operand, interpreter: &mut Interpreter) -> Result<Option<bool>, Halt>
     ensures { TestsMatch (operand_of plan.now e) interpreter.old result interpreter.new }
 {
-    if let Some(matches) = test_match(plan, e, interpreter)? {
-        return Ok(Some(matches));
+    let Operand::Node(place) = e else {
+        return Ok(test(plan, e, interpreter));
+    };
+    match expression(plan, place) {
+        Some(node) => test_node(plan, e, node, interpreter),
+        None => Ok(None),
     }
-    Ok(test(plan, e, interpreter))
 }
 
 /// What is known of a condition.
@@ -111,9 +123,10 @@ pub fn test_condition(plan: &Plan, e: Operand, interpreter: &mut Interpreter) ->
             Some(false) => Ok(Known::As(b)),
             None => Ok(Known::Nothing),
         },
-        _ => {
-            let truth = test_alone(plan, e, interpreter)?;
+        Some(node) => {
+            let truth = test_node(plan, e, node, interpreter)?;
             Ok(Known::of(truth))
         }
+        None => Ok(Known::Nothing),
     }
 }

@@ -1,17 +1,18 @@
-use Rattle.std.proofs.Common.{refl, arith}
 use Rattle.std.proofs.lemmas.Result.{err_from_is_err_and}
-use Rattle.awk_control.proofs.Entries.{waits}
-use Rattle.awk_control.proofs.ExprMoves.{assign_begins, assign_by_begins}
-use Rattle.awk_control.proofs.Steps.{awaited_plain}
-use Rattle.awk_control.specs.declared.entry.State.TheVariants as state
 use Rattle.awk_expressions.proofs.LeafMoves.{leaf_steps, leaf_stops, pre_evaluates, post_evaluates}
 use Rattle.awk_expressions.proofs.assignment_moves.begin_assignment.Goals as goal
 
 pub returns-in-Assign : goal.returns-in-Assign
-returns-in-Assign c = rw c.in-Assign.is (awaited_plain _ (waits c.args.plan.now state.Assigned c.args.place (rw c.in-Assign.is at c.requires.at)) refl c.await_operand.ensures (λ k. assign_begins _ _) (omega arith))
+returns-in-Assign c = rw c.in-Assign.is c.begin_assign.ensures
 
 pub returns-in-AssignBy : goal.returns-in-AssignBy
-returns-in-AssignBy c = rw c.in-AssignBy.is (awaited_plain _ (waits c.args.plan.now state.Assigned c.args.place (rw c.in-AssignBy.is at c.requires.at)) refl c.await_operand-in-AssignBy.ensures (λ k. assign_by_begins _ _ _) (omega arith))
+returns-in-AssignBy c = rw c.in-AssignBy.is c.begin_assign_by.ensures
+
+pub begin_assign-requires : goal.begin_assign-requires
+begin_assign-requires c = record { room = c.requires.room; at = rw c.in-Assign.is at c.requires.at }
+
+pub begin_assign_by-requires : goal.begin_assign_by-requires
+begin_assign_by-requires c = record { room = c.requires.room; at = rw c.in-AssignBy.is at c.requires.at }
 
 pub returns-in_err-value-in-PreIncrement : goal.returns-in_err-value-in-PreIncrement
 returns-in_err-value-in-PreIncrement c =

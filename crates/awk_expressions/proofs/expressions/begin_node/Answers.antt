@@ -1,11 +1,9 @@
 use Rattle.std.proofs.Common.{refl, arith, []}
 use Rattle.std.proofs.lemmas.Result.{err_from_is_err_and}
 use Rattle.std.proofs.lemmas.Option.{get_or_from_slice_get}
-use Rattle.awk_control.proofs.ExprMoves.{group_begins, unary_begins, and_begins, or_begins, conditional_begins}
+use Rattle.awk_control.proofs.ExprMoves.{group_begins}
 use Rattle.awk_expressions.proofs.LeafMoves.{leaf_steps, leaf_stops, name_evaluates}
-use Rattle.awk_control.proofs.Steps.{onward, awaited_plain}
-use Rattle.awk_control.proofs.Entries.{waits}
-use Rattle.awk_control.specs.declared.entry.State.TheVariants as state
+use Rattle.awk_control.proofs.Steps.{onward}
 use Rattle.awk_expressions.proofs.expressions.begin_node.Goals as goal
 
 pub returns-in-Group : goal.returns-in-Group
@@ -15,25 +13,37 @@ pub returns-in-Field : goal.returns-in-Field
 returns-in-Field c = rw c.in-Field.is c.begin_field.ensures
 
 pub returns-in-Unary : goal.returns-in-Unary
-returns-in-Unary c = rw c.in-Unary.is (awaited_plain _ (waits c.args.plan.now state.Unary c.args.place (rw c.in-Unary.is at c.requires.at)) refl c.await_operand.ensures (λ k. unary_begins _ _) (omega arith))
+returns-in-Unary c = rw c.in-Unary.is c.begin_unary.ensures
 
 pub returns-in-Binary : goal.returns-in-Binary
 returns-in-Binary c = rw c.in-Binary.is c.begin_binary.ensures
 
 pub returns-in-And : goal.returns-in-And
-returns-in-And c = rw c.in-And.is (awaited_plain _ (waits c.args.plan.now state.Left c.args.place (rw c.in-And.is at c.requires.at)) refl c.await_operand-in-And.ensures (λ k. and_begins _ _) (omega arith))
+returns-in-And c = rw c.in-And.is c.begin_and.ensures
 
 pub returns-in-Or : goal.returns-in-Or
-returns-in-Or c = rw c.in-Or.is (awaited_plain _ (waits c.args.plan.now state.Left c.args.place (rw c.in-Or.is at c.requires.at)) refl c.await_operand-in-Or.ensures (λ k. or_begins _ _) (omega arith))
+returns-in-Or c = rw c.in-Or.is c.begin_or.ensures
 
 pub returns-in-Conditional : goal.returns-in-Conditional
-returns-in-Conditional c = rw c.in-Conditional.is (awaited_plain _ (waits c.args.plan.now state.Condition c.args.place (rw c.in-Conditional.is at c.requires.at)) refl c.await_operand-in-Conditional.ensures (λ k. conditional_begins _ _ _) (omega arith))
+returns-in-Conditional c = rw c.in-Conditional.is c.begin_conditional.ensures
 
 pub returns-in-Assignment : goal.returns-in-Assignment
 returns-in-Assignment c = rw c.in-Assignment.is c.begin_assignment.ensures
 
 pub begin_binary-requires : goal.begin_binary-requires
 begin_binary-requires c = record { room = c.requires.room; at = rw c.in-Binary.is at c.requires.at }
+
+pub begin_unary-requires : goal.begin_unary-requires
+begin_unary-requires c = record { room = c.requires.room; at = rw c.in-Unary.is at c.requires.at }
+
+pub begin_and-requires : goal.begin_and-requires
+begin_and-requires c = record { room = c.requires.room; at = rw c.in-And.is at c.requires.at }
+
+pub begin_or-requires : goal.begin_or-requires
+begin_or-requires c = record { room = c.requires.room; at = rw c.in-Or.is at c.requires.at }
+
+pub begin_conditional-requires : goal.begin_conditional-requires
+begin_conditional-requires c = record { room = c.requires.room; at = rw c.in-Conditional.is at c.requires.at }
 
 pub begin_assignment-requires : goal.begin_assignment-requires
 begin_assignment-requires c = record { room = c.requires.room; at = rw c.in-Assignment.is at c.requires.at }

@@ -22,13 +22,13 @@ pub returns-in-AssignedBy : goal.returns-in-AssignedBy
 returns-in-AssignedBy c = rw c.in-AssignedBy.is c.end_assigned_by.ensures
 
 pub returns-in-AndLeft : goal.returns-in-AndLeft
-returns-in-AndLeft c = rw c.in-AndLeft.is (c.end_and.ensures _ _ _ (sym c.is_returned_true.ensures))
+returns-in-AndLeft c = rw c.in-AndLeft.is (c.end_and.ensures _ (sym c.is_returned_true-holds.ensures))
 
 pub returns-in-OrLeft : goal.returns-in-OrLeft
-returns-in-OrLeft c = rw c.in-OrLeft.is (c.end_or.ensures _ _ _ (sym c.is_returned_true-in-OrLeft.ensures))
+returns-in-OrLeft c = rw c.in-OrLeft.is (c.end_or.ensures _ (sym c.is_returned_true-holds-in-OrLeft.ensures))
 
 pub returns-in-LogicalRight : goal.returns-in-LogicalRight
-returns-in-LogicalRight c = rw (c.in-LogicalRight.is, c.give.ensures.gives, c.give.ensures.stack, c.truth_value-truth.ensures, c.is_returned_true-in-LogicalRight.ensures) (logical_steps c.args.stack.now _)
+returns-in-LogicalRight c = rw (c.in-LogicalRight.is, c.give.ensures.gives, c.give.ensures.stack, c.truth_value-truth.ensures, c.is_returned_true.ensures) (logical_steps c.args.stack.now _)
 
 pub returns-in-Condition : goal.returns-in-Condition
 returns-in-Condition c = rw c.in-Condition.is (c.chosen.ensures _ _ _ _ (sym c.is_returned_true-in-Condition.ensures))

@@ -1,7 +1,8 @@
 use Rattle.awk_expressions.proofs.Tested.{found_matches}
 use Rattle.awk_expressions.proofs.patterns.test_alone.Goals as goal
 
-pub returns : goal.returns
-returns c =
-    let same = rw c.in_default.is at (c.in_ok-matches.ensures {u = tt}) in
-    rw same at (found_matches _ _ c.test.ensures.kept c.test.ensures.found)
+pub returns-in_default : goal.returns-in_default
+returns-in_default c = found_matches _ _ c.test.ensures.kept c.test.ensures.found
+
+pub test_node-requires : goal.test_node-requires
+test_node-requires c = record { read = c.in-Some.ensures.expression.1; at = c.in-Some.ensures.expression.0 }

@@ -29,10 +29,10 @@ returns-in-Some-Group c =
     let is = rw c.in-Some-Group.field-0-is at c.in-Some-Group.ensures.expression.0 in
     rw (c.in-Node.is, is) (Inside _ _)
 
-pub returns-in-Some : goal.returns-in-Some
-returns-in-Some c =
+pub returns-in-Some-2 : goal.returns-in-Some-2
+returns-in-Some-2 c =
     let is = rw (c.in-Some-Unary-Not-default.field-0-is, c.in-Some-Unary-Not-default.field-0-0-is) at c.in-Some-Unary-Not-default.ensures.expression.0 in
-    rw (c.in-Node.is, is) (not_tested _ (rw c.in-Some.is at (c.in_ok-holds-in-Some-Unary-Not-default.ensures {u = tt})))
+    rw (c.in-Node.is, is) (not_tested _ (rw c.in-Some-2.is at (c.in_ok-holds-in-Some-Unary-Not-default.ensures {u = tt})))
 
 pub returns-in-Some-true : goal.returns-in-Some-true
 returns-in-Some-true c =
