@@ -1,5 +1,5 @@
-// Conditions with EREs of the program that are tested without an entry: one that stands alone, with the record, and one right of
-// `~` or `!~`, where the operand left of it is found in place; and `&&`, `||` and `!` over these and what is tested in place.
+// Conditions with EREs of the program that are tested without an entry: one that stands alone, with the record, and one right
+// of `~` or `!~`, where the operand left of it is found in place; and `&&`, `||` and `!` over these and what is tested in place.
 
 ghost use Rattle.std.specs.Prelude.{◌≡◌, length};
 ghost use Rattle.awk_plan.specs.Plan.{operand_of, made_expr, part_of};
