@@ -36,6 +36,21 @@ $ { print $1 ? "yes" : "no" }
 > yes
 > no
 = 0
+operands that are constants, variables and fields, beside ones that change something
+$ BEGIN { a = "a"; e = ""; print !a, !e, -"3x", +"3x", a && n++, a && n++, n++ && a, n++ && e, e && n++, e || n++, n++ || e, n++ || "x", n }
+> 0 1 -3 3 0 1 1 0 0 1 1 1 7
+= 0
+$ { print !$1, -$2, $1 && n++, n++ && $2, n++ || $3, $1 ? n++ : m--, $9 ? n++ : "none", n, m }
+< a 5
+<
+< 0 x y
+> 0 -5 0 1 1 3 none 4 
+> 1 0 0 0 1 0 none 6 -1
+> 1 0 0 1 1 -1 none 8 -2
+= 0
+$ BEGIN { a = "5x"; print a "" n++, n++ a, a + n++, n++ + a, $(n - n) n++, (a < n++), (n++ == a) }
+> 5x0 15x 7 8 4 0 0
+= 0
 $ $1 > 1 && $1 < 4 || /x/
 < 1
 < 2
@@ -54,6 +69,15 @@ $ BEGIN { x = 5; x += 2; print x; x -= 3; print x; x *= x; print x; x /= 3; prin
 > 5
 > 2
 > 8
+= 0
+a value that is a constant, a variable or a field, where the assignment's value is used
+$ { print (y = $1), (z = y), (w += $2), (w -= "3x"), (w *= z), (v = e) "v", y z w }
+< a 5
+<
+< 0 7x y
+> a a 5 2 0 v aa0
+>   0 -3 0 v 0
+> 0 0 7 4 0 v 000
 = 0
 $ BEGIN { print x += 2, x -= 5, x *= -2 }
 > 2 -3 6
