@@ -1,3 +1,4 @@
 mod PrintsInPlace
 mod Printing
 mod Acting
+mod Advancing

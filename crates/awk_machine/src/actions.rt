@@ -12,17 +12,17 @@ ghost use Rattle.awk_control.specs.Moves.{Runs, ran};
 ghost use Rattle.awk_machine.specs.support.Acted.{Decides};
 
 use crate::machine::{holds, run};
-use crate::prints_in_place::execute_print;
-use awk_control::blocks::{block, simple};
+use crate::prints_in_place::print_at;
+use awk_control::blocks::block;
 use awk_control::stack::{Focus, Passed, Stack};
 use awk_fast_path::{Ran, execute};
 use awk_interpreter::Interpreter;
 use awk_meaning::Halt;
-use awk_plan::node::{BlockNode, Node, Operand, SimpleNode, StatementNode};
+use awk_plan::node::{BlockNode, Node, Operand, StatementNode};
 use awk_plan::plan::Plan;
 use awk_streams::World;
 
-/// Executes a print in place, and any other statement on the stack.
+/// Executes a print in place, if its values are found there, and any other statement on the stack.
 fn print_or_run<W: World>(
     plan: &Plan,
     place: u32,
@@ -34,10 +34,8 @@ fn print_or_run<W: World>(
     ensures { Runs W.is_logged (BeginStatement (statement_in (part_of plan.now place))) interpreter.old (W.state world.old)
         interpreter.new (W.state world.new) (ran result stack.new.returned) }
 {
-    if let Some(SimpleNode::Print(list)) = simple(plan, place) {
-        if execute_print(plan, list, &mut stack.line, interpreter, world)? {
-            return Ok(Passed::Normal);
-        }
+    if print_at(plan, place, &mut stack.line, interpreter, world)? {
+        return Ok(Passed::Normal);
     }
     run(plan, Focus::Statement(place), stack, interpreter, world)
 }

@@ -7,6 +7,7 @@ mod machine;
 mod prints;
 mod prints_in_place;
 mod statements;
+mod turns;
 
 pub use crate::actions::run_action;
 pub use crate::prints_in_place::print_record;

@@ -156,7 +156,9 @@ fn resume<W: World>(
         Awaited::Statement(awaited) => {
             end_statement(plan, awaited, passed, stack, interpreter, world)
         }
-        Awaited::Loop(awaited, l) => end_loop(plan, awaited, l, passed, stack, interpreter),
+        Awaited::Loop(awaited, l) => {
+            end_loop(plan, awaited, l, passed, stack, interpreter, world)
+        }
     }
 }
 

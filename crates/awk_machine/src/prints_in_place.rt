@@ -1,17 +1,19 @@
 // Prints. The values of a list are looked for in place, in its order, and a list of which one isn't found is left to the stack:
 // what was found until then has changed nothing.
 
-ghost use Rattle.std.specs.Prelude.{◌≡◌, true, ◌<◌, IfOk, slice_get};
-ghost use Rattle.awk_plan.specs.Plan.{part_of, exprs_in};
+ghost use Rattle.std.specs.Prelude.{◌≡◌, true, ◌<◌, IfOk, Ok, slice_get};
+ghost use Rattle.awk_plan.specs.Plan.{part_of, exprs_in, statement_in};
 ghost use Rattle.awk_tree.specs.Tree.{Nil};
 ghost use Rattle.awk_meaning.specs.Semantics.{print};
 ghost use Rattle.awk_interpreter.specs.Simulation.{Follows};
 ghost use Rattle.awk_machine.specs.support.Printed.{IsList, list_node, FindsAll, PrintsList, PrintsBy};
+ghost use Rattle.awk_machine.specs.support.Advanced.{PrintsAt};
 
+use awk_control::blocks::simple;
 use awk_fast_path::found;
 use awk_interpreter::Interpreter;
 use awk_meaning::Halt;
-use awk_plan::node::{ListNode, Node};
+use awk_plan::node::{ListNode, Node, SimpleNode};
 use awk_plan::plan::Plan;
 use awk_streams::World;
 use awk_value::Value;
@@ -103,8 +105,9 @@ pub(crate) fn execute_print<W: World>(
     interpreter: &mut Interpreter,
     world: &mut W,
 ) -> Result<bool, Halt>
-    ensures { PrintsBy W.is_logged (exprs_in (part_of plan.now place)) interpreter.old (W.state world.old) result
+    ensures prints { PrintsBy W.is_logged (exprs_in (part_of plan.now place)) interpreter.old (W.state world.old) result
         interpreter.new (W.state world.new) }
+    ensures falls { result ≡ Ok true → interpreter.new.steps < interpreter.old.steps }
 {
     match list(plan, place) {
         ListNode::Nil => {
@@ -122,4 +125,24 @@ pub(crate) fn execute_print<W: World>(
             Ok(false)
         }
     }
+}
+
+/// Executes the statement at a place, if that is a print whose values are found in place. Else nothing changes. What stood in the
+/// room is gone.
+pub(crate) fn print_at<W: World>(
+    plan: &Plan,
+    place: u32,
+    values: &mut Vec<Value>,
+    interpreter: &mut Interpreter,
+    world: &mut W,
+) -> Result<bool, Halt>
+    ensures { PrintsAt W.is_logged (statement_in (part_of plan.now place)) interpreter.old (W.state world.old) result
+        interpreter.new (W.state world.new) }
+{
+    if let Some(SimpleNode::Print(list)) = simple(plan, place) {
+        if execute_print(plan, list, values, interpreter, world)? {
+            return Ok(true);
+        }
+    }
+    Ok(false)
 }

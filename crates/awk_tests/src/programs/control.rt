@@ -160,6 +160,80 @@ $ { n += NR; $0 == "b" ? m++ : m--; last = $0 } END { print n, m, last, x + 0, x
 < b
 > 3 0 b 0 !
 = 0
+prints among the statements of a loop
+$ BEGIN { for (i = 0; i < 4; i++) { print i; x += i; print x; if (i == 2) break; print "b" } print "end" }
+> 0
+> 0
+> b
+> 1
+> 1
+> b
+> 2
+> 3
+> end
+= 0
+$ { for (i = 1; i <= NF; i++) print $i }
+< a b
+<
+< c
+> a
+> b
+> c
+= 0
+$ BEGIN { for (i = 0; i < 3; i++) { if (i == 1) continue; print i; y = i; print y } do { print n; n++ } while (n < 3); print n++ "" n }
+> 0
+> 0
+> 2
+> 2
+>
+> 1
+> 2
+> 34
+= 0
+$ BEGIN { for (; m < 2; print m) m++; for (a = 0; a < 2; a++) for (b = 0; b < 2; b++) { print a, b; print; { print "c" } } while (k++ < 2) { print k, j++ } print j }
+> 1
+> 2
+> 0 0
+>
+> c
+> 0 1
+>
+> c
+> 1 0
+>
+> c
+> 1 1
+>
+> c
+> 1 0
+> 2 1
+> 2
+= 0
+$ BEGIN { while (1) { print "a"; if (i++ == 1) exit 4; print "b" } } END { print "end" }
+> a
+> b
+> a
+> end
+= 4
+the steps run out before a print, and behind it
+$ -L3
+$ BEGIN { for (;;) { print "a"; print n++; print "b" } }
+> a
+! awk: stopped: step limit reached
+= 3
+$ -L4
+$ BEGIN { for (;;) { print "a"; print n++; print "b" } }
+> a
+> 0
+! awk: stopped: step limit reached
+= 3
+$ -L5
+$ BEGIN { for (;;) { print "a"; print n++; print "b" } }
+> a
+> 0
+> b
+! awk: stopped: step limit reached
+= 3
 "#;
 
 const ENDS: &str = r#"

@@ -1,14 +1,16 @@
+use Rattle.std.proofs.Common.{[]}
 use Rattle.std.proofs.lemmas.Result.{err_from_is_err_and}
-use Rattle.awk_machine.proofs.Acting.{printed, print_halted}
+use Rattle.awk_meaning.specs.declared.flow.Flow.TheVariants as flow
+use Rattle.awk_control.proofs.Walking.{whole}
+use Rattle.awk_machine.proofs.Acting.{runs_ended}
 use Rattle.awk_machine.proofs.actions.print_or_run.Goals as goal
 
-pub returns-in_err-execute_print : goal.returns-in_err-execute_print
-returns-in_err-execute_print g c =
+pub returns-in_err-print_at : goal.returns-in_err-print_at
+returns-in_err-print_at g c =
     let p = err_from_is_err_and c.from_residual.result c.from_residual.ensures.1 in
-    let s = rw c.in-Some-Print.field-0-is at c.in-Some-Print.ensures.0 in
-    rw (p.1, p.2, s) (print_halted _ c.in_err-execute_print.ensures)
+    rw (p.1, p.2) (whole _ (c.in_err-print_at.ensures []))
 
 pub returns-then-branch : goal.returns-then-branch
 returns-then-branch g c =
-    let s = rw c.in-Some-Print.field-0-is at c.in-Some-Print.ensures.0 in
-    rw s (printed _ (rw c.if-branch.true at c.in_ok-execute_print.ensures))
+    let q = rw c.if-branch.true at c.in_ok-print_at.ensures in
+    runs_ended _ flow.Normal (q.leads [])

@@ -8,7 +8,7 @@ pub returns-in-Statement : goal.returns-in-Statement
 returns-in-Statement g c = rw (← c.read_entry.ensures.awaited, c.in-Statement.is) c.end_statement.ensures
 
 pub returns-in-Loop : goal.returns-in-Loop
-returns-in-Loop g c = rw (← c.read_entry.ensures.awaited, c.in-Loop.is) (stepped _ c.end_loop.ensures)
+returns-in-Loop g c = rw (← c.read_entry.ensures.awaited, c.in-Loop.is) c.end_loop.ensures
 
 pub end_operand-requires : goal.end_operand-requires
 end_operand-requires g c = record { room = c.requires.room; right = rw c.in-Expr.is at c.read_entry.ensures.right }
