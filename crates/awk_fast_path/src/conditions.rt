@@ -16,6 +16,7 @@ use awk_tree::tree::{BinaryOperator, UnaryOperator};
 use awk_value::{compare, is_true};
 
 /// Whether a comparison of two operands is true, if they are found in place: their numbers first, and else their values.
+#[inline(always)]
 fn compare_operands(
     plan: &Plan,
     operator: BinaryOperator,

@@ -42,9 +42,9 @@ fn variable(plan: &Plan, number: u32, interpreter: &Interpreter) -> Option<i128>
 pub(crate) fn named_number(number: u32, name: &[u8], interpreter: &Interpreter) -> Option<i128>
     ensures { IfSome result (λ n. HasNumber (read_name name.now) interpreter.now n) }
 {
-    match interpreter.value_at(number, name) {
-        Some(value) => numeric_of(value),
-        None => None,
+    match interpreter.value_at(number, name)? {
+        Value::Number(n) => Some(*n),
+        value => numeric_of(value),
     }
 }
 
