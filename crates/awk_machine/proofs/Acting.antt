@@ -1,5 +1,5 @@
 -- Actions: each statement leads to the next one, and an `if` to the statement that it chooses.
-use Rattle.std.proofs.Common.{◌≢◌, ◌<◌, Bool, true, false, List, [], ◌∷◌, Result, Ok, Err, refl, sym, arith}
+use Rattle.std.proofs.Common.{◌≡◌, ◌≢◌, ◌<◌, Bool, true, false, List, [], ◌∷◌, None, Result, Ok, Err, reverse, refl, sym, ap, subst, arith}
 use Rattle.awk_value.specs.Values.{truth_of}
 use Rattle.awk_streams.specs.WorldState.{WorldState}
 use Rattle.awk_tree.specs.Tree as t
@@ -9,19 +9,22 @@ use Rattle.awk_meaning.specs.declared.flow.Flow.TheVariants as flow
 use Rattle.awk_meaning.specs.declared.halt.Halt.{Halt}
 use Rattle.awk_meaning.specs.State.{Run, ◌>>=◌, ret}
 use Rattle.awk_meaning.specs.Operators.{truth_value}
-use Rattle.awk_meaning.specs.Semantics.{tested, choose, eval, begin_test, print, exec, run_action}
+use Rattle.awk_meaning.specs.Semantics.{tested, choose, eval, begin_test, exec, run_action}
 use Rattle.awk_interpreter.specs.declared.interpreter.Interpreter.{Interpreter}
 use Rattle.awk_interpreter.specs.Simulation.{Simulates, Changes, Spends, Follows}
 use Rattle.awk_interpreter.proofs.Composition.{then_simulates, ends_simulates, lift_simulates, change_simulates}
 use Rattle.awk_expressions.specs.Matches.{TestsAs, Inside, AndThen, OrElse}
 use Rattle.awk_control.specs.Stack.{Entry, Followed, Focus, BeginStatement, BeginBlock, Ended, resume, run_of, Rest, Leads}
-use Rattle.awk_control.specs.Moves.{Runs, Tests}
+use Rattle.awk_control.specs.Control.{Controlled}
+use Rattle.awk_control.specs.declared.stack.Stack.{Stack}
+use Rattle.awk_control.specs.Moves.{entries_of, stack_of, Runs, Tests}
 use Rattle.awk_control.proofs.InPlace.{leads_on}
 use Rattle.awk_control.proofs.Laws.{same_rest, same_simulates, assoc_simulates, then_rest}
-use Rattle.awk_control.proofs.PrintMoves.{whole_printed, whole_stops}
 use Rattle.awk_control.proofs.StatementMoves.{no_more_ends, then_begins, follows, follows_none}
 use Rattle.awk_control.proofs.Walking.{unit_at, whole, over_rest, acts, act_halts}
+use Rattle.awk_plan.specs.Plan.{Program}
 use Rattle.awk_machine.specs.support.Acted.{ComesToTest, Takes}
+use Rattle.awk_machine.specs.support.Printed.{BeginsPrint}
 
 -- the whole of a part, and what stands behind it
 
@@ -50,11 +53,19 @@ pub performed : {is_logged : Type 0} (x : t.Statement) {r : Result Flow Halt} {m
 unfolding run_of
 performed x p = record { simulates = change_simulates p }
 
-pub printed : {is_logged : Type 0} (list : t.Exprs) {m m' : Interpreter} {k k' : WorldState} → Follows is_logged (print list) m k m' k' (Ok tt) → Runs is_logged (BeginStatement (t.Simple (t.Print list))) m k m' k' (Ok flow.Normal)
-printed list p = runs_ended _ flow.Normal (whole_printed list p)
+cleared : (plan : Program) (stack : Stack) → stack.control ≡ record { entries = []; heights = [] } → stack_of plan stack ≡ []
+cleared plan stack is = ap (λ (x : Controlled). entries_of plan (reverse x.entries) (reverse stack.values.items)) is
 
-pub print_halted : {is_logged : Type 0} (list : t.Exprs) {h : Halt} {m m' : Interpreter} {k k' : WorldState} → Follows is_logged (print list) m k m' k' (Err h) → Runs is_logged (BeginStatement (t.Simple (t.Print list))) m k m' k' (Err h)
-print_halted list p = whole _ (whole_stops list p)
+-- a print that begins without an entry
+
+module _ {is_logged : Type 0} (plan : Program) (list : t.Exprs) (stack : Stack) (none : stack.control ≡ record { entries = []; heights = [] }) {m m' : Interpreter} {k k' : WorldState} where
+  pub print_over : {st' : List Entry} → BeginsPrint is_logged plan list (stack_of plan stack) m k (Ok None) st' m' k' → Runs is_logged (BeginStatement (t.Simple (t.Print list))) m k m' k' (Ok flow.Normal)
+  print_over {st'} p =
+      let l : Leads is_logged (BeginStatement (t.Simple (t.Print list))) (stack_of plan stack) m k (Ended flow.Normal) (stack_of plan stack) m' k' = subst (λ x. Leads is_logged (BeginStatement (t.Simple (t.Print list))) (stack_of plan stack) m k (Ended flow.Normal) x m' k') p.1 p.0.leads in
+      runs_ended _ flow.Normal (subst (λ x. Leads is_logged (BeginStatement (t.Simple (t.Print list))) x m k (Ended flow.Normal) x m' k') (cleared plan stack none) l)
+
+  pub print_whole : {r : Result Flow Halt} → Rest is_logged (BeginStatement (t.Simple (t.Print list))) (stack_of plan stack) m k m' k' r → Runs is_logged (BeginStatement (t.Simple (t.Print list))) m k m' k' r
+  print_whole {r} p = whole _ (subst (λ x. Rest is_logged (BeginStatement (t.Simple (t.Print list))) x m k m' k' r) (cleared plan stack none) p)
 
 -- `if`
 

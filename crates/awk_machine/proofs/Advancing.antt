@@ -11,7 +11,7 @@ use Rattle.awk_meaning.specs.declared.halt.Halt.{Halt}
 use Rattle.awk_meaning.specs.declared.halt.Halt.TheVariants as halt
 use Rattle.awk_meaning.specs.declared.fault.Fault.TheVariants.{OutOfMemory}
 use Rattle.awk_meaning.specs.Semantics.{ending, print}
-use Rattle.awk_interpreter.specs.Simulation.{Follows}
+use Rattle.awk_interpreter.specs.Simulation.{Spends, Follows}
 use Rattle.awk_interpreter.specs.declared.interpreter.Interpreter.{Interpreter}
 use Rattle.awk_control.specs.declared.stack.Focus.{Focus as CodeFocus}
 use Rattle.awk_control.specs.declared.stack.Focus.TheVariants as focus
@@ -22,7 +22,7 @@ use Rattle.awk_control.specs.declared.stack.Move.TheVariants as move
 use Rattle.awk_control.specs.declared.stack.Stack.{Stack}
 use Rattle.awk_control.specs.declared.in_place.Turns.{Turns}
 use Rattle.awk_control.specs.declared.in_place.Turns.TheVariants as turns
-use Rattle.awk_control.specs.Stack.{Loop, Entry, Followed, LoopTurn, LastPart, Focus, BeginStatement, BeginBlock, Ended, Rest, Leads, work, run_of}
+use Rattle.awk_control.specs.Stack.{Loop, Entry, Followed, LoopEntry, LoopTurn, LastPart, Focus, BeginStatement, BeginBlock, Ended, Rest, Leads, work, run_of}
 use Rattle.awk_control.specs.Moves.{flow_of, focus_of, Moves, stack_of, entry_of, kept_for}
 use Rattle.awk_control.specs.Entries.{awaited_at}
 use Rattle.awk_control.specs.declared.entry.Entry.{Entry as CodeEntry}
@@ -31,10 +31,11 @@ use Rattle.awk_control.proofs.Laws.{memory_rest}
 use Rattle.awk_control.specs.Reaching.{Comes, Reaches, TurnStops, TurnFalls, GoesOnBehind, MakesTurn}
 use Rattle.awk_control.proofs.InPlace.{leads_on}
 use Rattle.awk_control.proofs.PrintMoves.{whole_printed}
-use Rattle.awk_control.proofs.Reaching.{any_flow, turn_over}
+use Rattle.awk_control.proofs.LoopMoves.{for_begins, entry_goes_on}
+use Rattle.awk_control.proofs.Reaching.{any_flow, statement_comes, turn_over}
 use Rattle.awk_control.proofs.StatementMoves.{then_begins, follows}
 use Rattle.awk_control.proofs.Steps.{any_leads, stack_pushed}
-use Rattle.awk_machine.specs.support.Advanced.{IsPrinted, Advances, Stops, PrintsNext, turn_focus, turn_entries, TurnLeads, TurnsLead}
+use Rattle.awk_machine.specs.support.Advanced.{IsPrinted, Advances, Stops, PrintsNext, turn_focus, turn_entries, TurnLeads, TurnsLead, behind_step, IsDone}
 
 -- what calls no world leads on beside any
 pub beside : {is_logged : Type 0} {f f' : Focus} {above above' : List Entry} {m m' : Interpreter} (k : WorldState) (st : List Entry) → Comes f above m f' above' m' → Leads is_logged f (above ++ st) m k f' (above' ++ st) m' k
@@ -46,6 +47,18 @@ moves_behind e (Ok (move.On f')) l low w p = record { moved = record { leads = l
 moves_behind e (Ok (move.Spent f')) l low w p = record { moved = record { leads = leads_on l p.moved.leads; falls = let q = p.moved.falls in omega (arith, q, low) } }
 moves_behind e (Ok (move.Over x)) l low w p = let bad = p.moved.stack in absurd (cc)
 moves_behind e (Err h) l low w p = record { moved = l.leads _ _ _ p.moved }
+
+-- behind a step
+pub moves_paid : {is_logged : Type 0} {plan : Program} {f g : Focus} {st st1 : List Entry} {new : Stack} {m m1 m' : Interpreter} {k k1 k' : WorldState} (e : Entry) (r : Move) → Leads is_logged f st m k g (e ∷ st1) m1 k1 → m1.steps < m.steps → Moves is_logged plan g (e ∷ st1) m1 k1 (Ok r) new m' k' → Moves is_logged plan f st m k (Ok (behind_step r)) new m' k'
+moves_paid e (move.On f') l falls p = record { moved = record { leads = leads_on l p.moved.leads; falls = let q = p.moved.steps in omega (arith, q, falls) } }
+moves_paid e (move.Spent f') l falls p = record { moved = record { leads = leads_on l p.moved.leads; falls = let q = p.moved.falls in omega (arith, q, falls) } }
+moves_paid e (move.Over x) l falls p = let bad = p.moved.stack in absurd (cc)
+
+-- the first part of a `for` is executed in place
+pub for_enters : {is_logged : Type 0} (simple : t.SimpleStatement) (l : Loop) (x : t.Statement) {st : List Entry} {m m1 m2 : Interpreter} {k : WorldState} → Spends m m1 (Ok tt) → x ≡ t.Simple simple → (p : IsDone x m1 m2) → Leads is_logged (BeginStatement (t.For (t.ASimple simple) l.condition l.last l.body)) st m k (Ended p.flow) (LastPart l ∷ st) m2 k
+for_enters {is_logged} simple l x {st} {m} {m1} {m2} {k} p is q =
+    let first : Comes (BeginStatement (t.Simple simple)) [] m1 (Ended q.flow) [] m2 = subst (λ y. Comes (BeginStatement y) [] m1 (Ended q.flow) [] m2) is (statement_comes x q.executed) in
+    leads_on (for_begins simple l p) (leads_on (beside k (LoopEntry l ∷ st) first) (entry_goes_on l q.flow))
 
 pub wants_behind : {is_logged : Type 0} {plan : Program} {f g : Focus} {st st1 : List Entry} {new : Stack} {m m1 : Interpreter} {k k1 : WorldState} → Leads is_logged f st m k g st1 m1 k1 → Moves is_logged plan f st m k (Err (halt.Fault OutOfMemory)) new m1 k1
 wants_behind {g = g} l = record { moved = l.leads _ _ _ (memory_rest (run_of g)) }

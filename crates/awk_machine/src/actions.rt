@@ -2,7 +2,9 @@
 // is tested once, and the statement that it chooses is the next one.
 
 ghost use Rattle.std.specs.Prelude.{◌≡◌, ◌≤◌, ◌<◌, OnOk};
-ghost use Rattle.awk_plan.specs.Plan.{operand_of, part_of, statement_in, statements_in};
+ghost use Rattle.awk_plan.specs.Order.{HasBefore};
+ghost use Rattle.awk_plan.specs.Plan.{operand_of, part_of, exprs_in, statement_in, statements_in};
+ghost use Rattle.awk_tree.specs.Tree.{Simple, Print};
 ghost use Rattle.awk_grammar.specs.Height.{max_height};
 ghost use Rattle.awk_tree.specs.Height.{height_of, height_of_statement, height_of_block};
 ghost use Rattle.awk_meaning.specs.Semantics.{begin_test, run_action};
@@ -11,18 +13,39 @@ ghost use Rattle.awk_control.specs.Stack.{BeginStatement};
 ghost use Rattle.awk_control.specs.Moves.{Runs, ran};
 ghost use Rattle.awk_machine.specs.support.Acted.{Decides};
 
-use crate::machine::{holds, run};
-use crate::prints_in_place::print_at;
+use crate::machine::{finish, holds, run};
+use crate::prints::begin_print;
 use awk_control::blocks::block;
 use awk_control::stack::{Focus, Passed, Stack};
 use awk_fast_path::{Ran, execute};
 use awk_interpreter::Interpreter;
 use awk_meaning::Halt;
-use awk_plan::node::{BlockNode, Node, Operand, StatementNode};
+use awk_plan::node::{BlockNode, Node, Operand, SimpleNode, StatementNode};
 use awk_plan::plan::Plan;
 use awk_streams::World;
 
-/// Executes a print in place, if its values are found there, and any other statement on the stack.
+/// Executes a print: with an entry only for what isn't found in place. What was in the stack is gone.
+fn print<W: World>(
+    plan: &Plan,
+    place: u32,
+    stack: &mut Stack,
+    interpreter: &mut Interpreter,
+    world: &mut W,
+) -> Result<Passed, Halt>
+    requires low { height_of_statement (Simple (Print (exprs_in (part_of plan.now place)))) ≤ max_height }
+    requires counted { HasBefore plan.now.nodes 0 place }
+    ensures { Runs W.is_logged (BeginStatement (Simple (Print (exprs_in (part_of plan.now place))))) interpreter.old
+        (W.state world.old) interpreter.new (W.state world.new) (ran result stack.new.returned) }
+{
+    stack.control.clear();
+    stack.values.clear();
+    match begin_print(plan, place, stack, interpreter, world)? {
+        Some(e) => finish(plan, Focus::Expr(e), stack, interpreter, world),
+        None => Ok(Passed::Normal),
+    }
+}
+
+/// Executes a print, and any other statement on the stack.
 fn print_or_run<W: World>(
     plan: &Plan,
     place: u32,
@@ -34,10 +57,12 @@ fn print_or_run<W: World>(
     ensures { Runs W.is_logged (BeginStatement (statement_in (part_of plan.now place))) interpreter.old (W.state world.old)
         interpreter.new (W.state world.new) (ran result stack.new.returned) }
 {
-    if print_at(plan, place, &mut stack.line, interpreter, world)? {
-        return Ok(Passed::Normal);
+    match plan.node(place) {
+        Some(Node::Simple(SimpleNode::Print(list))) => {
+            print(plan, list, stack, interpreter, world)
+        }
+        _ => run(plan, Focus::Statement(place), stack, interpreter, world),
     }
-    run(plan, Focus::Statement(place), stack, interpreter, world)
 }
 
 /// Executes a statement, in place if that goes.

@@ -1,12 +1,15 @@
 // The moves of loops: a turn spends a step, and between two of them stand the last part and the condition.
 
-ghost use Rattle.std.specs.Prelude.{◌≡◌, ◌∷◌, None};
+ghost use Rattle.std.specs.Prelude.{◌≡◌, ◌∷◌, true, false, None, Some};
+ghost use Rattle.awk_plan.specs.Plan.{part_of, statement_in};
 ghost use Rattle.awk_meaning.specs.Semantics.{ending};
+ghost use Rattle.awk_control.specs.Blocks.{IsSimple};
 ghost use Rattle.awk_control.specs.Control.{HasRoom};
 ghost use Rattle.awk_control.specs.declared.entry.Awaited.TheVariants as awaited;
 ghost use Rattle.awk_control.specs.Entries.{IsLoop};
 ghost use Rattle.awk_control.specs.Stack.{BeginStatement, Ended, LastPart, LoopTurn};
 ghost use Rattle.awk_control.specs.Moves.{Moves, Steps, SpendsFor, stack_of, loop_of, for_of, topped, flow_of};
+ghost use Rattle.awk_machine.specs.support.Advanced.{BeginsLoop, IsDone, behind_step};
 
 use crate::turns::make_printing_turns;
 use awk_control::blocks::simple;
@@ -14,6 +17,7 @@ use awk_control::entry::{Loop, LoopEntry, State};
 use awk_control::in_place::{Turns, ending, execute_last};
 use awk_control::stack::{Focus, Move, Passed, Stack};
 use awk_expressions::awaiting::{await_value, is_returned_true};
+use awk_fast_path::{Ran, execute};
 use awk_interpreter::Interpreter;
 use awk_meaning::Halt;
 use awk_plan::plan::Plan;
@@ -129,47 +133,89 @@ pub(crate) fn end_loop<W: World>(
     }
 }
 
-/// Begins a loop behind its first part, with the step of its statement.
-pub(crate) fn begin_loop(
-    entry: LoopEntry,
-    l: Loop,
-    next: Focus,
-    stack: &mut Stack,
-    interpreter: &mut Interpreter,
-) -> Result<Move, Halt>
-    requires room { HasRoom stack.old.control }
-    ensures { SpendsFor
-        (record { node = l.place; state = State.Loop entry }) next stack.old interpreter.old result stack.new interpreter.new }
+/// Where a move leads behind a step.
+fn behind_step(next: Move) -> Move
+    ensures { result ≡ behind_step next }
 {
-    stack.control.push(l.entry(entry))?;
-    interpreter.spend()?;
-    Ok(Move::Spent(next))
+    match next {
+        Move::On(focus) => Move::Spent(focus),
+        Move::Spent(focus) => Move::Spent(focus),
+        Move::Over(passed) => Move::Over(passed),
+    }
 }
 
-/// Begins a `for`.
-pub(crate) fn begin_for(
+/// Begins a loop with the step of its statement, and makes its turns.
+pub(crate) fn begin_loop<W: World>(
+    plan: &Plan,
+    l: Loop,
+    stack: &mut Stack,
+    interpreter: &mut Interpreter,
+    world: &mut W,
+) -> Result<Move, Halt>
+    requires room { HasRoom stack.old.control }
+    requires at { IsLoop plan.now l }
+    ensures { (x : _) → BeginsLoop W.is_logged x (loop_of plan.now l) (stack_of plan.now stack.old) interpreter.old
+        (W.state world.old) → Moves W.is_logged plan.now (BeginStatement x) (stack_of plan.now stack.old) interpreter.old
+        (W.state world.old) result stack.new interpreter.new (W.state world.new) }
+{
+    interpreter.spend()?;
+    let next = begin_condition(plan, l, stack, interpreter, world)?;
+    Ok(behind_step(next))
+}
+
+/// Executes a statement in place: whether that can be done. Else nothing changes.
+fn execute_in_place(plan: &Plan, place: u32, interpreter: &mut Interpreter) -> bool
+    ensures done { result ≡ true → IsDone (statement_in (part_of plan.now place)) interpreter.old interpreter.new }
+    ensures kept { result ≡ false → interpreter.new ≡ interpreter.old }
+{
+    match execute(plan, place, interpreter) {
+        Ran::Not => false,
+        Ran::Normal => true,
+        Ran::Break => true,
+        Ran::Continue => true,
+    }
+}
+
+/// Begins a `for` that has a first part, with the step of the statement. The part is executed in place, if that can be done.
+fn begin_first<W: World>(
     plan: &Plan,
     first: u32,
     l: Loop,
     stack: &mut Stack,
     interpreter: &mut Interpreter,
+    world: &mut W,
 ) -> Result<Move, Halt>
     requires room { HasRoom stack.old.control }
     requires at { IsLoop plan.now l }
-    ensures { Steps plan.now (BeginStatement (for_of plan.now first l)) (stack_of plan.now stack.old) interpreter.old result
-        stack.new interpreter.new }
+    ensures { (node : _) → IsSimple plan.now first (Some node) → Moves W.is_logged plan.now (BeginStatement (for_of plan.now
+        first l)) (stack_of plan.now stack.old) interpreter.old (W.state world.old) result stack.new interpreter.new
+        (W.state world.new) }
+{
+    interpreter.spend()?;
+    if execute_in_place(plan, first, interpreter) {
+        let next = begin_condition(plan, l, stack, interpreter, world)?;
+        return Ok(behind_step(next));
+    }
+    stack.control.push(l.entry(LoopEntry::FirstPart))?;
+    Ok(Move::Spent(Focus::Statement(first)))
+}
+
+/// Begins a `for`.
+pub(crate) fn begin_for<W: World>(
+    plan: &Plan,
+    first: u32,
+    l: Loop,
+    stack: &mut Stack,
+    interpreter: &mut Interpreter,
+    world: &mut W,
+) -> Result<Move, Halt>
+    requires room { HasRoom stack.old.control }
+    requires at { IsLoop plan.now l }
+    ensures { Moves W.is_logged plan.now (BeginStatement (for_of plan.now first l)) (stack_of plan.now stack.old)
+        interpreter.old (W.state world.old) result stack.new interpreter.new (W.state world.new) }
 {
     match simple(plan, first) {
-        Some(_) => begin_loop(
-            LoopEntry::FirstPart,
-            l,
-            Focus::Statement(first),
-            stack,
-            interpreter,
-        ),
-        None => {
-            let next = Focus::Ended(Passed::Normal);
-            begin_loop(LoopEntry::LastPart, l, next, stack, interpreter)
-        }
+        Some(_) => begin_first(plan, first, l, stack, interpreter, world),
+        None => begin_loop(plan, l, stack, interpreter, world),
     }
 }

@@ -7,7 +7,7 @@ ghost use Rattle.awk_tree.specs.Height.{height_of};
 ghost use Rattle.awk_tree.specs.Tree.{Do};
 ghost use Rattle.awk_control.specs.Control.{HasRoom};
 ghost use Rattle.awk_control.specs.Entries.{awaited_at};
-ghost use Rattle.awk_control.specs.Stack.{BeginStatement, BeginBlock, Ended, focus_height, depth};
+ghost use Rattle.awk_control.specs.Stack.{BeginStatement, BeginBlock, Ended, Rest, focus_height, depth};
 ghost use Rattle.awk_control.specs.Moves.{Moves, Steps, Walks, Runs, Tests, stack_of, focus_of, topped, flow_of, ran};
 
 use crate::loops::{begin_for, begin_loop, end_loop};
@@ -50,17 +50,18 @@ fn begin_do(
 }
 
 /// Begins a statement that isn't simple (POSIX awk, Actions).
-fn begin_compound(
+fn begin_compound<W: World>(
     plan: &Plan,
     place: u32,
     node: StatementNode,
     stack: &mut Stack,
     interpreter: &mut Interpreter,
+    world: &mut W,
 ) -> Result<Move, Halt>
     requires room { HasRoom stack.old.control }
     requires at { slice_get plan.now.nodes place ≡ Some (Node.Statement node) }
-    ensures { Steps plan.now (BeginStatement (made_statement plan.now.tables (part_of plan.now) node)) (stack_of plan.now
-        stack.old) interpreter.old result stack.new interpreter.new }
+    ensures { Moves W.is_logged plan.now (BeginStatement (made_statement plan.now.tables (part_of plan.now) node)) (stack_of
+        plan.now stack.old) interpreter.old (W.state world.old) result stack.new interpreter.new (W.state world.new) }
 {
     match node {
         StatementNode::Empty => Ok(Move::On(Focus::Ended(Passed::Normal))),
@@ -80,13 +81,7 @@ fn begin_compound(
                 last: None,
                 body,
             };
-            begin_loop(
-                LoopEntry::LastPart,
-                l,
-                Focus::Ended(Passed::Normal),
-                stack,
-                interpreter,
-            )
+            begin_loop(plan, l, stack, interpreter, world)
         }
         StatementNode::Do(body, condition) => {
             begin_do(plan, place, condition, body, stack, interpreter)
@@ -98,7 +93,7 @@ fn begin_compound(
                 last: Some(last),
                 body,
             };
-            begin_for(plan, first, l, stack, interpreter)
+            begin_for(plan, first, l, stack, interpreter, world)
         }
         StatementNode::Forever(first, last, body) => {
             let l = Loop {
@@ -107,7 +102,7 @@ fn begin_compound(
                 last: Some(last),
                 body,
             };
-            begin_for(plan, first, l, stack, interpreter)
+            begin_for(plan, first, l, stack, interpreter, world)
         }
     }
 }
@@ -126,7 +121,7 @@ fn begin_statement<W: World>(
 {
     match plan.node(place) {
         Some(Node::Simple(node)) => begin_simple(plan, place, node, stack, interpreter, world),
-        Some(Node::Statement(node)) => begin_compound(plan, place, node, stack, interpreter),
+        Some(Node::Statement(node)) => begin_compound(plan, place, node, stack, interpreter, world),
         Some(Node::Expression(_)) => Ok(Move::On(Focus::Ended(Passed::Normal))),
         Some(Node::List(_)) => Ok(Move::On(Focus::Ended(Passed::Normal))),
         Some(Node::Block(_)) => Ok(Move::On(Focus::Ended(Passed::Normal))),
@@ -207,7 +202,28 @@ fn walk<W: World>(
     }
 }
 
-/// Runs from a place until nothing is left, and answers how that passed on.
+/// Goes on from a place until nothing is left, and answers how that passed on.
+pub(crate) fn finish<W: World>(
+    plan: &Plan,
+    focus: Focus,
+    stack: &mut Stack,
+    interpreter: &mut Interpreter,
+    world: &mut W,
+) -> Result<Passed, Halt>
+    requires low { depth (focus_of plan.now focus stack.old.returned) (stack_of plan.now stack.old) ≤ max_height }
+    ensures { Rest W.is_logged (focus_of plan.now focus stack.old.returned) (stack_of plan.now stack.old) interpreter.old
+        (W.state world.old) interpreter.new (W.state world.new) (ran result stack.new.returned) }
+{
+    let mut place = focus;
+    'steps: loop {
+        match walk(plan, place, stack, interpreter, world)? {
+            Stage::Spent(next) => place = next,
+            Stage::Over(passed) => return Ok(passed),
+        }
+    }
+}
+
+/// Runs from a place until nothing is left, and answers how that passed on. What was in the stack is gone.
 pub(crate) fn run<W: World>(
     plan: &Plan,
     focus: Focus,
@@ -221,13 +237,7 @@ pub(crate) fn run<W: World>(
 {
     stack.control.clear();
     stack.values.clear();
-    let mut place = focus;
-    'steps: loop {
-        match walk(plan, place, stack, interpreter, world)? {
-            Stage::Spent(next) => place = next,
-            Stage::Over(passed) => return Ok(passed),
-        }
-    }
+    finish(plan, focus, stack, interpreter, world)
 }
 
 /// Whether an expression is true: without an entry as far as that is known, and else on the stack. What was in the stack is gone.

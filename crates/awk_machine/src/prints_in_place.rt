@@ -2,18 +2,20 @@
 // what was found until then has changed nothing.
 
 ghost use Rattle.std.specs.Prelude.{◌≡◌, true, ◌<◌, IfOk, Ok, slice_get};
+ghost use Rattle.awk_plan.specs.declared.node.Node.TheVariants as n;
+ghost use Rattle.awk_plan.specs.Order.{IsCounted};
 ghost use Rattle.awk_plan.specs.Plan.{part_of, exprs_in, statement_in};
 ghost use Rattle.awk_tree.specs.Tree.{Nil};
 ghost use Rattle.awk_meaning.specs.Semantics.{print};
 ghost use Rattle.awk_interpreter.specs.Simulation.{Follows};
-ghost use Rattle.awk_machine.specs.support.Printed.{IsList, list_node, FindsAll, PrintsList, PrintsBy};
+ghost use Rattle.awk_machine.specs.support.Printed.{IsList, list_node, FoundUpTo, StopsAt, PrintsList, PrintsBy};
 ghost use Rattle.awk_machine.specs.support.Advanced.{PrintsAt};
 
 use awk_control::blocks::simple;
 use awk_fast_path::found;
 use awk_interpreter::Interpreter;
 use awk_meaning::Halt;
-use awk_plan::node::{ListNode, Node, SimpleNode};
+use awk_plan::node::{ListNode, Node, Operand, SimpleNode};
 use awk_plan::plan::Plan;
 use awk_streams::World;
 use awk_value::Value;
@@ -23,6 +25,7 @@ use std::alloc::AllocError;
 pub(crate) fn list(plan: &Plan, place: u32) -> ListNode
     ensures list { IsList plan.now place result }
     ensures found { result ≡ list_node (slice_get plan.now.nodes place) }
+    ensures counted { IsCounted plan.now.nodes (n.List result) }
 {
     match plan.node(place) {
         Some(Node::List(node)) => node,
@@ -46,28 +49,28 @@ pub fn print_record<W: World>(interpreter: &mut Interpreter, world: &mut W) -> R
     interpreter.print_line(world, &[text])
 }
 
-/// Puts the values of a list's expressions behind those that stand in the room, as far as they are
-/// found in place: whether all are.
-fn find_values(
+/// Puts the values of a list's expressions behind those that stand in the room, up to the first that isn't found in place. It
+/// answers where in the list that is, and which expression; none where all are found.
+pub(crate) fn find_values(
     plan: &Plan,
     place: u32,
     values: &mut Vec<Value>,
     interpreter: &mut Interpreter,
-) -> Result<bool, AllocError>
-    ensures found { IfOk result (λ all. all ≡ true → FindsAll (exprs_in (part_of plan.now place)) interpreter.old
-        values.old.items values.new.items) }
+) -> Result<(u32, Option<Operand>), AllocError>
+    ensures found { IfOk result (λ r. FoundUpTo plan.now place r.0 interpreter.old values.old.items values.new.items) }
+    ensures stops { IfOk result (λ r. StopsAt plan.now r.0 r.1) }
     ensures kept { interpreter.new ≡ interpreter.old }
 {
     let mut at = place;
     'values: loop {
         match list(plan, at) {
-            ListNode::Nil => return Ok(true),
+            ListNode::Nil => return Ok((at, None)),
             ListNode::Cons(_, e, rest) => match found(plan, e, interpreter) {
                 Some(value) => {
                     values.push(value)?;
                     at = rest;
                 }
-                None => return Ok(false),
+                None => return Ok((at, Some(e))),
             },
         }
     }
@@ -86,14 +89,18 @@ pub(crate) fn print_list<W: World>(
         interpreter.new (W.state world.new) }
 {
     values.clear();
-    let all = find_values(plan, place, values, interpreter)?;
-    if all {
-        interpreter.print_line(world, values)?;
-        values.clear();
-        return Ok(true);
+    let (_, unfound) = find_values(plan, place, values, interpreter)?;
+    match unfound {
+        None => {
+            interpreter.print_line(world, values)?;
+            values.clear();
+            Ok(true)
+        }
+        Some(_) => {
+            values.clear();
+            Ok(false)
+        }
     }
-    values.clear();
-    Ok(false)
 }
 
 /// Executes a print whose values are found in place. Else nothing changes. What stood in the room is gone. (POSIX awk, Output

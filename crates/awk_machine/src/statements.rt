@@ -11,7 +11,7 @@ ghost use Rattle.awk_control.specs.Entries.{CountsOn};
 ghost use Rattle.awk_control.specs.Stack.{BeginStatement, BeginBlock, Ended};
 ghost use Rattle.awk_control.specs.Moves.{Moves, Steps, SpendsFor, stack_of, topped, flow_of};
 
-use crate::prints::{begin_print, end_printed};
+use crate::prints::{begin_print, end_printed, next_of};
 use awk_control::blocks::block;
 use awk_control::entry::{Entry, State, StatementEntry};
 use awk_control::in_place::{Reached, advance};
@@ -41,7 +41,10 @@ pub(crate) fn begin_simple<W: World>(
         (W.state world.new) }
 {
     match simple {
-        SimpleNode::Print(list) => begin_print(plan, list, stack, interpreter, world),
+        SimpleNode::Print(list) => {
+            let waits = begin_print(plan, list, stack, interpreter, world)?;
+            Ok(Move::Spent(next_of(waits)))
+        }
         SimpleNode::Evaluate(e) => {
             let state = State::Evaluated;
             spend_for(Entry { node: place, state }, e, stack, interpreter)

@@ -8,7 +8,11 @@ use Rattle.awk_meaning.specs.declared.flow.Flow.{Flow}
 use Rattle.awk_meaning.specs.declared.flow.Flow.TheVariants as flow
 use Rattle.awk_meaning.specs.declared.halt.Halt.{Halt}
 use Rattle.awk_interpreter.specs.declared.interpreter.Interpreter.{Interpreter}
+use Rattle.awk_interpreter.specs.Simulation.{Spends}
+use Rattle.awk_fast_path.specs.Executed.{IsExecuted}
 use Rattle.awk_control.specs.declared.stack.Focus.{Focus as CodeFocus}
+use Rattle.awk_control.specs.declared.stack.Move.{Move}
+use Rattle.awk_control.specs.declared.stack.Move.TheVariants as move
 use Rattle.awk_control.specs.declared.in_place.Turns.{Turns}
 use Rattle.awk_control.specs.declared.in_place.Turns.TheVariants as turns
 use Rattle.awk_control.specs.Stack.{Loop, Entry, LoopTurn, LastPart, Focus, BeginStatement, Ended, Rest, Leads}
@@ -78,3 +82,21 @@ pub record TurnsLead (is_logged : Type 0) (plan : Program) (l : Loop) (m : Inter
 abbrev pub TurnsPrint : Type 0 → Program → Loop → Interpreter → WorldState → Result Turns Halt → Interpreter → WorldState → Type 0
 TurnsPrint is_logged plan l m k (Ok t) m' k' = TurnsLead is_logged plan l m k (Some t) m' k'
 TurnsPrint is_logged plan l m k (Err h) m' k' = (g : Flow) (st : List Entry) → Rest is_logged (Ended g) (LastPart l ∷ st) m k m' k' (Err h)
+
+-- a loop that begins
+
+-- where a move leads behind a step
+abbrev pub behind_step : Move → Move
+behind_step (move.On f) = move.Spent f
+behind_step (move.Spent f) = move.Spent f
+behind_step (move.Over p) = move.Over p
+
+-- a statement begins a loop with a step, behind which its condition is next
+pub record BeginsLoop (is_logged : Type 0) (x : Statement) (l : Loop) (st : List Entry) (m : Interpreter) (k : WorldState) : Type 0 where
+  pub begins : (m' : Interpreter) → Spends m m' (Ok tt) → Leads is_logged (BeginStatement x) st m k (Ended flow.Normal) (LastPart l ∷ st) m' k
+  pub stops : (m' : Interpreter) (h : Halt) → Spends m m' (Err h) → Rest is_logged (BeginStatement x) st m k m' k (Err h)
+
+-- a statement is executed in place, however it passes on
+pub record IsDone (x : Statement) (old new : Interpreter) : Type 0 where
+  pub flow : Flow
+  pub executed : IsExecuted x flow old new

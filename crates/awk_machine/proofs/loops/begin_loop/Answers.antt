@@ -1,17 +1,17 @@
-use Rattle.std.proofs.Common.{refl}
 use Rattle.std.proofs.lemmas.Result.{err_from_is_err_and}
-use Rattle.awk_control.proofs.Steps.{unspent_memory}
+use Rattle.awk_meaning.specs.declared.flow.Flow.TheVariants.{Normal}
+use Rattle.awk_machine.proofs.Advancing.{moves_paid}
 use Rattle.awk_machine.proofs.loops.begin_loop.Goals as goal
 
-pub returns-in_err-push : goal.returns-in_err-push
-returns-in_err-push c =
-    let p = err_from_is_err_and c.from_residual.result c.from_residual.ensures.1 in
-    rw (p.1, p.2) (record { spends = unspent_memory })
-
 pub returns-in_err-spend : goal.returns-in_err-spend
-returns-in_err-spend c =
-    let p = err_from_is_err_and c.from_residual-in_err-spend.result c.from_residual-in_err-spend.ensures.1 in
-    rw (p.1, p.2) (record { spends = c.in_err-spend.ensures })
+returns-in_err-spend g c =
+    let p = err_from_is_err_and c.from_residual.result c.from_residual.ensures.1 in
+    λ x b. rw (p.1, p.2) (record { moved = b.stops _ _ c.in_err-spend.ensures })
+
+pub returns-in_err-next : goal.returns-in_err-next
+returns-in_err-next g c =
+    let p = err_from_is_err_and c.from_residual-in_err-next.result c.from_residual-in_err-next.ensures.1 in
+    λ x b. rw (p.1, p.2) (record { moved = (b.begins _ c.in_ok-spend.ensures).leads _ _ _ (c.in_err-next.ensures Normal).moved })
 
 pub returns : goal.returns
-returns c = record { spends = (refl, rw c.entry.ensures at c.in_ok-push.ensures.entries, refl, c.in_ok-spend.ensures) }
+returns g c = λ x b. rw c.behind_step.ensures (moves_paid _ _ (b.begins _ c.in_ok-spend.ensures) c.in_ok-spend.ensures.falls (c.in_ok-next.ensures Normal))

@@ -5,7 +5,7 @@ use Rattle.awk_control.proofs.Steps.{onward, stepped}
 use Rattle.awk_machine.proofs.machine.begin_statement.Goals as goal
 
 pub returns-in-Some-Statement : goal.returns-in-Some-Statement
-returns-in-Some-Statement g c = rw (ap statement_in c.in-Some-Statement.ensures.some, c.in-Some-Statement.field-0-is) (stepped _ c.begin_compound.ensures)
+returns-in-Some-Statement g c = rw (ap statement_in c.in-Some-Statement.ensures.some, c.in-Some-Statement.field-0-is) c.begin_compound.ensures
 
 pub returns-in-Some-Expression : goal.returns-in-Some-Expression
 returns-in-Some-Expression g c = rw (ap statement_in c.in-Some-Expression.ensures.some, c.in-Some-Expression.field-0-is) (stepped _ (onward refl (λ k. empty_ends) (omega arith) (omega arith) refl))

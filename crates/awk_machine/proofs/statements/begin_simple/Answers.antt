@@ -1,11 +1,19 @@
 use Rattle.std.proofs.Common.{refl}
 use Rattle.std.proofs.lemmas.Result.{err_from_is_err_and}
+use Rattle.awk_control.specs.Moves.{stack_of}
 use Rattle.awk_control.proofs.StatementMoves.{expression_begins, expression_stops, exit_begins, exit_stops, exit_halts, next_stops, next_halts, break_stops, break_ends, continue_stops, continue_ends}
 use Rattle.awk_control.proofs.Steps.{halts, paid, spent_for, stepped}
+use Rattle.awk_machine.proofs.Printing.{print_moves}
 use Rattle.awk_machine.proofs.statements.begin_simple.Goals as goal
 
-pub returns-in-Print : goal.returns-in-Print
-returns-in-Print g c = rw c.in-Print.is c.begin_print.ensures
+pub returns-in_err-waits-in-Print : goal.returns-in_err-waits-in-Print
+returns-in_err-waits-in-Print g c =
+    let p = err_from_is_err_and c.from_residual.result c.from_residual.ensures.1 in
+    rw (p.1, p.2, c.in-Print.is) (record { moved = c.in_err-waits-in-Print.ensures })
+
+pub returns-in_ok-waits-in-Print : goal.returns-in_ok-waits-in-Print
+returns-in_ok-waits-in-Print g c =
+    rw (c.in-Print.is, c.next_of.ensures) (print_moves g.W.World.is_logged c.args.plan.now _ (stack_of c.args.plan.now c.args.stack.now) c.args.interpreter.now (g.W.World.state c.args.world.now) c.in_ok-waits-in-Print.waits c.begin_print.new.stack c.begin_print.new.interpreter (g.W.World.state c.begin_print.new.world) c.in_ok-waits-in-Print.ensures)
 
 pub begin_print-requires : goal.begin_print-requires
 begin_print-requires g c = record { room = c.requires.room; counted = rw c.in-Print.is at c.requires.counted }
@@ -24,7 +32,7 @@ returns-in-ExitWith g c = rw c.in-ExitWith.is (stepped _ (spent_for _ c.spend_fo
 
 pub returns-in_err-spend-in-Next : goal.returns-in_err-spend-in-Next
 returns-in_err-spend-in-Next g c =
-    let p = err_from_is_err_and c.from_residual.result c.from_residual.ensures.1 in
+    let p = err_from_is_err_and c.from_residual-in_err-spend-in-Next.result c.from_residual-in_err-spend-in-Next.ensures.1 in
     let q = c.in_err-spend-in-Next.ensures in
     rw (p.1, p.2, c.in-Next.is) (stepped _ (halts (λ k. next_stops q) q.simulates.steps q.simulates.streams))
 
