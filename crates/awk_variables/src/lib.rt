@@ -9,5 +9,6 @@ mod variables;
 
 pub use fault::VariableFault;
 pub use names::Names;
+pub use places::Update;
 pub use special::Special;
 pub use variables::Variables;

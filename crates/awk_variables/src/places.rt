@@ -4,13 +4,14 @@ ghost use Rattle.std.specs.Prelude.{IfErr, OnOk, OnErr, Some, None, bytes_eq, if
 ghost use Rattle.awk_value.specs.declared.value.Value.TheVariants.{Nothing};
 ghost use Rattle.awk_value.specs.declared.value.Value.{Value as Kept};
 ghost use Rattle.awk_value.specs.Values.{str_of};
-ghost use Rattle.awk_variables.specs.support.Storage.{kept_at, Stands};
+ghost use Rattle.awk_variables.specs.support.Storage.{kept_at, Stands, UpdatesKept};
 ghost use Rattle.awk_variables.specs.definitions.Variables.{value_of, name_of, with_value, is_refused};
+ghost use Rattle.awk_variables.specs.definitions.Updates.{updated, IsUpdated, UpdatesName};
 
 use crate::fault::VariableFault;
 use crate::special::{NAMES, Special};
 use crate::variables::Variables;
-use awk_value::{Value, concatenate_in_place};
+use awk_value::{Value, add, concatenate_in_place, sub};
 use indexmap::IndexMap;
 use std::alloc::Global;
 
@@ -50,6 +51,52 @@ fn append(others: &mut IndexMap<Vec<u8>, Value>, index: usize, alloc: Global, ta
 {
     let (_, place) = others.pair_mut(index);
     concatenate_in_place(alloc, place, tail).is_ok()
+}
+
+/// What is done to a number where it stands.
+#[derive(Clone, Copy)]
+pub enum Update {
+    Add(i128),
+    Subtract(i128),
+}
+
+// The number that an update makes of another one, if it is one.
+#[inline(always)]
+fn updated(change: Update, old: i128) -> Option<i128>
+    ensures { IfSome result (λ n. updated change old ≡ Ok n) }
+{
+    match change {
+        Update::Add(n) => add(old, n).ok(),
+        Update::Subtract(n) => sub(old, n).ok(),
+    }
+}
+
+// Updates a value, if it is a number and what it becomes is one. Else nothing changes.
+#[inline(always)]
+fn update_value(value: &mut Value, change: Update) -> bool
+    ensures done { result ≡ true → IsUpdated change value.old value.new }
+    ensures kept { result ≡ false → value.new ≡ value.old }
+{
+    let Value::Number(old) = value else {
+        return false;
+    };
+    let Some(n) = updated(change, *old) else {
+        return false;
+    };
+    *old = n;
+    true
+}
+
+// Updates the value at an index.
+#[inline(always)]
+fn update_place(others: &mut IndexMap<Vec<u8>, Value>, index: usize, change: Update) -> bool
+    requires { index < length others.old.entries }
+    ensures done { result ≡ true → (name : List ℕ) → (v : Kept) → Stands others.old.entries index name v →
+        UpdatesKept change name v others.old.entries others.new.entries }
+    ensures kept { result ≡ false → others.new.entries ≡ others.old.entries }
+{
+    let (_, place) = others.pair_mut(index);
+    update_value(place, change)
 }
 
 impl Variables {
@@ -105,6 +152,19 @@ impl Variables {
             return false;
         };
         append(&mut self.others, index, self.alloc, tail)
+    }
+
+    /// Updates the number at a place behind the special variables, if it is this name's. Where there is another value, or what
+    /// it would become is no number, nothing changes.
+    pub fn update_at(&mut self, number: u32, name: &[u8], change: Update) -> bool
+        ensures done { result ≡ true → UpdatesName change name.now (value_of self.old) (value_of self.new) }
+        ensures accepted { result ≡ true → (v : Kept) → is_refused name.now v ≡ false }
+        ensures kept { result ≡ false → self.new ≡ self.old }
+    {
+        let Some((index, _)) = place(&self.others, number, name) else {
+            return false;
+        };
+        update_place(&mut self.others, index, change)
     }
 
     /// Gives a name a value, at this place first. An `Err` is as that of `set`.

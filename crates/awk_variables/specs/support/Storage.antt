@@ -1,5 +1,5 @@
 -- How the variables are kept: the special ones each at its index, in their names' order, and the others in a map.
-use Rattle.std.specs.Prelude.{◌≡◌, ℕ, ◌<◌, false, List, [], ◌∷◌, length, map, slice_get, slice_index_or, bytes_eq, Option, Some, None}
+use Rattle.std.specs.Prelude.{◌≡◌, ℕ, ◌<◌, false, List, [], ◌∷◌, length, map, slice_get, slice_index_or, bytes_eq, if◌then◌else◌, Option, Some, None}
 use Rattle.std.specs.Map.{lookup}
 use Rattle.std.specs.Global.{Vec}
 use Rattle.std.specs.Result.{is_err}
@@ -13,7 +13,9 @@ use Rattle.awk_variables.specs.declared.fault.VariableFault.TheVariants.{Memory,
 use Rattle.awk_value.specs.declared.value.Value.TheVariants.{Nothing}
 use Rattle.awk_variables.specs.declared.special.Special.{Special}
 use Rattle.awk_variables.specs.declared.special.Special.TheVariants.{Argc, Convfmt, Filename, Fnr, Fs, Nr, Ofmt, Ofs, Ors, Rlength, Rs, Rstart, Subsep}
+use Rattle.awk_variables.specs.declared.places.Update.{Update}
 use Rattle.awk_variables.specs.definitions.Variables.{Pairs, name_of, initial_values}
+use Rattle.awk_variables.specs.definitions.Updates.{IsUpdated}
 
 abbrev pub all_specials : List Special
 all_specials = Argc ∷ Convfmt ∷ Filename ∷ Fnr ∷ Fs ∷ Nr ∷ Ofmt ∷ Ofs ∷ Ors ∷ Rlength ∷ Rs ∷ Rstart ∷ Subsep ∷ []
@@ -71,6 +73,12 @@ pub record Stands (entries : List (Vec ℕ × Value)) (index : ℕ) (name : List
   pub entry : slice_get entries index ≡ Some (key, value)
   pub named : key.items ≡ name
   pub kept : kept_at entries name ≡ Some value
+
+-- the number that is kept for a name becomes another one
+pub record UpdatesKept (change : Update) (name : List ℕ) (value : Value) (old new : List (Vec ℕ × Value)) : Type 0 where
+  pub after : Value
+  pub number : IsUpdated change value after
+  pub put : (x : List ℕ) → kept_at new x ≡ (if bytes_eq name x then Some after else kept_at old x)
 
 -- the fault of a variable for a fault of its text
 abbrev pub text_fault : TextFault → VariableFault
