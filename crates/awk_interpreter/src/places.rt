@@ -8,12 +8,12 @@ ghost use Rattle.awk_meaning.specs.State.{ret};
 ghost use Rattle.awk_meaning.specs.Primitives.{read_name, put};
 ghost use Rattle.awk_meaning.specs.Results.{IsWantOfMemory};
 ghost use Rattle.awk_meaning.specs.Semantics.{store};
-ghost use Rattle.awk_interpreter.specs.support.Simulation.{Changes, PutsNumber};
+ghost use Rattle.awk_interpreter.specs.support.Simulation.{Changes, PutsNumber, UpdatesNumber};
 
 use crate::interpreter::{Interpreter, is_field_count};
 use awk_meaning::Halt;
 use awk_value::Value;
-use awk_variables::{Names, VariableFault, Variables};
+use awk_variables::{Names, Update, VariableFault, Variables};
 
 /// The name at an index.
 fn name_at(names: &Names, index: usize) -> Option<&[u8]> {
@@ -91,6 +91,7 @@ impl Interpreter {
     }
 
     /// Makes a number, if there is one, the value of a name at this place. Where the place is another's, nothing changes.
+    #[inline(always)]
     pub fn put_number(&mut self, number: u32, name: &[u8], n: Option<i128>) -> bool
         ensures put { result ≡ true → PutsNumber name.now n self.old self.new }
         ensures kept { result ≡ false → self.new ≡ self.old }
@@ -113,6 +114,18 @@ impl Interpreter {
             return false;
         }
         self.variables.replace_at(number, name, value)
+    }
+
+    /// Updates the number that a name has at this place. Where it has another value, or what it would become is no number,
+    /// nothing changes.
+    pub fn update_at(&mut self, number: u32, name: &[u8], change: Update) -> bool
+        ensures done { result ≡ true → UpdatesNumber name.now change self.old self.new }
+        ensures kept { result ≡ false → self.new ≡ self.old }
+    {
+        if is_field_count(name) {
+            return false;
+        }
+        self.variables.update_at(number, name, change)
     }
 
     /// Appends a value's text to that of a name's value at this place. Where the place is another's

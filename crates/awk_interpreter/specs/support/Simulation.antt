@@ -7,12 +7,14 @@ use Rattle.awk_streams.specs.Oracle.{Oracle, IsConsistent, how_many, opens_input
 use Rattle.awk_streams.specs.Log.{Event}
 use Rattle.awk_streams.specs.Openings.{StandardOutput, StandardError, Opening, in_order, Begins}
 use Rattle.awk_streams.specs.Streams.{InputView, AreOpen, AreSound, IsSoundMain, Grows, IsMainRest, printed_openings}
+use Rattle.awk_variables.specs.declared.places.Update.{Update}
 use Rattle.awk_variables.specs.Variables.{value_of, initial_value}
+use Rattle.awk_variables.specs.Updates.{updated}
 use Rattle.awk_meaning.specs.declared.halt.Halt.{Halt}
 use Rattle.awk_meaning.specs.declared.halt.Halt.TheVariants as halt
 use Rattle.awk_meaning.specs.State.{Effect, State, Out, Run}
 use Rattle.awk_meaning.specs.Results.{Sort, WantOfMemory, FailedWrite, OfLanguage, sort_of}
-use Rattle.awk_meaning.specs.Primitives.{spend, put, open_main, close_main}
+use Rattle.awk_meaning.specs.Primitives.{read_name, spend, put, open_main, close_main}
 use Rattle.awk_meaning.specs.Semantics.{store}
 use Rattle.awk_value.specs.declared.value.Value.TheVariants.{Number}
 use Rattle.awk_meaning.specs.Inputs.{search_operands_within}
@@ -103,6 +105,14 @@ pub record PutsNumber (x : List ℕ) (n : Option ℤ) (old new : Interpreter) : 
   pub is : n ≡ Some number
   pub put : Changes (put x (Number number)) old new (Ok tt)
   pub stored : Changes (store x (Number number)) old new (Ok (Number number))
+
+-- the number that a name has becomes another one
+pub record UpdatesNumber (x : List ℕ) (change : Update) (old new : Interpreter) : Type 0 where
+  pub before : ℤ
+  pub after : ℤ
+  pub made : updated change before ≡ Ok after
+  pub read : Changes (read_name x) old old (Ok (Number before))
+  pub puts : PutsNumber x (Some after) old new
 
 -- a step is spent, or there is none
 pub record Spends (old new : Interpreter) (r : Result (Unit {0}) Halt) : Type 0 where
