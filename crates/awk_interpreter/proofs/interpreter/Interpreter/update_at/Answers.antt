@@ -10,7 +10,7 @@ returns-clause-done c = λ is.
     let plain = sym c.is_field_count.ensures ∙ c.if-is_field_count.false in
     let q = c.update_at.ensures.done is in
     let set = rw q.number.is at q.put in
-    let put = put_changes name (Number q.number.after) (c.update_at.ensures.accepted is _) (record { variables = set; current = refl; arguments = refl; streams = refl; inside = refl; status = refl; steps = refl }) in
+    let put = put_changes name (Number q.number.after) (c.update_at.ensures.accepted is (Number q.number.after)) (record { variables = set; current = refl; arguments = refl; streams = refl; inside = refl; status = refl; steps = refl }) in
     record {
       before = q.number.before;
       after = q.number.after;
