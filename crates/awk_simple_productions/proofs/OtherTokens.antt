@@ -2,8 +2,10 @@
 use Rattle.std.proofs.Common.{◌≡◌, false, List, ◌∷◌, Option, refl}
 use Rattle.awk_lex.specs.declared.token.Kind.{Kind}
 use Rattle.awk_lex.specs.declared.token.Kind.TheVariants as t
-use Rattle.awk_grammar.specs.definitions.Height.{max_height}
-use Rattle.awk_grammar.specs.definitions.Tree.{SimpleStatement, OptionalSimple, OptionalExpr}
+use Rattle.awk_grammar.specs.declared.tree.PrintForm.{PrintForm}
+use Rattle.awk_grammar.specs.definitions.Height.{max_height, height_of_print_list}
+use Rattle.awk_grammar.specs.definitions.Tree.{SimpleStatement, OptionalSimple, OptionalExpr, Parenthesized}
+use Rattle.awk_grammar.specs.support.Nodes.{over_one}
 use Rattle.awk_grammar.specs.support.Parser as parser
 
 -- the value of an exit or a return
@@ -115,3 +117,7 @@ last_begins p c stack t.OpenBracket h = refl
 last_begins p c stack t.CloseBracket h = refl
 last_begins p c stack t.OpenParenthesis h = refl
 last_begins p c stack t.CloseParenthesis h = absurd (h refl)
+
+-- a list in parentheses that is the whole list of a print
+pub whole_list : (y : Kind) (xs before : parser.OperandList) (how : PrintForm) (stack : List parser.Frame) → before.count ≡ 0 → parser.end_list max_height y xs (parser.InPrint how before ∷ stack) ≡ parser.end_print_list max_height y how (over_one max_height height_of_print_list Parenthesized xs.exprs) stack
+whole_list y xs before how stack h = rw h refl
