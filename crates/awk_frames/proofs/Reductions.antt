@@ -60,7 +60,7 @@ body_stays r e (body.Else c x) = stays r e (body_frame_of (body.Else c x)) refl
 body_stays r e (body.While c) = stays r e (body_frame_of (body.While c)) refl
 body_stays r e body.Do = stays r e (body_frame_of body.Do) refl
 body_stays r e (body.ForIn b a) = stays r e (body_frame_of (body.ForIn b a)) refl
-body_stays r e (body.For p c q) = stays r e (body_frame_of (body.For p c q)) refl
+body_stays r e (body.For b q) = stays r e (body_frame_of (body.For b q)) refl
 
 pub open_frame : (r : role.InfixRole) (e : parser.Operand) (f : Frame) → ((n : NodeFrame) → f ≡ frame.Node n → ⊥) → false ≡ is_ended r e (frame_of f)
 open_frame r e (frame.Node n) h = absurd (h n refl)

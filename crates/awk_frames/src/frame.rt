@@ -63,22 +63,22 @@ pub enum NodeFrame {
     /// The second choice of a conditional.
     SecondChoice(Box<Choice>),
     /// The place of a getline, with the command before its `|`.
-    GetlinePlace(Option<Operand>),
+    GetlinePlace(Box<Option<Operand>>),
     /// The file of a getline, with its place.
-    GetlineFile(Option<Operand>),
+    GetlineFile(Box<Option<Operand>>),
 }
 
 /// A conditional before its second choice.
 #[derive(Drop)]
 pub struct Choice {
-    pub condition: Operand,
+    pub condition: Box<Operand>,
     pub first: Operand,
 }
 
 /// A `for` before its last part.
 #[derive(Drop)]
 pub struct ForHead {
-    pub first: Option<CheckedPart>,
+    pub first: Box<Option<CheckedPart>>,
     pub condition: Option<CheckedOptionalExpr>,
 }
 
@@ -109,7 +109,7 @@ pub enum ListHead {
 #[derive(Drop)]
 pub enum ExpressionFrame {
     /// The first choice of a conditional, with its condition.
-    FirstChoice(Operand),
+    FirstChoice(Box<Operand>),
     Statement,
     /// The first expression in parentheses alone.
     Group { in_print_list: bool },
@@ -146,7 +146,8 @@ pub enum BodyFrame {
     Do,
     /// With the name and the array.
     ForIn(Bytes, Bytes),
-    For(Option<CheckedPart>, Option<CheckedOptionalExpr>, Option<CheckedPart>),
+    /// With what stands before its last part, and that part.
+    For(Box<ForHead>, Box<Option<CheckedPart>>),
 }
 
 /// What stands before an action.

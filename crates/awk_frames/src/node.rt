@@ -58,8 +58,10 @@ impl NodeFrame {
             || parser.takes_file (node_frame_of self.now) (role_of role)) }
     {
         match self {
-            NodeFrame::PreIncrement(_) | NodeFrame::GetlinePlace(Some(_)) => !operand.is_place,
-            NodeFrame::GetlinePlace(None) => !operand.is_place || role.is_less(),
+            NodeFrame::PreIncrement(_) => !operand.is_place,
+            NodeFrame::GetlinePlace(command) => {
+                !operand.is_place || (command.is_none() && role.is_less())
+            }
             _ => false,
         }
     }
@@ -91,16 +93,19 @@ impl NodeFrame {
             }
             NodeFrame::SecondChoice(choice) => {
                 let Choice { condition, first } = Box::into_inner(choice);
+                let condition = Box::into_inner(condition);
                 let tree = conditional(alloc, condition.tree, first.tree, operand.tree)?;
                 Ok(Operand::new(CONDITIONAL, tree))
             }
             NodeFrame::GetlinePlace(command) => getline_operand(
                 alloc,
-                command,
+                Box::into_inner(command),
                 Some(operand),
                 None,
             ),
-            NodeFrame::GetlineFile(place) => getline_operand(alloc, None, place, Some(operand)),
+            NodeFrame::GetlineFile(place) => {
+                getline_operand(alloc, None, Box::into_inner(place), Some(operand))
+            }
         }
     }
 }

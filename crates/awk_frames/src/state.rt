@@ -31,23 +31,30 @@ pub enum ParserState {
 pub enum ExpressionState {
     /// Before an operand; newlines may stand first.
     BeforeOperand { skips_newlines: bool },
-    AfterOperand(Operand),
+    /// After an operand, and what stands behind it.
+    AfterOperand(Operand, Behind),
     AfterName(Bytes),
     AfterLength,
     /// After the word `getline`.
     AfterGetline,
-    /// After the same, behind a command and a `|`.
-    AfterPipedGetline(Operand),
-    /// After a `|`.
-    AfterBar(Operand),
     /// Before the `(` that opens this frame.
     BeforeParenthesis(Box<Frame>),
     /// After a list in parentheses.
     AfterList(Box<OperandList>),
-    /// After an operand and `in`.
-    AfterIn(Operand),
     /// After a list and `in`.
     AfterListIn(Box<OperandList>),
+}
+
+/// What is read behind an operand.
+#[derive(Clone, Copy)]
+pub enum Behind {
+    Nothing,
+    /// A `|`.
+    Bar,
+    /// A `|` and the word `getline`.
+    PipedGetline,
+    /// `in`
+    In,
 }
 
 /// Where it stands in a statement.
@@ -61,7 +68,7 @@ pub enum StatementState {
     /// A simple statement is whole, and must end.
     AfterSimple(Box<Option<CheckedSimple>>),
     /// A `do` is whole, and must end.
-    AfterDo(Option<CheckedStatement>),
+    AfterDo(Box<Option<CheckedStatement>>),
     AfterFor,
     BeforeForFirst,
     BeforeForCondition(Box<Option<CheckedPart>>),

@@ -10,6 +10,7 @@ use Rattle.awk_frames.specs.declared.frame.Frame.{Frame}
 use Rattle.awk_frames.specs.declared.state.ParserState.{ParserState as State}
 use Rattle.awk_frames.specs.declared.state.ParserState.TheVariants.{Expression, Statement, Item}
 use Rattle.awk_frames.specs.declared.state.ExpressionState.TheVariants as in_expression
+use Rattle.awk_frames.specs.declared.state.Behind.TheVariants as behind
 use Rattle.awk_frames.specs.declared.state.StatementState.TheVariants as in_statement
 use Rattle.awk_frames.specs.declared.state.ItemState.TheVariants as in_item
 use Rattle.awk_frames.specs.support.FrameView.{state_of}
@@ -18,6 +19,10 @@ use Rattle.awk_parser.specs.support.Stopped.{state_behind, reached, last_line, S
 -- the code's state is none that has failed
 pub goes_on : (s : State) (fs : List Frame) → state_of s fs ≢ Failed
 goes_on (Expression g in_expression.AfterLength) fs = λ h. absurd (cc)
+goes_on (Expression g (in_expression.AfterOperand e behind.Nothing)) fs = λ h. absurd (cc)
+goes_on (Expression g (in_expression.AfterOperand e behind.Bar)) fs = λ h. absurd (cc)
+goes_on (Expression g (in_expression.AfterOperand e behind.PipedGetline)) fs = λ h. absurd (cc)
+goes_on (Expression g (in_expression.AfterOperand e behind.In)) fs = λ h. absurd (cc)
 goes_on (Expression g x) fs = λ h. absurd (cc)
 goes_on (Statement in_statement.AfterDelete) fs = λ h. absurd (cc)
 goes_on (Statement x) fs = λ h. absurd (cc)

@@ -21,10 +21,10 @@ use awk_frames::state::{NextToken, ParserState, StatementState};
 use awk_lex::token::{Kind, Operator};
 use awk_productions::items::{after_pattern, after_pattern_expr};
 use awk_productions::taken::{begin, begin_body};
+use awk_simple_productions::prints::after_print_expr;
+use awk_simple_productions::simple::{after_delete_subscript, end_simple};
+use awk_simple_productions::simple_nodes::{exit, return_statement};
 use awk_statement_nodes::checked::{CheckedPart, CheckedStatement};
-use awk_statement_productions::prints::after_print_expr;
-use awk_statement_productions::simple::{after_delete_subscript, end_simple};
-use awk_statement_productions::simple_nodes::{exit, return_statement};
 use std::alloc::{AllocError, Global};
 
 /// Behind the last operand of a list.
@@ -75,12 +75,12 @@ fn close_first_choice(
     alloc: Global,
     next: NextToken,
     in_print_list: bool,
-    condition: Operand,
+    condition: Box<Operand>,
     first: Operand,
     stack: &mut Vec<Frame>,
 ) -> Result<Option<ParserState>, AllocError>
     ensures { IfOk result (λ state. next_of state stack.new.items
-        ≡ parser.close_first_choice next.entry.kind.now in_print_list (operand_of condition) (operand_of first)
+        ≡ parser.close_first_choice next.entry.kind.now in_print_list (operand_of condition.value) (operand_of first)
         (stack_of stack.old.items)) }
 {
     if matches!(next.kind, Kind::Colon) {
@@ -99,14 +99,15 @@ fn close_first_choice(
 
 /// Behind the place of a getline: its file may follow.
 fn after_getline_place(
+    alloc: Global,
     next: NextToken,
     in_print_list: bool,
-    command: Option<Operand>,
+    command: Box<Option<Operand>>,
     place: Operand,
     stack: &mut Vec<Frame>,
 ) -> Result<Option<ParserState>, AllocError>
     ensures { IfOk result (λ state. next_of state stack.new.items
-        ≡ parser.after_getline_place next.entry.kind.now in_print_list (optional_operand_of command)
+        ≡ parser.after_getline_place next.entry.kind.now in_print_list (optional_operand_of command.value)
         (operand_of place) (stack_of stack.old.items)) }
 {
     let is_file = command.is_none()
@@ -114,8 +115,8 @@ fn after_getline_place(
         && matches!(next.kind, Kind::Operator(Operator::Less));
     drop(command);
     if is_file {
-        let frame = Frame::Node(NodeFrame::GetlineFile(Some(place)));
-        return begin(frame, false, in_print_list, stack);
+        let frame = NodeFrame::GetlineFile(Box::new(alloc, Some(place))?);
+        return begin(Frame::Node(frame), false, in_print_list, stack);
     }
     drop(place);
     Ok(None)
@@ -151,7 +152,7 @@ fn end_do(
         (stack_of frames))) }
 {
     if matches!(next.kind, Kind::CloseParenthesis) {
-        let statement = do_loop(alloc, body, condition.tree)?;
+        let statement = Box::new(alloc, do_loop(alloc, body, condition.tree)?)?;
         return Ok(Some(ParserState::Statement(StatementState::AfterDo(statement))));
     }
     drop(body);
@@ -163,12 +164,12 @@ fn end_do(
 fn end_for_condition(
     alloc: Global,
     next: NextToken,
-    first: Option<CheckedPart>,
+    first: Box<Option<CheckedPart>>,
     condition: Operand,
 ) -> Result<Option<ParserState>, AllocError>
     ensures { (frames : List Frame) → IfOk result (λ state. next_of state frames
         ≡ parser.close_for_condition next.entry.kind.now (parser.BeforeForLast
-        (checked_part first) (parser.optional_tree max_height (operand_of condition)) (stack_of frames))) }
+        (checked_part first.value) (parser.optional_tree max_height (operand_of condition)) (stack_of frames))) }
 {
     if matches!(next.kind, Kind::Semicolon) {
         let condition = present(condition.tree);
@@ -225,9 +226,7 @@ fn end_expression(
             close_condition(alloc, next, BodyFrame::While(operand.tree), stack)
         }
         ExpressionFrame::DoCondition(body) => end_do(alloc, next, Box::into_inner(body), operand),
-        ExpressionFrame::ForCondition(first) => {
-            end_for_condition(alloc, next, Box::into_inner(first), operand)
-        }
+        ExpressionFrame::ForCondition(first) => { end_for_condition(alloc, next, first, operand) }
         ExpressionFrame::Pattern => after_pattern_expr(alloc, next, operand, stack),
         ExpressionFrame::RangeEnd(begin) => {
             after_pattern(alloc, next, range(begin, operand.tree), stack)
@@ -254,7 +253,7 @@ pub(crate) fn end_operand(
             end_expression(alloc, next, in_print_list, frame, operand, stack)
         }
         Some(Frame::Node(NodeFrame::GetlinePlace(command))) => {
-            after_getline_place(next, in_print_list, command, operand, stack)
+            after_getline_place(alloc, next, in_print_list, command, operand, stack)
         }
         rest => {
             drop(rest);

@@ -15,13 +15,13 @@ use awk_frames::node::getline_operand;
 use awk_frames::operand::{Operand, OperandList};
 use awk_frames::reduce::reduce;
 use awk_frames::stack::{greatest_allowed_on, push};
-use awk_frames::state::{ExpressionState, NextToken, ParserState};
+use awk_frames::state::{Behind, ExpressionState, NextToken, ParserState};
 use awk_grammar::precedence::{MEMBERSHIP, POST_INCREMENT};
 use awk_grammar::tree::BinaryOperator;
 use awk_lex::token::{BuiltIn, IncrementOperator, Keyword, Kind, Operator};
 use awk_productions::operands::start_operand;
 use awk_productions::taken::{begin, operand as after};
-use awk_statement_productions::prints::{end_list, redirect_to_pipe};
+use awk_simple_productions::prints::{end_list, redirect_to_pipe};
 use awk_value::Bytes;
 use std::alloc::{AllocError, Global};
 
@@ -93,10 +93,10 @@ fn shift(
         InfixRole::Starts => concatenate(alloc, next, in_print_list, operand, stack),
         InfixRole::TestsMembership => Ok(Some(ParserState::Expression {
             in_print_list,
-            state: ExpressionState::AfterIn(operand),
+            state: ExpressionState::AfterOperand(operand, Behind::In),
         })),
         InfixRole::Asks => {
-            let frame = ExpressionFrame::FirstChoice(operand);
+            let frame = ExpressionFrame::FirstChoice(Box::new(alloc, operand)?);
             begin(Frame::Expression(frame), false, in_print_list, stack)
         }
         InfixRole::Pipes | InfixRole::Subscripts | InfixRole::Ends => {
@@ -121,7 +121,7 @@ fn after_reduced(
     if matches!(role, InfixRole::Pipes) {
         return Ok(Some(ParserState::Expression {
             in_print_list,
-            state: ExpressionState::AfterBar(operand),
+            state: ExpressionState::AfterOperand(operand, Behind::Bar),
         }));
     }
     if role.continues(&operand, greatest_allowed_on(stack)) {
@@ -210,6 +210,7 @@ pub(crate) fn after_getline(
     match next.kind {
         Kind::Name(name) => {
             let name = name.clone()?;
+            let command = Box::new(alloc, command)?;
             push(stack, Frame::Node(NodeFrame::GetlinePlace(command)))?;
             Ok(Some(ParserState::Expression {
                 in_print_list,
@@ -217,17 +218,14 @@ pub(crate) fn after_getline(
             }))
         }
         Kind::Dollar => {
+            let command = Box::new(alloc, command)?;
             push(stack, Frame::Node(NodeFrame::GetlinePlace(command)))?;
             begin(Frame::Node(NodeFrame::Field), false, in_print_list, stack)
         }
         Kind::Operator(Operator::Less) if command.is_none() => {
             drop(command);
-            begin(
-                Frame::Node(NodeFrame::GetlineFile(None)),
-                false,
-                in_print_list,
-                stack,
-            )
+            let frame = NodeFrame::GetlineFile(Box::new(alloc, None)?);
+            begin(Frame::Node(frame), false, in_print_list, stack)
         }
         _ => {
             let operand = getline_operand(alloc, command, None, None)?;
@@ -251,7 +249,7 @@ pub(crate) fn after_bar(
         if InfixRole::Pipes.continues(&operand, greatest_allowed_on(stack)) {
             return Ok(Some(ParserState::Expression {
                 in_print_list,
-                state: ExpressionState::AfterPipedGetline(operand),
+                state: ExpressionState::AfterOperand(operand, Behind::PipedGetline),
             }));
         }
         drop(operand);

@@ -4,6 +4,7 @@ ghost use Rattle.std.specs.Prelude.{◌≡◌, ◌∷◌, false, List, IfOk};
 ghost use Rattle.awk_grammar.specs.definitions.Height.{max_height};
 ghost use Rattle.awk_grammar.specs.support.Parser as parser;
 ghost use Rattle.awk_parser.specs.support.Answered.{found_of};
+ghost use Rattle.awk_frames.specs.declared.state.ExpressionState.TheVariants as in_expression;
 ghost use Rattle.awk_frames.specs.support.FrameView.{operand_of, list_of, frame_of, state_of};
 ghost use Rattle.awk_frames.specs.support.FrameView.{expression_state_of, stack_of, next_of};
 
@@ -14,15 +15,15 @@ use crate::expressions::{
 use awk_frames::frame::Frame;
 use awk_frames::operand::{Operand, OperandList};
 use awk_frames::stack::{pop, push};
-use awk_frames::state::{ExpressionState, ItemState, NextToken, ParserState};
+use awk_frames::state::{Behind, ExpressionState, ItemState, NextToken, ParserState};
 use awk_grammar::precedence::MEMBERSHIP;
 use awk_lex::token::Kind;
 use awk_nodes::expressions::list_membership;
 use awk_productions::items::step_item;
 use awk_productions::operands::start_operand;
 use awk_productions::taken::{begin, operand as after};
+use awk_simple_productions::step::step_statement;
 use awk_statement_nodes::checked::CheckedItems;
-use awk_statement_productions::step::step_statement;
 use awk_value::Bytes;
 use std::alloc::{AllocError, Global};
 
@@ -85,6 +86,27 @@ fn open_frame(
     Ok(None)
 }
 
+/// Takes a token behind an operand, and what is read behind that.
+fn step_operand(
+    alloc: Global,
+    next: NextToken,
+    in_print_list: bool,
+    operand: Operand,
+    behind: Behind,
+    stack: &mut Vec<Frame>,
+) -> Result<Option<ParserState>, AllocError>
+    ensures { IfOk result (λ reached. next_of reached stack.new.items
+        ≡ parser.step max_height (expression_state_of (in_expression.AfterOperand operand behind) in_print_list
+        (stack_of stack.old.items)) next.entry.kind.now) }
+{
+    match behind {
+        Behind::Nothing => after_operand(alloc, next, in_print_list, operand, stack),
+        Behind::Bar => after_bar(alloc, next, in_print_list, operand, stack),
+        Behind::PipedGetline => after_getline(alloc, next, in_print_list, Some(operand), stack),
+        Behind::In => after_in(alloc, next, in_print_list, operand),
+    }
+}
+
 /// Takes a token in an expression.
 fn step_expression(
     alloc: Global,
@@ -100,23 +122,18 @@ fn step_expression(
         ExpressionState::BeforeOperand { skips_newlines } => {
             start_operand(alloc, next, skips_newlines, in_print_list, stack)
         }
-        ExpressionState::AfterOperand(operand) => {
-            after_operand(alloc, next, in_print_list, operand, stack)
+        ExpressionState::AfterOperand(operand, behind) => {
+            step_operand(alloc, next, in_print_list, operand, behind, stack)
         }
         ExpressionState::AfterName(name) => after_name(alloc, next, in_print_list, name, stack),
         ExpressionState::AfterLength => after_length(alloc, next, in_print_list, stack),
         ExpressionState::AfterGetline => after_getline(alloc, next, in_print_list, None, stack),
-        ExpressionState::AfterPipedGetline(command) => {
-            after_getline(alloc, next, in_print_list, Some(command), stack)
-        }
-        ExpressionState::AfterBar(operand) => after_bar(alloc, next, in_print_list, operand, stack),
         ExpressionState::BeforeParenthesis(frame) => open_frame(
             next,
             Box::into_inner(frame),
             stack,
         ),
         ExpressionState::AfterList(list) => after_list(alloc, next, in_print_list, list, stack),
-        ExpressionState::AfterIn(operand) => after_in(alloc, next, in_print_list, operand),
         ExpressionState::AfterListIn(list) => {
             after_list_in(alloc, next, in_print_list, Box::into_inner(list))
         }

@@ -7,7 +7,7 @@ ghost use Rattle.awk_frames.specs.support.FrameView.{operand_of, body_frame_of, 
 use awk_frames::frame::{BodyFrame, Frame};
 use awk_frames::operand::Operand;
 use awk_frames::stack::push;
-use awk_frames::state::{ExpressionState, ParserState, StatementState};
+use awk_frames::state::{Behind, ExpressionState, ParserState, StatementState};
 use std::alloc::{AllocError, Global};
 
 /// Behind an operand.
@@ -17,7 +17,7 @@ pub fn operand(in_print_list: bool, operand: Operand) -> Option<ParserState>
 {
     Some(ParserState::Expression {
         in_print_list,
-        state: ExpressionState::AfterOperand(operand),
+        state: ExpressionState::AfterOperand(operand, Behind::Nothing),
     })
 }
 

@@ -1,5 +1,5 @@
 -- The body of a `do` is read.
-use Rattle.std.proofs.Common.{◌≡◌, List, ◌∷◌, Option, Some, refl, sym, ap, ◌∙◌}
+use Rattle.std.proofs.Common.{◌≡◌, List, ◌∷◌, Option, Some, sym, ap, ◌∙◌}
 use Rattle.std.specs.Global.{Box}
 use Rattle.awk_lex.specs.declared.token.Kind.{Kind}
 use Rattle.awk_grammar.specs.definitions.Height.{max_height}

@@ -1,6 +1,6 @@
 // The nodes of statements: none where a child is none or the node is too high.
 
-ghost use Rattle.std.specs.Prelude.{◌≡◌, IfOk};
+ghost use Rattle.std.specs.Prelude.{◌≡◌, Some, IfOk};
 ghost use Rattle.awk_grammar.specs.definitions.Tree as t;
 ghost use Rattle.awk_grammar.specs.definitions.Height.{max_height, height_of_statement, tallest_of};
 ghost use Rattle.awk_grammar.specs.support.Nodes.{limited, over_one, over_two, over_three, over_four, push};
@@ -8,7 +8,7 @@ ghost use Rattle.awk_nodes.specs.support.Checked.{checked_expr};
 ghost use Rattle.awk_statement_nodes.specs.support.Checked.{checked_simple, checked_part, checked_optional_expr};
 ghost use Rattle.awk_statement_nodes.specs.support.Checked.{checked_statement, checked_statements};
 
-use awk_grammar::tree::{ForParts, Statement};
+use awk_grammar::tree::{ForParts, SimpleStatement, Statement};
 use awk_nodes::checked::CheckedExpr;
 use awk_statement_nodes::checked::{
     CheckedOptionalExpr, CheckedPart, CheckedSimple, CheckedStatement, CheckedStatements,
@@ -16,25 +16,41 @@ use awk_statement_nodes::checked::{
 use awk_value::Bytes;
 use std::alloc::{AllocError, Global};
 
+/// `next`
+pub(crate) fn next() -> CheckedSimple
+    ensures { checked_simple (Some result) ≡ limited max_height 1 t.Next }
+{
+    CheckedSimple {
+        simple: SimpleStatement::Next,
+        height: 1,
+    }
+}
+
+/// `break`
+pub(crate) fn break_statement() -> CheckedSimple
+    ensures { checked_simple (Some result) ≡ limited max_height 1 t.Break }
+{
+    CheckedSimple {
+        simple: SimpleStatement::Break,
+        height: 1,
+    }
+}
+
+/// `continue`
+pub(crate) fn continue_statement() -> CheckedSimple
+    ensures { checked_simple (Some result) ≡ limited max_height 1 t.Continue }
+{
+    CheckedSimple {
+        simple: SimpleStatement::Continue,
+        height: 1,
+    }
+}
+
 /// A `;` alone.
 pub(crate) fn empty(alloc: Global) -> Result<Option<CheckedStatement>, AllocError>
     ensures { IfOk result (λ s. checked_statement s ≡ limited max_height 1 t.Empty) }
 {
     CheckedStatement::of(alloc, Statement::Empty, 1)
-}
-
-/// A simple statement.
-pub(crate) fn simple(
-    alloc: Global,
-    simple: Option<CheckedSimple>,
-) -> Result<Option<CheckedStatement>, AllocError>
-    ensures { IfOk result
-        (λ s. checked_statement s ≡ over_one max_height height_of_statement t.Simple (checked_simple simple)) }
-{
-    let Some(simple) = simple else {
-        return Ok(None);
-    };
-    CheckedStatement::of(alloc, Statement::Simple(simple.simple), simple.height)
 }
 
 /// A block.

@@ -4,15 +4,15 @@ ghost use Rattle.std.specs.Prelude.{◌≡◌, false, ◌∷◌, List, IfOk};
 ghost use Rattle.awk_grammar.specs.definitions.Height.{max_height};
 ghost use Rattle.awk_grammar.specs.support.Parser as parser;
 ghost use Rattle.awk_lex.specs.declared.token.Kind.TheVariants as token;
-ghost use Rattle.awk_statement_nodes.specs.support.Checked.{checked_statement};
+ghost use Rattle.awk_statement_nodes.specs.support.Checked.{checked_part, checked_optional_expr, checked_statement};
 ghost use Rattle.awk_frames.specs.declared.frame.Frame.TheVariants as frame;
 ghost use Rattle.awk_frames.specs.support.FrameView.{frame_of, stack_of, next_of};
 
-use crate::simple_nodes::{break_statement, continue_statement, next as next_statement};
 use crate::statement_nodes::{
-    block, empty, for_in, for_loop, if_else, if_statement, one_more_statement, while_loop,
+    block, break_statement, continue_statement, empty, for_in, for_loop, if_else, if_statement,
+    next as next_statement, one_more_statement, while_loop,
 };
-use awk_frames::frame::{BodyFrame, ExpressionFrame, Frame, Head};
+use awk_frames::frame::{BodyFrame, ExpressionFrame, ForHead, Frame, Head};
 use awk_frames::stack::{pop, push};
 use awk_frames::state::{NextToken, ParserState, StatementState};
 use awk_grammar::tree::PrintForm;
@@ -20,7 +20,7 @@ use awk_lex::token::{Keyword, Kind};
 use awk_productions::items::{end_item, make_item};
 use awk_productions::operands::{before_parenthesis, start_operand};
 use awk_productions::taken::{begin_body, begin_statement};
-use awk_statement_nodes::checked::{CheckedStatement, CheckedStatements};
+use awk_statement_nodes::checked::{CheckedPart, CheckedStatement, CheckedStatements};
 use std::alloc::{AllocError, Global};
 
 /// `}`
@@ -77,7 +77,7 @@ fn start_part_keyword(
 }
 
 /// An expression, a print or a deletion begins.
-pub(crate) fn start_part(
+pub fn start_part(
     alloc: Global,
     next: NextToken,
     stack: &mut Vec<Frame>,
@@ -126,7 +126,7 @@ fn start_keyword(
 }
 
 /// Where a statement or the end of its block begins.
-pub(crate) fn start_statement(
+pub fn start_statement(
     alloc: Global,
     next: NextToken,
     stack: &mut Vec<Frame>,
@@ -185,8 +185,28 @@ fn continue_block(
     start_statement(alloc, next, stack)
 }
 
+/// A `for`, behind its body.
+fn end_for(
+    alloc: Global,
+    head: Box<ForHead>,
+    last: Box<Option<CheckedPart>>,
+    body: Option<CheckedStatement>,
+) -> Result<Option<CheckedStatement>, AllocError>
+    ensures { IfOk result (λ s. checked_statement s ≡ parser.for_node max_height (checked_part head.value.first.value)
+        (checked_optional_expr head.value.condition) (checked_part last.value) (checked_statement body)) }
+{
+    let ForHead { first, condition } = Box::into_inner(head);
+    for_loop(
+        alloc,
+        Box::into_inner(first),
+        condition,
+        Box::into_inner(last),
+        body,
+    )
+}
+
 /// A statement is done, and the next token isn't a newline.
-pub(crate) fn end_statement(
+pub fn end_statement(
     alloc: Global,
     next: NextToken,
     statement: Option<CheckedStatement>,
@@ -218,15 +238,13 @@ pub(crate) fn end_statement(
             BodyFrame::While(condition) => while_loop(alloc, condition, statement)?,
             BodyFrame::Do => return after_do_body(alloc, next, statement),
             BodyFrame::ForIn(name, array) => for_in(alloc, name, array, statement)?,
-            BodyFrame::For(first, condition, last) => {
-                for_loop(alloc, first, condition, last, statement)?
-            }
+            BodyFrame::For(head, last) => end_for(alloc, head, last, statement)?,
         };
     }
 }
 
 /// At the end of a statement that needs one.
-pub(crate) fn end_simple_statement(
+pub fn end_simple_statement(
     alloc: Global,
     next: NextToken,
     statement: Option<CheckedStatement>,

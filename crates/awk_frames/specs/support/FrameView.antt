@@ -25,6 +25,7 @@ use Rattle.awk_frames.specs.declared.state.ParserState.{ParserState}
 use Rattle.awk_frames.specs.declared.state.ParserState.TheVariants.{Expression, Statement, Item}
 use Rattle.awk_frames.specs.declared.state.ExpressionState.{ExpressionState}
 use Rattle.awk_frames.specs.declared.state.ExpressionState.TheVariants as in_expression
+use Rattle.awk_frames.specs.declared.state.Behind.TheVariants as behind
 use Rattle.awk_frames.specs.declared.state.StatementState.{StatementState}
 use Rattle.awk_frames.specs.declared.state.StatementState.TheVariants as in_statement
 use Rattle.awk_frames.specs.declared.state.ItemState.{ItemState}
@@ -57,9 +58,9 @@ node_frame_of (node.PreIncrement o) = parser.InPreIncrement o
 node_frame_of (node.Unary o) = parser.InUnary o
 node_frame_of (node.Binary o a) = parser.InBinary o (operand_of a)
 node_frame_of (node.Assign o p) = parser.InAssign o (operand_of p)
-node_frame_of (node.SecondChoice b) = parser.InSecondChoice (operand_of b.value.condition) (operand_of b.value.first)
-node_frame_of (node.GetlinePlace c) = parser.InGetlinePlace (optional_operand_of c)
-node_frame_of (node.GetlineFile p) = parser.InGetlineFile (optional_operand_of p)
+node_frame_of (node.SecondChoice b) = parser.InSecondChoice (operand_of b.value.condition.value) (operand_of b.value.first)
+node_frame_of (node.GetlinePlace c) = parser.InGetlinePlace (optional_operand_of c.value)
+node_frame_of (node.GetlineFile p) = parser.InGetlineFile (optional_operand_of p.value)
 
 abbrev pub list_frame_of : ListHead → parser.OperandList → parser.Frame
 list_frame_of (list.Group g) xs = parser.InGroup g xs
@@ -70,7 +71,7 @@ list_frame_of (list.Print how) xs = parser.InPrint how xs
 list_frame_of (list.Delete a) xs = parser.InDelete a xs
 
 abbrev pub expression_frame_of : ExpressionFrame → parser.Frame
-expression_frame_of (expression.FirstChoice c) = parser.InFirstChoice (operand_of c)
+expression_frame_of (expression.FirstChoice c) = parser.InFirstChoice (operand_of c.value)
 expression_frame_of expression.Statement = parser.InExpression
 expression_frame_of (expression.Group g) = parser.InGroup g (parser.no_operands max_height)
 expression_frame_of (expression.Output b) = parser.InOutput b.value.form (checked_print_list b.value.list) b.value.redirection
@@ -89,7 +90,7 @@ body_frame_of (body.Else c x) = parser.InElseBody (checked_expr c) (checked_stat
 body_frame_of (body.While c) = parser.InWhileBody (checked_expr c)
 body_frame_of body.Do = parser.InDoBody
 body_frame_of (body.ForIn b a) = parser.InForInBody b a
-body_frame_of (body.For p c q) = parser.InForBody (checked_part p) (checked_optional_expr c) (checked_part q)
+body_frame_of (body.For b q) = parser.InForBody (checked_part b.value.first.value) (checked_optional_expr b.value.condition) (checked_part q.value)
 
 abbrev pub head_of : Head → parser.Head
 head_of head.Begin = parser.OfBegin
@@ -103,7 +104,7 @@ frame_of (frame.Node f) = node_frame_of f
 frame_of (frame.List b) = list_frame_of b.value.head (list_of b.value.list)
 frame_of (frame.Expression f) = expression_frame_of f
 frame_of frame.ForFirst = parser.InForFirst
-frame_of (frame.ForLast b) = parser.InForLast (checked_part b.value.first) (checked_optional_expr b.value.condition)
+frame_of (frame.ForLast b) = parser.InForLast (checked_part b.value.first.value) (checked_optional_expr b.value.condition)
 frame_of (frame.Body b) = body_frame_of b.value
 frame_of (frame.Block None all) = parser.InBlock (checked_statements all)
 frame_of (frame.Block (Some b) all) = parser.InAction (head_of b.value) (checked_statements all)
@@ -124,15 +125,15 @@ reduced p fs = record { operand = operand_of p; stack = stack_of fs }
 -- g: in the list of a print
 abbrev pub expression_state_of : ExpressionState → (g : Bool) → List parser.Frame → parser.ParserState
 expression_state_of (in_expression.BeforeOperand skips) g k = parser.BeforeOperand skips g k
-expression_state_of (in_expression.AfterOperand e) g k = parser.AfterOperand g (operand_of e) k
+expression_state_of (in_expression.AfterOperand e behind.Nothing) g k = parser.AfterOperand g (operand_of e) k
+expression_state_of (in_expression.AfterOperand e behind.Bar) g k = parser.AfterBar g (operand_of e) k
+expression_state_of (in_expression.AfterOperand e behind.PipedGetline) g k = parser.AfterGetline (parser.AnOperand (operand_of e)) g k
+expression_state_of (in_expression.AfterOperand e behind.In) g k = parser.AfterIn (operand_of e) g k
 expression_state_of (in_expression.AfterName a) g k = parser.AfterName a g k
 expression_state_of in_expression.AfterLength g k = parser.AfterLength g k
 expression_state_of in_expression.AfterGetline g k = parser.AfterGetline parser.NoOperand g k
-expression_state_of (in_expression.AfterPipedGetline e) g k = parser.AfterGetline (parser.AnOperand (operand_of e)) g k
-expression_state_of (in_expression.AfterBar e) g k = parser.AfterBar g (operand_of e) k
 expression_state_of (in_expression.BeforeParenthesis b) g k = parser.BeforeParenthesis (frame_of b.value) g k
 expression_state_of (in_expression.AfterList b) g k = parser.AfterList g (list_of b.value) k
-expression_state_of (in_expression.AfterIn e) g k = parser.AfterIn (operand_of e) g k
 expression_state_of (in_expression.AfterListIn b) g k = parser.AfterListIn (list_of b.value) g k
 
 abbrev pub statement_state_of : StatementState → List parser.Frame → parser.ParserState
@@ -142,11 +143,11 @@ statement_state_of (in_statement.AfterDeleteName a) k = parser.AfterDeleteName a
 statement_state_of in_statement.AfterExit k = parser.AfterExit k
 statement_state_of in_statement.AfterReturn k = parser.AfterReturn k
 statement_state_of (in_statement.AfterSimple b) k = parser.AfterSimpleStatement (checked_simple b.value) k
-statement_state_of (in_statement.AfterDo x) k = parser.AfterDo (checked_statement x) k
+statement_state_of (in_statement.AfterDo b) k = parser.AfterDo (checked_statement b.value) k
 statement_state_of in_statement.AfterFor k = parser.AfterFor k
 statement_state_of in_statement.BeforeForFirst k = parser.BeforeForFirst k
 statement_state_of (in_statement.BeforeForCondition b) k = parser.BeforeForCondition (checked_part b.value) k
-statement_state_of (in_statement.BeforeForLast b) k = parser.BeforeForLast (checked_part b.value.first) (checked_optional_expr b.value.condition) k
+statement_state_of (in_statement.BeforeForLast b) k = parser.BeforeForLast (checked_part b.value.first.value) (checked_optional_expr b.value.condition) k
 statement_state_of in_statement.BeforeStatement k = parser.BeforeStatement k
 statement_state_of (in_statement.AfterStatement x) k = parser.AfterStatement (checked_statement x) k
 

@@ -1,7 +1,4 @@
 use Rattle.awk_parser.proofs.parser.step_expression.Goals as goal
 
-pub returns-in-AfterIn : goal.returns-in-AfterIn
-returns-in-AfterIn c = rw c.in-AfterIn.is (c.after_in.ensures c.args.stack.now.items)
-
 pub returns-in-AfterListIn : goal.returns-in-AfterListIn
 returns-in-AfterListIn c = rw c.in-AfterListIn.is (rw c.into_inner-in-AfterListIn.ensures at c.after_list_in.ensures c.args.stack.now.items)

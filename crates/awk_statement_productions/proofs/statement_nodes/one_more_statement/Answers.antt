@@ -1,4 +1,4 @@
-use Rattle.std.proofs.Common.{◌≡◌, ap, sym, ◌∙◌, arith}
+use Rattle.std.proofs.Common.{ap, sym, ◌∙◌, arith}
 use Rattle.awk_grammar.specs.definitions.Height.{height_of_statement}
 use Rattle.awk_grammar.specs.definitions.View.{statement_of}
 use Rattle.awk_statement_productions.proofs.StatementLists.{statements_counted, statements_checked}

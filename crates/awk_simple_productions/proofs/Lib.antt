@@ -1,0 +1,2 @@
+pub mod ForParts
+pub mod OtherTokens

@@ -1,5 +1,0 @@
-use Rattle.std.proofs.Common.{rules}
-use Rattle.awk_statement_productions.proofs.prints.end_parenthesized.Goals as goal
-
-pub returns-in-Print : goal.returns-in-Print
-returns-in-Print c = search rules
