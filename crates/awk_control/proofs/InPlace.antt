@@ -33,12 +33,6 @@ use Rattle.awk_control.proofs.Steps.{halts}
 pub leads_on : {is_logged : Type 0} {f f1 f2 : Focus} {st st1 st2 : List Entry} {m m1 m2 : Interpreter} {k k1 k2 : WorldState} → Leads is_logged f st m k f1 st1 m1 k1 → Leads is_logged f1 st1 m1 k1 f2 st2 m2 k2 → Leads is_logged f st m k f2 st2 m2 k2
 leads_on p q = record { leads = λ new after r d. p.leads new after r (q.leads new after r d); deep = let a = p.deep in let b = q.deep in omega (arith, a, b) }
 
--- a test
-
-pub tests_at_once : {is_logged : Type 0} (e : t.Expr) {m : Interpreter} {k : WorldState} {b : Bool} → TestsInPlace e m b → Tests is_logged e m k m k (Ok b)
-unfolding tested
-tests_at_once {is_logged} e {m} {k} {b} p = record { simulates = subst (λ x. Simulates is_logged m k m k (Ok x) (eval e >>= λ v. ret (truth_of v))) p.truth (then_simulates _ (change_simulates p.changes) (lift_simulates (Ok (truth_of p.value)) m k refl)) }
-
 -- the condition of a loop
 
 pub condition_found : {is_logged : Type 0} (l : Loop) (c : t.Expr) (g : Flow) {b : Bool} {st : List Entry} {m : Interpreter} {k : WorldState} → l.condition ≡ t.AnExpr c → (p : TestsInPlace c m b) → Leads is_logged (Ended g) (LastPart l ∷ st) m k (Ended (flow.Return p.value)) (LoopCondition l ∷ st) m k

@@ -78,21 +78,6 @@ halts p s same = record { moved = λ k. record { moved = p k }; steps = s; strea
 pub wants_memory : {plan : Program} {f : Focus} {st : List Entry} {new : Stack} {m : Interpreter} → Steps plan f st m (Err (halt.Fault OutOfMemory)) new m
 wants_memory {f = f} = halts (λ k. memory_rest (run_of f)) (omega arith) refl
 
--- a move stays one where it begins as another
-pub steps_from : {plan : Program} {f g : Focus} {st st1 : List Entry} {new : Stack} {m m' : Interpreter} (e : Entry) (r : Result Move Halt) → ((k : WorldState) → Leads (Unit {0}) f st m k g (e ∷ st1) m k) → work g (e ∷ st1) ≤ work f st → Steps plan g (e ∷ st1) m r new m' → Steps plan f st m r new m'
-steps_from e (Ok (move.On f')) l w p = record {
-  moved = λ k. record { moved = record { leads = record { leads = λ new after x d. (l k).leads new after x ((p.moved k).moved.leads.leads new after x d); deep = let a = (l k).deep in let b = (p.moved k).moved.leads.deep in omega (arith, a, b) }; less = let q = (p.moved k).moved.less in omega (arith, q, w); steps = (p.moved k).moved.steps } };
-  steps = p.steps;
-  streams = p.streams;
-}
-steps_from e (Ok (move.Spent f')) l w p = record {
-  moved = λ k. record { moved = record { leads = record { leads = λ new after x d. (l k).leads new after x ((p.moved k).moved.leads.leads new after x d); deep = let a = (l k).deep in let b = (p.moved k).moved.leads.deep in omega (arith, a, b) }; falls = (p.moved k).moved.falls } };
-  steps = p.steps;
-  streams = p.streams;
-}
-steps_from e (Ok (move.Over x)) l w p = record { moved = λ k. let bad = (p.moved k).moved.stack in absurd (cc); steps = p.steps; streams = p.streams }
-steps_from e (Err h) l w p = record { moved = λ k. record { moved = (l k).leads _ _ _ (p.moved k).moved }; steps = p.steps; streams = p.streams }
-
 -- any world may stand beside such a move
 
 pub any_leads : {is_logged : Type 0} {f f' : Focus} {st st' : List Entry} {m m' : Interpreter} {k : WorldState} → Leads (Unit {0}) f st m k f' st' m' k → m'.steps ≤ m.steps → m'.streams ≡ m.streams → Leads is_logged f st m k f' st' m' k

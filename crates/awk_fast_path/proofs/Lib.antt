@@ -2,3 +2,4 @@ mod Counting
 mod Lemmas
 mod Executing
 mod Writing
+mod Updating

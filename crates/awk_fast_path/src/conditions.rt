@@ -15,6 +15,24 @@ use awk_plan::plan::Plan;
 use awk_tree::tree::{BinaryOperator, UnaryOperator};
 use awk_value::{compare, is_true};
 
+/// Whether a comparison of two operands is true by their values, if these are found in place.
+#[inline(never)]
+fn compare_values(
+    plan: &Plan,
+    operator: BinaryOperator,
+    a: Operand,
+    b: Operand,
+    interpreter: &mut Interpreter,
+) -> Option<bool>
+    ensures found { IfSome result (λ c. Tests (Binary operator (operand_of plan.now a) (operand_of plan.now b))
+        interpreter.old c) }
+    ensures kept { interpreter.new ≡ interpreter.old }
+{
+    let x = found(plan, a, interpreter)?;
+    let y = found(plan, b, interpreter)?;
+    related(operator, compare(&x, &y).ok()?)
+}
+
 /// Whether a comparison of two operands is true, if they are found in place: their numbers first, and else their values.
 #[inline(always)]
 fn compare_operands(
@@ -31,9 +49,7 @@ fn compare_operands(
     if let Some(holds) = compared::<Operands>(plan, operator, a, b, interpreter) {
         return Some(holds);
     }
-    let x = found(plan, a, interpreter)?;
-    let y = found(plan, b, interpreter)?;
-    related(operator, compare(&x, &y).ok()?)
+    compare_values(plan, operator, a, b, interpreter)
 }
 
 /// How deep conditions are looked into. Each depth is a type of its own, so that no function calls itself.

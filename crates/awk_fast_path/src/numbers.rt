@@ -16,7 +16,7 @@ use awk_operators::{apply_to_numbers, change};
 use awk_plan::node::{ExprNode, Node, Operand};
 use awk_plan::plan::Plan;
 use awk_tree::tree::{BinaryOperator, UnaryOperator};
-use awk_value::{Value, add, numeric_of, sub};
+use awk_value::{Value, add, mul, numeric_of, sub};
 use std::cmp::Ordering;
 use std::marker::PhantomData;
 
@@ -114,14 +114,14 @@ fn changed(operator: UnaryOperator, number: i128) -> Option<i128>
 
 /// How deep expressions are that are looked into. Each depth is a type of its own, so that no function calls itself.
 pub(crate) trait Depth {
-    /// The number that the expression of a node has, if it is found so deep. Nothing changes.
-    fn number(plan: &Plan, node: ExprNode, interpreter: &mut Interpreter) -> Option<i128>
-        ensures found { Finds (made_expr plan.now.tables (part_of plan.now) node) interpreter.old result }
+    /// The number that the expression at a place has, if it is found so deep. Nothing changes.
+    fn number(plan: &Plan, place: u32, interpreter: &mut Interpreter) -> Option<i128>
+        ensures found { Finds (expr_in (part_of plan.now place)) interpreter.old result }
         ensures kept { interpreter.new ≡ interpreter.old };
 
     /// The number as which the value of the expression counts: of a field or a group too that isn't a number.
-    fn counted(plan: &Plan, node: ExprNode, interpreter: &mut Interpreter) -> Option<i128>
-        ensures found { Counts (made_expr plan.now.tables (part_of plan.now) node) interpreter.old result }
+    fn counted(plan: &Plan, place: u32, interpreter: &mut Interpreter) -> Option<i128>
+        ensures found { Counts (expr_in (part_of plan.now place)) interpreter.old result }
         ensures kept { interpreter.new ≡ interpreter.old };
 }
 
@@ -129,11 +129,11 @@ pub(crate) trait Depth {
 pub(crate) struct Leaf;
 
 impl Depth for Leaf {
-    fn number(_plan: &Plan, _node: ExprNode, _interpreter: &mut Interpreter) -> Option<i128> {
+    fn number(_plan: &Plan, _place: u32, _interpreter: &mut Interpreter) -> Option<i128> {
         None
     }
 
-    fn counted(_plan: &Plan, _node: ExprNode, _interpreter: &mut Interpreter) -> Option<i128> {
+    fn counted(_plan: &Plan, _place: u32, _interpreter: &mut Interpreter) -> Option<i128> {
         None
     }
 }
@@ -151,10 +151,7 @@ pub(crate) fn operand<D: Depth>(
     match e {
         Operand::Constant(number) => constant(plan, number, interpreter),
         Operand::Variable(number) => variable(plan, number, interpreter),
-        Operand::Node(place) => match expression(plan, place) {
-            Some(node) => D::number(plan, node, interpreter),
-            None => None,
-        },
+        Operand::Node(place) => D::number(plan, place, interpreter),
     }
 }
 
@@ -171,49 +168,62 @@ pub(crate) fn counted<D: Depth>(
     match e {
         Operand::Constant(number) => constant(plan, number, interpreter),
         Operand::Variable(number) => counted_variable(plan, number, interpreter),
-        Operand::Node(place) => match expression(plan, place) {
-            Some(node) => match node {
-                ExprNode::Field(_) | ExprNode::Group(_) => D::counted(plan, node, interpreter),
-                _ => D::number(plan, node, interpreter),
-            },
-            None => None,
-        },
+        Operand::Node(place) => D::counted(plan, place, interpreter),
     }
 }
 
 /// An operator over expressions of a depth.
 pub(crate) struct Over<D>(PhantomData<D>);
 
+/// The number of a node's expression that is no leaf.
+#[inline(always)]
+pub(crate) fn number_of<D: Depth>(
+    plan: &Plan,
+    node: ExprNode,
+    interpreter: &mut Interpreter,
+) -> Option<i128>
+    ensures found { Finds (made_expr plan.now.tables (part_of plan.now) node) interpreter.old result }
+    ensures kept { interpreter.new ≡ interpreter.old }
+{
+    match node {
+        ExprNode::Group(e) => operand::<D>(plan, e, interpreter),
+        ExprNode::FieldCount => field_count(interpreter),
+        ExprNode::Unary(operator, e) => match counted::<D>(plan, e, interpreter) {
+            Some(n) => changed(operator, n),
+            None => None,
+        },
+        ExprNode::Binary(operator, a, b) => joined::<D>(plan, operator, a, b, interpreter),
+        ExprNode::And(a, b) => both::<D>(plan, a, b, interpreter),
+        ExprNode::Or(a, b) => either::<D>(plan, a, b, interpreter),
+        ExprNode::Conditional(c, a, b) => chosen::<D>(plan, c, a, b, interpreter),
+        _ => None,
+    }
+}
+
 impl<D: Depth> Depth for Over<D> {
-    fn number(plan: &Plan, node: ExprNode, interpreter: &mut Interpreter) -> Option<i128> {
-        match node {
-            ExprNode::Group(e) => operand::<D>(plan, e, interpreter),
-            ExprNode::FieldCount => field_count(interpreter),
-            ExprNode::Unary(operator, e) => match counted::<D>(plan, e, interpreter) {
-                Some(n) => changed(operator, n),
-                None => None,
-            },
-            ExprNode::Binary(operator, a, b) => joined::<D>(plan, operator, a, b, interpreter),
-            ExprNode::And(a, b) => both::<D>(plan, a, b, interpreter),
-            ExprNode::Or(a, b) => either::<D>(plan, a, b, interpreter),
-            ExprNode::Conditional(c, a, b) => chosen::<D>(plan, c, a, b, interpreter),
-            _ => None,
+    fn number(plan: &Plan, place: u32, interpreter: &mut Interpreter) -> Option<i128> {
+        match expression(plan, place) {
+            Some(node) => number_of::<D>(plan, node, interpreter),
+            None => None,
         }
     }
 
-    fn counted(plan: &Plan, node: ExprNode, interpreter: &mut Interpreter) -> Option<i128> {
-        match node {
-            ExprNode::Field(e) => match counted::<D>(plan, e, interpreter) {
-                Some(n) => field_number(n, interpreter),
-                None => None,
+    fn counted(plan: &Plan, place: u32, interpreter: &mut Interpreter) -> Option<i128> {
+        match expression(plan, place) {
+            Some(node) => match node {
+                ExprNode::Field(e) => match counted::<D>(plan, e, interpreter) {
+                    Some(n) => field_number(n, interpreter),
+                    None => None,
+                },
+                ExprNode::Group(e) => counted::<D>(plan, e, interpreter),
+                _ => number_of::<D>(plan, node, interpreter),
             },
-            ExprNode::Group(e) => counted::<D>(plan, e, interpreter),
-            _ => Over::<D>::number(plan, node, interpreter),
+            None => None,
         }
     }
 }
 
-/// The number that an operator makes of two numbers. Sums and differences, which are the most frequent, take no call.
+/// The number that an operator makes of two numbers. The most frequent ones take no call of their own.
 #[inline(always)]
 pub(crate) fn joined_numbers(operator: BinaryOperator, x: i128, y: i128) -> Option<i128>
     ensures applied { IfSome result (λ n. applied operator (Number x) (Number y) ≡ Ok (Number n)) }
@@ -222,6 +232,7 @@ pub(crate) fn joined_numbers(operator: BinaryOperator, x: i128, y: i128) -> Opti
     match operator {
         BinaryOperator::Plus => add(x, y).ok(),
         BinaryOperator::Minus => sub(x, y).ok(),
+        BinaryOperator::Times => mul(x, y).ok(),
         _ => apply_to_numbers(operator, x, y),
     }
 }
@@ -352,6 +363,7 @@ pub(crate) fn related(operator: BinaryOperator, order: Ordering) -> Option<bool>
 
 /// Whether a comparison of two operands is true, if both count as numbers that are found so deep. The right one, which often is
 /// a text of the program, is looked for first.
+#[inline(always)]
 pub(crate) fn compared<D: Depth>(
     plan: &Plan,
     operator: BinaryOperator,

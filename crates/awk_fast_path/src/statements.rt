@@ -5,7 +5,7 @@ ghost use Rattle.awk_tree.specs.Tree.{Assign, AssignBy, PreIncrement, PostIncrem
 ghost use Rattle.awk_plan.specs.Plan.{operand_of, part_of, name_at, made_assignment, made_simple, statement_in};
 ghost use Rattle.awk_meaning.specs.Operators.{by_one};
 ghost use Rattle.awk_meaning.specs.Semantics.{exec};
-ghost use Rattle.awk_fast_path.specs.support.Found.{Evaluates};
+ghost use Rattle.awk_fast_path.specs.support.Found.{Evaluates, Joins};
 ghost use Rattle.awk_fast_path.specs.support.Executed.{Executes, RunsBy, IsIf, behind_simple, behind_if, branch_of, given_back};
 
 use crate::conditions::test;
@@ -16,6 +16,7 @@ use awk_lex::token::IncrementOperator;
 use awk_plan::node::{AssignmentNode, Node, Operand, SimpleNode, StatementNode};
 use awk_plan::plan::Plan;
 use awk_tree::tree::BinaryOperator;
+use awk_variables::Update;
 
 /// What joins a number and 1.
 fn by_one(operator: IncrementOperator) -> BinaryOperator
@@ -43,6 +44,43 @@ fn assign(plan: &Plan, x: u32, e: Operand, interpreter: &mut Interpreter) -> boo
     assign_value(plan, x, name, e, interpreter)
 }
 
+/// Adds a number to that of a variable or subtracts it, where that stands. Another operator does nothing.
+#[inline(always)]
+fn update_number(
+    operator: BinaryOperator,
+    x: u32,
+    name: &[u8],
+    n: i128,
+    interpreter: &mut Interpreter,
+) -> bool
+    ensures done { result ≡ true → Joins operator name.now n interpreter.old interpreter.new }
+    ensures kept { result ≡ false → interpreter.new ≡ interpreter.old }
+{
+    match operator {
+        BinaryOperator::Plus => interpreter.update_at(x, name, Update::Add(n)),
+        BinaryOperator::Minus => interpreter.update_at(x, name, Update::Subtract(n)),
+        _ => false,
+    }
+}
+
+/// Gives a variable what an operator makes of the number as which its value counts and another one.
+#[inline(never)]
+fn join_numbers(
+    operator: BinaryOperator,
+    x: u32,
+    name: &[u8],
+    n: i128,
+    interpreter: &mut Interpreter,
+) -> bool
+    ensures done { result ≡ true → Joins operator name.now n interpreter.old interpreter.new }
+    ensures kept { result ≡ false → interpreter.new ≡ interpreter.old }
+{
+    let Some(old) = named_number(x, name, interpreter) else {
+        return false;
+    };
+    interpreter.put_number(x, name, joined_numbers(operator, old, n))
+}
+
 /// Gives a variable what an operator makes of its number and of an expression's.
 #[inline(always)]
 fn assign_by(
@@ -62,10 +100,10 @@ fn assign_by(
     let Some(n) = counted::<Deepest>(plan, e, interpreter) else {
         return false;
     };
-    let Some(old) = named_number(x, name, interpreter) else {
-        return false;
-    };
-    interpreter.put_number(x, name, joined_numbers(operator, old, n))
+    if update_number(operator, x, name, n, interpreter) {
+        return true;
+    }
+    join_numbers(operator, x, name, n, interpreter)
 }
 
 /// Adds 1 to a variable's number or takes 1 away.
@@ -85,10 +123,10 @@ fn increment(
     let Some(name) = name(plan, x) else {
         return false;
     };
-    let Some(old) = named_number(x, name, interpreter) else {
-        return false;
-    };
-    interpreter.put_number(x, name, joined_numbers(by_one(operator), old, 1))
+    if update_number(by_one(operator), x, name, 1, interpreter) {
+        return true;
+    }
+    join_numbers(by_one(operator), x, name, 1, interpreter)
 }
 
 /// Evaluates an assignment whose value nothing waits for, if that can be done in place. Else nothing changes. (POSIX awk,

@@ -10,7 +10,9 @@ ghost use Rattle.awk_interpreter.specs.Simulation.{Changes};
 ghost use Rattle.awk_fast_path.specs.support.Found.{Evaluates};
 ghost use Rattle.awk_fast_path.specs.support.Written.{Writes, Continues, IsTail};
 
-use crate::numbers::{Deepest as Depths, Depth, Leaf, Over, counted, expression, name};
+use crate::numbers::{
+    Deepest as Depths, Leaf, Operands, Over, counted, expression, name, number_of,
+};
 use awk_interpreter::Interpreter;
 use awk_plan::node::{ExprNode, Operand};
 use awk_plan::plan::Plan;
@@ -71,7 +73,7 @@ fn single(plan: &Plan, node: ExprNode, interpreter: &mut Interpreter) -> Option<
 {
     match node {
         ExprNode::Field(e) => field(plan, e, interpreter),
-        _ => match Depths::number(plan, node, interpreter) {
+        _ => match number_of::<Operands>(plan, node, interpreter) {
             Some(n) => Some(Value::Number(n)),
             None => None,
         },

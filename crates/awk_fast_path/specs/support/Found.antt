@@ -1,15 +1,17 @@
 -- What is found in place: a number, a truth, or the end of a statement's expression.
-use Rattle.std.specs.Prelude.{◌≡◌, ℤ, Bool, Option, Some, IfSome, Ok}
+use Rattle.std.specs.Prelude.{◌≡◌, ℕ, ℤ, List, Bool, false, Option, Some, IfSome, OnSome, Ok}
 use Rattle.awk_value.specs.declared.value.Value.{Value}
 use Rattle.awk_value.specs.declared.value.Value.TheVariants.{Number}
 use Rattle.awk_value.specs.Values.{num_of, numeric_of, truth_of}
 use Rattle.awk_tree.specs.Tree.{Expr}
 use Rattle.awk_tree.specs.declared.tree.UnaryOperator.{UnaryOperator}
-use Rattle.awk_meaning.specs.Operators.{changed}
+use Rattle.awk_tree.specs.declared.tree.BinaryOperator.{BinaryOperator}
+use Rattle.awk_meaning.specs.Primitives.{read_name}
+use Rattle.awk_meaning.specs.Operators.{changed, applied, takes_pattern}
 use Rattle.awk_meaning.specs.State.{Run}
 use Rattle.awk_meaning.specs.Semantics.{eval}
 use Rattle.awk_interpreter.specs.declared.interpreter.Interpreter.{Interpreter}
-use Rattle.awk_interpreter.specs.Simulation.{Changes}
+use Rattle.awk_interpreter.specs.Simulation.{Changes, PutsNumber}
 
 -- if a number is found, the expression has it, and its evaluation changes nothing
 abbrev pub Finds : Expr → Interpreter → Option ℤ → Type 0
@@ -43,3 +45,12 @@ pub record Tests (e : Expr) (m : Interpreter) (b : Bool) : Type 0 where
 pub record Evaluates (e : Expr) (old new : Interpreter) : Type 0 where
   pub value : Value
   pub changes : Changes (eval e) old new (Ok value)
+
+-- a name gets what an operator makes of its number and another one
+pub record Joins (o : BinaryOperator) (x : List ℕ) (n : ℤ) (old new : Interpreter) : Type 0 where
+  pub before : ℤ
+  pub after : Option ℤ
+  pub read : HasNumber (read_name x) old before
+  pub made : IfSome after (λ r. applied o (Number before) (Number n) ≡ Ok (Number r))
+  pub plain : OnSome after (takes_pattern o ≡ false)
+  pub puts : PutsNumber x after old new

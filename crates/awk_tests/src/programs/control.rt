@@ -151,6 +151,47 @@ $ BEGIN { n = 2 ^ 126 - 1 + 2 ^ 126; for (i = 0; i < 2; i++) { print n; n += i }
 > 170141183460469231731687303715884105727
 ! awk: fault 3: number out of range
 = 2
+$ BEGIN { x = -2^126 - 2^126; print x; x += 0; x -= 0; print x; x--; print 1 }
+> -170141183460469231731687303715884105728
+> -170141183460469231731687303715884105728
+! awk: fault 3: number out of range
+= 2
+$ BEGIN { for (i = n++; n < 4; n++) { print i, n; for (n++; n < 3; n++) print "in", n } for (;;) { print "out", n; break } for (k = "x" n; k < 9; n++) ; print n, k }
+> 0 1
+> in 2
+> out 4
+> 4 x4
+= 0
+$ BEGIN { for (i = (j = 2) + 1; j > 0; j--) print i, j; for (s = s "ab"; j < 2; j++) s = s j; print s, j; for (NR = 4; NR < 6; NR++) print NR }
+> 3 2
+> 3 1
+> ab01 2
+> 4
+> 5
+= 0
+$ BEGIN { print 1; for (i = 1 / z; ; ) print 2 }
+> 1
+! awk: fault 4: division by zero
+= 2
+$ { for (i = 0; i < 2; i++) print $1, n++, $2, n++ $1, i; if (n == 4) print n, $1, n++, $2; else print $2, n++, n++, n }
+< a b
+< c d
+> a 0 b 1a 0
+> a 2 b 3a 1
+> 4 a 4 b
+> c 5 d 6c 0
+> c 7 d 8c 1
+> d 9 10 11
+= 0
+$ -L3
+$ BEGIN { for (i = 0; i < 2; i++) print i }
+! awk: stopped: step limit reached
+= 3
+$ -L4
+$ BEGIN { for (i = 0; i < 2; i++) print i }
+> 0
+! awk: stopped: step limit reached
+= 3
 $ -L5
 $ BEGIN { for (i = 0; i < 2; i++) s += i; print s }
 ! awk: stopped: step limit reached

@@ -1,5 +1,5 @@
 use Rattle.std.proofs.Common.{refl}
-use Rattle.awk_value.specs.Arithmetic.{sum_of, difference_of}
+use Rattle.awk_value.specs.Arithmetic.{sum_of, difference_of, product_of}
 use Rattle.awk_fast_path.proofs.Lemmas.{passed, made_of, if_some}
 use Rattle.awk_fast_path.proofs.numbers.joined_numbers.Goals as goal
 
@@ -16,3 +16,10 @@ returns-in-Minus-clause-applied c =
 
 pub returns-in-Minus-clause-plain : goal.returns-in-Minus-clause-plain
 returns-in-Minus-clause-plain c = rw c.in-Minus.is (if_some c.ok-in-Minus.result refl)
+
+pub returns-in-Times-clause-applied : goal.returns-in-Times-clause-applied
+returns-in-Times-clause-applied c =
+    rw (c.in-Times.is, c.ok-in-Times.ensures.value, c.mul.ensures) (made_of product_of c.args.x c.args.y _ _ (passed c.args.x c.ranges.x) (passed c.args.y c.ranges.y))
+
+pub returns-in-Times-clause-plain : goal.returns-in-Times-clause-plain
+returns-in-Times-clause-plain c = rw c.in-Times.is (if_some c.ok-in-Times.result refl)
