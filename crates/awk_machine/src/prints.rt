@@ -23,6 +23,7 @@ use awk_streams::World;
 /// Goes on with a print for which so many values stand on top of the stack: prints their line, with the values of the rest of
 /// the list behind them where these are found in place. Else an entry waits for the first that isn't, which is answered.
 /// (POSIX awk, Output Statements)
+#[inline(always)]
 fn print_values<W: World>(
     plan: &Plan,
     rest: u32,

@@ -51,6 +51,7 @@ pub fn print_record<W: World>(interpreter: &mut Interpreter, world: &mut W) -> R
 
 /// Puts the values of a list's expressions behind those that stand in the room, up to the first that isn't found in place. It
 /// answers where in the list that is, and which expression; none where all are found.
+#[inline(always)]
 pub(crate) fn find_values(
     plan: &Plan,
     place: u32,
