@@ -168,7 +168,13 @@ pub(crate) fn counted<D: Depth>(
     match e {
         Operand::Constant(number) => constant(plan, number, interpreter),
         Operand::Variable(number) => counted_variable(plan, number, interpreter),
-        Operand::Node(place) => D::counted(plan, place, interpreter),
+        Operand::Node(place) => match expression(plan, place) {
+            Some(node) => match node {
+                ExprNode::Field(_) | ExprNode::Group(_) => D::counted(plan, place, interpreter),
+                _ => D::number(plan, place, interpreter),
+            },
+            None => None,
+        },
     }
 }
 
@@ -177,11 +183,7 @@ pub(crate) struct Over<D>(PhantomData<D>);
 
 /// The number of a node's expression that is no leaf.
 #[inline(always)]
-pub(crate) fn number_of<D: Depth>(
-    plan: &Plan,
-    node: ExprNode,
-    interpreter: &mut Interpreter,
-) -> Option<i128>
+fn number_of<D: Depth>(plan: &Plan, node: ExprNode, interpreter: &mut Interpreter) -> Option<i128>
     ensures found { Finds (made_expr plan.now.tables (part_of plan.now) node) interpreter.old result }
     ensures kept { interpreter.new ≡ interpreter.old }
 {
@@ -216,7 +218,7 @@ impl<D: Depth> Depth for Over<D> {
                     None => None,
                 },
                 ExprNode::Group(e) => counted::<D>(plan, e, interpreter),
-                _ => number_of::<D>(plan, node, interpreter),
+                _ => Over::<D>::number(plan, place, interpreter),
             },
             None => None,
         }

@@ -3,16 +3,14 @@
 ghost use Rattle.std.specs.Prelude.{◌≡◌, ◌++◌, true, false, Ok, IfSome};
 ghost use Rattle.awk_value.specs.Values.{str_of};
 ghost use Rattle.awk_tree.specs.Tree.{Assign, Binary, Field};
-ghost use Rattle.awk_plan.specs.Plan.{operand_of, made_expr, part_of, name_at};
+ghost use Rattle.awk_plan.specs.Plan.{operand_of, expr_in, made_expr, part_of, name_at};
 ghost use Rattle.awk_variables.specs.Variables.{value_of};
 ghost use Rattle.awk_meaning.specs.Semantics.{eval};
 ghost use Rattle.awk_interpreter.specs.Simulation.{Changes};
 ghost use Rattle.awk_fast_path.specs.support.Found.{Evaluates};
 ghost use Rattle.awk_fast_path.specs.support.Written.{Writes, Continues, IsTail};
 
-use crate::numbers::{
-    Deepest as Depths, Leaf, Operands, Over, counted, expression, name, number_of,
-};
+use crate::numbers::{Deepest as Depths, Depth, Leaf, Over, counted, expression, name};
 use awk_interpreter::Interpreter;
 use awk_plan::node::{ExprNode, Operand};
 use awk_plan::plan::Plan;
@@ -65,18 +63,21 @@ fn field(plan: &Plan, e: Operand, interpreter: &mut Interpreter) -> Option<Value
     interpreter.field_at(&Value::Number(number)).ok()
 }
 
-/// The value of the expression of a node, where it is a field or a number.
-fn single(plan: &Plan, node: ExprNode, interpreter: &mut Interpreter) -> Option<Value>
-    ensures found { IfSome result (λ v. Changes (eval (made_expr plan.now.tables (part_of plan.now) node)) interpreter.old
-        interpreter.old (Ok v)) }
+/// The value of the expression at a place, where it is a field or a number.
+fn single(plan: &Plan, place: u32, interpreter: &mut Interpreter) -> Option<Value>
+    ensures found { IfSome result (λ v. Changes (eval (expr_in (part_of plan.now place))) interpreter.old interpreter.old
+        (Ok v)) }
     ensures kept { interpreter.new ≡ interpreter.old }
 {
-    match node {
-        ExprNode::Field(e) => field(plan, e, interpreter),
-        _ => match number_of::<Operands>(plan, node, interpreter) {
-            Some(n) => Some(Value::Number(n)),
-            None => None,
+    match expression(plan, place) {
+        Some(node) => match node {
+            ExprNode::Field(e) => field(plan, e, interpreter),
+            _ => match Depths::number(plan, place, interpreter) {
+                Some(n) => Some(Value::Number(n)),
+                None => None,
+            },
         },
+        None => None,
     }
 }
 
@@ -110,10 +111,7 @@ fn write_single(
     let Operand::Node(place) = e else {
         return write_leaf(plan, e, interpreter, buffer);
     };
-    let Some(node) = expression(plan, place) else {
-        return false;
-    };
-    match single(plan, node, interpreter) {
+    match single(plan, place, interpreter) {
         Some(value) => write(&value, buffer),
         None => false,
     }
@@ -283,6 +281,6 @@ pub fn found(plan: &Plan, e: Operand, interpreter: &mut Interpreter) -> Option<V
                 None => None,
             }
         }
-        _ => single(plan, node, interpreter),
+        _ => single(plan, place, interpreter),
     }
 }

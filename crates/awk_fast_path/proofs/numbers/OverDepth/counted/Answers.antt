@@ -14,4 +14,4 @@ returns-in-Some-counted-clause-found g c =
     rw (c.in-Some.ensures, c.in-Field.is) (counts _ c.in-Some-counted.ensures.found)
 
 pub returns-in_default-clause-found : goal.returns-in_default-clause-found
-returns-in_default-clause-found g c = rw c.in-Some.ensures (number_counts _ _ _ c.number_of.ensures.found)
+returns-in_default-clause-found g c = number_counts _ _ _ c.number.ensures.found
