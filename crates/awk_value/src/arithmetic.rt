@@ -17,7 +17,13 @@ const FAR_EXPONENT: i128 = 128;
 pub fn mul(m: i128, n: i128) -> Result<i128, ValueFault>
     ensures { result ≡ product_of m n }
 {
-    m.checked_mul(n).ok_or(ValueFault::Range)
+    match (i64::try_from(m), i64::try_from(n)) {
+        // (no product of these is out of range, which the processor's own multiplication gives)
+        (Ok(short), Ok(other)) => i128::from(short)
+            .checked_mul(i128::from(other))
+            .ok_or(ValueFault::Range),
+        _ => m.checked_mul(n).ok_or(ValueFault::Range),
+    }
 }
 
 /// The sum of two numbers. The fault is `Range`. (POSIX awk, Expressions in awk.)
