@@ -1,2 +1,3 @@
 mod BuiltLists
+mod Leaves
 pub mod Rows

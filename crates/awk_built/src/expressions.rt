@@ -155,6 +155,22 @@ fn built_signed(
     boxed(alloc, Expr::Unary(built_unary(operator), e))
 }
 
+#[cycle(expressions)]
+fn built_group(alloc: Global, e: &grammar::Expr) -> Result<Box<Expr>, Refusal>
+    ensures { Builds (λ b. expr_of b.value) result (option_map t.Group (built_expr (g.expr_of e.now))) }
+{
+    let e = built_operand(alloc, e)?;
+    boxed(alloc, Expr::Group(e))
+}
+
+#[cycle(expressions)]
+fn built_field(alloc: Global, e: &grammar::Expr) -> Result<Box<Expr>, Refusal>
+    ensures { Builds (λ b. expr_of b.value) result (option_map t.Field (built_expr (g.expr_of e.now))) }
+{
+    let e = built_operand(alloc, e)?;
+    boxed(alloc, Expr::Field(e))
+}
+
 /// Two operands with their operator, where the left one is built.
 #[cycle(expressions)]
 fn built_binary(
@@ -205,14 +221,8 @@ pub(crate) fn built_operand(alloc: Global, e: &grammar::Expr) -> Result<Box<Expr
     ensures { Builds (λ b. expr_of b.value) result (built_expr (g.expr_of e.now)) }
 {
     match e {
-        grammar::Expr::Group(e) => {
-            let e = built_operand(alloc, e)?;
-            boxed(alloc, Expr::Group(e))
-        }
-        grammar::Expr::Field(e) => {
-            let e = built_operand(alloc, e)?;
-            boxed(alloc, Expr::Field(e))
-        }
+        grammar::Expr::Group(e) => built_group(alloc, e),
+        grammar::Expr::Field(e) => built_field(alloc, e),
         grammar::Expr::Unary(operator, e) => built_signed(alloc, *operator, e),
         grammar::Expr::Binary(operator, a, b) => {
             let a = built_operand(alloc, a)?;

@@ -1,4 +1,4 @@
-use Rattle.std.proofs.Common.{◌≡◌, ap}
+use Rattle.std.proofs.Common.{◌≡◌, ap, subst}
 use Rattle.std.specs.Option.{option_map}
 use Rattle.std.proofs.lemmas.Result.{err_from_is_err_and}
 use Rattle.awk_grammar.specs.Tree as g
@@ -6,8 +6,26 @@ use Rattle.awk_grammar.specs.View.{expr_of as grammar_expr_of}
 use Rattle.awk_tree.specs.Tree as run
 use Rattle.awk_tree.specs.View.{expr_of}
 use Rattle.awk_built.specs.definitions.Built.{built_unary, binary, assigned, built_target, built_expr}
+use Rattle.awk_built.specs.support.Builds.{Builds}
+use Rattle.awk_built.proofs.Leaves.{leaf_of_rest}
 use Rattle.awk_built.proofs.BuiltLists.{passes_on, both_some, both_none, all_three_some, all_three_first, all_three_second}
 use Rattle.awk_built.proofs.expressions.+expressions.Goals as goal
+
+pub built_group-returns-in_err-e : goal.built_group-returns-in_err-e
+built_group-returns-in_err-e t c =
+    let p = err_from_is_err_and c.from_residual.result c.from_residual.ensures.1 in
+    rw (p.1, p.2) (passes_on c.in_err-e.field-0.0 (built_expr (grammar_expr_of c.args.e.now)) _ c.in_err-e.ensures (λ none. ap (option_map run.Group) none))
+
+pub built_group-returns : goal.built_group-returns
+built_group-returns t c = rw c.in_ok-e.ensures c.boxed.ensures
+
+pub built_field-returns-in_err-e : goal.built_field-returns-in_err-e
+built_field-returns-in_err-e t c =
+    let p = err_from_is_err_and c.from_residual.result c.from_residual.ensures.1 in
+    rw (p.1, p.2) (passes_on c.in_err-e.field-0.0 (built_expr (grammar_expr_of c.args.e.now)) _ c.in_err-e.ensures (λ none. ap (option_map run.Field) none))
+
+pub built_field-returns : goal.built_field-returns
+built_field-returns t c = rw c.in_ok-e.ensures c.boxed.ensures
 
 pub built_signed-returns-in_err-e : goal.built_signed-returns-in_err-e
 built_signed-returns-in_err-e t c =
@@ -41,34 +59,20 @@ built_assignment-returns-in_err-e t c =
 pub built_assignment-returns : goal.built_assignment-returns
 built_assignment-returns t c = rw (c.in_ok-e.ensures, ← c.assigned.ensures) c.boxed.ensures
 
-pub built_operand-returns-in_err-e-in-Group : goal.built_operand-returns-in_err-e-in-Group
-built_operand-returns-in_err-e-in-Group t c =
+pub built_operand-returns-in-Group : goal.built_operand-returns-in-Group
+built_operand-returns-in-Group t c =
     let is : grammar_expr_of c.args.e.now ≡ g.Group (grammar_expr_of c.in-Group.e.value) = ap grammar_expr_of c.in-Group.is in
-    let p = err_from_is_err_and c.from_residual.result c.from_residual.ensures.1 in
-    rw (p.1, p.2, is) (passes_on c.in_err-e-in-Group.field-0.0 (built_expr (grammar_expr_of c.in-Group.e.value)) _ (rw c.deref.ensures at c.in_err-e-in-Group.ensures) (λ none. ap (option_map run.Group) none))
+    rw is (rw c.deref.ensures at c.built_group.ensures)
 
-pub built_operand-returns-in_ok-e-in-Group : goal.built_operand-returns-in_ok-e-in-Group
-built_operand-returns-in_ok-e-in-Group t c =
-    let is : grammar_expr_of c.args.e.now ≡ g.Group (grammar_expr_of c.in-Group.e.value) = ap grammar_expr_of c.in-Group.is in
-    let e = rw c.deref.ensures at c.in_ok-e-in-Group.ensures in
-    rw (is, e) c.boxed.ensures
-
-pub built_operand-returns-in_err-e-in-Field : goal.built_operand-returns-in_err-e-in-Field
-built_operand-returns-in_err-e-in-Field t c =
+pub built_operand-returns-in-Field : goal.built_operand-returns-in-Field
+built_operand-returns-in-Field t c =
     let is : grammar_expr_of c.args.e.now ≡ g.Field (grammar_expr_of c.in-Field.e.value) = ap grammar_expr_of c.in-Field.is in
-    let p = err_from_is_err_and c.from_residual-in_err-e-in-Field.result c.from_residual-in_err-e-in-Field.ensures.1 in
-    rw (p.1, p.2, is) (passes_on c.in_err-e-in-Field.field-0.0 (built_expr (grammar_expr_of c.in-Field.e.value)) _ (rw c.deref-in-Field.ensures at c.in_err-e-in-Field.ensures) (λ none. ap (option_map run.Field) none))
-
-pub built_operand-returns-in_ok-e-in-Field : goal.built_operand-returns-in_ok-e-in-Field
-built_operand-returns-in_ok-e-in-Field t c =
-    let is : grammar_expr_of c.args.e.now ≡ g.Field (grammar_expr_of c.in-Field.e.value) = ap grammar_expr_of c.in-Field.is in
-    let e = rw c.deref-in-Field.ensures at c.in_ok-e-in-Field.ensures in
-    rw (is, e) c.boxed-in-Field.ensures
+    rw is (rw c.deref-in-Field.ensures at c.built_field.ensures)
 
 pub built_operand-returns-in_err-a-in-Binary : goal.built_operand-returns-in_err-a-in-Binary
 built_operand-returns-in_err-a-in-Binary t c =
     let is : grammar_expr_of c.args.e.now ≡ g.Binary c.in-Binary.operator (grammar_expr_of c.in-Binary.a.value) (grammar_expr_of c.in-Binary.b.value) = ap grammar_expr_of c.in-Binary.is in
-    let p = err_from_is_err_and c.from_residual-in_err-a-in-Binary.result c.from_residual-in_err-a-in-Binary.ensures.1 in
+    let p = err_from_is_err_and c.from_residual.result c.from_residual.ensures.1 in
     rw (p.1, p.2, is) (passes_on c.in_err-a-in-Binary.field-0.0 (built_expr (grammar_expr_of c.in-Binary.a.value)) _ (rw c.deref-in-Binary.ensures at c.in_err-a-in-Binary.ensures) (λ none. both_none (binary c.in-Binary.operator) _ _ none))
 
 pub built_operand-returns-in_ok-a-in-Binary : goal.built_operand-returns-in_ok-a-in-Binary
@@ -107,3 +111,8 @@ built_operand-returns-in_ok-name-in-Assign t c =
     let is : grammar_expr_of c.args.e.now ≡ g.Assign c.in-Assign.operator (grammar_expr_of c.in-Assign.place.value) (grammar_expr_of c.in-Assign.e.value) = ap grammar_expr_of c.in-Assign.is in
     let name = rw c.deref-in-Assign.ensures at c.in_ok-name-in-Assign.ensures in
     rw (is, both_some (assigned c.in-Assign.operator) _ _ _ name) (rw c.deref-in-Assign-2.ensures at c.built_assignment.ensures)
+
+pub built_operand-returns-in_default : goal.built_operand-returns-in_default
+built_operand-returns-in_default t c =
+    let rest = c.in_default in
+    subst (Builds (λ b. expr_of b.value) c.built_leaf.result) (leaf_of_rest c.args.e.now rest.not-Field rest.not-Group rest.not-Unary rest.not-Binary rest.not-Conditional rest.not-Assign) c.built_leaf.ensures
