@@ -1,5 +1,5 @@
 -- Lemmas on words, names and numbers of steps.
-use Rattle.std.proofs.Common.{◌≡◌, ℕ, ◌+◌, ◌-◌, ◌*◌, ◌<◌, zero, suc, true, false, ◌&&◌, List, [], ◌∷◌, ◌++◌, Option, Some, None, option_and_then, if◌then◌else◌, length, get_or, take, drop, Vec, Global, refl, ap, ◌∙◌, sym, arith, rules, add-one}
+use Rattle.std.proofs.Common.{◌≡◌, ℕ, ◌+◌, ◌-◌, ◌*◌, ◌<◌, zero, suc, true, false, ◌&&◌, List, [], ◌∷◌, ◌++◌, Option, Some, None, length, get_or, take, drop, Vec, Global, refl, ap, ◌∙◌, sym, arith, rules, add-one}
 use Rattle.std.specs.List.{list_all}
 use Rattle.std.specs.Char.{is_ascii_digit, digit_value}
 use Rattle.std.specs.Str.{is_utf8, IsUtf8}
@@ -8,14 +8,9 @@ use Rattle.std.proofs.lemmas.Str.{IsUtf8-from_is_utf8}
 use Rattle.std.proofs.lemmas.List.{take_rest}
 use Rattle.std.proofs.lemmas.List.Sums.{AllPass-from_list_all}
 use Rattle.std.proofs.lemmas.Int.Digits.{digits_value_more}
-use Rattle.awk_lex.specs.Words.{is_digits}
-use Rattle.awk_command.specs.CommandLine.{Settings, ParsedOptions, CommandLine, no_settings, with_option, word_kind, parse_options, command_line_with, command_line_from, command_line_of, texts}
+use Rattle.awk_command.specs.CommandLine.{Settings, ParsedOptions, CommandLine, no_settings, with_option, word_kind, parse_options, command_line_with, command_line_of, texts}
 use Rattle.awk_command.specs.declared.options.OptionName.{OptionName}
 use Rattle.awk_command.specs.declared.options.WordKind.TheVariants.{Joined, Apart, Unknown, EndOfOptions, Operand}
-
-pub digits_are : (xs : List ℕ) → 0 < length xs → is_digits xs ≡ list_all is_ascii_digit xs
-digits_are [] h = absurd (omega (arith, h))
-digits_are (x ∷ xs) h = refl
 
 pub not_utf8 : (bs : List ℕ) → (IsUtf8 bs → ⊥) → is_utf8 bs ≡ false
 not_utf8 bs other = elim (is_utf8 bs) as (λ b. (b ≡ true → IsUtf8 bs) → b ≡ false) [ true ↦ λ h. absurd (other (h refl)) | false ↦ λ h. refl ] (IsUtf8-from_is_utf8 bs)
@@ -93,9 +88,6 @@ texts_behind n words = ap texts (take_rest words n) ∙ texts-drop n words
 
 pub not_texts : (words : List (List ℕ)) → list_all is_utf8 words ≡ false → command_line_of words ≡ None
 not_texts words e = rw e
-
-pub not_parsed : (words : List (List ℕ)) → parse_options None no_settings words ≡ None → command_line_of words ≡ None
-not_parsed words e = elim (list_all is_utf8 words) as (λ b. (if b then option_and_then command_line_from (parse_options None no_settings words) else None) ≡ None) [ true ↦ rw e | false ↦ refl ]
 
 pub parsed_texts : (words : List (List ℕ)) (p : ParsedOptions) (result : Option CommandLine) → list_all is_utf8 words ≡ true → parse_options None no_settings words ≡ Some p → command_line_with p.settings p.settings.files p.words ≡ result → command_line_of words ≡ result
 parsed_texts words p result all e done = rw (all, e) done

@@ -1,20 +1,11 @@
 -- Lemmas on reading the files of a program.
-use Rattle.std.proofs.Common.{◌≡◌, ◌<◌, ℕ, Bool, true, false, inl, inr, List, [], ◌∷◌, ◌++◌, length, take, refl, sym, ◌∙◌, ap, subst, arith, append_assoc, append-nil}
-use Rattle.std.proofs.lemmas.Bool.{cond-false, ne_eqb}
-use Rattle.awk_streams.specs.Log.{Event, Read, Ended, bytes_or_end}
+use Rattle.std.proofs.Common.{◌≡◌, ◌<◌, ℕ, Bool, true, false, inl, inr, List, [], ◌∷◌, ◌++◌, length, refl, sym, ◌∙◌, ap, subst, arith, append_assoc, append-nil}
+use Rattle.awk_streams.specs.Log.{Event, Read}
 use Rattle.awk_streams.specs.Writes.{GoesOn}
 use Rattle.awk_streams.proofs.WritesLemmas.{with_events-push}
 use Rattle.awk_run.specs.Accepted.{longest_text}
 use Rattle.awk_command.specs.ProgramText.{ReadsBytes, ReadsInput, ReadsFile, ReadsFiles, with_newline}
 use Rattle.awk_command.specs.Parts.{ReadsChunk}
-
-pub bytes-some : (id n : ℕ) (bs : List ℕ) → 0 < n → 0 < length bs → bytes_or_end id n bs ≡ Read id (take n bs)
-bytes-some id n [] some room = absurd (omega arith)
-bytes-some id n (b ∷ bs) some room = cond-false _ _ _ (ne_eqb n 0 (λ (e : n ≡ 0). omega arith))
-
-pub bytes-end : (id : ℕ) (bs : List ℕ) → 0 < length bs → bytes_or_end id 0 bs ≡ Ended id
-bytes-end id [] room = absurd (omega arith)
-bytes-end id (b ∷ bs) room = refl
 
 ReadsBytes-push : (id : ℕ) (bytes bs : List ℕ) (es : List Event) → ReadsBytes id bytes es → ReadsBytes id (bytes ++ bs) (es ++ Read id bs ∷ [])
 ReadsBytes-push id bytes bs [] none = (refl, ([], ap (λ b. b ++ bs) none ∙ sym (append-nil bs), refl))

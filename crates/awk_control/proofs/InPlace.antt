@@ -1,33 +1,29 @@
 -- Expressions that are tested or evaluated in place.
-use Rattle.std.proofs.Common.{◌≡◌, ◌≤◌, Bool, true, false, List, ◌∷◌, Result, Ok, Err, refl, ◌∙◌, subst, arith}
+use Rattle.std.proofs.Common.{◌≡◌, ◌≤◌, Bool, true, false, List, ◌∷◌, Result, Ok, Err, ◌∙◌, arith}
 use Rattle.awk_value.specs.declared.value.Value.{Value}
-use Rattle.awk_value.specs.Values.{truth_of}
 use Rattle.awk_streams.specs.WorldState.{WorldState}
 use Rattle.awk_tree.specs.Tree as t
 use Rattle.awk_plan.specs.Plan.{Program}
 use Rattle.awk_meaning.specs.declared.flow.Flow.{Flow}
 use Rattle.awk_meaning.specs.declared.flow.Flow.TheVariants as flow
 use Rattle.awk_meaning.specs.declared.halt.Halt.{Halt}
-use Rattle.awk_meaning.specs.declared.halt.Halt.TheVariants as halt
-use Rattle.awk_meaning.specs.declared.fault.Fault.TheVariants.{OutOfMemory}
 use Rattle.awk_meaning.specs.State.{Run, ◌>>=◌, ret}
 use Rattle.awk_meaning.specs.Semantics.{right_operand, tested, eval, exec_simple, exec}
 use Rattle.awk_interpreter.specs.declared.interpreter.Interpreter.{Interpreter}
-use Rattle.awk_interpreter.specs.Simulation.{Simulates, Changes, Spends}
-use Rattle.awk_interpreter.proofs.Composition.{then_simulates, lift_simulates, change_simulates}
+use Rattle.awk_interpreter.specs.Simulation.{Changes, Spends}
+use Rattle.awk_interpreter.proofs.Composition.{change_simulates}
 use Rattle.awk_fast_path.specs.Found.{Tests as TestsInPlace, Evaluates}
 use Rattle.awk_control.specs.declared.stack.Move.{Move}
 use Rattle.awk_control.specs.declared.stack.Move.TheVariants as move
 use Rattle.awk_control.specs.declared.stack.Stack.{Stack}
 use Rattle.awk_control.specs.support.Stack.{Loop, Entry, FieldNumber, LeftOperand, RightOperand, LastPart, LoopCondition, LoopTurn, Focus, value_in, BeginStatement, Ended, run_of, Rest, Leads, work, BeginExpr}
-use Rattle.awk_control.specs.support.Moves.{Tests, Steps}
-use Rattle.awk_control.proofs.Laws.{then_rest, halted_rest, memory_rest}
+use Rattle.awk_control.specs.support.Moves.{Steps}
+use Rattle.awk_control.proofs.Laws.{then_rest, halted_rest}
 use Rattle.awk_control.proofs.Moves.{leaf_leads, leaf_halts}
 use Rattle.awk_control.proofs.ExprMoves.{binary_begins, right_begins, field_begins}
 use Rattle.awk_tree.specs.declared.tree.BinaryOperator.{BinaryOperator}
 use Rattle.awk_meaning.specs.Operators.{takes_pattern}
-use Rattle.awk_control.proofs.LoopMoves.{condition_begins, loop_turns, loop_stops, loop_ends}
-use Rattle.awk_control.proofs.Steps.{halts}
+use Rattle.awk_control.proofs.LoopMoves.{condition_begins, loop_turns, loop_ends}
 
 -- one place leads to a second one, and that to a third
 pub leads_on : {is_logged : Type 0} {f f1 f2 : Focus} {st st1 st2 : List Entry} {m m1 m2 : Interpreter} {k k1 k2 : WorldState} → Leads is_logged f st m k f1 st1 m1 k1 → Leads is_logged f1 st1 m1 k1 f2 st2 m2 k2 → Leads is_logged f st m k f2 st2 m2 k2
@@ -40,9 +36,6 @@ condition_found l c g is p = leads_on (condition_begins l c g is) (leaf_leads (c
 
 pub turns_at_once : {is_logged : Type 0} (l : Loop) (c : t.Expr) (g : Flow) {st : List Entry} {m m' : Interpreter} {k : WorldState} → l.condition ≡ t.AnExpr c → TestsInPlace c m true → Spends m m' (Ok tt) → Leads is_logged (Ended g) (LastPart l ∷ st) m k (BeginStatement l.body) (LoopTurn l ∷ st) m' k
 turns_at_once l c g is p q = leads_on (condition_found l c g is p) (loop_turns l (flow.Return p.value) p.truth q)
-
-pub stops_at_once : {is_logged : Type 0} (l : Loop) (c : t.Expr) (g : Flow) {h : Halt} {st : List Entry} {m m' : Interpreter} {k : WorldState} → l.condition ≡ t.AnExpr c → TestsInPlace c m true → Spends m m' (Err h) → Rest is_logged (Ended g) (LastPart l ∷ st) m k m' k (Err h)
-stops_at_once l c g is p q = (condition_found l c g is p).leads _ _ _ (loop_stops l (flow.Return p.value) p.truth q)
 
 pub ends_at_once : {is_logged : Type 0} (l : Loop) (c : t.Expr) (g : Flow) {st : List Entry} {m : Interpreter} {k : WorldState} → l.condition ≡ t.AnExpr c → TestsInPlace c m false → Leads is_logged (Ended g) (LastPart l ∷ st) m k (Ended flow.Normal) st m k
 ends_at_once l c g is p = leads_on (condition_found l c g is p) (loop_ends l (flow.Return p.value) p.truth)
@@ -71,10 +64,6 @@ steps_behind e (Ok (move.Spent f')) l low same w p = record {
 }
 steps_behind e (Ok (move.Over x)) l low same w p = record { moved = λ k. let bad = (p.moved k).moved.stack in absurd (cc); steps = let q = p.steps in omega (arith, q, low); streams = p.streams ∙ same }
 steps_behind e (Err h) l low same w p = record { moved = λ k. record { moved = (l k).leads _ _ _ (p.moved k).moved }; steps = let q = p.steps in omega (arith, q, low); streams = p.streams ∙ same }
-
--- memory is wanted behind a step
-pub wants_memory_later : {plan : Program} {f g : Focus} {st st1 : List Entry} {new : Stack} {m m1 : Interpreter} → ((k : WorldState) → Leads (Unit {0}) f st m k g st1 m1 k) → m1.steps ≤ m.steps → m1.streams ≡ m.streams → Steps plan f st m (Err (halt.Fault OutOfMemory)) new m1
-wants_memory_later {g = g} l low same = halts (λ k. (l k).leads _ _ _ (memory_rest (run_of g))) low same
 
 -- a leaf left or right of an operator, or as the number of a field
 

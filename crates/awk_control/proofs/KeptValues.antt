@@ -1,5 +1,5 @@
 -- The values that are kept for a print, as the newest of a list.
-use Rattle.std.proofs.Common.{◌≡◌, ℕ, suc, ◌-◌, List, [], ◌∷◌, ◌++◌, reverse, take, drop, length, sym, ap, ◌∙◌}
+use Rattle.std.proofs.Common.{◌≡◌, ℕ, ◌-◌, List, [], ◌∷◌, ◌++◌, reverse, take, drop, length, sym, ap, ◌∙◌}
 use Rattle.std.proofs.Math.Seq.{drop-append_seam, take-append_seam}
 use Rattle.std.proofs.lemmas.List.{reverse-append, reverse-reverse, take-append-drop, length-reverse, length-drop}
 use Rattle.awk_value.specs.declared.value.Value.{Value}
@@ -30,17 +30,3 @@ one_more vs v = reverse-append vs (v ∷ [])
 
 pub front_grows : (v : Value) (vs : List Value) → reverse (v ∷ vs) ≡ reverse vs ++ v ∷ []
 front_grows v vs = reverse-append (v ∷ []) vs
-
--- what is printed, and what is left then
-pub line_kept : (vs : List Value) (v : Value) (n i : ℕ) → i ≡ length (vs ++ v ∷ []) - suc n → drop i (vs ++ v ∷ []) ≡ reverse (take n (reverse vs)) ++ v ∷ []
-line_kept vs v n i is =
-    ap (λ j. drop j (vs ++ v ∷ [])) is
-    ∙ newest_of (vs ++ v ∷ []) (suc n)
-    ∙ ap (λ l. reverse (take (suc n) l)) (one_more vs v)
-    ∙ front_grows v (take n (reverse vs))
-
-pub rest_kept : (vs : List Value) (v : Value) (n i : ℕ) → i ≡ length (vs ++ v ∷ []) - suc n → reverse (take i (vs ++ v ∷ [])) ≡ drop n (reverse vs)
-rest_kept vs v n i is =
-    ap (λ j. reverse (take j (vs ++ v ∷ []))) is
-    ∙ older_of (vs ++ v ∷ []) (suc n)
-    ∙ ap (drop (suc n)) (one_more vs v)

@@ -29,9 +29,6 @@ same_simulates {m = m} {new = new} {after = after} {r = r} x y e d = record {
 pub assoc_simulates : {A B C : Type 0} {is_logged : Type 0} {m new : Interpreter} {k after : WorldState} {r : Result C Halt} (x : Run A) (f : A → Run B) (g : B → Run C) → Simulates is_logged m k new after r (x >>= λ a. f a >>= g) → Simulates is_logged m k new after r ((x >>= f) >>= g)
 assoc_simulates x f g d = same_simulates _ _ (λ s _. assoc_at x f g s) d
 
-pub unassoc_simulates : {A B C : Type 0} {is_logged : Type 0} {m new : Interpreter} {k after : WorldState} {r : Result C Halt} (x : Run A) (f : A → Run B) (g : B → Run C) → Simulates is_logged m k new after r ((x >>= f) >>= g) → Simulates is_logged m k new after r (x >>= λ a. f a >>= g)
-unassoc_simulates x f g d = same_simulates _ _ (λ s _. sym (assoc_at x f g s)) d
-
 -- what follows a part that is equal
 pub first_same : {A B : Type 0} (x y : Run A) (g : A → Run B) (s : State) → x s ≡ y s → (x >>= g) s ≡ (y >>= g) s
 unfolding ◌>>=◌

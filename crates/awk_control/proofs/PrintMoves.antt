@@ -1,14 +1,12 @@
 -- The moves of prints.
-use Rattle.std.proofs.Common.{◌≡◌, ℕ, List, [], ◌∷◌, ◌++◌, Result, Ok, Err, refl, sym, ◌∙◌, arith}
+use Rattle.std.proofs.Common.{◌≡◌, List, [], ◌∷◌, ◌++◌, Result, Ok, Err, refl, sym, ◌∙◌, arith}
 use Rattle.awk_value.specs.declared.value.Value.{Value}
 use Rattle.awk_streams.specs.WorldState.{WorldState}
 use Rattle.awk_tree.specs.Tree as t
 use Rattle.awk_meaning.specs.declared.flow.Flow.{Flow}
 use Rattle.awk_meaning.specs.declared.flow.Flow.TheVariants as flow
 use Rattle.awk_meaning.specs.declared.halt.Halt.{Halt}
-use Rattle.awk_meaning.specs.declared.halt.Halt.TheVariants as halt
-use Rattle.awk_meaning.specs.declared.fault.Fault.TheVariants.{OutOfMemory}
-use Rattle.awk_interpreter.proofs.Composition.{assoc_at, then_simulates, ends_simulates, lift_simulates, memory_simulates, change_simulates}
+use Rattle.awk_interpreter.proofs.Composition.{assoc_at, then_simulates, ends_simulates, lift_simulates, change_simulates}
 use Rattle.awk_meaning.specs.State.{Run, State, ◌>>=◌, ret}
 use Rattle.awk_meaning.specs.Primitives.{spend, record_text, print_line}
 use Rattle.awk_meaning.specs.Semantics.{eval, eval_all, printed_values, print, exec_simple, exec}
@@ -16,7 +14,7 @@ use Rattle.awk_interpreter.specs.declared.interpreter.Interpreter.{Interpreter}
 use Rattle.awk_interpreter.specs.Simulation.{Changes, Spends, Follows}
 use Rattle.awk_control.specs.support.Stack.{value_in, valued, step, Entry, Printed, BeginExpr, BeginStatement, Ended, run_of, Rest, Leads}
 use Rattle.awk_control.proofs.Laws.{given_first, same_rest, then_rest, halted_rest, pop_rest}
-use Rattle.awk_control.proofs.Moves.{later_same, awaited_at, awaits_more, unspent, spent_awaits}
+use Rattle.awk_control.proofs.Moves.{later_same, awaited_at, unspent, spent_awaits}
 
 -- a print that is executed whole
 pub whole_printed : {is_logged : Type 0} (list : t.Exprs) {st : List Entry} {m m' : Interpreter} {k k' : WorldState} → Follows is_logged (print list) m k m' k' (Ok tt) → Leads is_logged (BeginStatement (t.Simple (t.Print list))) st m k (Ended flow.Normal) st m' k'
@@ -47,10 +45,6 @@ pub print_begins : {is_logged : Type 0} (e : t.Expr) (rest : t.Exprs) {st : List
 unfolding run_of exec exec_simple printed_values step
 print_begins e rest p = spent_awaits (BeginStatement (t.Simple (t.Print (t.Cons e rest)))) (BeginExpr e) (Printed [] rest) (λ _. printed_values (t.Cons e rest) >>= line_of) (λ s. print_at (t.Cons e rest) s) (λ s _. list_at [] e rest s) (omega arith) p
 
-pub list_goes_on : {is_logged : Type 0} (front : List Value) (e : t.Expr) (rest : t.Exprs) (g : Flow) {st : List Entry} {m : Interpreter} {k : WorldState} → Leads is_logged (Ended g) (Printed front (t.Cons e rest) ∷ st) m k (BeginExpr e) (Printed (front ++ value_in g ∷ []) rest ∷ st) m k
-unfolding run_of step
-list_goes_on front e rest g = awaits_more g (Printed front (t.Cons e rest)) (BeginExpr e) (Printed (front ++ value_in g ∷ []) rest) (λ n s. list_at (front ++ value_in g ∷ []) e rest s) (omega arith)
-
 listed_at : (vs : List Value) (s : State) → (eval_all vs t.Nil >>= line_of) s ≡ line_of vs s
 unfolding eval_all
 listed_at vs s = given_first vs line_of s
@@ -73,10 +67,6 @@ pub print_unread : {is_logged : Type 0} {h : Halt} {m m1 m' : Interpreter} {k : 
 unfolding print printed_values
 print_unread p q = record { simulates = then_simulates _ (change_simulates p.simulates) (ends_simulates _ (ends_simulates _ (change_simulates q))) }
 
-pub print_wants : {is_logged : Type 0} {v : Value} {m m1 m' : Interpreter} {k : WorldState} → Spends m m1 (Ok tt) → Changes record_text m1 m' (Ok v) → Follows is_logged (print t.Nil) m k m' k (Err (halt.Fault OutOfMemory))
-unfolding print printed_values
-print_wants {m' = m'} {k = k} p q = record { simulates = then_simulates _ (change_simulates p.simulates) (ends_simulates _ (then_simulates _ (change_simulates q) (memory_simulates m' k _))) }
-
 -- behind its step
 pub list_follows : {is_logged : Type 0} (e : t.Expr) (rest : t.Exprs) {m m1 m' : Interpreter} {k k' : WorldState} {r : Result (Unit {0}) Halt} → Spends m m1 (Ok tt) → Follows is_logged (eval_all [] (t.Cons e rest) >>= λ vs. print_line vs) m1 k m' k' r → Follows is_logged (print (t.Cons e rest)) m k m' k' r
 unfolding print printed_values
@@ -85,7 +75,3 @@ list_follows e rest p q = record { simulates = then_simulates _ (change_simulate
 pub print_prints : {is_logged : Type 0} {v : Value} {m m1 m2 m' : Interpreter} {k k' : WorldState} {r : Result (Unit {0}) Halt} → Spends m m1 (Ok tt) → Changes record_text m1 m2 (Ok v) → Follows is_logged (print_line (v ∷ [])) m2 k m' k' r → Follows is_logged (print t.Nil) m k m' k' r
 unfolding print printed_values
 print_prints {m2 = m2} {k = k} p q l = record { simulates = then_simulates _ (change_simulates p.simulates) (then_simulates _ (then_simulates _ (change_simulates q) (lift_simulates (Ok _) m2 k refl)) l.simulates) }
-
-pub printed_value : (front : List Value) (rest : t.Exprs) (g : Flow) (n : ℕ) → step n (Printed front rest) g ≡ step n (Printed front rest) (flow.Return (value_in g))
-unfolding step
-printed_value front rest g n = refl

@@ -1,15 +1,13 @@
 -- The stack of the code, and what its moves are made of.
-use Rattle.std.proofs.Common.{◌≡◌, ℕ, suc, ◌≤◌, ◌<◌, ◌↔◌, true, false, List, [], ◌∷◌, ◌++◌, reverse, take, drop, length, Option, Some, None, IsSome, unwrap_or, option_to_list, Result, Ok, Err, refl, sym, ap, ◌∙◌, subst, arith}
+use Rattle.std.proofs.Common.{◌≡◌, ℕ, ◌≤◌, ◌<◌, ◌↔◌, true, false, List, [], ◌∷◌, ◌++◌, reverse, drop, length, Option, Some, None, IsSome, unwrap_or, option_to_list, Result, Ok, Err, refl, sym, ap, ◌∙◌, subst, arith}
 use Rattle.std.proofs.lemmas.List.{reverse-append}
 use Rattle.awk_value.specs.declared.value.Value.{Value}
 use Rattle.awk_value.specs.declared.value.Value.TheVariants.{Nothing}
 use Rattle.awk_streams.specs.WorldState.{WorldState}
 use Rattle.awk_streams.specs.Streams.{AreOpen}
-use Rattle.awk_plan.specs.Plan.{Program, operand_of, part_of, exprs_in}
+use Rattle.awk_plan.specs.Plan.{Program, operand_of}
 use Rattle.awk_plan.specs.declared.node.Operand.{Operand}
 use Rattle.awk_meaning.specs.declared.flow.Flow.{Flow}
-use Rattle.awk_meaning.specs.declared.flow.Flow.TheVariants as flow
-use Rattle.awk_control.specs.declared.stack.Passed.TheVariants as passed
 use Rattle.awk_meaning.specs.declared.halt.Halt.{Halt}
 use Rattle.awk_meaning.specs.declared.halt.Halt.TheVariants as halt
 use Rattle.awk_meaning.specs.declared.fault.Fault.TheVariants.{OutOfMemory}
@@ -24,14 +22,12 @@ use Rattle.awk_control.specs.declared.entry.Awaited.TheVariants as code
 use Rattle.awk_control.specs.support.Entries.{awaited_at}
 use Rattle.awk_control.specs.declared.entry.OperandEntry.TheVariants as o
 use Rattle.awk_control.specs.declared.entry.StatementEntry.TheVariants as s
-use Rattle.awk_control.proofs.KeptValues.{one_more, front_grows}
 use Rattle.awk_control.specs.declared.stack.Stack.{Stack}
 use Rattle.awk_control.specs.declared.stack.Focus.{Focus as CodeFocus}
-use Rattle.awk_control.specs.declared.stack.Focus.TheVariants as focus
 use Rattle.awk_control.specs.declared.stack.Move.{Move}
 use Rattle.awk_control.specs.declared.stack.Move.TheVariants as move
-use Rattle.awk_control.specs.support.Stack.{Entry, RightOperand, Printed, Focus, BeginExpr, Ended, run_of, Rest, Leads, work}
-use Rattle.awk_control.specs.support.Moves.{newest, entry_of, kept_for, entries_of, stack_of, topped, focus_of, Onward, Paid, Moves, Steps, Awaits, SpendsFor}
+use Rattle.awk_control.specs.support.Stack.{Entry, RightOperand, Focus, BeginExpr, run_of, Rest, Leads, work}
+use Rattle.awk_control.specs.support.Moves.{newest, entry_of, kept_for, entries_of, stack_of, focus_of, Onward, Paid, Moves, Steps, Awaits, SpendsFor}
 use Rattle.awk_control.proofs.Laws.{memory_rest}
 
 -- entries are put on top
@@ -48,13 +44,6 @@ stack_pushed plan old new e a entries values is none =
     ∙ ap (λ l. entries_of plan (reverse l) (reverse old.values.items)) entries
     ∙ entries_pushed plan old.control.entries e a (reverse old.values.items) is
     ∙ ap (λ n. entry_of plan a (reverse old.values.items) ∷ entries_of plan (reverse old.control.entries) (drop n (reverse old.values.items))) none
-
--- an entry that is taken off
-pub stack_popped : (plan : Program) (old new : Stack) (e : CodeEntry) (a : Awaited) → old.control.entries ≡ new.control.entries ++ e ∷ [] → new.values ≡ old.values → awaited_at plan e ≡ a → stack_of plan old ≡ topped plan a new
-stack_popped plan old new e a entries values is =
-    ap (λ l. entries_of plan (reverse l) (reverse old.values.items)) entries
-    ∙ entries_pushed plan new.control.entries e a (reverse old.values.items) is
-    ∙ ap (λ v. entry_of plan a (reverse v.items) ∷ entries_of plan (reverse new.control.entries) (drop (kept_for a) (reverse v.items))) (sym values)
 
 -- moves without a world
 
@@ -173,23 +162,8 @@ pushed_onward {plan = plan} {f = f} {f' = f'} {new = new} {m = m} {st0 = st0} es
     let same = one_pushed plan new es vs entry entries values is none in
     onward refl (λ k. subst (λ z. Leads (Unit {0}) f st0 m k (focus_of plan f' new.returned) z m k) (sym same) (l k)) (subst (λ z. work (focus_of plan f' new.returned) z < work f st0) (sym same) w) (omega arith) refl
 
--- an expression more of a print
-pub awaited_printed : {plan : Program} {f : Focus} {entry : CodeEntry} {rest : ℕ} {e : Operand} {old new : Stack} {m : Interpreter} {st0 : List Entry} (r : Result Move Halt) (vs : List Value) (x : Value) (n : ℕ) → awaited_at plan entry ≡ code.Statement (s.Printed rest (suc n)) → old.values.items ≡ vs ++ x ∷ [] → Awaits entry e old r new
-    → ((k : WorldState) → Leads (Unit {0}) f st0 m k (BeginExpr (operand_of plan e)) (Printed (reverse (take n (reverse vs)) ++ x ∷ []) (exprs_in (part_of plan rest)) ∷ entries_of plan (reverse old.control.entries) (drop n (reverse vs))) m k)
-    → work (BeginExpr (operand_of plan e)) (Printed (reverse (take n (reverse vs)) ++ x ∷ []) (exprs_in (part_of plan rest)) ∷ entries_of plan (reverse old.control.entries) (drop n (reverse vs))) < work f st0 → Steps plan f st0 m r new m
-awaited_printed {plan = plan} {entry = entry} {rest = rest} {old = old} {new = new} r vs x n is kept a l w = awaited r a (λ p q.
-    ap (λ v. entries_of plan (reverse new.control.entries) (reverse v.items)) q
-    ∙ ap (λ l. entries_of plan (reverse l) (reverse old.values.items)) p
-    ∙ entries_pushed plan old.control.entries entry (code.Statement (s.Printed rest (suc n))) (reverse old.values.items) is
-    ∙ ap (λ l. Printed (reverse (take (suc n) l)) (exprs_in (part_of plan rest)) ∷ entries_of plan (reverse old.control.entries) (drop (suc n) l)) (ap reverse kept ∙ one_more vs x)
-    ∙ ap (λ front. Printed front (exprs_in (part_of plan rest)) ∷ entries_of plan (reverse old.control.entries) (drop n (reverse vs))) (front_grows x (take n (reverse vs)))) l w
-
 -- an entry is put on the stack, and a part begins behind a step
 pub pushed_paid : {plan : Program} {f : Focus} {f' : CodeFocus} {new : Stack} {m m' : Interpreter} {st0 : List Entry} (es : List CodeEntry) (vs : List Value) (entry : CodeEntry) {a : Awaited} → new.control.entries ≡ es ++ entry ∷ [] → new.values.items ≡ vs → awaited_at plan entry ≡ a → kept_for a ≡ 0 → ((k : WorldState) → Leads (Unit {0}) f st0 m k (focus_of plan f' new.returned) (entry_of plan a (reverse vs) ∷ entries_of plan (reverse es) (reverse vs)) m' k) → m'.steps < m.steps → m'.streams ≡ m.streams → Steps plan f st0 m (Ok (move.Spent f')) new m'
 pushed_paid {plan = plan} {f = f} {f' = f'} {new = new} {m = m} {m' = m'} {st0 = st0} es vs entry {a} entries values is none l falls same =
     let found = one_pushed plan new es vs entry entries values is none in
     paid refl (λ k. subst (λ z. Leads (Unit {0}) f st0 m k (focus_of plan f' new.returned) z m' k) (sym found) (l k)) falls same
-
--- a statement has ended, with this stack
-pub ended_over : {is_logged : Type 0} {plan : Program} {f : Focus} {new : Stack} {m m' : Interpreter} {k k' : WorldState} {st0 st : List Entry} → stack_of plan new ≡ st → Leads is_logged f st0 m k (Ended flow.Normal) st m' k' → work (Ended flow.Normal) st < work f st0 → m'.steps ≤ m.steps → Moves is_logged plan f st0 m k (Ok (move.On (focus.Ended passed.Normal))) new m' k'
-ended_over {is_logged} {f = f} {m = m} {m' = m'} {k = k} {k' = k'} {st0 = st0} same l w low = record { moved = record { leads = subst (λ z. Leads is_logged f st0 m k (Ended flow.Normal) z m' k') (sym same) l; less = subst (λ z. work (Ended flow.Normal) z < work f st0) (sym same) w; steps = low } }

@@ -75,19 +75,6 @@ pub whole : {is_logged : Type 0} (f : Focus) {m new : Interpreter} {k after : Wo
 unfolding resume
 whole f {m = m} d = record { simulates = same_simulates _ _ (λ s low. unit_at (run_of f) s) (d.simulates (λ i. m.steps) (λ i. omega arith)) }
 
-pub run_starts : {is_logged : Type 0} {f : Focus} {m : Interpreter} {k : WorldState} → Leads is_logged f [] m k f [] m k
-run_starts = record { leads = λ new after r d. d; deep = omega arith }
-
-module _ {is_logged : Type 0} {plan : Program} {f f1 : Focus} {st1 : List Entry} {left : Stack} {m m1 m2 : Interpreter} {k k1 k2 : WorldState} (p : Leads is_logged f [] m k f1 st1 m1 k1) where
-  pub run_on : {c : CodeFocus} → Walks is_logged plan f1 st1 m1 k1 (Ok (stage.Spent c)) left m2 k2 → Leads is_logged f [] m k (focus_of plan c left.returned) (stack_of plan left) m2 k2
-  run_on q = record { leads = λ new after r d. p.leads new after r (q.walked.leads.leads new after r d); deep = let a = p.deep in let b = q.walked.leads.deep in omega (arith, a, b) }
-
-  pub run_ends : {x : Passed} → Walks is_logged plan f1 st1 m1 k1 (Ok (stage.Over x)) left m2 k2 → Runs is_logged f m k m2 k2 (Ok (flow_of x left.returned))
-  run_ends q = whole f (p.leads _ _ _ q.walked)
-
-  pub run_halts : {h : Halt} → Walks is_logged plan f1 st1 m1 k1 (Err h) left m2 k2 → Runs is_logged f m k m2 k2 (Err h)
-  run_halts q = whole f (p.leads _ _ _ q.walked)
-
 pub run_falls : {is_logged : Type 0} {plan : Program} {f1 : Focus} {st1 : List Entry} {left : Stack} {m1 m2 : Interpreter} {k1 k2 : WorldState} {c : CodeFocus} → Walks is_logged plan f1 st1 m1 k1 (Ok (stage.Spent c)) left m2 k2 → m2.steps < m1.steps
 run_falls q = q.walked.falls
 

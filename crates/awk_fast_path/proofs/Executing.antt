@@ -27,12 +27,6 @@ pub empty_runs : (m : Interpreter) → Changes (exec t.Empty) m m (Ok flow.Norma
 unfolding exec
 empty_runs m = lift_changes (Ok flow.Normal) m refl
 
-pub branch_runs : (x : t.Statement) (r : Ran) (m m' : Interpreter) → Executes x m r m' → RunsBy (exec x) m r m'
-branch_runs x ran.Not m m' p = p
-branch_runs x ran.Normal m m' p = p.changes
-branch_runs x ran.Break m m' p = p.changes
-branch_runs x ran.Continue m m' p = p.changes
-
 module _ (c : t.Expr) (x other : t.Statement) (m m' : Interpreter) where
   pub if_runs : (r : Ran) → Tests c m true → RunsBy (exec x) m r m' → RunsBy (behind_if c x other) m r m'
   if_runs ran.Not p q = q

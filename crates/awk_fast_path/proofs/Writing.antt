@@ -1,8 +1,8 @@
 -- Texts that are made in place.
 use Rattle.std.proofs.Common.{◌≡◌, ℕ, ℤ, true, List, [], ◌++◌, Option, Some, None, Result, Ok, Err, refl, sym, ap, ◌∙◌, subst, true≢false}
-use Rattle.std.specs.Prelude.{IfSome, IfOk, OnOk, is_some, is_ok}
+use Rattle.std.specs.Prelude.{IfSome, IfOk, OnOk, is_ok}
 use Rattle.std.specs.Result.{result_ok}
-use Rattle.std.proofs.lemmas.List.{append_assoc, append-nil}
+use Rattle.std.proofs.lemmas.List.{append_assoc}
 use Rattle.awk_value.specs.declared.value.Value.{Value}
 use Rattle.awk_value.specs.declared.value.Value.TheVariants.{Nothing, Number, Text, Input}
 use Rattle.awk_value.specs.Values.{str_of}
@@ -44,9 +44,6 @@ pub name_reads : {R : Type 0} (now : R → Value) (x y : List ℕ) (m : Interpre
 name_reads now x y m (Some v) is p = name_evaluates x (subst (λ z. Changes (read_name z) m m (Ok (now v))) is p)
 name_reads now x y m None is p = tt
 
-pub single_writes : (e : t.Expr) (v : Value) (m : Interpreter) (old new : List ℕ) → Changes (eval e) m m (Ok v) → new ≡ old ++ str_of v → Writes e m old new
-single_writes e v m old new p is = record { value = v; changes = p; text = is }
-
 pub where_ok : {T E P : Type 0} (r : Result T E) → is_ok r ≡ true → OnOk r P → P
 where_ok (Ok x) is p = p
 where_ok (Err e) is p = absurd (true≢false (sym is))
@@ -66,10 +63,6 @@ join_continues x a b m old mid new p q = record {
   text = ap (λ s. s ++ str_of q.value) p.text ∙ append_assoc (str_of (value_of m.variables x)) p.tail (str_of q.value);
   appended = q.text ∙ ap (λ s. s ++ str_of q.value) p.appended ∙ append_assoc old p.tail (str_of q.value);
 }
-
-pub name_continues : (x : List ℕ) (m : Interpreter) {R : Type 0} (now : R → Value) (r : Option R) → IfSome r (λ v. Changes (eval (t.Name x)) m m (Ok (now v))) → IfSome r (λ v. now v ≡ value_of m.variables x) → is_some r ≡ true → (bytes : List ℕ) → Continues x (t.Name x) m bytes bytes
-name_continues x m now (Some v) p is some bytes = record { value = now v; changes = p; tail = []; text = ap (λ u. str_of u) is ∙ sym (append-nil _); appended = sym (append-nil bytes) }
-name_continues x m now None p is some bytes = absurd (true≢false (sym some))
 
 pub text_made : (a b : t.Expr) (m : Interpreter) (mid new : List ℕ) → Writes a m [] mid → Writes b m mid new → Changes (eval (t.Binary Concatenate a b)) m m (Ok (Text new))
 text_made a b m mid new p q = subst (λ s. Changes (eval (t.Binary Concatenate a b)) m m (Ok (Text s))) (sym (q.text ∙ ap (λ s. s ++ str_of q.value) p.text)) (concatenates a b p.value q.value p.changes q.changes)

@@ -1,14 +1,7 @@
 -- Ranges, by the numbers of their items; those past the end aren't inside.
-use Rattle.std.proofs.Common.{◌≡◌, ℕ, zero, suc, ◌<◌, Bool, false, List, [], ◌∷◌, ◌++◌, length, slice_get, unwrap_or, refl, arith}
+use Rattle.std.proofs.Common.{◌≡◌, ℕ, zero, suc, ◌<◌, Bool, false, List, [], ◌∷◌, length, slice_get, unwrap_or, refl, arith}
 use Rattle.std.proofs.lemmas.Bool.Decides.{nat_tests}
 use Rattle.std.specs.Prelude.{◌==◌, slice_set, if◌then◌else◌}
-
--- one more that isn't inside
-pub one_outside : (xs : List Bool) (n : ℕ) → unwrap_or (slice_get (xs ++ false ∷ []) n) false ≡ unwrap_or (slice_get xs n) false
-one_outside [] zero = refl
-one_outside [] (suc n) = refl
-one_outside (x ∷ xs) zero = refl
-one_outside (x ∷ xs) (suc n) = one_outside xs n
 
 not_first : (m : ℕ) → (suc m == 0) ≡ false
 not_first m = grind (arith, nat_tests)

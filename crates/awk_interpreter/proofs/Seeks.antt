@@ -1,11 +1,10 @@
 -- Where main records come from, by what the parts do.
 use Rattle.std.proofs.Math.Seq.{take-length}
 use Rattle.std.proofs.lemmas.List.{length-drop}
-use Rattle.std.proofs.Common.{take, drop, length, ◌-◌, ◌≡◌, ℕ, ◌≤◌, ◌<◌, zero, suc, Bool, true, false, List, [], Option, Some, None, Result, Ok, Err, refl, sym, ap, ◌∙◌, subst, arith}
+use Rattle.std.proofs.Common.{take, drop, length, ◌-◌, ◌≡◌, ℕ, ◌≤◌, zero, suc, Bool, true, false, List, [], Option, Some, None, Result, Ok, Err, refl, sym, ap, ◌∙◌, subst, arith}
 use Rattle.awk_value.specs.declared.value.Value.TheVariants.{Input}
 use Rattle.awk_world.specs.declared.world.InputKind.{InputKind}
 use Rattle.awk_world.specs.declared.world.InputKind.TheVariants.{Standard, File}
-use Rattle.awk_streams.specs.Log as log
 use Rattle.awk_streams.specs.Streams.{AreOpen, IsSoundMain}
 use Rattle.awk_interpreter.specs.declared.interpreter.Interpreter.{Interpreter}
 use Rattle.awk_meaning.specs.declared.halt.Halt.{Halt}
@@ -56,9 +55,6 @@ first_seeks name p q r = record { simulates = then_simulates _ p.simulates (then
 
 pub kept_open : {A : Type 0} {run : Run A} {old new : Interpreter} {r : Result A Halt} (k : WorldState) → Changes run old new r → AreOpen k old.streams → AreOpen k new.streams
 kept_open k p h = subst (λ s. AreOpen k s) (sym p.streams) h
-
-pub kept_sound : {A : Type 0} {run : Run A} {old new : Interpreter} {r : Result A Halt} (l : List log.Event) → Changes run old new r → IsSoundMain l old.streams.main → IsSoundMain l new.streams.main
-kept_sound l p h = subst (λ s. IsSoundMain l s.main) (sym p.streams) h
 
 -- elements of ARGV
 
@@ -122,9 +118,6 @@ goes_at (suc n) p q r t low = then_simulates _ (change_simulates p) (then_simula
 
 pub search_goes : {is_logged : Type 0} {word : List ℕ} {m m1 m2 m3 new : Interpreter} {k k3 after : WorldState} {x : Result (Option (List ℕ)) Halt} → Changes take_argument m m1 (Ok (Some word)) → Spends m1 m2 (Ok tt) → Seeks is_logged (operand_record word) m2 k m3 k3 (Ok None) → SearchesOn is_logged m3 k3 new after x → SearchesOn is_logged m k new after x
 search_goes p q r t = record { simulates = λ n low. goes_at n p q r t low }
-
-pub search_falls : {is_logged : Type 0} {word : List ℕ} {m m1 m2 m3 : Interpreter} {k k3 : WorldState} {r : Result (Option (List ℕ)) Halt} → Changes take_argument m m1 (Ok (Some word)) → Spends m1 m2 (Ok tt) → Seeks is_logged (operand_record word) m2 k m3 k3 r → m3.steps < m.steps
-search_falls p q r = omega (arith, p.steps, q.falls, r.simulates.steps)
 
 pub search_over : {is_logged : Type 0} {m m1 m2 : Interpreter} {k k2 : WorldState} {r : Result (Option (List ℕ)) Halt} → Changes take_argument m m1 (Ok None) → Seeks is_logged standard_record m1 k m2 k2 r → SearchesOn is_logged m k m2 k2 r
 unfolding search_operands_within

@@ -14,27 +14,11 @@ use Rattle.awk_plan.specs.definitions.Plan.{SomeStatements, statements_in, item_
 use Rattle.awk_plan.specs.support.Builds.{tables_of, built_at, Builds, Operates, BuildsPattern, BuildsItem, BuildsItems}
 use Rattle.awk_plan.proofs.Growing.{grows, grows_refl}
 
-pub single_made : {s r : Builder} {a : Operand} {x : t.Expr} → Operates s r a x → BuildsPattern s r (pattern.Single a) (t.Single x)
-single_made p = record { grows = p.grows; stays = λ later h j. t.Single (p.stays later h j) }
-
 pub range_made : {s u r : Builder} {a b : Operand} {x y : t.Expr} → Operates s u a x → Operates u r b y → BuildsPattern s r (pattern.Range a b) (t.Range x y)
 range_made p q = record { grows = grows p.grows q.grows; stays = λ later h j. t.Range (p.stays later (grows q.grows h) j) (q.stays later h j) }
 
-module _ {s r : Builder} {i : ℕ} {all : t.Statements} (p : Builds s r i (SomeStatements all)) where
-  pub begin_made : BuildsItem s r (item.Begin i) (t.Begin all)
-  begin_made = record { grows = p.grows; stays = λ later h j. t.Begin (statements_in (p.stays later h j)) }
-
-  pub end_made : BuildsItem s r (item.End i) (t.End all)
-  end_made = record { grows = p.grows; stays = λ later h j. t.End (statements_in (p.stays later h j)) }
-
-  pub action_made : BuildsItem s r (item.Action i) (t.Action all)
-  action_made = record { grows = p.grows; stays = λ later h j. t.Action (statements_in (p.stays later h j)) }
-
 pub pattern_action_made : {s u r : Builder} {a : Pattern} {x : t.Pattern} {i : ℕ} {all : t.Statements} → BuildsPattern s u a x → Builds u r i (SomeStatements all) → BuildsItem s r (item.PatternAction a i) (t.PatternAction x all)
 pattern_action_made p q = record { grows = grows p.grows q.grows; stays = λ later h j. t.PatternAction (p.stays later (grows q.grows h) j) (statements_in (q.stays later h j)) }
-
-pub pattern_only_made : {s r : Builder} {a : Pattern} {x : t.Pattern} → BuildsPattern s r a x → BuildsItem s r (item.PatternOnly a) (t.PatternOnly x)
-pattern_only_made p = record { grows = p.grows; stays = λ later h j. t.PatternOnly (p.stays later h j) }
 
 items_push : (xs : List TreeItem) (x : TreeItem) → items_of (xs ++ x ∷ []) ≡ items_of xs ++ item_of x ∷ []
 items_push [] x = refl

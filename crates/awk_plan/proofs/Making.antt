@@ -1,7 +1,6 @@
 -- The nodes of expressions and statements are made of what is built.
-use Rattle.std.proofs.Common.{◌≡◌, ℕ, suc, List, codes, refl, ap, ◌∙◌}
+use Rattle.std.proofs.Common.{◌≡◌, ℕ, suc, List, refl, ap, ◌∙◌}
 use Rattle.awk_lex.specs.declared.token.IncrementOperator.{IncrementOperator}
-use Rattle.awk_tree.specs.declared.tree.UnaryOperator.{UnaryOperator}
 use Rattle.awk_tree.specs.declared.tree.BinaryOperator.{BinaryOperator}
 use Rattle.awk_tree.specs.Tree as t
 use Rattle.awk_plan.specs.declared.node.Operand.{Operand}
@@ -22,9 +21,6 @@ use Rattle.awk_plan.proofs.Growing.{grows_refl, grows, grows_ere, ere_stays, ere
 
 -- expressions
 
-pub field_count_made : (s : Builder) → Makes s s (n.Expression exprs.FieldCount) (AnExpr (t.Name (codes "NF")))
-field_count_made s = record { grows = grows_refl s; below = tt; read = tt; counted = tt; stays = λ later h. refl }
-
 pub variable_made : {s r : Builder} {x : List ℕ} {k : ℕ} → AddsName s r x k → Operates s r (Variable k) (t.Name x)
 variable_made p = record { grows = grows_name p; below = tt; stays = λ later h. ap t.Name (name_stays p later h) }
 
@@ -32,20 +28,8 @@ pub ere_made : {s r : Builder} {x : List ℕ} {k : ℕ} → AddsEre s r x k → 
 ere_made p = record { grows = grows_ere p; below = tt; read = ere_within p; counted = tt; stays = λ later h j. AnExpr (t.Ere (ere_stays p later h j)) }
 
 module _ {s r : Builder} {a : Operand} {x : t.Expr} (p : Operates s r a x) where
-  pub group_made : Makes s r (n.Expression (exprs.Group a)) (AnExpr (t.Group x))
-  group_made = record { grows = p.grows; below = p.below; read = tt; counted = tt; stays = λ later h j. AnExpr (t.Group (p.stays later h j)) }
-
-  pub field_made : Makes s r (n.Expression (exprs.Field a)) (AnExpr (t.Field x))
-  field_made = record { grows = p.grows; below = p.below; read = tt; counted = tt; stays = λ later h j. AnExpr (t.Field (p.stays later h j)) }
-
-  pub unary_made : (o : UnaryOperator) → Makes s r (n.Expression (exprs.Unary o a)) (AnExpr (t.Unary o x))
-  unary_made o = record { grows = p.grows; below = p.below; read = tt; counted = tt; stays = λ later h j. AnExpr (t.Unary o (p.stays later h j)) }
-
   pub evaluate_made : Makes s r (n.Simple (simples.Evaluate a)) (AStatement (t.Simple (t.Expression x)))
   evaluate_made = record { grows = p.grows; below = p.below; read = tt; counted = tt; stays = λ later h j. AStatement (t.Simple (t.Expression (p.stays later h j))) }
-
-  pub exit_with_made : Makes s r (n.Simple (simples.ExitWith a)) (AStatement (t.Simple (t.Exit (t.AnExpr x))))
-  exit_with_made = record { grows = p.grows; below = p.below; read = tt; counted = tt; stays = λ later h j. AStatement (t.Simple (t.Exit (t.AnExpr (p.stays later h j)))) }
 
 module _ {s u r : Builder} {a b : Operand} {x y : t.Expr} (p : Operates s u a x) (q : Operates u r b y) where
   pub binary_made : (o : BinaryOperator) → Makes s r (n.Expression (exprs.Binary o a b)) (AnExpr (t.Binary o x y))
@@ -128,9 +112,6 @@ cons_made {i = i} {before = before} p first q = record {
 }
 
 -- statements
-
-pub print_made : {s r : Builder} {i : ℕ} {list : t.Exprs} → Builds s r i (SomeExprs list) → HasBefore r.nodes.items 0 i → Makes s r (n.Simple (simples.Print i)) (AStatement (t.Simple (t.Print list)))
-print_made p first = record { grows = p.grows; below = p.below; read = tt; counted = first; stays = λ later h j. AStatement (t.Simple (t.Print (exprs_in (p.stays later h j)))) }
 
 pub assignment_statement : {s r : Builder} {node : AssignmentNode} {e : t.Expr} → Makes s r (n.Expression (exprs.Assignment node)) (AnExpr e) → Makes s r (n.Simple (simples.Assignment node)) (AStatement (t.Simple (t.Expression e)))
 assignment_statement p = record { grows = p.grows; below = p.below; read = tt; counted = tt; stays = λ later h. ap (λ x. AStatement (t.Simple (t.Expression (expr_in x)))) (p.stays later h) }

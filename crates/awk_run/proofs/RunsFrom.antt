@@ -7,7 +7,7 @@ use Rattle.awk_streams.specs.Log as log
 use Rattle.awk_streams.specs.Oracle.{Oracle, IsConsistent, how_many, opens_input}
 use Rattle.awk_streams.specs.Orderly.{IsOrderly, IsInOrder}
 use Rattle.awk_streams.specs.Openings.{openings, in_order, receives, Begins}
-use Rattle.awk_streams.specs.Streams.{StreamsView, AreOpen, AreSound, IsMainRest, IsSoundMain, IsOpenMain, printed_openings, Finishes}
+use Rattle.awk_streams.specs.Streams.{StreamsView, AreSound, IsMainRest, IsSoundMain, printed_openings, Finishes}
 use Rattle.awk_tree.specs.Tree.{Item}
 use Rattle.awk_interpreter.specs.declared.interpreter.Interpreter.{Interpreter}
 use Rattle.awk_meaning.specs.declared.halt.Halt.{Halt}
@@ -24,13 +24,6 @@ use Rattle.awk_run.specs.support.Items.{AssignsAndRuns}
 use Rattle.awk_run.proofs.RunEnds.{read_off, IsMeant, Came, came, in_turn, no_failure_before, halted_by, fails_at, begins_at_end}
 use Rattle.awk_run.specs.definitions.Headline.{IsUntouched, IsUndisturbed, Runs, RunsFrom}
 use Rattle.awk_run.specs.support.Verdict.{outcome_after, no_streams, EndsWithoutStreams}
-
--- nothing is open before a run
-pub start_open : {operands : List (List ℕ)} {limit : ℕ} {m : Interpreter} (k : WorldState) → IsStart operands limit m → AreOpen k m.streams
-start_open k start = subst (λ x. IsOpenMain k x) (sym start.main) tt
-
-pub start_main : {operands : List (List ℕ)} {limit : ℕ} {m : Interpreter} (l : List log.Event) → IsStart operands limit m → IsSoundMain l m.streams.main
-start_main l start = subst (λ x. IsSoundMain l x) (sym start.main) tt
 
 -- the log is empty, and in order
 pub start_sound : {operands : List (List ℕ)} {limit : ℕ} {m : Interpreter} (k : WorldState) → IsStart operands limit m → k.log ≡ [] → IsInOrder k.is_open [] → AreSound k m.streams

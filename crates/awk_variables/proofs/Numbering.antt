@@ -7,7 +7,6 @@ use Rattle.std.specs.List.{list_any, IsDistinct, fold}
 use Rattle.std.specs.Option.{option_map}
 use Rattle.std.proofs.lemmas.Bool.{cases_order}
 use Rattle.std.proofs.lemmas.List.{map-append}
-use Rattle.std.proofs.lemmas.List.Sums.{fold_push}
 use Rattle.std.proofs.lemmas.List.Quantifiers.{position-Some}
 use Rattle.std.proofs.lemmas.Option.{slice_get_cases, slice_get-map, get_or_from_slice_get}
 use Rattle.std.proofs.lemmas.Map.Keys.{apart_from_distinct}
@@ -106,6 +105,3 @@ numbers_new old new number name absent is next =
 -- the names one after another
 abbrev pub all_names : List (List ℕ) → List (List ℕ)
 all_names names = fold with_name [] names
-
-pub all_names-more : (names : List (List ℕ)) (name : List ℕ) → all_names (names ++ name ∷ []) ≡ with_name (all_names names) name
-all_names-more names name = fold_push with_name [] names name

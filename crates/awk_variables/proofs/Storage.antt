@@ -4,7 +4,6 @@ use Rattle.std.specs.Prelude.{Result, Ok, Err, OnOk, OnErr}
 use Rattle.std.specs.Global.{Vec}
 use Rattle.std.specs.Prelude.{pos}
 use Rattle.std.specs.List.{fold}
-use Rattle.std.proofs.lemmas.List.Sums.{fold_push}
 use Rattle.std.specs.Str.{bytes_eq}
 use Rattle.std.specs.Option.{option_map}
 use Rattle.std.specs.Map.{lookup, KeepsOthers, IsKeyTest, AreApart}
@@ -245,6 +244,3 @@ with_text values row = set values (index_of row.0) (Text row.1)
 -- the values, with texts for some
 abbrev pub with_texts : List Value → List (Special × List ℕ) → List Value
 with_texts values rows = fold with_text values rows
-
-pub with_texts-more : (values : List Value) (rows : List (Special × List ℕ)) (row : Special × List ℕ) → with_texts values (rows ++ row ∷ []) ≡ with_text (with_texts values rows) row
-with_texts-more values rows row = fold_push with_text values rows row
