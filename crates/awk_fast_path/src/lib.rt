@@ -9,5 +9,5 @@ mod statements;
 mod texts;
 
 pub use conditions::test;
-pub use statements::{Ran, execute};
+pub use statements::{Ran, execute, execute_simple};
 pub use texts::found;

@@ -185,9 +185,10 @@ fn behind_simple(plan: &Plan, simple: SimpleNode, interpreter: &mut Interpreter)
     }
 }
 
-/// Executes a simple statement.
+/// Executes a simple statement, if that can be done in place: an assignment of a value that is found, an increment, `break` or
+/// `continue`. Else nothing changes. (POSIX awk, Actions)
 #[inline(always)]
-fn execute_simple(plan: &Plan, simple: SimpleNode, interpreter: &mut Interpreter) -> Ran
+pub fn execute_simple(plan: &Plan, simple: SimpleNode, interpreter: &mut Interpreter) -> Ran
     ensures { Executes (Simple (made_simple plan.now.tables (part_of plan.now) simple)) interpreter.old result
         interpreter.new }
 {
