@@ -1,9 +1,7 @@
 // The statements of a plan by their sort. A place of another sort stands for no statement.
 
 ghost use Rattle.std.specs.Prelude.{◌≡◌, IfSome, slice_get};
-ghost use Rattle.awk_plan.specs.Plan.{part_of, statement_in, statements_in};
-ghost use Rattle.awk_tree.specs.Tree.{Block};
-ghost use Rattle.awk_control.specs.support.Blocks.{IsSimple, IsBlock, block_node};
+ghost use Rattle.awk_control.specs.support.Blocks.{IsSimple, IsBlock, IsBlockOf, block_node};
 
 use awk_plan::node::{BlockNode, Node, SimpleNode, StatementNode};
 use awk_plan::plan::Plan;
@@ -26,7 +24,7 @@ pub fn block(plan: &Plan, place: u32) -> BlockNode
 
 /// The place of the statements of a block, if one stands at a place.
 pub(crate) fn block_at(plan: &Plan, place: u32) -> Option<u32>
-    ensures { IfSome result (λ all. statement_in (part_of plan.now place) ≡ Block (statements_in (part_of plan.now all))) }
+    ensures { IfSome result (λ all. IsBlockOf plan.now place all) }
 {
     match plan.node(place) {
         Some(Node::Statement(StatementNode::Block(all))) => Some(all),

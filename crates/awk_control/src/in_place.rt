@@ -5,6 +5,7 @@ ghost use Rattle.std.specs.Option.{option_map};
 ghost use Rattle.awk_meaning.specs.Semantics.{ending};
 ghost use Rattle.awk_plan.specs.Plan.{part_of, statement_in, statements_in};
 ghost use Rattle.awk_control.specs.support.Stack.{BeginStatement, BeginBlock, Ended, LoopTurn};
+ghost use Rattle.awk_control.specs.support.Blocks.{IsBlockOf};
 ghost use Rattle.awk_control.specs.support.Moves.{loop_of, flow_of};
 ghost use Rattle.awk_control.specs.support.Reaching.{place_of, Reaches, HoldsInPlace, TurnBegins};
 ghost use Rattle.awk_control.specs.support.Reaching.{GoesOnBehind, TurnStops, MakesTurn, MakesTurns};
@@ -12,7 +13,7 @@ ghost use Rattle.awk_control.specs.support.Reaching.{GoesOnBehind, TurnStops, Ma
 use crate::blocks::{block, block_at, simple};
 use crate::entry::Loop;
 use crate::stack::{Focus, Passed};
-use awk_fast_path::{Ran, execute, test};
+use awk_fast_path::{Ran, execute, execute_simple, test};
 use awk_interpreter::Interpreter;
 use awk_plan::node::BlockNode;
 use awk_plan::plan::Plan;
@@ -53,11 +54,17 @@ pub fn advance(plan: &Plan, place: u32, interpreter: &mut Interpreter) -> Reache
     }
 }
 
-/// Executes the body of a loop as far as it goes.
-fn advance_body(plan: &Plan, place: u32, interpreter: &mut Interpreter) -> Focus
+/// Executes the body of a loop as far as it goes: the statements of a block, or another statement.
+fn advance_body(
+    plan: &Plan,
+    place: u32,
+    statements: Option<u32>,
+    interpreter: &mut Interpreter,
+) -> Focus
+    requires { IfSome statements (λ all. IsBlockOf plan.now place all) }
     ensures { Reaches plan.now (BeginStatement (statement_in (part_of plan.now place))) interpreter.old result interpreter.new }
 {
-    if let Some(statements) = block_at(plan, place) {
+    if let Some(statements) = statements {
         return place_of(advance(plan, statements, interpreter));
     }
     match execute(plan, place, interpreter) {
@@ -129,7 +136,7 @@ pub fn execute_last(plan: &Plan, l: Loop, interpreter: &mut Interpreter) -> Opti
         return None;
     };
     match simple(plan, place) {
-        Some(_) => match execute(plan, place, interpreter) {
+        Some(node) => match execute_simple(plan, node, interpreter) {
             Ran::Not => Some(place),
             Ran::Normal => None,
             Ran::Break => None,
@@ -154,11 +161,17 @@ fn end_turn(plan: &Plan, l: Loop, passed: Passed, interpreter: &mut Interpreter)
 }
 
 /// Executes the body of a turn that has begun, and what stands behind it.
-fn finish_turn(plan: &Plan, l: Loop, interpreter: &mut Interpreter) -> Option<Turns>
+fn finish_turn(
+    plan: &Plan,
+    l: Loop,
+    statements: Option<u32>,
+    interpreter: &mut Interpreter,
+) -> Option<Turns>
+    requires { IfSome statements (λ all. IsBlockOf plan.now l.body all) }
     ensures { (v : _) → TurnStops plan.now (loop_of plan.now l) v (BeginStatement (loop_of plan.now l).body) (LoopTurn
         (loop_of plan.now l)) interpreter.old result interpreter.new }
 {
-    let reached = advance_body(plan, l.body, interpreter);
+    let reached = advance_body(plan, l.body, statements, interpreter);
     match reached {
         Focus::Ended(passed) => end_turn(plan, l, passed, interpreter),
         Focus::Expr(_) => Some(Turns::Body(reached)),
@@ -168,11 +181,17 @@ fn finish_turn(plan: &Plan, l: Loop, interpreter: &mut Interpreter) -> Option<Tu
 }
 
 /// Makes a turn. It answers where the loop stands if it isn't before the next turn.
-fn make_turn(plan: &Plan, l: Loop, interpreter: &mut Interpreter) -> Option<Turns>
+fn make_turn(
+    plan: &Plan,
+    l: Loop,
+    statements: Option<u32>,
+    interpreter: &mut Interpreter,
+) -> Option<Turns>
+    requires { IfSome statements (λ all. IsBlockOf plan.now l.body all) }
     ensures { MakesTurn plan.now (loop_of plan.now l) interpreter.old result interpreter.new }
 {
     match begin_turn_in_place(plan, l, interpreter) {
-        Some(true) => finish_turn(plan, l, interpreter),
+        Some(true) => finish_turn(plan, l, statements, interpreter),
         Some(false) => Some(Turns::Ended(Passed::Normal)),
         None => Some(Turns::Condition),
     }
@@ -182,8 +201,9 @@ fn make_turn(plan: &Plan, l: Loop, interpreter: &mut Interpreter) -> Option<Turn
 pub fn make_turns(plan: &Plan, l: Loop, interpreter: &mut Interpreter) -> Turns
     ensures { MakesTurns plan.now (loop_of plan.now l) interpreter.old result interpreter.new }
 {
+    let statements = block_at(plan, l.body);
     'turns: loop {
-        match make_turn(plan, l, interpreter) {
+        match make_turn(plan, l, statements, interpreter) {
             Some(turns) => return turns,
             None => {}
         }

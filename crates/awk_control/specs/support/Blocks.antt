@@ -20,3 +20,7 @@ module _ (plan : Program) (place : ℕ) where
   abbrev pub IsSimple : Option SimpleNode → Type 0
   IsSimple (Some n) = (statement_in (part_of plan place) ≡ t.Simple (made_simple plan.tables (part_of plan) n)) × (optional_simple_in (part_of plan place) ≡ t.ASimple (made_simple plan.tables (part_of plan) n))
   IsSimple None = optional_simple_in (part_of plan place) ≡ t.NoSimple
+
+  -- the statement is a block of the statements at another place
+  abbrev pub IsBlockOf : ℕ → Type 0
+  IsBlockOf all = statement_in (part_of plan place) ≡ t.Block (statements_in (part_of plan all))

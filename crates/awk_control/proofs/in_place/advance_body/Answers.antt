@@ -4,7 +4,7 @@ use Rattle.awk_control.proofs.Reaching.{body_stays, body_ends, body_block}
 use Rattle.awk_control.proofs.in_place.advance_body.Goals as goal
 
 pub returns-in-Some : goal.returns-in-Some
-returns-in-Some c = rw (c.in-Some.ensures, c.place_of.ensures) (body_block _ c.advance.ensures)
+returns-in-Some c = rw (rw c.in-Some.is at c.requires, c.place_of.ensures) (body_block _ c.advance.ensures)
 
 pub returns-in-Not : goal.returns-in-Not
 returns-in-Not c = rw c.in-Not.ensures (body_stays _ _ _)

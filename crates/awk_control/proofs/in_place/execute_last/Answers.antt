@@ -1,4 +1,4 @@
-use Rattle.std.proofs.Common.{ap, ◌∙◌}
+use Rattle.std.proofs.Common.{refl, ap, ◌∙◌}
 use Rattle.awk_control.specs.support.Stack.{statement_weight}
 use Rattle.awk_control.specs.support.Moves.{last_of}
 use Rattle.awk_control.proofs.Reaching.{without_last, last_stands, last_executed}
@@ -16,10 +16,10 @@ returns-in-Not c =
     (c.in-Not.ensures, ap statement_weight c.in-Some-simple.ensures.0, λ g ends. rw c.in-Not.ensures (last_stands _ _ _ g _ c.in-Some-simple.ensures.0 ends last))
 
 pub returns-in-Normal : goal.returns-in-Normal
-returns-in-Normal c = λ g ends. last_executed _ _ _ g _ c.in-Some-simple.ensures.0 ends (ap (last_of c.args.plan.now) c.in-Some.is ∙ c.in-Some-simple.ensures.1) c.in-Normal.ensures
+returns-in-Normal c = λ g ends. last_executed _ _ _ g _ refl ends (ap (last_of c.args.plan.now) c.in-Some.is ∙ c.in-Some-simple.ensures.1) c.in-Normal.ensures
 
 pub returns-in-Break : goal.returns-in-Break
-returns-in-Break c = λ g ends. last_executed _ _ _ g _ c.in-Some-simple.ensures.0 ends (ap (last_of c.args.plan.now) c.in-Some.is ∙ c.in-Some-simple.ensures.1) c.in-Break.ensures
+returns-in-Break c = λ g ends. last_executed _ _ _ g _ refl ends (ap (last_of c.args.plan.now) c.in-Some.is ∙ c.in-Some-simple.ensures.1) c.in-Break.ensures
 
 pub returns-in-Continue : goal.returns-in-Continue
-returns-in-Continue c = λ g ends. last_executed _ _ _ g _ c.in-Some-simple.ensures.0 ends (ap (last_of c.args.plan.now) c.in-Some.is ∙ c.in-Some-simple.ensures.1) c.in-Continue.ensures
+returns-in-Continue c = λ g ends. last_executed _ _ _ g _ refl ends (ap (last_of c.args.plan.now) c.in-Some.is ∙ c.in-Some-simple.ensures.1) c.in-Continue.ensures
