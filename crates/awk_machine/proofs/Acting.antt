@@ -9,7 +9,7 @@ use Rattle.awk_meaning.specs.declared.flow.Flow.TheVariants as flow
 use Rattle.awk_meaning.specs.declared.halt.Halt.{Halt}
 use Rattle.awk_meaning.specs.State.{Run, ◌>>=◌, ret}
 use Rattle.awk_meaning.specs.Operators.{truth_value}
-use Rattle.awk_meaning.specs.Semantics.{tested, choose, eval, begin_test, exec, run_action}
+use Rattle.awk_meaning.specs.Semantics.{tested, choose, eval, begin_test, exec, print, run_action}
 use Rattle.awk_interpreter.specs.declared.interpreter.Interpreter.{Interpreter}
 use Rattle.awk_interpreter.specs.Simulation.{Simulates, Changes, Spends, Follows}
 use Rattle.awk_interpreter.proofs.Composition.{then_simulates, ends_simulates, lift_simulates, change_simulates}
@@ -20,6 +20,7 @@ use Rattle.awk_control.specs.declared.stack.Stack.{Stack}
 use Rattle.awk_control.specs.Moves.{entries_of, stack_of, Runs, Tests}
 use Rattle.awk_control.proofs.InPlace.{leads_on}
 use Rattle.awk_control.proofs.Laws.{same_rest, same_simulates, assoc_simulates, then_rest}
+use Rattle.awk_control.proofs.PrintMoves.{whole_printed, whole_stops}
 use Rattle.awk_control.proofs.StatementMoves.{no_more_ends, then_begins, follows, follows_none}
 use Rattle.awk_control.proofs.Walking.{unit_at, whole, over_rest, acts, act_halts}
 use Rattle.awk_plan.specs.Plan.{Program}
@@ -52,6 +53,14 @@ runs_ended f g {m1 = m1} {k1 = k1} l = whole f (l.leads _ _ _ (over_rest g m1 k1
 pub performed : {is_logged : Type 0} (x : t.Statement) {r : Result Flow Halt} {m m' : Interpreter} {k : WorldState} → Changes (exec x) m m' r → Runs is_logged (BeginStatement x) m k m' k r
 unfolding run_of
 performed x p = record { simulates = change_simulates p }
+
+-- a print that is executed at once
+
+pub prints_whole : {is_logged : Type 0} (list : t.Exprs) {m m' : Interpreter} {k k' : WorldState} → Follows is_logged (print list) m k m' k' (Ok tt) → Runs is_logged (BeginStatement (t.Simple (t.Print list))) m k m' k' (Ok flow.Normal)
+prints_whole list p = runs_ended _ flow.Normal (whole_printed list p)
+
+pub print_halts : {is_logged : Type 0} (list : t.Exprs) {h : Halt} {m m' : Interpreter} {k k' : WorldState} → Follows is_logged (print list) m k m' k' (Err h) → Runs is_logged (BeginStatement (t.Simple (t.Print list))) m k m' k' (Err h)
+print_halts list p = whole _ (whole_stops list p)
 
 cleared : (plan : Program) (stack : Stack) → stack.control ≡ record { entries = []; heights = [] } → stack_of plan stack ≡ []
 cleared plan stack is = ap (λ (x : Controlled). entries_of plan (reverse x.entries) (reverse stack.values.items)) is

@@ -33,7 +33,7 @@ use Rattle.awk_control.proofs.KeptValues.{newest_of as newest_dropped, older_of,
 use Rattle.awk_control.proofs.Laws.{same_rest, then_rest, halted_rest, memory_rest, push_rest, pop_rest}
 use Rattle.awk_control.proofs.Moves.{later_same, awaited_at as value_awaited}
 use Rattle.awk_control.proofs.Steps.{entries_pushed}
-use Rattle.awk_machine.specs.support.Printed.{FoundFirst, FoundUpTo, StandsAt, printing, newest_of, entries_below, PrintLeads, PrintsValues, PrintBegun, BeginsPrint, next_of}
+use Rattle.awk_machine.specs.support.Printed.{HasFirst, FoundFirst, FoundUpTo, StandsAt, printing, newest_of, entries_below, PrintLeads, PrintsValues, PrintBegun, BeginsPrint, next_of}
 use Rattle.awk_machine.proofs.PrintsInPlace.{list_at, values_found, left_low, left_light, all_found}
 
 -- the entry of an expression
@@ -167,10 +167,14 @@ module _ (is_logged : Type 0) (plan : Program) (e : t.Expr) (rest : t.Exprs) (st
     falls = let low = p.falls in let less = q.steps in omega (arith, low, less);
   }
 
-  pub print_begins : (r : Result (Option Operand) Halt) (st' : List Entry) (m' : Interpreter) (k' : WorldState) → PrintsValues is_logged plan [] (t.Cons e rest) st m1 k r st' m' k' → BeginsPrint is_logged plan (t.Cons e rest) st m k r st' m' k'
+  print_begins : (r : Result (Option Operand) Halt) (st' : List Entry) (m' : Interpreter) (k' : WorldState) → PrintsValues is_logged plan [] (t.Cons e rest) st m1 k r st' m' k' → BeginsPrint is_logged plan (t.Cons e rest) st m k r st' m' k'
   print_begins (Ok None) st' m' k' q = (print_begun q.0, q.1)
   print_begins (Ok (Some x)) st' m' k' q = print_begun q
   print_begins (Err h) st' m' k' q = begun e rest p q
+
+pub list_begins : (is_logged : Type 0) (plan : Program) (list : t.Exprs) → HasFirst list → (st : List Entry) {m m1 : Interpreter} (k : WorldState) → Spends m m1 (Ok tt) → (r : Result (Option Operand) Halt) (st' : List Entry) (m' : Interpreter) (k' : WorldState) → PrintsValues is_logged plan [] list st m1 k r st' m' k' → BeginsPrint is_logged plan list st m k r st' m' k'
+list_begins is_logged plan t.Nil none st k p r st' m' k' q = absurd none
+list_begins is_logged plan (t.Cons e rest) first st k p r st' m' k' q = print_begins is_logged plan e rest st k p r st' m' k' q
 
 pub print_moves : (is_logged : Type 0) (plan : Program) (list : t.Exprs) (st : List Entry) (m : Interpreter) (k : WorldState) (waits : Option Operand) (new : Stack) (m' : Interpreter) (k' : WorldState) → BeginsPrint is_logged plan list st m k (Ok waits) (stack_of plan new) m' k' → Moves is_logged plan (BeginStatement (t.Simple (t.Print list))) st m k (Ok (move.Spent (next_of waits))) new m' k'
 print_moves is_logged plan list st m k None new m' k' p = record { moved = record { leads = p.0.leads; falls = p.0.falls } }

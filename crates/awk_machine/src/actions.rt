@@ -12,19 +12,43 @@ ghost use Rattle.awk_interpreter.specs.Simulation.{Follows};
 ghost use Rattle.awk_control.specs.Stack.{BeginStatement};
 ghost use Rattle.awk_control.specs.Moves.{Runs, ran};
 ghost use Rattle.awk_machine.specs.support.Acted.{Decides};
+ghost use Rattle.awk_machine.specs.support.Printed.{HasFirst};
 
 use crate::machine::{finish, holds, run};
-use crate::prints::begin_print;
+use crate::prints::begin_list;
+use crate::prints_in_place::{list, print_record};
 use awk_control::blocks::block;
 use awk_control::stack::{Focus, Passed, Stack};
 use awk_fast_path::{Ran, execute};
 use awk_interpreter::Interpreter;
 use awk_meaning::Halt;
-use awk_plan::node::{BlockNode, Node, Operand, SimpleNode, StatementNode};
+use awk_plan::node::{BlockNode, ListNode, Node, Operand, SimpleNode, StatementNode};
 use awk_plan::plan::Plan;
 use awk_streams::World;
 
-/// Executes a print: with an entry only for what isn't found in place. What was in the stack is gone.
+/// Executes a print of one value or more: with an entry only for what isn't found in place. What was in the stack is gone.
+fn print_list<W: World>(
+    plan: &Plan,
+    place: u32,
+    stack: &mut Stack,
+    interpreter: &mut Interpreter,
+    world: &mut W,
+) -> Result<Passed, Halt>
+    requires low { height_of_statement (Simple (Print (exprs_in (part_of plan.now place)))) ≤ max_height }
+    requires counted { HasBefore plan.now.nodes 0 place }
+    requires first { HasFirst (exprs_in (part_of plan.now place)) }
+    ensures { Runs W.is_logged (BeginStatement (Simple (Print (exprs_in (part_of plan.now place))))) interpreter.old
+        (W.state world.old) interpreter.new (W.state world.new) (ran result stack.new.returned) }
+{
+    stack.control.clear();
+    stack.values.clear();
+    match begin_list(plan, place, stack, interpreter, world)? {
+        Some(e) => finish(plan, Focus::Expr(e), stack, interpreter, world),
+        None => Ok(Passed::Normal),
+    }
+}
+
+/// Executes a print (POSIX awk, Output Statements). What was in the stack is gone.
 fn print<W: World>(
     plan: &Plan,
     place: u32,
@@ -37,31 +61,12 @@ fn print<W: World>(
     ensures { Runs W.is_logged (BeginStatement (Simple (Print (exprs_in (part_of plan.now place))))) interpreter.old
         (W.state world.old) interpreter.new (W.state world.new) (ran result stack.new.returned) }
 {
-    stack.control.clear();
-    stack.values.clear();
-    match begin_print(plan, place, stack, interpreter, world)? {
-        Some(e) => finish(plan, Focus::Expr(e), stack, interpreter, world),
-        None => Ok(Passed::Normal),
-    }
-}
-
-/// Executes a print, and any other statement on the stack.
-fn print_or_run<W: World>(
-    plan: &Plan,
-    place: u32,
-    stack: &mut Stack,
-    interpreter: &mut Interpreter,
-    world: &mut W,
-) -> Result<Passed, Halt>
-    requires low { height_of_statement (statement_in (part_of plan.now place)) ≤ max_height }
-    ensures { Runs W.is_logged (BeginStatement (statement_in (part_of plan.now place))) interpreter.old (W.state world.old)
-        interpreter.new (W.state world.new) (ran result stack.new.returned) }
-{
-    match plan.node(place) {
-        Some(Node::Simple(SimpleNode::Print(list))) => {
-            print(plan, list, stack, interpreter, world)
+    match list(plan, place) {
+        ListNode::Nil => {
+            print_record(interpreter, world)?;
+            Ok(Passed::Normal)
         }
-        _ => run(plan, Focus::Statement(place), stack, interpreter, world),
+        ListNode::Cons(_, _, _) => print_list(plan, place, stack, interpreter, world),
     }
 }
 
@@ -81,18 +86,20 @@ fn perform<W: World>(
         Ran::Normal => Ok(Passed::Normal),
         Ran::Break => Ok(Passed::Break),
         Ran::Continue => Ok(Passed::Continue),
-        Ran::Not => print_or_run(plan, place, stack, interpreter, world),
+        Ran::Not => run(plan, Focus::Statement(place), stack, interpreter, world),
     }
 }
 
-/// What an `if` chooses.
+/// What is done for a statement.
 #[derive(Clone, Copy)]
 pub(crate) enum Choice {
-    /// The statement that is executed in its place.
+    /// The statement that an `if` chooses is executed in its place.
     Taken(u32),
-    /// None: the condition is false, and there is no `else`.
+    /// Nothing: the condition of an `if` is false, and there is no `else`.
     Skipped,
-    /// The statement is no `if`.
+    /// This list is printed.
+    Print(u32),
+    /// The statement, which is neither an `if` nor a print, is executed.
     Other,
 }
 
@@ -113,7 +120,7 @@ fn begin_if<W: World>(
     holds(plan, condition, stack, interpreter, world)
 }
 
-/// What a statement chooses if it is an `if`, behind its step.
+/// What is done for a statement; behind its step, if it is an `if`.
 fn decide<W: World>(
     plan: &Plan,
     place: u32,
@@ -140,6 +147,7 @@ fn decide<W: World>(
                 Choice::Taken(other)
             }
         }
+        Some(Node::Simple(SimpleNode::Print(list))) => Choice::Print(list),
         _ => Choice::Other,
     };
     Ok(chosen)
@@ -162,6 +170,7 @@ fn act<W: World>(
         match decide(plan, at, stack, interpreter, world)? {
             Choice::Taken(next) => at = next,
             Choice::Skipped => return Ok(Passed::Normal),
+            Choice::Print(list) => return print(plan, list, stack, interpreter, world),
             Choice::Other => return perform(plan, at, stack, interpreter, world),
         }
     }

@@ -8,7 +8,7 @@ ghost use Rattle.awk_control.specs.Control.{HasRoom};
 ghost use Rattle.awk_control.specs.declared.entry.Awaited.TheVariants as awaited;
 ghost use Rattle.awk_control.specs.Stack.{Ended};
 ghost use Rattle.awk_control.specs.Moves.{Moves, stack_of, topped, flow_of};
-ghost use Rattle.awk_machine.specs.support.Printed.{PrintsValues, BeginsPrint, newest_of, entries_below, next_of};
+ghost use Rattle.awk_machine.specs.support.Printed.{HasFirst, PrintsValues, BeginsPrint, newest_of, entries_below, next_of};
 
 use crate::prints_in_place::{find_values, list, print_record};
 use awk_control::entry::{Entry, State, StatementEntry};
@@ -54,6 +54,25 @@ fn print_values<W: World>(
     }
 }
 
+/// Begins a print of one value or more, with its step. It answers the expression for which an entry waits; none where the line
+/// is printed.
+pub(crate) fn begin_list<W: World>(
+    plan: &Plan,
+    place: u32,
+    stack: &mut Stack,
+    interpreter: &mut Interpreter,
+    world: &mut W,
+) -> Result<Option<Operand>, Halt>
+    requires room { HasRoom stack.old.control }
+    requires counted { HasBefore plan.now.nodes 0 place }
+    requires first { HasFirst (exprs_in (part_of plan.now place)) }
+    ensures { BeginsPrint W.is_logged plan.now (exprs_in (part_of plan.now place)) (stack_of plan.now stack.old)
+        interpreter.old (W.state world.old) result (stack_of plan.now stack.new) interpreter.new (W.state world.new) }
+{
+    interpreter.spend()?;
+    print_values(plan, place, 0, stack, interpreter, world)
+}
+
 /// Begins a print, with its step. It answers the expression for which an entry waits; none where the line is printed.
 pub(crate) fn begin_print<W: World>(
     plan: &Plan,
@@ -72,10 +91,7 @@ pub(crate) fn begin_print<W: World>(
             print_record(interpreter, world)?;
             Ok(None)
         }
-        ListNode::Cons(_, _, _) => {
-            interpreter.spend()?;
-            print_values(plan, place, 0, stack, interpreter, world)
-        }
+        ListNode::Cons(_, _, _) => begin_list(plan, place, stack, interpreter, world),
     }
 }
 

@@ -34,6 +34,11 @@ list_node other = lists.Nil
 abbrev pub IsList : Program → (place : ℕ) → ListNode → Type 0
 IsList plan place n = exprs_in (part_of plan place) ≡ made_list plan.tables (part_of plan) n
 
+-- a list of one expression or more
+abbrev pub HasFirst : Exprs → Type 0
+HasFirst Nil = ⊥
+HasFirst (Cons e rest) = Unit {0}
+
 -- how many expressions a list has
 abbrev pub count_of : Exprs → ℕ
 count_of Nil = 0

@@ -17,3 +17,8 @@ pub returns-in-Other : goal.returns-in-Other
 returns-in-Other g c =
     let same = rw c.in-Other.is at (c.in_ok-next.ensures {u = tt}) in
     runs_from _ _ c.choices.invariant (rw (same.0, same.1) at c.perform.ensures)
+
+pub returns-in-Print : goal.returns-in-Print
+returns-in-Print g c =
+    let p = rw c.in-Print.is at (c.in_ok-next.ensures {u = tt}) in
+    runs_from _ _ c.choices.invariant (rw p.is (rw (p.same, p.unheard) at c.print.ensures))
