@@ -52,6 +52,7 @@ impl Interpreter {
     }
 
     /// The value at a place, if it is this name's, which isn't NF.
+    #[inline(always)]
     pub fn value_at(&self, number: u32, name: &[u8]) -> Option<&Value>
         ensures value { IfSome result (λ value. value.now ≡ value_of self.now.variables name.now) }
         ensures plain { IfSome result (λ value. bytes_eq name.now (codes "NF") ≡ false) }
@@ -118,6 +119,7 @@ impl Interpreter {
 
     /// Updates the number that a name has at this place. Where it has another value, or what it would become is no number,
     /// nothing changes.
+    #[inline(always)]
     pub fn update_at(&mut self, number: u32, name: &[u8], change: Update) -> bool
         ensures done { result ≡ true → UpdatesNumber name.now change self.old self.new }
         ensures kept { result ≡ false → self.new ≡ self.old }

@@ -16,6 +16,7 @@ use indexmap::IndexMap;
 use std::alloc::Global;
 
 // The index of a number among the others with its value, if it is this name's.
+#[inline(always)]
 fn place<'a>(
     others: &'a IndexMap<Vec<u8>, Value>,
     number: u32,
@@ -115,15 +116,24 @@ impl Variables {
         self.set_other(name, Value::Nothing)
     }
 
+    // The value of the special variable of a number, if it is this name's.
+    #[inline(never)]
+    fn special_at(&self, number: u32, name: &[u8]) -> Option<&Value>
+        ensures { IfSome result (λ value. value.now ≡ value_of self.now name.now) }
+    {
+        let special = Special::numbered(number, name)?;
+        Some(self.special(special))
+    }
+
     /// The value that stands at a place, if it is this name's.
+    #[inline(always)]
     pub fn at(&self, number: u32, name: &[u8]) -> Option<&Value>
         ensures { IfSome result (λ value. value.now ≡ value_of self.now name.now) }
     {
         if let Some((_, value)) = place(&self.others, number, name) {
             return Some(value);
         }
-        let special = Special::numbered(number, name)?;
-        Some(self.special(special))
+        self.special_at(number, name)
     }
 
     /// Makes a value the one at a place behind the special variables, if it is this name's. Else nothing changes.
@@ -156,6 +166,7 @@ impl Variables {
 
     /// Updates the number at a place behind the special variables, if it is this name's. Where there is another value, or what
     /// it would become is no number, nothing changes.
+    #[inline(always)]
     pub fn update_at(&mut self, number: u32, name: &[u8], change: Update) -> bool
         ensures done { result ≡ true → UpdatesName change name.now (value_of self.old) (value_of self.new) }
         ensures accepted { result ≡ true → (v : Kept) → is_refused name.now v ≡ false }
