@@ -46,6 +46,23 @@ impl Fields {
         }
     }
 
+    // Reads a separator for the next text.
+    #[inline(never)]
+    fn read_separator(
+        &mut self,
+        alloc: Global,
+        separator: &[u8],
+        newline_too: bool,
+    ) -> Result<(), RecordFault>
+        ensures rule { OnOk result (self.new.separator ≡ record { text = separator.now; newline_too = newline_too }) }
+        ensures refused { IfErr result (λ e. e ≢ RecordFault.Memory →
+            (e ≡ RecordFault.Pattern) × (is_err (separator_of separator.now) ≡ true)) }
+        ensures err { OnErr result (self.new ≡ self.old) }
+    {
+        self.separator = FieldSeparator::of(alloc, separator, newline_too)?;
+        Ok(())
+    }
+
     /// Takes a separator for the next text: it is read anew only where it isn't the one at hand.
     pub fn take_separator(
         &mut self,
@@ -61,8 +78,7 @@ impl Fields {
         if self.separator.is_of(separator, newline_too) {
             return Ok(());
         }
-        self.separator = FieldSeparator::of(alloc, separator, newline_too)?;
-        Ok(())
+        self.read_separator(alloc, separator, newline_too)
     }
 
     /// Forgets those that were found.

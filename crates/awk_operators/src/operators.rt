@@ -2,7 +2,7 @@
 
 ghost use Rattle.std.specs.Prelude.{◌≡◌, true, false, if◌then◌else◌, Ok, IfSome, OnSome};
 ghost use Rattle.std.specs.declared.cmp.Ordering.{Ordering as Order};
-ghost use Rattle.awk_value.specs.Values.{str_of};
+ghost use Rattle.awk_value.specs.Values.{num_of, str_of};
 ghost use Rattle.awk_value.specs.declared.value.Value.TheVariants.{Text};
 ghost use Rattle.awk_meaning.specs.Operators.{applied, changed, field_value, matched, raised};
 ghost use Rattle.awk_meaning.specs.Operators.{relates as related, takes_pattern, truth_value};
@@ -169,9 +169,20 @@ pub fn field_at(current: &mut Record, at: &Value) -> Result<Value, Halt>
     Ok(current.field(number)?)
 }
 
+// The number of a count, which is one unless the program assigned another value.
+#[inline(always)]
+fn count_of(count: &Value) -> Result<i128, ValueFault>
+    ensures { result ≡ num_of count.now }
+{
+    match count {
+        Value::Number(n) => Ok(*n),
+        value => number_of(value),
+    }
+}
+
 /// A count, raised by 1.
 pub fn raise(count: &Value) -> Result<Value, Halt>
     ensures { Yields result (raised count.now) }
 {
-    Ok(Value::Number(add(number_of(count)?, 1)?))
+    Ok(Value::Number(add(count_of(count)?, 1)?))
 }
