@@ -11,3 +11,5 @@ pub mod Walking
 pub mod InPlace
 pub mod Reaching
 pub mod Depth
+pub mod PrintsInPlace
+pub mod PrintingTurns

@@ -8,3 +8,5 @@ pub use Rattle.awk_control.specs.support.Blocks
 pub use Rattle.awk_control.specs.support.Entries
 pub use Rattle.awk_control.specs.support.Moves
 pub use Rattle.awk_control.specs.support.Reaching
+pub use Rattle.awk_control.specs.support.Printed
+pub use Rattle.awk_control.specs.support.PrintingTurns

@@ -3,3 +3,5 @@ pub mod Blocks
 pub mod Entries
 pub mod Moves
 pub mod Reaching
+pub mod Printed
+pub mod PrintingTurns

@@ -26,7 +26,7 @@ pub enum Reached {
 }
 
 /// The place where statements came to.
-fn place_of(reached: Reached) -> Focus
+pub(crate) fn place_of(reached: Reached) -> Focus
     ensures { result ≡ place_of reached }
 {
     match reached {

@@ -5,4 +5,6 @@ pub mod blocks;
 pub mod control;
 pub mod entry;
 pub mod in_place;
+pub mod printing_turns;
+pub mod prints;
 pub mod stack;

@@ -1,4 +1,3 @@
-mod PrintsInPlace
 mod Printing
 mod Acting
-mod Advancing
+mod LoopsBegin

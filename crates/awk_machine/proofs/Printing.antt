@@ -33,8 +33,9 @@ use Rattle.awk_control.proofs.KeptValues.{newest_of as newest_dropped, older_of,
 use Rattle.awk_control.proofs.Laws.{same_rest, then_rest, halted_rest, memory_rest, push_rest, pop_rest}
 use Rattle.awk_control.proofs.Moves.{later_same, awaited_at as value_awaited}
 use Rattle.awk_control.proofs.Steps.{entries_pushed}
-use Rattle.awk_machine.specs.support.Printed.{HasFirst, FoundFirst, FoundUpTo, StandsAt, printing, newest_of, entries_below, PrintLeads, PrintsValues, PrintBegun, BeginsPrint, next_of}
-use Rattle.awk_machine.proofs.PrintsInPlace.{list_at, values_found, left_low, left_light, all_found}
+use Rattle.awk_control.specs.Printed.{FoundFirst, FoundUpTo, StandsAt}
+use Rattle.awk_machine.specs.support.Printed.{HasFirst, printing, newest_of, entries_below, PrintLeads, PrintsValues, PrintBegun, BeginsPrint, next_of}
+use Rattle.awk_control.proofs.PrintsInPlace.{list_at, values_found, left_low, left_light, all_found}
 
 -- the entry of an expression
 

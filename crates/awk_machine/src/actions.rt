@@ -1,7 +1,7 @@
 // Actions: their statements one after the other, each in place where that goes, and else on the stack. The condition of an `if`
 // is tested once, and the statement that it chooses is the next one.
 
-ghost use Rattle.std.specs.Prelude.{◌≡◌, ◌≤◌, ◌<◌, OnOk};
+ghost use Rattle.std.specs.Prelude.{◌≤◌, ◌<◌, OnOk};
 ghost use Rattle.awk_plan.specs.Order.{HasBefore};
 ghost use Rattle.awk_plan.specs.Plan.{operand_of, part_of, exprs_in, statement_in, statements_in};
 ghost use Rattle.awk_tree.specs.Tree.{Simple, Print};
@@ -16,8 +16,8 @@ ghost use Rattle.awk_machine.specs.support.Printed.{HasFirst};
 
 use crate::machine::{finish, holds, run};
 use crate::prints::begin_list;
-use crate::prints_in_place::{list, print_record};
 use awk_control::blocks::block;
+use awk_control::prints::{list, print_record};
 use awk_control::stack::{Focus, Passed, Stack};
 use awk_fast_path::{Ran, execute};
 use awk_interpreter::Interpreter;

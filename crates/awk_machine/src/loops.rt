@@ -9,12 +9,12 @@ ghost use Rattle.awk_control.specs.declared.entry.Awaited.TheVariants as awaited
 ghost use Rattle.awk_control.specs.Entries.{IsLoop};
 ghost use Rattle.awk_control.specs.Stack.{BeginStatement, Ended, LastPart, LoopTurn};
 ghost use Rattle.awk_control.specs.Moves.{Moves, Steps, SpendsFor, stack_of, loop_of, for_of, topped, flow_of};
-ghost use Rattle.awk_machine.specs.support.Advanced.{BeginsLoop, IsDone, behind_step};
+ghost use Rattle.awk_machine.specs.support.BegunLoops.{BeginsLoop, IsDone, behind_step};
 
-use crate::turns::make_printing_turns;
 use awk_control::blocks::simple;
 use awk_control::entry::{Loop, LoopEntry, State};
 use awk_control::in_place::{Turns, ending, execute_last};
+use awk_control::printing_turns::make_printing_turns;
 use awk_control::stack::{Focus, Move, Passed, Stack};
 use awk_expressions::awaiting::{await_value, is_returned_true};
 use awk_fast_path::{Ran, execute};

@@ -1,13 +1,13 @@
 // The machine: moves from place to place, until nothing is left. No function of it calls itself.
 
 ghost use Rattle.std.specs.Prelude.{◌≡◌, ◌≤◌, Some, slice_get};
-ghost use Rattle.awk_plan.specs.Plan.{operand_of, part_of, statement_in, statements_in, made_statement};
+ghost use Rattle.awk_plan.specs.Plan.{operand_of, part_of, statement_in, made_statement};
 ghost use Rattle.awk_grammar.specs.Height.{max_height};
 ghost use Rattle.awk_tree.specs.Height.{height_of};
 ghost use Rattle.awk_tree.specs.Tree.{Do};
 ghost use Rattle.awk_control.specs.Control.{HasRoom};
 ghost use Rattle.awk_control.specs.Entries.{awaited_at};
-ghost use Rattle.awk_control.specs.Stack.{BeginStatement, BeginBlock, Ended, Rest, focus_height, depth};
+ghost use Rattle.awk_control.specs.Stack.{BeginStatement, Ended, Rest, focus_height, depth};
 ghost use Rattle.awk_control.specs.Moves.{Moves, Steps, Walks, Runs, Tests, stack_of, focus_of, topped, flow_of, ran};
 
 use crate::loops::{begin_for, begin_loop, end_loop};

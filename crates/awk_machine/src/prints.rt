@@ -10,8 +10,8 @@ ghost use Rattle.awk_control.specs.Stack.{Ended};
 ghost use Rattle.awk_control.specs.Moves.{Moves, stack_of, topped, flow_of};
 ghost use Rattle.awk_machine.specs.support.Printed.{HasFirst, PrintsValues, BeginsPrint, newest_of, entries_below, next_of};
 
-use crate::prints_in_place::{find_values, list, print_record};
 use awk_control::entry::{Entry, State, StatementEntry};
+use awk_control::prints::{find_values, list, print_record};
 use awk_control::stack::{Focus, Move, Passed, Stack};
 use awk_expressions::awaiting::take_value;
 use awk_interpreter::Interpreter;

@@ -1,7 +1,7 @@
 // The moves of statements that are no loops.
 
-ghost use Rattle.std.specs.Prelude.{◌≡◌, [], ◌∷◌, Ok, Some, slice_get};
-ghost use Rattle.awk_plan.specs.Plan.{operand_of, made_simple, part_of, exprs_in, statement_in, statements_in};
+ghost use Rattle.std.specs.Prelude.{◌≡◌, Ok, Some, slice_get};
+ghost use Rattle.awk_plan.specs.Plan.{made_simple, part_of, statements_in};
 ghost use Rattle.awk_plan.specs.Order.{IsCounted};
 ghost use Rattle.awk_plan.specs.declared.node.Node.TheVariants.{Simple};
 ghost use Rattle.awk_tree.specs.Tree as t;
@@ -9,7 +9,7 @@ ghost use Rattle.awk_control.specs.Control.{HasRoom};
 ghost use Rattle.awk_control.specs.declared.entry.Awaited.TheVariants as awaited;
 ghost use Rattle.awk_control.specs.Entries.{CountsOn};
 ghost use Rattle.awk_control.specs.Stack.{BeginStatement, BeginBlock, Ended};
-ghost use Rattle.awk_control.specs.Moves.{Moves, Steps, SpendsFor, stack_of, topped, flow_of};
+ghost use Rattle.awk_control.specs.Moves.{Moves, Steps, stack_of, topped, flow_of};
 
 use crate::prints::{begin_print, end_printed, next_of};
 use awk_control::blocks::block;
@@ -20,7 +20,7 @@ use awk_expressions::assignment_moves::begin_store;
 use awk_expressions::awaiting::{is_returned_true, spend_for, take_value};
 use awk_interpreter::Interpreter;
 use awk_meaning::Halt;
-use awk_plan::node::{BlockNode, Operand, SimpleNode};
+use awk_plan::node::{BlockNode, SimpleNode};
 use awk_plan::plan::Plan;
 use awk_streams::World;
 

@@ -13,8 +13,9 @@ ghost use Rattle.awk_run.specs.support.Items.{ReadsAll, RunsBeforeEnd, EndsItem,
 ghost use Rattle.awk_meaning.specs.Semantics.{in_range, go_through, try_items, unless_next};
 ghost use Rattle.awk_meaning.specs.Semantics.{until_next, is_rule, has_rule, unless_exit};
 
+use awk_control::prints::print_record;
 use awk_interpreter::Interpreter;
-use awk_machine::{Stack, holds, print_record, run_action};
+use awk_machine::{Stack, holds, run_action};
 use awk_meaning::Halt;
 use awk_plan::node::Operand;
 use awk_plan::plan::{Item, Pattern, Plan};

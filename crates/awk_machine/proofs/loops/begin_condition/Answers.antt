@@ -4,7 +4,7 @@ use Rattle.awk_meaning.specs.declared.flow.Flow.TheVariants.{Normal}
 use Rattle.awk_control.proofs.Steps.{stepped}
 use Rattle.awk_control.proofs.Entries.{waits_in_loop}
 use Rattle.awk_control.specs.declared.entry.LoopEntry.TheVariants as l
-use Rattle.awk_machine.proofs.Advancing.{moves_behind, pushed_behind, wants_behind}
+use Rattle.awk_machine.proofs.LoopsBegin.{moves_behind, pushed_behind, wants_behind}
 use Rattle.awk_machine.proofs.loops.begin_condition.Goals as goal
 
 pub returns-in_err-passed : goal.returns-in_err-passed

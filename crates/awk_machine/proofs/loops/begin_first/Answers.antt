@@ -3,7 +3,7 @@ use Rattle.std.proofs.lemmas.Result.{err_from_is_err_and}
 use Rattle.awk_control.proofs.LoopMoves.{for_begins, for_stops}
 use Rattle.awk_control.proofs.Entries.{waits_in_loop}
 use Rattle.awk_control.specs.declared.entry.LoopEntry.TheVariants as l
-use Rattle.awk_machine.proofs.Advancing.{moves_paid, for_enters, pushed_behind, wants_behind}
+use Rattle.awk_machine.proofs.LoopsBegin.{moves_paid, for_enters, pushed_behind, wants_behind}
 use Rattle.awk_machine.proofs.loops.begin_first.Goals as goal
 
 pub returns-in_err-spend : goal.returns-in_err-spend

@@ -4,7 +4,8 @@ use Rattle.awk_meaning.specs.declared.flow.Flow.TheVariants.{Normal}
 use Rattle.awk_control.proofs.Steps.{stepped, wants_memory, pushed_onward}
 use Rattle.awk_control.proofs.Entries.{waits_in_loop}
 use Rattle.awk_control.specs.declared.entry.LoopEntry.TheVariants as l
-use Rattle.awk_machine.proofs.Advancing.{beside, moves_behind}
+use Rattle.awk_control.proofs.PrintingTurns.{beside}
+use Rattle.awk_machine.proofs.LoopsBegin.{moves_behind}
 use Rattle.awk_machine.proofs.loops.begin_last.Goals as goal
 
 pub returns-in-None : goal.returns-in-None

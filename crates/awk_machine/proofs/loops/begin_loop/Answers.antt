@@ -1,6 +1,6 @@
 use Rattle.std.proofs.lemmas.Result.{err_from_is_err_and}
 use Rattle.awk_meaning.specs.declared.flow.Flow.TheVariants.{Normal}
-use Rattle.awk_machine.proofs.Advancing.{moves_paid}
+use Rattle.awk_machine.proofs.LoopsBegin.{moves_paid}
 use Rattle.awk_machine.proofs.loops.begin_loop.Goals as goal
 
 pub returns-in_err-spend : goal.returns-in_err-spend

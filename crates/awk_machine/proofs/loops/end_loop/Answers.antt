@@ -5,7 +5,7 @@ use Rattle.awk_control.proofs.LoopMoves.{entry_goes_on, first_turn_ends, first_t
 use Rattle.awk_control.proofs.Steps.{onward, spent_for, stepped}
 use Rattle.awk_control.proofs.Entries.{waits_in_loop}
 use Rattle.awk_control.specs.declared.entry.LoopEntry.TheVariants as l
-use Rattle.awk_machine.proofs.Advancing.{moves_behind}
+use Rattle.awk_machine.proofs.LoopsBegin.{moves_behind}
 use Rattle.awk_machine.proofs.loops.end_loop.Goals as goal
 
 pub returns-in-FirstPart : goal.returns-in-FirstPart
