@@ -7,8 +7,8 @@ ghost use Rattle.awk_grammar.specs.support.InfixRole as role;
 ghost use Rattle.awk_frames.specs.support.FrameView.{role_of, operand_of, optional_operand_of};
 ghost use Rattle.awk_frames.specs.support.FrameView.{list_of, stack_of, reduced, next_of};
 
-use crate::ended_nodes::post_increment;
-use crate::endings::end_operand;
+use crate::nodes::post_increment;
+use awk_expression_productions::endings::end_operand;
 use awk_frames::frame::{ExpressionFrame, Frame, ListHead, NodeFrame};
 use awk_frames::infix_role::InfixRole;
 use awk_frames::node::getline_operand;

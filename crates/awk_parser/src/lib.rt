@@ -1,9 +1,7 @@
-//! The parser of programs: one token at a time, above a stack of what has begun.
+//! The parser of whole programs: one token at a time, above a stack of what has begun.
 #![tactic(auto)]
 
-mod ended_nodes;
-mod endings;
 mod expressions;
-mod lists;
+mod nodes;
 mod parser;
 pub mod read;

@@ -8,10 +8,10 @@ ghost use Rattle.awk_frames.specs.declared.state.ExpressionState.TheVariants as 
 ghost use Rattle.awk_frames.specs.support.FrameView.{operand_of, list_of, frame_of, state_of};
 ghost use Rattle.awk_frames.specs.support.FrameView.{expression_state_of, stack_of, next_of};
 
-use crate::ended_nodes::membership;
 use crate::expressions::{
     after_bar, after_getline, after_length, after_list, after_name, after_operand,
 };
+use crate::nodes::membership;
 use awk_frames::frame::Frame;
 use awk_frames::operand::{Operand, OperandList};
 use awk_frames::stack::{pop, push};

@@ -1,4 +1,4 @@
-use Rattle.awk_parser.proofs.endings.end_expression.Goals as goal
+use Rattle.awk_expression_productions.proofs.endings.end_expression.Goals as goal
 
 pub returns-in-DoCondition : goal.returns-in-DoCondition
 returns-in-DoCondition c = rw c.in-DoCondition.is (rw c.into_inner.ensures at (c.end_do.ensures c.args.stack.now.items))

@@ -13,12 +13,10 @@ ghost use Rattle.awk_statement_nodes.specs.support.Checked.{checked_statement, c
 use awk_grammar::tree::{
     Expr, Output, Pattern, PrintForm, Redirection, SimpleStatement, Statement,
 };
-use awk_lex::token::IncrementOperator;
 use awk_nodes::checked::CheckedExpr;
 use awk_statement_nodes::checked::{
     CheckedOptionalExpr, CheckedPattern, CheckedPrintList, CheckedSimple, CheckedStatement,
 };
-use awk_value::Bytes;
 use std::alloc::{AllocError, Global};
 
 /// An expression in parentheses.
@@ -33,38 +31,6 @@ pub(crate) fn group(
     };
     let height = inside.height + 1;
     CheckedExpr::of(alloc, Expr::Group(inside.expr), height)
-}
-
-/// `place ++` or `place --`
-pub(crate) fn post_increment(
-    alloc: Global,
-    operator: IncrementOperator,
-    place: Option<CheckedExpr>,
-) -> Result<Option<CheckedExpr>, AllocError>
-    ensures { IfOk result
-        (λ e. checked_expr e ≡ over_one max_height height_of (t.PostIncrement operator) (checked_expr place)) }
-{
-    let Some(place) = place else {
-        return Ok(None);
-    };
-    let height = place.height + 1;
-    CheckedExpr::of(alloc, Expr::PostIncrement(operator, place.expr), height)
-}
-
-/// `expr in array`
-pub(crate) fn membership(
-    alloc: Global,
-    subscript: Option<CheckedExpr>,
-    array: Bytes,
-) -> Result<Option<CheckedExpr>, AllocError>
-    ensures { IfOk result
-        (λ e. checked_expr e ≡ over_one max_height height_of (λ x. t.Membership x array) (checked_expr subscript)) }
-{
-    let Some(subscript) = subscript else {
-        return Ok(None);
-    };
-    let height = subscript.height + 1;
-    CheckedExpr::of(alloc, Expr::Membership(subscript.expr, array), height)
 }
 
 /// An expression as a statement.

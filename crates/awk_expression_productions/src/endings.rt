@@ -235,7 +235,7 @@ fn end_expression(
 }
 
 /// The token that ends an operand.
-pub(crate) fn end_operand(
+pub fn end_operand(
     alloc: Global,
     next: NextToken,
     in_print_list: bool,

@@ -1,9 +1,9 @@
 // Behind an element of a list: a comma, or its end.
 
-ghost use Rattle.std.specs.Prelude.{◌≡◌, IfOk};
+ghost use Rattle.std.specs.Prelude.{◌≡◌, ◌∷◌, true, false, IfOk};
 ghost use Rattle.awk_grammar.specs.definitions.Height.{max_height};
 ghost use Rattle.awk_grammar.specs.support.Parser as parser;
-ghost use Rattle.awk_frames.specs.support.FrameView.{operand_of, list_of, stack_of, next_of};
+ghost use Rattle.awk_frames.specs.support.FrameView.{operand_of, list_of, list_frame_of, stack_of, next_of};
 
 use crate::ended_nodes::group;
 use awk_frames::frame::{Frame, ListHead};
@@ -16,6 +16,20 @@ use awk_nodes::expressions::{built_in, call, element};
 use awk_productions::taken::{begin, operand};
 use awk_value::Bytes;
 use std::alloc::{AllocError, Global};
+
+/// Behind the comma of a list: what is read of it waits for the next element.
+fn begin_next(
+    alloc: Global,
+    head: ListHead,
+    list: OperandList,
+    stack: &mut Vec<Frame>,
+) -> Result<Option<ParserState>, AllocError>
+    ensures { IfOk result (λ state. next_of state stack.new.items
+        ≡ parser.BeforeOperand true false (list_frame_of head (list_of list) ∷ stack_of stack.old.items)) }
+{
+    let frame = Frame::list(alloc, head, list)?;
+    begin(frame, true, false, stack)
+}
 
 /// Behind an operand in parentheses: they are a group, or a list that `in` or a print takes.
 pub(crate) fn close_group(
@@ -32,9 +46,8 @@ pub(crate) fn close_group(
 {
     match next.kind {
         Kind::Comma => {
-            let list = list.with(last)?;
-            let frame = Frame::list(alloc, ListHead::Group { in_print_list }, list)?;
-            begin(frame, true, false, stack)
+            let head = ListHead::Group { in_print_list };
+            begin_next(alloc, head, list.with(last)?, stack)
         }
         Kind::CloseParenthesis if list.count == 0 => {
             drop(list);
@@ -74,7 +87,7 @@ pub(crate) fn close_call(
                 name,
                 in_print_list,
             };
-            begin(Frame::list(alloc, head, list)?, true, false, stack)
+            begin_next(alloc, head, list, stack)
         }
         Kind::CloseParenthesis => {
             let tree = call(alloc, name, list.exprs)?;
@@ -106,7 +119,7 @@ pub(crate) fn close_built_in(
                 function,
                 in_print_list,
             };
-            begin(Frame::list(alloc, head, list)?, true, false, stack)
+            begin_next(alloc, head, list, stack)
         }
         Kind::CloseParenthesis if accepts(function, list.count, list.third_is_place) => {
             let tree = built_in(alloc, function, list.exprs)?;
@@ -137,7 +150,7 @@ pub(crate) fn close_element(
                 name,
                 in_print_list,
             };
-            begin(Frame::list(alloc, head, list)?, true, false, stack)
+            begin_next(alloc, head, list, stack)
         }
         Kind::CloseBracket => {
             let tree = element(alloc, name, list.exprs)?;

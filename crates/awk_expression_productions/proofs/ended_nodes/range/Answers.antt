@@ -1,5 +1,5 @@
 use Rattle.std.proofs.Common.{rules}
-use Rattle.awk_parser.proofs.ended_nodes.post_increment.Goals as goal
+use Rattle.awk_expression_productions.proofs.ended_nodes.range.Goals as goal
 
 pub returns : goal.returns
 returns c = search rules
