@@ -8,7 +8,7 @@ use Rattle.awk_meaning.specs.declared.flow.Flow.{Flow}
 use Rattle.awk_meaning.specs.declared.flow.Flow.TheVariants as flow
 use Rattle.awk_meaning.specs.declared.halt.Halt.{Halt}
 use Rattle.awk_meaning.specs.State.{Run, ◌>>=◌, ret}
-use Rattle.awk_meaning.specs.Semantics.{right_operand, tested, eval, exec_simple, exec}
+use Rattle.awk_meaning.specs.Semantics.{right_operand, eval, exec_simple, exec}
 use Rattle.awk_interpreter.specs.declared.interpreter.Interpreter.{Interpreter}
 use Rattle.awk_interpreter.specs.Simulation.{Changes, Spends}
 use Rattle.awk_interpreter.proofs.Composition.{change_simulates}

@@ -21,7 +21,6 @@ use Rattle.awk_control.specs.declared.entry.Awaited.{Awaited}
 use Rattle.awk_control.specs.declared.entry.Awaited.TheVariants as code
 use Rattle.awk_control.specs.support.Entries.{awaited_at}
 use Rattle.awk_control.specs.declared.entry.OperandEntry.TheVariants as o
-use Rattle.awk_control.specs.declared.entry.StatementEntry.TheVariants as s
 use Rattle.awk_control.specs.declared.stack.Stack.{Stack}
 use Rattle.awk_control.specs.declared.stack.Focus.{Focus as CodeFocus}
 use Rattle.awk_control.specs.declared.stack.Move.{Move}

@@ -1,6 +1,7 @@
 //! The control of a run: what has begun and not ended, and the statements that are executed in place, without an entry.
 #![tactic(auto)]
 
+pub mod awaiting;
 pub mod blocks;
 pub mod control;
 pub mod entry;

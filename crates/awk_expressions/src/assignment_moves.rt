@@ -12,8 +12,9 @@ ghost use Rattle.awk_control.specs.Stack.{BeginExpr, BeginStatement, Ended};
 ghost use Rattle.awk_control.specs.Moves.{Steps, stack_of, topped, flow_of};
 
 use crate::assignments::{post_increment, pre_increment, store, store_by};
-use crate::awaiting::{await_operand, give, spend_for, take_value};
+use crate::awaiting::await_operand;
 use crate::nodes::{leaf, name};
+use awk_control::awaiting::{give, spend_for, take_value};
 use awk_control::entry::{Entry, OperandEntry, State};
 use awk_control::stack::{Focus, Move, Passed, Stack};
 use awk_interpreter::Interpreter;

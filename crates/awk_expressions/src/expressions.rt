@@ -16,9 +16,10 @@ ghost use Rattle.awk_control.specs.Moves.{Steps, stack_of, topped, flow_of};
 use crate::assignment_moves::{
     begin_assignment, end_assigned, end_assigned_by, end_stored, end_stored_by,
 };
-use crate::awaiting::{await_operand, give, is_returned_true, take_value};
+use crate::awaiting::await_operand;
 use crate::nodes::{constant, expression, leaf, name, pattern_operand, record_matches};
 use crate::short_circuit::{begin_and, begin_conditional, begin_or, chosen, end_and, end_or};
+use awk_control::awaiting::{give, is_returned_true, take_value};
 use awk_control::entry::{OperandEntry, State};
 use awk_control::stack::{Focus, Move, Passed, Stack};
 use awk_fast_path::found;

@@ -3,7 +3,7 @@
 
 pub mod assignment_moves;
 mod assignments;
-pub mod awaiting;
+mod awaiting;
 pub mod expressions;
 mod nodes;
 pub mod patterns;

@@ -1,11 +1,12 @@
 // Conditions with EREs of the program that are tested without an entry: one that stands alone, with the record, and one right
 // of `~` or `!~`, where the operand left of it is found in place; and `&&`, `||` and `!` over these and what is tested in place.
 
-ghost use Rattle.std.specs.Prelude.{◌≡◌, length};
+ghost use Rattle.std.specs.Prelude.{◌≡◌, length, Ok};
 ghost use Rattle.awk_plan.specs.Plan.{operand_of, made_expr, part_of};
 ghost use Rattle.awk_plan.specs.Order.{HasEre};
 ghost use Rattle.awk_plan.specs.declared.node.Node.TheVariants.{Expression};
-ghost use Rattle.awk_tree.specs.Tree.{Binary};
+ghost use Rattle.awk_tree.specs.Tree.{Unary, Binary, And, Or};
+ghost use Rattle.awk_tree.specs.declared.tree.UnaryOperator.TheVariants.{Not};
 ghost use Rattle.awk_expressions.specs.support.Matches.{TestsMatch, TestsCondition, known_of};
 
 use crate::nodes::{expression, pattern_operand, record_matches};
@@ -98,6 +99,41 @@ impl Known {
     }
 }
 
+/// What is known of `!` before an operand whose truth was looked for.
+fn known_not(truth: Option<bool>) -> Known
+    ensures { (plan : _) (e : _) (a : _) (m : _) (m1 : _) → e ≡ Unary Not a → TestsMatch a m (Ok truth) m1 →
+        TestsCondition plan e m (Ok result) m1 }
+{
+    match truth {
+        Some(holds) => Known::Truth(!holds),
+        None => Known::Nothing,
+    }
+}
+
+/// What is known of `&&` behind a left operand whose truth was looked for.
+fn known_and(left: Option<bool>, right: Operand) -> Known
+    ensures { (plan : _) (e : _) (a : _) (m : _) (m1 : _) → e ≡ And a (operand_of plan right) → TestsMatch a m (Ok left) m1 →
+        TestsCondition plan e m (Ok result) m1 }
+{
+    match left {
+        Some(true) => Known::As(right),
+        Some(false) => Known::Truth(false),
+        None => Known::Nothing,
+    }
+}
+
+/// What is known of `||` behind a left operand whose truth was looked for.
+fn known_or(left: Option<bool>, right: Operand) -> Known
+    ensures { (plan : _) (e : _) (a : _) (m : _) (m1 : _) → e ≡ Or a (operand_of plan right) → TestsMatch a m (Ok left) m1 →
+        TestsCondition plan e m (Ok result) m1 }
+{
+    match left {
+        Some(true) => Known::Truth(true),
+        Some(false) => Known::As(right),
+        None => Known::Nothing,
+    }
+}
+
 /// What is known of an expression without an entry: of an ERE of the program, of `~` or `!~` with one behind an operand that is
 /// found in place, of what is found in place itself, and of `!` before one of these, whether it is true; of `&&` and `||`
 /// behind one of these, that, or that the right operand decides. (POSIX awk, Expressions in awk, Regular Expressions)
@@ -109,20 +145,18 @@ pub fn test_condition(plan: &Plan, e: Operand, interpreter: &mut Interpreter) ->
     };
     match expression(plan, place) {
         Some(ExprNode::Group(a)) => Ok(Known::As(a)),
-        Some(ExprNode::Unary(UnaryOperator::Not, a)) => match test_alone(plan, a, interpreter)? {
-            Some(holds) => Ok(Known::Truth(!holds)),
-            None => Ok(Known::Nothing),
-        },
-        Some(ExprNode::And(a, b)) => match test_alone(plan, a, interpreter)? {
-            Some(true) => Ok(Known::As(b)),
-            Some(false) => Ok(Known::Truth(false)),
-            None => Ok(Known::Nothing),
-        },
-        Some(ExprNode::Or(a, b)) => match test_alone(plan, a, interpreter)? {
-            Some(true) => Ok(Known::Truth(true)),
-            Some(false) => Ok(Known::As(b)),
-            None => Ok(Known::Nothing),
-        },
+        Some(ExprNode::Unary(UnaryOperator::Not, a)) => {
+            let truth = test_alone(plan, a, interpreter)?;
+            Ok(known_not(truth))
+        }
+        Some(ExprNode::And(a, b)) => {
+            let left = test_alone(plan, a, interpreter)?;
+            Ok(known_and(left, b))
+        }
+        Some(ExprNode::Or(a, b)) => {
+            let left = test_alone(plan, a, interpreter)?;
+            Ok(known_or(left, b))
+        }
         Some(node) => {
             let truth = test_node(plan, e, node, interpreter)?;
             Ok(Known::of(truth))

@@ -11,12 +11,12 @@ ghost use Rattle.awk_control.specs.Stack.{BeginStatement, Ended, LastPart, LoopT
 ghost use Rattle.awk_control.specs.Moves.{Moves, Steps, SpendsFor, stack_of, loop_of, for_of, topped, flow_of};
 ghost use Rattle.awk_machine.specs.support.BegunLoops.{BeginsLoop, IsDone, behind_step};
 
+use awk_control::awaiting::{await_value, is_returned_true};
 use awk_control::blocks::simple;
 use awk_control::entry::{Loop, LoopEntry, State};
 use awk_control::in_place::{Turns, ending, execute_last};
 use awk_control::printing_turns::make_printing_turns;
 use awk_control::stack::{Focus, Move, Passed, Stack};
-use awk_expressions::awaiting::{await_value, is_returned_true};
 use awk_fast_path::{Ran, execute};
 use awk_interpreter::Interpreter;
 use awk_meaning::Halt;

@@ -12,9 +12,9 @@ ghost use Rattle.awk_control.specs.Moves.{Moves, Steps, Walks, Runs, Tests, stac
 
 use crate::loops::{begin_for, begin_loop, end_loop};
 use crate::statements::{begin_block, begin_simple, end_statement};
+use awk_control::awaiting::{is_returned_true, spend_for};
 use awk_control::entry::{Awaited, Entry, Loop, LoopEntry, State, read_entry};
 use awk_control::stack::{Focus, Move, Passed, Stack, Stage};
-use awk_expressions::awaiting::{is_returned_true, spend_for};
 use awk_expressions::expressions::{begin_expr, end_operand};
 use awk_expressions::patterns::{Known, test_condition};
 use awk_interpreter::Interpreter;

@@ -10,10 +10,10 @@ ghost use Rattle.awk_control.specs.Stack.{Ended};
 ghost use Rattle.awk_control.specs.Moves.{Moves, stack_of, topped, flow_of};
 ghost use Rattle.awk_machine.specs.support.Printed.{HasFirst, PrintsValues, BeginsPrint, newest_of, entries_below, next_of};
 
+use awk_control::awaiting::take_value;
 use awk_control::entry::{Entry, State, StatementEntry};
 use awk_control::prints::{find_values, list, print_record};
 use awk_control::stack::{Focus, Move, Passed, Stack};
-use awk_expressions::awaiting::take_value;
 use awk_interpreter::Interpreter;
 use awk_meaning::Halt;
 use awk_plan::node::{ListNode, Operand};

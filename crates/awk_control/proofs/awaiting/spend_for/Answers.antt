@@ -1,7 +1,7 @@
 use Rattle.std.proofs.Common.{refl}
 use Rattle.std.proofs.lemmas.Result.{err_from_is_err_and}
 use Rattle.awk_control.proofs.Steps.{unspent_memory}
-use Rattle.awk_expressions.proofs.awaiting.spend_for.Goals as goal
+use Rattle.awk_control.proofs.awaiting.spend_for.Goals as goal
 
 pub returns-in_err-push : goal.returns-in_err-push
 returns-in_err-push c =
