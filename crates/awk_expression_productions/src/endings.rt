@@ -234,7 +234,9 @@ fn end_expression(
     }
 }
 
-/// The token that ends an operand.
+/// Where the parser stands behind the token that ends an operand, by the newest frame, which is taken off: a condition, an
+/// element of a list or a whole expression is over, say, or a conditional goes on with its `:`. None where that frame can't be
+/// ended by the token; an error is want of memory. (POSIX awk, Grammar)
 pub fn end_operand(
     alloc: Global,
     next: NextToken,

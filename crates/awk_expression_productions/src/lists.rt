@@ -1,6 +1,6 @@
 // Behind an element of a list: a comma, or its end.
 
-ghost use Rattle.std.specs.Prelude.{◌≡◌, ◌∷◌, true, false, IfOk};
+ghost use Rattle.std.specs.Prelude.{◌≡◌, ◌∷◌, List, true, false, IfOk};
 ghost use Rattle.awk_grammar.specs.definitions.Height.{max_height};
 ghost use Rattle.awk_grammar.specs.support.Parser as parser;
 ghost use Rattle.awk_frames.specs.support.FrameView.{operand_of, list_of, list_frame_of, stack_of, next_of};
@@ -31,7 +31,30 @@ fn begin_next(
     begin(frame, true, false, stack)
 }
 
-/// Behind an operand in parentheses: they are a group, or a list that `in` or a print takes.
+/// What is in parentheses: one operand is a group, and more are a list that `in` or a print takes.
+fn close_parentheses(
+    alloc: Global,
+    in_print_list: bool,
+    list: OperandList,
+    last: Operand,
+) -> Result<Option<ParserState>, AllocError>
+    ensures { (frames : List Frame) → IfOk result (λ state. next_of state frames
+        ≡ parser.close_group max_height Kind.CloseParenthesis in_print_list (list_of list) (operand_of last)
+        (stack_of frames)) }
+{
+    if list.count == 0 {
+        drop(list);
+        let tree = group(alloc, last.tree)?;
+        return Ok(operand(in_print_list, Operand::new(PRIMARY, tree)));
+    }
+    let list = Box::new(alloc, list.with(last)?)?;
+    Ok(Some(ParserState::Expression {
+        in_print_list,
+        state: ExpressionState::AfterList(list),
+    }))
+}
+
+/// Behind an operand in parentheses: another one follows, or they are closed.
 pub(crate) fn close_group(
     alloc: Global,
     next: NextToken,
@@ -49,18 +72,7 @@ pub(crate) fn close_group(
             let head = ListHead::Group { in_print_list };
             begin_next(alloc, head, list.with(last)?, stack)
         }
-        Kind::CloseParenthesis if list.count == 0 => {
-            drop(list);
-            let tree = group(alloc, last.tree)?;
-            Ok(operand(in_print_list, Operand::new(PRIMARY, tree)))
-        }
-        Kind::CloseParenthesis => {
-            let list = Box::new(alloc, list.with(last)?)?;
-            Ok(Some(ParserState::Expression {
-                in_print_list,
-                state: ExpressionState::AfterList(list),
-            }))
-        }
+        Kind::CloseParenthesis => close_parentheses(alloc, in_print_list, list, last),
         _ => {
             drop(list);
             drop(last);
