@@ -1,13 +1,15 @@
 // A program as one list of nodes.
 
-ghost use Rattle.std.specs.Prelude.{◌≡◌, ◌<◌, ◌≤◌, IfSome, IfNone, length, slice_get, Some};
+ghost use Rattle.std.specs.Prelude.{◌≡◌, ◌<◌, ◌≤◌, pos, IfSome, IfNone, length, slice_get, Some};
 ghost use Rattle.std.specs.Option.{option_map};
 ghost use Rattle.awk_grammar.specs.Height.{max_height};
 ghost use Rattle.awk_tree.specs.Height.{height_of_items};
-ghost use Rattle.awk_plan.specs.definitions.Plan.{NoPart, made, part_of, operand_of, literal_of, items_of};
+ghost use Rattle.awk_tree.specs.Tree.{Number};
+ghost use Rattle.awk_plan.specs.definitions.Plan.{NoPart, made, made_expr, part_of, expr_in, operand_of, name_at};
+ghost use Rattle.awk_plan.specs.definitions.Plan.{literal_of, items_of};
 ghost use Rattle.awk_plan.specs.definitions.Order.{AreBelow, HasEre, IsCounted, IsLiteral};
 
-use crate::node::{Node, Operand};
+use crate::node::{ExprNode, Node, Operand};
 use awk_tree::tree::Ere;
 use awk_value::Value;
 use awk_variables::Names;
@@ -81,6 +83,24 @@ impl Plan {
         }
     }
 
+    /// The expression at a place, if one stands there. Its operands stand before it.
+    pub fn expression(&self, place: u32) -> Option<ExprNode>
+        ensures found { IfSome result (λ node. slice_get self.now.nodes place ≡ Some (Node.Expression node)) }
+        ensures some { IfSome result (λ node. expr_in (part_of self.now place) ≡ made_expr self.now.tables (part_of self.now) node) }
+        ensures read { IfSome result (λ node. HasEre (length self.now.tables.eres) (Node.Expression node)) }
+        ensures none { IfNone result (expr_in (part_of self.now place) ≡ Number (pos 0)) }
+    {
+        match self.node(place) {
+            Some(Node::Expression(node)) => Some(node),
+            Some(Node::List(_)) => None,
+            Some(Node::Simple(_)) => None,
+            Some(Node::Statement(_)) => None,
+            Some(Node::Block(_)) => None,
+            Some(Node::Absent) => None,
+            None => None,
+        }
+    }
+
     /// The value of a constant, which is a number or a text of the program.
     pub fn constant(&self, number: u32) -> Option<&Value>
         ensures value { option_map (λ value. value.now) result ≡ slice_get self.now.tables.constants number }
@@ -103,6 +123,16 @@ impl Plan {
         ensures { result.now ≡ self.now.tables.names }
     {
         &self.names
+    }
+
+    /// The name of a variable. A number that no variable has stands for the empty name.
+    pub fn name(&self, number: u32) -> &[u8]
+        ensures { result.now ≡ name_at self.now.tables number }
+    {
+        match self.names.get(number) {
+            Some(name) => name,
+            None => b"",
+        }
     }
 
     /// The items of the program.
