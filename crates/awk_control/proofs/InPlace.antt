@@ -12,7 +12,8 @@ use Rattle.awk_meaning.specs.Semantics.{right_operand, eval, exec_simple, exec}
 use Rattle.awk_interpreter.specs.declared.interpreter.Interpreter.{Interpreter}
 use Rattle.awk_interpreter.specs.Simulation.{Changes, Spends}
 use Rattle.awk_interpreter.proofs.Composition.{change_simulates}
-use Rattle.awk_fast_path.specs.Found.{Tests as TestsInPlace, Evaluates}
+use Rattle.awk_fast_numbers.specs.Found.{Tests as TestsInPlace}
+use Rattle.awk_fast_path.specs.Executed.{Evaluates}
 use Rattle.awk_control.specs.declared.stack.Move.{Move}
 use Rattle.awk_control.specs.declared.stack.Move.TheVariants as move
 use Rattle.awk_control.specs.declared.stack.Stack.{Stack}

@@ -10,6 +10,7 @@ use Rattle.awk_meaning.specs.Semantics.{goes_on, exec_part, repeat_within, repea
 use Rattle.awk_interpreter.specs.declared.interpreter.Interpreter.{Interpreter}
 use Rattle.awk_interpreter.specs.Simulation.{ResultRelation, Simulates}
 use Rattle.awk_control.specs.support.Stack.{Loop, Bounds, behind, push, turns, all_turns, step, resume, Entry, Focus, Ended, run_of, RestOf, Rest}
+pub use Rattle.awk_fast_path.proofs.Sequences.{given_first}
 use Rattle.awk_interpreter.proofs.Composition.{assoc_at, then_simulates, ends_simulates, memory_simulates}
 
 -- runs that are equal where the state stands for the code's
@@ -33,11 +34,6 @@ assoc_simulates x f g d = same_simulates _ _ (λ s _. assoc_at x f g s) d
 pub first_same : {A B : Type 0} (x y : Run A) (g : A → Run B) (s : State) → x s ≡ y s → (x >>= g) s ≡ (y >>= g) s
 unfolding ◌>>=◌
 first_same x y g s e = ap (λ o. go_on o.result o.state o.effects g) e
-
--- a part that gives a result at once
-pub given_first : {A B : Type 0} (a : A) (f : A → Run B) (s : State) → (ret a >>= f) s ≡ f a s
-unfolding go_on ◌>>=◌ lift
-given_first a f s = refl
 
 -- bounds stay above the steps as these fall
 lowered : {i j : ℕ} (bs : Bounds) → j ≤ i → ((x : ℕ) → i ≤ bs x) → (x : ℕ) → j ≤ bs x

@@ -15,26 +15,13 @@ use Rattle.awk_interpreter.specs.Simulation.{Simulates, Spends}
 use Rattle.awk_tree.specs.Height.{height_of}
 use Rattle.awk_control.specs.support.Stack.{value_in, valued, step, Entry, Focus, BeginExpr, Ended, run_of, Rest, Leads, entry_height, focus_height}
 use Rattle.awk_interpreter.proofs.Composition.{assoc_at, change_simulates}
+pub use Rattle.awk_fast_path.proofs.Sequences.{later_same, tested_at}
 use Rattle.awk_control.proofs.Laws.{first_same, given_first, same_rest, then_rest, halted_rest, push_rest, pop_rest}
-
--- what comes later is equal
-go_same : {A B : Type 0} (r : Result A Halt) (t : State) (effects : List Effect) (f g : A → Run B) → ((a : A) (u : State) → f a u ≡ g a u) → go_on r t effects f ≡ go_on r t effects g
-unfolding go_on
-go_same (Ok a) t effects f g e = ap (λ o. record { result = o.result; state = o.state; effects = effects ++ o.effects }) (e a t)
-go_same (Err h) t effects f g e = refl
-
-pub later_same : {A B : Type 0} (x : Run A) (f g : A → Run B) (s : State) → ((a : A) (u : State) → f a u ≡ g a u) → (x >>= f) s ≡ (x >>= g) s
-unfolding ◌>>=◌
-later_same x f g s e = go_same (x s).result (x s).state (x s).effects f g e
 
 -- an expression that is awaited gives its value
 pub awaited_at : {A : Type 0} (m : Run Value) (h : Flow → Run A) (s : State) → (valued m >>= h) s ≡ (m >>= λ v. h (flow.Return v)) s
 unfolding valued
 awaited_at m h s = assoc_at m (λ v. ret (flow.Return v)) h s ∙ later_same m _ _ s (λ v u. given_first (flow.Return v) h u)
-
-pub tested_at : {A : Type 0} (m : Run Value) (h : Bool → Run A) (s : State) → (tested m >>= h) s ≡ (m >>= λ v. h (truth_of v)) s
-unfolding tested
-tested_at m h s = assoc_at m (λ v. ret (truth_of v)) h s ∙ later_same m _ _ s (λ v u. given_first (truth_of v) h u)
 
 -- a value that is awaited, and what a value is made of then
 pub value_awaited : (m : Run Value) (h : Value → Run Value) (s : State) → valued (m >>= h) s ≡ (valued m >>= λ f. valued (h (value_in f))) s

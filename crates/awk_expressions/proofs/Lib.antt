@@ -1,6 +1,5 @@
-mod Leaves
+mod Constants
 mod Stores
 mod LeafMoves
 mod LeafOperands
 mod OperandMoves
-mod Tested

@@ -13,7 +13,7 @@ ghost use Rattle.awk_control.specs.Moves.{Steps, stack_of, topped, flow_of};
 
 use crate::assignments::{post_increment, pre_increment, store, store_by};
 use crate::awaiting::await_operand;
-use crate::nodes::{leaf, name};
+use crate::leaves::leaf;
 use awk_control::awaiting::{give, spend_for, take_value};
 use awk_control::entry::{Entry, OperandEntry, State};
 use awk_control::stack::{Focus, Move, Passed, Stack};
@@ -94,11 +94,11 @@ pub(crate) fn begin_assignment(
             begin_assign_by(plan, place, operator, number, e, stack, interpreter)
         }
         AssignmentNode::PreIncrement(operator, number) => {
-            let value = pre_increment(operator, number, name(plan, number), interpreter)?;
+            let value = pre_increment(operator, number, plan.name(number), interpreter)?;
             Ok(give(value, stack))
         }
         AssignmentNode::PostIncrement(operator, number) => {
-            let value = post_increment(operator, number, name(plan, number), interpreter)?;
+            let value = post_increment(operator, number, plan.name(number), interpreter)?;
             Ok(give(value, stack))
         }
     }
@@ -126,12 +126,12 @@ pub fn begin_store(
         AssignmentNode::AssignBy(_, _, e) => spend_for(entry, e, stack, interpreter),
         AssignmentNode::PreIncrement(operator, number) => {
             interpreter.spend()?;
-            pre_increment(operator, number, name(plan, number), interpreter)?;
+            pre_increment(operator, number, plan.name(number), interpreter)?;
             Ok(Move::Spent(Focus::Ended(Passed::Normal)))
         }
         AssignmentNode::PostIncrement(operator, number) => {
             interpreter.spend()?;
-            post_increment(operator, number, name(plan, number), interpreter)?;
+            post_increment(operator, number, plan.name(number), interpreter)?;
             Ok(Move::Spent(Focus::Ended(Passed::Normal)))
         }
     }
@@ -149,7 +149,7 @@ pub(crate) fn end_assigned(
         (OperandEntry.Assigned number)) stack.old) interpreter.old result stack.new interpreter.new }
 {
     let value = take_value(passed, stack);
-    let stored = store(number, name(plan, number), value, interpreter)?;
+    let stored = store(number, plan.name(number), value, interpreter)?;
     Ok(give(stored, stack))
 }
 
@@ -166,7 +166,7 @@ pub(crate) fn end_assigned_by(
         (OperandEntry.AssignedBy operator number)) stack.old) interpreter.old result stack.new interpreter.new }
 {
     let value = take_value(passed, stack);
-    let stored = store_by(operator, number, name(plan, number), &value, interpreter)?;
+    let stored = store_by(operator, number, plan.name(number), &value, interpreter)?;
     Ok(give(stored, stack))
 }
 
@@ -182,7 +182,7 @@ pub(crate) fn end_stored(
         (OperandEntry.Stored number)) stack.old) interpreter.old result stack.new interpreter.new }
 {
     let value = take_value(passed, stack);
-    store(number, name(plan, number), value, interpreter)?;
+    store(number, plan.name(number), value, interpreter)?;
     Ok(Move::On(Focus::Ended(Passed::Normal)))
 }
 
@@ -199,6 +199,6 @@ pub(crate) fn end_stored_by(
         (OperandEntry.StoredBy operator number)) stack.old) interpreter.old result stack.new interpreter.new }
 {
     let value = take_value(passed, stack);
-    store_by(operator, number, name(plan, number), &value, interpreter)?;
+    store_by(operator, number, plan.name(number), &value, interpreter)?;
     Ok(Move::On(Focus::Ended(Passed::Normal)))
 }

@@ -6,7 +6,7 @@ ghost use Rattle.awk_plan.specs.Order.{HasEre};
 ghost use Rattle.awk_plan.specs.declared.node.Node.TheVariants.{Expression};
 ghost use Rattle.awk_tree.specs.Tree.{Unary, Binary, Field};
 ghost use Rattle.awk_meaning.specs.Operators.{takes_pattern};
-ghost use Rattle.awk_expressions.specs.support.Nodes.{IsPatternOperand};
+ghost use Rattle.awk_conditions.specs.Matches.{IsPatternOperand};
 ghost use Rattle.awk_control.specs.Control.{HasRoom};
 ghost use Rattle.awk_control.specs.declared.entry.Awaited.TheVariants as awaited;
 ghost use Rattle.awk_control.specs.Entries.{awaited_at, GoesRight};
@@ -17,8 +17,9 @@ use crate::assignment_moves::{
     begin_assignment, end_assigned, end_assigned_by, end_stored, end_stored_by,
 };
 use crate::awaiting::await_operand;
-use crate::nodes::{constant, expression, leaf, name, pattern_operand, record_matches};
+use crate::leaves::{constant, leaf};
 use crate::short_circuit::{begin_and, begin_conditional, begin_or, chosen, end_and, end_or};
+use awk_conditions::{pattern_operand, record_matches};
 use awk_control::awaiting::{give, is_returned_true, take_value};
 use awk_control::entry::{OperandEntry, State};
 use awk_control::stack::{Focus, Move, Passed, Stack};
@@ -116,7 +117,7 @@ pub fn begin_expr(
             Ok(give(value, stack))
         }
         Operand::Variable(number) => {
-            let value = interpreter.read_variable(number, name(plan, number))?;
+            let value = interpreter.read_variable(number, plan.name(number))?;
             Ok(give(value, stack))
         }
         Operand::Node(place) => match found(plan, e, interpreter) {
@@ -137,7 +138,7 @@ fn begin_place(
     ensures { Steps plan.now (BeginExpr (operand_of plan.now (Operand.Node place))) (stack_of plan.now stack.old)
         interpreter.old result stack.new interpreter.new }
 {
-    match expression(plan, place) {
+    match plan.expression(place) {
         Some(node) => begin_node(plan, place, node, stack, interpreter),
         None => Ok(give(Value::Number(0), stack)),
     }

@@ -5,6 +5,5 @@ pub mod assignment_moves;
 mod assignments;
 mod awaiting;
 pub mod expressions;
-mod nodes;
-pub mod patterns;
+mod leaves;
 mod short_circuit;

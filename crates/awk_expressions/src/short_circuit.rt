@@ -10,7 +10,7 @@ ghost use Rattle.awk_control.specs.Stack.{BeginExpr, Ended, AndLeft, OrLeft, Con
 ghost use Rattle.awk_control.specs.Moves.{Steps, stack_of};
 
 use crate::awaiting::await_operand;
-use crate::nodes::leaf;
+use crate::leaves::leaf;
 use awk_control::awaiting::give;
 use awk_control::entry::State;
 use awk_control::stack::{Focus, Move, Stack};

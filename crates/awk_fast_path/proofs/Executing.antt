@@ -11,9 +11,10 @@ use Rattle.awk_interpreter.specs.Simulation.{Changes, Spends}
 use Rattle.awk_interpreter.proofs.Composition.{then_changes, lift_changes, same_changes, assoc_at}
 use Rattle.awk_fast_path.specs.declared.statements.Ran.{Ran}
 use Rattle.awk_fast_path.specs.declared.statements.Ran.TheVariants as ran
-use Rattle.awk_fast_path.specs.support.Found.{Tests, Evaluates}
+use Rattle.awk_fast_numbers.specs.Found.{Tests}
+use Rattle.awk_fast_path.specs.support.Executed.{Evaluates}
 use Rattle.awk_fast_path.specs.support.Executed.{RunsBy, IsExecuted, Executes, IsIf, Without, With, given_back, behind_simple, behind_if}
-use Rattle.awk_fast_path.proofs.Lemmas.{tests_tested}
+use Rattle.awk_fast_numbers.proofs.Choosing.{tests_tested}
 
 -- behind the step
 

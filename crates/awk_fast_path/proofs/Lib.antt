@@ -1,5 +1,6 @@
-mod Counting
-mod Lemmas
+pub mod Sequences
+mod Storing
+mod Testing
 mod Executing
 mod Writing
 mod Updating

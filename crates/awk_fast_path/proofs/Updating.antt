@@ -12,8 +12,9 @@ use Rattle.awk_meaning.specs.Operators.{by_one}
 use Rattle.awk_meaning.specs.Semantics.{eval}
 use Rattle.awk_interpreter.specs.declared.interpreter.Interpreter.{Interpreter}
 use Rattle.awk_interpreter.specs.Simulation.{UpdatesNumber}
-use Rattle.awk_fast_path.specs.support.Found.{HasNumber, Evaluates, Joins}
-use Rattle.awk_fast_path.proofs.Lemmas.{found_assigned_by, found_before, found_behind}
+use Rattle.awk_fast_numbers.specs.Found.{HasNumber}
+use Rattle.awk_fast_path.specs.support.Executed.{Evaluates, Joins}
+use Rattle.awk_fast_path.proofs.Storing.{found_assigned_by, found_before, found_behind}
 
 module _ (x : List ℕ) (n : ℤ) {y : ℤ} {m m' : Interpreter} (same : y ≡ n) where
   pub added : UpdatesNumber x (Add y) m m' → Joins o.Plus x n m m'

@@ -17,9 +17,10 @@ use Rattle.awk_meaning.specs.Semantics.{store, eval}
 use Rattle.awk_interpreter.specs.declared.interpreter.Interpreter.{Interpreter}
 use Rattle.awk_interpreter.specs.Simulation.{Changes}
 use Rattle.awk_interpreter.proofs.Composition.{then_changes, lift_changes}
-use Rattle.awk_fast_path.specs.support.Found.{HasNumber, Evaluates}
+use Rattle.awk_fast_numbers.specs.Found.{HasNumber}
+use Rattle.awk_fast_path.specs.support.Executed.{Evaluates}
 use Rattle.awk_fast_path.specs.support.Written.{Writes, Continues, IsTail}
-use Rattle.awk_fast_path.proofs.Counting.{field_reads}
+use Rattle.awk_fast_numbers.proofs.Counting.{field_reads}
 
 concatenates : (a b : t.Expr) (v w : Value) {m : Interpreter} → Changes (eval a) m m (Ok v) → Changes (eval b) m m (Ok w) → Changes (eval (t.Binary Concatenate a b)) m m (Ok (Text (str_of v ++ str_of w)))
 unfolding eval

@@ -1,4 +1,3 @@
 pub mod support
-pub use Rattle.awk_fast_path.specs.support.Found
 pub use Rattle.awk_fast_path.specs.support.Executed
 pub use Rattle.awk_fast_path.specs.support.Written

@@ -3,17 +3,36 @@
 ghost use Rattle.std.specs.Prelude.{◌≡◌, IfSome};
 ghost use Rattle.awk_tree.specs.Tree.{Binary};
 ghost use Rattle.awk_plan.specs.Plan.{operand_of};
-ghost use Rattle.awk_fast_path.specs.support.Found.{Tests};
+ghost use Rattle.awk_fast_numbers.specs.Found.{Tests};
 
-use crate::numbers::{
-    Deepest, Leaf, Operands, Over, compared, comparison, expression, related, tested,
-};
 use crate::texts::found;
+use awk_fast_numbers::{Leaf, Over, compare_numbers, numeric_value, related};
 use awk_interpreter::Interpreter;
 use awk_plan::node::{ExprNode, Operand};
 use awk_plan::plan::Plan;
 use awk_tree::tree::{BinaryOperator, UnaryOperator};
-use awk_value::{compare, is_true};
+use awk_value::{Value, compare, is_true};
+
+/// The operator and the operands of a comparison.
+fn comparison(plan: &Plan, e: Operand) -> Option<(BinaryOperator, Operand, Operand)>
+    ensures { IfSome result (λ r. operand_of plan.now e ≡ Binary r.0 (operand_of plan.now r.1) (operand_of plan.now r.2)) }
+{
+    let Operand::Node(place) = e else {
+        return None;
+    };
+    match plan.expression(place) {
+        Some(ExprNode::Binary(operator, a, b)) => match operator {
+            BinaryOperator::Less
+            | BinaryOperator::LessEqual
+            | BinaryOperator::Equal
+            | BinaryOperator::NotEqual
+            | BinaryOperator::Greater
+            | BinaryOperator::GreaterEqual => Some((operator, a, b)),
+            _ => None,
+        },
+        _ => None,
+    }
+}
 
 /// Whether a comparison of two operands is true by their values, if these are found in place.
 #[inline(never)]
@@ -46,7 +65,7 @@ fn compare_operands(
         interpreter.old c) }
     ensures kept { interpreter.new ≡ interpreter.old }
 {
-    if let Some(holds) = compared::<Operands>(plan, operator, a, b, interpreter) {
+    if let Some(holds) = compare_numbers(plan, operator, a, b, interpreter) {
         return Some(holds);
     }
     compare_values(plan, operator, a, b, interpreter)
@@ -65,8 +84,8 @@ impl Conditions for Leaf {
         if let Some((operator, a, b)) = comparison(plan, e) {
             return compare_operands(plan, operator, a, b, interpreter);
         }
-        if let Some(holds) = tested::<Deepest>(plan, e, interpreter) {
-            return Some(holds);
+        if let Some(n) = numeric_value(plan, e, interpreter) {
+            return Some(is_true(&Value::Number(n)));
         }
         let value = found(plan, e, interpreter)?;
         Some(is_true(&value))
@@ -78,7 +97,7 @@ impl<D: Conditions> Conditions for Over<D> {
         let Operand::Node(place) = e else {
             return Leaf::holds(plan, e, interpreter);
         };
-        match expression(plan, place) {
+        match plan.expression(place) {
             Some(ExprNode::And(a, b)) => match D::holds(plan, a, interpreter) {
                 Some(true) => D::holds(plan, b, interpreter),
                 Some(false) => Some(false),

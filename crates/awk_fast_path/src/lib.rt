@@ -1,10 +1,9 @@
-//! What is evaluated in place, without a stack: arithmetic on the numbers as which constants, variables and fields count,
-//! comparisons, of texts too, `&&`, `||` and `!` over these, and concatenations, written into one buffer. It takes operands
-//! five deep, each depth by a function of its own, so that none calls itself; a fault is left to the evaluator.
+//! What is evaluated and executed in place, without a stack: comparisons, of texts too, `&&`, `||` and `!` over these,
+//! concatenations, written into one buffer, and the statements over these and over numbers. It takes operands a few deep, each
+//! depth by a function of its own, so that none calls itself; a fault is left to the evaluator.
 #![tactic(auto)]
 
 mod conditions;
-mod numbers;
 mod statements;
 mod texts;
 

@@ -5,12 +5,12 @@ ghost use Rattle.awk_tree.specs.Tree.{Assign, AssignBy, PreIncrement, PostIncrem
 ghost use Rattle.awk_plan.specs.Plan.{operand_of, part_of, name_at, made_assignment, made_simple, statement_in};
 ghost use Rattle.awk_meaning.specs.Operators.{by_one};
 ghost use Rattle.awk_meaning.specs.Semantics.{exec};
-ghost use Rattle.awk_fast_path.specs.support.Found.{Evaluates, Joins};
-ghost use Rattle.awk_fast_path.specs.support.Executed.{Executes, RunsBy, IsIf, behind_simple, behind_if, branch_of, given_back};
+ghost use Rattle.awk_fast_path.specs.support.Executed.{Evaluates, Executes, IsIf, Joins, RunsBy};
+ghost use Rattle.awk_fast_path.specs.support.Executed.{behind_simple, behind_if, branch_of, given_back};
 
 use crate::conditions::test;
-use crate::numbers::{Deepest, counted, joined_numbers, name, named_number, operand};
 use crate::texts::assign_value;
+use awk_fast_numbers::{joined_numbers, named_number, number, numeric_value};
 use awk_interpreter::Interpreter;
 use awk_lex::token::IncrementOperator;
 use awk_plan::node::{AssignmentNode, Node, Operand, SimpleNode, StatementNode};
@@ -34,10 +34,8 @@ fn assign(plan: &Plan, x: u32, e: Operand, interpreter: &mut Interpreter) -> boo
         interpreter.new }
     ensures kept { result ≡ false → interpreter.new ≡ interpreter.old }
 {
-    let Some(name) = name(plan, x) else {
-        return false;
-    };
-    let n = operand::<Deepest>(plan, e, interpreter);
+    let name = plan.name(x);
+    let n = number(plan, e, interpreter);
     if interpreter.put_number(x, name, n) {
         return true;
     }
@@ -94,10 +92,8 @@ fn assign_by(
         interpreter.old interpreter.new }
     ensures kept { result ≡ false → interpreter.new ≡ interpreter.old }
 {
-    let Some(name) = name(plan, x) else {
-        return false;
-    };
-    let Some(n) = counted::<Deepest>(plan, e, interpreter) else {
+    let name = plan.name(x);
+    let Some(n) = numeric_value(plan, e, interpreter) else {
         return false;
     };
     if update_number(operator, x, name, n, interpreter) {
@@ -120,9 +116,7 @@ fn increment(
         interpreter.new }
     ensures kept { result ≡ false → interpreter.new ≡ interpreter.old }
 {
-    let Some(name) = name(plan, x) else {
-        return false;
-    };
+    let name = plan.name(x);
     if update_number(by_one(operator), x, name, 1, interpreter) {
         return true;
     }

@@ -7,10 +7,10 @@ ghost use Rattle.awk_plan.specs.Plan.{operand_of, expr_in, made_expr, part_of, n
 ghost use Rattle.awk_variables.specs.Variables.{value_of};
 ghost use Rattle.awk_meaning.specs.Semantics.{eval};
 ghost use Rattle.awk_interpreter.specs.Simulation.{Changes};
-ghost use Rattle.awk_fast_path.specs.support.Found.{Evaluates};
+ghost use Rattle.awk_fast_path.specs.support.Executed.{Evaluates};
 ghost use Rattle.awk_fast_path.specs.support.Written.{Writes, Continues, IsTail};
 
-use crate::numbers::{Deepest as Depths, Depth, Leaf, Over, counted, expression, name};
+use awk_fast_numbers::{Leaf, Over, number, numeric_value};
 use awk_interpreter::Interpreter;
 use awk_plan::node::{ExprNode, Operand};
 use awk_plan::plan::Plan;
@@ -25,7 +25,7 @@ fn concatenation(plan: &Plan, e: Operand) -> Option<(Operand, Operand)>
     let Operand::Node(place) = e else {
         return None;
     };
-    match expression(plan, place) {
+    match plan.expression(place) {
         Some(ExprNode::Binary(BinaryOperator::Concatenate, a, b)) => Some((a, b)),
         _ => None,
     }
@@ -37,10 +37,7 @@ fn variable<'a>(plan: &Plan, number: u32, interpreter: &'a Interpreter) -> Optio
         interpreter.now (Ok v.now)) }
     ensures value { IfSome result (λ v. v.now ≡ value_of interpreter.now.variables (name_at plan.now.tables number)) }
 {
-    match name(plan, number) {
-        Some(name) => interpreter.value_at(number, name),
-        None => None,
-    }
+    interpreter.value_at(number, plan.name(number))
 }
 
 /// The value of a constant or a variable.
@@ -59,7 +56,7 @@ fn field(plan: &Plan, e: Operand, interpreter: &mut Interpreter) -> Option<Value
     ensures found { IfSome result (λ v. Changes (eval (Field (operand_of plan.now e))) interpreter.old interpreter.old (Ok v)) }
     ensures kept { interpreter.new ≡ interpreter.old }
 {
-    let number = counted::<Depths>(plan, e, interpreter)?;
+    let number = numeric_value(plan, e, interpreter)?;
     interpreter.field_at(&Value::Number(number)).ok()
 }
 
@@ -69,10 +66,10 @@ fn single(plan: &Plan, place: u32, interpreter: &mut Interpreter) -> Option<Valu
         (Ok v)) }
     ensures kept { interpreter.new ≡ interpreter.old }
 {
-    match expression(plan, place) {
+    match plan.expression(place) {
         Some(node) => match node {
             ExprNode::Field(e) => field(plan, e, interpreter),
-            _ => match Depths::number(plan, place, interpreter) {
+            _ => match number(plan, Operand::Node(place), interpreter) {
                 Some(n) => Some(Value::Number(n)),
                 None => None,
             },
@@ -273,7 +270,7 @@ pub fn found(plan: &Plan, e: Operand, interpreter: &mut Interpreter) -> Option<V
     let Operand::Node(place) = e else {
         return leaf_value(plan, e, interpreter);
     };
-    let node = expression(plan, place)?;
+    let node = plan.expression(place)?;
     match node {
         ExprNode::Binary(BinaryOperator::Concatenate, a, b) => {
             match text(plan, a, b, interpreter) {

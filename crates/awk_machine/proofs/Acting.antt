@@ -13,7 +13,7 @@ use Rattle.awk_meaning.specs.Semantics.{tested, choose, eval, begin_test, exec, 
 use Rattle.awk_interpreter.specs.declared.interpreter.Interpreter.{Interpreter}
 use Rattle.awk_interpreter.specs.Simulation.{Simulates, Changes, Spends, Follows}
 use Rattle.awk_interpreter.proofs.Composition.{then_simulates, ends_simulates, lift_simulates, change_simulates}
-use Rattle.awk_expressions.specs.Matches.{TestsAs, Inside, AndThen, OrElse}
+use Rattle.awk_conditions.specs.Matches.{TestsAs, Inside, AndThen, OrElse}
 use Rattle.awk_control.specs.Stack.{Entry, Followed, Focus, BeginStatement, BeginBlock, Ended, resume, run_of, Rest, Leads}
 use Rattle.awk_control.specs.Control.{Controlled}
 use Rattle.awk_control.specs.declared.stack.Stack.{Stack}
@@ -25,7 +25,7 @@ use Rattle.awk_control.proofs.StatementMoves.{no_more_ends, then_begins, follows
 use Rattle.awk_control.proofs.Walking.{unit_at, whole, over_rest, acts, act_halts}
 use Rattle.awk_plan.specs.Plan.{Program}
 use Rattle.awk_machine.specs.support.Acted.{ComesToTest, Takes}
-use Rattle.awk_machine.specs.support.Printed.{BeginsPrint}
+use Rattle.awk_statements.specs.Printed.{BeginsPrint}
 
 -- the whole of a part, and what stands behind it
 

@@ -1,3 +1,1 @@
-mod Printing
 mod Acting
-mod LoopsBegin

@@ -1,2 +1,1 @@
 pub mod support
-pub use Rattle.awk_machine.specs.support.Printed

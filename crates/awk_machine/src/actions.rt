@@ -12,10 +12,9 @@ ghost use Rattle.awk_interpreter.specs.Simulation.{Follows};
 ghost use Rattle.awk_control.specs.Stack.{BeginStatement};
 ghost use Rattle.awk_control.specs.Moves.{Runs, ran};
 ghost use Rattle.awk_machine.specs.support.Acted.{Decides};
-ghost use Rattle.awk_machine.specs.support.Printed.{HasFirst};
+ghost use Rattle.awk_statements.specs.Printed.{HasFirst};
 
 use crate::machine::{finish, holds, run};
-use crate::prints::begin_list;
 use awk_control::blocks::block;
 use awk_control::prints::{list, print_record};
 use awk_control::stack::{Focus, Passed, Stack};
@@ -24,6 +23,7 @@ use awk_interpreter::Interpreter;
 use awk_meaning::Halt;
 use awk_plan::node::{BlockNode, ListNode, Node, Operand, SimpleNode, StatementNode};
 use awk_plan::plan::Plan;
+use awk_statements::begin_list;
 use awk_streams::World;
 
 /// Executes a print of one value or more: with an entry only for what isn't found in place. What was in the stack is gone.

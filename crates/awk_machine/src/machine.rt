@@ -1,134 +1,25 @@
 // The machine: moves from place to place, until nothing is left. No function of it calls itself.
 
-ghost use Rattle.std.specs.Prelude.{◌≡◌, ◌≤◌, Some, slice_get};
-ghost use Rattle.awk_plan.specs.Plan.{operand_of, part_of, statement_in, made_statement};
+ghost use Rattle.std.specs.Prelude.{◌≤◌};
+ghost use Rattle.awk_plan.specs.Plan.{operand_of};
 ghost use Rattle.awk_grammar.specs.Height.{max_height};
 ghost use Rattle.awk_tree.specs.Height.{height_of};
-ghost use Rattle.awk_tree.specs.Tree.{Do};
 ghost use Rattle.awk_control.specs.Control.{HasRoom};
 ghost use Rattle.awk_control.specs.Entries.{awaited_at};
-ghost use Rattle.awk_control.specs.Stack.{BeginStatement, Ended, Rest, focus_height, depth};
-ghost use Rattle.awk_control.specs.Moves.{Moves, Steps, Walks, Runs, Tests, stack_of, focus_of, topped, flow_of, ran};
+ghost use Rattle.awk_control.specs.Stack.{Ended, Rest, focus_height, depth};
+ghost use Rattle.awk_control.specs.Moves.{Moves, Walks, Runs, Tests, stack_of, focus_of, topped, flow_of, ran};
 
-use crate::loops::{begin_for, begin_loop, end_loop};
-use crate::statements::{begin_block, begin_simple, end_statement};
-use awk_control::awaiting::{is_returned_true, spend_for};
-use awk_control::entry::{Awaited, Entry, Loop, LoopEntry, State, read_entry};
+use awk_conditions::{Known, test_condition};
+use awk_control::awaiting::is_returned_true;
+use awk_control::entry::{Awaited, Entry, read_entry};
 use awk_control::stack::{Focus, Move, Passed, Stack, Stage};
 use awk_expressions::expressions::{begin_expr, end_operand};
-use awk_expressions::patterns::{Known, test_condition};
 use awk_interpreter::Interpreter;
 use awk_meaning::Halt;
-use awk_plan::node::{Node, Operand, StatementNode};
+use awk_plan::node::Operand;
 use awk_plan::plan::Plan;
+use awk_statements::{begin_block, begin_statement, end_loop, end_statement};
 use awk_streams::World;
-
-/// Begins a `do`: the step of the statement, and then that of its first turn.
-fn begin_do(
-    plan: &Plan,
-    place: u32,
-    condition: Operand,
-    body: u32,
-    stack: &mut Stack,
-    interpreter: &mut Interpreter,
-) -> Result<Move, Halt>
-    requires room { HasRoom stack.old.control }
-    requires at { slice_get plan.now.nodes place ≡ Some (Node.Statement (StatementNode.Do body condition)) }
-    ensures { Steps plan.now (BeginStatement (Do (statement_in (part_of plan.now body)) (operand_of plan.now condition)))
-        (stack_of plan.now stack.old) interpreter.old result stack.new interpreter.new }
-{
-    let l = Loop {
-        place,
-        condition: Some(condition),
-        last: None,
-        body,
-    };
-    stack.control.push(l.entry(LoopEntry::FirstTurn))?;
-    interpreter.spend()?;
-    interpreter.spend()?;
-    Ok(Move::Spent(Focus::Statement(body)))
-}
-
-/// Begins a statement that isn't simple (POSIX awk, Actions).
-fn begin_compound<W: World>(
-    plan: &Plan,
-    place: u32,
-    node: StatementNode,
-    stack: &mut Stack,
-    interpreter: &mut Interpreter,
-    world: &mut W,
-) -> Result<Move, Halt>
-    requires room { HasRoom stack.old.control }
-    requires at { slice_get plan.now.nodes place ≡ Some (Node.Statement node) }
-    ensures { Moves W.is_logged plan.now (BeginStatement (made_statement plan.now.tables (part_of plan.now) node)) (stack_of
-        plan.now stack.old) interpreter.old (W.state world.old) result stack.new interpreter.new (W.state world.new) }
-{
-    match node {
-        StatementNode::Empty => Ok(Move::On(Focus::Ended(Passed::Normal))),
-        StatementNode::Block(all) => Ok(Move::On(Focus::Block(all))),
-        StatementNode::If(condition, _) => {
-            let state = State::Condition;
-            spend_for(Entry { node: place, state }, condition, stack, interpreter)
-        }
-        StatementNode::IfElse(condition, _, _) => {
-            let state = State::Condition;
-            spend_for(Entry { node: place, state }, condition, stack, interpreter)
-        }
-        StatementNode::While(condition, body) => {
-            let l = Loop {
-                place,
-                condition: Some(condition),
-                last: None,
-                body,
-            };
-            begin_loop(plan, l, stack, interpreter, world)
-        }
-        StatementNode::Do(body, condition) => {
-            begin_do(plan, place, condition, body, stack, interpreter)
-        }
-        StatementNode::For(first, condition, last, body) => {
-            let l = Loop {
-                place,
-                condition: Some(condition),
-                last: Some(last),
-                body,
-            };
-            begin_for(plan, first, l, stack, interpreter, world)
-        }
-        StatementNode::Forever(first, last, body) => {
-            let l = Loop {
-                place,
-                condition: None,
-                last: Some(last),
-                body,
-            };
-            begin_for(plan, first, l, stack, interpreter, world)
-        }
-    }
-}
-
-/// Begins a statement.
-fn begin_statement<W: World>(
-    plan: &Plan,
-    place: u32,
-    stack: &mut Stack,
-    interpreter: &mut Interpreter,
-    world: &mut W,
-) -> Result<Move, Halt>
-    requires room { HasRoom stack.old.control }
-    ensures { Moves W.is_logged plan.now (BeginStatement (statement_in (part_of plan.now place))) (stack_of plan.now
-        stack.old) interpreter.old (W.state world.old) result stack.new interpreter.new (W.state world.new) }
-{
-    match plan.node(place) {
-        Some(Node::Simple(node)) => begin_simple(plan, place, node, stack, interpreter, world),
-        Some(Node::Statement(node)) => begin_compound(plan, place, node, stack, interpreter, world),
-        Some(Node::Expression(_)) => Ok(Move::On(Focus::Ended(Passed::Normal))),
-        Some(Node::List(_)) => Ok(Move::On(Focus::Ended(Passed::Normal))),
-        Some(Node::Block(_)) => Ok(Move::On(Focus::Ended(Passed::Normal))),
-        Some(Node::Absent) => Ok(Move::On(Focus::Ended(Passed::Normal))),
-        None => Ok(Move::On(Focus::Ended(Passed::Normal))),
-    }
-}
 
 /// Goes on behind what an entry waits for.
 fn resume<W: World>(

@@ -1,17 +1,36 @@
 -- Statements that are executed in place.
-use Rattle.std.specs.Prelude.{◌≡◌, ℕ, ◌<◌, Option, Some, None, Ok, Err}
+use Rattle.std.specs.Prelude.{◌≡◌, ℕ, ℤ, ◌<◌, List, false, Option, Some, None, Ok, Err, IfSome, OnSome}
+use Rattle.awk_value.specs.declared.value.Value.{Value}
+use Rattle.awk_value.specs.declared.value.Value.TheVariants.{Number}
 use Rattle.awk_tree.specs.Tree.{Expr, SimpleStatement, Expression, Print, Next, Break, Continue, Exit, Statement, Empty, If, IfElse}
+use Rattle.awk_tree.specs.declared.tree.BinaryOperator.{BinaryOperator}
 use Rattle.awk_plan.specs.Plan.{Program, part_of, statement_in}
 use Rattle.awk_meaning.specs.declared.flow.Flow.{Flow}
 use Rattle.awk_meaning.specs.declared.flow.Flow.TheVariants as flow
 use Rattle.awk_meaning.specs.declared.halt.Halt.TheVariants as halt
 use Rattle.awk_meaning.specs.State.{Run, ◌>>=◌, lift, ret}
-use Rattle.awk_meaning.specs.Primitives.{print_line}
+use Rattle.awk_meaning.specs.Operators.{applied, takes_pattern}
+use Rattle.awk_meaning.specs.Primitives.{print_line, read_name}
 use Rattle.awk_meaning.specs.Semantics.{tested, choose, eval, printed_values, exit_with, exec}
 use Rattle.awk_interpreter.specs.declared.interpreter.Interpreter.{Interpreter}
-use Rattle.awk_interpreter.specs.Simulation.{Changes}
+use Rattle.awk_interpreter.specs.Simulation.{Changes, PutsNumber}
+use Rattle.awk_fast_numbers.specs.Found.{HasNumber}
 use Rattle.awk_fast_path.specs.declared.statements.Ran.{Ran}
 use Rattle.awk_fast_path.specs.declared.statements.Ran.TheVariants as ran
+
+-- the expression is evaluated
+pub record Evaluates (e : Expr) (old new : Interpreter) : Type 0 where
+  pub value : Value
+  pub changes : Changes (eval e) old new (Ok value)
+
+-- a name gets what an operator makes of its number and another one
+pub record Joins (o : BinaryOperator) (x : List ℕ) (n : ℤ) (old new : Interpreter) : Type 0 where
+  pub before : ℤ
+  pub after : Option ℤ
+  pub read : HasNumber (read_name x) old before
+  pub made : IfSome after (λ r. applied o (Number before) (Number n) ≡ Ok (Number r))
+  pub plain : OnSome after (takes_pattern o ≡ false)
+  pub puts : PutsNumber x after old new
 
 -- a part is executed and passes on so, or it isn't, and nothing changes
 abbrev pub RunsBy : Run Flow → Interpreter → Ran → Interpreter → Type 0

@@ -1,9 +1,9 @@
-use Rattle.awk_expressions.proofs.Leaves.{zero_evaluates}
+use Rattle.awk_expressions.proofs.Constants.{zero_evaluates}
 use Rattle.awk_expressions.proofs.LeafMoves.{leaf_steps}
 use Rattle.awk_expressions.proofs.expressions.begin_place.Goals as goal
 
 pub returns-in-Some : goal.returns-in-Some
-returns-in-Some c = rw c.in-Some.ensures.expression.0 c.begin_node.ensures
+returns-in-Some c = rw c.in-Some.ensures.some c.begin_node.ensures
 
 pub returns-in-None : goal.returns-in-None
-returns-in-None c = rw (c.in-None.ensures.expression, c.give.ensures.gives, c.give.ensures.stack) (leaf_steps c.args.stack.now _ (zero_evaluates _))
+returns-in-None c = rw (c.in-None.ensures.none, c.give.ensures.gives, c.give.ensures.stack) (leaf_steps c.args.stack.now _ (zero_evaluates _))

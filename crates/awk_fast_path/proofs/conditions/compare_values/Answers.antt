@@ -1,6 +1,6 @@
 use Rattle.std.proofs.Common.{◌≡◌, sym, ◌∙◌}
 use Rattle.awk_value.specs.Values.{order_of}
-use Rattle.awk_fast_path.proofs.Lemmas.{values_compare, same_order}
+use Rattle.awk_fast_path.proofs.Testing.{values_compare, same_order}
 use Rattle.awk_fast_path.proofs.conditions.compare_values.Goals as goal
 
 pub returns-clause-found : goal.returns-clause-found

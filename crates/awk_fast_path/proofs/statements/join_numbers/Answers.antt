@@ -1,7 +1,7 @@
 use Rattle.std.proofs.Common.{◌≡◌, to_z, of_z, arith}
 use Rattle.std.specs.Int.{w128}
 use Rattle.std.proofs.lemmas.Int.{ints}
-use Rattle.awk_fast_path.proofs.Lemmas.{passed}
+use Rattle.awk_fast_numbers.proofs.Finding.{passed}
 use Rattle.awk_fast_path.proofs.statements.join_numbers.Goals as goal
 
 pub returns-clause-done : goal.returns-clause-done

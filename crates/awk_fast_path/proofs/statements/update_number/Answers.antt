@@ -1,4 +1,4 @@
-use Rattle.awk_fast_path.proofs.Lemmas.{passed}
+use Rattle.awk_fast_numbers.proofs.Finding.{passed}
 use Rattle.awk_fast_path.proofs.Updating.{added, subtracted}
 use Rattle.awk_fast_path.proofs.statements.update_number.Goals as goal
 

@@ -1,0 +1,2 @@
+pub mod support
+pub use Rattle.awk_conditions.specs.support.Matches

@@ -1,0 +1,2 @@
+pub mod support
+pub use Rattle.awk_fast_numbers.specs.support.Found
