@@ -18,8 +18,8 @@ use awk_frames::frame::{
 use awk_frames::operand::{Operand, OperandList};
 use awk_frames::stack::pop;
 use awk_frames::state::{NextToken, ParserState, StatementState};
+use awk_item_productions::items::{after_pattern, after_pattern_expr};
 use awk_lex::token::{Kind, Operator};
-use awk_productions::items::{after_pattern, after_pattern_expr};
 use awk_productions::taken::{begin, begin_body};
 use awk_simple_productions::prints::after_print_expr;
 use awk_simple_productions::simple::{after_delete_subscript, end_simple};

@@ -1,7 +1,5 @@
-//! Where operands and items begin and end, by the token that stands there.
+//! Where operands begin and end, by the token that stands there.
 #![tactic(auto)]
 
-mod item_nodes;
-pub mod items;
 pub mod operands;
 pub mod taken;

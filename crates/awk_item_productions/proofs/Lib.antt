@@ -1,0 +1,2 @@
+mod ItemLists
+mod OtherTokens

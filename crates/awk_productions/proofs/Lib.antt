@@ -1,2 +1,0 @@
-pub mod ItemLists
-pub mod OtherTokens
