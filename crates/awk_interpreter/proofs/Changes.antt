@@ -25,7 +25,7 @@ use Rattle.awk_meaning.specs.State.{State, Out, lift, ret}
 use Rattle.awk_variables.specs.Variables.{Pairs, value_of, name_of, with_value, is_refused}
 use Rattle.awk_meaning.specs.Operators.{exit_status, field_value, raised}
 use Rattle.awk_meaning.specs.Faults.{variable_fault, value_fault}
-use Rattle.awk_meaning.specs.Primitives.{spend_of, spend, value_in, read_name, put, put_unless, count_in, field_at, record_text, rule_of, set_record, note_input, begin_input, argument_if, argument_below, take_argument, is_inside, with_range, set_inside, status_by, set_status, is_input_seen}
+use Rattle.awk_meaning.specs.Primitives.{spend_of, spend, value_in, read_name, put, put_unless, count_in, field_at, record_text, set_record, note_input, begin_input, argument_if, argument_below, take_argument, is_inside, with_range, set_inside, status_by, set_status, is_input_seen}
 use Rattle.awk_meaning.specs.Semantics.{begin_record, store}
 use Rattle.awk_operands.specs.Operands.{is_below, IsFaultOf}
 use Rattle.awk_interpreter.specs.support.Simulation.{inside_of, OwnRelation, Changes, Spends, SameState}

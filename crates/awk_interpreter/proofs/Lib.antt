@@ -3,4 +3,4 @@ pub mod Changes
 pub mod Composition
 pub mod WorldCalls
 mod Ranges
-pub mod Seeks
+mod AssignedTexts

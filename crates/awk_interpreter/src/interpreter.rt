@@ -7,6 +7,7 @@ ghost use Rattle.awk_meaning.specs.State.{lift};
 ghost use Rattle.awk_variables.specs.Variables.{name_of};
 ghost use Rattle.awk_meaning.specs.Primitives.{read_name, put, count_in, field_at, record_text, set_record};
 ghost use Rattle.awk_meaning.specs.Primitives.{print_line, note_input, begin_input, is_inside, set_inside, set_status};
+ghost use Rattle.awk_meaning.specs.Inputs.{assign_text};
 ghost use Rattle.awk_meaning.specs.Semantics.{begin_record};
 ghost use Rattle.awk_meaning.specs.Operators.{applied, exit_status, takes_pattern};
 ghost use Rattle.awk_interpreter.specs.support.Simulation.{Spends, Changes, Follows, IsStart};
@@ -14,7 +15,7 @@ ghost use Rattle.awk_meaning.specs.Results.{IsWantOfMemory};
 
 use awk_fields::Record;
 use awk_meaning::Halt;
-use awk_operands::Arguments;
+use awk_operands::{Arguments, assigned_text};
 use awk_operators::{Patterns, make_line, raise};
 use awk_streams::{Streams, World};
 use awk_tree::tree::{BinaryOperator, Ere};
@@ -156,7 +157,7 @@ impl Interpreter {
     }
 
     /// Gives a name a value.
-    pub(crate) fn put(&mut self, name: &[u8], value: Value) -> Result<(), Halt>
+    fn put(&mut self, name: &[u8], value: Value) -> Result<(), Halt>
         ensures { Changes (put name.now value) self.old self.new result }
     {
         Ok(self.variables.set(name, value)?)
@@ -177,8 +178,18 @@ impl Interpreter {
         self.put_special(special, count)
     }
 
-    /// Begins an input: FILENAME is its name, and FNR 0.
-    pub(crate) fn begin_input(&mut self, name: Bytes) -> Result<(), Halt>
+    /// Gives a name a text from the command line, in which the escapes of a string stand for their
+    /// bytes. (POSIX awk, OPTIONS: -v; OPERANDS)
+    pub fn assign_text(&mut self, name: &[u8], text: &[u8]) -> Result<(), Halt>
+        ensures { Changes (assign_text name.now text.now) self.old self.new result }
+    {
+        let text = assigned_text(self.alloc, name, text)?;
+        self.put(name, Value::Input(text))
+    }
+
+    /// Begins a main input: FILENAME is its name, and FNR 0; standard input is no longer wanted. (POSIX awk, Variables and
+    /// Special Variables)
+    pub fn begin_input(&mut self, name: Bytes) -> Result<(), Halt>
         ensures { Changes (begin_input name) self.old self.new result }
     {
         self.put_special(Special::Filename, Value::Input(name))?;

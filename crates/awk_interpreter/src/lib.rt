@@ -1,7 +1,6 @@
-//! The interpreter: the state of a run, its primitives, and its main inputs.
+//! The interpreter: the state of a run, and its primitives.
 #![tactic(auto)]
 
-mod inputs;
 mod interpreter;
 mod places;
 

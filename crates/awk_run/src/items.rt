@@ -14,6 +14,7 @@ ghost use Rattle.awk_meaning.specs.Semantics.{in_range, go_through, try_items, u
 ghost use Rattle.awk_meaning.specs.Semantics.{until_next, is_rule, has_rule, unless_exit};
 
 use awk_control::prints::print_record;
+use awk_inputs::next_record;
 use awk_interpreter::Interpreter;
 use awk_machine::{Stack, holds, run_action};
 use awk_meaning::Halt;
@@ -219,7 +220,7 @@ fn run_records<W: World>(
     ensures { ReadsAll W.is_logged (items_of plan.now) interpreter.old (W.state world.old) interpreter.new
         (W.state world.new) result }
 {
-    while let Some(text) = interpreter.next_record(world)? {
+    while let Some(text) = next_record(interpreter, world)? {
         interpreter.spend()?;
         interpreter.begin_record(text)?;
         try_until_next(plan, stack, interpreter, world)?;

@@ -1,5 +1,5 @@
 -- How the code's state and world stand for the state of the definitions, and what a part of the code does.
-use Rattle.std.specs.Prelude.{◌≡◌, ◌⊎◌, ℕ, ℤ, pos, ◌≤◌, ◌<◌, Bool, true, false, List, [], ◌∷◌, ◌++◌, length, slice_get, unwrap_or, Option, Some, None, is_some, suc, Result, Ok, Err, OnOk}
+use Rattle.std.specs.Prelude.{◌≡◌, ◌⊎◌, ℕ, ℤ, pos, ◌≤◌, ◌<◌, Bool, false, List, [], ◌∷◌, ◌++◌, length, slice_get, unwrap_or, Option, Some, None, suc, Result, Ok, Err, OnOk}
 use Rattle.awk_world.specs.declared.world.InputKind.{InputKind}
 use Rattle.awk_streams.specs.declared.fault.StreamFault.{StreamFault}
 use Rattle.awk_streams.specs.WorldState.{WorldState}
@@ -14,10 +14,9 @@ use Rattle.awk_meaning.specs.declared.halt.Halt.{Halt}
 use Rattle.awk_meaning.specs.declared.halt.Halt.TheVariants as halt
 use Rattle.awk_meaning.specs.State.{Effect, State, Out, Run}
 use Rattle.awk_meaning.specs.Results.{Sort, WantOfMemory, FailedWrite, OfLanguage, sort_of}
-use Rattle.awk_meaning.specs.Primitives.{read_name, spend, put, open_main, close_main}
+use Rattle.awk_meaning.specs.Primitives.{read_name, spend, put}
 use Rattle.awk_meaning.specs.Semantics.{store}
 use Rattle.awk_value.specs.declared.value.Value.TheVariants.{Number}
-use Rattle.awk_meaning.specs.Inputs.{search_operands_within}
 use Rattle.awk_meaning.specs.Faults.{stream_fault}
 use Rattle.awk_meaning.specs.Meaning.{arguments_of, printed_to, outputs_after, requests_after}
 use Rattle.awk_meaning.specs.Order.{Stage, MeetsAll, first_stage}
@@ -140,31 +139,6 @@ pub record Follows {A : Type 0} (is_logged : Type 0) (run : Run A) (old : Interp
 abbrev pub halted : {A : Type 0} → Result A StreamFault → Result A Halt
 halted (Ok a) = Ok a
 halted (Err f) = Err (halt.Fault (stream_fault f))
-
--- no main input is open, unless a record was found
-abbrev pub ClosedUnless : {A : Type 0} → Result (Option A) Halt → Interpreter → Type 0
-ClosedUnless (Ok None) m = m.streams.main ≡ None
-ClosedUnless (Ok (Some a)) m = Unit {0}
-ClosedUnless (Err h) m = Unit {0}
-
--- a record is looked for, and where none is found no main input is left open
-pub record Seeks (is_logged : Type 0) (run : Run (Option (List ℕ))) (old : Interpreter) (before : WorldState) (new : Interpreter) (after : WorldState) (r : Result (Option (List ℕ)) Halt) : Type 0 where
-  pub simulates : Simulates is_logged old before new after r run
-  pub closed : ClosedUnless r new
-
--- the elements of ARGV that are left, at any bound above the steps
-pub record SearchesOn (is_logged : Type 0) (old : Interpreter) (before : WorldState) (new : Interpreter) (after : WorldState) (r : Result (Option (List ℕ)) Halt) : Type 0 where
-  pub simulates : (n : ℕ) → old.steps ≤ n → Simulates is_logged old before new after r (search_operands_within (suc n))
-
--- the main input is closed, and then there is none
-pub record ClosesMainInput (is_logged : Type 0) (old : Interpreter) (before : WorldState) (new : Interpreter) (after : WorldState) : Type 0 where
-  pub simulates : Simulates is_logged old before new after (Ok tt) close_main
-  pub main : new.streams.main ≡ None
-
--- a main input is opened, and then there is one
-pub record OpensMainInput (is_logged : Type 0) (kind : InputKind) (path : List ℕ) (old : Interpreter) (before : WorldState) (new : Interpreter) (after : WorldState) (r : Result (Unit {0}) Halt) : Type 0 where
-  pub simulates : Simulates is_logged old before new after r (open_main kind path)
-  pub main : OnOk r (is_some new.streams.main ≡ true)
 
 -- the code's state before a run
 pub record IsStart (operands : List (List ℕ)) (limit : ℕ) (m : Interpreter) : Type 0 where

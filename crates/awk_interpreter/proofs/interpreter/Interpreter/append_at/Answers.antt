@@ -1,6 +1,4 @@
-use Rattle.std.proofs.Common.{◌++◌, refl, sym, ◌∙◌}
-use Rattle.awk_value.specs.declared.value.Value.TheVariants.{Text}
-use Rattle.awk_value.specs.Values.{str_of}
+use Rattle.std.proofs.Common.{refl, sym, ◌∙◌}
 use Rattle.awk_variables.specs.Variables.{value_of}
 use Rattle.awk_interpreter.proofs.Changes.{put_changes, put_then_read, itself_put}
 use Rattle.awk_interpreter.proofs.interpreter.Interpreter.append_at.Goals as goal

@@ -1,5 +1,5 @@
 use Rattle.std.proofs.lemmas.Result.{err_from_is_err_and}
-use Rattle.awk_interpreter.proofs.Seeks.{text_refused, text_put}
+use Rattle.awk_interpreter.proofs.AssignedTexts.{text_refused, text_put}
 use Rattle.awk_interpreter.proofs.interpreter.Interpreter.assign_text.Goals as goal
 
 pub returns-in_err-text : goal.returns-in_err-text

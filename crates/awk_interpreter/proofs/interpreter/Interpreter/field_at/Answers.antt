@@ -1,4 +1,4 @@
-use Rattle.std.proofs.Common.{refl, ap}
+use Rattle.std.proofs.Common.{refl}
 use Rattle.awk_interpreter.proofs.Changes.{field_changes}
 use Rattle.awk_interpreter.proofs.interpreter.Interpreter.field_at.Goals as goal
 

@@ -1,5 +1,4 @@
 use Rattle.std.proofs.Common.{refl, arith}
-use Rattle.awk_fields.specs.declared.fault.RecordFault.{RecordFault}
 use Rattle.awk_interpreter.proofs.Changes.{record_changes, accepted_rule}
 use Rattle.std.proofs.lemmas.Result.{err_from_is_err_and}
 use Rattle.awk_interpreter.proofs.Composition.{memory_changes}

@@ -1,9 +1,9 @@
 use Rattle.std.proofs.Common.{refl, sym, ap, ◌∙◌}
 use Rattle.std.proofs.lemmas.Result.{err_from_is_err_and}
 use Rattle.awk_value.specs.Values.{str_of}
-use Rattle.awk_interpreter.proofs.WorldCalls.{asks_simulates, takes_none, none_of}
+use Rattle.awk_inputs.proofs.MainInput.{asks_simulates, takes_none, none_of}
 use Rattle.awk_interpreter.proofs.Composition.{memory_simulates}
-use Rattle.awk_interpreter.proofs.interpreter.Interpreter.take_record.Goals as goal
+use Rattle.awk_inputs.proofs.inputs.take_record.Goals as goal
 
 pub returns-then-not-has_main : goal.returns-then-not-has_main
 returns-then-not-has_main g c = record { simulates = takes_none (none_of _ (sym c.has_main.ensures ∙ c.if-not-has_main.true)) }
@@ -23,4 +23,4 @@ returns g c = record {
 pub returns-in_err-separator : goal.returns-in_err-separator
 returns-in_err-separator g c =
     let p = err_from_is_err_and c.from_residual.result c.from_residual.ensures.1 in
-    rw (p.1, p.2, c.in_err-separator.ensures.fault) (record { simulates = memory_simulates c.args.self.now (g.W.World.state c.args.world.now) _ })
+    rw (p.1, p.2, c.in_err-separator.ensures.fault) (record { simulates = memory_simulates c.args.interpreter.now (g.W.World.state c.args.world.now) _ })

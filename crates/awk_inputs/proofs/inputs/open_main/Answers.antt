@@ -1,8 +1,8 @@
 use Rattle.std.proofs.Common.{◌≡◌, Ok, Err, refl}
 use Rattle.awk_streams.specs.declared.fault.StreamFault.TheVariants.{InputNotReadable}
 use Rattle.std.proofs.lemmas.Result.{err_from_is_err_and}
-use Rattle.awk_interpreter.proofs.WorldCalls.{opens_simulates, fresh_some}
-use Rattle.awk_interpreter.proofs.interpreter.Interpreter.open_main.Goals as goal
+use Rattle.awk_inputs.proofs.MainInput.{opens_simulates, fresh_some}
+use Rattle.awk_inputs.proofs.inputs.open_main.Goals as goal
 
 pub returns-in_err-open_main : goal.returns-in_err-open_main
 returns-in_err-open_main g c =

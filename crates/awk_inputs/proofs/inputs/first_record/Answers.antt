@@ -1,6 +1,6 @@
 use Rattle.std.proofs.lemmas.Result.{err_from_is_err_and}
-use Rattle.awk_interpreter.proofs.Seeks.{first_unopened, first_unnamed, first_seeks}
-use Rattle.awk_interpreter.proofs.interpreter.Interpreter.first_record.Goals as goal
+use Rattle.awk_inputs.proofs.Seeks.{first_unopened, first_unnamed, first_seeks}
+use Rattle.awk_inputs.proofs.inputs.first_record.Goals as goal
 
 pub returns-in_err-open_main : goal.returns-in_err-open_main
 returns-in_err-open_main g c =

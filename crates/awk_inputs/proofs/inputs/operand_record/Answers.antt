@@ -1,7 +1,7 @@
 use Rattle.std.proofs.Common.{add-one}
 use Rattle.std.proofs.lemmas.Result.{err_from_is_err_and}
-use Rattle.awk_interpreter.proofs.Seeks.{nothing_seeks, assignment_ends, assignment_seeks, standard_seeks, file_seeks, slice_rest}
-use Rattle.awk_interpreter.proofs.interpreter.Interpreter.operand_record.Goals as goal
+use Rattle.awk_inputs.proofs.Seeks.{nothing_seeks, assignment_ends, assignment_seeks, standard_seeks, file_seeks, slice_rest}
+use Rattle.awk_inputs.proofs.inputs.operand_record.Goals as goal
 
 pub returns-in-Nothing : goal.returns-in-Nothing
 returns-in-Nothing g c = nothing_seeks _ (rw c.as_slice-bytes.ensures at (c.in-Nothing.ensures {u = tt})) c.requires.none

@@ -1,6 +1,6 @@
 use Rattle.std.proofs.lemmas.Result.{err_from_is_err_and}
-use Rattle.awk_interpreter.proofs.Seeks.{next_ends, next_gives, next_seeks}
-use Rattle.awk_interpreter.proofs.interpreter.Interpreter.next_record.Goals as goal
+use Rattle.awk_inputs.proofs.Seeks.{next_ends, next_gives, next_seeks}
+use Rattle.awk_inputs.proofs.inputs.next_record.Goals as goal
 
 pub returns-in_err-text : goal.returns-in_err-text
 returns-in_err-text g c =

@@ -2,30 +2,19 @@
 use Rattle.std.proofs.Math.Seq.{take-length}
 use Rattle.std.proofs.lemmas.List.{length-drop}
 use Rattle.std.proofs.Common.{take, drop, length, ◌-◌, ◌≡◌, ℕ, ◌≤◌, zero, suc, Bool, true, false, List, [], Option, Some, None, Result, Ok, Err, refl, sym, ap, ◌∙◌, subst, arith}
-use Rattle.awk_value.specs.declared.value.Value.TheVariants.{Input}
 use Rattle.awk_world.specs.declared.world.InputKind.{InputKind}
 use Rattle.awk_world.specs.declared.world.InputKind.TheVariants.{Standard, File}
 use Rattle.awk_streams.specs.Streams.{AreOpen, IsSoundMain}
 use Rattle.awk_interpreter.specs.declared.interpreter.Interpreter.{Interpreter}
 use Rattle.awk_meaning.specs.declared.halt.Halt.{Halt}
 use Rattle.awk_meaning.specs.State.{Run}
-use Rattle.awk_meaning.specs.Primitives.{put, begin_input, take_record, take_argument, is_input_seen}
-use Rattle.awk_meaning.specs.Inputs.{assigned_text, assign_text, Operand, Nothing, Assignment, StandardInput, AFile, operand_of, main_record, path_of, first_record, record_by, operand_record, standard_record, search_operands_within, search_operands, next_record}
+use Rattle.awk_meaning.specs.Primitives.{begin_input, take_record, take_argument, is_input_seen}
+use Rattle.awk_meaning.specs.Inputs.{assign_text, Operand, Nothing, Assignment, StandardInput, AFile, operand_of, main_record, path_of, first_record, record_by, operand_record, standard_record, search_operands_within, search_operands, next_record}
 use Rattle.awk_streams.specs.WorldState.{WorldState}
-use Rattle.awk_interpreter.specs.support.Simulation.{Simulates, Changes, Spends, Follows, ClosesMainInput, OpensMainInput, ClosedUnless, Seeks, SearchesOn}
-use Rattle.awk_meaning.specs.Results.{Yields}
-use Rattle.awk_interpreter.proofs.Composition.{then_changes, ends_changes, lift_changes, then_simulates, ends_simulates, lift_simulates, change_simulates}
+use Rattle.awk_interpreter.specs.Simulation.{Simulates, Changes, Spends, Follows}
+use Rattle.awk_inputs.specs.support.Inputs.{ClosesMainInput, OpensMainInput, ClosedUnless, Seeks, SearchesOn}
+use Rattle.awk_interpreter.proofs.Composition.{then_simulates, ends_simulates, lift_simulates, change_simulates}
 use Rattle.awk_interpreter.proofs.Changes.{input_changes_nothing}
-
--- assignments on the command line
-
-pub text_refused : (x text : List ℕ) {m : Interpreter} {h : Halt} → Yields {A = List ℕ} (Err h) (assigned_text x text) → Changes (assign_text x text) m m (Err h)
-unfolding assign_text
-text_refused x text {m = m} e = ends_changes _ (lift_changes _ m e)
-
-pub text_put : (x text : List ℕ) {t : List ℕ} {m new : Interpreter} {r : Result (Unit {0}) Halt} → Yields (Ok t) (assigned_text x text) → Changes (put x (Input t)) m new r → Changes (assign_text x text) m new r
-unfolding assign_text
-text_put x text {m = m} e p = then_changes _ (lift_changes _ m e) p
 
 -- records of the main input
 

@@ -1,6 +1,6 @@
 use Rattle.std.proofs.lemmas.Result.{err_from_is_err_and}
-use Rattle.awk_interpreter.proofs.Seeks.{search_ends, search_stops, search_halts, search_gives, search_goes, search_over, searches_all, search_open, search_sound}
-use Rattle.awk_interpreter.proofs.interpreter.Interpreter.search_operands.Goals as goal
+use Rattle.awk_inputs.proofs.Seeks.{search_ends, search_stops, search_halts, search_gives, search_goes, search_over, searches_all, search_open, search_sound}
+use Rattle.awk_inputs.proofs.inputs.search_operands.Goals as goal
 
 pub returns-in_err-word : goal.returns-in_err-word
 returns-in_err-word g c =

@@ -1,6 +1,6 @@
 use Rattle.std.proofs.lemmas.Result.{err_from_is_err_and}
-use Rattle.awk_interpreter.proofs.Seeks.{main_ends, main_gives, main_closes}
-use Rattle.awk_interpreter.proofs.interpreter.Interpreter.main_record.Goals as goal
+use Rattle.awk_inputs.proofs.Seeks.{main_ends, main_gives, main_closes}
+use Rattle.awk_inputs.proofs.inputs.main_record.Goals as goal
 
 pub returns-in_err-text : goal.returns-in_err-text
 returns-in_err-text g c =

@@ -1,0 +1,2 @@
+mod MainInput
+mod Seeks

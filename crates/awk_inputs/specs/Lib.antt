@@ -1,0 +1,2 @@
+pub mod support
+pub use Rattle.awk_inputs.specs.support.Inputs
