@@ -1,11 +1,11 @@
 -- The moves of the stack: from each place to the next one.
-use Rattle.std.proofs.Common.{◌≡◌, ℕ, zero, suc, ◌≤◌, Bool, List, ◌∷◌, Result, Ok, Err, refl, sym, ap, subst, arith}
+use Rattle.std.proofs.Common.{◌≡◌, ℕ, zero, suc, ◌≤◌, Bool, List, ◌∷◌, Result, Ok, Err, sym, ap, subst, arith}
 use Rattle.awk_streams.specs.WorldState.{WorldState}
 use Rattle.awk_meaning.specs.declared.flow.Flow.{Flow}
 use Rattle.awk_meaning.specs.declared.halt.Halt.{Halt}
 use Rattle.awk_meaning.specs.declared.halt.Halt.TheVariants as halt
 use Rattle.awk_meaning.specs.declared.fault.Fault.TheVariants.{OutOfMemory}
-use Rattle.awk_meaning.specs.State.{State, Run, go_on, ◌>>=◌, lift, ret}
+use Rattle.awk_meaning.specs.State.{State, Run, go_on, ◌>>=◌}
 use Rattle.awk_meaning.specs.Semantics.{goes_on, exec_part, repeat_within, repeat, exec}
 use Rattle.awk_interpreter.specs.declared.interpreter.Interpreter.{Interpreter}
 use Rattle.awk_interpreter.specs.Simulation.{ResultRelation, Simulates}

@@ -1,5 +1,6 @@
 pub mod Entries
 pub mod Laws
+pub mod LeafValues
 pub mod Moves
 pub mod ExprMoves
 pub mod StatementMoves

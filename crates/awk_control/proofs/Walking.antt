@@ -1,5 +1,5 @@
 -- From move to move, and from step to step.
-use Rattle.std.proofs.Common.{◌≡◌, ℕ, ◌≤◌, ◌<◌, ◌↔◌, true, false, List, [], ◌∷◌, length, Option, None, IsSome, Result, Ok, Err, refl, sym, ap, subst, arith}
+use Rattle.std.proofs.Common.{◌≡◌, ◌≤◌, ◌<◌, List, [], Result, Ok, Err, refl, sym, ap, subst, arith}
 use Rattle.awk_value.specs.Values.{truth_of}
 use Rattle.awk_streams.specs.WorldState.{WorldState}
 use Rattle.awk_tree.specs.Tree as t
@@ -10,7 +10,6 @@ use Rattle.awk_meaning.specs.State.{Effect, State, Run, go_on, ◌>>=◌, lift, 
 use Rattle.awk_meaning.specs.Semantics.{tested, eval, run_action}
 use Rattle.awk_interpreter.specs.declared.interpreter.Interpreter.{Interpreter}
 use Rattle.awk_interpreter.specs.Simulation.{Follows}
-use Rattle.awk_control.specs.declared.entry.Entry.{Entry as CodeEntry}
 use Rattle.awk_control.specs.declared.stack.Focus.{Focus as CodeFocus}
 use Rattle.awk_control.specs.declared.stack.Passed.{Passed}
 use Rattle.awk_control.specs.declared.stack.Stack.{Stack}
@@ -22,11 +21,6 @@ use Rattle.std.proofs.lemmas.List.{append-nil}
 use Rattle.awk_interpreter.proofs.Composition.{then_simulates, ends_simulates, lift_simulates}
 use Rattle.awk_control.proofs.Laws.{same_simulates}
 use Rattle.awk_control.proofs.Moves.{awaited_at}
-
--- a stack without an entry
-pub none_left : (es : List CodeEntry) (n : ℕ) (r : Option CodeEntry) → r ≡ None → n ≡ length es → (IsSome r ↔ (0 < n)) → es ≡ []
-none_left [] n r is len some = refl
-none_left (e ∷ es) n r is len some = let bad : IsSome r = some.1 (omega (arith, len)) in let worse : IsSome {T = CodeEntry} None = subst IsSome is bad in let clash : false ≡ true = worse in absurd (cc)
 
 -- moves without a step so far
 pub record Walking (is_logged : Type 0) (f : Focus) (st : List Entry) (m : Interpreter) (k : WorldState) (f' : Focus) (st' : List Entry) (m' : Interpreter) (k' : WorldState) : Type 0 where

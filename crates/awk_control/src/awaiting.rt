@@ -7,7 +7,7 @@ ghost use Rattle.awk_control.specs.definitions.Control.{HasRoom};
 ghost use Rattle.awk_control.specs.support.Stack.{value_in};
 ghost use Rattle.awk_control.specs.support.Moves.{Awaits, SpendsFor, flow_of, with_value, is_returned};
 
-use crate::entry::Entry;
+use crate::entry::{Entry, State};
 use crate::stack::{Focus, Move, Passed, Stack};
 use awk_interpreter::Interpreter;
 use awk_meaning::Halt;
@@ -57,6 +57,14 @@ pub fn await_value(entry: Entry, e: Operand, stack: &mut Stack) -> Result<Move, 
 {
     stack.control.push(entry)?;
     Ok(Move::On(Focus::Expr(e)))
+}
+
+/// Begins an operand of the expression of a node, for an entry of that node that waits for it.
+pub fn await_operand(node: u32, state: State, e: Operand, stack: &mut Stack) -> Result<Move, Halt>
+    requires room { HasRoom stack.old.control }
+    ensures { Awaits (record { node = node; state = state }) e stack.old result stack.new }
+{
+    await_value(Entry { node, state }, e, stack)
 }
 
 /// Begins an expression of a statement for an entry that waits for it, behind the statement's step.

@@ -6,11 +6,10 @@ use Rattle.awk_tree.specs.Tree as t
 use Rattle.awk_plan.specs.Plan.{Program}
 use Rattle.awk_meaning.specs.declared.halt.Halt.{Halt}
 use Rattle.awk_meaning.specs.Operators.{by_one, one}
-use Rattle.awk_meaning.specs.Primitives.{read_name, field_at}
 use Rattle.awk_meaning.specs.Semantics.{eval, store_by, post_increment}
 use Rattle.awk_interpreter.specs.declared.interpreter.Interpreter.{Interpreter}
 use Rattle.awk_interpreter.specs.Simulation.{Changes}
-use Rattle.awk_interpreter.proofs.Composition.{change_simulates, then_changes, ends_changes}
+use Rattle.awk_interpreter.proofs.Composition.{change_simulates}
 use Rattle.awk_control.specs.Stack.{Entry, BeginExpr, weight}
 use Rattle.awk_control.specs.declared.stack.Stack.{Stack}
 use Rattle.awk_control.specs.Moves.{is_returned, with_value, stack_of, Steps}
@@ -40,21 +39,7 @@ leaf_steps stack e p = let w = weighs e in onward refl (λ k. leaf_leads (change
 pub leaf_stops : {plan : Program} (e : t.Expr) {h : Halt} {st : List Entry} {new : Stack} {m m' : Interpreter} → Changes (eval e) m m' (Err h) → Steps plan (BeginExpr e) st m (Err h) new m'
 leaf_stops e p = halts (λ k. leaf_halts e (change_simulates p)) p.steps p.streams
 
--- a field of a number
-
-pub field_reads : (e : t.Expr) {x : Value} {m m1 m' : Interpreter} {r : Result Value Halt} → Changes (eval e) m m1 (Ok x) → Changes (field_at x) m1 m' r → Changes (eval (t.Field e)) m m' r
-unfolding eval
-field_reads e p q = then_changes _ p q
-
-pub field_unread : (e : t.Expr) {h : Halt} {m m' : Interpreter} → Changes (eval e) m m' (Err h) → Changes (eval (t.Field e)) m m' (Err h)
-unfolding eval
-field_unread e p = ends_changes _ p
-
--- names, and what changes them
-
-pub name_evaluates : (x : List ℕ) {m m' : Interpreter} {r : Result Value Halt} → Changes (read_name x) m m' r → Changes (eval (t.Name x)) m m' r
-unfolding eval
-name_evaluates x p = p
+-- what changes names
 
 pub pre_evaluates : (o : IncrementOperator) (x : List ℕ) {m m' : Interpreter} {r : Result Value Halt} → Changes (store_by (by_one o) x one) m m' r → Changes (eval (t.PreIncrement o x)) m m' r
 unfolding eval

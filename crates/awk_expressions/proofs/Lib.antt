@@ -1,4 +1,3 @@
-mod Constants
 mod Stores
 mod LeafMoves
 mod LeafOperands

@@ -12,10 +12,9 @@ ghost use Rattle.awk_control.specs.Stack.{BeginExpr, BeginStatement, Ended};
 ghost use Rattle.awk_control.specs.Moves.{Steps, stack_of, topped, flow_of};
 
 use crate::assignments::{post_increment, pre_increment, store, store_by};
-use crate::awaiting::await_operand;
-use crate::leaves::leaf;
-use awk_control::awaiting::{give, spend_for, take_value};
+use awk_control::awaiting::{await_operand, give, spend_for, take_value};
 use awk_control::entry::{Entry, OperandEntry, State};
+use awk_control::leaves::leaf;
 use awk_control::stack::{Focus, Move, Passed, Stack};
 use awk_interpreter::Interpreter;
 use awk_meaning::Halt;

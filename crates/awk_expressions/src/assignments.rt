@@ -1,6 +1,5 @@
 // Names that get values. Each is looked for at the place of its number first.
 
-ghost use Rattle.std.specs.Prelude.{◌≡◌};
 ghost use Rattle.awk_meaning.specs.Operators.{by_one, one};
 ghost use Rattle.awk_meaning.specs.Semantics.{store, store_by, post_increment};
 ghost use Rattle.awk_interpreter.specs.Simulation.{Changes};
@@ -8,19 +7,9 @@ ghost use Rattle.awk_interpreter.specs.Simulation.{Changes};
 use awk_interpreter::Interpreter;
 use awk_lex::token::IncrementOperator;
 use awk_meaning::Halt;
-use awk_operators::change;
+use awk_operators::{by_one, change};
 use awk_tree::tree::{BinaryOperator, UnaryOperator};
 use awk_value::Value;
-
-/// What joins a number and 1.
-fn by_one(operator: IncrementOperator) -> BinaryOperator
-    ensures { result ≡ by_one operator }
-{
-    match operator {
-        IncrementOperator::Increment => BinaryOperator::Plus,
-        IncrementOperator::Decrement => BinaryOperator::Minus,
-    }
-}
 
 /// Gives a name a value, and answers what the name then has.
 pub(crate) fn store(

@@ -1,6 +1,6 @@
 // The moves of expressions: each begins with its first operand, and goes on where that has returned its value.
 
-ghost use Rattle.std.specs.Prelude.{◌≡◌, ◌∷◌, ◌<◌, length, None, Ok, Some, slice_get};
+ghost use Rattle.std.specs.Prelude.{◌≡◌, ◌∷◌, length, None, Ok, Some, slice_get};
 ghost use Rattle.awk_plan.specs.Plan.{operand_of, made_expr, part_of};
 ghost use Rattle.awk_plan.specs.Order.{HasEre};
 ghost use Rattle.awk_plan.specs.declared.node.Node.TheVariants.{Expression};
@@ -16,12 +16,11 @@ ghost use Rattle.awk_control.specs.Moves.{Steps, stack_of, topped, flow_of};
 use crate::assignment_moves::{
     begin_assignment, end_assigned, end_assigned_by, end_stored, end_stored_by,
 };
-use crate::awaiting::await_operand;
-use crate::leaves::{constant, leaf};
 use crate::short_circuit::{begin_and, begin_conditional, begin_or, chosen, end_and, end_or};
 use awk_conditions::{pattern_operand, record_matches};
-use awk_control::awaiting::{give, is_returned_true, take_value};
+use awk_control::awaiting::{await_operand, give, is_returned_true, take_value};
 use awk_control::entry::{OperandEntry, State};
+use awk_control::leaves::{constant, leaf};
 use awk_control::stack::{Focus, Move, Passed, Stack};
 use awk_fast_path::found;
 use awk_interpreter::Interpreter;

@@ -3,7 +3,5 @@
 
 pub mod assignment_moves;
 mod assignments;
-mod awaiting;
 pub mod expressions;
-mod leaves;
 mod short_circuit;

@@ -9,10 +9,9 @@ ghost use Rattle.awk_control.specs.Control.{HasRoom};
 ghost use Rattle.awk_control.specs.Stack.{BeginExpr, Ended, AndLeft, OrLeft, Condition, value_in};
 ghost use Rattle.awk_control.specs.Moves.{Steps, stack_of};
 
-use crate::awaiting::await_operand;
-use crate::leaves::leaf;
-use awk_control::awaiting::give;
+use awk_control::awaiting::{await_operand, give};
 use awk_control::entry::State;
+use awk_control::leaves::leaf;
 use awk_control::stack::{Focus, Move, Stack};
 use awk_interpreter::Interpreter;
 use awk_meaning::Halt;

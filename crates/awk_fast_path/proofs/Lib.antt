@@ -1,3 +1,4 @@
+pub mod Leaves
 pub mod Sequences
 mod Storing
 mod Testing

@@ -1,6 +1,7 @@
 -- What is stored where a number is found in place: by assignments and increments.
 use Rattle.std.proofs.Common.{◌≡◌, ℤ, false, List, ℕ, Option, Some, None, Ok, refl, ap, ◌∙◌, subst}
 use Rattle.std.specs.Prelude.{IfSome, OnSome}
+use Rattle.std.proofs.lemmas.Option.{none-some, same_Some}
 use Rattle.awk_value.specs.declared.value.Value.{Value}
 use Rattle.awk_value.specs.declared.value.Value.TheVariants.{Number}
 use Rattle.awk_lex.specs.declared.token.IncrementOperator.{IncrementOperator}
@@ -18,12 +19,6 @@ use Rattle.awk_fast_path.specs.support.Executed.{Evaluates}
 use Rattle.awk_fast_numbers.proofs.Counting.{changed_alike, applied_alike}
 use Rattle.awk_fast_numbers.proofs.Finding.{known}
 
-same_number : {m n : ℤ} → Some m ≡ Some n → m ≡ n
-same_number e = cc
-
-none_made : {A : Type 0} {r : A} → None ≡ Some r → ⊥
-none_made e = cc
-
 assigned : (x : List ℕ) (e : t.Expr) (n : ℤ) {m m' : Interpreter} → Changes (eval e) m m (Ok (Number n)) → Changes (store x (Number n)) m m' (Ok (Number n)) → Evaluates (t.Assign x e) m m'
 unfolding eval
 assigned x e n p q = record { value = Number n; changes = all p q }
@@ -32,13 +27,13 @@ assigned x e n p q = record { value = Number n; changes = all p q }
     all p q = then_changes _ p q
 
 pub found_assigned : (x : List ℕ) (e : t.Expr) {m m' : Interpreter} (r : Option ℤ) → Finds e m r → PutsNumber x r m m' → Evaluates (t.Assign x e) m m'
-found_assigned x e {m = m} (Some n) p w = assigned x e w.number (subst (λ i. Changes (eval e) m m (Ok (Number i))) (same_number w.is) p) w.stored
-found_assigned x e None p w = absurd (none_made w.is)
+found_assigned x e {m = m} (Some n) p w = assigned x e w.number (subst (λ i. Changes (eval e) m m (Ok (Number i))) (same_Some _ _ w.is) p) w.stored
+found_assigned x e None p w = absurd (none-some _ w.is)
 
 -- the number that is stored is the one that an operator makes of what a name has and of another
 stored_number : (o : BinaryOperator) (v w : Value) {x y : ℤ} (r : Option ℤ) {n : ℤ} → r ≡ Some n → CountsAs v x → CountsAs w y → IfSome r (λ n. applied o (Number x) (Number y) ≡ Ok (Number n)) → OnSome r (takes_pattern o ≡ false) → applied o v w ≡ Ok (Number n)
-stored_number o v w (Some i) is p q made plain = applied_alike o v w plain p q (made ∙ ap (λ k. Ok (Number k)) (same_number is))
-stored_number o v w None is p q made plain = absurd (none_made is)
+stored_number o v w (Some i) is p q made plain = applied_alike o v w plain p q (made ∙ ap (λ k. Ok (Number k)) (same_Some _ _ is))
+stored_number o v w None is p q made plain = absurd (none-some _ is)
 
 stored_by : (o : BinaryOperator) (x : List ℕ) (v old : Value) (n : ℤ) {m m' : Interpreter} → Changes (read_name x) m m (Ok old) → applied o old v ≡ Ok (Number n) → Changes (store x (Number n)) m m' (Ok (Number n)) → Changes (store_by o x v) m m' (Ok (Number n))
 unfolding store_by

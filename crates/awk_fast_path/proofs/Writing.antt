@@ -1,10 +1,11 @@
 -- Texts that are made in place.
-use Rattle.std.proofs.Common.{◌≡◌, ℕ, ℤ, true, List, [], ◌++◌, Option, Some, None, Result, Ok, Err, refl, sym, ap, ◌∙◌, subst, true≢false}
-use Rattle.std.specs.Prelude.{IfSome, IfOk, OnOk, is_ok}
+use Rattle.std.proofs.Common.{◌≡◌, ℕ, ℤ, List, [], ◌++◌, Option, Some, None, Result, Ok, Err, refl, sym, ap, ◌∙◌, subst}
+use Rattle.std.specs.Prelude.{IfSome, IfOk}
 use Rattle.std.specs.Result.{result_ok}
 use Rattle.std.proofs.lemmas.List.{append_assoc}
+use Rattle.std.proofs.lemmas.Option.{none-some, same_Some}
 use Rattle.awk_value.specs.declared.value.Value.{Value}
-use Rattle.awk_value.specs.declared.value.Value.TheVariants.{Nothing, Number, Text, Input}
+use Rattle.awk_value.specs.declared.value.Value.TheVariants.{Number, Text}
 use Rattle.awk_value.specs.Values.{str_of}
 use Rattle.awk_tree.specs.Tree as t
 use Rattle.awk_tree.specs.declared.tree.BinaryOperator.TheVariants.{Concatenate}
@@ -21,21 +22,11 @@ use Rattle.awk_fast_numbers.specs.Found.{HasNumber}
 use Rattle.awk_fast_path.specs.support.Executed.{Evaluates}
 use Rattle.awk_fast_path.specs.support.Written.{Writes, Continues, IsTail}
 use Rattle.awk_fast_numbers.proofs.Counting.{field_reads}
+use Rattle.awk_fast_path.proofs.Leaves.{literal_evaluates, name_evaluates}
 
 concatenates : (a b : t.Expr) (v w : Value) {m : Interpreter} → Changes (eval a) m m (Ok v) → Changes (eval b) m m (Ok w) → Changes (eval (t.Binary Concatenate a b)) m m (Ok (Text (str_of v ++ str_of w)))
 unfolding eval
 concatenates a b v w {m = m} p q = then_changes _ p (then_changes _ q (lift_changes (Ok (Text (str_of v ++ str_of w))) m refl))
-
-literal_evaluates : (v : Value) (m : Interpreter) → IsLiteral v → Changes (eval (literal_of v)) m m (Ok v)
-unfolding eval
-literal_evaluates (Number n) m is = lift_changes (Ok (Number n)) m refl
-literal_evaluates (Text bytes) m is = lift_changes (Ok (Text bytes)) m refl
-literal_evaluates Nothing m is = absurd is
-literal_evaluates (Input bytes) m is = absurd is
-
-name_evaluates : (x : List ℕ) {m : Interpreter} {v : Value} → Changes (read_name x) m m (Ok v) → Changes (eval (t.Name x)) m m (Ok v)
-unfolding eval
-name_evaluates x p = p
 
 pub literal_reads : {R : Type 0} (now : R → Value) (e : t.Expr) (m : Interpreter) (r : Option R) → IfSome r (λ v. e ≡ literal_of (now v)) → IfSome r (λ v. IsLiteral (now v)) → IfSome r (λ v. Changes (eval e) m m (Ok (now v)))
 literal_reads now e m (Some v) is literal = subst (λ x. Changes (eval x) m m (Ok (now v))) (sym is) (literal_evaluates (now v) m literal)
@@ -44,10 +35,6 @@ literal_reads now e m None is literal = tt
 pub name_reads : {R : Type 0} (now : R → Value) (x y : List ℕ) (m : Interpreter) (r : Option R) → y ≡ x → IfSome r (λ v. Changes (read_name y) m m (Ok (now v))) → IfSome r (λ v. Changes (eval (t.Name x)) m m (Ok (now v)))
 name_reads now x y m (Some v) is p = name_evaluates x (subst (λ z. Changes (read_name z) m m (Ok (now v))) is p)
 name_reads now x y m None is p = tt
-
-pub where_ok : {T E P : Type 0} (r : Result T E) → is_ok r ≡ true → OnOk r P → P
-where_ok (Ok x) is p = p
-where_ok (Err e) is p = absurd (true≢false (sym is))
 
 pub join_writes : (a b : t.Expr) (m : Interpreter) (old mid new : List ℕ) → Writes a m old mid → Writes b m mid new → Writes (t.Binary Concatenate a b) m old new
 join_writes a b m old mid new p q = record {
@@ -104,15 +91,9 @@ pub text_given : (e : t.Expr) (m : Interpreter) (o : Option (List ℕ)) (b : Lis
 text_given e m (Some x) b is p = subst (λ s. Changes (eval e) m m (Ok (Text s))) (sym is) p
 text_given e m None b is p = tt
 
-none_some : {A : Type 0} {a : A} → None ≡ Some a → ⊥
-none_some e = cc
-
-same_some : {A : Type 0} {a b : A} → Some a ≡ Some b → a ≡ b
-same_some e = cc
-
 pub ok_has : {A E : Type 0} (P : A → Type 0) (r : Result A E) (a : A) → Some a ≡ result_ok r → IfOk r P → P a
-ok_has P (Ok x) a is p = subst P (sym (same_some is)) p
-ok_has P (Err e) a is p = absurd (none_some (sym is))
+ok_has P (Ok x) a is p = subst P (sym (same_Some _ _ is)) p
+ok_has P (Err e) a is p = absurd (none-some _ (sym is))
 
 -- a field, and a copy of a leaf's value
 

@@ -3,7 +3,6 @@
 ghost use Rattle.std.specs.Prelude.{◌≡◌, true, false, Some};
 ghost use Rattle.awk_tree.specs.Tree.{Assign, AssignBy, PreIncrement, PostIncrement, Simple};
 ghost use Rattle.awk_plan.specs.Plan.{operand_of, part_of, name_at, made_assignment, made_simple, statement_in};
-ghost use Rattle.awk_meaning.specs.Operators.{by_one};
 ghost use Rattle.awk_meaning.specs.Semantics.{exec};
 ghost use Rattle.awk_fast_path.specs.support.Executed.{Evaluates, Executes, IsIf, Joins, RunsBy};
 ghost use Rattle.awk_fast_path.specs.support.Executed.{behind_simple, behind_if, branch_of, given_back};
@@ -13,20 +12,11 @@ use crate::texts::assign_value;
 use awk_fast_numbers::{joined_numbers, named_number, number, numeric_value};
 use awk_interpreter::Interpreter;
 use awk_lex::token::IncrementOperator;
+use awk_operators::by_one;
 use awk_plan::node::{AssignmentNode, Node, Operand, SimpleNode, StatementNode};
 use awk_plan::plan::Plan;
 use awk_tree::tree::BinaryOperator;
 use awk_variables::Update;
-
-/// What joins a number and 1.
-fn by_one(operator: IncrementOperator) -> BinaryOperator
-    ensures { result ≡ by_one operator }
-{
-    match operator {
-        IncrementOperator::Increment => BinaryOperator::Plus,
-        IncrementOperator::Decrement => BinaryOperator::Minus,
-    }
-}
 
 /// Gives a variable the value of an expression. A number is stored as such, and a text that begins with the variable appended.
 fn assign(plan: &Plan, x: u32, e: Operand, interpreter: &mut Interpreter) -> bool

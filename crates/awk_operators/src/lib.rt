@@ -8,6 +8,6 @@ mod patterns;
 
 pub use line::make_line;
 pub use operators::{
-    apply, apply_ere, apply_to_numbers, change, field_at, raise, takes_pattern, truth_value,
+    apply, apply_ere, apply_to_numbers, by_one, change, field_at, raise, takes_pattern, truth_value,
 };
 pub use patterns::Patterns;

@@ -4,13 +4,14 @@ ghost use Rattle.std.specs.Prelude.{◌≡◌, true, false, if◌then◌else◌,
 ghost use Rattle.std.specs.declared.cmp.Ordering.{Ordering as Order};
 ghost use Rattle.awk_value.specs.Values.{num_of, str_of};
 ghost use Rattle.awk_value.specs.declared.value.Value.TheVariants.{Text};
-ghost use Rattle.awk_meaning.specs.Operators.{applied, changed, field_value, matched, raised};
+ghost use Rattle.awk_meaning.specs.Operators.{applied, by_one, changed, field_value, matched, raised};
 ghost use Rattle.awk_meaning.specs.Operators.{relates as related, takes_pattern, truth_value};
 ghost use Rattle.awk_meaning.specs.Results.{Yields};
 ghost use Rattle.awk_meaning.specs.Faults.{of_values};
 
 use crate::patterns::Patterns;
 use awk_fields::Record;
+use awk_lex::token::IncrementOperator;
 use awk_meaning::Halt;
 use awk_tree::tree::{BinaryOperator, Ere, UnaryOperator};
 use awk_value::{
@@ -58,6 +59,16 @@ pub fn change(operator: UnaryOperator, value: &Value) -> Result<Value, Halt>
         UnaryOperator::Not => Ok(truth_value(!is_true(value))),
         UnaryOperator::Plus => Ok(to_number(value)?),
         UnaryOperator::Minus => Ok(negate(value)?),
+    }
+}
+
+/// The operator that joins a number and 1 where `++` or `--` stands. (POSIX awk, Expressions in awk)
+pub fn by_one(operator: IncrementOperator) -> BinaryOperator
+    ensures { result ≡ by_one operator }
+{
+    match operator {
+        IncrementOperator::Increment => BinaryOperator::Plus,
+        IncrementOperator::Decrement => BinaryOperator::Minus,
     }
 }
 

@@ -2,6 +2,7 @@
 use Rattle.std.proofs.Common.{◌≡◌, ◌⊎◌, inl, inr, ℕ, zero, suc, ◌+◌, ◌-◌, ◌≤◌, ℤ, Bool, true, false, if◌then◌else◌, List, [], ◌∷◌, ◌++◌, length, take, drop, Option, None, Some, is_some, Result, Ok, Err, refl, sym, ap, ◌∙◌, subst, append-nil, arith}
 use Rattle.std.specs.Prelude.{IfErr, ◌&&◌}
 use Rattle.std.proofs.lemmas.List.{take-append-drop, length-take-le}
+use Rattle.std.proofs.lemmas.Option.{same_Some}
 use Rattle.awk_streams.specs.declared.fault.StreamFault.{StreamFault}
 use Rattle.awk_streams.specs.Log.{Event, OpenedInput, OpenedOutput, Read, Ended, Broke, Wrote, Flushed, Closed, Ran}
 use Rattle.awk_streams.specs.Oracle.{Oracle, IsConsistent}
@@ -206,9 +207,6 @@ flushed_0 : (main : Option InputView) (answer : ℤ) (log : List Event) → is_f
 flushed_0 None answer log = refl
 flushed_0 (Some v) answer log = either_true _
 
-abbrev EndOf : WorldState → WorldState → StreamsView → Result (Unit {0}) StreamFault → Type 0
-EndOf k1 k2 streams f = (last : StreamsView) × Finishes k1 streams f k2 last
-
 all_flushed : (main : Option InputView) (log log' : List Event) (ends : EndsLog main (Ok tt) log log') → log' ≡ closed_main main ends.answer (Flushed 1 ∷ Flushed 0 ∷ ends.written)
 all_flushed main log log' ends =
     let both = both_true ends.first ends.second ends.flushed in
@@ -237,9 +235,6 @@ in_turn oracle k1 k2 streams last ended o told meant =
 not_some : (failure : Option ℕ) → failure ≡ None → is_some failure ≡ true → ⊥
 not_some None e s = absurd (cc)
 not_some (Some n) e s = absurd (cc)
-
-same_some : (m n : ℕ) → Some m ≡ Some n → m ≡ n
-same_some m n e = cc
 
 pub no_failure_before : (f : Result (Unit {0}) StreamFault) {k k' : WorldState} {old new : StreamsView} → Finishes k old f k' new → k'.first_failure ≡ None → (f ≡ Ok tt) × (k.first_failure ≡ None)
 no_failure_before (Ok u) told clear = (refl, sym told.no_failure ∙ clear)
@@ -270,7 +265,7 @@ fails_by oracle meaning l ended (Err e) n told fault clear some outcome main met
 bounds : (k1 k2 : WorldState) (n : ℕ) → Grows k1 k2 → (k1.first_failure ≡ None) ⊎ FailedLast k1 → k2.first_failure ≡ Some n → (length k1.log ≤ n) × (n ≤ length k2.log)
 bounds k1 k2 n grows (inl none) some = grows.met none n some
 bounds k1 k2 n grows (inr last) some =
-    let at : length k1.log ≡ n = same_some (length k1.log) n (sym (grows.kept (length k1.log) last) ∙ some) in
+    let at : length k1.log ≡ n = same_Some (length k1.log) n (sym (grows.kept (length k1.log) last) ∙ some) in
     let long : length k2.log ≡ length grows.events + length k1.log = ap length grows.log ∙ with_events-length grows.events k1.log in
     (omega (arith, at), omega (arith, at, long))
 

@@ -1,4 +1,4 @@
-use Rattle.awk_expressions.proofs.Constants.{zero_evaluates}
+use Rattle.awk_control.proofs.LeafValues.{zero_evaluates}
 use Rattle.awk_expressions.proofs.LeafMoves.{leaf_steps}
 use Rattle.awk_expressions.proofs.expressions.begin_place.Goals as goal
 

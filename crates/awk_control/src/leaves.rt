@@ -3,7 +3,7 @@
 ghost use Rattle.awk_plan.specs.Plan.{operand_of};
 ghost use Rattle.awk_plan.specs.declared.node.Operand.TheVariants.{Constant, Variable};
 ghost use Rattle.awk_tree.specs.Tree.{Field};
-ghost use Rattle.awk_control.specs.Moves.{ReadsLeaf};
+ghost use Rattle.awk_control.specs.support.Moves.{ReadsLeaf};
 ghost use Rattle.awk_meaning.specs.Semantics.{eval};
 ghost use Rattle.awk_interpreter.specs.Simulation.{Changes};
 
@@ -13,8 +13,8 @@ use awk_plan::node::{ExprNode, Operand};
 use awk_plan::plan::Plan;
 use awk_value::Value;
 
-/// The value of a constant.
-pub(crate) fn constant(plan: &Plan, number: u32) -> Result<Value, Halt>
+/// The value of a constant. A number that no constant has stands for 0. The only error is want of memory.
+pub fn constant(plan: &Plan, number: u32) -> Result<Value, Halt>
     ensures { (m : _) → Changes (eval (operand_of plan.now (Constant number))) m m result }
 {
     match plan.constant(number) {
@@ -31,12 +31,8 @@ fn constant_field(plan: &Plan, number: u32, interpreter: &mut Interpreter) -> Re
     interpreter.field_at(&at)
 }
 
-/// The value of a leaf: a constant, a variable, or the field of a constant number. Of another operand nothing changes.
-pub(crate) fn leaf(
-    plan: &Plan,
-    e: Operand,
-    interpreter: &mut Interpreter,
-) -> Result<Option<Value>, Halt>
+/// The value of a leaf: a constant, a variable, or the field of a constant number. Of another operand nothing is read.
+pub fn leaf(plan: &Plan, e: Operand, interpreter: &mut Interpreter) -> Result<Option<Value>, Halt>
     ensures { ReadsLeaf (operand_of plan.now e) interpreter.old result interpreter.new }
 {
     match e {

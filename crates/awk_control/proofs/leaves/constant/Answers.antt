@@ -4,8 +4,9 @@ use Rattle.awk_value.specs.declared.value.Value.TheVariants.{Nothing}
 use Rattle.awk_plan.specs.Plan.{literal_of}
 use Rattle.awk_meaning.specs.Semantics.{eval}
 use Rattle.awk_interpreter.proofs.Composition.{memory_changes}
-use Rattle.awk_expressions.proofs.Constants.{literal_evaluates, zero_evaluates, past_end}
-use Rattle.awk_expressions.proofs.leaves.constant.Goals as goal
+use Rattle.awk_fast_path.proofs.Leaves.{literal_evaluates}
+use Rattle.awk_control.proofs.LeafValues.{zero_evaluates, past_end}
+use Rattle.awk_control.proofs.leaves.constant.Goals as goal
 
 pub returns-in_err-clone-in-Some : goal.returns-in_err-clone-in-Some
 returns-in_err-clone-in-Some c =

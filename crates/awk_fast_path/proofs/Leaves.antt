@@ -1,11 +1,12 @@
--- Constants of a plan, and what is past the end of a table.
-use Rattle.std.proofs.Common.{◌≡◌, ℕ, List, None, slice_get, slice_index_or, unwrap_or, Ok, pos, refl, sym, ap, ◌∙◌}
-use Rattle.std.proofs.lemmas.Option.{unwrap_or-slice_get}
+-- What constants and names evaluate to.
+use Rattle.std.proofs.Common.{List, ℕ, Result, Ok, refl}
 use Rattle.awk_value.specs.declared.value.Value.{Value}
 use Rattle.awk_value.specs.declared.value.Value.TheVariants as value
 use Rattle.awk_tree.specs.Tree as t
 use Rattle.awk_plan.specs.Plan.{literal_of}
 use Rattle.awk_plan.specs.Order.{IsLiteral}
+use Rattle.awk_meaning.specs.declared.halt.Halt.{Halt}
+use Rattle.awk_meaning.specs.Primitives.{read_name}
 use Rattle.awk_meaning.specs.Semantics.{eval}
 use Rattle.awk_interpreter.specs.declared.interpreter.Interpreter.{Interpreter}
 use Rattle.awk_interpreter.specs.Simulation.{Changes}
@@ -18,10 +19,6 @@ literal_evaluates (value.Text bytes) m is = lift_changes (Ok (value.Text bytes))
 literal_evaluates value.Nothing m is = absurd is
 literal_evaluates (value.Input bytes) m is = absurd is
 
-pub zero_evaluates : (m : Interpreter) → Changes (eval (t.Number (pos 0))) m m (Ok (value.Number (pos 0)))
+pub name_evaluates : (x : List ℕ) {m m' : Interpreter} {r : Result Value Halt} → Changes (read_name x) m m' r → Changes (eval (t.Name x)) m m' r
 unfolding eval
-zero_evaluates m = lift_changes (Ok (value.Number (pos 0))) m refl
-
--- past the end stands what is given
-pub past_end : {A : Type 0} (xs : List A) (i : ℕ) (d : A) → None ≡ slice_get xs i → slice_index_or xs i d ≡ d
-past_end xs i d none = sym (unwrap_or-slice_get xs i d) ∙ ap (λ o. unwrap_or o d) (sym none)
+name_evaluates x p = p

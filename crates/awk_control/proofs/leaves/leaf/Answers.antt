@@ -1,6 +1,6 @@
 use Rattle.std.proofs.lemmas.Result.{err_from_is_err_and}
-use Rattle.awk_expressions.proofs.LeafMoves.{name_evaluates}
-use Rattle.awk_expressions.proofs.leaves.leaf.Goals as goal
+use Rattle.awk_fast_path.proofs.Leaves.{name_evaluates}
+use Rattle.awk_control.proofs.leaves.leaf.Goals as goal
 
 pub returns-in_err-value-in-Constant : goal.returns-in_err-value-in-Constant
 returns-in_err-value-in-Constant c =

@@ -1,6 +1,6 @@
 use Rattle.std.proofs.lemmas.Result.{err_from_is_err_and}
-use Rattle.awk_expressions.proofs.LeafMoves.{field_reads, field_unread}
-use Rattle.awk_expressions.proofs.leaves.constant_field.Goals as goal
+use Rattle.awk_control.proofs.LeafValues.{field_reads, field_unread}
+use Rattle.awk_control.proofs.leaves.constant_field.Goals as goal
 
 pub returns-in_err-at : goal.returns-in_err-at
 returns-in_err-at c =
