@@ -1,2 +1,2 @@
-pub mod ForParts
+pub mod AloneStatements
 pub mod OtherTokens

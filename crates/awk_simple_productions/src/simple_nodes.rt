@@ -1,19 +1,19 @@
-// The nodes of simple statements and the parts of a `for`: none where a child is none or the node is too high.
+// The nodes of simple statements: none where a child is none or the node is too high.
 
 ghost use Rattle.std.specs.Prelude.{◌≡◌, IfOk};
 ghost use Rattle.awk_grammar.specs.definitions.Tree as t;
 ghost use Rattle.awk_grammar.specs.definitions.Height.{max_height, height_of_print_list};
-ghost use Rattle.awk_grammar.specs.definitions.Height.{height_of_simple, height_of_optional_simple, height_of_statement};
+ghost use Rattle.awk_grammar.specs.definitions.Height.{height_of_simple, height_of_statement};
 ghost use Rattle.awk_grammar.specs.support.Nodes.{over_one};
 ghost use Rattle.awk_grammar.specs.support.ParserStatements as parser;
 ghost use Rattle.awk_nodes.specs.support.Checked.{checked_exprs};
 ghost use Rattle.awk_statement_nodes.specs.support.Checked.{checked_print_list, checked_simple};
-ghost use Rattle.awk_statement_nodes.specs.support.Checked.{checked_part, checked_optional_expr, checked_statement};
+ghost use Rattle.awk_statement_nodes.specs.support.Checked.{checked_optional_expr, checked_statement};
 
 use awk_grammar::tree::{Output, PrintForm, PrintList, SimpleStatement, Statement};
 use awk_nodes::checked::CheckedExprs;
 use awk_statement_nodes::checked::{
-    CheckedOptionalExpr, CheckedPart, CheckedPrintList, CheckedSimple, CheckedStatement,
+    CheckedOptionalExpr, CheckedPrintList, CheckedSimple, CheckedStatement,
 };
 use awk_value::Bytes;
 use std::alloc::{AllocError, Global};
@@ -58,16 +58,6 @@ pub(crate) fn delete(name: Bytes, subscripts: Option<CheckedExprs>) -> Option<Ch
     let subscripts = subscripts?;
     let height = subscripts.height + 1;
     CheckedSimple::of(SimpleStatement::Delete(name, subscripts.exprs), height)
-}
-
-/// A part of a `for` that is there.
-pub(crate) fn part(simple: Option<CheckedSimple>) -> Option<CheckedPart>
-    ensures { checked_part result ≡ over_one max_height height_of_optional_simple t.ASimple (checked_simple simple) }
-{
-    let simple = simple?;
-    let height = simple.height;
-    let part = Some(simple.simple);
-    Some(CheckedPart { part, height })
 }
 
 /// `exit`, with its value or without.

@@ -6,11 +6,9 @@ ghost use Rattle.awk_grammar.specs.support.Parser as parser;
 ghost use Rattle.awk_statement_nodes.specs.support.Checked.{checked_statement};
 ghost use Rattle.awk_frames.specs.support.FrameView.{statement_state_of, stack_of, next_of};
 
+use crate::for_parts::{before_for_condition, before_for_first, before_for_last};
 use crate::prints::after_print;
-use crate::simple::{
-    after_delete_name, after_exit, before_for_condition, before_for_first, before_for_last,
-    end_simple,
-};
+use crate::simple::{after_delete_name, after_exit, end_simple};
 use crate::simple_nodes::{exit, return_statement};
 use awk_frames::frame::{ExpressionFrame, Frame};
 use awk_frames::state::{NextToken, ParserState, StatementState};

@@ -1,3 +1,4 @@
 pub mod DoBodies
+pub mod ForParts
 pub mod OtherTokens
 pub mod StatementLists

@@ -1,8 +1,8 @@
-// The nodes of statements: none where a child is none or the node is too high.
+// The nodes of statements and of the parts of a `for`: none where a child is none or the node is too high.
 
 ghost use Rattle.std.specs.Prelude.{◌≡◌, Some, IfOk};
 ghost use Rattle.awk_grammar.specs.definitions.Tree as t;
-ghost use Rattle.awk_grammar.specs.definitions.Height.{max_height, height_of_statement, tallest_of};
+ghost use Rattle.awk_grammar.specs.definitions.Height.{max_height, height_of_statement, height_of_optional_simple, tallest_of};
 ghost use Rattle.awk_grammar.specs.support.Nodes.{limited, over_one, over_two, over_three, over_four, push};
 ghost use Rattle.awk_nodes.specs.support.Checked.{checked_expr};
 ghost use Rattle.awk_statement_nodes.specs.support.Checked.{checked_simple, checked_part, checked_optional_expr};
@@ -44,6 +44,16 @@ pub(crate) fn continue_statement() -> CheckedSimple
         simple: SimpleStatement::Continue,
         height: 1,
     }
+}
+
+/// A part of a `for` that is there.
+pub(crate) fn part(simple: Option<CheckedSimple>) -> Option<CheckedPart>
+    ensures { checked_part result ≡ over_one max_height height_of_optional_simple t.ASimple (checked_simple simple) }
+{
+    let simple = simple?;
+    let height = simple.height;
+    let part = Some(simple.simple);
+    Some(CheckedPart { part, height })
 }
 
 /// A `;` alone.

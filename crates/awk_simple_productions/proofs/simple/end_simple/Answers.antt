@@ -1,7 +1,7 @@
 use Rattle.std.proofs.Common.{sym, ◌∙◌}
 use Rattle.awk_statement_nodes.specs.support.Checked.{checked_simple}
 use Rattle.awk_frames.specs.support.FrameView.{stack_of}
-use Rattle.awk_simple_productions.proofs.ForParts.{ends_alone}
+use Rattle.awk_simple_productions.proofs.AloneStatements.{ends_alone}
 use Rattle.awk_simple_productions.proofs.simple.end_simple.Goals as goal
 
 pub returns-then-is_part_on : goal.returns-then-is_part_on

@@ -1,7 +1,7 @@
 use Rattle.awk_statement_nodes.specs.support.Checked.{checked_part}
 use Rattle.awk_frames.specs.support.FrameView.{stack_of}
 use Rattle.awk_simple_productions.proofs.OtherTokens.{condition_begins}
-use Rattle.awk_simple_productions.proofs.simple.before_for_condition.Goals as goal
+use Rattle.awk_simple_productions.proofs.for_parts.before_for_condition.Goals as goal
 
 pub returns-in_ok-push-in_default : goal.returns-in_ok-push-in_default
 returns-in_ok-push-in_default c =

@@ -1,8 +1,7 @@
 -- What stands on top of the stack is a part of a `for`, or the statement before it is none.
-use Rattle.std.proofs.Common.{◌≡◌, true, false, List, [], ◌∷◌, Option, Some, None, refl, sym, ◌∙◌}
-use Rattle.awk_lex.specs.declared.token.Kind.{Kind}
-use Rattle.awk_grammar.specs.definitions.Height.{max_height}
-use Rattle.awk_grammar.specs.definitions.Tree.{SimpleStatement}
+use Rattle.std.proofs.Common.{◌≡◌, ◌<◌, ◌-◌, true, false, List, [], ◌∷◌, length, map, reverse, slice_get, get_or, Some, None, refl, sym, ap, subst, ◌∙◌, arith}
+use Rattle.std.proofs.lemmas.List.{get_or-reverse, length-reverse}
+use Rattle.std.proofs.lemmas.Option.{slice_get_within, get_or_from_slice_get}
 use Rattle.awk_grammar.specs.support.Parser as parser
 use Rattle.awk_frames.specs.declared.frame.Frame.{Frame}
 use Rattle.awk_frames.specs.declared.frame.Frame.TheVariants as frame
@@ -14,8 +13,8 @@ use Rattle.awk_frames.specs.declared.frame.ExpressionFrame.{ExpressionFrame}
 use Rattle.awk_frames.specs.declared.frame.ExpressionFrame.TheVariants as expression
 use Rattle.awk_frames.specs.declared.frame.BodyFrame.{BodyFrame}
 use Rattle.awk_frames.specs.declared.frame.BodyFrame.TheVariants as body
-use Rattle.awk_frames.specs.support.FrameView.{node_frame_of, list_of, list_frame_of, expression_frame_of, body_frame_of, frame_of}
-use Rattle.awk_simple_productions.specs.support.Ending.{is_part, is_part_on}
+use Rattle.awk_frames.specs.support.FrameView.{node_frame_of, list_of, list_frame_of, expression_frame_of, body_frame_of, frame_of, stack_of}
+use Rattle.awk_statement_productions.specs.support.Parts.{is_part, is_part_on}
 
 no : false ≡ true → ⊥
 no h = absurd (cc)
@@ -83,42 +82,14 @@ is_first (frame.Block None all) p i = absurd (no p)
 is_first (frame.Block (Some b) all) p i = absurd (no p)
 is_first (frame.Program items) p i = absurd (no p)
 
--- a statement of its own
-pub ends_alone : (y : Kind) (x : Option SimpleStatement) (k : List parser.Frame) → is_part_on k ≡ false → parser.end_simple max_height y x k ≡ parser.end_simple_statement max_height y (parser.simple_statement max_height x) k
-ends_alone y x [] h = refl
-ends_alone y x (parser.InGroup a b ∷ k) h = refl
-ends_alone y x (parser.InCall a b c ∷ k) h = refl
-ends_alone y x (parser.InBuiltIn a b c ∷ k) h = refl
-ends_alone y x (parser.InElement a b c ∷ k) h = refl
-ends_alone y x (parser.InField ∷ k) h = refl
-ends_alone y x (parser.InPreIncrement a ∷ k) h = refl
-ends_alone y x (parser.InUnary a ∷ k) h = refl
-ends_alone y x (parser.InBinary a b ∷ k) h = refl
-ends_alone y x (parser.InAssign a b ∷ k) h = refl
-ends_alone y x (parser.InFirstChoice a ∷ k) h = refl
-ends_alone y x (parser.InSecondChoice a b ∷ k) h = refl
-ends_alone y x (parser.InGetlinePlace a ∷ k) h = refl
-ends_alone y x (parser.InGetlineFile a ∷ k) h = refl
-ends_alone y x (parser.InExpression ∷ k) h = refl
-ends_alone y x (parser.InPrint a b ∷ k) h = refl
-ends_alone y x (parser.InOutput a b c ∷ k) h = refl
-ends_alone y x (parser.InDelete a b ∷ k) h = refl
-ends_alone y x (parser.InExit ∷ k) h = refl
-ends_alone y x (parser.InReturn ∷ k) h = refl
-ends_alone y x (parser.InIfCondition ∷ k) h = refl
-ends_alone y x (parser.InWhileCondition ∷ k) h = refl
-ends_alone y x (parser.InDoCondition a ∷ k) h = refl
-ends_alone y x (parser.InForFirst ∷ k) h = absurd (no (sym h))
-ends_alone y x (parser.InForCondition a ∷ k) h = refl
-ends_alone y x (parser.InForLast a b ∷ k) h = absurd (no (sym h))
-ends_alone y x (parser.InBlock a ∷ k) h = refl
-ends_alone y x (parser.InIfBody a ∷ k) h = refl
-ends_alone y x (parser.InElseBody a b ∷ k) h = refl
-ends_alone y x (parser.InWhileBody a ∷ k) h = refl
-ends_alone y x (parser.InDoBody ∷ k) h = refl
-ends_alone y x (parser.InForInBody a b ∷ k) h = refl
-ends_alone y x (parser.InForBody a b c ∷ k) h = refl
-ends_alone y x (parser.InPattern ∷ k) h = refl
-ends_alone y x (parser.InRangeEnd a ∷ k) h = refl
-ends_alone y x (parser.InAction a b ∷ k) h = refl
-ends_alone y x (parser.InProgram a ∷ k) h = refl
+-- the last frame of the code's stack is the one on top
+first_tells : (fs : List Frame) (f : Frame) → get_or fs 0 f ≡ f → 0 < length fs → is_part_on (map frame_of fs) ≡ is_part (frame_of f)
+first_tells [] f is some = absurd (omega (arith, some))
+first_tells (g ∷ fs) f is some = ap (λ h. is_part (frame_of h)) is
+
+pub last_tells : (fs : List Frame) (f : Frame) → Some f ≡ slice_get fs (length fs - 1) → is_part_on (stack_of fs) ≡ is_part (frame_of f)
+last_tells fs f is =
+    let within = slice_get_within fs (length fs - 1) f (sym is) in
+    let some : 0 < length fs = omega (arith, within) in
+    let at : length fs - 1 - 0 ≡ length fs - 1 = omega arith in
+    first_tells (reverse fs) f (get_or-reverse fs 0 f some ∙ (ap (λ k. get_or fs k f) at ∙ get_or_from_slice_get fs (length fs - 1) f f (sym is))) (subst (λ n. 0 < n) (sym (length-reverse fs)) some)

@@ -1,9 +1,9 @@
 use Rattle.std.proofs.Common.{◌≡◌, ◌∷◌, ap, sym, ◌∙◌}
 use Rattle.awk_frames.specs.support.FrameView.{frame_of, stack_of, popped}
 use Rattle.awk_grammar.specs.support.Parser as parser
-use Rattle.awk_simple_productions.specs.support.Ending.{is_part_on}
-use Rattle.awk_simple_productions.proofs.ForParts.{is_first}
-use Rattle.awk_simple_productions.proofs.simple.end_part.Goals as goal
+use Rattle.awk_statement_productions.specs.support.Parts.{is_part_on}
+use Rattle.awk_statement_productions.proofs.ForParts.{is_first}
+use Rattle.awk_statement_productions.proofs.for_parts.end_part.Goals as goal
 
 pub returns-in_default-frame : goal.returns-in_default-frame
 returns-in_default-frame c =
