@@ -1,4 +1,1 @@
-mod Stores
-mod LeafMoves
-mod LeafOperands
 mod OperandMoves

@@ -1,5 +1,5 @@
 -- The moves of the code behind operands.
-use Rattle.std.proofs.Common.{ℕ, List, ◌∷◌, Ok, Err, refl, arith}
+use Rattle.std.proofs.Common.{List, ◌∷◌, Ok, Err, refl, arith}
 use Rattle.awk_value.specs.declared.value.Value.{Value}
 use Rattle.awk_value.specs.Values.{truth_of}
 use Rattle.awk_tree.specs.declared.tree.UnaryOperator.{UnaryOperator}
@@ -11,14 +11,13 @@ use Rattle.awk_meaning.specs.State.{lift}
 use Rattle.awk_meaning.specs.Operators.{changed, applied, truth_value}
 use Rattle.awk_meaning.specs.Primitives.{field_at}
 use Rattle.awk_meaning.specs.Results.{Yields}
-use Rattle.awk_meaning.specs.Semantics.{store, store_by}
 use Rattle.awk_interpreter.specs.declared.interpreter.Interpreter.{Interpreter}
 use Rattle.awk_interpreter.specs.Simulation.{Changes}
 use Rattle.awk_interpreter.proofs.Composition.{lift_changes}
-use Rattle.awk_control.specs.Stack.{value_in, Entry, FieldNumber, UnaryOperand, RightOperand, LogicalRight, AssignedValue, AssignedByValue, Ended}
+use Rattle.awk_control.specs.Stack.{value_in, Entry, FieldNumber, UnaryOperand, RightOperand, LogicalRight, Ended}
 use Rattle.awk_control.specs.declared.stack.Stack.{Stack}
 use Rattle.awk_control.specs.Moves.{is_returned, with_value, stack_of, Steps}
-use Rattle.awk_control.proofs.ExprMoves.{field_gives, field_stops, unary_gives, unary_stops, right_gives, right_stops, logical_gives, assigned_gives, assigned_stops, assigned_by_gives, assigned_by_stops}
+use Rattle.awk_control.proofs.ExprMoves.{field_gives, field_stops, unary_gives, unary_stops, right_gives, right_stops, logical_gives}
 use Rattle.awk_control.proofs.Steps.{onward, halts}
 
 module _ {plan : Program} (stack : Stack) (g : Flow) {v : Value} {m m' : Interpreter} where
@@ -28,24 +27,12 @@ module _ {plan : Program} (stack : Stack) (g : Flow) {v : Value} {m m' : Interpr
   pub right_steps : (o : BinaryOperator) (y : Value) → Changes (lift (applied o y (value_in g))) m m' (Ok v) → Steps plan (Ended g) (RightOperand o y ∷ stack_of plan stack) m (Ok is_returned) (with_value stack v) m'
   right_steps o y p = onward refl (λ k. right_gives _ _ _ p) (omega arith) p.steps p.streams
 
-  pub assigned_steps : (name : List ℕ) → Changes (store name (value_in g)) m m' (Ok v) → Steps plan (Ended g) (AssignedValue name ∷ stack_of plan stack) m (Ok is_returned) (with_value stack v) m'
-  assigned_steps name p = onward refl (λ k. assigned_gives _ _ p) (omega arith) p.steps p.streams
-
-  pub assigned_by_steps : (o : BinaryOperator) (name : List ℕ) → Changes (store_by o name (value_in g)) m m' (Ok v) → Steps plan (Ended g) (AssignedByValue o name ∷ stack_of plan stack) m (Ok is_returned) (with_value stack v) m'
-  assigned_by_steps o name p = onward refl (λ k. assigned_by_gives _ _ _ p) (omega arith) p.steps p.streams
-
 module _ {plan : Program} (g : Flow) {h : Halt} {st : List Entry} {new : Stack} {m m' : Interpreter} where
   pub field_fails : Changes (field_at (value_in g)) m m' (Err h) → Steps plan (Ended g) (FieldNumber ∷ st) m (Err h) new m'
   field_fails p = halts (λ k. field_stops _ p) p.steps p.streams
 
   pub right_fails : (o : BinaryOperator) (y : Value) → Changes (lift (applied o y (value_in g))) m m' (Err h) → Steps plan (Ended g) (RightOperand o y ∷ st) m (Err h) new m'
   right_fails o y p = halts (λ k. right_stops _ _ _ p) p.steps p.streams
-
-  pub assigned_fails : (name : List ℕ) → Changes (store name (value_in g)) m m' (Err h) → Steps plan (Ended g) (AssignedValue name ∷ st) m (Err h) new m'
-  assigned_fails name p = halts (λ k. assigned_stops _ _ p) p.steps p.streams
-
-  pub assigned_by_fails : (o : BinaryOperator) (name : List ℕ) → Changes (store_by o name (value_in g)) m m' (Err h) → Steps plan (Ended g) (AssignedByValue o name ∷ st) m (Err h) new m'
-  assigned_by_fails o name p = halts (λ k. assigned_by_stops _ _ _ p) p.steps p.streams
 
 module _ {plan : Program} (stack : Stack) (g : Flow) {m : Interpreter} where
   pub unary_steps : (o : UnaryOperator) (v : Value) → Yields (Ok v) (changed o (value_in g)) → Steps plan (Ended g) (UnaryOperand o ∷ stack_of plan stack) m (Ok is_returned) (with_value stack v) m

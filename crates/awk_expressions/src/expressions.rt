@@ -13,10 +13,10 @@ ghost use Rattle.awk_control.specs.Entries.{awaited_at, GoesRight};
 ghost use Rattle.awk_control.specs.Stack.{BeginExpr, Ended, LeftOperand, value_in};
 ghost use Rattle.awk_control.specs.Moves.{Steps, stack_of, topped, flow_of};
 
-use crate::assignment_moves::{
+use crate::short_circuit::{begin_and, begin_conditional, begin_or, chosen, end_and, end_or};
+use awk_assignments::assignment_moves::{
     begin_assignment, end_assigned, end_assigned_by, end_stored, end_stored_by,
 };
-use crate::short_circuit::{begin_and, begin_conditional, begin_or, chosen, end_and, end_or};
 use awk_conditions::{pattern_operand, record_matches};
 use awk_control::awaiting::{await_operand, give, is_returned_true, take_value};
 use awk_control::entry::{OperandEntry, State};

@@ -1,7 +1,5 @@
 //! The moves of expressions: each begins with its first operand, and goes on where that has returned its value.
 #![tactic(auto)]
 
-pub mod assignment_moves;
-mod assignments;
 pub mod expressions;
 mod short_circuit;

@@ -12,12 +12,12 @@ ghost use Rattle.awk_control.specs.Stack.{BeginStatement, BeginBlock, Ended};
 ghost use Rattle.awk_control.specs.Moves.{Moves, Steps, stack_of, topped, flow_of};
 
 use crate::prints::{begin_print, end_printed, next_of};
+use awk_assignments::assignment_moves::begin_store;
 use awk_control::awaiting::{is_returned_true, spend_for, take_value};
 use awk_control::blocks::block;
 use awk_control::entry::{Entry, State, StatementEntry};
 use awk_control::in_place::{Reached, advance};
 use awk_control::stack::{Focus, Move, Passed, Stack};
-use awk_expressions::assignment_moves::begin_store;
 use awk_interpreter::Interpreter;
 use awk_meaning::Halt;
 use awk_plan::node::{BlockNode, SimpleNode};

@@ -1,6 +1,6 @@
 use Rattle.std.proofs.lemmas.Result.{err_from_is_err_and}
 use Rattle.awk_fast_path.proofs.Leaves.{name_evaluates}
-use Rattle.awk_expressions.proofs.LeafMoves.{leaf_steps, leaf_stops}
+use Rattle.awk_assignments.proofs.LeafMoves.{leaf_steps, leaf_stops}
 use Rattle.awk_expressions.proofs.expressions.begin_expr.Goals as goal
 
 pub returns-in_err-value-in-Constant : goal.returns-in_err-value-in-Constant

@@ -3,7 +3,7 @@ use Rattle.std.proofs.lemmas.Result.{err_from_is_err_and}
 use Rattle.std.proofs.lemmas.Option.{get_or_from_slice_get}
 use Rattle.awk_control.proofs.ExprMoves.{group_begins}
 use Rattle.awk_fast_path.proofs.Leaves.{name_evaluates}
-use Rattle.awk_expressions.proofs.LeafMoves.{leaf_steps, leaf_stops}
+use Rattle.awk_assignments.proofs.LeafMoves.{leaf_steps, leaf_stops}
 use Rattle.awk_control.proofs.Steps.{onward}
 use Rattle.awk_expressions.proofs.expressions.begin_node.Goals as goal
 

@@ -1,5 +1,5 @@
 use Rattle.awk_control.proofs.LeafValues.{zero_evaluates}
-use Rattle.awk_expressions.proofs.LeafMoves.{leaf_steps}
+use Rattle.awk_assignments.proofs.LeafMoves.{leaf_steps}
 use Rattle.awk_expressions.proofs.expressions.begin_place.Goals as goal
 
 pub returns-in-Some : goal.returns-in-Some

@@ -5,7 +5,7 @@ use Rattle.awk_control.proofs.ExprMoves.{unary_begins}
 use Rattle.awk_control.proofs.Steps.{awaited_plain}
 use Rattle.awk_control.proofs.Entries.{waits}
 use Rattle.awk_control.specs.declared.entry.State.TheVariants as state
-use Rattle.awk_expressions.proofs.LeafOperands.{operand_read, operand_unread}
+use Rattle.awk_assignments.proofs.LeafOperands.{operand_read, operand_unread}
 use Rattle.awk_expressions.proofs.OperandMoves.{unary_steps, unary_fails}
 use Rattle.awk_expressions.proofs.expressions.begin_unary.Goals as goal
 

@@ -5,7 +5,7 @@ use Rattle.awk_control.proofs.ExprMoves.{or_begins}
 use Rattle.awk_control.proofs.Steps.{awaited_plain}
 use Rattle.awk_control.proofs.Entries.{waits}
 use Rattle.awk_control.specs.declared.entry.State.TheVariants as state
-use Rattle.awk_expressions.proofs.LeafOperands.{operand_read, operand_unread}
+use Rattle.awk_assignments.proofs.LeafOperands.{operand_read, operand_unread}
 use Rattle.awk_expressions.proofs.short_circuit.begin_or.Goals as goal
 
 pub returns-in_err-left : goal.returns-in_err-left

@@ -3,7 +3,7 @@ use Rattle.std.proofs.lemmas.Result.{err_from_is_err_and}
 use Rattle.awk_meaning.specs.declared.flow.Flow.TheVariants as flow
 use Rattle.awk_control.proofs.ExprMoves.{and_ends, and_goes_on}
 use Rattle.awk_control.proofs.Steps.{onward, awaited_plain}
-use Rattle.awk_expressions.proofs.LeafOperands.{operand_read, operand_unread}
+use Rattle.awk_assignments.proofs.LeafOperands.{operand_read, operand_unread}
 use Rattle.awk_expressions.proofs.OperandMoves.{logical_steps}
 use Rattle.awk_expressions.proofs.short_circuit.end_and.Goals as goal
 

@@ -1,0 +1,4 @@
+mod Stores
+mod AssignedMoves
+pub mod LeafMoves
+pub mod LeafOperands
