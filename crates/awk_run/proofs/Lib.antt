@@ -1,4 +1,4 @@
 mod Accepted
-mod ItemLemmas
+mod AssignmentLemmas
 mod RunEnds
 mod RunsFrom

@@ -20,7 +20,7 @@ use Rattle.awk_meaning.specs.Order.{IsInTurn}
 use Rattle.awk_meaning.specs.Failure.{FailsAt}
 use Rattle.awk_streams.specs.WorldState.{WorldState}
 use Rattle.awk_interpreter.specs.Simulation.{number_of, StateRelation, IsStart}
-use Rattle.awk_run.specs.support.Items.{AssignsAndRuns}
+use Rattle.awk_run.specs.support.Assigned.{AssignsAndRuns}
 use Rattle.awk_run.proofs.RunEnds.{read_off, IsMeant, Came, came, in_turn, no_failure_before, halted_by, fails_at, begins_at_end}
 use Rattle.awk_run.specs.definitions.Headline.{IsUntouched, IsUndisturbed, Runs, RunsFrom}
 use Rattle.awk_run.specs.support.Verdict.{outcome_after, no_streams, EndsWithoutStreams}

@@ -6,6 +6,5 @@ pub use Rattle.awk_run.specs.definitions.Start
 pub use Rattle.awk_meaning.specs.Meaning
 pub use Rattle.awk_meaning.specs.Outcome
 pub use Rattle.awk_operands.specs.Operands
-pub use Rattle.awk_run.specs.support.Items
-pub use Rattle.awk_run.specs.support.Planned
+pub use Rattle.awk_run.specs.support.Assigned
 pub use Rattle.awk_run.specs.support.Verdict

@@ -1,3 +1,2 @@
-pub mod Items
-pub mod Planned
+pub mod Assigned
 pub mod Verdict

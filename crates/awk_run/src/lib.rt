@@ -1,7 +1,6 @@
 //! The run of a program: from a text and a world to the bytes on the outputs and an outcome.
 #![tactic(auto)]
 
-mod items;
 mod program;
 mod start;
 

@@ -1,7 +1,6 @@
 // A whole run, of a plan and of a text.
 
-ghost use Rattle.std.specs.Prelude.{◌≡◌, ◌≤◌, ◌⊎◌, List, ℕ, map, IfOk, IfErr, OnErr};
-ghost use Rattle.awk_lex.specs.Refused.{IsOutOfMemory};
+ghost use Rattle.std.specs.Prelude.{◌≡◌, ◌≤◌, List, ℕ, map, IfOk, IfErr, OnErr};
 ghost use Rattle.awk_grammar.specs.Height.{max_height};
 ghost use Rattle.awk_tree.specs.Height.{height_of_items};
 ghost use Rattle.awk_tree.specs.Tree.{Item as ItemTree};
@@ -12,13 +11,13 @@ ghost use Rattle.awk_run.specs.definitions.Start.{start_values, pair_of};
 ghost use Rattle.awk_meaning.specs.Meaning.{outcome_of};
 ghost use Rattle.awk_streams.specs.Outputs.{IsOutputFault};
 ghost use Rattle.awk_streams.specs.Streams.{AreOpen, IsSoundMain};
-ghost use Rattle.awk_run.specs.support.Items.{Assigns, AssignsAndRuns};
+ghost use Rattle.awk_run.specs.support.Assigned.{Assigns, AssignsAndRuns};
 ghost use Rattle.awk_run.specs.support.Verdict.{outcome_after, EndsWithoutStreams, ReadsOnly};
 ghost use Rattle.awk_run.specs.definitions.Headline.{Executed, RunsFrom};
 
-use crate::items::run_items;
 use crate::start::{Assignment, Start};
 use awk_interpreter::Interpreter;
+use awk_items::run_items;
 use awk_lex::lexer::tokens;
 use awk_lex::refusal::Refusal;
 use awk_machine::Stack;

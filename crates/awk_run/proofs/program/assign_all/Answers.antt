@@ -1,6 +1,6 @@
 use Rattle.std.proofs.Common.{sym, arith}
 use Rattle.std.proofs.lemmas.Result.{err_from_is_err_and}
-use Rattle.awk_run.proofs.ItemLemmas.{assigns_end, assigns_halt, assigns_step, pair_at, pairs_over}
+use Rattle.awk_run.proofs.AssignmentLemmas.{assigns_end, assigns_halt, assigns_step, pair_at, pairs_over}
 use Rattle.awk_run.proofs.program.assign_all.Goals as goal
 
 pub loop-assignment-preserved : goal.loop-assignment-preserved

@@ -2,7 +2,7 @@ use Rattle.std.proofs.Common.{drop, map, Result}
 use Rattle.awk_interpreter.specs.declared.interpreter.Interpreter.{Interpreter}
 use Rattle.awk_meaning.specs.declared.halt.Halt.{Halt}
 use Rattle.awk_run.specs.definitions.Start.{pair_of}
-use Rattle.awk_run.specs.support.Items.{Assigns}
+use Rattle.awk_run.specs.support.Assigned.{Assigns}
 use Rattle.awk_run.proofs.program.assign_all.Given as goal
 
 abbrev pub invariant-loop-assignment : goal.invariant-loop-assignment

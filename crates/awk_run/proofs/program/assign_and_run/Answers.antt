@@ -1,5 +1,5 @@
 use Rattle.std.proofs.lemmas.Result.{err_from_is_err_and}
-use Rattle.awk_run.proofs.ItemLemmas.{undeclared, declared, assigned_halts, assigned_runs}
+use Rattle.awk_run.proofs.AssignmentLemmas.{undeclared, declared, assigned_halts, assigned_runs}
 use Rattle.awk_run.proofs.program.assign_and_run.Goals as goal
 
 pub returns-in_err-declare : goal.returns-in_err-declare
