@@ -72,7 +72,8 @@ fn begin_assign_by(
     }
 }
 
-/// Begins an assignment or an increment whose value is used. (POSIX awk, Expressions in awk)
+/// Begins an assignment or an increment whose value is used. A `Halt` is a fault of what is done at once, or want of
+/// memory. (POSIX awk, Expressions in awk)
 pub fn begin_assignment(
     plan: &Plan,
     place: u32,
@@ -103,7 +104,8 @@ pub fn begin_assignment(
     }
 }
 
-/// Begins an assignment or an increment that is a statement, and spends its step. (POSIX awk, Actions)
+/// Begins an assignment or an increment that is a statement, and spends its step. A `Halt` is a fault of what is done at
+/// once, want of memory, or `OutOfSteps`. (POSIX awk, Actions)
 pub fn begin_store(
     plan: &Plan,
     place: u32,
@@ -136,7 +138,8 @@ pub fn begin_store(
     }
 }
 
-/// Goes on behind the value that a variable gets.
+/// Goes on behind the value that a variable gets. A `Halt` is the assignment's fault, or want of memory.
+/// (POSIX awk, Expressions in awk)
 pub fn end_assigned(
     plan: &Plan,
     number: u32,
@@ -152,7 +155,8 @@ pub fn end_assigned(
     Ok(give(stored, stack))
 }
 
-/// Goes on behind the value with which an operator changes a variable.
+/// Goes on behind the value with which an operator changes a variable. A `Halt` is the operator's or the assignment's
+/// fault, or want of memory. (POSIX awk, Expressions in awk)
 pub fn end_assigned_by(
     plan: &Plan,
     operator: BinaryOperator,
@@ -169,7 +173,8 @@ pub fn end_assigned_by(
     Ok(give(stored, stack))
 }
 
-/// Goes on behind the value that a variable gets by a statement.
+/// Goes on behind the value that a variable gets by a statement. A `Halt` is the assignment's fault, or want of memory.
+/// (POSIX awk, Actions)
 pub fn end_stored(
     plan: &Plan,
     number: u32,
@@ -185,7 +190,8 @@ pub fn end_stored(
     Ok(Move::On(Focus::Ended(Passed::Normal)))
 }
 
-/// Goes on behind the value with which an operator changes a variable by a statement.
+/// Goes on behind the value with which an operator changes a variable by a statement. A `Halt` is the operator's or the
+/// assignment's fault, or want of memory. (POSIX awk, Actions)
 pub fn end_stored_by(
     plan: &Plan,
     operator: BinaryOperator,

@@ -30,10 +30,6 @@ all_three_some f a b x y None e h = rw (e, h) refl
 pub both_none : {A B C : Type 0} (f : A → B → C) (x : Option A) (r : Option B) → x ≡ None → both f x r ≡ None
 both_none f x r e = rw e refl
 
-pub both_second : {A B C : Type 0} (f : A → B → C) (x : Option A) (r : Option B) → r ≡ None → both f x r ≡ None
-both_second f (Some a) r e = rw e refl
-both_second f None r e = refl
-
 pub all_three_first : {A B C D : Type 0} (f : A → B → C → D) (x : Option A) (y : Option B) (z : Option C) → x ≡ None → all_three f x y z ≡ None
 all_three_first f x y z e = rw e refl
 

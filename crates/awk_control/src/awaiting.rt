@@ -59,7 +59,8 @@ pub fn await_value(entry: Entry, e: Operand, stack: &mut Stack) -> Result<Move, 
     Ok(Move::On(Focus::Expr(e)))
 }
 
-/// Begins an operand of the expression of a node, for an entry of that node that waits for it.
+/// Begins an operand of the expression of a node, for an entry of that node that waits for it. The only error is want of
+/// memory.
 pub fn await_operand(node: u32, state: State, e: Operand, stack: &mut Stack) -> Result<Move, Halt>
     requires room { HasRoom stack.old.control }
     ensures { Awaits (record { node = node; state = state }) e stack.old result stack.new }

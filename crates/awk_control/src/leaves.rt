@@ -32,6 +32,7 @@ fn constant_field(plan: &Plan, number: u32, interpreter: &mut Interpreter) -> Re
 }
 
 /// The value of a leaf: a constant, a variable, or the field of a constant number. Of another operand nothing is read.
+/// A `Halt` is the field's fault, or want of memory. (POSIX awk, Expressions in awk)
 pub fn leaf(plan: &Plan, e: Operand, interpreter: &mut Interpreter) -> Result<Option<Value>, Halt>
     ensures { ReadsLeaf (operand_of plan.now e) interpreter.old result interpreter.new }
 {

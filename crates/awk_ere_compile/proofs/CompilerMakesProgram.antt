@@ -15,7 +15,7 @@ use Rattle.awk_ere_syntax.specs.support.Lexer.{token_at}
 use Rattle.awk_ere_syntax.specs.declared.token.Token.{Token as SeenToken}
 use Rattle.awk_ere_syntax.specs.support.TokenValues.{seen_token, seen_front}
 use Rattle.awk_ere_compile.specs.support.CompilerState as compiler
-use Rattle.awk_ere_compile.specs.support.CompilerState.{CompilerState, IsSound, taken}
+use Rattle.awk_ere_compile.specs.support.CompilerState.{CompilerState, taken}
 use Rattle.awk_ere_compile.specs.support.CompilerResult.{IsClean, Makes, Builds, Finishes}
 use Rattle.awk_ere_compile.specs.declared.program.Program.{Program}
 use Rattle.awk_ere_syntax.specs.declared.fault.PatternFault.{PatternFault}
@@ -23,7 +23,7 @@ use Rattle.awk_ere_syntax.specs.declared.fault.PatternFault.TheVariants.{Memory,
 use Rattle.awk_ere_syntax.proofs.ParseRoundTrip.{parse_tokens, bind_some}
 use Rattle.awk_ere_syntax.proofs.TokenRoundTrip.{token_again, token_long}
 use Rattle.awk_ere_compile.proofs.CountsOrdered.{ordered_pattern}
-use Rattle.awk_ere_compile.proofs.StateIsProgram.{Holds, sound}
+use Rattle.awk_ere_compile.proofs.StateIsProgram.{Holds}
 use Rattle.awk_ere_compile.proofs.TokenKeepsProgram.{IsClassOf, first_holds, next_holds, made_size, made_code}
 
 -- the compiler state is that of the tokens in front, and the tokens behind end the pattern
@@ -40,9 +40,6 @@ Reaches text rest d = (p : Pattern) → IsClean p text → Reached p rest d
 
 pub first : (text : List ℕ) → Reaches text text compiler.begun
 first text p c = record { left = tokens p; state = begun; spelt = c.0; good = c.1; holds = first_holds; goes_on = parse_tokens p }
-
-pub reached_sound : (text rest : List ℕ) (d : CompilerState) → Reaches text rest d → (p : Pattern) × IsClean p text → IsSound d
-reached_sound text rest d h c = let r = h c.0 c.1 in sound d r.state r.holds
 
 -- the class that the reader of tokens left
 abbrev pub LeavesClass : List ℕ → Class → Type 0

@@ -203,9 +203,6 @@ others_seen (Some r) = refl
 pub these_found : (text : List ℕ) → ((rest : List ℕ) → text ≡ 94 ∷ rest → ⊥) → option_map seen_items (items_at (length text) true text) ≡ option_map seen_front (bracket_token text)
 these_found text h = these_seen (items_at (length text) true text) ∙ ap (λ (o : Option (Bracket × List ℕ)). option_map seen_front (o >>= as_bracket)) (sym (these_at text h))
 
-pub others_found : (text rest : List ℕ) → text ≡ 94 ∷ rest → option_map seen_items (items_at (length rest) true rest) ≡ option_map seen_front (bracket_token text)
-others_found text rest e = others_seen (items_at (length rest) true rest) ∙ ap (λ (l : List ℕ). option_map seen_front (bracket_at l >>= as_bracket)) (sym e)
-
 pub none_set : (n b : ℕ) → get_or (replicate n false) b false ≡ false
 none_set zero b = refl
 none_set (suc n) zero = refl

@@ -1,5 +1,5 @@
 -- The check of a text follows the parser.
-use Rattle.std.proofs.Common.{◌≡◌, ℕ, suc, ◌+◌, ◌≤◌, List, [], ◌∷◌, length, Option, Some, None, refl, sym, ap, subst, ◌∙◌, arith}
+use Rattle.std.proofs.Common.{◌≡◌, ℕ, suc, ◌+◌, List, [], ◌∷◌, length, Option, Some, None, refl, sym, ap, subst, ◌∙◌, arith}
 use Rattle.std.specs.Prelude.{max}
 use Rattle.std.specs.Option.{option_map, is_some}
 use Rattle.std.proofs.lemmas.Option.{same_Some, none-some}
@@ -121,11 +121,6 @@ deeper f g (h ∷ fs) n e =
     ap (λ (m : ℕ). max (state_opened h fs) (suc (length fs) + m)) e
     ∙ (let a = state_opened h fs in let b = frame_opened f in let c = length fs in
     let r : max a (suc c + max b n) ≡ max (max a (suc c + b)) (suc c + n) = omega arith in r)
-
--- as many as are open now have been
-pub open_now : (f : Frame) (fs : List Frame) → length fs ≤ state_opened f fs
-open_now f [] = omega arith
-open_now f (g ∷ fs) = omega arith
 
 -- a frame that holds as many in place of another
 kept : (f g : Frame) (fs : List Frame) → frame_opened g ≡ frame_opened f → max (state_opened f fs) (length fs) ≡ state_opened g fs

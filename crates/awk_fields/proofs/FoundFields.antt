@@ -3,7 +3,7 @@ use Rattle.std.proofs.Common.{◌≡◌, ℕ, zero, suc, ◌<◌, ◌≤◌, ◌
 use Rattle.std.specs.Prelude.{slice_get}
 use Rattle.std.specs.Option.{option_map}
 use Rattle.std.proofs.lemmas.List.{map-append, length-map}
-use Rattle.std.proofs.lemmas.List.Elements.{All-push, All-nil}
+use Rattle.std.proofs.lemmas.List.Elements.{All-push}
 use Rattle.std.proofs.lemmas.Option.{slice_get-map}
 use Rattle.awk_text.specs.Pieces.{stretch_at, stretches_at, IsSpanOf, AreSpansOf}
 use Rattle.awk_split.specs.Pieces.{pieces_from_by, pieces_by}
@@ -11,15 +11,6 @@ use Rattle.awk_split.specs.Separators.{Rule}
 use Rattle.awk_text.specs.declared.span.Span.{Span}
 use Rattle.awk_fields.specs.declared.fields.Fields.{Fields}
 use Rattle.awk_fields.specs.Found.{AreFieldsOf}
-
--- what is left, where nothing was found yet
-pub fields-begun : (text : List ℕ) (fields : Fields) → ((separator : Rule) (text : List ℕ) → pieces_from_by separator text 0 ≡ pieces_by separator text) →
-    fields.spans.items ≡ [] → fields.rest ≡ 0 → AreFieldsOf text fields
-fields-begun text fields front none first = record {
-  within = subst (AreSpansOf text) (sym none) (All-nil (IsSpanOf text));
-  pieces = ap (λ spans. stretches_at text spans ++ pieces_from_by fields.separator text fields.rest) none
-      ∙ (ap (pieces_from_by fields.separator text) first ∙ front fields.separator text);
-}
 
 -- one field more was found
 pub pieces-found : (separator : Rule) (text : List ℕ) (old new : List Span) (span : Span) (before behind : ℕ) → new ≡ old ++ span ∷ [] →

@@ -1,9 +1,9 @@
 -- The texts of parts, joined.
-use Rattle.std.proofs.Common.{◌≡◌, ℕ, ◌+◌, ◌<◌, ◌≤◌, List, [], ◌∷◌, ◌++◌, length, drop, get_or, refl, sym, ap, ◌∙◌, append_assoc, append-nil, drop-cons, add-one, inl, inr}
+use Rattle.std.proofs.Common.{◌≡◌, ℕ, ◌+◌, ◌<◌, ◌≤◌, List, [], ◌∷◌, ◌++◌, length, drop, get_or, refl, sym, ap, ◌∙◌, append_assoc, append-nil, drop-cons, add-one}
 use Rattle.std.specs.Prelude.{Result, Ok, Err}
 use Rattle.std.proofs.lemmas.List.{drop_all}
 use Rattle.awk_value.specs.declared.value.Value.{Value}
-use Rattle.awk_format.specs.Formatted.{IsFaultOf, joined, next_value, part_text, values_after, written}
+use Rattle.awk_format.specs.Formatted.{joined, next_value, part_text, values_after, written}
 use Rattle.awk_format.specs.declared.fault.FormatFault.{FormatFault}
 use Rattle.awk_format.specs.declared.part.Part.{Part}
 
@@ -35,18 +35,6 @@ part_done parts i part value left behind out new whole below is ev eb e h =
     ∙ joined_next out new (part_text part value) (written (drop (i + 1) parts) (values_after part left)) whole e
     (ap (λ (v : Value). joined (Ok out) (joined (part_text part v) (written (drop (i + 1) parts) (values_after part left)))) ev
     ∙ (ap (λ (ps : List Part). joined (Ok out) (written ps left)) (sym here) ∙ h))
-
--- A part that was refused: its fault is that of the whole.
-pub part_refused : (parts : List Part) (i : ℕ) (part : Part) (value : Value) (left : List Value) (out old : List ℕ) (whole : Result (List ℕ) FormatFault) (fault : FormatFault) → i < length parts → part ≡ get_or parts i part → value ≡ next_value left →
-    IsFaultOf fault (part_text part value) → joined (Ok out) (written (drop i parts) left) ≡ joined (Ok old) whole → IsFaultOf fault whole
-part_refused parts i part value left out old whole fault below is ev (inl memory) h = inl memory
-part_refused parts i part value left out old whole fault below is ev (inr e) h =
-    let here = first_of_rest parts i part below is in
-    let rest = written (drop (i + 1) parts) (values_after part left) in
-    inr (joined_err old whole fault
-    (ap (λ (r : Result (List ℕ) FormatFault). joined (Ok out) (joined r rest)) (sym e)
-    ∙ (ap (λ (v : Value). joined (Ok out) (joined (part_text part v) rest)) ev
-    ∙ (ap (λ (ps : List Part). joined (Ok out) (written ps left)) (sym here) ∙ h))))
 
 -- All parts were written.
 pub parts_done : (parts : List Part) (i : ℕ) (left : List Value) (out : List ℕ) (whole : Result (List ℕ) FormatFault) → length parts ≤ i → joined (Ok out) (written (drop i parts) left) ≡ whole → whole ≡ Ok out

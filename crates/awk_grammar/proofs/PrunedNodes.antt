@@ -58,9 +58,6 @@ three_first m h f x None p = refl
 three_first m h f x (Some y) None = refl
 three_first m h f x (Some y) (Some z) = refl
 
-pub four_first : {A B C D E : Type 0} (m : ℕ) (h : E → ℕ) (f : A → B → C → D → E) (x : A) (o : Option B) (p : Option C) (q : Option D) → over_four m h f (Some x) o p q ≡ over_three m h (f x) o p q
-four_first m h f x o p q = refl
-
 pub three_limited : {A B C D : Type 0} (m i j k : ℕ) (h : D → ℕ) (f : A → B → C → D) (x : A) (y : B) (z : C) → i ≤ h (f x y z) → j ≤ h (f x y z) → k ≤ h (f x y z) → over_three m h f (limited m i x) (limited m j y) (limited m k z) ≡ limited m (h (f x y z)) (f x y z)
 three_limited m i j k h f x y z p q r = elim (cases_lt m i) [
   | inl c ↦ ap (λ o. over_three m h f o (limited m j y) (limited m k z)) (high m i x c) ∙ sym (high m (h (f x y z)) (f x y z) (omega arith))

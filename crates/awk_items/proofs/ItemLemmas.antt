@@ -20,7 +20,7 @@ use Rattle.awk_meaning.specs.Semantics.{choose, print, run_action, in_range, go_
 use Rattle.awk_streams.specs.WorldState.{WorldState}
 use Rattle.awk_interpreter.specs.Simulation.{ResultRelation, SimulatesLogged, Simulates, Changes, Spends, Follows}
 use Rattle.awk_control.specs.Moves.{Tests}
-use Rattle.awk_items.specs.support.Runs.{Tells, Selects, Tries, TriesAll, BeginsItem, BeginsAll, ReadsOn, ReadsAll, RunsBeforeEnd, EndsItem, EndsAll, RunsItems}
+use Rattle.awk_items.specs.support.ItemRuns.{Tells, Selects, Tries, TriesAll, BeginsItem, BeginsAll, ReadsOn, ReadsAll, RunsBeforeEnd, EndsItem, EndsAll, RunsItems}
 use Rattle.awk_interpreter.proofs.Composition.{then_simulates, ends_simulates, lift_simulates, change_simulates}
 
 -- items

@@ -8,8 +8,8 @@ ghost use Rattle.awk_tree.specs.Tree.{PatternOnly};
 ghost use Rattle.awk_plan.specs.Plan.{operand_of, items_of};
 ghost use Rattle.awk_items.specs.support.Planned.{pattern_of, item_of};
 ghost use Rattle.awk_interpreter.specs.Simulation.{Follows};
-ghost use Rattle.awk_items.specs.support.Runs.{Tells, Selects, Tries, TriesAll, BeginsItem, BeginsAll};
-ghost use Rattle.awk_items.specs.support.Runs.{ReadsAll, RunsBeforeEnd, EndsItem, EndsAll, RunsItems};
+ghost use Rattle.awk_items.specs.support.ItemRuns.{Tells, Selects, Tries, TriesAll, BeginsItem, BeginsAll};
+ghost use Rattle.awk_items.specs.support.ItemRuns.{ReadsAll, RunsBeforeEnd, EndsItem, EndsAll, RunsItems};
 ghost use Rattle.awk_meaning.specs.Semantics.{in_range, go_through, try_items, unless_next};
 ghost use Rattle.awk_meaning.specs.Semantics.{until_next, is_rule, has_rule, unless_exit};
 

@@ -2,7 +2,7 @@
 use Rattle.std.proofs.Common.{◌≡◌, ◌≢◌, ◌↔◌, inl, inr, ℕ, suc, ◌+◌, ◌-◌, ◌<◌, ◌≤◌, true, false, ◌&&◌, ◌==◌, nat_lt, List, [], ◌∷◌, ◌++◌, length, take, drop, Option, Some, None, refl, sym, ◌∙◌, ap, arith, length-append, append-nil}
 use Rattle.std.proofs.lemmas.Bool.{cases_Bool, cases_lt, cond-true, cond-false, lt-ltb, ltb-true}
 use Rattle.std.proofs.lemmas.Bool.Decides.{nat_tests}
-use Rattle.std.proofs.lemmas.List.{take-append-le, drop-append-le, drop_all, drop-drop, at_drop_more}
+use Rattle.std.proofs.lemmas.List.{take-append-le, drop-append-le, drop_all, drop-drop}
 use Rattle.awk_record.specs.Cut.{Ending, AtBreak, Cut, Found, NoMore, BrokenOff, TooLong, BadSeparator, longest, begins_with, one_later, first_at, limited, cut_at, cut_behind, newlines, without_newline, cut_of, IsDecided}
 
 pub begins_with-append : (w xs ys : List ℕ) → begins_with w xs ≡ true → begins_with w (xs ++ ys) ≡ true
@@ -250,27 +250,9 @@ later_by-one : (n : ℕ) (o : Option ℕ) → later_by n (one_later o) ≡ later
 later_by-one n None = refl
 later_by-one n (Some i) = ap Some (omega arith)
 
-pub first_at-next : (w bytes : List ℕ) (i : ℕ) → i < length bytes → begins_with w (drop i bytes) ≡ false →
-    later_by i (first_at w (drop i bytes)) ≡ later_by (i + 1) (first_at w (drop (i + 1) bytes))
-first_at-next w bytes i lt fails =
-    let whole = at_drop_more (first_at w) bytes i 0 lt in
-    let test = at_drop_more (begins_with w) bytes i 0 lt in
-    let one : first_at w (drop i bytes) ≡ one_later (first_at w (drop (i + 1) bytes)) = whole ∙ cond-false _ _ _ (sym test ∙ fails) in
-    ap (later_by i) one ∙ later_by-one i (first_at w (drop (i + 1) bytes))
-
-pub first_at-here : (w bytes : List ℕ) (i : ℕ) → i < length bytes → begins_with w (drop i bytes) ≡ true → first_at w (drop i bytes) ≡ Some 0
-first_at-here w bytes i lt holds =
-    let whole = at_drop_more (first_at w) bytes i 0 lt in
-    let test = at_drop_more (begins_with w) bytes i 0 lt in
-    whole ∙ cond-true _ _ _ (sym test ∙ holds)
-
 -- behind the skipped bytes the places count from the front
 pub stretch : (held : List ℕ) (skipped i n : ℕ) →
     Found (take (skipped + i - skipped) (drop skipped held)) (drop (skipped + (i + n)) held) ≡ Found (take i (drop skipped held)) (drop (i + n) (drop skipped held))
 stretch held skipped i n =
     let same : skipped + i - skipped ≡ i = omega arith in
     rw (same, drop-drop) refl
-
-pub begins_with-short : (w left : List ℕ) (k : ℕ) → k < length w → length left < 1 → begins_with (drop k w) left ≡ false
-begins_with-short w [] k lt short = at_drop_more (λ ws. begins_with ws []) w k 0 lt
-begins_with-short w (x ∷ xs) k lt short = absurd (omega arith)

@@ -12,7 +12,7 @@ use Rattle.awk_meaning.specs.Inputs.{assign_text}
 use Rattle.awk_meaning.specs.Meaning.{assign_all, assign_and_run}
 use Rattle.awk_streams.specs.WorldState.{WorldState}
 use Rattle.awk_interpreter.specs.Simulation.{ResultRelation, Simulates, Changes}
-use Rattle.awk_items.specs.Runs.{RunsItems}
+use Rattle.awk_items.specs.ItemRuns.{RunsItems}
 use Rattle.awk_run.specs.support.Assigned.{Assigns, AssignsAndRuns}
 use Rattle.awk_interpreter.proofs.Composition.{then_changes, ends_changes, lift_changes, then_simulates, ends_simulates, change_simulates}
 

@@ -4,7 +4,7 @@ use Rattle.awk_lex.specs.declared.token.Kind.{Kind}
 use Rattle.awk_grammar.specs.definitions.Height.{max_height}
 use Rattle.awk_grammar.specs.definitions.Tree.{SimpleStatement}
 use Rattle.awk_grammar.specs.support.Parser as parser
-use Rattle.awk_statement_productions.specs.Parts.{is_part_on}
+use Rattle.awk_statement_productions.specs.PartFrames.{is_part_on}
 
 no : false ≡ true → ⊥
 no h = absurd (cc)

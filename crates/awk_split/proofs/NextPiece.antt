@@ -1,6 +1,6 @@
 -- The next piece of a text, from a place on where one may begin.
-use Rattle.std.proofs.Common.{◌≡◌, ℕ, ◌+◌, ◌-◌, ◌<◌, ◌≤◌, Bool, true, false, List, [], ◌∷◌, length, take, drop, get_or, Some, None, refl, sym, ◌∙◌, ap, arith}
-use Rattle.std.specs.Prelude.{slice_range, map}
+use Rattle.std.proofs.Common.{◌≡◌, ℕ, ◌+◌, ◌-◌, ◌<◌, ◌≤◌, Bool, List, [], ◌∷◌, length, take, drop, get_or, Some, None, refl, sym, ◌∙◌, ap, arith}
+use Rattle.std.specs.Prelude.{slice_range}
 use Rattle.std.proofs.lemmas.Bool.{cond-true, cond-false, lt-ltb, le-ltb}
 use Rattle.std.proofs.lemmas.List.{at_drop_more, drop_all, take_rest}
 use Rattle.awk_ere_syntax.specs.definitions.Tree.{Tree}
@@ -10,7 +10,7 @@ use Rattle.awk_text.specs.Stretch.{IsStretchEnd}
 use Rattle.awk_text.specs.declared.span.Span.{Span}
 use Rattle.awk_text.proofs.NextPiece.{split_from-within, split_from-past, split_from-stretch}
 use Rattle.awk_split.specs.definitions.Separators.{Separator, blanks, byte, each, ere, or_newline, IsNextSeparator}
-use Rattle.awk_split.specs.definitions.Pieces.{separates, kind_pieces_from, is_field, each_piece, between, ere_pieces_from, pieces_of, pieces_from}
+use Rattle.awk_split.specs.definitions.Pieces.{separates, kind_pieces_from, each_piece, between, ere_pieces_from, pieces_of, pieces_from}
 use Rattle.awk_split.specs.support.Chosen.{separators_from}
 use Rattle.awk_split.proofs.ChosenSeparators.{from_found, from_nothing}
 
@@ -25,18 +25,10 @@ pub no_kind_piece : (test : ℕ → Bool) (text : List ℕ) (from : ℕ) → len
 no_kind_piece test [] from lt = refl
 no_kind_piece test (first ∷ text) from lt = split_from-past test (first ∷ text) from lt
 
--- each byte that is a field is one, and the others are none
-pub each_skips : (newline_too : Bool) (text : List ℕ) (i : ℕ) → i < length text → is_field newline_too (get_or text i 0) ≡ false → each_piece newline_too (drop i text) ≡ each_piece newline_too (drop (i + 1) text)
-each_skips n text i lt fails = at_drop_more (each_piece n) text i 0 lt ∙ ap (map (λ b. b ∷ [])) (cond-false _ _ _ fails)
-
 one_byte : (text : List ℕ) (i : ℕ) → i < length text → slice_range text i (i + 1) ≡ get_or text i 0 ∷ []
 one_byte text i lt =
     let one : i + 1 - i ≡ 1 = omega arith in
     ap (λ k. take k (drop i text)) one ∙ at_drop_more (take 1) text i 0 lt
-
-pub each_takes : (newline_too : Bool) (text : List ℕ) (i : ℕ) → i < length text → is_field newline_too (get_or text i 0) ≡ true → each_piece newline_too (drop i text) ≡ slice_range text i (i + 1) ∷ each_piece newline_too (drop (i + 1) text)
-each_takes n text i lt holds =
-    at_drop_more (each_piece n) text i 0 lt ∙ (ap (map (λ b. b ∷ [])) (cond-true _ _ _ holds) ∙ ap (λ p. p ∷ each_piece n (drop (i + 1) text)) (sym (one_byte text i lt)))
 
 pub each_ends : (newline_too : Bool) (text : List ℕ) (i : ℕ) → length text ≤ i → each_piece newline_too (drop i text) ≡ []
 each_ends n text i le = ap (each_piece n) (drop_all i text le)

@@ -14,7 +14,7 @@ use Rattle.awk_frames.specs.declared.frame.ExpressionFrame.TheVariants as expres
 use Rattle.awk_frames.specs.declared.frame.BodyFrame.{BodyFrame}
 use Rattle.awk_frames.specs.declared.frame.BodyFrame.TheVariants as body
 use Rattle.awk_frames.specs.support.FrameView.{node_frame_of, list_of, list_frame_of, expression_frame_of, body_frame_of, frame_of, stack_of}
-use Rattle.awk_statement_productions.specs.support.Parts.{is_part, is_part_on}
+use Rattle.awk_statement_productions.specs.support.PartFrames.{is_part, is_part_on}
 
 no : false ≡ true → ⊥
 no h = absurd (cc)

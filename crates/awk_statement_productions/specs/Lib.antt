@@ -1,3 +1,3 @@
 -- What serves the contracts.
 pub mod support
-pub use Rattle.awk_statement_productions.specs.support.Parts
+pub use Rattle.awk_statement_productions.specs.support.PartFrames

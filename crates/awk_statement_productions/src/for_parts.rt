@@ -7,7 +7,7 @@ ghost use Rattle.awk_grammar.specs.definitions.View.{expr_of};
 ghost use Rattle.awk_grammar.specs.support.Parser as parser;
 ghost use Rattle.awk_statement_nodes.specs.support.Checked.{checked_simple, checked_part, checked_optional_expr};
 ghost use Rattle.awk_frames.specs.support.FrameView.{frame_of, stack_of, next_of};
-ghost use Rattle.awk_statement_productions.specs.support.Parts.{is_part, is_part_on};
+ghost use Rattle.awk_statement_productions.specs.support.PartFrames.{is_part, is_part_on};
 
 use crate::statement_nodes::part;
 use awk_frames::frame::{BodyFrame, ForHead, Frame};

@@ -1,17 +1,12 @@
 -- Logs that go on, one call after another.
-use Rattle.std.proofs.Common.{◌≡◌, ◌≤◌, ◌+◌, ℕ, inl, inr, List, [], ◌∷◌, ◌++◌, length, Option, Some, None, refl, sym, ◌∙◌, ap, subst, arith}
+use Rattle.std.proofs.Common.{◌≡◌, ◌≤◌, ◌+◌, ℕ, inl, List, [], ◌∷◌, ◌++◌, length, Option, Some, None, refl, absurd, sym, ◌∙◌, ap, subst, arith}
+use Rattle.std.proofs.lemmas.Option.{none-some, same_Some}
 use Rattle.awk_world.specs.definitions.Log.{Event, failure_after}
-use Rattle.awk_world.specs.definitions.Oracle.{Oracle, IsConsistent}
+use Rattle.awk_world.specs.definitions.Oracle.{IsConsistent}
 use Rattle.awk_world.specs.definitions.Writes.{with_events}
 use Rattle.awk_world.specs.definitions.WorldState.{WorldState, Logs, FailsNow, MayFailNow}
 use Rattle.awk_world.specs.definitions.Grows.{Grows}
 use Rattle.awk_world.proofs.ConsistencyLemmas.{consistent-before}
-
-none_some : {P : Type 0} (n : ℕ) → None ≡ Some n → P
-none_some n e = cc
-
-same_some : (m n : ℕ) → Some m ≡ Some n → m ≡ n
-same_some m n e = cc
 
 pub with_events-append : (xs ys log : List Event) → with_events (xs ++ ys) log ≡ with_events ys (with_events xs log)
 with_events-append [] ys log = refl
@@ -28,7 +23,7 @@ grows_on es before after is same = record {
   log = is;
   consistent = λ a h. consistent-before a es before.log (subst (λ (l : List Event). IsConsistent a l) is h);
   kept = λ n e. same ∙ e;
-  met = λ none n some. none_some n (sym none ∙ (sym same ∙ some));
+  met = λ none n some. absurd (none-some n (sym none ∙ (sym same ∙ some)));
 }
 
 pub Grows-self : (world : WorldState) → Grows world world
@@ -37,12 +32,12 @@ Grows-self world = grows_on [] world world refl refl
 -- a call that is a failure
 
 failure_kept : (log : List Event) (o : Option ℕ) (n : ℕ) → o ≡ Some n → failure_after None log o ≡ Some n
-failure_kept log None n e = none_some n e
+failure_kept log None n e = absurd (none-some n e)
 failure_kept log (Some m) n e = e
 
 failure_new : (log : List Event) (o : Option ℕ) → o ≡ None → failure_after None log o ≡ Some (length log)
 failure_new log None e = refl
-failure_new log (Some m) e = none_some m (sym e)
+failure_new log (Some m) e = absurd (none-some m (sym e))
 
 pub grows_failing : (before after : WorldState) → Logs None before after → Grows before after
 grows_failing before after (same, fails) = record {
@@ -51,7 +46,7 @@ grows_failing before after (same, fails) = record {
   consistent = λ a h. subst (λ (l : List Event). IsConsistent a l) same h;
   kept = λ n e. fails ∙ failure_kept before.log before.first_failure n e;
   met = λ none n some.
-      let at : length before.log ≡ n = same_some (length before.log) n (sym (fails ∙ failure_new before.log before.first_failure none) ∙ some) in
+      let at : length before.log ≡ n = same_Some (length before.log) n (sym (fails ∙ failure_new before.log before.first_failure none) ∙ some) in
       let long : length after.log ≡ length before.log = ap length same in
       (omega (arith, at), omega (arith, at, long));
 }
@@ -72,7 +67,7 @@ met_then w0 w1 w2 None is first then none n some =
     (omega (arith, long, with_events-longer first.events w0.log, between.0), between.1)
 met_then w0 w1 w2 (Some m) is first then none n some =
     let between = first.met none m is in
-    let at : m ≡ n = same_some m n (sym (then.kept m is) ∙ some) in
+    let at : m ≡ n = same_Some m n (sym (then.kept m is) ∙ some) in
     let long : length w2.log ≡ length (with_events then.events w1.log) = ap length then.log in
     (omega (arith, at, between.0), omega (arith, at, between.1, long, with_events-longer then.events w1.log))
 
@@ -93,6 +88,3 @@ may_fail_later before mid after same fails = λ none. fails (same ∙ none)
 
 pub not_failing : (before after : WorldState) → after.first_failure ≡ before.first_failure → MayFailNow before after
 not_failing before after same = λ none. inl (same ∙ none)
-
-pub may_fail : (before after : WorldState) → FailsNow before after → MayFailNow before after
-may_fail before after fails = λ none. inr (fails none)

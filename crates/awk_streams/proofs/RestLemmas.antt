@@ -1,7 +1,8 @@
 -- Needed reads take from the rest of the input, as the answers give it.
-use Rattle.std.proofs.Common.{◌≡◌, ℕ, List, [], ◌∷◌, ◌++◌, true, Option, Some, None, sym, ◌∙◌, ap, subst, append_assoc, append-nil}
+use Rattle.std.proofs.Common.{◌≡◌, ℕ, List, [], ◌∷◌, ◌++◌, true, Option, Some, None, absurd, sym, ◌∙◌, ap, subst, append_assoc, append-nil}
 use Rattle.std.proofs.lemmas.Bool.{cond-true, eq-eqb}
 use Rattle.std.proofs.lemmas.List.{append_cancel_left}
+use Rattle.std.proofs.lemmas.Option.{none-some, same_Some}
 use Rattle.awk_world.specs.definitions.Log.{Event, Read, Ended, Broke}
 use Rattle.awk_record.specs.Cut.{Ending, AtEnd, AtBreak}
 use Rattle.awk_world.specs.definitions.Writes.{with_events}
@@ -9,12 +10,6 @@ use Rattle.awk_streams.specs.definitions.Inputs.{NeededReads}
 use Rattle.awk_streams.specs.definitions.Inputs.{Rest}
 use Rattle.awk_world.proofs.ConsistencyLemmas.{consistent-before}
 use Rattle.awk_world.specs.definitions.Oracle.{Oracle, Source, Reading, IsConsistent, Gives, EndsWith, reading_of, read_on, over}
-
-same_some : {T : Type 0} (x y : T) → Some x ≡ Some y → x ≡ y
-same_some x y e = cc
-
-none_some : {T : Type 0} {P : Type 0} (x : T) → None ≡ Some x → P
-none_some x e = cc
 
 -- nothing is left behind what is all
 nothing_left : (b more : List ℕ) → b ≡ b ++ more → more ≡ []
@@ -45,7 +40,7 @@ ended_rest id b b' ending (e ∷ es) a log r s more whole i same last bytes met 
 ended_rest id b b' ending [] a log r s more whole i same last bytes met consistent stands answer begins all =
     let stands_i : reading_of i log ≡ Some r = ap (λ j. reading_of j log) same ∙ stands in
     let given = ends_at a (reading_of i log) r AtEnd stands_i consistent.0 in
-    let same_source : given.0 ≡ s = same_some given.0 s (sym given.1 ∙ answer) in
+    let same_source : given.0 ≡ s = same_Some given.0 s (sym given.1 ∙ answer) in
     let all_bytes : s.bytes ≡ r.bytes = ap (λ (x : Source). x.bytes) (sym same_source) ∙ given.2 in
     record {
       reading = record r { is_over = true };
@@ -54,7 +49,7 @@ ended_rest id b b' ending [] a log r s more whole i same last bytes met consiste
       more = more;
       begins = begins;
       same = all ∙ ap (λ x. x ++ more) (sym bytes);
-      over = λ e is. (nothing_left r.bytes more (sym all_bytes ∙ begins), ap (λ (x : Source). x.ending) (sym same_source) ∙ (given.3 ∙ same_some AtEnd e (sym met ∙ is)));
+      over = λ e is. (nothing_left r.bytes more (sym all_bytes ∙ begins), ap (λ (x : Source). x.ending) (sym same_source) ∙ (given.3 ∙ same_Some AtEnd e (sym met ∙ is)));
     }
 
 broken_rest : (id : ℕ) (b b' : List ℕ) (ending : Option Ending) (es : List Event) (a : Oracle) (log : List Event) (r : Reading) (s : Source) (more whole : List ℕ) (i : ℕ) →
@@ -64,7 +59,7 @@ broken_rest id b b' ending (e ∷ es) a log r s more whole i same last bytes met
 broken_rest id b b' ending [] a log r s more whole i same last bytes met consistent stands answer begins all =
     let stands_i : reading_of i log ≡ Some r = ap (λ j. reading_of j log) same ∙ stands in
     let given = ends_at a (reading_of i log) r AtBreak stands_i consistent.0 in
-    let same_source : given.0 ≡ s = same_some given.0 s (sym given.1 ∙ answer) in
+    let same_source : given.0 ≡ s = same_Some given.0 s (sym given.1 ∙ answer) in
     let all_bytes : s.bytes ≡ r.bytes = ap (λ (x : Source). x.bytes) (sym same_source) ∙ given.2 in
     record {
       reading = record r { is_over = true };
@@ -73,7 +68,7 @@ broken_rest id b b' ending [] a log r s more whole i same last bytes met consist
       more = more;
       begins = begins;
       same = all ∙ ap (λ x. x ++ more) (sym bytes);
-      over = λ e is. (nothing_left r.bytes more (sym all_bytes ∙ begins), ap (λ (x : Source). x.ending) (sym same_source) ∙ (given.3 ∙ same_some AtBreak e (sym met ∙ is)));
+      over = λ e is. (nothing_left r.bytes more (sym all_bytes ∙ begins), ap (λ (x : Source). x.ending) (sym same_source) ∙ (given.3 ∙ same_Some AtBreak e (sym met ∙ is)));
     }
 
 pub reads_rest : (id : ℕ) (separator b b' : List ℕ) (ending : Option Ending) (es : List Event) (a : Oracle) (log : List Event) (r : Reading) (s : Source) (more whole : List ℕ) →
@@ -86,13 +81,13 @@ reads_rest id separator b b' ending [] a log r s more whole (same, none) consist
   more = more;
   begins = begins;
   same = all ∙ ap (λ x. x ++ more) (sym same);
-  over = λ e is. none_some e (sym none ∙ is);
+  over = λ e is. absurd (none-some e (sym none ∙ is));
 }
 reads_rest id separator b b' ending (Read i bs ∷ es) a log r s more whole (same, undecided, later) consistent stands answer begins all =
     let here : Gives a (reading_of i log) bs = (consistent-before a es (Read i bs ∷ log) consistent).0 in
     let stands_i : reading_of i log ≡ Some r = ap (λ j. reading_of j log) same ∙ stands in
     let given = gives_at a (reading_of i log) r bs stands_i here in
-    let same_source : given.0 ≡ s = same_some given.0 s (sym given.1 ∙ answer) in
+    let same_source : given.0 ≡ s = same_Some given.0 s (sym given.1 ∙ answer) in
     let left = given.2.0 in
     let bytes : s.bytes ≡ (r.bytes ++ bs) ++ left = ap (λ (x : Source). x.bytes) (sym same_source) ∙ given.2.1 in
     let parts : more ≡ bs ++ left = append_cancel_left r.bytes more (bs ++ left) (sym begins ∙ (bytes ∙ append_assoc r.bytes bs left)) in

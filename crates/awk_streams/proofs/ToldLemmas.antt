@@ -1,5 +1,6 @@
 -- The record that an asking answers is what the cut of the whole rest gives.
-use Rattle.std.proofs.Common.{◌≡◌, ◌≢◌, ◌⊎◌, inl, inr, ◌↔◌, ℕ, List, [], ◌++◌, Option, Some, None, Result, Ok, Err, refl, sym, ◌∙◌, ap, subst, append-nil}
+use Rattle.std.proofs.Common.{◌≡◌, ◌≢◌, ◌⊎◌, inl, inr, ◌↔◌, ℕ, List, [], ◌++◌, Option, Some, None, Result, Ok, Err, refl, absurd, sym, ◌∙◌, ap, subst, append-nil}
+use Rattle.std.proofs.lemmas.Option.{none-some, same_Some}
 use Rattle.awk_world.specs.definitions.Log.{Event}
 use Rattle.awk_record.specs.Cut.{Ending, AtEnd, AtBreak, Cut, Found, NoMore, BrokenOff, TooLong, BadSeparator, cut_of, IsDecided}
 use Rattle.awk_record.specs.Buffer.{Pending, Steps, IsAnswerOf}
@@ -14,12 +15,6 @@ use Rattle.awk_streams.specs.support.Pulls.{Pulls}
 use Rattle.awk_streams.specs.definitions.Inputs.{Rest}
 use Rattle.awk_streams.specs.support.Pulls.{Tells, TellsNext}
 use Rattle.awk_streams.proofs.RestLemmas.{reads_rest}
-
-same_some : {T : Type 0} (x y : T) → Some x ≡ Some y → x ≡ y
-same_some x y e = cc
-
-none_some : {T : Type 0} {P : Type 0} (x : T) → None ≡ Some x → P
-none_some x e = cc
 
 -- the rest with other bytes in hand and the same bytes unread
 rest_with : {a : Oracle} {id : ℕ} {log : List Event} {s : Source} {whole b : List ℕ} {ending : Option Ending} (r : Rest a id log s whole b ending) (left b' : List ℕ) (ending' : Option Ending) →
@@ -37,11 +32,11 @@ rest_with r left b' ending' same over = record {
 told_ended : (c : Cut) (a : Oracle) (id : ℕ) (log : List Event) (s : Source) (whole : List ℕ) (e : Ending) (seen new : Pending) (result : Result Step BufferFault) (r : Rest a id log s whole seen.bytes seen.ending) →
     r.more ≡ [] → s.ending ≡ e → IsAnswerOf c (Some e) result seen new → (left : List ℕ) × Tells c result whole left × Rest a id log s left new.bytes new.ending
 told_ended (Found first rest) a id log s whole e seen new result r none ends h =
-    (rest, (h.0, refl), rest_with r rest new.bytes new.ending (sym h.1 ∙ (sym (append-nil new.bytes) ∙ ap (λ m. new.bytes ++ m) (sym none))) (λ e' is. (none, ends ∙ same_some e e' (sym h.2 ∙ is))))
+    (rest, (h.0, refl), rest_with r rest new.bytes new.ending (sym h.1 ∙ (sym (append-nil new.bytes) ∙ ap (λ m. new.bytes ++ m) (sym none))) (λ e' is. (none, ends ∙ same_Some e e' (sym h.2 ∙ is))))
 told_ended NoMore a id log s whole e seen new result r none ends h =
-    ([], (h.0, refl), rest_with r [] new.bytes new.ending (sym (ap (λ b. b ++ r.more) h.1 ∙ none)) (λ e' is. (none, ends ∙ same_some e e' (sym h.2 ∙ is))))
+    ([], (h.0, refl), rest_with r [] new.bytes new.ending (sym (ap (λ b. b ++ r.more) h.1 ∙ none)) (λ e' is. (none, ends ∙ same_Some e e' (sym h.2 ∙ is))))
 told_ended BrokenOff a id log s whole e seen new result r none ends h =
-    ([], (h.0, refl), rest_with r [] new.bytes new.ending (sym (ap (λ b. b ++ r.more) h.1 ∙ none)) (λ e' is. (none, ends ∙ same_some e e' (sym h.2 ∙ is))))
+    ([], (h.0, refl), rest_with r [] new.bytes new.ending (sym (ap (λ b. b ++ r.more) h.1 ∙ none)) (λ e' is. (none, ends ∙ same_Some e e' (sym h.2 ∙ is))))
 told_ended TooLong a id log s whole e seen new result r none ends h = (whole, (h.0, refl), subst (λ (p : Pending). Rest a id log s whole p.bytes p.ending) (sym h.1) r)
 told_ended BadSeparator a id log s whole e seen new result r none ends h = (whole, (h.0, refl), subst (λ (p : Pending). Rest a id log s whole p.bytes p.ending) (sym h.1) r)
 
@@ -58,7 +53,7 @@ told_decided separator a id log s whole seen new result r (inl (first, rest, dec
     let answer = subst (λ (c : Cut). IsAnswerOf c None result seen new) here h in (
       rest ++ r.more,
       subst (λ (c : Cut). Tells c result whole (rest ++ r.more)) all (answer.0, refl),
-      rest_with r (rest ++ r.more) new.bytes new.ending (ap (λ b. b ++ r.more) (sym answer.1)) (λ e is. none_some e (sym answer.2 ∙ is)),
+      rest_with r (rest ++ r.more) new.bytes new.ending (ap (λ b. b ++ r.more) (sym answer.1)) (λ e is. absurd (none-some e (sym answer.2 ∙ is))),
     )
 told_decided separator a id log s whole seen new result r (inr (inl decides)) h =
     let here : cut_of separator seen.bytes s.ending ≡ TooLong = alone separator seen.bytes TooLong s.ending (decides [] s.ending) in

@@ -1,23 +1,15 @@
 -- The next piece of a text, from a place on where one may begin.
-use Rattle.std.proofs.Common.{◌≡◌, ℕ, zero, suc, Some, None, ◌+◌, ◌-◌, ◌<◌, ◌≤◌, ◌==◌, Bool, true, false, List, [], ◌∷◌, ◌++◌, length, take, drop, get_or, refl, sym, ◌∙◌, ap, arith, append_assoc, inl, inr}
+use Rattle.std.proofs.Common.{◌≡◌, ℕ, zero, suc, Some, None, ◌+◌, ◌-◌, ◌<◌, ◌≤◌, ◌==◌, Bool, true, false, List, [], ◌∷◌, length, take, drop, get_or, refl, sym, ◌∙◌, ap, arith, inl, inr}
 use Rattle.std.specs.Prelude.{slice_range}
 use Rattle.std.specs.List.{filter, slice_split, onto_first}
 use Rattle.std.proofs.lemmas.Bool.{cases_lt, cond-true, cond-false, lt-ltb, le-ltb, false≢true}
-use Rattle.std.proofs.lemmas.List.{at_drop_more, drop_all, get_or-drop, length-drop, length-take-le, map-append, drop-drop, take_rest}
+use Rattle.std.proofs.lemmas.List.{drop_all, get_or-drop, length-drop, length-take-le, drop-drop, take_rest}
 use Rattle.std.proofs.lemmas.List.Splits.{slice_split-cons_yes, slice_split-cons_no}
 use Rattle.memchr.specs.Find.{IsFirstByte}
-use Rattle.awk_text.specs.Pieces.{is_blank_or_newline, is_full, blank_pieces, split_from, byte_pieces_from, pieces_from, pieces_of, stretch_at, stretches_at}
+use Rattle.awk_text.specs.Pieces.{is_blank_or_newline, is_full, blank_pieces, split_from, byte_pieces_from, pieces_from, pieces_of}
 use Rattle.awk_text.specs.Stretch.{IsStretchEnd}
 use Rattle.awk_text.specs.declared.separator.Separator.{Separator}
 use Rattle.awk_text.specs.declared.separator.Separator.TheVariants.{Blanks, Byte}
-use Rattle.awk_text.specs.declared.span.Span.{Span}
-
--- a blank in front leaves no piece
-pub blank_pieces-skip : (text : List ℕ) (i : ℕ) → i < length text → is_blank_or_newline (get_or text i 0) ≡ true → blank_pieces (drop i text) ≡ blank_pieces (drop (i + 1) text)
-blank_pieces-skip text i lt holds =
-    let parts : slice_split is_blank_or_newline (drop i text) ≡ [] ∷ slice_split is_blank_or_newline (drop (i + 1) text) =
-    at_drop_more (slice_split is_blank_or_newline) text i 0 lt ∙ slice_split-cons_yes is_blank_or_newline (get_or text i 0) (drop (i + 1) text) holds in
-    ap (filter is_full) parts
 
 -- up to the first element that passes, and behind it
 slice_split-first : (test : ℕ → Bool) (text : List ℕ) (i : ℕ) → i < length text → ((k : ℕ) → k < i → test (get_or text k 0) ≡ false) → test (get_or text i 0) ≡ true →
@@ -152,10 +144,3 @@ stretch_end-none test text from le none =
           ∙ not_true (test (get_or (drop from text) (k - from) 0)) (none (k - from) (omega arith) (omega arith));
       stops = λ lt. absurd (omega arith);
     }
-
--- one span more
-pub stretches_pushed : (text : List ℕ) (old new : List Span) (span : Span) (left : List (List ℕ)) → new ≡ old ++ span ∷ [] →
-    stretches_at text new ++ left ≡ stretches_at text old ++ (stretch_at text span ∷ left)
-stretches_pushed text old new span left is =
-    ap (λ spans. stretches_at text spans ++ left) is
-    ∙ (ap (λ ps. ps ++ left) (map-append (stretch_at text) old (span ∷ [])) ∙ append_assoc (stretches_at text old) (stretch_at text span ∷ []) left)

@@ -3,7 +3,7 @@ use Rattle.awk_items.specs.support.Planned.{item_of}
 use Rattle.awk_interpreter.specs.declared.interpreter.Interpreter.{Interpreter}
 use Rattle.awk_meaning.specs.declared.halt.Halt.{Halt}
 use Rattle.awk_streams.specs.WorldState.{WorldState}
-use Rattle.awk_items.specs.support.Runs.{EndsAll}
+use Rattle.awk_items.specs.support.ItemRuns.{EndsAll}
 use Rattle.awk_items.proofs.items.end_items.Given as goal
 
 abbrev pub invariant-loop-item : goal.invariant-loop-item

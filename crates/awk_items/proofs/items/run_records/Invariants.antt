@@ -4,7 +4,7 @@ use Rattle.awk_plan.specs.Plan.{items_of}
 use Rattle.awk_interpreter.specs.declared.interpreter.Interpreter.{Interpreter}
 use Rattle.awk_meaning.specs.declared.halt.Halt.{Halt}
 use Rattle.awk_streams.specs.WorldState.{WorldState}
-use Rattle.awk_items.specs.support.Runs.{ReadsOn}
+use Rattle.awk_items.specs.support.ItemRuns.{ReadsOn}
 use Rattle.awk_items.proofs.items.run_records.Given as goal
 
 abbrev pub invariant-loop-text : goal.invariant-loop-text

@@ -3,7 +3,7 @@ use Rattle.awk_items.specs.support.Planned.{item_of}
 use Rattle.awk_interpreter.specs.declared.interpreter.Interpreter.{Interpreter}
 use Rattle.awk_meaning.specs.declared.halt.Halt.{Halt}
 use Rattle.awk_streams.specs.WorldState.{WorldState}
-use Rattle.awk_items.specs.support.Runs.{TriesAll}
+use Rattle.awk_items.specs.support.ItemRuns.{TriesAll}
 use Rattle.awk_items.proofs.items.try_items.Given as goal
 
 abbrev pub invariant-loop-number : goal.invariant-loop-number

@@ -1,7 +1,7 @@
 use Rattle.std.proofs.Common.{◌≡◌, ◌∷◌, ap, sym, ◌∙◌}
 use Rattle.awk_frames.specs.support.FrameView.{frame_of, stack_of, popped}
 use Rattle.awk_grammar.specs.support.Parser as parser
-use Rattle.awk_statement_productions.specs.support.Parts.{is_part_on}
+use Rattle.awk_statement_productions.specs.support.PartFrames.{is_part_on}
 use Rattle.awk_statement_productions.proofs.ForParts.{is_first}
 use Rattle.awk_statement_productions.proofs.for_parts.end_part.Goals as goal
 
