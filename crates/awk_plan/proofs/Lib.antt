@@ -1,3 +1,4 @@
+mod Lookups
 mod Listed
 mod Growing
 mod Making
