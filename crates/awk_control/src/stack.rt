@@ -1,5 +1,7 @@
 // What has begun and not ended: an entry for each part of the program, and the values that are kept for them.
 
+ghost use Rattle.std.specs.Prelude.{◌≡◌, []};
+
 use crate::control::Control;
 use awk_plan::node::Operand;
 use awk_value::Value;
@@ -16,8 +18,13 @@ pub struct Stack {
 }
 
 impl Stack {
-    /// A stack without entries.
-    pub fn new(alloc: Global) -> Stack {
+    /// A stack without entries and values. It takes no memory.
+    pub fn new(alloc: Global) -> Stack
+        ensures entries { result.control ≡ record { entries = []; heights = [] } }
+        ensures values { result.values.items ≡ [] }
+        ensures returned { result.returned ≡ Value.Nothing }
+        ensures line { result.line.items ≡ [] }
+    {
         Stack {
             control: Control::new(alloc),
             values: Vec::new(alloc),
