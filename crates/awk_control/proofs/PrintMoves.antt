@@ -12,7 +12,7 @@ use Rattle.awk_meaning.specs.Primitives.{spend, record_text, print_line}
 use Rattle.awk_meaning.specs.Semantics.{eval_all, printed_values, print, exec_simple, exec}
 use Rattle.awk_interpreter.specs.declared.interpreter.Interpreter.{Interpreter}
 use Rattle.awk_interpreter.specs.Simulation.{Changes, Spends, Follows}
-use Rattle.awk_control.specs.support.Stack.{step, Entry, BeginStatement, Ended, run_of, Rest, Leads}
+use Rattle.awk_control.specs.support.Stack.{Entry, BeginStatement, Ended, run_of, Rest, Leads}
 use Rattle.awk_control.proofs.Laws.{then_rest, halted_rest}
 use Rattle.awk_control.proofs.Moves.{later_same, unspent}
 

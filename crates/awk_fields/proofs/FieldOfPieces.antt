@@ -7,8 +7,8 @@ use Rattle.std.proofs.lemmas.Int.{ints}
 use Rattle.std.proofs.lemmas.List.{drop-take}
 use Rattle.std.proofs.lemmas.Option.{slice_get-map, slice_get_past, slice_get-get_or}
 use Rattle.awk_text.specs.Pieces.{stretch_at, IsSpanOf}
-use Rattle.awk_split.specs.Pieces.{pieces_by}
-use Rattle.awk_split.specs.Separators.{Rule}
+use Rattle.awk_text.specs.Fields.{pieces_by}
+use Rattle.awk_text.specs.Separators.{Rule}
 use Rattle.awk_text.specs.declared.span.Span.{Span}
 use Rattle.awk_value.specs.declared.value.Value.{Value}
 use Rattle.awk_value.specs.declared.value.Value.TheVariants.{Nothing, Input}

@@ -6,8 +6,8 @@ use Rattle.std.proofs.lemmas.List.{map-append, length-map}
 use Rattle.std.proofs.lemmas.List.Elements.{All-push}
 use Rattle.std.proofs.lemmas.Option.{slice_get-map}
 use Rattle.awk_text.specs.Pieces.{stretch_at, stretches_at, IsSpanOf, AreSpansOf}
-use Rattle.awk_split.specs.Pieces.{pieces_from_by, pieces_by}
-use Rattle.awk_split.specs.Separators.{Rule}
+use Rattle.awk_text.specs.Fields.{pieces_from_by, pieces_by}
+use Rattle.awk_text.specs.Separators.{Rule}
 use Rattle.awk_text.specs.declared.span.Span.{Span}
 use Rattle.awk_fields.specs.declared.fields.Fields.{Fields}
 use Rattle.awk_fields.specs.Found.{AreFieldsOf}

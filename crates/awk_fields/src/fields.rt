@@ -3,15 +3,14 @@ ghost use Rattle.std.specs.Prelude.{◌≡◌, ◌≢◌, ◌<◌, ◌⊎◌, []
 ghost use Rattle.std.specs.Option.{option_map};
 ghost use Rattle.std.specs.Result.{is_err};
 ghost use Rattle.awk_text.specs.Pieces.{stretch_at, IsSpanOf};
-ghost use Rattle.awk_split.specs.Separators.{separator_of};
-ghost use Rattle.awk_split.specs.Pieces.{pieces_from_by, pieces_by};
+ghost use Rattle.awk_text.specs.Separators.{separator_of};
+ghost use Rattle.awk_text.specs.Fields.{pieces_from_by, pieces_by};
 ghost use Rattle.awk_fields.specs.Found.{AreFieldsOf};
 ghost use Rattle.awk_fields.specs.Record.{inputs_of};
 
 use crate::assigned::cut_all;
 use crate::fault::RecordFault;
-use awk_split::{FieldSeparator, pieces_from_law};
-use awk_text::Span;
+use awk_text::{FieldSeparator, Span, pieces_from_law};
 use awk_value::{Bytes, Value};
 use std::alloc::Global;
 

@@ -1,1 +1,3 @@
+pub mod LimitedNodes
+pub mod CheckedLists
 pub mod Reductions

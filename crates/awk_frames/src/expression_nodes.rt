@@ -4,14 +4,14 @@ ghost use Rattle.std.specs.Prelude.{◌≡◌, IfOk};
 ghost use Rattle.awk_grammar.specs.definitions.Tree as t;
 ghost use Rattle.awk_grammar.specs.definitions.Height.{max_height, height_of};
 ghost use Rattle.awk_grammar.specs.support.Nodes.{over_one, over_two, over_three};
-ghost use Rattle.awk_nodes.specs.support.Checked.{checked_expr, checked_child};
+ghost use Rattle.awk_frames.specs.support.CheckedExpressions.{checked_expr, checked_child};
 ghost use Rattle.awk_frames.specs.support.Held.{held_of};
 
+use crate::checked_expressions::CheckedExpr;
+use crate::child::OptionalChild;
 use crate::held::HeldChild;
 use awk_grammar::tree::{BinaryOperator, Expr, UnaryOperator};
 use awk_lex::token::{AssignmentOperator, IncrementOperator};
-use awk_nodes::checked::CheckedExpr;
-use awk_nodes::child::OptionalChild;
 use std::alloc::{AllocError, Global};
 
 /// `$` and the field's number.

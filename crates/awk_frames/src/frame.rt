@@ -4,14 +4,14 @@
 ghost use Rattle.std.specs.Prelude.{◌≡◌, IfOk};
 ghost use Rattle.awk_frames.specs.support.FrameView.{list_of, list_frame_of, frame_of};
 
-use crate::operand::{Operand, OperandList};
-use awk_grammar::tree::{BinaryOperator, PrintForm, Redirection, UnaryOperator};
-use awk_lex::token::{AssignmentOperator, BuiltIn, IncrementOperator};
-use awk_nodes::checked::CheckedExpr;
-use awk_statement_nodes::checked::{
+use crate::checked_expressions::CheckedExpr;
+use crate::checked_statements::{
     CheckedItems, CheckedOptionalExpr, CheckedPart, CheckedPattern, CheckedPrintList,
     CheckedStatement, CheckedStatements,
 };
+use crate::operand::{Operand, OperandList};
+use awk_grammar::tree::{BinaryOperator, PrintForm, Redirection, UnaryOperator};
+use awk_lex::token::{AssignmentOperator, BuiltIn, IncrementOperator};
 use awk_value::Bytes;
 use std::alloc::{AllocError, Global};
 

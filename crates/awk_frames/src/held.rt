@@ -2,7 +2,7 @@
 
 ghost use Rattle.std.specs.Prelude.{◌≡◌, ◌≤◌};
 ghost use Rattle.awk_grammar.specs.definitions.Height.{max_height, optional_height};
-ghost use Rattle.awk_nodes.specs.support.Checked.{optional_of};
+ghost use Rattle.awk_frames.specs.support.CheckedExpressions.{optional_of};
 
 use awk_grammar::tree::Expr;
 

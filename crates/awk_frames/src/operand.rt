@@ -5,14 +5,14 @@ ghost use Rattle.std.specs.Prelude.{◌≡◌, IfOk};
 ghost use Rattle.awk_grammar.specs.definitions.Tree as t;
 ghost use Rattle.awk_grammar.specs.definitions.Height.{max_height};
 ghost use Rattle.awk_grammar.specs.support.Parser as parser;
-ghost use Rattle.awk_nodes.specs.support.Checked.{checked_expr, checked_child};
+ghost use Rattle.awk_frames.specs.support.CheckedExpressions.{checked_expr, checked_child};
 ghost use Rattle.awk_frames.specs.support.FrameView.{operand_of, optional_operand_of, list_of};
 
+use crate::checked_expressions::{CheckedExpr, CheckedExprs};
+use crate::child::OptionalChild;
+use crate::lists::one_more_expr;
 use awk_grammar::precedence::PRIMARY;
 use awk_grammar::tree::{Ere, Expr};
-use awk_nodes::checked::{CheckedExpr, CheckedExprs};
-use awk_nodes::child::OptionalChild;
-use awk_nodes::lists::one_more_expr;
 use awk_value::Bytes;
 use std::alloc::{AllocError, Global};
 

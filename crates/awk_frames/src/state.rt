@@ -1,10 +1,10 @@
 // Where the parser stands, above what it has begun. What is large and rare stands in a box: a state is handed on at each token.
 
+use crate::checked_statements::{CheckedPart, CheckedSimple, CheckedStatement};
 use crate::frame::{ForHead, Frame, Head};
 use crate::operand::{Operand, OperandList};
 use awk_grammar::tree::PrintForm;
 use awk_lex::token::Kind;
-use awk_statement_nodes::checked::{CheckedPart, CheckedSimple, CheckedStatement};
 use awk_value::Bytes;
 
 /// The token that is read next, and how many EREs of the program stand before it.

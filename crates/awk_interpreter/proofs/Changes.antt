@@ -2,7 +2,7 @@
 use Rattle.std.proofs.Common.{◌≡◌, ◌≢◌, true≢false, ℕ, ℤ, pos, suc, Bool, true, false, List, [], Option, Some, None, Result, Ok, Err, IfOk, IfErr, OnErr, ◌⊎◌, inl, inr, length, unwrap_or, slice_get, int_lt, refl, sym, ap, ◌∙◌, subst, arith}
 use Rattle.std.specs.Global.{Vec}
 use Rattle.std.specs.Prelude.{◌==◌, codes, bytes_eq, if◌then◌else◌, IfSome, IfNone}
-use Rattle.awk_split.specs.Separators.{Rule}
+use Rattle.awk_text.specs.Separators.{Rule}
 use Rattle.awk_fields.specs.declared.fault.RecordFault.{RecordFault}
 use Rattle.awk_fields.specs.declared.fault.RecordFault.TheVariants as record_faults
 use Rattle.awk_value.specs.declared.value.Value.{Value}

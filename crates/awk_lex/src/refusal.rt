@@ -33,10 +33,20 @@ pub enum RefusalCode {
     PatternTooLarge,
     /// K1: a name that is both an array and a scalar.
     ArrayAndScalar,
+    /// K2: a call of a name that is no function.
+    UnknownFunction,
+    /// K3: a function that is defined twice.
+    DefinedTwice,
+    /// K4: a call with more arguments than its function has parameters.
+    TooManyArguments,
+    /// K5: a parameter that is repeated, or named as a function or a special variable.
+    ParameterRefused,
     /// K6: a `next`, `break`, `continue` or `return` where it ends nothing.
     StatementOutOfPlace,
     /// K7: a name that other awks give a meaning which this one leaves out.
     NameLeftOut,
+    /// K8: a function's name without a call, or a function named as a special variable.
+    FunctionAsVariable,
     /// K9: a form of the language that can't be run yet.
     NotBuilt,
     /// M0: memory was refused.
@@ -61,8 +71,13 @@ impl RefusalCode {
             RefusalCode::PatternCountRefused => "P2: interval or range refused",
             RefusalCode::PatternTooLarge => "P3: pattern too large",
             RefusalCode::ArrayAndScalar => "K1: array and scalar",
+            RefusalCode::UnknownFunction => "K2: unknown function",
+            RefusalCode::DefinedTwice => "K3: function defined twice",
+            RefusalCode::TooManyArguments => "K4: too many arguments",
+            RefusalCode::ParameterRefused => "K5: parameter refused",
             RefusalCode::StatementOutOfPlace => "K6: statement out of place",
             RefusalCode::NameLeftOut => "K7: name left out",
+            RefusalCode::FunctionAsVariable => "K8: function used as a variable",
             RefusalCode::NotBuilt => "K9: not built yet",
             RefusalCode::OutOfMemory => "M0: out of memory",
         }

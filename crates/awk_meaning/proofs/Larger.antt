@@ -1,6 +1,5 @@
 -- What a run does with more steps, part by part: the primitives, and the main input.
 use Rattle.std.proofs.Common.{◌≡◌, ℕ, zero, suc, ◌+◌, ◌≤◌, Bool, true, false, List, [], ◌++◌, Option, Some, None, Result, Ok, Err, pos, ℤ, refl, sym, ap, ◌∙◌, append_assoc, append-nil, arith}
-use Rattle.awk_text.specs.declared.fault.TextFault.{TextFault}
 use Rattle.awk_value.specs.declared.value.Value.{Value}
 use Rattle.awk_value.specs.declared.value.Value.TheVariants as value
 use Rattle.awk_value.specs.declared.fault.ValueFault.{ValueFault}

@@ -1,2 +1,10 @@
+mod ItemLists
+mod OtherItemTokens
+pub mod DoBodies
+pub mod ForParts
+pub mod OtherStatementTokens
+pub mod StatementLists
+pub mod AloneStatements
+pub mod OtherSimpleTokens
 pub mod TokensInTurn
 pub mod WhereStopped

@@ -1,2 +1,4 @@
+pub mod PartFrames
+pub mod Ending
 pub mod Answered
 pub mod Stopped

@@ -7,8 +7,11 @@ ghost use Rattle.awk_grammar.specs.support.InfixRole as role;
 ghost use Rattle.awk_frames.specs.support.FrameView.{role_of, operand_of, optional_operand_of};
 ghost use Rattle.awk_frames.specs.support.FrameView.{list_of, stack_of, reduced, next_of};
 
+use crate::endings::end_operand;
 use crate::nodes::post_increment;
-use awk_expression_productions::endings::end_operand;
+use crate::operands::start_operand;
+use crate::prints::{end_list, redirect_to_pipe};
+use crate::taken::{begin, operand as after};
 use awk_frames::frame::{ExpressionFrame, Frame, ListHead, NodeFrame};
 use awk_frames::infix_role::InfixRole;
 use awk_frames::node::getline_operand;
@@ -19,9 +22,6 @@ use awk_frames::state::{Behind, ExpressionState, NextToken, ParserState};
 use awk_grammar::precedence::{MEMBERSHIP, POST_INCREMENT};
 use awk_grammar::tree::BinaryOperator;
 use awk_lex::token::{BuiltIn, IncrementOperator, Keyword, Kind, Operator};
-use awk_productions::operands::start_operand;
-use awk_productions::taken::{begin, operand as after};
-use awk_simple_productions::prints::{end_list, redirect_to_pipe};
 use awk_value::Bytes;
 use std::alloc::{AllocError, Global};
 

@@ -4,11 +4,11 @@ ghost use Rattle.std.specs.Prelude.{◌≡◌, IfOk};
 ghost use Rattle.awk_grammar.specs.definitions.Tree as t;
 ghost use Rattle.awk_grammar.specs.definitions.Height.{max_height, height_of};
 ghost use Rattle.awk_grammar.specs.support.Nodes.{over_one};
-ghost use Rattle.awk_nodes.specs.support.Checked.{checked_expr};
+ghost use Rattle.awk_frames.specs.support.CheckedExpressions.{checked_expr};
 
+use awk_frames::checked_expressions::CheckedExpr;
 use awk_grammar::tree::Expr;
 use awk_lex::token::IncrementOperator;
-use awk_nodes::checked::CheckedExpr;
 use awk_value::Bytes;
 use std::alloc::{AllocError, Global};
 

@@ -11,19 +11,19 @@ ghost use Rattle.awk_frames.specs.support.FrameView.{expression_state_of, stack_
 use crate::expressions::{
     after_bar, after_getline, after_length, after_list, after_name, after_operand,
 };
+use crate::items::step_item;
 use crate::nodes::membership;
+use crate::operands::start_operand;
+use crate::step::step_statement;
+use crate::taken::{begin, operand as after};
+use awk_frames::checked_statements::CheckedItems;
+use awk_frames::expressions::list_membership;
 use awk_frames::frame::Frame;
 use awk_frames::operand::{Operand, OperandList};
 use awk_frames::stack::{pop, push};
 use awk_frames::state::{Behind, ExpressionState, ItemState, NextToken, ParserState};
 use awk_grammar::precedence::MEMBERSHIP;
-use awk_item_productions::items::step_item;
 use awk_lex::token::Kind;
-use awk_nodes::expressions::list_membership;
-use awk_productions::operands::start_operand;
-use awk_productions::taken::{begin, operand as after};
-use awk_simple_productions::step::step_statement;
-use awk_statement_nodes::checked::CheckedItems;
 use awk_value::Bytes;
 use std::alloc::{AllocError, Global};
 

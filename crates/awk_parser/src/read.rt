@@ -8,13 +8,13 @@ ghost use Rattle.awk_parser.specs.support.Answered.{Gives};
 ghost use Rattle.awk_parser.specs.support.Stopped.{Stops, last_line};
 
 use crate::parser::{finish, step};
+use awk_frames::checked_statements::CheckedItems;
 use awk_frames::frame::Frame;
 use awk_frames::stack::push;
 use awk_frames::state::{ItemState, NextToken, ParserState};
 use awk_grammar::tree::Tree;
 use awk_lex::refusal::{Refusal, RefusalCode};
 use awk_lex::token::{Kind, Token};
-use awk_statement_nodes::checked::CheckedItems;
 use std::alloc::Global;
 
 /// The tree that the tokens spell (POSIX awk, Grammar).

@@ -127,22 +127,26 @@ impl RecordBuffer {
         Ok(())
     }
 
-    /// The input has ended.
+    /// The input has ended. After an ending this changes nothing.
     pub fn end(&mut self)
-        requires { self.old.ending ≡ None }
         ensures bytes { self.new.bytes ≡ self.old.bytes }
-        ensures ending { self.new.ending ≡ Some AtEnd }
+        ensures ending { self.old.ending ≡ None → self.new.ending ≡ Some AtEnd }
+        ensures again { self.old.ending ≢ None → self.new ≡ self.old }
     {
-        self.supply = Supply::Ended;
+        if let Supply::Open = self.supply {
+            self.supply = Supply::Ended;
+        }
     }
 
-    /// The input broke.
+    /// The input broke. After an ending this changes nothing.
     pub fn broken(&mut self)
-        requires { self.old.ending ≡ None }
         ensures bytes { self.new.bytes ≡ self.old.bytes }
-        ensures ending { self.new.ending ≡ Some AtBreak }
+        ensures ending { self.old.ending ≡ None → self.new.ending ≡ Some AtBreak }
+        ensures again { self.old.ending ≢ None → self.new ≡ self.old }
     {
-        self.supply = Supply::Broke;
+        if let Supply::Open = self.supply {
+            self.supply = Supply::Broke;
+        }
     }
 
     /// The next record by this separator: one byte, or none, where blank lines

@@ -1,8 +1,7 @@
 -- What is run of a program is as high as its tree.
-use Rattle.std.proofs.Common.{◌≡◌, ℕ, ◌+◌, max, Bool, true, false, List, [], ◌∷◌, Option, Some, None, Result, Ok, Err, if◌then◌else◌, refl, arith}
+use Rattle.std.proofs.Common.{◌≡◌, ℕ, ◌+◌, max, List, [], ◌∷◌, Option, Some, None, Ok, refl, arith}
 use Rattle.std.specs.Option.{option_map}
-use Rattle.awk_lex.specs.declared.refusal.RefusalCode.TheVariants.{ArrayAndScalar}
-use Rattle.awk_lex.specs.declared.token.Kind.{Kind}
+use Rattle.awk_lex.specs.declared.refusal.RefusalCode.{RefusalCode}
 use Rattle.awk_lex.specs.declared.token.Operator.TheVariants as s
 use Rattle.awk_lex.specs.declared.token.AssignmentOperator.{AssignmentOperator}
 use Rattle.awk_lex.specs.declared.token.AssignmentOperator.TheVariants as by
@@ -14,9 +13,8 @@ use Rattle.awk_grammar.specs.declared.tree.PrintForm.TheVariants as form
 use Rattle.awk_tree.specs.Tree as t
 use Rattle.awk_tree.specs.Height.{height_of, tallest, height_of_optional, height_of_simple, height_of_optional_simple, height_of_statement, tallest_of, height_of_pattern, height_of_item, height_of_items}
 use Rattle.awk_built.specs.Built.{both, all_three, all_four, built_unary, binary, assigned, built_target, built_expr, built_list, built_print_list, built_optional_expr, built_simple, built_optional_simple, built_statement, built_block, built_pattern, built_item, built_items}
-use Rattle.awk_resolve.specs.definitions.Placed.{are_in_place}
-use Rattle.awk_resolve.specs.definitions.Names.{names_left_out, scalar_names, array_names, are_apart}
-use Rattle.awk_resolve.specs.definitions.Resolved.{fitting, resolved_in_place, resolved}
+use Rattle.awk_kinds.specs.definitions.Fits.{first_refusal}
+use Rattle.awk_resolve.specs.definitions.Resolved.{if_built, unless_refused, resolved}
 
 -- what is built, if anything is, has this height
 record Has {A : Type 0} (h : A → ℕ) (x : Option A) (n : ℕ) : Type 0 where
@@ -171,20 +169,13 @@ items_height (x ∷ xs) = of_two (λ y ys. y ∷ ys) (item_height x) (items_heig
 
 -- a program
 
-first_branch : {A E : Type 0} (b : Bool) (r : Result A E) (e : E) (a : A) → (if b then r else Err e) ≡ Ok a → r ≡ Ok a
-first_branch true r e a h = h
-first_branch false r e a h = absurd (cc)
+built_made : (o : Option (List t.Item)) (made : List t.Item) → if_built o ≡ Ok made → o ≡ Some made
+built_made None made h = absurd (cc)
+built_made (Some items) made h = cc
 
-second_branch : {A E : Type 0} (b : Bool) (r : Result A E) (e : E) (a : A) → (if b then Err e else r) ≡ Ok a → r ≡ Ok a
-second_branch true r e a h = absurd (cc)
-second_branch false r e a h = h
+height_by : (code : Option RefusalCode) (items : List g.Item) (made : List t.Item) → unless_refused code items ≡ Ok made → height_of_items made ≡ high.height_of_program items
+height_by (Some code) items made h = absurd (cc)
+height_by None items made h = (items_height items).height made (built_made (built_items items) made h)
 
-fitting_items : (o : Option (List t.Item)) (made : List t.Item) → fitting o ≡ Ok made → o ≡ Some made
-fitting_items None made h = absurd (cc)
-fitting_items (Some items) made h = cc (first_branch (are_apart (scalar_names items) (array_names items)) (Ok items) ArrayAndScalar made h)
-
-pub resolved_height : (tokens : List Kind) (items : List g.Item) (made : List t.Item) → resolved tokens items ≡ Ok made → height_of_items made ≡ high.height_of_program items
-resolved_height tokens items made h =
-    let in_place : resolved_in_place tokens items ≡ Ok made = first_branch (are_in_place items) _ _ made h in
-    let fits : fitting (built_items items) ≡ Ok made = second_branch (names_left_out tokens) _ _ made in_place in
-    (items_height items).height made (fitting_items (built_items items) made fits)
+pub resolved_height : (items : List g.Item) (made : List t.Item) → resolved items ≡ Ok made → height_of_items made ≡ high.height_of_program items
+resolved_height items made h = height_by (first_refusal items) items made h

@@ -1,3 +1,1 @@
-pub mod Names
-pub mod Placed
 pub mod Resolved

@@ -1,10 +1,10 @@
 -- From a text's tokens and their tree to its program.
-use Rattle.std.proofs.Common.{◌≡◌, ◌⊎◌, inl, inr, ℕ, ◌≤◌, List, length, Option, Some, None, Result, Ok, Err, IfOk, IfErr, refl, sym, ap, ◌∙◌, subst, arith}
+use Rattle.std.proofs.Common.{◌≡◌, ◌⊎◌, inl, inr, ℕ, ◌≤◌, true, false, List, [], ◌∷◌, length, Option, Some, None, Result, Ok, Err, IfOk, IfErr, refl, sym, ap, ◌∙◌, subst, arith}
 use Rattle.std.proofs.lemmas.Bool.{cases_Bool}
 use Rattle.awk_lex.specs.declared.token.Kind.{Kind}
 use Rattle.awk_lex.specs.declared.refusal.Refusal.{Refusal}
 use Rattle.awk_lex.specs.declared.refusal.RefusalCode.{RefusalCode}
-use Rattle.awk_lex.specs.declared.refusal.RefusalCode.TheVariants.{UnexpectedByte, OpenString, OpenPattern, EscapeRefused, NumberRefused, ProgramTooLong, NotAProgram, NestedTooDeep, PatternIllFormed, PatternCountRefused, PatternTooLarge, ArrayAndScalar, StatementOutOfPlace, NameLeftOut, NotBuilt, OutOfMemory}
+use Rattle.awk_lex.specs.declared.refusal.RefusalCode.TheVariants.{UnexpectedByte, OpenString, OpenPattern, EscapeRefused, NumberRefused, ProgramTooLong, NotAProgram, NestedTooDeep, PatternIllFormed, PatternCountRefused, PatternTooLarge, ArrayAndScalar, UnknownFunction, DefinedTwice, TooManyArguments, ParameterRefused, StatementOutOfPlace, NameLeftOut, FunctionAsVariable, NotBuilt, OutOfMemory}
 use Rattle.awk_lex.specs.Refused.{IsOutOfMemory}
 use Rattle.awk_lex.specs.Lexes.{Lexes}
 use Rattle.awk_lex.specs.Told.{Refuses, kinds_of}
@@ -20,10 +20,9 @@ use Rattle.awk_tree.specs.Height.{height_of_items}
 use Rattle.awk_tree.specs.Tree.{Item}
 use Rattle.awk_tree.specs.View.{tree_of}
 use Rattle.awk_tree.specs.declared.tree.Tree.{Tree}
+use Rattle.awk_kinds.specs.definitions.Fits.{holds, first_of, in_order, first_refusal}
 use Rattle.awk_resolve.specs.Built.{built_items}
-use Rattle.awk_resolve.specs.Names.{names_left_out, scalar_names, array_names, are_apart}
-use Rattle.awk_resolve.specs.Placed.{are_in_place}
-use Rattle.awk_resolve.specs.Resolved.{fitting, resolved_in_place, resolved, Resolves}
+use Rattle.awk_resolve.specs.Resolved.{if_built, unless_refused, resolved, Resolves}
 use Rattle.awk_run.specs.definitions.Accepted.{longest_text, IsSpelled, HasBadEre, IsNotRun, Accepted, RefusedFor}
 use Rattle.awk_run.specs.support.Verdict.{ReadsOnly}
 
@@ -49,23 +48,23 @@ none_read refusal text tokens one only items a =
 
 -- what is run of a text
 
-pub accepts : (r : Result Tree Refusal) (text : List ℕ) (tokens : List Kind) (program : List GrammarItem) → IsSpelled text tokens program → Resolves r (resolved tokens program) → IfOk r (λ tree. Accepted text (tree_of tree))
+pub accepts : (r : Result Tree Refusal) (text : List ℕ) (tokens : List Kind) (program : List GrammarItem) → IsSpelled text tokens program → Resolves r (resolved program) → IfOk r (λ tree. Accepted text (tree_of tree))
 accepts (Ok tree) text tokens program s h = record { tokens = tokens; program = program; spelled = s; resolves = h }
 accepts (Err refusal) text tokens program s h = tt
 
-resolves_only : (r : Result Tree Refusal) (tokens : List Kind) (program : List GrammarItem) (items : List Item) → Resolves r (resolved tokens program) → resolved tokens program ≡ Ok items → ReadsOnly r items
-resolves_only (Ok tree) tokens program items h e = let same : Ok (tree_of tree) ≡ Ok items = sym h ∙ e in cc
-resolves_only (Err refusal) tokens program items h e = elim h [ inl m ↦ m | inr q ↦ let clash : Err refusal.code ≡ Ok items = sym q ∙ e in absurd (cc) ]
+resolves_only : (r : Result Tree Refusal) (program : List GrammarItem) (items : List Item) → Resolves r (resolved program) → resolved program ≡ Ok items → ReadsOnly r items
+resolves_only (Ok tree) program items h e = let same : Ok (tree_of tree) ≡ Ok items = sym h ∙ e in cc
+resolves_only (Err refusal) program items h e = elim h [ inl m ↦ m | inr q ↦ let clash : Err refusal.code ≡ Ok items = sym q ∙ e in absurd (cc) ]
 
 pub only_accepted : (r : Result Tree Refusal) (text : List ℕ) (tokens : List Kind) (tree : GrammarTree) → HasOne text tokens
     → ((program : List GrammarItem) → IsProgramWithinHeight tokens program → AreReadable tokens → Reads (Ok tree) program)
-    → Resolves r (resolved tokens (grammar_tree_of tree))
+    → Resolves r (resolved (grammar_tree_of tree))
     → (items : List Item) → Accepted text items → ReadsOnly r items
 only_accepted r text tokens tree one only h items a =
     let same = one a.tokens a.spelled.has.lexes a.spelled.has.short in
     let w = within text tokens a.tokens a.program same a.spelled in
     let read : grammar_tree_of tree ≡ a.program = only a.program w.0 w.1 in
-    resolves_only r tokens (grammar_tree_of tree) items h (ap (λ ts. resolved ts (grammar_tree_of tree)) same ∙ ap (λ xs. resolved a.tokens xs) read ∙ a.resolves)
+    resolves_only r (grammar_tree_of tree) items h (ap resolved read ∙ a.resolves)
 
 -- a text is one program at most, where it has one list of tokens and they have one tree
 pub one_program : (text : List ℕ) (xs ys : List Item) → ((ts us : List Kind) → Lexes ts text → Lexes us text → ts ≡ us)
@@ -74,47 +73,72 @@ pub one_program : (text : List ℕ) (xs ys : List Item) → ((ts us : List Kind)
 one_program text xs ys one_lexing one_tree a b =
     let same = one_lexing a.tokens b.tokens a.spelled.has.lexes b.spelled.has.lexes in
     let program = one_tree b.tokens a.program b.program (subst (λ ts. IsProgram ts a.program) same a.spelled.spells) b.spelled.spells in
-    let equal : Ok xs ≡ Ok ys = sym a.resolves ∙ ap (λ ts. resolved ts a.program) same ∙ ap (resolved b.tokens) program ∙ b.resolves in
+    let equal : Ok xs ≡ Ok ys = sym a.resolves ∙ ap resolved program ∙ b.resolves in
     cc
 
 -- why nothing is run of a program
 
-abbrev IsCause : RefusalCode → Type 0
-IsCause code = (code ≡ StatementOutOfPlace) ⊎ ((code ≡ NameLeftOut) ⊎ ((code ≡ NotBuilt) ⊎ (code ≡ ArrayAndScalar)))
+same_code : (a b : RefusalCode) → Some a ≡ Some b → a ≡ b
+same_code a b e = cc
 
-err_is : (a b : RefusalCode) (r : Result (List Item) RefusalCode) → r ≡ Err a → r ≡ Err b → b ≡ a
-err_is a b r p q = let same : Err b ≡ Err a = sym q ∙ p in cc
+same_err : (a b : RefusalCode) (r : Result (List Item) RefusalCode) → r ≡ Err a → r ≡ Err b → b ≡ a
+same_err a b r p q = let same : Err b ≡ Err a = sym q ∙ p in cc
 
-fitting_cause : (built : Option (List Item)) (code : RefusalCode) → fitting built ≡ Err code → IsCause code
-fitting_cause None code e = inr (inr (inl (err_is NotBuilt code (fitting None) refl e)))
-fitting_cause (Some items) code e = elim (cases_Bool (are_apart (scalar_names items) (array_names items))) [
-  | inl apart ↦ let is : fitting (Some items) ≡ Ok items = rw apart refl in let clash : Ok items ≡ Err code = sym is ∙ e in absurd (cc)
-  | inr clash ↦ inr (inr (inr (err_is ArrayAndScalar code (fitting (Some items)) (rw clash refl) e)))
+first_holds : (codes' : List RefusalCode) (program : List GrammarItem) (code : RefusalCode) → first_of codes' program ≡ Some code → holds code program ≡ true
+first_holds [] program code e = absurd (cc)
+first_holds (x ∷ xs) program code e = elim (cases_Bool (holds x program)) [
+  | inl is_so ↦ let is : first_of (x ∷ xs) program ≡ Some x = rw is_so refl in subst (λ y. holds y program ≡ true) (same_code x code (sym is ∙ e)) is_so
+  | inr not_so ↦ let is : first_of (x ∷ xs) program ≡ first_of xs program = rw not_so refl in first_holds xs program code (sym is ∙ e)
 ]
 
-in_place_cause : (tokens : List Kind) (program : List GrammarItem) (code : RefusalCode) → resolved_in_place tokens program ≡ Err code → IsCause code
-in_place_cause tokens program code e = elim (cases_Bool (names_left_out tokens)) [
-  | inl bad ↦ inr (inl (err_is NameLeftOut code (resolved_in_place tokens program) (rw bad refl) e))
-  | inr kept ↦ let is : resolved_in_place tokens program ≡ fitting (built_items program) = rw kept refl in fitting_cause (built_items program) code (sym is ∙ e)
+abbrev Cause : RefusalCode → List GrammarItem → Type 0
+Cause code program = (holds code program ≡ true) ⊎ (code ≡ NotBuilt)
+
+unbuilt_cause : (made : Option (List Item)) (program : List GrammarItem) (code : RefusalCode) → if_built made ≡ Err code → Cause code program
+unbuilt_cause None program code e = inr (same_err NotBuilt code (if_built None) refl e)
+unbuilt_cause (Some items) program code e = let clash : Ok items ≡ Err code = e in absurd (cc)
+
+cause_by : (x : Option RefusalCode) (program : List GrammarItem) (code : RefusalCode) → first_of in_order program ≡ x → unless_refused x program ≡ Err code → Cause code program
+cause_by None program code is e = unbuilt_cause (built_items program) program code e
+cause_by (Some y) program code is e = inl (first_holds in_order program code (is ∙ ap Some (sym (same_err y code (Err y) refl e))))
+
+cause : (program : List GrammarItem) (code : RefusalCode) → resolved program ≡ Err code → Cause code program
+cause program code e = cause_by (first_refusal program) program code refl e
+
+not_among : (code : RefusalCode) (program : List GrammarItem) → holds code program ≡ false → (code ≡ NotBuilt → ⊥) → resolved program ≡ Err code → ⊥
+not_among code program failed other e = elim (cause program code e) [
+  | inl is_so ↦ let clash : false ≡ true = sym failed ∙ is_so in absurd (cc)
+  | inr is ↦ other is
 ]
 
-cause : (tokens : List Kind) (program : List GrammarItem) (code : RefusalCode) → resolved tokens program ≡ Err code → IsCause code
-cause tokens program code e = elim (cases_Bool (are_in_place program)) [
-  | inl placed ↦ let is : resolved tokens program ≡ resolved_in_place tokens program = rw placed refl in in_place_cause tokens program code (sym is ∙ e)
-  | inr astray ↦ inl (err_is StatementOutOfPlace code (resolved tokens program) (rw astray refl) e)
-]
+not_run : (code : RefusalCode) (text : List ℕ) → IsNotRun code text → RefusedFor code text
+not_run UnknownFunction text n = n
+not_run DefinedTwice text n = n
+not_run TooManyArguments text n = n
+not_run ParameterRefused text n = n
+not_run StatementOutOfPlace text n = n
+not_run NameLeftOut text n = n
+not_run FunctionAsVariable text n = n
+not_run ArrayAndScalar text n = n
+not_run NotBuilt text n = n
+not_run OutOfMemory text n = tt
+not_run ProgramTooLong text n = absurd (not_among ProgramTooLong n.1 refl (λ e. absurd (cc)) n.3)
+not_run UnexpectedByte text n = absurd (not_among UnexpectedByte n.1 refl (λ e. absurd (cc)) n.3)
+not_run OpenString text n = absurd (not_among OpenString n.1 refl (λ e. absurd (cc)) n.3)
+not_run OpenPattern text n = absurd (not_among OpenPattern n.1 refl (λ e. absurd (cc)) n.3)
+not_run EscapeRefused text n = absurd (not_among EscapeRefused n.1 refl (λ e. absurd (cc)) n.3)
+not_run NumberRefused text n = absurd (not_among NumberRefused n.1 refl (λ e. absurd (cc)) n.3)
+not_run NotAProgram text n = absurd (not_among NotAProgram n.1 refl (λ e. absurd (cc)) n.3)
+not_run NestedTooDeep text n = absurd (not_among NestedTooDeep n.1 refl (λ e. absurd (cc)) n.3)
+not_run PatternIllFormed text n = absurd (not_among PatternIllFormed n.1 refl (λ e. absurd (cc)) n.3)
+not_run PatternCountRefused text n = absurd (not_among PatternCountRefused n.1 refl (λ e. absurd (cc)) n.3)
+not_run PatternTooLarge text n = absurd (not_among PatternTooLarge n.1 refl (λ e. absurd (cc)) n.3)
 
-not_run : (text : List ℕ) (code : RefusalCode) → IsCause code → IsNotRun code text → RefusedFor code text
-not_run text code (inl e) n = subst (λ c. RefusedFor c text) (sym e) (subst (λ c. IsNotRun c text) e n)
-not_run text code (inr (inl e)) n = subst (λ c. RefusedFor c text) (sym e) (subst (λ c. IsNotRun c text) e n)
-not_run text code (inr (inr (inl e))) n = subst (λ c. RefusedFor c text) (sym e) (subst (λ c. IsNotRun c text) e n)
-not_run text code (inr (inr (inr e))) n = subst (λ c. RefusedFor c text) (sym e) (subst (λ c. IsNotRun c text) e n)
-
-pub resolving_refused : (r : Result Tree Refusal) (text : List ℕ) (tokens : List Kind) (program : List GrammarItem) → IsSpelled text tokens program → Resolves r (resolved tokens program) → IfErr r (λ refusal. RefusedFor refusal.code text)
+pub resolving_refused : (r : Result Tree Refusal) (text : List ℕ) (tokens : List Kind) (program : List GrammarItem) → IsSpelled text tokens program → Resolves r (resolved program) → IfErr r (λ refusal. RefusedFor refusal.code text)
 resolving_refused (Ok tree) text tokens program s h = tt
 resolving_refused (Err refusal) text tokens program s h = elim h [
   | inl m ↦ subst (λ c. RefusedFor c text) (sym m) tt
-  | inr e ↦ not_run text refusal.code (cause tokens program refusal.code e) (tokens, program, s, e)
+  | inr e ↦ not_run refusal.code text (tokens, program, s, e)
 ]
 
 -- the other refusals
@@ -126,16 +150,8 @@ refused_as OpenString text why = why
 refused_as OpenPattern text why = why
 refused_as EscapeRefused text why = why
 refused_as NumberRefused text why = why
-refused_as NotAProgram text why = absurd why.1.fault
-refused_as NestedTooDeep text why = absurd why.1.fault
-refused_as PatternIllFormed text why = absurd why.1.fault
-refused_as PatternCountRefused text why = absurd why.1.fault
-refused_as PatternTooLarge text why = absurd why.1.fault
-refused_as ArrayAndScalar text why = absurd why.1.fault
-refused_as StatementOutOfPlace text why = absurd why.1.fault
-refused_as NameLeftOut text why = absurd why.1.fault
-refused_as NotBuilt text why = absurd why.1.fault
 refused_as OutOfMemory text why = tt
+refused_as code text why = absurd why.1.fault
 
 of_memory : (code : RefusalCode) (text : List ℕ) → code ≡ OutOfMemory → RefusedFor code text
 of_memory code text e = subst (λ c. RefusedFor c text) (sym e) tt
@@ -158,16 +174,7 @@ justified PatternIllFormed line text tokens h why = has_bad_ere PatternIllFormed
 justified PatternCountRefused line text tokens h why = has_bad_ere PatternCountRefused line text tokens h why
 justified PatternTooLarge line text tokens h why = has_bad_ere PatternTooLarge line text tokens h why
 justified OutOfMemory line text tokens h why = tt
-justified ProgramTooLong line text tokens h why = absurd why
-justified UnexpectedByte line text tokens h why = absurd why
-justified OpenString line text tokens h why = absurd why
-justified OpenPattern line text tokens h why = absurd why
-justified EscapeRefused line text tokens h why = absurd why
-justified NumberRefused line text tokens h why = absurd why
-justified ArrayAndScalar line text tokens h why = absurd why
-justified StatementOutOfPlace line text tokens h why = absurd why
-justified NameLeftOut line text tokens h why = absurd why
-justified NotBuilt line text tokens h why = absurd why
+justified code line text tokens h why = absurd why
 
 pub parsing_refused : (refusal : Refusal) (text : List ℕ) (tokens : List Token) → length text ≤ longest_text → Lexes (kinds_of tokens) text → Justifies refusal.code refusal.line tokens → RefusedFor refusal.code text
 parsing_refused refusal text tokens short lexes why = justified refusal.code refusal.line text tokens (short, lexes) why

@@ -123,7 +123,7 @@ fn read_program(alloc: Global, text: &[u8]) -> Result<Tree, Refusal>
 {
     let tokens = tokens(alloc, text)?;
     let tree = parse(alloc, &tokens)?;
-    resolve(alloc, &tokens, &tree)
+    resolve(alloc, &tree)
 }
 
 /// Reads a program text and runs it from the start values, with at most `limit` steps.

@@ -1,5 +1,4 @@
-// The command line: options, operands, program files and the environment, over a world in memory.
+// The command line over a world in memory: program files and the environment.
 
 mod environment;
 mod files;
-mod options;

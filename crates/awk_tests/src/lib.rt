@@ -1,12 +1,8 @@
-//! Tests over plans, programs and command lines: of what no clause says.
+//! Tests over worlds in memory: each public call of a run once, and runs in which something fails.
 #![tactic(auto)]
 
 #[cfg(test)]
 mod command;
-#[cfg(test)]
-mod control;
-#[cfg(test)]
-mod plan;
 #[cfg(test)]
 mod programs;
 #[cfg(test)]

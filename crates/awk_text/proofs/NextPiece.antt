@@ -1,15 +1,14 @@
 -- The next piece of a text, from a place on where one may begin.
-use Rattle.std.proofs.Common.{◌≡◌, ℕ, zero, suc, Some, None, ◌+◌, ◌-◌, ◌<◌, ◌≤◌, ◌==◌, Bool, true, false, List, [], ◌∷◌, length, take, drop, get_or, refl, sym, ◌∙◌, ap, arith, inl, inr}
+use Rattle.std.proofs.Common.{◌≡◌, ℕ, zero, suc, Some, None, ◌+◌, ◌-◌, ◌<◌, ◌≤◌, Bool, true, false, List, [], ◌∷◌, length, take, drop, get_or, refl, sym, ◌∙◌, ap, arith, inl, inr}
 use Rattle.std.specs.Prelude.{slice_range}
 use Rattle.std.specs.List.{filter, slice_split, onto_first}
 use Rattle.std.proofs.lemmas.Bool.{cases_lt, cond-true, cond-false, lt-ltb, le-ltb, false≢true}
 use Rattle.std.proofs.lemmas.List.{drop_all, get_or-drop, length-drop, length-take-le, drop-drop, take_rest}
 use Rattle.std.proofs.lemmas.List.Splits.{slice_split-cons_yes, slice_split-cons_no}
 use Rattle.memchr.specs.Find.{IsFirstByte}
-use Rattle.awk_text.specs.Pieces.{is_blank_or_newline, is_full, blank_pieces, split_from, byte_pieces_from, pieces_from, pieces_of}
-use Rattle.awk_text.specs.Stretch.{IsStretchEnd}
-use Rattle.awk_text.specs.declared.separator.Separator.{Separator}
-use Rattle.awk_text.specs.declared.separator.Separator.TheVariants.{Blanks, Byte}
+use Rattle.awk_text.specs.definitions.Pieces.{is_blank_or_newline, is_full, blank_pieces}
+use Rattle.awk_text.specs.definitions.Fields.{split_from}
+use Rattle.awk_text.specs.support.Stretch.{IsStretchEnd}
 
 -- up to the first element that passes, and behind it
 slice_split-first : (test : ℕ → Bool) (text : List ℕ) (i : ℕ) → i < length text → ((k : ℕ) → k < i → test (get_or text k 0) ≡ false) → test (get_or text i 0) ≡ true →
@@ -61,14 +60,14 @@ split_from-stretch test text from end is =
     ]
 
 -- between blanks the place may lie anywhere
-pub pieces_from-blanks : (text : List ℕ) (place : ℕ) → pieces_from Blanks text place ≡ blank_pieces (drop place text)
-pieces_from-blanks text place = elim (cases_lt (length text) place) [
+blank_pieces-from : (text : List ℕ) (place : ℕ) → filter is_full (split_from is_blank_or_newline text place) ≡ blank_pieces (drop place text)
+blank_pieces-from text place = elim (cases_lt (length text) place) [
   | inl lt ↦ ap (filter is_full) (split_from-past is_blank_or_newline text place lt) ∙ sym (ap blank_pieces (drop_all place text (omega arith)))
   | inr le ↦ ap (filter is_full) (split_from-within is_blank_or_newline text place le)
 ]
 
-pub pieces_from-no_blanks : (text : List ℕ) (place : ℕ) → length text ≤ place → pieces_from Blanks text place ≡ []
-pieces_from-no_blanks text place le = pieces_from-blanks text place ∙ ap blank_pieces (drop_all place text le)
+pub blank_pieces-past : (text : List ℕ) (place : ℕ) → length text ≤ place → blank_pieces (drop place text) ≡ []
+blank_pieces-past text place le = ap blank_pieces (drop_all place text le)
 
 is_full_some : (bytes : List ℕ) → 0 < length bytes → is_full bytes ≡ true
 is_full_some [] lt = absurd (omega arith)
@@ -76,7 +75,7 @@ is_full_some (x ∷ xs) lt = refl
 
 -- a stretch that begins with no blank is a piece
 pub next_blank_piece : (text : List ℕ) (from start end : ℕ) → blank_pieces (drop from text) ≡ blank_pieces (drop start text) → start < length text → is_blank_or_newline (get_or text start 0) ≡ false → IsStretchEnd is_blank_or_newline text start end →
-    pieces_from Blanks text from ≡ slice_range text start end ∷ pieces_from Blanks text (end + 1)
+    blank_pieces (drop from text) ≡ slice_range text start end ∷ blank_pieces (drop (end + 1) text)
 next_blank_piece text from start end skipped lt fails is =
     let high : start ≤ end = is.high in
     let within : end ≤ length text = is.within in
@@ -89,29 +88,9 @@ next_blank_piece text from start end skipped lt fails is =
     ] in
     let size : length (slice_range text start end) ≡ end - start = length-take-le (end - start) (drop start text) (omega (arith, length-drop start text)) in
     let full = is_full_some (slice_range text start end) (omega arith) in
-    pieces_from-blanks text from
-    ∙ (skipped ∙ (ap (filter is_full) (split_from-stretch is_blank_or_newline text start end is) ∙ cond-true _ _ _ full))
-
--- at a byte, each stretch is a piece, if the text has a byte
-pub next_byte_piece : (byte : ℕ) (text : List ℕ) (from end : ℕ) → 0 < length text → IsStretchEnd (λ other. other == byte) text from end →
-    byte_pieces_from byte text from ≡ slice_range text from end ∷ byte_pieces_from byte text (end + 1)
-next_byte_piece byte [] from end lt is = absurd (omega arith)
-next_byte_piece byte (first ∷ text) from end lt is =
-    split_from-within (λ other. other == byte) (first ∷ text) from (omega (arith, is.high, is.within)) ∙ split_from-stretch (λ other. other == byte) (first ∷ text) from end is
-
-pub no_byte_piece : (byte : ℕ) (text : List ℕ) (from : ℕ) → length text < from → byte_pieces_from byte text from ≡ []
-no_byte_piece byte [] from lt = refl
-no_byte_piece byte (first ∷ text) from lt = split_from-past (λ other. other == byte) (first ∷ text) from lt
-
--- from the front on they are all the pieces
-pub pieces_from-front : (separator : Separator) (text : List ℕ) → pieces_from separator text 0 ≡ pieces_of separator text
-pieces_from-front Blanks text = pieces_from-blanks text 0
-pieces_from-front (Byte byte) [] = refl
-pieces_from-front (Byte byte) (first ∷ text) = split_from-within (λ other. other == byte) (first ∷ text) 0 (omega arith)
-
-pub pieces_from-past : (separator : Separator) (text : List ℕ) (place : ℕ) → length text < place → pieces_from separator text place ≡ []
-pieces_from-past Blanks text place lt = pieces_from-no_blanks text place (omega arith)
-pieces_from-past (Byte byte) text place lt = no_byte_piece byte text place lt
+    skipped
+    ∙ (ap (filter is_full) (split_from-stretch is_blank_or_newline text start end is)
+    ∙ (cond-true _ _ _ full ∙ ap (λ pieces. slice_range text start end ∷ pieces) (blank_pieces-from text (end + 1))))
 
 not_true : (b : Bool) → (b ≡ true → ⊥) → b ≡ false
 not_true true bad = absurd (bad refl)

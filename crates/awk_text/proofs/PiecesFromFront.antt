@@ -1,10 +1,10 @@
 -- The pieces of a text, read off from its front.
-use Rattle.std.proofs.Common.{◌≡◌, ◌≢◌, ℕ, true, false, ◌==◌, List, [], ◌∷◌, ◌++◌, refl, sym, ◌∙◌, ap, append-nil, inl, inr}
+use Rattle.std.proofs.Common.{◌≡◌, ◌≢◌, ℕ, Bool, true, List, [], ◌∷◌, ◌++◌, refl, sym, ◌∙◌, ap, append-nil}
 use Rattle.std.specs.List.{filter, slice_split}
-use Rattle.std.proofs.lemmas.List.Elements.{All-head, All-tail, All-weaker}
+use Rattle.std.proofs.lemmas.List.Elements.{All-head, All-tail}
 use Rattle.std.proofs.lemmas.List.Splits.{slice_split-cons_yes, slice_split_none, slice_split_at}
-use Rattle.std.proofs.lemmas.Bool.{cases_Bool, eqb-true, eq-eqb}
-use Rattle.awk_text.specs.Pieces.{AreBlank, IsPiece, IsNotIn, is_blank_or_newline, is_full, blank_pieces, byte_pieces}
+use Rattle.awk_text.specs.definitions.Pieces.{AreBlank, IsPiece, is_blank_or_newline, is_full, blank_pieces}
+use Rattle.awk_text.specs.definitions.Fields.{HoldsNone, kind_pieces}
 
 -- blanks in front are skipped
 blank_pieces-gap : (gap text : List ℕ) → AreBlank gap → blank_pieces (gap ++ text) ≡ blank_pieces text
@@ -28,36 +28,25 @@ pub blank_pieces-next : (gap piece : List ℕ) (b : ℕ) (rest : List ℕ) → A
 blank_pieces-next gap piece b rest blank is ends =
     blank_pieces-gap gap (piece ++ b ∷ rest) blank ∙ (ap (filter is_full) (slice_split_at is_blank_or_newline piece b rest is.1 ends) ∙ piece_first piece (slice_split is_blank_or_newline rest) is.0)
 
--- a text that isn't empty is split at each place
-byte_pieces-some : (byte : ℕ) (text : List ℕ) → text ≢ [] → byte_pieces byte text ≡ slice_split (λ other. other == byte) text
-byte_pieces-some byte [] some = absurd (some refl)
-byte_pieces-some byte (first ∷ text) some = refl
+-- a text that isn't empty is split at each byte of a kind
+module _ (test : ℕ → Bool) where
+  kind_pieces-some : (text : List ℕ) → text ≢ [] → kind_pieces test text ≡ slice_split test text
+  kind_pieces-some [] some = absurd (some refl)
+  kind_pieces-some (first ∷ text) some = refl
 
-append_some : (front : List ℕ) (byte : ℕ) (rest : List ℕ) → front ++ byte ∷ rest ≢ []
-append_some [] byte rest is = cc
-append_some (first ∷ front) byte rest is = cc
+  append_some : (front : List ℕ) (b : ℕ) (rest : List ℕ) → front ++ b ∷ rest ≢ []
+  append_some [] b rest is = cc
+  append_some (first ∷ front) b rest is = cc
 
-other_fails : (byte other : ℕ) → other ≢ byte → (other == byte) ≡ false
-other_fails byte other unequal = elim (cases_Bool (other == byte)) [
-  | inl holds ↦ absurd (unequal (eqb-true other byte holds))
-  | inr fails ↦ fails
-]
+  -- the first of them ends the first stretch
+  kind_pieces-found : (piece : List ℕ) (b : ℕ) (rest : List ℕ) → HoldsNone test piece → test b ≡ true → kind_pieces test (piece ++ b ∷ rest) ≡ piece ∷ slice_split test rest
+  kind_pieces-found piece b rest none ends = kind_pieces-some (piece ++ b ∷ rest) (append_some piece b rest) ∙ slice_split_at test piece b rest none ends
 
--- the first place of the byte ends the first stretch
-byte_pieces-found : (byte : ℕ) (piece rest : List ℕ) → IsNotIn byte piece → byte_pieces byte (piece ++ byte ∷ rest) ≡ piece ∷ slice_split (λ other. other == byte) rest
-byte_pieces-found byte piece rest none =
-    let fails = All-weaker (λ (other : ℕ). other ≢ byte) (λ other. (other == byte) ≡ false) (other_fails byte) piece none in
-    byte_pieces-some byte (piece ++ byte ∷ rest) (append_some piece byte rest)
-    ∙ slice_split_at (λ other. other == byte) piece byte rest fails (eq-eqb byte byte refl)
+  pub kind_pieces-last : (piece : List ℕ) → HoldsNone test piece → piece ≢ [] → kind_pieces test piece ≡ piece ∷ []
+  kind_pieces-last piece none some = kind_pieces-some piece some ∙ slice_split_none test piece none
 
-pub byte_pieces-last : (byte : ℕ) (piece : List ℕ) → IsNotIn byte piece → piece ≢ [] → byte_pieces byte piece ≡ piece ∷ []
-byte_pieces-last byte piece none some =
-    let fails = All-weaker (λ (other : ℕ). other ≢ byte) (λ other. (other == byte) ≡ false) (other_fails byte) piece none in
-    byte_pieces-some byte piece some ∙ slice_split_none (λ other. other == byte) piece fails
+  pub kind_pieces-next : (piece : List ℕ) (b : ℕ) (rest : List ℕ) → HoldsNone test piece → test b ≡ true → rest ≢ [] → kind_pieces test (piece ++ b ∷ rest) ≡ piece ∷ kind_pieces test rest
+  kind_pieces-next piece b rest none ends some = kind_pieces-found piece b rest none ends ∙ ap (λ pieces. piece ∷ pieces) (sym (kind_pieces-some rest some))
 
-pub byte_pieces-next : (byte : ℕ) (piece rest : List ℕ) → IsNotIn byte piece → rest ≢ [] → byte_pieces byte (piece ++ byte ∷ rest) ≡ piece ∷ byte_pieces byte rest
-byte_pieces-next byte piece rest none some =
-    byte_pieces-found byte piece rest none ∙ ap (λ pieces. piece ∷ pieces) (sym (byte_pieces-some byte rest some))
-
-pub byte_pieces-end : (byte : ℕ) (piece : List ℕ) → IsNotIn byte piece → byte_pieces byte (piece ++ byte ∷ []) ≡ piece ∷ [] ∷ []
-byte_pieces-end byte piece none = byte_pieces-found byte piece [] none
+  pub kind_pieces-end : (piece : List ℕ) (b : ℕ) → HoldsNone test piece → test b ≡ true → kind_pieces test (piece ++ b ∷ []) ≡ piece ∷ [] ∷ []
+  kind_pieces-end piece b none ends = kind_pieces-found piece b [] none ends

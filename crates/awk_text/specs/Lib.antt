@@ -3,3 +3,11 @@ pub mod support
 pub use Rattle.awk_text.specs.definitions.Functions
 pub use Rattle.awk_text.specs.definitions.Pieces
 pub use Rattle.awk_text.specs.support.Stretch
+pub use Rattle.awk_text.specs.definitions.Fields
+pub use Rattle.awk_text.specs.definitions.Separators
+pub use Rattle.awk_text.specs.definitions.Chosen
+pub use Rattle.awk_text.specs.definitions.Replaced
+pub use Rattle.awk_text.specs.definitions.Replacement
+pub use Rattle.awk_ere.specs.definitions.Means
+pub use Rattle.awk_ere.specs.support.Table
+pub use Rattle.awk_ere_syntax.specs.definitions.Tree

@@ -1,3 +1,8 @@
 -- What a reader has to believe.
 pub mod Functions
 pub mod Pieces
+pub mod Fields
+pub mod Separators
+pub mod Chosen
+pub mod Replaced
+pub mod Replacement

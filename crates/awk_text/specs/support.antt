@@ -1,2 +1,7 @@
 -- What serves the proofs.
 pub mod Stretch
+pub mod ChosenSeparators
+pub mod Faults
+pub mod Splitters
+pub mod Escapes
+pub mod Search

@@ -1,5 +1,6 @@
 // Why a text can't be had.
 
+use awk_ere::PatternFault;
 use std::alloc::{AllocError, AllocFailed};
 use thiserror::Error;
 
@@ -9,7 +10,7 @@ pub enum TextFault {
     /// F1.
     #[error("out of memory")]
     Memory,
-    /// F6: a separator that isn't a single byte. Longer ones are patterns, which aren't built.
+    /// F6: the text of a separator spells no ERE.
     #[error("pattern refused")]
     Pattern,
 }
@@ -33,5 +34,21 @@ impl<T: Drop> From<AllocFailed<T>> for TextFault {
 
     fn from(_: AllocFailed<T>) -> Self {
         TextFault::Memory
+    }
+}
+
+impl From<PatternFault> for TextFault {
+    ghost use Rattle.std.specs.Prelude.{◌≡◌};
+    ghost use Rattle.awk_text.specs.support.Faults.{text_fault};
+
+    ghost from_gives = { λ fault e. e ≡ text_fault fault };
+
+    fn from(fault: PatternFault) -> Self {
+        match fault {
+            PatternFault::Memory => TextFault::Memory,
+            PatternFault::IllFormed | PatternFault::BadCount | PatternFault::TooLarge => {
+                TextFault::Pattern
+            }
+        }
     }
 }

@@ -1,8 +1,8 @@
 // The functions of texts: a part by its positions, the position of a part, and the cases of letters.
 ghost use Rattle.std.specs.Prelude.{◌≡◌, ◌+ℤ◌, ◌≤◌, Some, min, length, IfOk, IfErr};
 ghost use Rattle.std.specs.Cow.{cow_slice_items};
-ghost use Rattle.awk_text.specs.Functions.{positions_before, substr_of, IsPositionOf, lower_of, upper_of};
-ghost use Rattle.awk_text.specs.Pieces.{stretch_at, IsSpanOf};
+ghost use Rattle.awk_text.specs.definitions.Functions.{positions_before, substr_of, IsPositionOf, lower_of, upper_of};
+ghost use Rattle.awk_text.specs.definitions.Pieces.{stretch_at, IsSpanOf};
 
 use crate::fault::TextFault;
 use crate::span::Span;

@@ -10,7 +10,7 @@ use Rattle.indexmap.specs.IndexMap.{set_value_at}
 use Rattle.awk_value.specs.declared.value.Value.{Value}
 use Rattle.awk_value.specs.declared.value.Value.TheVariants.{Nothing}
 use Rattle.awk_value.specs.Values.{str_of}
-use Rattle.awk_split.specs.Separators.{separator_of}
+use Rattle.awk_text.specs.Separators.{separator_of}
 use Rattle.awk_variables.specs.declared.special.Special.{Special}
 use Rattle.awk_variables.specs.declared.special.Special.TheVariants.{Fs}
 use Rattle.awk_variables.specs.definitions.Variables.{value_of, name_of, with_value, is_refused}

@@ -4,12 +4,12 @@ ghost use Rattle.std.specs.Prelude.{◌≡◌, ◌≢◌, ◌==◌, ℕ, length,
 ghost use Rattle.std.specs.Prelude.{IfErr, OnOk, OnErr, Some, None, bytes_eq, if◌then◌else◌};
 ghost use Rattle.awk_value.specs.Values.{str_of};
 ghost use Rattle.awk_value.specs.declared.value.Value.TheVariants.{Nothing};
-ghost use Rattle.awk_split.specs.Separators.{separator_of};
+ghost use Rattle.awk_text.specs.Separators.{separator_of};
 ghost use Rattle.awk_variables.specs.support.Storage.{kept_at, initial_specials};
 
 use crate::fault::VariableFault;
 use crate::special::Special;
-use awk_split::FieldSeparator;
+use awk_text::FieldSeparator;
 use awk_value::{Bytes, Value, text_of};
 use indexmap::IndexMap;
 use itoa::Buffer;

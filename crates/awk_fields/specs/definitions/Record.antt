@@ -1,9 +1,9 @@
 -- The record at hand: a text and its complete fields.
 -- POSIX awk, "Expressions in awk" (fields) and "Variables and Special Variables" (NF).
 use Rattle.std.specs.Prelude.{ℕ, zero, suc, ◌-◌, max, nat_lt, if◌then◌else◌, ℤ, pos, negsuc, List, [], ◌∷◌, ◌++◌, length, map, replicate, take, slice_get, slice_set, unwrap_or, Result, Ok, Err}
-use Rattle.awk_split.specs.Pieces.{pieces_by}
+use Rattle.awk_text.specs.Fields.{pieces_by}
 use Rattle.awk_text.specs.Pieces.{stretches_at}
-use Rattle.awk_split.specs.Separators.{Rule}
+use Rattle.awk_text.specs.Separators.{Rule}
 use Rattle.awk_text.specs.declared.span.Span.{Span}
 use Rattle.awk_value.specs.Values.{str_of}
 use Rattle.awk_value.specs.declared.value.Value.{Value}

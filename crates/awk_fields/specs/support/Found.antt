@@ -1,7 +1,7 @@
 -- The fields of a text, as far as they were found.
 use Rattle.std.specs.Prelude.{◌≡◌, ℕ, List, ◌++◌}
 use Rattle.awk_text.specs.Pieces.{stretches_at, AreSpansOf}
-use Rattle.awk_split.specs.Pieces.{pieces_from_by, pieces_by}
+use Rattle.awk_text.specs.Fields.{pieces_from_by, pieces_by}
 use Rattle.awk_text.specs.declared.fault.TextFault.{TextFault}
 use Rattle.awk_text.specs.declared.fault.TextFault.TheVariants as text
 use Rattle.awk_fields.specs.declared.fault.RecordFault.{RecordFault}

@@ -1,6 +1,6 @@
 -- The record that its parts stand for.
 use Rattle.std.specs.Prelude.{ℕ, List}
-use Rattle.awk_split.specs.Separators.{Rule}
+use Rattle.awk_text.specs.Separators.{Rule}
 use Rattle.awk_value.specs.declared.value.Value.{Value}
 use Rattle.awk_fields.specs.definitions.Record.{RecordPair, split_by, joined_by}
 use Rattle.awk_fields.specs.declared.record.Form.{Form}

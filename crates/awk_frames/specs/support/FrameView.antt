@@ -3,8 +3,8 @@ use Rattle.std.specs.Prelude.{Bool, List, [], ◌∷◌, map, reverse, Option, S
 use Rattle.awk_grammar.specs.support.InfixRole as role
 use Rattle.awk_grammar.specs.definitions.Height.{max_height}
 use Rattle.awk_grammar.specs.support.Parser as parser
-use Rattle.awk_nodes.specs.support.Checked.{checked_expr, checked_exprs}
-use Rattle.awk_statement_nodes.specs.support.Checked.{checked_print_list, checked_simple, checked_part, checked_optional_expr, checked_statement, checked_statements, checked_pattern, checked_items}
+use Rattle.awk_frames.specs.support.CheckedExpressions.{checked_expr, checked_exprs}
+use Rattle.awk_frames.specs.support.CheckedStatementNodes.{checked_print_list, checked_simple, checked_part, checked_optional_expr, checked_statement, checked_statements, checked_pattern, checked_items}
 use Rattle.awk_frames.specs.declared.infix_role.InfixRole.{InfixRole}
 use Rattle.awk_frames.specs.declared.infix_role.InfixRole.TheVariants.{Operates, Increments, Assigns, Starts, TestsMembership, Pipes, Asks, Subscripts, Ends}
 use Rattle.awk_frames.specs.declared.operand.Operand.{Operand}

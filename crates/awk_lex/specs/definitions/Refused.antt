@@ -2,7 +2,7 @@
 use Rattle.std.specs.Prelude.{◌≡◌, ℕ, List, ◌++◌, codes, decimal}
 use Rattle.awk_lex.specs.declared.refusal.Refusal.{Refusal}
 use Rattle.awk_lex.specs.declared.refusal.RefusalCode.{RefusalCode}
-use Rattle.awk_lex.specs.declared.refusal.RefusalCode.TheVariants.{UnexpectedByte, OpenString, EscapeRefused, OpenPattern, NumberRefused, ProgramTooLong, NotAProgram, NestedTooDeep, PatternIllFormed, PatternCountRefused, PatternTooLarge, ArrayAndScalar, StatementOutOfPlace, NameLeftOut, NotBuilt, OutOfMemory}
+use Rattle.awk_lex.specs.declared.refusal.RefusalCode.TheVariants.{UnexpectedByte, OpenString, EscapeRefused, OpenPattern, NumberRefused, ProgramTooLong, NotAProgram, NestedTooDeep, PatternIllFormed, PatternCountRefused, PatternTooLarge, ArrayAndScalar, UnknownFunction, DefinedTwice, TooManyArguments, ParameterRefused, StatementOutOfPlace, NameLeftOut, FunctionAsVariable, NotBuilt, OutOfMemory}
 
 -- a refused request for memory
 abbrev pub IsOutOfMemory : Refusal → Type 0
@@ -22,8 +22,13 @@ code_text PatternIllFormed = codes "P1: pattern ill-formed"
 code_text PatternCountRefused = codes "P2: interval or range refused"
 code_text PatternTooLarge = codes "P3: pattern too large"
 code_text ArrayAndScalar = codes "K1: array and scalar"
+code_text UnknownFunction = codes "K2: unknown function"
+code_text DefinedTwice = codes "K3: function defined twice"
+code_text TooManyArguments = codes "K4: too many arguments"
+code_text ParameterRefused = codes "K5: parameter refused"
 code_text StatementOutOfPlace = codes "K6: statement out of place"
 code_text NameLeftOut = codes "K7: name left out"
+code_text FunctionAsVariable = codes "K8: function used as a variable"
 code_text NotBuilt = codes "K9: not built yet"
 code_text OutOfMemory = codes "M0: out of memory"
 

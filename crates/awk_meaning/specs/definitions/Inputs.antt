@@ -11,7 +11,7 @@ use Rattle.awk_meaning.specs.declared.fault.Fault.TheVariants.{AssignmentRefused
 use Rattle.awk_meaning.specs.declared.halt.Halt.{Halt}
 use Rattle.awk_meaning.specs.declared.halt.Halt.TheVariants as halt
 use Rattle.awk_meaning.specs.definitions.State.{Run, ◌>>=◌, lift, ret}
-use Rattle.awk_resolve.specs.Names.{special_arrays}
+use Rattle.awk_kinds.specs.SpecialNames.{special_arrays}
 use Rattle.awk_meaning.specs.definitions.Primitives.{spend, put, open_main, begin_input, take_record, close_main, take_argument, is_input_seen}
 
 -- assignments on the command line

@@ -1,6 +1,6 @@
 -- The primitives of a run: all that looks into its state.
 use Rattle.std.specs.Prelude.{ℕ, zero, suc, ◌+◌, ◌==◌, pos, ℤ, int_lt, Bool, true, false, ◌&&◌, List, [], ◌∷◌, length, slice_get, Option, Some, None, unwrap_or, Result, Ok, Err, codes, bytes_eq, if◌then◌else◌}
-use Rattle.awk_split.specs.Separators.{Rule}
+use Rattle.awk_text.specs.Separators.{Rule}
 use Rattle.awk_value.specs.declared.value.Value.{Value}
 use Rattle.awk_value.specs.declared.value.Value.TheVariants.{Number, Input}
 use Rattle.awk_value.specs.declared.fault.ValueFault.{ValueFault}

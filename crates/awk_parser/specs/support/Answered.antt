@@ -5,9 +5,9 @@ use Rattle.awk_lex.specs.declared.refusal.RefusalCode.{RefusalCode}
 use Rattle.awk_lex.specs.declared.refusal.RefusalCode.TheVariants.{NotAProgram, NestedTooDeep, OutOfMemory}
 use Rattle.awk_grammar.specs.definitions.Tree as t
 use Rattle.awk_grammar.specs.definitions.View.{tree_of}
-use Rattle.awk_statement_nodes.specs.support.Checked.{checked_items}
+use Rattle.awk_frames.specs.support.CheckedStatementNodes.{checked_items}
 use Rattle.awk_grammar.specs.declared.tree.Tree.{Tree}
-use Rattle.awk_statement_nodes.specs.declared.checked.CheckedItems.{CheckedItems}
+use Rattle.awk_frames.specs.declared.checked_statements.CheckedItems.{CheckedItems}
 
 -- what is read of a whole text
 abbrev pub found_of : Option (Option CheckedItems) → Option (Option (List t.Item))

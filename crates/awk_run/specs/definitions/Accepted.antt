@@ -2,7 +2,7 @@
 use Rattle.std.specs.Prelude.{◌≡◌, ◌≤◌, ◌<◌, ℕ, List, length, Ok, Err}
 use Rattle.awk_lex.specs.declared.token.Kind.{Kind}
 use Rattle.awk_lex.specs.declared.refusal.RefusalCode.{RefusalCode}
-use Rattle.awk_lex.specs.declared.refusal.RefusalCode.TheVariants.{UnexpectedByte, OpenString, OpenPattern, EscapeRefused, NumberRefused, ProgramTooLong, NotAProgram, NestedTooDeep, PatternIllFormed, PatternCountRefused, PatternTooLarge, ArrayAndScalar, StatementOutOfPlace, NameLeftOut, NotBuilt, OutOfMemory}
+use Rattle.awk_lex.specs.declared.refusal.RefusalCode.TheVariants.{UnexpectedByte, OpenString, OpenPattern, EscapeRefused, NumberRefused, ProgramTooLong, NotAProgram, NestedTooDeep, PatternIllFormed, PatternCountRefused, PatternTooLarge, ArrayAndScalar, UnknownFunction, DefinedTwice, TooManyArguments, ParameterRefused, StatementOutOfPlace, NameLeftOut, FunctionAsVariable, NotBuilt, OutOfMemory}
 use Rattle.awk_lex.specs.Lexes.{Lexes, Breaks}
 use Rattle.awk_grammar.specs.Tree.{Item as GrammarItem}
 use Rattle.awk_grammar.specs.Height.{max_height, height_of_program}
@@ -33,11 +33,11 @@ pub record Accepted (text : List ℕ) (items : List Item) : Type 0 where
   pub tokens : List Kind
   pub program : List GrammarItem
   pub spelled : IsSpelled text tokens program
-  pub resolves : resolved tokens program ≡ Ok items
+  pub resolves : resolved program ≡ Ok items
 
 -- the text is a program, of which nothing is run for this cause
 abbrev pub IsNotRun : RefusalCode → List ℕ → Type 0
-IsNotRun code text = (tokens : List Kind) × (program : List GrammarItem) × IsSpelled text tokens program × (resolved tokens program ≡ Err code)
+IsNotRun code text = (tokens : List Kind) × (program : List GrammarItem) × IsSpelled text tokens program × (resolved program ≡ Err code)
 
 -- the text is a program but for its EREs and its names, and an ERE is refused
 abbrev pub HasBadEre : RefusalCode → List ℕ → Type 0
@@ -58,9 +58,14 @@ RefusedFor NestedTooDeep text = (tokens : List Kind) × HasTokens text tokens ×
 RefusedFor PatternIllFormed text = HasBadEre PatternIllFormed text
 RefusedFor PatternCountRefused text = HasBadEre PatternCountRefused text
 RefusedFor PatternTooLarge text = HasBadEre PatternTooLarge text
+RefusedFor UnknownFunction text = IsNotRun UnknownFunction text
+RefusedFor DefinedTwice text = IsNotRun DefinedTwice text
+RefusedFor TooManyArguments text = IsNotRun TooManyArguments text
+RefusedFor ParameterRefused text = IsNotRun ParameterRefused text
 RefusedFor StatementOutOfPlace text = IsNotRun StatementOutOfPlace text
 RefusedFor NameLeftOut text = IsNotRun NameLeftOut text
-RefusedFor NotBuilt text = IsNotRun NotBuilt text
+RefusedFor FunctionAsVariable text = IsNotRun FunctionAsVariable text
 RefusedFor ArrayAndScalar text = IsNotRun ArrayAndScalar text
+RefusedFor NotBuilt text = IsNotRun NotBuilt text
 -- of growths that are refused nothing is said here
 RefusedFor OutOfMemory text = Unit {0}

@@ -2,7 +2,6 @@
 // they leave, beside what the same programs leave undisturbed.
 ghost use Rattle.std.specs.Prelude.{◌≤◌};
 
-use super::{accepted, separators};
 use crate::rows::{Row, expect_rows, rows_of};
 use awk_command::{CommandLine, ProgramSource, read_command_line};
 use awk_run::{Fault, Outcome, Start, execute};
@@ -48,6 +47,51 @@ $ {print}
 > b
 ! awk: fault 9: input not readable
 = 2
+"#;
+
+// Programs of which each failure, break, piece and limit is tried.
+const PROGRAMS: &str = r#"
+$ $1 > 9 { print $2, $1 * 2 }
+< 10 a
+< 9 b
+= 0
+$ -L
+$ 30
+$ BEGIN { x = 3; while (x) { print x; x = x - 1 } }
+= 0
+$ -L
+$ 7
+$ BEGIN { while (1) print "y" }
+= 3
+$ /b/, /c/ { print NR ":" $0 } END { print NR, NF }
+< a
+< b
+< c
+- b
+= 0
+$ BEGIN { print 1; x = 170141183460469231731687303715884105727; print x + 1 }
+= 2
+$ -v
+$ RS=
+$ -F
+$ :
+$ { print NF; for (i = NF; i > 0; i--) print $i }
+<
+< a b
+< c:d
+<
+<
+< e
+= 0
+$ { print FILENAME, x, $0 }
+$ x=1
+$ f
+$ x=2
+$ g
+[f] a
+[g] b
+[g] c
+= 0
 "#;
 
 // A program with all that its run depends on, and where its row ends.
@@ -315,16 +359,6 @@ fn expect_disturbed_rows(rt: &impl Abort, alloc: Global, table: &str) -> Result<
 #[test]
 fn disturbed_programs(rt: HostRuntime) -> Result<(), Fail> {
     expect_rows(&rt, rt.alloc(), FAILED)?;
-    for table in accepted::PROGRAMS {
-        expect_disturbed_rows(&rt, rt.alloc(), table)?;
-    }
-    Ok(())
-}
-
-#[test]
-fn disturbed_separators(rt: HostRuntime) -> Result<(), Fail> {
-    for table in separators::PROGRAMS {
-        expect_disturbed_rows(&rt, rt.alloc(), table)?;
-    }
+    expect_disturbed_rows(&rt, rt.alloc(), PROGRAMS)?;
     Ok(())
 }

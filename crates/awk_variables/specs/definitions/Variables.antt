@@ -5,7 +5,7 @@ use Rattle.std.specs.Result.{is_err}
 use Rattle.awk_value.specs.declared.value.Value.{Value}
 use Rattle.awk_value.specs.declared.value.Value.TheVariants.{Nothing, Number, Text}
 use Rattle.awk_value.specs.Values.{str_of}
-use Rattle.awk_split.specs.Separators.{separator_of}
+use Rattle.awk_text.specs.Separators.{separator_of}
 use Rattle.awk_variables.specs.declared.special.Special.{Special}
 use Rattle.awk_variables.specs.declared.special.Special.TheVariants.{Argc, Convfmt, Filename, Fnr, Fs, Nr, Ofmt, Ofs, Ors, Rlength, Rs, Rstart, Subsep}
 

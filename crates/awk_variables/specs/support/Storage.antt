@@ -3,7 +3,7 @@ use Rattle.std.specs.Prelude.{◌≡◌, ℕ, ◌<◌, false, List, [], ◌∷�
 use Rattle.std.specs.Map.{lookup}
 use Rattle.std.specs.Global.{Vec}
 use Rattle.std.specs.Result.{is_err}
-use Rattle.awk_split.specs.Separators.{separator_of}
+use Rattle.awk_text.specs.Separators.{separator_of}
 use Rattle.awk_value.specs.Values.{str_of}
 use Rattle.awk_value.specs.declared.value.Value.{Value}
 use Rattle.awk_text.specs.declared.fault.TextFault.{TextFault}

@@ -8,20 +8,17 @@ pub returns-clause-accepted : goal.returns-clause-accepted
 returns-clause-accepted c =
     let lexes = rw (← c.deref.ensures.value) at (c.in_ok-tokens.ensures.found) in
     let s = spelled c.args.text.now (kinds_of c.deref.result.now) (grammar_tree_of c.in_ok-tree.tree) c.in_ok-tokens.ensures.short lexes c.in_ok-tree.ensures.found c.in_ok-tree.ensures.readable in
-    let r = rw (c.deref-2.ensures.value, ← c.deref.ensures.value) at c.resolve.ensures.resolved in
-    accepts c.resolve.result c.args.text.now _ _ s r
+    accepts c.resolve.result c.args.text.now _ _ s c.resolve.ensures.resolved
 
 pub returns-clause-only : goal.returns-clause-only
 returns-clause-only c =
-    let r = rw (c.deref-2.ensures.value, ← c.deref.ensures.value) at c.resolve.ensures.resolved in
-    only_accepted c.resolve.result c.args.text.now (kinds_of c.deref.result.now) c.in_ok-tree.tree (rw (← c.deref.ensures.value) at (c.in_ok-tokens.ensures.only)) c.in_ok-tree.ensures.only r
+    only_accepted c.resolve.result c.args.text.now (kinds_of c.deref.result.now) c.in_ok-tree.tree (rw (← c.deref.ensures.value) at (c.in_ok-tokens.ensures.only)) c.in_ok-tree.ensures.only c.resolve.ensures.resolved
 
 pub returns-clause-cause : goal.returns-clause-cause
 returns-clause-cause c =
     let lexes = rw (← c.deref.ensures.value) at (c.in_ok-tokens.ensures.found) in
     let s = spelled c.args.text.now (kinds_of c.deref.result.now) (grammar_tree_of c.in_ok-tree.tree) c.in_ok-tokens.ensures.short lexes c.in_ok-tree.ensures.found c.in_ok-tree.ensures.readable in
-    let r = rw (c.deref-2.ensures.value, ← c.deref.ensures.value) at c.resolve.ensures.resolved in
-    resolving_refused c.resolve.result c.args.text.now _ _ s r
+    resolving_refused c.resolve.result c.args.text.now _ _ s c.resolve.ensures.resolved
 
 pub returns-in_err-tree-clause-only : goal.returns-in_err-tree-clause-only
 returns-in_err-tree-clause-only c =

@@ -4,7 +4,7 @@ use Rattle.std.proofs.lemmas.Int.{to_z-of_z}
 use Rattle.std.proofs.lemmas.List.{take_min, drop_min, length-drop}
 use mir.Syntax.{w128}
 use mir.Val.{to_z, of_z}
-use Rattle.awk_text.specs.Functions.{positions_before}
+use Rattle.awk_text.specs.definitions.Functions.{positions_before}
 use Rattle.awk_text.proofs.functions.counted_part.Goals as goal
 
 -- a part that is cut off at the end of the text is the same part

@@ -1,6 +1,6 @@
 use Rattle.std.proofs.Common.{◌≡◌, ℕ, ◌+◌, ◌<◌, List, length, subst, arith, rules}
 use Rattle.memchr.specs.Find.{OccursAt, Nowhere, NoneBefore}
-use Rattle.awk_text.specs.Functions.{IsPositionOf}
+use Rattle.awk_text.specs.definitions.Functions.{IsPositionOf}
 use Rattle.awk_text.proofs.functions.index.Goals as goal
 
 stands_first : (part text : List ℕ) (before : ℕ) → 0 < length part → NoneBefore (OccursAt text part) 0 (length text + 1) before → OccursAt text part before → IsPositionOf part text (before + 1)

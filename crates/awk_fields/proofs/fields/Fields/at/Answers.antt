@@ -2,8 +2,8 @@ use Rattle.std.proofs.Common.{◌≡◌, List, ◌∙◌, ap}
 use Rattle.std.specs.Prelude.{slice_get}
 use Rattle.std.specs.Option.{option_map}
 use Rattle.awk_text.specs.Pieces.{stretch_at}
-use Rattle.awk_split.specs.Pieces.{pieces_by}
-use Rattle.awk_split.specs.Separators.{Rule}
+use Rattle.awk_text.specs.Fields.{pieces_by}
+use Rattle.awk_text.specs.Separators.{Rule}
 use Rattle.awk_text.specs.declared.span.Span.{Span}
 use Rattle.awk_fields.proofs.FoundFields.{field-found}
 use Rattle.awk_fields.proofs.fields.Fields.at.Goals as goal

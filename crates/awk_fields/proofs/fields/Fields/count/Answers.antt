@@ -1,6 +1,6 @@
 use Rattle.std.proofs.Common.{◌≤◌, length, ◌∙◌, ap, arith}
-use Rattle.awk_split.specs.Pieces.{pieces_by}
-use Rattle.awk_split.specs.Separators.{Rule}
+use Rattle.awk_text.specs.Fields.{pieces_by}
+use Rattle.awk_text.specs.Separators.{Rule}
 use Rattle.awk_fields.proofs.FoundFields.{count-found}
 use Rattle.awk_fields.proofs.fields.Fields.count.Goals as goal
 

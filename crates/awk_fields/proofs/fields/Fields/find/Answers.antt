@@ -1,7 +1,7 @@
 use Rattle.std.proofs.Common.{◌≡◌, ◌++◌, sym, ◌∙◌, subst}
 use Rattle.awk_text.specs.Pieces.{stretches_at}
-use Rattle.awk_split.specs.Pieces.{pieces_from_by, pieces_by}
-use Rattle.awk_split.specs.Separators.{Rule}
+use Rattle.awk_text.specs.Fields.{pieces_from_by, pieces_by}
+use Rattle.awk_text.specs.Separators.{Rule}
 use Rattle.awk_fields.proofs.FoundFields.{spans-found, pieces-found}
 use Rattle.awk_fields.proofs.fields.Fields.find.Goals as goal
 

@@ -1,0 +1,19 @@
+-- What a reader has to believe stands in `definitions`; what only serves the proofs stands in `support`.
+pub mod definitions
+pub mod support
+pub use Rattle.awk_world.specs.definitions.Log
+pub use Rattle.awk_world.specs.definitions.WorldState
+pub use Rattle.awk_world.specs.definitions.Oracle
+pub use Rattle.awk_world.specs.definitions.Orderly
+pub use Rattle.awk_world.specs.definitions.Writes
+pub use Rattle.awk_world.specs.definitions.Openings
+pub use Rattle.awk_world.specs.definitions.Grows
+pub use Rattle.awk_world.specs.definitions.Script
+pub use Rattle.awk_channels.specs.definitions.Outputs
+pub use Rattle.awk_channels.specs.definitions.Inputs
+pub use Rattle.awk_channels.specs.definitions.Named
+pub use Rattle.awk_channels.specs.definitions.Streams
+pub use Rattle.awk_channels.specs.definitions.MainInput
+pub use Rattle.awk_channels.specs.definitions.NamedOutputs
+pub use Rattle.awk_channels.specs.definitions.NamedInputs
+pub use Rattle.awk_channels.specs.definitions.Commands

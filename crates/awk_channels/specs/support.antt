@@ -1,0 +1,10 @@
+pub mod Pulls
+pub mod Buffered
+pub mod Kept
+pub mod Places
+pub mod Held
+pub mod Brings
+pub mod Asks
+pub mod Closes
+pub mod Printing
+pub mod ClosesSoFar

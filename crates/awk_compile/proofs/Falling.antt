@@ -1,0 +1,199 @@
+-- No node raises the steps: a line for each.
+use Rattle.std.proofs.Math.Nat.{le_refl, le_trans}
+use Rattle.std.proofs.Common.{◌≡◌, ℕ, zero, suc, ◌≤◌, Bool, List, slice_get, codes, Option, Some, None, Result, Ok, Err, refl, sym, subst}
+use Rattle.awk_value.specs.declared.value.Value.{Value}
+use Rattle.awk_value.specs.declared.value.Value.TheVariants as value
+use Rattle.awk_value.specs.Values.{str_of}
+use Rattle.awk_lex.specs.declared.token.IncrementOperator.{IncrementOperator}
+use Rattle.awk_lex.specs.declared.token.Operator.{Operator}
+use Rattle.awk_text.specs.definitions.Separators.{Separator}
+use Rattle.awk_variables.specs.Variables.{name_of}
+use Rattle.awk_semantics.specs.declared.halt.Halt.{Halt}
+use Rattle.awk_semantics.specs.declared.local.Local.{Local}
+use Rattle.awk_semantics.specs.declared.local.Local.TheVariants as local
+use Rattle.awk_semantics.specs.definitions.State.{Effect, State, Out, Run, go_on, ◌>>=◌, lift}
+use Rattle.awk_semantics.specs.definitions.Operators.{by_one, one, operator_of}
+use Rattle.awk_semantics.specs.definitions.Primitives.{read_element_at, store_element_at, has_element_at, delete_element_at, keys_at, fill_array_at}
+use Rattle.awk_semantics.specs.definitions.Semantics.{Functions}
+use Rattle.awk_semantics.specs.support.Keeps.{Keeps, CallsKeep}
+use Rattle.awk_semantics.proofs.Keeping.{keeps_bind, keeps_lift}
+use Rattle.awk_semantics.proofs.KeepsForms.{keeps_spend, keeps_number_of, keeps_read_field, keeps_record_text, keeps_read_outside, keeps_set_field, keeps_put_outside, keeps_read_element_at, keeps_store_element_at, keeps_has_element_at, keeps_delete_element_at, keeps_keys_at, keeps_fill_array_at, keeps_joined_key, keeps_field_separator, keeps_check_height, keeps_set_status, keeps_note_match, keeps_record_length, keeps_print_by}
+use Rattle.awk_storage.specs.declared.position.Array.{Array}
+use Rattle.awk_storage.specs.declared.position.Variable.{Variable}
+use Rattle.awk_storage.specs.declared.position.Variable.TheVariants as variable
+use Rattle.awk_storage.specs.declared.position.Place.{Place}
+use Rattle.awk_storage.specs.declared.position.Place.TheVariants as place
+use Rattle.awk_storage.specs.definitions.Positions.{newest_locals, with_local_at, read_local, put_local, read_slot, put_slot, number_at, read_element_of, store_element_of, read_variable, put_variable, read_at, store_at, assign_at, assign_by_at, post_increment_at}
+use Rattle.awk_compile.specs.declared.node.ArgumentForm.{ArgumentForm}
+use Rattle.awk_compile.specs.declared.node.SplitBy.TheVariants as by
+use Rattle.awk_compile.specs.declared.node.ValueNode.{ValueNode}
+use Rattle.awk_compile.specs.declared.node.ValueNode.TheVariants as v
+use Rattle.awk_compile.specs.declared.node.EffectNode.{EffectNode}
+use Rattle.awk_compile.specs.declared.node.EffectNode.TheVariants as e
+use Rattle.awk_compile.specs.definitions.Nodes.{Tables, Cont, first, second, taken, given_by, call_at, contains_at, delete_at, keys_of_array, fill_at, match_in, split_at, split_with, assign_exchange_at, substitute_at, substitute_by, substitute, value_of, effect_of}
+
+pub record Falls {A : Type 0} (m : Run A) : Type 0 where
+  pub falls : (s : State) → (m s).state.steps ≤ s.steps
+
+pub kept_falls : {A : Type 0} {m : Run A} → Keeps m → Falls m
+kept_falls k = record { falls = k.falls }
+
+go_falls : {A B : Type 0} (f : A → Run B) (s : State) → ((a : A) → Falls (f a)) → (r : Result A Halt) (t : State) (effects : List Effect) → t.steps ≤ s.steps → (go_on r t effects f).state.steps ≤ s.steps
+unfolding go_on
+go_falls f s h (Ok a) t effects e = le_trans ((h a).falls t) e
+go_falls f s h (Err x) t effects e = e
+
+pub then_falls : {A B : Type 0} {m : Run A} (f : A → Run B) → Falls m → ((a : A) → Falls (f a)) → Falls (m >>= f)
+unfolding ◌>>=◌
+then_falls {m = m} f x h = record { falls = λ s. go_falls f s h (m s).result (m s).state (m s).effects (x.falls s) }
+
+lift_falls : {A : Type 0} (r : Result A Halt) → Falls (lift r)
+lift_falls r = kept_falls (keeps_lift r)
+
+-- what does in each state what a run does that falls
+falls_at : {A : Type 0} (m : Run A) → ((s : State) → (n : Run A) × Falls n × (m s ≡ n s)) → Falls m
+falls_at {A = A} m h = record { falls = λ s. subst (λ (o : Out A). o.state.steps ≤ s.steps) (sym (h s).2) ((h s).1.falls s) }
+
+-- variables, elements and places
+
+read_local_falls : (i : ℕ) → Falls (read_local i)
+unfolding read_local
+read_local_falls i = record { falls = λ s. le_refl s.steps }
+
+local_low : (o : Option (List ℕ × Local)) (i : ℕ) (w : Value) (s : State) → (with_local_at o i w s).steps ≤ s.steps
+local_low None i w s = le_refl s.steps
+local_low (Some (x, local.Value old)) i w s = le_refl s.steps
+local_low (Some (x, local.Array n)) i w s = le_refl s.steps
+
+put_local_falls : (i : ℕ) (w : Value) → Falls (put_local i w)
+unfolding put_local
+put_local_falls i w = record { falls = λ s. local_low (slice_get (newest_locals s.frames) i) i w s }
+
+read_slot_falls : (o : Option (List ℕ)) → Falls (read_slot o)
+read_slot_falls None = lift_falls (Ok value.Nothing)
+read_slot_falls (Some x) = kept_falls (keeps_read_outside x)
+
+put_slot_falls : (o : Option (List ℕ)) (w : Value) → Falls (put_slot o w)
+put_slot_falls None w = lift_falls (Ok tt)
+put_slot_falls (Some x) w = kept_falls (keeps_put_outside x w)
+
+read_element_falls : (a : Array) (key : List ℕ) → Falls (read_element_of a key)
+unfolding read_element_of
+read_element_falls a key = falls_at _ (λ s. (read_element_at (number_at a s) key, kept_falls (keeps_read_element_at (number_at a s) key), refl))
+
+store_element_falls : (a : Array) (key : List ℕ) (w : Value) → Falls (store_element_of a key w)
+unfolding store_element_of
+store_element_falls a key w = falls_at _ (λ s. (store_element_at (number_at a s) key w, kept_falls (keeps_store_element_at (number_at a s) key w), refl))
+
+contains_falls : (a : Array) (key : List ℕ) → Falls (contains_at a key)
+contains_falls a key = falls_at _ (λ s. (has_element_at (number_at a s) key, kept_falls (keeps_has_element_at (number_at a s) key), refl))
+
+delete_falls : (a : Array) (key : List ℕ) → Falls (delete_at a key)
+delete_falls a key = falls_at _ (λ s. (delete_element_at (number_at a s) key, kept_falls (keeps_delete_element_at (number_at a s) key), refl))
+
+pub keys_falls : (a : Array) → Falls (keys_of_array a)
+keys_falls a = falls_at _ (λ s. (keys_at (number_at a s), kept_falls (keeps_keys_at (number_at a s)), refl))
+
+fill_falls : (a : Array) (texts : List (List ℕ)) → Falls (fill_at a texts)
+fill_falls a texts = falls_at _ (λ s. (fill_array_at (number_at a s) texts, kept_falls (keeps_fill_array_at (number_at a s) texts), refl))
+
+module _ (names : List (List ℕ)) where
+  read_variable_falls : (x : Variable) → Falls (read_variable names x)
+  read_variable_falls (variable.Special x) = kept_falls (keeps_read_outside (name_of x))
+  read_variable_falls variable.FieldCount = kept_falls (keeps_read_outside (codes "NF"))
+  read_variable_falls (variable.Global i) = read_slot_falls (slice_get names i)
+  read_variable_falls (variable.Local i) = read_local_falls i
+
+  pub put_variable_falls : (x : Variable) (w : Value) → Falls (put_variable names x w)
+  put_variable_falls (variable.Special x) w = kept_falls (keeps_put_outside (name_of x) w)
+  put_variable_falls variable.FieldCount w = kept_falls (keeps_put_outside (codes "NF") w)
+  put_variable_falls (variable.Global i) w = put_slot_falls (slice_get names i) w
+  put_variable_falls (variable.Local i) w = put_local_falls i w
+
+  read_at_falls : (p : Place) (operand : Value) → Falls (read_at names p operand)
+  read_at_falls (place.Variable x) operand = read_variable_falls x
+  read_at_falls (place.Element a) operand = read_element_falls a (str_of operand)
+  read_at_falls place.Field operand = then_falls _ (kept_falls (keeps_number_of operand)) (λ k. kept_falls (keeps_read_field k))
+
+  store_at_falls : (p : Place) (operand w : Value) → Falls (store_at names p operand w)
+  store_at_falls (place.Variable x) operand w = put_variable_falls x w
+  store_at_falls (place.Element a) operand w = store_element_falls a (str_of operand) w
+  store_at_falls place.Field operand w = then_falls _ (kept_falls (keeps_number_of operand)) (λ k. kept_falls (keeps_set_field k w))
+
+  assign_falls : (p : Place) (operand w : Value) → Falls (assign_at names p operand w)
+  unfolding assign_at
+  assign_falls p operand w = then_falls _ (store_at_falls p operand w) (λ _. read_at_falls p operand)
+
+  assign_by_falls : (o : Option Operator) (p : Place) (operand w : Value) → Falls (assign_by_at names o p operand w)
+  unfolding assign_by_at
+  assign_by_falls None p operand w = assign_falls p operand w
+  assign_by_falls (Some o) p operand w = then_falls _ (read_at_falls p operand) (λ old. then_falls _ (lift_falls _) (λ x. assign_falls p operand x))
+
+  post_falls : (o : IncrementOperator) (p : Place) (operand : Value) → Falls (post_increment_at names o p operand)
+  unfolding post_increment_at
+  post_falls o p operand = then_falls _ (read_at_falls p operand) (λ x. then_falls _ (kept_falls (keeps_number_of x)) (λ k. then_falls _ (lift_falls _) (λ w. then_falls _ (store_at_falls p operand w) (λ _. lift_falls _))))
+
+-- built-in functions and calls
+
+match_falls : (pattern text : List ℕ) → Falls (match_in pattern text)
+match_falls pattern text = then_falls _ (lift_falls _) (λ t. kept_falls (keeps_note_match _))
+
+split_falls : (a : Array) (text : List ℕ) {m : Run Separator} → Falls m → Falls (split_with a text m)
+split_falls a text h = then_falls _ h (λ separator. then_falls _ (fill_falls a _) (λ _. lift_falls _))
+
+given_falls : (fs : List ArgumentForm) (vs : List Value) → Falls (given_by fs vs)
+unfolding given_by
+given_falls fs vs = record { falls = λ s. le_refl s.steps }
+
+module _ (tables : Tables) where
+  exchange_falls : (p : Place) (operand : Value) (count : ℕ) (text : List ℕ) → Falls (assign_exchange_at tables p operand count text)
+  exchange_falls p operand zero text = lift_falls _
+  exchange_falls p operand (suc k) text = then_falls _ (store_at_falls tables.names p operand _) (λ _. lift_falls _)
+
+  substitute_at_falls : (all : Bool) (pattern replacement : List ℕ) (p : Place) (operand old : Value) → Falls (substitute_at tables all pattern replacement p operand old)
+  substitute_at_falls all pattern replacement p operand old = then_falls _ (lift_falls _) (λ t. exchange_falls p operand _ _)
+
+  substitute_by_falls : (all : Bool) (pattern : Option ℕ) (p : Place) (operand old : Value) (vs : List Value) → Falls (substitute_by tables all pattern p operand old vs)
+  substitute_by_falls all (Some i) p operand old vs = substitute_at_falls all _ _ p operand old
+  substitute_by_falls all None p operand old vs = substitute_at_falls all _ _ p operand old
+
+  substitute_falls : (all : Bool) (pattern : Option ℕ) (p : Option Place) (vs : List Value) → Falls (substitute tables all pattern p vs)
+  substitute_falls all pattern None vs = then_falls _ (kept_falls keeps_record_text) (λ old. substitute_by_falls all pattern place.Field _ old vs)
+  substitute_falls all pattern (Some p) vs = substitute_by_falls all pattern p _ _ _
+
+  module _ (functions : Functions) (calls : CallsKeep functions) where
+    call_falls : (f : List ℕ) (fs : List ArgumentForm) (vs : List Value) → Falls (call_at functions f fs vs)
+    call_falls f fs vs = then_falls _ (given_falls fs vs) (λ given. then_falls _ (kept_falls (keeps_check_height (functions.height f))) (λ _. then_falls _ (kept_falls keeps_spend) (λ _. kept_falls (calls f given))))
+
+    pub value_falls : (x : ValueNode) (vs : List Value) → Falls (value_of tables functions x vs)
+    value_falls (v.Push x) vs = lift_falls (Ok x)
+    value_falls (v.Read x) vs = read_variable_falls tables.names x
+    value_falls (v.RecordMatches i) vs = then_falls _ (kept_falls keeps_record_text) (λ x. lift_falls _)
+    value_falls (v.Operate o) vs = lift_falls _
+    value_falls (v.MatchesEre o i) vs = lift_falls _
+    value_falls (v.Change o) vs = lift_falls _
+    value_falls v.ReadField vs = then_falls _ (kept_falls (keeps_number_of (first vs))) (λ k. kept_falls (keeps_read_field k))
+    value_falls (v.ReadElement a) vs = read_element_falls a _
+    value_falls (v.Contains a) vs = then_falls _ (contains_falls a _) (λ b. lift_falls _)
+    value_falls (v.Key k) vs = then_falls _ (kept_falls (keeps_joined_key (taken k vs))) (λ key. lift_falls _)
+    value_falls v.FieldNumber vs = then_falls _ (kept_falls (keeps_number_of (first vs))) (λ k. lift_falls _)
+    value_falls (v.Assign o p) vs = assign_by_falls tables.names (operator_of o) p (second vs) (first vs)
+    value_falls (v.PreIncrement o p) vs = assign_by_falls tables.names (Some (by_one o)) p (first vs) one
+    value_falls (v.PostIncrement o p) vs = post_falls tables.names o p (first vs)
+    value_falls (v.Load p) vs = read_at_falls tables.names p (first vs)
+    value_falls v.RecordLength vs = kept_falls keeps_record_length
+    value_falls (v.Apply f k) vs = lift_falls _
+    value_falls (v.Match (Some i)) vs = match_falls _ _
+    value_falls (v.Match None) vs = match_falls _ _
+    value_falls (v.Split a by.FieldSeparator) vs = split_falls a _ (kept_falls keeps_field_separator)
+    value_falls (v.Split a by.Value) vs = split_falls a _ (lift_falls _)
+    value_falls (v.Split a (by.Ere i)) vs = split_falls a _ (lift_falls _)
+    value_falls (v.Substitute all pattern p) vs = substitute_falls all pattern p vs
+    value_falls (v.Call f fs) vs = call_falls _ fs.items _
+
+    pub effect_falls : (x : EffectNode) (vs : List Value) → Falls (effect_of functions x vs)
+    effect_falls e.Spend vs = kept_falls keeps_spend
+    effect_falls (e.Drop k) vs = lift_falls (Ok tt)
+    effect_falls (e.Delete a) vs = delete_falls a _
+    effect_falls (e.Print f k) vs = kept_falls (keeps_print_by functions calls f 0 (taken k vs))
+    effect_falls e.SetStatus vs = kept_falls (keeps_set_status (first vs))

@@ -1,0 +1,6 @@
+-- What a reader believes: what nodes mean.
+pub mod definitions
+-- What serves the proofs.
+pub mod support
+pub use Rattle.awk_compile.specs.definitions.Nodes
+pub use Rattle.awk_compile.specs.support.Builds

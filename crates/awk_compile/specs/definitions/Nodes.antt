@@ -1,0 +1,288 @@
+-- What nodes mean: what is still to be done from a place, with the values that are awaited, the newest first.
+use Rattle.std.specs.Prelude.{◌≡◌, ℕ, zero, suc, ◌+◌, ◌-◌, ◌<◌, pos, Bool, false, List, [], ◌∷◌, ◌++◌, length, map, reverse, take, drop, slice_get, get_or, unwrap_or, Option, Some, None, Result, Ok, Err}
+use Rattle.std.specs.Option.{option_map}
+use Rattle.awk_value.specs.declared.value.Value.{Value}
+use Rattle.awk_value.specs.declared.value.Value.TheVariants as value
+use Rattle.awk_value.specs.Values.{str_of, truth_of}
+use Rattle.awk_lex.specs.declared.token.Operator.TheVariants.{Matches}
+use Rattle.awk_grammar.specs.declared.tree.BinaryOperator.{BinaryOperator}
+use Rattle.awk_grammar.specs.declared.tree.BinaryOperator.TheVariants.{Concatenate, Infix}
+use Rattle.awk_text.specs.definitions.Separators.{Separator}
+use Rattle.awk_text.specs.definitions.Fields.{pieces_of}
+use Rattle.awk_kinds.specs.definitions.Kinds.{FormalParameter}
+use Rattle.awk_semantics.specs.declared.halt.Halt.{Halt}
+use Rattle.awk_semantics.specs.declared.halt.Halt.TheVariants as halt
+use Rattle.awk_semantics.specs.declared.local.Local.{Local}
+use Rattle.awk_semantics.specs.declared.local.Local.TheVariants as local
+use Rattle.awk_semantics.specs.definitions.State.{State, Run, ◌>>=◌, lift, ret, gives}
+use Rattle.awk_semantics.specs.definitions.Operators.{truth_value, changed, applied, by_one, one, operator_of, pattern_in}
+use Rattle.awk_semantics.specs.definitions.Texts.{find_from, exchanged, separator_in, ere_separator}
+use Rattle.awk_semantics.specs.definitions.Primitives.{spend, number_of, record_text, read_field, has_element_at, delete_element_at, keys_at, fill_array_at, field_separator, joined_key, check_height, set_status}
+use Rattle.awk_semantics.specs.definitions.BuiltIns.{applied_all, record_length, note_match, count_value}
+use Rattle.awk_semantics.specs.definitions.Semantics.{Functions, choose, print_by}
+use Rattle.awk_storage.specs.declared.position.Array.{Array}
+use Rattle.awk_storage.specs.declared.position.Place.{Place}
+use Rattle.awk_storage.specs.declared.position.Place.TheVariants as place
+use Rattle.awk_storage.specs.definitions.Positions.{number_at, read_element_of, read_variable, put_variable, read_at, store_at, assign_by_at, post_increment_at}
+use Rattle.awk_compile.specs.declared.node.ArgumentForm.{ArgumentForm}
+use Rattle.awk_compile.specs.declared.node.ArgumentForm.TheVariants as form
+use Rattle.awk_compile.specs.declared.node.SplitBy.{SplitBy}
+use Rattle.awk_compile.specs.declared.node.SplitBy.TheVariants as by
+use Rattle.awk_compile.specs.declared.node.ValueNode.{ValueNode}
+use Rattle.awk_compile.specs.declared.node.ValueNode.TheVariants as v
+use Rattle.awk_compile.specs.declared.node.EffectNode.{EffectNode}
+use Rattle.awk_compile.specs.declared.node.EffectNode.TheVariants as e
+use Rattle.awk_compile.specs.declared.node.Node.{Node}
+use Rattle.awk_compile.specs.declared.node.Node.TheVariants as n
+
+-- a function of a program: its name and its parameters
+pub record Signature : Type 0 where
+  pub name : List ℕ
+  pub parameters : List FormalParameter
+
+-- what the numbers in nodes stand for: the scalars of the whole program by their slots, the EREs, the arrays and the functions
+pub record Tables : Type 0 where
+  pub names : List (List ℕ)
+  pub eres : List (List ℕ)
+  pub arrays : List (List ℕ)
+  pub functions : List Signature
+
+abbrev pub ere_at : Tables → ℕ → List ℕ
+ere_at tables i = get_or tables.eres i []
+
+abbrev pub function_at : Tables → ℕ → List ℕ
+function_at tables i = unwrap_or (option_map (λ (f : Signature). f.name) (slice_get tables.functions i)) []
+
+-- the values that are awaited
+
+abbrev pub Cont : Type 0
+Cont = List Value → Run Value
+
+-- nothing is left to be done
+abbrev pub nothing : Cont
+nothing vs = ret value.Nothing
+
+abbrev pub first : List Value → Value
+first vs = get_or vs 0 value.Nothing
+
+abbrev pub second : List Value → Value
+second vs = get_or vs 1 value.Nothing
+
+-- so many of them, in the order in which they were evaluated
+abbrev pub taken : ℕ → List Value → List Value
+taken count vs = reverse (take count vs)
+
+-- how many values lie on the stack for a place
+abbrev pub operands : Place → ℕ
+operands (place.Variable x) = 0
+operands (place.Element a) = 1
+operands place.Field = 1
+
+abbrev pub operated : BinaryOperator → Value → Value → Result Value Halt
+operated Concatenate x y = Ok (value.Text (str_of x ++ str_of y))
+operated (Infix o) x y = applied o x y
+
+-- calls: values are given in their order, and arrays by their numbers
+
+abbrev pub local_by : ArgumentForm → List Value → State → Local
+local_by form.Value vs s = local.Value (first vs)
+local_by (form.Array a) vs s = local.Array (number_at a s)
+
+abbrev pub behind_form : ArgumentForm → List Value → List Value
+behind_form form.Value vs = drop 1 vs
+behind_form (form.Array a) vs = vs
+
+-- what the parameters are given, where these are the values in their order
+abbrev pub locals_by : List ArgumentForm → List Value → State → List Local
+locals_by [] vs s = []
+locals_by (f ∷ fs) vs s = local_by f vs s ∷ locals_by fs (behind_form f vs) s
+
+abbrev pub values_among : List ArgumentForm → ℕ
+values_among [] = 0
+values_among (form.Value ∷ fs) = suc (values_among fs)
+values_among (form.Array a ∷ fs) = values_among fs
+
+unfoldable pub given_by : List ArgumentForm → List Value → Run (List Local)
+given_by fs vs s = gives (locals_by fs vs s) s
+
+abbrev pub call_at : Functions → (name : List ℕ) → List ArgumentForm → List Value → Run Value
+call_at functions f fs vs = given_by fs vs >>= λ given. check_height (functions.height f) >>= λ _. spend >>= λ _. functions.call f given
+
+-- built-in functions that reach into the state
+
+abbrev pub contains_at : Array → (key : List ℕ) → Run Bool
+contains_at a key s = has_element_at (number_at a s) key s
+
+abbrev pub delete_at : Array → (key : List ℕ) → Run (Unit {0})
+delete_at a key s = delete_element_at (number_at a s) key s
+
+abbrev pub keys_of_array : Array → Run (List (List ℕ))
+keys_of_array a s = keys_at (number_at a s) s
+
+abbrev pub fill_at : Array → List (List ℕ) → Run (Unit {0})
+fill_at a texts s = fill_array_at (number_at a s) texts s
+
+abbrev pub match_in : (pattern text : List ℕ) → Run Value
+match_in pattern text = lift (pattern_in pattern) >>= λ t. note_match (find_from t text 0)
+
+abbrev pub split_at : Array → List (List ℕ) → Run Value
+split_at a pieces = fill_at a pieces >>= λ _. count_value (length pieces)
+
+abbrev pub split_with : Array → (text : List ℕ) → Run Separator → Run Value
+split_with a text m = m >>= λ separator. split_at a (pieces_of separator false text)
+
+module _ (tables : Tables) where
+  -- the text is assigned if a match was exchanged; the answer is how many were
+  abbrev pub assign_exchange_at : Place → (operand : Value) → (count : ℕ) → (text : List ℕ) → Run Value
+  assign_exchange_at p operand zero text = count_value 0
+  assign_exchange_at p operand (suc n) text = store_at tables.names p operand (value.Text text) >>= λ _. count_value (suc n)
+
+  abbrev pub substitute_at : (all : Bool) → (pattern replacement : List ℕ) → Place → (operand old : Value) → Run Value
+  substitute_at all pattern replacement p operand old = lift (pattern_in pattern) >>= λ t. assign_exchange_at p operand (exchanged all t replacement (str_of old)).count (exchanged all t replacement (str_of old)).text
+
+  -- by an ERE of the program, or by the value behind the replacement; the replacement is the topmost
+  abbrev pub substitute_by : (all : Bool) → Option ℕ → Place → (operand old : Value) → List Value → Run Value
+  substitute_by all (Some i) p operand old vs = substitute_at all (ere_at tables i) (str_of (first vs)) p operand old
+  substitute_by all None p operand old vs = substitute_at all (str_of (second vs)) (str_of (first vs)) p operand old
+
+  -- in a place, whose old value is the topmost and whose operand lies below it, or in the record
+  abbrev pub substitute : (all : Bool) → Option ℕ → Option Place → List Value → Run Value
+  substitute all pattern None vs = record_text >>= λ old. substitute_by all pattern place.Field (value.Number (pos 0)) old vs
+  substitute all pattern (Some p) vs = substitute_by all pattern p (second vs) (first vs) (drop (suc (operands p)) vs)
+
+  -- the value of a node
+  abbrev pub value_of : Functions → ValueNode → List Value → Run Value
+  value_of functions (v.Push x) vs = ret x
+  value_of functions (v.Read x) vs = read_variable tables.names x
+  value_of functions (v.RecordMatches i) vs = record_text >>= λ x. lift (applied Matches x (value.Text (ere_at tables i)))
+  value_of functions (v.Operate o) vs = lift (operated o (second vs) (first vs))
+  value_of functions (v.MatchesEre o i) vs = lift (applied o (first vs) (value.Text (ere_at tables i)))
+  value_of functions (v.Change o) vs = lift (changed o (first vs))
+  value_of functions v.ReadField vs = number_of (first vs) >>= λ k. read_field k
+  value_of functions (v.ReadElement a) vs = read_element_of a (str_of (first vs))
+  value_of functions (v.Contains a) vs = contains_at a (str_of (first vs)) >>= λ b. ret (truth_value b)
+  value_of functions (v.Key k) vs = joined_key (taken k vs) >>= λ key. ret (value.Text key)
+  value_of functions v.FieldNumber vs = number_of (first vs) >>= λ k. ret (value.Number k)
+  value_of functions (v.Assign o p) vs = assign_by_at tables.names (operator_of o) p (second vs) (first vs)
+  value_of functions (v.PreIncrement o p) vs = assign_by_at tables.names (Some (by_one o)) p (first vs) one
+  value_of functions (v.PostIncrement o p) vs = post_increment_at tables.names o p (first vs)
+  value_of functions (v.Load p) vs = read_at tables.names p (first vs)
+  value_of functions v.RecordLength vs = record_length
+  value_of functions (v.Apply f k) vs = lift (applied_all f (taken k vs))
+  value_of functions (v.Match (Some i)) vs = match_in (ere_at tables i) (str_of (first vs))
+  value_of functions (v.Match None) vs = match_in (str_of (first vs)) (str_of (second vs))
+  value_of functions (v.Split a by.FieldSeparator) vs = split_with a (str_of (first vs)) field_separator
+  value_of functions (v.Split a by.Value) vs = split_with a (str_of (second vs)) (lift (separator_in (str_of (first vs))))
+  value_of functions (v.Split a (by.Ere i)) vs = split_with a (str_of (first vs)) (lift (ere_separator (pattern_in (ere_at tables i))))
+  value_of functions (v.Substitute all pattern p) vs = substitute all pattern p vs
+  value_of functions (v.Call f fs) vs = call_at functions (function_at tables f) fs.items (taken (values_among fs.items) vs)
+
+-- how many values a substitution takes
+abbrev pub pattern_operands : Option ℕ → ℕ
+pattern_operands (Some i) = 0
+pattern_operands None = 1
+
+abbrev pub target_operands : Option Place → ℕ
+target_operands None = 0
+target_operands (Some p) = suc (operands p)
+
+abbrev pub split_operands : SplitBy → ℕ
+split_operands by.Value = 1
+split_operands b = 0
+
+-- how many values a node takes off the stack
+abbrev pub popped : ValueNode → ℕ
+popped (v.Push x) = 0
+popped (v.Read x) = 0
+popped (v.RecordMatches i) = 0
+popped (v.Operate o) = 2
+popped (v.MatchesEre o i) = 1
+popped (v.Change o) = 1
+popped v.ReadField = 1
+popped (v.ReadElement a) = 1
+popped (v.Contains a) = 1
+popped (v.Key k) = k
+popped v.FieldNumber = 1
+popped (v.Assign o p) = suc (operands p)
+popped (v.PreIncrement o p) = operands p
+popped (v.PostIncrement o p) = operands p
+popped (v.Load p) = 0
+popped v.RecordLength = 0
+popped (v.Apply f k) = k
+popped (v.Match pattern) = suc (pattern_operands pattern)
+popped (v.Split a b) = suc (split_operands b)
+popped (v.Substitute all pattern p) = target_operands p + suc (pattern_operands pattern)
+popped (v.Call f fs) = values_among fs.items
+
+-- what a node does that gives no value
+abbrev pub effect_of : Functions → EffectNode → List Value → Run (Unit {0})
+effect_of functions e.Spend vs = spend
+effect_of functions (e.Drop k) vs = ret tt
+effect_of functions (e.Delete a) vs = delete_at a (str_of (first vs))
+effect_of functions (e.Print f k) vs = print_by functions f 0 (taken k vs)
+effect_of functions e.SetStatus vs = set_status (first vs)
+
+abbrev pub dropped : EffectNode → ℕ
+dropped e.Spend = 0
+dropped (e.Drop k) = k
+dropped (e.Delete a) = 1
+dropped (e.Print f k) = k
+dropped e.SetStatus = 1
+
+-- walks: the count of the keys that are left is the topmost value, and the keys lie below it, the next one first
+
+abbrev pub walk_values : List (List ℕ) → List Value
+walk_values keys = value.Number (pos (length keys)) ∷ map (λ key. value.Text key) keys
+
+abbrev pub keys_left : Value → ℕ
+keys_left (value.Number (pos k)) = k
+keys_left x = 0
+
+abbrev pub next_key_by : ℕ → (turn exit : Run Value) → Run Value
+next_key_by zero turn exit = exit
+next_key_by (suc k) turn exit = turn
+
+-- what a node does, from what other places do and from what a turn of a loop does
+module _ (tables : Tables) (functions : Functions) (again : ℕ → Cont) where
+  abbrev pub made : (ℕ → Cont) → Node → Cont
+  made at (n.Value x k) = λ vs. value_of tables functions x vs >>= λ w. at k (w ∷ drop (popped x) vs)
+  made at (n.Effect x k) = λ vs. effect_of functions x vs >>= λ _. at k (drop (dropped x) vs)
+  made at (n.Test here other) = λ vs. choose (truth_of (first vs)) (at here (drop 1 vs)) (at other (drop 1 vs))
+  made at (n.Again i) = again i
+  made at (n.Walk a k) = λ vs. keys_of_array a >>= λ keys. at k (walk_values keys ++ vs)
+  made at (n.NextKey i exit) = λ vs. next_key_by (keys_left (first vs)) (again i vs) (at exit (drop 1 vs))
+  made at (n.TakeKey x k) = λ vs. put_variable tables.names x (second vs) >>= λ _. at k (value.Number (pos (keys_left (first vs) - 1)) ∷ drop 2 vs)
+  made at (n.LeaveWalk k) = λ vs. at k (drop (suc (keys_left (first vs))) vs)
+  made at n.Return = λ vs. ret (first vs)
+  made at (n.Stop reason) = λ vs. lift (Err reason)
+  made at n.End = nothing
+
+  abbrev pub conts : List Cont → List Node → List Cont
+  conts done [] = done
+  conts done (node ∷ nodes) = conts (done ++ made (λ i. get_or done i nothing) node ∷ []) nodes
+
+module _ (tables : Tables) (functions : Functions) (heads : List ℕ) (nodes : List Node) where
+  -- a turn: how many may follow is bounded
+  abbrev pub level : ℕ → ℕ → Cont
+  level zero i = λ vs. spend >>= λ _. lift (Err halt.OutOfSteps)
+  level (suc k) i = λ vs. spend >>= λ _. get_or (conts tables functions (level k) [] nodes) (get_or heads i 0) nothing vs
+
+  abbrev pub cont_at : ℕ → ℕ → Cont
+  cont_at k at = get_or (conts tables functions (level k) [] nodes) at nothing
+
+-- the nodes that follow one stand before it
+abbrev pub AreBelow : ℕ → Node → Type 0
+AreBelow at (n.Value x k) = k < at
+AreBelow at (n.Effect x k) = k < at
+AreBelow at (n.Test here other) = (here < at) × (other < at)
+AreBelow at (n.Again i) = Unit {0}
+AreBelow at (n.Walk a k) = k < at
+AreBelow at (n.NextKey i exit) = exit < at
+AreBelow at (n.TakeKey x k) = k < at
+AreBelow at (n.LeaveWalk k) = k < at
+AreBelow at n.Return = Unit {0}
+AreBelow at (n.Stop reason) = Unit {0}
+AreBelow at n.End = Unit {0}
+
+abbrev pub IsOrdered : List Node → Type 0
+IsOrdered nodes = (at : ℕ) (node : Node) → slice_get nodes at ≡ Some node → AreBelow at node

@@ -1,0 +1,89 @@
+// Nodes: what a program is lowered to. Each names what follows it, which stands before it in the list.
+
+use awk_grammar::tree::{BinaryOperator, PrintForm, UnaryOperator};
+use awk_lex::token::{AssignmentOperator, BuiltIn, IncrementOperator, Operator};
+use awk_semantics::Halt;
+use awk_storage::{Array, Place, Variable};
+use awk_value::Value;
+
+/// How an argument of a call of a function is given: by a value on the stack, or as an array.
+#[derive(Clone, Copy)]
+pub enum ArgumentForm {
+    Value,
+    Array(Array),
+}
+
+/// What separates the pieces of a `split`: what FS stands for, a text on the stack, or an ERE of the program.
+#[derive(Clone, Copy)]
+pub enum SplitBy {
+    FieldSeparator,
+    Value,
+    Ere(u32),
+}
+
+/// What takes values off the stack and puts one on it. The operand that was evaluated last is the topmost.
+#[derive(Drop)]
+pub enum ValueNode {
+    Push(Value),
+    Read(Variable),
+    /// Whether the record has a match of an ERE of the program, by its number.
+    RecordMatches(u32),
+    Operate(BinaryOperator),
+    /// `~` or `!~`, with an ERE of the program on the right.
+    MatchesEre(Operator, u32),
+    Change(UnaryOperator),
+    ReadField,
+    ReadElement(Array),
+    Contains(Array),
+    /// Several subscripts as one text.
+    Key(u32),
+    /// The number of a field that is a place.
+    FieldNumber,
+    Assign(AssignmentOperator, Place),
+    PreIncrement(IncrementOperator, Place),
+    PostIncrement(IncrementOperator, Place),
+    /// The value of a place, whose operand stays on the stack.
+    Load(Place),
+    RecordLength,
+    /// A built-in function of so many values.
+    Apply(BuiltIn, u32),
+    Match(Option<u32>),
+    Split(Array, SplitBy),
+    /// `gsub`, or else `sub`; by an ERE or a text on the stack; in a place or in the record.
+    Substitute(bool, Option<u32>, Option<Place>),
+    /// A call of a function of the program, by its number.
+    Call(u32, Vec<ArgumentForm>),
+}
+
+/// What takes values off the stack and puts none on it.
+#[derive(Clone, Copy)]
+pub enum EffectNode {
+    Spend,
+    Drop(u32),
+    Delete(Array),
+    /// A print of so many values to standard output.
+    Print(PrintForm, u32),
+    SetStatus,
+}
+
+/// One node. Places are indices of the list of nodes, and heads numbers of loops.
+#[derive(Drop)]
+pub enum Node {
+    Value(ValueNode, u32),
+    Effect(EffectNode, u32),
+    /// Goes on at the first place where the topmost value is true, and else at the second.
+    Test(u32, u32),
+    /// A turn of a loop, whose body's place is known by the loop's number.
+    Again(u32),
+    /// Puts the keys of an array and their count on the stack.
+    Walk(Array, u32),
+    /// A turn of a walk, by the number of its loop, or its exit where no key is left.
+    NextKey(u32, u32),
+    /// Takes the next key for the variable of a walk.
+    TakeKey(Variable, u32),
+    /// Takes the keys that are left, and their count, off the stack.
+    LeaveWalk(u32),
+    Return,
+    Stop(Halt),
+    End,
+}

@@ -1,0 +1,110 @@
+// A pattern with the text that spells it, and what it finds.
+
+ghost use Rattle.std.specs.Prelude.{◌≡◌, Ok, IfSome, OnOk};
+ghost use Rattle.awk_ere.specs.Means.{pattern_of};
+ghost use Rattle.awk_ere.specs.Table.{IsFor};
+ghost use Rattle.awk_text.specs.Pieces.{stretches_at, AreSpansOf, IsSpanOf};
+ghost use Rattle.awk_semantics.specs.Operators.{pattern_in};
+ghost use Rattle.awk_semantics.specs.Results.{Yields};
+ghost use Rattle.awk_semantics.specs.Texts.{ere_separator};
+ghost use Rattle.awk_functions.specs.definitions.Matched.{matched, found, exchanged_by, split_by};
+ghost use Rattle.awk_functions.specs.support.Compiled.{MeansOf, ReadsFor};
+ghost use Rattle.awk_functions.specs.support.Written.{Writes};
+
+use crate::found::Exchanged;
+use crate::separated::split_between;
+use awk_ere::laws::read_law;
+use awk_ere::{Pattern, Scratch};
+use awk_semantics::{Halt, law_of_exchanges, law_of_matches};
+use awk_text::{Span, match_at, substitute};
+use awk_value::Bytes;
+use std::alloc::Global;
+
+/// A pattern that was read, the text that spells it, and the room of its searches, which is large and stands elsewhere, so
+/// that this is moved as a few words.
+#[derive(Drop)]
+pub struct Compiled {
+    pub text: Bytes,
+    pattern: Pattern,
+    scratch: Box<Scratch>,
+    ghost means: { ∥ MeansOf (pattern_of text) pattern ∥₁ },
+    ghost fits: { IsFor scratch.value pattern },
+}
+
+impl Compiled {
+    /// Reads the pattern that a text spells. One that spells none is the fault F6.
+    pub(crate) fn read(alloc: Global, text: Bytes) -> Result<Compiled, Halt>
+        ensures { ReadsFor text (λ (c : Compiled). c.text) result }
+    {
+        read_law();
+        let pattern = Pattern::read(alloc, text.as_slice())?;
+        let searches = Scratch::for_pattern(alloc, &pattern)?;
+        let scratch = Box::new(alloc, searches)?;
+        Ok(Compiled {
+            text,
+            pattern,
+            scratch,
+        })
+    }
+
+    /// The pattern.
+    pub fn pattern(&self) -> &Pattern
+        ensures { ∥ MeansOf (pattern_of self.now.text) result.now ∥₁ }
+    {
+        &self.pattern
+    }
+
+    /// Whether the pattern matches somewhere in the text. Takes no memory. (POSIX awk, Regular Expressions)
+    pub fn is_match(&mut self, text: &[u8]) -> bool
+        ensures found { matched (pattern_in self.old.text) text.now ≡ Ok result }
+        ensures text { self.new.text ≡ self.old.text }
+    {
+        self.pattern.is_match(text, &mut self.scratch)
+    }
+
+    /// The first match of the pattern in the text, and of those that begin there the longest. Takes no memory. (POSIX awk,
+    /// String Functions: match)
+    pub fn find(&mut self, text: &[u8]) -> Option<Span>
+        ensures found { found (pattern_in self.old.text) text.now ≡ Ok result }
+        ensures within { IfSome result (IsSpanOf text.now) }
+        ensures text { self.new.text ≡ self.old.text }
+    {
+        law_of_matches();
+        match_at(&self.pattern, text, &mut self.scratch)
+    }
+
+    /// The text with its first match exchanged, or with `all` each match, and how many that are; nothing where nothing
+    /// matches. The only fault is want of memory. (POSIX awk, String Functions: sub, gsub)
+    pub fn exchange(
+        &mut self,
+        alloc: Global,
+        replacement: &[u8],
+        text: &[u8],
+        all: bool,
+    ) -> Result<Option<Exchanged>, Halt>
+        ensures exchanged { Yields result (exchanged_by all (pattern_in self.old.text) replacement.now text.now) }
+        ensures text { self.new.text ≡ self.old.text }
+    {
+        law_of_exchanges();
+        let pattern = &self.pattern;
+        let scratch = &mut self.scratch;
+        match substitute(alloc, pattern, scratch, replacement, text, all)? {
+            Some(made) => Ok(Some(Exchanged {
+                count: made.count,
+                text: Bytes::from_vec(alloc, made.text)?,
+            })),
+            None => Ok(None),
+        }
+    }
+
+    /// Fills `spans` with the pieces of the text that stand between the matches of the pattern with a byte in them, in
+    /// their order. What `spans` held before is gone. The only fault is want of memory. (POSIX awk, String Functions: split)
+    pub fn split(&mut self, text: &[u8], spans: &mut Vec<Span>) -> Result<(), Halt>
+        ensures pieces { Writes result (stretches_at text.now spans.new.items)
+            (split_by (ere_separator (pattern_in self.old.text)) text.now) }
+        ensures within { OnOk result (AreSpansOf text.now spans.new.items) }
+        ensures text { self.new.text ≡ self.old.text }
+    {
+        split_between(&self.pattern, &mut self.scratch, text, spans)
+    }
+}

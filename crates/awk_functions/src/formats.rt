@@ -1,0 +1,102 @@
+// The texts of formats with values.
+
+ghost use Rattle.std.specs.Prelude.{◌≡◌, Ok, IfOk, IfErr, OnOk};
+ghost use Rattle.awk_format.specs.Formatted.{IsFaultOf, formatted, joined};
+ghost use Rattle.awk_format.specs.Reading.{parts_of};
+ghost use Rattle.awk_format.specs.declared.fault.FormatFault.TheVariants.{Memory};
+ghost use Rattle.awk_semantics.specs.BuiltIns.{as_text};
+ghost use Rattle.awk_semantics.specs.Primitives.{format_values};
+ghost use Rattle.awk_semantics.specs.Results.{IsWantOfMemory, Yields};
+ghost use Rattle.awk_functions.specs.support.Written.{Writes};
+
+use crate::texts::text_in;
+use awk_format::{Format, FormatFault};
+use awk_semantics::Halt;
+use awk_value::{Bytes, Value};
+use itoa::Buffer;
+use std::alloc::Global;
+
+// A format that was read, with its text.
+#[derive(Drop)]
+struct ReadFormat {
+    text: Bytes,
+    format: Format,
+    ghost reads: { format ≡ parts_of text },
+}
+
+impl ReadFormat {
+    // Reads the format that a text is. The only fault is want of memory.
+    fn read(alloc: Global, text: &[u8]) -> Result<ReadFormat, FormatFault>
+        ensures text { IfOk result (λ read. read.text ≡ text.now) }
+        ensures fault { IfErr result (λ fault. fault ≡ Memory) }
+    {
+        let format = Format::read(alloc, text)?;
+        let text = Bytes::from_slice(alloc, text)?;
+        Ok(ReadFormat { text, format })
+    }
+}
+
+/// The formats of a run, of which the one that was used last is kept, so that it isn't read anew where it comes again.
+#[derive(Drop)]
+pub struct Formats {
+    alloc: Global,
+    last: ReadFormat,
+}
+
+impl Formats {
+    /// The empty format is kept at first. The only fault is want of memory.
+    pub fn new(alloc: Global) -> Result<Formats, Halt>
+        ensures { IfErr result IsWantOfMemory }
+    {
+        let last = ReadFormat::read(alloc, b"")?;
+        Ok(Formats { alloc, last })
+    }
+
+    // The format that a text is. The only fault is want of memory.
+    fn read(&mut self, text: &[u8]) -> Result<&Format, FormatFault>
+        ensures parts { IfOk result (λ format. format.now ≡ parts_of text.now) }
+        ensures fault { IfErr result (λ fault. fault ≡ Memory) }
+    {
+        if self.last.text.as_slice() != text {
+            self.last = ReadFormat::read(self.alloc, text)?;
+        }
+        Ok(&self.last.format)
+    }
+
+    // Appends the text that a format gives of the values.
+    fn write(
+        &mut self,
+        format: &[u8],
+        values: &[Value],
+        text: &mut Vec<u8>,
+    ) -> Result<(), FormatFault>
+        ensures text { OnOk result (joined (Ok text.old.items) (formatted format.now values.now) ≡ Ok text.new.items) }
+        ensures fault { IfErr result (λ fault. IsFaultOf fault (formatted format.now values.now)) }
+    {
+        let format = self.read(format)?;
+        format.write_into(values, text)
+    }
+
+    /// Writes the text that a format gives of the values behind it, in place of what was in the buffer. For want of a format
+    /// that is the empty text. The faults are F1, F3 and F7. (POSIX awk, Output Statements: printf)
+    pub fn format_values(&mut self, values: &[Value], text: &mut Vec<u8>) -> Result<(), Halt>
+        ensures { Writes result text.new.items (format_values values.now) }
+    {
+        text.clear();
+        let Some((format, others)) = values.split_first() else {
+            return Ok(());
+        };
+        let mut digits = Buffer::new();
+        self.write(text_in(format, &mut digits), others, text)?;
+        Ok(())
+    }
+
+    /// The text that a format gives of the values behind it, as a text that was made. (POSIX awk, String Functions: sprintf)
+    pub fn format_text(&mut self, values: &[Value]) -> Result<Value, Halt>
+        ensures { Yields result (as_text (format_values values.now)) }
+    {
+        let mut text = Vec::new(self.alloc);
+        self.format_values(values, &mut text)?;
+        Ok(Value::Text(Bytes::from_vec(self.alloc, text)?))
+    }
+}

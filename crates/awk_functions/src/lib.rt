@@ -1,0 +1,23 @@
+//! What operators and built-in functions make of values: numbers and texts, the texts of formats, and the patterns of a
+//! run, each of which is read once.
+#![tactic(auto)]
+
+mod compiled;
+mod formats;
+mod found;
+mod functions;
+mod line;
+mod operators;
+mod patterns;
+mod separated;
+mod texts;
+
+pub use compiled::Compiled;
+pub use formats::Formats;
+pub use found::{Exchanged, length_of, start_of};
+pub use functions::apply_function;
+pub use line::{concatenate, concatenate_all, join, joined_key, make_line};
+pub use operators::{
+    apply, apply_to_numbers, by_one, change, exit_status, operator_of, raise, truth_value,
+};
+pub use patterns::{PatternOperand, Patterns};

@@ -1,0 +1,116 @@
+// The texts of several values as one.
+
+ghost use Rattle.std.specs.Prelude.{◌≡◌, ◌++◌, map, OnOk, IfOk, IfErr};
+ghost use Rattle.std.specs.List.{concat};
+ghost use Rattle.awk_value.specs.Values.{str_of};
+ghost use Rattle.awk_semantics.specs.Operators.{line_of, join, join_rest};
+ghost use Rattle.awk_semantics.specs.Results.{IsWantOfMemory};
+
+use crate::texts::text_in;
+use awk_semantics::Halt;
+use awk_value::{Bytes, Value, append_text};
+use itoa::Buffer;
+use std::alloc::Global;
+
+/// Room for the digits of most numbers.
+const NUMBER_ROOM: usize = 20;
+
+// Appends the text of each value behind the separator.
+fn append_rest(line: &mut Vec<u8>, values: &[Value], separator: &Value) -> Result<(), Halt>
+    ensures text { OnOk result (line.new.items ≡ line.old.items
+        ++ join_rest (str_of separator.now) (map str_of values.now)) }
+    ensures fault { IfErr result IsWantOfMemory }
+{
+    for value in values {
+        append_text(separator, line)?;
+        append_text(value, line)?;
+    }
+    Ok(())
+}
+
+/// Appends the texts of the values, each but the first behind that of the separator. The only fault is want of memory.
+/// (POSIX awk, Expressions in awk: arrays; Output Statements)
+pub fn join(line: &mut Vec<u8>, values: &[Value], separator: &Value) -> Result<(), Halt>
+    ensures text { OnOk result (line.new.items ≡ line.old.items
+        ++ join (str_of separator.now) (map str_of values.now)) }
+    ensures fault { IfErr result IsWantOfMemory }
+{
+    match values {
+        [] => Ok(()),
+        [first, others @ ..] => {
+            append_text(first, line)?;
+            append_rest(line, others, separator)
+        }
+    }
+}
+
+/// The text of several subscripts, with that of SUBSEP between them: the key of an element. The only fault is want of memory.
+/// (POSIX awk, Expressions in awk: arrays)
+pub fn joined_key(alloc: Global, values: &[Value], subsep: &Value) -> Result<Bytes, Halt>
+    ensures text { IfOk result (λ key. key ≡ join (str_of subsep.now) (map str_of values.now)) }
+    ensures fault { IfErr result IsWantOfMemory }
+{
+    let mut key = Vec::with_capacity(alloc, room_for(values))?;
+    join(&mut key, values, subsep)?;
+    Ok(Bytes::from_vec(alloc, key)?)
+}
+
+/// Makes the line that a print of the values prints, in place of what was there: their texts, with the text of a separator
+/// between them and that of another behind. The only fault is want of memory. (POSIX awk, Output Statements)
+pub fn make_line(
+    line: &mut Vec<u8>,
+    values: &[Value],
+    between: &Value,
+    behind: &Value,
+) -> Result<(), Halt>
+    ensures text { OnOk result (line.new.items ≡ line_of (str_of between.now) (str_of behind.now) values.now) }
+    ensures fault { IfErr result IsWantOfMemory }
+{
+    line.clear();
+    join(line, values, between)?;
+    append_text(behind, line)?;
+    Ok(())
+}
+
+/// The texts of two values, one behind the other, as a text that was made, which is written once. The only fault is want of
+/// memory. (POSIX awk, Expressions in awk: string concatenation)
+pub fn concatenate(alloc: Global, left: &Value, right: &Value) -> Result<Value, Halt>
+    ensures text { IfOk result (λ value. value ≡ Value.Text (str_of left.now ++ str_of right.now)) }
+    ensures fault { IfErr result IsWantOfMemory }
+{
+    let mut left_digits = Buffer::new();
+    let mut right_digits = Buffer::new();
+    let front = text_in(left, &mut left_digits);
+    let behind = text_in(right, &mut right_digits);
+    let mut text = Vec::with_capacity(alloc, front.len().saturating_add(behind.len()))?;
+    text.extend_from_slice(front)?;
+    text.extend_from_slice(behind)?;
+    Ok(Value::Text(Bytes::from_vec(alloc, text)?))
+}
+
+// About how many bytes the texts of the values take.
+fn room_for(values: &[Value]) -> usize {
+    let mut room: usize = 0;
+    for value in values {
+        room = room.saturating_add(match value {
+            Value::Nothing => 0,
+            Value::Number(_) => NUMBER_ROOM,
+            Value::Text(text) => text.len(),
+            Value::Input(text) => text.len(),
+        });
+    }
+    room
+}
+
+/// The texts of the values, one behind the other, as a text that was made, which is written once. The only fault is want of
+/// memory. (POSIX awk, Expressions in awk: string concatenation)
+pub fn concatenate_all(alloc: Global, values: &[Value]) -> Result<Value, Halt>
+    ensures text { IfOk result (λ value. value ≡ Value.Text (concat (map str_of values.now))) }
+    ensures fault { IfErr result IsWantOfMemory }
+{
+    let mut text = Vec::with_capacity(alloc, room_for(values))?;
+    for value in values {
+        append_text(value, &mut text)?;
+    }
+    Ok(Value::Text(Bytes::from_vec(alloc, text)?))
+}

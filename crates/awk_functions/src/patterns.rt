@@ -1,0 +1,270 @@
+// The patterns of a run, each of which is read once.
+
+ghost use Rattle.std.specs.Prelude.{◌≡◌, ◌<◌, length, vec_len, false, Ok, IfOk, IfErr, OnOk};
+ghost use Rattle.awk_value.specs.Values.{str_of};
+ghost use Rattle.awk_ere.specs.Means.{pattern_of};
+ghost use Rattle.awk_text.specs.Pieces.{stretches_at, AreSpansOf};
+ghost use Rattle.awk_semantics.specs.Operators.{pattern_in};
+ghost use Rattle.awk_semantics.specs.Results.{IsWantOfMemory, Yields};
+ghost use Rattle.awk_semantics.specs.Texts.{separator_in};
+ghost use Rattle.awk_functions.specs.definitions.Matched.{matched, found, exchanged_by, split_by};
+ghost use Rattle.awk_functions.specs.definitions.Spelling.{spelling_of, separator_for};
+ghost use Rattle.awk_functions.specs.support.Compiled.{IsRefusal, MeansOf, ReadsFor};
+ghost use Rattle.awk_functions.specs.support.Kept.{KeepsNothing};
+ghost use Rattle.awk_functions.specs.support.Written.{Writes};
+
+use crate::compiled::Compiled;
+use crate::found::Exchanged;
+use crate::texts::text_in;
+use awk_ere::Pattern;
+use awk_grammar::tree::Ere;
+use awk_semantics::Halt;
+use awk_text::{FieldSeparator, Span, TextFault};
+use awk_value::{Bytes, Value};
+use itoa::Buffer;
+use lru::LruCache;
+use std::alloc::{AllocFailed, Global};
+use std::num::NonZeroUsize;
+
+/// How many patterns are kept that don't stand in the program.
+const CACHED: usize = 64;
+
+/// What spells a pattern: an ERE of the program, or a value by its text (POSIX awk, Regular Expressions).
+#[derive(Clone, Copy)]
+pub enum PatternOperand<'a> {
+    Ere(&'a Ere),
+    Value(&'a Value),
+}
+
+// Adds empty places, until there is one of this number.
+fn reserve_place<T: Drop>(
+    places: &mut Vec<Option<T>>,
+    number: usize,
+) -> Result<(), AllocFailed<Option<T>>>
+    ensures { OnOk result (number < vec_len places.new) }
+{
+    while places.len() <= number {
+        places.push(None)?;
+    }
+    Ok(())
+}
+
+/// The patterns that were read in a run.
+#[derive(Drop)]
+pub struct Patterns {
+    alloc: Global,
+    // those that stand in the program, by their numbers
+    fixed: Vec<Option<Compiled>>,
+    // the last that were used of the others, by their texts
+    cached: LruCache<Vec<u8>, Compiled>,
+    // the last separator that is no pattern
+    separator: FieldSeparator,
+    reads: u64,
+}
+
+impl Patterns {
+    /// No pattern is kept at first. The only fault is want of memory.
+    pub fn new(alloc: Global) -> Result<Patterns, Halt>
+        ensures nothing { IfOk result (λ patterns. KeepsNothing patterns CACHED) }
+        ensures fault { IfErr result IsWantOfMemory }
+    {
+        let separator = FieldSeparator::of(alloc, b" ", false)?;
+        let room = NonZeroUsize::new(CACHED).unwrap_or(NonZeroUsize::MIN);
+        Ok(Patterns {
+            alloc,
+            fixed: Vec::new(alloc),
+            cached: LruCache::new(alloc, room)?,
+            separator,
+            reads: 0,
+        })
+    }
+
+    /// How many patterns were read.
+    pub fn reads(&self) -> u64
+        ensures { result ≡ self.now.reads }
+    {
+        self.reads
+    }
+
+    // Reads the pattern that a text spells.
+    fn read(&mut self, text: Bytes) -> Result<Compiled, Halt>
+        ensures { ReadsFor text (λ (c : Compiled). c.text) result }
+    {
+        self.reads = self.reads.saturating_add(1);
+        Compiled::read(self.alloc, text)
+    }
+
+    // The pattern that stands in the program here, which is read where it is used first.
+    fn fixed_pattern(&mut self, ere: &Ere) -> Result<&mut Compiled, Halt>
+        ensures { ReadsFor ere.now.text (λ c. c.now.text) result }
+    {
+        if let Some(Some(kept)) = self.fixed.get_mut(ere.number) {
+            if kept.text.as_slice() == ere.text.as_slice() {
+                return Ok(kept);
+            }
+        }
+        let compiled = self.read(ere.text.clone()?)?;
+        reserve_place(&mut self.fixed, ere.number)?;
+        Ok(self.fixed[ere.number].insert(compiled))
+    }
+
+    // The pattern that a text spells. It is read where it isn't among those that were used last.
+    fn cached_pattern(&mut self, text: &[u8]) -> Result<&mut Compiled, Halt>
+        ensures { ReadsFor text.now (λ c. c.now.text) result }
+    {
+        if let Some(kept) = self.cached.get_mut(text) {
+            if kept.text.as_slice() == text {
+                return Ok(kept);
+            }
+        }
+        let compiled = self.read(Bytes::from_slice(self.alloc, text)?)?;
+        let key = Vec::from_slice(self.alloc, text)?;
+        self.cached.put(key, compiled)?;
+        Ok(self.cached.get_mut(text).unwrap())
+    }
+
+    /// The pattern that an operand spells.
+    pub fn pattern_for(&mut self, operand: PatternOperand) -> Result<&mut Compiled, Halt>
+        ensures { ReadsFor (spelling_of operand.entry) (λ c. c.now.text) result }
+    {
+        match operand {
+            PatternOperand::Ere(ere) => self.fixed_pattern(ere),
+            PatternOperand::Value(value) => {
+                let mut digits = Buffer::new();
+                self.cached_pattern(text_in(value, &mut digits))
+            }
+        }
+    }
+
+    /// The pattern that a text spells. One that spells none is the fault F6; the other is want of memory. (POSIX awk, Regular
+    /// Expressions)
+    pub fn pattern(&mut self, text: &[u8]) -> Result<&Pattern, Halt>
+        ensures found { IfOk result (λ pattern. ∥ MeansOf (pattern_of text.now) pattern.now ∥₁) }
+        ensures refused { IfErr result (λ halt. IsRefusal halt text.now) }
+    {
+        let compiled = self.cached_pattern(text)?;
+        Ok(compiled.pattern())
+    }
+
+    /// Whether the pattern that a text spells matches somewhere in another. The faults are those of `pattern`.
+    pub fn is_match(&mut self, pattern: &[u8], text: &[u8]) -> Result<bool, Halt>
+        ensures { Yields result (matched (pattern_in pattern.now) text.now) }
+    {
+        let compiled = self.cached_pattern(pattern)?;
+        Ok(compiled.is_match(text))
+    }
+
+    /// Whether the pattern of an operand matches somewhere in a value's text. One that spells none is the fault F6; the
+    /// other is want of memory. (POSIX awk, Regular Expressions)
+    pub fn matches(&mut self, text: &Value, operand: PatternOperand) -> Result<bool, Halt>
+        ensures { Yields result (matched (pattern_in (spelling_of operand.entry)) (str_of text.now)) }
+    {
+        let pattern = self.pattern_for(operand)?;
+        let mut digits = Buffer::new();
+        Ok(pattern.is_match(text_in(text, &mut digits)))
+    }
+
+    /// The first match of the pattern of an operand in a value's text, and of those that begin there the longest. The faults
+    /// are F1 and F6. (POSIX awk, String Functions: match)
+    pub fn find(&mut self, text: &Value, operand: PatternOperand) -> Result<Option<Span>, Halt>
+        ensures { Yields result (found (pattern_in (spelling_of operand.entry)) (str_of text.now)) }
+    {
+        let pattern = self.pattern_for(operand)?;
+        let mut digits = Buffer::new();
+        Ok(pattern.find(text_in(text, &mut digits)))
+    }
+
+    /// A value's text with its first match exchanged, or with `all` each match, and how many that are; nothing where nothing
+    /// matches. The faults are F1 and F6. (POSIX awk, String Functions: sub, gsub)
+    pub fn exchange(
+        &mut self,
+        operand: PatternOperand,
+        replacement: &Value,
+        text: &Value,
+        all: bool,
+    ) -> Result<Option<Exchanged>, Halt>
+        ensures { Yields result (exchanged_by all (pattern_in (spelling_of operand.entry))
+            (str_of replacement.now) (str_of text.now)) }
+    {
+        let alloc = self.alloc;
+        let pattern = self.pattern_for(operand)?;
+        let mut replacement_digits = Buffer::new();
+        let mut text_digits = Buffer::new();
+        let replacement = text_in(replacement, &mut replacement_digits);
+        let text = text_in(text, &mut text_digits);
+        pattern.exchange(alloc, replacement, text, all)
+    }
+
+    // What separates fields where FS is this text. It is made where it isn't the last one.
+    fn byte_separator(&mut self, text: &[u8]) -> Result<&mut FieldSeparator, TextFault>
+        requires { length text.now < 2 }
+        ensures rule { IfOk result (λ separator. separator.now ≡ record { text = text.now; newline_too = false }) }
+        ensures memory { IfErr result (λ fault. fault ≡ TextFault.Memory) }
+    {
+        if !self.separator.is_of(text, false) {
+            self.separator = FieldSeparator::of(self.alloc, text, false)?;
+        }
+        Ok(&mut self.separator)
+    }
+
+    // Fills `spans` with the pieces of the text between the places of a separator of one byte, or of none.
+    fn split_at_byte(
+        &mut self,
+        text: &[u8],
+        separator: &[u8],
+        spans: &mut Vec<Span>,
+    ) -> Result<(), TextFault>
+        requires { length separator.now < 2 }
+        ensures pieces { OnOk result (
+            split_by (separator_in separator.now) text.now ≡ Ok (stretches_at text.now spans.new.items)) }
+        ensures within { OnOk result (AreSpansOf text.now spans.new.items) }
+        ensures memory { IfErr result (λ fault. fault ≡ TextFault.Memory) }
+    {
+        let separator = self.byte_separator(separator)?;
+        separator.split_text(text, spans)
+    }
+
+    // Fills `spans` with the pieces of the text between the separators that a text stands for.
+    fn split_by_text(
+        &mut self,
+        text: &[u8],
+        separator: &[u8],
+        spans: &mut Vec<Span>,
+    ) -> Result<(), Halt>
+        ensures pieces { Writes result (stretches_at text.now spans.new.items)
+            (split_by (separator_in separator.now) text.now) }
+        ensures within { OnOk result (AreSpansOf text.now spans.new.items) }
+    {
+        if separator.len() < 2 {
+            self.split_at_byte(text, separator, spans)?;
+            return Ok(());
+        }
+        let pattern = self.cached_pattern(separator)?;
+        pattern.split(text, spans)
+    }
+
+    /// Fills `spans` with the pieces of a text, in their order: between the matches of an ERE with a byte in them, or
+    /// between what the text of a value separates as a value of FS does. What `spans` held before is gone, also on an `Err`.
+    /// The faults are F1 and F6. (POSIX awk, String Functions: split)
+    pub fn split(
+        &mut self,
+        text: &[u8],
+        separator: PatternOperand,
+        spans: &mut Vec<Span>,
+    ) -> Result<(), Halt>
+        ensures pieces { Writes result (stretches_at text.now spans.new.items)
+            (split_by (separator_for separator.entry) text.now) }
+        ensures within { OnOk result (AreSpansOf text.now spans.new.items) }
+    {
+        match separator {
+            PatternOperand::Ere(ere) => {
+                let pattern = self.fixed_pattern(ere)?;
+                pattern.split(text, spans)
+            }
+            PatternOperand::Value(value) => {
+                let mut digits = Buffer::new();
+                self.split_by_text(text, text_in(value, &mut digits), spans)
+            }
+        }
+    }
+}

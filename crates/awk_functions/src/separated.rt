@@ -1,0 +1,94 @@
+// The pieces of a text between the matches of a pattern.
+
+ghost use Rattle.std.specs.Prelude.{◌≡◌, ◌≤◌, ◌<◌, length, IfSome, IfErr, OnOk};
+ghost use Rattle.awk_ere.specs.Means.{Means};
+ghost use Rattle.awk_ere.specs.Table.{IsFor};
+ghost use Rattle.awk_ere.specs.Tree.{Tree};
+ghost use Rattle.awk_text.specs.Fields.{ere_pieces, ere_pieces_from, IsNextPiece, IsFurther};
+ghost use Rattle.awk_text.specs.Pieces.{stretches_at, AreSpansOf};
+ghost use Rattle.awk_text.specs.Separators.{IsNextSeparator};
+ghost use Rattle.awk_semantics.specs.Results.{IsWantOfMemory};
+
+use awk_ere::{Pattern, Scratch};
+use awk_semantics::Halt;
+use awk_text::{FoundField, Span};
+
+// The next match with a byte in it that begins at a place or behind it: the first one, and of those that begin there the
+// longest. Where the longest that begins at a place is empty, the search goes on behind that place.
+fn next_full(pattern: &Pattern, scratch: &mut Scratch, text: &[u8], place: usize) -> Option<Span>
+    requires same { IsFor scratch.old pattern.now }
+    requires within { place ≤ length text.now }
+    ensures lies { IfSome result (λ m. (place ≤ m.start) × (m.start < m.end) × (m.end ≤ length text.now)) }
+    ensures found { (t : Tree) → Means t pattern.now → IsNextSeparator t text.now place result }
+    ensures same { IsFor scratch.new pattern.now }
+{
+    let mut from = place;
+    while let Some((start, end)) = pattern.find_from(text, from, scratch) {
+        if start < end {
+            return Some(Span { start, end });
+        }
+        if start == text.len() {
+            return None;
+        }
+        from = start + 1;
+    }
+    None
+}
+
+// The next piece from a place on where one may begin: the front of the text, or right behind a match or the end.
+fn next_piece(
+    pattern: &Pattern,
+    scratch: &mut Scratch,
+    text: &[u8],
+    from: usize,
+) -> Option<FoundField>
+    requires { IsFor scratch.old pattern.now }
+    ensures piece { (t : Tree) → Means t pattern.now →
+        IsNextPiece (ere_pieces_from t text.now) text.now from result }
+    ensures further { IfSome result (IsFurther text.now from) }
+    ensures same { IsFor scratch.new pattern.now }
+{
+    if text.is_empty() || from > text.len() {
+        return None;
+    }
+    match next_full(pattern, scratch, text, from) {
+        Some(found) => Some(FoundField {
+            span: Span {
+                start: from,
+                end: found.start,
+            },
+            rest: found.end,
+        }),
+        None => Some(FoundField {
+            span: Span {
+                start: from,
+                end: text.len(),
+            },
+            rest: text.len() + 1,
+        }),
+    }
+}
+
+/// Fills `spans` with the pieces of the text that stand between the matches of the pattern with a byte in them, in their
+/// order. What `spans` held before is gone. The only fault is want of memory.
+pub(crate) fn split_between(
+    pattern: &Pattern,
+    scratch: &mut Scratch,
+    text: &[u8],
+    spans: &mut Vec<Span>,
+) -> Result<(), Halt>
+    requires { IsFor scratch.old pattern.now }
+    ensures pieces { (t : Tree) → Means t pattern.now →
+        OnOk result (stretches_at text.now spans.new.items ≡ ere_pieces t text.now) }
+    ensures within { OnOk result (AreSpansOf text.now spans.new.items) }
+    ensures fault { IfErr result IsWantOfMemory }
+    ensures same { IsFor scratch.new pattern.now }
+{
+    spans.clear();
+    let mut from = 0;
+    while let Some(found) = next_piece(pattern, scratch, text, from) {
+        spans.push(found.span)?;
+        from = found.rest;
+    }
+    Ok(())
+}

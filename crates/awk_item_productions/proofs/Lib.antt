@@ -1,2 +1,0 @@
-mod ItemLists
-mod OtherTokens

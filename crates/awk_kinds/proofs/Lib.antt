@@ -1,0 +1,16 @@
+pub mod FitsLaw
+pub mod LeastArrays
+pub mod Known
+pub mod Grouping
+pub mod Graphs
+pub mod Marks
+pub mod Told
+pub mod Places
+pub mod Tabled
+pub mod KindsMade
+pub mod ArrayNames
+pub mod ArraysHeld
+pub mod Searching
+pub mod Rows
+pub mod Adding
+pub mod Defined

@@ -1,0 +1,6 @@
+pub mod SpecialNames
+pub mod Placed
+pub mod Kinds
+pub mod NameUses
+pub mod Fits
+pub mod Signatures

@@ -1,0 +1,15 @@
+pub mod Place
+pub mod Hashed
+pub mod SameVariable
+pub mod Adds
+pub mod Functions
+pub mod Misuses
+pub mod Reach
+pub mod Search
+pub mod Graph
+pub mod Arrays
+pub mod Mixed
+pub mod Known
+pub mod Tables
+pub mod Marked
+pub mod KnownNames

@@ -1,0 +1,26 @@
+//! Which names of a program are arrays, and which programs fit: where statements stand, and how names are used.
+#![tactic(auto)]
+
+mod arrays;
+mod expression_uses;
+mod functions;
+mod graph;
+mod kinds;
+pub mod laws;
+mod misuses;
+mod mixed;
+mod name_table;
+mod parameters;
+mod placed;
+mod reach;
+mod refusal;
+mod scope;
+mod special_names;
+mod statement_uses;
+pub mod uses;
+pub mod variable;
+
+pub use kinds::Kinds;
+pub use laws::{law_of_array_names, law_of_kinds, law_of_refusals};
+pub use parameters::Parameters;
+pub use refusal::{first_refusal, resolve};

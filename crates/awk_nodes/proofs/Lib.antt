@@ -1,2 +1,0 @@
-pub mod LimitedNodes
-pub mod CheckedLists

@@ -1,2 +1,0 @@
-pub mod Misuse
-pub mod Place

@@ -1,0 +1,16 @@
+pub mod Faults
+pub mod Outcome
+pub mod State
+pub mod Operators
+pub mod Texts
+pub mod Primitives
+pub mod Streams
+pub mod Inputs
+pub mod Places
+pub mod BuiltIns
+pub mod Semantics
+pub mod Calls
+pub mod Items
+pub mod Meaning
+pub mod Order
+pub mod Failure

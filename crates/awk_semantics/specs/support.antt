@@ -1,0 +1,4 @@
+pub mod Results
+pub mod Keeps
+pub mod LawOfKeeping
+pub mod Exchanged

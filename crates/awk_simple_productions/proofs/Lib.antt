@@ -1,2 +1,0 @@
-pub mod AloneStatements
-pub mod OtherTokens

@@ -1,2 +1,0 @@
--- What serves the contracts.
-pub mod support

@@ -1,4 +1,0 @@
-pub mod ChosenSeparators
-pub mod KindStands
-pub mod LongestEnd
-pub mod NextPiece

@@ -1,5 +1,0 @@
-use Rattle.std.proofs.Common.{rules}
-use Rattle.awk_statement_nodes.proofs.checked.CheckedSimple.of.Goals as goal
-
-pub returns-then-height-gt-MAX_HEIGHT : goal.returns-then-height-gt-MAX_HEIGHT
-returns-then-height-gt-MAX_HEIGHT c = search rules

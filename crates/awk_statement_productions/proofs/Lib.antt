@@ -1,4 +1,0 @@
-pub mod DoBodies
-pub mod ForParts
-pub mod OtherTokens
-pub mod StatementLists

@@ -1,3 +1,0 @@
--- What serves the contracts.
-pub mod support
-pub use Rattle.awk_statement_productions.specs.support.PartFrames

@@ -1,0 +1,4 @@
+mod Filling
+mod FrameLemmas
+pub mod ItemLemmas
+mod TableLemmas

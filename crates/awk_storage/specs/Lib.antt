@@ -1,0 +1,5 @@
+-- What a reader believes: what variables, arrays and places stand for by their positions.
+pub mod definitions
+-- what serves the proofs
+pub mod support
+pub use Rattle.awk_storage.specs.definitions.Positions

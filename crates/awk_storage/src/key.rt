@@ -1,0 +1,105 @@
+// Keys of arrays: a value stands for its text. A whole number of 64 bits is looked for without writing it.
+
+ghost use Rattle.std.specs.Prelude.{◌≡◌, [], IfSome, IfOk, IfErr, OnOk, is_some, unwrap_or};
+ghost use Rattle.std.specs.Fmt.{signed_decimal};
+ghost use Rattle.awk_value.specs.Values.{str_of};
+ghost use Rattle.awk_value.specs.declared.value.Value.TheVariants.{Nothing};
+ghost use Rattle.awk_value.specs.declared.fault.ValueFault.TheVariants.{Memory};
+ghost use Rattle.awk_table.specs.Arrays.{value_at, with_pair, with_key, without};
+ghost use Rattle.awk_semantics.specs.definitions.Primitives.{elements_from};
+
+use awk_table::Table;
+use awk_value::{Bytes, Value, ValueFault};
+use itoa::Buffer;
+use std::alloc::Global;
+
+/// The 64-bit number that a key is, if it is one.
+#[inline(always)]
+fn whole_number(key: &Value) -> Option<i64>
+    ensures { IfSome result (λ number. str_of key.now ≡ signed_decimal number) }
+{
+    match key {
+        Value::Number(number) => i64::try_from(*number).ok(),
+        Value::Nothing | Value::Text(_) | Value::Input(_) => None,
+    }
+}
+
+/// The text of a key, with room for that of a number.
+fn key_text<'a>(key: &'a Value, buffer: &'a mut Buffer) -> &'a [u8]
+    ensures { result.now ≡ str_of key.now }
+{
+    match key {
+        Value::Nothing => b"",
+        Value::Number(number) => buffer.format(*number).as_bytes(),
+        Value::Text(text) | Value::Input(text) => text.as_slice(),
+    }
+}
+
+/// A copy of the value at a key, which is made where it isn't there.
+pub(crate) fn get_or_make(
+    table: &mut Table,
+    alloc: Global,
+    key: &Value,
+) -> Result<Value, ValueFault>
+    ensures value { IfOk result (λ v. v ≡ unwrap_or (value_at table.old (str_of key.now)) Nothing) }
+    ensures made { OnOk result (table.new ≡ with_key table.old (str_of key.now)) }
+    ensures fault { IfErr result (λ fault. fault ≡ Memory) }
+{
+    match whole_number(key) {
+        Some(number) => table.get_or_make_number(number),
+        None => table.get_or_make(alloc, key_text(key, &mut Buffer::new())),
+    }
+}
+
+/// Gives a key a value.
+pub(crate) fn put(
+    table: &mut Table,
+    alloc: Global,
+    key: &Value,
+    value: Value,
+) -> Result<(), ValueFault>
+    ensures put { OnOk result (table.new ≡ with_pair table.old (str_of key.now) value) }
+    ensures fault { IfErr result (λ fault. fault ≡ Memory) }
+{
+    match whole_number(key) {
+        Some(number) => table.put_number(number, value),
+        None => table.put(alloc, key_text(key, &mut Buffer::new()), value),
+    }
+}
+
+/// Whether there is a value at a key.
+pub(crate) fn has(table: &Table, key: &Value) -> bool
+    ensures { result ≡ is_some (value_at table.now (str_of key.now)) }
+{
+    match whole_number(key) {
+        Some(number) => table.has_number(number),
+        None => table.has(key_text(key, &mut Buffer::new())),
+    }
+}
+
+/// Removes a key with its value.
+pub(crate) fn remove(table: &mut Table, key: &Value)
+    ensures { table.new ≡ without table.old (str_of key.now) }
+{
+    match whole_number(key) {
+        Some(number) => table.remove_number(number),
+        None => table.remove(key_text(key, &mut Buffer::new())),
+    }
+}
+
+/// Gives texts from outside to an array that is empty, at the keys from a number on.
+pub(crate) fn fill(table: &mut Table, first: u32, texts: Vec<Bytes>) -> Result<(), ValueFault>
+    requires { table.old ≡ [] }
+    ensures filled { OnOk result (table.new ≡ elements_from first texts.items) }
+    ensures fault { IfErr result (λ fault. fault ≡ Memory) }
+{
+    let mut key = first;
+    for text in texts {
+        let Some(next) = key.checked_add(1) else {
+            return Err(ValueFault::Memory);
+        };
+        table.put_number(key as i64, Value::Input(text))?;
+        key = next;
+    }
+    Ok(())
+}

@@ -1,0 +1,11 @@
+//! What a run stores: where variables, arrays and places stand; the parameters of the active calls; the arrays by number.
+#![tactic(auto)]
+
+mod arrays;
+mod frames;
+mod key;
+mod position;
+
+pub use arrays::Arrays;
+pub use frames::Frames;
+pub use position::{Array, Place, Variable};

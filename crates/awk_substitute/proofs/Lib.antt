@@ -1,6 +1,0 @@
-pub mod ExchangedSoFar
-pub mod MatchesStay
-pub mod NextMatch
-pub mod OneReplaced
-pub mod PlainReplacement
-pub mod ReplacementInSteps

@@ -1,5 +1,0 @@
-use Rattle.awk_substitute.proofs.PlainReplacement.{plain_where_missing}
-use Rattle.awk_substitute.proofs.replacement.is_plain.Goals as goal
-
-pub returns : goal.returns
-returns c = plain_where_missing c.args.replacement.now c.memchr2.result c.is_none.result c.memchr2.ensures c.is_none.ensures

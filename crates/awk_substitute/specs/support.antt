@@ -1,3 +1,0 @@
--- What serves the proofs.
-pub mod Escapes
-pub mod Search

@@ -1,0 +1,60 @@
+use Rattle.std.proofs.Common.{◌++◌, sym, ap, ◌∙◌, subst, arith}
+use Rattle.awk_text.specs.definitions.Replaced.{Replaced}
+use Rattle.awk_text.proofs.NextMatch.{first_longest, next_longest}
+use Rattle.awk_text.proofs.ExchangedSoFar.{added, exchanged_first, exchanged_more, exchanged_end, first_exchanged}
+use Rattle.awk_text.proofs.replacing.substitute_into.Goals as goal
+
+pub returns-then-not-all-clause-replaced : goal.returns-then-not-all-clause-replaced
+returns-then-not-all-clause-replaced c = λ t means.
+    let r = c.args.replacement.now in
+    let s = c.args.text.now in
+    let first = c.in-Some.first in
+    let written = c.in_ok-add_replaced.ensures.added ∙ ap (λ o. o ++ added r s 0 first) c.clear.ensures.items in (
+      omega arith,
+      subst (λ all. Replaced t r s all 1 c.extend_from_slice.new.self.items) (sym c.if-not-all.true)
+          (first_exchanged t r s c.add_replaced.new.out.items c.extend_from_slice.new.self.items first (c.in-Some.ensures.found t means) written c.in_ok-extend_from_slice.ensures.items),
+    )
+
+pub loop-next-init : goal.loop-next-init
+loop-next-init c =
+    let r = c.args.replacement.now in
+    let s = c.args.text.now in
+    let first = c.in-Some.first in
+    let written = c.in_ok-add_replaced.ensures.added ∙ ap (λ o. o ++ added r s 0 first) c.clear.ensures.items in
+    record {
+      inside = c.in-Some.ensures.within.1;
+      longest = λ t means. first_longest t c.args.text.now first (c.in-Some.ensures.found t means);
+      some = omega arith;
+      few = omega arith;
+      same = c.in-Some.ensures.same;
+      exchanged = λ t means. exchanged_first t r s c.add_replaced.new.out.items first (c.in-Some.ensures.found t means) written;
+    }
+
+pub loop-next-preserved : goal.loop-next-preserved
+loop-next-preserved c =
+    let r = c.args.replacement.now in
+    let s = c.args.text.now in
+    let loop = c.loop-next in
+    let next = c.in-Some-next_match.next in
+    let past = c.in-Some-next_match.ensures.past in
+    let few = loop.invariant.few in
+    record {
+      inside = c.in-Some-next_match.ensures.lies.within;
+      longest = λ t means. next_longest t s loop.last.end next past (c.in-Some-next_match.ensures.found t means);
+      some = omega arith;
+      few = omega arith;
+      same = c.in-Some-next_match.ensures.same;
+      exchanged = λ t means. exchanged_more t r s loop.out.items c.add_replaced-in-Some-next_match.new.out.items loop.count loop.last.end next
+          (c.in-Some-next_match.ensures.found t means) c.in_ok-add_replaced-2.ensures.added (loop.invariant.exchanged t means);
+    }
+
+pub returns-clause-replaced : goal.returns-clause-replaced
+returns-clause-replaced c = λ t means.
+    let r = c.args.replacement.now in
+    let s = c.args.text.now in
+    let loop = c.loop-next in (
+      loop.invariant.some,
+      subst (λ all. Replaced t r s all loop.count c.extend_from_slice-2.new.self.items) (sym c.if-not-all.false)
+          (exchanged_end t r s loop.out.items c.extend_from_slice-2.new.self.items loop.count loop.last.end
+          (c.in_default-next_match.ensures.found t means) c.in_ok-extend_from_slice-2.ensures.items (loop.invariant.exchanged t means)),
+    )

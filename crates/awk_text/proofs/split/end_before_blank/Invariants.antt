@@ -1,6 +1,0 @@
-use Rattle.std.proofs.Common.{◌≡◌, ◌<◌, ◌≤◌, ℕ, false, get_or}
-use Rattle.awk_text.specs.Pieces.{is_blank_or_newline}
-use Rattle.awk_text.proofs.split.end_before_blank.Given as goal
-
-abbrev pub invariant-loop-i : goal.invariant-loop-i
-invariant-loop-i l = (k : ℕ) → l.from ≤ k → k < l.i → is_blank_or_newline (get_or l.text k 0) ≡ false

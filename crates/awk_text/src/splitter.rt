@@ -1,0 +1,171 @@
+// A separator that is ready to split texts, and the next field by it.
+ghost use Rattle.std.specs.Prelude.{◌≡◌, ◌≤◌, length, IfSome, IfOk, IfErr, OnOk};
+ghost use Rattle.memchr.specs.Find.{IsFirstByte};
+ghost use Rattle.awk_text.specs.support.Stretch.{IsStretchEnd};
+ghost use Rattle.awk_ere_syntax.specs.definitions.Tree.{Tree};
+ghost use Rattle.awk_ere.specs.definitions.Means.{Means};
+ghost use Rattle.awk_text.specs.definitions.Pieces.{stretches_at, AreSpansOf};
+ghost use Rattle.awk_text.specs.definitions.Separators.{Separator as SeparatorSpec, IsSeparator};
+ghost use Rattle.awk_text.specs.definitions.Separators.{byte as at_byte, each};
+ghost use Rattle.awk_text.specs.definitions.Fields.{separates, is_field as field_test, pieces_of, pieces_from};
+ghost use Rattle.awk_text.specs.definitions.Fields.{ere_pieces_from, IsNextPiece, IsFurther};
+
+use crate::blanks::next_between_blanks;
+use crate::matcher::Matcher;
+use crate::{FoundField, Separator, Span, TextFault};
+use memchr::{memchr, memchr2};
+use std::alloc::Global;
+
+// The first place where a byte stands, or a newline too.
+fn first_separator(text: &[u8], byte: u8, newline_too: bool) -> Option<usize>
+    ensures { IsFirstByte (separates byte newline_too) text.now result }
+{
+    if newline_too {
+        memchr2(byte, b'\n', text)
+    } else {
+        memchr(byte, text)
+    }
+}
+
+// The first such place from here on, or the end.
+fn end_before_separator(text: &[u8], byte: u8, newline_too: bool, from: usize) -> usize
+    requires { from ≤ length text.now }
+    ensures { IsStretchEnd (separates byte newline_too) text.now from result }
+{
+    match first_separator(&text[from..], byte, newline_too) {
+        Some(len) => from + len,
+        None => text.len(),
+    }
+}
+
+fn next_at_byte(text: &[u8], byte: u8, newline_too: bool, from: usize) -> Option<FoundField>
+    ensures piece { IsNextPiece (pieces_from (at_byte byte) newline_too text.now) text.now from result }
+    ensures further { IfSome result (IsFurther text.now from) }
+{
+    if text.is_empty() || from > text.len() {
+        return None;
+    }
+    let end = end_before_separator(text, byte, newline_too, from);
+    Some(FoundField {
+        span: Span { start: from, end },
+        rest: end + 1,
+    })
+}
+
+// Whether a byte is a field where each one is, but newlines where they separate.
+fn is_field(byte: u8, newline_too: bool) -> bool
+    ensures { result ≡ field_test newline_too byte }
+{
+    !newline_too || byte != b'\n'
+}
+
+fn next_each(text: &[u8], newline_too: bool, from: usize) -> Option<FoundField>
+    ensures piece { IsNextPiece (pieces_from each newline_too text.now) text.now from result }
+    ensures further { IfSome result (IsFurther text.now from) }
+{
+    for start in from..text.len() {
+        if is_field(text[start], newline_too) {
+            let end = start + 1;
+            return Some(FoundField {
+                span: Span { start, end },
+                rest: end,
+            });
+        }
+    }
+    None
+}
+
+// The next field between the matches of a pattern.
+fn next_between_matches(matcher: &mut Matcher, text: &[u8], from: usize) -> Option<FoundField>
+    ensures piece { (t : Tree) → Means t matcher.old.pattern →
+        IsNextPiece (ere_pieces_from t text.now) text.now from result }
+    ensures further { IfSome result (IsFurther text.now from) }
+    ensures same { matcher.new.pattern ≡ matcher.old.pattern }
+{
+    if text.is_empty() || from > text.len() {
+        return None;
+    }
+    match matcher.next(text, from) {
+        Some(found) => Some(FoundField {
+            span: Span {
+                start: from,
+                end: found.start,
+            },
+            rest: found.end,
+        }),
+        None => Some(FoundField {
+            span: Span {
+                start: from,
+                end: text.len(),
+            },
+            rest: text.len() + 1,
+        }),
+    }
+}
+
+/// A separator, made ready to split texts.
+#[derive(Drop)]
+pub enum Splitter {
+    /// Runs of spaces, tabs and newlines.
+    Blanks,
+    /// Each place of this byte.
+    Byte(u8),
+    /// Nothing: each byte is a field.
+    Each,
+    /// The matches of a pattern that has a newline as one more branch where newlines separate too.
+    Ere(Matcher),
+}
+
+impl Splitter {
+    ghost use Rattle.awk_text.specs.support.Splitters.{Stands};
+
+    /// The separator, with newlines that separate too or without. The only error is `Memory`.
+    pub fn of(alloc: Global, separator: Separator, newline_too: bool) -> Result<Splitter, TextFault>
+        ensures stands { (s : SeparatorSpec) → IsSeparator s separator → IfOk result (Stands s newline_too) }
+        ensures memory { IfErr result (λ e. e ≡ TextFault.Memory) }
+    {
+        match separator {
+            Separator::Blanks => Ok(Splitter::Blanks),
+            Separator::Byte(byte) => Ok(Splitter::Byte(byte)),
+            Separator::Each => Ok(Splitter::Each),
+            Separator::Ere(pattern) => Ok(Splitter::Ere(Matcher::of(alloc, pattern, newline_too)?)),
+        }
+    }
+
+    /// The next field from a place on.
+    pub fn next_field(&mut self, text: &[u8], newline_too: bool, from: usize) -> Option<FoundField>
+        ensures piece { (s : SeparatorSpec) → Stands s newline_too self.old →
+            IsNextPiece (pieces_from s newline_too text.now) text.now from result }
+        ensures further { IfSome result (IsFurther text.now from) }
+        ensures same { (s : SeparatorSpec) → Stands s newline_too self.old → Stands s newline_too self.new }
+    {
+        match self {
+            Splitter::Blanks => next_between_blanks(text, from),
+            Splitter::Byte(byte) => next_at_byte(text, *byte, newline_too, from),
+            Splitter::Each => next_each(text, newline_too, from),
+            Splitter::Ere(matcher) => next_between_matches(matcher, text, from),
+        }
+    }
+
+    /// Fills `spans` with the fields of the text. The only error is `Memory`.
+    pub fn split_text(
+        &mut self,
+        text: &[u8],
+        newline_too: bool,
+        spans: &mut Vec<Span>,
+    ) -> Result<(), TextFault>
+        ensures pieces { (s : SeparatorSpec) → Stands s newline_too self.old →
+            OnOk result (stretches_at text.now spans.new.items ≡ pieces_of s newline_too text.now) }
+        ensures within { OnOk result (AreSpansOf text.now spans.new.items) }
+        ensures memory { IfErr result (λ e. e ≡ TextFault.Memory) }
+        ensures same { (s : SeparatorSpec) → Stands s newline_too self.old → Stands s newline_too self.new }
+    {
+        spans.clear();
+        let mut from = 0;
+        while let Some(found) = self.next_field(text, newline_too, from) {
+            spans.push(found.span)?;
+            from = found.rest;
+        }
+        Ok(())
+    }
+}
