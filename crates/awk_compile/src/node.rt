@@ -1,6 +1,6 @@
 // Nodes: what a program is lowered to. Each names what follows it, which stands before it in the list.
 
-use awk_grammar::tree::{BinaryOperator, PrintForm, UnaryOperator};
+use awk_grammar::tree::{BinaryOperator, PrintForm, Redirection, UnaryOperator};
 use awk_lex::token::{AssignmentOperator, BuiltIn, IncrementOperator, Operator};
 use awk_semantics::Halt;
 use awk_storage::{Array, Place, Variable};
@@ -19,6 +19,14 @@ pub enum SplitBy {
     FieldSeparator,
     Value,
     Ere(u32),
+}
+
+/// Where `getline` reads from. The name of a file is the topmost value; a command lies below the operand of the place.
+#[derive(Clone, Copy)]
+pub enum Source {
+    Main,
+    File,
+    Command,
 }
 
 /// What takes values off the stack and puts one on it. The operand that was evaluated last is the topmost.
@@ -51,6 +59,10 @@ pub enum ValueNode {
     Split(Array, SplitBy),
     /// `gsub`, or else `sub`; by an ERE or a text on the stack; in a place or in the record.
     Substitute(bool, Option<u32>, Option<Place>),
+    /// `getline`, to a place or to the record.
+    Getline(Source, Option<Place>),
+    Close,
+    System,
     /// A call of a function of the program, by its number.
     Call(u32, Vec<ArgumentForm>),
 }
@@ -61,8 +73,8 @@ pub enum EffectNode {
     Spend,
     Drop(u32),
     Delete(Array),
-    /// A print of so many values to standard output.
-    Print(PrintForm, u32),
+    /// A print of so many values, to standard output or to a target whose name is the topmost value.
+    Print(PrintForm, u32, Option<Redirection>),
     SetStatus,
 }
 

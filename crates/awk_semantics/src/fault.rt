@@ -7,7 +7,7 @@ ghost use Rattle.awk_semantics.specs.definitions.Outcome.{fault_text};
 use awk_ere::PatternFault;
 use awk_fields::RecordFault;
 use awk_format::FormatFault;
-use awk_streams::StreamFault;
+use awk_channels::StreamFault;
 use awk_text::TextFault;
 use awk_value::ValueFault;
 use awk_variables::VariableFault;
@@ -130,6 +130,8 @@ impl From<StreamFault> for Fault {
             StreamFault::Memory => Fault::OutOfMemory,
             StreamFault::WriteFailed => Fault::WriteFailed,
             StreamFault::InputNotReadable => Fault::InputNotReadable,
+            StreamFault::OutputNotOpened => Fault::OutputNotOpened,
+            StreamFault::TooManyStreams => Fault::TooManyStreams,
             StreamFault::SeparatorTooLong => Fault::RecordSeparatorTooLong,
             StreamFault::RecordTooLong => Fault::RecordTooLong,
         }

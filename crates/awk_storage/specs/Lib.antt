@@ -3,3 +3,4 @@ pub mod definitions
 -- what serves the proofs
 pub mod support
 pub use Rattle.awk_storage.specs.definitions.Positions
+pub use Rattle.awk_storage.specs.definitions.Forms

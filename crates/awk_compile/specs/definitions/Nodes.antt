@@ -1,5 +1,5 @@
 -- What nodes mean: what is still to be done from a place, with the values that are awaited, the newest first.
-use Rattle.std.specs.Prelude.{◌≡◌, ℕ, zero, suc, ◌+◌, ◌-◌, ◌<◌, pos, Bool, false, List, [], ◌∷◌, ◌++◌, length, map, reverse, take, drop, slice_get, get_or, unwrap_or, Option, Some, None, Result, Ok, Err}
+use Rattle.std.specs.Prelude.{◌≡◌, ℕ, zero, suc, ◌+◌, ◌-◌, ◌<◌, pos, Bool, List, [], ◌∷◌, ◌++◌, length, map, reverse, take, drop, slice_get, get_or, unwrap_or, Option, Some, None, Result, Ok, Err}
 use Rattle.std.specs.Option.{option_map}
 use Rattle.awk_value.specs.declared.value.Value.{Value}
 use Rattle.awk_value.specs.declared.value.Value.TheVariants as value
@@ -7,8 +7,8 @@ use Rattle.awk_value.specs.Values.{str_of, truth_of}
 use Rattle.awk_lex.specs.declared.token.Operator.TheVariants.{Matches}
 use Rattle.awk_grammar.specs.declared.tree.BinaryOperator.{BinaryOperator}
 use Rattle.awk_grammar.specs.declared.tree.BinaryOperator.TheVariants.{Concatenate, Infix}
-use Rattle.awk_text.specs.definitions.Separators.{Separator}
-use Rattle.awk_text.specs.definitions.Fields.{pieces_of}
+use Rattle.awk_grammar.specs.declared.tree.Redirection.{Redirection}
+use Rattle.awk_world.specs.declared.world.InputKind.TheVariants as input
 use Rattle.awk_kinds.specs.definitions.Kinds.{FormalParameter}
 use Rattle.awk_semantics.specs.declared.halt.Halt.{Halt}
 use Rattle.awk_semantics.specs.declared.halt.Halt.TheVariants as halt
@@ -16,14 +16,18 @@ use Rattle.awk_semantics.specs.declared.local.Local.{Local}
 use Rattle.awk_semantics.specs.declared.local.Local.TheVariants as local
 use Rattle.awk_semantics.specs.definitions.State.{State, Run, ◌>>=◌, lift, ret, gives}
 use Rattle.awk_semantics.specs.definitions.Operators.{truth_value, changed, applied, by_one, one, operator_of, pattern_in}
-use Rattle.awk_semantics.specs.definitions.Texts.{find_from, exchanged, separator_in, ere_separator}
-use Rattle.awk_semantics.specs.definitions.Primitives.{spend, number_of, record_text, read_field, has_element_at, delete_element_at, keys_at, fill_array_at, field_separator, joined_key, check_height, set_status}
-use Rattle.awk_semantics.specs.definitions.BuiltIns.{applied_all, record_length, note_match, count_value}
+use Rattle.awk_semantics.specs.definitions.Texts.{separator_in, ere_separator}
+use Rattle.awk_semantics.specs.definitions.Primitives.{spend, number_of, record_text, read_field, field_separator, joined_key, check_height, set_status}
+use Rattle.awk_semantics.specs.definitions.BuiltIns.{applied_all, record_length}
+use Rattle.awk_semantics.specs.definitions.Streams.{open_target, close_named, run_command}
 use Rattle.awk_semantics.specs.definitions.Semantics.{Functions, choose, print_by}
 use Rattle.awk_storage.specs.declared.position.Array.{Array}
 use Rattle.awk_storage.specs.declared.position.Place.{Place}
 use Rattle.awk_storage.specs.declared.position.Place.TheVariants as place
 use Rattle.awk_storage.specs.definitions.Positions.{number_at, read_element_of, read_variable, put_variable, read_at, store_at, assign_by_at, post_increment_at}
+use Rattle.awk_storage.specs.definitions.Forms.{contains_at, delete_at, keys_of_array, match_in, split_with, substitute_at, main_getline_at, named_getline_at}
+use Rattle.awk_compile.specs.declared.node.Source.{Source}
+use Rattle.awk_compile.specs.declared.node.Source.TheVariants as source
 use Rattle.awk_compile.specs.declared.node.ArgumentForm.{ArgumentForm}
 use Rattle.awk_compile.specs.declared.node.ArgumentForm.TheVariants as form
 use Rattle.awk_compile.specs.declared.node.SplitBy.{SplitBy}
@@ -78,6 +82,10 @@ operands (place.Variable x) = 0
 operands (place.Element a) = 1
 operands place.Field = 1
 
+abbrev pub place_operands : Option Place → ℕ
+place_operands None = 0
+place_operands (Some p) = operands p
+
 abbrev pub operated : BinaryOperator → Value → Value → Result Value Halt
 operated Concatenate x y = Ok (value.Text (str_of x ++ str_of y))
 operated (Infix o) x y = applied o x y
@@ -108,47 +116,22 @@ given_by fs vs s = gives (locals_by fs vs s) s
 abbrev pub call_at : Functions → (name : List ℕ) → List ArgumentForm → List Value → Run Value
 call_at functions f fs vs = given_by fs vs >>= λ given. check_height (functions.height f) >>= λ _. spend >>= λ _. functions.call f given
 
--- built-in functions that reach into the state
-
-abbrev pub contains_at : Array → (key : List ℕ) → Run Bool
-contains_at a key s = has_element_at (number_at a s) key s
-
-abbrev pub delete_at : Array → (key : List ℕ) → Run (Unit {0})
-delete_at a key s = delete_element_at (number_at a s) key s
-
-abbrev pub keys_of_array : Array → Run (List (List ℕ))
-keys_of_array a s = keys_at (number_at a s) s
-
-abbrev pub fill_at : Array → List (List ℕ) → Run (Unit {0})
-fill_at a texts s = fill_array_at (number_at a s) texts s
-
-abbrev pub match_in : (pattern text : List ℕ) → Run Value
-match_in pattern text = lift (pattern_in pattern) >>= λ t. note_match (find_from t text 0)
-
-abbrev pub split_at : Array → List (List ℕ) → Run Value
-split_at a pieces = fill_at a pieces >>= λ _. count_value (length pieces)
-
-abbrev pub split_with : Array → (text : List ℕ) → Run Separator → Run Value
-split_with a text m = m >>= λ separator. split_at a (pieces_of separator false text)
-
 module _ (tables : Tables) where
-  -- the text is assigned if a match was exchanged; the answer is how many were
-  abbrev pub assign_exchange_at : Place → (operand : Value) → (count : ℕ) → (text : List ℕ) → Run Value
-  assign_exchange_at p operand zero text = count_value 0
-  assign_exchange_at p operand (suc n) text = store_at tables.names p operand (value.Text text) >>= λ _. count_value (suc n)
-
-  abbrev pub substitute_at : (all : Bool) → (pattern replacement : List ℕ) → Place → (operand old : Value) → Run Value
-  substitute_at all pattern replacement p operand old = lift (pattern_in pattern) >>= λ t. assign_exchange_at p operand (exchanged all t replacement (str_of old)).count (exchanged all t replacement (str_of old)).text
-
   -- by an ERE of the program, or by the value behind the replacement; the replacement is the topmost
   abbrev pub substitute_by : (all : Bool) → Option ℕ → Place → (operand old : Value) → List Value → Run Value
-  substitute_by all (Some i) p operand old vs = substitute_at all (ere_at tables i) (str_of (first vs)) p operand old
-  substitute_by all None p operand old vs = substitute_at all (str_of (second vs)) (str_of (first vs)) p operand old
+  substitute_by all (Some i) p operand old vs = substitute_at tables.names all (ere_at tables i) (str_of (first vs)) p operand old
+  substitute_by all None p operand old vs = substitute_at tables.names all (str_of (second vs)) (str_of (first vs)) p operand old
 
   -- in a place, whose old value is the topmost and whose operand lies below it, or in the record
   abbrev pub substitute : (all : Bool) → Option ℕ → Option Place → List Value → Run Value
   substitute all pattern None vs = record_text >>= λ old. substitute_by all pattern place.Field (value.Number (pos 0)) old vs
   substitute all pattern (Some p) vs = substitute_by all pattern p (second vs) (first vs) (drop (suc (operands p)) vs)
+
+  -- `getline`: the name of a file lies above the operand of the place, and a command below it
+  abbrev pub getline_by : Source → Option Place → List Value → Run Value
+  getline_by source.Main p vs = main_getline_at tables.names p (first vs)
+  getline_by source.File p vs = named_getline_at tables.names input.File (str_of (first vs)) p (second vs)
+  getline_by source.Command p vs = named_getline_at tables.names input.Command (str_of (get_or vs (place_operands p) value.Nothing)) p (first vs)
 
   -- the value of a node
   abbrev pub value_of : Functions → ValueNode → List Value → Run Value
@@ -175,6 +158,9 @@ module _ (tables : Tables) where
   value_of functions (v.Split a by.Value) vs = split_with a (str_of (second vs)) (lift (separator_in (str_of (first vs))))
   value_of functions (v.Split a (by.Ere i)) vs = split_with a (str_of (first vs)) (lift (ere_separator (pattern_in (ere_at tables i))))
   value_of functions (v.Substitute all pattern p) vs = substitute all pattern p vs
+  value_of functions (v.Getline x p) vs = getline_by x p vs
+  value_of functions v.Close vs = close_named (str_of (first vs)) >>= λ k. ret (value.Number k)
+  value_of functions v.System vs = run_command (str_of (first vs)) >>= λ k. ret (value.Number k)
   value_of functions (v.Call f fs) vs = call_at functions (function_at tables f) fs.items (taken (values_among fs.items) vs)
 
 -- how many values a substitution takes
@@ -185,6 +171,10 @@ pattern_operands None = 1
 abbrev pub target_operands : Option Place → ℕ
 target_operands None = 0
 target_operands (Some p) = suc (operands p)
+
+abbrev pub source_operands : Source → ℕ
+source_operands source.Main = 0
+source_operands x = 1
 
 abbrev pub split_operands : SplitBy → ℕ
 split_operands by.Value = 1
@@ -212,21 +202,33 @@ popped (v.Apply f k) = k
 popped (v.Match pattern) = suc (pattern_operands pattern)
 popped (v.Split a b) = suc (split_operands b)
 popped (v.Substitute all pattern p) = target_operands p + suc (pattern_operands pattern)
+popped (v.Getline x p) = source_operands x + place_operands p
+popped v.Close = 1
+popped v.System = 1
 popped (v.Call f fs) = values_among fs.items
+
+-- the opening that a print prints to; the name of a redirection's target is the topmost value
+abbrev pub target_by : Option Redirection → List Value → Run ℕ
+target_by None vs = ret 0
+target_by (Some way) vs = open_target way (str_of (first vs))
+
+abbrev pub way_operands : Option Redirection → ℕ
+way_operands None = 0
+way_operands (Some way) = 1
 
 -- what a node does that gives no value
 abbrev pub effect_of : Functions → EffectNode → List Value → Run (Unit {0})
 effect_of functions e.Spend vs = spend
 effect_of functions (e.Drop k) vs = ret tt
 effect_of functions (e.Delete a) vs = delete_at a (str_of (first vs))
-effect_of functions (e.Print f k) vs = print_by functions f 0 (taken k vs)
+effect_of functions (e.Print f k way) vs = target_by way vs >>= λ n. print_by functions f n (taken k (drop (way_operands way) vs))
 effect_of functions e.SetStatus vs = set_status (first vs)
 
 abbrev pub dropped : EffectNode → ℕ
 dropped e.Spend = 0
 dropped (e.Drop k) = k
 dropped (e.Delete a) = 1
-dropped (e.Print f k) = k
+dropped (e.Print f k way) = way_operands way + k
 dropped e.SetStatus = 1
 
 -- walks: the count of the keys that are left is the topmost value, and the keys lie below it, the next one first

@@ -10,8 +10,8 @@ use Rattle.awk_format.specs.declared.fault.FormatFault.{FormatFault}
 use Rattle.awk_format.specs.declared.fault.FormatFault.TheVariants as format
 use Rattle.awk_text.specs.declared.fault.TextFault.{TextFault}
 use Rattle.awk_text.specs.declared.fault.TextFault.TheVariants as texts
-use Rattle.awk_streams.specs.declared.fault.StreamFault.{StreamFault}
-use Rattle.awk_streams.specs.declared.fault.StreamFault.TheVariants as streams
+use Rattle.awk_channels.specs.declared.fault.StreamFault.{StreamFault}
+use Rattle.awk_channels.specs.declared.fault.StreamFault.TheVariants as streams
 use Rattle.awk_variables.specs.declared.fault.VariableFault.{VariableFault}
 use Rattle.awk_variables.specs.declared.fault.VariableFault.TheVariants as variables
 use Rattle.awk_semantics.specs.declared.fault.Fault.{Fault}
@@ -34,6 +34,8 @@ abbrev pub stream_fault : StreamFault → Fault
 stream_fault streams.Memory = fault.OutOfMemory
 stream_fault streams.WriteFailed = fault.WriteFailed
 stream_fault streams.InputNotReadable = fault.InputNotReadable
+stream_fault streams.OutputNotOpened = fault.OutputNotOpened
+stream_fault streams.TooManyStreams = fault.TooManyStreams
 stream_fault streams.SeparatorTooLong = fault.RecordSeparatorTooLong
 stream_fault streams.RecordTooLong = fault.RecordTooLong
 

@@ -2,8 +2,9 @@
 use Rattle.std.specs.Prelude.{◌≡◌, ◌≢◌, ℕ, zero, ◌+◌, suc, true, false, List, [], ◌∷◌, ◌++◌, length, codes, bytes_eq, None, Result, Ok, Err, if◌then◌else◌}
 use Rattle.awk_value.specs.declared.value.Value.TheVariants as value
 use Rattle.awk_table.specs.Arrays.{Array, with_pair}
-use Rattle.awk_streams.specs.Oracle.{Oracle}
-use Rattle.awk_streams.specs.Openings.{StandardOutput, StandardError, Named as NamedOutput, Opening, Begins}
+use Rattle.awk_channels.specs.Oracle.{Oracle}
+pub use Rattle.awk_channels.specs.Named.{with_bytes}
+use Rattle.awk_channels.specs.Openings.{StandardOutput, StandardError, Named as NamedOutput, Opening, Begins}
 use Rattle.awk_grammar.specs.Tree.{Item}
 use Rattle.awk_semantics.specs.declared.outcome.Outcome.{Outcome}
 use Rattle.awk_semantics.specs.declared.outcome.Outcome.TheVariants.{Ended, Fault, Stopped}
@@ -98,12 +99,6 @@ outcome_of (Err (halt.Fault f)) status = Fault f
 outcome_of (Err halt.OutOfSteps) status = Stopped
 
 -- The openings of outputs, in their order, with what was printed to each.
-
--- the opening of this number gets more bytes
-abbrev pub with_bytes : ℕ → List ℕ → List Opening → List Opening
-with_bytes n bytes [] = []
-with_bytes zero bytes (o ∷ os) = record { output = o.output; bytes = o.bytes ++ bytes } ∷ os
-with_bytes (suc n) bytes (o ∷ os) = o ∷ with_bytes n bytes os
 
 -- an output that is opened is the next opening
 abbrev pub outputs_asked : Request → List Opening → List Opening

@@ -6,12 +6,13 @@ use Rattle.awk_world.specs.declared.world.InputKind.{InputKind}
 use Rattle.awk_world.specs.declared.world.InputKind.TheVariants as input
 use Rattle.awk_world.specs.declared.world.OutputKind.{OutputKind}
 use Rattle.awk_world.specs.declared.world.OutputKind.TheVariants as output
-use Rattle.awk_streams.specs.Log.{Event, OpenedInput, OpenedOutput, Wrote, Flushed, Closed, Ran}
-use Rattle.awk_streams.specs.Oracle.{Oracle, Source}
-use Rattle.awk_streams.specs.Orderly.{IsReadable}
-use Rattle.awk_streams.specs.Writes.{with_events, GoesOn}
-use Rattle.awk_streams.specs.Openings.{Opening, AreBrought}
-use Rattle.awk_streams.specs.Inputs.{NeededReads, Rest}
+use Rattle.awk_channels.specs.Log.{Event, OpenedInput, OpenedOutput, Wrote, Flushed, Closed, Ran}
+use Rattle.awk_channels.specs.Oracle.{Oracle, Source}
+use Rattle.awk_channels.specs.Orderly.{IsReadable}
+use Rattle.awk_channels.specs.Writes.{with_events, GoesOn}
+use Rattle.awk_channels.specs.Openings.{Opening, AreBrought}
+use Rattle.awk_channels.specs.Inputs.{NeededReads, Rest}
+pub use Rattle.awk_channels.specs.Named.{number_among, without_number}
 use Rattle.awk_semantics.specs.definitions.State.{Named, Input, Output, Request, OpensMain, OpensInput, OpensOutput, RecordOfMain, RecordOf, Closes, Runs, Ends}
 use Rattle.awk_semantics.specs.definitions.Streams.{same_named}
 use Rattle.awk_semantics.specs.definitions.Meaning.{Asked, Meaning}
@@ -21,14 +22,6 @@ pub record Stage : Type 0 where
   pub log : List Event
   pub main : Option ℕ
   pub streams : List (Named × ℕ)
-
--- the number of a named stream
-abbrev pub number_among : List (Named × ℕ) → Named → Option ℕ
-number_among [] x = None
-number_among (y ∷ ys) x = if same_named x y.0 then Some y.1 else number_among ys x
-
-abbrev pub without_number : Named → List (Named × ℕ) → List (Named × ℕ)
-without_number x ys = filter (λ (y : Named × ℕ). not (same_named x y.0)) ys
 
 -- a stream that was opened, if it was granted
 abbrev pub with_number : Named → Option ℕ → List (Named × ℕ) → List (Named × ℕ)

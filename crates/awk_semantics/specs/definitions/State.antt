@@ -6,14 +6,10 @@ use Rattle.awk_fields.specs.Record.{RecordPair}
 use Rattle.awk_world.specs.declared.world.InputKind.{InputKind}
 use Rattle.awk_world.specs.declared.world.OutputKind.{OutputKind}
 use Rattle.awk_world.specs.declared.world.Mode.{Mode}
-use Rattle.awk_streams.specs.Oracle.{Source, Oracle}
+use Rattle.awk_channels.specs.Oracle.{Source, Oracle}
+pub use Rattle.awk_channels.specs.Named.{Named, Input, Output, Stream, AnInput, AnOutput}
 use Rattle.awk_semantics.specs.declared.halt.Halt.{Halt}
 use Rattle.awk_semantics.specs.declared.local.Local.{Local}
-
--- a named stream: what kind of input or output it is, and its name
-pub data Named : Type 0 where
-  Input : (kind : InputKind) (name : List ℕ) → Named
-  Output : (kind : OutputKind) (name : List ℕ) → Named
 
 -- what a run asks of the outside
 pub data Request : Type 0 where
@@ -38,13 +34,6 @@ pub data Effect : Type 0 where
   -- standard error are 0 and 1
   Printed : (opening : ℕ) (bytes : List ℕ) → Effect
   Requested : (what : Request) → Effect
-
--- a named stream that is open
-pub data Stream : Type 0 where
-  -- an input, and what is left of it
-  AnInput : (kind : InputKind) (name : List ℕ) (rest : Source) → Stream
-  -- an output, and which of the openings of outputs it is
-  AnOutput : (kind : OutputKind) (name : List ℕ) (opening : ℕ) → Stream
 
 -- a call that is active
 pub record Frame : Type 0 where

@@ -9,7 +9,8 @@ use Rattle.awk_world.specs.declared.world.OutputKind.{OutputKind}
 use Rattle.awk_world.specs.declared.world.OutputKind.TheVariants as output
 use Rattle.awk_world.specs.declared.world.Mode.{Mode}
 use Rattle.awk_world.specs.declared.world.Mode.TheVariants as mode
-use Rattle.awk_streams.specs.Oracle.{Source, same_input_kind, same_output_kind, one_if}
+use Rattle.awk_channels.specs.Oracle.{Source, same_input_kind, same_output_kind, one_if}
+pub use Rattle.awk_channels.specs.Named.{same_named, named_of, is_command, rest_in, with_rest_of, opening_in, is_other, has_the_name}
 use Rattle.awk_grammar.specs.declared.tree.Redirection.{Redirection}
 use Rattle.awk_grammar.specs.declared.tree.Redirection.TheVariants as to
 use Rattle.awk_variables.specs.declared.special.Special.TheVariants.{Filename, Fnr, Rs}
@@ -81,15 +82,6 @@ close_main s = gives tt (record s { main = None })
 
 -- named streams
 
-abbrev pub same_named : Named → Named → Bool
-same_named (Input j m) (Input k n) = same_input_kind j k && bytes_eq m n
-same_named (Output j m) (Output k n) = same_output_kind j k && bytes_eq m n
-same_named x y = false
-
-abbrev pub named_of : Stream → Named
-named_of (AnInput kind name rest) = Input kind name
-named_of (AnOutput kind name opening) = Output kind name
-
 -- no more may be open
 abbrev pub most_streams : ℕ
 most_streams = 200
@@ -105,18 +97,6 @@ pub data Answer : Type 0 where
   NoRecord : Answer
   -- it is refused, or broken
   NotReadable : Answer
-
--- what is left of the input, if it is open
-abbrev pub rest_in : List Stream → InputKind → List ℕ → Option Source
-rest_in [] kind name = None
-rest_in (AnInput k n rest ∷ streams) kind name = if same_input_kind k kind && bytes_eq n name then Some rest else rest_in streams kind name
-rest_in (x ∷ streams) kind name = rest_in streams kind name
-
--- the streams where this is left of the input
-abbrev pub with_rest_of : InputKind → List ℕ → Source → List Stream → List Stream
-with_rest_of kind name left [] = []
-with_rest_of kind name left (AnInput k n rest ∷ streams) = AnInput k n (if same_input_kind k kind && bytes_eq n name then left else rest) ∷ with_rest_of kind name left streams
-with_rest_of kind name left (x ∷ streams) = x ∷ with_rest_of kind name left streams
 
 -- a named input is opened, unless it is open: whether it stands open then. What is refused is asked for again the next time
 abbrev pub input_granted : InputKind → List ℕ → Option Source → Run Bool
@@ -161,12 +141,6 @@ next_of kind name = open_input kind name >>= λ is_open. take_if is_open kind na
 
 -- named outputs
 
--- the opening of the output, if it is open
-abbrev pub opening_in : List Stream → OutputKind → List ℕ → Option ℕ
-opening_in [] kind name = None
-opening_in (AnOutput k n opening ∷ streams) kind name = if same_output_kind k kind && bytes_eq n name then Some opening else opening_in streams kind name
-opening_in (x ∷ streams) kind name = opening_in streams kind name
-
 abbrev pub one_output_more : OutputKind → List ℕ → (OutputKind → List ℕ → ℕ) → OutputKind → List ℕ → ℕ
 one_output_more kind name openings k n = one_if (same_output_kind k kind && bytes_eq n name) + openings k n
 
@@ -204,14 +178,6 @@ open_target to.Pipe name = open_output output.Command name mode.Truncate
 
 -- closings and runs
 
-abbrev pub is_command : Named → Bool
-is_command (Input input.Command name) = true
-is_command (Output output.Command name) = true
-is_command x = false
-
-abbrev pub is_other : Named → Stream → Bool
-is_other x y = not (same_named x (named_of y))
-
 abbrev pub without_stream : Named → State → State
 without_stream x s = record s { streams = filter (is_other x) s.streams }
 
@@ -222,10 +188,6 @@ closed_by false x s = asking (Closes x) (pos 0) (without_stream x s)
 
 unfoldable pub close_stream : Named → Run ℤ
 close_stream x s = closed_by (is_command x) x s
-
-abbrev pub has_the_name : List ℕ → Stream → Bool
-has_the_name name (AnInput kind n rest) = bytes_eq n name
-has_the_name name (AnOutput kind n opening) = bytes_eq n name
 
 -- the streams of a name, in the order of their openings
 unfoldable pub streams_named : List ℕ → Run (List Stream)
