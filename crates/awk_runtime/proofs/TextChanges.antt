@@ -1,5 +1,7 @@
 -- What the functions over texts do to the state of a run.
-use Rattle.std.proofs.Common.{◌≡◌, ◌≤◌, ℕ, zero, suc, pos, Bool, true, false, true≢false, List, [], ◌++◌, append-nil, Option, Some, None, Result, Ok, Err, length, refl, sym, ap, ◌∙◌, subst, arith}
+use Rattle.std.proofs.Common.{◌≡◌, ◌≤◌, ◌<◌, ◌+◌, ℕ, zero, suc, pos, Bool, true, false, not, true≢false, List, [], ◌∷◌, ◌++◌, append-nil, take, drop, get_or, Option, Some, None, Result, Ok, Err, length, IfOk, IfErr, refl, sym, ap, ◌∙◌, subst, arith}
+use Rattle.std.specs.Global.{Vec}
+use Rattle.std.proofs.lemmas.List.{take_more, map-append}
 use Rattle.std.specs.Result.{is_err}
 use Rattle.awk_value.specs.declared.value.Value.{Value}
 use Rattle.awk_value.specs.declared.value.Value.TheVariants as value
@@ -7,8 +9,10 @@ use Rattle.awk_value.specs.Values.{str_of}
 use Rattle.awk_ere.specs.Tree.{Tree}
 use Rattle.awk_text.specs.declared.span.Span.{Span}
 use Rattle.awk_text.specs.declared.fault.TextFault.{TextFault}
+use Rattle.awk_text.specs.Pieces.{stretch_at, stretches_at, IsSpanOf}
 use Rattle.awk_text.specs.Separators.{Separator, separator_of, separator_made, separator_by}
 use Rattle.awk_text.specs.Fields.{pieces_of}
+use Rattle.awk_fields.proofs.FieldOfPieces.{cut_stretch}
 use Rattle.awk_lex.specs.declared.token.Operator.TheVariants.{Matches, NotMatches}
 use Rattle.awk_variables.specs.declared.special.Special.TheVariants.{Fs, Rstart, Rlength}
 use Rattle.awk_variables.specs.Variables.{value_of, name_of}
@@ -16,22 +20,25 @@ use Rattle.awk_semantics.specs.declared.halt.Halt.{Halt}
 use Rattle.awk_semantics.specs.declared.halt.Halt.TheVariants as halt
 use Rattle.awk_semantics.specs.declared.fault.Fault.TheVariants.{OutOfMemory}
 use Rattle.awk_semantics.specs.State.{Effect, State, Out, Run, ◌>>=◌, go_on, lift, ret}
-use Rattle.awk_semantics.specs.Results.{Sort, WantOfMemory, FailedWrite, OfLanguage, sort_of, YieldsBy, Yields}
+use Rattle.awk_semantics.specs.Results.{Sort, WantOfMemory, FailedWrite, OfLanguage, sort_of, YieldsBy, Yields, IsWantOfMemory}
 use Rattle.awk_semantics.specs.Operators.{truth_value, of_match, applied, pattern_in}
 use Rattle.awk_semantics.specs.Texts.{find_from, exchanged, of_separator, separator_in, start_of, length_of}
 use Rattle.awk_semantics.specs.Primitives.{record_text, text_in, put_special, field_separator}
 use Rattle.awk_semantics.specs.BuiltIns.{note_match, count_value}
 use Rattle.awk_storage.specs.declared.position.Array.{Array}
 use Rattle.awk_storage.specs.declared.position.Place.{Place}
+use Rattle.awk_storage.specs.declared.position.Place.TheVariants as place
 use Rattle.awk_storage.specs.Positions.{store_at}
 use Rattle.awk_storage.specs.Forms.{match_in, split_at, split_with, fill_at, assign_exchange_at, substitute_at}
 use Rattle.awk_functions.specs.declared.found.Exchanged.{Exchanged}
+use Rattle.awk_functions.specs.declared.formats.Formats.{Formats}
+use Rattle.awk_functions.specs.declared.patterns.Patterns.{Patterns}
 use Rattle.awk_functions.specs.definitions.Matched.{matched, found, some_exchanged, exchanged_by, split_by}
 use Rattle.awk_functions.specs.support.Written.{Writes}
 use Rattle.awk_runtime.specs.declared.runtime.Runtime.{Runtime}
 use Rattle.awk_runtime.specs.support.Simulation.{OwnRelation, Changes, SameState}
 use Rattle.awk_runtime.specs.support.Naming.{Naming}
-use Rattle.awk_runtime.specs.support.Spelled.{pieces_by, with_pieces}
+use Rattle.awk_runtime.specs.support.Spelled.{record_tested, substitute_in_record, pieces_by, with_pieces}
 use Rattle.awk_runtime.proofs.Composition.{then_changes, ends_changes, lift_changes, memory_changes}
 use Rattle.awk_runtime.proofs.Steps.{still, reads_changes, same_changes, assoc_at}
 
@@ -59,6 +66,19 @@ lift_beside r same e = reads_changes (lift r) (λ s. r) (λ s. refl) same (λ s 
 pub memory_beside : {A : Type 0} (run : Run A) {old new : Runtime} → SameState old new → Changes run old new (Err (halt.Fault OutOfMemory))
 memory_beside run same = memory_changes run same.streams same.beside.names (omega (arith, same.beside.steps))
 
+-- the room of the code, and what it keeps of patterns and formats, are nothing that the definitions know
+pub room : (m : Runtime) (patterns : Patterns) (formats : Formats) (spans : Vec Span) → SameState m (record m { patterns = patterns; formats = formats; spans = spans })
+room m patterns formats spans = record { beside = record { names = refl; current = refl; specials = refl; globals = refl; arrays = refl; frames = refl; next = refl; input_seen = refl; inside = refl; status = refl; steps = refl }; streams = refl }
+
+-- the same where another term stands for the text that spells a pattern
+pub lift_spelled : {A : Type 0} {c : Result A Halt} {old new : Runtime} (f : List ℕ → Result A Halt) {spelling pattern : List ℕ} → spelling ≡ pattern → SameState old new → Yields c (f spelling) → Changes (lift (f pattern)) old new c
+lift_spelled {c = c} f {pattern = pattern} is same e = lift_beside (f pattern) same (subst (λ p. Yields c (f p)) is e)
+
+-- a value, or want of memory
+pub made_changes : {A : Type 0} {m : Runtime} (a : A) (c : Result A Halt) → IfOk c (λ x. x ≡ a) → IfErr c IsWantOfMemory → Changes (lift (Ok a)) m m c
+made_changes {m = m} a (Ok x) is memory = lift_beside (Ok a) (still m) (ap Ok (sym is))
+made_changes {m = m} a (Err h) is memory = rw memory (memory_beside (lift (Ok a)) (still m))
+
 -- tests
 
 tested : (f : Bool → Bool) (p : Result Tree Halt) (text : List ℕ) → of_match f text p ≡ mapped (λ b. truth_value (f b)) (matched p text)
@@ -74,9 +94,16 @@ unfolding record_text
 text_read same e =
     reads_changes _ (λ s. Ok (value.Input s.current.text)) (λ s. refl) same (λ s h. ap (λ r. Ok (value.Input r.text)) h.current ∙ ap (λ t. Ok (value.Input t)) (sym e))
 
-pub record_tested : {old new : Runtime} (ere text : List ℕ) (c : Result Bool Halt) → SameState old new → text ≡ old.current.text → Yields c (matched (pattern_in ere) text) → Changes (record_text >>= λ x. lift (applied Matches x (value.Text ere))) old new (mapped truth_value c)
-record_tested {old = old} ere text c same e yields =
-    then_changes (λ x. lift (applied Matches x (value.Text ere))) (text_read (still old) e) (lift_beside _ same (test_yields (λ b. b) (pattern_in ere) text c yields))
+-- `~`, and with `not` `!~`
+pub match_test : {old new : Runtime} (v : Value) {spelling ere : List ℕ} (c : Result Bool Halt) → spelling ≡ ere → SameState old new → Yields c (matched (pattern_in spelling) (str_of v)) → Changes (lift (applied Matches v (value.Text ere))) old new (mapped truth_value c)
+match_test v c is same e = lift_spelled (λ p. applied Matches v (value.Text p)) is same (test_yields (λ b. b) _ (str_of v) c e)
+
+pub mismatch_test : {old new : Runtime} (v : Value) {spelling ere : List ℕ} (c : Result Bool Halt) → spelling ≡ ere → SameState old new → Yields c (matched (pattern_in spelling) (str_of v)) → Changes (lift (applied NotMatches v (value.Text ere))) old new (mapped (λ b. truth_value (not b)) c)
+mismatch_test v c is same e = lift_spelled (λ p. applied NotMatches v (value.Text p)) is same (test_yields not _ (str_of v) c e)
+
+pub record_test : {old new : Runtime} {spelling ere text : List ℕ} (c : Result Bool Halt) → spelling ≡ ere → SameState old new → text ≡ old.current.text → Yields c (matched (pattern_in spelling) text) → Changes (record_tested ere) old new (mapped truth_value c)
+record_test {old = old} {ere = ere} {text = text} c is same e yields =
+    then_changes (λ x. lift (applied Matches x (value.Text ere))) (text_read (still old) e) (match_test (value.Input text) c is same yields)
 
 -- runs that are equal
 
@@ -116,6 +143,8 @@ match_ends pattern text p = same_changes _ _ (λ s h. match_at pattern text s) (
 pub match_gives : (pattern text : List ℕ) {old mid new : Runtime} {m : Option Span} {r : Result Value Halt} → Changes (lift (found (pattern_in pattern) text)) old mid (Ok m) → Changes (note_match m) mid new r → Changes (match_in pattern text) old new r
 match_gives pattern text p q = same_changes _ _ (λ s h. match_at pattern text s) (then_changes note_match p q)
 
+-- a match is noted
+
 pub note_ends : (m : Option Span) {old new : Runtime} {h : Halt} → Changes (put_special Rstart (value.Number (start_of m))) old new (Err h) → Changes (note_match m) old new (Err h)
 unfolding note_match
 note_ends m p = ends_changes _ p
@@ -129,6 +158,17 @@ unfolding note_match
 note_gives m {new = new} p q = then_changes _ p (then_changes _ q (lift_changes _ new refl))
 
 -- pieces
+
+-- a list of cuts grows by the next stretch
+pub cuts_more : (text : List ℕ) (spans : List Span) (i : ℕ) (pieces new : List (List ℕ)) (cut : List ℕ) (span : Span) → i < length spans → IsSpanOf text (get_or spans i span) →
+    pieces ≡ stretches_at text (take i spans) → new ≡ pieces ++ cut ∷ [] → cut ≡ drop (get_or spans i span).start (take (get_or spans i span).end text) →
+    new ≡ stretches_at text (take (i + 1) spans)
+cuts_more text spans i pieces new cut span lt within is added cutting =
+    let here = get_or spans i span in
+    let more : take (i + 1) spans ≡ take i spans ++ here ∷ [] = take_more spans i span lt in
+    let last : cut ≡ stretch_at text here = cutting ∙ cut_stretch text here within in
+    added ∙ (ap (λ (l : List (List ℕ)). l ++ cut ∷ []) is ∙ (ap (λ (t : List ℕ). stretches_at text (take i spans) ++ t ∷ []) last
+    ∙ (sym (map-append (stretch_at text) (take i spans) (here ∷ [])) ∙ ap (λ (l : List Span). stretches_at text l) (sym more))))
 
 pub written_yields : {A : Type 0} (r : Result (Unit {0}) Halt) (pieces : A) (q : Result A Halt) → Writes r pieces q → Yields (with_pieces pieces r) q
 written_yields (Ok u) pieces q e = e
@@ -182,18 +222,18 @@ split_gives array text m {new = new} p q = same_changes _ _ (λ s h. split_found
 
 -- substitutions
 
-module _ (names : List (List ℕ)) (place : Place) (operand : Value) where
+module _ (names : List (List ℕ)) (at : Place) (operand : Value) where
   -- the text is assigned, if a match was exchanged
   abbrev pub assign_made : Option Exchanged → Run Value
   assign_made None = count_value 0
-  assign_made (Some made) = store_at names place operand (value.Text made.text) >>= λ _. count_value made.count
+  assign_made (Some made) = store_at names at operand (value.Text made.text) >>= λ _. count_value made.count
 
-  assigned_by : (count : ℕ) (text : List ℕ) → assign_exchange_at names place operand count text ≡ assign_made (some_exchanged count text)
+  assigned_by : (count : ℕ) (text : List ℕ) → assign_exchange_at names at operand count text ≡ assign_made (some_exchanged count text)
   assigned_by zero text = refl
   assigned_by (suc n) text = refl
 
   module _ (all : Bool) (replacement : List ℕ) (old_value : Value) where
-    exchanged_on : (p : Result Tree Halt) (s : State) → (lift p >>= λ t. assign_exchange_at names place operand (exchanged all t replacement (str_of old_value)).count (exchanged all t replacement (str_of old_value)).text) s ≡ (lift (exchanged_by all p replacement (str_of old_value)) >>= assign_made) s
+    exchanged_on : (p : Result Tree Halt) (s : State) → (lift p >>= λ t. assign_exchange_at names at operand (exchanged all t replacement (str_of old_value)).count (exchanged all t replacement (str_of old_value)).text) s ≡ (lift (exchanged_by all p replacement (str_of old_value)) >>= assign_made) s
     unfolding lift ◌>>=◌ go_on
     exchanged_on (Ok t) s = ap (λ (run : Run Value). record { result = (run s).result; state = (run s).state; effects = [] ++ (run s).effects }) (assigned_by (exchanged all t replacement (str_of old_value)).count (exchanged all t replacement (str_of old_value)).text)
     exchanged_on (Err h) s = refl
@@ -202,14 +242,21 @@ module _ (names : List (List ℕ)) (place : Place) (operand : Value) where
       abbrev pub Exchanges : Runtime → Runtime → Result (Option Exchanged) Halt → Type 0
       Exchanges = Changes (lift (exchanged_by all (pattern_in pattern) replacement (str_of old_value)))
 
-      pub substitute_ends : {old new : Runtime} {h : Halt} → Exchanges old new (Err h) → Changes (substitute_at names all pattern replacement place operand old_value) old new (Err h)
+      pub substitute_ends : {old new : Runtime} {h : Halt} → Exchanges old new (Err h) → Changes (substitute_at names all pattern replacement at operand old_value) old new (Err h)
       substitute_ends p = same_changes _ _ (λ s h. exchanged_on (pattern_in pattern) s) (ends_changes assign_made p)
 
-      pub substitute_nothing : {old new : Runtime} → Exchanges old new (Ok None) → Changes (substitute_at names all pattern replacement place operand old_value) old new (Ok (value.Number (pos 0)))
+      pub substitute_nothing : {old new : Runtime} → Exchanges old new (Ok None) → Changes (substitute_at names all pattern replacement at operand old_value) old new (Ok (value.Number (pos 0)))
       substitute_nothing {new = new} p = same_changes _ _ (λ s h. exchanged_on (pattern_in pattern) s) (then_changes assign_made p (lift_changes _ new refl))
 
-      pub substitute_ends_later : {old mid new : Runtime} {made : Exchanged} {h : Halt} → Exchanges old mid (Ok (Some made)) → Changes (store_at names place operand (value.Text made.text)) mid new (Err h) → Changes (substitute_at names all pattern replacement place operand old_value) old new (Err h)
+      pub substitute_ends_later : {old mid new : Runtime} {made : Exchanged} {h : Halt} → Exchanges old mid (Ok (Some made)) → Changes (store_at names at operand (value.Text made.text)) mid new (Err h) → Changes (substitute_at names all pattern replacement at operand old_value) old new (Err h)
       substitute_ends_later p q = same_changes _ _ (λ s h. exchanged_on (pattern_in pattern) s) (then_changes assign_made p (ends_changes _ q))
 
-      pub substitute_gives : {old mid new : Runtime} {made : Exchanged} → Exchanges old mid (Ok (Some made)) → Changes (store_at names place operand (value.Text made.text)) mid new (Ok tt) → Changes (substitute_at names all pattern replacement place operand old_value) old new (Ok (value.Number (pos made.count)))
+      pub substitute_gives : {old mid new : Runtime} {made : Exchanged} → Exchanges old mid (Ok (Some made)) → Changes (store_at names at operand (value.Text made.text)) mid new (Ok tt) → Changes (substitute_at names all pattern replacement at operand old_value) old new (Ok (value.Number (pos made.count)))
       substitute_gives {new = new} p q = same_changes _ _ (λ s h. exchanged_on (pattern_in pattern) s) (then_changes assign_made p (then_changes _ q (lift_changes _ new refl)))
+
+pub in_record : (names : List (List ℕ)) (all : Bool) (pattern replacement : List ℕ) {old mid new : Runtime} {v : Value} {r : Result Value Halt} → Changes record_text old mid (Ok v)
+    → Changes (substitute_at names all pattern replacement place.Field (value.Number (pos 0)) v) mid new r → Changes (substitute_in_record names all pattern replacement) old new r
+in_record names all pattern replacement p q = then_changes _ p q
+
+pub in_record_ends : (names : List (List ℕ)) (all : Bool) (pattern replacement : List ℕ) {old new : Runtime} {h : Halt} → Changes record_text old new (Err h) → Changes (substitute_in_record names all pattern replacement) old new (Err h)
+in_record_ends names all pattern replacement p = ends_changes _ p

@@ -1,21 +1,19 @@
 // Functions over texts.
 
-ghost use Rattle.std.specs.Prelude.{◌≡◌, ◌++◌, pos, Ok, IfOk, OnOk};
+ghost use Rattle.std.specs.Prelude.{◌≡◌, ◌++◌, Ok, IfOk, OnOk};
 ghost use Rattle.awk_value.specs.Values.{str_of};
-ghost use Rattle.awk_value.specs.declared.value.Value.TheVariants.{Number, Text};
-ghost use Rattle.awk_lex.specs.declared.token.Operator.TheVariants.{Matches};
+ghost use Rattle.awk_value.specs.declared.value.Value.TheVariants.{Text};
 ghost use Rattle.awk_text.specs.Pieces.{stretches_at, AreSpansOf};
-ghost use Rattle.awk_semantics.specs.State.{◌>>=◌, lift};
+ghost use Rattle.awk_semantics.specs.State.{lift};
 ghost use Rattle.awk_semantics.specs.Operators.{applied, pattern_in};
-ghost use Rattle.awk_semantics.specs.Primitives.{record_text};
 ghost use Rattle.awk_semantics.specs.BuiltIns.{applied_all, note_match};
-ghost use Rattle.awk_storage.specs.declared.position.Place.TheVariants.{Field};
 ghost use Rattle.awk_storage.specs.Forms.{match_in, split_with, substitute_at};
 ghost use Rattle.awk_functions.specs.definitions.Matched.{found, exchanged_by};
 ghost use Rattle.awk_functions.specs.definitions.Spelling.{spelling_of, separator_for};
 ghost use Rattle.awk_runtime.specs.support.Naming.{ere_at};
 ghost use Rattle.awk_runtime.specs.support.Simulation.{Changes};
 ghost use Rattle.awk_runtime.specs.support.Spelled.{spelled, separator_spelled, separation, pieces_by, with_pieces};
+ghost use Rattle.awk_runtime.specs.support.Spelled.{record_tested, substitute_in_record};
 
 use crate::names::ProgramNames;
 use crate::runtime::Runtime;
@@ -77,8 +75,7 @@ impl Runtime {
     /// Whether the record has a match of an ERE of the program, by its number. (POSIX awk, Expressions in awk; Regular
     /// Expressions)
     pub fn record_matches(&mut self, ere: u32) -> Result<Value, Halt>
-        ensures { Changes (record_text >>= λ x. lift (applied Matches x (Text (ere_at self.old.names ere))))
-            self.old self.new result }
+        ensures { Changes (record_tested (ere_at self.old.names ere)) self.old self.new result }
     {
         let text = self.current.text()?;
         let pattern = operand(&self.names, PatternSource::Ere(ere));
@@ -212,9 +209,8 @@ impl Runtime {
         pattern: PatternSource,
         replacement: &Value,
     ) -> Result<Value, Halt>
-        ensures { Changes (record_text >>= λ old. substitute_at self.old.names.scalars all
-            (spelled self.old.names pattern.entry) (str_of replacement.now) Field (Number (pos 0)) old)
-            self.old self.new result }
+        ensures { Changes (substitute_in_record self.old.names.scalars all (spelled self.old.names pattern.entry)
+            (str_of replacement.now)) self.old self.new result }
     {
         let old = self.record_text()?;
         let number = Value::Number(0);
