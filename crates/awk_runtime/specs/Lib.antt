@@ -1,3 +1,4 @@
 pub mod support
 pub use Rattle.awk_runtime.specs.support.Naming
+pub use Rattle.awk_runtime.specs.support.Spelled
 pub use Rattle.awk_runtime.specs.support.Simulation
