@@ -1,3 +1,4 @@
 pub mod Effects
 pub mod Composition
 pub mod Steps
+pub mod ArrayWords

@@ -1,2 +1,4 @@
 pub mod Naming
 pub mod Simulation
+pub mod Calling
+pub mod Beginning
