@@ -2,3 +2,5 @@ pub mod Effects
 pub mod Composition
 pub mod Steps
 pub mod ArrayWords
+pub mod NameNumbers
+pub mod ArgumentWords

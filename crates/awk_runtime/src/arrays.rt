@@ -1,10 +1,11 @@
 // Arrays and their elements.
 
-ghost use Rattle.std.specs.Prelude.{◌≡◌};
+ghost use Rattle.std.specs.Prelude.{◌≡◌, IfOk, IfErr, codes};
 ghost use Rattle.awk_runtime.specs.support.Simulation.{Changes};
-ghost use Rattle.awk_runtime.specs.support.Calling.{kept_number, listed};
+ghost use Rattle.awk_runtime.specs.support.Calling.{kept_number, listed, argument_text};
 ghost use Rattle.awk_value.specs.Values.{str_of};
-ghost use Rattle.awk_semantics.specs.Primitives.{joined_key, take_argument};
+ghost use Rattle.awk_semantics.specs.Primitives.{number_in, joined_key, take_argument};
+ghost use Rattle.awk_semantics.specs.Results.{IsWantOfMemory};
 ghost use Rattle.awk_storage.specs.Positions.{read_element_of, store_element_of};
 ghost use Rattle.awk_storage.specs.Forms.{contains_at, delete_at, keys_of_array, fill_at};
 
@@ -92,6 +93,8 @@ impl Runtime {
 
     /// The text of the element of ARGV that is looked at next; an absent one is empty.
     fn next_argument(&self) -> Result<Bytes, Halt>
+        ensures text { IfOk result (λ word. word ≡ argument_text self.now.arrays (number_in self.now.names.arrays (codes "ARGV")) self.now.next) }
+        ensures memory { IfErr result IsWantOfMemory }
     {
         let number = self.names.array_number(b"ARGV");
         match self.arrays.get(number, &Value::Number(self.next)) {

@@ -1,6 +1,10 @@
 -- How calls, and what they are given, stand for those of the definitions.
-use Rattle.std.specs.Prelude.{◌≡◌, ℕ, Bool, List, [], ◌∷◌, ◌++◌, map, slice_get, Option, Some, None, Result, Ok, Err, OnOk, OnErr, IfErr}
+use Rattle.std.specs.Prelude.{◌≡◌, ℕ, ℤ, Bool, List, [], ◌∷◌, ◌++◌, map, slice_get, unwrap_or, Option, Some, None, Result, Ok, Err, OnOk, OnErr, IfErr}
+use Rattle.std.specs.Fmt.{signed_decimal}
 use Rattle.std.specs.Global.{Vec}
+use Rattle.awk_value.specs.declared.value.Value.TheVariants as value
+use Rattle.awk_value.specs.Values.{str_of}
+use Rattle.awk_table.specs.Arrays.{Array as Elements, value_at}
 use Rattle.awk_semantics.specs.declared.halt.Halt.{Halt}
 use Rattle.awk_semantics.specs.declared.local.Local.{Local}
 use Rattle.awk_semantics.specs.declared.local.Local.TheVariants as local
@@ -11,6 +15,7 @@ use Rattle.awk_kinds.specs.Kinds.{FormalParameter}
 use Rattle.awk_storage.specs.declared.position.Array.{Array}
 use Rattle.awk_storage.specs.declared.position.Array.TheVariants as array
 use Rattle.awk_storage.specs.support.Frames.{FramesView, newest_of}
+use Rattle.awk_storage.specs.support.Tables.{array_of}
 use Rattle.awk_runtime.specs.declared.runtime.Runtime.{Runtime}
 use Rattle.awk_runtime.specs.support.Simulation.{OwnRelation, Changes}
 
@@ -29,6 +34,10 @@ kept_number (array.Local i) calls = number_of_kept (slice_get (newest_of calls.f
 abbrev pub listed : {A : Type 0} → Result (Vec A) Halt → Result (List A) Halt
 listed (Ok v) = Ok v.items
 listed (Err h) = Err h
+
+-- the text of the element at a number, of the array of this number; one that isn't there is empty
+abbrev pub argument_text : List Elements → ℕ → ℤ → List ℕ
+argument_text arrays n i = str_of (unwrap_or (value_at (array_of arrays n) (signed_decimal i)) value.Nothing)
 
 -- the call that is about to be made is given this for its next parameter
 abbrev pub with_given : Local → Runtime → Runtime
