@@ -2,3 +2,6 @@ pub mod Effects
 pub mod Composition
 pub mod Steps
 pub mod TextChanges
+pub mod ArrayWords
+pub mod NameNumbers
+pub mod ArgumentWords

@@ -1,3 +1,5 @@
 pub mod Naming
 pub mod Spelled
 pub mod Simulation
+pub mod Calling
+pub mod Beginning

@@ -5,6 +5,8 @@ ghost use Rattle.std.specs.Option.{option_map};
 ghost use Rattle.awk_variables.specs.Names.{has_name, AreDistinct};
 ghost use Rattle.awk_runtime.specs.support.Naming.{AreOwn, ere_at};
 
+mod numbers;
+
 use awk_value::Bytes;
 use indexmap::IndexSet;
 use std::alloc::{AllocError, Global};
