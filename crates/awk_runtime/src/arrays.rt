@@ -69,4 +69,5 @@ impl Runtime {
     {
         unreachable!()
     }
+
 }

@@ -1,16 +1,23 @@
 // The record at hand and its fields.
 
 ghost use Rattle.awk_runtime.specs.support.Simulation.{Changes};
-ghost use Rattle.awk_semantics.specs.State.{◌>>=◌};
-ghost use Rattle.awk_semantics.specs.Primitives.{number_of, read_field, read_outside, put_outside, set_count, set_field, set_record, record_text};
+ghost use Rattle.awk_semantics.specs.Primitives.{read_field, read_outside, put_outside, set_count, set_field, set_record, record_text};
 ghost use Rattle.awk_semantics.specs.Items.{begin_record};
 ghost use Rattle.awk_semantics.specs.BuiltIns.{record_length};
-ghost use Rattle.std.specs.Prelude.{codes};
+ghost use Rattle.std.specs.Prelude.{◌≡◌, pos, codes};
+ghost use Rattle.awk_value.specs.declared.value.Value.TheVariants.{Number};
 
 use crate::runtime::Runtime;
 use awk_semantics::Halt;
 use awk_value::{Bytes, Value, number_of, text_of};
 use awk_variables::Special;
+
+/// A count, as a value.
+fn count_value(count: usize) -> Value
+    ensures { result ≡ Number (pos count) }
+{
+    Value::Number(count as i128)
+}
 
 impl Runtime {
     /// The field of a number; `$0` is the record's text. (POSIX awk, Variables and Special Variables)
@@ -53,7 +60,7 @@ impl Runtime {
         ensures { Changes (record_length) self.old self.new result }
     {
         let text = self.current.text()?;
-        Ok(Value::Number(text.len() as i128))
+        Ok(count_value(text.len()))
     }
 
     /// Makes the text the record at hand, and counts it in NR and FNR.
@@ -69,7 +76,7 @@ impl Runtime {
     pub(crate) fn field_count(&mut self) -> Result<Value, Halt>
         ensures { Changes (read_outside (codes "NF")) self.old self.new result }
     {
-        Ok(Value::Number(self.current.count()? as i128))
+        Ok(count_value(self.current.count()?))
     }
 
     /// Gives the record as many fields as a value's number is. (POSIX awk, Variables and Special Variables: NF)

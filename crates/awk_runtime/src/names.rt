@@ -78,7 +78,9 @@ impl ProgramNames {
     pub(crate) fn law_of_slots(&self)
         ensures distinct { AreDistinct self.now.scalars }
         ensures own { AreOwn self.now.scalars }
-    {}
+    {
+        let _ = &self.scalars;
+    }
 
     /// The slot of a variable's name, if it has one.
     pub fn slot_of(&self, name: &[u8]) -> Option<usize>
