@@ -5,3 +5,5 @@ pub mod TextChanges
 pub mod ArrayWords
 pub mod NameNumbers
 pub mod ArgumentWords
+pub mod Words
+pub mod VariableWords

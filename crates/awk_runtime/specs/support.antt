@@ -3,3 +3,4 @@ pub mod Spelled
 pub mod Simulation
 pub mod Calling
 pub mod Beginning
+pub mod Updates
