@@ -1,3 +1,5 @@
 pub mod Effects
 pub mod Composition
 pub mod Steps
+pub mod Turns
+pub mod Prints
