@@ -1,5 +1,5 @@
 -- What printing does to the state of a run.
-use Rattle.std.proofs.Common.{◌≡◌, ℕ, List, [], ◌∷◌, ◌++◌, length, Option, Some, None, Result, Ok, Err, IfErr, inl, inr, refl, sym, ap, ◌∙◌, subst, arith}
+use Rattle.std.proofs.Common.{rules, ◌≡◌, ◌==◌, true, ℕ, List, [], ◌∷◌, ◌++◌, length, Option, Some, None, Result, Ok, Err, IfErr, inl, inr, refl, sym, ap, ◌∙◌, subst, arith}
 use Rattle.awk_value.specs.declared.value.Value.{Value}
 use Rattle.awk_value.specs.Values.{str_of}
 use Rattle.awk_channels.specs.declared.fault.StreamFault.{StreamFault}
@@ -188,3 +188,8 @@ opened_and_printed run p q = record {
 
 pub not_opened : {is_logged : Type 0} {opens : Run ℕ} (run : ℕ → Run (Unit {0})) {old mid : Runtime} {before between : WorldState} {h : Halt} → OpensTarget is_logged opens old before mid between (Err h) → Follows is_logged (opens >>= run) old before mid between (Err h)
 not_opened run p = record { simulates = record { steps = p.steps; names = p.names; told = λ t. ends_logged run (p.told t) } }
+
+-- no values are printed where there are none
+pub no_values : (vs : List Value) → (length vs == 0) ≡ true → vs ≡ []
+no_values [] e = refl
+no_values (v ∷ vs) e = absurd (search (rules, e))
