@@ -3,3 +3,4 @@ pub mod Composition
 pub mod Steps
 pub mod Turns
 pub mod Prints
+pub mod Openings

@@ -26,6 +26,7 @@ use Rattle.awk_semantics.proofs.Requests.{goes-self, meets_append, requests-appe
 use Rattle.awk_runtime.specs.declared.runtime.Runtime.{Runtime}
 use Rattle.awk_runtime.specs.support.Simulation.{OwnRelation, main_number, stage_of, StreamsRelation, StateRelation, FailureRelation, FailedLast, ResultRelation, SimulatesLogged, Simulates, Beside}
 use Rattle.awk_runtime.proofs.Effects.{outputs-append, begins-then, begins_still}
+use Rattle.awk_runtime.proofs.Steps.{beside_holds}
 
 -- runs that are equal where the state stands for the code's
 pub same_logged : {A : Type 0} {old new : Runtime} {before after : WorldState} {r : Result A Halt} (x y : Run A) → ((s : State) → OwnRelation old s → x s ≡ y s) → SimulatesLogged old before new after r y → SimulatesLogged old before new after r x
@@ -124,3 +125,17 @@ as_many oracle log [] [] h = refl
 as_many oracle log [] (y ∷ ys) h = absurd h
 as_many oracle log (x ∷ xs) [] h = absurd h
 as_many oracle log (x ∷ xs) (y ∷ ys) h = ap (λ (i : ℕ). suc i) (as_many oracle log xs ys h.1)
+
+-- one stage, by its parts
+pub stage_same : (l l' : List Event) (m m' : Option ℕ) (xs xs' : List (words.Named × ℕ)) → l ≡ l' → m ≡ m' → xs ≡ xs' → (let a : Stage = record { log = l; main = m; streams = xs } in let b : Stage = record { log = l'; main = m'; streams = xs' } in a ≡ b)
+stage_same l l' m m' xs xs' e f h =
+    ap (λ (x : List Event). record { log = x; main = m; streams = xs }) e
+    ∙ (ap (λ (x : Option ℕ). record { log = l'; main = x; streams = xs }) f ∙ ap (λ (x : List (words.Named × ℕ)). record { log = l'; main = m'; streams = x }) h)
+
+-- the state stands where neither the streams nor the world is another
+pub stands_same : (oracle : Oracle) {old new : Runtime} {before after : WorldState} (s : State) (past : List Effect) → Beside old new → new.streams ≡ old.streams → after ≡ before → StateRelation oracle old before s past → StateRelation oracle new after s (past ++ [])
+stands_same oracle {old = old} {new = new} {before = before} {after = after} s past beside same world stands = record {
+  clear = ap (λ (w : WorldState). w.first_failure) world ∙ stands.clear;
+  streams = subst (λ (l : List Effect). StreamsRelation oracle new.streams after s l) (sym (append-nil past)) (subst (λ (w : WorldState). StreamsRelation oracle new.streams w s past) (sym world) (subst (λ (v : StreamsView). StreamsRelation oracle v before s past) (sym same) stands.streams));
+  holds = beside_holds beside stands.holds;
+}
