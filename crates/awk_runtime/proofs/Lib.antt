@@ -7,3 +7,6 @@ pub mod NameNumbers
 pub mod ArgumentWords
 pub mod Words
 pub mod VariableWords
+pub mod Turns
+pub mod Prints
+pub mod Openings

@@ -4,3 +4,4 @@ pub mod Simulation
 pub mod Calling
 pub mod Beginning
 pub mod Updates
+pub mod Printing
