@@ -9,9 +9,10 @@ use Rattle.awk_semantics.specs.definitions.Primitives.{spend, spend_of}
 use Rattle.awk_semantics.specs.definitions.Semantics.{Functions, choose}
 use Rattle.awk_semantics.specs.support.Keeps.{scope_of, CallsKeep}
 use Rattle.awk_storage.specs.definitions.Positions.{put_variable}
+use Rattle.awk_storage.specs.definitions.Forms.{keys_of_array}
 use Rattle.awk_compile.specs.declared.node.Node.{Node}
 use Rattle.awk_compile.specs.declared.node.Node.TheVariants as node
-use Rattle.awk_compile.specs.definitions.Nodes.{Tables, Cont, nothing, first, second, value_of, popped, effect_of, dropped, keys_of_array, walk_values, keys_left, next_key_by, made, conts, level, cont_at}
+use Rattle.awk_compile.specs.definitions.Nodes.{Tables, Cont, nothing, first, second, value_of, popped, effect_of, dropped, walk_values, keys_left, next_key_by, made, conts, level, cont_at}
 use Rattle.awk_compile.proofs.Calculus.{later_falls}
 use Rattle.awk_compile.proofs.Falling.{Falls, value_falls, effect_falls, keys_falls, put_variable_falls}
 

@@ -5,3 +5,5 @@ pub mod Falling
 pub mod Levels
 pub mod Loops
 pub mod Walks
+pub mod Variables
+pub mod Elements

@@ -4,3 +4,4 @@ pub mod definitions
 pub mod support
 pub use Rattle.awk_compile.specs.definitions.Nodes
 pub use Rattle.awk_compile.specs.support.Builds
+pub use Rattle.awk_compile.specs.support.Scopes

@@ -1,1 +1,5 @@
+-- What serves the proofs.
 pub mod Builds
+pub mod Scopes
+pub mod Operands
+pub mod Calls

@@ -2,4 +2,14 @@
 #![tactic(auto)]
 
 pub mod builder;
+mod built_ins;
+mod calls;
+mod expressions;
+mod getlines;
+mod lists;
+pub mod names;
 pub mod node;
+mod patterns;
+mod places;
+pub mod scope;
+mod conditions;

@@ -9,7 +9,7 @@ use Rattle.awk_grammar.specs.declared.tree.BinaryOperator.{BinaryOperator}
 use Rattle.awk_grammar.specs.declared.tree.BinaryOperator.TheVariants.{Concatenate, Infix}
 use Rattle.awk_grammar.specs.declared.tree.Redirection.{Redirection}
 use Rattle.awk_world.specs.declared.world.InputKind.TheVariants as input
-use Rattle.awk_kinds.specs.definitions.Kinds.{FormalParameter}
+use Rattle.awk_kinds.specs.definitions.Signatures.{Signature}
 use Rattle.awk_semantics.specs.declared.halt.Halt.{Halt}
 use Rattle.awk_semantics.specs.declared.halt.Halt.TheVariants as halt
 use Rattle.awk_semantics.specs.declared.local.Local.{Local}
@@ -38,11 +38,6 @@ use Rattle.awk_compile.specs.declared.node.EffectNode.{EffectNode}
 use Rattle.awk_compile.specs.declared.node.EffectNode.TheVariants as e
 use Rattle.awk_compile.specs.declared.node.Node.{Node}
 use Rattle.awk_compile.specs.declared.node.Node.TheVariants as n
-
--- a function of a program: its name and its parameters
-pub record Signature : Type 0 where
-  pub name : List ℕ
-  pub parameters : List FormalParameter
 
 -- what the numbers in nodes stand for: the scalars of the whole program by their slots, the EREs, the arrays and the functions
 pub record Tables : Type 0 where
