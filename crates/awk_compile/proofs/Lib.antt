@@ -7,3 +7,12 @@ pub mod Loops
 pub mod Walks
 pub mod Variables
 pub mod Elements
+pub mod Standing
+pub mod Passing
+pub mod SimpleStatements
+pub mod PrintStatements
+pub mod Statements
+pub mod LoopStatements
+pub mod WalkStatements
+pub mod Planning
+pub mod Calling

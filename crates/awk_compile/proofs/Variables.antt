@@ -7,6 +7,7 @@ use Rattle.awk_value.specs.declared.value.Value.{Value}
 use Rattle.awk_variables.specs.declared.special.Special.{Special}
 use Rattle.awk_variables.specs.Variables.{name_of}
 use Rattle.awk_variables.specs.Names.{IsFront, has_name, with_name}
+use Rattle.awk_variables.proofs.Numbering.{has_name-stands}
 use Rattle.awk_kinds.specs.definitions.Kinds.{FormalParameter}
 use Rattle.awk_kinds.specs.definitions.Signatures.{ProgramKinds, place_of, parameter_names}
 use Rattle.awk_semantics.specs.declared.local.Local.{Local}
@@ -145,12 +146,22 @@ module _ {kinds : ProgramKinds} {parameters : List FormalParameter} (x : List �
     }
 
 -- a scalar that gets a slot
+
+no_slot : (names : List (List ℕ)) (i : ℕ) (x : List ℕ) → has_name names x ≡ false → slice_get names i ≡ Some x → ⊥
+no_slot names i x e h = let y : has_name names x ≡ true = has_name-stands names i x h in cc
+
 scalars_with : (names : List (List ℕ)) (x : List ℕ) → IsScalar x → AreScalars names → AreScalars (with_name names x)
-scalars_with names x is each = by (has_name names x)
+scalars_with names x is all = by (has_name names x) refl
   where
-    by : (b : Bool) → AreScalars (if b then names else names ++ x ∷ [])
-    by true = each
-    by false i y h = elim (get_pushed names x i y h) [ inl e ↦ each i y e | inr e ↦ subst IsScalar (sym e.1) is ]
+    by : (b : Bool) → has_name names x ≡ b → AreScalars (if b then names else names ++ x ∷ [])
+    by true e = all
+    by false e = record {
+      each = λ i y h. elim (get_pushed names x i y h) [ inl f ↦ all.each i y f | inr f ↦ subst IsScalar (sym f.1) is ];
+      distinct = λ i j y h k. elim (get_pushed names x i y h) [
+        | inl f ↦ elim (get_pushed names x j y k) [ inl g ↦ all.distinct i j y f g | inr g ↦ absurd (no_slot names i x e (subst (λ z. slice_get names i ≡ Some z) g.1 f)) ]
+        | inr f ↦ elim (get_pushed names x j y k) [ inl g ↦ absurd (no_slot names j x e (subst (λ z. slice_get names j ≡ Some z) f.1 g)) | inr g ↦ f.0 ∙ sym g.0 ]
+      ];
+    }
 
 pub finds_global : {kinds : ProgramKinds} {parameters : List FormalParameter} {a b : Builder} {slot : ℕ} {x : List ℕ} → AddsName a b slot x → place_of (parameter_names parameters) x ≡ None → IsScalar x → FindsVariable kinds parameters a b (variable.Global slot) x
 finds_global {a = a} {b = b} {slot = slot} {x = x} adds outside is = record {

@@ -23,7 +23,7 @@ pub keys_dropped : (keys : List (List ℕ)) (vs : List Value) → drop (length k
 keys_dropped [] vs = refl
 keys_dropped (key ∷ keys) vs = keys_dropped keys vs
 
-one_less : (keys : List (List ℕ)) (key : List ℕ) → keys_left (value.Number (pos (length (key ∷ keys)))) - 1 ≡ length keys
+pub one_less : (keys : List (List ℕ)) (key : List ℕ) → keys_left (value.Number (pos (length (key ∷ keys)))) - 1 ≡ length keys
 one_less keys key = omega arith
 
 -- what a walk is made of: its body, and its places at each level, with the keys that are left on the stack
@@ -31,8 +31,9 @@ pub record IsWalk (tables : Tables) (parameters : List FormalParameter) (name : 
   pub keeps_body : Keeps x
   pub none : (ws : List Value) (s : State) → turns zero ws s ≡ (spend >>= λ _. lift (Err halt.OutOfSteps)) s
   pub more : (n : ℕ) (ws : List Value) (s : State) → turns (suc n) ws s ≡ (spend >>= λ _. take n ws) s
-  -- the next turn, or the exit where no key is left
-  pub nexts : (n : ℕ) (ws : List Value) (s : State) → next n ws s ≡ next_key_by (keys_left (first ws)) (turns n ws) (λ t. exit n t) s
+  -- the exit where no key is left, or else the next turn
+  pub ends : (n : ℕ) (s : State) → next n (walk_values [] ++ vs) s ≡ exit n s
+  pub nexts : (n : ℕ) (key : List ℕ) (keys : List (List ℕ)) (s : State) → next n (walk_values (key ∷ keys) ++ vs) s ≡ turns n (walk_values (key ∷ keys) ++ vs) s
   pub takes : (n : ℕ) (key : List ℕ) (keys : List (List ℕ)) (s : State) → IsIn tables parameters n s → take n (walk_values (key ∷ keys) ++ vs) s ≡ (put name (value.Text key) >>= λ _. body n (walk_values keys ++ vs)) s
   pub runs : (n : ℕ) (ws : List Value) (s : State) → IsIn tables parameters n s → body n ws s ≡ (x >>= λ f. inner n ws f) s
   pub leaves : (n : ℕ) (keys : List (List ℕ)) (s : State) → leave n (walk_values keys ++ vs) s ≡ exit n s
@@ -76,5 +77,5 @@ module _ {tables : Tables} {parameters : List FormalParameter} {name : List ℕ}
 
   pub walks : (keeps_walk : (keys : List (List ℕ)) → Keeps (walk name keys x)) (keys : List (List ℕ)) (n : ℕ) (s : State) → IsIn tables parameters n s → next n (left keys) s ≡ (walk name keys x >>= out n) s
   unfolding walk
-  walks keeps_walk [] n s i = w.nexts n (left []) s ∙ sym (at_state (w.out_normal n) s) ∙ sym (given flow.Normal (out n) s)
-  walks keeps_walk (key ∷ keys) n s i = w.nexts n (left (key ∷ keys)) s ∙ turned keys (walks keeps_walk keys) (keeps_walk keys) n s key i
+  walks keeps_walk [] n s i = w.ends n s ∙ sym (at_state (w.out_normal n) s) ∙ sym (given flow.Normal (out n) s)
+  walks keeps_walk (key ∷ keys) n s i = w.nexts n key keys s ∙ turned keys (walks keeps_walk keys) (keeps_walk keys) n s key i

@@ -3,3 +3,5 @@ pub mod Builds
 pub mod Scopes
 pub mod Operands
 pub mod Calls
+pub mod Printed
+pub mod Holding

@@ -6,7 +6,7 @@ use Rattle.awk_value.specs.Values.{truth_of}
 use Rattle.awk_grammar.specs.Tree.{Expr, Ere, Element, Field, Exprs, Nil, Cons, OptionalExpr, NoExpr, AnExpr, Statement, Statements, OptionalSimple}
 use Rattle.awk_variables.specs.declared.special.Special.{Special}
 use Rattle.awk_variables.specs.Variables.{name_of}
-use Rattle.awk_variables.specs.Names.{IsFront, with_name, Numbers}
+use Rattle.awk_variables.specs.Names.{IsFront, with_name, AreDistinct, Numbers}
 use Rattle.awk_kinds.specs.definitions.Kinds.{FormalParameter}
 use Rattle.awk_kinds.specs.definitions.Signatures.{Signature, ProgramKinds}
 use Rattle.awk_semantics.specs.declared.flow.Flow.{Flow}
@@ -35,8 +35,10 @@ pub record IsScalar (x : List ℕ) : Type 0 where
   pub not_special : (special : Special) → x ≢ name_of special
   pub not_count : x ≢ codes "NF"
 
-abbrev pub AreScalars : List (List ℕ) → Type 0
-AreScalars names = (i : ℕ) (x : List ℕ) → slice_get names i ≡ Some x → IsScalar x
+-- each has one slot
+pub record AreScalars (names : List (List ℕ)) : Type 0 where
+  pub each : (i : ℕ) (x : List ℕ) → slice_get names i ≡ Some x → IsScalar x
+  pub distinct : AreDistinct names
 
 pub record Grows (old new : Builder) : Type 0 where
   pub more : List Node
