@@ -1,8 +1,9 @@
 -- What is built of prints and deletions does what they mean.
-use Rattle.std.proofs.Common.{◌≡◌, ℕ, ◌+◌, ◌<◌, List, [], ◌∷◌, ◌++◌, reverse, take, drop, Some, None, length, refl, sym, ap, ◌∙◌, arith, length-append}
+use Rattle.std.proofs.Common.{◌≡◌, ℕ, ◌+◌, ◌<◌, List, [], ◌∷◌, ◌++◌, reverse, take, drop, Some, None, length, refl, sym, ap, ◌∙◌, arith, length-append, append-nil}
 use Rattle.std.proofs.lemmas.List.{length-reverse, reverse-reverse}
 use Rattle.std.proofs.Math.Seq.{take-append_seam, drop-append_seam}
 use Rattle.awk_value.specs.declared.value.Value.{Value}
+use Rattle.awk_value.specs.declared.value.Value.TheVariants as value
 use Rattle.awk_value.specs.Values.{str_of}
 use Rattle.awk_grammar.specs.declared.tree.PrintForm.{PrintForm}
 use Rattle.awk_grammar.specs.declared.tree.Redirection.{Redirection}
@@ -11,21 +12,25 @@ use Rattle.awk_kinds.specs.definitions.Kinds.{FormalParameter}
 use Rattle.awk_kinds.specs.definitions.Signatures.{ProgramKinds}
 use Rattle.awk_kinds.specs.definitions.NameUses.{count_of}
 use Rattle.awk_semantics.specs.declared.flow.Flow.TheVariants as flow
-use Rattle.awk_semantics.specs.definitions.State.{State, Run, ◌>>=◌, ret}
-use Rattle.awk_semantics.specs.definitions.Primitives.{spend, delete_element}
+use Rattle.awk_semantics.specs.definitions.State.{State, Run, ◌>>=◌, lift, ret, gives}
+use Rattle.awk_semantics.specs.definitions.Primitives.{spend, joined_key, delete_element}
 use Rattle.awk_semantics.specs.definitions.Streams.{open_target}
 use Rattle.awk_semantics.specs.definitions.Semantics.{Functions, eval, eval_all, key_of, printed_values, target_of, print_by}
-use Rattle.awk_semantics.specs.support.Keeps.{CallsKeep}
-use Rattle.awk_semantics.proofs.KeepsForms.{keeps_eval, keeps_eval_all}
+use Rattle.awk_semantics.specs.support.Keeps.{Keeps, CallsKeep}
+use Rattle.awk_semantics.proofs.Keeping.{keeps_bind, keeps_lift}
+use Rattle.awk_semantics.proofs.KeepsForms.{keeps_eval, keeps_key_of}
 use Rattle.awk_storage.specs.declared.position.Array.{Array}
+use Rattle.awk_storage.specs.definitions.Forms.{delete_at}
 use Rattle.awk_compile.specs.declared.node.Node.TheVariants as n
 use Rattle.awk_compile.specs.declared.node.EffectNode.TheVariants as e
 use Rattle.awk_compile.specs.declared.builder.Builder.{Builder}
 use Rattle.awk_compile.specs.declared.builder.Exits.{Exits}
 use Rattle.awk_compile.specs.definitions.Nodes.{Tables, Cont, taken}
-use Rattle.awk_compile.specs.support.Builds.{Grows, Pushes, IsIn, Program, Evaluate, EvaluateAll, EvaluateKey, Execute, leave_by, place_in, Places, Builds, Stands}
-use Rattle.awk_compile.proofs.Calculus.{assoc_at, given, later_in, first_same}
+use Rattle.awk_compile.specs.support.Printed.{listed}
+use Rattle.awk_compile.specs.support.Builds.{Grows, Pushes, IsIn, Program, Evaluate, EvaluateAll, EvaluateKey, Execute, key_value, IsArrayOf, leave_by, place_in, Places, Builds, Stands}
+use Rattle.awk_compile.proofs.Calculus.{assoc_at, given, later_same, later_in, first_same}
 use Rattle.awk_compile.proofs.Building.{grows, extends, placed, at_once}
+use Rattle.awk_compile.proofs.Elements.{deletes_element}
 use Rattle.awk_compile.proofs.Passing.{print_then, delete_then, simple_then}
 use Rattle.awk_compile.proofs.SimpleStatements.{evaluated, stepped}
 
@@ -47,6 +52,29 @@ all_taken ws vs count h = ap (λ k. reverse (take k (reverse ws ++ vs))) (sym (l
 
 all_dropped : (ws vs : List Value) (count : ℕ) → length ws ≡ count → drop count (reverse ws ++ vs) ≡ vs
 all_dropped ws vs count h = ap (λ k. drop k (reverse ws ++ vs)) (sym (length-reverse ws ∙ h)) ∙ drop-append_seam (reverse ws) vs
+
+-- keys
+
+one_key : (w : Value) (t : State) → joined_key (w ∷ []) t ≡ ret (str_of w) t
+unfolding joined_key lift
+one_key w t = ap (λ (key : List ℕ). gives key t) (append-nil (str_of w))
+
+joined_then : {B : Type 0} (m : Run (List ℕ)) (f : List ℕ → Run B) (s : State) → ((m >>= λ key. ret (value.Text key)) >>= λ w. f (str_of w)) s ≡ (m >>= f) s
+joined_then m f s = assoc_at m (λ key. ret (value.Text key)) (λ w. f (str_of w)) s ∙ later_same m _ _ s (λ key t. given (value.Text key) (λ w. f (str_of w)) t)
+
+-- a key is the text of its value
+key_then : {B : Type 0} (functions : Functions) (es : Exprs) (f : List ℕ → Run B) (s : State) → (key_value functions es >>= λ w. f (str_of w)) s ≡ (key_of functions [] es >>= f) s
+unfolding key_of
+key_then functions Nil f s = joined_then (key_of functions [] Nil) f s
+key_then functions (Cons x Nil) f s =
+    later_same (eval functions x) _ _ s (λ w t. sym (first_same _ _ f t (one_key w t) ∙ given (str_of w) f t))
+    ∙ sym (assoc_at (eval functions x) (λ w. joined_key (w ∷ [])) f s)
+key_then functions (Cons x (Cons y es)) f s = joined_then (key_of functions [] (Cons x (Cons y es))) f s
+
+keeps_key_value : (functions : Functions) → CallsKeep functions → (es : Exprs) → Keeps (key_value functions es)
+keeps_key_value functions calls Nil = keeps_bind (keeps_key_of functions calls [] Nil) (λ key. keeps_lift _)
+keeps_key_value functions calls (Cons x Nil) = keeps_eval functions calls x
+keeps_key_value functions calls (Cons x (Cons y es)) = keeps_bind (keeps_key_of functions calls [] (Cons x (Cons y es))) (λ key. keeps_lift _)
 
 module _ {kinds : ProgramKinds} {parameters : List FormalParameter} where
   -- the values of a list, and what they go to
@@ -121,3 +149,19 @@ module _ {kinds : ProgramKinds} {parameters : List FormalParameter} where
       simple_then functions (leave_by exits at vs) s (Print form list (Redirected way x))
       ∙ print_then functions (leave_by exits at vs) s form list (Redirected way x)
       ∙ ap (λ (values : Run (List Value)). (spend >>= λ _. values >>= λ ws. target_of functions (Redirected way x) >>= λ to. print functions at vs ws to) s) (same_values functions list))
+
+  -- deletions
+
+  pub delete_built : {a b c d : Builder} {x : List ℕ} {es : Exprs} {position : Array} {exits : Exits} {i j l : ℕ} → Stands exits.next a → IsArrayOf kinds parameters position x → Pushes a b (n.Effect (e.Delete position) exits.next) l
+      → Builds kinds parameters b c i (EvaluateKey es l) → Pushes c d (n.Effect e.Spend i) j → Builds kinds parameters a d j (Execute (Simple (Delete x es)) exits)
+  delete_built {x = x} {es = es} {position = position} {exits = exits} h is p q r =
+      let o = placed p h.below in
+      stepped (Execute (Simple (Delete x es)) exits) (λ functions at vs. key_of functions [] es >>= λ key. delete_element x key >>= λ _. at exits.next vs) (extends o.extends q.extends) r q.below
+      (λ y g m vs s i.
+      let rest : List ℕ → Run Value = λ key. delete_element x key >>= λ _. place_in y m exits.next vs in
+      q.is y g m vs s i
+      ∙ later_in _ _ s m (keeps_key_value y.functions y.calls.keep es) i (λ w t j.
+      at_once (o.is y (grows q.extends.grows g) m) (w ∷ vs) t
+      ∙ first_same (delete_at position (str_of w)) (delete_element x (str_of w)) (λ _. place_in y m exits.next vs) t (sym (deletes_element position x t (is.is y m t j) (str_of w))))
+      ∙ key_then y.functions es rest s)
+      (λ functions at vs s. simple_then functions (leave_by exits at vs) s (Delete x es) ∙ delete_then functions (leave_by exits at vs) s x es)
