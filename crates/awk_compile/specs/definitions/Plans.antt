@@ -19,7 +19,7 @@ use Rattle.awk_compile.specs.declared.plan.PlannedItem.{PlannedItem}
 use Rattle.awk_compile.specs.declared.plan.PlannedItem.TheVariants as item
 use Rattle.awk_compile.specs.declared.plan.Plan.{Plan}
 use Rattle.awk_compile.specs.definitions.Nodes.{Tables, cont_at, IsOrdered}
-use Rattle.awk_compile.specs.support.Builds.{AreScalars, IsIn, AreFor}
+use Rattle.awk_compile.specs.definitions.States.{AreScalars, IsIn, AreFor}
 
 -- what a place comes to, whatever lies on the stack there
 

@@ -26,19 +26,10 @@ use Rattle.awk_storage.specs.declared.position.Place.{Place}
 use Rattle.awk_compile.specs.declared.node.Node.{Node}
 use Rattle.awk_compile.specs.declared.builder.Builder.{Builder}
 use Rattle.awk_compile.specs.declared.builder.Exits.{Exits}
+pub use Rattle.awk_compile.specs.definitions.States.{IsScalar, AreScalars, IsIn, AreFor}
 use Rattle.awk_compile.specs.definitions.Nodes.{Tables, Cont, first, operands, made, level, cont_at, IsOrdered}
 
 -- building
-
--- a name whose value a run keeps by the name itself
-pub record IsScalar (x : List ℕ) : Type 0 where
-  pub not_special : (special : Special) → x ≢ name_of special
-  pub not_count : x ≢ codes "NF"
-
--- each has one slot
-pub record AreScalars (names : List (List ℕ)) : Type 0 where
-  pub each : (i : ℕ) (x : List ℕ) → slice_get names i ≡ Some x → IsScalar x
-  pub distinct : AreDistinct names
 
 pub record Grows (old new : Builder) : Type 0 where
   pub more : List Node
@@ -96,17 +87,6 @@ pub record Extends (old new : Builder) : Type 0 where
   pub long : length old.heads.items ≤ length new.heads.items
 
 -- where names stand
-
--- a state in which a body with these parameters runs, with at most so many steps; BEGIN, END and rules have none
-pub record IsIn (tables : Tables) (parameters : List FormalParameter) (most : ℕ) (s : State) : Type 0 where
-  pub low : s.steps ≤ most
-  pub names : map (λ (l : List ℕ × Local). l.0) (newest_locals s.frames) ≡ map (λ (p : FormalParameter). p.name) parameters
-  pub arrays : s.array_names ≡ tables.arrays
-
--- functions that are called by these tables, and keep what a call keeps
-pub record AreFor (tables : Tables) (functions : Functions) : Type 0 where
-  pub keep : CallsKeep functions
-  pub roles : (i : ℕ) (f : Signature) → slice_get tables.functions i ≡ Some f → functions.roles f.name ≡ map role_of f.parameters
 
 -- a whole program: all that is built of it, what the numbers in its nodes stand for, and what its calls do
 pub record Program (kinds : ProgramKinds) : Type 0 where
