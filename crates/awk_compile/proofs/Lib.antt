@@ -11,7 +11,7 @@ pub mod Standing
 pub mod Passing
 pub mod SimpleStatements
 pub mod PrintStatements
-pub mod Statements
+pub mod StatementForms
 pub mod LoopStatements
 pub mod WalkStatements
 pub mod Planning

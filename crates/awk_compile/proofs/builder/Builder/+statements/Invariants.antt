@@ -3,7 +3,7 @@ use Rattle.awk_grammar.proofs.tree.Statement.TheLaws.{the_size}
 use Rattle.awk_grammar.specs.View.{statements_of}
 use Rattle.awk_compile.specs.support.Builds.{ExecuteAll}
 use Rattle.awk_compile.specs.support.Scopes.{Builds}
-use Rattle.awk_compile.proofs.statements.Builder.+statements.Given as goal
+use Rattle.awk_compile.proofs.builder.Builder.+statements.Given as goal
 
 abbrev pub decreases-lower_statement : goal.decreases-lower_statement
 decreases-lower_statement l = 2 * the_size l.s.now
