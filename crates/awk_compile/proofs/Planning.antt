@@ -265,7 +265,7 @@ module _ {kinds : ProgramKinds} where
       let over_is : (p : Program kinds) → Grows f p.all → (m : ℕ) → place_in p m over ≡ nothing = λ p g m. over_placed.is p (grows after_over g) m in
       record {
         grows = grows filler.extends.grows (grows over_placed.extends.grows after_over);
-        ends = record {
+        stand = record {
           over = still printed.extends over_later;
           result = still printed.extends (record { below = result_placed.below; pos = (let h = result_placed.fresh in let k = over_placed.below in omega (arith, h, k)) });
           over_is = over_is;
@@ -304,5 +304,5 @@ planned {items = items} {d = d} {functions = functions} {made = made} no_nodes n
       distinct = scalars.distinct;
       scalars = scalars;
       functions = functions_also (λ parameters k m h. done d functions made parameters k m (holds_later third.grows h)) functions.items (definitions_of items) second.are;
-      items = items_also (λ parameters k m h. done d functions made parameters k m h) made.items items third.are;
+      parts = items_also (λ parameters k m h. done d functions made parameters k m h) made.items items third.are;
     }

@@ -94,4 +94,4 @@ pub record IsPlanOf (items : List Item) (plan : Plan) : Type 0 where
   pub distinct : AreDistinct plan.names
   pub scalars : AreScalars plan.names
   pub functions : AreFunctions (DoesIn items plan) plan.functions.items (definitions_of items)
-  pub items : AreItems (DoesIn items plan) plan.items.items items
+  pub parts : AreItems (DoesIn items plan) plan.items.items items

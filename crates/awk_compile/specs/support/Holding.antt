@@ -32,7 +32,7 @@ pub record EndsStand (kinds : ProgramKinds) (ends : Ends) (b : Builder) : Type 0
 
 pub record AddsEnds (kinds : ProgramKinds) (old new : Builder) (ends : Ends) : Type 0 where
   pub grows : Grows old new
-  pub ends : EndsStand kinds ends new
+  pub stand : EndsStand kinds ends new
 
 pub record AddsPlace (kinds : ProgramKinds) (old new : Builder) (parameters : List FormalParameter) (place : ℕ) (m : Meaning) : Type 0 where
   pub grows : Grows old new
