@@ -7,6 +7,7 @@ pub mod Loops
 pub mod Walks
 pub mod Variables
 pub mod Elements
+pub mod ValueLists
 pub mod Standing
 pub mod Passing
 pub mod SimpleStatements

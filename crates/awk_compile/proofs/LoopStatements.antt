@@ -43,19 +43,19 @@ pub levels_alike : {kinds : ProgramKinds} (p : Program kinds) (exits : Exits) (v
 levels_alike p exits vs k m s f low high =
     left_alike exits (place_in p k) (place_in p m) vs s (λ i. places_agree p.tables p.functions p.calls.keep p.all.heads.items p.all.nodes.items k m i vs s low high) f
 
-module _ {kinds : ProgramKinds} {parameters : List FormalParameter} where
-  -- the parts of a loop that is built: what it tests, its body, and what stands behind a turn
-  record Parts (c f : Builder) (test : Functions → Run Bool) (body : Statement) (last : Functions → Run (Unit {0})) (exits : Exits) (number again cond behind first : ℕ) : Type 0 where
-    keeps_test : (p : Program kinds) → Keeps (test p.functions)
-    keeps_last : (p : Program kinds) → Keeps (last p.functions)
-    turns : (p : Program kinds) → Grows f p.all → (m : ℕ) → place_in p m again ≡ turns_in p m number
-    pos : 0 < first
-    head : get_or f.heads.items number 0 ≡ first
-    tests : (p : Program kinds) → Grows f p.all → (m : ℕ) (vs : List Value) (s : State) → IsIn p.tables parameters m s → place_in p m cond vs s ≡ (test p.functions >>= λ b. choose b (place_in p m again vs) (place_in p m exits.next vs)) s
-    runs : (p : Program kinds) → Grows f p.all → (m : ℕ) (vs : List Value) (s : State) → IsIn p.tables parameters m s → place_in p m first vs s ≡ (exec p.functions body >>= leave_by (around behind exits.next) (place_in p m) vs) s
-    goes : (p : Program kinds) → Grows f p.all → (m : ℕ) (vs : List Value) (s : State) → IsIn p.tables parameters m s → place_in p m behind vs s ≡ (last p.functions >>= λ _. place_in p m cond vs) s
+-- the parts of a loop that is built: what it tests, its body, and what stands behind a turn
+record Parts (kinds : ProgramKinds) (parameters : List FormalParameter) (f : Builder) (test : Functions → Run Bool) (body : Statement) (last : Functions → Run (Unit {0})) (exits : Exits) (number again cond behind first : ℕ) : Type 0 where
+  keeps_test : (p : Program kinds) → Keeps (test p.functions)
+  keeps_last : (p : Program kinds) → Keeps (last p.functions)
+  turns : (p : Program kinds) → Grows f p.all → (m : ℕ) → place_in p m again ≡ turns_in p m number
+  pos : 0 < first
+  head : get_or f.heads.items number 0 ≡ first
+  tests : (p : Program kinds) → Grows f p.all → (m : ℕ) (vs : List Value) (s : State) → IsIn p.tables parameters m s → place_in p m cond vs s ≡ (test p.functions >>= λ b. choose b (place_in p m again vs) (place_in p m exits.next vs)) s
+  runs : (p : Program kinds) → Grows f p.all → (m : ℕ) (vs : List Value) (s : State) → IsIn p.tables parameters m s → place_in p m first vs s ≡ (exec p.functions body >>= leave_by (around behind exits.next) (place_in p m) vs) s
+  goes : (p : Program kinds) → Grows f p.all → (m : ℕ) (vs : List Value) (s : State) → IsIn p.tables parameters m s → place_in p m behind vs s ≡ (last p.functions >>= λ _. place_in p m cond vs) s
 
-  module _ {c f : Builder} {test : Functions → Run Bool} {body : Statement} {last : Functions → Run (Unit {0})} {exits : Exits} {number again cond behind first : ℕ} (parts : Parts c f test body last exits number again cond behind first) (p : Program kinds) (g : Grows f p.all) (vs : List Value) where
+module _ {kinds : ProgramKinds} {parameters : List FormalParameter} where
+  module _ {f : Builder} {test : Functions → Run Bool} {body : Statement} {last : Functions → Run (Unit {0})} {exits : Exits} {number again cond behind first : ℕ} (parts : Parts kinds parameters f test body last exits number again cond behind first) (p : Program kinds) (g : Grows f p.all) (vs : List Value) where
     is_loop : IsLoop p.tables parameters (test p.functions) (exec p.functions body) (last p.functions) (λ k. place_in p k cond vs) (λ k. place_in p k again vs) (λ k. place_in p k exits.next vs) (λ k. place_in p k first vs) (λ k. place_in p k behind vs)
         (λ k fl. leave_by exits (place_in p k) vs fl) (λ k fl. leave_by (around behind exits.next) (place_in p k) vs fl)
     is_loop =
@@ -88,7 +88,7 @@ module _ {kinds : ProgramKinds} {parameters : List FormalParameter} where
 
   -- a loop without a last part
   plain_parts : {a b c d f g : Builder} {x : Expr} {y : Statement} {exits : Exits} {number again cond first : ℕ} → Opens a b number → Pushes b c (n.Again number) again → Builds kinds parameters c d cond (Decide x again exits.next) → Builds kinds parameters d f first (Execute y (around cond exits.next)) → Closes f g number first
-      → (Extends a g) × Grows f g × Parts c g (λ functions. tested (eval functions x)) y (λ functions. ret tt) exits number again cond cond first
+      → (Extends a g) × Grows f g × Parts kinds parameters g (λ functions. tested (eval functions x)) y (λ functions. ret tt) exits number again cond cond first
   plain_parts {number = number} {cond = cond} p q t r w =
       let o = placed q tt in
       let shut = enclosed p (extends o.extends (extends t.extends r.extends)) w in
@@ -118,7 +118,7 @@ module _ {kinds : ProgramKinds} {parameters : List FormalParameter} where
       → Builds kinds parameters a h j (Execute (Do y x) exits)
   do_built {x = x} {y = y} {exits = exits} {again = again} p q t r w z =
       let built = plain_parts p q t r w in
-      let o = placed q tt in
+      let o = placed {kinds = kinds} q tt in
       stepped (Execute (Do y x) exits) (λ functions at vs. (turn (exec functions y) >>= λ ended. unless_ended ended (repeat (tested (eval functions x)) (exec functions y) (ret tt))) >>= leave_by exits at vs) built.0 z
       (longer again built.1 (longer again r.extends.grows (longer again t.extends.grows o.below)))
       (λ all k m vs s i. enters (is_loop built.2 all k vs) (λ l u h. refl) (keeps_repeat (built.2.keeps_test all) (keeps_exec all.functions all.calls.keep y) (built.2.keeps_last all)) m s i)
@@ -130,7 +130,7 @@ module _ {kinds : ProgramKinds} {parameters : List FormalParameter} where
   for_built {first = first} {last = last} {x = x} {y = y} {exits = exits} p q t u r w v z =
       let o = placed q tt in
       let shut = enclosed p (extends o.extends (extends t.extends (extends u.extends r.extends))) w in
-      let parts : Parts _ _ (λ functions. goes_on functions x) y (λ functions. exec_part functions last) exits _ _ _ _ _ = record {
+      let parts : Parts kinds parameters _ (λ functions. goes_on functions x) y (λ functions. exec_part functions last) exits _ _ _ _ _ = record {
         keeps_test = λ all. keeps_goes_on all.functions all.calls.keep x;
         keeps_last = λ all. keeps_exec_part all.functions all.calls.keep last;
         turns = λ all e m. o.is all (grows t.extends.grows (grows u.extends.grows (grows r.extends.grows (grows shut.1 e)))) m;

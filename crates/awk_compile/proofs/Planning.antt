@@ -48,21 +48,25 @@ handed_on : {A : Type 0} (m : Run A) (s : State) → (m >>= λ a. ret a) s ≡ m
 unfolding ◌>>=◌
 handed_on m s = go_ret (m s).result (m s).state (m s).effects
 
+stands_later : {a b : Builder} {k : ℕ} → Grows a b → Stands k a → Stands k b
+stands_later {k = k} g h = record { below = longer k g h.below; pos = h.pos }
+
 module _ {kinds : ProgramKinds} where
   -- what stands, stands later
 
   pub holds_later : {a b : Builder} {parameters : List FormalParameter} {k : ℕ} {m : Meaning} → Grows a b → Holds kinds a parameters k m → Holds kinds b parameters k m
   holds_later {k = k} g h = record { below = longer k g h.below; is = λ p e n vs s i. h.is p (grows g e) n vs s i }
 
-  stands_later : {a b : Builder} {k : ℕ} → Grows a b → Stands k a → Stands k b
-  stands_later {k = k} g h = record { below = longer k g h.below; pos = h.pos }
+  -- whatever it is
+  held : {a b : Builder} → Grows a b → (parameters : List FormalParameter) (k : ℕ) (m : Meaning) → Holds kinds a parameters k m → Holds kinds b parameters k m
+  held g parameters k m h = holds_later g h
 
   pub ends_later : {a b : Builder} {ends : Ends} → Grows a b → EndsStand kinds ends a → EndsStand kinds ends b
   ends_later g h = record {
     over = stands_later g h.over;
-    result = stands_later g h.result;
+    value = stands_later g h.value;
     over_is = λ p e n. h.over_is p (grows g e) n;
-    result_is = λ p e n. h.result_is p (grows g e) n;
+    value_is = λ p e n. h.value_is p (grows g e) n;
     print = holds_later g h.print;
   }
 
@@ -85,12 +89,12 @@ module _ {kinds : ProgramKinds} where
     };
   }
 
-  pub value_added : {parameters : List FormalParameter} {a b : Builder} {ends : Ends} {i : ℕ} {e : Expr} → EndsStand kinds ends a → Builds kinds parameters a b i (Evaluate e ends.result) → AddsPlace kinds a b parameters i (value_run e)
+  pub value_added : {parameters : List FormalParameter} {a b : Builder} {ends : Ends} {i : ℕ} {e : Expr} → EndsStand kinds ends a → Builds kinds parameters a b i (Evaluate e ends.value) → AddsPlace kinds a b parameters i (value_run e)
   value_added {e = e} h q = record {
     grows = q.extends.grows;
     holds = record {
       below = q.below;
-      is = λ p g n vs s i. q.is p g n vs s i ∙ later_same (eval p.functions e) _ _ s (λ w t. at_once (h.result_is p (grows q.extends.grows g) n) (w ∷ vs) t) ∙ handed_on (eval p.functions e) s;
+      is = λ p g n vs s i. q.is p g n vs s i ∙ later_same (eval p.functions e) _ _ s (λ w t. at_once (h.value_is p (grows q.extends.grows g) n) (w ∷ vs) t) ∙ handed_on (eval p.functions e) s;
     };
   }
 
@@ -104,20 +108,20 @@ module _ {Does Does' : List FormalParameter → ℕ → Meaning → Type 0} (als
   pattern_also (pattern.Range k l) (Single e) h = h
   pattern_also (pattern.Range k l) (Range d e) h = (also _ k _ h.0, also _ l _ h.1)
 
-  rule_also : (x : PlannedPattern) (k : ℕ) (y : Item) → IsRule Does x k y → IsRule Does' x k y
-  rule_also pattern.Every k (Action block) h = also _ k _ h
-  rule_also x k (PatternAction q block) h = (pattern_also x q h.0, also _ k _ h.1)
-  rule_also x k (PatternOnly q) h = (pattern_also x q h.0, also _ k _ h.1)
-  rule_also (pattern.Single l) k (Action block) h = h
-  rule_also (pattern.Range l l') k (Action block) h = h
-  rule_also x k (Begin block) h = absurd h
-  rule_also x k (End block) h = absurd h
-  rule_also x k (Function f parameters block) h = absurd h
+  rule_also : (y : Item) (x : PlannedPattern) (k : ℕ) → IsRule Does y x k → IsRule Does' y x k
+  rule_also (PatternAction q block) x k h = (pattern_also x q h.0, also _ k _ h.1)
+  rule_also (PatternOnly q) x k h = (pattern_also x q h.0, also _ k _ h.1)
+  rule_also (Action block) pattern.Every k h = also _ k _ h
+  rule_also (Action block) (pattern.Single l) k h = absurd h
+  rule_also (Action block) (pattern.Range l l') k h = absurd h
+  rule_also (Begin block) x k h = absurd h
+  rule_also (End block) x k h = absurd h
+  rule_also (Function f parameters block) x k h = absurd h
 
   pub item_also : (x : PlannedItem) (y : Item) → IsItem Does x y → IsItem Does' x y
   item_also (item.Begin k) (Begin block) h = also _ k _ h
   item_also (item.End k) (End block) h = also _ k _ h
-  item_also (item.Rule p k) y h = rule_also p k y h
+  item_also (item.Rule p k) y h = rule_also y p k h
   item_also item.Function (Function f parameters block) h = h
   item_also x y h = absurd h
 
@@ -138,7 +142,7 @@ module _ {Does Does' : List FormalParameter → ℕ → Meaning → Type 0} (als
 
 -- one more
 
-module _ {Does : List FormalParameter → ℕ → Meaning → Type 0} where
+module _ (Does : List FormalParameter → ℕ → Meaning → Type 0) where
   items_more : (xs : List PlannedItem) (ys : List Item) (x : PlannedItem) (y : Item) → AreItems Does xs ys → IsItem Does x y → AreItems Does (xs ++ x ∷ []) (ys ++ y ∷ [])
   items_more [] [] x y h k = (k, tt)
   items_more [] (z ∷ ys) x y h k = absurd h
@@ -158,19 +162,45 @@ module _ {Does : List FormalParameter → ℕ → Meaning → Type 0} where
   as_many (f ∷ fs) (d ∷ ds) h = ap suc (as_many fs ds h.1)
 
 module _ {kinds : ProgramKinds} where
+  -- patterns and items
+
+  pub single_added : {a b : Builder} {k : ℕ} {e : Expr} → AddsPlace kinds a b [] k (value_run e) → AddsPattern kinds a b (pattern.Single k) (Single e)
+  single_added h = record { grows = h.grows; is = h.holds }
+
+  pub range_added : {a b c : Builder} {k l : ℕ} {d e : Expr} → AddsPlace kinds a b [] k (value_run d) → AddsPlace kinds b c [] l (value_run e) → AddsPattern kinds a c (pattern.Range k l) (Range d e)
+  range_added h j = record { grows = grows h.grows j.grows; is = (holds_later j.grows h.holds, j.holds) }
+
+  pub begin_added : {a b : Builder} {k : ℕ} {all : Statements} → AddsPlace kinds a b [] k (body_run all) → AddsItem kinds a b (item.Begin k) (Begin all)
+  begin_added h = record { grows = h.grows; is = h.holds }
+
+  pub end_added : {a b : Builder} {k : ℕ} {all : Statements} → AddsPlace kinds a b [] k (body_run all) → AddsItem kinds a b (item.End k) (End all)
+  end_added h = record { grows = h.grows; is = h.holds }
+
+  pub action_added : {a b : Builder} {k : ℕ} {all : Statements} → AddsPlace kinds a b [] k (body_run all) → AddsItem kinds a b (item.Rule pattern.Every k) (Action all)
+  action_added h = record { grows = h.grows; is = h.holds }
+
+  pub pattern_action_added : {a b c : Builder} {x : PlannedPattern} {p : Pattern} {k : ℕ} {all : Statements} → AddsPattern kinds a b x p → AddsPlace kinds b c [] k (body_run all) → AddsItem kinds a c (item.Rule x k) (PatternAction p all)
+  pattern_action_added {x = x} {p = p} h j = record { grows = grows h.grows j.grows; is = (pattern_also (held j.grows) x p h.is, j.holds) }
+
+  pub pattern_only_added : {a b : Builder} {ends : Ends} {x : PlannedPattern} {p : Pattern} → EndsStand kinds ends a → AddsPattern kinds a b x p → AddsItem kinds a b (item.Rule x ends.print) (PatternOnly p)
+  pattern_only_added e h = record { grows = h.grows; is = (h.is, holds_later h.grows e.print) }
+
+  pub function_item_added : {a : Builder} (f : List ℕ) (parameters : List (List ℕ)) (all : Statements) → AddsItem kinds a a item.Function (Function f parameters all)
+  function_item_added {a = a} f parameters all = record { grows = (let stays : Extends a a = same in stays.grows); is = tt }
+
   pub no_items_added : {a b : Builder} → Grows a b → AddsItems kinds a b [] []
   no_items_added g = record { grows = g; are = tt }
 
   pub item_added : {a b c : Builder} {xs : List PlannedItem} {ys : List Item} {x : PlannedItem} {y : Item} → AddsItems kinds a b xs ys → AddsItem kinds b c x y → AddsItems kinds a c (xs ++ x ∷ []) (ys ++ y ∷ [])
-  item_added {xs = xs} {ys = ys} {x = x} {y = y} h k = record {
+  item_added {c = c} {xs = xs} {ys = ys} {x = x} {y = y} h k = record {
     grows = grows h.grows k.grows;
-    are = items_more xs ys x y (items_also (λ parameters l m. holds_later k.grows) xs ys h.are) k.is;
+    are = items_more (Holds kinds c) xs ys x y (items_also (held k.grows) xs ys h.are) k.is;
   }
 
-  pub function_added : {a b c : Builder} {fs : List PlannedFunction} {ds : List Definition} {f : PlannedFunction} {d : Definition} → AddsFunctions kinds a b fs ds → AddsBody kinds b c f d.parameters d.body → AddsFunctions kinds a c (fs ++ f ∷ []) (ds ++ d ∷ [])
-  function_added {fs = fs} {ds = ds} {f = f} {d = d} h k = record {
+  pub function_added : {a b c : Builder} {fs : List PlannedFunction} {ds : List Definition} {f : PlannedFunction} (d : Definition) → AddsFunctions kinds a b fs ds → AddsBody kinds b c f d.parameters d.body → AddsFunctions kinds a c (fs ++ f ∷ []) (ds ++ d ∷ [])
+  function_added {c = c} {fs = fs} {ds = ds} {f = f} d h k = record {
     grows = grows h.grows k.grows;
-    are = functions_more fs ds f d (functions_also (λ parameters l m. holds_later k.grows) fs ds h.are) (k.is d.name);
+    are = functions_more (Holds kinds c) fs ds f d (functions_also (held k.grows) fs ds h.are) (k.is d.name);
   }
 
 -- definitions, one after the other
@@ -215,7 +245,7 @@ module _ {kinds : ProgramKinds} where
       → AddsFunctions kinds a b fs (definitions_by arrays before) → AddsBody kinds b c made (map (parameter_by arrays f) parameters) block → AddsFunctions kinds a c (fs ++ made ∷ []) (definitions_by arrays (before ++ Function f parameters block ∷ []))
   next_function_added {a = a} {c = c} {fs = fs} {made = made} arrays before f parameters block h k =
       let d : Definition = record { name = f; parameters = map (parameter_by arrays f) parameters; body = block } in
-      let both : AddsFunctions kinds a c (fs ++ made ∷ []) (definitions_by arrays before ++ d ∷ []) = function_added h k in
+      let both : AddsFunctions kinds a c (fs ++ made ∷ []) (definitions_by arrays before ++ d ∷ []) = function_added d h k in
       subst (AddsFunctions kinds a c (fs ++ made ∷ [])) (sym (definitions_append arrays before (Function f parameters block ∷ []))) both
 
   -- one that is none
@@ -251,7 +281,7 @@ module _ {kinds : ProgramKinds} where
   }
 
   pub ends_built : {a b c d e f : Builder} {filler over result to print : ℕ} → Pushes a b n.End filler → Pushes b c n.End over → Pushes c d n.Return result → Pushes d e (n.Effect (effect.Print form.Print 0 None) over) to → Pushes e f (n.Effect effect.Spend to) print
-      → AddsEnds kinds a f (record { over = over; result = result; print = print })
+      → AddsEnds kinds a f (record { over = over; value = result; print = print })
   ends_built {f = f} {over = over} {result = result} at_0 at_over at_result at_to at_print =
       let filler = placed {kinds = kinds} at_0 tt in
       let over_placed = placed {kinds = kinds} at_over tt in
@@ -267,9 +297,9 @@ module _ {kinds : ProgramKinds} where
         grows = grows filler.extends.grows (grows over_placed.extends.grows after_over);
         stand = record {
           over = still printed.extends over_later;
-          result = still printed.extends (record { below = result_placed.below; pos = (let h = result_placed.fresh in let k = over_placed.below in omega (arith, h, k)) });
+          value = still printed.extends (record { below = result_placed.below; pos = (let h = result_placed.fresh in let k = over_placed.below in omega (arith, h, k)) });
           over_is = over_is;
-          result_is = λ p g m. result_placed.is p (grows printed.extends.grows g) m;
+          value_is = λ p g m. result_placed.is p (grows printed.extends.grows g) m;
           print = print_held printed over_is;
         };
       }
@@ -277,9 +307,9 @@ module _ {kinds : ProgramKinds} where
 -- a plan
 
 -- what is held while a program is lowered is done by its plan
-done : {items : List Item} (b : Builder) (functions : Vec PlannedFunction) (made : Vec PlannedItem) (parameters : List FormalParameter) (k : ℕ) (m : Meaning) → Holds (kinds_of items) b parameters k m
+done : (items : List Item) (b : Builder) (functions : Vec PlannedFunction) (made : Vec PlannedItem) (parameters : List FormalParameter) (k : ℕ) (m : Meaning) → Holds (kinds_of items) b parameters k m
     → DoesIn items (record { nodes = b.nodes; heads = b.heads; names = b.names; eres = b.eres; functions = functions; items = made }) parameters k m
-done {items = items} b functions made parameters k m h = record {
+done items b functions made parameters k m h = record {
   below = h.below;
   is = λ calls for n vs s i.
       h.is (record {
@@ -303,6 +333,6 @@ planned {items = items} {d = d} {functions = functions} {made = made} no_nodes n
       ordered = g.ordered (subst IsOrdered (sym no_nodes) (λ at node e. cc));
       distinct = scalars.distinct;
       scalars = scalars;
-      functions = functions_also (λ parameters k m h. done d functions made parameters k m (holds_later third.grows h)) functions.items (definitions_of items) second.are;
-      parts = items_also (λ parameters k m h. done d functions made parameters k m h) made.items items third.are;
+      functions = functions_also (λ parameters k m h. done items d functions made parameters k m (holds_later third.grows h)) functions.items (definitions_of items) second.are;
+      parts = items_also (done items d functions made) made.items items third.are;
     }

@@ -1,116 +1,74 @@
 -- What is built of prints and deletions does what they mean.
-use Rattle.std.proofs.Common.{◌≡◌, ℕ, ◌+◌, ◌<◌, List, [], ◌∷◌, ◌++◌, reverse, take, drop, Some, None, length, refl, sym, ap, ◌∙◌, arith, length-append, append-nil}
-use Rattle.std.proofs.lemmas.List.{length-reverse, reverse-reverse}
-use Rattle.std.proofs.Math.Seq.{take-append_seam, drop-append_seam}
+use Rattle.std.proofs.Common.{◌≡◌, ℕ, ◌+◌, ◌<◌, List, [], ◌∷◌, ◌++◌, reverse, take, drop, suc, Some, None, length, refl, sym, ap, ◌∙◌, arith}
 use Rattle.awk_value.specs.declared.value.Value.{Value}
-use Rattle.awk_value.specs.declared.value.Value.TheVariants as value
 use Rattle.awk_value.specs.Values.{str_of}
 use Rattle.awk_grammar.specs.declared.tree.PrintForm.{PrintForm}
 use Rattle.awk_grammar.specs.declared.tree.Redirection.{Redirection}
-use Rattle.awk_grammar.specs.Tree.{Expr, Exprs, Nil, Cons, PrintList, Bare, Parenthesized, Standard, Redirected, Print, Delete, Simple}
+use Rattle.awk_grammar.specs.Tree.{Expr, Exprs, PrintList, Bare, Parenthesized, Standard, Redirected, Print, Delete, Simple}
 use Rattle.awk_kinds.specs.definitions.Kinds.{FormalParameter}
 use Rattle.awk_kinds.specs.definitions.Signatures.{ProgramKinds}
 use Rattle.awk_kinds.specs.definitions.NameUses.{count_of}
 use Rattle.awk_semantics.specs.declared.flow.Flow.TheVariants as flow
-use Rattle.awk_semantics.specs.definitions.State.{State, Run, ◌>>=◌, lift, ret, gives}
-use Rattle.awk_semantics.specs.definitions.Primitives.{spend, joined_key, delete_element}
+use Rattle.awk_semantics.specs.definitions.State.{State, Run, ◌>>=◌, ret}
+use Rattle.awk_semantics.specs.definitions.Primitives.{spend, delete_element}
 use Rattle.awk_semantics.specs.definitions.Streams.{open_target}
 use Rattle.awk_semantics.specs.definitions.Semantics.{Functions, eval, eval_all, key_of, printed_values, target_of, print_by}
-use Rattle.awk_semantics.specs.support.Keeps.{Keeps, CallsKeep}
-use Rattle.awk_semantics.proofs.Keeping.{keeps_bind, keeps_lift}
-use Rattle.awk_semantics.proofs.KeepsForms.{keeps_eval, keeps_key_of}
 use Rattle.awk_storage.specs.declared.position.Array.{Array}
 use Rattle.awk_storage.specs.definitions.Forms.{delete_at}
 use Rattle.awk_compile.specs.declared.node.Node.TheVariants as n
 use Rattle.awk_compile.specs.declared.node.EffectNode.TheVariants as e
 use Rattle.awk_compile.specs.declared.builder.Builder.{Builder}
 use Rattle.awk_compile.specs.declared.builder.Exits.{Exits}
-use Rattle.awk_compile.specs.definitions.Nodes.{Tables, Cont, taken}
+use Rattle.awk_compile.specs.definitions.Nodes.{Cont, taken}
 use Rattle.awk_compile.specs.support.Printed.{listed}
-use Rattle.awk_compile.specs.support.Builds.{Grows, Pushes, IsIn, Program, Evaluate, EvaluateAll, EvaluateKey, Execute, key_value, IsArrayOf, leave_by, place_in, Places, Builds, Stands}
-use Rattle.awk_compile.proofs.Calculus.{assoc_at, given, later_same, later_in, first_same}
+use Rattle.awk_compile.specs.support.Builds.{Grows, Pushes, IsIn, Program, Evaluate, EvaluateAll, EvaluateKey, Execute, IsArrayOf, leave_by, place_in, Places, Builds, Stands}
+use Rattle.awk_compile.proofs.Calculus.{assoc_at, later_in, first_same}
 use Rattle.awk_compile.proofs.Building.{grows, extends, placed, at_once}
 use Rattle.awk_compile.proofs.Elements.{deletes_element}
+use Rattle.awk_compile.proofs.ValueLists.{taken_all, dropped_all, keyed, keeps_key_value, counted}
 use Rattle.awk_compile.proofs.Passing.{print_then, delete_then, simple_then}
 use Rattle.awk_compile.proofs.SimpleStatements.{evaluated, stepped}
 
--- the values of a list, as many as it has expressions
-counted : {tables : Tables} {parameters : List FormalParameter} {B : Type 0} (functions : Functions) (calls : CallsKeep functions) (front : List Value) (es : Exprs) (f g : List Value → Run B) (m : ℕ) (s : State) → IsIn tables parameters m s
-    → ((ws : List Value) (t : State) → length ws ≡ length front + count_of es → IsIn tables parameters m t → f ws t ≡ g ws t) → (eval_all functions front es >>= f) s ≡ (eval_all functions front es >>= g) s
-unfolding eval_all
-counted functions calls front Nil f g m s i h = given front f s ∙ h front s (omega arith) i ∙ sym (given front g s)
-counted functions calls front (Cons x es) f g m s i h =
-    assoc_at (eval functions x) (λ w. eval_all functions (front ++ w ∷ []) es) f s
-    ∙ later_in _ _ s m (keeps_eval functions calls x) i
-    (λ w t j. counted functions calls (front ++ w ∷ []) es f g m t j (λ ws u count k. h ws u (omega (arith, count, length-append front (w ∷ []))) k))
-    ∙ sym (assoc_at (eval functions x) (λ w. eval_all functions (front ++ w ∷ []) es) g s)
+-- a print node, with the values of the list on the stack
 
--- values on the stack are taken off it
+standard_at : {kinds : ProgramKinds} {a b : Builder} {form : PrintForm} {count k l : ℕ} → Places kinds a b l (n.Effect (e.Print form count None) k) → (p : Program kinds) → Grows b p.all → (m : ℕ) (ws vs : List Value) (t : State) → length ws ≡ count
+    → place_in p m l (reverse ws ++ vs) t ≡ (target_of p.functions Standard >>= λ to. print_by p.functions form to ws >>= λ _. place_in p m k vs) t
+unfolding target_of
+standard_at {form = form} {count = count} {k = k} o p g m ws vs t h =
+    let xs : List Value = reverse ws ++ vs in
+    let all : 0 + count ≡ count = omega arith in
+    at_once (o.is p g m) xs t
+    ∙ assoc_at (ret 0) (λ to. print_by p.functions form to (taken count xs)) (λ _. place_in p m k (drop (0 + count) xs)) t
+    ∙ ap (λ (ys : List Value). (ret 0 >>= λ to. print_by p.functions form to ys >>= λ _. place_in p m k (drop (0 + count) xs)) t) (taken_all ws vs count h)
+    ∙ ap (λ (ys : List Value). (ret 0 >>= λ to. print_by p.functions form to ws >>= λ _. place_in p m k ys) t) (ap (λ c. drop c xs) all ∙ dropped_all ws vs count h)
 
-all_taken : (ws vs : List Value) (count : ℕ) → length ws ≡ count → taken count (reverse ws ++ vs) ≡ ws
-all_taken ws vs count h = ap (λ k. reverse (take k (reverse ws ++ vs))) (sym (length-reverse ws ∙ h)) ∙ ap reverse (take-append_seam (reverse ws) vs) ∙ reverse-reverse ws
+redirected_at : {kinds : ProgramKinds} {a b : Builder} {form : PrintForm} {way : Redirection} {count k l : ℕ} → Places kinds a b l (n.Effect (e.Print form count (Some way)) k) → (p : Program kinds) → Grows b p.all → (m : ℕ) (w : Value) (ws vs : List Value) (t : State) → length ws ≡ count
+    → place_in p m l (w ∷ (reverse ws ++ vs)) t ≡ (open_target way (str_of w) >>= λ to. print_by p.functions form to ws >>= λ _. place_in p m k vs) t
+redirected_at {form = form} {way = way} {count = count} {k = k} o p g m w ws vs t h =
+    let xs : List Value = reverse ws ++ vs in
+    let all : 1 + count ≡ suc count = omega arith in
+    at_once (o.is p g m) (w ∷ xs) t
+    ∙ assoc_at (open_target way (str_of w)) (λ to. print_by p.functions form to (taken count xs)) (λ _. place_in p m k (drop (1 + count) (w ∷ xs))) t
+    ∙ ap (λ (ys : List Value). (open_target way (str_of w) >>= λ to. print_by p.functions form to ys >>= λ _. place_in p m k (drop (1 + count) (w ∷ xs))) t) (taken_all ws vs count h)
+    ∙ ap (λ (ys : List Value). (open_target way (str_of w) >>= λ to. print_by p.functions form to ws >>= λ _. place_in p m k ys) t) (ap (λ c. drop c (w ∷ xs)) all ∙ dropped_all ws vs count h)
 
-all_dropped : (ws vs : List Value) (count : ℕ) → length ws ≡ count → drop count (reverse ws ++ vs) ≡ vs
-all_dropped ws vs count h = ap (λ k. drop k (reverse ws ++ vs)) (sym (length-reverse ws ∙ h)) ∙ drop-append_seam (reverse ws) vs
+same_values : (functions : Functions) (list : PrintList) → printed_values functions list ≡ eval_all functions [] (listed list)
+unfolding printed_values
+same_values functions (Bare es) = refl
+same_values functions (Parenthesized es) = refl
 
--- keys
-
-one_key : (w : Value) (t : State) → joined_key (w ∷ []) t ≡ ret (str_of w) t
-unfolding joined_key lift
-one_key w t = ap (λ (key : List ℕ). gives key t) (append-nil (str_of w))
-
-joined_then : {B : Type 0} (m : Run (List ℕ)) (f : List ℕ → Run B) (s : State) → ((m >>= λ key. ret (value.Text key)) >>= λ w. f (str_of w)) s ≡ (m >>= f) s
-joined_then m f s = assoc_at m (λ key. ret (value.Text key)) (λ w. f (str_of w)) s ∙ later_same m _ _ s (λ key t. given (value.Text key) (λ w. f (str_of w)) t)
-
--- a key is the text of its value
-key_then : {B : Type 0} (functions : Functions) (es : Exprs) (f : List ℕ → Run B) (s : State) → (key_value functions es >>= λ w. f (str_of w)) s ≡ (key_of functions [] es >>= f) s
-unfolding key_of
-key_then functions Nil f s = joined_then (key_of functions [] Nil) f s
-key_then functions (Cons x Nil) f s =
-    later_same (eval functions x) _ _ s (λ w t. sym (first_same _ _ f t (one_key w t) ∙ given (str_of w) f t))
-    ∙ sym (assoc_at (eval functions x) (λ w. joined_key (w ∷ [])) f s)
-key_then functions (Cons x (Cons y es)) f s = joined_then (key_of functions [] (Cons x (Cons y es))) f s
-
-keeps_key_value : (functions : Functions) → CallsKeep functions → (es : Exprs) → Keeps (key_value functions es)
-keeps_key_value functions calls Nil = keeps_bind (keeps_key_of functions calls [] Nil) (λ key. keeps_lift _)
-keeps_key_value functions calls (Cons x Nil) = keeps_eval functions calls x
-keeps_key_value functions calls (Cons x (Cons y es)) = keeps_bind (keeps_key_of functions calls [] (Cons x (Cons y es))) (λ key. keeps_lift _)
+-- a target that is evaluated, and then opened
+target_then : (functions : Functions) (way : Redirection) (x : Expr) (f : ℕ → Run Value) (s : State) → (target_of functions (Redirected way x) >>= f) s ≡ (eval functions x >>= λ w. open_target way (str_of w) >>= f) s
+unfolding target_of
+target_then functions way x f s = assoc_at (eval functions x) (λ w. open_target way (str_of w)) f s
 
 module _ {kinds : ProgramKinds} {parameters : List FormalParameter} where
   -- the values of a list, and what they go to
   pub all_evaluated : {b c : Builder} {es : Exprs} {i j : ℕ} → Builds kinds parameters b c i (EvaluateAll es j) → (p : Program kinds) → Grows c p.all → (m : ℕ) (vs : List Value) (s : State) → IsIn p.tables parameters m s
       → (rest : List Value → Run Value) → ((ws : List Value) (t : State) → length ws ≡ count_of es → IsIn p.tables parameters m t → place_in p m j (reverse ws ++ vs) t ≡ rest ws t) → place_in p m i vs s ≡ (eval_all p.functions [] es >>= rest) s
-  all_evaluated {es = es} q p g m vs s i rest h = q.is p g m vs s i ∙ counted p.functions p.calls.keep [] es _ rest m s i (λ ws t count k. h ws t (omega (arith, count)) k)
-
-  -- a print node, with the values of the list on the stack
-
-  standard_at : {a b : Builder} {form : PrintForm} {count k l : ℕ} → Places kinds a b l (n.Effect (e.Print form count None) k) → (p : Program kinds) → Grows b p.all → (m : ℕ) (ws vs : List Value) (t : State) → length ws ≡ count
-      → place_in p m l (reverse ws ++ vs) t ≡ (target_of p.functions Standard >>= λ to. print_by p.functions form to ws >>= λ _. place_in p m k vs) t
-  unfolding target_of
-  standard_at {form = form} {count = count} {k = k} o p g m ws vs t h =
-      let xs : List Value = reverse ws ++ vs in
-      let all : 0 + count ≡ count = omega arith in
-      at_once (o.is p g m) xs t
-      ∙ assoc_at (ret 0) (λ to. print_by p.functions form to (taken count xs)) (λ _. place_in p m k (drop (0 + count) xs)) t
-      ∙ ap (λ (ys : List Value). (ret 0 >>= λ to. print_by p.functions form to ys >>= λ _. place_in p m k (drop (0 + count) xs)) t) (all_taken ws vs count h)
-      ∙ ap (λ (ys : List Value). (ret 0 >>= λ to. print_by p.functions form to ws >>= λ _. place_in p m k ys) t) (ap (λ c. drop c xs) all ∙ all_dropped ws vs count h)
-
-  redirected_at : {a b : Builder} {form : PrintForm} {way : Redirection} {count k l : ℕ} → Places kinds a b l (n.Effect (e.Print form count (Some way)) k) → (p : Program kinds) → Grows b p.all → (m : ℕ) (w : Value) (ws vs : List Value) (t : State) → length ws ≡ count
-      → place_in p m l (w ∷ (reverse ws ++ vs)) t ≡ (open_target way (str_of w) >>= λ to. print_by p.functions form to ws >>= λ _. place_in p m k vs) t
-  redirected_at {form = form} {way = way} {count = count} {k = k} o p g m w ws vs t h =
-      let xs : List Value = reverse ws ++ vs in
-      let all : 1 + count ≡ suc count = omega arith in
-      at_once (o.is p g m) (w ∷ xs) t
-      ∙ assoc_at (open_target way (str_of w)) (λ to. print_by p.functions form to (taken count xs)) (λ _. place_in p m k (drop (1 + count) (w ∷ xs))) t
-      ∙ ap (λ (ys : List Value). (open_target way (str_of w) >>= λ to. print_by p.functions form to ys >>= λ _. place_in p m k (drop (1 + count) (w ∷ xs))) t) (all_taken ws vs count h)
-      ∙ ap (λ (ys : List Value). (open_target way (str_of w) >>= λ to. print_by p.functions form to ws >>= λ _. place_in p m k ys) t) (ap (λ c. drop c (w ∷ xs)) all ∙ all_dropped ws vs count h)
+  all_evaluated {es = es} q p g m vs s i rest h = q.is p g m vs s i ∙ counted p.functions p.calls.keep es _ rest m s i h
 
   -- prints
-
-  same_values : (functions : Functions) (list : PrintList) → printed_values functions list ≡ eval_all functions [] (listed list)
-  unfolding printed_values
-  same_values functions (Bare es) = refl
-  same_values functions (Parenthesized es) = refl
 
   pub print_built : {a b c d : Builder} {form : PrintForm} {list : PrintList} {exits : Exits} {count i j l : ℕ} → Stands exits.next a → count ≡ count_of (listed list) → Pushes a b (n.Effect (e.Print form count None) exits.next) l
       → Builds kinds parameters b c i (EvaluateAll (listed list) l) → Pushes c d (n.Effect e.Spend i) j → Builds kinds parameters a d j (Execute (Simple (Print form list Standard)) exits)
@@ -125,11 +83,6 @@ module _ {kinds : ProgramKinds} {parameters : List FormalParameter} where
       simple_then functions (leave_by exits at vs) s (Print form list Standard)
       ∙ print_then functions (leave_by exits at vs) s form list Standard
       ∙ ap (λ (values : Run (List Value)). (spend >>= λ _. values >>= λ ws. target_of functions Standard >>= λ to. print_by functions form to ws >>= λ _. at exits.next vs) s) (same_values functions list))
-
-  -- a target that is evaluated, and then opened
-  target_then : (functions : Functions) (way : Redirection) (x : Expr) (f : ℕ → Run Value) (s : State) → (target_of functions (Redirected way x) >>= f) s ≡ (eval functions x >>= λ w. open_target way (str_of w) >>= f) s
-  unfolding target_of
-  target_then functions way x f s = assoc_at (eval functions x) (λ w. open_target way (str_of w)) f s
 
   pub redirected_built : {a b c d f : Builder} {form : PrintForm} {list : PrintList} {way : Redirection} {x : Expr} {exits : Exits} {count i j k l : ℕ} → Stands exits.next a → count ≡ count_of (listed list)
       → Pushes a b (n.Effect (e.Print form count (Some way)) exits.next) l → Builds kinds parameters b c k (Evaluate x l) → Builds kinds parameters c d i (EvaluateAll (listed list) k) → Pushes d f (n.Effect e.Spend i) j
@@ -163,5 +116,5 @@ module _ {kinds : ProgramKinds} {parameters : List FormalParameter} where
       ∙ later_in _ _ s m (keeps_key_value y.functions y.calls.keep es) i (λ w t j.
       at_once (o.is y (grows q.extends.grows g) m) (w ∷ vs) t
       ∙ first_same (delete_at position (str_of w)) (delete_element x (str_of w)) (λ _. place_in y m exits.next vs) t (sym (deletes_element position x t (is.is y m t j) (str_of w))))
-      ∙ key_then y.functions es rest s)
+      ∙ keyed y.functions es rest s)
       (λ functions at vs s. simple_then functions (leave_by exits at vs) s (Delete x es) ∙ delete_then functions (leave_by exits at vs) s x es)

@@ -46,6 +46,14 @@ module _ (functions : Functions) {B : Type 0} (out out' : Flow → Run B) (norma
   passes_alike (Exit (AnExpr x)) other s = exit_with_then functions out s x ∙ sym (exit_with_then functions out' s x)
   passes_alike (Return x) other s = absurd (other x refl)
 
+-- what a simple statement goes on with
+abbrev simply : SimpleStatement → Exits → Part
+simply simple exits = Execute (Simple simple) exits
+
+-- behind a value that is dropped
+dropped_at : {kinds : ProgramKinds} {a b : Builder} {k l : ℕ} → Places kinds a b l (n.Effect (e.Drop 1) k) → (p : Program kinds) → Grows b p.all → (m : ℕ) (w : Value) (vs : List Value) (t : State) → place_in p m l (w ∷ vs) t ≡ place_in p m k vs t
+dropped_at {k = k} o p g m w vs t = at_once (o.is p g m) (w ∷ vs) t ∙ given tt (λ _. place_in p m k vs) t
+
 module _ {kinds : ProgramKinds} {parameters : List FormalParameter} where
   -- an expression, and what its value goes to
   pub evaluated : {b c : Builder} {x : Expr} {i j : ℕ} → Builds kinds parameters b c i (Evaluate x j) → (p : Program kinds) → Grows c p.all → (m : ℕ) (vs : List Value) (s : State) → IsIn p.tables parameters m s
@@ -54,9 +62,9 @@ module _ {kinds : ProgramKinds} {parameters : List FormalParameter} where
 
   -- a test, and what it chooses
   pub decided : {b c : Builder} {x : Expr} {i here other : ℕ} → Builds kinds parameters b c i (Decide x here other) → (p : Program kinds) → Grows c p.all → (m : ℕ) (vs : List Value) (s : State) → IsIn p.tables parameters m s
-      → (yes no : Run Value) → ((t : State) → IsIn p.tables parameters m t → place_in p m here vs t ≡ yes t) → ((t : State) → IsIn p.tables parameters m t → place_in p m other vs t ≡ no t)
-      → place_in p m i vs s ≡ (eval p.functions x >>= λ w. choose (truth_of w) yes no) s
-  decided {x = x} q p g m vs s i yes no h k = q.is p g m vs s i ∙ later_in _ _ s m (keeps_eval p.functions p.calls.keep x) i (λ w t j. both (truth_of w) _ _ _ _ t (h t j) (k t j))
+      → (u w : Run Value) → ((t : State) → IsIn p.tables parameters m t → place_in p m here vs t ≡ u t) → ((t : State) → IsIn p.tables parameters m t → place_in p m other vs t ≡ w t)
+      → place_in p m i vs s ≡ (eval p.functions x >>= λ x'. choose (truth_of x') u w) s
+  decided {x = x} q p g m vs s i u w h k = q.is p g m vs s i ∙ later_in _ _ s m (keeps_eval p.functions p.calls.keep x) i (λ x' t j. both (truth_of x') _ _ _ _ t (h t j) (k t j))
 
   -- what spends a step as it begins
   pub stepped : {a c d : Builder} {i j : ℕ} (part : Part) (rest : Functions → (ℕ → Cont) → Cont) → Extends a c → Pushes c d (n.Effect e.Spend i) j → i < length c.nodes.items
@@ -74,14 +82,6 @@ module _ {kinds : ProgramKinds} {parameters : List FormalParameter} where
             ∙ later_in _ _ s m keeps_spend i (λ _ t j. e' p (grows o.extends.grows k) m vs t j)
             ∙ sym (means p.functions (place_in p m) vs s);
       }
-
-  -- what a simple statement goes on with
-  abbrev simply : SimpleStatement → Exits → Part
-  simply simple exits = Execute (Simple simple) exits
-
-  -- behind a value that is dropped
-  dropped_at : {a b : Builder} {k l : ℕ} → Places kinds a b l (n.Effect (e.Drop 1) k) → (p : Program kinds) → Grows b p.all → (m : ℕ) (w : Value) (vs : List Value) (t : State) → place_in p m l (w ∷ vs) t ≡ place_in p m k vs t
-  dropped_at {k = k} o p g m w vs t = at_once (o.is p g m) (w ∷ vs) t ∙ given tt (λ _. place_in p m k vs) t
 
   pub expression_built : {a b c d : Builder} {x : Expr} {exits : Exits} {i j l : ℕ} → Stands exits.next a → Pushes a b (n.Effect (e.Drop 1) exits.next) l → Builds kinds parameters b c i (Evaluate x l) → Pushes c d (n.Effect e.Spend i) j
       → Builds kinds parameters a d j (Execute (Simple (Expression x)) exits)

@@ -22,6 +22,14 @@ use Rattle.awk_compile.proofs.Building.{grows, extends, same, both}
 use Rattle.awk_compile.proofs.Passing.{empty_then, block_then, none_then, more_then, if_then, if_else_then}
 use Rattle.awk_compile.proofs.SimpleStatements.{decided, stepped}
 
+-- what a statement passes on to, before others
+passed : (exits : Exits) (next : ℕ) (at : ℕ → Cont) (vs : List Value) (rest : Run Flow) (f : Flow) (t : State) → at next vs t ≡ (rest >>= leave_by exits at vs) t
+    → leave_by (record { next = next; breaks = exits.breaks; continues = exits.continues }) at vs f t ≡ (pass_on f rest >>= leave_by exits at vs) t
+passed exits next at vs rest flow.Normal t h = h
+passed exits next at vs rest flow.Break t h = sym (given flow.Break (leave_by exits at vs) t)
+passed exits next at vs rest flow.Continue t h = sym (given flow.Continue (leave_by exits at vs) t)
+passed exits next at vs rest (flow.Return w) t h = sym (given (flow.Return w) (leave_by exits at vs) t)
+
 module _ {kinds : ProgramKinds} {parameters : List FormalParameter} where
   pub empty_built : {a : Builder} {exits : Exits} → Stands exits.next a → Builds kinds parameters a a exits.next (Execute Empty exits)
   empty_built {exits = exits} h = record {
@@ -68,14 +76,6 @@ module _ {kinds : ProgramKinds} {parameters : List FormalParameter} where
     pos = h.pos;
     is = λ y g m vs s i. sym (none_then y.functions (leave_by exits (place_in y m) vs) s);
   }
-
-  -- what a statement passes on to, before others
-  passed : (exits : Exits) (next : ℕ) (at : ℕ → Cont) (vs : List Value) (rest : Run Flow) (f : Flow) (t : State) → at next vs t ≡ (rest >>= leave_by exits at vs) t
-      → leave_by (record { next = next; breaks = exits.breaks; continues = exits.continues }) at vs f t ≡ (pass_on f rest >>= leave_by exits at vs) t
-  passed exits next at vs rest flow.Normal t h = h
-  passed exits next at vs rest flow.Break t h = sym (given flow.Break (leave_by exits at vs) t)
-  passed exits next at vs rest flow.Continue t h = sym (given flow.Continue (leave_by exits at vs) t)
-  passed exits next at vs rest (flow.Return w) t h = sym (given (flow.Return w) (leave_by exits at vs) t)
 
   pub more_built : {a b c : Builder} {x : Statement} {all : Statements} {exits : Exits} {i j : ℕ} → Builds kinds parameters a b j (ExecuteAll all exits)
       → Builds kinds parameters b c i (Execute x (record { next = j; breaks = exits.breaks; continues = exits.continues })) → Builds kinds parameters a c i (ExecuteAll (Then x all) exits)

@@ -141,8 +141,8 @@ module _ {kinds : ProgramKinds} {parameters : List FormalParameter} (x : List �
 
     pub is_global : (slot : ℕ) → slice_get b.names slot ≡ Some x → IsVariableOf kinds parameters b (variable.Global slot) x
     is_global slot e = record {
-      reads = λ p g n s h. reads_outside x s (ap (λ ns. place_of ns x) h.names ∙ outside) ∙ ap (λ o. read_slot o s) (sym (front_at b.names p.tables.names slot x (front_then g.names p.names) e));
-      puts = λ p g n w s h. puts_outside x w s (ap (λ ns. place_of ns x) h.names ∙ outside) ∙ ap (λ o. put_slot o w s) (sym (front_at b.names p.tables.names slot x (front_then g.names p.names) e));
+      reads = λ p g n s h. reads_outside x s (ap (λ ns. place_of ns x) h.names ∙ outside) ∙ ap (λ o. read_slot o s) (sym (front_at b.names p.tables.names slot x (front_then b.names g.names p.names) e));
+      puts = λ p g n w s h. puts_outside x w s (ap (λ ns. place_of ns x) h.names ∙ outside) ∙ ap (λ o. put_slot o w s) (sym (front_at b.names p.tables.names slot x (front_then b.names g.names p.names) e));
     }
 
 -- a scalar that gets a slot

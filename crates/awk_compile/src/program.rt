@@ -24,7 +24,7 @@ struct Ends {
     /// Nothing is left to be done.
     over: u32,
     /// The topmost value is what was wanted.
-    result: u32,
+    value: u32,
     /// The record is printed, and then nothing is left to be done.
     print: u32,
 }
@@ -50,17 +50,13 @@ impl Builder {
     {
         self.push(Node::End)?;
         let over = self.push(Node::End)?;
-        let result = self.push(Node::Return)?;
+        let value = self.push(Node::Return)?;
         let print = self.push(Node::Effect(
             EffectNode::Print(PrintForm::Print, 0, None),
             over,
         ))?;
         let print = self.step(print)?;
-        Ok(Ends {
-            over,
-            result,
-            print,
-        })
+        Ok(Ends { over, value, print })
     }
 
     /// A body, which ends with its statements.
@@ -86,7 +82,7 @@ impl Builder {
         requires { EndsStand scope.now.kinds.now ends self.old }
         ensures { IfOk result (λ place. AddsPlace scope.now.kinds.now self.old self.new (parameters_of scope.now) place (value_run (expr_of e.now))) }
     {
-        self.lower(scope, e, ends.result)
+        self.lower(scope, e, ends.value)
     }
 
     fn lower_pattern_of(

@@ -2,7 +2,7 @@
 
 ghost use Rattle.std.specs.Prelude.{◌≡◌, IfOk};
 ghost use Rattle.awk_grammar.specs.View.{expr_of, optional_expr_of, simple_of, optional_simple_of, statement_of, statements_of};
-ghost use Rattle.awk_grammar.specs.Tree.{If, IfElse, While, Do, ForIn, For, Simple, ASimple};
+ghost use Rattle.awk_grammar.specs.Tree.{If, While, Do, ForIn, For, Return, ASimple};
 ghost use Rattle.awk_compile.specs.support.Builds.{Stands, ExitsStand, Opens, DecideOptional, Execute, ExecuteAll, ExecutePart};
 ghost use Rattle.awk_compile.specs.support.Scopes.{Builds};
 
@@ -14,6 +14,26 @@ use awk_value::Bytes;
 use std::alloc::AllocError;
 
 impl Builder {
+    /// A `return` as an outer part of a `for`: its value is of no use.
+    fn lower_useless_return(
+        &mut self,
+        scope: &Scope,
+        e: &Option<Box<Expr>>,
+        next: u32,
+    ) -> Result<u32, AllocError>
+        requires { Stands next self.old }
+        ensures { IfOk result (λ place. Builds scope.now self.old self.new place (ExecutePart (ASimple (Return (optional_expr_of e.now))) next)) }
+    {
+        match e {
+            None => self.step(next),
+            Some(e) => {
+                let leave = self.push(Node::Effect(EffectNode::Drop(1), next))?;
+                let value = self.lower(scope, e, leave)?;
+                self.step(value)
+            }
+        }
+    }
+
     /// An outer part of a `for`; how it passes on is of no use.
     fn lower_part(
         &mut self,
@@ -28,12 +48,7 @@ impl Builder {
             return Ok(next);
         };
         match simple {
-            SimpleStatement::Return(None) => self.step(next),
-            SimpleStatement::Return(Some(e)) => {
-                let leave = self.push(Node::Effect(EffectNode::Drop(1), next))?;
-                let value = self.lower(scope, e, leave)?;
-                self.step(value)
-            }
+            SimpleStatement::Return(e) => self.lower_useless_return(scope, e, next),
             _ => {
                 let exits = Exits {
                     next,

@@ -48,16 +48,16 @@ module _ (Does : Doing) where
   IsPattern (pattern.Range k l) (Range d e) = Does [] k (value_run d) × Does [] l (value_run e)
   IsPattern p q = ⊥
 
-  abbrev pub IsRule : PlannedPattern → ℕ → Item → Type 0
-  IsRule pattern.Every k (Action block) = Does [] k (body_run block)
-  IsRule p k (PatternAction q block) = IsPattern p q × Does [] k (body_run block)
-  IsRule p k (PatternOnly q) = IsPattern p q × Does [] k print_run
-  IsRule p k x = ⊥
+  abbrev pub IsRule : Item → PlannedPattern → (action : ℕ) → Type 0
+  IsRule (PatternAction q block) p k = IsPattern p q × Does [] k (body_run block)
+  IsRule (PatternOnly q) p k = IsPattern p q × Does [] k print_run
+  IsRule (Action block) pattern.Every k = Does [] k (body_run block)
+  IsRule x p k = ⊥
 
   abbrev pub IsItem : PlannedItem → Item → Type 0
   IsItem (item.Begin k) (Begin block) = Does [] k (body_run block)
   IsItem (item.End k) (End block) = Does [] k (body_run block)
-  IsItem (item.Rule p k) x = IsRule p k x
+  IsItem (item.Rule p k) x = IsRule x p k
   IsItem item.Function (Function f parameters block) = Unit {0}
   IsItem x y = ⊥
 

@@ -23,9 +23,9 @@ pub record Holds (kinds : ProgramKinds) (b : Builder) (parameters : List FormalP
 -- the places at which a program's parts end
 pub record EndsStand (kinds : ProgramKinds) (ends : Ends) (b : Builder) : Type 0 where
   pub over : Stands ends.over b
-  pub result : Stands ends.result b
+  pub value : Stands ends.value b
   pub over_is : (p : Program kinds) → Grows b p.all → (n : ℕ) → place_in p n ends.over ≡ nothing
-  pub result_is : (p : Program kinds) → Grows b p.all → (n : ℕ) → place_in p n ends.result ≡ (λ vs. ret (first vs))
+  pub value_is : (p : Program kinds) → Grows b p.all → (n : ℕ) → place_in p n ends.value ≡ (λ vs. ret (first vs))
   pub print : Holds kinds b [] ends.print print_run
 
 -- what is added to what was built
