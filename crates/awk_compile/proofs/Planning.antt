@@ -7,9 +7,10 @@ use Rattle.awk_grammar.specs.Tree.{Expr, Nil, Bare, Standard, Print, Simple, Sta
 use Rattle.awk_grammar.specs.declared.tree.Item.{Item as CodeItem}
 use Rattle.awk_grammar.specs.declared.tree.Item.TheVariants as code
 use Rattle.awk_grammar.specs.declared.tree.PrintForm.TheVariants as form
-use Rattle.awk_grammar.specs.View.{item_of}
+use Rattle.awk_grammar.specs.View.{item_of, items_of}
 use Rattle.awk_kinds.specs.declared.variable.Variable.{Variable}
-use Rattle.awk_kinds.specs.definitions.Kinds.{FormalParameter, Definition, parameter_by, definitions_by, definitions_of}
+use Rattle.awk_kinds.specs.definitions.Kinds.{FormalParameter, Definition, arrays_of, parameter_by, definitions_by, definitions_of}
+use Rattle.awk_kinds.proofs.KindsMade.{items_around}
 use Rattle.awk_kinds.specs.definitions.Signatures.{ProgramKinds, signature_by, kinds_of}
 use Rattle.awk_semantics.specs.declared.flow.Flow.{Flow}
 use Rattle.awk_semantics.specs.declared.flow.Flow.TheVariants as flow
@@ -188,8 +189,8 @@ module _ {kinds : ProgramKinds} where
   pub function_item_added : {a : Builder} (f : List ℕ) (parameters : List (List ℕ)) (all : Statements) → AddsItem kinds a a item.Function (Function f parameters all)
   function_item_added {a = a} f parameters all = record { grows = (let stays : Extends a a = same in stays.grows); is = tt }
 
-  pub no_items_added : {a b : Builder} → Grows a b → AddsItems kinds a b [] []
-  no_items_added g = record { grows = g; are = tt }
+  pub no_items_added : (b : Builder) → AddsItems kinds b b [] []
+  no_items_added b = record { grows = (let stays : Extends b b = same in stays.grows); are = tt }
 
   pub item_added : {a b c : Builder} {xs : List PlannedItem} {ys : List Item} {x : PlannedItem} {y : Item} → AddsItems kinds a b xs ys → AddsItem kinds b c x y → AddsItems kinds a c (xs ++ x ∷ []) (ys ++ y ∷ [])
   item_added {c = c} {xs = xs} {ys = ys} {x = x} {y = y} h k = record {
@@ -232,13 +233,25 @@ next_signature arrays all before behind f parameters block count is many =
     ∙ ap (λ n. slice_get (map signature_by (definitions_by arrays before ++ d ∷ definitions_by arrays behind)) n) many
     ∙ mapped_seam signature_by (definitions_by arrays before) d (definitions_by arrays behind)
 
+-- the signature of a function, once those before it are lowered
+pub signature_at : {kinds : ProgramKinds} {a b : Builder} {fs : List PlannedFunction} (all : List CodeItem) (i : ℕ) (x : CodeItem) (f : List ℕ) (parameters : List (List ℕ)) (block : Statements) (count : ℕ) → i < length all → x ≡ get_or all i x → item_of x ≡ Function f parameters block
+    → kinds ≡ kinds_of (items_of all) → AddsFunctions kinds a b fs (definitions_by (arrays_of (items_of all)) (items_of (take i all))) → count ≡ length fs
+    → slice_get kinds.functions count ≡ Some (record { name = f; parameters = map (parameter_by (arrays_of (items_of all)) f) parameters })
+signature_at {kinds = kinds} {b = b} {fs = fs} all i x f parameters block count low is function same adds many =
+    let arrays = arrays_of (items_of all) in
+    let before = items_of (take i all) in
+    let behind = items_of (drop (i + 1) all) in
+    let split : items_of all ≡ before ++ Function f parameters block ∷ behind = items_around all i x low is ∙ ap (λ y. before ++ (y ∷ behind)) function in
+    ap (λ (k : ProgramKinds). slice_get k.functions count) same
+    ∙ next_signature arrays (items_of all) before behind f parameters block count split (many ∙ as_many (Holds kinds b) fs (definitions_by arrays before) adds.are)
+
 pub no_definition : (arrays : List Variable) (x : CodeItem) → ((f : _) (parameters : _) (block : _) → x ≡ code.Function f parameters block → ⊥) → definitions_by arrays (item_of x ∷ []) ≡ []
 no_definition arrays (code.Function f parameters block) h = absurd (h f parameters block refl)
 no_definition arrays x h = refl
 
 module _ {kinds : ProgramKinds} where
-  pub no_functions_added : {a b : Builder} → Grows a b → AddsFunctions kinds a b [] []
-  no_functions_added g = record { grows = g; are = tt }
+  pub no_functions_added : (b : Builder) → AddsFunctions kinds b b [] []
+  no_functions_added b = record { grows = (let stays : Extends b b = same in stays.grows); are = tt }
 
   -- an item that is a function
   pub next_function_added : {a b c : Builder} {fs : List PlannedFunction} {made : PlannedFunction} (arrays : List Variable) (before : List Item) (f : List ℕ) (parameters : List (List ℕ)) (block : Statements)
