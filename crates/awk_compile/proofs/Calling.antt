@@ -6,7 +6,7 @@ use Rattle.awk_value.specs.declared.value.Value.TheVariants as value
 use Rattle.awk_grammar.specs.Tree.{Statements, Item}
 use Rattle.awk_grammar.specs.Height.{height_of_block}
 use Rattle.awk_variables.specs.Names.{has_name}
-use Rattle.awk_variables.proofs.Numbering.{has_name-stands}
+use Rattle.awk_compile.proofs.Named.{has_name_at}
 use Rattle.awk_kinds.specs.definitions.Kinds.{FormalParameter, Definition, definitions_of, function_names_of}
 use Rattle.awk_kinds.specs.definitions.Signatures.{Signature, signature_by, kinds_of}
 use Rattle.awk_kinds.specs.definitions.Fits.{has_repeat}
@@ -33,7 +33,7 @@ other_name : (b : Bool) (names : List (List ℕ)) (x y : List ℕ) (i : ℕ) →
 other_name false names x y i e once at = refl
 other_name true names x y i e once at =
     let same : y ≡ x = (bytes_eq-Decides y x).0 e in
-    let there : has_name names x ≡ true = has_name-stands names i x (subst (λ z. slice_get names i ≡ Some z) same at) in
+    let there : has_name names x ≡ true = has_name_at names i x (subst (λ z. slice_get names i ≡ Some z) same at) in
     let both : (has_name names x || has_repeat names) ≡ true = ap (λ c. c || has_repeat names) there in
     cc
 
@@ -76,10 +76,10 @@ are_for items tables once is n = record {
 
 -- the state in which a body runs
 
-named_bound : (b : Bool) (x : List ℕ) (yes no : List (List ℕ × Local)) (n : ℕ) (names : List (List ℕ)) → map (λ (l : List ℕ × Local). l.0) yes ≡ names → map (λ (l : List ℕ × Local). l.0) no ≡ names
-    → map (λ (l : List ℕ × Local). l.0) (if b then (x, local.Array n) ∷ yes else (x, local.Value value.Nothing) ∷ no) ≡ x ∷ names
-named_bound true x yes no n names h k = ap (λ l. x ∷ l) h
-named_bound false x yes no n names h k = ap (λ l. x ∷ l) k
+named_bound : (b : Bool) (x : List ℕ) (made other : List (List ℕ × Local)) (n : ℕ) (names : List (List ℕ)) → map (λ (l : List ℕ × Local). l.0) made ≡ names → map (λ (l : List ℕ × Local). l.0) other ≡ names
+    → map (λ (l : List ℕ × Local). l.0) (if b then (x, local.Array n) ∷ made else (x, local.Value value.Nothing) ∷ other) ≡ x ∷ names
+named_bound true x made other n names h k = ap (λ l. x ∷ l) h
+named_bound false x made other n names h k = ap (λ l. x ∷ l) k
 
 bound_names : (parameters : List FormalParameter) (given : List Local) (n : ℕ) → map (λ (l : List ℕ × Local). l.0) (bound parameters given n) ≡ map (λ (p : FormalParameter). p.name) parameters
 bound_names [] given n = refl

@@ -1,3 +1,4 @@
+pub mod Named
 pub mod Calculus
 pub mod Listed
 pub mod Building

@@ -7,7 +7,7 @@ use Rattle.awk_value.specs.declared.value.Value.{Value}
 use Rattle.awk_variables.specs.declared.special.Special.{Special}
 use Rattle.awk_variables.specs.Variables.{name_of}
 use Rattle.awk_variables.specs.Names.{IsFront, has_name, with_name}
-use Rattle.awk_variables.proofs.Numbering.{has_name-stands}
+use Rattle.awk_compile.proofs.Named.{has_name_at}
 use Rattle.awk_kinds.specs.definitions.Kinds.{FormalParameter}
 use Rattle.awk_kinds.specs.definitions.Signatures.{ProgramKinds, place_of, parameter_names}
 use Rattle.awk_semantics.specs.declared.local.Local.{Local}
@@ -148,7 +148,7 @@ module _ {kinds : ProgramKinds} {parameters : List FormalParameter} (x : List �
 -- a scalar that gets a slot
 
 no_slot : (names : List (List ℕ)) (i : ℕ) (x : List ℕ) → has_name names x ≡ false → slice_get names i ≡ Some x → ⊥
-no_slot names i x e h = let y : has_name names x ≡ true = has_name-stands names i x h in cc
+no_slot names i x e h = let y : has_name names x ≡ true = has_name_at names i x h in cc
 
 scalars_with : (names : List (List ℕ)) (x : List ℕ) → IsScalar x → AreScalars names → AreScalars (with_name names x)
 scalars_with names x is all = by (has_name names x) refl
