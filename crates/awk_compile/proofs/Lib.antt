@@ -7,3 +7,14 @@ pub mod Loops
 pub mod Walks
 pub mod Variables
 pub mod Elements
+pub mod ValueLists
+pub mod Taking
+pub mod Targets
+pub mod OtherPlaces
+pub mod ExpressionForms
+pub mod PatternForms
+pub mod ConditionForms
+pub mod ListForms
+pub mod CallForms
+pub mod BuiltInForms
+pub mod GetlineForms
