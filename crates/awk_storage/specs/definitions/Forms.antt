@@ -1,6 +1,6 @@
 -- What built-in functions, `getline` and walks do with arrays and places by their positions (POSIX awk, String Functions;
 -- Input/Output and General Functions; Actions).
-use Rattle.std.specs.Prelude.{ℕ, zero, suc, pos, negsuc, Bool, List, length, Option, Some, None}
+use Rattle.std.specs.Prelude.{ℕ, zero, suc, pos, negsuc, Bool, false, List, length, Option, Some, None}
 use Rattle.awk_value.specs.declared.value.Value.{Value}
 use Rattle.awk_value.specs.declared.value.Value.TheVariants as value
 use Rattle.awk_value.specs.Values.{str_of}

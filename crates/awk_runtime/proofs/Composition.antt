@@ -1,0 +1,209 @@
+-- How what the parts of the code do is put together.
+use Rattle.std.proofs.Common.{◌≡◌, ◌≢◌, ◌⊎◌, inl, inr, ◌≤◌, ℕ, Bool, List, [], ◌∷◌, ◌++◌, Option, None, Result, Ok, Err, refl, sym, ap, ◌∙◌, subst, arith, append_assoc, append-nil}
+use Rattle.awk_world.specs.declared.world.InputKind.{InputKind}
+use Rattle.awk_world.specs.declared.world.OutputKind.{OutputKind}
+use Rattle.awk_channels.specs.WorldState.{WorldState}
+use Rattle.awk_channels.specs.Oracle.{Oracle}
+use Rattle.awk_channels.specs.Streams.{StreamsView, AreOpen, AreSound, AreAs, printed_openings}
+use Rattle.awk_channels.proofs.GrowsLemmas.{Grows-self, Grows-then}
+use Rattle.awk_semantics.specs.declared.halt.Halt.{Halt}
+use Rattle.awk_semantics.specs.declared.halt.Halt.TheVariants as halt
+use Rattle.awk_semantics.specs.declared.fault.Fault.TheVariants.{OutOfMemory}
+use Rattle.awk_semantics.specs.State.{Effect, State, Out, Run, go_on, ◌>>=◌, lift}
+use Rattle.awk_semantics.specs.Results.{Sort, WantOfMemory, FailedWrite, OfLanguage, sort_of, YieldsBy, Yields}
+use Rattle.awk_semantics.specs.Meaning.{first_outputs, outputs_after, requests_from}
+use Rattle.awk_semantics.specs.Order.{MeetsAll, first_stage}
+use Rattle.awk_runtime.specs.declared.runtime.Runtime.{Runtime}
+use Rattle.awk_runtime.specs.support.Simulation.{OwnRelation, stage_of, StreamsRelation, StateRelation, IsReady, FailureRelation, ResultRelationBy, ResultRelation, SimulatesLogged, Simulates, Changes, Follows, Beside, SameState}
+use Rattle.awk_runtime.proofs.Effects.{begins-longer, begins_still, begins_same}
+
+-- what a failure left still begins with what is printed, and with more
+failure_longer : {failure : Type 0} {m : Runtime} {k : WorldState} (past xs ys : List Effect) → FailureRelation failure m k (past ++ xs) → FailureRelation failure m k (past ++ (xs ++ ys))
+failure_longer {m = m} {k = k} past xs ys h = record { begins = begins-longer (printed_openings k m.streams) past xs ys h.begins; failure = h.failure }
+
+-- want of memory where all is as the meaning has it
+pub unfailed : {failure : Type 0} (oracle : Oracle) (m new : Runtime) (k : WorldState) (s : State) (past more : List Effect) → new.streams ≡ m.streams → StateRelation oracle m k s past → ((k.first_failure ≡ None) → failure) → FailureRelation failure new k (past ++ more)
+unfailed oracle m new k s past more same stands failure = record { begins = begins_still (printed_openings k new.streams) past more (ap (printed_openings k) same ∙ stands.streams.printed); failure = failure stands.clear }
+
+-- what lies outside the code's own part is the same
+pub record OwnPart (s t : State) : Type 0 where
+  pub outside : t.outside ≡ s.outside
+  pub openings : t.openings ≡ s.openings
+  pub output_openings : t.output_openings ≡ s.output_openings
+  pub closings : t.closings ≡ s.closings
+  pub runs : t.runs ≡ s.runs
+  pub outputs : t.outputs ≡ s.outputs
+  pub main : t.main ≡ s.main
+  pub streams : t.streams ≡ s.streams
+
+-- effects that came before
+shift_by : {A : Type 0} (oracle : Oracle) (m : Runtime) (k : WorldState) (h : Sort) (o : Out A) (past first : List Effect) → ResultRelationBy oracle m k h o (past ++ first) → ResultRelationBy oracle m k h (record { result = o.result; state = o.state; effects = first ++ o.effects }) past
+shift_by oracle m k WantOfMemory o past first c = rw (← append_assoc past first o.effects) c
+shift_by oracle m k FailedWrite o past first c = rw (← append_assoc past first o.effects) c
+shift_by oracle m k (OfLanguage reason) o past first c = rw (← append_assoc past first o.effects) c
+
+pub shift : {A : Type 0} (oracle : Oracle) (m : Runtime) (k : WorldState) (r : Result A Halt) (o : Out A) (past first : List Effect) → ResultRelation oracle m k r o (past ++ first) → ResultRelation oracle m k r (record { result = o.result; state = o.state; effects = first ++ o.effects }) past
+shift oracle m k (Ok a) o past first c = rw (← append_assoc past first o.effects) c
+shift oracle m k (Err h) o past first c = shift_by oracle m k (sort_of h) o past first c
+
+bound_ok : {A B : Type 0} (oracle : Oracle) (m : Runtime) (k : WorldState) (r : Result B Halt) (past : List Effect) (f : A → Run B) (a : A) (o : Result A Halt) (t : State) (effects : List Effect) → o ≡ Ok a → ResultRelation oracle m k r (f a t) (past ++ effects) → ResultRelation oracle m k r (go_on o t effects f) past
+unfolding go_on
+bound_ok oracle m k r past f a o t effects e c = rw e (shift oracle m k r (f a t) past effects c)
+
+err_on : {A B : Type 0} (oracle : Oracle) (m : Runtime) (k : WorldState) (h : Sort) (past : List Effect) (f : A → Run B) (o : Result A Halt) (t : State) (effects : List Effect) → ResultRelationBy oracle m k h (record { result = o; state = t; effects = effects }) past → ResultRelationBy oracle m k h (go_on o t effects f) past
+unfolding go_on
+err_on oracle m k WantOfMemory past f (Ok a) t effects c = failure_longer past effects (f a t).effects c
+err_on oracle m k WantOfMemory past f (Err e) t effects c = c
+err_on oracle m k FailedWrite past f (Ok a) t effects c = failure_longer past effects (f a t).effects c
+err_on oracle m k FailedWrite past f (Err e) t effects c = c
+err_on oracle m k (OfLanguage reason) past f (Ok a) t effects c = let e : Ok a ≡ Err reason = c.0 in absurd (cc)
+err_on oracle m k (OfLanguage reason) past f (Err e) t effects c = let q : Err e ≡ Err reason = c.0 in ((cc), c.1)
+
+-- what was done first and went well, and then the rest
+pub then_logged : {A B : Type 0} {old mid new : Runtime} {before between after : WorldState} {a : A} {r : Result B Halt} {run : Run A} (f : A → Run B) → SimulatesLogged old before mid between (Ok a) run → SimulatesLogged mid between new after r (f a) → SimulatesLogged old before new after r (run >>= f)
+unfolding ◌>>=◌
+then_logged {new = new} {after = after} {a = a} {r = r} {run = run} f x y = record {
+  grows = Grows-then x.grows y.grows;
+  means = λ oracle s past consistent stands.
+      let c = x.means oracle s past (y.grows.consistent oracle consistent) stands in
+      bound_ok oracle new after r past f a (run s).result (run s).state (run s).effects c.0
+      (y.means oracle (run s).state (past ++ (run s).effects) consistent c.1);
+}
+
+-- what was done first and ended
+pub ends_logged : {A B : Type 0} {old new : Runtime} {before after : WorldState} {h : Halt} {run : Run A} (f : A → Run B) → SimulatesLogged old before new after (Err h) run → SimulatesLogged old before new after (Err h) (run >>= f)
+unfolding ◌>>=◌
+ends_logged {new = new} {after = after} {h = h} {run = run} f x = record {
+  grows = x.grows;
+  means = λ oracle s past consistent stands.
+      err_on oracle new after (sort_of h) past f (run s).result (run s).state (run s).effects (x.means oracle s past consistent stands);
+}
+
+-- want of memory may be met anywhere
+pub memory_logged : {A : Type 0} (m : Runtime) (k : WorldState) (run : Run A) → SimulatesLogged m k m k (Err (halt.Fault OutOfMemory)) run
+memory_logged m k run = record {
+  grows = Grows-self k;
+  means = λ oracle s past consistent stands. unfailed oracle m m k s past (run s).effects refl stands (λ none. inl none);
+}
+
+stands_still : {oracle : Oracle} {m : Runtime} {k : WorldState} {s : State} {past : List Effect} → StateRelation oracle m k s past → StateRelation oracle m k s (past ++ [])
+stands_still {oracle = oracle} {m = m} {k = k} {s = s} {past = past} h = subst (λ (l : List Effect). StateRelation oracle m k s l) (sym (append-nil past)) h
+
+lifted_by : {A : Type 0} (oracle : Oracle) (m : Runtime) (k : WorldState) (h : Sort) (r : Result A Halt) (s : State) (past : List Effect) → YieldsBy h r → StateRelation oracle m k s past → ResultRelationBy oracle m k h (record { result = r; state = s; effects = [] }) past
+lifted_by oracle m k WantOfMemory r s past e stands = unfailed oracle m m k s past [] refl stands (λ none. inl none)
+lifted_by oracle m k FailedWrite r s past e stands = absurd e
+lifted_by oracle m k (OfLanguage reason) r s past e stands = (e, stands_still stands)
+
+lifted : {A : Type 0} (oracle : Oracle) (m : Runtime) (k : WorldState) (c : Result A Halt) (r : Result A Halt) (s : State) (past : List Effect) → Yields c r → StateRelation oracle m k s past → ResultRelation oracle m k c (record { result = r; state = s; effects = [] }) past
+lifted oracle m k (Ok a) r s past e stands = (e, stands_still stands)
+lifted oracle m k (Err h) r s past e stands = lifted_by oracle m k (sort_of h) r s past e stands
+
+-- a result that is had without a change
+pub lift_logged : {A : Type 0} {c : Result A Halt} (r : Result A Halt) (m : Runtime) (k : WorldState) → Yields c r → SimulatesLogged m k m k c (lift r)
+unfolding lift
+lift_logged {c = c} r m k e = record {
+  grows = Grows-self k;
+  means = λ oracle s past consistent stands. lifted oracle m k c r s past e stands;
+}
+
+pub then_simulates : {A B : Type 0} {is_logged : Type 0} {old mid new : Runtime} {before between after : WorldState} {a : A} {r : Result B Halt} {run : Run A} (f : A → Run B) → Simulates is_logged old before mid between (Ok a) run → Simulates is_logged mid between new after r (f a) → Simulates is_logged old before new after r (run >>= f)
+then_simulates f x y = record {
+  steps = omega (arith, x.steps, y.steps);
+  names = y.names ∙ x.names;
+  told = λ t. then_logged f (x.told t) (y.told t);
+}
+
+pub ends_simulates : {A B : Type 0} {is_logged : Type 0} {old new : Runtime} {before after : WorldState} {h : Halt} {run : Run A} (f : A → Run B) → Simulates is_logged old before new after (Err h) run → Simulates is_logged old before new after (Err h) (run >>= f)
+ends_simulates f x = record { steps = x.steps; names = x.names; told = λ t. ends_logged f (x.told t) }
+
+pub memory_simulates : {A : Type 0} {is_logged : Type 0} (m : Runtime) (k : WorldState) (run : Run A) → Simulates is_logged m k m k (Err (halt.Fault OutOfMemory)) run
+memory_simulates m k run = record { steps = omega arith; names = refl; told = λ t. memory_logged m k run }
+
+pub lift_simulates : {A : Type 0} {is_logged : Type 0} {c : Result A Halt} (r : Result A Halt) (m : Runtime) (k : WorldState) → Yields c r → Simulates is_logged m k m k c (lift r)
+lift_simulates r m k e = record { steps = omega arith; names = refl; told = λ t. lift_logged r m k e }
+
+pub change_simulates : {A : Type 0} {is_logged : Type 0} {old new : Runtime} {k : WorldState} {r : Result A Halt} {run : Run A} → Changes run old new r → Simulates is_logged old k new k r run
+change_simulates {k = k} h = record { steps = h.steps; names = h.names; told = λ t. h.means k }
+
+-- what is ready stays so where the streams are the same
+pub ready_same : {is_logged : Type 0} {k : WorldState} {old new : StreamsView} → new ≡ old → IsReady is_logged k old → IsReady is_logged k new
+ready_same {is_logged = is_logged} {k = k} same ready = subst (λ s. IsReady is_logged k s) (sym same) ready
+
+pub ready_behind : {A : Type 0} {is_logged : Type 0} {k : WorldState} {old new : Runtime} {r : Result A Halt} {run : Run A} → Changes run old new r → IsReady is_logged k old.streams → IsReady is_logged k new.streams
+ready_behind h ready = ready_same h.streams ready
+
+-- changes of the code's state alone
+
+pub then_changes : {A B : Type 0} {old mid new : Runtime} {a : A} {r : Result B Halt} {run : Run A} (f : A → Run B) → Changes run old mid (Ok a) → Changes (f a) mid new r → Changes (run >>= f) old new r
+then_changes f x y = record {
+  steps = omega (arith, x.steps, y.steps);
+  names = y.names ∙ x.names;
+  streams = y.streams ∙ x.streams;
+  means = λ k. then_logged f (x.means k) (y.means k);
+}
+
+pub ends_changes : {A B : Type 0} {old new : Runtime} {h : Halt} {run : Run A} (f : A → Run B) → Changes run old new (Err h) → Changes (run >>= f) old new (Err h)
+ends_changes f x = record { steps = x.steps; names = x.names; streams = x.streams; means = λ k. ends_logged f (x.means k) }
+
+pub lift_changes : {A : Type 0} {c : Result A Halt} (r : Result A Halt) (m : Runtime) → Yields c r → Changes (lift r) m m c
+lift_changes r m e = record { steps = omega arith; names = refl; streams = refl; means = λ k. lift_logged r m k e }
+
+pub memory_changes : {A : Type 0} (run : Run A) {old new : Runtime} → new.streams ≡ old.streams → new.names ≡ old.names → new.steps ≤ old.steps → Changes run old new (Err (halt.Fault OutOfMemory))
+memory_changes run same names low = record {
+  steps = low;
+  names = names;
+  streams = same;
+  means = λ k. record { grows = Grows-self k; means = λ oracle s past consistent stands. unfailed oracle _ _ k s past (run s).effects same stands (λ none. inl none) };
+}
+
+-- the streams stand for those of a state that differs in the code's own part alone
+pub streams_own : {oracle : Oracle} {old new : StreamsView} {k : WorldState} {s t : State} {past : List Effect} → new ≡ old → OwnPart s t → StreamsRelation oracle old k s past → StreamsRelation oracle new k t (past ++ [])
+streams_own {oracle = oracle} {old = old} {new = new} {k = k} {s = s} {t = t} {past = past} same own stands = subst (λ (v : StreamsView). StreamsRelation oracle v k t (past ++ [])) (sym same) (subst (λ (l : List Effect). StreamsRelation oracle old k t l) (sym (append-nil past)) record {
+  outside = own.outside ∙ stands.outside;
+  openings = λ kind name. ap (λ (f : InputKind → List ℕ → ℕ). f kind name) own.openings ∙ stands.openings kind name;
+  output_openings = λ kind name. ap (λ (f : OutputKind → List ℕ → ℕ). f kind name) own.output_openings ∙ stands.output_openings kind name;
+  closings = own.closings ∙ stands.closings;
+  runs = own.runs ∙ stands.runs;
+  outputs = own.outputs ∙ stands.outputs;
+  are = subst (λ rest. AreAs oracle k old rest t.streams) (sym own.main) (subst (λ open_streams. AreAs oracle k old s.main open_streams) (sym own.streams) stands.are);
+  printed = stands.printed;
+  turn = stands.turn;
+})
+
+-- a state that differs in the code's own part alone stands after the same effects
+stands_own : {oracle : Oracle} {old new : Runtime} {k : WorldState} {s t : State} {past : List Effect} → new.streams ≡ old.streams → OwnPart s t → OwnRelation new t → StateRelation oracle old k s past → StateRelation oracle new k t (past ++ [])
+stands_own same own holds stands = record { clear = stands.clear; streams = streams_own same own stands.streams; holds = holds }
+
+own_by : {A : Type 0} (oracle : Oracle) (m : Runtime) (k : WorldState) (h : Sort) (r : Result A Halt) (t : State) (past : List Effect) → YieldsBy h r → StateRelation oracle m k t (past ++ []) → ResultRelationBy oracle m k h (record { result = r; state = t; effects = [] }) past
+own_by oracle m k WantOfMemory r t past e stands = record { begins = begins_same (printed_openings k m.streams) (past ++ []) stands.streams.printed; failure = inl stands.clear }
+own_by oracle m k FailedWrite r t past e stands = absurd e
+own_by oracle m k (OfLanguage reason) r t past e stands = (e, stands)
+
+own_comes : {A : Type 0} (oracle : Oracle) (m : Runtime) (k : WorldState) (c : Result A Halt) (r : Result A Halt) (t : State) (past : List Effect) → Yields c r → StateRelation oracle m k t (past ++ []) → ResultRelation oracle m k c (record { result = r; state = t; effects = [] }) past
+own_comes oracle m k (Ok a) r t past e stands = (e, stands)
+own_comes oracle m k (Err h) r t past e stands = own_by oracle m k (sort_of h) r t past e stands
+
+-- a run that changes the code's own part alone, and shows nothing
+pub record Own {A : Type 0} (old new : Runtime) (c : Result A Halt) (run : Run A) (s : State) : Type 0 where
+  pub result : Result A Halt
+  pub state : State
+  pub is : run s ≡ record { result = result; state = state; effects = [] }
+  pub part : OwnPart s state
+  pub matches : Yields c result
+  pub holds : OwnRelation new state
+
+pub own_changes : {A : Type 0} {c : Result A Halt} {old new : Runtime} (run : Run A) → new.streams ≡ old.streams → new.names ≡ old.names → new.steps ≤ old.steps → ((s : State) → OwnRelation old s → Own old new c run s) → Changes run old new c
+own_changes {c = c} {old = old} {new = new} run same names low own = record {
+  steps = low;
+  names = names;
+  streams = same;
+  means = λ k. record {
+    grows = Grows-self k;
+    means = λ oracle s past consistent stands.
+        let o = own s stands.holds in
+        subst (λ (x : Out _). ResultRelation oracle new k c x past) (sym o.is) (own_comes oracle new k c o.result o.state past o.matches (stands_own same o.part o.holds stands));
+  };
+}
+
+pub same_part : (s : State) → OwnPart s s
+same_part s = record { outside = refl; openings = refl; output_openings = refl; closings = refl; runs = refl; outputs = refl; main = refl; streams = refl }

@@ -1,0 +1,3 @@
+pub mod support
+pub use Rattle.awk_runtime.specs.support.Naming
+pub use Rattle.awk_runtime.specs.support.Simulation
