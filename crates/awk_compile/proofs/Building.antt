@@ -46,8 +46,8 @@ get_over (x ∷ xs) (suc i) k e = let h = get_over xs i k e in omega (arith, h)
 front_same : {A : Type 0} {xs ys : List A} → ys ≡ xs → IsFront xs ys
 front_same {xs = xs} e = ([], e ∙ sym (append-nil xs))
 
-pub front_then : {A : Type 0} {xs ys zs : List A} → IsFront xs ys → IsFront ys zs → IsFront xs zs
-front_then {xs = xs} f g = (f.0 ++ g.0, g.1 ∙ ap (λ l. l ++ g.0) f.1 ∙ append_assoc xs f.0 g.0)
+pub front_then : {A : Type 0} (xs : List A) {ys zs : List A} → IsFront xs ys → IsFront ys zs → IsFront xs zs
+front_then xs f g = (f.0 ++ g.0, g.1 ∙ ap (λ l. l ++ g.0) f.1 ∙ append_assoc xs f.0 g.0)
 
 pub grows : {a b c : Builder} → Grows a b → Grows b c → Grows a c
 grows {a = a} p q = record {
@@ -55,8 +55,8 @@ grows {a = a} p q = record {
   is = q.is ∙ ap (λ l. l ++ q.more) p.is ∙ append_assoc a.nodes.items p.more q.more;
   ordered = λ h. q.ordered (p.ordered h);
   heads = λ i k e. q.heads i k (p.heads i k e);
-  names = front_then p.names q.names;
-  eres = front_then p.eres q.eres;
+  names = front_then a.names p.names q.names;
+  eres = front_then a.eres.items p.eres q.eres;
   scalars = λ h. q.scalars (p.scalars h);
 }
 
@@ -98,7 +98,7 @@ stands p = record { below = p.below; pos = p.pos }
 
 -- a node that is pushed
 pub placed : {kinds : ProgramKinds} {a b : Builder} {x : Node} {i : ℕ} → Pushes a b x i → AreBelow (length a.nodes.items) x → Places kinds a b i x
-placed {tables = tables} {a = a} {b = b} {x = x} {i = i} p below = record {
+placed {a = a} {b = b} {x = x} {i = i} p below = record {
   extends = record {
     grows = record { more = x ∷ []; is = p.nodes; ordered = λ h. subst IsOrdered (sym p.nodes) (ordered_pushed a.nodes.items x below h); heads = λ j k e. ap (λ (h : _). get_or h.items j 0) p.heads ∙ e; names = front_same p.same.names; eres = front_same (ap (λ (v : _). v.items) p.same.eres); scalars = λ h. subst AreScalars (sym p.same.names) h };
     kept = λ j h. ap (λ (h : _). get_or h.items j 0) p.heads;

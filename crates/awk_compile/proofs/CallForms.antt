@@ -9,7 +9,7 @@ use Rattle.awk_kinds.specs.definitions.Signatures.{Signature, ProgramKinds, plac
 use Rattle.awk_semantics.specs.declared.local.Local.{Local}
 use Rattle.awk_semantics.specs.declared.local.Local.TheVariants as local
 use Rattle.awk_semantics.specs.definitions.State.{State, Out, Run, ◌>>=◌, lift, ret, gives}
-use Rattle.awk_semantics.specs.definitions.Primitives.{spend, check_height}
+use Rattle.awk_semantics.specs.definitions.Primitives.{spend, check_height, array_number}
 use Rattle.awk_semantics.specs.definitions.Places as target
 use Rattle.awk_semantics.specs.definitions.BuiltIns.{Role, AsValue, AsArray, Argument, OfValue, OfArray, next_role, array_named, taken_as, local_of, locals_of}
 use Rattle.awk_semantics.specs.definitions.Calls.{role_of}
@@ -46,7 +46,7 @@ role_at [] (suc i) = refl
 role_at (p ∷ ps) zero = refl
 role_at (p ∷ ps) (suc i) = role_at ps i
 
-named_array : (e : Expr) → array_named e ≡ OfArray (name_in e)
+pub named_array : (e : Expr) → array_named e ≡ OfArray (name_in e)
 named_array (Name x) = refl
 named_array (Number k) = refl
 named_array (String k) = refl
@@ -93,20 +93,20 @@ module _ (functions : Functions) where
       ∙ later_same m _ _ s (λ a t. arguments_behind (drop 1 roles) (a ∷ []) es k t)
 
 -- what a call is given, by the values in their order and by the arrays
-record Matches {kinds : ProgramKinds} (p : Program kinds) (parameters : List FormalParameter) (fs : List ArgumentForm) (ws : List Value) (as' : List Argument) : Type 0 where
-  locals : (n : ℕ) (t : State) → IsIn p.tables parameters n t → locals_by fs ws t ≡ map (local_of t) as'
-  count : values_among fs ≡ length ws
+pub record Matches {kinds : ProgramKinds} (p : Program kinds) (parameters : List FormalParameter) (fs : List ArgumentForm) (ws : List Value) (as' : List Argument) : Type 0 where
+  pub locals : (n : ℕ) (t : State) → IsIn p.tables parameters n t → locals_by fs ws t ≡ map (local_of t) as'
+  pub count : values_among fs ≡ length ws
 
 module _ (scope : Scope) (p : Program scope.kinds.now) (ps : List FormalParameter) where
-  abbrev Fit : List ArgumentForm → List Value → List Argument → Type 0
+  abbrev pub Fit : List ArgumentForm → List Value → List Argument → Type 0
   Fit = Matches p (parameters_of scope)
 
   value_fits : {fs : List ArgumentForm} {ws : List Value} {as' : List Argument} (w : Value) → Fit fs ws as' → Fit (form.Value ∷ fs) (w ∷ ws) (OfValue w ∷ as')
   value_fits w f = record { locals = λ n t i. ap (λ l. local.Value w ∷ l) (f.locals n t i); count = ap suc f.count }
 
-  array_fits : {fs : List ArgumentForm} {ws : List Value} {as' : List Argument} {e : Expr} (fm : ArgumentForm) → IsFormOf scope true fm e → Fit fs ws as' → Fit (fm ∷ fs) ws (OfArray (name_in e) ∷ as')
-  array_fits form.Value is f = absurd is
-  array_fits (form.Array a) is f = record { locals = λ n t i. ap (λ k l. local.Array k ∷ l) (sym (is.is p n t i)) (f.locals n t i); count = f.count }
+  array_fits : {fs : List ArgumentForm} {ws : List Value} {as' : List Argument} (e : Expr) (fm : ArgumentForm) → IsFormOf scope true fm e → Fit fs ws as' → Fit (fm ∷ fs) ws (OfArray (name_in e) ∷ as')
+  array_fits e form.Value is f = absurd is
+  array_fits {fs = fs} {ws = ws} e (form.Array a) is f = record { locals = λ n t i. ap (λ k. local.Array k ∷ locals_by fs ws t) (sym (is.is p n t i)) ∙ ap (λ l. local.Array (array_number t (name_in e)) ∷ l) (f.locals n t i); count = f.count }
 
   -- an argument, where the others do so
   argument_passed : (r : Role) (b : Bool) (e : Expr) (fm : ArgumentForm) → r ≡ role_by b → IsFormOf scope b fm e → (place : Run target.Place) (g : Argument → Run Value) (k : Cont) (n : ℕ) (vs : List Value) (s : State) → IsIn p.tables (parameters_of scope) n s
@@ -132,7 +132,7 @@ module _ (scope : Scope) (p : Program scope.kinds.now) (ps : List FormalParamete
       argument_first p.functions (roles_from i ps) e es g s
       ∙ argument_passed (next_role (roles_from i ps)) (is_array_at ps i) e f (role_at ps i) are.0 (place_of p.functions e) _ _ n vs s h
       (λ w t b is j. rest (OfValue w) (w ∷ vs) t j (λ as' ws u l fit. alike (OfValue w ∷ as') (w ∷ ws) u l (subst (λ x. Fit (x ∷ fs) (w ∷ ws) (OfValue w ∷ as')) (sym is) (value_fits w fit)) ∙ ap (λ xs. k xs u) (onto_more w ws vs)))
-      (λ b. rest (OfArray (name_in e)) vs s h (λ as' ws u l fit. alike (OfArray (name_in e) ∷ as') ws u l (array_fits f (subst (λ x. IsFormOf scope x f e) b are.0) fit)))
+      (λ b. rest (OfArray (name_in e)) vs s h (λ as' ws u l fit. alike (OfArray (name_in e) ∷ as') ws u l (array_fits e f (subst (λ x. IsFormOf scope x f e) b are.0) fit)))
     where
       rest : (a : Argument) (us : List Value) (t : State) → IsIn p.tables (parameters_of scope) n t → ((as' : List Argument) (ws : List Value) (u : State) → IsIn p.tables (parameters_of scope) n u → Fit fs ws as' → g (a ∷ as') u ≡ k (reverse ws ++ us) u)
           → (take_arguments p.functions (drop 1 (roles_from i ps)) [] es >>= λ as'. g (a ∷ as')) t ≡ with_arguments p.functions (drop 1 (roles_from i ps)) es k us t
@@ -149,11 +149,11 @@ call_same f fs ws as' n t i fit = first_same (locals_of as') (given_by fs ws) _ 
 
 function_there : (functions : List Signature) (name : List ℕ) (number : ℕ) → number_of_name (signature_names functions) name ≡ Some number → (f : Signature) × (slice_get functions number ≡ Some f) × (f.name ≡ name)
 function_there [] name number e = cc
-function_there (f ∷ fs) name number e = by (bytes_eq name f.name) number (bytes_eq-Decides name f.name).0 e
+function_there (f ∷ fs) name number e = by (bytes_eq name f.name) number (λ j q. function_there fs name j q) (bytes_eq-Decides name f.name).0 e
   where
-    by : (b : Bool) (k : ℕ) → (b ≡ true → name ≡ f.name) → (if b then Some 0 else option_map suc (number_of_name (signature_names fs) name)) ≡ Some k → (g : Signature) × (slice_get (f ∷ fs) k ≡ Some g) × (g.name ≡ name)
-    by true k is h = (f, (let z : 0 ≡ k = cc in subst (λ j. slice_get (f ∷ fs) j ≡ Some f) z refl), sym (is refl))
-    by false k is h = later (number_of_name (signature_names fs) name) k h (λ j q. function_there fs name j q)
+    by : (b : Bool) (k : ℕ) → ((j : ℕ) → number_of_name (signature_names fs) name ≡ Some j → (g : Signature) × (slice_get fs j ≡ Some g) × (g.name ≡ name)) → (b ≡ true → name ≡ f.name) → (if b then Some 0 else option_map suc (number_of_name (signature_names fs) name)) ≡ Some k → (g : Signature) × (slice_get (f ∷ fs) k ≡ Some g) × (g.name ≡ name)
+    by true k deeper is h = (f, (let z : 0 ≡ k = cc in subst (λ j. slice_get (f ∷ fs) j ≡ Some f) z refl), sym (is refl))
+    by false k deeper is h = later (number_of_name (signature_names fs) name) k h deeper
       where
         later : (o : Option ℕ) (k : ℕ) → option_map suc o ≡ Some k → ((j : ℕ) → o ≡ Some j → (g : Signature) × (slice_get fs j ≡ Some g) × (g.name ≡ name)) → (g : Signature) × (slice_get (f ∷ fs) k ≡ Some g) × (g.name ≡ name)
         later None k h' found = cc
@@ -187,16 +187,16 @@ call_lowered {next = next} {number = number} {name = name} {es = es} {forms = fo
           ∙ sym (assoc_at (take_arguments p.functions (p.functions.roles name) [] es) (λ as'. call_with p.functions name as') (λ w. place_in p m next (w ∷ vs)) s);
     }
 
+by_role : (functions : Functions) (ps : List FormalParameter) (i : ℕ) (b : Bool) → is_array_at ps i ≡ b → (e : Expr) (es : Exprs) (k : Cont) (vs : List Value) → with_arguments functions (roles_from i ps) (Cons e es) k vs ≡ with_argument (role_by b) (eval functions e) (with_arguments functions (roles_from (suc i) ps) es k) vs
+by_role functions ps i b is e es k vs =
+    ap (λ (r : Role). with_argument r (eval functions e) (with_arguments functions (drop 1 (roles_from i ps)) es k) vs) (role_at ps i ∙ ap role_by is)
+    ∙ ap (λ roles. with_argument (role_by b) (eval functions e) (with_arguments functions roles es k) vs) (drop_more i (map role_of ps))
+
 -- the arguments one by one, from the last one
 
 module _ {kinds : ProgramKinds} {parameters : List FormalParameter} where
   pub no_arguments : {a : Builder} {next : ℕ} (roles : List Role) → Stands next a → Builds kinds parameters a a next (EvaluateArguments roles Nil next)
   no_arguments roles h = record { extends = same; below = h.below; pos = h.pos; is = λ p g m vs s l. refl }
-
-  by_role : (functions : Functions) (ps : List FormalParameter) (i : ℕ) (b : Bool) → is_array_at ps i ≡ b → (e : Expr) (es : Exprs) (k : Cont) (vs : List Value) → with_arguments functions (roles_from i ps) (Cons e es) k vs ≡ with_argument (role_by b) (eval functions e) (with_arguments functions (roles_from (suc i) ps) es k) vs
-  by_role functions ps i b is e es k vs =
-      ap (λ (r : Role). with_argument r (eval functions e) (with_arguments functions (drop 1 (roles_from i ps)) es k) vs) (role_at ps i ∙ ap role_by is)
-      ∙ ap (λ roles. with_argument (role_by b) (eval functions e) (with_arguments functions roles es k) vs) (drop_more i (map role_of ps))
 
   pub array_argument : {a b : Builder} {j next : ℕ} {e : Expr} {es : Exprs} (ps : List FormalParameter) (i : ℕ) → is_array_at ps i ≡ true → Builds kinds parameters a b j (EvaluateArguments (roles_from (suc i) ps) es next) → Builds kinds parameters a b j (EvaluateArguments (roles_from i ps) (Cons e es) next)
   array_argument {next = next} {e = e} {es = es} ps i is q = record {

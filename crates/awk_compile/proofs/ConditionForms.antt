@@ -99,6 +99,10 @@ the_or (Infix o.Matches) e = absurd (cc)
 the_or (Infix o.NotMatches) e = absurd (cc)
 the_or (Infix o.And) e = absurd (cc)
 
+negated : {B : Type 0} (t : Bool) (x y : Run B) (s : State) → choose t y x s ≡ choose (truth_of (truth_value (not t))) x y s
+negated true x y s = refl
+negated false x y s = refl
+
 -- tests
 
 pub test_lowered : {kinds : ProgramKinds} {parameters : List FormalParameter} {a b c : Builder} {i j here other : ℕ} {e : Expr} → Stands here a → Stands other a → Pushes a b (n.Test here other) j → Builds kinds parameters b c i (Evaluate e j) → Builds kinds parameters a c i (Decide e here other)
@@ -115,10 +119,6 @@ module _ {kinds : ProgramKinds} {parameters : List FormalParameter} {a b : Build
   pub group_tested : Builds kinds parameters a b i (Decide e here other) → Builds kinds parameters a b i (Decide (Group e) here other)
   unfolding eval
   group_tested q = record { extends = q.extends; below = q.below; pos = q.pos; is = q.is }
-
-  negated : {B : Type 0} (t : Bool) (x y : Run B) (s : State) → choose t y x s ≡ choose (truth_of (truth_value (not t))) x y s
-  negated true x y s = refl
-  negated false x y s = refl
 
   pub not_tested : Builds kinds parameters a b i (Decide e other here) → Builds kinds parameters a b i (Decide (Unary unary.Not e) here other)
   unfolding eval
@@ -160,27 +160,32 @@ module _ {kinds : ProgramKinds} {parameters : List FormalParameter} {a b c : Bui
 
 -- what gives 1 or 0
 
-module _ {kinds : ProgramKinds} {parameters : List FormalParameter} {a b c d : Builder} {i j one none next : ℕ} {x y : Expr} (w : BinaryOperator) (h : Stands next a) (t : PushesTruths a b one none next) where
-  at_one : Takes kinds parameters a t.between one next (λ p vs. ret (value.Number (pos 1))) (λ vs. vs)
-  at_one = node h t.first
+module _ (kinds : ProgramKinds) (parameters : List FormalParameter) {a b : Builder} {one none next : ℕ} (h : Stands next a) (t : PushesTruths a b one none next) where
+  one_taken : Takes kinds parameters a t.between one next (λ p vs. ret (value.Number (pos 1))) (λ vs. vs)
+  one_taken = node h t.first
 
-  at_none : Takes kinds parameters t.between b none next (λ p vs. ret (value.Number (pos 0))) (λ vs. vs)
-  at_none = node (still at_one.extends h) t.second
+  none_taken : Takes kinds parameters t.between b none next (λ p vs. ret (value.Number (pos 0))) (λ vs. vs)
+  none_taken = node (still one_taken.extends h) t.second
 
   pub truths_stand : Stands one b × Stands none b
-  truths_stand = (still at_none.extends (takes_stand at_one), takes_stand at_none)
+  truths_stand = (still none_taken.extends (takes_stand one_taken), takes_stand none_taken)
 
+module _ {kinds : ProgramKinds} {parameters : List FormalParameter} {a b c d : Builder} {i j one none next : ℕ} {x y : Expr} (w : BinaryOperator) (h : Stands next a) (t : PushesTruths a b one none next) where
   pub and_lowered : is_and w ≡ true → Builds kinds parameters b c j (Decide y one none) → Builds kinds parameters c d i (Decide x j none) → Builds kinds parameters a d i (Evaluate (Binary w x y) next)
   unfolding eval
   and_lowered e q r = subst (λ (b' : BinaryOperator). Builds kinds parameters a d i (Evaluate (Binary b' x y) next)) (sym (the_and w e))
-      (let second = decided at_one at_none (extends at_one.extends at_none.extends) at_none.extends same y q in
+      (let at_one = one_taken kinds parameters h t in
+      let at_none = none_taken kinds parameters h t in
+      let second = decided at_one at_none (extends at_one.extends at_none.extends) at_none.extends same y q in
       evaluates (decided second at_none (extends (extends at_one.extends at_none.extends) q.extends) same q.extends x r) (λ vs. refl) (Binary (Infix o.And) x y)
       (λ p g m vs s l. and_by (eval p.functions x) (eval p.functions y) (λ z. ret (truth_value z)) s))
 
   pub or_lowered : is_or w ≡ true → Builds kinds parameters b c j (Decide y one none) → Builds kinds parameters c d i (Decide x one j) → Builds kinds parameters a d i (Evaluate (Binary w x y) next)
   unfolding eval
   or_lowered e q r = subst (λ (b' : BinaryOperator). Builds kinds parameters a d i (Evaluate (Binary b' x y) next)) (sym (the_or w e))
-      (let second = decided at_one at_none (extends at_one.extends at_none.extends) at_none.extends same y q in
+      (let at_one = one_taken kinds parameters h t in
+      let at_none = none_taken kinds parameters h t in
+      let second = decided at_one at_none (extends at_one.extends at_none.extends) at_none.extends same y q in
       evaluates (decided at_one second (extends (extends at_one.extends at_none.extends) q.extends) (extends at_none.extends q.extends) same x r) (λ vs. refl) (Binary (Infix o.Or) x y)
       (λ p g m vs s l. or_by (eval p.functions x) (eval p.functions y) (λ z. ret (truth_value z)) s))
 

@@ -16,13 +16,15 @@ use Rattle.awk_kinds.specs.definitions.NameUses.{count_of}
 use Rattle.awk_kinds.specs.definitions.Signatures.{ProgramKinds}
 use Rattle.awk_semantics.specs.definitions.State.{State, Run, ◌>>=◌, lift, ret}
 use Rattle.awk_semantics.specs.definitions.Operators.{truth_value, applied, by_one, one, operator_of, takes_pattern}
-use Rattle.awk_semantics.specs.definitions.Primitives.{record_text, joined_key}
+use Rattle.awk_semantics.specs.definitions.Primitives.{record_text, joined_key, has_element}
 use Rattle.awk_semantics.specs.definitions.Places.{assign_by, post_increment}
 use Rattle.awk_semantics.specs.definitions.Semantics.{Functions, right_operand, tested, choose, combined, eval, eval_all, key_of, place_of}
 use Rattle.awk_semantics.proofs.KeepsForms.{keeps_eval, keeps_key_of}
 use Rattle.awk_storage.specs.declared.position.Variable.{Variable}
 use Rattle.awk_storage.specs.declared.position.Array.{Array}
 use Rattle.awk_storage.specs.declared.position.Place.{Place}
+use Rattle.awk_storage.specs.definitions.Positions.{read_element_of}
+use Rattle.awk_storage.specs.definitions.Forms.{contains_at}
 use Rattle.awk_compile.specs.declared.builder.Builder.{Builder}
 use Rattle.awk_compile.specs.declared.node.ValueNode.{ValueNode}
 use Rattle.awk_compile.specs.declared.node.ValueNode.TheVariants as v
@@ -66,9 +68,9 @@ name_lowered {x = x} h f q =
 pub ere_added : {a b : Builder} {number : ℕ} {text : List ℕ} → AddsEre a b number text → Extends a b
 ere_added {text = text} q = named q.nodes q.heads ([], q.names ∙ sym (append-nil _)) (text ∷ [], q.eres) (λ h. subst AreScalars (sym q.names) h)
 
-ere_there : {kinds : ProgramKinds} {a b : Builder} {number : ℕ} {text : List ℕ} → AddsEre a b number text → (p : Program kinds) → Grows b p.all → ere_at p.tables number ≡ text
+pub ere_there : {kinds : ProgramKinds} {a b : Builder} {number : ℕ} {text : List ℕ} → AddsEre a b number text → (p : Program kinds) → Grows b p.all → ere_at p.tables number ≡ text
 ere_there {a = a} {b = b} {number = number} {text = text} q p g =
-    found p.tables.eres number (front_at b.eres.items p.tables.eres number text (front_then g.eres p.eres) (ap (λ l. slice_get l number) q.eres ∙ ap (slice_get (a.eres.items ++ text ∷ [])) q.last ∙ last a.eres.items))
+    found p.tables.eres number (front_at b.eres.items p.tables.eres number text (front_then b.eres.items g.eres p.eres) (ap (λ l. slice_get l number) q.eres ∙ ap (slice_get (a.eres.items ++ text ∷ [])) q.last ∙ last a.eres.items))
   where
     last : (xs : List (List ℕ)) → slice_get (xs ++ text ∷ []) (length xs) ≡ Some text
     last [] = refl
@@ -101,7 +103,7 @@ module _ {kinds : ProgramKinds} {parameters : List FormalParameter} {a b c : Bui
   unfolding eval
   element_lowered {array = array} {x = x} {es = es} h is q r =
       evaluates (key_first (λ vs. vs) (node h q) es r (λ w vs. refl)) (λ vs. refl) (Element x es) (λ p g m vs s l.
-      keyed p.functions es (λ key. _) s
+      keyed p.functions es (λ key. read_element_of array key) s
       ∙ later_in _ _ s m (keeps_key_of p.functions p.calls.keep [] es) l (λ key u k. sym (reads_element array x u (is.is p m u k) key)))
 
   pub membership_lowered : {array : Array} {x : List ℕ} {e : Expr} → Stands next a → IsArrayOf kinds parameters array x → Pushes a b (n.Value (v.Contains array) next) j → Builds kinds parameters b c i (Evaluate e j) → Builds kinds parameters a c i (Evaluate (Membership e x) next)
@@ -114,8 +116,8 @@ module _ {kinds : ProgramKinds} {parameters : List FormalParameter} {a b c : Bui
   unfolding eval
   list_membership_lowered {array = array} {x = x} {es = es} h is q r =
       evaluates (key_first (λ vs. vs) (node h q) es r (λ w vs. refl)) (λ vs. refl) (ListMembership es x) (λ p g m vs s l.
-      keyed p.functions es (λ key. _) s
-      ∙ later_in _ _ s m (keeps_key_of p.functions p.calls.keep [] es) l (λ key u k. first_same _ _ _ u (sym (has_the_element array x u (is.is p m u k) key))))
+      keyed p.functions es (λ key. contains_at array key >>= λ y. ret (truth_value y)) s
+      ∙ later_in _ _ s m (keeps_key_of p.functions p.calls.keep [] es) l (λ key u k. first_same (contains_at array key) (has_element x key) (λ y. ret (truth_value y)) u (sym (has_the_element array x u (is.is p m u k) key))))
 
 pub group_lowered : {kinds : ProgramKinds} {parameters : List FormalParameter} {a b : Builder} {i next : ℕ} {e : Expr} → Builds kinds parameters a b i (Evaluate e next) → Builds kinds parameters a b i (Evaluate (Group e) next)
 unfolding eval

@@ -84,23 +84,23 @@ module _ {kinds : ProgramKinds} {parameters : List FormalParameter} where
   getline_lowered {c = c} {j = j} {next = next} None NoExpr NoExpr h found t r r' =
       let m = no_operand_there (not_there (node h (subst (λ (z : Builder). Pushes z c (n.Value (v.Getline source.Main None) next) j) found t)) r) r' in
       evaluates m (λ vs. refl) (Getline NoExpr NoExpr) (λ p g k vs s l.
-      sym (given None (λ q. ret None >>= λ x. getline_from q x) s ∙ given None (λ x. getline_from None x) s ∙ main_got {p = p} None None (first vs) (λ text n' s' i'. refl) k s l))
+      sym (given None (λ q. ret None >>= λ x. getline_from q x) s ∙ given None (λ x. getline_from None x) s ∙ main_got p None None (first vs) (λ text n' s' i'. refl) k s l))
   getline_lowered {c = c} {j = j} {next = next} None NoExpr (AnExpr file) h found t r r' =
       let m = no_operand_there (value_first (λ vs. vs) (node h (subst (λ (z : Builder). Pushes z c (n.Value (v.Getline source.File None) next) j) found t)) file (there r) (λ u vs. refl)) r' in
       evaluates m (λ vs. refl) (Getline NoExpr (AnExpr file)) (λ p g k vs s l.
-      later_in _ _ s k (keeps_eval p.functions p.calls.keep file) l (λ u s' l'. sym (given (Some u) (λ x. getline_from None x) s' ∙ named_got {p = p} None None (first vs) (λ text n' s1 i'. refl) input.File (str_of u) k s' l'))
+      later_in _ _ s k (keeps_eval p.functions p.calls.keep file) l (λ u s' l'. sym (given (Some u) (λ x. getline_from None x) s' ∙ named_got p None None (first vs) (λ text n' s1 i'. refl) input.File (str_of u) k s' l'))
       ∙ sym (assoc_at (eval p.functions file) (λ u. ret (Some u)) (λ x. getline_from None x) s)
       ∙ sym (given None (λ q. (eval p.functions file >>= λ u. ret (Some u)) >>= λ x. getline_from q x) s))
   getline_lowered (Some q) (AnExpr target) NoExpr h found t r r' =
       let m = place_first (λ vs. vs) (λ p vs x. main_getline (Some x)) found.extends found.is (not_there (node (still found.extends h) t) r) (its_operand r') (λ ws. ap (λ z. drop z ws) (let z : 0 + operands q ≡ operands q = omega arith in z))
-      (λ p g k x ws vs s l at d. sym (main_got (Some x) (Some q) (first ws) (λ text n' s' i'. received at text n' s' i') k s l)) in
+      (λ p g k x ws vs s l at d. sym (main_got p (Some x) (Some q) (first ws) (λ text n' s' i'. received at text n' s' i') k s l)) in
       evaluates m (λ vs. refl) (Getline (AnExpr target) NoExpr) (λ p g k vs s l.
       sym (assoc_at (place_of p.functions target) (λ x. ret (Some x)) (λ q'. ret None >>= λ x. getline_from q' x) s
       ∙ later_same (place_of p.functions target) _ _ s (λ x u. given (Some x) (λ q'. ret None >>= λ y. getline_from q' y) u ∙ given None (λ y. getline_from (Some x) y) u)))
   getline_lowered (Some q) (AnExpr target) (AnExpr file) h found t r r' =
       let m = place_first (λ vs. vs) (λ p vs x. eval p.functions file >>= λ u. named_getline input.File (str_of u) (Some x)) found.extends found.is
       (value_first (λ ws. drop (operands q) ws) (node (still found.extends h) t) file (there r) (λ u ws. above_operand q u ws)) (its_operand r') (λ ws. refl)
-      (λ p g k x ws vs s l at d. later_in _ _ s k (keeps_eval p.functions p.calls.keep file) l (λ u s' l'. sym (named_got (Some x) (Some q) (first ws) (λ text n' s1 i'. received at text n' s1 i') input.File (str_of u) k s' l'))) in
+      (λ p g k x ws vs s l at d. later_in _ _ s k (keeps_eval p.functions p.calls.keep file) l (λ u s' l'. sym (named_got p (Some x) (Some q) (first ws) (λ text n' s1 i'. received at text n' s1 i') input.File (str_of u) k s' l'))) in
       evaluates m (λ vs. refl) (Getline (AnExpr target) (AnExpr file)) (λ p g k vs s l.
       sym (assoc_at (place_of p.functions target) (λ x. ret (Some x)) (λ q'. (eval p.functions file >>= λ u. ret (Some u)) >>= λ y. getline_from q' y) s
       ∙ later_same (place_of p.functions target) _ _ s (λ x u.
@@ -116,12 +116,12 @@ module _ {kinds : ProgramKinds} {parameters : List FormalParameter} where
   piped_getline_lowered {c = c} {j = j} {next = next} {command = command} None NoExpr h found t r r' =
       let m = value_first (λ vs. vs) (no_operand_there (node h (subst (λ (z : Builder). Pushes z c (n.Value (v.Getline source.Command None) next) j) found t)) r) command r' (λ u vs. refl) in
       evaluates m (λ vs. refl) (PipedGetline command NoExpr) (λ p g k vs s l.
-      later_in _ _ s k (keeps_eval p.functions p.calls.keep command) l (λ u s' l'. sym (given None (λ q. named_getline input.Command (str_of u) q) s' ∙ named_got {p = p} None None u (λ text n' s1 i'. refl) input.Command (str_of u) k s' l')))
+      later_in _ _ s k (keeps_eval p.functions p.calls.keep command) l (λ u s' l'. sym (given None (λ q. named_getline input.Command (str_of u) q) s' ∙ named_got p None None u (λ text n' s1 i'. refl) input.Command (str_of u) k s' l')))
   piped_getline_lowered {command = command} (Some q) (AnExpr target) h found t r r' =
       let m = value_first (λ vs. vs) (place_first (λ vs. drop 1 vs) (λ p vs x. named_getline input.Command (str_of (first vs)) (Some x)) found.extends found.is (node (still found.extends h) t) (its_operand r) (λ ws. below_operand q ws)
       (λ p g k x ws vs s l at d.
         ap (λ (z : Value). named_getline_at p.tables.names input.Command (str_of z) (Some q) (first ws) s) (value_below q ws vs d)
-        ∙ sym (named_got (Some x) (Some q) (first ws) (λ text n' s1 i'. received at text n' s1 i') input.Command (str_of (first vs)) k s l))) command r' (λ u vs. refl) in
+        ∙ sym (named_got p (Some x) (Some q) (first ws) (λ text n' s1 i'. received at text n' s1 i') input.Command (str_of (first vs)) k s l))) command r' (λ u vs. refl) in
       evaluates m (λ vs. refl) (PipedGetline command (AnExpr target)) (λ p g k vs s l.
       later_same (eval p.functions command) _ _ s (λ u s'.
         sym (assoc_at (place_of p.functions target) (λ x. ret (Some x)) (λ q'. named_getline input.Command (str_of u) q') s'

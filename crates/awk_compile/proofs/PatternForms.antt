@@ -130,4 +130,4 @@ pub matched : {kinds : ProgramKinds} {parameters : List FormalParameter} {a b c 
 matched {kinds = kinds} {parameters = parameters} {a = a} {c = c} {d = d} {e = e} {i = i} {j = j} {k = k} {next = next} {x = x} bin w (Some number) f h found q r r' =
     subst (λ (z : Expr). Builds kinds parameters a e i (Evaluate (Binary bin x z) next)) (sym found.is)
     (ere_matched bin w found.text (matches_by bin w f) h (ere_added found.adds) (λ p g. ere_there found.adds p g) q (subst (λ (z : Expr). Builds kinds parameters c d k (EvaluateUnlessEre z j)) found.is r) r')
-matched {c = c} {next = next} {j = j} bin w None f h found q r r' = value_matched bin w (matches_by bin w f) found.not_ere h (subst (λ (z : Builder). Pushes z c (n.Value (matching w None) next) j) found.same q) r r'
+matched {c = c} {j = j} {next = next} bin w None f h found q r r' = value_matched bin w (matches_by bin w f) found.not_ere h (subst (λ (z : Builder). Pushes z c (n.Value (matching w None) next) j) found.same q) r r'

@@ -47,7 +47,7 @@ module _ {kinds : ProgramKinds} {p : Program kinds} {parameters : List FormalPar
   Stands n s = IsIn p.tables parameters n s
 
   assigned : (n : ℕ) (w : Value) (s : State) → Stands n s → assign t w s ≡ assign_at p.tables.names q operand w s
-  unfolding assign_at
+  unfolding assign assign_at
   assigned n w s i =
       later_in (λ _. read_place t) (λ _. read_at p.tables.names q operand) s n (keeps_store t w) i (λ _ u h. at.reads n u h)
       ∙ first_same (store t w) _ _ s (at.stores n w s i)
@@ -76,7 +76,7 @@ module _ {kinds : ProgramKinds} {p : Program kinds} {parameters : List FormalPar
   received text n s i = at.stores n (value.Input text) s i
 
 -- `getline` to a place or to the record, where what is received is received in the same way
-module _ {kinds : ProgramKinds} {p : Program kinds} {parameters : List FormalParameter} (t : Option Target) (q : Option Place) (operand : Value)
+module _ {kinds : ProgramKinds} (p : Program kinds) {parameters : List FormalParameter} (t : Option Target) (q : Option Place) (operand : Value)
     (receives : (text : List ℕ) (n : ℕ) (s : State) → IsIn p.tables parameters n s → receive t text s ≡ receive_at p.tables.names q operand text s) where
   main_received : (found : Option (List ℕ)) (n : ℕ) (s : State) → IsIn p.tables parameters n s → receive_main t found s ≡ receive_main_at p.tables.names q operand found s
   main_received None n s i = refl
@@ -100,8 +100,8 @@ module _ {kinds : ProgramKinds} {p : Program kinds} {parameters : List FormalPar
 numbered : (k : ℤ) {B : Type 0} (f : ℤ → Run B) (s : State) → (number_of (value.Number k) >>= f) s ≡ f k s
 numbered k f s = given k f s
 
-module _ {kinds : ProgramKinds} {parameters : List FormalParameter} {b : Builder} where
-  at_variable : {p : Program kinds} {v : Variable} {x : List ℕ} {operand : Value} → Grows b p.all → IsVariableOf kinds parameters b v x → IsAt p parameters (AName x) (place.Variable v) operand
+module _ {kinds : ProgramKinds} {parameters : List FormalParameter} where
+  at_variable : {b : Builder} {p : Program kinds} {v : Variable} {x : List ℕ} {operand : Value} → Grows b p.all → IsVariableOf kinds parameters b v x → IsAt p parameters (AName x) (place.Variable v) operand
   unfolding read_place store
   at_variable {p = p} g is = record { reads = λ n s i. is.reads p g n s i; stores = λ n w s i. is.puts p g n w s i }
 
@@ -116,6 +116,7 @@ module _ {kinds : ProgramKinds} {parameters : List FormalParameter} {b : Builder
   unfolding read_place store
   at_field {k = k} = record { reads = λ n s i. sym (numbered k (λ m. read_field m) s); stores = λ n w s i. sym (numbered k (λ m. set_field m w) s) }
 
+module _ {kinds : ProgramKinds} {parameters : List FormalParameter} {b : Builder} where
   -- a name, and any other expression that is no place
   pub name_is_place : {v : Variable} (x : List ℕ) (e : Expr) → ((functions : Functions) → place_of functions e ≡ ret (AName x)) → ((functions : Functions) (k : Cont) (vs : List Value) → with_operand functions e k vs ≡ k vs)
       → IsVariableOf kinds parameters b v x → IsPlaceOf kinds parameters b (place.Variable v) e

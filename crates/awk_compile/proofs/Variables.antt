@@ -140,8 +140,8 @@ module _ {kinds : ProgramKinds} {parameters : List FormalParameter} (x : List �
 
     pub is_global : (slot : ℕ) → slice_get b.names slot ≡ Some x → IsVariableOf kinds parameters b (variable.Global slot) x
     is_global slot e = record {
-      reads = λ p g n s h. reads_outside x s (ap (λ ns. place_of ns x) h.names ∙ outside) ∙ ap (λ o. read_slot o s) (sym (front_at b.names p.tables.names slot x (front_then g.names p.names) e));
-      puts = λ p g n w s h. puts_outside x w s (ap (λ ns. place_of ns x) h.names ∙ outside) ∙ ap (λ o. put_slot o w s) (sym (front_at b.names p.tables.names slot x (front_then g.names p.names) e));
+      reads = λ p g n s h. reads_outside x s (ap (λ ns. place_of ns x) h.names ∙ outside) ∙ ap (λ o. read_slot o s) (sym (front_at b.names p.tables.names slot x (front_then b.names g.names p.names) e));
+      puts = λ p g n w s h. puts_outside x w s (ap (λ ns. place_of ns x) h.names ∙ outside) ∙ ap (λ o. put_slot o w s) (sym (front_at b.names p.tables.names slot x (front_then b.names g.names p.names) e));
     }
 
 -- a scalar that gets a slot
@@ -149,13 +149,13 @@ scalars_with : (names : List (List ℕ)) (x : List ℕ) → IsScalar x → AreSc
 scalars_with names x is each = by (has_name names x)
   where
     by : (b : Bool) → AreScalars (if b then names else names ++ x ∷ [])
-    by true = each
+    by true i y h = each i y h
     by false i y h = elim (get_pushed names x i y h) [ inl e ↦ each i y e | inr e ↦ subst IsScalar (sym e.1) is ]
 
 pub finds_global : {kinds : ProgramKinds} {parameters : List FormalParameter} {a b : Builder} {slot : ℕ} {x : List ℕ} → AddsName a b slot x → place_of (parameter_names parameters) x ≡ None → IsScalar x → FindsVariable kinds parameters a b (variable.Global slot) x
 finds_global {a = a} {b = b} {slot = slot} {x = x} adds outside is = record {
-  extends = named adds.nodes adds.heads adds.slot.grows ([], ap (λ (v : _). v.items) adds.eres ∙ sym (append-nil a.eres.items)) (λ h. subst AreScalars (sym adds.names) (scalars_with a.names x is h));
-  is = is_global x b outside slot adds.slot.stands;
+  extends = named adds.nodes adds.heads adds.numbers.grows ([], ap (λ (v : _). v.items) adds.eres ∙ sym (append-nil a.eres.items)) (λ h. subst AreScalars (sym adds.names) (scalars_with a.names x is h));
+  is = is_global x b outside slot adds.numbers.stands;
 }
 
 -- arrays
@@ -166,11 +166,11 @@ same_number (x, local.Array n) g = refl
 
 number_found : (names : List (List ℕ)) (x : List ℕ) (n : ℕ) → place_of names x ≡ Some n → number_in names x ≡ n
 number_found [] x n e = absurd (cc)
-number_found (y ∷ ys) x n e = by (bytes_eq x y) n e
+number_found (y ∷ ys) x n e = by (bytes_eq x y) n (λ m h. number_found ys x m h) e
   where
-    by : (b : Bool) (m : ℕ) → (if b then Some 0 else option_map suc (place_of ys x)) ≡ Some m → (if b then 0 else suc (number_in ys x)) ≡ m
-    by true m h = cc
-    by false m h = let f = mapped (place_of ys x) m h in ap suc (number_found ys x f.0 f.1) ∙ sym f.2
+    by : (b : Bool) (m : ℕ) → ((k : ℕ) → place_of ys x ≡ Some k → number_in ys x ≡ k) → (if b then Some 0 else option_map suc (place_of ys x)) ≡ Some m → (if b then 0 else suc (number_in ys x)) ≡ m
+    by true m later h = cc
+    by false m later h = let f = mapped (place_of ys x) m h in ap suc (later f.0 f.1) ∙ sym f.2
 
 number_beyond : (names : List (List ℕ)) (x : List ℕ) → place_of names x ≡ None → number_in names x ≡ length names
 number_beyond [] x e = refl

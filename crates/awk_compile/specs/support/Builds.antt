@@ -76,7 +76,7 @@ pub record Closes (old new : Builder) (number body : ℕ) : Type 0 where
 pub record AddsName (old new : Builder) (slot : ℕ) (name : List ℕ) : Type 0 where
   pub nodes : new.nodes ≡ old.nodes
   pub heads : new.heads ≡ old.heads
-  pub slot : Numbers old.names new.names slot name
+  pub numbers : Numbers old.names new.names slot name
   pub names : new.names ≡ with_name old.names name
   pub eres : new.eres ≡ old.eres
 
