@@ -9,7 +9,16 @@ pub mod Walks
 pub mod Variables
 pub mod Elements
 pub mod ValueLists
-pub mod Standing
+pub mod Taking
+pub mod Targets
+pub mod OtherPlaces
+pub mod ExpressionForms
+pub mod PatternForms
+pub mod ConditionForms
+pub mod ListForms
+pub mod CallForms
+pub mod BuiltInForms
+pub mod GetlineForms
 pub mod Passing
 pub mod SimpleStatements
 pub mod PrintStatements

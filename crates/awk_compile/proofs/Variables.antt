@@ -177,11 +177,11 @@ same_number (x, local.Array n) g = refl
 
 number_found : (names : List (List ℕ)) (x : List ℕ) (n : ℕ) → place_of names x ≡ Some n → number_in names x ≡ n
 number_found [] x n e = absurd (cc)
-number_found (y ∷ ys) x n e = by (bytes_eq x y) n e
+number_found (y ∷ ys) x n e = by (bytes_eq x y) n (λ m h. number_found ys x m h) e
   where
-    by : (b : Bool) (m : ℕ) → (if b then Some 0 else option_map suc (place_of ys x)) ≡ Some m → (if b then 0 else suc (number_in ys x)) ≡ m
-    by true m h = cc
-    by false m h = let f = mapped (place_of ys x) m h in ap suc (number_found ys x f.0 f.1) ∙ sym f.2
+    by : (b : Bool) (m : ℕ) → ((k : ℕ) → place_of ys x ≡ Some k → number_in ys x ≡ k) → (if b then Some 0 else option_map suc (place_of ys x)) ≡ Some m → (if b then 0 else suc (number_in ys x)) ≡ m
+    by true m later h = cc
+    by false m later h = let f = mapped (place_of ys x) m h in ap suc (later f.0 f.1) ∙ sym f.2
 
 number_beyond : (names : List (List ℕ)) (x : List ℕ) → place_of names x ≡ None → number_in names x ≡ length names
 number_beyond [] x e = refl

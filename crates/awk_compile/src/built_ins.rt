@@ -1,7 +1,7 @@
 // Built-in functions as nodes.
 
 ghost use Rattle.std.specs.Prelude.{◌≡◌, IfOk};
-ghost use Rattle.awk_grammar.specs.Tree.{BuiltIn};
+ghost use Rattle.awk_grammar.specs.Tree as tree;
 ghost use Rattle.awk_grammar.specs.View.{exprs_of};
 ghost use Rattle.awk_compile.specs.support.Builds.{Stands, Evaluate};
 ghost use Rattle.awk_compile.specs.support.Operands.{split_by, takes_one, strict_node, substitution};
@@ -54,7 +54,7 @@ impl Builder {
     #[cycle(expressions)]
     fn lower_match(&mut self, scope: &Scope, list: &[Expr], next: u32) -> Result<u32, AllocError>
         requires { Stands next self.old }
-        ensures { IfOk result (λ place. Builds scope.now self.old self.new place (Evaluate (BuiltIn BuiltIn.Match (exprs_of list.now)) next)) }
+        ensures { IfOk result (λ place. Builds scope.now self.old self.new place (Evaluate (tree.BuiltIn BuiltIn.Match (exprs_of list.now)) next)) }
     {
         let [text, pattern] = list else {
             return Err(AllocError);
@@ -69,7 +69,7 @@ impl Builder {
     #[cycle(expressions)]
     fn lower_split(&mut self, scope: &Scope, list: &[Expr], next: u32) -> Result<u32, AllocError>
         requires { Stands next self.old }
-        ensures { IfOk result (λ place. Builds scope.now self.old self.new place (Evaluate (BuiltIn BuiltIn.Split (exprs_of list.now)) next)) }
+        ensures { IfOk result (λ place. Builds scope.now self.old self.new place (Evaluate (tree.BuiltIn BuiltIn.Split (exprs_of list.now)) next)) }
     {
         match list {
             [text, array] => {
@@ -99,7 +99,7 @@ impl Builder {
         next: u32,
     ) -> Result<u32, AllocError>
         requires { Stands next self.old }
-        ensures { IfOk result (λ place. Builds scope.now self.old self.new place (Evaluate (BuiltIn (substitution all) (exprs_of list.now)) next)) }
+        ensures { IfOk result (λ place. Builds scope.now self.old self.new place (Evaluate (tree.BuiltIn (substitution all) (exprs_of list.now)) next)) }
     {
         match list {
             [pattern, replacement] => {
@@ -133,7 +133,7 @@ impl Builder {
         next: u32,
     ) -> Result<u32, AllocError>
         requires { Stands next self.old }
-        ensures { IfOk result (λ place. Builds scope.now self.old self.new place (Evaluate (BuiltIn function (exprs_of list.now)) next)) }
+        ensures { IfOk result (λ place. Builds scope.now self.old self.new place (Evaluate (tree.BuiltIn function (exprs_of list.now)) next)) }
     {
         match function {
             BuiltIn::Match => self.lower_match(scope, list, next),

@@ -7,7 +7,7 @@ ghost use Rattle.awk_compile.specs.support.Builds.{Stands, Evaluate, EvaluateArg
 ghost use Rattle.awk_compile.specs.support.Calls.{is_array_at, name_in, roles_from, IsFormOf, AreForms};
 ghost use Rattle.awk_compile.specs.support.Scopes.{Builds};
 
-use crate::builder::Builder;
+use crate::builder::{Builder, next_number};
 use crate::node::{ArgumentForm, ValueNode};
 use crate::scope::Scope;
 use awk_grammar::tree::Expr;
@@ -16,15 +16,13 @@ use awk_value::Bytes;
 use std::alloc::{AllocError, Global};
 
 /// Whether the parameter at a place is an array. There may be more arguments than parameters.
-fn is_array_at(parameters: &Parameters, place: usize) -> bool
-    ensures { result ≡ is_array_at parameters.now place }
+fn is_array_at(parameters: &Parameters, place: usize) -> Result<bool, AllocError>
+    ensures { IfOk result (λ answer. answer ≡ is_array_at parameters.now place) }
 {
-    let Ok(place) = u32::try_from(place) else {
-        return false;
-    };
+    let place = next_number(place)?;
     match parameters.is_array(place) {
-        Some(answer) => answer,
-        None => false,
+        Some(answer) => Ok(answer),
+        None => Ok(false),
     }
 }
 
@@ -47,7 +45,7 @@ fn form_of(
 ) -> Result<ArgumentForm, AllocError>
     ensures { IfOk result (λ form. IsFormOf scope.now (is_array_at parameters.now place) form (expr_of e.now)) }
 {
-    if is_array_at(parameters, place) {
+    if is_array_at(parameters, place)? {
         return Ok(ArgumentForm::Array(scope.array_of(name_in(e))?));
     }
     Ok(ArgumentForm::Value)
@@ -84,7 +82,7 @@ impl Builder {
     {
         let mut rest = next;
         for i in (0..list.len()).rev() {
-            if !is_array_at(parameters, i) {
+            if !is_array_at(parameters, i)? {
                 rest = self.lower(scope, &list[i], rest)?;
             }
         }

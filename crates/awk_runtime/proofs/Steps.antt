@@ -1,5 +1,5 @@
 -- Steps, and states that the definitions see as the same.
-use Rattle.std.proofs.Common.{◌≡◌, ◌≤◌, ◌<◌, ℕ, suc, Bool, false, List, Result, Ok, Err, length, unwrap_or, slice_get, Some, refl, sym, ap, ◌∙◌, subst, arith}
+use Rattle.std.proofs.Common.{◌≡◌, ◌≤◌, ◌<◌, ◌-◌, ℕ, suc, Bool, false, List, [], ◌++◌, append_assoc, Result, Ok, Err, length, unwrap_or, slice_get, Some, refl, sym, ap, ◌∙◌, subst, arith}
 use Rattle.std.specs.Prelude.{get_or}
 use Rattle.std.specs.Global.{Vec}
 use Rattle.awk_value.specs.declared.value.Value.{Value}

@@ -1,8 +1,20 @@
 //! The state of a run, and what each word of the language does to it and to the world.
 #![tactic(auto)]
 
+mod arrays;
+mod calls;
+mod commands;
+mod fields;
+mod getlines;
+mod inputs;
 mod names;
+mod operators;
+mod outputs;
+mod places;
 mod runtime;
+mod start;
+mod texts;
+mod variables;
 
 pub use names::ProgramNames;
 pub use runtime::Runtime;

@@ -1,0 +1,79 @@
+-- Lists of expressions, and the subscripts of elements.
+use Rattle.std.proofs.Common.{◌≡◌, ◌≢◌, ℕ, zero, suc, ◌-◌, ◌<◌, ◌≤◌, List, [], ◌∷◌, ◌++◌, length, drop, reverse, get_or, slice_get, Some, Ok, refl, sym, subst, ap, ◌∙◌, arith}
+use Rattle.awk_value.specs.declared.value.Value.{Value}
+use Rattle.awk_value.specs.declared.value.Value.TheVariants as value
+use Rattle.awk_grammar.specs.declared.tree.Expr as declared
+use Rattle.awk_grammar.specs.Tree.{Expr, Exprs, Nil, Cons}
+use Rattle.awk_grammar.specs.View.{expr_of, exprs_of}
+use Rattle.awk_kinds.specs.definitions.Kinds.{FormalParameter}
+use Rattle.awk_kinds.specs.definitions.NameUses.{count_of}
+use Rattle.awk_kinds.specs.definitions.Signatures.{ProgramKinds}
+use Rattle.awk_semantics.specs.definitions.State.{State, Run, ◌>>=◌, lift, ret}
+use Rattle.awk_semantics.specs.definitions.Primitives.{joined_key}
+use Rattle.awk_semantics.specs.definitions.Semantics.{Functions, eval, eval_all, key_of}
+use Rattle.awk_semantics.proofs.KeepsForms.{keeps_eval}
+use Rattle.awk_compile.specs.declared.builder.Builder.{Builder}
+use Rattle.awk_compile.specs.declared.node.ValueNode.TheVariants as v
+use Rattle.awk_compile.specs.declared.node.Node.TheVariants as n
+use Rattle.awk_compile.specs.definitions.Nodes.{taken}
+use Rattle.awk_compile.specs.support.Builds.{Grows, Pushes, Extends, IsIn, Program, Evaluate, EvaluateAll, EvaluateKey, key_value, place_in, Builds, Stands}
+use Rattle.awk_compile.proofs.Calculus.{assoc_at, later_same, later_in, first_same, given}
+use Rattle.awk_compile.proofs.Building.{grows, extends, same, still}
+use Rattle.awk_compile.proofs.ValueLists.{onto_more, taken_all, dropped_all, all_first, key_of_all, counted}
+use Rattle.awk_compile.proofs.Taking.{Takes, node, list_first, evaluates_key}
+
+pub none_lowered : {kinds : ProgramKinds} {parameters : List FormalParameter} {a : Builder} {next : ℕ} → Stands next a → Builds kinds parameters a a next (EvaluateAll Nil next)
+unfolding eval_all
+none_lowered {next = next} h = record { extends = same; below = h.below; pos = h.pos; is = λ p g m vs s l. sym (given [] (λ ws. place_in p m next (reverse ws ++ vs)) s) }
+
+pub more_lowered : {kinds : ProgramKinds} {parameters : List FormalParameter} {a b c : Builder} {i j next : ℕ} {e : Expr} {es : Exprs} → Builds kinds parameters a b j (EvaluateAll es next) → Builds kinds parameters b c i (Evaluate e j) → Builds kinds parameters a c i (EvaluateAll (Cons e es) next)
+more_lowered {next = next} {e = e} {es = es} q r = record {
+  extends = extends q.extends r.extends;
+  below = r.below;
+  pos = r.pos;
+  is = λ p g m vs s l.
+      r.is p g m vs s l
+      ∙ later_in _ _ s m (keeps_eval p.functions p.calls.keep e) l (λ w u k.
+        q.is p (grows r.extends.grows g) m (w ∷ vs) u k
+        ∙ later_same (eval_all p.functions [] es) _ _ u (λ ws t. ap (λ (xs : List Value). place_in p m next xs t) (sym (onto_more w ws vs))))
+      ∙ sym (all_first p.functions e es (λ ws. place_in p m next (reverse ws ++ vs)) s);
+}
+
+-- lists of the tree
+
+pub count_exprs : (xs : List declared.Expr) → count_of (exprs_of xs) ≡ length xs
+count_exprs [] = refl
+count_exprs (x ∷ xs) = ap suc (count_exprs xs)
+
+pub exprs_over : (xs : List declared.Expr) (i : ℕ) → length xs ≤ i → exprs_of (drop i xs) ≡ Nil
+exprs_over [] zero h = refl
+exprs_over [] (suc i) h = refl
+exprs_over (x ∷ xs) zero h = absurd (omega (arith, h))
+exprs_over (x ∷ xs) (suc i) h = exprs_over xs i (omega (arith, h))
+
+pub exprs_at : (xs : List declared.Expr) (i : ℕ) (x : declared.Expr) → i < length xs → get_or xs i x ≡ x → exprs_of (drop i xs) ≡ Cons (expr_of x) (exprs_of (drop (suc i) xs))
+exprs_at [] i x h e = absurd (omega (arith, h))
+exprs_at (y ∷ ys) zero x h e = ap (λ (z : declared.Expr). Cons (expr_of z) (exprs_of ys)) e
+exprs_at (y ∷ ys) (suc i) x h e = exprs_at ys i x (omega (arith, h)) e
+
+pub one_expr : (xs : List declared.Expr) (x : declared.Expr) → length xs ≡ 1 → get_or xs 0 x ≡ x → exprs_of xs ≡ Cons (expr_of x) Nil
+one_expr [] x h e = absurd (omega (arith, h))
+one_expr (y ∷ []) x h e = ap (λ (z : declared.Expr). Cons (expr_of z) Nil) e
+one_expr (y ∷ (z ∷ zs)) x h e = absurd (omega (arith, h))
+
+-- subscripts
+
+pub one_key_lowered : {kinds : ProgramKinds} {parameters : List FormalParameter} {a b : Builder} {i next : ℕ} {e : Expr} → Builds kinds parameters a b i (Evaluate e next) → Builds kinds parameters a b i (EvaluateKey (Cons e Nil) next)
+one_key_lowered q = record { extends = q.extends; below = q.below; pos = q.pos; is = q.is }
+
+many_keys : (functions : Functions) (es : Exprs) → count_of es ≢ 1 → key_value functions es ≡ (key_of functions [] es >>= λ key. ret (value.Text key))
+many_keys functions Nil h = refl
+many_keys functions (Cons e Nil) h = absurd (h refl)
+many_keys functions (Cons e (Cons x es)) h = refl
+
+pub key_lowered : {kinds : ProgramKinds} {parameters : List FormalParameter} {a b c : Builder} {i j k next : ℕ} {es : Exprs} → Stands next a → k ≡ count_of es → count_of es ≢ 1 → Pushes a b (n.Value (v.Key k) next) j → Builds kinds parameters b c i (EvaluateAll es j) → Builds kinds parameters a c i (EvaluateKey es next)
+key_lowered {k = k} {es = es} h e many q r =
+    evaluates_key (list_first (λ vs. vs) (node h q) es r (λ ws vs l. dropped_all ws vs k (l ∙ sym e))) (λ vs. refl) es (λ p g m vs s i.
+    counted p.functions p.calls.keep es _ _ m s i (λ ws u l j. ap (λ xs. (joined_key xs >>= λ key. ret (value.Text key)) u) (taken_all ws vs k (l ∙ sym e)))
+    ∙ sym (key_of_all p.functions [] es (λ key. ret (value.Text key)) s)
+    ∙ sym (ap (λ (r : Run Value). r s) (many_keys p.functions es many)))
