@@ -13,12 +13,13 @@ use Rattle.awk_kinds.specs.definitions.Fits.{has_repeat}
 use Rattle.awk_semantics.specs.declared.flow.Flow.{Flow}
 use Rattle.awk_semantics.specs.declared.local.Local.{Local}
 use Rattle.awk_semantics.specs.declared.local.Local.TheVariants as local
-use Rattle.awk_semantics.specs.definitions.State.{Effect, State, Out, Run, go_on, ◌>>=◌, ret}
+use Rattle.awk_semantics.specs.definitions.State.{Frame, State, Out, Run, go_on, ◌>>=◌, ret}
 use Rattle.awk_semantics.specs.definitions.Primitives.{bound, enter, leave}
 use Rattle.awk_semantics.specs.definitions.Semantics.{Functions, exec_all}
-use Rattle.awk_semantics.specs.definitions.Calls.{definition_of, role_of, parameter_roles, returned, call_by, call_within, functions_within}
+use Rattle.awk_semantics.specs.definitions.Calls.{definition_of, role_of, parameter_roles, body_height, returned, call_by, call_within, functions_within}
 use Rattle.awk_semantics.specs.definitions.Items.{run_action, print_record}
 use Rattle.awk_semantics.proofs.KeepsForms.{law_of_keeping}
+use Rattle.awk_storage.specs.definitions.Positions.{newest_locals}
 use Rattle.awk_compile.specs.declared.plan.Function.{Function as PlannedFunction}
 use Rattle.awk_compile.specs.declared.plan.Plan.{Plan}
 use Rattle.awk_compile.specs.definitions.Nodes.{Tables, cont_at}
@@ -86,12 +87,21 @@ bound_names [] given n = refl
 bound_names (p ∷ ps) (a ∷ given) n = ap (λ l. p.name ∷ l) (bound_names ps given n)
 bound_names (p ∷ ps) [] n = named_bound p.is_array p.name (bound ps [] (suc n)) (bound ps [] n) n (map (λ (q : FormalParameter). q.name) ps) (bound_names ps [] (suc n)) (bound_names ps [] n)
 
+-- a body runs in the state that its call enters
+pub entered_in : (tables : Tables) (parameters : List FormalParameter) (height : ℕ) (given : List Local) (m : ℕ) (s : State) → s.steps ≤ m → s.array_names ≡ tables.arrays → IsIn tables parameters m (enter parameters height given s).state
+unfolding enter
+entered_in tables parameters height given m s low arrays = record { low = low; names = bound_names parameters given _; arrays = arrays }
+
+-- an action, and a pattern, run where no call is active
+pub outside_in : (tables : Tables) (m : ℕ) (s : State) → s.frames ≡ [] → s.steps ≤ m → s.array_names ≡ tables.arrays → IsIn tables [] m s
+outside_in tables m s none low arrays = record { low = low; names = ap (λ (frames : List Frame). map (λ (l : List ℕ × Local). l.0) (newest_locals frames)) none; arrays = arrays }
+
 -- what follows is asked of the state in which the body runs
 entered_same : {A : Type 0} (tables : Tables) (parameters : List FormalParameter) (height : ℕ) (given : List Local) (f g : Unit {0} → Run A) (m : ℕ) (s : State) → s.steps ≤ m → s.array_names ≡ tables.arrays
     → ((t : State) → IsIn tables parameters m t → f tt t ≡ g tt t) → (enter parameters height given >>= f) s ≡ (enter parameters height given >>= g) s
 unfolding enter ◌>>=◌ go_on
 entered_same {A = A} tables parameters height given f g m s low arrays h =
-    ap (λ (o : Out A). record { result = o.result; state = o.state; effects = [] ++ o.effects }) (h (enter parameters height given s).state (record { low = low; names = bound_names parameters given _; arrays = arrays }))
+    ap (λ (o : Out A). record { result = o.result; state = o.state; effects = [] ++ o.effects }) (h (enter parameters height given s).state (entered_in tables parameters height given m s low arrays))
 
 -- a function of a plan
 pub function_in : {Does : List FormalParameter → ℕ → Meaning → Type 0} (fs : List PlannedFunction) (ds : List Definition) (i : ℕ) (f : PlannedFunction) (d : Definition) → AreFunctions Does fs ds → slice_get fs i ≡ Some f → slice_get ds i ≡ Some d → IsFunction Does f d
@@ -119,6 +129,13 @@ called items plan is once i f d e k n m given' vs s low arrays =
     ∙ sym (assoc_at (exec_all functions d.body) (λ fl. ret (returned fl)) behind t)
     ∙ first_same _ _ behind t (sym (made.body.is functions (are_for items tables once refl n) m vs t j)))
     ∙ ap (λ h. (enter d.parameters h given' >>= λ _. cont_at tables functions plan.heads.items plan.nodes.items m f.body vs >>= behind) s) (sym made.height)
+
+-- its height is tested before it is called
+pub as_high : (items : List Item) (plan : Plan) → IsPlanOf items plan → has_repeat (function_names_of items) ≡ false → (i : ℕ) (f : PlannedFunction) (d : Definition) → slice_get plan.functions.items i ≡ Some f → slice_get (definitions_of items) i ≡ Some d
+    → (n : ℕ) → (functions_within (definitions_of items) n).height d.name ≡ f.height
+as_high items plan is once i f d e k n =
+    let made = function_in plan.functions.items (definitions_of items) i f d is.functions e k in
+    ap body_height (found (definitions_of items) i d once k) ∙ sym made.height
 
 -- actions
 

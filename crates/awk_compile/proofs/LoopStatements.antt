@@ -91,17 +91,20 @@ module _ {kinds : ProgramKinds} {parameters : List FormalParameter} where
       → (Extends a g) × Grows f g × Parts kinds parameters g (λ functions. tested (eval functions x)) y (λ functions. ret tt) exits number again cond cond first
   plain_parts {number = number} {cond = cond} p q t r w =
       let o = placed q tt in
-      let shut = enclosed p (extends o.extends (extends t.extends r.extends)) w in
-      (shut.0.extends, shut.1, record {
-        keeps_test = λ y. keeps_tested (keeps_eval y.functions y.calls.keep _);
-        keeps_last = λ y. keeps_lift (Ok tt);
-        turns = λ y k m. o.is y (grows t.extends.grows (grows r.extends.grows (grows shut.1 k))) m;
-        pos = r.pos;
-        head = shut.0.head;
-        tests = λ y k m vs s i. tests_built t y (grows r.extends.grows (grows shut.1 k)) m vs s i;
-        runs = λ y k m vs s i. r.is y (grows shut.1 k) m vs s i;
-        goes = λ y k m vs s i. sym (given tt (λ _. place_in y m cond vs) s);
-      })
+      let shut = enclosed p (extends o.extends (extends t.extends r.extends)) w in (
+        shut.0.extends,
+        shut.1,
+        record {
+          keeps_test = λ y. keeps_tested (keeps_eval y.functions y.calls.keep _);
+          keeps_last = λ y. keeps_lift (Ok tt);
+          turns = λ y k m. o.is y (grows t.extends.grows (grows r.extends.grows (grows shut.1 k))) m;
+          pos = r.pos;
+          head = shut.0.head;
+          tests = λ y k m vs s i. tests_built t y (grows r.extends.grows (grows shut.1 k)) m vs s i;
+          runs = λ y k m vs s i. r.is y (grows shut.1 k) m vs s i;
+          goes = λ y k m vs s i. sym (given tt (λ _. place_in y m cond vs) s);
+        },
+      )
 
   pub while_built : {a b c d f g h : Builder} {x : Expr} {y : Statement} {exits : Exits} {number again cond first j : ℕ} → Opens a b number → Pushes b c (n.Again number) again → Builds kinds parameters c d cond (Decide x again exits.next)
       → Builds kinds parameters d f first (Execute y (record { next = cond; breaks = exits.next; continues = cond })) → Closes f g number first → Pushes g h (n.Effect e.Spend cond) j

@@ -51,10 +51,7 @@ impl Builder {
         self.push(Node::End)?;
         let over = self.push(Node::End)?;
         let value = self.push(Node::Return)?;
-        let print = self.push(Node::Effect(
-            EffectNode::Print(PrintForm::Print, 0, None),
-            over,
-        ))?;
+        let print = self.push(Node::Effect(EffectNode::Print(PrintForm::Print, 0, None), over))?;
         let print = self.step(print)?;
         Ok(Ends { over, value, print })
     }
@@ -85,7 +82,8 @@ impl Builder {
         self.lower(scope, e, ends.value)
     }
 
-    fn lower_pattern_of(
+    /// The expressions of a pattern.
+    fn lower_record_pattern(
         &mut self,
         kinds: &Kinds,
         pattern: &Pattern,
@@ -108,6 +106,7 @@ impl Builder {
         }
     }
 
+    /// The action of an item.
     fn lower_action(
         &mut self,
         kinds: &Kinds,
@@ -141,12 +140,12 @@ impl Builder {
                 Ok(PlannedItem::Rule(PlannedPattern::Every, action))
             }
             Item::PatternAction(pattern, all) => {
-                let pattern = self.lower_pattern_of(kinds, pattern, ends)?;
+                let pattern = self.lower_record_pattern(kinds, pattern, ends)?;
                 let action = self.lower_action(kinds, all, ends)?;
                 Ok(PlannedItem::Rule(pattern, action))
             }
             Item::PatternOnly(pattern) => {
-                let pattern = self.lower_pattern_of(kinds, pattern, ends)?;
+                let pattern = self.lower_record_pattern(kinds, pattern, ends)?;
                 Ok(PlannedItem::Rule(pattern, ends.print))
             }
             Item::Function(_, _, _) => Ok(PlannedItem::Function),
@@ -216,7 +215,7 @@ impl Builder {
     }
 }
 
-/// A program as a plan, where these are the kinds of its names.
+/// A program as a plan, where these are the kinds of its names. (POSIX awk, Overall Program Structure)
 ///
 /// # Errors
 ///

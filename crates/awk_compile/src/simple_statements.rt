@@ -36,12 +36,7 @@ impl Builder {
     }
 
     /// An expression whose value is of no use.
-    fn lower_expression(
-        &mut self,
-        scope: &Scope,
-        e: &Expr,
-        exits: Exits,
-    ) -> Result<u32, AllocError>
+    fn lower_expression(&mut self, scope: &Scope, e: &Expr, exits: Exits) -> Result<u32, AllocError>
         requires { ExitsStand exits self.old }
         ensures { IfOk result (λ place. Builds scope.now self.old self.new place (Execute (Simple (Expression (expr_of e.now))) exits)) }
     {
@@ -81,6 +76,7 @@ impl Builder {
         }
     }
 
+    /// A deletion of an element.
     fn lower_delete(
         &mut self,
         scope: &Scope,
@@ -97,6 +93,7 @@ impl Builder {
         self.step(key)
     }
 
+    /// An `exit`; its expression sets the status first.
     fn lower_exit(
         &mut self,
         scope: &Scope,
@@ -117,6 +114,7 @@ impl Builder {
         }
     }
 
+    /// A `return`; without an expression, it gives what was never assigned.
     fn lower_return(
         &mut self,
         scope: &Scope,
@@ -139,12 +137,12 @@ impl Builder {
         }
     }
 
-    /// A simple statement spends a step as it begins.
+    /// A simple statement spends a step as it begins. (POSIX awk, Actions; Output Statements; User-Defined Functions)
     ///
     /// # Errors
     ///
     /// Where memory is refused, or places or numbers run out.
-    pub fn lower_simple(
+    pub(crate) fn lower_simple(
         &mut self,
         scope: &Scope,
         simple: &SimpleStatement,

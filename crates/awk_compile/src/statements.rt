@@ -201,13 +201,13 @@ impl Builder {
         self.step(walk)
     }
 
-    /// A statement goes on at one of its exits, or returns.
+    /// A statement goes on at one of its exits, or returns. (POSIX awk, Actions)
     ///
     /// # Errors
     ///
     /// Where memory is refused, or places or numbers run out.
     #[cycle(statements)]
-    pub fn lower_statement(
+    pub(crate) fn lower_statement(
         &mut self,
         scope: &Scope,
         s: &Statement,
@@ -240,7 +240,7 @@ impl Builder {
     ///
     /// Where memory is refused, or places or numbers run out.
     #[cycle(statements)]
-    pub fn lower_block(
+    pub(crate) fn lower_block(
         &mut self,
         scope: &Scope,
         all: &[Statement],

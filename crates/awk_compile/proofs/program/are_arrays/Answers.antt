@@ -1,4 +1,4 @@
-use Rattle.std.proofs.Common.{◌≡◌, ℕ, zero, suc, ◌+◌, Bool, List, [], ◌∷◌, ◌++◌, map, take, slice_get, Option, Some, None, add-one, refl, sym, ap, ◌∙◌}
+use Rattle.std.proofs.Common.{◌≡◌, ℕ, zero, suc, Bool, List, [], ◌∷◌, ◌++◌, map, take, slice_get, Some, add-one, sym, ap, ◌∙◌}
 use Rattle.std.specs.Option.{option_map}
 use Rattle.awk_kinds.specs.definitions.Kinds.{FormalParameter}
 use Rattle.awk_compile.proofs.program.are_arrays.Goals as goal

@@ -1,4 +1,3 @@
-use Rattle.std.proofs.Common.{sym, ap}
 use Rattle.awk_compile.proofs.Building.{ok_map}
 use Rattle.awk_compile.proofs.PrintStatements.{delete_built}
 use Rattle.awk_compile.proofs.builder.Builder.lower_delete.Goals as goal

@@ -1,11 +1,10 @@
-use Rattle.std.proofs.Common.{◌≡◌, ◌+◌, List, [], ◌∷◌, ◌++◌, arith, length, map, take, slice_get, Some, None, ap, ◌∙◌}
+use Rattle.std.proofs.Common.{◌≡◌, ◌+◌, [], ◌∷◌, ◌++◌, arith, length, map, take, Some, None, ap, ◌∙◌}
 use Rattle.std.specs.Option.{option_map}
 use Rattle.awk_grammar.specs.Tree.{Function}
 use Rattle.awk_grammar.specs.View.{item_of, items_of, statements_of}
 use Rattle.awk_kinds.specs.definitions.Kinds.{arrays_of, parameter_by}
 use Rattle.awk_kinds.specs.definitions.Signatures.{Signature}
 use Rattle.awk_kinds.proofs.KindsMade.{items_to}
-use Rattle.awk_compile.specs.support.Holding.{AddsBody}
 use Rattle.awk_compile.proofs.Planning.{no_functions_added, next_function_added, other_item_added, no_definition, signature_at, ends_later}
 use Rattle.awk_compile.proofs.builder.Builder.lower_functions.Goals as goal
 use Rattle.awk_compile.proofs.builder.Builder.lower_functions.Goals.{in-Function+in_ok-number+in-Some+in_ok-lower_function+in_ok-push, in_default}

@@ -1,6 +1,5 @@
-use Rattle.std.proofs.Common.{◌≡◌, rules, sym, ap, ◌∙◌}
-use Rattle.awk_grammar.specs.Tree.{Standard, Redirected}
-use Rattle.awk_grammar.specs.View.{expr_of, exprs_of, output_of, print_list_of}
+use Rattle.std.proofs.Common.{◌≡◌, sym, ap, ◌∙◌}
+use Rattle.awk_grammar.specs.View.{output_of, print_list_of}
 use Rattle.awk_kinds.specs.definitions.NameUses.{count_of}
 use Rattle.awk_kinds.proofs.Adding.{count_is}
 use Rattle.awk_compile.specs.support.Printed.{listed}

@@ -1,7 +1,7 @@
 use Rattle.std.proofs.Common.{ap}
 use Rattle.awk_grammar.specs.View.{pattern_of}
 use Rattle.awk_compile.proofs.Planning.{range_added, ends_later}
-use Rattle.awk_compile.proofs.builder.Builder.lower_pattern_of.Goals as goal
+use Rattle.awk_compile.proofs.builder.Builder.lower_record_pattern.Goals as goal
 
 pub lower_value-requires-in-Range-2 : goal.lower_value-requires-in-Range-2
 lower_value-requires-in-Range-2 c = ends_later c.in_ok-from-in-Range.ensures.grows c.requires
