@@ -80,8 +80,8 @@ module _ (functions : Functions) where
       argument_first functions (AsPlace ∷ roles) e es k s
       ∙ assoc_at (place_of functions e) (λ p. read_place p >>= λ x. ret (OfPlace p x)) _ s
       ∙ later_same (place_of functions e) _ _ s (λ p t.
-        assoc_at (read_place p) (λ x. ret (OfPlace p x)) _ t
-        ∙ later_same (read_place p) _ _ t (λ x u. given (OfPlace p x) (λ a. take_arguments functions roles [] es >>= λ as'. k (a ∷ as')) u))
+      assoc_at (read_place p) (λ x. ret (OfPlace p x)) _ t
+      ∙ later_same (read_place p) _ _ t (λ x u. given (OfPlace p x) (λ a. take_arguments functions roles [] es >>= λ as'. k (a ∷ as')) u))
 
   -- where all are values
   pub values_taken : {B : Type 0} (es : Exprs) (k : List Argument → Run B) (s : State) → (take_arguments functions [] [] es >>= k) s ≡ (eval_all functions [] es >>= λ ws. k (map OfValue ws)) s
@@ -124,6 +124,7 @@ strict w.Length a b c d = record {
     length_pops : (k : ℕ) → popped (strict_node w.Length k) ≡ k
     length_pops zero = refl
     length_pops (suc k) = refl
+
     length_made : (tables : Tables) (functions : Functions) (ws vs : List Value) (k : ℕ) (s : State) → length ws ≡ k → value_of tables functions (strict_node w.Length k) (reverse ws ++ vs) s ≡ apply_built_in w.Length (map OfValue ws) s
     length_made tables functions [] vs zero s e = refl
     length_made tables functions [] vs (suc k) s e = cc
@@ -172,16 +173,16 @@ match_lowered {kinds = kinds} {parameters = parameters} {a = a} {c = c} {d = d} 
     evaluates (takes_behind g t) (λ vs. refl) (BuiltIn w.Match (Cons x (Cons (Ere found.text) Nil))) (λ p l m vs s z.
     sym (value_taken p.functions (AsPattern ∷ []) x (Cons (Ere found.text) Nil) (λ as'. apply_built_in w.Match as') s
     ∙ later_same (eval p.functions x) _ _ s (λ u t'.
-      ere_taken p.functions [] found.text Nil (λ as'. apply_built_in w.Match (OfValue u ∷ as')) t'
-      ∙ none_left p.functions [] (λ as'. apply_built_in w.Match (OfValue u ∷ (OfEre found.text ∷ as'))) t'
-      ∙ ap (λ (text : List ℕ). match_in text (str_of u) t') (sym (ere_there found.adds p (grows t.extends.grows l)))))))
+    ere_taken p.functions [] found.text Nil (λ as'. apply_built_in w.Match (OfValue u ∷ as')) t'
+    ∙ none_left p.functions [] (λ as'. apply_built_in w.Match (OfValue u ∷ (OfEre found.text ∷ as'))) t'
+    ∙ ap (λ (text : List ℕ). match_in text (str_of u) t') (sym (ere_there found.adds p (grows t.extends.grows l)))))))
 match_lowered {c = c} {j = j} {next = next} {x = x} {y = y} None h found q r r' =
     let t = value_first (λ vs. drop 1 vs) (node h (subst (λ (z : Builder). Pushes z c (n.Value (v.Match None) next) j) found.same q)) y (evaluated_unless_ere y found.not_ere r) (λ u vs. refl) in
     evaluates (value_first (λ vs. vs) t x r' (λ u vs. refl)) (λ vs. refl) (BuiltIn w.Match (Cons x (Cons y Nil))) (λ p l m vs s z.
     sym (value_taken p.functions (AsPattern ∷ []) x (Cons y Nil) (λ as'. apply_built_in w.Match as') s
     ∙ later_same (eval p.functions x) _ _ s (λ u t'.
-      pattern_taken p.functions [] y Nil (λ as'. apply_built_in w.Match (OfValue u ∷ as')) t' found.not_ere
-      ∙ later_same (eval p.functions y) _ _ t' (λ u' t''. none_left p.functions [] (λ as'. apply_built_in w.Match (OfValue u ∷ (OfValue u' ∷ as'))) t''))))
+    pattern_taken p.functions [] y Nil (λ as'. apply_built_in w.Match (OfValue u ∷ as')) t' found.not_ere
+    ∙ later_same (eval p.functions y) _ _ t' (λ u' t''. none_left p.functions [] (λ as'. apply_built_in w.Match (OfValue u ∷ (OfValue u' ∷ as'))) t''))))
 
 -- `split`
 
@@ -195,11 +196,11 @@ module _ {kinds : ProgramKinds} {parameters : List FormalParameter} {x y : Expr}
   fields_split h q r =
       evaluates (value_first (λ vs. vs) (node h q) x r (λ u vs. refl)) (λ vs. refl) (BuiltIn w.Split (Cons x (Cons y Nil))) (λ p l m vs s z.
       later_in _ _ s m (keeps_eval p.functions p.calls.keep x) z (λ u t k.
-        later_in _ _ t m keeps_field_separator k (λ separator t' k'. split_same array (name_in y) (pieces_of separator false (str_of u)) t' (is.is p m t' k')))
+      later_in _ _ t m keeps_field_separator k (λ separator t' k'. split_same array (name_in y) (pieces_of separator false (str_of u)) t' (is.is p m t' k')))
       ∙ sym (value_taken p.functions (AsArray ∷ AsPattern ∷ []) x (Cons y Nil) (λ as'. apply_built_in w.Split as') s
-        ∙ later_same (eval p.functions x) _ _ s (λ u t.
-        array_taken p.functions (AsPattern ∷ []) y Nil (λ as'. apply_built_in w.Split (OfValue u ∷ as')) t
-        ∙ none_left p.functions (AsPattern ∷ []) (λ as'. apply_built_in w.Split (OfValue u ∷ (OfArray (name_in y) ∷ as'))) t)))
+      ∙ later_same (eval p.functions x) _ _ s (λ u t.
+      array_taken p.functions (AsPattern ∷ []) y Nil (λ as'. apply_built_in w.Split (OfValue u ∷ as')) t
+      ∙ none_left p.functions (AsPattern ∷ []) (λ as'. apply_built_in w.Split (OfValue u ∷ (OfArray (name_in y) ∷ as'))) t)))
 
   pub split_lowered : {a b c d e : Builder} {i j k next : ℕ} {y' : Expr} (pattern : Option ℕ) → Stands next a → FindsPattern a b pattern y' → Pushes b c (n.Value (v.Split array (split_by pattern)) next) j → Builds kinds parameters c d k (EvaluateUnlessEre y' j) → Builds kinds parameters d e i (Evaluate x k)
       → Builds kinds parameters a e i (Evaluate (BuiltIn w.Split (Cons x (Cons y (Cons y' Nil)))) next)
@@ -210,20 +211,20 @@ module _ {kinds : ProgramKinds} {parameters : List FormalParameter} {x y : Expr}
       let t = value_first (λ vs. vs) (ere_first (node (still g h) q) (subst (λ (z : Expr). Builds kinds parameters c d k (EvaluateUnlessEre z j)) found.is r)) x r' (λ u vs. refl) in
       evaluates (takes_behind g t) (λ vs. refl) (BuiltIn w.Split (Cons x (Cons y (Cons (Ere found.text) Nil)))) (λ p l m vs s z.
       later_in _ _ s m (keeps_eval p.functions p.calls.keep x) z (λ u t' k'.
-        ap (λ (text : List ℕ). split_with array (str_of u) (lift (ere_separator (pattern_in text))) t') (ere_there found.adds p (grows t.extends.grows l))
-        ∙ later_in _ _ t' m (keeps_lift (ere_separator (pattern_in found.text))) k' (λ separator t1 k1. split_same array (name_in y) (pieces_of separator false (str_of u)) t1 (is.is p m t1 k1)))
+      ap (λ (text : List ℕ). split_with array (str_of u) (lift (ere_separator (pattern_in text))) t') (ere_there found.adds p (grows t.extends.grows l))
+      ∙ later_in _ _ t' m (keeps_lift (ere_separator (pattern_in found.text))) k' (λ separator t1 k1. split_same array (name_in y) (pieces_of separator false (str_of u)) t1 (is.is p m t1 k1)))
       ∙ sym (value_taken p.functions (AsArray ∷ AsPattern ∷ []) x (Cons y (Cons (Ere found.text) Nil)) (λ as'. apply_built_in w.Split as') s
-        ∙ later_same (eval p.functions x) _ _ s (λ u t'.
-        array_taken p.functions (AsPattern ∷ []) y (Cons (Ere found.text) Nil) (λ as'. apply_built_in w.Split (OfValue u ∷ as')) t'
-        ∙ ere_taken p.functions [] found.text Nil (λ as'. apply_built_in w.Split (OfValue u ∷ (OfArray (name_in y) ∷ as'))) t'
-        ∙ none_left p.functions [] (λ as'. apply_built_in w.Split (OfValue u ∷ (OfArray (name_in y) ∷ (OfEre found.text ∷ as')))) t'))))
+      ∙ later_same (eval p.functions x) _ _ s (λ u t'.
+      array_taken p.functions (AsPattern ∷ []) y (Cons (Ere found.text) Nil) (λ as'. apply_built_in w.Split (OfValue u ∷ as')) t'
+      ∙ ere_taken p.functions [] found.text Nil (λ as'. apply_built_in w.Split (OfValue u ∷ (OfArray (name_in y) ∷ as'))) t'
+      ∙ none_left p.functions [] (λ as'. apply_built_in w.Split (OfValue u ∷ (OfArray (name_in y) ∷ (OfEre found.text ∷ as')))) t'))))
   split_lowered {c = c} {j = j} {next = next} {y' = y'} None h found q r r' =
       let t = value_first (λ vs. drop 1 vs) (node h (subst (λ (z : Builder). Pushes z c (n.Value (v.Split array by.Value) next) j) found.same q)) y' (evaluated_unless_ere y' found.not_ere r) (λ u vs. refl) in
       evaluates (value_first (λ vs. vs) t x r' (λ u vs. refl)) (λ vs. refl) (BuiltIn w.Split (Cons x (Cons y (Cons y' Nil)))) (λ p l m vs s z.
       later_in _ _ s m (keeps_eval p.functions p.calls.keep x) z (λ u t' k'. later_in _ _ t' m (keeps_eval p.functions p.calls.keep y') k' (λ u' t1 k1.
-        later_in _ _ t1 m (keeps_lift (separator_in (str_of u'))) k1 (λ separator t2 k2. split_same array (name_in y) (pieces_of separator false (str_of u)) t2 (is.is p m t2 k2))))
+      later_in _ _ t1 m (keeps_lift (separator_in (str_of u'))) k1 (λ separator t2 k2. split_same array (name_in y) (pieces_of separator false (str_of u)) t2 (is.is p m t2 k2))))
       ∙ sym (value_taken p.functions (AsArray ∷ AsPattern ∷ []) x (Cons y (Cons y' Nil)) (λ as'. apply_built_in w.Split as') s
-        ∙ later_same (eval p.functions x) _ _ s (λ u t'.
-        array_taken p.functions (AsPattern ∷ []) y (Cons y' Nil) (λ as'. apply_built_in w.Split (OfValue u ∷ as')) t'
-        ∙ pattern_taken p.functions [] y' Nil (λ as'. apply_built_in w.Split (OfValue u ∷ (OfArray (name_in y) ∷ as'))) t' found.not_ere
-        ∙ later_same (eval p.functions y') _ _ t' (λ u' t1. none_left p.functions [] (λ as'. apply_built_in w.Split (OfValue u ∷ (OfArray (name_in y) ∷ (OfValue u' ∷ as')))) t1))))
+      ∙ later_same (eval p.functions x) _ _ s (λ u t'.
+      array_taken p.functions (AsPattern ∷ []) y (Cons y' Nil) (λ as'. apply_built_in w.Split (OfValue u ∷ as')) t'
+      ∙ pattern_taken p.functions [] y' Nil (λ as'. apply_built_in w.Split (OfValue u ∷ (OfArray (name_in y) ∷ as'))) t' found.not_ere
+      ∙ later_same (eval p.functions y') _ _ t' (λ u' t1. none_left p.functions [] (λ as'. apply_built_in w.Split (OfValue u ∷ (OfArray (name_in y) ∷ (OfValue u' ∷ as')))) t1))))

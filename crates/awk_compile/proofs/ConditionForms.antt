@@ -4,6 +4,7 @@ use Rattle.awk_value.specs.declared.value.Value.{Value}
 use Rattle.awk_value.specs.declared.value.Value.TheVariants as value
 use Rattle.awk_value.specs.Values.{truth_of}
 use Rattle.awk_lex.specs.declared.token.Operator.TheVariants as o
+use Rattle.awk_grammar.specs.declared.tree.UnaryOperator.{UnaryOperator}
 use Rattle.awk_grammar.specs.declared.tree.UnaryOperator.TheVariants as unary
 use Rattle.awk_grammar.specs.declared.tree.BinaryOperator.{BinaryOperator}
 use Rattle.awk_grammar.specs.declared.tree.BinaryOperator.TheVariants.{Concatenate, Infix}
@@ -17,7 +18,7 @@ use Rattle.awk_semantics.proofs.KeepsForms.{keeps_eval}
 use Rattle.awk_compile.specs.declared.builder.Builder.{Builder}
 use Rattle.awk_compile.specs.declared.node.Node.TheVariants as n
 use Rattle.awk_compile.specs.support.Builds.{Grows, Pushes, Extends, IsIn, Program, Evaluate, Decide, place_in, Builds, Stands}
-use Rattle.awk_compile.specs.support.Operands.{is_and, is_or, PushesTruths}
+use Rattle.awk_compile.specs.support.Operands.{is_not, is_and, is_or, PushesTruths}
 use Rattle.awk_compile.proofs.Calculus.{assoc_at, later_same, later_in, first_same, given}
 use Rattle.awk_compile.proofs.Building.{grows, extends, same, still, placed, at_once, stands, both}
 use Rattle.awk_compile.proofs.Taking.{Takes, node, takes_stand, decided, evaluates}
@@ -120,9 +121,11 @@ module _ {kinds : ProgramKinds} {parameters : List FormalParameter} {a b : Build
   unfolding eval
   group_tested q = record { extends = q.extends; below = q.below; pos = q.pos; is = q.is }
 
-  pub not_tested : Builds kinds parameters a b i (Decide e other here) → Builds kinds parameters a b i (Decide (Unary unary.Not e) here other)
+  pub not_tested : (u : UnaryOperator) → is_not u ≡ true → Builds kinds parameters a b i (Decide e other here) → Builds kinds parameters a b i (Decide (Unary u e) here other)
   unfolding eval
-  not_tested q = record {
+  not_tested unary.Plus is q = absurd (cc)
+  not_tested unary.Minus is q = absurd (cc)
+  not_tested unary.Not is q = record {
     extends = q.extends;
     below = q.below;
     pos = q.pos;

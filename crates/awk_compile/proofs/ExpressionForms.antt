@@ -75,6 +75,7 @@ ere_there {a = a} {b = b} {number = number} {text = text} q p g =
     last : (xs : List (List ℕ)) → slice_get (xs ++ text ∷ []) (length xs) ≡ Some text
     last [] = refl
     last (x ∷ xs) = last xs
+
     found : (xs : List (List ℕ)) (k : ℕ) → slice_get xs k ≡ Some text → get_or xs k [] ≡ text
     found [] k e = cc
     found (x ∷ xs) zero e = cc

@@ -104,9 +104,9 @@ module _ {kinds : ProgramKinds} {parameters : List FormalParameter} where
       evaluates m (λ vs. refl) (Getline (AnExpr target) (AnExpr file)) (λ p g k vs s l.
       sym (assoc_at (place_of p.functions target) (λ x. ret (Some x)) (λ q'. (eval p.functions file >>= λ u. ret (Some u)) >>= λ y. getline_from q' y) s
       ∙ later_same (place_of p.functions target) _ _ s (λ x u.
-        given (Some x) (λ q'. (eval p.functions file >>= λ z. ret (Some z)) >>= λ y. getline_from q' y) u
-        ∙ assoc_at (eval p.functions file) (λ z. ret (Some z)) (λ y. getline_from (Some x) y) u
-        ∙ later_same (eval p.functions file) _ _ u (λ z u'. given (Some z) (λ y. getline_from (Some x) y) u'))))
+      given (Some x) (λ q'. (eval p.functions file >>= λ z. ret (Some z)) >>= λ y. getline_from q' y) u
+      ∙ assoc_at (eval p.functions file) (λ z. ret (Some z)) (λ y. getline_from (Some x) y) u
+      ∙ later_same (eval p.functions file) _ _ u (λ z u'. given (Some z) (λ y. getline_from (Some x) y) u'))))
   getline_lowered None (AnExpr target) file h found t r r' = absurd found
   getline_lowered (Some q) NoExpr file h found t r r' = absurd found
 
@@ -120,11 +120,11 @@ module _ {kinds : ProgramKinds} {parameters : List FormalParameter} where
   piped_getline_lowered {command = command} (Some q) (AnExpr target) h found t r r' =
       let m = value_first (λ vs. vs) (place_first (λ vs. drop 1 vs) (λ p vs x. named_getline input.Command (str_of (first vs)) (Some x)) found.extends found.is (node (still found.extends h) t) (its_operand r) (λ ws. below_operand q ws)
       (λ p g k x ws vs s l at d.
-        ap (λ (z : Value). named_getline_at p.tables.names input.Command (str_of z) (Some q) (first ws) s) (value_below q ws vs d)
-        ∙ sym (named_got p (Some x) (Some q) (first ws) (λ text n' s1 i'. received at text n' s1 i') input.Command (str_of (first vs)) k s l))) command r' (λ u vs. refl) in
+      ap (λ (z : Value). named_getline_at p.tables.names input.Command (str_of z) (Some q) (first ws) s) (value_below q ws vs d)
+      ∙ sym (named_got p (Some x) (Some q) (first ws) (λ text n' s1 i'. received at text n' s1 i') input.Command (str_of (first vs)) k s l))) command r' (λ u vs. refl) in
       evaluates m (λ vs. refl) (PipedGetline command (AnExpr target)) (λ p g k vs s l.
       later_same (eval p.functions command) _ _ s (λ u s'.
-        sym (assoc_at (place_of p.functions target) (λ x. ret (Some x)) (λ q'. named_getline input.Command (str_of u) q') s'
-        ∙ later_same (place_of p.functions target) _ _ s' (λ x u'. given (Some x) (λ q'. named_getline input.Command (str_of u) q') u'))))
+      sym (assoc_at (place_of p.functions target) (λ x. ret (Some x)) (λ q'. named_getline input.Command (str_of u) q') s'
+      ∙ later_same (place_of p.functions target) _ _ s' (λ x u'. given (Some x) (λ q'. named_getline input.Command (str_of u) q') u'))))
   piped_getline_lowered None (AnExpr target) h found t r r' = absurd found
   piped_getline_lowered (Some q) NoExpr h found t r r' = absurd found

@@ -10,7 +10,6 @@ pub mod Elements
 pub mod ValueLists
 pub mod Taking
 pub mod Targets
-pub mod OtherPlaces
 pub mod ExpressionForms
 pub mod PatternForms
 pub mod ConditionForms
@@ -18,3 +17,6 @@ pub mod ListForms
 pub mod CallForms
 pub mod BuiltInForms
 pub mod GetlineForms
+pub mod SubstituteForms
+pub mod OperandForms
+pub mod Slots

@@ -96,9 +96,9 @@ place_first {next = next} {m = m} {e = e} rest f before is t q same alike = reco
   is = λ p g k vs s h.
       q.is p g k vs s h
       ∙ sym (is.is p (grows t.extends.grows (grows q.extends.grows g)) (λ x. f p vs x >>= λ w. place_in p k next (w ∷ rest vs)) _ k vs s h (λ x ws u l at dropped.
-        first_same (f p vs x) (m p ws) (λ w. place_in p k next (w ∷ rest vs)) u (sym (alike p g k x ws vs u l at dropped))
-        ∙ ap (λ (vs' : List Value). (m p ws >>= λ w. place_in p k next (w ∷ vs')) u) (sym (same ws ∙ ap rest dropped))
-        ∙ sym (t.is p (grows q.extends.grows g) k ws u l)))
+      first_same (f p vs x) (m p ws) (λ w. place_in p k next (w ∷ rest vs)) u (sym (alike p g k x ws vs u l at dropped))
+      ∙ ap (λ (vs' : List Value). (m p ws >>= λ w. place_in p k next (w ∷ vs')) u) (sym (same ws ∙ ap rest dropped))
+      ∙ sym (t.is p (grows q.extends.grows g) k ws u l)))
       ∙ sym (assoc_at (place_of p.functions e) (f p vs) (λ w. place_in p k next (w ∷ rest vs)) s);
 }
 
@@ -127,8 +127,8 @@ decided {next = next} {m1 = m1} {m2 = m2} {left = left} t u before g1 g2 e q = r
   is = λ p g k vs s h.
       q.is p g k vs s h
       ∙ later_in _ _ s k (keeps_eval p.functions p.calls.keep e) h (λ v s' l.
-        chosen (truth_of v) (m1 p vs) (m2 p vs) (λ w. place_in p k next (w ∷ left vs)) _ _ s'
-        (t.is p (grows g1.grows (grows q.extends.grows g)) k vs s' l) (u.is p (grows g2.grows (grows q.extends.grows g)) k vs s' l))
+      chosen (truth_of v) (m1 p vs) (m2 p vs) (λ w. place_in p k next (w ∷ left vs)) _ _ s'
+      (t.is p (grows g1.grows (grows q.extends.grows g)) k vs s' l) (u.is p (grows g2.grows (grows q.extends.grows g)) k vs s' l))
       ∙ sym (assoc_at (eval p.functions e) (λ v. choose (truth_of v) (m1 p vs) (m2 p vs)) (λ w. place_in p k next (w ∷ left vs)) s);
 }
 

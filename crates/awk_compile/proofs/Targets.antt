@@ -63,9 +63,9 @@ module _ {kinds : ProgramKinds} {p : Program kinds} {parameters : List FormalPar
   unfolding post_increment post_increment_at
   incremented o n s i =
       later_in _ _ s n (keeps_read_place t) i (λ v u h.
-        later_in _ _ u n (keeps_number_of v) h (λ k u1 h1.
-        later_in _ _ u1 n (keeps_lift (applied (by_one o) (value.Number k) one)) h1 (λ w u2 h2.
-        first_same (store t w) _ _ u2 (at.stores n w u2 h2))))
+      later_in _ _ u n (keeps_number_of v) h (λ k u1 h1.
+      later_in _ _ u1 n (keeps_lift (applied (by_one o) (value.Number k) one)) h1 (λ w u2 h2.
+      first_same (store t w) _ _ u2 (at.stores n w u2 h2))))
       ∙ first_same (read_place t) _ _ s (at.reads n s i)
 
   pub exchanged_in : (count : ℕ) (text : List ℕ) (n : ℕ) (s : State) → Stands n s → assign_exchange t count text s ≡ assign_exchange_at p.tables.names q operand count text s
@@ -112,18 +112,14 @@ module _ {kinds : ProgramKinds} {parameters : List FormalParameter} where
     stores = λ n w s i. stores_element a x s (is.is p n s i) (str_of operand) w;
   }
 
-  at_field : {p : Program kinds} {k : ℤ} → IsAt p parameters (AField k) place.Field (value.Number k)
+  pub at_field : {p : Program kinds} {k : ℤ} → IsAt p parameters (AField k) place.Field (value.Number k)
   unfolding read_place store
   at_field {k = k} = record { reads = λ n s i. sym (numbered k (λ m. read_field m) s); stores = λ n w s i. sym (numbered k (λ m. set_field m w) s) }
 
 module _ {kinds : ProgramKinds} {parameters : List FormalParameter} {b : Builder} where
-  -- a name, and any other expression that is no place
-  pub name_is_place : {v : Variable} (x : List ℕ) (e : Expr) → ((functions : Functions) → place_of functions e ≡ ret (AName x)) → ((functions : Functions) (k : Cont) (vs : List Value) → with_operand functions e k vs ≡ k vs)
-      → IsVariableOf kinds parameters b v x → IsPlaceOf kinds parameters b (place.Variable v) e
-  name_is_place x e is_name is_bare is = record {
-    is = λ p g f k n vs s i alike.
-        ap (λ (m : Run Target). (m >>= f) s) (is_name p.functions) ∙ given (AName x) f s ∙ alike (AName x) vs s i (at_variable g is) refl ∙ sym (ap (λ (m : Run Value). m s) (is_bare p.functions k vs))
-  }
+  pub name_is_place : {v : Variable} {x : List ℕ} → IsVariableOf kinds parameters b v x → IsPlaceOf kinds parameters b (place.Variable v) (Name x)
+  unfolding place_of
+  name_is_place {x = x} is = record { is = λ p g f k n vs s i alike. given (AName x) f s ∙ alike (AName x) vs s i (at_variable g is) refl }
 
   pub element_is_place : {a : Array} {x : List ℕ} (es : Exprs) → IsArrayOf kinds parameters a x → IsPlaceOf kinds parameters b (place.Element a) (Element x es)
   unfolding place_of
@@ -132,7 +128,7 @@ module _ {kinds : ProgramKinds} {parameters : List FormalParameter} {b : Builder
         assoc_at (key_of p.functions [] es) (λ key. ret (AnElement x key)) f s
         ∙ later_same (key_of p.functions [] es) _ _ s (λ key u. given (AnElement x key) f u)
         ∙ sym (keyed p.functions es (λ key. f (AnElement x key)) s)
-        ∙ later_in _ _ s n (keeps_key_value p.functions p.calls.keep es) i (λ v u h. alike (AnElement x (str_of v)) (v ∷ vs) u h (at_element is) refl)
+        ∙ later_in _ _ s n (keeps_key_value p.functions p.calls.keep es) i (λ v u h. alike (AnElement x (str_of v)) (v ∷ vs) u h (at_element is) refl);
   }
 
   pub field_is_place : (e : Expr) → IsPlaceOf kinds parameters b place.Field (Field e)
@@ -142,5 +138,5 @@ module _ {kinds : ProgramKinds} {parameters : List FormalParameter} {b : Builder
         assoc_at (eval p.functions e) (λ v. number_of v >>= λ m. ret (AField m)) f s
         ∙ later_in _ _ s n (keeps_eval p.functions p.calls.keep e) i (λ v u h.
         assoc_at (number_of v) (λ m. ret (AField m)) f u
-        ∙ later_in _ _ u n (keeps_number_of v) h (λ m u1 h1. given (AField m) f u1 ∙ alike (AField m) (value.Number m ∷ vs) u1 h1 at_field refl))
+        ∙ later_in _ _ u n (keeps_number_of v) h (λ m u1 h1. given (AField m) f u1 ∙ alike (AField m) (value.Number m ∷ vs) u1 h1 at_field refl));
   }

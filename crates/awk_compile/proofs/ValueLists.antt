@@ -39,9 +39,9 @@ module _ (functions : Functions) where
   all_behind front (Cons e es) k s =
       assoc_at (eval functions e) (λ v. eval_all functions (front ++ v ∷ []) es) k s
       ∙ later_same (eval functions e) _ _ s (λ v t.
-        all_behind (front ++ v ∷ []) es k t
-        ∙ later_same (eval_all functions [] es) _ _ t (λ ws u. ap (λ l. k l u) (append_assoc front (v ∷ []) ws))
-        ∙ sym (all_behind (v ∷ []) es (λ ws. k (front ++ ws)) t))
+      all_behind (front ++ v ∷ []) es k t
+      ∙ later_same (eval_all functions [] es) _ _ t (λ ws u. ap (λ l. k l u) (append_assoc front (v ∷ []) ws))
+      ∙ sym (all_behind (v ∷ []) es (λ ws. k (front ++ ws)) t))
       ∙ sym (assoc_at (eval functions e) (λ v. eval_all functions (v ∷ []) es) (λ ws. k (front ++ ws)) s)
 
   -- the first value, and then the others

@@ -186,14 +186,14 @@ module _ {kinds : ProgramKinds} {parameters : List FormalParameter} (x : List �
   is_local_array i e = record {
     is = λ p n s h.
         let f = found (newest_locals s.frames) x i (ap (λ ns. place_of ns x) h.names ∙ e) in
-        ap (λ (o : Option Local). local_number o (number_in s.array_names x)) (newest s.frames x ∙ f.by_name) ∙ same_number f.here (number_in s.array_names x) ∙ ap number_of_local (sym f.at)
+        ap (λ (o : Option Local). local_number o (number_in s.array_names x)) (newest s.frames x ∙ f.by_name) ∙ same_number f.here (number_in s.array_names x) ∙ ap number_of_local (sym f.at);
   }
 
   is_outside : (m : ℕ) → place_of (parameter_names parameters) x ≡ None → number_in kinds.arrays x ≡ m → IsArrayOf kinds parameters (array.Global m) x
   is_outside m outside e = record {
     is = λ p n s h.
         ap (λ (o : Option Local). local_number o (number_in s.array_names x)) (newest s.frames x ∙ none (newest_locals s.frames) x (ap (λ ns. place_of ns x) h.names ∙ outside))
-        ∙ ap (λ names. number_in names x) (h.arrays ∙ p.arrays) ∙ e
+        ∙ ap (λ names. number_in names x) (h.arrays ∙ p.arrays) ∙ e;
   }
 
   pub is_global_array : (m : ℕ) → place_of (parameter_names parameters) x ≡ None → place_of kinds.arrays x ≡ Some m → IsArrayOf kinds parameters (array.Global m) x

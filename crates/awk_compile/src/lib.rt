@@ -4,6 +4,7 @@
 pub mod builder;
 mod built_ins;
 mod calls;
+mod conditions;
 mod expressions;
 mod getlines;
 mod lists;
@@ -12,4 +13,3 @@ pub mod node;
 mod patterns;
 mod places;
 pub mod scope;
-mod conditions;
