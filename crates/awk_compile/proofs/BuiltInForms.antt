@@ -1,10 +1,7 @@
 -- Built-in functions: their arguments on the stack, and what is made of them.
-use Rattle.std.proofs.lemmas.List.{map-append}
-use Rattle.std.proofs.Common.{◌≡◌, ◌≢◌, ℕ, zero, suc, ◌+◌, pos, Bool, true, false, List, [], ◌∷◌, ◌++◌, length, map, drop, reverse, slice_get, Option, Some, None, Ok, refl, sym, subst, ap, ◌∙◌, arith}
+use Rattle.std.proofs.Common.{◌≡◌, ◌≢◌, ℕ, zero, suc, true, false, List, [], ◌∷◌, ◌++◌, length, map, drop, reverse, Option, Some, None, refl, sym, subst, ap, ◌∙◌, arith}
 use Rattle.awk_value.specs.declared.value.Value.{Value}
-use Rattle.awk_value.specs.declared.value.Value.TheVariants as value
 use Rattle.awk_value.specs.Values.{str_of}
-use Rattle.awk_text.specs.definitions.Separators.{Separator}
 use Rattle.awk_text.specs.definitions.Fields.{pieces_of}
 use Rattle.awk_lex.specs.declared.token.BuiltIn.{BuiltIn as BuiltInName}
 use Rattle.awk_lex.specs.declared.token.BuiltIn.TheVariants as w
@@ -14,34 +11,29 @@ use Rattle.awk_kinds.specs.definitions.NameUses.{count_of}
 use Rattle.awk_kinds.specs.definitions.Signatures.{ProgramKinds}
 use Rattle.awk_semantics.specs.definitions.State.{State, Run, ◌>>=◌, lift, ret}
 use Rattle.awk_semantics.specs.definitions.Operators.{pattern_in}
-use Rattle.awk_semantics.specs.definitions.Texts.{exchanged, separator_in, ere_separator}
-use Rattle.awk_semantics.specs.definitions.Primitives.{record_text, field_separator, fill_array, array_number}
-use Rattle.awk_semantics.specs.definitions.Places.{Place as Target, AField, read_place}
-use Rattle.awk_semantics.specs.definitions.BuiltIns.{Role, AsValue, AsPattern, AsArray, AsPlace, Argument, OfValue, OfEre, OfArray, OfPlace, roles_of, next_role, taken_as, value_of as argument_value, applied_all, record_length, count_value, split_into, assign_exchange, exchange, apply_built_in}
+use Rattle.awk_semantics.specs.definitions.Texts.{separator_in, ere_separator}
+use Rattle.awk_semantics.specs.definitions.Primitives.{fill_array, array_number}
+use Rattle.awk_semantics.specs.definitions.Places.{read_place}
+use Rattle.awk_semantics.specs.definitions.BuiltIns.{Role, AsValue, AsPattern, AsArray, AsPlace, Argument, OfValue, OfEre, OfArray, OfPlace, roles_of, value_of as argument_value, applied_all, count_value, split_into, apply_built_in}
 use Rattle.awk_semantics.specs.definitions.Semantics.{Functions, eval, place_of, take_arguments, eval_all}
-use Rattle.awk_semantics.specs.support.Keeps.{Keeps}
 use Rattle.awk_semantics.proofs.Keeping.{keeps_lift}
-use Rattle.awk_semantics.proofs.KeepsForms.{keeps_eval, keeps_read_place, keeps_field_separator, keeps_record_text}
+use Rattle.awk_semantics.proofs.KeepsForms.{keeps_eval, keeps_field_separator}
 use Rattle.awk_storage.specs.declared.position.Array.{Array}
-use Rattle.awk_storage.specs.declared.position.Place.{Place}
-use Rattle.awk_storage.specs.declared.position.Place.TheVariants as place
-use Rattle.awk_storage.specs.definitions.Positions.{read_at, number_at}
-use Rattle.awk_storage.specs.definitions.Forms.{fill_at, match_in, split_with, assign_exchange_at, substitute_at}
+use Rattle.awk_storage.specs.definitions.Positions.{number_at}
+use Rattle.awk_storage.specs.definitions.Forms.{fill_at, match_in, split_with}
 use Rattle.awk_compile.specs.declared.builder.Builder.{Builder}
-use Rattle.awk_compile.specs.declared.node.ValueNode.{ValueNode}
 use Rattle.awk_compile.specs.declared.node.ValueNode.TheVariants as v
 use Rattle.awk_compile.specs.declared.node.SplitBy.TheVariants as by
 use Rattle.awk_compile.specs.declared.node.Node.TheVariants as n
-use Rattle.awk_compile.specs.definitions.Nodes.{Tables, ere_at, first, second, operands, taken, value_of, popped, substitute, substitute_by}
-use Rattle.awk_compile.specs.support.Builds.{Grows, Pushes, Extends, IsIn, Program, Evaluate, EvaluateAll, EvaluateOperand, EvaluateUnlessEre, IsArrayOf, IsAt, FindsPlace, Builds, Stands}
-use Rattle.awk_compile.specs.support.Operands.{FindsPattern, split_by, takes_one, strict_node, substitution}
+use Rattle.awk_compile.specs.definitions.Nodes.{Tables, taken, value_of, popped}
+use Rattle.awk_compile.specs.support.Builds.{Pushes, Evaluate, EvaluateAll, EvaluateUnlessEre, IsArrayOf, Builds, Stands}
+use Rattle.awk_compile.specs.support.Operands.{FindsPattern, split_by, takes_one, strict_node}
 use Rattle.awk_compile.specs.support.Calls.{name_in}
 use Rattle.awk_compile.proofs.Calculus.{assoc_at, later_same, later_in, first_same, given}
-use Rattle.awk_compile.proofs.Building.{grows, extends, same, still}
+use Rattle.awk_compile.proofs.Building.{grows, still}
 use Rattle.awk_compile.proofs.Elements.{fills_array}
 use Rattle.awk_compile.proofs.ValueLists.{taken_all, dropped_all, all_first, counted}
-use Rattle.awk_compile.proofs.Targets.{exchanged_in}
-use Rattle.awk_compile.proofs.Taking.{Takes, node, value_first, list_first, place_first, taken_first, evaluates}
+use Rattle.awk_compile.proofs.Taking.{node, value_first, list_first, evaluates}
 use Rattle.awk_compile.proofs.ExpressionForms.{takes_behind, ere_added, ere_there}
 use Rattle.awk_compile.proofs.PatternForms.{other_than_ere, evaluated_unless_ere, ere_first}
 use Rattle.awk_compile.proofs.CallForms.{named_array, argument_first}

@@ -1,16 +1,15 @@
 -- Calls: the arguments that are values lie on the stack, and the arrays are told by their positions.
-use Rattle.std.proofs.Common.{◌≡◌, ℕ, zero, suc, Bool, true, false, List, [], ◌∷◌, ◌++◌, length, map, drop, reverse, slice_get, unwrap_or, bytes_eq, Option, Some, None, if◌then◌else◌, Vec, Global, refl, sym, subst, ap, ◌∙◌, arith, append_assoc, append-nil}
+use Rattle.std.proofs.Common.{◌≡◌, ℕ, zero, suc, Bool, true, false, List, [], ◌∷◌, ◌++◌, length, map, drop, reverse, slice_get, unwrap_or, bytes_eq, Option, Some, None, if◌then◌else◌, Vec, Global, refl, sym, subst, ap, ◌∙◌, append_assoc, append-nil}
 use Rattle.std.specs.Option.{option_map}
 use Rattle.std.proofs.lemmas.Slice.Eq.{bytes_eq-Decides}
 use Rattle.awk_value.specs.declared.value.Value.{Value}
-use Rattle.awk_value.specs.declared.value.Value.TheVariants as value
 use Rattle.awk_grammar.specs.Tree.{Expr, Number, String, Ere, Name, Element, Field, Group, Call, BuiltIn, Length, PreIncrement, PostIncrement, Getline, PipedGetline, Unary, Binary, Membership, ListMembership, Conditional, Assign, Exprs, Nil, Cons}
 use Rattle.awk_kinds.specs.definitions.Kinds.{FormalParameter}
 use Rattle.awk_kinds.specs.definitions.Signatures.{Signature, ProgramKinds, place_of as number_of_name, signature_names}
 use Rattle.awk_semantics.specs.declared.local.Local.{Local}
 use Rattle.awk_semantics.specs.declared.local.Local.TheVariants as local
-use Rattle.awk_semantics.specs.definitions.State.{State, Out, Run, ◌>>=◌, lift, ret, gives}
-use Rattle.awk_semantics.specs.definitions.Primitives.{spend, check_height, array_number}
+use Rattle.awk_semantics.specs.definitions.State.{State, Run, ◌>>=◌, ret, gives}
+use Rattle.awk_semantics.specs.definitions.Primitives.{array_number}
 use Rattle.awk_semantics.specs.definitions.Places as target
 use Rattle.awk_semantics.specs.definitions.BuiltIns.{Role, AsValue, AsArray, Argument, OfValue, OfArray, next_role, array_named, taken_as, local_of, locals_of}
 use Rattle.awk_semantics.specs.definitions.Calls.{role_of}
@@ -22,12 +21,12 @@ use Rattle.awk_compile.specs.declared.node.ArgumentForm.{ArgumentForm}
 use Rattle.awk_compile.specs.declared.node.ArgumentForm.TheVariants as form
 use Rattle.awk_compile.specs.declared.node.ValueNode.TheVariants as v
 use Rattle.awk_compile.specs.declared.node.Node.TheVariants as n
-use Rattle.awk_compile.specs.definitions.Nodes.{Tables, Cont, first, function_at, taken, local_by, behind_form, locals_by, values_among, given_by, call_at}
-use Rattle.awk_compile.specs.support.Builds.{Grows, Pushes, Extends, IsIn, Program, Evaluate, EvaluateArguments, with_argument, with_arguments, place_in, Builds, Stands}
+use Rattle.awk_compile.specs.definitions.Nodes.{Cont, function_at, taken, locals_by, values_among, given_by, call_at}
+use Rattle.awk_compile.specs.support.Builds.{Pushes, IsIn, Program, Evaluate, EvaluateArguments, with_argument, with_arguments, place_in, Builds, Stands}
 use Rattle.awk_compile.specs.support.Scopes.{parameters_of}
-use Rattle.awk_compile.specs.support.Calls.{is_array, is_array_at, name_in, roles_from, IsFormOf, AreForms}
+use Rattle.awk_compile.specs.support.Calls.{is_array_at, name_in, roles_from, IsFormOf, AreForms}
 use Rattle.awk_compile.proofs.Calculus.{assoc_at, later_same, later_in, first_same, given}
-use Rattle.awk_compile.proofs.Building.{grows, extends, same, still}
+use Rattle.awk_compile.proofs.Building.{grows, extends, same}
 use Rattle.awk_compile.proofs.ValueLists.{onto_more, taken_all, dropped_all}
 use Rattle.awk_compile.proofs.Taking.{Takes, node}
 

@@ -1,5 +1,5 @@
 -- `getline` in its six forms.
-use Rattle.std.proofs.Common.{◌≡◌, ℕ, zero, suc, ◌+◌, pos, List, [], ◌∷◌, drop, Option, Some, None, Ok, get_or, refl, sym, subst, ap, ◌∙◌, arith}
+use Rattle.std.proofs.Common.{◌≡◌, ℕ, ◌+◌, List, [], ◌∷◌, drop, Option, Some, None, get_or, refl, sym, subst, ap, ◌∙◌, arith}
 use Rattle.awk_value.specs.declared.value.Value.{Value}
 use Rattle.awk_value.specs.declared.value.Value.TheVariants as value
 use Rattle.awk_value.specs.Values.{str_of}
@@ -7,21 +7,21 @@ use Rattle.awk_grammar.specs.Tree.{Expr, Getline, PipedGetline, OptionalExpr, No
 use Rattle.awk_world.specs.declared.world.InputKind.TheVariants as input
 use Rattle.awk_kinds.specs.definitions.Kinds.{FormalParameter}
 use Rattle.awk_kinds.specs.definitions.Signatures.{ProgramKinds}
-use Rattle.awk_semantics.specs.definitions.State.{State, Run, ◌>>=◌, lift, ret}
+use Rattle.awk_semantics.specs.definitions.State.{State, Run, ◌>>=◌, ret}
 use Rattle.awk_semantics.specs.definitions.Places.{receive, main_getline, named_getline}
 use Rattle.awk_semantics.specs.definitions.Semantics.{eval, place_of, optional_place, optional_value, getline_from}
 use Rattle.awk_semantics.proofs.KeepsForms.{keeps_eval}
 use Rattle.awk_storage.specs.declared.position.Place.{Place}
 use Rattle.awk_storage.specs.declared.position.Place.TheVariants as place
-use Rattle.awk_storage.specs.definitions.Forms.{receive_at, main_getline_at, named_getline_at}
+use Rattle.awk_storage.specs.definitions.Forms.{receive_at, named_getline_at}
 use Rattle.awk_compile.specs.declared.builder.Builder.{Builder}
 use Rattle.awk_compile.specs.declared.node.Source.TheVariants as source
 use Rattle.awk_compile.specs.declared.node.ValueNode.TheVariants as v
 use Rattle.awk_compile.specs.declared.node.Node.TheVariants as n
-use Rattle.awk_compile.specs.definitions.Nodes.{first, second, operands}
-use Rattle.awk_compile.specs.support.Builds.{Grows, Pushes, IsIn, Program, Evaluate, EvaluateOperand, EvaluateOptional, EvaluateOptionalOperand, FindsPlace, FindsOptionalPlace, Builds, Stands}
+use Rattle.awk_compile.specs.definitions.Nodes.{first, operands}
+use Rattle.awk_compile.specs.support.Builds.{Pushes, IsIn, Program, Evaluate, EvaluateOperand, EvaluateOptional, EvaluateOptionalOperand, FindsOptionalPlace, Builds, Stands}
 use Rattle.awk_compile.specs.support.Operands.{source_of}
-use Rattle.awk_compile.proofs.Calculus.{assoc_at, later_same, later_in, first_same, given}
+use Rattle.awk_compile.proofs.Calculus.{assoc_at, later_same, later_in, given}
 use Rattle.awk_compile.proofs.Building.{grows, extends, same, still}
 use Rattle.awk_compile.proofs.Targets.{received, main_got, named_got}
 use Rattle.awk_compile.proofs.Taking.{Takes, node, value_first, place_first, evaluates}

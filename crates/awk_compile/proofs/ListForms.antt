@@ -1,5 +1,5 @@
 -- Lists of expressions, and the subscripts of elements.
-use Rattle.std.proofs.Common.{◌≡◌, ◌≢◌, ℕ, zero, suc, ◌-◌, ◌<◌, ◌≤◌, List, [], ◌∷◌, ◌++◌, length, drop, reverse, get_or, slice_get, Some, Ok, refl, sym, subst, ap, ◌∙◌, arith}
+use Rattle.std.proofs.Common.{◌≡◌, ◌≢◌, ℕ, zero, suc, ◌<◌, ◌≤◌, List, [], ◌∷◌, ◌++◌, length, drop, reverse, get_or, refl, sym, ap, ◌∙◌, arith}
 use Rattle.awk_value.specs.declared.value.Value.{Value}
 use Rattle.awk_value.specs.declared.value.Value.TheVariants as value
 use Rattle.awk_grammar.specs.declared.tree.Expr as declared
@@ -8,19 +8,18 @@ use Rattle.awk_grammar.specs.View.{expr_of, exprs_of}
 use Rattle.awk_kinds.specs.definitions.Kinds.{FormalParameter}
 use Rattle.awk_kinds.specs.definitions.NameUses.{count_of}
 use Rattle.awk_kinds.specs.definitions.Signatures.{ProgramKinds}
-use Rattle.awk_semantics.specs.definitions.State.{State, Run, ◌>>=◌, lift, ret}
+use Rattle.awk_semantics.specs.definitions.State.{Run, ◌>>=◌, ret}
 use Rattle.awk_semantics.specs.definitions.Primitives.{joined_key}
-use Rattle.awk_semantics.specs.definitions.Semantics.{Functions, eval, eval_all, key_of}
+use Rattle.awk_semantics.specs.definitions.Semantics.{Functions, eval_all, key_of}
 use Rattle.awk_semantics.proofs.KeepsForms.{keeps_eval}
 use Rattle.awk_compile.specs.declared.builder.Builder.{Builder}
 use Rattle.awk_compile.specs.declared.node.ValueNode.TheVariants as v
 use Rattle.awk_compile.specs.declared.node.Node.TheVariants as n
-use Rattle.awk_compile.specs.definitions.Nodes.{taken}
-use Rattle.awk_compile.specs.support.Builds.{Grows, Pushes, Extends, IsIn, Program, Evaluate, EvaluateAll, EvaluateKey, key_value, place_in, Builds, Stands}
-use Rattle.awk_compile.proofs.Calculus.{assoc_at, later_same, later_in, first_same, given}
-use Rattle.awk_compile.proofs.Building.{grows, extends, same, still}
+use Rattle.awk_compile.specs.support.Builds.{Pushes, Evaluate, EvaluateAll, EvaluateKey, key_value, place_in, Builds, Stands}
+use Rattle.awk_compile.proofs.Calculus.{later_same, later_in, given}
+use Rattle.awk_compile.proofs.Building.{grows, extends, same}
 use Rattle.awk_compile.proofs.ValueLists.{onto_more, taken_all, dropped_all, all_first, key_of_all, counted}
-use Rattle.awk_compile.proofs.Taking.{Takes, node, list_first, evaluates_key}
+use Rattle.awk_compile.proofs.Taking.{node, list_first, evaluates_key}
 
 pub none_lowered : {kinds : ProgramKinds} {parameters : List FormalParameter} {a : Builder} {next : ℕ} → Stands next a → Builds kinds parameters a a next (EvaluateAll Nil next)
 unfolding eval_all

@@ -1,6 +1,5 @@
 -- What a place needs on the stack.
-use Rattle.std.proofs.Common.{◌≡◌, ℕ, suc, List, [], ◌∷◌, drop, Ok, refl, sym, ap, ◌∙◌}
-use Rattle.awk_value.specs.declared.value.Value.{Value}
+use Rattle.std.proofs.Common.{◌≡◌, ℕ, List, ◌∷◌, refl, ◌∙◌}
 use Rattle.awk_value.specs.declared.value.Value.TheVariants as value
 use Rattle.awk_grammar.specs.declared.tree.Expr.{Expr as Declared}
 use Rattle.awk_grammar.specs.declared.tree.Expr.TheVariants as form
@@ -9,14 +8,13 @@ use Rattle.awk_grammar.specs.Tree.{Expr, Ere, Name, Element, Field, Exprs}
 use Rattle.awk_grammar.specs.View.{expr_of}
 use Rattle.awk_kinds.specs.definitions.Kinds.{FormalParameter}
 use Rattle.awk_kinds.specs.definitions.Signatures.{ProgramKinds}
-use Rattle.awk_semantics.specs.definitions.State.{State, Run, ◌>>=◌, lift, ret}
+use Rattle.awk_semantics.specs.definitions.State.{ret}
 use Rattle.awk_semantics.specs.definitions.Primitives.{number_of}
-use Rattle.awk_semantics.specs.definitions.Semantics.{eval}
 use Rattle.awk_semantics.proofs.KeepsForms.{keeps_eval}
 use Rattle.awk_compile.specs.declared.builder.Builder.{Builder}
 use Rattle.awk_compile.specs.declared.node.ValueNode.TheVariants as v
 use Rattle.awk_compile.specs.declared.node.Node.TheVariants as n
-use Rattle.awk_compile.specs.support.Builds.{Grows, Pushes, Evaluate, EvaluateKey, EvaluateOperand, place_in, Builds, Stands}
+use Rattle.awk_compile.specs.support.Builds.{Pushes, Evaluate, EvaluateKey, EvaluateOperand, place_in, Builds, Stands}
 use Rattle.awk_compile.proofs.Calculus.{assoc_at, later_same, later_in, given}
 use Rattle.awk_compile.proofs.Building.{grows, extends, same, placed, at_once}
 

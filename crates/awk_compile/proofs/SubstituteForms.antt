@@ -1,6 +1,6 @@
 -- `sub` and `gsub`, in the record or in a place.
 use Rattle.std.proofs.Math.Nat.{le_refl}
-use Rattle.std.proofs.Common.{◌≡◌, ℕ, zero, suc, ◌+◌, pos, Bool, true, false, List, [], ◌∷◌, drop, slice_get, Option, Some, None, Ok, codes, refl, sym, subst, ap, ◌∙◌}
+use Rattle.std.proofs.Common.{◌≡◌, ℕ, suc, ◌+◌, pos, Bool, true, false, List, [], ◌∷◌, drop, slice_get, Option, Some, None, Ok, codes, refl, sym, subst, ap, ◌∙◌}
 use Rattle.awk_value.specs.declared.value.Value.{Value}
 use Rattle.awk_value.specs.declared.value.Value.TheVariants as value
 use Rattle.awk_value.specs.Values.{str_of}
@@ -8,10 +8,10 @@ use Rattle.awk_variables.specs.Variables.{name_of}
 use Rattle.awk_grammar.specs.Tree.{Expr, Ere, BuiltIn, Exprs, Nil, Cons}
 use Rattle.awk_kinds.specs.definitions.Kinds.{FormalParameter}
 use Rattle.awk_kinds.specs.definitions.Signatures.{ProgramKinds}
-use Rattle.awk_semantics.specs.definitions.State.{State, Run, ◌>>=◌, lift, ret}
+use Rattle.awk_semantics.specs.definitions.State.{State, ◌>>=◌, lift, ret}
 use Rattle.awk_semantics.specs.definitions.Operators.{pattern_in}
 use Rattle.awk_semantics.specs.definitions.Texts.{exchanged}
-use Rattle.awk_semantics.specs.definitions.Primitives.{number_of, read_field, record_text, read_element_at}
+use Rattle.awk_semantics.specs.definitions.Primitives.{record_text, read_element_at}
 use Rattle.awk_semantics.specs.definitions.Places.{Place as Target, AField, read_place}
 use Rattle.awk_semantics.specs.definitions.BuiltIns.{Role, AsValue, AsPattern, AsPlace, Argument, OfValue, OfEre, OfPlace, value_of as argument_value, assign_exchange, exchange, apply_built_in}
 use Rattle.awk_semantics.specs.definitions.Semantics.{Functions, eval, place_of, take_arguments}
@@ -24,15 +24,15 @@ use Rattle.awk_storage.specs.declared.position.Array.{Array}
 use Rattle.awk_storage.specs.declared.position.Place.{Place}
 use Rattle.awk_storage.specs.declared.position.Place.TheVariants as place
 use Rattle.awk_storage.specs.definitions.Positions.{read_local, read_slot, number_at, read_element_of, read_variable, read_at}
-use Rattle.awk_storage.specs.definitions.Forms.{assign_exchange_at, substitute_at}
+use Rattle.awk_storage.specs.definitions.Forms.{substitute_at}
 use Rattle.awk_compile.specs.declared.builder.Builder.{Builder}
 use Rattle.awk_compile.specs.declared.node.ValueNode.TheVariants as v
 use Rattle.awk_compile.specs.declared.node.Node.TheVariants as n
-use Rattle.awk_compile.specs.definitions.Nodes.{Tables, ere_at, first, second, operands, pattern_operands, target_operands, substitute_by}
+use Rattle.awk_compile.specs.definitions.Nodes.{ere_at, first, second, operands, pattern_operands, target_operands, substitute_by}
 use Rattle.awk_compile.specs.support.Builds.{Grows, Pushes, Extends, IsIn, Program, Evaluate, EvaluateOperand, EvaluateUnlessEre, IsAt, FindsPlace, Builds, Stands}
 use Rattle.awk_compile.specs.support.Operands.{FindsPattern, substitution}
 use Rattle.awk_compile.proofs.Calculus.{assoc_at, later_same, later_in, first_same, given}
-use Rattle.awk_compile.proofs.Building.{grows, extends, same, still}
+use Rattle.awk_compile.proofs.Building.{grows, same, still}
 use Rattle.awk_compile.proofs.Targets.{at_field, exchanged_in}
 use Rattle.awk_compile.proofs.Taking.{Takes, node, takes_stand, value_first, place_first, taken_first, evaluates}
 use Rattle.awk_compile.proofs.ExpressionForms.{takes_behind, ere_added, ere_there}

@@ -1,8 +1,8 @@
 -- Parts that take values off the stack and put one on it, built from their ends.
-use Rattle.std.proofs.Common.{◌≡◌, ℕ, suc, ◌<◌, List, [], ◌∷◌, ◌++◌, length, drop, reverse, refl, sym, ap, ◌∙◌, arith}
+use Rattle.std.proofs.Common.{◌≡◌, ℕ, ◌<◌, List, [], ◌∷◌, ◌++◌, length, drop, reverse, sym, ap, ◌∙◌, arith}
 use Rattle.awk_value.specs.declared.value.Value.{Value}
 use Rattle.awk_value.specs.Values.{truth_of}
-use Rattle.awk_grammar.specs.Tree.{Expr, Ere, Exprs}
+use Rattle.awk_grammar.specs.Tree.{Expr, Exprs}
 use Rattle.awk_kinds.specs.definitions.Kinds.{FormalParameter}
 use Rattle.awk_kinds.specs.definitions.NameUses.{count_of}
 use Rattle.awk_kinds.specs.definitions.Signatures.{ProgramKinds}
@@ -16,9 +16,9 @@ use Rattle.awk_compile.specs.declared.builder.Builder.{Builder}
 use Rattle.awk_compile.specs.declared.node.ValueNode.{ValueNode}
 use Rattle.awk_compile.specs.declared.node.Node.TheVariants as n
 use Rattle.awk_compile.specs.definitions.Nodes.{first, operands, value_of, popped}
-use Rattle.awk_compile.specs.support.Builds.{Grows, Pushes, Extends, IsIn, Program, Part, Evaluate, EvaluateAll, EvaluateKey, EvaluateOperand, EvaluateUnlessEre, Decide, key_value, place_in, Builds, IsAt, IsPlaceOf, Stands}
+use Rattle.awk_compile.specs.support.Builds.{Grows, Pushes, Extends, IsIn, Program, Evaluate, EvaluateAll, EvaluateKey, EvaluateOperand, Decide, key_value, place_in, Builds, IsAt, IsPlaceOf, Stands}
 use Rattle.awk_compile.proofs.Calculus.{assoc_at, later_in, first_same}
-use Rattle.awk_compile.proofs.Building.{grows, extends, longer, placed, at_once, chosen}
+use Rattle.awk_compile.proofs.Building.{grows, extends, placed, at_once, chosen}
 use Rattle.awk_compile.proofs.ValueLists.{keeps_key_value, counted}
 
 -- from a place, something is evaluated, by values on the stack; these are exchanged for its value

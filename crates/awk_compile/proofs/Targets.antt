@@ -1,42 +1,33 @@
 -- A place of the language and its position: what is read and stored there.
-use Rattle.std.proofs.Common.{◌≡◌, ℕ, zero, suc, ℤ, pos, Bool, List, [], ◌∷◌, ◌++◌, drop, Option, Some, None, Ok, Result, refl, sym, ap, ◌∙◌}
-use Rattle.std.specs.Prelude.{negsuc}
+use Rattle.std.proofs.Common.{◌≡◌, ℕ, zero, suc, ℤ, List, [], ◌∷◌, Option, Some, None, refl, sym, ◌∙◌}
 use Rattle.awk_value.specs.declared.value.Value.{Value}
 use Rattle.awk_value.specs.declared.value.Value.TheVariants as value
-use Rattle.awk_value.specs.Values.{str_of, num_of}
+use Rattle.awk_value.specs.Values.{str_of}
 use Rattle.awk_lex.specs.declared.token.IncrementOperator.{IncrementOperator}
 use Rattle.awk_lex.specs.declared.token.Operator.{Operator}
 use Rattle.awk_world.specs.declared.world.InputKind.{InputKind}
-use Rattle.awk_variables.specs.declared.special.Special.TheVariants.{Nr, Fnr}
 use Rattle.awk_grammar.specs.Tree.{Expr, Name, Element, Field, Exprs}
 use Rattle.awk_kinds.specs.definitions.Kinds.{FormalParameter}
 use Rattle.awk_kinds.specs.definitions.Signatures.{ProgramKinds}
-use Rattle.awk_semantics.specs.declared.halt.Halt.{Halt}
-use Rattle.awk_semantics.specs.definitions.State.{State, Run, ◌>>=◌, lift, ret}
-use Rattle.awk_semantics.specs.definitions.Faults.{of_values}
-use Rattle.awk_semantics.specs.definitions.Operators.{applied, by_one, one, pattern_in}
-use Rattle.awk_semantics.specs.definitions.Texts.{Exchange, exchanged}
-use Rattle.awk_semantics.specs.definitions.Primitives.{spend, number_of, read_field, set_field, set_record, count_in}
-use Rattle.awk_semantics.specs.definitions.Streams.{Answer, ARecord, NoRecord, NotReadable, next_of}
-use Rattle.awk_semantics.specs.definitions.Inputs.{next_record}
-use Rattle.awk_semantics.specs.definitions.Places.{Place as Target, AName, AnElement, AField, read_place, store, assign, assign_by, post_increment, answer, receive, receive_main, main_getline, count_of, receive_named, named_getline}
-use Rattle.awk_semantics.specs.definitions.BuiltIns.{count_value, assign_exchange}
-use Rattle.awk_semantics.specs.definitions.Semantics.{Functions, eval, key_of, place_of}
-use Rattle.awk_semantics.specs.support.Keeps.{Keeps}
+use Rattle.awk_semantics.specs.definitions.State.{State, Run, ◌>>=◌, ret}
+use Rattle.awk_semantics.specs.definitions.Operators.{applied, by_one, one}
+use Rattle.awk_semantics.specs.definitions.Primitives.{number_of, read_field, set_field}
+use Rattle.awk_semantics.specs.definitions.Streams.{Answer, ARecord, NoRecord, NotReadable}
+use Rattle.awk_semantics.specs.definitions.Places.{Place as Target, AName, AnElement, AField, read_place, store, assign, assign_by, post_increment, receive, receive_main, main_getline, receive_named, named_getline}
+use Rattle.awk_semantics.specs.definitions.BuiltIns.{assign_exchange}
+use Rattle.awk_semantics.specs.definitions.Semantics.{eval, key_of, place_of}
 use Rattle.awk_semantics.proofs.Keeping.{keeps_lift, keeps_plain}
 use Rattle.awk_semantics.proofs.PlainRuns.{next_of_plain}
-use Rattle.awk_semantics.proofs.KeepsForms.{keeps_spend, keeps_number_of, keeps_read_place, keeps_store, keeps_eval, keeps_key_of, keeps_next_record}
+use Rattle.awk_semantics.proofs.KeepsForms.{keeps_spend, keeps_number_of, keeps_read_place, keeps_store, keeps_eval, keeps_next_record}
 use Rattle.awk_storage.specs.declared.position.Variable.{Variable}
 use Rattle.awk_storage.specs.declared.position.Array.{Array}
 use Rattle.awk_storage.specs.declared.position.Place.{Place}
 use Rattle.awk_storage.specs.declared.position.Place.TheVariants as place
-use Rattle.awk_storage.specs.definitions.Positions.{read_at, store_at, assign_at, assign_by_at, post_increment_at}
-use Rattle.awk_storage.specs.definitions.Forms.{assign_exchange_at, substitute_at, receive_at, receive_main_at, main_getline_at, receive_named_at, named_getline_at}
+use Rattle.awk_storage.specs.definitions.Positions.{read_at, assign_at, assign_by_at, post_increment_at}
+use Rattle.awk_storage.specs.definitions.Forms.{assign_exchange_at, receive_at, receive_main_at, main_getline_at, receive_named_at, named_getline_at}
 use Rattle.awk_compile.specs.declared.builder.Builder.{Builder}
-use Rattle.awk_compile.specs.definitions.Nodes.{Cont, first, operands}
-use Rattle.awk_compile.specs.support.Builds.{Grows, Extends, IsIn, Program, key_value, with_operand, IsVariableOf, FindsVariable, IsArrayOf, IsAt, IsPlaceOf, FindsPlace}
+use Rattle.awk_compile.specs.support.Builds.{Grows, IsIn, Program, IsVariableOf, IsArrayOf, IsAt, IsPlaceOf}
 use Rattle.awk_compile.proofs.Calculus.{assoc_at, later_same, later_in, first_same, given}
-use Rattle.awk_compile.proofs.Building.{same}
 use Rattle.awk_compile.proofs.ValueLists.{keyed, keeps_key_value}
 use Rattle.awk_compile.proofs.Elements.{reads_element, stores_element}
 

@@ -1,5 +1,5 @@
 -- A name stands for its parameter, or for what the whole program has under it.
-use Rattle.std.proofs.Common.{◌≡◌, ℕ, zero, suc, Bool, true, false, cond, List, [], ◌∷◌, ◌++◌, length, map, slice_get, slice_set, append-nil, bytes_eq, Option, Some, None, if◌then◌else◌, inl, inr, refl, sym, subst, ap, ◌∙◌, arith}
+use Rattle.std.proofs.Common.{◌≡◌, ℕ, zero, suc, Bool, true, false, cond, List, [], ◌∷◌, ◌++◌, length, map, slice_get, slice_set, append-nil, bytes_eq, Option, Some, None, if◌then◌else◌, inl, inr, refl, sym, subst, ap, ◌∙◌}
 use Rattle.std.specs.Option.{option_map}
 use Rattle.std.specs.Map.{lookup, set_value}
 use Rattle.std.specs.Prelude.{codes}
@@ -11,13 +11,13 @@ use Rattle.awk_kinds.specs.definitions.Kinds.{FormalParameter}
 use Rattle.awk_kinds.specs.definitions.Signatures.{ProgramKinds, place_of, parameter_names}
 use Rattle.awk_semantics.specs.declared.local.Local.{Local}
 use Rattle.awk_semantics.specs.declared.local.Local.TheVariants as local
-use Rattle.awk_semantics.specs.definitions.State.{Frame, State, Out, gives}
-use Rattle.awk_semantics.specs.definitions.Primitives.{local_in, global_value, local_value, read_outside, read_name, with_local, put_outside, put_by, put, number_in, local_number, array_number}
+use Rattle.awk_semantics.specs.definitions.State.{Frame, State, gives}
+use Rattle.awk_semantics.specs.definitions.Primitives.{local_in, global_value, local_value, read_outside, read_name, with_local, put_outside, put_by, put, number_in, local_number}
 use Rattle.awk_storage.specs.declared.position.Variable.TheVariants as variable
 use Rattle.awk_storage.specs.declared.position.Array.TheVariants as array
 use Rattle.awk_storage.specs.definitions.Positions.{newest_locals, value_of_local, read_local, with_newest, with_local_at, put_local, read_slot, put_slot, number_of_local}
 use Rattle.awk_compile.specs.declared.builder.Builder.{Builder}
-use Rattle.awk_compile.specs.support.Builds.{IsScalar, AreScalars, Grows, AddsName, Extends, IsIn, Program, IsVariableOf, FindsVariable, IsArrayOf}
+use Rattle.awk_compile.specs.support.Builds.{IsScalar, AreScalars, AddsName, IsVariableOf, FindsVariable, IsArrayOf}
 use Rattle.awk_compile.proofs.Building.{get_pushed, front_then, named}
 
 abbrev Locals : Type 0

@@ -1,6 +1,5 @@
-use Rattle.std.proofs.Common.{◌≡◌, ℕ, suc, ◌-◌, Bool, true, false, rules, drop, length, sym, subst, ap, ◌∙◌, true≢false, arith, to_z, of_z}
+use Rattle.std.proofs.Common.{◌≡◌, suc, ◌-◌, true, rules, drop, length, sym, subst, ap, ◌∙◌, true≢false, arith, to_z, of_z}
 use mir.Syntax.{w128}
-use Rattle.awk_lex.specs.declared.token.BuiltIn.TheVariants as w
 use Rattle.awk_grammar.specs.declared.tree.Expr.TheViews.{the_lemmas}
 use Rattle.awk_grammar.specs.Tree as tree
 use Rattle.awk_grammar.specs.View.{expr_of, exprs_of, optional_expr_of}

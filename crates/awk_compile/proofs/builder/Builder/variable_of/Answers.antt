@@ -1,7 +1,5 @@
-use Rattle.std.proofs.Common.{◌≡◌, false, true, Some, None, Option, codes, refl, sym, ap, ◌∙◌, true≢false}
+use Rattle.std.proofs.Common.{◌≡◌, Some, None, refl, sym, ◌∙◌, true≢false}
 use Rattle.std.proofs.lemmas.Slice.Eq.{bytes_eq-Decides}
-use Rattle.awk_variables.specs.declared.special.Special.{Special}
-use Rattle.awk_variables.specs.Variables.{name_of}
 use Rattle.awk_compile.proofs.Building.{same}
 use Rattle.awk_compile.proofs.Variables.{is_local, is_special, is_count, finds_global}
 use Rattle.awk_compile.proofs.builder.Builder.variable_of.Goals as goal

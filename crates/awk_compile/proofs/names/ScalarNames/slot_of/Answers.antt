@@ -1,6 +1,5 @@
-use Rattle.std.proofs.Common.{◌≡◌, ℕ, false, ◌++◌, ◌∷◌, [], Some, map, length, bytes_eq, if◌then◌else◌, append-nil, sym, ap, ◌∙◌}
+use Rattle.std.proofs.Common.{ℕ, ◌++◌, ◌∷◌, [], map, length, bytes_eq, if◌then◌else◌, append-nil, sym, ap, ◌∙◌}
 use Rattle.std.specs.Global.{Vec}
-use Rattle.std.specs.List.{list_any}
 use Rattle.std.proofs.lemmas.List.{length-map}
 use Rattle.awk_variables.specs.definitions.Names.{has_name, with_name}
 use Rattle.awk_kinds.specs.definitions.Signatures.{place_of}
