@@ -6,13 +6,12 @@ use Rattle.awk_variables.specs.Names.{IsFront}
 use Rattle.awk_kinds.specs.definitions.Kinds.{FormalParameter}
 use Rattle.awk_kinds.specs.definitions.Signatures.{ProgramKinds}
 use Rattle.awk_semantics.specs.definitions.State.{State, Run, ◌>>=◌}
-use Rattle.awk_semantics.specs.definitions.Semantics.{Functions, choose, eval}
-use Rattle.awk_semantics.specs.support.Keeps.{Keeps}
+use Rattle.awk_semantics.specs.definitions.Semantics.{choose, eval}
 use Rattle.awk_semantics.proofs.KeepsForms.{keeps_eval}
 use Rattle.awk_compile.specs.declared.builder.Builder.{Builder}
 use Rattle.awk_compile.specs.declared.node.Node.{Node}
-use Rattle.awk_compile.specs.definitions.Nodes.{Cont, ere_at, made, AreBelow, IsOrdered}
-use Rattle.awk_compile.specs.support.Builds.{AreScalars, Grows, SameNames, Pushes, Opens, Closes, AddsName, AddsEre, Extends, IsIn, Program, Part, Evaluate, does, place_in, turns_in, Places, Builds, Stands}
+use Rattle.awk_compile.specs.definitions.Nodes.{Cont, made, AreBelow, IsOrdered}
+use Rattle.awk_compile.specs.support.Builds.{AreScalars, Grows, Pushes, Opens, Closes, Extends, IsIn, Program, Part, Evaluate, does, place_in, turns_in, Places, Builds, Stands}
 use Rattle.awk_compile.proofs.Calculus.{later_in}
 use Rattle.awk_compile.proofs.Listed.{placed_behind}
 

@@ -1,10 +1,7 @@
 -- Built-in functions: their arguments on the stack, and what is made of them.
-use Rattle.std.proofs.lemmas.List.{map-append}
-use Rattle.std.proofs.Common.{◌≡◌, ◌≢◌, ℕ, zero, suc, ◌+◌, pos, Bool, true, false, List, [], ◌∷◌, ◌++◌, length, map, drop, reverse, slice_get, Option, Some, None, Ok, refl, sym, subst, ap, ◌∙◌, arith}
+use Rattle.std.proofs.Common.{◌≡◌, ◌≢◌, ℕ, zero, suc, true, false, List, [], ◌∷◌, ◌++◌, length, map, drop, reverse, Option, Some, None, refl, sym, subst, ap, ◌∙◌, arith}
 use Rattle.awk_value.specs.declared.value.Value.{Value}
-use Rattle.awk_value.specs.declared.value.Value.TheVariants as value
 use Rattle.awk_value.specs.Values.{str_of}
-use Rattle.awk_text.specs.definitions.Separators.{Separator}
 use Rattle.awk_text.specs.definitions.Fields.{pieces_of}
 use Rattle.awk_lex.specs.declared.token.BuiltIn.{BuiltIn as BuiltInName}
 use Rattle.awk_lex.specs.declared.token.BuiltIn.TheVariants as w
@@ -14,34 +11,29 @@ use Rattle.awk_kinds.specs.definitions.NameUses.{count_of}
 use Rattle.awk_kinds.specs.definitions.Signatures.{ProgramKinds}
 use Rattle.awk_semantics.specs.definitions.State.{State, Run, ◌>>=◌, lift, ret}
 use Rattle.awk_semantics.specs.definitions.Operators.{pattern_in}
-use Rattle.awk_semantics.specs.definitions.Texts.{exchanged, separator_in, ere_separator}
-use Rattle.awk_semantics.specs.definitions.Primitives.{record_text, field_separator, fill_array, array_number}
-use Rattle.awk_semantics.specs.definitions.Places.{Place as Target, AField, read_place}
-use Rattle.awk_semantics.specs.definitions.BuiltIns.{Role, AsValue, AsPattern, AsArray, AsPlace, Argument, OfValue, OfEre, OfArray, OfPlace, roles_of, next_role, taken_as, value_of as argument_value, applied_all, record_length, count_value, split_into, assign_exchange, exchange, apply_built_in}
+use Rattle.awk_semantics.specs.definitions.Texts.{separator_in, ere_separator}
+use Rattle.awk_semantics.specs.definitions.Primitives.{fill_array, array_number}
+use Rattle.awk_semantics.specs.definitions.Places.{read_place}
+use Rattle.awk_semantics.specs.definitions.BuiltIns.{Role, AsValue, AsPattern, AsArray, AsPlace, Argument, OfValue, OfEre, OfArray, OfPlace, roles_of, value_of as argument_value, applied_all, count_value, split_into, apply_built_in}
 use Rattle.awk_semantics.specs.definitions.Semantics.{Functions, eval, place_of, take_arguments, eval_all}
-use Rattle.awk_semantics.specs.support.Keeps.{Keeps}
 use Rattle.awk_semantics.proofs.Keeping.{keeps_lift}
-use Rattle.awk_semantics.proofs.KeepsForms.{keeps_eval, keeps_read_place, keeps_field_separator, keeps_record_text}
+use Rattle.awk_semantics.proofs.KeepsForms.{keeps_eval, keeps_field_separator}
 use Rattle.awk_storage.specs.declared.position.Array.{Array}
-use Rattle.awk_storage.specs.declared.position.Place.{Place}
-use Rattle.awk_storage.specs.declared.position.Place.TheVariants as place
-use Rattle.awk_storage.specs.definitions.Positions.{read_at, number_at}
-use Rattle.awk_storage.specs.definitions.Forms.{fill_at, match_in, split_with, assign_exchange_at, substitute_at}
+use Rattle.awk_storage.specs.definitions.Positions.{number_at}
+use Rattle.awk_storage.specs.definitions.Forms.{fill_at, match_in, split_with}
 use Rattle.awk_compile.specs.declared.builder.Builder.{Builder}
-use Rattle.awk_compile.specs.declared.node.ValueNode.{ValueNode}
 use Rattle.awk_compile.specs.declared.node.ValueNode.TheVariants as v
 use Rattle.awk_compile.specs.declared.node.SplitBy.TheVariants as by
 use Rattle.awk_compile.specs.declared.node.Node.TheVariants as n
-use Rattle.awk_compile.specs.definitions.Nodes.{Tables, ere_at, first, second, operands, taken, value_of, popped, substitute, substitute_by}
-use Rattle.awk_compile.specs.support.Builds.{Grows, Pushes, Extends, IsIn, Program, Evaluate, EvaluateAll, EvaluateOperand, EvaluateUnlessEre, IsArrayOf, IsAt, FindsPlace, Builds, Stands}
-use Rattle.awk_compile.specs.support.Operands.{FindsPattern, split_by, takes_one, strict_node, substitution}
+use Rattle.awk_compile.specs.definitions.Nodes.{Tables, taken, value_of, popped}
+use Rattle.awk_compile.specs.support.Builds.{Pushes, Evaluate, EvaluateAll, EvaluateUnlessEre, IsArrayOf, Builds, Stands}
+use Rattle.awk_compile.specs.support.Operands.{FindsPattern, split_by, takes_one, strict_node}
 use Rattle.awk_compile.specs.support.Calls.{name_in}
 use Rattle.awk_compile.proofs.Calculus.{assoc_at, later_same, later_in, first_same, given}
-use Rattle.awk_compile.proofs.Building.{grows, extends, same, still}
+use Rattle.awk_compile.proofs.Building.{grows, still}
 use Rattle.awk_compile.proofs.Elements.{fills_array}
 use Rattle.awk_compile.proofs.ValueLists.{taken_all, dropped_all, all_first, counted}
-use Rattle.awk_compile.proofs.Targets.{exchanged_in}
-use Rattle.awk_compile.proofs.Taking.{Takes, node, value_first, list_first, place_first, taken_first, evaluates}
+use Rattle.awk_compile.proofs.Taking.{node, value_first, list_first, evaluates}
 use Rattle.awk_compile.proofs.ExpressionForms.{takes_behind, ere_added, ere_there}
 use Rattle.awk_compile.proofs.PatternForms.{other_than_ere, evaluated_unless_ere, ere_first}
 use Rattle.awk_compile.proofs.CallForms.{named_array, argument_first}
@@ -80,8 +72,8 @@ module _ (functions : Functions) where
       argument_first functions (AsPlace ∷ roles) e es k s
       ∙ assoc_at (place_of functions e) (λ p. read_place p >>= λ x. ret (OfPlace p x)) _ s
       ∙ later_same (place_of functions e) _ _ s (λ p t.
-        assoc_at (read_place p) (λ x. ret (OfPlace p x)) _ t
-        ∙ later_same (read_place p) _ _ t (λ x u. given (OfPlace p x) (λ a. take_arguments functions roles [] es >>= λ as'. k (a ∷ as')) u))
+      assoc_at (read_place p) (λ x. ret (OfPlace p x)) _ t
+      ∙ later_same (read_place p) _ _ t (λ x u. given (OfPlace p x) (λ a. take_arguments functions roles [] es >>= λ as'. k (a ∷ as')) u))
 
   -- where all are values
   pub values_taken : {B : Type 0} (es : Exprs) (k : List Argument → Run B) (s : State) → (take_arguments functions [] [] es >>= k) s ≡ (eval_all functions [] es >>= λ ws. k (map OfValue ws)) s
@@ -124,6 +116,7 @@ strict w.Length a b c d = record {
     length_pops : (k : ℕ) → popped (strict_node w.Length k) ≡ k
     length_pops zero = refl
     length_pops (suc k) = refl
+
     length_made : (tables : Tables) (functions : Functions) (ws vs : List Value) (k : ℕ) (s : State) → length ws ≡ k → value_of tables functions (strict_node w.Length k) (reverse ws ++ vs) s ≡ apply_built_in w.Length (map OfValue ws) s
     length_made tables functions [] vs zero s e = refl
     length_made tables functions [] vs (suc k) s e = cc
@@ -172,16 +165,16 @@ match_lowered {kinds = kinds} {parameters = parameters} {a = a} {c = c} {d = d} 
     evaluates (takes_behind g t) (λ vs. refl) (BuiltIn w.Match (Cons x (Cons (Ere found.text) Nil))) (λ p l m vs s z.
     sym (value_taken p.functions (AsPattern ∷ []) x (Cons (Ere found.text) Nil) (λ as'. apply_built_in w.Match as') s
     ∙ later_same (eval p.functions x) _ _ s (λ u t'.
-      ere_taken p.functions [] found.text Nil (λ as'. apply_built_in w.Match (OfValue u ∷ as')) t'
-      ∙ none_left p.functions [] (λ as'. apply_built_in w.Match (OfValue u ∷ (OfEre found.text ∷ as'))) t'
-      ∙ ap (λ (text : List ℕ). match_in text (str_of u) t') (sym (ere_there found.adds p (grows t.extends.grows l)))))))
+    ere_taken p.functions [] found.text Nil (λ as'. apply_built_in w.Match (OfValue u ∷ as')) t'
+    ∙ none_left p.functions [] (λ as'. apply_built_in w.Match (OfValue u ∷ (OfEre found.text ∷ as'))) t'
+    ∙ ap (λ (text : List ℕ). match_in text (str_of u) t') (sym (ere_there found.adds p (grows t.extends.grows l)))))))
 match_lowered {c = c} {j = j} {next = next} {x = x} {y = y} None h found q r r' =
     let t = value_first (λ vs. drop 1 vs) (node h (subst (λ (z : Builder). Pushes z c (n.Value (v.Match None) next) j) found.same q)) y (evaluated_unless_ere y found.not_ere r) (λ u vs. refl) in
     evaluates (value_first (λ vs. vs) t x r' (λ u vs. refl)) (λ vs. refl) (BuiltIn w.Match (Cons x (Cons y Nil))) (λ p l m vs s z.
     sym (value_taken p.functions (AsPattern ∷ []) x (Cons y Nil) (λ as'. apply_built_in w.Match as') s
     ∙ later_same (eval p.functions x) _ _ s (λ u t'.
-      pattern_taken p.functions [] y Nil (λ as'. apply_built_in w.Match (OfValue u ∷ as')) t' found.not_ere
-      ∙ later_same (eval p.functions y) _ _ t' (λ u' t''. none_left p.functions [] (λ as'. apply_built_in w.Match (OfValue u ∷ (OfValue u' ∷ as'))) t''))))
+    pattern_taken p.functions [] y Nil (λ as'. apply_built_in w.Match (OfValue u ∷ as')) t' found.not_ere
+    ∙ later_same (eval p.functions y) _ _ t' (λ u' t''. none_left p.functions [] (λ as'. apply_built_in w.Match (OfValue u ∷ (OfValue u' ∷ as'))) t''))))
 
 -- `split`
 
@@ -195,11 +188,11 @@ module _ {kinds : ProgramKinds} {parameters : List FormalParameter} {x y : Expr}
   fields_split h q r =
       evaluates (value_first (λ vs. vs) (node h q) x r (λ u vs. refl)) (λ vs. refl) (BuiltIn w.Split (Cons x (Cons y Nil))) (λ p l m vs s z.
       later_in _ _ s m (keeps_eval p.functions p.calls.keep x) z (λ u t k.
-        later_in _ _ t m keeps_field_separator k (λ separator t' k'. split_same array (name_in y) (pieces_of separator false (str_of u)) t' (is.is p m t' k')))
+      later_in _ _ t m keeps_field_separator k (λ separator t' k'. split_same array (name_in y) (pieces_of separator false (str_of u)) t' (is.is p m t' k')))
       ∙ sym (value_taken p.functions (AsArray ∷ AsPattern ∷ []) x (Cons y Nil) (λ as'. apply_built_in w.Split as') s
-        ∙ later_same (eval p.functions x) _ _ s (λ u t.
-        array_taken p.functions (AsPattern ∷ []) y Nil (λ as'. apply_built_in w.Split (OfValue u ∷ as')) t
-        ∙ none_left p.functions (AsPattern ∷ []) (λ as'. apply_built_in w.Split (OfValue u ∷ (OfArray (name_in y) ∷ as'))) t)))
+      ∙ later_same (eval p.functions x) _ _ s (λ u t.
+      array_taken p.functions (AsPattern ∷ []) y Nil (λ as'. apply_built_in w.Split (OfValue u ∷ as')) t
+      ∙ none_left p.functions (AsPattern ∷ []) (λ as'. apply_built_in w.Split (OfValue u ∷ (OfArray (name_in y) ∷ as'))) t)))
 
   pub split_lowered : {a b c d e : Builder} {i j k next : ℕ} {y' : Expr} (pattern : Option ℕ) → Stands next a → FindsPattern a b pattern y' → Pushes b c (n.Value (v.Split array (split_by pattern)) next) j → Builds kinds parameters c d k (EvaluateUnlessEre y' j) → Builds kinds parameters d e i (Evaluate x k)
       → Builds kinds parameters a e i (Evaluate (BuiltIn w.Split (Cons x (Cons y (Cons y' Nil)))) next)
@@ -210,20 +203,20 @@ module _ {kinds : ProgramKinds} {parameters : List FormalParameter} {x y : Expr}
       let t = value_first (λ vs. vs) (ere_first (node (still g h) q) (subst (λ (z : Expr). Builds kinds parameters c d k (EvaluateUnlessEre z j)) found.is r)) x r' (λ u vs. refl) in
       evaluates (takes_behind g t) (λ vs. refl) (BuiltIn w.Split (Cons x (Cons y (Cons (Ere found.text) Nil)))) (λ p l m vs s z.
       later_in _ _ s m (keeps_eval p.functions p.calls.keep x) z (λ u t' k'.
-        ap (λ (text : List ℕ). split_with array (str_of u) (lift (ere_separator (pattern_in text))) t') (ere_there found.adds p (grows t.extends.grows l))
-        ∙ later_in _ _ t' m (keeps_lift (ere_separator (pattern_in found.text))) k' (λ separator t1 k1. split_same array (name_in y) (pieces_of separator false (str_of u)) t1 (is.is p m t1 k1)))
+      ap (λ (text : List ℕ). split_with array (str_of u) (lift (ere_separator (pattern_in text))) t') (ere_there found.adds p (grows t.extends.grows l))
+      ∙ later_in _ _ t' m (keeps_lift (ere_separator (pattern_in found.text))) k' (λ separator t1 k1. split_same array (name_in y) (pieces_of separator false (str_of u)) t1 (is.is p m t1 k1)))
       ∙ sym (value_taken p.functions (AsArray ∷ AsPattern ∷ []) x (Cons y (Cons (Ere found.text) Nil)) (λ as'. apply_built_in w.Split as') s
-        ∙ later_same (eval p.functions x) _ _ s (λ u t'.
-        array_taken p.functions (AsPattern ∷ []) y (Cons (Ere found.text) Nil) (λ as'. apply_built_in w.Split (OfValue u ∷ as')) t'
-        ∙ ere_taken p.functions [] found.text Nil (λ as'. apply_built_in w.Split (OfValue u ∷ (OfArray (name_in y) ∷ as'))) t'
-        ∙ none_left p.functions [] (λ as'. apply_built_in w.Split (OfValue u ∷ (OfArray (name_in y) ∷ (OfEre found.text ∷ as')))) t'))))
+      ∙ later_same (eval p.functions x) _ _ s (λ u t'.
+      array_taken p.functions (AsPattern ∷ []) y (Cons (Ere found.text) Nil) (λ as'. apply_built_in w.Split (OfValue u ∷ as')) t'
+      ∙ ere_taken p.functions [] found.text Nil (λ as'. apply_built_in w.Split (OfValue u ∷ (OfArray (name_in y) ∷ as'))) t'
+      ∙ none_left p.functions [] (λ as'. apply_built_in w.Split (OfValue u ∷ (OfArray (name_in y) ∷ (OfEre found.text ∷ as')))) t'))))
   split_lowered {c = c} {j = j} {next = next} {y' = y'} None h found q r r' =
       let t = value_first (λ vs. drop 1 vs) (node h (subst (λ (z : Builder). Pushes z c (n.Value (v.Split array by.Value) next) j) found.same q)) y' (evaluated_unless_ere y' found.not_ere r) (λ u vs. refl) in
       evaluates (value_first (λ vs. vs) t x r' (λ u vs. refl)) (λ vs. refl) (BuiltIn w.Split (Cons x (Cons y (Cons y' Nil)))) (λ p l m vs s z.
       later_in _ _ s m (keeps_eval p.functions p.calls.keep x) z (λ u t' k'. later_in _ _ t' m (keeps_eval p.functions p.calls.keep y') k' (λ u' t1 k1.
-        later_in _ _ t1 m (keeps_lift (separator_in (str_of u'))) k1 (λ separator t2 k2. split_same array (name_in y) (pieces_of separator false (str_of u)) t2 (is.is p m t2 k2))))
+      later_in _ _ t1 m (keeps_lift (separator_in (str_of u'))) k1 (λ separator t2 k2. split_same array (name_in y) (pieces_of separator false (str_of u)) t2 (is.is p m t2 k2))))
       ∙ sym (value_taken p.functions (AsArray ∷ AsPattern ∷ []) x (Cons y (Cons y' Nil)) (λ as'. apply_built_in w.Split as') s
-        ∙ later_same (eval p.functions x) _ _ s (λ u t'.
-        array_taken p.functions (AsPattern ∷ []) y (Cons y' Nil) (λ as'. apply_built_in w.Split (OfValue u ∷ as')) t'
-        ∙ pattern_taken p.functions [] y' Nil (λ as'. apply_built_in w.Split (OfValue u ∷ (OfArray (name_in y) ∷ as'))) t' found.not_ere
-        ∙ later_same (eval p.functions y') _ _ t' (λ u' t1. none_left p.functions [] (λ as'. apply_built_in w.Split (OfValue u ∷ (OfArray (name_in y) ∷ (OfValue u' ∷ as')))) t1))))
+      ∙ later_same (eval p.functions x) _ _ s (λ u t'.
+      array_taken p.functions (AsPattern ∷ []) y (Cons y' Nil) (λ as'. apply_built_in w.Split (OfValue u ∷ as')) t'
+      ∙ pattern_taken p.functions [] y' Nil (λ as'. apply_built_in w.Split (OfValue u ∷ (OfArray (name_in y) ∷ as'))) t' found.not_ere
+      ∙ later_same (eval p.functions y') _ _ t' (λ u' t1. none_left p.functions [] (λ as'. apply_built_in w.Split (OfValue u ∷ (OfArray (name_in y) ∷ (OfValue u' ∷ as')))) t1))))

@@ -1,15 +1,15 @@
 -- Calls: the arguments that are values lie on the stack, and the arrays are told by their positions.
-use Rattle.std.proofs.Common.{◌≡◌, ℕ, zero, suc, Bool, true, false, List, [], ◌∷◌, ◌++◌, length, map, drop, reverse, slice_get, unwrap_or, Option, Some, None, if◌then◌else◌, Vec, Global, refl, sym, subst, ap, ◌∙◌, arith, append_assoc, append-nil}
+use Rattle.std.proofs.Common.{◌≡◌, ℕ, zero, suc, Bool, true, false, List, [], ◌∷◌, ◌++◌, length, map, drop, reverse, slice_get, unwrap_or, bytes_eq, Option, Some, None, if◌then◌else◌, Vec, Global, refl, sym, subst, ap, ◌∙◌, append_assoc, append-nil}
 use Rattle.std.specs.Option.{option_map}
+use Rattle.std.proofs.lemmas.Slice.Eq.{bytes_eq-Decides}
 use Rattle.awk_value.specs.declared.value.Value.{Value}
-use Rattle.awk_value.specs.declared.value.Value.TheVariants as value
 use Rattle.awk_grammar.specs.Tree.{Expr, Number, String, Ere, Name, Element, Field, Group, Call, BuiltIn, Length, PreIncrement, PostIncrement, Getline, PipedGetline, Unary, Binary, Membership, ListMembership, Conditional, Assign, Exprs, Nil, Cons}
 use Rattle.awk_kinds.specs.definitions.Kinds.{FormalParameter}
 use Rattle.awk_kinds.specs.definitions.Signatures.{Signature, ProgramKinds, place_of as number_of_name, signature_names}
 use Rattle.awk_semantics.specs.declared.local.Local.{Local}
 use Rattle.awk_semantics.specs.declared.local.Local.TheVariants as local
-use Rattle.awk_semantics.specs.definitions.State.{State, Out, Run, ◌>>=◌, lift, ret, gives}
-use Rattle.awk_semantics.specs.definitions.Primitives.{spend, check_height, array_number}
+use Rattle.awk_semantics.specs.definitions.State.{State, Run, ◌>>=◌, ret, gives}
+use Rattle.awk_semantics.specs.definitions.Primitives.{array_number}
 use Rattle.awk_semantics.specs.definitions.Places as target
 use Rattle.awk_semantics.specs.definitions.BuiltIns.{Role, AsValue, AsArray, Argument, OfValue, OfArray, next_role, array_named, taken_as, local_of, locals_of}
 use Rattle.awk_semantics.specs.definitions.Calls.{role_of}
@@ -21,12 +21,12 @@ use Rattle.awk_compile.specs.declared.node.ArgumentForm.{ArgumentForm}
 use Rattle.awk_compile.specs.declared.node.ArgumentForm.TheVariants as form
 use Rattle.awk_compile.specs.declared.node.ValueNode.TheVariants as v
 use Rattle.awk_compile.specs.declared.node.Node.TheVariants as n
-use Rattle.awk_compile.specs.definitions.Nodes.{Tables, Cont, first, function_at, taken, local_by, behind_form, locals_by, values_among, given_by, call_at}
-use Rattle.awk_compile.specs.support.Builds.{Grows, Pushes, Extends, IsIn, Program, Evaluate, EvaluateArguments, with_argument, with_arguments, place_in, Builds, Stands}
+use Rattle.awk_compile.specs.definitions.Nodes.{Cont, function_at, taken, locals_by, values_among, given_by, call_at}
+use Rattle.awk_compile.specs.support.Builds.{Pushes, IsIn, Program, Evaluate, EvaluateArguments, with_argument, with_arguments, place_in, Builds, Stands}
 use Rattle.awk_compile.specs.support.Scopes.{parameters_of}
-use Rattle.awk_compile.specs.support.Calls.{is_array, is_array_at, name_in, roles_from, IsFormOf, AreForms}
+use Rattle.awk_compile.specs.support.Calls.{is_array_at, name_in, roles_from, IsFormOf, AreForms}
 use Rattle.awk_compile.proofs.Calculus.{assoc_at, later_same, later_in, first_same, given}
-use Rattle.awk_compile.proofs.Building.{grows, extends, same, still}
+use Rattle.awk_compile.proofs.Building.{grows, extends, same}
 use Rattle.awk_compile.proofs.ValueLists.{onto_more, taken_all, dropped_all}
 use Rattle.awk_compile.proofs.Taking.{Takes, node}
 
@@ -78,9 +78,9 @@ module _ (functions : Functions) where
       let m = taken_as (next_role roles) e (eval functions e) (place_of functions e) in
       assoc_at m (λ a. take_arguments functions (drop 1 roles) (front ++ a ∷ []) es) k s
       ∙ later_same m _ _ s (λ a t.
-        arguments_behind (drop 1 roles) (front ++ a ∷ []) es k t
-        ∙ later_same (take_arguments functions (drop 1 roles) [] es) _ _ t (λ as' u. ap (λ l. k l u) (append_assoc front (a ∷ []) as'))
-        ∙ sym (arguments_behind (drop 1 roles) (a ∷ []) es (λ as'. k (front ++ as')) t))
+      arguments_behind (drop 1 roles) (front ++ a ∷ []) es k t
+      ∙ later_same (take_arguments functions (drop 1 roles) [] es) _ _ t (λ as' u. ap (λ l. k l u) (append_assoc front (a ∷ []) as'))
+      ∙ sym (arguments_behind (drop 1 roles) (a ∷ []) es (λ as'. k (front ++ as')) t))
       ∙ sym (assoc_at m (λ a. take_arguments functions (drop 1 roles) (a ∷ []) es) (λ as'. k (front ++ as')) s)
 
   -- the first argument, and then the others
@@ -121,6 +121,12 @@ module _ (scope : Scope) (p : Program scope.kinds.now) (ps : List FormalParamete
       (assoc_at (eval p.functions e) (λ w. ret (OfValue w)) g s ∙ later_in _ _ s n (keeps_eval p.functions p.calls.keep e) i (λ w t j. given (OfValue w) g t ∙ value_is w t refl refl j))
   argument_passed r false e (form.Array a) is form_is place g k n vs s i value_is array_is = absurd form_is
 
+  -- what the other arguments do, where they do so from the next place on
+  rest_passed : (i : ℕ) (fs : List ArgumentForm) (es : Exprs) (g : List Argument → Run Value) (k : Cont) (n : ℕ) (us : List Value) (t : State)
+      → ((take_arguments p.functions (roles_from (suc i) ps) [] es >>= g) t ≡ with_arguments p.functions (roles_from (suc i) ps) es k us t)
+      → (take_arguments p.functions (drop 1 (roles_from i ps)) [] es >>= g) t ≡ with_arguments p.functions (drop 1 (roles_from i ps)) es k us t
+  rest_passed i fs es g k n us t e = subst (λ roles. (take_arguments p.functions roles [] es >>= g) t ≡ with_arguments p.functions roles es k us t) (sym (drop_more i (map role_of ps))) e
+
   pub arguments_passed : (i : ℕ) (fs : List ArgumentForm) (es : Exprs) → AreForms scope ps i fs es → (g : List Argument → Run Value) (k : Cont) (n : ℕ) (vs : List Value) (s : State) → IsIn p.tables (parameters_of scope) n s
       → ((as' : List Argument) (ws : List Value) (t : State) → IsIn p.tables (parameters_of scope) n t → Fit fs ws as' → g as' t ≡ k (reverse ws ++ vs) t)
       → (take_arguments p.functions (roles_from i ps) [] es >>= g) s ≡ with_arguments p.functions (roles_from i ps) es k vs s
@@ -130,15 +136,12 @@ module _ (scope : Scope) (p : Program scope.kinds.now) (ps : List FormalParamete
   arguments_passed i (f ∷ fs) Nil are g k n vs s h alike = absurd are
   arguments_passed i (f ∷ fs) (Cons e es) are g k n vs s h alike =
       argument_first p.functions (roles_from i ps) e es g s
-      ∙ argument_passed (next_role (roles_from i ps)) (is_array_at ps i) e f (role_at ps i) are.0 (place_of p.functions e) _ _ n vs s h
-      (λ w t b is j. rest (OfValue w) (w ∷ vs) t j (λ as' ws u l fit. alike (OfValue w ∷ as') (w ∷ ws) u l (subst (λ x. Fit (x ∷ fs) (w ∷ ws) (OfValue w ∷ as')) (sym is) (value_fits w fit)) ∙ ap (λ xs. k xs u) (onto_more w ws vs)))
-      (λ b. rest (OfArray (name_in e)) vs s h (λ as' ws u l fit. alike (OfArray (name_in e) ∷ as') ws u l (array_fits e f (subst (λ x. IsFormOf scope x f e) b are.0) fit)))
-    where
-      rest : (a : Argument) (us : List Value) (t : State) → IsIn p.tables (parameters_of scope) n t → ((as' : List Argument) (ws : List Value) (u : State) → IsIn p.tables (parameters_of scope) n u → Fit fs ws as' → g (a ∷ as') u ≡ k (reverse ws ++ us) u)
-          → (take_arguments p.functions (drop 1 (roles_from i ps)) [] es >>= λ as'. g (a ∷ as')) t ≡ with_arguments p.functions (drop 1 (roles_from i ps)) es k us t
-      rest a us t j same_there =
-          subst (λ roles. (take_arguments p.functions roles [] es >>= λ as'. g (a ∷ as')) t ≡ with_arguments p.functions roles es k us t) (sym (drop_more i (map role_of ps)))
-          (arguments_passed (suc i) fs es are.1 (λ as'. g (a ∷ as')) k n us t j same_there)
+      ∙ argument_passed (next_role (roles_from i ps)) (is_array_at ps i) e f (role_at ps i) are.0 (place_of p.functions e) (λ a. take_arguments p.functions (drop 1 (roles_from i ps)) [] es >>= λ as'. g (a ∷ as'))
+      (with_arguments p.functions (drop 1 (roles_from i ps)) es k) n vs s h
+      (λ w t b is j. rest_passed i fs es (λ as'. g (OfValue w ∷ as')) k n (w ∷ vs) t (arguments_passed (suc i) fs es are.1 (λ as'. g (OfValue w ∷ as')) k n (w ∷ vs) t j (λ as' ws u l fit.
+      alike (OfValue w ∷ as') (w ∷ ws) u l (subst (λ x. Fit (x ∷ fs) (w ∷ ws) (OfValue w ∷ as')) (sym is) (value_fits w fit)) ∙ ap (λ xs. k xs u) (onto_more w ws vs))))
+      (λ b. rest_passed i fs es (λ as'. g (OfArray (name_in e) ∷ as')) k n vs s (arguments_passed (suc i) fs es are.1 (λ as'. g (OfArray (name_in e) ∷ as')) k n vs s h (λ as' ws u l fit.
+      alike (OfArray (name_in e) ∷ as') ws u l (array_fits e f (subst (λ x. IsFormOf scope x f e) b are.0) fit))))
 
 -- a call with what lies there is the call with its arguments
 call_same : {kinds : ProgramKinds} {p : Program kinds} {parameters : List FormalParameter} (f : List ℕ) (fs : List ArgumentForm) (ws : List Value) (as' : List Argument) (n : ℕ) (t : State) → IsIn p.tables parameters n t → Matches p parameters fs ws as' → call_with p.functions f as' t ≡ call_at p.functions f fs ws t
@@ -178,11 +181,11 @@ call_lowered {next = next} {number = number} {name = name} {es = es} {forms = fo
           let roles : p.functions.roles name ≡ roles_from 0 ps = ap p.functions.roles (sym f.2) ∙ p.calls.roles number f.0 there ∙ ap (map role_of) (sym parameters_are) in
           r.is p g m vs s l
           ∙ sym (arguments_passed scope p ps 0 forms.items es are (λ as'. call_with p.functions name as' >>= λ w. place_in p m next (w ∷ vs)) _ m vs s l (λ as' ws u k fit.
-            first_same (call_with p.functions name as') (call_at p.functions name forms.items ws) _ u (call_same name forms.items ws as' m u k fit)
-            ∙ ap (λ (x : List ℕ). (call_at p.functions x forms.items ws >>= λ w. place_in p m next (w ∷ vs)) u) (sym is_name)
-            ∙ ap (λ (x : List Value). (call_at p.functions (function_at p.tables number) forms.items x >>= λ w. place_in p m next (w ∷ vs)) u) (sym (taken_all ws vs (values_among forms.items) (sym fit.count)))
-            ∙ ap (λ (x : List Value). (call_at p.functions (function_at p.tables number) forms.items (taken (values_among forms.items) (reverse ws ++ vs)) >>= λ w. place_in p m next (w ∷ x)) u) (sym (dropped_all ws vs (values_among forms.items) (sym fit.count)))
-            ∙ sym (t.is p (grows r.extends.grows g) m (reverse ws ++ vs) u k)))
+          first_same (call_with p.functions name as') (call_at p.functions name forms.items ws) _ u (call_same name forms.items ws as' m u k fit)
+          ∙ ap (λ (x : List ℕ). (call_at p.functions x forms.items ws >>= λ w. place_in p m next (w ∷ vs)) u) (sym is_name)
+          ∙ ap (λ (x : List Value). (call_at p.functions (function_at p.tables number) forms.items x >>= λ w. place_in p m next (w ∷ vs)) u) (sym (taken_all ws vs (values_among forms.items) (sym fit.count)))
+          ∙ ap (λ (x : List Value). (call_at p.functions (function_at p.tables number) forms.items (taken (values_among forms.items) (reverse ws ++ vs)) >>= λ w. place_in p m next (w ∷ x)) u) (sym (dropped_all ws vs (values_among forms.items) (sym fit.count)))
+          ∙ sym (t.is p (grows r.extends.grows g) m (reverse ws ++ vs) u k)))
           ∙ ap (λ roles'. (take_arguments p.functions roles' [] es >>= λ as'. call_with p.functions name as' >>= λ w. place_in p m next (w ∷ vs)) s) (sym roles)
           ∙ sym (assoc_at (take_arguments p.functions (p.functions.roles name) [] es) (λ as'. call_with p.functions name as') (λ w. place_in p m next (w ∷ vs)) s);
     }

@@ -6,7 +6,7 @@ use Rattle.awk_value.specs.declared.value.Value.TheVariants as value
 use Rattle.awk_grammar.specs.Tree.{Statements, Item}
 use Rattle.awk_grammar.specs.Height.{height_of_block}
 use Rattle.awk_variables.specs.Names.{has_name}
-use Rattle.awk_compile.proofs.Named.{has_name_at}
+use Rattle.awk_compile.proofs.Slots.{has_name-stands}
 use Rattle.awk_kinds.specs.definitions.Kinds.{FormalParameter, Definition, definitions_of, function_names_of}
 use Rattle.awk_kinds.specs.definitions.Signatures.{Signature, signature_by, kinds_of}
 use Rattle.awk_kinds.specs.definitions.Fits.{has_repeat}
@@ -34,7 +34,7 @@ other_name : (b : Bool) (names : List (List ℕ)) (x y : List ℕ) (i : ℕ) →
 other_name false names x y i e once at = refl
 other_name true names x y i e once at =
     let same : y ≡ x = (bytes_eq-Decides y x).0 e in
-    let there : has_name names x ≡ true = has_name_at names i x (subst (λ z. slice_get names i ≡ Some z) same at) in
+    let there : has_name names x ≡ true = has_name-stands names i x (subst (λ z. slice_get names i ≡ Some z) same at) in
     let both : (has_name names x || has_repeat names) ≡ true = ap (λ c. c || has_repeat names) there in
     cc
 

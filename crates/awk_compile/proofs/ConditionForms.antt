@@ -1,9 +1,10 @@
 -- Tests: what is chosen by an expression, and what gives 1 or 0.
-use Rattle.std.proofs.Common.{◌≡◌, ℕ, suc, pos, Bool, true, false, not, List, [], ◌∷◌, drop, Option, Some, None, Ok, refl, sym, subst, ap, ◌∙◌}
+use Rattle.std.proofs.Common.{◌≡◌, ℕ, pos, Bool, true, false, not, List, ◌∷◌, refl, sym, subst, ◌∙◌}
 use Rattle.awk_value.specs.declared.value.Value.{Value}
 use Rattle.awk_value.specs.declared.value.Value.TheVariants as value
 use Rattle.awk_value.specs.Values.{truth_of}
 use Rattle.awk_lex.specs.declared.token.Operator.TheVariants as o
+use Rattle.awk_grammar.specs.declared.tree.UnaryOperator.{UnaryOperator}
 use Rattle.awk_grammar.specs.declared.tree.UnaryOperator.TheVariants as unary
 use Rattle.awk_grammar.specs.declared.tree.BinaryOperator.{BinaryOperator}
 use Rattle.awk_grammar.specs.declared.tree.BinaryOperator.TheVariants.{Concatenate, Infix}
@@ -12,14 +13,14 @@ use Rattle.awk_kinds.specs.definitions.Kinds.{FormalParameter}
 use Rattle.awk_kinds.specs.definitions.Signatures.{ProgramKinds}
 use Rattle.awk_semantics.specs.definitions.State.{State, Run, ◌>>=◌, lift, ret}
 use Rattle.awk_semantics.specs.definitions.Operators.{truth_value, changed}
-use Rattle.awk_semantics.specs.definitions.Semantics.{Functions, tested, choose, combined, eval}
+use Rattle.awk_semantics.specs.definitions.Semantics.{tested, choose, combined, eval}
 use Rattle.awk_semantics.proofs.KeepsForms.{keeps_eval}
 use Rattle.awk_compile.specs.declared.builder.Builder.{Builder}
 use Rattle.awk_compile.specs.declared.node.Node.TheVariants as n
-use Rattle.awk_compile.specs.support.Builds.{Grows, Pushes, Extends, IsIn, Program, Evaluate, Decide, place_in, Builds, Stands}
-use Rattle.awk_compile.specs.support.Operands.{is_and, is_or, PushesTruths}
-use Rattle.awk_compile.proofs.Calculus.{assoc_at, later_same, later_in, first_same, given}
-use Rattle.awk_compile.proofs.Building.{grows, extends, same, still, placed, at_once, stands, both}
+use Rattle.awk_compile.specs.support.Builds.{Pushes, Evaluate, Decide, place_in, Builds, Stands}
+use Rattle.awk_compile.specs.support.Operands.{is_not, is_and, is_or, PushesTruths}
+use Rattle.awk_compile.proofs.Calculus.{assoc_at, later_same, later_in, given}
+use Rattle.awk_compile.proofs.Building.{grows, extends, same, still, placed, at_once, both}
 use Rattle.awk_compile.proofs.Taking.{Takes, node, takes_stand, decided, evaluates}
 
 pub tested_then : {B : Type 0} (m : Run Value) (f : Bool → Run B) (s : State) → (tested m >>= f) s ≡ (m >>= λ v. f (truth_of v)) s
@@ -120,9 +121,11 @@ module _ {kinds : ProgramKinds} {parameters : List FormalParameter} {a b : Build
   unfolding eval
   group_tested q = record { extends = q.extends; below = q.below; pos = q.pos; is = q.is }
 
-  pub not_tested : Builds kinds parameters a b i (Decide e other here) → Builds kinds parameters a b i (Decide (Unary unary.Not e) here other)
+  pub not_tested : (u : UnaryOperator) → is_not u ≡ true → Builds kinds parameters a b i (Decide e other here) → Builds kinds parameters a b i (Decide (Unary u e) here other)
   unfolding eval
-  not_tested q = record {
+  not_tested unary.Plus is q = absurd (cc)
+  not_tested unary.Minus is q = absurd (cc)
+  not_tested unary.Not is q = record {
     extends = q.extends;
     below = q.below;
     pos = q.pos;

@@ -1,24 +1,22 @@
 -- What is lowered of an expression is the expression.
-use Rattle.std.proofs.Common.{◌≡◌, ℕ, zero, suc, ℤ, pos, Bool, true, false, List, [], ◌∷◌, ◌++◌, length, drop, reverse, slice_get, get_or, append-nil, subst, Option, Some, None, Ok, Result, refl, sym, ap, ◌∙◌, arith}
+use Rattle.std.proofs.Common.{◌≡◌, ℕ, zero, suc, ℤ, false, List, [], ◌∷◌, ◌++◌, length, drop, slice_get, get_or, append-nil, subst, Some, None, refl, sym, ap, ◌∙◌}
 use Rattle.awk_value.specs.declared.value.Value.{Value}
 use Rattle.awk_value.specs.declared.value.Value.TheVariants as value
-use Rattle.awk_value.specs.Values.{str_of, truth_of}
+use Rattle.awk_value.specs.Values.{str_of}
 use Rattle.awk_lex.specs.declared.token.AssignmentOperator.{AssignmentOperator}
 use Rattle.awk_lex.specs.declared.token.IncrementOperator.{IncrementOperator}
-use Rattle.awk_lex.specs.declared.token.Operator.{Operator}
 use Rattle.awk_lex.specs.declared.token.Operator.TheVariants as o
 use Rattle.awk_grammar.specs.declared.tree.UnaryOperator.{UnaryOperator}
 use Rattle.awk_grammar.specs.declared.tree.BinaryOperator.{BinaryOperator}
 use Rattle.awk_grammar.specs.declared.tree.BinaryOperator.TheVariants.{Concatenate, Infix}
-use Rattle.awk_grammar.specs.Tree.{Expr, Number, String, Ere, Name, Element, Field, Group, Length, PreIncrement, PostIncrement, Unary, Binary, Membership, ListMembership, Conditional, Assign, Exprs, Nil, Cons}
+use Rattle.awk_grammar.specs.Tree.{Expr, Number, String, Ere, Name, Element, Field, Group, Length, PreIncrement, PostIncrement, Unary, Binary, Membership, ListMembership, Assign, Exprs}
 use Rattle.awk_kinds.specs.definitions.Kinds.{FormalParameter}
-use Rattle.awk_kinds.specs.definitions.NameUses.{count_of}
 use Rattle.awk_kinds.specs.definitions.Signatures.{ProgramKinds}
 use Rattle.awk_semantics.specs.definitions.State.{State, Run, ◌>>=◌, lift, ret}
 use Rattle.awk_semantics.specs.definitions.Operators.{truth_value, applied, by_one, one, operator_of, takes_pattern}
-use Rattle.awk_semantics.specs.definitions.Primitives.{record_text, joined_key, has_element}
+use Rattle.awk_semantics.specs.definitions.Primitives.{record_text, has_element}
 use Rattle.awk_semantics.specs.definitions.Places.{assign_by, post_increment}
-use Rattle.awk_semantics.specs.definitions.Semantics.{Functions, right_operand, tested, choose, combined, eval, eval_all, key_of, place_of}
+use Rattle.awk_semantics.specs.definitions.Semantics.{right_operand, combined, eval}
 use Rattle.awk_semantics.proofs.KeepsForms.{keeps_eval, keeps_key_of}
 use Rattle.awk_storage.specs.declared.position.Variable.{Variable}
 use Rattle.awk_storage.specs.declared.position.Array.{Array}
@@ -26,19 +24,18 @@ use Rattle.awk_storage.specs.declared.position.Place.{Place}
 use Rattle.awk_storage.specs.definitions.Positions.{read_element_of}
 use Rattle.awk_storage.specs.definitions.Forms.{contains_at}
 use Rattle.awk_compile.specs.declared.builder.Builder.{Builder}
-use Rattle.awk_compile.specs.declared.node.ValueNode.{ValueNode}
 use Rattle.awk_compile.specs.declared.node.ValueNode.TheVariants as v
 use Rattle.awk_compile.specs.declared.node.Node.TheVariants as n
-use Rattle.awk_compile.specs.definitions.Nodes.{first, operands, value_of, operated, taken, ere_at}
-use Rattle.awk_compile.specs.support.Builds.{AreScalars, Grows, Pushes, AddsEre, Extends, IsIn, Program, Part, Evaluate, EvaluateAll, EvaluateKey, EvaluateOperand, EvaluateUnlessEre, Decide, key_value, Builds, FindsVariable, IsArrayOf, FindsPlace, Stands}
-use Rattle.awk_compile.specs.support.Operands.{is_and, is_or, matching_operator, matching, PushesTruths, PushesEre, FindsPattern}
-use Rattle.awk_compile.proofs.Calculus.{assoc_at, later_same, later_in, first_same, given}
-use Rattle.awk_compile.proofs.Building.{grows, extends, same, still, stands, front_then, behind, named}
+use Rattle.awk_compile.specs.definitions.Nodes.{operands, operated, ere_at}
+use Rattle.awk_compile.specs.support.Builds.{AreScalars, Grows, Pushes, AddsEre, Extends, Program, Evaluate, EvaluateKey, EvaluateOperand, Builds, FindsVariable, IsArrayOf, FindsPlace, Stands}
+use Rattle.awk_compile.specs.support.Operands.{is_and, is_or, matching_operator, PushesEre}
+use Rattle.awk_compile.proofs.Calculus.{later_in, first_same}
+use Rattle.awk_compile.proofs.Building.{grows, extends, still, front_then, named}
 use Rattle.awk_compile.proofs.Variables.{front_at}
 use Rattle.awk_compile.proofs.Elements.{reads_element, has_the_element}
-use Rattle.awk_compile.proofs.ValueLists.{taken_all, dropped_all, keyed, key_of_all, counted}
+use Rattle.awk_compile.proofs.ValueLists.{keyed}
 use Rattle.awk_compile.proofs.Targets.{assigned_by, incremented}
-use Rattle.awk_compile.proofs.Taking.{Takes, node, takes_stand, value_first, key_first, list_first, place_first, decided, evaluates, evaluates_key}
+use Rattle.awk_compile.proofs.Taking.{Takes, node, value_first, key_first, place_first, evaluates}
 
 module _ {kinds : ProgramKinds} {parameters : List FormalParameter} {a b : Builder} {i next : ℕ} where
   pub number_lowered : (k : ℤ) → Stands next a → Pushes a b (n.Value (v.Push (value.Number k)) next) i → Builds kinds parameters a b i (Evaluate (Number k) next)
@@ -75,6 +72,7 @@ ere_there {a = a} {b = b} {number = number} {text = text} q p g =
     last : (xs : List (List ℕ)) → slice_get (xs ++ text ∷ []) (length xs) ≡ Some text
     last [] = refl
     last (x ∷ xs) = last xs
+
     found : (xs : List (List ℕ)) (k : ℕ) → slice_get xs k ≡ Some text → get_or xs k [] ≡ text
     found [] k e = cc
     found (x ∷ xs) zero e = cc

@@ -21,7 +21,7 @@ use Rattle.awk_semantics.specs.definitions.Primitives.{read_element_at, store_el
 use Rattle.awk_semantics.specs.definitions.Streams.{Answer, ARecord, NoRecord, NotReadable}
 use Rattle.awk_semantics.specs.definitions.Semantics.{Functions}
 use Rattle.awk_semantics.specs.support.Keeps.{Keeps, CallsKeep}
-use Rattle.awk_semantics.proofs.Keeping.{keeps_bind, keeps_lift, keeps_plain}
+use Rattle.awk_semantics.proofs.Keeping.{keeps_lift, keeps_plain}
 use Rattle.awk_semantics.proofs.PlainRuns.{next_of_plain}
 use Rattle.awk_semantics.proofs.PlainParts.{count_of_plain}
 use Rattle.awk_semantics.proofs.KeepsForms.{keeps_spend, keeps_number_of, keeps_read_field, keeps_record_text, keeps_read_outside, keeps_set_field, keeps_put_outside, keeps_read_element_at, keeps_store_element_at, keeps_has_element_at, keeps_delete_element_at, keeps_keys_at, keeps_fill_array_at, keeps_joined_key, keeps_field_separator, keeps_check_height, keeps_set_status, keeps_note_match, keeps_record_length, keeps_print_by, keeps_open_target, keeps_close_named, keeps_run_command, keeps_next_record, keeps_set_record, keeps_count_in}
@@ -31,7 +31,7 @@ use Rattle.awk_storage.specs.declared.position.Variable.TheVariants as variable
 use Rattle.awk_storage.specs.declared.position.Place.{Place}
 use Rattle.awk_storage.specs.declared.position.Place.TheVariants as place
 use Rattle.awk_storage.specs.definitions.Positions.{newest_locals, with_local_at, read_local, put_local, read_slot, put_slot, number_at, read_element_of, store_element_of, read_variable, put_variable, read_at, store_at, assign_at, assign_by_at, post_increment_at}
-use Rattle.awk_storage.specs.definitions.Forms.{contains_at, delete_at, keys_of_array, fill_at, match_in, split_at, split_with, assign_exchange_at, substitute_at, receive_at, receive_main_at, main_getline_at, receive_named_at, named_getline_at}
+use Rattle.awk_storage.specs.definitions.Forms.{contains_at, delete_at, keys_of_array, fill_at, match_in, split_with, assign_exchange_at, substitute_at, receive_at, receive_main_at, main_getline_at, receive_named_at, named_getline_at}
 use Rattle.awk_compile.specs.declared.node.ArgumentForm.{ArgumentForm}
 use Rattle.awk_compile.specs.declared.node.Source.{Source}
 use Rattle.awk_compile.specs.declared.node.Source.TheVariants as source
@@ -40,7 +40,7 @@ use Rattle.awk_compile.specs.declared.node.ValueNode.{ValueNode}
 use Rattle.awk_compile.specs.declared.node.ValueNode.TheVariants as v
 use Rattle.awk_compile.specs.declared.node.EffectNode.{EffectNode}
 use Rattle.awk_compile.specs.declared.node.EffectNode.TheVariants as e
-use Rattle.awk_compile.specs.definitions.Nodes.{Tables, Cont, first, second, taken, given_by, call_at, substitute_by, substitute, getline_by, value_of, target_by, effect_of}
+use Rattle.awk_compile.specs.definitions.Nodes.{Tables, first, second, taken, given_by, call_at, substitute_by, substitute, getline_by, value_of, target_by, effect_of}
 
 pub record Falls {A : Type 0} (m : Run A) : Type 0 where
   pub falls : (s : State) → (m s).state.steps ≤ s.steps

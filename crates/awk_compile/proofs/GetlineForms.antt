@@ -1,5 +1,5 @@
 -- `getline` in its six forms.
-use Rattle.std.proofs.Common.{◌≡◌, ℕ, zero, suc, ◌+◌, pos, List, [], ◌∷◌, drop, Option, Some, None, Ok, get_or, refl, sym, subst, ap, ◌∙◌, arith}
+use Rattle.std.proofs.Common.{◌≡◌, ℕ, ◌+◌, List, [], ◌∷◌, drop, Option, Some, None, get_or, refl, sym, subst, ap, ◌∙◌, arith}
 use Rattle.awk_value.specs.declared.value.Value.{Value}
 use Rattle.awk_value.specs.declared.value.Value.TheVariants as value
 use Rattle.awk_value.specs.Values.{str_of}
@@ -7,21 +7,21 @@ use Rattle.awk_grammar.specs.Tree.{Expr, Getline, PipedGetline, OptionalExpr, No
 use Rattle.awk_world.specs.declared.world.InputKind.TheVariants as input
 use Rattle.awk_kinds.specs.definitions.Kinds.{FormalParameter}
 use Rattle.awk_kinds.specs.definitions.Signatures.{ProgramKinds}
-use Rattle.awk_semantics.specs.definitions.State.{State, Run, ◌>>=◌, lift, ret}
+use Rattle.awk_semantics.specs.definitions.State.{State, Run, ◌>>=◌, ret}
 use Rattle.awk_semantics.specs.definitions.Places.{receive, main_getline, named_getline}
 use Rattle.awk_semantics.specs.definitions.Semantics.{eval, place_of, optional_place, optional_value, getline_from}
 use Rattle.awk_semantics.proofs.KeepsForms.{keeps_eval}
 use Rattle.awk_storage.specs.declared.position.Place.{Place}
 use Rattle.awk_storage.specs.declared.position.Place.TheVariants as place
-use Rattle.awk_storage.specs.definitions.Forms.{receive_at, main_getline_at, named_getline_at}
+use Rattle.awk_storage.specs.definitions.Forms.{receive_at, named_getline_at}
 use Rattle.awk_compile.specs.declared.builder.Builder.{Builder}
 use Rattle.awk_compile.specs.declared.node.Source.TheVariants as source
 use Rattle.awk_compile.specs.declared.node.ValueNode.TheVariants as v
 use Rattle.awk_compile.specs.declared.node.Node.TheVariants as n
-use Rattle.awk_compile.specs.definitions.Nodes.{first, second, operands}
-use Rattle.awk_compile.specs.support.Builds.{Grows, Pushes, IsIn, Program, Evaluate, EvaluateOperand, EvaluateOptional, EvaluateOptionalOperand, FindsPlace, FindsOptionalPlace, Builds, Stands}
+use Rattle.awk_compile.specs.definitions.Nodes.{first, operands}
+use Rattle.awk_compile.specs.support.Builds.{Pushes, IsIn, Program, Evaluate, EvaluateOperand, EvaluateOptional, EvaluateOptionalOperand, FindsOptionalPlace, Builds, Stands}
 use Rattle.awk_compile.specs.support.Operands.{source_of}
-use Rattle.awk_compile.proofs.Calculus.{assoc_at, later_same, later_in, first_same, given}
+use Rattle.awk_compile.proofs.Calculus.{assoc_at, later_same, later_in, given}
 use Rattle.awk_compile.proofs.Building.{grows, extends, same, still}
 use Rattle.awk_compile.proofs.Targets.{received, main_got, named_got}
 use Rattle.awk_compile.proofs.Taking.{Takes, node, value_first, place_first, evaluates}
@@ -104,9 +104,9 @@ module _ {kinds : ProgramKinds} {parameters : List FormalParameter} where
       evaluates m (λ vs. refl) (Getline (AnExpr target) (AnExpr file)) (λ p g k vs s l.
       sym (assoc_at (place_of p.functions target) (λ x. ret (Some x)) (λ q'. (eval p.functions file >>= λ u. ret (Some u)) >>= λ y. getline_from q' y) s
       ∙ later_same (place_of p.functions target) _ _ s (λ x u.
-        given (Some x) (λ q'. (eval p.functions file >>= λ z. ret (Some z)) >>= λ y. getline_from q' y) u
-        ∙ assoc_at (eval p.functions file) (λ z. ret (Some z)) (λ y. getline_from (Some x) y) u
-        ∙ later_same (eval p.functions file) _ _ u (λ z u'. given (Some z) (λ y. getline_from (Some x) y) u'))))
+      given (Some x) (λ q'. (eval p.functions file >>= λ z. ret (Some z)) >>= λ y. getline_from q' y) u
+      ∙ assoc_at (eval p.functions file) (λ z. ret (Some z)) (λ y. getline_from (Some x) y) u
+      ∙ later_same (eval p.functions file) _ _ u (λ z u'. given (Some z) (λ y. getline_from (Some x) y) u'))))
   getline_lowered None (AnExpr target) file h found t r r' = absurd found
   getline_lowered (Some q) NoExpr file h found t r r' = absurd found
 
@@ -120,11 +120,11 @@ module _ {kinds : ProgramKinds} {parameters : List FormalParameter} where
   piped_getline_lowered {command = command} (Some q) (AnExpr target) h found t r r' =
       let m = value_first (λ vs. vs) (place_first (λ vs. drop 1 vs) (λ p vs x. named_getline input.Command (str_of (first vs)) (Some x)) found.extends found.is (node (still found.extends h) t) (its_operand r) (λ ws. below_operand q ws)
       (λ p g k x ws vs s l at d.
-        ap (λ (z : Value). named_getline_at p.tables.names input.Command (str_of z) (Some q) (first ws) s) (value_below q ws vs d)
-        ∙ sym (named_got p (Some x) (Some q) (first ws) (λ text n' s1 i'. received at text n' s1 i') input.Command (str_of (first vs)) k s l))) command r' (λ u vs. refl) in
+      ap (λ (z : Value). named_getline_at p.tables.names input.Command (str_of z) (Some q) (first ws) s) (value_below q ws vs d)
+      ∙ sym (named_got p (Some x) (Some q) (first ws) (λ text n' s1 i'. received at text n' s1 i') input.Command (str_of (first vs)) k s l))) command r' (λ u vs. refl) in
       evaluates m (λ vs. refl) (PipedGetline command (AnExpr target)) (λ p g k vs s l.
       later_same (eval p.functions command) _ _ s (λ u s'.
-        sym (assoc_at (place_of p.functions target) (λ x. ret (Some x)) (λ q'. named_getline input.Command (str_of u) q') s'
-        ∙ later_same (place_of p.functions target) _ _ s' (λ x u'. given (Some x) (λ q'. named_getline input.Command (str_of u) q') u'))))
+      sym (assoc_at (place_of p.functions target) (λ x. ret (Some x)) (λ q'. named_getline input.Command (str_of u) q') s'
+      ∙ later_same (place_of p.functions target) _ _ s' (λ x u'. given (Some x) (λ q'. named_getline input.Command (str_of u) q') u'))))
   piped_getline_lowered None (AnExpr target) h found t r r' = absurd found
   piped_getline_lowered (Some q) NoExpr h found t r r' = absurd found

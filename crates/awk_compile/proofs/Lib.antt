@@ -1,4 +1,3 @@
-pub mod Named
 pub mod Calculus
 pub mod Listed
 pub mod Building
@@ -11,7 +10,6 @@ pub mod Elements
 pub mod ValueLists
 pub mod Taking
 pub mod Targets
-pub mod OtherPlaces
 pub mod ExpressionForms
 pub mod PatternForms
 pub mod ConditionForms
@@ -19,6 +17,9 @@ pub mod ListForms
 pub mod CallForms
 pub mod BuiltInForms
 pub mod GetlineForms
+pub mod SubstituteForms
+pub mod OperandForms
+pub mod Slots
 pub mod Passing
 pub mod SimpleStatements
 pub mod PrintStatements

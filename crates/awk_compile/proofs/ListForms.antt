@@ -1,5 +1,5 @@
 -- Lists of expressions, and the subscripts of elements.
-use Rattle.std.proofs.Common.{◌≡◌, ◌≢◌, ℕ, zero, suc, ◌-◌, ◌<◌, ◌≤◌, List, [], ◌∷◌, ◌++◌, length, drop, reverse, get_or, slice_get, Some, Ok, refl, sym, subst, ap, ◌∙◌, arith}
+use Rattle.std.proofs.Common.{◌≡◌, ◌≢◌, ℕ, zero, suc, ◌<◌, ◌≤◌, List, [], ◌∷◌, ◌++◌, length, drop, reverse, get_or, refl, sym, ap, ◌∙◌, arith}
 use Rattle.awk_value.specs.declared.value.Value.{Value}
 use Rattle.awk_value.specs.declared.value.Value.TheVariants as value
 use Rattle.awk_grammar.specs.declared.tree.Expr as declared
@@ -8,19 +8,18 @@ use Rattle.awk_grammar.specs.View.{expr_of, exprs_of}
 use Rattle.awk_kinds.specs.definitions.Kinds.{FormalParameter}
 use Rattle.awk_kinds.specs.definitions.NameUses.{count_of}
 use Rattle.awk_kinds.specs.definitions.Signatures.{ProgramKinds}
-use Rattle.awk_semantics.specs.definitions.State.{State, Run, ◌>>=◌, lift, ret}
+use Rattle.awk_semantics.specs.definitions.State.{Run, ◌>>=◌, ret}
 use Rattle.awk_semantics.specs.definitions.Primitives.{joined_key}
-use Rattle.awk_semantics.specs.definitions.Semantics.{Functions, eval, eval_all, key_of}
+use Rattle.awk_semantics.specs.definitions.Semantics.{Functions, eval_all, key_of}
 use Rattle.awk_semantics.proofs.KeepsForms.{keeps_eval}
 use Rattle.awk_compile.specs.declared.builder.Builder.{Builder}
 use Rattle.awk_compile.specs.declared.node.ValueNode.TheVariants as v
 use Rattle.awk_compile.specs.declared.node.Node.TheVariants as n
-use Rattle.awk_compile.specs.definitions.Nodes.{taken}
-use Rattle.awk_compile.specs.support.Builds.{Grows, Pushes, Extends, IsIn, Program, Evaluate, EvaluateAll, EvaluateKey, key_value, place_in, Builds, Stands}
-use Rattle.awk_compile.proofs.Calculus.{assoc_at, later_same, later_in, first_same, given}
-use Rattle.awk_compile.proofs.Building.{grows, extends, same, still}
+use Rattle.awk_compile.specs.support.Builds.{Pushes, Evaluate, EvaluateAll, EvaluateKey, key_value, place_in, Builds, Stands}
+use Rattle.awk_compile.proofs.Calculus.{later_same, later_in, given}
+use Rattle.awk_compile.proofs.Building.{grows, extends, same}
 use Rattle.awk_compile.proofs.ValueLists.{onto_more, taken_all, dropped_all, all_first, key_of_all, counted}
-use Rattle.awk_compile.proofs.Taking.{Takes, node, list_first, evaluates_key}
+use Rattle.awk_compile.proofs.Taking.{node, list_first, evaluates_key}
 
 pub none_lowered : {kinds : ProgramKinds} {parameters : List FormalParameter} {a : Builder} {next : ℕ} → Stands next a → Builds kinds parameters a a next (EvaluateAll Nil next)
 unfolding eval_all
@@ -34,8 +33,8 @@ more_lowered {next = next} {e = e} {es = es} q r = record {
   is = λ p g m vs s l.
       r.is p g m vs s l
       ∙ later_in _ _ s m (keeps_eval p.functions p.calls.keep e) l (λ w u k.
-        q.is p (grows r.extends.grows g) m (w ∷ vs) u k
-        ∙ later_same (eval_all p.functions [] es) _ _ u (λ ws t. ap (λ (xs : List Value). place_in p m next xs t) (sym (onto_more w ws vs))))
+      q.is p (grows r.extends.grows g) m (w ∷ vs) u k
+      ∙ later_same (eval_all p.functions [] es) _ _ u (λ ws t. ap (λ (xs : List Value). place_in p m next xs t) (sym (onto_more w ws vs))))
       ∙ sym (all_first p.functions e es (λ ws. place_in p m next (reverse ws ++ vs)) s);
 }
 
@@ -56,10 +55,31 @@ exprs_at [] i x h e = absurd (omega (arith, h))
 exprs_at (y ∷ ys) zero x h e = ap (λ (z : declared.Expr). Cons (expr_of z) (exprs_of ys)) e
 exprs_at (y ∷ ys) (suc i) x h e = exprs_at ys i x (omega (arith, h)) e
 
+pub some_expr : (xs : List declared.Expr) (i : ℕ) → i < length xs → (e : Expr) × (exprs_of (drop i xs) ≡ Cons e (exprs_of (drop (suc i) xs)))
+some_expr [] i h = absurd (omega (arith, h))
+some_expr (y ∷ ys) zero h = (expr_of y, refl)
+some_expr (y ∷ ys) (suc i) h = some_expr ys i (omega (arith, h))
+
 pub one_expr : (xs : List declared.Expr) (x : declared.Expr) → length xs ≡ 1 → get_or xs 0 x ≡ x → exprs_of xs ≡ Cons (expr_of x) Nil
 one_expr [] x h e = absurd (omega (arith, h))
 one_expr (y ∷ []) x h e = ap (λ (z : declared.Expr). Cons (expr_of z) Nil) e
 one_expr (y ∷ (z ∷ zs)) x h e = absurd (omega (arith, h))
+
+two_exprs_of : (x y a b : declared.Expr) → x ≡ a → y ≡ b → Cons (expr_of a) (Cons (expr_of b) Nil) ≡ Cons (expr_of x) (Cons (expr_of y) Nil)
+two_exprs_of x y a b e f = ap (λ (z : declared.Expr). Cons (expr_of z) (Cons (expr_of b) Nil)) (sym e) ∙ ap (λ (z : declared.Expr). Cons (expr_of x) (Cons (expr_of z) Nil)) (sym f)
+
+pub two_exprs : (xs : List declared.Expr) (x y : declared.Expr) → 2 ≤ length xs → length xs < 3 → x ≡ get_or xs 0 x → y ≡ get_or xs 1 y → exprs_of xs ≡ Cons (expr_of x) (Cons (expr_of y) Nil)
+two_exprs [] x y h k e f = absurd (omega (arith, h))
+two_exprs (a ∷ []) x y h k e f = absurd (omega (arith, h))
+two_exprs (a ∷ (b ∷ [])) x y h k e f = two_exprs_of x y a b e f
+two_exprs (a ∷ (b ∷ (c ∷ rest))) x y h k e f = absurd (omega (arith, k))
+
+pub three_exprs : (xs : List declared.Expr) (x y z : declared.Expr) → 3 ≤ length xs → length xs < 4 → x ≡ get_or xs 0 x → y ≡ get_or xs 1 y → z ≡ get_or xs 2 z → exprs_of xs ≡ Cons (expr_of x) (Cons (expr_of y) (Cons (expr_of z) Nil))
+three_exprs [] x y z h k e f g = absurd (omega (arith, h))
+three_exprs (a ∷ []) x y z h k e f g = absurd (omega (arith, h))
+three_exprs (a ∷ (b ∷ [])) x y z h k e f g = absurd (omega (arith, h))
+three_exprs (a ∷ (b ∷ (c ∷ []))) x y z h k e f g = ap (λ (w : declared.Expr). Cons (expr_of w) (Cons (expr_of b) (Cons (expr_of c) Nil))) (sym e) ∙ ap (λ l. Cons (expr_of x) l) (two_exprs_of y z b c f g)
+three_exprs (a ∷ (b ∷ (c ∷ (d ∷ rest)))) x y z h k e f g = absurd (omega (arith, k))
 
 -- subscripts
 

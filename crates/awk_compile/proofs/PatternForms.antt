@@ -1,5 +1,5 @@
 -- Patterns: an ERE of the program stands for itself, and any other expression is evaluated.
-use Rattle.std.proofs.Common.{◌≡◌, ℕ, suc, Bool, true, false, List, [], ◌∷◌, drop, Option, Some, None, Ok, refl, sym, subst, ap, ◌∙◌}
+use Rattle.std.proofs.Common.{◌≡◌, ℕ, true, List, ◌∷◌, drop, Option, Some, None, refl, sym, subst, ap, ◌∙◌}
 use Rattle.awk_value.specs.declared.value.Value.{Value}
 use Rattle.awk_value.specs.declared.value.Value.TheVariants as value
 use Rattle.awk_lex.specs.declared.token.Operator.{Operator}
@@ -9,15 +9,15 @@ use Rattle.awk_grammar.specs.declared.tree.BinaryOperator.TheVariants.{Concatena
 use Rattle.awk_grammar.specs.Tree.{Expr, Number, String, Ere, Name, Element, Field, Group, Call, BuiltIn, Length, PreIncrement, PostIncrement, Getline, PipedGetline, Unary, Binary, Membership, ListMembership, Conditional, Assign}
 use Rattle.awk_kinds.specs.definitions.Kinds.{FormalParameter}
 use Rattle.awk_kinds.specs.definitions.Signatures.{ProgramKinds}
-use Rattle.awk_semantics.specs.definitions.State.{State, Run, ◌>>=◌, lift, ret}
+use Rattle.awk_semantics.specs.definitions.State.{Run, ◌>>=◌, lift, ret}
 use Rattle.awk_semantics.specs.definitions.Operators.{applied, takes_pattern}
 use Rattle.awk_semantics.specs.definitions.BuiltIns.{OfValue, ere_or}
 use Rattle.awk_semantics.specs.definitions.Semantics.{Functions, right_operand, combined, eval}
 use Rattle.awk_compile.specs.declared.builder.Builder.{Builder}
 use Rattle.awk_compile.specs.declared.node.Node.TheVariants as n
 use Rattle.awk_compile.specs.definitions.Nodes.{Cont, ere_at}
-use Rattle.awk_compile.specs.support.Builds.{Grows, Pushes, Extends, IsIn, Program, Evaluate, EvaluateUnlessEre, with_pattern, Builds, Stands}
-use Rattle.awk_compile.specs.support.Operands.{matching_operator, matching, FindsEre, FindsNoEre, FindsPattern}
+use Rattle.awk_compile.specs.support.Builds.{Grows, Pushes, Extends, Program, Evaluate, EvaluateUnlessEre, with_pattern, Builds, Stands}
+use Rattle.awk_compile.specs.support.Operands.{matching_operator, matching, FindsPattern}
 use Rattle.awk_compile.proofs.Calculus.{later_same, given}
 use Rattle.awk_compile.proofs.Building.{grows, extends, same, still}
 use Rattle.awk_compile.proofs.Taking.{Takes, node, value_first, evaluates}

@@ -1,8 +1,8 @@
 -- Parts that take values off the stack and put one on it, built from their ends.
-use Rattle.std.proofs.Common.{◌≡◌, ℕ, suc, ◌<◌, List, [], ◌∷◌, ◌++◌, length, drop, reverse, refl, sym, ap, ◌∙◌, arith}
+use Rattle.std.proofs.Common.{◌≡◌, ℕ, ◌<◌, List, [], ◌∷◌, ◌++◌, length, drop, reverse, sym, ap, ◌∙◌, arith}
 use Rattle.awk_value.specs.declared.value.Value.{Value}
 use Rattle.awk_value.specs.Values.{truth_of}
-use Rattle.awk_grammar.specs.Tree.{Expr, Ere, Exprs}
+use Rattle.awk_grammar.specs.Tree.{Expr, Exprs}
 use Rattle.awk_kinds.specs.definitions.Kinds.{FormalParameter}
 use Rattle.awk_kinds.specs.definitions.NameUses.{count_of}
 use Rattle.awk_kinds.specs.definitions.Signatures.{ProgramKinds}
@@ -16,9 +16,9 @@ use Rattle.awk_compile.specs.declared.builder.Builder.{Builder}
 use Rattle.awk_compile.specs.declared.node.ValueNode.{ValueNode}
 use Rattle.awk_compile.specs.declared.node.Node.TheVariants as n
 use Rattle.awk_compile.specs.definitions.Nodes.{first, operands, value_of, popped}
-use Rattle.awk_compile.specs.support.Builds.{Grows, Pushes, Extends, IsIn, Program, Part, Evaluate, EvaluateAll, EvaluateKey, EvaluateOperand, EvaluateUnlessEre, Decide, key_value, place_in, Builds, IsAt, IsPlaceOf, Stands}
+use Rattle.awk_compile.specs.support.Builds.{Grows, Pushes, Extends, IsIn, Program, Evaluate, EvaluateAll, EvaluateKey, EvaluateOperand, Decide, key_value, place_in, Builds, IsAt, IsPlaceOf, Stands}
 use Rattle.awk_compile.proofs.Calculus.{assoc_at, later_in, first_same}
-use Rattle.awk_compile.proofs.Building.{grows, extends, longer, placed, at_once, chosen}
+use Rattle.awk_compile.proofs.Building.{grows, extends, placed, at_once, chosen}
 use Rattle.awk_compile.proofs.ValueLists.{keeps_key_value, counted}
 
 -- from a place, something is evaluated, by values on the stack; these are exchanged for its value
@@ -96,9 +96,9 @@ place_first {next = next} {m = m} {e = e} rest f before is t q same alike = reco
   is = λ p g k vs s h.
       q.is p g k vs s h
       ∙ sym (is.is p (grows t.extends.grows (grows q.extends.grows g)) (λ x. f p vs x >>= λ w. place_in p k next (w ∷ rest vs)) _ k vs s h (λ x ws u l at dropped.
-        first_same (f p vs x) (m p ws) (λ w. place_in p k next (w ∷ rest vs)) u (sym (alike p g k x ws vs u l at dropped))
-        ∙ ap (λ (vs' : List Value). (m p ws >>= λ w. place_in p k next (w ∷ vs')) u) (sym (same ws ∙ ap rest dropped))
-        ∙ sym (t.is p (grows q.extends.grows g) k ws u l)))
+      first_same (f p vs x) (m p ws) (λ w. place_in p k next (w ∷ rest vs)) u (sym (alike p g k x ws vs u l at dropped))
+      ∙ ap (λ (vs' : List Value). (m p ws >>= λ w. place_in p k next (w ∷ vs')) u) (sym (same ws ∙ ap rest dropped))
+      ∙ sym (t.is p (grows q.extends.grows g) k ws u l)))
       ∙ sym (assoc_at (place_of p.functions e) (f p vs) (λ w. place_in p k next (w ∷ rest vs)) s);
 }
 
@@ -127,8 +127,8 @@ decided {next = next} {m1 = m1} {m2 = m2} {left = left} t u before g1 g2 e q = r
   is = λ p g k vs s h.
       q.is p g k vs s h
       ∙ later_in _ _ s k (keeps_eval p.functions p.calls.keep e) h (λ v s' l.
-        chosen (truth_of v) (m1 p vs) (m2 p vs) (λ w. place_in p k next (w ∷ left vs)) _ _ s'
-        (t.is p (grows g1.grows (grows q.extends.grows g)) k vs s' l) (u.is p (grows g2.grows (grows q.extends.grows g)) k vs s' l))
+      chosen (truth_of v) (m1 p vs) (m2 p vs) (λ w. place_in p k next (w ∷ left vs)) _ _ s'
+      (t.is p (grows g1.grows (grows q.extends.grows g)) k vs s' l) (u.is p (grows g2.grows (grows q.extends.grows g)) k vs s' l))
       ∙ sym (assoc_at (eval p.functions e) (λ v. choose (truth_of v) (m1 p vs) (m2 p vs)) (λ w. place_in p k next (w ∷ left vs)) s);
 }
 

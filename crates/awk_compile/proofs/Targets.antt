@@ -1,42 +1,33 @@
 -- A place of the language and its position: what is read and stored there.
-use Rattle.std.proofs.Common.{◌≡◌, ℕ, zero, suc, ℤ, pos, Bool, List, [], ◌∷◌, ◌++◌, drop, Option, Some, None, Ok, Result, refl, sym, ap, ◌∙◌}
-use Rattle.std.specs.Prelude.{negsuc}
+use Rattle.std.proofs.Common.{◌≡◌, ℕ, zero, suc, ℤ, List, [], ◌∷◌, Option, Some, None, refl, sym, ◌∙◌}
 use Rattle.awk_value.specs.declared.value.Value.{Value}
 use Rattle.awk_value.specs.declared.value.Value.TheVariants as value
-use Rattle.awk_value.specs.Values.{str_of, num_of}
+use Rattle.awk_value.specs.Values.{str_of}
 use Rattle.awk_lex.specs.declared.token.IncrementOperator.{IncrementOperator}
 use Rattle.awk_lex.specs.declared.token.Operator.{Operator}
 use Rattle.awk_world.specs.declared.world.InputKind.{InputKind}
-use Rattle.awk_variables.specs.declared.special.Special.TheVariants.{Nr, Fnr}
 use Rattle.awk_grammar.specs.Tree.{Expr, Name, Element, Field, Exprs}
 use Rattle.awk_kinds.specs.definitions.Kinds.{FormalParameter}
 use Rattle.awk_kinds.specs.definitions.Signatures.{ProgramKinds}
-use Rattle.awk_semantics.specs.declared.halt.Halt.{Halt}
-use Rattle.awk_semantics.specs.definitions.State.{State, Run, ◌>>=◌, lift, ret}
-use Rattle.awk_semantics.specs.definitions.Faults.{of_values}
-use Rattle.awk_semantics.specs.definitions.Operators.{applied, by_one, one, pattern_in}
-use Rattle.awk_semantics.specs.definitions.Texts.{Exchange, exchanged}
-use Rattle.awk_semantics.specs.definitions.Primitives.{spend, number_of, read_field, set_field, set_record, count_in}
-use Rattle.awk_semantics.specs.definitions.Streams.{Answer, ARecord, NoRecord, NotReadable, next_of}
-use Rattle.awk_semantics.specs.definitions.Inputs.{next_record}
-use Rattle.awk_semantics.specs.definitions.Places.{Place as Target, AName, AnElement, AField, read_place, store, assign, assign_by, post_increment, answer, receive, receive_main, main_getline, count_of, receive_named, named_getline}
-use Rattle.awk_semantics.specs.definitions.BuiltIns.{count_value, assign_exchange}
-use Rattle.awk_semantics.specs.definitions.Semantics.{Functions, eval, key_of, place_of}
-use Rattle.awk_semantics.specs.support.Keeps.{Keeps}
+use Rattle.awk_semantics.specs.definitions.State.{State, Run, ◌>>=◌, ret}
+use Rattle.awk_semantics.specs.definitions.Operators.{applied, by_one, one}
+use Rattle.awk_semantics.specs.definitions.Primitives.{number_of, read_field, set_field}
+use Rattle.awk_semantics.specs.definitions.Streams.{Answer, ARecord, NoRecord, NotReadable}
+use Rattle.awk_semantics.specs.definitions.Places.{Place as Target, AName, AnElement, AField, read_place, store, assign, assign_by, post_increment, receive, receive_main, main_getline, receive_named, named_getline}
+use Rattle.awk_semantics.specs.definitions.BuiltIns.{assign_exchange}
+use Rattle.awk_semantics.specs.definitions.Semantics.{eval, key_of, place_of}
 use Rattle.awk_semantics.proofs.Keeping.{keeps_lift, keeps_plain}
 use Rattle.awk_semantics.proofs.PlainRuns.{next_of_plain}
-use Rattle.awk_semantics.proofs.KeepsForms.{keeps_spend, keeps_number_of, keeps_read_place, keeps_store, keeps_eval, keeps_key_of, keeps_next_record}
+use Rattle.awk_semantics.proofs.KeepsForms.{keeps_spend, keeps_number_of, keeps_read_place, keeps_store, keeps_eval, keeps_next_record}
 use Rattle.awk_storage.specs.declared.position.Variable.{Variable}
 use Rattle.awk_storage.specs.declared.position.Array.{Array}
 use Rattle.awk_storage.specs.declared.position.Place.{Place}
 use Rattle.awk_storage.specs.declared.position.Place.TheVariants as place
-use Rattle.awk_storage.specs.definitions.Positions.{read_at, store_at, assign_at, assign_by_at, post_increment_at}
-use Rattle.awk_storage.specs.definitions.Forms.{assign_exchange_at, substitute_at, receive_at, receive_main_at, main_getline_at, receive_named_at, named_getline_at}
+use Rattle.awk_storage.specs.definitions.Positions.{read_at, assign_at, assign_by_at, post_increment_at}
+use Rattle.awk_storage.specs.definitions.Forms.{assign_exchange_at, receive_at, receive_main_at, main_getline_at, receive_named_at, named_getline_at}
 use Rattle.awk_compile.specs.declared.builder.Builder.{Builder}
-use Rattle.awk_compile.specs.definitions.Nodes.{Cont, first, operands}
-use Rattle.awk_compile.specs.support.Builds.{Grows, Extends, IsIn, Program, key_value, with_operand, IsVariableOf, FindsVariable, IsArrayOf, IsAt, IsPlaceOf, FindsPlace}
+use Rattle.awk_compile.specs.support.Builds.{Grows, IsIn, Program, IsVariableOf, IsArrayOf, IsAt, IsPlaceOf}
 use Rattle.awk_compile.proofs.Calculus.{assoc_at, later_same, later_in, first_same, given}
-use Rattle.awk_compile.proofs.Building.{same}
 use Rattle.awk_compile.proofs.ValueLists.{keyed, keeps_key_value}
 use Rattle.awk_compile.proofs.Elements.{reads_element, stores_element}
 
@@ -63,9 +54,9 @@ module _ {kinds : ProgramKinds} {p : Program kinds} {parameters : List FormalPar
   unfolding post_increment post_increment_at
   incremented o n s i =
       later_in _ _ s n (keeps_read_place t) i (λ v u h.
-        later_in _ _ u n (keeps_number_of v) h (λ k u1 h1.
-        later_in _ _ u1 n (keeps_lift (applied (by_one o) (value.Number k) one)) h1 (λ w u2 h2.
-        first_same (store t w) _ _ u2 (at.stores n w u2 h2))))
+      later_in _ _ u n (keeps_number_of v) h (λ k u1 h1.
+      later_in _ _ u1 n (keeps_lift (applied (by_one o) (value.Number k) one)) h1 (λ w u2 h2.
+      first_same (store t w) _ _ u2 (at.stores n w u2 h2))))
       ∙ first_same (read_place t) _ _ s (at.reads n s i)
 
   pub exchanged_in : (count : ℕ) (text : List ℕ) (n : ℕ) (s : State) → Stands n s → assign_exchange t count text s ≡ assign_exchange_at p.tables.names q operand count text s
@@ -112,18 +103,14 @@ module _ {kinds : ProgramKinds} {parameters : List FormalParameter} where
     stores = λ n w s i. stores_element a x s (is.is p n s i) (str_of operand) w;
   }
 
-  at_field : {p : Program kinds} {k : ℤ} → IsAt p parameters (AField k) place.Field (value.Number k)
+  pub at_field : {p : Program kinds} {k : ℤ} → IsAt p parameters (AField k) place.Field (value.Number k)
   unfolding read_place store
   at_field {k = k} = record { reads = λ n s i. sym (numbered k (λ m. read_field m) s); stores = λ n w s i. sym (numbered k (λ m. set_field m w) s) }
 
 module _ {kinds : ProgramKinds} {parameters : List FormalParameter} {b : Builder} where
-  -- a name, and any other expression that is no place
-  pub name_is_place : {v : Variable} (x : List ℕ) (e : Expr) → ((functions : Functions) → place_of functions e ≡ ret (AName x)) → ((functions : Functions) (k : Cont) (vs : List Value) → with_operand functions e k vs ≡ k vs)
-      → IsVariableOf kinds parameters b v x → IsPlaceOf kinds parameters b (place.Variable v) e
-  name_is_place x e is_name is_bare is = record {
-    is = λ p g f k n vs s i alike.
-        ap (λ (m : Run Target). (m >>= f) s) (is_name p.functions) ∙ given (AName x) f s ∙ alike (AName x) vs s i (at_variable g is) refl ∙ sym (ap (λ (m : Run Value). m s) (is_bare p.functions k vs))
-  }
+  pub name_is_place : {v : Variable} {x : List ℕ} → IsVariableOf kinds parameters b v x → IsPlaceOf kinds parameters b (place.Variable v) (Name x)
+  unfolding place_of
+  name_is_place {x = x} is = record { is = λ p g f k n vs s i alike. given (AName x) f s ∙ alike (AName x) vs s i (at_variable g is) refl }
 
   pub element_is_place : {a : Array} {x : List ℕ} (es : Exprs) → IsArrayOf kinds parameters a x → IsPlaceOf kinds parameters b (place.Element a) (Element x es)
   unfolding place_of
@@ -132,7 +119,7 @@ module _ {kinds : ProgramKinds} {parameters : List FormalParameter} {b : Builder
         assoc_at (key_of p.functions [] es) (λ key. ret (AnElement x key)) f s
         ∙ later_same (key_of p.functions [] es) _ _ s (λ key u. given (AnElement x key) f u)
         ∙ sym (keyed p.functions es (λ key. f (AnElement x key)) s)
-        ∙ later_in _ _ s n (keeps_key_value p.functions p.calls.keep es) i (λ v u h. alike (AnElement x (str_of v)) (v ∷ vs) u h (at_element is) refl)
+        ∙ later_in _ _ s n (keeps_key_value p.functions p.calls.keep es) i (λ v u h. alike (AnElement x (str_of v)) (v ∷ vs) u h (at_element is) refl);
   }
 
   pub field_is_place : (e : Expr) → IsPlaceOf kinds parameters b place.Field (Field e)
@@ -142,5 +129,5 @@ module _ {kinds : ProgramKinds} {parameters : List FormalParameter} {b : Builder
         assoc_at (eval p.functions e) (λ v. number_of v >>= λ m. ret (AField m)) f s
         ∙ later_in _ _ s n (keeps_eval p.functions p.calls.keep e) i (λ v u h.
         assoc_at (number_of v) (λ m. ret (AField m)) f u
-        ∙ later_in _ _ u n (keeps_number_of v) h (λ m u1 h1. given (AField m) f u1 ∙ alike (AField m) (value.Number m ∷ vs) u1 h1 at_field refl))
+        ∙ later_in _ _ u n (keeps_number_of v) h (λ m u1 h1. given (AField m) f u1 ∙ alike (AField m) (value.Number m ∷ vs) u1 h1 at_field refl));
   }

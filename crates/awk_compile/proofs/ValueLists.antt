@@ -2,14 +2,14 @@
 use Rattle.std.proofs.lemmas.List.{reverse-reverse, length-reverse}
 use Rattle.std.proofs.lemmas.Grind.{reverse_onto}
 use Rattle.std.proofs.Math.Seq.{take-append_seam, drop-append_seam}
-use Rattle.std.proofs.Common.{◌≡◌, ℕ, zero, suc, ◌+◌, ◌<◌, List, [], ◌∷◌, ◌++◌, length, take, drop, reverse, map, refl, sym, subst, ap, ◌∙◌, arith, append_assoc, append-nil, Ok}
+use Rattle.std.proofs.Common.{◌≡◌, ℕ, suc, List, [], ◌∷◌, ◌++◌, length, take, drop, reverse, refl, sym, ap, ◌∙◌, append_assoc, append-nil, Ok}
 use Rattle.awk_value.specs.declared.value.Value.{Value}
 use Rattle.awk_value.specs.declared.value.Value.TheVariants as value
 use Rattle.awk_value.specs.Values.{str_of}
 use Rattle.awk_grammar.specs.Tree.{Expr, Exprs, Nil, Cons}
 use Rattle.awk_kinds.specs.definitions.Kinds.{FormalParameter}
 use Rattle.awk_kinds.specs.definitions.NameUses.{count_of}
-use Rattle.awk_semantics.specs.definitions.State.{State, Run, go_on, ◌>>=◌, lift, ret}
+use Rattle.awk_semantics.specs.definitions.State.{State, Run, go_on, ◌>>=◌, ret}
 use Rattle.awk_semantics.specs.definitions.Primitives.{joined_key}
 use Rattle.awk_semantics.specs.definitions.Semantics.{Functions, eval, eval_all, key_of}
 use Rattle.awk_semantics.specs.support.Keeps.{Keeps, CallsKeep}
@@ -17,7 +17,7 @@ use Rattle.awk_semantics.proofs.Keeping.{keeps_bind, keeps_lift}
 use Rattle.awk_semantics.proofs.KeepsForms.{keeps_eval, keeps_key_of}
 use Rattle.awk_compile.specs.definitions.Nodes.{Tables, taken}
 use Rattle.awk_compile.specs.support.Builds.{IsIn, key_value}
-use Rattle.awk_compile.proofs.Calculus.{assoc_at, later_same, later_in, first_same, given}
+use Rattle.awk_compile.proofs.Calculus.{assoc_at, later_same, later_in, given}
 
 -- values on the stack, the first one evaluated lowest
 
@@ -39,9 +39,9 @@ module _ (functions : Functions) where
   all_behind front (Cons e es) k s =
       assoc_at (eval functions e) (λ v. eval_all functions (front ++ v ∷ []) es) k s
       ∙ later_same (eval functions e) _ _ s (λ v t.
-        all_behind (front ++ v ∷ []) es k t
-        ∙ later_same (eval_all functions [] es) _ _ t (λ ws u. ap (λ l. k l u) (append_assoc front (v ∷ []) ws))
-        ∙ sym (all_behind (v ∷ []) es (λ ws. k (front ++ ws)) t))
+      all_behind (front ++ v ∷ []) es k t
+      ∙ later_same (eval_all functions [] es) _ _ t (λ ws u. ap (λ l. k l u) (append_assoc front (v ∷ []) ws))
+      ∙ sym (all_behind (v ∷ []) es (λ ws. k (front ++ ws)) t))
       ∙ sym (assoc_at (eval functions e) (λ v. eval_all functions (v ∷ []) es) (λ ws. k (front ++ ws)) s)
 
   -- the first value, and then the others

@@ -1,5 +1,5 @@
 -- A name stands for its parameter, or for what the whole program has under it.
-use Rattle.std.proofs.Common.{◌≡◌, ℕ, zero, suc, Bool, true, false, cond, List, [], ◌∷◌, ◌++◌, length, map, slice_get, slice_set, append-nil, bytes_eq, Option, Some, None, if◌then◌else◌, inl, inr, refl, sym, subst, ap, ◌∙◌, arith}
+use Rattle.std.proofs.Common.{◌≡◌, ℕ, zero, suc, Bool, true, false, cond, List, [], ◌∷◌, ◌++◌, length, map, slice_get, slice_set, append-nil, bytes_eq, Option, Some, None, if◌then◌else◌, inl, inr, refl, sym, subst, ap, ◌∙◌}
 use Rattle.std.specs.Option.{option_map}
 use Rattle.std.specs.Map.{lookup, set_value}
 use Rattle.std.specs.Prelude.{codes}
@@ -7,18 +7,18 @@ use Rattle.awk_value.specs.declared.value.Value.{Value}
 use Rattle.awk_variables.specs.declared.special.Special.{Special}
 use Rattle.awk_variables.specs.Variables.{name_of}
 use Rattle.awk_variables.specs.Names.{IsFront, has_name, with_name}
-use Rattle.awk_compile.proofs.Named.{has_name_at}
+use Rattle.awk_compile.proofs.Slots.{has_name-stands}
 use Rattle.awk_kinds.specs.definitions.Kinds.{FormalParameter}
 use Rattle.awk_kinds.specs.definitions.Signatures.{ProgramKinds, place_of, parameter_names}
 use Rattle.awk_semantics.specs.declared.local.Local.{Local}
 use Rattle.awk_semantics.specs.declared.local.Local.TheVariants as local
-use Rattle.awk_semantics.specs.definitions.State.{Frame, State, Out, gives}
-use Rattle.awk_semantics.specs.definitions.Primitives.{local_in, global_value, local_value, read_outside, read_name, with_local, put_outside, put_by, put, number_in, local_number, array_number}
+use Rattle.awk_semantics.specs.definitions.State.{Frame, State, gives}
+use Rattle.awk_semantics.specs.definitions.Primitives.{local_in, global_value, local_value, read_outside, read_name, with_local, put_outside, put_by, put, number_in, local_number}
 use Rattle.awk_storage.specs.declared.position.Variable.TheVariants as variable
 use Rattle.awk_storage.specs.declared.position.Array.TheVariants as array
 use Rattle.awk_storage.specs.definitions.Positions.{newest_locals, value_of_local, read_local, with_newest, with_local_at, put_local, read_slot, put_slot, number_of_local}
 use Rattle.awk_compile.specs.declared.builder.Builder.{Builder}
-use Rattle.awk_compile.specs.support.Builds.{IsScalar, AreScalars, Grows, AddsName, Extends, IsIn, Program, IsVariableOf, FindsVariable, IsArrayOf}
+use Rattle.awk_compile.specs.support.Builds.{IsScalar, AreScalars, AddsName, IsVariableOf, FindsVariable, IsArrayOf}
 use Rattle.awk_compile.proofs.Building.{get_pushed, front_then, named}
 
 abbrev Locals : Type 0
@@ -148,7 +148,7 @@ module _ {kinds : ProgramKinds} {parameters : List FormalParameter} (x : List �
 -- a scalar that gets a slot
 
 no_slot : (names : List (List ℕ)) (i : ℕ) (x : List ℕ) → has_name names x ≡ false → slice_get names i ≡ Some x → ⊥
-no_slot names i x e h = let y : has_name names x ≡ true = has_name_at names i x h in cc
+no_slot names i x e h = let y : has_name names x ≡ true = has_name-stands names i x h in cc
 
 scalars_with : (names : List (List ℕ)) (x : List ℕ) → IsScalar x → AreScalars names → AreScalars (with_name names x)
 scalars_with names x is all = by (has_name names x) refl
@@ -197,14 +197,14 @@ module _ {kinds : ProgramKinds} {parameters : List FormalParameter} (x : List �
   is_local_array i e = record {
     is = λ p n s h.
         let f = found (newest_locals s.frames) x i (ap (λ ns. place_of ns x) h.names ∙ e) in
-        ap (λ (o : Option Local). local_number o (number_in s.array_names x)) (newest s.frames x ∙ f.by_name) ∙ same_number f.here (number_in s.array_names x) ∙ ap number_of_local (sym f.at)
+        ap (λ (o : Option Local). local_number o (number_in s.array_names x)) (newest s.frames x ∙ f.by_name) ∙ same_number f.here (number_in s.array_names x) ∙ ap number_of_local (sym f.at);
   }
 
   is_outside : (m : ℕ) → place_of (parameter_names parameters) x ≡ None → number_in kinds.arrays x ≡ m → IsArrayOf kinds parameters (array.Global m) x
   is_outside m outside e = record {
     is = λ p n s h.
         ap (λ (o : Option Local). local_number o (number_in s.array_names x)) (newest s.frames x ∙ none (newest_locals s.frames) x (ap (λ ns. place_of ns x) h.names ∙ outside))
-        ∙ ap (λ names. number_in names x) (h.arrays ∙ p.arrays) ∙ e
+        ∙ ap (λ names. number_in names x) (h.arrays ∙ p.arrays) ∙ e;
   }
 
   pub is_global_array : (m : ℕ) → place_of (parameter_names parameters) x ≡ None → place_of kinds.arrays x ≡ Some m → IsArrayOf kinds parameters (array.Global m) x

@@ -1,6 +1,6 @@
 -- A walk over the keys of an array as nodes is the walk of the semantics.
 use Rattle.std.proofs.Math.Nat.{le_refl}
-use Rattle.std.proofs.Common.{◌≡◌, ℕ, zero, suc, ◌-◌, ◌<◌, ◌≤◌, List, [], ◌∷◌, ◌++◌, length, map, drop, pos, Option, Ok, Err, refl, sym, ap, ◌∙◌, arith}
+use Rattle.std.proofs.Common.{◌≡◌, ℕ, zero, suc, ◌-◌, ◌≤◌, List, [], ◌∷◌, ◌++◌, length, map, drop, pos, Err, refl, sym, ◌∙◌, arith}
 use Rattle.awk_value.specs.declared.value.Value.{Value}
 use Rattle.awk_value.specs.declared.value.Value.TheVariants as value
 use Rattle.awk_kinds.specs.definitions.Kinds.{FormalParameter}
@@ -10,11 +10,11 @@ use Rattle.awk_semantics.specs.declared.halt.Halt.TheVariants as halt
 use Rattle.awk_semantics.specs.definitions.State.{State, Run, ◌>>=◌, lift, ret}
 use Rattle.awk_semantics.specs.definitions.Primitives.{spend, put}
 use Rattle.awk_semantics.specs.definitions.Semantics.{ending, turn, unless_ended, walk}
-use Rattle.awk_semantics.specs.support.Keeps.{Keeps, scope_of}
+use Rattle.awk_semantics.specs.support.Keeps.{Keeps}
 use Rattle.awk_semantics.proofs.KeepsForms.{keeps_put}
-use Rattle.awk_compile.specs.definitions.Nodes.{Tables, Cont, walk_values, keys_left, next_key_by, first, second}
+use Rattle.awk_compile.specs.definitions.Nodes.{Tables, Cont, walk_values, keys_left, next_key_by, first}
 use Rattle.awk_compile.specs.support.Builds.{IsIn}
-use Rattle.awk_compile.proofs.Calculus.{assoc_at, given, later_same, later_in, first_same, bounded_by}
+use Rattle.awk_compile.proofs.Calculus.{assoc_at, given, later_in, bounded_by}
 use Rattle.awk_compile.proofs.Levels.{spent_same}
 use Rattle.awk_compile.proofs.Loops.{at_state, turn_then, spent_in, none_left}
 

@@ -104,8 +104,7 @@ impl Builder {
         match list {
             [pattern, replacement] => {
                 let number = self.pattern_of(pattern)?;
-                let substitute =
-                    self.push_value(ValueNode::Substitute(all, number, None), next)?;
+                let substitute = self.push_value(ValueNode::Substitute(all, number, None), next)?;
                 let right = self.lower(scope, replacement, substitute)?;
                 self.lower_unless_ere(scope, pattern, right)
             }

@@ -1,8 +1,9 @@
 // Expressions that are tested, as nodes.
 
-ghost use Rattle.std.specs.Prelude.{IfOk};
+ghost use Rattle.std.specs.Prelude.{◌≡◌, IfOk};
 ghost use Rattle.awk_grammar.specs.View.{expr_of};
 ghost use Rattle.awk_compile.specs.support.Builds.{Stands, Decide};
+ghost use Rattle.awk_compile.specs.support.Operands.{is_not};
 ghost use Rattle.awk_compile.specs.support.Scopes.{Builds};
 
 use crate::builder::Builder;
@@ -11,6 +12,15 @@ use crate::node::Node;
 use crate::scope::Scope;
 use awk_grammar::tree::{Expr, UnaryOperator};
 use std::alloc::AllocError;
+
+fn is_not(o: UnaryOperator) -> bool
+    ensures { result ≡ is_not o }
+{
+    match o {
+        UnaryOperator::Not => true,
+        _ => false,
+    }
+}
 
 impl Builder {
     /// An expression is tested: at one place it goes on where it is true, and at the other one where it isn't.
@@ -32,7 +42,7 @@ impl Builder {
     {
         match e {
             Expr::Group(e) => self.lower_test(scope, e, here, other),
-            Expr::Unary(UnaryOperator::Not, e) => self.lower_test(scope, e, other, here),
+            Expr::Unary(o, e) if is_not(*o) => self.lower_test(scope, e, other, here),
             Expr::Binary(o, a, b) if is_and(*o) => {
                 let second = self.lower_test(scope, b, here, other)?;
                 self.lower_test(scope, a, second, other)

@@ -1,7 +1,7 @@
 // Expressions as nodes.
 
 ghost use Rattle.std.specs.Prelude.{◌≡◌, IfOk};
-ghost use Rattle.awk_grammar.specs.Tree.{Name, Binary};
+ghost use Rattle.awk_grammar.specs.Tree.{Name};
 ghost use Rattle.awk_grammar.specs.View.{expr_of};
 ghost use Rattle.awk_compile.specs.support.Builds.{Pushes, Stands, Evaluate};
 ghost use Rattle.awk_compile.specs.support.Operands.{is_and, is_or, matching_operator, matching, PushesTruths, PushesEre};
@@ -119,7 +119,7 @@ impl Builder {
                 let change = self.push_value(ValueNode::Change(*o), next)?;
                 self.lower(scope, e, change)
             }
-            Expr::Binary(o, a, b) => self.lower_binary(scope, *o, a, b, next),
+            Expr::Binary(_, _, _) => self.lower_binary(scope, e, next),
             Expr::Membership(e, x) => {
                 let array = scope.array_of(x.as_slice())?;
                 let contains = self.push_value(ValueNode::Contains(array), next)?;
@@ -170,17 +170,15 @@ impl Builder {
 
     /// Two operands and what joins them.
     #[cycle(expressions)]
-    fn lower_binary(
-        &mut self,
-        scope: &Scope,
-        o: BinaryOperator,
-        a: &Expr,
-        b: &Expr,
-        next: u32,
-    ) -> Result<u32, AllocError>
+    fn lower_binary(&mut self, scope: &Scope, e: &Expr, next: u32) -> Result<u32, AllocError>
         requires { Stands next self.old }
-        ensures { IfOk result (λ place. Builds scope.now self.old self.new place (Evaluate (Binary o (expr_of a.now) (expr_of b.now)) next)) }
+        ensures { IfOk result (λ place. Builds scope.now self.old self.new place (Evaluate (expr_of e.now) next)) }
     {
+        // No other expression is lowered here.
+        let Expr::Binary(o, a, b) = e else {
+            return Err(AllocError);
+        };
+        let o = *o;
         if is_and(o) {
             let (yes, no) = self.push_truths(next)?;
             let second = self.lower_test(scope, b, yes, no)?;

@@ -13,8 +13,11 @@ use awk_storage::Place;
 use std::alloc::AllocError;
 
 impl Builder {
-    /// The place that an expression is. Any other expression is taken as the variable of the empty name, as the language's
-    /// definitions do; the grammar has none there.
+    /// The place that an expression is.
+    ///
+    /// # Errors
+    ///
+    /// Where memory is refused, or numbers run out.
     pub(crate) fn place_of(&mut self, scope: &Scope, p: &Expr) -> Result<Place, AllocError>
         ensures { IfOk result (λ place. FindsPlace scope.now self.old self.new place (expr_of p.now)) }
     {
@@ -22,7 +25,8 @@ impl Builder {
             Expr::Name(x) => Ok(Place::Variable(self.variable_of(scope, x.as_slice())?)),
             Expr::Element(x, _) => Ok(Place::Element(scope.array_of(x.as_slice())?)),
             Expr::Field(_) => Ok(Place::Field),
-            _ => Ok(Place::Variable(self.variable_of(scope, b"")?)),
+            // The grammar has no other places.
+            _ => Err(AllocError),
         }
     }
 
@@ -51,12 +55,14 @@ impl Builder {
         ensures { IfOk result (λ place. Builds scope.now self.old self.new place (EvaluateOperand (expr_of p.now) next)) }
     {
         match p {
+            Expr::Name(_) => Ok(next),
             Expr::Element(_, list) => self.lower_key(scope, list, next),
             Expr::Field(e) => {
                 let number = self.push_value(ValueNode::FieldNumber, next)?;
                 self.lower(scope, e, number)
             }
-            _ => Ok(next),
+            // The grammar has no other places.
+            _ => Err(AllocError),
         }
     }
 

@@ -21,10 +21,9 @@ use Rattle.awk_semantics.specs.definitions.Primitives.{spend, number_of, record_
 use Rattle.awk_semantics.specs.definitions.BuiltIns.{applied_all, record_length}
 use Rattle.awk_semantics.specs.definitions.Streams.{open_target, close_named, run_command}
 use Rattle.awk_semantics.specs.definitions.Semantics.{Functions, choose, print_by}
-use Rattle.awk_storage.specs.declared.position.Array.{Array}
 use Rattle.awk_storage.specs.declared.position.Place.{Place}
 use Rattle.awk_storage.specs.declared.position.Place.TheVariants as place
-use Rattle.awk_storage.specs.definitions.Positions.{number_at, read_element_of, read_variable, put_variable, read_at, store_at, assign_by_at, post_increment_at}
+use Rattle.awk_storage.specs.definitions.Positions.{number_at, read_element_of, read_variable, put_variable, read_at, assign_by_at, post_increment_at}
 use Rattle.awk_storage.specs.definitions.Forms.{contains_at, delete_at, keys_of_array, match_in, split_with, substitute_at, main_getline_at, named_getline_at}
 use Rattle.awk_compile.specs.declared.node.Source.{Source}
 use Rattle.awk_compile.specs.declared.node.Source.TheVariants as source

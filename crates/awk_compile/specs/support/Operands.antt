@@ -1,10 +1,12 @@
 -- What is pushed for operators and operands.
-use Rattle.std.specs.Prelude.{◌≡◌, ℕ, zero, suc, pos, Bool, true, false, List, Option, Some, None}
+use Rattle.std.specs.Prelude.{◌≡◌, ℕ, zero, pos, Bool, true, false, List, Option, Some, None}
 use Rattle.awk_value.specs.declared.value.Value.TheVariants as value
 use Rattle.awk_lex.specs.declared.token.BuiltIn.{BuiltIn}
 use Rattle.awk_lex.specs.declared.token.BuiltIn.TheVariants as built_in
 use Rattle.awk_lex.specs.declared.token.Operator.{Operator}
 use Rattle.awk_lex.specs.declared.token.Operator.TheVariants.{Matches, NotMatches, And, Or}
+use Rattle.awk_grammar.specs.declared.tree.UnaryOperator.{UnaryOperator}
+use Rattle.awk_grammar.specs.declared.tree.UnaryOperator.TheVariants as unary
 use Rattle.awk_grammar.specs.declared.tree.BinaryOperator.{BinaryOperator}
 use Rattle.awk_grammar.specs.declared.tree.BinaryOperator.TheVariants.{Infix}
 use Rattle.awk_grammar.specs.Tree.{Expr, Ere, OptionalExpr, NoExpr, AnExpr}
@@ -16,7 +18,11 @@ use Rattle.awk_compile.specs.declared.node.ValueNode.{ValueNode}
 use Rattle.awk_compile.specs.declared.node.ValueNode.TheVariants as v
 use Rattle.awk_compile.specs.declared.node.Node.TheVariants as n
 use Rattle.awk_compile.specs.declared.builder.Builder.{Builder}
-use Rattle.awk_compile.specs.support.Builds.{Extends, Pushes, AddsEre}
+use Rattle.awk_compile.specs.support.Builds.{Pushes, AddsEre}
+
+abbrev pub is_not : UnaryOperator → Bool
+is_not unary.Not = true
+is_not o = false
 
 abbrev pub is_and : BinaryOperator → Bool
 is_and (Infix And) = true
