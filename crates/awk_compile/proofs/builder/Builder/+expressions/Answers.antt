@@ -1,4 +1,7 @@
-use Rattle.std.proofs.Common.{◌≡◌, suc, ◌-◌, true, rules, drop, length, sym, subst, ap, ◌∙◌, true≢false, arith, to_z, of_z}
+use Rattle.std.proofs.Common.{Option, ◌≡◌, suc, ◌-◌, true, rules, drop, length, sym, subst, ap, ◌∙◌, true≢false, arith, to_z, of_z}
+use Rattle.awk_grammar.specs.declared.tree.Expr.{Expr as CodeExpr}
+use Rattle.awk_grammar.specs.declared.tree.Expr.TheVariants as code
+use Rattle.std.specs.Global.{Box}
 use mir.Syntax.{w128}
 use Rattle.awk_grammar.specs.declared.tree.Expr.TheViews.{the_lemmas}
 use Rattle.awk_grammar.specs.Tree as tree
@@ -87,9 +90,12 @@ lower-returns-in-BuiltIn t c =
     let is : expr_of c.args.e.now ≡ tree.BuiltIn c.in-BuiltIn.function (exprs_of c.in-BuiltIn.list.items) = search (rules, the_lemmas, row_is_list) in
     rw is (rw c.deref-in-BuiltIn.ensures.value at c.lower_built_in.ensures)
 
+getline_is : (e : CodeExpr) (place file : Option (Box CodeExpr)) → e ≡ code.Getline place file → expr_of e ≡ tree.Getline (optional_expr_of place) (optional_expr_of file)
+getline_is e place file is = search (rules, the_lemmas)
+
 pub lower-returns-in_ok-name-in-Getline : goal.lower-returns-in_ok-name-in-Getline
 lower-returns-in_ok-name-in-Getline t c =
-    let is : expr_of c.args.e.now ≡ tree.Getline (optional_expr_of c.in-Getline.place) (optional_expr_of c.in-Getline.file) = search (rules, the_lemmas) in
+    let is : expr_of c.args.e.now ≡ tree.Getline (optional_expr_of c.in-Getline.place) (optional_expr_of c.in-Getline.file) = getline_is c.args.e.now c.in-Getline.place c.in-Getline.file c.in-Getline.is in
     rw is (ok_map _ (λ i q. getline_lowered c.in_ok-target-in-Getline.target (optional_expr_of c.in-Getline.place) (optional_expr_of c.in-Getline.file) c.requires c.in_ok-target-in-Getline.ensures (rw c.source_of.ensures at c.in_ok-read-in-Getline.ensures) c.in_ok-name-in-Getline.ensures q) c.lower_optional_operand.ensures)
 
 pub lower-returns-in_ok-operand-in-PipedGetline : goal.lower-returns-in_ok-operand-in-PipedGetline
