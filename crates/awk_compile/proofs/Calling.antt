@@ -1,5 +1,5 @@
 -- The functions of a program are called as its plan has them.
-use Rattle.std.proofs.Common.{◌≡◌, ℕ, zero, suc, ◌≤◌, Bool, true, false, ◌||◌, List, [], ◌∷◌, ◌++◌, map, slice_get, bytes_eq, Option, Some, None, if◌then◌else◌, refl, sym, subst, ap, ◌∙◌}
+use Rattle.std.proofs.Common.{◌≡◌, ℕ, zero, suc, ◌≤◌, Bool, true, false, ◌||◌, List, [], ◌∷◌, ◌++◌, map, slice_get, bytes_eq, Option, Some, if◌then◌else◌, refl, sym, subst, ap, ◌∙◌}
 use Rattle.std.proofs.lemmas.Slice.Eq.{bytes_eq-Decides}
 use Rattle.awk_value.specs.declared.value.Value.{Value}
 use Rattle.awk_value.specs.declared.value.Value.TheVariants as value
@@ -10,7 +10,6 @@ use Rattle.awk_compile.proofs.Slots.{has_name-stands}
 use Rattle.awk_kinds.specs.definitions.Kinds.{FormalParameter, Definition, definitions_of, function_names_of}
 use Rattle.awk_kinds.specs.definitions.Signatures.{Signature, signature_by, kinds_of}
 use Rattle.awk_kinds.specs.definitions.Fits.{has_repeat}
-use Rattle.awk_semantics.specs.declared.flow.Flow.{Flow}
 use Rattle.awk_semantics.specs.declared.local.Local.{Local}
 use Rattle.awk_semantics.specs.declared.local.Local.TheVariants as local
 use Rattle.awk_semantics.specs.definitions.State.{Frame, State, Out, Run, go_on, ◌>>=◌, ret}
@@ -23,7 +22,7 @@ use Rattle.awk_storage.specs.definitions.Positions.{newest_locals}
 use Rattle.awk_compile.specs.declared.plan.Function.{Function as PlannedFunction}
 use Rattle.awk_compile.specs.declared.plan.Plan.{Plan}
 use Rattle.awk_compile.specs.definitions.Nodes.{Tables, cont_at}
-use Rattle.awk_compile.specs.definitions.Plans.{Meaning, body_run, print_run, IsFunction, AreFunctions, tables_of, DoesIn, IsPlanOf}
+use Rattle.awk_compile.specs.definitions.Plans.{Meaning, body_run, print_run, IsFunction, AreFunctions, tables_of, IsPlanOf}
 use Rattle.awk_compile.specs.support.Builds.{IsIn, AreFor}
 use Rattle.awk_compile.proofs.Calculus.{assoc_at, later_same, first_same, given}
 

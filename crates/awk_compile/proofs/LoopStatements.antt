@@ -1,14 +1,12 @@
 -- What is built of loops does what they mean.
-use Rattle.std.proofs.Common.{◌≡◌, ℕ, zero, suc, ◌<◌, ◌≤◌, Bool, List, [], ◌∷◌, Ok, Err, get_or, length, refl, sym, ap, ◌∙◌}
+use Rattle.std.proofs.Common.{◌≡◌, ℕ, zero, suc, ◌<◌, ◌≤◌, Bool, List, Ok, get_or, refl, sym, ap, ◌∙◌}
 use Rattle.awk_value.specs.declared.value.Value.{Value}
-use Rattle.awk_value.specs.Values.{truth_of}
 use Rattle.awk_grammar.specs.Tree.{Expr, OptionalExpr, OptionalSimple, Statement, While, Do, For}
 use Rattle.awk_kinds.specs.definitions.Kinds.{FormalParameter}
 use Rattle.awk_kinds.specs.definitions.Signatures.{ProgramKinds}
 use Rattle.awk_semantics.specs.declared.flow.Flow.{Flow}
 use Rattle.awk_semantics.specs.declared.flow.Flow.TheVariants as flow
-use Rattle.awk_semantics.specs.declared.halt.Halt.TheVariants as halt
-use Rattle.awk_semantics.specs.definitions.State.{State, Run, ◌>>=◌, lift, ret}
+use Rattle.awk_semantics.specs.definitions.State.{State, Run, ◌>>=◌, ret}
 use Rattle.awk_semantics.specs.definitions.Primitives.{spend}
 use Rattle.awk_semantics.specs.definitions.Semantics.{Functions, choose, tested, eval, exec_part, goes_on, turn, unless_ended, repeat, exec}
 use Rattle.awk_semantics.specs.support.Keeps.{Keeps}
@@ -19,11 +17,11 @@ use Rattle.awk_compile.specs.declared.node.EffectNode.TheVariants as e
 use Rattle.awk_compile.specs.declared.builder.Builder.{Builder}
 use Rattle.awk_compile.specs.declared.builder.Exits.{Exits}
 use Rattle.awk_compile.specs.definitions.Nodes.{Cont}
-use Rattle.awk_compile.specs.support.Builds.{Grows, Pushes, Opens, Closes, Extends, IsIn, Program, Decide, DecideOptional, Execute, ExecutePart, leave_by, place_in, turns_in, Places, Builds, Stands}
+use Rattle.awk_compile.specs.support.Builds.{Grows, Pushes, Opens, Closes, Extends, IsIn, Program, Decide, DecideOptional, Execute, ExecutePart, leave_by, place_in, turns_in, Builds}
 use Rattle.awk_compile.proofs.Calculus.{given, later_in}
 use Rattle.awk_compile.proofs.Levels.{places_agree}
 use Rattle.awk_compile.proofs.Loops.{IsLoop, repeats, enters}
-use Rattle.awk_compile.proofs.Building.{grows, extends, longer, placed, at_once, stays, enclosed, Encloses}
+use Rattle.awk_compile.proofs.Building.{grows, extends, longer, placed, at_once, stays, enclosed}
 use Rattle.awk_compile.proofs.Passing.{while_then, do_then, for_then, tested_then}
 use Rattle.awk_compile.proofs.SimpleStatements.{stepped}
 

@@ -1,5 +1,5 @@
 -- A statement and what its ending goes on with: its parts in a row, and then that.
-use Rattle.std.proofs.Common.{◌≡◌, ℕ, Bool, true, false, List, [], Option, Ok, Err, refl, sym, ◌∙◌}
+use Rattle.std.proofs.Common.{◌≡◌, ℕ, Bool, true, false, List, [], Err, refl, ◌∙◌}
 use Rattle.awk_value.specs.declared.value.Value.{Value}
 use Rattle.awk_value.specs.declared.value.Value.TheVariants as value
 use Rattle.awk_value.specs.Values.{truth_of}
@@ -11,8 +11,7 @@ use Rattle.awk_semantics.specs.declared.halt.Halt.TheVariants as halt
 use Rattle.awk_semantics.specs.definitions.State.{State, Run, ◌>>=◌, lift, ret}
 use Rattle.awk_semantics.specs.definitions.Primitives.{spend, keys_in, delete_element, set_status}
 use Rattle.awk_semantics.specs.definitions.Semantics.{Functions, choose, tested, eval, key_of, printed_values, target_of, print_by, print, begin_test, exit_with, returned_value, exec_simple, exec_part, goes_on, turn, unless_ended, repeat, walk, pass_on, exec, exec_all}
-use Rattle.awk_compile.proofs.Calculus.{assoc_at, later_same, first_same, given, stopped}
-use Rattle.awk_compile.proofs.Building.{chosen}
+use Rattle.awk_compile.proofs.Calculus.{assoc_at, later_same, given, stopped}
 
 -- what is chosen, and then what both go on with
 choose_then : {A B : Type 0} (b : Bool) (here other : Run A) (f : A → Run B) (s : State) → (choose b here other >>= f) s ≡ choose b (here >>= f) (other >>= f) s

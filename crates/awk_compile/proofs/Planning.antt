@@ -1,8 +1,7 @@
 -- The parts of a program, one after the other, are a plan.
-use Rattle.std.proofs.Common.{◌≡◌, ℕ, zero, suc, ◌+◌, ◌<◌, ◌≤◌, List, [], ◌∷◌, ◌++◌, Some, Option, Result, Ok, Err, slice_get, get_or, length, map, take, drop, reverse, None, refl, sym, subst, ap, ◌∙◌, arith, append-nil, length-append}
+use Rattle.std.proofs.Common.{◌≡◌, ℕ, suc, ◌+◌, ◌<◌, List, [], ◌∷◌, ◌++◌, Some, Result, Ok, Err, slice_get, get_or, length, map, take, drop, reverse, None, refl, sym, subst, ap, ◌∙◌, arith, append-nil}
 use Rattle.std.specs.Global.{Vec}
 use Rattle.awk_value.specs.declared.value.Value.{Value}
-use Rattle.awk_value.specs.declared.value.Value.TheVariants as value
 use Rattle.awk_grammar.specs.Tree.{Expr, Nil, Bare, Standard, Print, Simple, Statements, Pattern, Single, Range, Item, Begin, End, Action, PatternAction, PatternOnly, Function}
 use Rattle.awk_grammar.specs.declared.tree.Item.{Item as CodeItem}
 use Rattle.awk_grammar.specs.declared.tree.Item.TheVariants as code
@@ -15,12 +14,11 @@ use Rattle.awk_kinds.specs.definitions.Signatures.{ProgramKinds, signature_by, k
 use Rattle.awk_semantics.specs.declared.flow.Flow.{Flow}
 use Rattle.awk_semantics.specs.declared.flow.Flow.TheVariants as flow
 use Rattle.awk_semantics.specs.declared.halt.Halt.{Halt}
-use Rattle.awk_semantics.specs.definitions.State.{Effect, State, Out, Run, go_on, ◌>>=◌, lift, ret}
-use Rattle.awk_semantics.specs.definitions.Semantics.{Functions, eval, eval_all, print as print_of, exec_simple, exec_all}
+use Rattle.awk_semantics.specs.definitions.State.{Effect, State, Run, go_on, ◌>>=◌, lift, ret}
+use Rattle.awk_semantics.specs.definitions.Semantics.{eval, eval_all, print as print_of, exec_simple, exec_all}
 use Rattle.awk_semantics.specs.definitions.Calls.{returned}
 use Rattle.awk_semantics.specs.definitions.Items.{print_record}
 use Rattle.awk_compile.specs.declared.builder.Builder.{Builder}
-use Rattle.awk_compile.specs.declared.builder.Exits.{Exits}
 use Rattle.awk_compile.specs.declared.node.Node.TheVariants as n
 use Rattle.awk_compile.specs.declared.node.EffectNode.TheVariants as effect
 use Rattle.awk_compile.specs.declared.program.Ends.{Ends}
@@ -29,9 +27,9 @@ use Rattle.awk_compile.specs.declared.plan.PlannedPattern.{PlannedPattern}
 use Rattle.awk_compile.specs.declared.plan.PlannedPattern.TheVariants as pattern
 use Rattle.awk_compile.specs.declared.plan.PlannedItem.{PlannedItem}
 use Rattle.awk_compile.specs.declared.plan.PlannedItem.TheVariants as item
-use Rattle.awk_compile.specs.definitions.Nodes.{Cont, nothing, IsOrdered}
+use Rattle.awk_compile.specs.definitions.Nodes.{nothing, IsOrdered}
 use Rattle.awk_compile.specs.definitions.Plans.{Meaning, body_run, print_run, value_run, tables_of, DoesIn, IsPlanOf, IsPattern, IsRule, IsItem, AreItems, IsFunction, AreFunctions}
-use Rattle.awk_compile.specs.support.Builds.{AreScalars, Grows, Pushes, Extends, IsIn, Program, Evaluate, EvaluateAll, Execute, ExecuteAll, leave_by, place_in, Builds, Stands}
+use Rattle.awk_compile.specs.support.Builds.{AreScalars, Grows, Pushes, Extends, Program, Evaluate, EvaluateAll, Execute, ExecuteAll, leave_by, place_in, Builds, Stands}
 use Rattle.awk_compile.specs.support.Holding.{Holds, EndsStand, AddsEnds, AddsPlace, AddsPattern, AddsItem, AddsItems, AddsBody, AddsFunctions}
 use Rattle.awk_compile.proofs.Calculus.{assoc_at, given, later_same}
 use Rattle.awk_compile.proofs.Building.{grows, longer, same, still, placed, at_once}

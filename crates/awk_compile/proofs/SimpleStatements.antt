@@ -1,9 +1,9 @@
 -- What is built of simple statements does what they mean.
-use Rattle.std.proofs.Common.{◌≡◌, ℕ, ◌<◌, true, List, [], ◌∷◌, Option, Some, None, Ok, Err, length, refl, sym, ap, ◌∙◌, arith}
+use Rattle.std.proofs.Common.{◌≡◌, ℕ, ◌<◌, true, List, [], ◌∷◌, Err, length, refl, sym, ap, ◌∙◌, arith}
 use Rattle.awk_value.specs.declared.value.Value.{Value}
 use Rattle.awk_value.specs.declared.value.Value.TheVariants as value
 use Rattle.awk_value.specs.Values.{truth_of}
-use Rattle.awk_grammar.specs.Tree.{Expr, OptionalExpr, NoExpr, AnExpr, Expression, Next, Break, Continue, Exit, Return, Print, Delete, SimpleStatement, OptionalSimple, NoSimple, ASimple, Statement, Simple}
+use Rattle.awk_grammar.specs.Tree.{Expr, OptionalExpr, NoExpr, AnExpr, Expression, Next, Break, Continue, Exit, Return, Print, Delete, SimpleStatement, NoSimple, ASimple, Simple}
 use Rattle.awk_kinds.specs.definitions.Kinds.{FormalParameter}
 use Rattle.awk_kinds.specs.definitions.Signatures.{ProgramKinds}
 use Rattle.awk_semantics.specs.declared.flow.Flow.{Flow}
@@ -11,16 +11,16 @@ use Rattle.awk_semantics.specs.declared.flow.Flow.TheVariants as flow
 use Rattle.awk_semantics.specs.declared.halt.Halt.TheVariants as halt
 use Rattle.awk_semantics.specs.definitions.State.{State, Run, ◌>>=◌, lift, ret}
 use Rattle.awk_semantics.specs.definitions.Primitives.{spend, set_status, delete_element}
-use Rattle.awk_semantics.specs.definitions.Semantics.{Functions, choose, eval, key_of, printed_values, target_of, print_by, exec_simple, exec_part, exec, goes_on}
-use Rattle.awk_semantics.proofs.KeepsForms.{keeps_spend, keeps_set_status, keeps_eval}
+use Rattle.awk_semantics.specs.definitions.Semantics.{Functions, choose, eval, key_of, printed_values, target_of, print_by, exec_simple, exec_part, goes_on}
+use Rattle.awk_semantics.proofs.KeepsForms.{keeps_spend, keeps_eval}
 use Rattle.awk_compile.specs.declared.node.Node.TheVariants as n
 use Rattle.awk_compile.specs.declared.node.EffectNode.TheVariants as e
 use Rattle.awk_compile.specs.declared.node.ValueNode.TheVariants as v
 use Rattle.awk_compile.specs.declared.builder.Builder.{Builder}
 use Rattle.awk_compile.specs.declared.builder.Exits.{Exits}
 use Rattle.awk_compile.specs.definitions.Nodes.{Cont}
-use Rattle.awk_compile.specs.support.Builds.{Grows, Pushes, Extends, IsIn, Program, Part, Evaluate, Decide, DecideOptional, Execute, ExecutePart, does, leave_by, place_in, Places, Builds, Stands, ExitsStand}
-use Rattle.awk_compile.proofs.Calculus.{assoc_at, given, later_same, later_in}
+use Rattle.awk_compile.specs.support.Builds.{Grows, Pushes, Extends, IsIn, Program, Part, Evaluate, Decide, DecideOptional, Execute, ExecutePart, does, leave_by, place_in, Places, Builds, Stands}
+use Rattle.awk_compile.proofs.Calculus.{given, later_same, later_in}
 use Rattle.awk_compile.proofs.Building.{grows, extends, same, placed, at_once, both}
 use Rattle.awk_compile.proofs.Passing.{expression_then, next_then, break_then, continue_then, exit_then, exit_with_then, return_then, return_with_then, print_then, delete_then, simple_then, part_then, tested_then}
 

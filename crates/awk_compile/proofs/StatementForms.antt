@@ -1,24 +1,23 @@
 -- What is built of statements that are no loops does what they mean.
-use Rattle.std.proofs.Common.{◌≡◌, ℕ, ◌<◌, List, [], ◌∷◌, refl, sym, ap, ◌∙◌}
+use Rattle.std.proofs.Common.{◌≡◌, ℕ, List, sym, ◌∙◌}
 use Rattle.awk_value.specs.declared.value.Value.{Value}
 use Rattle.awk_value.specs.Values.{truth_of}
-use Rattle.awk_grammar.specs.Tree.{Expr, SimpleStatement, Statement, Empty, Simple, Block, If, IfElse, Statements, NoMore, Then}
+use Rattle.awk_grammar.specs.Tree.{Expr, Statement, Empty, Block, If, IfElse, Statements, NoMore, Then}
 use Rattle.awk_kinds.specs.definitions.Kinds.{FormalParameter}
 use Rattle.awk_kinds.specs.definitions.Signatures.{ProgramKinds}
 use Rattle.awk_semantics.specs.declared.flow.Flow.{Flow}
 use Rattle.awk_semantics.specs.declared.flow.Flow.TheVariants as flow
 use Rattle.awk_semantics.specs.definitions.State.{State, Run, ◌>>=◌, ret}
-use Rattle.awk_semantics.specs.definitions.Primitives.{spend}
-use Rattle.awk_semantics.specs.definitions.Semantics.{Functions, choose, eval, pass_on, exec, exec_all}
+use Rattle.awk_semantics.specs.definitions.Semantics.{choose, eval, pass_on, exec, exec_all}
 use Rattle.awk_semantics.proofs.KeepsForms.{keeps_exec}
 use Rattle.awk_compile.specs.declared.node.Node.TheVariants as n
 use Rattle.awk_compile.specs.declared.node.EffectNode.TheVariants as e
 use Rattle.awk_compile.specs.declared.builder.Builder.{Builder}
 use Rattle.awk_compile.specs.declared.builder.Exits.{Exits}
 use Rattle.awk_compile.specs.definitions.Nodes.{Cont}
-use Rattle.awk_compile.specs.support.Builds.{Grows, Pushes, IsIn, Program, Decide, Execute, ExecuteAll, leave_by, place_in, Builds, Stands}
-use Rattle.awk_compile.proofs.Calculus.{given, later_same, later_in}
-use Rattle.awk_compile.proofs.Building.{grows, extends, same, both}
+use Rattle.awk_compile.specs.support.Builds.{Pushes, Decide, Execute, ExecuteAll, leave_by, place_in, Builds, Stands}
+use Rattle.awk_compile.proofs.Calculus.{given, later_in}
+use Rattle.awk_compile.proofs.Building.{grows, extends, same}
 use Rattle.awk_compile.proofs.Passing.{empty_then, block_then, none_then, more_then, if_then, if_else_then}
 use Rattle.awk_compile.proofs.SimpleStatements.{decided, stepped}
 

@@ -1,14 +1,13 @@
 -- What is built of a walk over an array does what it means.
-use Rattle.std.proofs.Common.{◌≡◌, ℕ, zero, suc, ◌-◌, ◌<◌, List, [], ◌∷◌, ◌++◌, drop, get_or, length, map, pos, refl, sym, ap, ◌∙◌, arith}
+use Rattle.std.proofs.Common.{◌≡◌, ℕ, List, [], ◌∷◌, ◌++◌, get_or, map, pos, refl, sym, ap, ◌∙◌, arith}
 use Rattle.awk_value.specs.declared.value.Value.{Value}
 use Rattle.awk_value.specs.declared.value.Value.TheVariants as value
 use Rattle.awk_grammar.specs.Tree.{Statement, ForIn}
 use Rattle.awk_kinds.specs.definitions.Kinds.{FormalParameter}
 use Rattle.awk_kinds.specs.definitions.Signatures.{ProgramKinds}
-use Rattle.awk_semantics.specs.declared.flow.Flow.{Flow}
-use Rattle.awk_semantics.specs.definitions.State.{State, Run, ◌>>=◌}
+use Rattle.awk_semantics.specs.definitions.State.{State, ◌>>=◌}
 use Rattle.awk_semantics.specs.definitions.Primitives.{spend, put, keys_in}
-use Rattle.awk_semantics.specs.definitions.Semantics.{Functions, walk, exec}
+use Rattle.awk_semantics.specs.definitions.Semantics.{walk, exec}
 use Rattle.awk_semantics.proofs.KeepsForms.{keeps_exec, keeps_walk, keeps_keys_in}
 use Rattle.awk_storage.specs.declared.position.Variable.{Variable}
 use Rattle.awk_storage.specs.declared.position.Array.{Array}
@@ -18,8 +17,8 @@ use Rattle.awk_compile.specs.declared.node.Node.TheVariants as n
 use Rattle.awk_compile.specs.declared.node.EffectNode.TheVariants as e
 use Rattle.awk_compile.specs.declared.builder.Builder.{Builder}
 use Rattle.awk_compile.specs.declared.builder.Exits.{Exits}
-use Rattle.awk_compile.specs.definitions.Nodes.{Cont, walk_values, keys_left, made}
-use Rattle.awk_compile.specs.support.Builds.{Grows, Pushes, Opens, Closes, IsIn, Program, Execute, leave_by, place_in, turns_in, Builds, Stands, FindsVariable, IsArrayOf}
+use Rattle.awk_compile.specs.definitions.Nodes.{walk_values, made}
+use Rattle.awk_compile.specs.support.Builds.{Pushes, Opens, Closes, IsIn, Program, Execute, leave_by, place_in, turns_in, Builds, Stands, FindsVariable, IsArrayOf}
 use Rattle.awk_compile.proofs.Calculus.{first_same, later_in}
 use Rattle.awk_compile.proofs.Walks.{IsWalk, keys_dropped, one_less, walks}
 use Rattle.awk_compile.proofs.Building.{grows, extends, longer, placed, at_once, opened, stays, enclosed}

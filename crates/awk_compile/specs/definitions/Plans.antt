@@ -1,5 +1,5 @@
 -- What a plan is: its places do what the parts of its program mean.
-use Rattle.std.specs.Prelude.{◌≡◌, ℕ, ◌<◌, Bool, List, [], ◌∷◌, length, map}
+use Rattle.std.specs.Prelude.{◌≡◌, ℕ, ◌<◌, List, [], ◌∷◌, length, map}
 use Rattle.awk_value.specs.declared.value.Value.{Value}
 use Rattle.awk_value.specs.declared.value.Value.TheVariants as value
 use Rattle.awk_grammar.specs.Tree.{Expr, Statements, Pattern, Single, Range, Item, Begin, End, Action, PatternAction, PatternOnly, Function}
@@ -11,7 +11,6 @@ use Rattle.awk_semantics.specs.definitions.State.{State, Run, ◌>>=◌, ret}
 use Rattle.awk_semantics.specs.definitions.Semantics.{Functions, eval, exec_all}
 use Rattle.awk_semantics.specs.definitions.Calls.{returned}
 use Rattle.awk_semantics.specs.definitions.Items.{print_record}
-use Rattle.awk_compile.specs.declared.node.Node.{Node}
 use Rattle.awk_compile.specs.declared.plan.Function.{Function as PlannedFunction}
 use Rattle.awk_compile.specs.declared.plan.PlannedPattern.{PlannedPattern}
 use Rattle.awk_compile.specs.declared.plan.PlannedPattern.TheVariants as pattern

@@ -1,27 +1,22 @@
 -- What the lowering builds: from a place, what a part of the program means, whatever is built later.
-use Rattle.std.specs.Prelude.{◌≡◌, ◌≢◌, ℕ, suc, ◌<◌, ◌≤◌, List, [], ◌∷◌, ◌++◌, codes, drop, get_or, length, map, reverse, slice_get, Option, Some, None}
+use Rattle.std.specs.Prelude.{◌≡◌, ◌≢◌, ℕ, suc, ◌<◌, ◌≤◌, List, [], ◌∷◌, ◌++◌, drop, get_or, length, reverse, Option, Some, None}
 use Rattle.awk_value.specs.declared.value.Value.{Value}
 use Rattle.awk_value.specs.declared.value.Value.TheVariants as value
 use Rattle.awk_value.specs.Values.{truth_of}
 use Rattle.awk_grammar.specs.Tree.{Expr, Ere, Element, Field, Exprs, Nil, Cons, OptionalExpr, NoExpr, AnExpr, Statement, Statements, OptionalSimple}
-use Rattle.awk_variables.specs.declared.special.Special.{Special}
-use Rattle.awk_variables.specs.Variables.{name_of}
-use Rattle.awk_variables.specs.Names.{IsFront, with_name, AreDistinct, Numbers}
+use Rattle.awk_variables.specs.Names.{IsFront, with_name, Numbers}
 use Rattle.awk_kinds.specs.definitions.Kinds.{FormalParameter}
-use Rattle.awk_kinds.specs.definitions.Signatures.{Signature, ProgramKinds}
+use Rattle.awk_kinds.specs.definitions.Signatures.{ProgramKinds}
 use Rattle.awk_semantics.specs.declared.flow.Flow.{Flow}
 use Rattle.awk_semantics.specs.declared.flow.Flow.TheVariants as flow
-use Rattle.awk_semantics.specs.declared.local.Local.{Local}
 use Rattle.awk_semantics.specs.definitions.State.{State, Run, ◌>>=◌, ret}
 use Rattle.awk_semantics.specs.definitions.Primitives.{number_of, read_name, put, array_number}
 use Rattle.awk_semantics.specs.definitions.Places as target
 use Rattle.awk_semantics.specs.definitions.BuiltIns.{Role, AsArray, next_role}
-use Rattle.awk_semantics.specs.definitions.Calls.{role_of}
 use Rattle.awk_semantics.specs.definitions.Semantics.{Functions, choose, eval, place_of, eval_all, key_of, exec, exec_all, exec_part, goes_on}
-use Rattle.awk_semantics.specs.support.Keeps.{CallsKeep}
 use Rattle.awk_storage.specs.declared.position.Variable.{Variable}
 use Rattle.awk_storage.specs.declared.position.Array.{Array}
-use Rattle.awk_storage.specs.definitions.Positions.{newest_locals, number_at, read_variable, put_variable, read_at, store_at}
+use Rattle.awk_storage.specs.definitions.Positions.{number_at, read_variable, put_variable, read_at, store_at}
 use Rattle.awk_storage.specs.declared.position.Place.{Place}
 use Rattle.awk_compile.specs.declared.node.Node.{Node}
 use Rattle.awk_compile.specs.declared.builder.Builder.{Builder}
