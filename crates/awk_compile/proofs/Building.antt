@@ -2,20 +2,22 @@
 use Rattle.std.proofs.Common.{◌≡◌, ◌≢◌, ◌⊎◌, inl, inr, ℕ, zero, suc, ◌<◌, Bool, true, false, List, [], ◌∷◌, ◌++◌, Some, slice_get, get_or, length, refl, sym, subst, ap, ◌∙◌, arith, append_assoc, append-nil, length-append, Result, Ok, Err, IfOk}
 use Rattle.awk_value.specs.declared.value.Value.{Value}
 use Rattle.awk_grammar.specs.Tree.{Expr}
+use Rattle.awk_variables.specs.Names.{IsFront}
 use Rattle.awk_kinds.specs.definitions.Kinds.{FormalParameter}
+use Rattle.awk_kinds.specs.definitions.Signatures.{ProgramKinds}
 use Rattle.awk_semantics.specs.definitions.State.{State, Run, ◌>>=◌}
-use Rattle.awk_semantics.specs.definitions.Semantics.{Functions, choose, eval}
-use Rattle.awk_semantics.specs.support.Keeps.{Keeps}
+use Rattle.awk_semantics.specs.definitions.Semantics.{choose, eval}
+use Rattle.awk_semantics.proofs.KeepsForms.{keeps_eval}
 use Rattle.awk_compile.specs.declared.builder.Builder.{Builder}
 use Rattle.awk_compile.specs.declared.node.Node.{Node}
-use Rattle.awk_compile.specs.definitions.Nodes.{Tables, Cont, made, level, AreBelow, IsOrdered}
-use Rattle.awk_compile.specs.support.Builds.{Grows, Pushes, Opens, Closes, Extends, IsIn, AreFor, Part, Evaluate, does, place_in, Places, Builds, Stands}
+use Rattle.awk_compile.specs.definitions.Nodes.{Cont, made, AreBelow, IsOrdered}
+use Rattle.awk_compile.specs.support.Builds.{AreScalars, Grows, Pushes, Opens, Closes, Extends, IsIn, Program, Part, Evaluate, does, place_in, turns_in, Places, Builds, Stands}
 use Rattle.awk_compile.proofs.Calculus.{later_in}
 use Rattle.awk_compile.proofs.Listed.{placed_behind}
 
 -- lists of nodes and of heads
 
-get_pushed : {A : Type 0} (xs : List A) (x : A) (i : ℕ) (y : A) → slice_get (xs ++ x ∷ []) i ≡ Some y → (slice_get xs i ≡ Some y) ⊎ ((i ≡ length xs) × (y ≡ x))
+pub get_pushed : {A : Type 0} (xs : List A) (x : A) (i : ℕ) (y : A) → slice_get (xs ++ x ∷ []) i ≡ Some y → (slice_get xs i ≡ Some y) ⊎ ((i ≡ length xs) × (y ≡ x))
 get_pushed [] x zero y h = let e : x ≡ y = cc in inr (refl, sym e)
 get_pushed [] x (suc i) y h = cc
 get_pushed (z ∷ zs) x zero y h = inl h
@@ -40,14 +42,48 @@ get_over (x ∷ xs) (suc i) k e = let h = get_over xs i k e in omega (arith, h)
 
 -- growing
 
+front_same : {A : Type 0} {xs ys : List A} → ys ≡ xs → IsFront xs ys
+front_same {xs = xs} e = ([], e ∙ sym (append-nil xs))
+
+pub front_then : {A : Type 0} (xs : List A) {ys zs : List A} → IsFront xs ys → IsFront ys zs → IsFront xs zs
+front_then xs f g = (f.0 ++ g.0, g.1 ∙ ap (λ l. l ++ g.0) f.1 ∙ append_assoc xs f.0 g.0)
+
 pub grows : {a b c : Builder} → Grows a b → Grows b c → Grows a c
-grows {a = a} p q = record { more = p.more ++ q.more; is = q.is ∙ ap (λ l. l ++ q.more) p.is ∙ append_assoc a.nodes.items p.more q.more; ordered = λ h. q.ordered (p.ordered h); heads = λ i k e. q.heads i k (p.heads i k e) }
+grows {a = a} p q = record {
+  more = p.more ++ q.more;
+  is = q.is ∙ ap (λ l. l ++ q.more) p.is ∙ append_assoc a.nodes.items p.more q.more;
+  ordered = λ h. q.ordered (p.ordered h);
+  heads = λ i k e. q.heads i k (p.heads i k e);
+  names = front_then a.names p.names q.names;
+  eres = front_then a.eres.items p.eres q.eres;
+  scalars = λ h. q.scalars (p.scalars h);
+}
 
 pub extends : {a b c : Builder} → Extends a b → Extends b c → Extends a c
 extends {a = a} {b = b} p q = record { grows = grows p.grows q.grows; kept = λ i h. (let l = p.long in q.kept i (omega (arith, h, l))) ∙ p.kept i h; long = (let l = p.long in let m = q.long in omega (arith, l, m)) }
 
 pub same : {a : Builder} → Extends a a
-same {a = a} = record { grows = record { more = []; is = sym (append-nil a.nodes.items); ordered = λ o. o; heads = λ i k e. e }; kept = λ i l. refl; long = omega arith }
+same {a = a} = record {
+  grows = record { more = []; is = sym (append-nil a.nodes.items); ordered = λ o. o; heads = λ i k e. e; names = front_same refl; eres = front_same refl; scalars = λ h. h };
+  kept = λ i l. refl;
+  long = omega arith;
+}
+
+-- names and EREs alone are added
+pub named : {a b : Builder} → b.nodes ≡ a.nodes → b.heads ≡ a.heads → IsFront a.names b.names → IsFront a.eres.items b.eres.items → (AreScalars a.names → AreScalars b.names) → Extends a b
+named {a = a} {b = b} nodes heads names eres scalars = record {
+  grows = record {
+    more = [];
+    is = ap (λ (v : _). v.items) nodes ∙ sym (append-nil a.nodes.items);
+    ordered = λ o. subst (λ (v : _). IsOrdered v.items) (sym nodes) o;
+    heads = λ i k e. ap (λ (h : _). get_or h.items i 0) heads ∙ e;
+    names = names;
+    eres = eres;
+    scalars = scalars;
+  };
+  kept = λ i h. ap (λ (l : _). get_or l.items i 0) heads;
+  long = (let e = ap (λ (h : _). length h.items) heads in omega (arith, e));
+}
 
 pub longer : {a b : Builder} (i : ℕ) → Grows a b → i < length a.nodes.items → i < length b.nodes.items
 longer {a = a} i g h = subst (λ l. i < length l) (sym g.is) (omega (arith, h, length-append a.nodes.items g.more))
@@ -56,23 +92,23 @@ pub still : {a b : Builder} {i : ℕ} → Extends a b → Stands i a → Stands 
 still {i = i} g h = record { below = longer i g.grows h.below; pos = h.pos }
 
 -- what is built is a place that others may go on at
-pub stands : {tables : Tables} {parameters : List FormalParameter} {a b : Builder} {i : ℕ} {m : Part} → Builds tables parameters a b i m → Stands i b
+pub stands : {kinds : ProgramKinds} {parameters : List FormalParameter} {a b : Builder} {i : ℕ} {m : Part} → Builds kinds parameters a b i m → Stands i b
 stands p = record { below = p.below; pos = p.pos }
 
 -- a node that is pushed
-pub placed : {tables : Tables} {a b : Builder} {x : Node} {i : ℕ} → Pushes a b x i → AreBelow (length a.nodes.items) x → Places tables a b i x
-placed {tables = tables} {a = a} {b = b} {x = x} {i = i} p below = record {
+pub placed : {kinds : ProgramKinds} {a b : Builder} {x : Node} {i : ℕ} → Pushes a b x i → AreBelow (length a.nodes.items) x → Places kinds a b i x
+placed {a = a} {b = b} {x = x} {i = i} p below = record {
   extends = record {
-    grows = record { more = x ∷ []; is = p.nodes; ordered = λ h. subst IsOrdered (sym p.nodes) (ordered_pushed a.nodes.items x below h); heads = λ j k e. ap (λ (h : _). get_or h.items j 0) p.heads ∙ e };
+    grows = record { more = x ∷ []; is = p.nodes; ordered = λ h. subst IsOrdered (sym p.nodes) (ordered_pushed a.nodes.items x below h); heads = λ j k e. ap (λ (h : _). get_or h.items j 0) p.heads ∙ e; names = front_same p.same.names; eres = front_same (ap (λ (v : _). v.items) p.same.eres); scalars = λ h. subst AreScalars (sym p.same.names) h };
     kept = λ j h. ap (λ (h : _). get_or h.items j 0) p.heads;
     long = (let e = ap (λ (h : _). length h.items) p.heads in omega (arith, e));
   };
   below = subst (λ l. i < length l) (sym p.nodes) (omega (arith, p.last, length-append a.nodes.items (x ∷ [])));
   fresh = p.last;
-  is = λ later h functions m.
-      let nodes : later.nodes.items ≡ a.nodes.items ++ x ∷ h.more = h.is ∙ ap (λ l. l ++ h.more) p.nodes ∙ append_assoc a.nodes.items (x ∷ []) h.more in
-      subst (λ k. place_in tables functions later m k ≡ made tables functions (level tables functions later.heads.items later.nodes.items m) (place_in tables functions later m) x) (sym p.last)
-      (placed_behind tables functions later.heads.items later.nodes.items m a.nodes.items x h.more nodes below);
+  is = λ q h m.
+      let nodes : q.all.nodes.items ≡ a.nodes.items ++ x ∷ h.more = h.is ∙ ap (λ l. l ++ h.more) p.nodes ∙ append_assoc a.nodes.items (x ∷ []) h.more in
+      subst (λ k. place_in q m k ≡ made q.tables q.functions (turns_in q m) (place_in q m) x) (sym p.last)
+      (placed_behind q.tables q.functions q.all.heads.items q.all.nodes.items m a.nodes.items x h.more nodes below);
 }
 
 -- equal continuations do the same
@@ -84,32 +120,34 @@ ok_map (Ok a) f p = f a p
 ok_map (Err e) f p = tt
 
 -- a node by itself
-pub alone : {tables : Tables} {parameters : List FormalParameter} {a b : Builder} {x : Node} {i k : ℕ} (m : Part) → Places tables a b i x → k < length a.nodes.items
-    → ((functions : Functions) → AreFor tables functions → (again at : ℕ → Cont) (n : ℕ) (vs : List Value) (s : State) → IsIn tables parameters n s → made tables functions again at x vs s ≡ does m functions at vs s)
-    → Builds tables parameters a b i m
-alone {tables = tables} m p h e = record {
+pub alone : {kinds : ProgramKinds} {parameters : List FormalParameter} {a b : Builder} {x : Node} {i k : ℕ} (m : Part) → Places kinds a b i x → k < length a.nodes.items
+    → ((p : Program kinds) → Grows b p.all → (again at : ℕ → Cont) (n : ℕ) (vs : List Value) (s : State) → IsIn p.tables parameters n s → made p.tables p.functions again at x vs s ≡ does m p.functions at vs s)
+    → Builds kinds parameters a b i m
+alone m p h e = record {
   extends = p.extends;
   below = p.below;
   pos = (let f = p.fresh in omega (arith, h, f));
-  is = λ later g functions for n vs s i. at_once (p.is later g functions n) vs s ∙ e functions for (level tables functions later.heads.items later.nodes.items n) (place_in tables functions later n) n vs s i;
+  is = λ q g n vs s i. at_once (p.is q g n) vs s ∙ e q g (turns_in q n) (place_in q n) n vs s i;
 }
 
+-- what is built behind something else
+pub behind : {kinds : ProgramKinds} {parameters : List FormalParameter} {a b c : Builder} {i : ℕ} {m : Part} → Extends a b → Builds kinds parameters b c i m → Builds kinds parameters a c i m
+behind g q = record { extends = extends g q.extends; below = q.below; pos = q.pos; is = q.is }
+
 -- an expression, and then what its value goes to
-pub first_then : {tables : Tables} {parameters : List FormalParameter} {a b c : Builder} {i j : ℕ} (x : Expr) (m : Part) (rest : Functions → (ℕ → Cont) → Cont)
-    → ((functions : Functions) → AreFor tables functions → Keeps (eval functions x))
-    → Extends a b → Builds tables parameters b c i (Evaluate x j)
-    → ((later : Builder) → Grows c later → (functions : Functions) → AreFor tables functions → (n : ℕ) (v : Value) (vs : List Value) (t : State) → IsIn tables parameters n t
-    → place_in tables functions later n j (v ∷ vs) t ≡ rest functions (place_in tables functions later n) (v ∷ vs) t)
-    → ((functions : Functions) → AreFor tables functions → (at : ℕ → Cont) (n : ℕ) (vs : List Value) (s : State) → IsIn tables parameters n s → (eval functions x >>= λ v. rest functions at (v ∷ vs)) s ≡ does m functions at vs s)
-    → Builds tables parameters a c i m
-first_then {tables = tables} x m rest keeps g q e e' = record {
+pub first_then : {kinds : ProgramKinds} {parameters : List FormalParameter} {a b c : Builder} {i j : ℕ} (x : Expr) (m : Part) (rest : (p : Program kinds) → (ℕ → Cont) → Cont)
+    → Extends a b → Builds kinds parameters b c i (Evaluate x j)
+    → ((p : Program kinds) → Grows c p.all → (n : ℕ) (v : Value) (vs : List Value) (t : State) → IsIn p.tables parameters n t → place_in p n j (v ∷ vs) t ≡ rest p (place_in p n) (v ∷ vs) t)
+    → ((p : Program kinds) → Grows c p.all → (at : ℕ → Cont) (n : ℕ) (vs : List Value) (s : State) → IsIn p.tables parameters n s → (eval p.functions x >>= λ v. rest p at (v ∷ vs)) s ≡ does m p.functions at vs s)
+    → Builds kinds parameters a c i m
+first_then x m rest g q e e' = record {
   extends = extends g q.extends;
   below = q.below;
   pos = q.pos;
-  is = λ later h functions for n vs s i.
-      q.is later h functions for n vs s i
-      ∙ later_in _ _ s n (keeps functions for) i (λ v t k. e later h functions for n v vs t k)
-      ∙ e' functions for (place_in tables functions later n) n vs s i;
+  is = λ p h n vs s i.
+      q.is p h n vs s i
+      ∙ later_in _ _ s n (keeps_eval p.functions p.calls.keep x) i (λ v t k. e p h n v vs t k)
+      ∙ e' p h (place_in p n) n vs s i;
 }
 
 -- what is chosen by a value
@@ -136,6 +174,9 @@ opened {a = a} {b = b} p = record {
     is = ap (λ (v : _). v.items) p.nodes ∙ sym (append-nil a.nodes.items);
     ordered = λ o. subst (λ (v : _). IsOrdered v.items) (sym p.nodes) o;
     heads = λ i k e. ap (λ l. get_or l i 0) p.heads ∙ get_longer a.heads.items i (get_over a.heads.items i k e) ∙ e;
+    names = front_same p.same.names;
+    eres = front_same (ap (λ (v : _). v.items) p.same.eres);
+    scalars = λ h. subst AreScalars (sym p.same.names) h;
   };
   kept = λ i h. ap (λ l. get_or l i 0) p.heads ∙ get_longer a.heads.items i h;
   long = (let e = ap length p.heads in omega (arith, e, length-append a.heads.items (0 ∷ [])));
@@ -147,6 +188,9 @@ closed {e = e} {f = f} {number = number} p unset = record {
   is = ap (λ (v : _). v.items) p.nodes ∙ sym (append-nil e.nodes.items);
   ordered = λ o. subst (λ (v : _). IsOrdered v.items) (sym p.nodes) o;
   heads = λ i k h. elim (decide i number) [ inl x ↦ (let y = sym unset ∙ ap (λ j. get_or e.heads.items j 0) (sym x) ∙ h in absurd (omega (arith, y))) | inr x ↦ p.others i x ∙ h ];
+  names = front_same p.same.names;
+  eres = front_same (ap (λ (v : _). v.items) p.same.eres);
+  scalars = λ h. subst AreScalars (sym p.same.names) h;
 }
 
 -- a loop that is closed keeps its body

@@ -7,6 +7,10 @@ use Rattle.awk_value.specs.Values.{str_of}
 use Rattle.awk_lex.specs.declared.token.IncrementOperator.{IncrementOperator}
 use Rattle.awk_lex.specs.declared.token.Operator.{Operator}
 use Rattle.awk_text.specs.definitions.Separators.{Separator}
+use Rattle.awk_grammar.specs.declared.tree.Redirection.{Redirection}
+use Rattle.awk_world.specs.declared.world.InputKind.{InputKind}
+use Rattle.awk_world.specs.declared.world.InputKind.TheVariants as input
+use Rattle.awk_variables.specs.declared.special.Special.TheVariants.{Nr, Fnr}
 use Rattle.awk_variables.specs.Variables.{name_of}
 use Rattle.awk_semantics.specs.declared.halt.Halt.{Halt}
 use Rattle.awk_semantics.specs.declared.local.Local.{Local}
@@ -14,23 +18,29 @@ use Rattle.awk_semantics.specs.declared.local.Local.TheVariants as local
 use Rattle.awk_semantics.specs.definitions.State.{Effect, State, Out, Run, go_on, ◌>>=◌, lift}
 use Rattle.awk_semantics.specs.definitions.Operators.{by_one, one, operator_of}
 use Rattle.awk_semantics.specs.definitions.Primitives.{read_element_at, store_element_at, has_element_at, delete_element_at, keys_at, fill_array_at}
+use Rattle.awk_semantics.specs.definitions.Streams.{Answer, ARecord, NoRecord, NotReadable}
 use Rattle.awk_semantics.specs.definitions.Semantics.{Functions}
 use Rattle.awk_semantics.specs.support.Keeps.{Keeps, CallsKeep}
-use Rattle.awk_semantics.proofs.Keeping.{keeps_bind, keeps_lift}
-use Rattle.awk_semantics.proofs.KeepsForms.{keeps_spend, keeps_number_of, keeps_read_field, keeps_record_text, keeps_read_outside, keeps_set_field, keeps_put_outside, keeps_read_element_at, keeps_store_element_at, keeps_has_element_at, keeps_delete_element_at, keeps_keys_at, keeps_fill_array_at, keeps_joined_key, keeps_field_separator, keeps_check_height, keeps_set_status, keeps_note_match, keeps_record_length, keeps_print_by}
+use Rattle.awk_semantics.proofs.Keeping.{keeps_lift, keeps_plain}
+use Rattle.awk_semantics.proofs.PlainRuns.{next_of_plain}
+use Rattle.awk_semantics.proofs.PlainParts.{count_of_plain}
+use Rattle.awk_semantics.proofs.KeepsForms.{keeps_spend, keeps_number_of, keeps_read_field, keeps_record_text, keeps_read_outside, keeps_set_field, keeps_put_outside, keeps_read_element_at, keeps_store_element_at, keeps_has_element_at, keeps_delete_element_at, keeps_keys_at, keeps_fill_array_at, keeps_joined_key, keeps_field_separator, keeps_check_height, keeps_set_status, keeps_note_match, keeps_record_length, keeps_print_by, keeps_open_target, keeps_close_named, keeps_run_command, keeps_next_record, keeps_set_record, keeps_count_in}
 use Rattle.awk_storage.specs.declared.position.Array.{Array}
 use Rattle.awk_storage.specs.declared.position.Variable.{Variable}
 use Rattle.awk_storage.specs.declared.position.Variable.TheVariants as variable
 use Rattle.awk_storage.specs.declared.position.Place.{Place}
 use Rattle.awk_storage.specs.declared.position.Place.TheVariants as place
 use Rattle.awk_storage.specs.definitions.Positions.{newest_locals, with_local_at, read_local, put_local, read_slot, put_slot, number_at, read_element_of, store_element_of, read_variable, put_variable, read_at, store_at, assign_at, assign_by_at, post_increment_at}
+use Rattle.awk_storage.specs.definitions.Forms.{contains_at, delete_at, keys_of_array, fill_at, match_in, split_with, assign_exchange_at, substitute_at, receive_at, receive_main_at, main_getline_at, receive_named_at, named_getline_at}
 use Rattle.awk_compile.specs.declared.node.ArgumentForm.{ArgumentForm}
+use Rattle.awk_compile.specs.declared.node.Source.{Source}
+use Rattle.awk_compile.specs.declared.node.Source.TheVariants as source
 use Rattle.awk_compile.specs.declared.node.SplitBy.TheVariants as by
 use Rattle.awk_compile.specs.declared.node.ValueNode.{ValueNode}
 use Rattle.awk_compile.specs.declared.node.ValueNode.TheVariants as v
 use Rattle.awk_compile.specs.declared.node.EffectNode.{EffectNode}
 use Rattle.awk_compile.specs.declared.node.EffectNode.TheVariants as e
-use Rattle.awk_compile.specs.definitions.Nodes.{Tables, Cont, first, second, taken, given_by, call_at, contains_at, delete_at, keys_of_array, fill_at, match_in, split_at, split_with, assign_exchange_at, substitute_at, substitute_by, substitute, value_of, effect_of}
+use Rattle.awk_compile.specs.definitions.Nodes.{Tables, first, second, taken, given_by, call_at, substitute_by, substitute, getline_by, value_of, target_by, effect_of}
 
 pub record Falls {A : Type 0} (m : Run A) : Type 0 where
   pub falls : (s : State) → (m s).state.steps ≤ s.steps
@@ -86,15 +96,19 @@ unfolding store_element_of
 store_element_falls a key w = falls_at _ (λ s. (store_element_at (number_at a s) key w, kept_falls (keeps_store_element_at (number_at a s) key w), refl))
 
 contains_falls : (a : Array) (key : List ℕ) → Falls (contains_at a key)
+unfolding contains_at
 contains_falls a key = falls_at _ (λ s. (has_element_at (number_at a s) key, kept_falls (keeps_has_element_at (number_at a s) key), refl))
 
 delete_falls : (a : Array) (key : List ℕ) → Falls (delete_at a key)
+unfolding delete_at
 delete_falls a key = falls_at _ (λ s. (delete_element_at (number_at a s) key, kept_falls (keeps_delete_element_at (number_at a s) key), refl))
 
 pub keys_falls : (a : Array) → Falls (keys_of_array a)
+unfolding keys_of_array
 keys_falls a = falls_at _ (λ s. (keys_at (number_at a s), kept_falls (keeps_keys_at (number_at a s)), refl))
 
 fill_falls : (a : Array) (texts : List (List ℕ)) → Falls (fill_at a texts)
+unfolding fill_at
 fill_falls a texts = falls_at _ (λ s. (fill_array_at (number_at a s) texts, kept_falls (keeps_fill_array_at (number_at a s) texts), refl))
 
 module _ (names : List (List ℕ)) where
@@ -145,21 +159,52 @@ given_falls : (fs : List ArgumentForm) (vs : List Value) → Falls (given_by fs 
 unfolding given_by
 given_falls fs vs = record { falls = λ s. le_refl s.steps }
 
-module _ (tables : Tables) where
-  exchange_falls : (p : Place) (operand : Value) (count : ℕ) (text : List ℕ) → Falls (assign_exchange_at tables p operand count text)
+module _ (names : List (List ℕ)) where
+  exchange_falls : (p : Place) (operand : Value) (count : ℕ) (text : List ℕ) → Falls (assign_exchange_at names p operand count text)
   exchange_falls p operand zero text = lift_falls _
-  exchange_falls p operand (suc k) text = then_falls _ (store_at_falls tables.names p operand _) (λ _. lift_falls _)
+  exchange_falls p operand (suc k) text = then_falls _ (store_at_falls names p operand _) (λ _. lift_falls _)
 
-  substitute_at_falls : (all : Bool) (pattern replacement : List ℕ) (p : Place) (operand old : Value) → Falls (substitute_at tables all pattern replacement p operand old)
+  substitute_at_falls : (all : Bool) (pattern replacement : List ℕ) (p : Place) (operand old : Value) → Falls (substitute_at names all pattern replacement p operand old)
   substitute_at_falls all pattern replacement p operand old = then_falls _ (lift_falls _) (λ t. exchange_falls p operand _ _)
 
+  receive_falls : (p : Option Place) (operand : Value) (text : List ℕ) → Falls (receive_at names p operand text)
+  receive_falls None operand text = kept_falls (keeps_set_record text)
+  receive_falls (Some p) operand text = store_at_falls names p operand (value.Input text)
+
+  receive_main_falls : (p : Option Place) (operand : Value) (found : Option (List ℕ)) → Falls (receive_main_at names p operand found)
+  receive_main_falls p operand None = lift_falls _
+  receive_main_falls p operand (Some text) = then_falls _ (kept_falls keeps_spend) (λ _. then_falls _ (receive_falls p operand text) (λ _. then_falls _ (kept_falls (keeps_count_in Nr)) (λ _. then_falls _ (kept_falls (keeps_count_in Fnr)) (λ _. lift_falls _))))
+
+  main_getline_falls : (p : Option Place) (operand : Value) → Falls (main_getline_at names p operand)
+  unfolding main_getline_at
+  main_getline_falls p operand = then_falls _ (kept_falls keeps_next_record) (λ found. receive_main_falls p operand found)
+
+  receive_named_falls : (kind : InputKind) (p : Option Place) (operand : Value) (found : Answer) → Falls (receive_named_at names kind p operand found)
+  receive_named_falls kind p operand (ARecord text) = then_falls _ (receive_falls p operand text) (λ _. then_falls _ (kept_falls (keeps_plain (count_of_plain kind))) (λ _. lift_falls _))
+  receive_named_falls kind p operand NoRecord = lift_falls _
+  receive_named_falls kind p operand NotReadable = lift_falls _
+
+  named_getline_falls : (kind : InputKind) (name : List ℕ) (p : Option Place) (operand : Value) → Falls (named_getline_at names kind name p operand)
+  unfolding named_getline_at
+  named_getline_falls kind name p operand = then_falls _ (kept_falls (keeps_plain (next_of_plain kind name))) (λ found. receive_named_falls kind p operand found)
+
+target_falls : (way : Option Redirection) (vs : List Value) → Falls (target_by way vs)
+target_falls None vs = lift_falls (Ok 0)
+target_falls (Some way) vs = kept_falls (keeps_open_target way (str_of (first vs)))
+
+module _ (tables : Tables) where
   substitute_by_falls : (all : Bool) (pattern : Option ℕ) (p : Place) (operand old : Value) (vs : List Value) → Falls (substitute_by tables all pattern p operand old vs)
-  substitute_by_falls all (Some i) p operand old vs = substitute_at_falls all _ _ p operand old
-  substitute_by_falls all None p operand old vs = substitute_at_falls all _ _ p operand old
+  substitute_by_falls all (Some i) p operand old vs = substitute_at_falls tables.names all _ _ p operand old
+  substitute_by_falls all None p operand old vs = substitute_at_falls tables.names all _ _ p operand old
 
   substitute_falls : (all : Bool) (pattern : Option ℕ) (p : Option Place) (vs : List Value) → Falls (substitute tables all pattern p vs)
   substitute_falls all pattern None vs = then_falls _ (kept_falls keeps_record_text) (λ old. substitute_by_falls all pattern place.Field _ old vs)
   substitute_falls all pattern (Some p) vs = substitute_by_falls all pattern p _ _ _
+
+  getline_falls : (x : Source) (p : Option Place) (vs : List Value) → Falls (getline_by tables x p vs)
+  getline_falls source.Main p vs = main_getline_falls tables.names p (first vs)
+  getline_falls source.File p vs = named_getline_falls tables.names input.File _ p (second vs)
+  getline_falls source.Command p vs = named_getline_falls tables.names input.Command _ p (first vs)
 
   module _ (functions : Functions) (calls : CallsKeep functions) where
     call_falls : (f : List ℕ) (fs : List ArgumentForm) (vs : List Value) → Falls (call_at functions f fs vs)
@@ -189,11 +234,14 @@ module _ (tables : Tables) where
     value_falls (v.Split a by.Value) vs = split_falls a _ (lift_falls _)
     value_falls (v.Split a (by.Ere i)) vs = split_falls a _ (lift_falls _)
     value_falls (v.Substitute all pattern p) vs = substitute_falls all pattern p vs
+    value_falls (v.Getline x p) vs = getline_falls x p vs
+    value_falls v.Close vs = then_falls _ (kept_falls (keeps_close_named (str_of (first vs)))) (λ k. lift_falls _)
+    value_falls v.System vs = then_falls _ (kept_falls (keeps_run_command (str_of (first vs)))) (λ k. lift_falls _)
     value_falls (v.Call f fs) vs = call_falls _ fs.items _
 
     pub effect_falls : (x : EffectNode) (vs : List Value) → Falls (effect_of functions x vs)
     effect_falls e.Spend vs = kept_falls keeps_spend
     effect_falls (e.Drop k) vs = lift_falls (Ok tt)
     effect_falls (e.Delete a) vs = delete_falls a _
-    effect_falls (e.Print f k) vs = kept_falls (keeps_print_by functions calls f 0 (taken k vs))
+    effect_falls (e.Print f k way) vs = then_falls _ (target_falls way vs) (λ n. kept_falls (keeps_print_by functions calls f n _))
     effect_falls e.SetStatus vs = kept_falls (keeps_set_status (first vs))

@@ -1,17 +1,15 @@
 -- Levels that are not below the steps left agree: what a place does is told by the steps alone.
-use Rattle.std.proofs.Common.{◌≡◌, ℕ, zero, suc, ◌-◌, ◌<◌, ◌≤◌, Bool, true, false, List, [], ◌∷◌, ◌++◌, Result, Ok, Err, get_or, drop, pos, refl, sym, ap, ◌∙◌, arith}
+use Rattle.std.proofs.Common.{◌≡◌, ℕ, zero, suc, ◌-◌, ◌≤◌, Bool, true, false, List, [], ◌∷◌, ◌++◌, get_or, drop, pos, refl, arith}
 use Rattle.awk_value.specs.declared.value.Value.{Value}
 use Rattle.awk_value.specs.declared.value.Value.TheVariants as value
 use Rattle.awk_value.specs.Values.{truth_of}
-use Rattle.awk_semantics.specs.declared.halt.Halt.TheVariants as halt
-use Rattle.awk_semantics.specs.definitions.State.{State, Out, Run, go_on, ◌>>=◌, lift}
+use Rattle.awk_semantics.specs.definitions.State.{State, Run, go_on, ◌>>=◌}
 use Rattle.awk_semantics.specs.definitions.Primitives.{spend, spend_of}
 use Rattle.awk_semantics.specs.definitions.Semantics.{Functions, choose}
 use Rattle.awk_semantics.specs.support.Keeps.{scope_of, CallsKeep}
-use Rattle.awk_storage.specs.definitions.Positions.{put_variable}
 use Rattle.awk_compile.specs.declared.node.Node.{Node}
 use Rattle.awk_compile.specs.declared.node.Node.TheVariants as node
-use Rattle.awk_compile.specs.definitions.Nodes.{Tables, Cont, nothing, first, second, value_of, popped, effect_of, dropped, keys_of_array, walk_values, keys_left, next_key_by, made, conts, level, cont_at}
+use Rattle.awk_compile.specs.definitions.Nodes.{Tables, Cont, nothing, first, second, popped, dropped, walk_values, keys_left, next_key_by, made, conts, level, cont_at}
 use Rattle.awk_compile.proofs.Calculus.{later_falls}
 use Rattle.awk_compile.proofs.Falling.{Falls, value_falls, effect_falls, keys_falls, put_variable_falls}
 

@@ -5,9 +5,10 @@ use Rattle.awk_value.specs.Values.{truth_of}
 use Rattle.awk_semantics.specs.definitions.State.{◌>>=◌}
 use Rattle.awk_semantics.specs.definitions.Semantics.{Functions, choose}
 use Rattle.awk_storage.specs.definitions.Positions.{put_variable}
+use Rattle.awk_storage.specs.definitions.Forms.{keys_of_array}
 use Rattle.awk_compile.specs.declared.node.Node.{Node}
 use Rattle.awk_compile.specs.declared.node.Node.TheVariants as n
-use Rattle.awk_compile.specs.definitions.Nodes.{Tables, Cont, nothing, first, second, value_of, popped, effect_of, dropped, keys_of_array, walk_values, keys_left, next_key_by, made as made_with, conts as conts_with, level, cont_at as cont_with, AreBelow, IsOrdered}
+use Rattle.awk_compile.specs.definitions.Nodes.{Tables, Cont, nothing, first, second, value_of, popped, effect_of, dropped, walk_values, keys_left, next_key_by, made as made_with, conts as conts_with, level, cont_at as cont_with, AreBelow, IsOrdered}
 
 abbrev at_place : List Cont → ℕ → Cont
 at_place done i = get_or done i nothing

@@ -1,6 +1,6 @@
 -- A walk over the keys of an array as nodes is the walk of the semantics.
 use Rattle.std.proofs.Math.Nat.{le_refl}
-use Rattle.std.proofs.Common.{◌≡◌, ℕ, zero, suc, ◌-◌, ◌<◌, ◌≤◌, List, [], ◌∷◌, ◌++◌, length, map, drop, pos, Option, Ok, Err, refl, sym, ap, ◌∙◌, arith}
+use Rattle.std.proofs.Common.{◌≡◌, ℕ, zero, suc, ◌-◌, ◌≤◌, List, [], ◌∷◌, ◌++◌, length, map, drop, pos, Err, refl, sym, ◌∙◌, arith}
 use Rattle.awk_value.specs.declared.value.Value.{Value}
 use Rattle.awk_value.specs.declared.value.Value.TheVariants as value
 use Rattle.awk_kinds.specs.definitions.Kinds.{FormalParameter}
@@ -10,11 +10,11 @@ use Rattle.awk_semantics.specs.declared.halt.Halt.TheVariants as halt
 use Rattle.awk_semantics.specs.definitions.State.{State, Run, ◌>>=◌, lift, ret}
 use Rattle.awk_semantics.specs.definitions.Primitives.{spend, put}
 use Rattle.awk_semantics.specs.definitions.Semantics.{ending, turn, unless_ended, walk}
-use Rattle.awk_semantics.specs.support.Keeps.{Keeps, scope_of}
+use Rattle.awk_semantics.specs.support.Keeps.{Keeps}
 use Rattle.awk_semantics.proofs.KeepsForms.{keeps_put}
-use Rattle.awk_compile.specs.definitions.Nodes.{Tables, Cont, walk_values, keys_left, next_key_by, first, second}
+use Rattle.awk_compile.specs.definitions.Nodes.{Tables, Cont, walk_values, keys_left}
 use Rattle.awk_compile.specs.support.Builds.{IsIn}
-use Rattle.awk_compile.proofs.Calculus.{assoc_at, given, later_same, later_in, first_same, bounded_by}
+use Rattle.awk_compile.proofs.Calculus.{assoc_at, given, later_in, bounded_by}
 use Rattle.awk_compile.proofs.Levels.{spent_same}
 use Rattle.awk_compile.proofs.Loops.{at_state, turn_then, spent_in, none_left}
 
@@ -23,7 +23,7 @@ pub keys_dropped : (keys : List (List ℕ)) (vs : List Value) → drop (length k
 keys_dropped [] vs = refl
 keys_dropped (key ∷ keys) vs = keys_dropped keys vs
 
-one_less : (keys : List (List ℕ)) (key : List ℕ) → keys_left (value.Number (pos (length (key ∷ keys)))) - 1 ≡ length keys
+pub one_less : (keys : List (List ℕ)) (key : List ℕ) → keys_left (value.Number (pos (length (key ∷ keys)))) - 1 ≡ length keys
 one_less keys key = omega arith
 
 -- what a walk is made of: its body, and its places at each level, with the keys that are left on the stack
@@ -31,8 +31,9 @@ pub record IsWalk (tables : Tables) (parameters : List FormalParameter) (name : 
   pub keeps_body : Keeps x
   pub none : (ws : List Value) (s : State) → turns zero ws s ≡ (spend >>= λ _. lift (Err halt.OutOfSteps)) s
   pub more : (n : ℕ) (ws : List Value) (s : State) → turns (suc n) ws s ≡ (spend >>= λ _. take n ws) s
-  -- the next turn, or the exit where no key is left
-  pub nexts : (n : ℕ) (ws : List Value) (s : State) → next n ws s ≡ next_key_by (keys_left (first ws)) (turns n ws) (λ t. exit n t) s
+  -- the exit where no key is left, or else the next turn
+  pub ends : (n : ℕ) (s : State) → next n (walk_values [] ++ vs) s ≡ exit n s
+  pub nexts : (n : ℕ) (key : List ℕ) (keys : List (List ℕ)) (s : State) → next n (walk_values (key ∷ keys) ++ vs) s ≡ turns n (walk_values (key ∷ keys) ++ vs) s
   pub takes : (n : ℕ) (key : List ℕ) (keys : List (List ℕ)) (s : State) → IsIn tables parameters n s → take n (walk_values (key ∷ keys) ++ vs) s ≡ (put name (value.Text key) >>= λ _. body n (walk_values keys ++ vs)) s
   pub runs : (n : ℕ) (ws : List Value) (s : State) → IsIn tables parameters n s → body n ws s ≡ (x >>= λ f. inner n ws f) s
   pub leaves : (n : ℕ) (keys : List (List ℕ)) (s : State) → leave n (walk_values keys ++ vs) s ≡ exit n s
@@ -76,5 +77,5 @@ module _ {tables : Tables} {parameters : List FormalParameter} {name : List ℕ}
 
   pub walks : (keeps_walk : (keys : List (List ℕ)) → Keeps (walk name keys x)) (keys : List (List ℕ)) (n : ℕ) (s : State) → IsIn tables parameters n s → next n (left keys) s ≡ (walk name keys x >>= out n) s
   unfolding walk
-  walks keeps_walk [] n s i = w.nexts n (left []) s ∙ sym (at_state (w.out_normal n) s) ∙ sym (given flow.Normal (out n) s)
-  walks keeps_walk (key ∷ keys) n s i = w.nexts n (left (key ∷ keys)) s ∙ turned keys (walks keeps_walk keys) (keeps_walk keys) n s key i
+  walks keeps_walk [] n s i = w.ends n s ∙ sym (at_state (w.out_normal n) s) ∙ sym (given flow.Normal (out n) s)
+  walks keeps_walk (key ∷ keys) n s i = w.nexts n key keys s ∙ turned keys (walks keeps_walk keys) (keeps_walk keys) n s key i

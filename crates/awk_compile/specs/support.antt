@@ -1,1 +1,7 @@
+-- What serves the proofs.
 pub mod Builds
+pub mod Scopes
+pub mod Operands
+pub mod Calls
+pub mod Printed
+pub mod Holding

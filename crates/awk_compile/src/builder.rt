@@ -1,9 +1,11 @@
-// What is built of a program: nodes, and the places of loops' bodies.
+// What is built of a program: nodes, and the places of loops' bodies; and the names and EREs that nodes tell by numbers.
 
 ghost use Rattle.std.specs.Prelude.{◌≡◌, ◌<◌, length, IfOk};
-ghost use Rattle.awk_compile.specs.support.Builds.{Pushes, Opens, Closes};
+ghost use Rattle.awk_compile.specs.support.Builds.{Pushes, Opens, Closes, AddsName, AddsEre};
 
+use crate::names::ScalarNames;
 use crate::node::Node;
+use awk_value::Bytes;
 use std::alloc::{AllocError, Global};
 
 /// What is built of a program.
@@ -13,6 +15,10 @@ pub struct Builder {
     pub nodes: Vec<Node>,
     /// The place of each loop's body, by the loop's number; 0 for one that isn't known yet.
     pub heads: Vec<u32>,
+    /// The scalars of the whole program that a run keeps by name, by their slots.
+    pub names: ScalarNames,
+    /// The texts of the program's EREs.
+    pub eres: Vec<Bytes>,
 }
 
 /// Where a statement goes on.
@@ -24,7 +30,7 @@ pub struct Exits {
 }
 
 /// The number of what comes behind so many.
-fn next_number(length: usize) -> Result<u32, AllocError>
+pub(crate) fn next_number(length: usize) -> Result<u32, AllocError>
     ensures { IfOk result (λ number. number ≡ length) }
 {
     u32::try_from(length).map_err(|_| AllocError)
@@ -63,5 +69,29 @@ impl Builder {
         ensures { Closes self.old self.new number body }
     {
         self.heads[number as usize] = body;
+    }
+
+    /// The slot of a scalar of the whole program.
+    ///
+    /// # Errors
+    ///
+    /// Where memory is refused, or 2^32 scalars are there.
+    pub(crate) fn slot_of(&mut self, name: &[u8]) -> Result<u32, AllocError>
+        ensures { IfOk result (λ slot. AddsName self.old self.new slot name.now) }
+    {
+        self.names.slot_of(self.alloc, name)
+    }
+
+    /// The number of an ERE.
+    ///
+    /// # Errors
+    ///
+    /// Where memory is refused, or 2^32 EREs are there.
+    pub(crate) fn ere_of(&mut self, text: &Bytes) -> Result<u32, AllocError>
+        ensures { IfOk result (λ number. AddsEre self.old self.new number text.now) }
+    {
+        let number = next_number(self.eres.len())?;
+        self.eres.push(text.clone()?)?;
+        Ok(number)
     }
 }

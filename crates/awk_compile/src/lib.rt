@@ -2,4 +2,22 @@
 #![tactic(auto)]
 
 pub mod builder;
+mod built_ins;
+mod calls;
+mod conditions;
+mod expressions;
+mod getlines;
+mod heights;
+mod lists;
+pub mod names;
 pub mod node;
+mod patterns;
+mod places;
+pub mod plan;
+mod program;
+pub mod scope;
+mod simple_statements;
+mod statements;
+
+pub use plan::{Function, Plan, PlannedItem, PlannedPattern};
+pub use program::lower_program;

@@ -9,7 +9,7 @@ use Rattle.awk_grammar.specs.declared.tree.BinaryOperator.{BinaryOperator}
 use Rattle.awk_grammar.specs.declared.tree.BinaryOperator.TheVariants.{Concatenate, Infix}
 use Rattle.awk_grammar.specs.declared.tree.Redirection.{Redirection}
 use Rattle.awk_world.specs.declared.world.InputKind.TheVariants as input
-use Rattle.awk_kinds.specs.definitions.Kinds.{FormalParameter}
+use Rattle.awk_kinds.specs.definitions.Signatures.{Signature}
 use Rattle.awk_semantics.specs.declared.halt.Halt.{Halt}
 use Rattle.awk_semantics.specs.declared.halt.Halt.TheVariants as halt
 use Rattle.awk_semantics.specs.declared.local.Local.{Local}
@@ -21,10 +21,9 @@ use Rattle.awk_semantics.specs.definitions.Primitives.{spend, number_of, record_
 use Rattle.awk_semantics.specs.definitions.BuiltIns.{applied_all, record_length}
 use Rattle.awk_semantics.specs.definitions.Streams.{open_target, close_named, run_command}
 use Rattle.awk_semantics.specs.definitions.Semantics.{Functions, choose, print_by}
-use Rattle.awk_storage.specs.declared.position.Array.{Array}
 use Rattle.awk_storage.specs.declared.position.Place.{Place}
 use Rattle.awk_storage.specs.declared.position.Place.TheVariants as place
-use Rattle.awk_storage.specs.definitions.Positions.{number_at, read_element_of, read_variable, put_variable, read_at, store_at, assign_by_at, post_increment_at}
+use Rattle.awk_storage.specs.definitions.Positions.{number_at, read_element_of, read_variable, put_variable, read_at, assign_by_at, post_increment_at}
 use Rattle.awk_storage.specs.definitions.Forms.{contains_at, delete_at, keys_of_array, match_in, split_with, substitute_at, main_getline_at, named_getline_at}
 use Rattle.awk_compile.specs.declared.node.Source.{Source}
 use Rattle.awk_compile.specs.declared.node.Source.TheVariants as source
@@ -38,11 +37,6 @@ use Rattle.awk_compile.specs.declared.node.EffectNode.{EffectNode}
 use Rattle.awk_compile.specs.declared.node.EffectNode.TheVariants as e
 use Rattle.awk_compile.specs.declared.node.Node.{Node}
 use Rattle.awk_compile.specs.declared.node.Node.TheVariants as n
-
--- a function of a program: its name and its parameters
-pub record Signature : Type 0 where
-  pub name : List ℕ
-  pub parameters : List FormalParameter
 
 -- what the numbers in nodes stand for: the scalars of the whole program by their slots, the EREs, the arrays and the functions
 pub record Tables : Type 0 where

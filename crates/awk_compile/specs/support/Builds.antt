@@ -1,23 +1,28 @@
 -- What the lowering builds: from a place, what a part of the program means, whatever is built later.
-use Rattle.std.specs.Prelude.{◌≡◌, ◌≢◌, ℕ, suc, ◌<◌, ◌≤◌, List, [], ◌∷◌, ◌++◌, get_or, length, map, reverse, slice_get, Some, if◌then◌else◌}
+use Rattle.std.specs.Prelude.{◌≡◌, ◌≢◌, ℕ, suc, ◌<◌, ◌≤◌, List, [], ◌∷◌, ◌++◌, drop, get_or, length, reverse, Option, Some, None}
 use Rattle.awk_value.specs.declared.value.Value.{Value}
 use Rattle.awk_value.specs.declared.value.Value.TheVariants as value
 use Rattle.awk_value.specs.Values.{truth_of}
-use Rattle.awk_grammar.specs.Tree.{Expr, Element, Field, Exprs, Nil, Cons, OptionalExpr, Statement, Statements, OptionalSimple}
+use Rattle.awk_grammar.specs.Tree.{Expr, Ere, Element, Field, Exprs, Nil, Cons, OptionalExpr, NoExpr, AnExpr, Statement, Statements, OptionalSimple}
+use Rattle.awk_variables.specs.Names.{IsFront, with_name, Numbers}
 use Rattle.awk_kinds.specs.definitions.Kinds.{FormalParameter}
+use Rattle.awk_kinds.specs.definitions.Signatures.{ProgramKinds}
 use Rattle.awk_semantics.specs.declared.flow.Flow.{Flow}
 use Rattle.awk_semantics.specs.declared.flow.Flow.TheVariants as flow
-use Rattle.awk_semantics.specs.declared.local.Local.{Local}
 use Rattle.awk_semantics.specs.definitions.State.{State, Run, ◌>>=◌, ret}
-use Rattle.awk_semantics.specs.definitions.Primitives.{number_of}
-use Rattle.awk_semantics.specs.definitions.BuiltIns.{Role, AsValue, AsArray}
-use Rattle.awk_semantics.specs.definitions.Semantics.{Functions, choose, eval, eval_all, key_of, exec, exec_all, exec_part, goes_on}
-use Rattle.awk_semantics.specs.support.Keeps.{CallsKeep}
-use Rattle.awk_storage.specs.definitions.Positions.{newest_locals}
+use Rattle.awk_semantics.specs.definitions.Primitives.{number_of, read_name, put, array_number}
+use Rattle.awk_semantics.specs.definitions.Places as target
+use Rattle.awk_semantics.specs.definitions.BuiltIns.{Role, AsArray, next_role}
+use Rattle.awk_semantics.specs.definitions.Semantics.{Functions, choose, eval, place_of, eval_all, key_of, exec, exec_all, exec_part, goes_on}
+use Rattle.awk_storage.specs.declared.position.Variable.{Variable}
+use Rattle.awk_storage.specs.declared.position.Array.{Array}
+use Rattle.awk_storage.specs.definitions.Positions.{number_at, read_variable, put_variable, read_at, store_at}
+use Rattle.awk_storage.specs.declared.position.Place.{Place}
 use Rattle.awk_compile.specs.declared.node.Node.{Node}
 use Rattle.awk_compile.specs.declared.builder.Builder.{Builder}
 use Rattle.awk_compile.specs.declared.builder.Exits.{Exits}
-use Rattle.awk_compile.specs.definitions.Nodes.{Signature, Tables, Cont, made, level, cont_at, IsOrdered}
+pub use Rattle.awk_compile.specs.definitions.States.{IsScalar, AreScalars, IsIn, AreFor}
+use Rattle.awk_compile.specs.definitions.Nodes.{Tables, Cont, first, operands, made, level, cont_at, IsOrdered}
 
 -- building
 
@@ -27,22 +32,48 @@ pub record Grows (old new : Builder) : Type 0 where
   pub ordered : IsOrdered old.nodes.items → IsOrdered new.nodes.items
   -- a loop whose body stands keeps it
   pub heads : (i k : ℕ) → get_or old.heads.items i 0 ≡ suc k → get_or new.heads.items i 0 ≡ suc k
+  -- slots and numbers stay
+  pub names : IsFront old.names new.names
+  pub eres : IsFront old.eres.items new.eres.items
+  pub scalars : AreScalars old.names → AreScalars new.names
+
+-- the names and the EREs stay as they are
+pub record SameNames (old new : Builder) : Type 0 where
+  pub names : new.names ≡ old.names
+  pub eres : new.eres ≡ old.eres
 
 pub record Pushes (old new : Builder) (node : Node) (place : ℕ) : Type 0 where
   pub nodes : new.nodes.items ≡ old.nodes.items ++ node ∷ []
   pub last : place ≡ length old.nodes.items
   pub heads : new.heads ≡ old.heads
+  pub same : SameNames old new
 
 pub record Opens (old new : Builder) (number : ℕ) : Type 0 where
   pub nodes : new.nodes ≡ old.nodes
   pub heads : new.heads.items ≡ old.heads.items ++ 0 ∷ []
   pub last : number ≡ length old.heads.items
+  pub same : SameNames old new
 
 pub record Closes (old new : Builder) (number body : ℕ) : Type 0 where
   pub nodes : new.nodes ≡ old.nodes
   pub here : get_or new.heads.items number 0 ≡ body
   pub others : (i : ℕ) → i ≢ number → get_or new.heads.items i 0 ≡ get_or old.heads.items i 0
   pub long : length new.heads.items ≡ length old.heads.items
+  pub same : SameNames old new
+
+pub record AddsName (old new : Builder) (slot : ℕ) (name : List ℕ) : Type 0 where
+  pub nodes : new.nodes ≡ old.nodes
+  pub heads : new.heads ≡ old.heads
+  pub numbers : Numbers old.names new.names slot name
+  pub names : new.names ≡ with_name old.names name
+  pub eres : new.eres ≡ old.eres
+
+pub record AddsEre (old new : Builder) (number : ℕ) (text : List ℕ) : Type 0 where
+  pub nodes : new.nodes ≡ old.nodes
+  pub heads : new.heads ≡ old.heads
+  pub names : new.names ≡ old.names
+  pub eres : new.eres.items ≡ old.eres.items ++ text ∷ []
+  pub last : number ≡ length old.eres.items
 
 -- loops that were open keep their heads
 pub record Extends (old new : Builder) : Type 0 where
@@ -52,20 +83,30 @@ pub record Extends (old new : Builder) : Type 0 where
 
 -- where names stand
 
--- a state in which a body with these parameters runs, with at most so many steps; BEGIN, END and rules have none
-pub record IsIn (tables : Tables) (parameters : List FormalParameter) (most : ℕ) (s : State) : Type 0 where
-  pub low : s.steps ≤ most
-  pub names : map (λ (l : List ℕ × Local). l.0) (newest_locals s.frames) ≡ map (λ (p : FormalParameter). p.name) parameters
-  pub arrays : s.array_names ≡ tables.arrays
+-- a whole program: all that is built of it, what the numbers in its nodes stand for, and what its calls do
+pub record Program (kinds : ProgramKinds) : Type 0 where
+  pub all : Builder
+  pub tables : Tables
+  pub functions : Functions
+  pub names : IsFront all.names tables.names
+  pub eres : IsFront all.eres.items tables.eres
+  pub arrays : tables.arrays ≡ kinds.arrays
+  pub signatures : tables.functions ≡ kinds.functions
+  pub calls : AreFor tables functions
 
--- how a function takes its arguments
-abbrev pub role_of : FormalParameter → Role
-role_of p = if p.is_array then AsArray else AsValue
+-- a variable is what a name stands for in a body with these parameters, now and later
+pub record IsVariableOf (kinds : ProgramKinds) (parameters : List FormalParameter) (b : Builder) (v : Variable) (x : List ℕ) : Type 0 where
+  pub reads : (p : Program kinds) → Grows b p.all → (n : ℕ) (s : State) → IsIn p.tables parameters n s → read_name x s ≡ read_variable p.tables.names v s
+  pub puts : (p : Program kinds) → Grows b p.all → (n : ℕ) (w : Value) (s : State) → IsIn p.tables parameters n s → put x w s ≡ put_variable p.tables.names v w s
 
--- functions that are called by these tables, and keep what a call keeps
-pub record AreFor (tables : Tables) (functions : Functions) : Type 0 where
-  pub keep : CallsKeep functions
-  pub roles : (i : ℕ) (f : Signature) → slice_get tables.functions i ≡ Some f → functions.roles f.name ≡ map role_of f.parameters
+-- the variable of a name is found, or the name gets a slot
+pub record FindsVariable (kinds : ProgramKinds) (parameters : List FormalParameter) (old new : Builder) (v : Variable) (x : List ℕ) : Type 0 where
+  pub extends : Extends old new
+  pub is : IsVariableOf kinds parameters new v x
+
+-- an array is what a name stands for in a body with these parameters
+pub record IsArrayOf (kinds : ProgramKinds) (parameters : List FormalParameter) (a : Array) (x : List ℕ) : Type 0 where
+  pub is : (p : Program kinds) (n : ℕ) (s : State) → IsIn p.tables parameters n s → array_number s x ≡ number_at a s
 
 -- what a place does, from what others do
 
@@ -80,6 +121,29 @@ with_operand functions (Element x es) k vs = key_value functions es >>= λ v. k 
 with_operand functions (Field e) k vs = eval functions e >>= λ v. number_of v >>= λ n. k (value.Number n ∷ vs)
 with_operand functions e k vs = k vs
 
+-- what lies on the stack for the place of a `getline`
+abbrev pub with_optional_operand : Functions → OptionalExpr → (List Value → Run Value) → List Value → Run Value
+with_optional_operand functions NoExpr k vs = k vs
+with_optional_operand functions (AnExpr p) k vs = with_operand functions p k vs
+
+abbrev pub with_optional : Functions → OptionalExpr → (List Value → Run Value) → List Value → Run Value
+with_optional functions NoExpr k vs = k vs
+with_optional functions (AnExpr e) k vs = eval functions e >>= λ v. k (v ∷ vs)
+
+-- what lies on the stack for a pattern
+abbrev pub with_pattern : Functions → Expr → (List Value → Run Value) → List Value → Run Value
+with_pattern functions (Ere text) k vs = k vs
+with_pattern functions e k vs = eval functions e >>= λ v. k (v ∷ vs)
+
+-- what lies on the stack for an argument of a call
+abbrev pub with_argument : Role → Run Value → (List Value → Run Value) → List Value → Run Value
+with_argument AsArray evaluated k vs = k vs
+with_argument r evaluated k vs = evaluated >>= λ v. k (v ∷ vs)
+
+abbrev pub with_arguments : Functions → List Role → Exprs → (List Value → Run Value) → List Value → Run Value
+with_arguments functions roles Nil k vs = k vs
+with_arguments functions roles (Cons e es) k vs = with_argument (next_role roles) (eval functions e) (with_arguments functions (drop 1 roles) es k) vs
+
 pub data Part : Type 0 where
   -- an expression's value is put on the stack
   Evaluate : (e : Expr) (next : ℕ) → Part
@@ -89,6 +153,11 @@ pub data Part : Type 0 where
   EvaluateKey : (es : Exprs) (next : ℕ) → Part
   -- what a place needs is evaluated
   EvaluateOperand : (p : Expr) (next : ℕ) → Part
+  EvaluateOptionalOperand : (p : OptionalExpr) (next : ℕ) → Part
+  EvaluateOptional : (e : OptionalExpr) (next : ℕ) → Part
+  EvaluateUnlessEre : (e : Expr) (next : ℕ) → Part
+  -- the arguments of a call that are values
+  EvaluateArguments : (roles : List Role) (es : Exprs) (next : ℕ) → Part
   -- an expression is tested
   Decide : (e : Expr) (here other : ℕ) → Part
   -- a condition that may be left out
@@ -112,28 +181,56 @@ does (Evaluate e next) functions at = λ vs. eval functions e >>= λ v. at next 
 does (EvaluateAll es next) functions at = λ vs. eval_all functions [] es >>= λ ws. at next (reverse ws ++ vs)
 does (EvaluateKey es next) functions at = λ vs. key_value functions es >>= λ v. at next (v ∷ vs)
 does (EvaluateOperand p next) functions at = λ vs. with_operand functions p (at next) vs
+does (EvaluateOptionalOperand p next) functions at = λ vs. with_optional_operand functions p (at next) vs
+does (EvaluateOptional e next) functions at = λ vs. with_optional functions e (at next) vs
+does (EvaluateUnlessEre e next) functions at = λ vs. with_pattern functions e (at next) vs
+does (EvaluateArguments roles es next) functions at = λ vs. with_arguments functions roles es (at next) vs
 does (Decide e here other) functions at = λ vs. eval functions e >>= λ v. choose (truth_of v) (at here vs) (at other vs)
 does (DecideOptional e here other) functions at = λ vs. goes_on functions e >>= λ b. choose b (at here vs) (at other vs)
 does (Execute s exits) functions at = λ vs. exec functions s >>= λ f. leave_by exits at vs f
 does (ExecuteAll all exits) functions at = λ vs. exec_all functions all >>= λ f. leave_by exits at vs f
 does (ExecutePart part next) functions at = λ vs. exec_part functions part >>= λ _. at next vs
 
-abbrev pub place_in : Tables → Functions → Builder → ℕ → ℕ → Cont
-place_in tables functions later n = cont_at tables functions later.heads.items later.nodes.items n
+-- a place of the language and a position are the same, with this value for the position's operand
+pub record IsAt {kinds : ProgramKinds} (p : Program kinds) (parameters : List FormalParameter) (t : target.Place) (place : Place) (operand : Value) : Type 0 where
+  pub reads : (n : ℕ) (s : State) → IsIn p.tables parameters n s → target.read_place t s ≡ read_at p.tables.names place operand s
+  pub stores : (n : ℕ) (w : Value) (s : State) → IsIn p.tables parameters n s → target.store t w s ≡ store_at p.tables.names place operand w s
+
+-- a position is the place that an expression is: to evaluate the place is to put its operand on the stack
+pub record IsPlaceOf (kinds : ProgramKinds) (parameters : List FormalParameter) (b : Builder) (place : Place) (e : Expr) : Type 0 where
+  pub is : (p : Program kinds) → Grows b p.all → (f : target.Place → Run Value) (k : Cont) (n : ℕ) (vs : List Value) (s : State) → IsIn p.tables parameters n s
+      → ((t : target.Place) (ws : List Value) (u : State) → IsIn p.tables parameters n u → IsAt p parameters t place (first ws) → drop (operands place) ws ≡ vs → f t u ≡ k ws u)
+      → (place_of p.functions e >>= f) s ≡ with_operand p.functions e k vs s
+
+pub record FindsPlace (kinds : ProgramKinds) (parameters : List FormalParameter) (old new : Builder) (place : Place) (e : Expr) : Type 0 where
+  pub extends : Extends old new
+  pub is : IsPlaceOf kinds parameters new place e
+
+abbrev pub FindsOptionalPlace : (kinds : ProgramKinds) (parameters : List FormalParameter) (old new : Builder) → Option Place → OptionalExpr → Type 0
+FindsOptionalPlace kinds parameters old new None NoExpr = new ≡ old
+FindsOptionalPlace kinds parameters old new None (AnExpr p) = ⊥
+FindsOptionalPlace kinds parameters old new (Some place) NoExpr = ⊥
+FindsOptionalPlace kinds parameters old new (Some place) (AnExpr p) = FindsPlace kinds parameters old new place p
+
+abbrev pub place_in : {kinds : ProgramKinds} → Program kinds → ℕ → ℕ → Cont
+place_in p n = cont_at p.tables p.functions p.all.heads.items p.all.nodes.items n
+
+abbrev pub turns_in : {kinds : ProgramKinds} → Program kinds → ℕ → ℕ → Cont
+turns_in p n = level p.tables p.functions p.all.heads.items p.all.nodes.items n
 
 -- the node at a place, now and later
-pub record Places (tables : Tables) (old new : Builder) (place : ℕ) (node : Node) : Type 0 where
+pub record Places (kinds : ProgramKinds) (old new : Builder) (place : ℕ) (node : Node) : Type 0 where
   pub extends : Extends old new
   pub below : place < length new.nodes.items
   pub fresh : place ≡ length old.nodes.items
-  pub is : (later : Builder) → Grows new later → (functions : Functions) (n : ℕ) → place_in tables functions later n place ≡ made tables functions (level tables functions later.heads.items later.nodes.items n) (place_in tables functions later n) node
+  pub is : (p : Program kinds) → Grows new p.all → (n : ℕ) → place_in p n place ≡ made p.tables p.functions (turns_in p n) (place_in p n) node
 
 -- a part of a body with these parameters is built: from its place it is done, now and later
-pub record Builds (tables : Tables) (parameters : List FormalParameter) (old new : Builder) (place : ℕ) (part : Part) : Type 0 where
+pub record Builds (kinds : ProgramKinds) (parameters : List FormalParameter) (old new : Builder) (place : ℕ) (part : Part) : Type 0 where
   pub extends : Extends old new
   pub below : place < length new.nodes.items
   pub pos : 0 < place
-  pub is : (later : Builder) → Grows new later → (functions : Functions) → AreFor tables functions → (n : ℕ) (vs : List Value) (s : State) → IsIn tables parameters n s → place_in tables functions later n place vs s ≡ does part functions (place_in tables functions later n) vs s
+  pub is : (p : Program kinds) → Grows new p.all → (n : ℕ) (vs : List Value) (s : State) → IsIn p.tables parameters n s → place_in p n place vs s ≡ does part p.functions (place_in p n) vs s
 
 -- a place that something may go on at
 pub record Stands (place : ℕ) (b : Builder) : Type 0 where

@@ -1,0 +1,202 @@
+// Expressions as nodes.
+
+ghost use Rattle.std.specs.Prelude.{◌≡◌, IfOk};
+ghost use Rattle.awk_grammar.specs.Tree.{Name};
+ghost use Rattle.awk_grammar.specs.View.{expr_of};
+ghost use Rattle.awk_compile.specs.support.Builds.{Pushes, Stands, Evaluate};
+ghost use Rattle.awk_compile.specs.support.Operands.{is_and, is_or, matching_operator, matching, PushesTruths, PushesEre};
+ghost use Rattle.awk_compile.specs.support.Scopes.{Builds};
+
+use crate::builder::Builder;
+use crate::getlines::source_of;
+use crate::node::{Node, Source, ValueNode};
+use crate::scope::Scope;
+use awk_grammar::tree::{BinaryOperator, Expr};
+use awk_lex::token::Operator;
+use awk_value::{Bytes, Value};
+use std::alloc::AllocError;
+
+pub(crate) fn is_and(o: BinaryOperator) -> bool
+    ensures { result ≡ is_and o }
+{
+    match o {
+        BinaryOperator::Infix(Operator::And) => true,
+        _ => false,
+    }
+}
+
+pub(crate) fn is_or(o: BinaryOperator) -> bool
+    ensures { result ≡ is_or o }
+{
+    match o {
+        BinaryOperator::Infix(Operator::Or) => true,
+        _ => false,
+    }
+}
+
+/// The operator whose right operand is a pattern, if it is one.
+fn matching_operator(o: BinaryOperator) -> Option<Operator>
+    ensures { result ≡ matching_operator o }
+{
+    match o {
+        BinaryOperator::Infix(Operator::Matches) => Some(Operator::Matches),
+        BinaryOperator::Infix(Operator::NotMatches) => Some(Operator::NotMatches),
+        _ => None,
+    }
+}
+
+/// What matches a text with an ERE, or with the text that lies above it.
+fn matching(o: Operator, pattern: Option<u32>) -> ValueNode
+    ensures { result ≡ matching o pattern }
+{
+    match pattern {
+        Some(number) => ValueNode::MatchesEre(o, number),
+        None => ValueNode::Operate(BinaryOperator::Infix(o)),
+    }
+}
+
+impl Builder {
+    /// A node that takes values off the stack and puts one on it.
+    pub(crate) fn push_value(&mut self, node: ValueNode, next: u32) -> Result<u32, AllocError>
+        ensures { IfOk result (λ place. Pushes self.old self.new (Node.Value node next) place) }
+    {
+        self.push(Node::Value(node, next))
+    }
+
+    /// The places that put 1 and 0 on the stack.
+    fn push_truths(&mut self, next: u32) -> Result<(u32, u32), AllocError>
+        ensures { IfOk result (λ places. PushesTruths self.old self.new places.0 places.1 next) }
+    {
+        let yes = self.push_value(ValueNode::Push(Value::Number(1)), next)?;
+        let no = self.push_value(ValueNode::Push(Value::Number(0)), next)?;
+        Ok((yes, no))
+    }
+
+    fn push_name(&mut self, scope: &Scope, x: &Bytes, next: u32) -> Result<u32, AllocError>
+        requires { Stands next self.old }
+        ensures { IfOk result (λ place. Builds scope.now self.old self.new place (Evaluate (Name x.now) next)) }
+    {
+        let variable = self.variable_of(scope, x.as_slice())?;
+        self.push_value(ValueNode::Read(variable), next)
+    }
+
+    fn push_ere(&mut self, text: &Bytes, next: u32) -> Result<u32, AllocError>
+        ensures { IfOk result (λ place. PushesEre self.old self.new (λ i. ValueNode.RecordMatches i) text.now place next) }
+    {
+        let number = self.ere_of(text)?;
+        self.push_value(ValueNode::RecordMatches(number), next)
+    }
+
+    /// The value of an expression is put on the stack.
+    ///
+    /// # Errors
+    ///
+    /// Where memory is refused, or places or numbers run out.
+    #[cycle(expressions)]
+    pub fn lower(&mut self, scope: &Scope, e: &Expr, next: u32) -> Result<u32, AllocError>
+        requires { Stands next self.old }
+        ensures { IfOk result (λ place. Builds scope.now self.old self.new place (Evaluate (expr_of e.now) next)) }
+    {
+        match e {
+            Expr::Number(n) => self.push_value(ValueNode::Push(Value::Number(*n)), next),
+            Expr::String(bytes) => {
+                self.push_value(ValueNode::Push(Value::Text(bytes.clone()?)), next)
+            }
+            Expr::Ere(ere) => self.push_ere(&ere.text, next),
+            Expr::Name(x) => self.push_name(scope, x, next),
+            Expr::Length => self.push_value(ValueNode::RecordLength, next),
+            Expr::Element(x, list) => {
+                let array = scope.array_of(x.as_slice())?;
+                let read = self.push_value(ValueNode::ReadElement(array), next)?;
+                self.lower_key(scope, list, read)
+            }
+            Expr::Field(e) => {
+                let read = self.push_value(ValueNode::ReadField, next)?;
+                self.lower(scope, e, read)
+            }
+            Expr::Group(e) => self.lower(scope, e, next),
+            Expr::Unary(o, e) => {
+                let change = self.push_value(ValueNode::Change(*o), next)?;
+                self.lower(scope, e, change)
+            }
+            Expr::Binary(_, _, _) => self.lower_binary(scope, e, next),
+            Expr::Membership(e, x) => {
+                let array = scope.array_of(x.as_slice())?;
+                let contains = self.push_value(ValueNode::Contains(array), next)?;
+                self.lower(scope, e, contains)
+            }
+            Expr::ListMembership(list, x) => {
+                let array = scope.array_of(x.as_slice())?;
+                let contains = self.push_value(ValueNode::Contains(array), next)?;
+                self.lower_key(scope, list, contains)
+            }
+            Expr::Conditional(c, a, b) => {
+                let here = self.lower(scope, a, next)?;
+                let other = self.lower(scope, b, next)?;
+                self.lower_test(scope, c, here, other)
+            }
+            Expr::Assign(o, place, e) => {
+                let target = self.place_of(scope, place)?;
+                let assign = self.push_value(ValueNode::Assign(*o, target), next)?;
+                let right = self.lower(scope, e, assign)?;
+                self.lower_operand(scope, place, right)
+            }
+            Expr::PreIncrement(o, place) => {
+                let target = self.place_of(scope, place)?;
+                let increment = self.push_value(ValueNode::PreIncrement(*o, target), next)?;
+                self.lower_operand(scope, place, increment)
+            }
+            Expr::PostIncrement(o, place) => {
+                let target = self.place_of(scope, place)?;
+                let increment = self.push_value(ValueNode::PostIncrement(*o, target), next)?;
+                self.lower_operand(scope, place, increment)
+            }
+            Expr::Call(function, list) => self.lower_call(scope, function, list, next),
+            Expr::BuiltIn(function, list) => self.lower_built_in(scope, *function, list, next),
+            Expr::Getline(place, file) => {
+                let target = self.optional_place_of(scope, place)?;
+                let read = self.push_value(ValueNode::Getline(source_of(file), target), next)?;
+                let name = self.lower_optional(scope, file, read)?;
+                self.lower_optional_operand(scope, place, name)
+            }
+            Expr::PipedGetline(command, place) => {
+                let target = self.optional_place_of(scope, place)?;
+                let read = self.push_value(ValueNode::Getline(Source::Command, target), next)?;
+                let operand = self.lower_optional_operand(scope, place, read)?;
+                self.lower(scope, command, operand)
+            }
+        }
+    }
+
+    /// Two operands and what joins them.
+    #[cycle(expressions)]
+    fn lower_binary(&mut self, scope: &Scope, e: &Expr, next: u32) -> Result<u32, AllocError>
+        requires { Stands next self.old }
+        ensures { IfOk result (λ place. Builds scope.now self.old self.new place (Evaluate (expr_of e.now) next)) }
+    {
+        // No other expression is lowered here.
+        let Expr::Binary(o, a, b) = e else {
+            return Err(AllocError);
+        };
+        let o = *o;
+        if is_and(o) {
+            let (yes, no) = self.push_truths(next)?;
+            let second = self.lower_test(scope, b, yes, no)?;
+            return self.lower_test(scope, a, second, no);
+        }
+        if is_or(o) {
+            let (yes, no) = self.push_truths(next)?;
+            let second = self.lower_test(scope, b, yes, no)?;
+            return self.lower_test(scope, a, yes, second);
+        }
+        if let Some(o) = matching_operator(o) {
+            let pattern = self.pattern_of(b)?;
+            let matches = self.push_value(matching(o, pattern), next)?;
+            let right = self.lower_unless_ere(scope, b, matches)?;
+            return self.lower(scope, a, right);
+        }
+        let operate = self.push_value(ValueNode::Operate(o), next)?;
+        let right = self.lower(scope, b, operate)?;
+        self.lower(scope, a, right)
+    }
+}
