@@ -195,11 +195,13 @@ impl Runtime {
         ensures { Changes (substitute_at self.old.names.scalars all (spelled self.old.names pattern.entry)
             (str_of replacement.now) place operand.now old.now) self.old self.new result }
     {
-        let Some(exchanged) = self.exchange(all, pattern, replacement, old)? else {
-            return Ok(Value::Number(0));
-        };
-        self.store_at(place, operand, Value::Text(exchanged.text))?;
-        Ok(Value::Number(exchanged.count as i128))
+        match self.exchange(all, pattern, replacement, old)? {
+            None => Ok(Value::Number(0)),
+            Some(exchanged) => {
+                self.store_at(place, operand, Value::Text(exchanged.text))?;
+                Ok(Value::Number(exchanged.count as i128))
+            }
+        }
     }
 
     /// The same in the record. (POSIX awk, String Functions: sub, gsub)
