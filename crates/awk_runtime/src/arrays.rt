@@ -3,6 +3,7 @@
 ghost use Rattle.awk_runtime.specs.support.Simulation.{Changes};
 ghost use Rattle.std.specs.Prelude.{map, codes};
 ghost use Rattle.awk_value.specs.Values.{str_of};
+ghost use Rattle.awk_semantics.specs.State.{◌>>=◌, ret};
 ghost use Rattle.awk_semantics.specs.Primitives.{joined_key, take_argument};
 ghost use Rattle.awk_storage.specs.Positions.{read_element_of, store_element_of};
 ghost use Rattle.awk_storage.specs.Forms.{contains_at, delete_at, keys_of_array, fill_at};
@@ -68,4 +69,5 @@ impl Runtime {
     {
         unreachable!()
     }
+
 }

@@ -51,4 +51,5 @@ impl Runtime {
     {
         unreachable!()
     }
+
 }

@@ -27,4 +27,5 @@ impl Runtime {
     {
         unreachable!()
     }
+
 }

@@ -75,4 +75,5 @@ impl Runtime {
     {
         unreachable!()
     }
+
 }
