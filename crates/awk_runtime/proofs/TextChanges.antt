@@ -1,5 +1,5 @@
 -- What the functions over texts do to the state of a run.
-use Rattle.std.proofs.Common.{◌≡◌, ◌≤◌, ◌<◌, ◌+◌, ℕ, zero, suc, pos, Bool, true, false, not, true≢false, List, [], ◌∷◌, ◌++◌, append-nil, take, drop, get_or, Option, Some, None, Result, Ok, Err, length, IfOk, IfErr, refl, sym, ap, ◌∙◌, subst, arith}
+use Rattle.std.proofs.Common.{◌≡◌, ◌<◌, ◌+◌, ℕ, zero, suc, pos, Bool, false, not, true≢false, List, [], ◌∷◌, ◌++◌, append-nil, take, drop, get_or, Option, Some, None, Result, Ok, Err, length, IfOk, IfErr, refl, sym, ap, ◌∙◌, subst, arith}
 use Rattle.std.specs.Global.{Vec}
 use Rattle.std.proofs.lemmas.List.{take_more, map-append}
 use Rattle.std.specs.Result.{is_err}
@@ -41,7 +41,7 @@ use Rattle.awk_runtime.specs.support.Naming.{Naming}
 use Rattle.awk_runtime.specs.support.Spelled.{spelled, record_tested, substitute_in_record, pieces_by, with_pieces}
 use Rattle.awk_runtime.specs.declared.texts.PatternSource.{PatternSource}
 use Rattle.awk_runtime.proofs.Composition.{then_changes, ends_changes, lift_changes, memory_changes}
-use Rattle.awk_runtime.proofs.Steps.{still, reads_changes, same_changes, assoc_at}
+use Rattle.awk_runtime.proofs.Steps.{still, reads_changes, same_changes}
 
 -- results
 
@@ -209,7 +209,7 @@ pub fields_found : {old new : Runtime} (fs text : List ℕ) (pieces : List (List
     → Changes (pieces_by field_separator text) old new (with_pieces pieces r)
 fields_found fs text pieces r same is accepted e =
     let yields : Yields (with_pieces pieces r) (Ok (field_pieces fs text)) =
-        subst (λ q. Yields (with_pieces pieces r) q) (field_split fs text accepted) (written_yields r pieces (split_by (separator_in fs) text) e) in
+    subst (λ q. Yields (with_pieces pieces r) q) (field_split fs text accepted) (written_yields r pieces (split_by (separator_in fs) text) e) in
     reads_changes (pieces_by field_separator text) (λ s. Ok (field_pieces (text_in s Fs) text)) (fields_at text) same
     (λ s h. subst (λ (x : List ℕ). Yields (with_pieces pieces r) (Ok (field_pieces x text))) (is ∙ ap str_of (sym (h.specials Fs))) yields)
 
