@@ -1,5 +1,5 @@
 -- What the functions over texts do to the state of a run.
-use Rattle.std.proofs.Common.{◌≡◌, ◌≤◌, ◌<◌, ◌+◌, ℕ, zero, suc, pos, Bool, true, false, not, true≢false, List, [], ◌∷◌, ◌++◌, append-nil, take, drop, get_or, Option, Some, None, Result, Ok, Err, length, IfOk, IfErr, refl, sym, ap, ◌∙◌, subst, arith}
+use Rattle.std.proofs.Common.{◌≡◌, ◌<◌, ◌+◌, ℕ, zero, suc, pos, Bool, false, not, true≢false, List, [], ◌∷◌, ◌++◌, append-nil, take, drop, get_or, Option, Some, None, Result, Ok, Err, length, IfOk, IfErr, refl, sym, ap, ◌∙◌, subst, arith}
 use Rattle.std.specs.Global.{Vec}
 use Rattle.std.proofs.lemmas.List.{take_more, map-append}
 use Rattle.std.specs.Result.{is_err}
@@ -38,9 +38,10 @@ use Rattle.awk_functions.specs.support.Written.{Writes}
 use Rattle.awk_runtime.specs.declared.runtime.Runtime.{Runtime}
 use Rattle.awk_runtime.specs.support.Simulation.{OwnRelation, Changes, SameState}
 use Rattle.awk_runtime.specs.support.Naming.{Naming}
-use Rattle.awk_runtime.specs.support.Spelled.{record_tested, substitute_in_record, pieces_by, with_pieces}
+use Rattle.awk_runtime.specs.support.Spelled.{spelled, record_tested, substitute_in_record, pieces_by, with_pieces}
+use Rattle.awk_runtime.specs.declared.texts.PatternSource.{PatternSource}
 use Rattle.awk_runtime.proofs.Composition.{then_changes, ends_changes, lift_changes, memory_changes}
-use Rattle.awk_runtime.proofs.Steps.{still, reads_changes, same_changes, assoc_at}
+use Rattle.awk_runtime.proofs.Steps.{still, reads_changes, same_changes}
 
 -- results
 
@@ -65,6 +66,10 @@ lift_beside r same e = reads_changes (lift r) (λ s. r) (λ s. refl) same (λ s 
 -- want of memory where nothing changed that the definitions know
 pub memory_beside : {A : Type 0} (run : Run A) {old new : Runtime} → SameState old new → Changes run old new (Err (halt.Fault OutOfMemory))
 memory_beside run same = memory_changes run same.streams same.beside.names (omega (arith, same.beside.steps))
+
+-- and where something was done before
+pub memory_behind : {A B : Type 0} (run : Run A) {before : Run B} {old new : Runtime} {c : Result B Halt} → Changes before old new c → Changes run old new (Err (halt.Fault OutOfMemory))
+memory_behind run h = memory_changes run h.streams h.names h.steps
 
 -- the room of the code, and what it keeps of patterns and formats, are nothing that the definitions know
 pub room : (m : Runtime) (patterns : Patterns) (formats : Formats) (spans : Vec Span) → SameState m (record m { patterns = patterns; formats = formats; spans = spans })
@@ -178,11 +183,12 @@ split_mapped : (q : Result Separator Halt) (text : List ℕ) → split_by q text
 split_mapped (Ok separator) text = refl
 split_mapped (Err h) text = refl
 
-pub pieces_found : {old new : Runtime} (q : Result Separator Halt) (text : List ℕ) (pieces : List (List ℕ)) (r : Result (Unit {0}) Halt) → SameState old new → Writes r pieces (split_by q text) → Changes (pieces_by (lift q) text) old new (with_pieces pieces r)
-pieces_found q text pieces r same e =
+pub pieces_found : {old new : Runtime} {other : Result Separator Halt} (q : Result Separator Halt) (text : List ℕ) (pieces : List (List ℕ)) (r : Result (Unit {0}) Halt) → other ≡ q → SameState old new → Writes r pieces (split_by other text) → Changes (pieces_by (lift q) text) old new (with_pieces pieces r)
+pieces_found q text pieces r is same e =
+    let written : Writes r pieces (split_by q text) = subst (λ x. Writes r pieces (split_by x text)) is e in
     same_changes (pieces_by (lift q) text) (lift (split_by q text))
     (λ s h. lift_mapped q (λ separator. pieces_of separator false text) s ∙ ap (λ (x : Result (List (List ℕ)) Halt). lift x s) (sym (split_mapped q text)))
-    (lift_beside (split_by q text) same (written_yields r pieces (split_by q text) e))
+    (lift_beside (split_by q text) same (written_yields r pieces (split_by q text) written))
 
 -- a text that is no fault is the separator that it makes
 made_by : (q : Result Separator TextFault) → is_err q ≡ false → of_separator q ≡ Ok (separator_made q)
@@ -203,7 +209,7 @@ pub fields_found : {old new : Runtime} (fs text : List ℕ) (pieces : List (List
     → Changes (pieces_by field_separator text) old new (with_pieces pieces r)
 fields_found fs text pieces r same is accepted e =
     let yields : Yields (with_pieces pieces r) (Ok (field_pieces fs text)) =
-        subst (λ q. Yields (with_pieces pieces r) q) (field_split fs text accepted) (written_yields r pieces (split_by (separator_in fs) text) e) in
+    subst (λ q. Yields (with_pieces pieces r) q) (field_split fs text accepted) (written_yields r pieces (split_by (separator_in fs) text) e) in
     reads_changes (pieces_by field_separator text) (λ s. Ok (field_pieces (text_in s Fs) text)) (fields_at text) same
     (λ s h. subst (λ (x : List ℕ). Yields (with_pieces pieces r) (Ok (field_pieces x text))) (is ∙ ap str_of (sym (h.specials Fs))) yields)
 
@@ -248,15 +254,19 @@ module _ (names : List (List ℕ)) (at : Place) (operand : Value) where
       pub substitute_nothing : {old new : Runtime} → Exchanges old new (Ok None) → Changes (substitute_at names all pattern replacement at operand old_value) old new (Ok (value.Number (pos 0)))
       substitute_nothing {new = new} p = same_changes _ _ (λ s h. exchanged_on (pattern_in pattern) s) (then_changes assign_made p (lift_changes _ new refl))
 
-      pub substitute_ends_later : {old mid new : Runtime} {made : Exchanged} {h : Halt} → Exchanges old mid (Ok (Some made)) → Changes (store_at names at operand (value.Text made.text)) mid new (Err h) → Changes (substitute_at names all pattern replacement at operand old_value) old new (Err h)
-      substitute_ends_later p q = same_changes _ _ (λ s h. exchanged_on (pattern_in pattern) s) (then_changes assign_made p (ends_changes _ q))
+      named : {old mid new : Runtime} {c : Result (Option Exchanged) Halt} {r : Result (Unit {0}) Halt} (v : Value) → old.names.scalars ≡ names → Exchanges old mid c → Changes (store_at mid.names.scalars at operand v) mid new r → Changes (store_at names at operand v) mid new r
+      named {mid = mid} {new = new} {r = r} v is p q = subst (λ (l : List (List ℕ)). Changes (store_at l at operand v) mid new r) (ap (λ (n : Naming). n.scalars) p.names ∙ is) q
 
-      pub substitute_gives : {old mid new : Runtime} {made : Exchanged} → Exchanges old mid (Ok (Some made)) → Changes (store_at names at operand (value.Text made.text)) mid new (Ok tt) → Changes (substitute_at names all pattern replacement at operand old_value) old new (Ok (value.Number (pos made.count)))
-      substitute_gives {new = new} p q = same_changes _ _ (λ s h. exchanged_on (pattern_in pattern) s) (then_changes assign_made p (then_changes _ q (lift_changes _ new refl)))
+      pub substitute_ends_later : {old mid new : Runtime} {made : Exchanged} {h : Halt} → old.names.scalars ≡ names → Exchanges old mid (Ok (Some made)) → Changes (store_at mid.names.scalars at operand (value.Text made.text)) mid new (Err h) → Changes (substitute_at names all pattern replacement at operand old_value) old new (Err h)
+      substitute_ends_later {made = made} is p q = same_changes _ _ (λ s h. exchanged_on (pattern_in pattern) s) (then_changes assign_made p (ends_changes _ (named (value.Text made.text) is p q)))
 
-pub in_record : (names : List (List ℕ)) (all : Bool) (pattern replacement : List ℕ) {old mid new : Runtime} {v : Value} {r : Result Value Halt} → Changes record_text old mid (Ok v)
-    → Changes (substitute_at names all pattern replacement place.Field (value.Number (pos 0)) v) mid new r → Changes (substitute_in_record names all pattern replacement) old new r
-in_record names all pattern replacement p q = then_changes _ p q
+      pub substitute_gives : {old mid new : Runtime} {made : Exchanged} → old.names.scalars ≡ names → Exchanges old mid (Ok (Some made)) → Changes (store_at mid.names.scalars at operand (value.Text made.text)) mid new (Ok tt) → Changes (substitute_at names all pattern replacement at operand old_value) old new (Ok (value.Number (pos made.count)))
+      substitute_gives {new = new} {made = made} is p q = same_changes _ _ (λ s h. exchanged_on (pattern_in pattern) s) (then_changes assign_made p (then_changes _ (named (value.Text made.text) is p q) (lift_changes _ new refl)))
 
-pub in_record_ends : (names : List (List ℕ)) (all : Bool) (pattern replacement : List ℕ) {old new : Runtime} {h : Halt} → Changes record_text old new (Err h) → Changes (substitute_in_record names all pattern replacement) old new (Err h)
+pub in_record : (names : Naming) (all : Bool) (pattern : PatternSource) (replacement : List ℕ) {old mid new : Runtime} {v : Value} {r : Result Value Halt} → mid.names ≡ names → Changes record_text old mid (Ok v)
+    → Changes (substitute_at mid.names.scalars all (spelled mid.names pattern) replacement place.Field (value.Number (pos 0)) v) mid new r → Changes (substitute_in_record names.scalars all (spelled names pattern) replacement) old new r
+in_record names all pattern replacement {mid = mid} {new = new} {v = v} {r = r} same p q =
+    then_changes _ p (subst (λ (n : Naming). Changes (substitute_at n.scalars all (spelled n pattern) replacement place.Field (value.Number (pos 0)) v) mid new r) same q)
+
+pub in_record_ends : (names : Naming) (all : Bool) (pattern : PatternSource) (replacement : List ℕ) {old new : Runtime} {h : Halt} → Changes record_text old new (Err h) → Changes (substitute_in_record names.scalars all (spelled names pattern) replacement) old new (Err h)
 in_record_ends names all pattern replacement p = ends_changes _ p
