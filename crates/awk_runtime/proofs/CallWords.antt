@@ -1,6 +1,7 @@
 -- Calls of functions.
-use Rattle.std.proofs.Common.{◌≡◌, ◌≤◌, ◌<◌, ◌+◌, ◌-◌, ℕ, zero, suc, Bool, true, false, List, [], ◌∷◌, ◌++◌, map, length, take, drop, min, Option, Some, None, Result, Ok, Err, refl, sym, ap, ◌∙◌, subst, arith, append_assoc, append-nil, length-append, length-map}
+use Rattle.std.proofs.Common.{get_or, ◌≡◌, ◌≤◌, ◌<◌, ◌+◌, ◌-◌, ℕ, zero, suc, Bool, true, false, List, [], ◌∷◌, ◌++◌, map, length, take, drop, min, Option, Some, None, Result, Ok, Err, refl, sym, ap, ◌∙◌, subst, arith, append_assoc, append-nil, length-append}
 use Rattle.std.specs.Prelude.{nat_lt, slice_get}
+use Rattle.std.proofs.lemmas.List.{take_more}
 use Rattle.std.proofs.lemmas.Bool.Decides.{nat_tests}
 use Rattle.awk_value.specs.declared.value.Value.{Value}
 use Rattle.awk_value.specs.declared.value.Value.TheVariants as value
@@ -20,7 +21,7 @@ use Rattle.awk_kinds.specs.Kinds.{FormalParameter}
 use Rattle.awk_storage.specs.support.Frames.{FrameView, heights_of, older_of, arrays_before_of}
 use Rattle.awk_runtime.specs.declared.runtime.Runtime.{Runtime}
 use Rattle.awk_runtime.specs.support.Simulation.{frame_view, OwnRelation, StateRelation, FailureRelation, ResultRelationBy, ResultRelation, Changes}
-use Rattle.awk_runtime.specs.support.Calling.{without_given, EndsCalls}
+use Rattle.awk_runtime.specs.support.Calling.{with_given, without_given, missing_locals, missing_arrays, with_missing, completed, EntersCall, EndsCalls}
 use Rattle.awk_runtime.proofs.Composition.{OwnPart, own_changes, same_part, memory_changes, streams_own}
 
 -- the height of the bodies
@@ -32,31 +33,179 @@ heights_are (frame ∷ frames) = ap (λ n. frame.height + n) (heights_are frames
 height_holds : {m : Runtime} {s : State} → OwnRelation m s → height_in s.frames ≡ heights_of m.frames.frames
 height_holds {s = s} h = sym (heights_are s.frames) ∙ ap heights_of (ap (λ f. f.frames) (sym h.frames))
 
-
 pub height_low : (m : Runtime) (height : ℕ) → heights_of m.frames.frames + height ≤ most_height → Changes (check_height height) m m (Ok tt)
 unfolding check_height
 height_low m height low = own_changes (check_height height) refl refl (omega arith) (λ s h.
-  let sum = height_holds h in
-  let test : nat_lt most_height (height_in s.frames + height) ≡ false = grind (arith, nat_tests, sum) in
-  record {
-    result = Ok tt;
-    state = s;
-    is = ap (λ b. fault_if b CallsTooDeep s) test;
-    part = same_part s;
-    matches = refl;
-    holds = h;
-  })
+    let sum = height_holds h in
+    let test : nat_lt most_height (height_in s.frames + height) ≡ false = grind (arith, nat_tests, sum) in
+    record {
+      result = Ok tt;
+      state = s;
+      is = ap (λ b. fault_if b CallsTooDeep s) test;
+      part = same_part s;
+      matches = refl;
+      holds = h;
+    })
 
 pub height_high : (m : Runtime) (height : ℕ) → most_height < heights_of m.frames.frames + height → Changes (check_height height) m m (Err (halt.Fault CallsTooDeep))
 unfolding check_height
 height_high m height high = own_changes (check_height height) refl refl (omega arith) (λ s h.
-  let sum = height_holds h in
-  let test : nat_lt most_height (height_in s.frames + height) ≡ true = grind (arith, nat_tests, sum) in
-  record {
-    result = Err (halt.Fault CallsTooDeep);
-    state = s;
-    is = ap (λ b. fault_if b CallsTooDeep s) test;
-    part = same_part s;
-    matches = refl;
-    holds = h;
-  })
+    let sum = height_holds h in
+    let test : nat_lt most_height (height_in s.frames + height) ≡ true = grind (arith, nat_tests, sum) in
+    record {
+      result = Err (halt.Fault CallsTooDeep);
+      state = s;
+      is = ap (λ b. fault_if b CallsTooDeep s) test;
+      part = same_part s;
+      matches = refl;
+      holds = h;
+    })
+
+-- the newest call is over
+
+abbrev pub left_by : Runtime → ℕ → Runtime
+left_by m count = record m { arrays = take count m.arrays; frames = record { frames = older_of m.frames.frames; staged = [] } }
+
+-- the call that is over, and the older ones
+pub record Left (m : Runtime) (count : ℕ) (s : State) : Type 0 where
+  pub frame : Frame
+  pub frames : List Frame
+  pub is : s.frames ≡ frame ∷ frames
+  pub before : frame.arrays_before ≡ count
+
+newest : (m : Runtime) (count : ℕ) (s : State) → arrays_before_of m.frames.frames ≡ Some count → OwnRelation m s → Left m count s
+newest m count s some h = by s.frames refl
+  where
+    by : (frames : List Frame) → s.frames ≡ frames → Left m count s
+    by [] e =
+        let none : arrays_before_of m.frames.frames ≡ None = ap (λ f. arrays_before_of f.frames) h.frames ∙ ap (λ fs. arrays_before_of (map frame_view fs)) e in
+        absurd (cc)
+    by (frame ∷ frames) e =
+        let some' : arrays_before_of m.frames.frames ≡ Some frame.arrays_before = ap (λ f. arrays_before_of f.frames) h.frames ∙ ap (λ fs. arrays_before_of (map frame_view fs)) e in
+        record { frame = frame; frames = frames; is = e; before = (cc) }
+
+pub left_holds : (m : Runtime) (count : ℕ) (s : State) → (left : Left m count s) → OwnRelation m s → OwnRelation (left_by m count) (without_call s.frames s)
+left_holds m count s left h = subst (λ (fs : List Frame). OwnRelation (left_by m count) (without_call fs s)) (sym left.is) record {
+  current = h.current;
+  specials = h.specials;
+  globals = h.globals;
+  slots = h.slots;
+  array_names = h.array_names;
+  function_names = h.function_names;
+  arrays = ap (λ n. take n s.arrays) left.before ∙ ap (take count) h.arrays;
+  frames = ap (λ f. record { frames = older_of f.frames; staged = [] }) h.frames ∙ ap (λ fs. record { frames = older_of (map frame_view fs); staged = [] }) left.is;
+  next = h.next;
+  input_seen = h.input_seen;
+  inside = h.inside;
+  status = h.status;
+  steps = h.steps;
+}
+
+own_left : (frames : List Frame) (s : State) → OwnPart s (without_call frames s)
+own_left [] s = same_part s
+own_left (frame ∷ frames) s = record { outside = refl; openings = refl; output_openings = refl; closings = refl; runs = refl; outputs = refl; main = refl; streams = refl }
+
+pub call_left : (m : Runtime) (count : ℕ) → arrays_before_of m.frames.frames ≡ Some count → Changes leave m (left_by m count) (Ok tt)
+unfolding leave
+call_left m count some = own_changes leave refl refl (omega arith) (λ s h. record {
+  result = Ok tt;
+  state = without_call s.frames s;
+  is = refl;
+  part = own_left s.frames s;
+  matches = refl;
+  holds = left_holds m count s (newest m count s some h) h;
+})
+
+none_active : (m : Runtime) (s : State) → arrays_before_of m.frames.frames ≡ None → OwnRelation m s → s.frames ≡ []
+none_active m s none h = by s.frames refl
+  where
+    by : (frames : List Frame) → s.frames ≡ frames → s.frames ≡ []
+    by [] e = e
+    by (frame ∷ frames) e =
+        let some : arrays_before_of m.frames.frames ≡ Some frame.arrays_before = ap (λ f. arrays_before_of f.frames) h.frames ∙ ap (λ fs. arrays_before_of (map frame_view fs)) e in
+        absurd (cc)
+
+pub none_left : (m : Runtime) → arrays_before_of m.frames.frames ≡ None → Changes leave m m (Ok tt)
+unfolding leave
+none_left m none = own_changes leave refl refl (omega arith) (λ s h. record {
+  result = Ok tt;
+  state = s;
+  is = ap (λ fs. record { result = Ok tt; state = without_call fs s; effects = [] }) (none_active m s none h);
+  part = same_part s;
+  matches = refl;
+  holds = h;
+})
+
+-- calls are over, one after the other
+
+pub record Ending (old now : Runtime) : Type 0 where
+  pub steps : now.steps ≡ old.steps
+  pub names : now.names ≡ old.names
+  pub streams : now.streams ≡ old.streams
+  pub status : now.status ≡ old.status
+  pub holds : (s : State) → OwnRelation old s → (t : State) × OwnRelation now t × (outside_calls t ≡ outside_calls s)
+
+pub ending_begins : (m : Runtime) → Ending m m
+ending_begins m = record { steps = refl; names = refl; streams = refl; status = refl; holds = λ s h. (s, h, refl) }
+
+outside_left : (m : Runtime) (count : ℕ) (t : State) → Left m count t → outside_calls (without_call t.frames t) ≡ outside_calls t
+outside_left m count t left = ap (λ fs. outside_calls (without_call fs t)) left.is ∙ sym (ap (λ fs. without_calls fs t) left.is)
+
+pub ending_goes_on : (old now : Runtime) (count : ℕ) → arrays_before_of now.frames.frames ≡ Some count → Ending old now → Ending old (left_by now count)
+ending_goes_on old now count some e = record {
+  steps = e.steps;
+  names = e.names;
+  streams = e.streams;
+  status = e.status;
+  holds = λ s h.
+      let t = e.holds s h in
+      let left = newest now count t.0 some t.1 in
+      (without_call t.0.frames t.0, left_holds now count t.0 left t.1, outside_left now count t.0 left ∙ t.2);
+}
+
+pub ending_ends : (old now : Runtime) → arrays_before_of now.frames.frames ≡ None → Ending old now → EndsCalls old now
+ending_ends old now none e = record {
+  steps = e.steps;
+  names = e.names;
+  streams = e.streams;
+  status = e.status;
+  holds = λ s h.
+      let t = e.holds s h in
+      let out : t.0 ≡ outside_calls s = ap (λ fs. without_calls fs t.0) (sym (none_active now t.0 none t.1)) ∙ t.2 in
+      subst (λ (u : State). OwnRelation now u) out t.1;
+}
+
+pub fewer_calls : (frames : List FrameView) (count : ℕ) → arrays_before_of frames ≡ Some count → length (older_of frames) < length frames
+fewer_calls [] count some = absurd (cc)
+fewer_calls (frame ∷ frames) count some = omega arith
+
+-- what parameters have for want of arguments
+
+missing_then : (ks : List Bool) (n : ℕ) (k : Bool) → missing_locals (ks ++ k ∷ []) n ≡ missing_locals ks n ++ missing_locals (k ∷ []) (n + length (missing_arrays ks))
+missing_then [] n true = ap (λ m. local.Array m ∷ []) (let e : n ≡ n + 0 = omega arith in e)
+missing_then [] n false = refl
+missing_then (true ∷ ks) n k = ap (λ l. local.Array n ∷ l) (missing_then ks (suc n) k ∙ ap (λ m. missing_locals ks (suc n) ++ missing_locals (k ∷ []) m) (let e : suc n + length (missing_arrays ks) ≡ n + suc (length (missing_arrays ks)) = omega arith in e))
+missing_then (false ∷ ks) n k = ap (λ l. local.Value value.Nothing ∷ l) (missing_then ks n k)
+
+arrays_then : (ks : List Bool) (k : Bool) → missing_arrays (ks ++ k ∷ []) ≡ missing_arrays ks ++ missing_arrays (k ∷ [])
+arrays_then [] k = refl
+arrays_then (true ∷ ks) k = ap (λ l. [] ∷ l) (arrays_then ks k)
+arrays_then (false ∷ ks) k = arrays_then ks k
+
+missing_more : (m : Runtime) (ks : List Bool) (k : Bool) → with_missing (k ∷ []) (with_missing ks m) ≡ with_missing (ks ++ k ∷ []) m
+missing_more m ks k =
+    let arrays : (m.arrays ++ missing_arrays ks) ++ missing_arrays (k ∷ []) ≡ m.arrays ++ missing_arrays (ks ++ k ∷ []) =
+        append_assoc m.arrays (missing_arrays ks) (missing_arrays (k ∷ [])) ∙ ap (λ l. m.arrays ++ l) (sym (arrays_then ks k)) in
+    let staged : (m.frames.staged ++ missing_locals ks (length m.arrays)) ++ missing_locals (k ∷ []) (length (m.arrays ++ missing_arrays ks)) ≡ m.frames.staged ++ missing_locals (ks ++ k ∷ []) (length m.arrays) =
+        append_assoc m.frames.staged (missing_locals ks (length m.arrays)) (missing_locals (k ∷ []) (length (m.arrays ++ missing_arrays ks)))
+        ∙ ap (λ l. m.frames.staged ++ l) (ap (λ n. missing_locals ks (length m.arrays) ++ missing_locals (k ∷ []) n) (length-append m.arrays (missing_arrays ks)) ∙ sym (missing_then ks (length m.arrays) k)) in
+    ap (λ l. record m { arrays = l; frames = record { frames = m.frames.frames; staged = (m.frames.staged ++ missing_locals ks (length m.arrays)) ++ missing_locals (k ∷ []) (length (m.arrays ++ missing_arrays ks)) } }) arrays
+    ∙ ap (λ l. record m { arrays = m.arrays ++ missing_arrays (ks ++ k ∷ []); frames = record { frames = m.frames.frames; staged = l } }) staged
+
+-- one more of these parameters has what it has for want of an argument
+pub missing_next : (m now next : Runtime) (ks : List Bool) (i : ℕ) (k : Bool) → i < length ks → get_or ks i false ≡ k → now ≡ with_missing (take i ks) m → next ≡ with_missing (k ∷ []) now → next ≡ with_missing (take (i + 1) ks) m
+missing_next m now next ks i k low is before one =
+    one ∙ (ap (with_missing (k ∷ [])) before ∙ (missing_more m (take i ks) k ∙ ap (λ l. with_missing l m) (ap (λ b. take i ks ++ b ∷ []) (sym is) ∙ sym (take_more ks i false low))))
+
+pub missing_value : (now : Runtime) → with_given (local.Value value.Nothing) now ≡ with_missing (false ∷ []) now
+missing_value now = ap (λ l. record now { arrays = l; frames = record { frames = now.frames.frames; staged = now.frames.staged ++ local.Value value.Nothing ∷ [] } }) (sym (append-nil now.arrays))

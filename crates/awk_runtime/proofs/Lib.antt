@@ -4,3 +4,4 @@ pub mod Steps
 pub mod ArrayWords
 pub mod NameNumbers
 pub mod ArgumentWords
+pub mod CallWords
