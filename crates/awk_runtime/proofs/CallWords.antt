@@ -1,6 +1,6 @@
 -- Calls of functions.
 use Rattle.std.proofs.Common.{get_or, ◌≡◌, ◌≤◌, ◌<◌, ◌+◌, ◌-◌, ℕ, zero, suc, Bool, true, false, List, [], ◌∷◌, ◌++◌, map, length, take, drop, min, Option, Some, None, Result, Ok, Err, refl, sym, ap, ◌∙◌, subst, arith, append_assoc, append-nil, length-append}
-use Rattle.std.specs.Prelude.{nat_lt, slice_get}
+use Rattle.std.specs.Prelude.{nat_lt, slice_get, if◌then◌else◌}
 use Rattle.std.proofs.lemmas.List.{take_more}
 use Rattle.std.proofs.lemmas.Bool.Decides.{nat_tests}
 use Rattle.awk_value.specs.declared.value.Value.{Value}
@@ -9,7 +9,7 @@ use Rattle.awk_table.specs.Arrays.{Array as Elements}
 use Rattle.awk_channels.specs.WorldState.{WorldState}
 use Rattle.awk_channels.specs.Oracle.{Oracle}
 use Rattle.awk_channels.specs.Streams.{printed_openings}
-use Rattle.awk_semantics.specs.declared.fault.Fault.TheVariants.{CallsTooDeep}
+use Rattle.awk_semantics.specs.declared.fault.Fault.TheVariants.{CallsTooDeep, OutOfMemory}
 use Rattle.awk_semantics.specs.declared.halt.Halt.{Halt}
 use Rattle.awk_semantics.specs.declared.halt.Halt.TheVariants as halt
 use Rattle.awk_semantics.specs.declared.local.Local.{Local}
@@ -18,10 +18,10 @@ use Rattle.awk_semantics.specs.State.{Effect, Frame, State, Out, Run, go_on, ◌
 use Rattle.awk_semantics.specs.Results.{Sort, WantOfMemory, FailedWrite, OfLanguage, sort_of, IsWantOfMemory}
 use Rattle.awk_semantics.specs.Primitives.{most_height, height_in, fault_if, check_height, spend, bound, made, enter, without_call, leave, without_calls, outside_calls}
 use Rattle.awk_kinds.specs.Kinds.{FormalParameter}
-use Rattle.awk_storage.specs.support.Frames.{FrameView, heights_of, older_of, arrays_before_of}
+use Rattle.awk_storage.specs.support.Frames.{FrameView, FramesView, heights_of, older_of, arrays_before_of}
 use Rattle.awk_runtime.specs.declared.runtime.Runtime.{Runtime}
 use Rattle.awk_runtime.specs.support.Simulation.{frame_view, OwnRelation, StateRelation, FailureRelation, ResultRelationBy, ResultRelation, Changes}
-use Rattle.awk_runtime.specs.support.Calling.{with_given, without_given, missing_locals, missing_arrays, with_missing, completed, EntersCall, EndsCalls}
+use Rattle.awk_runtime.specs.support.Calling.{with_given, without_given, Refused, missing_locals, missing_arrays, with_missing, completed, EntersCall, EndsCalls}
 use Rattle.awk_runtime.proofs.Composition.{OwnPart, own_changes, same_part, memory_changes, streams_own}
 
 -- the height of the bodies
@@ -209,3 +209,116 @@ missing_next m now next ks i k low is before one =
 
 pub missing_value : (now : Runtime) → with_given (local.Value value.Nothing) now ≡ with_missing (false ∷ []) now
 missing_value now = ap (λ l. record now { arrays = l; frames = record { frames = now.frames.frames; staged = now.frames.staged ++ local.Value value.Nothing ∷ [] } }) (sym (append-nil now.arrays))
+
+-- a call is active
+
+bound_missing : (ps : List FormalParameter) (n : ℕ) → map (λ (l : List ℕ × Local). l.1) (bound ps [] n) ≡ missing_locals (map (λ p. p.is_array) ps) n
+bound_missing [] n = refl
+bound_missing (p ∷ ps) n = by p.is_array (bound_missing ps)
+  where
+    by : (b : Bool) → ((k : ℕ) → map (λ (l : List ℕ × Local). l.1) (bound ps [] k) ≡ missing_locals (map (λ p. p.is_array) ps) k) → map (λ (l : List ℕ × Local). l.1) (if b then (p.name, local.Array n) ∷ bound ps [] (suc n) else (p.name, local.Value value.Nothing) ∷ bound ps [] n) ≡ missing_locals (b ∷ map (λ p. p.is_array) ps) n
+    by true rest = ap (λ l. local.Array n ∷ l) (rest (suc n))
+    by false rest = ap (λ l. local.Value value.Nothing ∷ l) (rest n)
+
+bound_locals : (ps : List FormalParameter) (given : List Local) (n : ℕ) → map (λ (l : List ℕ × Local). l.1) (bound ps given n) ≡ take (length (map (λ p. p.is_array) ps)) given ++ missing_locals (drop (length given) (map (λ p. p.is_array) ps)) n
+bound_locals [] [] n = refl
+bound_locals [] (a ∷ given) n = refl
+bound_locals (p ∷ ps) [] n = bound_missing (p ∷ ps) n
+bound_locals (p ∷ ps) (a ∷ given) n = ap (λ l. a ∷ l) (bound_locals ps given n)
+
+made_missing : (ps : List FormalParameter) → made ps [] ≡ missing_arrays (map (λ p. p.is_array) ps)
+made_missing [] = refl
+made_missing (p ∷ ps) = by p.is_array (made_missing ps)
+  where
+    by : (b : Bool) → made ps [] ≡ missing_arrays (map (λ p. p.is_array) ps) → (if b then [] ∷ made ps [] else made ps []) ≡ missing_arrays (b ∷ map (λ p. p.is_array) ps)
+    by true rest = ap (λ l. [] ∷ l) rest
+    by false rest = rest
+
+made_arrays : (ps : List FormalParameter) (given : List Local) → made ps given ≡ missing_arrays (drop (length given) (map (λ p. p.is_array) ps))
+made_arrays [] [] = refl
+made_arrays [] (a ∷ given) = refl
+made_arrays (p ∷ ps) [] = made_missing (p ∷ ps)
+made_arrays (p ∷ ps) (a ∷ given) = made_arrays ps given
+
+-- a call with what was completed is active
+abbrev pub entered_by : Runtime → (height arrays_before : ℕ) → Runtime
+entered_by m height before = record m { frames = record { frames = record { locals = m.frames.staged; height = height; arrays_before = before } ∷ m.frames.frames; staged = [] } }
+
+pub call_entered : (m : Runtime) (kinds : List Bool) (height : ℕ) → EntersCall kinds height m (entered_by (completed kinds m) height (length m.arrays)) (Ok tt)
+unfolding enter
+call_entered m kinds height = record { enters = λ parameters are. own_changes (enter parameters height m.frames.staged) refl refl (omega arith) (λ s h.
+  let n : length s.arrays ≡ length m.arrays = ap length h.arrays in
+  let given = m.frames.staged in
+  let locals : map (λ (l : List ℕ × Local). l.1) (bound parameters given (length s.arrays)) ≡ take (length kinds) given ++ missing_locals (drop (length given) kinds) (length m.arrays) =
+      bound_locals parameters given (length s.arrays)
+      ∙ (ap (λ ks. take (length ks) given ++ missing_locals (drop (length given) ks) (length s.arrays)) are
+      ∙ ap (λ k. take (length kinds) given ++ missing_locals (drop (length given) kinds) k) n) in
+  record {
+    result = Ok tt;
+    state = record s {
+      frames = record { locals = bound parameters given (length s.arrays); height = height; arrays_before = length s.arrays } ∷ s.frames;
+      arrays = s.arrays ++ made parameters given;
+    };
+    is = refl;
+    part = record { outside = refl; openings = refl; output_openings = refl; closings = refl; runs = refl; outputs = refl; main = refl; streams = refl };
+    matches = refl;
+    holds = record {
+      current = h.current;
+      specials = h.specials;
+      globals = h.globals;
+      slots = h.slots;
+      array_names = h.array_names;
+      function_names = h.function_names;
+      arrays = ap (λ l. l ++ made parameters given) h.arrays ∙ ap (λ l. m.arrays ++ l) (made_arrays parameters given ∙ ap (λ ks. missing_arrays (drop (length given) ks)) are);
+      frames = ap (λ l. record { frames = record { locals = l; height = height; arrays_before = length m.arrays } ∷ m.frames.frames; staged = [] }) (sym locals)
+          ∙ (ap (λ k. record { frames = record { locals = map (λ (l : List ℕ × Local). l.1) (bound parameters given (length s.arrays)); height = height; arrays_before = k } ∷ m.frames.frames; staged = [] }) (sym n)
+          ∙ ap (λ fs. record { frames = record { locals = map (λ (l : List ℕ × Local). l.1) (bound parameters given (length s.arrays)); height = height; arrays_before = length s.arrays } ∷ fs; staged = [] }) (ap (λ f. f.frames) h.frames));
+      next = h.next;
+      input_seen = h.input_seen;
+      inside = h.inside;
+      status = h.status;
+      steps = h.steps;
+    };
+  }) }
+
+pub call_refused : (kinds : List Bool) (height : ℕ) {m new : Runtime} → Refused m new → EntersCall kinds height m new (Err (halt.Fault OutOfMemory))
+call_refused kinds height refused = record { enters = λ parameters are. memory_changes (enter parameters height _) refused.streams refused.names (omega (arith, refused.steps)) }
+
+module _ (m mid : Runtime) (kinds : List Bool) (height : ℕ) (is : mid ≡ completed kinds m) where
+  pub entered_behind : (before : ℕ) {calls : FramesView} → before ≡ length m.arrays → calls ≡ record { frames = record { locals = mid.frames.staged; height = height; arrays_before = before } ∷ mid.frames.frames; staged = [] }
+      → EntersCall kinds height m (record mid { frames = calls }) (Ok tt)
+  entered_behind before number calls_are = subst (λ (x : Runtime). EntersCall kinds height m x (Ok tt))
+      (ap (λ x. entered_by x height (length m.arrays)) (sym is) ∙ (ap (λ k. entered_by mid height k) (sym number) ∙ ap (λ c. record mid { frames = c }) (sym calls_are)))
+      (call_entered m kinds height)
+
+  pub refused_behind : {calls : FramesView} → EntersCall kinds height m (record mid { frames = calls }) (Err (halt.Fault OutOfMemory))
+  refused_behind = call_refused kinds height record { steps = ap (λ x. x.steps) is; names = ap (λ x. x.names) is; streams = ap (λ x. x.streams) is }
+
+-- what was given, where there is nothing: the state is the one without it
+pub given_nothing : {A : Type 0} {m new : Runtime} {r : Result A Halt} (run : Run A) → Changes run (without_given m) new r → Changes run m new r
+given_nothing {m = m} {new = new} {r = r} run d = record {
+  steps = d.steps;
+  names = d.names;
+  streams = d.streams;
+  means = λ k. record {
+    grows = (d.means k).grows;
+    means = λ oracle s past consistent stands. (d.means k).means oracle s past consistent record { clear = stands.clear; streams = stands.streams; holds = without_holds stands.holds };
+  };
+}
+  where
+    without_holds : {m : Runtime} {s : State} → OwnRelation m s → OwnRelation (without_given m) s
+    without_holds h = record {
+      current = h.current;
+      specials = h.specials;
+      globals = h.globals;
+      slots = h.slots;
+      array_names = h.array_names;
+      function_names = h.function_names;
+      arrays = h.arrays;
+      frames = ap (λ f. record { frames = f.frames; staged = [] }) h.frames;
+      next = h.next;
+      input_seen = h.input_seen;
+      inside = h.inside;
+      status = h.status;
+      steps = h.steps;
+    }
