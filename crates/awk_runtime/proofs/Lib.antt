@@ -5,3 +5,4 @@ pub mod ArrayWords
 pub mod NameNumbers
 pub mod ArgumentWords
 pub mod CallWords
+pub mod CallLemmas

@@ -1,5 +1,6 @@
 -- The state before a run.
-use Rattle.std.specs.Prelude.{◌≡◌, ℕ, suc, pos, false, List, [], length, get_or, None}
+use Rattle.std.specs.Prelude.{◌≡◌, ℕ, suc, pos, false, List, [], length, map, get_or, None}
+use Rattle.std.specs.Global.{Vec}
 use Rattle.awk_value.specs.declared.value.Value.TheVariants.{Nothing}
 use Rattle.awk_variables.specs.declared.special.Special.{Special}
 use Rattle.awk_variables.specs.Variables.{value_of, name_of, initial_value}
@@ -11,6 +12,13 @@ use Rattle.awk_runtime.specs.support.Naming.{Naming, AreOwn}
 -- a name with its text
 abbrev pub pair_of : Assignment → List ℕ × List ℕ
 pair_of a = (a.name.items, a.text.items)
+
+abbrev pub texts_of : List (Vec ℕ) → List (List ℕ)
+texts_of words = map (λ word. word.items) words
+
+-- the operands and the environment; assignments before a run come later
+abbrev pub start_of : List (Vec ℕ) → List Assignment → StartValues
+start_of operands environ = record { pre = []; operands = texts_of operands; environ = map pair_of environ }
 
 -- the code's state before a run of a program with these names
 pub record IsStart (names : Naming) (start : StartValues) (limit : ℕ) (m : Runtime) : Type 0 where
