@@ -6,3 +6,4 @@ pub mod NameNumbers
 pub mod ArgumentWords
 pub mod CallWords
 pub mod CallLemmas
+pub mod StartLemmas

@@ -1,10 +1,11 @@
 // The state before a run.
 
-ghost use Rattle.std.specs.Prelude.{◌≡◌, ◌+◌, ◌∷◌, [], map, suc, pos, length, replicate, None, IfOk, IfErr, OnOk, codes, get_or};
+ghost use Rattle.std.specs.Prelude.{◌≡◌, ℕ, List, ◌<◌, ◌∷◌, ◌++◌, [], map, suc, length, None, IfOk, IfErr, OnOk, codes, bytes_eq, get_or, slice_set};
 ghost use Rattle.awk_value.specs.declared.value.Value.TheVariants.{Nothing};
-ghost use Rattle.awk_variables.specs.Variables.{initial_value};
+ghost use Rattle.awk_variables.specs.Variables.{value_of, initial_value};
 ghost use Rattle.awk_semantics.specs.Results.{IsWantOfMemory};
-ghost use Rattle.awk_semantics.specs.Meaning.{argv_of, environ_from, first_array, first_arrays};
+ghost use Rattle.awk_semantics.specs.Meaning.{environ_from, first_array, first_arrays};
+ghost use Rattle.awk_storage.specs.support.Tables.{array_of};
 ghost use Rattle.awk_runtime.specs.support.Beginning.{pair_of, texts_of, start_of, IsStart};
 
 use crate::names::ProgramNames;
@@ -12,15 +13,179 @@ use crate::runtime::Runtime;
 use awk_channels::Streams;
 use awk_fields::Record;
 use awk_functions::{Formats, Patterns};
-use awk_semantics::Halt;
+use awk_semantics::{Fault, Halt};
 use awk_storage::{Arrays, Frames};
 use awk_value::{Bytes, Value};
 use awk_variables::Variables;
-use std::alloc::Global;
+use std::alloc::{AllocError, Global};
 
-/// A name with its text, as the environment has it, and the assignments before a run.
+/// A name with its text: of the environment, or of an assignment before a run.
 #[derive(Drop)]
 pub struct Assignment {
     pub name: Vec<u8>,
     pub text: Vec<u8>,
+}
+
+/// Whether a name is that of the operands' array.
+fn is_argv(name: &[u8]) -> bool
+    ensures { result ≡ bytes_eq name.now (codes "ARGV") }
+{
+    name == b"ARGV".as_slice()
+}
+
+/// Whether a name is that of the environment's array.
+fn is_environ(name: &[u8]) -> bool
+    ensures { result ≡ bytes_eq name.now (codes "ENVIRON") }
+{
+    name == b"ENVIRON".as_slice()
+}
+
+/// The elements of ARGV: `awk`, and the operands.
+fn argument_texts(alloc: Global, operands: &[Vec<u8>]) -> Result<Vec<Bytes>, AllocError>
+    ensures { IfOk result (λ texts. texts.items ≡ codes "awk" ∷ texts_of operands.now) }
+{
+    let mut texts = Vec::new(alloc);
+    texts.push(Bytes::from_slice(alloc, b"awk")?)?;
+    for operand in operands {
+        texts.push(Bytes::from_slice(alloc, operand)?)?;
+    }
+    Ok(texts)
+}
+
+/// Gives the array of a number the environment, by name. The only fault is want of memory. (POSIX awk, Variables and Special
+/// Variables: ENVIRON)
+fn put_environ(
+    alloc: Global,
+    arrays: &mut Arrays,
+    number: usize,
+    environ: &[Assignment],
+) -> Result<(), Halt>
+    requires { number < length arrays.old }
+    ensures put { OnOk result (arrays.new ≡ slice_set arrays.old number (environ_from (array_of arrays.old number) (map pair_of environ.now))) }
+    ensures memory { IfErr result IsWantOfMemory }
+{
+    for entry in environ {
+        let text = Bytes::from_slice(alloc, &entry.text)?;
+        arrays.put_text(number, &entry.name, Value::Input(text))?;
+    }
+    Ok(())
+}
+
+/// Adds the array of a name as it is before a run. The only fault is want of memory. (POSIX awk, Variables and Special
+/// Variables: ARGV, ENVIRON)
+fn add_array(
+    alloc: Global,
+    arrays: &mut Arrays,
+    name: &[u8],
+    operands: &[Vec<u8>],
+    environ: &[Assignment],
+) -> Result<(), Halt>
+    ensures added { OnOk result (arrays.new ≡ arrays.old ++ first_array (start_of operands.now environ.now) name.now ∷ []) }
+    ensures memory { IfErr result IsWantOfMemory }
+{
+    let number = arrays.len();
+    arrays.add()?;
+    if is_argv(name) {
+        arrays.fill(number, 0, argument_texts(alloc, operands)?)?;
+        return Ok(());
+    }
+    if is_environ(name) {
+        return put_environ(alloc, arrays, number, environ);
+    }
+    Ok(())
+}
+
+/// The arrays of a program before a run. The only fault is want of memory.
+fn first_arrays(
+    alloc: Global,
+    names: &ProgramNames,
+    operands: &[Vec<u8>],
+    environ: &[Assignment],
+) -> Result<Arrays, Halt>
+    ensures arrays { IfOk result (λ arrays. arrays ≡ first_arrays (start_of operands.now environ.now) names.now.arrays) }
+    ensures memory { IfErr result IsWantOfMemory }
+{
+    let mut arrays = Arrays::new(alloc);
+    for number in 0..names.array_count() {
+        if let Some(name) = names.array_name(number) {
+            add_array(alloc, &mut arrays, name, operands, environ)?;
+        }
+    }
+    Ok(arrays)
+}
+
+/// So many variables, of which none was ever assigned.
+fn unassigned(alloc: Global, count: usize) -> Result<Vec<Value>, AllocError>
+    ensures count { IfOk result (λ values. length values.items ≡ count) }
+    ensures nothing { IfOk result (λ values. (i : ℕ) → get_or values.items i Nothing ≡ Nothing) }
+{
+    let mut values = Vec::with_capacity(alloc, count)?;
+    while values.len() < count {
+        values.push(Value::Nothing)?;
+    }
+    Ok(values)
+}
+
+/// The streams before a run, with the room in which they hold back what is printed. The only fault is want of memory.
+fn streams_with_room(alloc: Global) -> Result<Streams, Halt>
+    ensures fresh { IfOk result (λ s. s ≡ record { main = None; output = []; error = []; named = [] }) }
+    ensures memory { IfErr result IsWantOfMemory }
+{
+    let mut streams = Streams::new(alloc);
+    streams.make_room()?;
+    Ok(streams)
+}
+
+/// The special variables before a run of so many operands. The only fault is want of memory.
+fn first_specials(alloc: Global, operands: usize) -> Result<Variables, Halt>
+    ensures start { IfOk result (λ v. (x : List ℕ) → value_of v x ≡ initial_value (suc operands) x) }
+    ensures memory { IfErr result IsWantOfMemory }
+{
+    let Some(arguments) = operands.checked_add(1) else {
+        return Err(Halt::Fault(Fault::OutOfMemory));
+    };
+    let specials = Variables::new(alloc, arguments)?;
+    Ok(specials)
+}
+
+impl Runtime {
+    /// The state before a run of a program with these names, of these operands, in this environment, with so many steps. The
+    /// only fault is want of memory.
+    pub fn new(
+        alloc: Global,
+        names: ProgramNames,
+        operands: &[Vec<u8>],
+        environ: &[Assignment],
+        limit: u64,
+    ) -> Result<Runtime, Halt>
+        ensures start { IfOk result (λ m. IsStart names (start_of operands.now environ.now) limit m) }
+        ensures memory { IfErr result IsWantOfMemory }
+    {
+        let streams = streams_with_room(alloc)?;
+        let specials = first_specials(alloc, operands.len())?;
+        let globals = unassigned(alloc, names.scalar_count())?;
+        let arrays = first_arrays(alloc, &names, operands, environ)?;
+        let current = Record::new(alloc)?;
+        let patterns = Patterns::new(alloc)?;
+        let formats = Formats::new(alloc)?;
+        Ok(Runtime {
+            alloc,
+            names,
+            current,
+            specials,
+            globals,
+            arrays,
+            frames: Frames::new(alloc),
+            streams,
+            patterns,
+            formats,
+            next: 1,
+            input_seen: false,
+            inside: Vec::new(alloc),
+            status: 0,
+            steps: limit,
+            line: Vec::new(alloc),
+            spans: Vec::new(alloc),
+        })
+    }
 }

@@ -21,15 +21,15 @@ abbrev pub start_of : List (Vec ℕ) → List Assignment → StartValues
 start_of operands environ = record { pre = []; operands = texts_of operands; environ = map pair_of environ }
 
 -- the code's state before a run of a program with these names
-pub record IsStart (names : Naming) (start : StartValues) (limit : ℕ) (m : Runtime) : Type 0 where
+pub record IsStart (naming : Naming) (start : StartValues) (limit : ℕ) (m : Runtime) : Type 0 where
   pub text : m.current.text ≡ []
   pub fields : m.current.fields ≡ []
-  pub names : m.names ≡ names
-  pub own : AreOwn names.scalars
+  pub names : m.names ≡ naming
+  pub own : AreOwn naming.scalars
   pub specials : (x : Special) → value_of m.specials (name_of x) ≡ initial_value (suc (length start.operands)) (name_of x)
   pub globals : (i : ℕ) → get_or m.globals.items i Nothing ≡ Nothing
-  pub slots : length m.globals.items ≡ length names.scalars
-  pub arrays : m.arrays ≡ first_arrays start names.arrays
+  pub slots : length m.globals.items ≡ length naming.scalars
+  pub arrays : m.arrays ≡ first_arrays start naming.arrays
   pub frames : m.frames ≡ record { frames = []; staged = [] }
   pub streams : m.streams ≡ record { main = None; output = []; error = []; named = [] }
   pub next : m.next ≡ pos 1
