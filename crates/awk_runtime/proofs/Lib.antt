@@ -7,3 +7,4 @@ pub mod ArgumentWords
 pub mod CallWords
 pub mod CallLemmas
 pub mod StartLemmas
+pub mod StartRelation

@@ -148,6 +148,55 @@ fn first_specials(alloc: Global, operands: usize) -> Result<Variables, Halt>
     Ok(specials)
 }
 
+/// The record at hand before a run. The only fault is want of memory.
+fn first_record(alloc: Global) -> Result<Record, Halt>
+    ensures text { IfOk result (λ r. r.text ≡ []) }
+    ensures fields { IfOk result (λ r. r.fields ≡ []) }
+    ensures memory { IfErr result IsWantOfMemory }
+{
+    let record = Record::new(alloc)?;
+    Ok(record)
+}
+
+/// What is kept of patterns and formats before a run. The only fault is want of memory.
+fn patterns_and_formats(alloc: Global) -> Result<(Patterns, Formats), Halt>
+    ensures { IfErr result IsWantOfMemory }
+{
+    let patterns = Patterns::new(alloc)?;
+    Ok((patterns, Formats::new(alloc)?))
+}
+
+/// The values and the arrays before a run.
+#[derive(Drop)]
+struct Values {
+    specials: Variables,
+    globals: Vec<Value>,
+    arrays: Arrays,
+}
+
+/// The values and the arrays before a run. The only fault is want of memory.
+fn first_values(
+    alloc: Global,
+    names: &ProgramNames,
+    operands: &[Vec<u8>],
+    environ: &[Assignment],
+) -> Result<Values, Halt>
+    ensures specials { IfOk result (λ v. (x : List ℕ) → value_of v.specials x ≡ initial_value (suc (length operands.now)) x) }
+    ensures slots { IfOk result (λ v. length v.globals.items ≡ length names.now.scalars) }
+    ensures nothing { IfOk result (λ v. (i : ℕ) → get_or v.globals.items i Nothing ≡ Nothing) }
+    ensures arrays { IfOk result (λ v. v.arrays ≡ first_arrays (start_of operands.now environ.now) names.now.arrays) }
+    ensures memory { IfErr result IsWantOfMemory }
+{
+    let globals = unassigned(alloc, names.scalar_count())?;
+    let arrays = first_arrays(alloc, names, operands, environ)?;
+    let specials = first_specials(alloc, operands.len())?;
+    Ok(Values {
+        specials,
+        globals,
+        arrays,
+    })
+}
+
 impl Runtime {
     /// The state before a run of a program with these names, of these operands, in this environment, with so many steps. The
     /// only fault is want of memory.
@@ -161,13 +210,15 @@ impl Runtime {
         ensures start { IfOk result (λ m. IsStart names (start_of operands.now environ.now) limit m) }
         ensures memory { IfErr result IsWantOfMemory }
     {
+        let _own = names.scalar_count();
+        let Values {
+            specials,
+            globals,
+            arrays,
+        } = first_values(alloc, &names, operands, environ)?;
+        let (patterns, formats) = patterns_and_formats(alloc)?;
+        let current = first_record(alloc)?;
         let streams = streams_with_room(alloc)?;
-        let specials = first_specials(alloc, operands.len())?;
-        let globals = unassigned(alloc, names.scalar_count())?;
-        let arrays = first_arrays(alloc, &names, operands, environ)?;
-        let current = Record::new(alloc)?;
-        let patterns = Patterns::new(alloc)?;
-        let formats = Formats::new(alloc)?;
         Ok(Runtime {
             alloc,
             names,
