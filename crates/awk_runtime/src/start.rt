@@ -6,7 +6,7 @@ ghost use Rattle.awk_variables.specs.Variables.{value_of, initial_value};
 ghost use Rattle.awk_semantics.specs.Results.{IsWantOfMemory};
 ghost use Rattle.awk_semantics.specs.Meaning.{environ_from, first_array, first_arrays};
 ghost use Rattle.awk_storage.specs.support.Tables.{array_of};
-ghost use Rattle.awk_runtime.specs.support.Beginning.{pair_of, texts_of, start_of, IsStart};
+ghost use Rattle.awk_runtime.specs.support.Beginning.{pair_of, texts_of, start_of, IsPutTogether, IsStart};
 
 use crate::names::ProgramNames;
 use crate::runtime::Runtime;
@@ -158,12 +158,31 @@ fn first_record(alloc: Global) -> Result<Record, Halt>
     Ok(record)
 }
 
-/// What is kept of patterns and formats before a run. The only fault is want of memory.
-fn patterns_and_formats(alloc: Global) -> Result<(Patterns, Formats), Halt>
-    ensures { IfErr result IsWantOfMemory }
+/// What is read and printed by, before a run.
+#[derive(Drop)]
+struct Readers {
+    current: Record,
+    patterns: Patterns,
+    formats: Formats,
+    streams: Streams,
+}
+
+/// What is read and printed by, before a run. The only fault is want of memory.
+fn first_readers(alloc: Global) -> Result<Readers, Halt>
+    ensures text { IfOk result (λ r. r.current.text ≡ []) }
+    ensures fields { IfOk result (λ r. r.current.fields ≡ []) }
+    ensures streams { IfOk result (λ r. r.streams ≡ record { main = None; output = []; error = []; named = [] }) }
+    ensures memory { IfErr result IsWantOfMemory }
 {
+    let current = first_record(alloc)?;
+    let streams = streams_with_room(alloc)?;
     let patterns = Patterns::new(alloc)?;
-    Ok((patterns, Formats::new(alloc)?))
+    Ok(Readers {
+        current,
+        patterns,
+        formats: Formats::new(alloc)?,
+        streams,
+    })
 }
 
 /// The values and the arrays before a run.
@@ -197,6 +216,37 @@ fn first_values(
     })
 }
 
+/// A state of these parts, in which nothing was done.
+fn put_together(
+    alloc: Global,
+    names: ProgramNames,
+    values: Values,
+    readers: Readers,
+    limit: u64,
+) -> Runtime
+    ensures { IsPutTogether names values readers limit result }
+{
+    Runtime {
+        alloc,
+        names,
+        current: readers.current,
+        specials: values.specials,
+        globals: values.globals,
+        arrays: values.arrays,
+        frames: Frames::new(alloc),
+        streams: readers.streams,
+        patterns: readers.patterns,
+        formats: readers.formats,
+        next: 1,
+        input_seen: false,
+        inside: Vec::new(alloc),
+        status: 0,
+        steps: limit,
+        line: Vec::new(alloc),
+        spans: Vec::new(alloc),
+    }
+}
+
 impl Runtime {
     /// The state before a run of a program with these names, of these operands, in this environment, with so many steps. The
     /// only fault is want of memory.
@@ -211,32 +261,8 @@ impl Runtime {
         ensures memory { IfErr result IsWantOfMemory }
     {
         let _own = names.scalar_count();
-        let Values {
-            specials,
-            globals,
-            arrays,
-        } = first_values(alloc, &names, operands, environ)?;
-        let (patterns, formats) = patterns_and_formats(alloc)?;
-        let current = first_record(alloc)?;
-        let streams = streams_with_room(alloc)?;
-        Ok(Runtime {
-            alloc,
-            names,
-            current,
-            specials,
-            globals,
-            arrays,
-            frames: Frames::new(alloc),
-            streams,
-            patterns,
-            formats,
-            next: 1,
-            input_seen: false,
-            inside: Vec::new(alloc),
-            status: 0,
-            steps: limit,
-            line: Vec::new(alloc),
-            spans: Vec::new(alloc),
-        })
+        let values = first_values(alloc, &names, operands, environ)?;
+        let readers = first_readers(alloc)?;
+        Ok(put_together(alloc, names, values, readers, limit))
     }
 }

@@ -6,6 +6,8 @@ use Rattle.awk_variables.specs.declared.special.Special.{Special}
 use Rattle.awk_variables.specs.Variables.{value_of, name_of, initial_value}
 use Rattle.awk_semantics.specs.Meaning.{StartValues, first_arrays}
 use Rattle.awk_runtime.specs.declared.start.Assignment.{Assignment}
+use Rattle.awk_runtime.specs.declared.start.Readers.{Readers}
+use Rattle.awk_runtime.specs.declared.start.Values.{Values}
 use Rattle.awk_runtime.specs.declared.runtime.Runtime.{Runtime}
 use Rattle.awk_runtime.specs.support.Naming.{Naming, AreOwn}
 
@@ -32,6 +34,21 @@ pub record IsStart (naming : Naming) (start : StartValues) (limit : ℕ) (m : Ru
   pub arrays : m.arrays ≡ first_arrays start naming.arrays
   pub frames : m.frames ≡ record { frames = []; staged = [] }
   pub streams : m.streams ≡ record { main = None; output = []; error = []; named = [] }
+  pub next : m.next ≡ pos 1
+  pub input_seen : m.input_seen ≡ false
+  pub inside : m.inside.items ≡ []
+  pub status : m.status ≡ 0
+  pub steps : m.steps ≡ limit
+
+-- the code's state of these parts, in which nothing was done
+pub record IsPutTogether (naming : Naming) (values : Values) (readers : Readers) (limit : ℕ) (m : Runtime) : Type 0 where
+  pub names : m.names ≡ naming
+  pub current : m.current ≡ readers.current
+  pub specials : m.specials ≡ values.specials
+  pub globals : m.globals ≡ values.globals
+  pub arrays : m.arrays ≡ values.arrays
+  pub frames : m.frames ≡ record { frames = []; staged = [] }
+  pub streams : m.streams ≡ readers.streams
   pub next : m.next ≡ pos 1
   pub input_seen : m.input_seen ≡ false
   pub inside : m.inside.items ≡ []
