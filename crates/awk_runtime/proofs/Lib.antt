@@ -10,3 +10,7 @@ pub mod VariableWords
 pub mod Turns
 pub mod Prints
 pub mod Openings
+pub mod CallWords
+pub mod CallLemmas
+pub mod StartLemmas
+pub mod StartRelation

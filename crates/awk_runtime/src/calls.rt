@@ -1,11 +1,12 @@
 // Calls of functions.
 
-ghost use Rattle.std.specs.Prelude.{Ok};
+ghost use Rattle.std.specs.Prelude.{◌≡◌, ◌∷◌, [], true, Ok, OnOk, OnErr, IfErr};
 ghost use Rattle.awk_semantics.specs.Primitives.{check_height, leave};
 ghost use Rattle.awk_semantics.specs.declared.local.Local.{Local as Given};
 ghost use Rattle.awk_semantics.specs.declared.local.Local.TheVariants.{Value as GivenValue, Array as GivenArray};
+ghost use Rattle.awk_semantics.specs.Results.{IsWantOfMemory};
 ghost use Rattle.awk_runtime.specs.support.Simulation.{Changes};
-ghost use Rattle.awk_runtime.specs.support.Calling.{kept_number, Gives, EntersCall, EndsCalls};
+ghost use Rattle.awk_runtime.specs.support.Calling.{kept_number, Gives, Refused, with_missing, completed, EntersCall, EndsCalls};
 
 use crate::runtime::Runtime;
 use awk_semantics::{Fault, Halt, Local};
@@ -44,13 +45,81 @@ impl Runtime {
         Ok(())
     }
 
+    /// Gives the call that is about to be made a new array, which is empty. The only fault is want of memory.
+    fn give_new_array(&mut self) -> Result<(), Halt>
+        ensures given { OnOk result (self.new ≡ with_missing (true ∷ []) self.old) }
+        ensures refused { OnErr result (Refused self.old self.new) }
+        ensures memory { IfErr result IsWantOfMemory }
+    {
+        let Ok(number) = u32::try_from(self.arrays.len()) else {
+            return Err(Halt::Fault(Fault::OutOfMemory));
+        };
+        self.arrays.add()?;
+        self.frames.stage(Local::Array(number))?;
+        Ok(())
+    }
+
+    /// Gives the call that is about to be made what parameters of these kinds have for want of arguments. The only fault is
+    /// want of memory.
+    fn give_missing(&mut self, kinds: &[bool]) -> Result<(), Halt>
+        ensures given { OnOk result (self.new ≡ with_missing kinds.now self.old) }
+        ensures refused { OnErr result (Refused self.old self.new) }
+        ensures memory { IfErr result IsWantOfMemory }
+    {
+        for is_array in kinds {
+            if *is_array {
+                self.give_new_array()?;
+            } else {
+                self.give_value(Value::Nothing)?;
+            }
+        }
+        Ok(())
+    }
+
+    /// As many are given as there are parameters. The only fault is want of memory.
+    fn complete_given(&mut self, kinds: &[bool]) -> Result<(), Halt>
+        ensures given { OnOk result (self.new ≡ completed kinds.now self.old) }
+        ensures refused { OnErr result (Refused self.old self.new) }
+        ensures memory { IfErr result IsWantOfMemory }
+    {
+        let given = self.frames.staged_count();
+        if given > kinds.len() {
+            self.frames.truncate_staged(kinds.len());
+            return Ok(());
+        }
+        self.give_missing(&kinds[given..])
+    }
+
+    /// A call of a body of this height is active, with all that it was given; a parameter without an argument was never
+    /// assigned, or is a new empty array. `kinds` tells of each parameter whether it is an array. (POSIX awk, User-Defined
+    /// Functions)
+    pub fn enter_call(&mut self, kinds: &[bool], height: u64) -> Result<(), Halt>
+        ensures { EntersCall kinds.now height self.old self.new result }
+    {
+        let arrays_before = self.arrays.len();
+        self.complete_given(kinds)?;
+        self.frames.enter(height, arrays_before)?;
+        Ok(())
+    }
+
     /// The newest call is over, and the arrays that it made are no more. (POSIX awk, User-Defined Functions)
     pub fn leave_call(&mut self)
         ensures { Changes leave self.old self.new (Ok tt) }
     {
-        if let Some(count) = self.frames.arrays_before() {
-            self.arrays.truncate(count);
-        }
+        let Some(count) = self.frames.arrays_before() else {
+            return;
+        };
+        self.arrays.truncate(count);
         self.frames.leave();
+    }
+
+    /// No call is active any more, and the arrays that calls made are no more.
+    pub fn end_calls(&mut self)
+        ensures { EndsCalls self.old self.new }
+    {
+        while let Some(count) = self.frames.arrays_before() {
+            self.arrays.truncate(count);
+            self.frames.leave();
+        }
     }
 }

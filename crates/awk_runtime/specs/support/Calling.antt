@@ -1,5 +1,5 @@
 -- How calls, and what they are given, stand for those of the definitions.
-use Rattle.std.specs.Prelude.{◌≡◌, ℕ, ℤ, Bool, List, [], ◌∷◌, ◌++◌, map, slice_get, unwrap_or, Option, Some, None, Result, Ok, Err, OnOk, OnErr, IfErr}
+use Rattle.std.specs.Prelude.{◌≡◌, ℕ, suc, ℤ, Bool, true, false, List, [], ◌∷◌, ◌++◌, length, map, take, drop, slice_get, unwrap_or, Option, Some, None, Result, Ok, Err, OnOk, OnErr, IfErr}
 use Rattle.std.specs.Fmt.{signed_decimal}
 use Rattle.std.specs.Global.{Vec}
 use Rattle.awk_value.specs.declared.value.Value.TheVariants as value
@@ -47,13 +47,48 @@ with_given l m = record m { frames = record { frames = m.frames.frames; staged =
 abbrev pub without_given : Runtime → Runtime
 without_given m = record m { frames = record { frames = m.frames.frames; staged = [] } }
 
+-- memory was refused to the code's own part
+pub record Refused (old new : Runtime) : Type 0 where
+  pub steps : new.steps ≡ old.steps
+  pub names : new.names ≡ old.names
+  pub streams : new.streams ≡ old.streams
+
+-- what parameters have for want of arguments, where the next array gets this number; `kinds` tells of each parameter whether
+-- it is an array
+abbrev pub missing_locals : (kinds : List Bool) → (n : ℕ) → List Local
+missing_locals [] n = []
+missing_locals (true ∷ kinds) n = local.Array n ∷ missing_locals kinds (suc n)
+missing_locals (false ∷ kinds) n = local.Value value.Nothing ∷ missing_locals kinds n
+
+-- the arrays that are made for them
+abbrev pub missing_arrays : (kinds : List Bool) → List Elements
+missing_arrays [] = []
+missing_arrays (true ∷ kinds) = [] ∷ missing_arrays kinds
+missing_arrays (false ∷ kinds) = missing_arrays kinds
+
+abbrev pub with_missing : (kinds : List Bool) → Runtime → Runtime
+with_missing kinds m = record m {
+  arrays = m.arrays ++ missing_arrays kinds;
+  frames = record { frames = m.frames.frames; staged = m.frames.staged ++ missing_locals kinds (length m.arrays) };
+}
+
+-- as many are given as there are parameters
+abbrev pub completed : (kinds : List Bool) → Runtime → Runtime
+completed kinds m = record m {
+  arrays = m.arrays ++ missing_arrays (drop (length m.frames.staged) kinds);
+  frames = record {
+    frames = m.frames.frames;
+    staged = take (length kinds) m.frames.staged ++ missing_locals (drop (length m.frames.staged) kinds) (length m.arrays);
+  };
+}
+
 -- an argument is given
 pub record Gives (l : Local) (old new : Runtime) (r : Result (Unit {0}) Halt) : Type 0 where
   pub given : OnOk r (new ≡ with_given l old)
   pub unchanged : OnErr r (new ≡ old)
   pub memory : IfErr r IsWantOfMemory
 
--- a call is active that was given all this; `kinds` tells of each parameter whether it is an array
+-- a call is active that was given all this
 pub record EntersCall (kinds : List Bool) (height : ℕ) (old new : Runtime) (r : Result (Unit {0}) Halt) : Type 0 where
   pub enters : (parameters : List FormalParameter) → map (λ p. p.is_array) parameters ≡ kinds → Changes (enter parameters height old.frames.staged) (without_given old) new r
 
