@@ -8,7 +8,7 @@ ghost use Rattle.awk_semantics.specs.Inputs.{text_or_fault, assign_text};
 ghost use Rattle.awk_runtime.specs.support.Naming.{is_unassignable_among};
 ghost use Rattle.awk_semantics.specs.Primitives.{put_outside, put_special, count_in, is_inside, set_inside, set_status};
 ghost use Rattle.awk_semantics.specs.Streams.{begin_input, note_input};
-ghost use Rattle.awk_storage.specs.Positions.{read_variable, put_variable, read_local, read_slot, put_slot};
+ghost use Rattle.awk_storage.specs.Positions.{read_variable, put_variable, read_local, put_local, read_slot, put_slot};
 ghost use Rattle.awk_lex.specs.Escapes.{unescaped};
 
 use crate::names::is_field_count;
@@ -78,7 +78,8 @@ impl Runtime {
     {
         match self.frames.local(index as usize) {
             Some(Local::Value(value)) => Ok(value.clone()?),
-            Some(Local::Array(_)) | None => Ok(Value::Nothing),
+            Some(Local::Array(_)) => Ok(Value::Nothing),
+            None => Ok(Value::Nothing),
         }
     }
 
