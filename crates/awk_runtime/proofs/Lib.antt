@@ -1,8 +1,15 @@
 pub mod Effects
 pub mod Composition
 pub mod Steps
+pub mod TextChanges
+pub mod ArrayWords
+pub mod NameNumbers
+pub mod ArgumentWords
 pub mod Words
 pub mod VariableWords
 pub mod NameWords
 pub mod EndWords
 pub mod PlaceWords
+pub mod Turns
+pub mod Prints
+pub mod Openings

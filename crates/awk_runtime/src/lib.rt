@@ -18,3 +18,4 @@ mod variables;
 
 pub use names::ProgramNames;
 pub use runtime::Runtime;
+pub use texts::PatternSource;

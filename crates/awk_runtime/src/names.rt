@@ -1,13 +1,16 @@
-// The names of a program, by their places.
+// The names of a program and the texts of its EREs, by their places.
 
 ghost use Rattle.std.specs.Prelude.{◌≡◌, length, map, slice_get, Some, IfSome, IfNone, IfOk, false, codes, bytes_eq};
 ghost use Rattle.awk_variables.specs.Names.{has_name, AreDistinct};
 ghost use Rattle.awk_semantics.specs.Inputs.{is_among};
-ghost use Rattle.awk_runtime.specs.support.Naming.{AreOwn, names_of};
+ghost use Rattle.awk_runtime.specs.support.Naming.{AreOwn, ere_at, names_of};
 
+use awk_value::Bytes;
 use indexmap::IndexSet;
 use std::alloc::{AllocError, Global};
 use std::marker::Model;
+
+mod numbers;
 
 /// Whether a name is NF, which is counted in the record.
 pub(crate) fn is_field_count(name: &[u8]) -> bool
@@ -29,12 +32,13 @@ pub fn name_set(alloc: Global, names: &[Vec<u8>]) -> Result<IndexSet<Vec<u8>>, A
 }
 
 /// The names of a program: its variables by their slots, each once and none of them a special one; the arrays of the whole
-/// program by their numbers, and the functions.
+/// program by their numbers, the functions, and the texts between the slashes of its EREs by their numbers.
 #[derive(Drop)]
 pub struct ProgramNames {
     scalars: IndexSet<Vec<u8>>,
     arrays: IndexSet<Vec<u8>>,
     functions: IndexSet<Vec<u8>>,
+    eres: Vec<Bytes>,
 }
 
 impl Model for ProgramNames {
@@ -48,6 +52,7 @@ impl Model for ProgramNames {
       scalars = map (λ k. k.items) n.scalars.keys;
       arrays = map (λ k. k.items) n.arrays.keys;
       functions = map (λ k. k.items) n.functions.keys;
+      eres = n.eres.items;
     } };
 
     ghost invariant = { λ n. AreDistinct (map (λ k. k.items) n.scalars.keys) × AreOwn (map (λ k. k.items) n.scalars.keys) };
@@ -61,15 +66,17 @@ impl ProgramNames {
         scalars: IndexSet<Vec<u8>>,
         arrays: IndexSet<Vec<u8>>,
         functions: IndexSet<Vec<u8>>,
+        eres: Vec<Bytes>,
     ) -> ProgramNames
         requires distinct { AreDistinct (names_of scalars.keys) }
         requires own { AreOwn (names_of scalars.keys) }
-        ensures { result ≡ record { scalars = names_of scalars.keys; arrays = names_of arrays.keys; functions = names_of functions.keys } }
+        ensures { result ≡ record { scalars = names_of scalars.keys; arrays = names_of arrays.keys; functions = names_of functions.keys; eres = eres.items } }
     {
         ProgramNames {
             scalars,
             arrays,
             functions,
+            eres,
         }
     }
 
@@ -88,6 +95,17 @@ impl ProgramNames {
         ensures none { IfNone result (has_name self.now.scalars name.now ≡ false) }
     {
         self.scalars.get_index_of(name)
+    }
+
+    /// The text between the slashes of an ERE, by its number. One that isn't there is empty.
+    #[inline]
+    pub fn ere(&self, number: u32) -> &[u8]
+        ensures { result.now ≡ ere_at self.now number }
+    {
+        match self.eres.get(number as usize) {
+            Some(text) => text.as_slice(),
+            None => b"",
+        }
     }
 
     /// Whether a name is an array's.

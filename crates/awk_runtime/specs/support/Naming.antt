@@ -1,5 +1,5 @@
--- The names of a program, by their places.
-use Rattle.std.specs.Prelude.{◌≡◌, ℕ, Bool, false, ◌||◌, List, map, slice_get, Some, codes, bytes_eq}
+-- The names of a program and the texts of its EREs, by their places.
+use Rattle.std.specs.Prelude.{◌≡◌, ℕ, Bool, false, ◌||◌, List, [], map, slice_get, get_or, Some, codes, bytes_eq}
 use Rattle.std.specs.Global.{Vec}
 use Rattle.awk_lex.specs.Words.{is_reserved, is_left_out}
 use Rattle.awk_variables.specs.declared.special.Special.{Special}
@@ -15,6 +15,12 @@ pub record Naming : Type 0 where
   -- the arrays of the whole program, by their numbers
   pub arrays : List (List ℕ)
   pub functions : List (List ℕ)
+  -- the texts between the slashes of its EREs, by their numbers
+  pub eres : List (List ℕ)
+
+-- the text of an ERE, by its number
+abbrev pub ere_at : Naming → ℕ → List ℕ
+ere_at names number = get_or names.eres number []
 
 -- none is a special variable's, or NF
 abbrev pub AreOwn : List (List ℕ) → Type 0

@@ -1,0 +1,195 @@
+-- What printing does to the state of a run.
+use Rattle.std.proofs.Common.{rules, ◌≡◌, ◌==◌, true, ℕ, List, [], ◌∷◌, ◌++◌, length, Option, Some, None, Result, Ok, Err, IfErr, inl, inr, refl, sym, ap, ◌∙◌, subst, arith}
+use Rattle.awk_value.specs.declared.value.Value.{Value}
+use Rattle.awk_value.specs.Values.{str_of}
+use Rattle.awk_channels.specs.declared.fault.StreamFault.{StreamFault}
+use Rattle.awk_channels.specs.declared.fault.StreamFault.TheVariants.{Memory, WriteFailed, InputNotReadable, OutputNotOpened, TooManyStreams, SeparatorTooLong, RecordTooLong}
+use Rattle.awk_channels.specs.declared.input.Input.{Input}
+use Rattle.awk_channels.specs.declared.streams.Target.{Target}
+use Rattle.awk_channels.specs.declared.streams.Target.TheVariants as target
+use Rattle.awk_channels.specs.WorldState.{WorldState}
+use Rattle.awk_channels.specs.Log.{Event, Wrote}
+use Rattle.awk_channels.specs.Oracle.{Oracle}
+use Rattle.awk_channels.specs.Writes.{Writes}
+use Rattle.awk_channels.specs.Openings.{Opening, Begins}
+use Rattle.awk_channels.specs.Outputs.{IsOutputFault}
+use Rattle.awk_channels.specs.Streams.{StreamsView, printed_openings, opening_at}
+use Rattle.awk_channels.specs.NamedOutputs.{Prints}
+use Rattle.awk_semantics.specs.declared.halt.Halt.{Halt}
+use Rattle.awk_semantics.specs.declared.halt.Halt.TheVariants as halt
+use Rattle.awk_semantics.specs.declared.fault.Fault.TheVariants as faults
+use Rattle.awk_semantics.specs.State.{Effect, Printed, State, Out, Run, ◌>>=◌, lift, ret}
+use Rattle.awk_semantics.specs.Results.{sort_of, YieldsBy}
+use Rattle.awk_semantics.specs.Operators.{line_of}
+use Rattle.awk_semantics.specs.Primitives.{print_bytes, print_line, format_values}
+use Rattle.awk_semantics.specs.Meaning.{with_bytes, outputs_after}
+use Rattle.awk_semantics.specs.Order.{AreBetween, GoesBetween, first_stage}
+use Rattle.awk_variables.specs.declared.special.Special.TheVariants.{Ofs, Ors}
+use Rattle.awk_variables.specs.Variables.{value_of, name_of}
+use Rattle.awk_runtime.specs.declared.runtime.Runtime.{Runtime}
+use Rattle.awk_runtime.specs.support.Simulation.{OwnRelation, main_number, stage_of, StreamsRelation, StateRelation, FailureRelation, FailedLast, ResultRelation, SimulatesLogged, Changes, Follows, Beside, SameState, halted}
+use Rattle.awk_runtime.specs.support.Printing.{PrintsTo, OpensTarget}
+use Rattle.awk_runtime.proofs.Composition.{then_logged, ends_logged, lift_logged, memory_changes}
+use Rattle.awk_runtime.proofs.Effects.{turn_between}
+use Rattle.awk_runtime.proofs.Steps.{beside_holds, reads_changes}
+use Rattle.awk_runtime.proofs.Turns.{same_logged, length-with_bytes, outputs_printed}
+
+-- what is written to an output meets no request
+
+writes_between : (id : ℕ) (main : Option ℕ) (bytes : List ℕ) (es : List Event) → Writes id bytes es → AreBetween main es main
+writes_between id main bytes [] h = refl
+writes_between id main bytes (Wrote i bs ∷ es) h = writes_between id main h.1.0 es h.1.2
+writes_between id main bytes (e ∷ es) h = absurd h
+
+writes_go : (to : Target) (bytes : List ℕ) (before after : WorldState) (old new : StreamsView) (r : Result (Unit {0}) StreamFault) → Prints to bytes before old r after new → GoesBetween (stage_of before.log old) (stage_of after.log new)
+writes_go to bytes before after old new r told = record {
+  events = told.only.1.events;
+  log = told.only.1.log;
+  between = subst (λ (m : Option Input). AreBetween (main_number old.main) told.only.1.events (main_number m)) (sym told.main) (writes_between told.id (main_number old.main) told.only.0 told.only.1.events told.only.1.each);
+  streams = told.numbers;
+}
+
+-- the outputs that the definitions have then
+as_printed : (oracle : Oracle) (old : StreamsView) (before : WorldState) (s : State) (past : List Effect) (n : ℕ) (bytes : List ℕ) → StreamsRelation oracle old before s past → with_bytes n bytes (printed_openings before old) ≡ outputs_after (past ++ Printed n bytes ∷ [])
+as_printed oracle old before s past n bytes stands = ap (λ (os : List Opening). with_bytes n bytes os) stands.printed ∙ sym (outputs_printed past n bytes)
+
+shown : (oracle : Oracle) (to : Target) (bytes : List ℕ) (old new : StreamsView) (before after : WorldState) (s : State) (past : List Effect) → (told : Prints to bytes before old (Ok tt) after new)
+    → StreamsRelation oracle old before s past → StreamsRelation oracle new after s (past ++ Printed told.opening bytes ∷ [])
+shown oracle to bytes old new before after s past told stands = record {
+  outside = stands.outside;
+  openings = λ kind name. stands.openings kind name ∙ sym (told.counts.inputs kind name);
+  output_openings = λ kind name. stands.output_openings kind name ∙ sym (told.counts.outputs kind name);
+  closings = stands.closings ∙ sym told.counts.closings;
+  runs = stands.runs ∙ sym told.counts.runs;
+  outputs = stands.outputs ∙ sym (ap (λ (os : List Opening). length os) (outputs_printed past told.opening bytes) ∙ length-with_bytes told.opening bytes (outputs_after past));
+  are = told.same oracle s.main s.streams stands.are;
+  printed = told.printed ∙ as_printed oracle old before s past told.opening bytes stands;
+  turn = turn_between oracle past (Printed told.opening bytes ∷ []) first_stage (stage_of before.log old) (stage_of after.log new) refl stands.turn (writes_go to bytes before after old new (Ok tt) told);
+}
+
+print_comes : (to : Target) (bytes : List ℕ) {old new : Runtime} {before after : WorldState} → Beside old new → (told : Prints to bytes before old.streams (Ok tt) after new.streams)
+    → (oracle : Oracle) (s : State) (past : List Effect) → StateRelation oracle old before s past → ResultRelation oracle new after (Ok tt) (print_bytes told.opening bytes s) past
+unfolding print_bytes
+print_comes to bytes {old = old} {new = new} {before = before} {after = after} beside told oracle s past stands = (refl, record {
+  clear = told.failure ∙ stands.clear;
+  streams = shown oracle to bytes old.streams new.streams before after s past told stands.streams;
+  holds = beside_holds beside stands.holds;
+})
+
+-- a print that a failure broke off
+print_fails : {failure : Type 0} (to : Target) (bytes : List ℕ) (fault : StreamFault) {old new : Runtime} {before after : WorldState} → (told : Prints to bytes before old.streams (Err fault) after new.streams) → failure
+    → (oracle : Oracle) (s : State) (past : List Effect) → StateRelation oracle old before s past → FailureRelation failure new after (past ++ (print_bytes told.opening bytes s).effects)
+unfolding print_bytes
+print_fails to bytes fault {old = old} {new = new} {before = before} {after = after} told failed oracle s past stands = record {
+  begins = subst (λ (os : List Opening). Begins (printed_openings after new.streams) os) (as_printed oracle old.streams before s past told.opening bytes stands.streams) told.partly;
+  failure = failed;
+}
+
+print_told : (r : Result (Unit {0}) StreamFault) (to : Target) (bytes : List ℕ) {old new : Runtime} {before after : WorldState} → Beside old new → (told : Prints to bytes before old.streams r after new.streams)
+    → IfErr r IsOutputFault → SimulatesLogged old before new after (halted r) (print_bytes told.opening bytes)
+print_told (Ok tt) to bytes beside told fault = record { grows = told.grows; means = λ oracle s past consistent stands. print_comes to bytes beside told oracle s past stands }
+print_told (Err Memory) to bytes beside told fault = record { grows = told.grows; means = λ oracle s past consistent stands. print_fails to bytes Memory told (told.failure stands.clear) oracle s past stands }
+print_told (Err WriteFailed) to bytes beside told fault = record { grows = told.grows; means = λ oracle s past consistent stands. print_fails to bytes WriteFailed told (told.failure stands.clear) oracle s past stands }
+print_told (Err InputNotReadable) to bytes beside told fault = absurd (elim fault [ inl e ↦ (cc) | inr e ↦ (cc) ])
+print_told (Err OutputNotOpened) to bytes beside told fault = absurd (elim fault [ inl e ↦ (cc) | inr e ↦ (cc) ])
+print_told (Err TooManyStreams) to bytes beside told fault = absurd (elim fault [ inl e ↦ (cc) | inr e ↦ (cc) ])
+print_told (Err SeparatorTooLong) to bytes beside told fault = absurd (elim fault [ inl e ↦ (cc) | inr e ↦ (cc) ])
+print_told (Err RecordTooLong) to bytes beside told fault = absurd (elim fault [ inl e ↦ (cc) | inr e ↦ (cc) ])
+
+same_opening : (o : Option ℕ) (m n : ℕ) → o ≡ Some m → o ≡ Some n → m ≡ n
+same_opening o m n e f = let g : Some m ≡ Some n = sym e ∙ f in cc
+
+print_logged : (r : Result (Unit {0}) StreamFault) (to : Target) (bytes : List ℕ) (n : ℕ) {old new : Runtime} {before after : WorldState} → Beside old new → opening_at to old.streams before.log ≡ Some n
+    → Prints to bytes before old.streams r after new.streams → IfErr r IsOutputFault → SimulatesLogged old before new after (halted r) (print_bytes n bytes)
+print_logged r to bytes n {old = old} {new = new} {before = before} {after = after} beside place told fault =
+    subst (λ (i : ℕ). SimulatesLogged old before new after (halted r) (print_bytes i bytes)) (same_opening (opening_at to old.streams before.log) told.opening n told.place place) (print_told r to bytes beside told fault)
+
+-- a line of values
+
+-- the line that the code prints of values
+abbrev pub line_in : Runtime → List Value → List ℕ
+line_in m vs = line_of (str_of (value_of m.specials (name_of Ofs))) (str_of (value_of m.specials (name_of Ors))) vs
+
+-- the line of values that are equal
+pub line_same : (between between' behind behind' : Value) (vs : List Value) → between ≡ between' → behind ≡ behind' → line_of (str_of between) (str_of behind) vs ≡ line_of (str_of between') (str_of behind') vs
+line_same between between' behind behind' vs e f = ap (λ v. line_of (str_of v) (str_of behind) vs) e ∙ ap (λ v. line_of (str_of between') (str_of v) vs) f
+
+line_as : (n : ℕ) (vs : List Value) (m : Runtime) (s : State) → OwnRelation m s → print_line n vs s ≡ print_bytes n (line_in m vs) s
+unfolding print_line
+line_as n vs m s h = ap (λ l. print_bytes n l s) (line_same _ _ _ _ vs (h.specials Ofs) (h.specials Ors))
+
+pub values_printed : {is_logged : Type 0} (r : Result (Unit {0}) StreamFault) (to : Target) (vs : List Value) (bytes : List ℕ) {old new : Runtime} {before after : WorldState} → bytes ≡ line_in old vs → Beside old new
+    → (is_logged → Prints to bytes before old.streams r after new.streams) → IfErr r IsOutputFault → PrintsTo is_logged to (λ n. print_line n vs) old before new after (halted r)
+values_printed r to vs bytes {old = old} {new = new} {before = before} {after = after} line beside told fault = record {
+  steps = omega (arith, beside.steps);
+  names = beside.names;
+  told = λ t n place. same_logged (print_line n vs) (print_bytes n (line_in old vs)) (λ s h. line_as n vs old s h)
+      (print_logged r to (line_in old vs) n beside place (subst (λ (l : List ℕ). Prints to l before old.streams r after new.streams) line (told t)) fault);
+}
+
+-- want of memory before a print
+pub unprinted : {is_logged : Type 0} (to : Target) (run : ℕ → Run (Unit {0})) {old new : Runtime} {k : WorldState} → SameState old new → PrintsTo is_logged to run old k new k (Err (halt.Fault faults.OutOfMemory))
+unprinted to run {old = old} {new = new} {k = k} same = record {
+  steps = omega (arith, same.beside.steps);
+  names = same.beside.names;
+  told = λ t n place. (memory_changes (run n) {old = old} {new = new} same.streams same.beside.names (omega (arith, same.beside.steps))).means k;
+}
+
+-- the text of a format
+
+pub format_printed : {is_logged : Type 0} (r : Result (Unit {0}) StreamFault) (to : Target) (vs : List Value) (bytes text : List ℕ) {old new : Runtime} {before after : WorldState} → format_values vs ≡ Ok text → bytes ≡ text → Beside old new
+    → (is_logged → Prints to bytes before old.streams r after new.streams) → IfErr r IsOutputFault → PrintsTo is_logged to (λ n. lift (format_values vs) >>= λ text. print_bytes n text) old before new after (halted r)
+format_printed r to vs bytes text {old = old} {new = new} {before = before} {after = after} formats same beside told fault = record {
+  steps = omega (arith, beside.steps);
+  names = beside.names;
+  told = λ t n place. then_logged (λ text. print_bytes n text) (lift_logged (format_values vs) old before formats)
+      (print_logged r to text n beside place (subst (λ (l : List ℕ). Prints to l before old.streams r after new.streams) same (told t)) fault);
+}
+
+unformatted : (vs : List Value) (h : Halt) {old new : Runtime} → YieldsBy (sort_of h) (format_values vs) → SameState old new → Changes (lift (format_values vs)) old new (Err h)
+unfolding lift
+unformatted vs h yields same = reads_changes (lift (format_values vs)) (λ s. format_values vs) (λ s. refl) same (λ s holds. yields)
+
+pub format_fails : {is_logged : Type 0} (to : Target) (vs : List Value) (h : Halt) {old new : Runtime} {k : WorldState} → YieldsBy (sort_of h) (format_values vs) → SameState old new
+    → PrintsTo is_logged to (λ n. lift (format_values vs) >>= λ text. print_bytes n text) old k new k (Err h)
+format_fails to vs h {k = k} yields same = record {
+  steps = omega (arith, same.beside.steps);
+  names = same.beside.names;
+  told = λ t n place. ends_logged (λ text. print_bytes n text) ((unformatted vs h yields same).means k);
+}
+
+-- a print behind a change, and to an opening that was found
+
+pub changed_and_printed : {is_logged : Type 0} {A : Type 0} (to : Target) {first : Run A} (run : A → ℕ → Run (Unit {0})) {a : A} {old mid new : Runtime} {k after : WorldState} {r : Result (Unit {0}) Halt} → Changes first old mid (Ok a)
+    → PrintsTo is_logged to (run a) mid k new after r → PrintsTo is_logged to (λ n. first >>= λ x. run x n) old k new after r
+changed_and_printed to {first = first} run {a = a} {old = old} {mid = mid} {k = k} p q = record {
+  steps = omega (arith, p.steps, q.steps);
+  names = q.names ∙ p.names;
+  told = λ t n place. then_logged (λ x. run x n) (p.means k) (q.told t n (subst (λ (v : StreamsView). opening_at to v k.log ≡ Some n) (sym p.streams) place));
+}
+
+pub changed_and_ended : {is_logged : Type 0} {A : Type 0} (to : Target) {first : Run A} (run : A → ℕ → Run (Unit {0})) {old mid : Runtime} {k : WorldState} {h : Halt} → Changes first old mid (Err h) → PrintsTo is_logged to (λ n. first >>= λ x. run x n) old k mid k (Err h)
+changed_and_ended to run {k = k} p = record {
+  steps = p.steps;
+  names = p.names;
+  told = λ t n place. ends_logged (λ x. run x n) (p.means k);
+}
+
+pub printed_to_output : {is_logged : Type 0} (run : ℕ → Run (Unit {0})) {old new : Runtime} {before after : WorldState} {r : Result (Unit {0}) Halt} → PrintsTo is_logged target.StandardOutput run old before new after r → Follows is_logged (ret 0 >>= run) old before new after r
+printed_to_output run {old = old} {before = before} p = record {
+  simulates = record { steps = p.steps; names = p.names; told = λ t. then_logged run (lift_logged (Ok 0) old before refl) (p.told t 0 refl) };
+}
+
+pub opened_and_printed : {is_logged : Type 0} {opens : Run ℕ} (run : ℕ → Run (Unit {0})) {to : Target} {old mid new : Runtime} {before between after : WorldState} {r : Result (Unit {0}) Halt} → OpensTarget is_logged opens old before mid between (Ok to)
+    → PrintsTo is_logged to run mid between new after r → Follows is_logged (opens >>= run) old before new after r
+opened_and_printed run p q = record {
+  simulates = record { steps = omega (arith, p.steps, q.steps); names = q.names ∙ p.names; told = λ t. then_logged run (p.told t).simulates (q.told t (p.told t).opening (p.told t).place) };
+}
+
+pub not_opened : {is_logged : Type 0} {opens : Run ℕ} (run : ℕ → Run (Unit {0})) {old mid : Runtime} {before between : WorldState} {h : Halt} → OpensTarget is_logged opens old before mid between (Err h) → Follows is_logged (opens >>= run) old before mid between (Err h)
+not_opened run p = record { simulates = record { steps = p.steps; names = p.names; told = λ t. ends_logged run (p.told t) } }
+
+-- no values are printed where there are none
+pub no_values : (vs : List Value) → (length vs == 0) ≡ true → vs ≡ []
+no_values [] e = refl
+no_values (v ∷ vs) e = absurd (search (rules, e))
