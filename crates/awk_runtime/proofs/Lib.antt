@@ -13,3 +13,4 @@ pub mod PlaceWords
 pub mod Turns
 pub mod Prints
 pub mod Openings
+pub mod CallWords

@@ -31,7 +31,7 @@ use Rattle.awk_runtime.specs.declared.places.Updated.{Updated}
 use Rattle.awk_runtime.specs.declared.runtime.Runtime.{Runtime}
 use Rattle.awk_runtime.specs.support.Simulation.{Changes, SameState}
 use Rattle.awk_runtime.specs.support.Naming.{Naming, AreOwn}
-use Rattle.awk_runtime.specs.support.Updates.{IsUpdated, UpdatesVariable, Updates}
+use Rattle.awk_runtime.specs.support.Updates.{UpdatesVariable, Updates}
 use Rattle.awk_runtime.proofs.Composition.{then_changes, ends_changes, lift_changes, memory_changes}
 use Rattle.awk_runtime.proofs.Steps.{still}
 use Rattle.awk_runtime.proofs.Words.{number_had, number_lacked}
@@ -39,14 +39,14 @@ use Rattle.awk_runtime.proofs.VariableWords.{SameButVariables, SameButFrames, sp
 
 -- the names are the same
 
-pub still_read : (p : Place) (operand : Value) {old mid new : Runtime} {r : Result Value Halt} → mid.names ≡ old.names → Changes (read_at mid.names.scalars p operand) mid new r → Changes (read_at old.names.scalars p operand) mid new r
-still_read p operand {mid = mid} {new = new} {r = r} same x = subst (λ (n : Naming). Changes (read_at n.scalars p operand) mid new r) same x
+pub still_read : (old : Runtime) (p : Place) (operand : Value) {mid new : Runtime} {r : Result Value Halt} → mid.names ≡ old.names → Changes (read_at mid.names.scalars p operand) mid new r → Changes (read_at old.names.scalars p operand) mid new r
+still_read old p operand {mid = mid} {new = new} {r = r} same x = subst (λ (n : Naming). Changes (read_at n.scalars p operand) mid new r) same x
 
-pub still_stored : (p : Place) (operand v : Value) {old mid new : Runtime} {r : Result (Unit {0}) Halt} → mid.names ≡ old.names → Changes (store_at mid.names.scalars p operand v) mid new r → Changes (store_at old.names.scalars p operand v) mid new r
-still_stored p operand v {mid = mid} {new = new} {r = r} same x = subst (λ (n : Naming). Changes (store_at n.scalars p operand v) mid new r) same x
+pub still_stored : (old : Runtime) (p : Place) (operand v : Value) {mid new : Runtime} {r : Result (Unit {0}) Halt} → mid.names ≡ old.names → Changes (store_at mid.names.scalars p operand v) mid new r → Changes (store_at old.names.scalars p operand v) mid new r
+still_stored old p operand v {mid = mid} {new = new} {r = r} same x = subst (λ (n : Naming). Changes (store_at n.scalars p operand v) mid new r) same x
 
-still_assigned : (p : Place) (operand v : Value) {old mid new : Runtime} {r : Result Value Halt} → mid.names ≡ old.names → Changes (assign_at mid.names.scalars p operand v) mid new r → Changes (assign_at old.names.scalars p operand v) mid new r
-still_assigned p operand v {mid = mid} {new = new} {r = r} same x = subst (λ (n : Naming). Changes (assign_at n.scalars p operand v) mid new r) same x
+still_assigned : (old : Runtime) (p : Place) (operand v : Value) {mid new : Runtime} {r : Result Value Halt} → mid.names ≡ old.names → Changes (assign_at mid.names.scalars p operand v) mid new r → Changes (assign_at old.names.scalars p operand v) mid new r
+still_assigned old p operand v {mid = mid} {new = new} {r = r} same x = subst (λ (n : Naming). Changes (assign_at n.scalars p operand v) mid new r) same x
 
 -- fields
 
@@ -66,7 +66,7 @@ no_field_stored names operand v e m is = ends_changes _ (number_lacked operand e
 
 pub assigned : (p : Place) (operand v : Value) {old mid new : Runtime} {r : Result Value Halt} → Changes (store_at old.names.scalars p operand v) old mid (Ok tt) → Changes (read_at mid.names.scalars p operand) mid new r → Changes (assign_at old.names.scalars p operand v) old new r
 unfolding assign_at
-assigned p operand v {old = old} {mid = mid} x y = then_changes _ x (still_read p operand {old = old} x.names y)
+assigned p operand v {old = old} {mid = mid} x y = then_changes _ x (still_read old p operand x.names y)
 
 pub not_assigned : (p : Place) (operand v : Value) {old new : Runtime} {h : Halt} → Changes (store_at old.names.scalars p operand v) old new (Err h) → Changes (assign_at old.names.scalars p operand v) old new (Err h)
 unfolding assign_at
@@ -86,7 +86,7 @@ by_refused o p operand v x y = then_changes _ x (ends_changes _ y)
 
 pub by_assigned : (o : Operator) (p : Place) (operand v : Value) {before w : Value} {old mid later new : Runtime} {r : Result Value Halt} → Changes (read_at old.names.scalars p operand) old mid (Ok before) → Changes (lift (applied o before v)) mid later (Ok w) → Changes (assign_at later.names.scalars p operand w) later new r → Changes (assign_by_at old.names.scalars (Some o) p operand v) old new r
 unfolding assign_by_at
-by_assigned o p operand v {old = old} {later = later} x y z = then_changes _ x (then_changes _ y (still_assigned p operand _ {old = old} {mid = later} (y.names ∙ x.names) z))
+by_assigned o p operand v {old = old} {later = later} x y z = then_changes _ x (then_changes _ y (still_assigned old p operand _ {mid = later} (y.names ∙ x.names) z))
 
 pub by_updated : (o : Operator) (p : Place) (operand v : Value) {old new : Runtime} {u : Updated} → Updates o p v old new u → Changes (assign_by_at old.names.scalars (Some o) p operand v) old new (Ok (value.Number u.after))
 unfolding assign_by_at assign_at
@@ -108,21 +108,17 @@ post_refused o p operand {v = v} n {mid = mid} x is y = then_changes _ x (then_c
 
 pub post_unstored : (o : IncrementOperator) (p : Place) (operand : Value) {v w : Value} (n : ℤ) {old mid later new : Runtime} {h : Halt} → Changes (read_at old.names.scalars p operand) old mid (Ok v) → Ok n ≡ num_of v → Changes (lift (applied (by_one o) (value.Number n) one)) mid later (Ok w) → Changes (store_at later.names.scalars p operand w) later new (Err h) → Changes (post_increment_at old.names.scalars o p operand) old new (Err h)
 unfolding post_increment_at
-post_unstored o p operand {v = v} {w = w} n {old = old} {mid = mid} {later = later} x is y z = then_changes _ x (then_changes _ (number_had v mid is) (then_changes _ y (ends_changes _ (still_stored p operand w {old = old} {mid = later} (y.names ∙ x.names) z))))
+post_unstored o p operand {v = v} {w = w} n {old = old} {mid = mid} {later = later} x is y z = then_changes _ x (then_changes _ (number_had v mid is) (then_changes _ y (ends_changes _ (still_stored old p operand w {mid = later} (y.names ∙ x.names) z))))
 
 pub post_stored : (o : IncrementOperator) (p : Place) (operand : Value) {v w : Value} (n : ℤ) {old mid later new : Runtime} → Changes (read_at old.names.scalars p operand) old mid (Ok v) → Ok n ≡ num_of v → Changes (lift (applied (by_one o) (value.Number n) one)) mid later (Ok w) → Changes (store_at later.names.scalars p operand w) later new (Ok tt) → Changes (post_increment_at old.names.scalars o p operand) old new (Ok (value.Number n))
 unfolding post_increment_at
-post_stored o p operand {v = v} {w = w} n {old = old} {mid = mid} {later = later} {new = new} x is y z = then_changes _ x (then_changes _ (number_had v mid is) (then_changes _ y (then_changes _ (still_stored p operand w {old = old} {mid = later} (y.names ∙ x.names) z) (lift_changes _ new refl))))
+post_stored o p operand {v = v} {w = w} n {old = old} {mid = mid} {later = later} {new = new} x is y z = then_changes _ x (then_changes _ (number_had v mid is) (then_changes _ y (then_changes _ (still_stored old p operand w {mid = later} (y.names ∙ x.names) z) (lift_changes _ new refl))))
 
 pub post_updated : (o : IncrementOperator) (p : Place) (operand : Value) {old new : Runtime} {u : Updated} → Updates (by_one o) p one old new u → Changes (post_increment_at old.names.scalars o p operand) old new (Ok (value.Number u.before))
 unfolding post_increment_at
 post_updated o p operand {old = old} {new = new} {u = u} x = then_changes _ (x.read operand) (then_changes _ (number_had (value.Number u.before) old refl) (then_changes _ (lift_changes _ old x.made) (then_changes _ (x.put operand) (lift_changes _ new refl))))
 
 -- numbers that are changed where they stand
-
-pub if_some : {A : Type 0} {P Q : A → Type 0} (r : Option A) → ((u : A) → P u → Q u) → IfSome r P → IfSome r Q
-if_some None f p = tt
-if_some (Some u) f p = f u p
 
 pub of_variable : (o : Operator) (x : Variable) (n : ℤ) {old new : Runtime} {u : Updated} → UpdatesVariable o x n old new u → Updates o (place.Variable x) (value.Number n) old new u
 of_variable o x n h = record { read = λ operand. h.read; made = h.made; put = λ operand. h.put; again = λ operand. h.again }
@@ -132,36 +128,35 @@ get-set [] i x low = absurd (omega arith)
 get-set (y ∷ xs) zero x low = refl
 get-set (y ∷ xs) (suc i) x low = get-set xs i x (omega arith)
 
-pub slot_updated : (o : Operator) (i : ℕ) (n : ℤ) {before after : Value} {old new : Runtime} {u : Updated} → slice_get old.globals.items i ≡ Some before → IsUpdated o n before after u → AreOwn old.names.scalars → AreDistinct old.names.scalars → new.globals.items ≡ set old.globals.items i after → new.specials ≡ old.specials → SameButVariables old new → UpdatesVariable o (variable.Global i) n old new u
-slot_updated o i n {before = before} {after = after} {old = old} {new = new} {u = u} at is own distinct put specials same =
-    let within = slice_get_within old.globals.items i before at in
-    let put_number : new.globals.items ≡ set old.globals.items i (value.Number u.after) = put ∙ ap (set old.globals.items i) is.is in
+pub slot_updated : (o : Operator) (i : ℕ) (n before after : ℤ) {old new : Runtime} → slice_get old.globals.items i ≡ Some (value.Number before) → applied o (value.Number before) (value.Number n) ≡ Ok (value.Number after) → AreOwn old.names.scalars → AreDistinct old.names.scalars → new.globals.items ≡ set old.globals.items i (value.Number after) → new.specials ≡ old.specials → SameButVariables old new → UpdatesVariable o (variable.Global i) n old new (record { before = before; after = after })
+slot_updated o i n before after {old = old} {new = new} at made own distinct put specials same =
+    let within = slice_get_within old.globals.items i (value.Number before) at in
     record {
-      read = slot_read i old own (at ∙ ap Some is.was);
-      made = is.made;
-      put = slot_given i (value.Number u.after) within own distinct put_number specials same;
-      again = subst (λ (k : Naming). Changes (read_variable k.scalars (variable.Global i)) new new (Ok (value.Number u.after))) same.names
-          (slot_read i new (subst (λ (k : Naming). AreOwn k.scalars) (sym same.names) own) (ap (λ l. slice_get l i) put_number ∙ get-set old.globals.items i (value.Number u.after) within));
+      read = slot_read i old own at;
+      made = made;
+      put = slot_given i (value.Number after) within own distinct put specials same;
+      again = subst (λ (k : Naming). Changes (read_variable k.scalars (variable.Global i)) new new (Ok (value.Number after))) same.names
+          (slot_read i new (subst (λ (k : Naming). AreOwn k.scalars) (sym same.names) own) (ap (λ l. slice_get l i) put ∙ get-set old.globals.items i (value.Number after) within));
     }
 
 newest-put : (frames : List FrameView) (i : ℕ) (l x : Local) → slice_get (newest_of frames) i ≡ Some l → slice_get (newest_of (with_newest_of (set (newest_of frames) i x) frames)) i ≡ Some x
 newest-put [] i l x at = cc
 newest-put (frame ∷ frames) i l x at = get-set frame.locals i x (slice_get_within frame.locals i l at)
 
-pub local_updated : (o : Operator) (i : ℕ) (n : ℤ) {old new : Runtime} (u : Updated) → slice_get (newest_of old.frames.frames) i ≡ Some (local.Value (value.Number u.before)) → applied o (value.Number u.before) (value.Number n) ≡ Ok (value.Number u.after) → new.frames ≡ record old.frames { frames = with_value_at (slice_get (newest_of old.frames.frames) i) i (value.Number u.after) old.frames.frames } → SameButFrames old new → UpdatesVariable o (variable.Local i) n old new u
-local_updated o i n {old = old} {new = new} u at made put same = record {
+pub local_updated : (o : Operator) (i : ℕ) (n before after : ℤ) {old new : Runtime} → slice_get (newest_of old.frames.frames) i ≡ Some (local.Value (value.Number before)) → applied o (value.Number before) (value.Number n) ≡ Ok (value.Number after) → new.frames ≡ record old.frames { frames = with_value_at (slice_get (newest_of old.frames.frames) i) i (value.Number after) old.frames.frames } → SameButFrames old new → UpdatesVariable o (variable.Local i) n old new (record { before = before; after = after })
+local_updated o i n before after {old = old} {new = new} at made put same = record {
   read = local_read i old (ap value_in (sym at));
   made = made;
-  put = local_given i (value.Number u.after) put same;
+  put = local_given i (value.Number after) put same;
   again = local_read i new (sym (ap value_in (ap (λ (f : FramesView). slice_get (newest_of f.frames) i) put
-      ∙ ap (λ l. slice_get (newest_of (with_value_at l i (value.Number u.after) old.frames.frames)) i) at
-      ∙ newest-put old.frames.frames i (local.Value (value.Number u.before)) (local.Value (value.Number u.after)) at)));
+      ∙ ap (λ l. slice_get (newest_of (with_value_at l i (value.Number after) old.frames.frames)) i) at
+      ∙ newest-put old.frames.frames i (local.Value (value.Number before)) (local.Value (value.Number after)) at)));
 }
 
-pub special_updated : (o : Operator) (x : Special) (n : ℤ) {old new : Runtime} (u : Updated) → value.Number u.before ≡ value_of old.specials (name_of x) → applied o (value.Number u.before) (value.Number n) ≡ Ok (value.Number u.after) → is_refused (name_of x) (value.Number u.after) ≡ false → AreOwn old.names.scalars → ((y : List ℕ) → value_of new.specials y ≡ with_value (value_of old.specials) (name_of x) (value.Number u.after) y) → new.globals ≡ old.globals → SameButVariables old new → UpdatesVariable o (variable.Special x) n old new u
-special_updated o x n {old = old} {new = new} u was made taken own put globals same = record {
+pub special_updated : (o : Operator) (x : Special) (n before after : ℤ) {old new : Runtime} → value.Number before ≡ value_of old.specials (name_of x) → applied o (value.Number before) (value.Number n) ≡ Ok (value.Number after) → is_refused (name_of x) (value.Number after) ≡ false → AreOwn old.names.scalars → ((y : List ℕ) → value_of new.specials y ≡ with_value (value_of old.specials) (name_of x) (value.Number after) y) → new.globals ≡ old.globals → SameButVariables old new → UpdatesVariable o (variable.Special x) n old new (record { before = before; after = after })
+special_updated o x n before after {old = old} {new = new} was made taken own put globals same = record {
   read = special_read x (still old) was;
   made = made;
-  put = special_outside x (value.Number u.after) (special_put x (value.Number u.after) taken own put globals same);
-  again = special_read x (still new) (sym (put (name_of x) ∙ ap (λ b. if b then value.Number u.after else value_of old.specials (name_of x)) ((bytes_eq-Decides (name_of x) (name_of x)).1 refl)));
+  put = special_outside x (value.Number after) (special_put x (value.Number after) taken own put globals same);
+  again = special_read x (still new) (sym (put (name_of x) ∙ ap (λ b. if b then value.Number after else value_of old.specials (name_of x)) ((bytes_eq-Decides (name_of x) (name_of x)).1 refl)));
 }

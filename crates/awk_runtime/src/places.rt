@@ -3,7 +3,7 @@
 ghost use Rattle.std.specs.Prelude.{◌≡◌, ℕ, List, Ok, Some, IfSome, IfNone};
 ghost use Rattle.awk_value.specs.declared.value.Value.TheVariants.{Number};
 ghost use Rattle.awk_runtime.specs.support.Simulation.{Changes};
-ghost use Rattle.awk_runtime.specs.support.Updates.{IsUpdated, Updates, UpdatesVariable};
+ghost use Rattle.awk_runtime.specs.support.Updates.{Updates, UpdatesVariable};
 ghost use Rattle.awk_semantics.specs.Operators.{applied, by_one, one};
 ghost use Rattle.awk_storage.specs.Positions.{read_at, store_at, assign_at, assign_by_at, post_increment_at};
 
@@ -20,22 +20,6 @@ use awk_variables::Special;
 pub struct Updated {
     pub before: i128,
     pub after: i128,
-}
-
-/// Makes a number what an operator makes of it and of another one. `None`, and nothing changes, where it is another value, or
-/// what it would become is no number.
-#[inline(always)]
-fn update(value: &mut Value, operator: Operator, n: i128) -> Option<Updated>
-    ensures updated { IfSome result (λ u. IsUpdated operator n value.old value.new u) }
-    ensures kept { IfNone result (value.new ≡ value.old) }
-{
-    let Value::Number(place) = value else {
-        return None;
-    };
-    let before = *place;
-    let after = apply_to_numbers(operator, before, n)?;
-    *place = after;
-    Some(Updated { before, after })
 }
 
 impl Runtime {
@@ -181,10 +165,13 @@ impl Runtime {
         ensures kept { IfNone result (self.new ≡ self.old) }
     {
         self.names.law_of_slots();
-        if slot as usize >= self.globals.len() {
+        let Some(Value::Number(before)) = self.globals.get(slot as usize) else {
             return None;
-        }
-        update(&mut self.globals[slot as usize], operator, n)
+        };
+        let before = *before;
+        let after = apply_to_numbers(operator, before, n)?;
+        self.globals[slot as usize] = Value::Number(after);
+        Some(Updated { before, after })
     }
 
     /// Changes a parameter's number.

@@ -12,12 +12,6 @@ use Rattle.awk_runtime.specs.declared.places.Updated.{Updated}
 use Rattle.awk_runtime.specs.declared.runtime.Runtime.{Runtime}
 use Rattle.awk_runtime.specs.support.Simulation.{Changes}
 
--- a number becomes what an operator makes of it and of another one
-pub record IsUpdated (operator : Operator) (n : ℤ) (old new : Value) (u : Updated) : Type 0 where
-  pub was : old ≡ Number u.before
-  pub made : applied operator (Number u.before) (Number n) ≡ Ok (Number u.after)
-  pub is : new ≡ Number u.after
-
 -- the number of a variable becomes what an operator makes of it and of another one
 pub record UpdatesVariable (operator : Operator) (x : Variable) (n : ℤ) (old new : Runtime) (u : Updated) : Type 0 where
   pub read : Changes (read_variable old.names.scalars x) old old (Ok (Number u.before))
