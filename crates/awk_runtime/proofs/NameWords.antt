@@ -1,17 +1,19 @@
 -- Names of a program, and the keys that keep them; assignments on the command line.
-use Rattle.std.proofs.Common.{◌≡◌, ℕ, zero, suc, ◌<◌, Bool, true, false, ◌||◌, List, [], ◌∷◌, map, length, Option, Some, None, Result, Ok, Err, slice_get, position, refl, sym, ap, ◌∙◌, true≢false, ◌↔◌, arith}
+use Rattle.std.proofs.Common.{◌≡◌, ℕ, zero, suc, ◌<◌, Bool, true, false, ◌||◌, List, [], ◌∷◌, ◌++◌, map, length, take, Option, Some, None, Result, Ok, Err, slice_get, position, refl, sym, ap, ◌∙◌, true≢false, ◌↔◌, arith}
 use Rattle.std.specs.Global.{Vec}
-use Rattle.std.specs.Prelude.{IfNone, IfSome, is_some, bytes_eq}
+use Rattle.std.specs.Prelude.{IfNone, IfSome, is_some, bytes_eq, if◌then◌else◌}
 use Rattle.std.specs.List.{list_any}
 use Rattle.std.specs.Option.{option_map}
 use Rattle.std.proofs.Common.{inl, inr}
+use Rattle.indexmap.specs.IndexSet.{insert_key}
+use Rattle.std.proofs.lemmas.List.{map-append}
 use Rattle.std.proofs.lemmas.List.Quantifiers.{position-Some}
 use Rattle.std.proofs.lemmas.Option.{slice_get_cases, slice_get-map}
 use Rattle.std.proofs.lemmas.Slice.Eq.{bytes_eq-Decides}
 use Rattle.awk_value.specs.declared.value.Value.TheVariants.{Input}
 use Rattle.awk_variables.specs.declared.special.Special.{Special}
 use Rattle.awk_variables.specs.Variables.{name_of}
-use Rattle.awk_variables.specs.Names.{has_name}
+use Rattle.awk_variables.specs.Names.{has_name, with_name, AreDistinct}
 use Rattle.awk_semantics.specs.declared.halt.Halt.{Halt}
 use Rattle.awk_semantics.specs.State.{State, Out, Run, go_on, ◌>>=◌, lift}
 use Rattle.awk_semantics.specs.Results.{Yields}
@@ -74,6 +76,48 @@ absent_name (z ∷ names) x none (suc i) y at = absent_name names x (either (byt
 
 pub no_special : (x : List ℕ) (r : Option Special) → ((s : Special) → (r ≡ Some s) ↔ (x ≡ name_of s)) → ((s : Special) → r ≡ Some s → ⊥) → (y : Special) → bytes_eq x (name_of y) ≡ false
 no_special x r names none y = differs x (name_of y) (λ e. none y ((names y).1 e))
+
+-- names that are put one behind the other
+
+pub names-insert_key : (ks : List (Vec ℕ)) (k : Vec ℕ) → names_of (insert_key (λ (a b : Vec ℕ). bytes_eq a.items b.items) ks k) ≡ with_name (names_of ks) k.items
+names-insert_key ks k = by (list_any (λ (b : Vec ℕ). bytes_eq k.items b.items) ks) (has_name-keys k.items ks)
+  where
+    by : (b : Bool) → has_name (names_of ks) k.items ≡ b → names_of (if b then ks else ks ++ k ∷ []) ≡ with_name (names_of ks) k.items
+    by true e = ap (λ b. if b then names_of ks else names_of ks ++ k.items ∷ []) (sym e)
+    by false e = map-append (λ k. k.items) ks (k ∷ []) ∙ ap (λ b. if b then names_of ks else names_of ks ++ k.items ∷ []) (sym e)
+
+-- a name that is there stands somewhere
+stands_somewhere : (names : List (List ℕ)) (x : List ℕ) → has_name names x ≡ true → (i : ℕ) × (slice_get names i ≡ Some x)
+stands_somewhere [] x e = absurd (true≢false (sym e))
+stands_somewhere (y ∷ names) x e = by (bytes_eq x y) refl
+  where
+    by : (b : Bool) → bytes_eq x y ≡ b → (i : ℕ) × (slice_get (y ∷ names) i ≡ Some x)
+    by true is = (0, ap Some (sym ((bytes_eq-Decides x y).0 is)))
+    by false is =
+        let rest = stands_somewhere names x (ap (λ b. b || has_name names x) (sym is) ∙ e) in
+        (suc rest.0, rest.1)
+
+get-take : (names : List (List ℕ)) (n i : ℕ) (x : List ℕ) → slice_get (take n names) i ≡ Some x → (i < n) × (slice_get names i ≡ Some x)
+get-take names zero i x e = cc
+get-take [] (suc n) i x e = cc
+get-take (y ∷ names) (suc n) zero x e = (omega arith, e)
+get-take (y ∷ names) (suc n) (suc i) x e = let h = get-take names n i x e in (omega (arith, h.0), h.1)
+
+-- the next of names that are distinct
+pub next_added : (names : List (List ℕ)) (i : ℕ) (x : List ℕ) → AreDistinct names → slice_get names i ≡ Some x → with_name (take i names) x ≡ take (suc i) names
+next_added names i x distinct at = by (has_name (take i names) x) refl
+  where
+    longer : (names : List (List ℕ)) (i : ℕ) (x : List ℕ) → slice_get names i ≡ Some x → take i names ++ x ∷ [] ≡ take (suc i) names
+    longer [] i x at = cc
+    longer (y ∷ names) zero x at = let e : x ≡ y = cc in ap (λ z. z ∷ []) e
+    longer (y ∷ names) (suc i) x at = ap (λ l. y ∷ l) (longer names i x at)
+
+    by : (b : Bool) → has_name (take i names) x ≡ b → (if b then take i names else take i names ++ x ∷ []) ≡ take (suc i) names
+    by true e =
+        let s = stands_somewhere (take i names) x e in
+        let g = get-take names i s.0 x s.1 in
+        absurd (omega (arith, g.0, distinct s.0 i x g.1 at))
+    by false e = longer names i x at
 
 -- assignments on the command line
 

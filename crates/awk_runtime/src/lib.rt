@@ -16,6 +16,6 @@ mod start;
 mod texts;
 mod variables;
 
-pub use names::ProgramNames;
+pub use names::{ProgramNames, add_name, array_names, function_names};
 pub use runtime::Runtime;
 pub use texts::PatternSource;
