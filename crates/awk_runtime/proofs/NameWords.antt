@@ -89,12 +89,12 @@ names-insert_key ks k = by (list_any (λ (b : Vec ℕ). bytes_eq k.items b.items
 -- a name that is there stands somewhere
 stands_somewhere : (names : List (List ℕ)) (x : List ℕ) → has_name names x ≡ true → (i : ℕ) × (slice_get names i ≡ Some x)
 stands_somewhere [] x e = absurd (true≢false (sym e))
-stands_somewhere (y ∷ names) x e = by (bytes_eq x y) refl
+stands_somewhere (y ∷ names) x e = by (bytes_eq x y) refl (λ h. stands_somewhere names x h)
   where
-    by : (b : Bool) → bytes_eq x y ≡ b → (i : ℕ) × (slice_get (y ∷ names) i ≡ Some x)
-    by true is = (0, ap Some (sym ((bytes_eq-Decides x y).0 is)))
-    by false is =
-        let rest = stands_somewhere names x (ap (λ b. b || has_name names x) (sym is) ∙ e) in
+    by : (b : Bool) → bytes_eq x y ≡ b → (has_name names x ≡ true → (i : ℕ) × (slice_get names i ≡ Some x)) → (i : ℕ) × (slice_get (y ∷ names) i ≡ Some x)
+    by true is later = (0, ap Some (sym ((bytes_eq-Decides x y).0 is)))
+    by false is later =
+        let rest = later (ap (λ b. b || has_name names x) (sym is) ∙ e) in
         (suc rest.0, rest.1)
 
 get-take : (names : List (List ℕ)) (n i : ℕ) (x : List ℕ) → slice_get (take n names) i ≡ Some x → (i < n) × (slice_get names i ≡ Some x)

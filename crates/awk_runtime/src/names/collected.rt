@@ -10,11 +10,7 @@ use indexmap::IndexSet;
 use std::alloc::{AllocError, Global};
 
 /// Puts a name behind the others, unless it is among them.
-pub fn add_name(
-    alloc: Global,
-    names: &mut IndexSet<Vec<u8>>,
-    name: &[u8],
-) -> Result<(), AllocError>
+pub fn add_name(alloc: Global, names: &mut IndexSet<Vec<u8>>, name: &[u8]) -> Result<(), AllocError>
     ensures { OnOk result (names_of names.new.keys ≡ with_name (names_of names.old.keys) name.now) }
 {
     names.insert(Vec::from_slice(alloc, name)?)?;
