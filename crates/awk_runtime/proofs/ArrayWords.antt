@@ -66,16 +66,16 @@ array_changes : {A : Type 0} (m : Runtime) (run : Run A) (a : Array) (give : Lis
     → ((s : State) → run s ≡ record { result = Ok (give s.arrays (number_at a s)); state = record s { arrays = change s.arrays (number_at a s) }; effects = [] })
     → n ≡ kept_number a m.frames → r ≡ give m.arrays n → xs ≡ change m.arrays n → Changes run m (record m { arrays = xs }) (Ok r)
 array_changes m run a give change n {r = r} {xs = xs} is number given made = own_changes run refl refl (omega arith) (λ s h.
-    let n_is : number_at a s ≡ n = sym (number_holds a h) ∙ sym number in
-    record {
-      result = Ok (give s.arrays (number_at a s));
-      state = record s { arrays = change s.arrays (number_at a s) };
-      is = is s;
-      part = record { outside = refl; openings = refl; output_openings = refl; closings = refl; runs = refl; outputs = refl; main = refl; streams = refl };
-      matches = ap (λ l. Ok (give l (number_at a s))) h.arrays ∙ (ap (λ k. Ok (give m.arrays k)) n_is ∙ ap (λ x. Ok x) (sym given));
-      holds = subst (λ (l : List Elements). OwnRelation (record m { arrays = xs }) (record s { arrays = l }))
-          (made ∙ (ap (λ k. change m.arrays k) (sym n_is) ∙ ap (λ l. change l (number_at a s)) (sym h.arrays))) (arrays_hold xs h);
-    })
+  let n_is : number_at a s ≡ n = sym (number_holds a h) ∙ sym number in
+  record {
+    result = Ok (give s.arrays (number_at a s));
+    state = record s { arrays = change s.arrays (number_at a s) };
+    is = is s;
+    part = record { outside = refl; openings = refl; output_openings = refl; closings = refl; runs = refl; outputs = refl; main = refl; streams = refl };
+    matches = ap (λ l. Ok (give l (number_at a s))) h.arrays ∙ (ap (λ k. Ok (give m.arrays k)) n_is ∙ ap (λ x. Ok x) (sym given));
+    holds = subst (λ (l : List Elements). OwnRelation (record m { arrays = xs }) (record s { arrays = l }))
+        (made ∙ (ap (λ k. change m.arrays k) (sym n_is) ∙ ap (λ l. change l (number_at a s)) (sym h.arrays))) (arrays_hold xs h);
+  })
 
 module _ (m : Runtime) (a : Array) (key : List ℕ) (n : ℕ) (number : n ≡ kept_number a m.frames) where
   pub element_read : {v : Value} {xs : List Elements} → v ≡ unwrap_or (value_at (array_of m.arrays n) key) value.Nothing → xs ≡ slice_set m.arrays n (with_key (array_of m.arrays n) key) → Changes (read_element_of a key) m (record m { arrays = xs }) (Ok v)

@@ -32,30 +32,31 @@ heights_are (frame ∷ frames) = ap (λ n. frame.height + n) (heights_are frames
 height_holds : {m : Runtime} {s : State} → OwnRelation m s → height_in s.frames ≡ heights_of m.frames.frames
 height_holds {s = s} h = sym (heights_are s.frames) ∙ ap heights_of (ap (λ f. f.frames) (sym h.frames))
 
+
 pub height_low : (m : Runtime) (height : ℕ) → heights_of m.frames.frames + height ≤ most_height → Changes (check_height height) m m (Ok tt)
 unfolding check_height
 height_low m height low = own_changes (check_height height) refl refl (omega arith) (λ s h.
-    let sum = height_holds h in
-    let test : nat_lt most_height (height_in s.frames + height) ≡ false = grind (arith, nat_tests, sum) in
-    record {
-      result = Ok tt;
-      state = s;
-      is = ap (λ b. fault_if b CallsTooDeep s) test;
-      part = same_part s;
-      matches = refl;
-      holds = h;
-    })
+  let sum = height_holds h in
+  let test : nat_lt most_height (height_in s.frames + height) ≡ false = grind (arith, nat_tests, sum) in
+  record {
+    result = Ok tt;
+    state = s;
+    is = ap (λ b. fault_if b CallsTooDeep s) test;
+    part = same_part s;
+    matches = refl;
+    holds = h;
+  })
 
 pub height_high : (m : Runtime) (height : ℕ) → most_height < heights_of m.frames.frames + height → Changes (check_height height) m m (Err (halt.Fault CallsTooDeep))
 unfolding check_height
 height_high m height high = own_changes (check_height height) refl refl (omega arith) (λ s h.
-    let sum = height_holds h in
-    let test : nat_lt most_height (height_in s.frames + height) ≡ true = grind (arith, nat_tests, sum) in
-    record {
-      result = Err (halt.Fault CallsTooDeep);
-      state = s;
-      is = ap (λ b. fault_if b CallsTooDeep s) test;
-      part = same_part s;
-      matches = refl;
-      holds = h;
-    })
+  let sum = height_holds h in
+  let test : nat_lt most_height (height_in s.frames + height) ≡ true = grind (arith, nat_tests, sum) in
+  record {
+    result = Err (halt.Fault CallsTooDeep);
+    state = s;
+    is = ap (λ b. fault_if b CallsTooDeep s) test;
+    part = same_part s;
+    matches = refl;
+    holds = h;
+  })

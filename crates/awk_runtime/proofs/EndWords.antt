@@ -84,7 +84,7 @@ status_becomes n {old = old} {new = new} same inside input_seen e =
 
 pub status_set : (v : Value) (n : ℤ) {old new : Runtime} → Ok n ≡ num_of v → SameButEnd old new → new.inside ≡ old.inside → new.input_seen ≡ old.input_seen → new.status ≡ exit_status n → Changes (set_status v) old new (Ok tt)
 unfolding set_status
-status_set v n {old = old} is same inside input_seen e = then_changes _ (number_had v old is) (status_becomes n {old = old} {new = new} same inside input_seen e)
+status_set v n {old = old} is same inside input_seen e = then_changes _ (number_had v old is) (status_becomes n same inside input_seen e)
 
 pub status_fails : (v : Value) (fault : ValueFault) (m : Runtime) → Err fault ≡ num_of v → Changes (set_status v) m m (Err (halt.Fault (value_fault fault)))
 unfolding set_status

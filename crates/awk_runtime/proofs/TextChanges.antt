@@ -203,7 +203,7 @@ pub fields_found : {old new : Runtime} (fs text : List ℕ) (pieces : List (List
     → Changes (pieces_by field_separator text) old new (with_pieces pieces r)
 fields_found fs text pieces r same is accepted e =
     let yields : Yields (with_pieces pieces r) (Ok (field_pieces fs text)) =
-    subst (λ q. Yields (with_pieces pieces r) q) (field_split fs text accepted) (written_yields r pieces (split_by (separator_in fs) text) e) in
+        subst (λ q. Yields (with_pieces pieces r) q) (field_split fs text accepted) (written_yields r pieces (split_by (separator_in fs) text) e) in
     reads_changes (pieces_by field_separator text) (λ s. Ok (field_pieces (text_in s Fs) text)) (fields_at text) same
     (λ s h. subst (λ (x : List ℕ). Yields (with_pieces pieces r) (Ok (field_pieces x text))) (is ∙ ap str_of (sym (h.specials Fs))) yields)
 

@@ -17,9 +17,8 @@ ghost use Rattle.awk_runtime.specs.support.Spelled.{record_tested, substitute_in
 
 use crate::names::ProgramNames;
 use crate::runtime::Runtime;
-use awk_functions::{
-    Exchanged, PatternOperand, append, apply, apply_function, length_of, start_of, truth_value,
-};
+use awk_functions::{Exchanged, PatternOperand};
+use awk_functions::{append, apply, apply_function, length_of, start_of, truth_value};
 use awk_lex::token::{BuiltIn, Operator};
 use awk_semantics::Halt;
 use awk_storage::{Array, Place};
@@ -86,12 +85,7 @@ impl Runtime {
 
     /// What `~` or `!~` makes of a value and an ERE of the program, by its number. (POSIX awk, Expressions in awk; Regular
     /// Expressions)
-    pub fn matches_ere(
-        &mut self,
-        operator: Operator,
-        value: &Value,
-        ere: u32,
-    ) -> Result<Value, Halt>
+    pub fn matches_ere(&mut self, operator: Operator, value: &Value, ere: u32) -> Result<Value, Halt>
         ensures { Changes (lift (applied operator value.now (Text (ere_at self.old.names ere))))
             self.old self.new result }
     {
@@ -147,8 +141,7 @@ impl Runtime {
             }
             None => {
                 let separator = self.specials.field_separator();
-                self.patterns
-                    .split_by_text(text, separator, &mut self.spans)
+                self.patterns.split_by_text(text, separator, &mut self.spans)
             }
         }
     }

@@ -1,4 +1,4 @@
-use Rattle.std.proofs.Common.{sym, ap, ◌∙◌}
+use Rattle.std.proofs.Common.{ap}
 use Rattle.awk_runtime.specs.support.Naming.{Naming}
 use Rattle.awk_runtime.proofs.NameWords.{if_found, if_absent}
 use Rattle.awk_runtime.proofs.names.ProgramNames.slot_of.Goals as goal

@@ -1,4 +1,4 @@
-use Rattle.std.proofs.Common.{sym, ap, ◌∙◌}
+use Rattle.std.proofs.Common.{ap, ◌∙◌}
 use Rattle.awk_variables.specs.Names.{with_name}
 use Rattle.awk_runtime.specs.support.Naming.{names_of}
 use Rattle.awk_runtime.proofs.NameWords.{names-insert_key}

@@ -1,4 +1,3 @@
-use Rattle.std.proofs.Common.{refl}
 use Rattle.awk_runtime.proofs.TextChanges.{room, lift_beside}
 use Rattle.awk_runtime.proofs.runtime.Runtime.apply.Goals as goal
 

@@ -1,9 +1,4 @@
-use Rattle.std.proofs.Common.{◌≡◌, refl, sym, ap, ◌∙◌, subst, true, false, List, ℕ, Some, slice_get, Ok}
-use Rattle.std.specs.Prelude.{codes}
-use Rattle.std.proofs.lemmas.Slice.Eq.{bytes_eq-Decides}
-use Rattle.awk_semantics.specs.Primitives.{put_outside}
-use Rattle.awk_storage.specs.Positions.{put_slot}
-use Rattle.awk_runtime.specs.support.Simulation.{Changes}
+use Rattle.std.proofs.Common.{refl, sym, ◌∙◌}
 use Rattle.awk_runtime.proofs.VariableWords.{special_outside, unknown_put}
 use Rattle.awk_runtime.proofs.NameWords.{absent_name, no_special}
 use Rattle.awk_runtime.proofs.runtime.Runtime.put_outside.Goals as goal

@@ -1,4 +1,4 @@
-use Rattle.std.proofs.Common.{refl, sym, ap, ◌∙◌, arith}
+use Rattle.std.proofs.Common.{refl, ◌∙◌, arith}
 use Rattle.std.proofs.lemmas.Result.{err_from_is_err_and}
 use Rattle.awk_runtime.proofs.Composition.{memory_changes}
 use Rattle.awk_runtime.proofs.Steps.{still}

@@ -14,4 +14,4 @@ returns-in_err-number_of c =
 pub returns : goal.returns
 returns c =
     let number : to_z w128 (of_z w128 c.in_ok-number_of.field-0) ≡ c.in_ok-number_of.field-0 = omega (arith, ints) in
-    status_set c.args.value.now c.in_ok-number_of.field-0 c.in_ok-number_of.ensures (record { names = refl; current = refl; specials = refl; globals = refl; arrays = refl; frames = refl; streams = refl; next = refl; steps = refl }) refl refl (c.exit_status.ensures ∙ ap exit_status number)
+    status_set c.args.value.now c.in_ok-number_of.field-0 c.in_ok-number_of.ensures (record { names = refl; current = refl; specials = refl; globals = refl; arrays = refl; frames = refl; streams = refl; next = refl; steps = refl }) refl refl (c.exit_status-self.ensures ∙ ap exit_status number)
