@@ -60,7 +60,12 @@ impl ProgramNames {
     ) -> ProgramNames
         requires distinct { AreDistinct (names_of scalars.keys) }
         requires own { AreOwn (names_of scalars.keys) }
-        ensures { result ≡ record { scalars = names_of scalars.keys; arrays = names_of arrays.keys; functions = names_of functions.keys; eres = eres.items } }
+        ensures { result ≡ record {
+          scalars = names_of scalars.keys;
+          arrays = names_of arrays.keys;
+          functions = names_of functions.keys;
+          eres = eres.items;
+        } }
     {
         ProgramNames {
             scalars,
