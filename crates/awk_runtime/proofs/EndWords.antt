@@ -11,16 +11,16 @@ use Rattle.awk_variables.specs.Variables.{value_of, name_of}
 use Rattle.awk_variables.specs.declared.special.Special.TheVariants.{Filename, Fnr}
 use Rattle.awk_semantics.specs.declared.halt.Halt.{Halt}
 use Rattle.awk_semantics.specs.declared.halt.Halt.TheVariants as halt
-use Rattle.awk_semantics.specs.State.{State, ◌>>=◌, gives}
+use Rattle.awk_semantics.specs.State.{State}
 use Rattle.awk_semantics.specs.Faults.{value_fault}
 use Rattle.awk_semantics.specs.Operators.{exit_status}
-use Rattle.awk_semantics.specs.Primitives.{number_of, put_special, is_inside, with_range, set_inside, with_status, set_status}
+use Rattle.awk_semantics.specs.Primitives.{put_special, is_inside, with_range, set_inside, with_status, set_status}
 use Rattle.awk_semantics.specs.Streams.{note_input, begin_input}
 use Rattle.awk_runtime.specs.declared.runtime.Runtime.{Runtime}
 use Rattle.awk_runtime.specs.support.Simulation.{inside_of, OwnRelation, Changes, SameState}
 use Rattle.awk_runtime.specs.support.Naming.{Naming}
 use Rattle.awk_runtime.proofs.Composition.{own_changes, then_changes, ends_changes}
-use Rattle.awk_runtime.proofs.Steps.{reads_changes, still}
+use Rattle.awk_runtime.proofs.Steps.{reads_changes}
 use Rattle.awk_runtime.proofs.Words.{number_had, number_lacked}
 
 pub range_read : (n : ℕ) {old new : Runtime} {b : Bool} → SameState old new → b ≡ inside_of old n → Changes (is_inside n) old new (Ok b)

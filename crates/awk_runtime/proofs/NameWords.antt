@@ -1,5 +1,5 @@
 -- Names of a program, and the keys that keep them; assignments on the command line.
-use Rattle.std.proofs.Common.{◌≡◌, ℕ, zero, suc, ◌<◌, Bool, true, false, ◌||◌, List, [], ◌∷◌, ◌++◌, map, length, take, Option, Some, None, Result, Ok, Err, slice_get, position, refl, sym, ap, ◌∙◌, true≢false, ◌↔◌, arith}
+use Rattle.std.proofs.Common.{◌≡◌, ℕ, zero, suc, ◌<◌, Bool, true, false, ◌||◌, List, [], ◌∷◌, ◌++◌, length, take, Option, Some, None, Result, Ok, Err, slice_get, position, refl, sym, ap, ◌∙◌, true≢false, ◌↔◌, arith}
 use Rattle.std.specs.Global.{Vec}
 use Rattle.std.specs.Prelude.{IfNone, IfSome, is_some, bytes_eq, if◌then◌else◌}
 use Rattle.std.specs.List.{list_any}
@@ -15,10 +15,10 @@ use Rattle.awk_variables.specs.declared.special.Special.{Special}
 use Rattle.awk_variables.specs.Variables.{name_of}
 use Rattle.awk_variables.specs.Names.{has_name, with_name, AreDistinct}
 use Rattle.awk_semantics.specs.declared.halt.Halt.{Halt}
-use Rattle.awk_semantics.specs.State.{State, Out, Run, go_on, ◌>>=◌, lift}
+use Rattle.awk_semantics.specs.State.{State, go_on, ◌>>=◌, lift}
 use Rattle.awk_semantics.specs.Results.{Yields}
 use Rattle.awk_semantics.specs.Primitives.{put_outside}
-use Rattle.awk_semantics.specs.Inputs.{is_among, is_unassignable, assigned_text, check_assignment, assign_text}
+use Rattle.awk_semantics.specs.Inputs.{is_among, assigned_text, check_assignment, assign_text}
 use Rattle.awk_lex.specs.Words.{is_reserved, is_left_out}
 use Rattle.awk_runtime.specs.declared.runtime.Runtime.{Runtime}
 use Rattle.awk_runtime.specs.support.Simulation.{OwnRelation, Changes}

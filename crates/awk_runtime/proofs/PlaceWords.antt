@@ -1,12 +1,12 @@
 -- What assignments to places do to the code's own state.
-use Rattle.std.proofs.Common.{◌≡◌, ◌<◌, ◌≤◌, ℕ, zero, suc, ℤ, pos, List, [], ◌∷◌, length, set, slice_get, Option, Some, None, Result, Ok, Err, refl, false, sym, ap, ◌∙◌, subst, arith}
-use Rattle.std.specs.Prelude.{IfSome, IfNone, bytes_eq, if◌then◌else◌}
+use Rattle.std.proofs.Common.{◌≡◌, ◌<◌, ℕ, zero, suc, ℤ, List, [], ◌∷◌, length, set, slice_get, Some, None, Result, Ok, Err, refl, false, sym, ap, ◌∙◌, subst, arith}
+use Rattle.std.specs.Prelude.{if◌then◌else◌}
 use Rattle.std.proofs.lemmas.Slice.Eq.{bytes_eq-Decides}
 use Rattle.std.proofs.lemmas.Option.{slice_get_within}
 use Rattle.awk_value.specs.declared.value.Value.{Value}
 use Rattle.awk_value.specs.declared.value.Value.TheVariants as value
 use Rattle.awk_value.specs.declared.fault.ValueFault.{ValueFault}
-use Rattle.awk_value.specs.Values.{num_of, str_of}
+use Rattle.awk_value.specs.Values.{num_of}
 use Rattle.awk_lex.specs.declared.token.IncrementOperator.{IncrementOperator}
 use Rattle.awk_lex.specs.declared.token.Operator.{Operator}
 use Rattle.awk_variables.specs.declared.special.Special.{Special}
@@ -16,23 +16,22 @@ use Rattle.awk_semantics.specs.declared.halt.Halt.{Halt}
 use Rattle.awk_semantics.specs.declared.halt.Halt.TheVariants as halt
 use Rattle.awk_semantics.specs.declared.local.Local.{Local}
 use Rattle.awk_semantics.specs.declared.local.Local.TheVariants as local
-use Rattle.awk_semantics.specs.State.{Run, ◌>>=◌, lift, ret}
-use Rattle.awk_semantics.specs.Results.{Yields}
+use Rattle.awk_semantics.specs.State.{lift}
 use Rattle.awk_semantics.specs.Faults.{value_fault}
 use Rattle.awk_semantics.specs.Operators.{applied, by_one, one}
-use Rattle.awk_semantics.specs.Primitives.{number_of, read_field, set_field, put_special}
+use Rattle.awk_semantics.specs.Primitives.{read_field, set_field}
 use Rattle.awk_storage.specs.declared.position.Variable.{Variable}
 use Rattle.awk_storage.specs.declared.position.Variable.TheVariants as variable
 use Rattle.awk_storage.specs.declared.position.Place.{Place}
 use Rattle.awk_storage.specs.declared.position.Place.TheVariants as place
 use Rattle.awk_storage.specs.support.Frames.{FrameView, FramesView, newest_of, with_newest_of, with_value_at}
-use Rattle.awk_storage.specs.Positions.{read_variable, put_variable, read_at, store_at, assign_at, assign_by_at, post_increment_at}
+use Rattle.awk_storage.specs.Positions.{read_variable, read_at, store_at, assign_at, assign_by_at, post_increment_at}
 use Rattle.awk_runtime.specs.declared.places.Updated.{Updated}
 use Rattle.awk_runtime.specs.declared.runtime.Runtime.{Runtime}
-use Rattle.awk_runtime.specs.support.Simulation.{Changes, SameState}
+use Rattle.awk_runtime.specs.support.Simulation.{Changes}
 use Rattle.awk_runtime.specs.support.Naming.{Naming, AreOwn}
 use Rattle.awk_runtime.specs.support.Updates.{UpdatesVariable, Updates}
-use Rattle.awk_runtime.proofs.Composition.{then_changes, ends_changes, lift_changes, memory_changes}
+use Rattle.awk_runtime.proofs.Composition.{then_changes, ends_changes, lift_changes}
 use Rattle.awk_runtime.proofs.Steps.{still}
 use Rattle.awk_runtime.proofs.Words.{number_had, number_lacked}
 use Rattle.awk_runtime.proofs.VariableWords.{SameButVariables, SameButFrames, special_put, special_read, special_outside, slot_read, slot_given, value_in, local_read, local_given}

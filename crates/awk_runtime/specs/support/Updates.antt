@@ -6,7 +6,6 @@ use Rattle.awk_lex.specs.declared.token.Operator.{Operator}
 use Rattle.awk_semantics.specs.Operators.{applied}
 use Rattle.awk_storage.specs.declared.position.Variable.{Variable}
 use Rattle.awk_storage.specs.declared.position.Place.{Place}
-use Rattle.awk_storage.specs.declared.position.Place.TheVariants as place
 use Rattle.awk_storage.specs.Positions.{read_variable, put_variable, read_at, store_at}
 use Rattle.awk_runtime.specs.declared.places.Updated.{Updated}
 use Rattle.awk_runtime.specs.declared.runtime.Runtime.{Runtime}
