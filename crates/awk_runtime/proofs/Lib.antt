@@ -14,3 +14,4 @@ pub mod Turns
 pub mod Prints
 pub mod Openings
 pub mod CallWords
+pub mod DistinctNames
