@@ -7,6 +7,9 @@ pub mod NameNumbers
 pub mod ArgumentWords
 pub mod Words
 pub mod VariableWords
+pub mod NameWords
+pub mod EndWords
+pub mod PlaceWords
 pub mod Turns
 pub mod Prints
 pub mod Openings
@@ -14,3 +17,4 @@ pub mod CallWords
 pub mod CallLemmas
 pub mod StartLemmas
 pub mod StartRelation
+pub mod DistinctNames

@@ -1,12 +1,11 @@
 -- What giving variables values does to the code's own state.
-use Rattle.std.proofs.Common.{◌≡◌, ◌≢◌, true≢false, ◌≤◌, ◌<◌, ℕ, zero, suc, ℤ, pos, Bool, true, false, List, [], ◌∷◌, ◌++◌, length, map, set, unwrap_or, slice_get, Option, Some, None, Result, Ok, Err, refl, sym, ap, ◌∙◌, subst, ◌⊎◌, inl, inr, arith}
-use Rattle.std.specs.Prelude.{◌==◌, ◌&&◌, codes, bytes_eq, get_or, if◌then◌else◌}
+use Rattle.std.proofs.Common.{◌≡◌, ◌≢◌, true≢false, ◌≤◌, ◌<◌, ℕ, zero, suc, pos, Bool, true, false, List, [], ◌∷◌, length, map, set, unwrap_or, slice_get, Option, Some, None, Result, Ok, Err, refl, sym, ap, ◌∙◌, subst, ◌⊎◌, inl, inr, arith}
+use Rattle.std.specs.Prelude.{◌&&◌, codes, bytes_eq, get_or, if◌then◌else◌}
 use Rattle.std.specs.Option.{option_map}
 use Rattle.std.specs.Global.{Vec}
-use Rattle.std.proofs.lemmas.Bool.Decides.{nat_tests}
 use Rattle.std.proofs.lemmas.Slice.Eq.{bytes_eq-Decides}
 use Rattle.std.proofs.lemmas.List.{map-set, set-get_or, get_or-set_same, get_or-set_other}
-use Rattle.std.proofs.lemmas.Option.{slice_get-map, slice_get_past, slice_get_within, get_or_from_slice_get, slice_get_cases}
+use Rattle.std.proofs.lemmas.Option.{slice_get-map, slice_get_within, get_or_from_slice_get}
 use Rattle.awk_value.specs.declared.value.Value.{Value}
 use Rattle.awk_value.specs.declared.value.Value.TheVariants as value
 use Rattle.awk_value.specs.Values.{str_of}
@@ -16,26 +15,25 @@ use Rattle.awk_variables.specs.declared.special.Special.{Special}
 use Rattle.awk_variables.specs.declared.special.Special.TheVariants.{Argc, Convfmt, Filename, Fnr, Fs, Nr, Ofmt, Ofs, Ors, Rlength, Rs, Rstart, Subsep}
 use Rattle.awk_variables.specs.declared.fault.VariableFault.{VariableFault}
 use Rattle.awk_variables.specs.declared.fault.VariableFault.TheVariants.{Memory, Pattern}
-use Rattle.awk_variables.specs.Variables.{Pairs, value_of, name_of, with_value, is_refused}
-use Rattle.awk_variables.specs.Names.{has_name, AreDistinct}
+use Rattle.awk_variables.specs.Variables.{value_of, name_of, with_value, is_refused}
+use Rattle.awk_variables.specs.Names.{AreDistinct}
 use Rattle.awk_semantics.specs.declared.halt.Halt.{Halt}
 use Rattle.awk_semantics.specs.declared.halt.Halt.TheVariants as halt
 use Rattle.awk_semantics.specs.declared.fault.Fault.TheVariants.{PatternRefused}
 use Rattle.awk_semantics.specs.declared.local.Local.{Local}
 use Rattle.awk_semantics.specs.declared.local.Local.TheVariants as local
-use Rattle.awk_semantics.specs.State.{State, Frame, Out, Run, ◌>>=◌, lift, ret, gives}
+use Rattle.awk_semantics.specs.State.{State, Frame, Run, ◌>>=◌, lift, gives}
 use Rattle.awk_semantics.specs.Results.{Yields}
 use Rattle.awk_semantics.specs.Faults.{variable_fault}
 use Rattle.awk_semantics.specs.Operators.{raised}
-use Rattle.awk_semantics.specs.Primitives.{global_value, read_outside, put_unless, put_global, put_outside, put_special, count_in, with_variable}
-use Rattle.awk_semantics.specs.Streams.{note_input, begin_input}
-use Rattle.awk_storage.specs.support.Frames.{FrameView, FramesView, newest_of, given, with_newest_of, with_value_at}
+use Rattle.awk_semantics.specs.Primitives.{read_outside, put_unless, put_global, put_outside, put_special, count_in, with_variable}
+use Rattle.awk_storage.specs.support.Frames.{FramesView, newest_of, with_value_at}
 use Rattle.awk_storage.specs.Positions.{newest_locals, value_of_local, with_newest, with_local_at, read_local, put_local, read_slot, put_slot}
 use Rattle.awk_runtime.specs.declared.runtime.Runtime.{Runtime}
-use Rattle.awk_runtime.specs.support.Simulation.{inside_of, frame_view, OwnRelation, Changes, Beside, SameState}
+use Rattle.awk_runtime.specs.support.Simulation.{frame_view, OwnRelation, Changes, SameState}
 use Rattle.awk_runtime.specs.support.Naming.{Naming, AreOwn}
-use Rattle.awk_runtime.proofs.Composition.{own_changes, same_part, then_changes, ends_changes, lift_changes, memory_changes}
-use Rattle.awk_runtime.proofs.Steps.{still, beside_holds, reads_changes, same_changes}
+use Rattle.awk_runtime.proofs.Composition.{own_changes, then_changes, ends_changes, lift_changes, memory_changes}
+use Rattle.awk_runtime.proofs.Steps.{still, reads_changes, same_changes}
 
 -- texts that are compared
 

@@ -1,8 +1,7 @@
 -- What the words on the code's own state do to it.
-use Rattle.std.proofs.Common.{◌≡◌, ◌≢◌, true≢false, ◌≤◌, ℕ, zero, suc, ℤ, pos, negsuc, Bool, true, false, List, [], length, unwrap_or, slice_get, Option, Some, None, Result, Ok, Err, refl, sym, ap, ◌∙◌, subst, arith}
-use Rattle.std.specs.Prelude.{◌==◌, codes, bytes_eq, get_or, if◌then◌else◌, IfSome}
+use Rattle.std.proofs.Common.{◌≡◌, ◌≢◌, true≢false, ℕ, zero, suc, ℤ, pos, negsuc, Bool, true, false, List, [], length, unwrap_or, slice_get, Some, Result, Ok, Err, refl, sym, ap, ◌∙◌, subst, arith}
+use Rattle.std.specs.Prelude.{◌==◌, codes, get_or}
 use Rattle.std.specs.Global.{Vec}
-use Rattle.std.proofs.lemmas.Slice.Eq.{bytes_eq-Decides}
 use Rattle.awk_text.specs.Separators.{Rule}
 use Rattle.awk_value.specs.declared.value.Value.{Value}
 use Rattle.awk_value.specs.declared.value.Value.TheVariants as value
@@ -12,27 +11,21 @@ use Rattle.awk_value.specs.Values.{num_of, str_of}
 use Rattle.awk_fields.specs.declared.fault.RecordFault.{RecordFault}
 use Rattle.awk_fields.specs.declared.fault.RecordFault.TheVariants as record_faults
 use Rattle.awk_fields.specs.Record.{RecordPair, split_by, field_of, assignable, with_count, with_field}
-use Rattle.awk_variables.specs.declared.special.Special.{Special}
-use Rattle.awk_variables.specs.declared.special.Special.TheVariants.{Argc, Convfmt, Filename, Fnr, Fs, Nr, Ofmt, Ofs, Ors, Rlength, Rs, Rstart, Subsep}
-use Rattle.awk_variables.specs.declared.fault.VariableFault.{VariableFault}
-use Rattle.awk_variables.specs.declared.fault.VariableFault.TheVariants.{Memory, Pattern}
-use Rattle.awk_variables.specs.Variables.{Pairs, value_of, name_of, with_value, is_refused}
+use Rattle.awk_variables.specs.declared.special.Special.TheVariants.{Fnr, Fs, Nr, Ofs, Rs}
+use Rattle.awk_variables.specs.Variables.{Pairs, value_of, name_of}
 use Rattle.awk_semantics.specs.declared.halt.Halt.{Halt}
 use Rattle.awk_semantics.specs.declared.halt.Halt.TheVariants as halt
-use Rattle.awk_semantics.specs.declared.fault.Fault.TheVariants.{OutOfMemory, PatternRefused}
-use Rattle.awk_semantics.specs.State.{State, Out, Run, go_on, ◌>>=◌, lift, ret}
+use Rattle.awk_semantics.specs.State.{State, Out, Run, go_on, ◌>>=◌, lift}
 use Rattle.awk_semantics.specs.Results.{Yields}
-use Rattle.awk_semantics.specs.Faults.{of_record, of_values, record_fault, value_fault, variable_fault}
-use Rattle.awk_semantics.specs.Operators.{exit_status, raised}
-use Rattle.awk_semantics.specs.Primitives.{number_of, read_field, set_current, set_count, store_field, set_field, set_record, record_text, read_outside, put_outside, put_unless, put_special, put_global, count_in, with_variable, is_inside, with_range, set_inside, with_status, set_status}
-use Rattle.awk_semantics.specs.Streams.{note_input, begin_input}
+use Rattle.awk_semantics.specs.Faults.{of_record, record_fault, value_fault}
+use Rattle.awk_semantics.specs.Primitives.{number_of, read_field, set_current, set_count, store_field, set_field, set_record, record_text, read_outside, put_outside, count_in}
 use Rattle.awk_semantics.specs.Items.{begin_record}
-use Rattle.awk_semantics.specs.BuiltIns.{applied_all, record_length}
+use Rattle.awk_semantics.specs.BuiltIns.{record_length}
 use Rattle.awk_runtime.specs.declared.runtime.Runtime.{Runtime}
-use Rattle.awk_runtime.specs.support.Simulation.{inside_of, OwnRelation, Changes, Beside, SameState}
-use Rattle.awk_runtime.specs.support.Naming.{Naming, AreOwn}
-use Rattle.awk_runtime.proofs.Composition.{Own, own_changes, same_part, OwnPart, then_changes, ends_changes, lift_changes, memory_changes}
-use Rattle.awk_runtime.proofs.Steps.{still, beside_holds, reads_changes, same_changes}
+use Rattle.awk_runtime.specs.support.Simulation.{OwnRelation, Changes, SameState}
+use Rattle.awk_runtime.specs.support.Naming.{Naming}
+use Rattle.awk_runtime.proofs.Composition.{own_changes, same_part, then_changes, ends_changes, lift_changes, memory_changes}
+use Rattle.awk_runtime.proofs.Steps.{beside_holds, reads_changes, same_changes}
 
 -- The record and its fields.
 

@@ -20,7 +20,8 @@ fn count_value(count: usize) -> Value
 }
 
 impl Runtime {
-    /// The field of a number; `$0` is the record's text. (POSIX awk, Variables and Special Variables)
+    /// The field of a number; `$0` is the record's text, and a field past the last one was never assigned. The faults are F1,
+    /// and F8 of a number below 0. (POSIX awk, Variables and Special Variables)
     #[inline(always)]
     pub fn read_field(&mut self, number: i128) -> Result<Value, Halt>
         ensures { Changes (read_field number) self.old self.new result }
@@ -28,7 +29,8 @@ impl Runtime {
         Ok(self.current.field(number)?)
     }
 
-    /// Gives a field a value; `$0` is the whole record.
+    /// Gives a field a value, and the record the text that its fields then make by OFS; `$0` is the whole record, by FS and RS.
+    /// The faults are F1, and F8 of a number that isn't from 0 to 1,000,000. (POSIX awk, Variables and Special Variables)
     pub fn set_field(&mut self, number: i128, value: Value) -> Result<(), Halt>
         ensures { Changes (set_field number value) self.old self.new result }
     {
@@ -39,7 +41,8 @@ impl Runtime {
         Ok(self.current.set_field(number, value, separator)?)
     }
 
-    /// Makes the text the record at hand.
+    /// Makes the text the record at hand, with the fields that FS and RS of this moment separate. The fault is F1. (POSIX awk,
+    /// Regular Expressions; Variables and Special Variables)
     pub fn set_record(&mut self, text: Bytes) -> Result<(), Halt>
         ensures { Changes (set_record text) self.old self.new result }
     {
@@ -48,14 +51,14 @@ impl Runtime {
         Ok(self.current.set_text(text, separator, newline_too)?)
     }
 
-    /// The record's text, as a value.
+    /// The record's text, as a value. The fault is F1.
     pub fn record_text(&mut self) -> Result<Value, Halt>
         ensures { Changes (record_text) self.old self.new result }
     {
         Ok(Value::Input(self.current.text()?))
     }
 
-    /// The length of the record's text. (POSIX awk, String Functions: length)
+    /// The length of the record's text. The fault is F1. (POSIX awk, String Functions: length)
     pub fn record_length(&mut self) -> Result<Value, Halt>
         ensures { Changes (record_length) self.old self.new result }
     {
@@ -63,7 +66,8 @@ impl Runtime {
         Ok(count_value(text.len()))
     }
 
-    /// Makes the text the record at hand, and counts it in NR and FNR.
+    /// Makes the text the record at hand, and counts it in NR and FNR. The faults are F1 and F3. (POSIX awk, Variables and
+    /// Special Variables)
     pub fn begin_record(&mut self, text: Bytes) -> Result<(), Halt>
         ensures { Changes (begin_record text) self.old self.new result }
     {
@@ -72,14 +76,15 @@ impl Runtime {
         self.count_in(Special::Fnr)
     }
 
-    /// The number of fields, as a value. (POSIX awk, Variables and Special Variables: NF)
+    /// The number of fields, as a value. The fault is F1. (POSIX awk, Variables and Special Variables: NF)
     pub(crate) fn field_count(&mut self) -> Result<Value, Halt>
         ensures { Changes (read_outside (codes "NF")) self.old self.new result }
     {
         Ok(count_value(self.current.count()?))
     }
 
-    /// Gives the record as many fields as a value's number is. (POSIX awk, Variables and Special Variables: NF)
+    /// Gives the record as many fields as a value's number is, and the text that they make by OFS. The faults are F1, F3 and F8.
+    /// (POSIX awk, Variables and Special Variables: NF)
     pub(crate) fn set_field_count(&mut self, value: &Value) -> Result<(), Halt>
         ensures { Changes (put_outside (codes "NF") value.now) self.old self.new result }
     {

@@ -16,7 +16,7 @@ mod start;
 mod texts;
 mod variables;
 
-pub use names::ProgramNames;
+pub use names::{ProgramNames, add_name, array_names, function_names};
 pub use runtime::Runtime;
 pub use texts::PatternSource;
 pub use start::Assignment;

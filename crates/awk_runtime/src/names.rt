@@ -1,34 +1,24 @@
 // The names of a program and the texts of its EREs, by their places.
 
-ghost use Rattle.std.specs.Prelude.{◌≡◌, length, map, slice_get, Some, IfSome, IfNone, IfOk, false, codes, bytes_eq};
+ghost use Rattle.std.specs.Prelude.{◌≡◌, slice_get, Some, IfSome, IfNone, false, codes, bytes_eq};
 ghost use Rattle.awk_variables.specs.Names.{has_name, AreDistinct};
 ghost use Rattle.awk_semantics.specs.Inputs.{is_among};
 ghost use Rattle.awk_runtime.specs.support.Naming.{AreOwn, ere_at, names_of};
 
 use awk_value::Bytes;
 use indexmap::IndexSet;
-use std::alloc::{AllocError, Global};
 use std::marker::Model;
 
+mod collected;
 mod numbers;
+
+pub use collected::{add_name, array_names, function_names};
 
 /// Whether a name is NF, which is counted in the record.
 pub(crate) fn is_field_count(name: &[u8]) -> bool
     ensures { result ≡ bytes_eq name.now (codes "NF") }
 {
     matches!(name, b"NF")
-}
-
-/// Names, each at its place.
-pub fn name_set(alloc: Global, names: &[Vec<u8>]) -> Result<IndexSet<Vec<u8>>, AllocError>
-    requires { AreDistinct (names_of names.now) }
-    ensures { IfOk result (λ set. names_of set.keys ≡ names_of names.now) }
-{
-    let mut set = IndexSet::new(alloc);
-    for name in names {
-        set.insert(Vec::from_slice(alloc, name)?)?;
-    }
-    Ok(set)
 }
 
 /// The names of a program: its variables by their slots, each once and none of them a special one; the arrays of the whole
@@ -70,7 +60,12 @@ impl ProgramNames {
     ) -> ProgramNames
         requires distinct { AreDistinct (names_of scalars.keys) }
         requires own { AreOwn (names_of scalars.keys) }
-        ensures { result ≡ record { scalars = names_of scalars.keys; arrays = names_of arrays.keys; functions = names_of functions.keys; eres = eres.items } }
+        ensures { result ≡ record {
+          scalars = names_of scalars.keys;
+          arrays = names_of arrays.keys;
+          functions = names_of functions.keys;
+          eres = eres.items;
+        } }
     {
         ProgramNames {
             scalars,

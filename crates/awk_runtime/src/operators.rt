@@ -11,7 +11,8 @@ use awk_semantics::Halt;
 use awk_value::Value;
 
 impl Runtime {
-    /// What an operator makes of two values. The text right of `~` and `!~` is read as a pattern. (POSIX awk, Expressions in awk)
+    /// What an operator makes of two values: a number, or 1 or 0. The text right of `~` and `!~` is read as a pattern. The faults
+    /// are F1, F3, F4, F5 and F6. (POSIX awk, Expressions in awk)
     #[inline(always)]
     pub fn apply(&mut self, operator: Operator, left: &Value, right: &Value) -> Result<Value, Halt>
         ensures { Changes (lift (applied operator left.now right.now)) self.old self.new result }
@@ -19,7 +20,7 @@ impl Runtime {
         awk_functions::apply(operator, left, right, &mut self.patterns)
     }
 
-    /// What an operator makes of a value.
+    /// What an operator makes of a value. The fault is F3. (POSIX awk, Expressions in awk)
     #[inline(always)]
     pub fn change(&mut self, operator: UnaryOperator, value: &Value) -> Result<Value, Halt>
         ensures { Changes (lift (changed operator value.now)) self.old self.new result }

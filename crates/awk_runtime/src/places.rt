@@ -1,10 +1,9 @@
 // Places: what can be assigned.
 
-ghost use Rattle.std.specs.Prelude.{◌≡◌, ℕ, List, Ok, Some, IfSome, IfNone};
-ghost use Rattle.awk_value.specs.declared.value.Value.TheVariants.{Number};
+ghost use Rattle.std.specs.Prelude.{◌≡◌, IfSome, IfNone};
 ghost use Rattle.awk_runtime.specs.support.Simulation.{Changes};
-ghost use Rattle.awk_runtime.specs.support.Updates.{IsUpdated, Updates, UpdatesVariable};
-ghost use Rattle.awk_semantics.specs.Operators.{applied, by_one, one};
+ghost use Rattle.awk_runtime.specs.support.Updates.{Updates, UpdatesVariable};
+ghost use Rattle.awk_semantics.specs.Operators.{by_one, one};
 ghost use Rattle.awk_storage.specs.Positions.{read_at, store_at, assign_at, assign_by_at, post_increment_at};
 
 use crate::runtime::Runtime;
@@ -17,29 +16,14 @@ use awk_variables::Special;
 
 /// A number that was changed where it stands.
 #[derive(Clone, Copy)]
-pub struct Updated {
-    pub before: i128,
-    pub after: i128,
-}
-
-/// Makes a number what an operator makes of it and of another one. `None`, and nothing changes, where it is another value, or
-/// what it would become is no number.
-#[inline(always)]
-fn update(value: &mut Value, operator: Operator, n: i128) -> Option<Updated>
-    ensures updated { IfSome result (λ u. IsUpdated operator n value.old value.new u) }
-    ensures kept { IfNone result (value.new ≡ value.old) }
-{
-    let Value::Number(place) = value else {
-        return None;
-    };
-    let before = *place;
-    let after = apply_to_numbers(operator, before, n)?;
-    *place = after;
-    Some(Updated { before, after })
+pub(crate) struct Updated {
+    before: i128,
+    after: i128,
 }
 
 impl Runtime {
-    /// What a place holds. The operand is the subscript or the field's number that was evaluated before. (POSIX awk, Expressions in awk: lvalue)
+    /// What a place holds. The operand is the subscript, or the field's number, that was evaluated before. The faults are F1, and
+    /// of a field F3 and F8. (POSIX awk, Expressions in awk: lvalue)
     #[inline(always)]
     pub fn read_at(&mut self, place: Place, operand: &Value) -> Result<Value, Halt>
         ensures { Changes (read_at self.old.names.scalars place operand.now) self.old self.new result }
@@ -51,7 +35,7 @@ impl Runtime {
         }
     }
 
-    /// Gives a place a value.
+    /// Gives a place a value. The faults are those of the variable, the array or the field. (POSIX awk, Expressions in awk: lvalue)
     #[inline(always)]
     pub fn store_at(&mut self, place: Place, operand: &Value, value: Value) -> Result<(), Halt>
         ensures { Changes (store_at self.old.names.scalars place operand.now value) self.old self.new result }
@@ -71,7 +55,8 @@ impl Runtime {
         self.read_at(place, operand)
     }
 
-    /// Gives a place a value, or what an operator makes of its old value and of this one; gives what it then holds.
+    /// Gives a place a value, or what an operator makes of its old value and of this one; gives what it then holds. A variable's
+    /// number changes where it stands. (POSIX awk, Expressions in awk)
     #[inline(always)]
     pub fn assign_by_at(
         &mut self,
@@ -107,7 +92,7 @@ impl Runtime {
         self.assign_at(place, operand, value)
     }
 
-    /// Gives a place its number raised or lowered by 1; gives what it then holds.
+    /// Gives a place its number raised or lowered by 1; gives what it then holds. (POSIX awk, Expressions in awk: `++x`, `--x`)
     #[inline(always)]
     pub fn pre_increment_at(
         &mut self,
@@ -120,7 +105,7 @@ impl Runtime {
         self.assign_by_at(Some(by_one(operator)), place, operand, Value::Number(1))
     }
 
-    /// Gives a place its number raised or lowered by 1; gives the number that it had.
+    /// Gives a place its number raised or lowered by 1; gives the number that it had. (POSIX awk, Expressions in awk: `x++`, `x--`)
     #[inline(always)]
     pub fn post_increment_at(
         &mut self,
@@ -181,10 +166,13 @@ impl Runtime {
         ensures kept { IfNone result (self.new ≡ self.old) }
     {
         self.names.law_of_slots();
-        if slot as usize >= self.globals.len() {
+        let Some(Value::Number(before)) = self.globals.get(slot as usize) else {
             return None;
-        }
-        update(&mut self.globals[slot as usize], operator, n)
+        };
+        let before = *before;
+        let after = apply_to_numbers(operator, before, n)?;
+        self.globals[slot as usize] = Value::Number(after);
+        Some(Updated { before, after })
     }
 
     /// Changes a parameter's number.

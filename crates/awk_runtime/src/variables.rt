@@ -1,14 +1,13 @@
 // Variables, ranges and the exit status.
 
-ghost use Rattle.std.specs.Prelude.{◌≡◌, true, false, ◌<◌, vec_len, unwrap_or, slice_get, ℕ, Ok, Some, OnOk, IfSome, IfNone};
-ghost use Rattle.awk_value.specs.declared.value.Value.TheVariants.{Number};
+ghost use Rattle.std.specs.Prelude.{◌≡◌, ◌<◌, ℕ, false, vec_len, unwrap_or, slice_get, OnOk};
 ghost use Rattle.awk_runtime.specs.support.Simulation.{Changes};
 ghost use Rattle.awk_semantics.specs.Results.{Yields};
 ghost use Rattle.awk_semantics.specs.Inputs.{text_or_fault, assign_text};
 ghost use Rattle.awk_runtime.specs.support.Naming.{is_unassignable_among};
 ghost use Rattle.awk_semantics.specs.Primitives.{put_outside, put_special, count_in, is_inside, set_inside, set_status};
 ghost use Rattle.awk_semantics.specs.Streams.{begin_input, note_input};
-ghost use Rattle.awk_storage.specs.Positions.{read_variable, put_variable, read_local, read_slot, put_slot};
+ghost use Rattle.awk_storage.specs.Positions.{read_variable, put_variable, read_local, put_local, read_slot, put_slot};
 ghost use Rattle.awk_lex.specs.Escapes.{unescaped};
 
 use crate::names::is_field_count;
@@ -46,7 +45,8 @@ fn unescaped_text(alloc: Global, text: &[u8]) -> Result<Bytes, Halt>
 }
 
 impl Runtime {
-    /// The value of a variable, by its position. (POSIX awk, Variables and Special Variables)
+    /// The value of a variable, by its position; a slot or a parameter that isn't there has none. The fault is F1. (POSIX awk,
+    /// Variables and Special Variables)
     #[inline(always)]
     pub fn read_variable(&mut self, variable: Variable) -> Result<Value, Halt>
         ensures { Changes (read_variable self.old.names.scalars variable) self.old self.new result }
@@ -78,11 +78,13 @@ impl Runtime {
     {
         match self.frames.local(index as usize) {
             Some(Local::Value(value)) => Ok(value.clone()?),
-            Some(Local::Array(_)) | None => Ok(Value::Nothing),
+            Some(Local::Array(_)) => Ok(Value::Nothing),
+            None => Ok(Value::Nothing),
         }
     }
 
-    /// Gives a variable a value: NF makes the record anew, and a value of FS must separate (F6). (POSIX awk, Variables and Special Variables)
+    /// Gives a variable a value. NF makes the record anew (F3, F8), a value of FS must separate (F6), and a parameter that is an
+    /// array stays one. The other fault is F1. (POSIX awk, Variables and Special Variables)
     #[inline(always)]
     pub fn put_variable(&mut self, variable: Variable, value: Value) -> Result<(), Halt>
         ensures { Changes (put_variable self.old.names.scalars variable value) self.old self.new result }
@@ -116,7 +118,8 @@ impl Runtime {
         Ok(())
     }
 
-    /// Gives a special variable a value.
+    /// Gives a special variable a value. Only FS is refused one: F6, of a text that separates nothing, or F1. (POSIX awk,
+    /// Variables and Special Variables)
     pub fn put_special(&mut self, special: Special, value: Value) -> Result<(), Halt>
         ensures { Changes (put_special special value) self.old self.new result }
     {
@@ -124,7 +127,7 @@ impl Runtime {
         Ok(self.specials.set_special(special, value)?)
     }
 
-    /// Raises a special variable's number by 1.
+    /// Raises a special variable's number by 1. The faults are F1 and F3. (POSIX awk, Variables and Special Variables: NR, FNR)
     pub fn count_in(&mut self, special: Special) -> Result<(), Halt>
         ensures { Changes (count_in special) self.old self.new result }
     {
@@ -132,7 +135,9 @@ impl Runtime {
         self.put_special(special, count)
     }
 
-    /// Gives a name a text from the command line, in which the escapes of a string stand for their bytes. (POSIX awk, OPTIONS: -v; OPERANDS)
+    /// Gives a name a text from the command line, in which the escapes of a string stand for their bytes. F14 is the fault of a
+    /// keyword, a built-in, an array, a function, and of a bad escape; the others are those of the variable. (POSIX awk, OPTIONS:
+    /// -v; OPERANDS)
     pub fn assign_text(&mut self, name: &[u8], text: &[u8]) -> Result<(), Halt>
         ensures { Changes (assign_text name.now text.now) self.old self.new result }
     {
@@ -169,7 +174,8 @@ impl Runtime {
         }
     }
 
-    /// Begins a main input: FILENAME is its name, and FNR 0; standard input is no longer wanted.
+    /// Begins a main input: FILENAME is its name, and FNR 0; standard input is no longer wanted. (POSIX awk, Variables and Special
+    /// Variables)
     pub fn begin_input(&mut self, name: Bytes) -> Result<(), Halt>
         ensures { Changes (begin_input name) self.old self.new result }
     {
@@ -196,7 +202,7 @@ impl Runtime {
         }
     }
 
-    /// Notes whether a range is inside, by the number of its item.
+    /// Notes whether a range is inside, by the number of its item. The fault is F1.
     pub fn set_inside(&mut self, number: usize, is_inside: bool) -> Result<(), Halt>
         ensures { Changes (set_inside number is_inside) self.old self.new result }
     {
@@ -205,7 +211,7 @@ impl Runtime {
         Ok(())
     }
 
-    /// Sets the exit status to that of a value's number. (POSIX awk, Actions: exit)
+    /// Sets the exit status to that of a value's number. The fault is F3. (POSIX awk, Actions: exit)
     pub fn set_status(&mut self, value: &Value) -> Result<(), Halt>
         ensures { Changes (set_status value.now) self.old self.new result }
     {

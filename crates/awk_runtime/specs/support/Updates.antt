@@ -6,17 +6,10 @@ use Rattle.awk_lex.specs.declared.token.Operator.{Operator}
 use Rattle.awk_semantics.specs.Operators.{applied}
 use Rattle.awk_storage.specs.declared.position.Variable.{Variable}
 use Rattle.awk_storage.specs.declared.position.Place.{Place}
-use Rattle.awk_storage.specs.declared.position.Place.TheVariants as place
 use Rattle.awk_storage.specs.Positions.{read_variable, put_variable, read_at, store_at}
 use Rattle.awk_runtime.specs.declared.places.Updated.{Updated}
 use Rattle.awk_runtime.specs.declared.runtime.Runtime.{Runtime}
 use Rattle.awk_runtime.specs.support.Simulation.{Changes}
-
--- a number becomes what an operator makes of it and of another one
-pub record IsUpdated (operator : Operator) (n : ℤ) (old new : Value) (u : Updated) : Type 0 where
-  pub was : old ≡ Number u.before
-  pub made : applied operator (Number u.before) (Number n) ≡ Ok (Number u.after)
-  pub is : new ≡ Number u.after
 
 -- the number of a variable becomes what an operator makes of it and of another one
 pub record UpdatesVariable (operator : Operator) (x : Variable) (n : ℤ) (old new : Runtime) (u : Updated) : Type 0 where
