@@ -4,3 +4,4 @@ pub mod Steps
 pub mod Turns
 pub mod Prints
 pub mod Openings
+pub mod MainInput

@@ -1,3 +1,5 @@
 pub mod Naming
 pub mod Simulation
 pub mod Printing
+pub mod Operands
+pub mod Inputs
