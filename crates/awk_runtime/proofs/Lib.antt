@@ -5,3 +5,4 @@ pub mod Turns
 pub mod Prints
 pub mod Openings
 pub mod MainInput
+pub mod Seeks
