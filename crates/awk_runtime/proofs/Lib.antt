@@ -6,3 +6,5 @@ pub mod Prints
 pub mod Openings
 pub mod MainInput
 pub mod Seeks
+pub mod NamedInputs
+pub mod Received

@@ -3,3 +3,4 @@ pub mod Simulation
 pub mod Printing
 pub mod Operands
 pub mod Inputs
+pub mod NamedInputs
