@@ -8,3 +8,4 @@ pub mod MainInput
 pub mod Seeks
 pub mod NamedInputs
 pub mod Received
+pub mod Closings

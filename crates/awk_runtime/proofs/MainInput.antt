@@ -320,7 +320,7 @@ closing_goes before after old new (Some v) answer was same is = record {
   streams = same_numbers old new None same;
 }
 
-closes_stands : (oracle : Oracle) (old new : StreamsView) (before after : WorldState) (s : State) (past : List Effect) → EndsMain before old after new → StreamsRelation oracle old before s past → StreamsRelation oracle new after (record s { main = None }) (past ++ [])
+pub closes_stands : (oracle : Oracle) (old new : StreamsView) (before after : WorldState) (s : State) (past : List Effect) → EndsMain before old after new → StreamsRelation oracle old before s past → StreamsRelation oracle new after (record s { main = None }) (past ++ [])
 closes_stands oracle old new before after s past told stands = record {
   outside = stands.outside;
   openings = λ k name. stands.openings k name ∙ sym (told.counts.inputs k name);

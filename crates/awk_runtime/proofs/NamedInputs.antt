@@ -67,7 +67,7 @@ ret_comes : {A : Type 0} (oracle : Oracle) (new : Runtime) (after : WorldState) 
 unfolding lift
 ret_comes oracle new after s past a stands = (refl, stands)
 
-ret_still : {A : Type 0} (a : A) {old new : Runtime} {before after : WorldState} → Beside old new → new.streams ≡ old.streams → after ≡ before → SimulatesLogged old before new after (Ok a) (ret a)
+pub ret_still : {A : Type 0} (a : A) {old new : Runtime} {before after : WorldState} → Beside old new → new.streams ≡ old.streams → after ≡ before → SimulatesLogged old before new after (Ok a) (ret a)
 ret_still a {old = old} {new = new} {before = before} {after = after} beside same world = record {
   grows = subst (λ (w : WorldState). Grows before w) (sym world) (Grows-self before);
   means = λ oracle s past consistent stands. ret_comes oracle new after s past a (stands_same oracle s past beside same world stands);
@@ -306,13 +306,13 @@ named_by kind name separator (Err RecordTooLong) rs beside once told = named_log
 -- the one behind the other
 
 -- the state where the input was opened and not yet asked
-abbrev between : Runtime → StreamsView → Runtime
+abbrev pub between : Runtime → StreamsView → Runtime
 between m streams = record m { streams = streams }
 
-beside_between : (m : Runtime) (streams : StreamsView) → Beside m (between m streams)
+pub beside_between : (m : Runtime) (streams : StreamsView) → Beside m (between m streams)
 beside_between m streams = record { names = refl; current = refl; specials = refl; globals = refl; arrays = refl; frames = refl; next = refl; input_seen = refl; inside = refl; status = refl; steps = refl }
 
-between_beside : (m : Runtime) (streams : StreamsView) (new : Runtime) → Beside m new → Beside (between m streams) new
+pub between_beside : (m : Runtime) (streams : StreamsView) (new : Runtime) → Beside m new → Beside (between m streams) new
 between_beside m streams new h = record { names = h.names; current = h.current; specials = h.specials; globals = h.globals; arrays = h.arrays; frames = h.frames; next = h.next; input_seen = h.input_seen; inside = h.inside; status = h.status; steps = h.steps }
 
 next_by : (kind : InputKind) (name separator : List ℕ) (r : Result NextNamed StreamFault) (is_open : Result Bool StreamFault) (world : WorldState) (streams : StreamsView) {old new : Runtime} {before after : WorldState} → separator ≡ str_of (value_of old.specials (name_of Rs)) → Beside old new → AreOnce new.streams.named

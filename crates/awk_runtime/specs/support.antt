@@ -4,3 +4,4 @@ pub mod Printing
 pub mod Operands
 pub mod Inputs
 pub mod NamedInputs
+pub mod Endings

@@ -3,6 +3,7 @@
 ghost use Rattle.std.specs.Prelude.{◌≢◌, Some};
 ghost use Rattle.awk_value.specs.Values.{str_of};
 ghost use Rattle.awk_semantics.specs.Streams.{ARecord, next_of};
+ghost use Rattle.awk_semantics.specs.Places.{count_of};
 ghost use Rattle.awk_storage.specs.Forms.{receive_at, receive_main_at, main_getline_at, receive_named_at, named_getline_at};
 ghost use Rattle.awk_runtime.specs.support.Simulation.{IsReady, Changes, Follows};
 ghost use Rattle.awk_runtime.specs.support.NamedInputs.{answers_of};
@@ -106,11 +107,18 @@ impl Runtime {
         ensures { Changes (receive_named_at self.old.names.scalars kind place operand.now (ARecord text)) self.old self.new result }
     {
         self.receive(place, operand, text)?;
-        match kind {
-            InputKind::Command => self.count_in(Special::Nr)?,
-            InputKind::Standard | InputKind::File => (),
-        }
+        self.count_of(kind)?;
         Ok(Value::Number(1))
+    }
+
+    // A record of a command counts in NR, and one of a file doesn't.
+    fn count_of(&mut self, kind: InputKind) -> Result<(), Halt>
+        ensures { Changes (count_of kind) self.old self.new result }
+    {
+        match kind {
+            InputKind::Command => self.count_in(Special::Nr),
+            InputKind::Standard | InputKind::File => Ok(()),
+        }
     }
 
     // A record that was read goes to a place, or is the record at hand.
