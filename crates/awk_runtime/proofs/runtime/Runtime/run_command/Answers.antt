@@ -1,4 +1,6 @@
-use Rattle.std.proofs.Common.{Ok, Err, ◌∙◌}
+use mir.Syntax.{w128}
+use mir.Val.{to_z, of_z}
+use Rattle.std.proofs.Common.{rules, ◌≡◌, Ok, Err, ◌∙◌}
 use Rattle.std.proofs.lemmas.Result.{err_from_is_err_and}
 use Rattle.awk_runtime.proofs.Composition.{memory_simulates}
 use Rattle.awk_runtime.proofs.Turns.{written}
@@ -16,4 +18,6 @@ returns-in_err-run-clause-follows g c =
     rw (p.1, p.2) (run_follows _ c.as_slice.result.now (Err c.in_err-run.field-0.0) (c.as_slice.ensures ∙ c.in_ok-command.ensures.text) (written _ _ _ _) c.in_err-run.ensures.told)
 
 pub returns-clause-follows : goal.returns-clause-follows
-returns-clause-follows g c = run_follows _ c.as_slice.result.now (Ok c.in_ok-run.field-0) (c.as_slice.ensures ∙ c.in_ok-command.ensures.text) (written _ _ _ _) c.in_ok-run.ensures.told
+returns-clause-follows g c =
+    let same : to_z w128 (of_z w128 c.in_ok-run.field-0) ≡ c.in_ok-run.field-0 = search rules in
+    rw same (run_follows _ c.as_slice.result.now (Ok c.in_ok-run.field-0) (c.as_slice.ensures ∙ c.in_ok-command.ensures.text) (written _ _ _ _) c.in_ok-run.ensures.told)
