@@ -88,6 +88,22 @@ pub fn concatenate(alloc: Global, left: &Value, right: &Value) -> Result<Value, 
     Ok(Value::Text(Bytes::from_vec(alloc, text)?))
 }
 
+/// The text of a value with that of another behind it, as a text that was made. It grows in the memory of the first, where
+/// nothing else shares that. The only fault is want of memory. (POSIX awk, Expressions in awk: string concatenation)
+pub fn append(alloc: Global, left: Value, right: &Value) -> Result<Value, Halt>
+    ensures text { IfOk result (λ value. value ≡ Value.Text (str_of left ++ str_of right.now)) }
+    ensures fault { IfErr result IsWantOfMemory }
+{
+    let mut digits = Buffer::new();
+    match left {
+        Value::Text(mut text) | Value::Input(mut text) => {
+            text.extend_from_slice(alloc, text_in(right, &mut digits))?;
+            Ok(Value::Text(text))
+        }
+        left => concatenate(alloc, &left, right),
+    }
+}
+
 // About how many bytes the texts of the values take.
 fn room_for(values: &[Value]) -> usize {
     let mut room: usize = 0;

@@ -17,7 +17,6 @@ use crate::compiled::Compiled;
 use crate::found::Exchanged;
 use crate::texts::text_in;
 use awk_ere::Pattern;
-use awk_grammar::tree::Ere;
 use awk_semantics::Halt;
 use awk_text::{FieldSeparator, Span, TextFault};
 use awk_value::{Bytes, Value};
@@ -29,10 +28,11 @@ use std::num::NonZeroUsize;
 /// How many patterns are kept that don't stand in the program.
 const CACHED: usize = 64;
 
-/// What spells a pattern: an ERE of the program, or a value by its text (POSIX awk, Regular Expressions).
+/// What spells a pattern: an ERE of the program, by its number and the text between its slashes, or a value by its text
+/// (POSIX awk, Regular Expressions).
 #[derive(Clone, Copy)]
 pub enum PatternOperand<'a> {
-    Ere(&'a Ere),
+    Ere(usize, &'a [u8]),
     Value(&'a Value),
 }
 
@@ -95,17 +95,17 @@ impl Patterns {
     }
 
     // The pattern that stands in the program here, which is read where it is used first.
-    fn fixed_pattern(&mut self, ere: &Ere) -> Result<&mut Compiled, Halt>
-        ensures { ReadsFor ere.now.text (λ c. c.now.text) result }
+    fn fixed_pattern(&mut self, number: usize, text: &[u8]) -> Result<&mut Compiled, Halt>
+        ensures { ReadsFor text.now (λ c. c.now.text) result }
     {
-        if let Some(Some(kept)) = self.fixed.get_mut(ere.number) {
-            if kept.text.as_slice() == ere.text.as_slice() {
+        if let Some(Some(kept)) = self.fixed.get_mut(number) {
+            if kept.text.as_slice() == text {
                 return Ok(kept);
             }
         }
-        let compiled = self.read(ere.text.clone()?)?;
-        reserve_place(&mut self.fixed, ere.number)?;
-        Ok(self.fixed[ere.number].insert(compiled))
+        let compiled = self.read(Bytes::from_slice(self.alloc, text)?)?;
+        reserve_place(&mut self.fixed, number)?;
+        Ok(self.fixed[number].insert(compiled))
     }
 
     // The pattern that a text spells. It is read where it isn't among those that were used last.
@@ -128,7 +128,7 @@ impl Patterns {
         ensures { ReadsFor (spelling_of operand.entry) (λ c. c.now.text) result }
     {
         match operand {
-            PatternOperand::Ere(ere) => self.fixed_pattern(ere),
+            PatternOperand::Ere(number, text) => self.fixed_pattern(number, text),
             PatternOperand::Value(value) => {
                 let mut digits = Buffer::new();
                 self.cached_pattern(text_in(value, &mut digits))
@@ -152,6 +152,15 @@ impl Patterns {
     {
         let compiled = self.cached_pattern(pattern)?;
         Ok(compiled.is_match(text))
+    }
+
+    /// Whether the pattern of an operand matches somewhere in a text. One that spells none is the fault F6; the other is want
+    /// of memory. (POSIX awk, Regular Expressions)
+    pub fn matches_text(&mut self, text: &[u8], operand: PatternOperand) -> Result<bool, Halt>
+        ensures { Yields result (matched (pattern_in (spelling_of operand.entry)) text.now) }
+    {
+        let pattern = self.pattern_for(operand)?;
+        Ok(pattern.is_match(text))
     }
 
     /// Whether the pattern of an operand matches somewhere in a value's text. One that spells none is the fault F6; the
@@ -224,8 +233,9 @@ impl Patterns {
         separator.split_text(text, spans)
     }
 
-    // Fills `spans` with the pieces of the text between the separators that a text stands for.
-    fn split_by_text(
+    /// Fills `spans` with the pieces of a text, in their order, between what another text separates as a value of FS does.
+    /// What `spans` held before is gone, also on an `Err`. The faults are F1 and F6. (POSIX awk, String Functions: split)
+    pub fn split_by_text(
         &mut self,
         text: &[u8],
         separator: &[u8],
@@ -257,8 +267,8 @@ impl Patterns {
         ensures within { OnOk result (AreSpansOf text.now spans.new.items) }
     {
         match separator {
-            PatternOperand::Ere(ere) => {
-                let pattern = self.fixed_pattern(ere)?;
+            PatternOperand::Ere(number, spelling) => {
+                let pattern = self.fixed_pattern(number, spelling)?;
                 pattern.split(text, spans)
             }
             PatternOperand::Value(value) => {

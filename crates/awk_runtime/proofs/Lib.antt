@@ -1,6 +1,12 @@
 pub mod Effects
 pub mod Composition
 pub mod Steps
+pub mod TextChanges
+pub mod ArrayWords
+pub mod NameNumbers
+pub mod ArgumentWords
+pub mod Words
+pub mod VariableWords
 pub mod Turns
 pub mod Prints
 pub mod Openings

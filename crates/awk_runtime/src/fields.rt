@@ -1,55 +1,90 @@
 // The record at hand and its fields.
 
 ghost use Rattle.awk_runtime.specs.support.Simulation.{Changes};
-ghost use Rattle.awk_semantics.specs.Primitives.{read_field, set_field, set_record, record_text};
+ghost use Rattle.awk_semantics.specs.Primitives.{read_field, read_outside, put_outside, set_count, set_field, set_record, record_text};
 ghost use Rattle.awk_semantics.specs.Items.{begin_record};
 ghost use Rattle.awk_semantics.specs.BuiltIns.{record_length};
+ghost use Rattle.std.specs.Prelude.{◌≡◌, pos, codes};
+ghost use Rattle.awk_value.specs.declared.value.Value.TheVariants.{Number};
 
 use crate::runtime::Runtime;
 use awk_semantics::Halt;
-use awk_value::{Bytes, Value};
+use awk_value::{Bytes, Value, number_of, text_of};
+use awk_variables::Special;
+
+/// A count, as a value.
+fn count_value(count: usize) -> Value
+    ensures { result ≡ Number (pos count) }
+{
+    Value::Number(count as i128)
+}
 
 impl Runtime {
     /// The field of a number; `$0` is the record's text. (POSIX awk, Variables and Special Variables)
+    #[inline(always)]
     pub fn read_field(&mut self, number: i128) -> Result<Value, Halt>
         ensures { Changes (read_field number) self.old self.new result }
     {
-        unreachable!()
+        Ok(self.current.field(number)?)
     }
 
     /// Gives a field a value; `$0` is the whole record.
     pub fn set_field(&mut self, number: i128, value: Value) -> Result<(), Halt>
         ensures { Changes (set_field number value) self.old self.new result }
     {
-        unreachable!()
+        if number == 0 {
+            return self.set_record(text_of(self.alloc, &value)?);
+        }
+        let separator = text_of(self.alloc, self.specials.special(Special::Ofs))?;
+        Ok(self.current.set_field(number, value, separator)?)
     }
 
     /// Makes the text the record at hand.
     pub fn set_record(&mut self, text: Bytes) -> Result<(), Halt>
         ensures { Changes (set_record text) self.old self.new result }
     {
-        unreachable!()
+        let separator = self.specials.field_separator();
+        let newline_too = self.specials.newlines_separate();
+        Ok(self.current.set_text(text, separator, newline_too)?)
     }
 
     /// The record's text, as a value.
     pub fn record_text(&mut self) -> Result<Value, Halt>
         ensures { Changes (record_text) self.old self.new result }
     {
-        unreachable!()
+        Ok(Value::Input(self.current.text()?))
     }
 
     /// The length of the record's text. (POSIX awk, String Functions: length)
     pub fn record_length(&mut self) -> Result<Value, Halt>
         ensures { Changes (record_length) self.old self.new result }
     {
-        unreachable!()
+        let text = self.current.text()?;
+        Ok(count_value(text.len()))
     }
 
     /// Makes the text the record at hand, and counts it in NR and FNR.
     pub fn begin_record(&mut self, text: Bytes) -> Result<(), Halt>
         ensures { Changes (begin_record text) self.old self.new result }
     {
-        unreachable!()
+        self.set_record(text)?;
+        self.count_in(Special::Nr)?;
+        self.count_in(Special::Fnr)
     }
 
+    /// The number of fields, as a value. (POSIX awk, Variables and Special Variables: NF)
+    pub(crate) fn field_count(&mut self) -> Result<Value, Halt>
+        ensures { Changes (read_outside (codes "NF")) self.old self.new result }
+    {
+        Ok(count_value(self.current.count()?))
+    }
+
+    /// Gives the record as many fields as a value's number is. (POSIX awk, Variables and Special Variables: NF)
+    pub(crate) fn set_field_count(&mut self, value: &Value) -> Result<(), Halt>
+        ensures { Changes (put_outside (codes "NF") value.now) self.old self.new result }
+    {
+        let count = number_of(value)?;
+        let separator = text_of(self.alloc, self.specials.special(Special::Ofs))?;
+        Ok(self.current.set_count(count, separator)?)
+    }
 }

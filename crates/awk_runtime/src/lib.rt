@@ -19,3 +19,4 @@ mod variables;
 
 pub use names::ProgramNames;
 pub use runtime::Runtime;
+pub use texts::PatternSource;

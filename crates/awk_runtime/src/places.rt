@@ -1,49 +1,221 @@
 // Places: what can be assigned.
 
+ghost use Rattle.std.specs.Prelude.{◌≡◌, ℕ, List, Ok, Some, IfSome, IfNone};
+ghost use Rattle.awk_value.specs.declared.value.Value.TheVariants.{Number};
 ghost use Rattle.awk_runtime.specs.support.Simulation.{Changes};
-ghost use Rattle.awk_semantics.specs.Operators.{by_one, one};
-ghost use Rattle.awk_storage.specs.Positions.{read_at, store_at, assign_by_at, post_increment_at};
+ghost use Rattle.awk_runtime.specs.support.Updates.{IsUpdated, Updates, UpdatesVariable};
+ghost use Rattle.awk_semantics.specs.Operators.{applied, by_one, one};
+ghost use Rattle.awk_storage.specs.Positions.{read_at, store_at, assign_at, assign_by_at, post_increment_at};
 
 use crate::runtime::Runtime;
+use awk_functions::{apply_to_numbers, by_one};
 use awk_lex::token::{IncrementOperator, Operator};
-use awk_semantics::Halt;
-use awk_storage::Place;
-use awk_value::Value;
+use awk_semantics::{Halt, Local};
+use awk_storage::{Place, Variable};
+use awk_value::{Value, number_of};
+use awk_variables::Special;
+
+/// A number that was changed where it stands.
+#[derive(Clone, Copy)]
+pub struct Updated {
+    pub before: i128,
+    pub after: i128,
+}
+
+/// Makes a number what an operator makes of it and of another one. `None`, and nothing changes, where it is another value, or
+/// what it would become is no number.
+#[inline(always)]
+fn update(value: &mut Value, operator: Operator, n: i128) -> Option<Updated>
+    ensures updated { IfSome result (λ u. IsUpdated operator n value.old value.new u) }
+    ensures kept { IfNone result (value.new ≡ value.old) }
+{
+    let Value::Number(place) = value else {
+        return None;
+    };
+    let before = *place;
+    let after = apply_to_numbers(operator, before, n)?;
+    *place = after;
+    Some(Updated { before, after })
+}
 
 impl Runtime {
     /// What a place holds. The operand is the subscript or the field's number that was evaluated before. (POSIX awk, Expressions in awk: lvalue)
+    #[inline(always)]
     pub fn read_at(&mut self, place: Place, operand: &Value) -> Result<Value, Halt>
         ensures { Changes (read_at self.old.names.scalars place operand.now) self.old self.new result }
     {
-        unreachable!()
+        match place {
+            Place::Variable(variable) => self.read_variable(variable),
+            Place::Element(array) => self.read_element_of(array, operand),
+            Place::Field => self.read_field(number_of(operand)?),
+        }
     }
 
     /// Gives a place a value.
+    #[inline(always)]
     pub fn store_at(&mut self, place: Place, operand: &Value, value: Value) -> Result<(), Halt>
         ensures { Changes (store_at self.old.names.scalars place operand.now value) self.old self.new result }
     {
-        unreachable!()
+        match place {
+            Place::Variable(variable) => self.put_variable(variable, value),
+            Place::Element(array) => self.store_element_of(array, operand, value),
+            Place::Field => self.set_field(number_of(operand)?, value),
+        }
+    }
+
+    /// Gives a place a value; gives what it then holds.
+    fn assign_at(&mut self, place: Place, operand: &Value, value: Value) -> Result<Value, Halt>
+        ensures { Changes (assign_at self.old.names.scalars place operand.now value) self.old self.new result }
+    {
+        self.store_at(place, operand, value)?;
+        self.read_at(place, operand)
     }
 
     /// Gives a place a value, or what an operator makes of its old value and of this one; gives what it then holds.
-    pub fn assign_by_at(&mut self, operator: Option<Operator>, place: Place, operand: &Value, value: Value) -> Result<Value, Halt>
+    #[inline(always)]
+    pub fn assign_by_at(
+        &mut self,
+        operator: Option<Operator>,
+        place: Place,
+        operand: &Value,
+        value: Value,
+    ) -> Result<Value, Halt>
         ensures { Changes (assign_by_at self.old.names.scalars operator place operand.now value) self.old self.new result }
     {
-        unreachable!()
+        let Some(operator) = operator else {
+            return self.assign_at(place, operand, value);
+        };
+        if let Some(updated) = self.update_by(operator, place, &value) {
+            return Ok(Value::Number(updated.after));
+        }
+        self.assign_applied(operator, place, operand, &value)
+    }
+
+    /// Gives a place what an operator makes of its old value and of this one; gives what it then holds.
+    #[inline(never)]
+    fn assign_applied(
+        &mut self,
+        operator: Operator,
+        place: Place,
+        operand: &Value,
+        value: &Value,
+    ) -> Result<Value, Halt>
+        ensures { Changes (assign_by_at self.old.names.scalars (Some operator) place operand.now value.now) self.old self.new result }
+    {
+        let old = self.read_at(place, operand)?;
+        let value = self.apply(operator, &old, value)?;
+        self.assign_at(place, operand, value)
     }
 
     /// Gives a place its number raised or lowered by 1; gives what it then holds.
-    pub fn pre_increment_at(&mut self, operator: IncrementOperator, place: Place, operand: &Value) -> Result<Value, Halt>
+    #[inline(always)]
+    pub fn pre_increment_at(
+        &mut self,
+        operator: IncrementOperator,
+        place: Place,
+        operand: &Value,
+    ) -> Result<Value, Halt>
         ensures { Changes (assign_by_at self.old.names.scalars (Some (by_one operator)) place operand.now one) self.old self.new result }
     {
-        unreachable!()
+        self.assign_by_at(Some(by_one(operator)), place, operand, Value::Number(1))
     }
 
     /// Gives a place its number raised or lowered by 1; gives the number that it had.
-    pub fn post_increment_at(&mut self, operator: IncrementOperator, place: Place, operand: &Value) -> Result<Value, Halt>
+    #[inline(always)]
+    pub fn post_increment_at(
+        &mut self,
+        operator: IncrementOperator,
+        place: Place,
+        operand: &Value,
+    ) -> Result<Value, Halt>
         ensures { Changes (post_increment_at self.old.names.scalars operator place operand.now) self.old self.new result }
     {
-        unreachable!()
+        if let Some(updated) = self.update_by(by_one(operator), place, &Value::Number(1)) {
+            return Ok(Value::Number(updated.before));
+        }
+        self.post_increment_any(operator, place, operand)
     }
 
+    /// The same of a place that holds no number, or that is no variable.
+    #[inline(never)]
+    fn post_increment_any(
+        &mut self,
+        operator: IncrementOperator,
+        place: Place,
+        operand: &Value,
+    ) -> Result<Value, Halt>
+        ensures { Changes (post_increment_at self.old.names.scalars operator place operand.now) self.old self.new result }
+    {
+        let old = self.read_at(place, operand)?;
+        let number = number_of(&old)?;
+        let value = self.apply(by_one(operator), &Value::Number(number), &Value::Number(1))?;
+        self.store_at(place, operand, value)?;
+        Ok(Value::Number(number))
+    }
+
+    /// Changes a variable's number where it stands. `None`, and nothing changes, where the place is no variable, or one of the
+    /// values no number.
+    #[inline(always)]
+    fn update_by(&mut self, operator: Operator, place: Place, value: &Value) -> Option<Updated>
+        ensures updated { IfSome result (λ u. Updates operator place value.now self.old self.new u) }
+        ensures kept { IfNone result (self.new ≡ self.old) }
+    {
+        let Place::Variable(variable) = place else {
+            return None;
+        };
+        let Value::Number(n) = value else {
+            return None;
+        };
+        match variable {
+            Variable::Global(slot) => self.update_global(operator, slot, *n),
+            Variable::Local(index) => self.update_local(operator, index, *n),
+            Variable::Special(special) => self.update_special(operator, special, *n),
+            Variable::FieldCount => None,
+        }
+    }
+
+    /// Changes the number in a slot.
+    #[inline(always)]
+    fn update_global(&mut self, operator: Operator, slot: u32, n: i128) -> Option<Updated>
+        ensures updated { IfSome result (λ u. UpdatesVariable operator (Variable.Global slot) n self.old self.new u) }
+        ensures kept { IfNone result (self.new ≡ self.old) }
+    {
+        self.names.law_of_slots();
+        if slot as usize >= self.globals.len() {
+            return None;
+        }
+        update(&mut self.globals[slot as usize], operator, n)
+    }
+
+    /// Changes a parameter's number.
+    #[inline(always)]
+    fn update_local(&mut self, operator: Operator, index: u32, n: i128) -> Option<Updated>
+        ensures updated { IfSome result (λ u. UpdatesVariable operator (Variable.Local index) n self.old self.new u) }
+        ensures kept { IfNone result (self.new ≡ self.old) }
+    {
+        let Some(Local::Value(Value::Number(before))) = self.frames.local(index as usize) else {
+            return None;
+        };
+        let before = *before;
+        let after = apply_to_numbers(operator, before, n)?;
+        self.frames.set_value(index as usize, Value::Number(after));
+        Some(Updated { before, after })
+    }
+
+    /// Changes a special variable's number.
+    fn update_special(&mut self, operator: Operator, special: Special, n: i128) -> Option<Updated>
+        ensures updated { IfSome result (λ u. UpdatesVariable operator (Variable.Special special) n self.old self.new u) }
+        ensures kept { IfNone result (self.new ≡ self.old) }
+    {
+        self.names.law_of_slots();
+        let Value::Number(before) = self.specials.special(special) else {
+            return None;
+        };
+        let before = *before;
+        let after = apply_to_numbers(operator, before, n)?;
+        let Ok(()) = self.specials.set_special(special, Value::Number(after)) else {
+            return None;
+        };
+        Some(Updated { before, after })
+    }
 }

@@ -1,1 +1,219 @@
 // Functions over texts.
+
+ghost use Rattle.std.specs.Prelude.{◌≡◌, ◌++◌, Ok, IfOk, OnOk};
+ghost use Rattle.awk_value.specs.Values.{str_of};
+ghost use Rattle.awk_value.specs.declared.value.Value.TheVariants.{Text};
+ghost use Rattle.awk_text.specs.Pieces.{stretches_at, AreSpansOf};
+ghost use Rattle.awk_semantics.specs.State.{lift};
+ghost use Rattle.awk_semantics.specs.Operators.{applied, pattern_in};
+ghost use Rattle.awk_semantics.specs.BuiltIns.{applied_all, note_match};
+ghost use Rattle.awk_storage.specs.Forms.{match_in, split_with, substitute_at};
+ghost use Rattle.awk_functions.specs.definitions.Matched.{found, exchanged_by};
+ghost use Rattle.awk_functions.specs.definitions.Spelling.{spelling_of, separator_for};
+ghost use Rattle.awk_runtime.specs.support.Naming.{ere_at};
+ghost use Rattle.awk_runtime.specs.support.Simulation.{Changes};
+ghost use Rattle.awk_runtime.specs.support.Spelled.{spelled, separator_spelled, separation, pieces_by, with_pieces};
+ghost use Rattle.awk_runtime.specs.support.Spelled.{record_tested, substitute_in_record};
+
+use crate::names::ProgramNames;
+use crate::runtime::Runtime;
+use awk_functions::{Exchanged, PatternOperand};
+use awk_functions::{append, apply, apply_function, length_of, start_of, truth_value};
+use awk_lex::token::{BuiltIn, Operator};
+use awk_semantics::Halt;
+use awk_storage::{Array, Place};
+use awk_text::Span;
+use awk_value::{Bytes, Value, text_of};
+use awk_variables::Special;
+use std::alloc::{AllocError, Global};
+
+/// What spells a pattern: an ERE of the program, by its number, or a value, by its text. (POSIX awk, Regular Expressions)
+#[derive(Clone, Copy)]
+pub enum PatternSource<'a> {
+    Ere(u32),
+    Value(&'a Value),
+}
+
+// The pattern's text, or the value that has it.
+fn operand<'a>(names: &'a ProgramNames, source: PatternSource<'a>) -> PatternOperand<'a>
+    ensures spelling { spelling_of result ≡ spelled names.now source.entry }
+    ensures separator { separator_for result ≡ separator_spelled names.now source.entry }
+{
+    match source {
+        PatternSource::Ere(number) => PatternOperand::Ere(number as usize, names.ere(number)),
+        PatternSource::Value(value) => PatternOperand::Value(value),
+    }
+}
+
+// The pieces of a text, which share its memory.
+fn cut_pieces(alloc: Global, text: &Bytes, spans: &[Span]) -> Result<Vec<Bytes>, AllocError>
+    requires { AreSpansOf text.now spans.now }
+    ensures { IfOk result (λ pieces. pieces.items ≡ stretches_at text.now spans.now) }
+{
+    let mut pieces = Vec::with_capacity(alloc, spans.len())?;
+    for span in spans {
+        pieces.push(text.cut(span.start, span.end)?)?;
+    }
+    Ok(pieces)
+}
+
+impl Runtime {
+    /// What a built-in function of values alone makes of them. (POSIX awk, Arithmetic Functions; String Functions)
+    pub fn apply_function(&mut self, function: BuiltIn, values: &[Value]) -> Result<Value, Halt>
+        ensures { Changes (lift (applied_all function values.now)) self.old self.new result }
+    {
+        apply_function(function, values, &mut self.formats, self.alloc)
+    }
+
+    /// The texts of two values, one behind the other. (POSIX awk, Expressions in awk: string concatenation)
+    pub fn concatenate(&self, left: Value, right: &Value) -> Result<Value, Halt>
+        ensures { Changes (lift (Ok (Text (str_of left ++ str_of right.now)))) self.now self.now result }
+    {
+        append(self.alloc, left, right)
+    }
+
+    /// Whether the record has a match of an ERE of the program, by its number. (POSIX awk, Expressions in awk; Regular
+    /// Expressions)
+    pub fn record_matches(&mut self, ere: u32) -> Result<Value, Halt>
+        ensures { Changes (record_tested (ere_at self.old.names ere)) self.old self.new result }
+    {
+        let text = self.current.text()?;
+        let pattern = operand(&self.names, PatternSource::Ere(ere));
+        let matches = self.patterns.matches_text(text.as_slice(), pattern)?;
+        Ok(truth_value(matches))
+    }
+
+    /// What `~` or `!~` makes of a value and an ERE of the program, by its number. (POSIX awk, Expressions in awk; Regular
+    /// Expressions)
+    pub fn matches_ere(&mut self, operator: Operator, value: &Value, ere: u32) -> Result<Value, Halt>
+        ensures { Changes (lift (applied operator value.now (Text (ere_at self.old.names ere))))
+            self.old self.new result }
+    {
+        let pattern = operand(&self.names, PatternSource::Ere(ere));
+        match operator {
+            Operator::Matches => Ok(truth_value(self.patterns.matches(value, pattern)?)),
+            Operator::NotMatches => Ok(truth_value(!self.patterns.matches(value, pattern)?)),
+            operator => {
+                let text = Value::Text(Bytes::from_slice(self.alloc, self.names.ere(ere))?);
+                apply(operator, value, &text, &mut self.patterns)
+            }
+        }
+    }
+
+    // The first match of a pattern in a value's text, and of those that begin there the longest.
+    fn find(&mut self, text: &Value, pattern: PatternSource) -> Result<Option<Span>, Halt>
+        ensures { Changes (lift (found (pattern_in (spelled self.old.names pattern.entry)) (str_of text.now)))
+            self.old self.new result }
+    {
+        let pattern = operand(&self.names, pattern);
+        self.patterns.find(text, pattern)
+    }
+
+    // Sets RSTART and RLENGTH by what was found, and gives RSTART.
+    fn note_match(&mut self, found: Option<Span>) -> Result<Value, Halt>
+        ensures { Changes (note_match found) self.old self.new result }
+    {
+        let start = start_of(found);
+        self.put_special(Special::Rstart, Value::Number(start))?;
+        self.put_special(Special::Rlength, Value::Number(length_of(found)))?;
+        Ok(Value::Number(start))
+    }
+
+    /// The position of the first match of a pattern in a value's text, or 0; RSTART and RLENGTH are set by it. (POSIX awk,
+    /// String Functions: match)
+    pub fn match_in(&mut self, text: &Value, pattern: PatternSource) -> Result<Value, Halt>
+        ensures { Changes (match_in (spelled self.old.names pattern.entry) (str_of text.now)) self.old self.new result }
+    {
+        let found = self.find(text, pattern)?;
+        self.note_match(found)
+    }
+
+    // Finds the pieces of a text between the separators that a pattern's source stands for, or for want of one FS.
+    fn find_pieces(&mut self, text: &[u8], separator: Option<PatternSource>) -> Result<(), Halt>
+        ensures pieces { Changes (pieces_by (separation self.old.names separator.entry) text.now) self.old self.new
+            (with_pieces (stretches_at text.now self.new.spans.items) result) }
+        ensures within { OnOk result (AreSpansOf text.now self.new.spans.items) }
+    {
+        match separator {
+            Some(source) => {
+                let source = operand(&self.names, source);
+                self.patterns.split(text, source, &mut self.spans)
+            }
+            None => {
+                let separator = self.specials.field_separator();
+                self.patterns.split_by_text(text, separator, &mut self.spans)
+            }
+        }
+    }
+
+    /// Empties an array, and gives it the pieces of a value's text between separators, at the keys from 1 on; gives their
+    /// number. The separator is a pattern's source, of which a value is read as FS is, or for want of one what FS stands for.
+    /// (POSIX awk, String Functions: split)
+    pub fn split(
+        &mut self,
+        array: Array,
+        text: &Value,
+        separator: Option<PatternSource>,
+    ) -> Result<Value, Halt>
+        ensures { Changes (split_with array (str_of text.now) (separation self.old.names separator.entry))
+            self.old self.new result }
+    {
+        let text = text_of(self.alloc, text)?;
+        self.find_pieces(text.as_slice(), separator)?;
+        let pieces = cut_pieces(self.alloc, &text, self.spans.as_slice())?;
+        let count = pieces.len();
+        self.fill_at(array, pieces)?;
+        Ok(Value::Number(count as i128))
+    }
+
+    // A value's text with its first match exchanged, or with `all` each match, and how many that are.
+    fn exchange(
+        &mut self,
+        all: bool,
+        pattern: PatternSource,
+        replacement: &Value,
+        text: &Value,
+    ) -> Result<Option<Exchanged>, Halt>
+        ensures { Changes (lift (exchanged_by all (pattern_in (spelled self.old.names pattern.entry))
+            (str_of replacement.now) (str_of text.now))) self.old self.new result }
+    {
+        let pattern = operand(&self.names, pattern);
+        self.patterns.exchange(pattern, replacement, text, all)
+    }
+
+    /// Exchanges the first match of a pattern in the old value of a place, or with `all` each match, and gives the place the
+    /// text, if there was one; gives how many that were. (POSIX awk, String Functions: sub, gsub)
+    pub fn substitute(
+        &mut self,
+        all: bool,
+        pattern: PatternSource,
+        replacement: &Value,
+        place: Place,
+        operand: &Value,
+        old: &Value,
+    ) -> Result<Value, Halt>
+        ensures { Changes (substitute_at self.old.names.scalars all (spelled self.old.names pattern.entry)
+            (str_of replacement.now) place operand.now old.now) self.old self.new result }
+    {
+        let Some(exchanged) = self.exchange(all, pattern, replacement, old)? else {
+            return Ok(Value::Number(0));
+        };
+        self.store_at(place, operand, Value::Text(exchanged.text))?;
+        Ok(Value::Number(exchanged.count as i128))
+    }
+
+    /// The same in the record. (POSIX awk, String Functions: sub, gsub)
+    pub fn substitute_in_record(
+        &mut self,
+        all: bool,
+        pattern: PatternSource,
+        replacement: &Value,
+    ) -> Result<Value, Halt>
+        ensures { Changes (substitute_in_record self.old.names.scalars all (spelled self.old.names pattern.entry)
+            (str_of replacement.now)) self.old self.new result }
+    {
+        let old = self.record_text()?;
+        let number = Value::Number(0);
+        self.substitute(all, pattern, replacement, Place::Field, &number, &old)
+    }
+}

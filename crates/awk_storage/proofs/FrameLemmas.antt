@@ -2,7 +2,7 @@
 use Rattle.std.proofs.Common.{◌≡◌, ℕ, zero, suc, ◌+◌, ◌-◌, ◌<◌, ◌≤◌, List, [], ◌∷◌, ◌++◌, length, take, drop, set, refl, sym, ap, ◌∙◌, subst, arith, length-append, length-drop, length-take, length-set}
 use Rattle.std.specs.Prelude.{slice_get, Some, None}
 use Rattle.awk_value.specs.declared.value.Value.{Value}
-use Rattle.std.proofs.lemmas.List.{take-append-le, drop-append-le, drop-drop, take-append-drop, take_all, drop_all, drop-set-add, drop-set-lt, take-set-le}
+use Rattle.std.proofs.lemmas.List.{take-append-le, drop-append-le, drop-drop, drop-take, take-append-drop, take_all, drop_all, drop-set-add, drop-set-lt, take-set-le}
 use Rattle.awk_semantics.specs.declared.local.Local.{Local}
 use Rattle.awk_storage.specs.declared.frames.Saved.{Saved}
 use Rattle.awk_storage.proofs.ItemLemmas.{take-set}
@@ -202,6 +202,21 @@ module _ (saved : List Saved) (locals : List Local) (base top height : ℕ) (kep
     within = omega arith;
     high = omega (arith, height-snoc saved x, kept.high);
   }
+
+  pub staged-count : length (frames_from [] locals saved).staged ≡ length locals - top
+  staged-count = omega (arith, ap length (staged-is [] locals saved), length-drop (total_count saved) locals, kept.end)
+
+  -- no more than so many are left of what is given
+  pub staged-cut : (n count : ℕ) → n ≡ top + count → n ≤ length locals → frames_from [] (take n locals) saved ≡ record { frames = (frames_from [] locals saved).frames; staged = take count (frames_from [] locals saved).staged }
+  staged-cut n count is high =
+      let all = total_count saved in
+      let n_is : n ≡ all + count = omega (arith, is, kept.end) in
+      frames-take [] locals saved n (omega (arith, n_is)) high
+      ∙ ap (λ l. record { frames = (frames_from [] locals saved).frames; staged = l })
+      (ap (λ k. drop all (take k locals)) n_is ∙ (drop-take all count locals ∙ ap (take count) (sym (staged-is [] locals saved))))
+
+  pub kept-cut : (n : ℕ) → top ≤ n → n ≤ length locals → AreKept saved (take n locals) base top height
+  kept-cut n low high = record { begin = kept.begin; end = kept.end; within = omega (arith, length-take n locals); high = kept.high }
 
 -- the newest call is over
 module _ (front : List Saved) (x : Saved) (locals : List Local) (base top height : ℕ) (kept : AreKept (front ++ x ∷ []) locals base top height) where

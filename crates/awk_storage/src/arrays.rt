@@ -2,6 +2,7 @@
 
 ghost use Rattle.std.specs.Prelude.{◌≡◌, ◌++◌, ◌∷◌, [], length, take, is_some, unwrap_or, slice_set, IfOk, IfErr, OnOk, OnErr};
 ghost use Rattle.std.specs.Map.{keys_of};
+ghost use Rattle.std.specs.Option.{option_copied};
 ghost use Rattle.awk_value.specs.Values.{str_of};
 ghost use Rattle.awk_value.specs.declared.value.Value.TheVariants.{Nothing};
 ghost use Rattle.awk_value.specs.declared.fault.ValueFault.TheVariants.{Memory};
@@ -80,6 +81,16 @@ impl Arrays {
         }
     }
 
+    /// The element at the text of a key, if it is there.
+    pub fn get(&self, number: usize, key: &Value) -> Option<&Value>
+        ensures { option_copied result ≡ value_at (array_of self.now number) (str_of key.now) }
+    {
+        if number >= self.live {
+            return None;
+        }
+        key::get(&self.tables[number], key)
+    }
+
     /// A copy of the element at the text of a key, which is made where it isn't there. The fault is `Memory`.
     pub fn get_or_make(&mut self, number: usize, key: &Value) -> Result<Value, ValueFault>
         ensures value { IfOk result (λ v. v ≡ unwrap_or (value_at (array_of self.old number) (str_of key.now)) Nothing) }
@@ -102,6 +113,18 @@ impl Arrays {
             return Ok(());
         }
         key::put(&mut self.tables[number], self.alloc, key, value)?;
+        Ok(())
+    }
+
+    /// Gives the element at a text a value. The fault is `Memory`.
+    pub fn put_text(&mut self, number: usize, key: &[u8], value: Value) -> Result<(), ValueFault>
+        ensures put { OnOk result (self.new ≡ slice_set self.old number (with_pair (array_of self.old number) key.now value)) }
+        ensures fault { IfErr result (λ fault. fault ≡ Memory) }
+    {
+        if number >= self.live {
+            return Ok(());
+        }
+        self.tables[number].put(self.alloc, key, value)?;
         Ok(())
     }
 

@@ -1,6 +1,6 @@
 // The parameters of the active calls.
 
-ghost use Rattle.std.specs.Prelude.{◌≡◌, ℕ, ◌+◌, ◌≤◌, [], ◌∷◌, ◌++◌, slice_get, OnOk, OnErr};
+ghost use Rattle.std.specs.Prelude.{◌≡◌, ℕ, ◌+◌, ◌≤◌, [], ◌∷◌, ◌++◌, length, take, slice_get, OnOk, OnErr};
 ghost use Rattle.std.specs.Option.{option_copied};
 ghost use Rattle.awk_storage.specs.support.Frames.{newest_count, given};
 
@@ -85,6 +85,24 @@ impl Frames {
     {
         self.locals.push(local)?;
         Ok(())
+    }
+
+    /// How many parameters the call that is about to be made is given.
+    pub fn staged_count(&self) -> usize
+        ensures { result ≡ length self.now.staged }
+    {
+        self.locals.as_slice().len() - self.top
+    }
+
+    /// No more than so many are left of what the call that is about to be made is given.
+    pub fn truncate_staged(&mut self, count: usize)
+        ensures { self.new ≡ record self.old { staged = take count self.old.staged } }
+    {
+        let given = self.staged_count();
+        if count < given {
+            let end = self.locals.as_slice().len() - (given - count);
+            self.locals.truncate(end);
+        }
     }
 
     /// A call of a body of this height is active: its parameters are what it was given. An `Err` changes nothing.

@@ -2,6 +2,7 @@
 
 ghost use Rattle.std.specs.Prelude.{◌≡◌, [], IfSome, IfOk, IfErr, OnOk, is_some, unwrap_or};
 ghost use Rattle.std.specs.Fmt.{signed_decimal};
+ghost use Rattle.std.specs.Option.{option_copied};
 ghost use Rattle.awk_value.specs.Values.{str_of};
 ghost use Rattle.awk_value.specs.declared.value.Value.TheVariants.{Nothing};
 ghost use Rattle.awk_value.specs.declared.fault.ValueFault.TheVariants.{Memory};
@@ -32,6 +33,16 @@ fn key_text<'a>(key: &'a Value, buffer: &'a mut Buffer) -> &'a [u8]
         Value::Nothing => b"",
         Value::Number(number) => buffer.format(*number).as_bytes(),
         Value::Text(text) | Value::Input(text) => text.as_slice(),
+    }
+}
+
+/// The value at a key, if it is there.
+pub(crate) fn get<'a>(table: &'a Table, key: &Value) -> Option<&'a Value>
+    ensures { option_copied result ≡ value_at table.now (str_of key.now) }
+{
+    match whole_number(key) {
+        Some(number) => table.get_number(number),
+        None => table.get(key_text(key, &mut Buffer::new())),
     }
 }
 

@@ -11,10 +11,10 @@ use Rattle.awk_functions.specs.declared.patterns.PatternOperand.TheVariants as o
 
 -- the text between the slashes of an ERE, or the text of a value
 abbrev pub spelling_of : PatternOperand → List ℕ
-spelling_of (operand.Ere ere) = ere.now.text
+spelling_of (operand.Ere number text) = text.now
 spelling_of (operand.Value v) = str_of v.now
 
 -- an ERE is a separator whatever its length, and the text of a value is read as FS is
 abbrev pub separator_for : PatternOperand → Result Separator Halt
-separator_for (operand.Ere ere) = ere_separator (pattern_in ere.now.text)
+separator_for (operand.Ere number text) = ere_separator (pattern_in text.now)
 separator_for (operand.Value v) = separator_in (str_of v.now)

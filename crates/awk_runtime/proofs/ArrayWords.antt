@@ -1,0 +1,103 @@
+-- What is done to arrays.
+use Rattle.std.proofs.Common.{◌≡◌, ◌≤◌, ℕ, zero, suc, List, [], ◌∷◌, ◌++◌, map, slice_get, Option, Some, None, Result, Ok, Err, refl, sym, ap, ◌∙◌, subst, arith}
+use Rattle.std.specs.Prelude.{slice_set, is_some, unwrap_or, Bool}
+use Rattle.std.specs.Map.{keys_of}
+use Rattle.std.specs.Global.{Vec}
+use Rattle.awk_value.specs.declared.value.Value.{Value}
+use Rattle.awk_value.specs.declared.value.Value.TheVariants as value
+use Rattle.awk_table.specs.Arrays.{Array as Elements, value_at, with_pair, with_key, without}
+use Rattle.awk_semantics.specs.declared.halt.Halt.{Halt}
+use Rattle.awk_semantics.specs.declared.local.Local.{Local}
+use Rattle.awk_semantics.specs.declared.local.Local.TheVariants as local
+use Rattle.awk_semantics.specs.State.{Frame, State, Out, Run}
+use Rattle.awk_semantics.specs.Primitives.{elements_from, read_element_at, store_element_at, has_element_at, delete_element_at, keys_at, fill_array_at}
+use Rattle.awk_storage.specs.declared.position.Array.{Array}
+use Rattle.awk_storage.specs.declared.position.Array.TheVariants as array
+use Rattle.awk_storage.specs.Positions.{newest_locals, number_of_local, number_at, read_element_of, store_element_of}
+use Rattle.awk_storage.specs.Forms.{contains_at, delete_at, keys_of_array, fill_at}
+use Rattle.awk_storage.specs.support.Frames.{FramesView, newest_of}
+use Rattle.awk_storage.specs.support.Tables.{array_of}
+use Rattle.awk_runtime.specs.declared.runtime.Runtime.{Runtime}
+use Rattle.awk_runtime.specs.support.Simulation.{frame_view, OwnRelation, Changes}
+use Rattle.awk_runtime.specs.support.Calling.{number_of_kept, kept_number, listed}
+use Rattle.awk_runtime.proofs.Composition.{OwnPart, own_changes}
+
+-- the number of an array
+
+kept_at : (locals : List (List ℕ × Local)) (i : ℕ) → number_of_kept (slice_get (map (λ (l : List ℕ × Local). l.1) locals) i) ≡ number_of_local (slice_get locals i)
+kept_at [] i = refl
+kept_at ((x, local.Value v) ∷ locals) zero = refl
+kept_at ((x, local.Array n) ∷ locals) zero = refl
+kept_at (l ∷ locals) (suc i) = kept_at locals i
+
+kept_newest : (frames : List Frame) (i : ℕ) → number_of_kept (slice_get (newest_of (map frame_view frames)) i) ≡ number_of_local (slice_get (newest_locals frames) i)
+kept_newest [] i = refl
+kept_newest (frame ∷ frames) i = kept_at frame.locals i
+
+-- it is the one of the definitions, whatever is given to a call that is about to be made
+pub number-is : (a : Array) (calls : FramesView) (s : State) → calls.frames ≡ map frame_view s.frames → kept_number a calls ≡ number_at a s
+number-is (array.Global n) calls s same = refl
+number-is (array.Local i) calls s same = ap (λ fs. number_of_kept (slice_get (newest_of fs) i)) same ∙ kept_newest s.frames i
+
+pub number_holds : (a : Array) {m : Runtime} {s : State} → OwnRelation m s → kept_number a m.frames ≡ number_at a s
+number_holds a {m = m} {s = s} h = number-is a m.frames s (ap (λ (f : FramesView). f.frames) h.frames)
+
+-- the arrays alone are others
+
+pub arrays_hold : {m : Runtime} {s : State} (xs : List Elements) → OwnRelation m s → OwnRelation (record m { arrays = xs }) (record s { arrays = xs })
+arrays_hold xs h = record {
+  current = h.current;
+  specials = h.specials;
+  globals = h.globals;
+  slots = h.slots;
+  array_names = h.array_names;
+  function_names = h.function_names;
+  arrays = refl;
+  frames = h.frames;
+  next = h.next;
+  input_seen = h.input_seen;
+  inside = h.inside;
+  status = h.status;
+  steps = h.steps;
+}
+
+-- what a word gives, and what it makes of the arrays, by the number of one
+array_changes : {A : Type 0} (m : Runtime) (run : Run A) (a : Array) (give : List Elements → ℕ → A) (change : List Elements → ℕ → List Elements) (n : ℕ) {r : A} {xs : List Elements}
+    → ((s : State) → run s ≡ record { result = Ok (give s.arrays (number_at a s)); state = record s { arrays = change s.arrays (number_at a s) }; effects = [] })
+    → n ≡ kept_number a m.frames → r ≡ give m.arrays n → xs ≡ change m.arrays n → Changes run m (record m { arrays = xs }) (Ok r)
+array_changes m run a give change n {r = r} {xs = xs} is number given made = own_changes run refl refl (omega arith) (λ s h.
+  let n_is : number_at a s ≡ n = sym (number_holds a h) ∙ sym number in
+  record {
+    result = Ok (give s.arrays (number_at a s));
+    state = record s { arrays = change s.arrays (number_at a s) };
+    is = is s;
+    part = record { outside = refl; openings = refl; output_openings = refl; closings = refl; runs = refl; outputs = refl; main = refl; streams = refl };
+    matches = ap (λ l. Ok (give l (number_at a s))) h.arrays ∙ (ap (λ k. Ok (give m.arrays k)) n_is ∙ ap (λ x. Ok x) (sym given));
+    holds = subst (λ (l : List Elements). OwnRelation (record m { arrays = xs }) (record s { arrays = l }))
+        (made ∙ (ap (λ k. change m.arrays k) (sym n_is) ∙ ap (λ l. change l (number_at a s)) (sym h.arrays))) (arrays_hold xs h);
+  })
+
+module _ (m : Runtime) (a : Array) (key : List ℕ) (n : ℕ) (number : n ≡ kept_number a m.frames) where
+  pub element_read : {v : Value} {xs : List Elements} → v ≡ unwrap_or (value_at (array_of m.arrays n) key) value.Nothing → xs ≡ slice_set m.arrays n (with_key (array_of m.arrays n) key) → Changes (read_element_of a key) m (record m { arrays = xs }) (Ok v)
+  unfolding read_element_of read_element_at
+  element_read given made = array_changes m (read_element_of a key) a (λ l k. unwrap_or (value_at (array_of l k) key) value.Nothing) (λ l k. slice_set l k (with_key (array_of l k) key)) n (λ s. refl) number given made
+
+  pub element_stored : (v : Value) {xs : List Elements} → xs ≡ slice_set m.arrays n (with_pair (array_of m.arrays n) key v) → Changes (store_element_of a key v) m (record m { arrays = xs }) (Ok tt)
+  unfolding store_element_of store_element_at
+  element_stored v made = array_changes m (store_element_of a key v) a (λ l k. tt) (λ l k. slice_set l k (with_pair (array_of l k) key v)) n (λ s. refl) number refl made
+
+  pub element_deleted : {xs : List Elements} → xs ≡ slice_set m.arrays n (without (array_of m.arrays n) key) → Changes (delete_at a key) m (record m { arrays = xs }) (Ok tt)
+  unfolding delete_at delete_element_at
+  element_deleted made = array_changes m (delete_at a key) a (λ l k. tt) (λ l k. slice_set l k (without (array_of l k) key)) n (λ s. refl) number refl made
+
+  pub element_found : {b : Bool} → b ≡ is_some (value_at (array_of m.arrays n) key) → Changes (contains_at a key) m m (Ok b)
+  unfolding contains_at has_element_at
+  element_found given = array_changes m (contains_at a key) a (λ l k. is_some (value_at (array_of l k) key)) (λ l k. l) n (λ s. refl) number given refl
+
+pub keys_listed : (m : Runtime) (a : Array) (n : ℕ) → n ≡ kept_number a m.frames → {keys : List (List ℕ)} → keys ≡ keys_of (array_of m.arrays n) → Changes (keys_of_array a) m m (Ok keys)
+unfolding keys_of_array keys_at
+keys_listed m a n number given = array_changes m (keys_of_array a) a (λ l k. keys_of (array_of l k)) (λ l k. l) n (λ s. refl) number given refl
+
+pub array_filled : (m : Runtime) (a : Array) (n : ℕ) → n ≡ kept_number a m.frames → (texts : List (List ℕ)) {xs : List Elements} → xs ≡ slice_set m.arrays n (elements_from 1 texts) → Changes (fill_at a texts) m (record m { arrays = xs }) (Ok tt)
+unfolding fill_at fill_array_at
+array_filled m a n number texts made = array_changes m (fill_at a texts) a (λ l k. tt) (λ l k. slice_set l k (elements_from 1 texts)) n (λ s. refl) number refl made

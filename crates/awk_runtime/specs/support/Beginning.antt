@@ -1,0 +1,31 @@
+-- The state before a run.
+use Rattle.std.specs.Prelude.{◌≡◌, ℕ, suc, pos, false, List, [], length, get_or, None}
+use Rattle.awk_value.specs.declared.value.Value.TheVariants.{Nothing}
+use Rattle.awk_variables.specs.declared.special.Special.{Special}
+use Rattle.awk_variables.specs.Variables.{value_of, name_of, initial_value}
+use Rattle.awk_semantics.specs.Meaning.{StartValues, first_arrays}
+use Rattle.awk_runtime.specs.declared.start.Assignment.{Assignment}
+use Rattle.awk_runtime.specs.declared.runtime.Runtime.{Runtime}
+use Rattle.awk_runtime.specs.support.Naming.{Naming, AreOwn}
+
+-- a name with its text
+abbrev pub pair_of : Assignment → List ℕ × List ℕ
+pair_of a = (a.name.items, a.text.items)
+
+-- the code's state before a run of a program with these names
+pub record IsStart (names : Naming) (start : StartValues) (limit : ℕ) (m : Runtime) : Type 0 where
+  pub text : m.current.text ≡ []
+  pub fields : m.current.fields ≡ []
+  pub names : m.names ≡ names
+  pub own : AreOwn names.scalars
+  pub specials : (x : Special) → value_of m.specials (name_of x) ≡ initial_value (suc (length start.operands)) (name_of x)
+  pub globals : (i : ℕ) → get_or m.globals.items i Nothing ≡ Nothing
+  pub slots : length m.globals.items ≡ length names.scalars
+  pub arrays : m.arrays ≡ first_arrays start names.arrays
+  pub frames : m.frames ≡ record { frames = []; staged = [] }
+  pub streams : m.streams ≡ record { main = None; output = []; error = []; named = [] }
+  pub next : m.next ≡ pos 1
+  pub input_seen : m.input_seen ≡ false
+  pub inside : m.inside.items ≡ []
+  pub status : m.status ≡ 0
+  pub steps : m.steps ≡ limit

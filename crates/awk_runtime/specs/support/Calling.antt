@@ -1,0 +1,66 @@
+-- How calls, and what they are given, stand for those of the definitions.
+use Rattle.std.specs.Prelude.{◌≡◌, ℕ, ℤ, Bool, List, [], ◌∷◌, ◌++◌, map, slice_get, unwrap_or, Option, Some, None, Result, Ok, Err, OnOk, OnErr, IfErr}
+use Rattle.std.specs.Fmt.{signed_decimal}
+use Rattle.std.specs.Global.{Vec}
+use Rattle.awk_value.specs.declared.value.Value.TheVariants as value
+use Rattle.awk_value.specs.Values.{str_of}
+use Rattle.awk_table.specs.Arrays.{Array as Elements, value_at}
+use Rattle.awk_semantics.specs.declared.halt.Halt.{Halt}
+use Rattle.awk_semantics.specs.declared.local.Local.{Local}
+use Rattle.awk_semantics.specs.declared.local.Local.TheVariants as local
+use Rattle.awk_semantics.specs.State.{State}
+use Rattle.awk_semantics.specs.Primitives.{enter, outside_calls}
+use Rattle.awk_semantics.specs.Results.{IsWantOfMemory}
+use Rattle.awk_kinds.specs.Kinds.{FormalParameter}
+use Rattle.awk_storage.specs.declared.position.Array.{Array}
+use Rattle.awk_storage.specs.declared.position.Array.TheVariants as array
+use Rattle.awk_storage.specs.support.Frames.{FramesView, newest_of}
+use Rattle.awk_storage.specs.support.Tables.{array_of}
+use Rattle.awk_runtime.specs.declared.runtime.Runtime.{Runtime}
+use Rattle.awk_runtime.specs.support.Simulation.{OwnRelation, Changes}
+
+-- the number of a parameter's array
+abbrev pub number_of_kept : Option Local → ℕ
+number_of_kept (Some (local.Array n)) = n
+number_of_kept (Some (local.Value v)) = 0
+number_of_kept None = 0
+
+-- the number of an array, by its position
+abbrev pub kept_number : Array → FramesView → ℕ
+kept_number (array.Global n) calls = n
+kept_number (array.Local i) calls = number_of_kept (slice_get (newest_of calls.frames) i)
+
+-- a list, as the definitions have it
+abbrev pub listed : {A : Type 0} → Result (Vec A) Halt → Result (List A) Halt
+listed (Ok v) = Ok v.items
+listed (Err h) = Err h
+
+-- the text of the element at a number, of the array of this number; one that isn't there is empty
+abbrev pub argument_text : List Elements → ℕ → ℤ → List ℕ
+argument_text arrays n i = str_of (unwrap_or (value_at (array_of arrays n) (signed_decimal i)) value.Nothing)
+
+-- the call that is about to be made is given this for its next parameter
+abbrev pub with_given : Local → Runtime → Runtime
+with_given l m = record m { frames = record { frames = m.frames.frames; staged = m.frames.staged ++ l ∷ [] } }
+
+-- it is given nothing
+abbrev pub without_given : Runtime → Runtime
+without_given m = record m { frames = record { frames = m.frames.frames; staged = [] } }
+
+-- an argument is given
+pub record Gives (l : Local) (old new : Runtime) (r : Result (Unit {0}) Halt) : Type 0 where
+  pub given : OnOk r (new ≡ with_given l old)
+  pub unchanged : OnErr r (new ≡ old)
+  pub memory : IfErr r IsWantOfMemory
+
+-- a call is active that was given all this; `kinds` tells of each parameter whether it is an array
+pub record EntersCall (kinds : List Bool) (height : ℕ) (old new : Runtime) (r : Result (Unit {0}) Halt) : Type 0 where
+  pub enters : (parameters : List FormalParameter) → map (λ p. p.is_array) parameters ≡ kinds → Changes (enter parameters height old.frames.staged) (without_given old) new r
+
+-- no call is active any more; what was asked of the outside stays
+pub record EndsCalls (old new : Runtime) : Type 0 where
+  pub steps : new.steps ≡ old.steps
+  pub names : new.names ≡ old.names
+  pub streams : new.streams ≡ old.streams
+  pub status : new.status ≡ old.status
+  pub holds : (s : State) → OwnRelation old s → OwnRelation new (outside_calls s)

@@ -1,0 +1,33 @@
+-- Numbers that are changed where they stand.
+use Rattle.std.specs.Prelude.{◌≡◌, ℤ, Ok}
+use Rattle.awk_value.specs.declared.value.Value.{Value}
+use Rattle.awk_value.specs.declared.value.Value.TheVariants.{Number}
+use Rattle.awk_lex.specs.declared.token.Operator.{Operator}
+use Rattle.awk_semantics.specs.Operators.{applied}
+use Rattle.awk_storage.specs.declared.position.Variable.{Variable}
+use Rattle.awk_storage.specs.declared.position.Place.{Place}
+use Rattle.awk_storage.specs.declared.position.Place.TheVariants as place
+use Rattle.awk_storage.specs.Positions.{read_variable, put_variable, read_at, store_at}
+use Rattle.awk_runtime.specs.declared.places.Updated.{Updated}
+use Rattle.awk_runtime.specs.declared.runtime.Runtime.{Runtime}
+use Rattle.awk_runtime.specs.support.Simulation.{Changes}
+
+-- a number becomes what an operator makes of it and of another one
+pub record IsUpdated (operator : Operator) (n : ℤ) (old new : Value) (u : Updated) : Type 0 where
+  pub was : old ≡ Number u.before
+  pub made : applied operator (Number u.before) (Number n) ≡ Ok (Number u.after)
+  pub is : new ≡ Number u.after
+
+-- the number of a variable becomes what an operator makes of it and of another one
+pub record UpdatesVariable (operator : Operator) (x : Variable) (n : ℤ) (old new : Runtime) (u : Updated) : Type 0 where
+  pub read : Changes (read_variable old.names.scalars x) old old (Ok (Number u.before))
+  pub made : applied operator (Number u.before) (Number n) ≡ Ok (Number u.after)
+  pub put : Changes (put_variable old.names.scalars x (Number u.after)) old new (Ok tt)
+  pub again : Changes (read_variable old.names.scalars x) new new (Ok (Number u.after))
+
+-- the same of a place, and of a value
+pub record Updates (operator : Operator) (p : Place) (v : Value) (old new : Runtime) (u : Updated) : Type 0 where
+  pub read : (operand : Value) → Changes (read_at old.names.scalars p operand) old old (Ok (Number u.before))
+  pub made : applied operator (Number u.before) v ≡ Ok (Number u.after)
+  pub put : (operand : Value) → Changes (store_at old.names.scalars p operand (Number u.after)) old new (Ok tt)
+  pub again : (operand : Value) → Changes (read_at old.names.scalars p operand) new new (Ok (Number u.after))

@@ -1,0 +1,18 @@
+use Rattle.std.proofs.Common.{[], ap, ◌∙◌, List, length, ◌<◌, ◌≡◌, set, take, get_or, arith}
+use Rattle.std.proofs.lemmas.List.{get_or_read}
+use Rattle.awk_table.specs.Arrays.{Array, with_pair}
+use Rattle.awk_storage.specs.support.Tables.{array_of}
+use Rattle.awk_storage.proofs.TableLemmas.{changed}
+use Rattle.awk_storage.proofs.arrays.Arrays.put_text.Goals as goal
+
+pub returns-clause-put : goal.returns-clause-put
+returns-clause-put c =
+    let b = c.self.inside in
+    let tables : List Array = b.tables.items in
+    let old : Array = c.index_mut.result.now in
+    let f = λ (array : Array). with_pair array c.args.key.now c.args.value in
+    let within : c.args.number < length tables = omega (arith, c.if-number-self.false, c.self.invariant.0) in
+    let at : old ≡ get_or tables c.args.number [] = get_or_read tables c.args.number old within c.index_mut.ensures.value [] in
+    ap (λ (array : Array). take b.live (set tables c.args.number array)) c.in_ok-put.ensures.put
+    ∙ (changed tables b.live c.args.number old f c.if-number-self.false at
+    ∙ ap (λ (arrays : List Array). set arrays c.args.number (f (array_of arrays c.args.number))) c.self.view_is)
