@@ -111,10 +111,11 @@ closed_stands oracle b x answer old new before after s past told kind brought st
   outputs = stands.outputs ∙ sym (ap (λ (os : List Opening). length os) (outputs_requested past (Closes x)));
   are = told.streams oracle s.main s.streams stands.are;
   printed = told.printed ∙ (stands.printed ∙ sym (outputs_requested past (Closes x)));
-  turn = turn_requested oracle past (Closes x) first_stage (stage_of before.log old) (stage_of after.log new) stands.turn
-      (brought_as oracle old before s past before.log stands brought,
-      subst (λ (id : Option ℕ). ClosesAs x id (stage_of before.log old) (stage_of after.log new)) (sym told.number)
-        (told.told, stage_same after.log (Closed told.id told.told ∷ before.log) (main_number new.main) (main_number old.main) (numbered new.named) (words.without_number x (numbered old.named)) told.adds (ap main_number told.main) told.numbers));
+  turn = turn_requested oracle past (Closes x) first_stage (stage_of before.log old) (stage_of after.log new) stands.turn (
+    brought_as oracle old before s past before.log stands brought,
+    subst (λ (id : Option ℕ). ClosesAs x id (stage_of before.log old) (stage_of after.log new)) (sym told.number)
+        (told.told, stage_same after.log (Closed told.id told.told ∷ before.log) (main_number new.main) (main_number old.main) (numbered new.named) (words.without_number x (numbered old.named)) told.adds (ap main_number told.main) told.numbers),
+  );
 }
 
 closed_comes : (oracle : Oracle) (b : Bool) (x : words.Named) (answer : ℤ) (new : Runtime) (k : WorldState) (after : WorldState) (s : State) (past : List Effect) → closing_answer b oracle k.log ≡ answer → s.outside.closing s.closings ≡ oracle.closing (how_many closes_command k.log)

@@ -5,6 +5,7 @@ pub mod TextChanges
 pub mod ArrayWords
 pub mod NameNumbers
 pub mod ArgumentWords
+pub mod CallWords
 pub mod Words
 pub mod VariableWords
 pub mod Turns

@@ -96,12 +96,14 @@ opens_logged kind path (Ok tt) {old = old} {new = new} {before = before} {after 
       let given = told.granted oracle consistent in
       let number = granted_number kind path oracle before.log after.log new.streams.main given.0 given.2 told.adds in
       let meets = opening_meets oracle kind path (outputs_after past) before after old.streams new.streams number.0 none number.1 number.2 told.same in
-      subst (λ (o : Out (Unit {0})). ResultRelation oracle new after (Ok tt) o past) (sym (opens_as kind path s oracle before.log (Some given.0) stands.streams.outside (stands.streams.openings kind path) given.1))
-      (refl, record {
-        clear = told.failure ∙ stands.clear;
-        streams = opens_stands oracle (Ok tt) kind path old.streams new.streams before after s (Some given.0) past told (λ (e : Ok tt ≡ Err Memory). absurd (cc)) given.2 meets stands.streams;
-        holds = at_main new s _ (Some given.0) (beside_holds beside stands.holds);
-      });
+      subst (λ (o : Out (Unit {0})). ResultRelation oracle new after (Ok tt) o past) (sym (opens_as kind path s oracle before.log (Some given.0) stands.streams.outside (stands.streams.openings kind path) given.1)) (
+        refl,
+        record {
+          clear = told.failure ∙ stands.clear;
+          streams = opens_stands oracle (Ok tt) kind path old.streams new.streams before after s (Some given.0) past told (λ (e : Ok tt ≡ Err Memory). absurd (cc)) given.2 meets stands.streams;
+          holds = at_main new s _ (Some given.0) (beside_holds beside stands.holds);
+        },
+      );
 }
 opens_logged kind path (Err InputNotReadable) {old = old} {new = new} {before = before} {after = after} beside none same told fault = record {
   grows = told.grows;
@@ -337,11 +339,14 @@ closes_logged : {old new : Runtime} {before after : WorldState} → Beside old n
 unfolding close_main
 closes_logged {old = old} {new = new} {before = before} {after = after} beside told = record {
   grows = told.grows;
-  means = λ oracle s past consistent stands. (refl, record {
-    clear = told.no_failure ∙ stands.clear;
-    streams = closes_stands oracle old.streams new.streams before after s past told stands.streams;
-    holds = at_main new s s.openings None (beside_holds beside stands.holds);
-  });
+  means = λ oracle s past consistent stands. (
+    refl,
+    record {
+      clear = told.no_failure ∙ stands.clear;
+      streams = closes_stands oracle old.streams new.streams before after s past told stands.streams;
+      holds = at_main new s s.openings None (beside_holds beside stands.holds);
+    },
+  );
 }
 
 pub closes_simulates : {is_logged : Type 0} {old new : Runtime} {before after : WorldState} → Beside old new → new.streams ≡ record old.streams { main = None } → (is_logged → EndsMain before old.streams after new.streams) → ClosesMainInput is_logged old before new after

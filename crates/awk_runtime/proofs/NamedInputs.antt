@@ -139,12 +139,14 @@ input_made kind name {old = old} {new = new} {before = before} {after = after} b
   means = λ oracle s past consistent stands.
       let given = g.named oracle s.streams consistent stands.streams.are.named in
       subst (λ (o : Out Bool). ResultRelation oracle new after (Ok true) o past)
-      (sym (input_as_asked kind name s (Some given.0) (g.asks.lacks oracle s.streams stands.streams.are.named) (few_stand oracle before.log old.streams.named s.streams stands.streams.are.named g.asks.few) (as_answered oracle kind name old.streams before s past (Some given.0) stands.streams given.1)))
-      (refl, record {
-        clear = told.failure ∙ stands.clear;
-        streams = granted_stands oracle kind name old.streams new.streams before after s past given.0 told.main (told.main_rest oracle s.main stands.streams.are.main) g given.2 stands.streams;
-        holds = own_at new s _ s.output_openings s.outputs s.closings s.runs s.main _ (beside_holds beside stands.holds);
-      });
+      (sym (input_as_asked kind name s (Some given.0) (g.asks.lacks oracle s.streams stands.streams.are.named) (few_stand oracle before.log old.streams.named s.streams stands.streams.are.named g.asks.few) (as_answered oracle kind name old.streams before s past (Some given.0) stands.streams given.1))) (
+        refl,
+        record {
+          clear = told.failure ∙ stands.clear;
+          streams = granted_stands oracle kind name old.streams new.streams before after s past given.0 told.main (told.main_rest oracle s.main stands.streams.are.main) g given.2 stands.streams;
+          holds = own_at new s _ s.output_openings s.outputs s.closings s.runs s.main _ (beside_holds beside stands.holds);
+        },
+      );
 }
 
 input_refused : (kind : InputKind) (name : List ℕ) {old new : Runtime} {before after : WorldState} → Beside old new → (told : OpensInput kind name before old.streams (Ok false) after new.streams) → RefusesInput kind name before old.streams after new.streams → SimulatesLogged old before new after (Ok false) (open_input kind name)
@@ -152,12 +154,14 @@ input_refused kind name {old = old} {new = new} {before = before} {after = after
   grows = told.grows;
   means = λ oracle s past consistent stands.
       subst (λ (o : Out Bool). ResultRelation oracle new after (Ok false) o past)
-      (sym (input_as_asked kind name s None (g.asks.lacks oracle s.streams stands.streams.are.named) (few_stand oracle before.log old.streams.named s.streams stands.streams.are.named g.asks.few) (as_answered oracle kind name old.streams before s past None stands.streams (g.refused oracle consistent))))
-      (refl, record {
-        clear = told.failure ∙ stands.clear;
-        streams = refused_stands oracle kind name old.streams new.streams before after s past told.main (told.main_rest oracle s.main stands.streams.are.main) g stands.streams;
-        holds = own_at new s _ s.output_openings s.outputs s.closings s.runs s.main s.streams (beside_holds beside stands.holds);
-      });
+      (sym (input_as_asked kind name s None (g.asks.lacks oracle s.streams stands.streams.are.named) (few_stand oracle before.log old.streams.named s.streams stands.streams.are.named g.asks.few) (as_answered oracle kind name old.streams before s past None stands.streams (g.refused oracle consistent)))) (
+        refl,
+        record {
+          clear = told.failure ∙ stands.clear;
+          streams = refused_stands oracle kind name old.streams new.streams before after s past told.main (told.main_rest oracle s.main stands.streams.are.main) g stands.streams;
+          holds = own_at new s _ s.output_openings s.outputs s.closings s.runs s.main s.streams (beside_holds beside stands.holds);
+        },
+      );
 }
 
 input_full : (kind : InputKind) (name : List ℕ) {old new : Runtime} {before after : WorldState} → Beside old new → Grows before after → IsFullOfInputs kind name before old.streams after new.streams → SimulatesLogged old before new after (Err (halt.Fault faults.TooManyStreams)) (open_input kind name)
@@ -259,13 +263,17 @@ named_comes BrokenOff oracle new after r kind name separator whole left s past t
     subst (λ x. ResultRelation oracle new after (answers_of (halted x)) (named_taken BrokenOff kind name separator whole s) past) (sym told.0)
     (refl, subst (λ l. StateRelation oracle new after (with_left kind name l whole.ending s) (past ++ Requested (RecordOf kind name separator whole.bytes) ∷ [])) told.1 stands)
 named_comes TooLong oracle new after r kind name separator whole left s past told stands keeps =
-    subst (λ x. ResultRelation oracle new after (answers_of (halted x)) (named_taken TooLong kind name separator whole s) past) (sym told.0)
-    (refl, subst (λ (xs : List words.Stream). StateRelation oracle new after (record s { streams = xs }) (past ++ Requested (RecordOf kind name separator whole.bytes) ∷ [])) (keeps told.1)
-      (subst (λ l. StateRelation oracle new after (with_left kind name l whole.ending s) (past ++ Requested (RecordOf kind name separator whole.bytes) ∷ [])) told.1 stands))
+    subst (λ x. ResultRelation oracle new after (answers_of (halted x)) (named_taken TooLong kind name separator whole s) past) (sym told.0) (
+      refl,
+      subst (λ (xs : List words.Stream). StateRelation oracle new after (record s { streams = xs }) (past ++ Requested (RecordOf kind name separator whole.bytes) ∷ [])) (keeps told.1)
+          (subst (λ l. StateRelation oracle new after (with_left kind name l whole.ending s) (past ++ Requested (RecordOf kind name separator whole.bytes) ∷ [])) told.1 stands),
+    )
 named_comes BadSeparator oracle new after r kind name separator whole left s past told stands keeps =
-    subst (λ x. ResultRelation oracle new after (answers_of (halted x)) (named_taken BadSeparator kind name separator whole s) past) (sym told.0)
-    (refl, subst (λ (xs : List words.Stream). StateRelation oracle new after (record s { streams = xs }) (past ++ Requested (RecordOf kind name separator whole.bytes) ∷ [])) (keeps told.1)
-      (subst (λ l. StateRelation oracle new after (with_left kind name l whole.ending s) (past ++ Requested (RecordOf kind name separator whole.bytes) ∷ [])) told.1 stands))
+    subst (λ x. ResultRelation oracle new after (answers_of (halted x)) (named_taken BadSeparator kind name separator whole s) past) (sym told.0) (
+      refl,
+      subst (λ (xs : List words.Stream). StateRelation oracle new after (record s { streams = xs }) (past ++ Requested (RecordOf kind name separator whole.bytes) ∷ [])) (keeps told.1)
+          (subst (λ l. StateRelation oracle new after (with_left kind name l whole.ending s) (past ++ Requested (RecordOf kind name separator whole.bytes) ∷ [])) told.1 stands),
+    )
 
 -- what the definitions take, by the code's RS
 named_as : (kind : InputKind) (name : List ℕ) (m : Runtime) (s : State) (whole : Source) → OwnRelation m s → rest_in s.streams kind name ≡ Some whole → take_named kind name s ≡ named_taken_of (Some whole) kind name (str_of (value_of m.specials (name_of Rs))) s
@@ -327,7 +335,7 @@ next_by kind name separator r (Ok false) world streams {old = old} {new = new} {
 next_by kind name separator r (Err fault) world streams {old = old} {new = new} {before = before} {after = after} rs beside once opens asks =
     subst (λ (x : Result NextNamed StreamFault). SimulatesLogged old before new after (answers_of (halted x)) (open_input kind name >>= λ is_open. take_if is_open kind name)) (sym asks.0)
     (ends_logged (λ is_open. take_if is_open kind name) (input_told kind name (Err fault) beside
-      (subst (λ (w : WorldState). OpensInput kind name before old.streams (Err fault) w new.streams) (sym asks.1) (subst (λ (v : StreamsView). OpensInput kind name before old.streams (Err fault) world v) (sym asks.2) opens))))
+    (subst (λ (w : WorldState). OpensInput kind name before old.streams (Err fault) w new.streams) (sym asks.1) (subst (λ (v : StreamsView). OpensInput kind name before old.streams (Err fault) world v) (sym asks.2) opens))))
 
 pub next_follows : {is_logged : Type 0} (kind : InputKind) (name text separator : List ℕ) (r : Result NextNamed StreamFault) {old new : Runtime} {before after : WorldState} → text ≡ name → separator ≡ str_of (value_of old.specials (name_of Rs)) → Beside old new → IsReady is_logged after new.streams
     → (is_logged → AsksInput kind text separator before old.streams r after new.streams) → Follows is_logged (next_of kind name) old before new after (answers_of (halted r))

@@ -130,12 +130,14 @@ output_made kind name mode to {old = old} {new = new} {before = before} {after =
         let n : length (printed_openings before old.streams) ≡ s.outputs = ap (λ (os : List Opening). length os) stands.streams.printed ∙ sym stands.streams.outputs in
         let few : nat_le most_streams (length s.streams) ≡ false = lt-leb most_streams (length s.streams) (let same : length old.streams.named ≡ length s.streams = as_many oracle before.log old.streams.named s.streams stands.streams.are.named in let below = g.asks.few in omega arith) in
         let answer = output_answer oracle kind name old.streams before s past stands.streams ∙ (ap (λ (i : ℕ). oracle.output kind name i) (stands.streams.output_openings kind name) ∙ g.granted oracle consistent) in
-        subst (λ (o : Out ℕ). ResultRelation oracle new after (Ok (length (printed_openings before old.streams))) o past) (sym (output_as_asked kind name mode s true (g.asks.lacks oracle s.streams stands.streams.are.named) few answer))
-        (ap (λ (i : ℕ). Ok i) (sym n), record {
-          clear = told.failure ∙ stands.clear;
-          streams = granted_stands oracle kind name mode to old.streams new.streams before after s past told.main (told.main_rest oracle s.main stands.streams.are.main) g stands.streams;
-          holds = own_at new s s.openings _ (suc s.outputs) s.closings s.runs s.main _ (beside_holds beside stands.holds);
-        });
+        subst (λ (o : Out ℕ). ResultRelation oracle new after (Ok (length (printed_openings before old.streams))) o past) (sym (output_as_asked kind name mode s true (g.asks.lacks oracle s.streams stands.streams.are.named) few answer)) (
+          ap (λ (i : ℕ). Ok i) (sym n),
+          record {
+            clear = told.failure ∙ stands.clear;
+            streams = granted_stands oracle kind name mode to old.streams new.streams before after s past told.main (told.main_rest oracle s.main stands.streams.are.main) g stands.streams;
+            holds = own_at new s s.openings _ (suc s.outputs) s.closings s.runs s.main _ (beside_holds beside stands.holds);
+          },
+        );
   };
 }
 
@@ -145,12 +147,14 @@ output_refused kind name mode {old = old} {new = new} {before = before} {after =
   means = λ oracle s past consistent stands.
       let few : nat_le most_streams (length s.streams) ≡ false = lt-leb most_streams (length s.streams) (let same : length old.streams.named ≡ length s.streams = as_many oracle before.log old.streams.named s.streams stands.streams.are.named in let below = g.asks.few in omega arith) in
       let answer = output_answer oracle kind name old.streams before s past stands.streams ∙ (ap (λ (i : ℕ). oracle.output kind name i) (stands.streams.output_openings kind name) ∙ g.refused oracle consistent) in
-      subst (λ (o : Out ℕ). ResultRelation oracle new after (Err (halt.Fault faults.OutputNotOpened)) o past) (sym (output_as_asked kind name mode s false (g.asks.lacks oracle s.streams stands.streams.are.named) few answer))
-      (refl, record {
-        clear = told.failure ∙ stands.clear;
-        streams = refused_stands oracle kind name mode old.streams new.streams before after s past told.main (told.main_rest oracle s.main stands.streams.are.main) g stands.streams;
-        holds = own_at new s s.openings _ s.outputs s.closings s.runs s.main s.streams (beside_holds beside stands.holds);
-      });
+      subst (λ (o : Out ℕ). ResultRelation oracle new after (Err (halt.Fault faults.OutputNotOpened)) o past) (sym (output_as_asked kind name mode s false (g.asks.lacks oracle s.streams stands.streams.are.named) few answer)) (
+        refl,
+        record {
+          clear = told.failure ∙ stands.clear;
+          streams = refused_stands oracle kind name mode old.streams new.streams before after s past told.main (told.main_rest oracle s.main stands.streams.are.main) g stands.streams;
+          holds = own_at new s s.openings _ s.outputs s.closings s.runs s.main s.streams (beside_holds beside stands.holds);
+        },
+      );
 }
 
 output_full : (kind : OutputKind) (name : List ℕ) (mode : Mode) {old new : Runtime} {before after : WorldState} → Beside old new → Grows before after → IsFullOfOutputs kind name before old.streams after new.streams → SimulatesLogged old before new after (Err (halt.Fault faults.TooManyStreams)) (open_output kind name mode)

@@ -70,11 +70,14 @@ shown oracle to bytes old new before after s past told stands = record {
 print_comes : (to : Target) (bytes : List ℕ) {old new : Runtime} {before after : WorldState} → Beside old new → (told : Prints to bytes before old.streams (Ok tt) after new.streams)
     → (oracle : Oracle) (s : State) (past : List Effect) → StateRelation oracle old before s past → ResultRelation oracle new after (Ok tt) (print_bytes told.opening bytes s) past
 unfolding print_bytes
-print_comes to bytes {old = old} {new = new} {before = before} {after = after} beside told oracle s past stands = (refl, record {
-  clear = told.failure ∙ stands.clear;
-  streams = shown oracle to bytes old.streams new.streams before after s past told stands.streams;
-  holds = beside_holds beside stands.holds;
-})
+print_comes to bytes {old = old} {new = new} {before = before} {after = after} beside told oracle s past stands = (
+  refl,
+  record {
+    clear = told.failure ∙ stands.clear;
+    streams = shown oracle to bytes old.streams new.streams before after s past told stands.streams;
+    holds = beside_holds beside stands.holds;
+  },
+)
 
 -- a print that a failure broke off
 print_fails : {failure : Type 0} (to : Target) (bytes : List ℕ) (fault : StreamFault) {old new : Runtime} {before after : WorldState} → (told : Prints to bytes before old.streams (Err fault) after new.streams) → failure

@@ -75,9 +75,10 @@ impl Runtime {
     {
         let name = text_of(self.alloc, name)?;
         let separator = text_of(self.alloc, self.specials.special(Special::Rs))?;
-        Ok(self
-            .streams
-            .next_named(world, kind, &name, separator.as_slice())?)
+        Ok(
+            self.streams
+                .next_named(world, kind, &name, separator.as_slice())?,
+        )
     }
 
     // A main record that was read.
@@ -122,12 +123,7 @@ impl Runtime {
     }
 
     // A record that was read goes to a place, or is the record at hand.
-    fn receive(
-        &mut self,
-        place: Option<Place>,
-        operand: &Value,
-        text: Bytes,
-    ) -> Result<(), Halt>
+    fn receive(&mut self, place: Option<Place>, operand: &Value, text: Bytes) -> Result<(), Halt>
         ensures { Changes (receive_at self.old.names.scalars place operand.now text) self.old self.new result }
     {
         match place {
