@@ -1,6 +1,6 @@
 -- What closings, runs of commands and the end of a run do to the state of a run.
-use Rattle.std.proofs.Common.{◌≡◌, ◌+◌, ◌==◌, ℕ, suc, ℤ, pos, negsuc, Bool, true, false, List, [], ◌∷◌, ◌++◌, length, map, cond, Option, Some, None, Result, Ok, Err, if◌then◌else◌, inl, inr, refl, sym, ap, ◌∙◌, subst, arith, append-nil, append_assoc}
-use Rattle.std.specs.Prelude.{filter, bytes_eq, OnOk}
+use Rattle.std.proofs.Common.{◌≡◌, ◌+◌, ◌==◌, ℕ, suc, ℤ, pos, negsuc, Bool, true, false, List, [], ◌∷◌, ◌++◌, length, map, cond, Option, Some, None, Result, Ok, Err, if◌then◌else◌, refl, sym, ap, ◌∙◌, subst, arith, append-nil, append_assoc}
+use Rattle.std.specs.Prelude.{filter, bytes_eq}
 use Rattle.awk_world.specs.declared.world.InputKind.{InputKind}
 use Rattle.awk_world.specs.declared.world.OutputKind.{OutputKind}
 use Rattle.awk_channels.specs.declared.fault.StreamFault.{StreamFault}
@@ -10,25 +10,24 @@ use Rattle.awk_channels.specs.declared.named.NamedStream.{NamedStream}
 use Rattle.awk_channels.specs.declared.named.NamedStream.TheVariants as named
 use Rattle.awk_channels.specs.WorldState.{WorldState}
 use Rattle.awk_channels.specs.Log.{Event, Closed, Ran}
-use Rattle.awk_channels.specs.Oracle.{Oracle, Source, IsConsistent, one_if, how_many, closes_command}
+use Rattle.awk_channels.specs.Oracle.{Oracle, IsConsistent, one_if, how_many, closes_command}
 use Rattle.awk_channels.specs.Openings.{Opening, AreFlushed, AreBrought, is_flushed, openings}
 use Rattle.awk_channels.specs.Grows.{Grows}
 use Rattle.awk_channels.specs.Named as words
-use Rattle.awk_channels.specs.Streams.{StreamsView, name_of, StandFor, numbered, printed_openings}
-use Rattle.awk_channels.specs.MainInput.{closed_main, EndsMain}
+use Rattle.awk_channels.specs.Streams.{StreamsView, StandFor, numbered, printed_openings}
+use Rattle.awk_channels.specs.MainInput.{closed_main}
 use Rattle.awk_channels.specs.Commands.{closing_answer, ClosesStream, ClosesEach, BringsAll, names_called, all_names, ClosesNames, ClosesText, RanCommand, RunsCommand, EndsAll, Finishes}
-use Rattle.awk_semantics.specs.declared.halt.Halt.{Halt}
-use Rattle.awk_semantics.specs.State.{Request, Closes, Runs, Ends, Effect, Requested, State, Out, Run, ◌>>=◌, go_on, ret}
-use Rattle.awk_semantics.specs.Streams.{is_other, has_the_name, without_stream, closed_by, close_stream, streams_named, close_each, close_named, run_command}
-use Rattle.awk_semantics.specs.Meaning.{closings_of, outputs_from, first_outputs, outputs_after, requests_from}
-use Rattle.awk_semantics.specs.Order.{AreBetween, number_among, ClosesAs, Meets, first_stage}
+use Rattle.awk_semantics.specs.State.{Closes, Runs, Ends, Effect, Requested, State, Out, ◌>>=◌, go_on, ret}
+use Rattle.awk_semantics.specs.Streams.{has_the_name, without_stream, closed_by, close_stream, streams_named, close_each, close_named, run_command}
+use Rattle.awk_semantics.specs.Meaning.{closings_of, outputs_from, first_outputs, outputs_after}
+use Rattle.awk_semantics.specs.Order.{AreBetween, ClosesAs, first_stage}
 use Rattle.awk_runtime.specs.declared.runtime.Runtime.{Runtime}
-use Rattle.awk_runtime.specs.support.Simulation.{main_number, stage_of, StreamsRelation, StateRelation, ResultRelation, SimulatesLogged, Simulates, Follows, Beside, halted}
+use Rattle.awk_runtime.specs.support.Simulation.{main_number, stage_of, StreamsRelation, StateRelation, ResultRelation, SimulatesLogged, Follows, Beside, halted}
 use Rattle.awk_runtime.specs.support.Endings.{effects_to_end, IsWhole, EndsRun}
 use Rattle.awk_runtime.proofs.Composition.{then_logged}
 use Rattle.awk_runtime.proofs.Effects.{turn_between, turn_requested, outputs-append}
 use Rattle.awk_runtime.proofs.Steps.{beside_holds}
-use Rattle.awk_runtime.proofs.Turns.{own_at, outputs_requested, goes_bringing, turn_brought, brought_as, memory_loses, write_loses, stage_same, stands_same}
+use Rattle.awk_runtime.proofs.Turns.{own_at, outputs_requested, goes_bringing, turn_brought, brought_as, memory_loses, write_loses, stage_same}
 use Rattle.awk_runtime.proofs.MainInput.{closes_stands}
 use Rattle.awk_runtime.proofs.NamedInputs.{between, beside_between, between_beside, ret_still}
 

@@ -13,9 +13,9 @@ use Rattle.awk_channels.specs.WorldState.{WorldState}
 use Rattle.awk_channels.specs.Oracle.{Oracle, Source, IsConsistent, one_if, same_input_kind, how_many, opens_input}
 use Rattle.awk_channels.specs.Orderly.{IsReadable}
 use Rattle.awk_channels.specs.Openings.{Opening}
-use Rattle.awk_channels.specs.Inputs.{Reaches, ReadsAsNeeded, Rest, NextTold, IsInputFault}
+use Rattle.awk_channels.specs.Inputs.{Reaches, Rest, NextTold, IsInputFault}
 use Rattle.awk_channels.specs.Streams.{StreamsView, IsMainRest, IsSameMain, IsFreshMain, numbered, printed_openings}
-use Rattle.awk_channels.specs.MainInput.{CountsInput, main_opening, OpensMain, ReadsMain, AsksMain, closed_main, EndsMain}
+use Rattle.awk_channels.specs.MainInput.{main_opening, OpensMain, ReadsMain, AsksMain, closed_main, EndsMain}
 use Rattle.awk_channels.proofs.GrowsLemmas.{Grows-self}
 use Rattle.awk_semantics.specs.declared.halt.Halt.TheVariants as halt
 use Rattle.awk_semantics.specs.declared.fault.Fault.TheVariants as faults

@@ -1,5 +1,5 @@
 -- What asking a named input for a record does to the state of a run.
-use Rattle.std.proofs.Common.{◌≡◌, ◌≢◌, ◌<◌, ◌≤◌, ◌+◌, ◌&&◌, ℕ, Bool, true, false, List, [], ◌∷◌, ◌++◌, length, Option, Some, None, Result, Ok, Err, if◌then◌else◌, inl, inr, refl, sym, ap, ◌∙◌, subst, arith, append-nil}
+use Rattle.std.proofs.Common.{◌≡◌, ◌≢◌, ◌<◌, ◌≤◌, ◌+◌, ◌&&◌, ℕ, Bool, true, false, List, [], ◌∷◌, ◌++◌, length, Option, Some, None, Result, Ok, Err, if◌then◌else◌, inl, inr, refl, sym, ap, ◌∙◌, subst, arith}
 use Rattle.std.specs.Prelude.{nat_le, bytes_eq}
 use Rattle.std.proofs.lemmas.Bool.{le-leb, lt-leb}
 use Rattle.awk_value.specs.Values.{str_of}
@@ -13,28 +13,27 @@ use Rattle.awk_channels.specs.declared.named.NamedStream.{NamedStream}
 use Rattle.awk_channels.specs.declared.named.NamedStream.TheVariants as named
 use Rattle.awk_channels.specs.WorldState.{WorldState}
 use Rattle.awk_channels.specs.Log.{Event, OpenedInput}
-use Rattle.awk_channels.specs.Oracle.{Oracle, Source, IsConsistent, one_if, same_input_kind}
+use Rattle.awk_channels.specs.Oracle.{Oracle, Source, one_if, same_input_kind}
 use Rattle.awk_channels.specs.Openings.{Opening}
 use Rattle.awk_channels.specs.Grows.{Grows}
 use Rattle.awk_channels.specs.Named as words
-use Rattle.awk_channels.specs.MainInput.{CountsInput, input_answer}
+use Rattle.awk_channels.specs.MainInput.{input_answer}
 use Rattle.awk_channels.specs.Streams.{StreamsView, StandFor, HaveOtherNames, AreOnce, IsMainRest, most_streams, numbered, printed_openings, BringsIf}
 use Rattle.awk_channels.specs.NamedInputs.{FindsInput, IsFullOfInputs, GrantsInput, RefusesInput, OpensInput, NamedTold, IsNamedAnswer, AsksNamed, AsksIfOpen, AsksInput}
 use Rattle.awk_channels.proofs.GrowsLemmas.{Grows-self}
 use Rattle.awk_channels.proofs.NamesLemmas.{input_swap}
 use Rattle.awk_channels.proofs.InputCallLemmas.{same_input}
-use Rattle.awk_semantics.specs.declared.halt.Halt.{Halt}
 use Rattle.awk_semantics.specs.declared.halt.Halt.TheVariants as halt
 use Rattle.awk_semantics.specs.declared.fault.Fault.TheVariants as faults
-use Rattle.awk_semantics.specs.State.{Request, OpensInput as AsksForInput, RecordOf, Effect, Requested, State, Out, Run, ◌>>=◌, go_on, lift, ret, ends}
+use Rattle.awk_semantics.specs.State.{OpensInput as AsksForInput, RecordOf, Effect, Requested, State, Out, ◌>>=◌, go_on, lift, ret, ends}
 use Rattle.awk_semantics.specs.Primitives.{fault_if}
 use Rattle.awk_semantics.specs.Streams.{rest_in, with_rest_of, check_streams, counted, input_granted, ask_input, open_input_unless, open_input, Answer, with_left, named_taken, named_taken_of, take_named, take_if, next_of}
 use Rattle.awk_semantics.specs.Meaning.{outputs_after}
-use Rattle.awk_semantics.specs.Order.{InputBrought, number_among, ReadsFrom, Meets, first_stage}
+use Rattle.awk_semantics.specs.Order.{InputBrought, ReadsFrom, Meets, first_stage}
 use Rattle.awk_variables.specs.declared.special.Special.TheVariants.{Rs}
 use Rattle.awk_variables.specs.Variables.{value_of, name_of}
 use Rattle.awk_runtime.specs.declared.runtime.Runtime.{Runtime}
-use Rattle.awk_runtime.specs.support.Simulation.{OwnRelation, main_number, stage_of, StreamsRelation, StateRelation, ResultRelation, SimulatesLogged, Simulates, Follows, IsReady, Beside, halted}
+use Rattle.awk_runtime.specs.support.Simulation.{OwnRelation, main_number, stage_of, StreamsRelation, StateRelation, ResultRelation, SimulatesLogged, Follows, IsReady, Beside, halted}
 use Rattle.awk_runtime.specs.support.NamedInputs.{answers_of}
 use Rattle.awk_runtime.proofs.Composition.{then_logged, ends_logged}
 use Rattle.awk_runtime.proofs.Effects.{turn_requested, begins_still}

@@ -2,31 +2,28 @@
 use Rattle.std.proofs.Common.{◌≡◌, ◌+◌, ◌&&◌, ℕ, suc, Bool, true, false, List, [], ◌∷◌, ◌++◌, length, Option, Some, None, Result, Ok, Err, if◌then◌else◌, inl, inr, refl, sym, ap, ◌∙◌, subst, arith, length-append}
 use Rattle.std.specs.Prelude.{nat_le, bytes_eq, codes}
 use Rattle.std.proofs.lemmas.Bool.{le-leb, lt-leb}
-use Rattle.awk_world.specs.declared.world.InputKind.{InputKind}
 use Rattle.awk_world.specs.declared.world.OutputKind.{OutputKind}
 use Rattle.awk_world.specs.declared.world.OutputKind.TheVariants as output
 use Rattle.awk_world.specs.declared.world.Mode.{Mode}
 use Rattle.awk_channels.specs.declared.fault.StreamFault.{StreamFault}
 use Rattle.awk_channels.specs.declared.fault.StreamFault.TheVariants.{Memory, WriteFailed, InputNotReadable, OutputNotOpened, TooManyStreams, SeparatorTooLong, RecordTooLong}
-use Rattle.awk_channels.specs.declared.input.Input.{Input}
 use Rattle.awk_channels.specs.declared.streams.Target.{Target}
 use Rattle.awk_channels.specs.declared.streams.Target.TheVariants as target
 use Rattle.awk_channels.specs.WorldState.{WorldState}
 use Rattle.awk_channels.specs.Log.{Event, OpenedOutput}
-use Rattle.awk_channels.specs.Oracle.{Oracle, Source, one_if, same_output_kind}
+use Rattle.awk_channels.specs.Oracle.{Oracle, one_if, same_output_kind}
 use Rattle.awk_channels.specs.Openings.{Opening, Named as NamedOutput}
 use Rattle.awk_channels.specs.Grows.{Grows}
 use Rattle.awk_channels.specs.Named as words
 use Rattle.awk_channels.specs.Streams.{StreamsView, StandFor, IsMainRest, most_streams, numbered, printed_openings, opening_at, BringsIf}
 use Rattle.awk_channels.specs.NamedOutputs.{FindsOutput, IsFullOfOutputs, GrantsOutput, RefusesOutput, OpensOutput}
-use Rattle.awk_semantics.specs.declared.halt.Halt.{Halt}
 use Rattle.awk_semantics.specs.declared.halt.Halt.TheVariants as halt
 use Rattle.awk_semantics.specs.declared.fault.Fault.TheVariants as faults
-use Rattle.awk_semantics.specs.State.{Request, OpensOutput as AsksOutput, Effect, Requested, State, Out, Run, ◌>>=◌, go_on, lift, ret, ends}
+use Rattle.awk_semantics.specs.State.{OpensOutput as AsksOutput, Effect, Requested, State, Out, Run, ◌>>=◌, go_on, lift, ret, ends}
 use Rattle.awk_semantics.specs.Primitives.{fault_if}
 use Rattle.awk_semantics.specs.Streams.{opening_in, check_streams, output_counted, output_granted, ask_output, open_output_unless, open_output, open_file}
 use Rattle.awk_semantics.specs.Meaning.{outputs_after}
-use Rattle.awk_semantics.specs.Order.{OutputBrought, with_number, Meets, first_stage}
+use Rattle.awk_semantics.specs.Order.{OutputBrought, first_stage}
 use Rattle.awk_runtime.specs.declared.runtime.Runtime.{Runtime}
 use Rattle.awk_runtime.specs.support.Simulation.{main_number, stage_of, StreamsRelation, StateRelation, ResultRelation, SimulatesLogged, Beside, halted}
 use Rattle.awk_runtime.specs.support.Printing.{standard_named, TargetOpened, TargetTold, OpensTarget}

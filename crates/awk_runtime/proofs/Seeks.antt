@@ -5,16 +5,14 @@ use Rattle.std.proofs.Common.{take, drop, length, ◌-◌, ◌≡◌, ℕ, ◌�
 use Rattle.awk_world.specs.declared.world.InputKind.{InputKind}
 use Rattle.awk_world.specs.declared.world.InputKind.TheVariants.{Standard, File}
 use Rattle.awk_channels.specs.WorldState.{WorldState}
-use Rattle.awk_channels.specs.Streams.{StreamsView}
 use Rattle.awk_semantics.specs.declared.halt.Halt.{Halt}
-use Rattle.awk_semantics.specs.State.{State}
 use Rattle.awk_semantics.specs.Primitives.{take_argument}
 use Rattle.awk_semantics.specs.Streams.{begin_input, take_record, is_input_seen}
 use Rattle.awk_semantics.specs.Inputs.{assign_text, Operand, Nothing, Assignment, StandardInput, AFile, operand_of, main_record, path_of, first_record, record_by, operand_record, standard_record, search_operands_within, search_operands, next_record}
 use Rattle.awk_runtime.specs.declared.runtime.Runtime.{Runtime}
-use Rattle.awk_runtime.specs.support.Simulation.{Simulates, Changes, Spends, Follows, IsReady}
+use Rattle.awk_runtime.specs.support.Simulation.{Simulates, Changes, Spends, Follows}
 use Rattle.awk_runtime.specs.support.Inputs.{ClosesMainInput, OpensMainInput, ClosedUnless, Seeks, SearchesOn}
-use Rattle.awk_runtime.proofs.Composition.{then_simulates, ends_simulates, lift_simulates, change_simulates, ready_behind}
+use Rattle.awk_runtime.proofs.Composition.{then_simulates, ends_simulates, lift_simulates, change_simulates}
 use Rattle.awk_runtime.proofs.Steps.{reads_changes, still}
 
 -- records of the main input
