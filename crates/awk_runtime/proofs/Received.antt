@@ -1,11 +1,11 @@
 -- What getline does with a record that was read.
-use Rattle.std.proofs.Common.{◌≡◌, ℕ, ℤ, pos, List, Option, Some, None, Result, Ok, Err, refl, sym, ap, ◌∙◌, subst}
+use Rattle.std.proofs.Common.{◌≡◌, ℕ, pos, List, Option, Some, None, Result, Ok, Err, refl, subst}
 use Rattle.awk_value.specs.declared.value.Value.{Value}
 use Rattle.awk_value.specs.declared.value.Value.TheVariants as value
 use Rattle.awk_world.specs.declared.world.InputKind.{InputKind}
 use Rattle.awk_channels.specs.WorldState.{WorldState}
 use Rattle.awk_semantics.specs.declared.halt.Halt.{Halt}
-use Rattle.awk_semantics.specs.State.{State, Run, ◌>>=◌, lift}
+use Rattle.awk_semantics.specs.State.{Run}
 use Rattle.awk_semantics.specs.Primitives.{count_in}
 use Rattle.awk_semantics.specs.Places.{count_of}
 use Rattle.awk_semantics.specs.Streams.{Answer, ARecord, next_of}

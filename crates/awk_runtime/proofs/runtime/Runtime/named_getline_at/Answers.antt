@@ -1,6 +1,6 @@
-use Rattle.std.proofs.Common.{Ok, refl}
+use Rattle.std.proofs.Common.{refl}
 use Rattle.std.proofs.lemmas.Result.{err_from_is_err_and}
-use Rattle.awk_semantics.specs.Streams.{ARecord, NoRecord, NotReadable}
+use Rattle.awk_semantics.specs.Streams.{NoRecord, NotReadable}
 use Rattle.awk_runtime.proofs.Composition.{lift_changes}
 use Rattle.awk_runtime.proofs.Received.{named_fails, named_gets}
 use Rattle.awk_runtime.proofs.runtime.Runtime.named_getline_at.Goals as goal
