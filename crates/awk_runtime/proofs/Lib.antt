@@ -5,6 +5,7 @@ pub mod TextChanges
 pub mod ArrayWords
 pub mod NameNumbers
 pub mod ArgumentWords
+pub mod CallWords
 pub mod Words
 pub mod VariableWords
 pub mod NameWords
@@ -13,8 +14,12 @@ pub mod PlaceWords
 pub mod Turns
 pub mod Prints
 pub mod Openings
-pub mod CallWords
 pub mod CallLemmas
 pub mod StartLemmas
 pub mod StartRelation
 pub mod DistinctNames
+pub mod MainInput
+pub mod Seeks
+pub mod NamedInputs
+pub mod Received
+pub mod Closings

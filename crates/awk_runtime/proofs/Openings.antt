@@ -2,31 +2,28 @@
 use Rattle.std.proofs.Common.{◌≡◌, ◌+◌, ◌&&◌, ℕ, suc, Bool, true, false, List, [], ◌∷◌, ◌++◌, length, Option, Some, None, Result, Ok, Err, if◌then◌else◌, inl, inr, refl, sym, ap, ◌∙◌, subst, arith, length-append}
 use Rattle.std.specs.Prelude.{nat_le, bytes_eq, codes}
 use Rattle.std.proofs.lemmas.Bool.{le-leb, lt-leb}
-use Rattle.awk_world.specs.declared.world.InputKind.{InputKind}
 use Rattle.awk_world.specs.declared.world.OutputKind.{OutputKind}
 use Rattle.awk_world.specs.declared.world.OutputKind.TheVariants as output
 use Rattle.awk_world.specs.declared.world.Mode.{Mode}
 use Rattle.awk_channels.specs.declared.fault.StreamFault.{StreamFault}
 use Rattle.awk_channels.specs.declared.fault.StreamFault.TheVariants.{Memory, WriteFailed, InputNotReadable, OutputNotOpened, TooManyStreams, SeparatorTooLong, RecordTooLong}
-use Rattle.awk_channels.specs.declared.input.Input.{Input}
 use Rattle.awk_channels.specs.declared.streams.Target.{Target}
 use Rattle.awk_channels.specs.declared.streams.Target.TheVariants as target
 use Rattle.awk_channels.specs.WorldState.{WorldState}
 use Rattle.awk_channels.specs.Log.{Event, OpenedOutput}
-use Rattle.awk_channels.specs.Oracle.{Oracle, Source, one_if, same_output_kind}
+use Rattle.awk_channels.specs.Oracle.{Oracle, one_if, same_output_kind}
 use Rattle.awk_channels.specs.Openings.{Opening, Named as NamedOutput}
 use Rattle.awk_channels.specs.Grows.{Grows}
 use Rattle.awk_channels.specs.Named as words
 use Rattle.awk_channels.specs.Streams.{StreamsView, StandFor, IsMainRest, most_streams, numbered, printed_openings, opening_at, BringsIf}
 use Rattle.awk_channels.specs.NamedOutputs.{FindsOutput, IsFullOfOutputs, GrantsOutput, RefusesOutput, OpensOutput}
-use Rattle.awk_semantics.specs.declared.halt.Halt.{Halt}
 use Rattle.awk_semantics.specs.declared.halt.Halt.TheVariants as halt
 use Rattle.awk_semantics.specs.declared.fault.Fault.TheVariants as faults
-use Rattle.awk_semantics.specs.State.{Request, OpensOutput as AsksOutput, Effect, Requested, State, Out, Run, ◌>>=◌, go_on, lift, ret, ends}
+use Rattle.awk_semantics.specs.State.{OpensOutput as AsksOutput, Effect, Requested, State, Out, Run, ◌>>=◌, go_on, lift, ret, ends}
 use Rattle.awk_semantics.specs.Primitives.{fault_if}
 use Rattle.awk_semantics.specs.Streams.{opening_in, check_streams, output_counted, output_granted, ask_output, open_output_unless, open_output, open_file}
 use Rattle.awk_semantics.specs.Meaning.{outputs_after}
-use Rattle.awk_semantics.specs.Order.{OutputBrought, with_number, Meets, first_stage}
+use Rattle.awk_semantics.specs.Order.{OutputBrought, first_stage}
 use Rattle.awk_runtime.specs.declared.runtime.Runtime.{Runtime}
 use Rattle.awk_runtime.specs.support.Simulation.{main_number, stage_of, StreamsRelation, StateRelation, ResultRelation, SimulatesLogged, Beside, halted}
 use Rattle.awk_runtime.specs.support.Printing.{standard_named, TargetOpened, TargetTold, OpensTarget}
@@ -130,12 +127,14 @@ output_made kind name mode to {old = old} {new = new} {before = before} {after =
         let n : length (printed_openings before old.streams) ≡ s.outputs = ap (λ (os : List Opening). length os) stands.streams.printed ∙ sym stands.streams.outputs in
         let few : nat_le most_streams (length s.streams) ≡ false = lt-leb most_streams (length s.streams) (let same : length old.streams.named ≡ length s.streams = as_many oracle before.log old.streams.named s.streams stands.streams.are.named in let below = g.asks.few in omega arith) in
         let answer = output_answer oracle kind name old.streams before s past stands.streams ∙ (ap (λ (i : ℕ). oracle.output kind name i) (stands.streams.output_openings kind name) ∙ g.granted oracle consistent) in
-        subst (λ (o : Out ℕ). ResultRelation oracle new after (Ok (length (printed_openings before old.streams))) o past) (sym (output_as_asked kind name mode s true (g.asks.lacks oracle s.streams stands.streams.are.named) few answer))
-        (ap (λ (i : ℕ). Ok i) (sym n), record {
-          clear = told.failure ∙ stands.clear;
-          streams = granted_stands oracle kind name mode to old.streams new.streams before after s past told.main (told.main_rest oracle s.main stands.streams.are.main) g stands.streams;
-          holds = own_at new s s.openings _ (suc s.outputs) s.closings s.runs s.main _ (beside_holds beside stands.holds);
-        });
+        subst (λ (o : Out ℕ). ResultRelation oracle new after (Ok (length (printed_openings before old.streams))) o past) (sym (output_as_asked kind name mode s true (g.asks.lacks oracle s.streams stands.streams.are.named) few answer)) (
+          ap (λ (i : ℕ). Ok i) (sym n),
+          record {
+            clear = told.failure ∙ stands.clear;
+            streams = granted_stands oracle kind name mode to old.streams new.streams before after s past told.main (told.main_rest oracle s.main stands.streams.are.main) g stands.streams;
+            holds = own_at new s s.openings _ (suc s.outputs) s.closings s.runs s.main _ (beside_holds beside stands.holds);
+          },
+        );
   };
 }
 
@@ -145,12 +144,14 @@ output_refused kind name mode {old = old} {new = new} {before = before} {after =
   means = λ oracle s past consistent stands.
       let few : nat_le most_streams (length s.streams) ≡ false = lt-leb most_streams (length s.streams) (let same : length old.streams.named ≡ length s.streams = as_many oracle before.log old.streams.named s.streams stands.streams.are.named in let below = g.asks.few in omega arith) in
       let answer = output_answer oracle kind name old.streams before s past stands.streams ∙ (ap (λ (i : ℕ). oracle.output kind name i) (stands.streams.output_openings kind name) ∙ g.refused oracle consistent) in
-      subst (λ (o : Out ℕ). ResultRelation oracle new after (Err (halt.Fault faults.OutputNotOpened)) o past) (sym (output_as_asked kind name mode s false (g.asks.lacks oracle s.streams stands.streams.are.named) few answer))
-      (refl, record {
-        clear = told.failure ∙ stands.clear;
-        streams = refused_stands oracle kind name mode old.streams new.streams before after s past told.main (told.main_rest oracle s.main stands.streams.are.main) g stands.streams;
-        holds = own_at new s s.openings _ s.outputs s.closings s.runs s.main s.streams (beside_holds beside stands.holds);
-      });
+      subst (λ (o : Out ℕ). ResultRelation oracle new after (Err (halt.Fault faults.OutputNotOpened)) o past) (sym (output_as_asked kind name mode s false (g.asks.lacks oracle s.streams stands.streams.are.named) few answer)) (
+        refl,
+        record {
+          clear = told.failure ∙ stands.clear;
+          streams = refused_stands oracle kind name mode old.streams new.streams before after s past told.main (told.main_rest oracle s.main stands.streams.are.main) g stands.streams;
+          holds = own_at new s s.openings _ s.outputs s.closings s.runs s.main s.streams (beside_holds beside stands.holds);
+        },
+      );
 }
 
 output_full : (kind : OutputKind) (name : List ℕ) (mode : Mode) {old new : Runtime} {before after : WorldState} → Beside old new → Grows before after → IsFullOfOutputs kind name before old.streams after new.streams → SimulatesLogged old before new after (Err (halt.Fault faults.TooManyStreams)) (open_output kind name mode)

@@ -1,5 +1,5 @@
 -- What printing does to the state of a run.
-use Rattle.std.proofs.Common.{rules, ◌≡◌, ◌==◌, true, ℕ, List, [], ◌∷◌, ◌++◌, length, Option, Some, None, Result, Ok, Err, IfErr, inl, inr, refl, sym, ap, ◌∙◌, subst, arith}
+use Rattle.std.proofs.Common.{rules, ◌≡◌, ◌==◌, true, ℕ, List, [], ◌∷◌, ◌++◌, length, Option, Some, Result, Ok, Err, IfErr, inl, inr, refl, sym, ap, ◌∙◌, subst, arith}
 use Rattle.awk_value.specs.declared.value.Value.{Value}
 use Rattle.awk_value.specs.Values.{str_of}
 use Rattle.awk_channels.specs.declared.fault.StreamFault.{StreamFault}
@@ -18,7 +18,7 @@ use Rattle.awk_channels.specs.NamedOutputs.{Prints}
 use Rattle.awk_semantics.specs.declared.halt.Halt.{Halt}
 use Rattle.awk_semantics.specs.declared.halt.Halt.TheVariants as halt
 use Rattle.awk_semantics.specs.declared.fault.Fault.TheVariants as faults
-use Rattle.awk_semantics.specs.State.{Effect, Printed, State, Out, Run, ◌>>=◌, lift, ret}
+use Rattle.awk_semantics.specs.State.{Effect, Printed, State, Run, ◌>>=◌, lift, ret}
 use Rattle.awk_semantics.specs.Results.{sort_of, YieldsBy}
 use Rattle.awk_semantics.specs.Operators.{line_of}
 use Rattle.awk_semantics.specs.Primitives.{print_bytes, print_line, format_values}
@@ -27,7 +27,7 @@ use Rattle.awk_semantics.specs.Order.{AreBetween, GoesBetween, first_stage}
 use Rattle.awk_variables.specs.declared.special.Special.TheVariants.{Ofs, Ors}
 use Rattle.awk_variables.specs.Variables.{value_of, name_of}
 use Rattle.awk_runtime.specs.declared.runtime.Runtime.{Runtime}
-use Rattle.awk_runtime.specs.support.Simulation.{OwnRelation, main_number, stage_of, StreamsRelation, StateRelation, FailureRelation, FailedLast, ResultRelation, SimulatesLogged, Changes, Follows, Beside, SameState, halted}
+use Rattle.awk_runtime.specs.support.Simulation.{OwnRelation, main_number, stage_of, StreamsRelation, StateRelation, FailureRelation, ResultRelation, SimulatesLogged, Changes, Follows, Beside, SameState, halted}
 use Rattle.awk_runtime.specs.support.Printing.{PrintsTo, OpensTarget}
 use Rattle.awk_runtime.proofs.Composition.{then_logged, ends_logged, lift_logged, memory_changes}
 use Rattle.awk_runtime.proofs.Effects.{turn_between}
@@ -70,11 +70,14 @@ shown oracle to bytes old new before after s past told stands = record {
 print_comes : (to : Target) (bytes : List ℕ) {old new : Runtime} {before after : WorldState} → Beside old new → (told : Prints to bytes before old.streams (Ok tt) after new.streams)
     → (oracle : Oracle) (s : State) (past : List Effect) → StateRelation oracle old before s past → ResultRelation oracle new after (Ok tt) (print_bytes told.opening bytes s) past
 unfolding print_bytes
-print_comes to bytes {old = old} {new = new} {before = before} {after = after} beside told oracle s past stands = (refl, record {
-  clear = told.failure ∙ stands.clear;
-  streams = shown oracle to bytes old.streams new.streams before after s past told stands.streams;
-  holds = beside_holds beside stands.holds;
-})
+print_comes to bytes {old = old} {new = new} {before = before} {after = after} beside told oracle s past stands = (
+  refl,
+  record {
+    clear = told.failure ∙ stands.clear;
+    streams = shown oracle to bytes old.streams new.streams before after s past told stands.streams;
+    holds = beside_holds beside stands.holds;
+  },
+)
 
 -- a print that a failure broke off
 print_fails : {failure : Type 0} (to : Target) (bytes : List ℕ) (fault : StreamFault) {old new : Runtime} {before after : WorldState} → (told : Prints to bytes before old.streams (Err fault) after new.streams) → failure

@@ -1,30 +1,27 @@
 -- Requests that are met where outputs were brought before, and what failures leave of the outputs.
-use Rattle.std.proofs.Common.{◌≡◌, ◌⊎◌, ◌<◌, ◌≤◌, ◌+◌, ℕ, zero, suc, Bool, true, false, List, [], ◌∷◌, ◌++◌, length, Option, Some, None, Result, Ok, Err, inl, inr, refl, sym, ap, ◌∙◌, subst, arith, append-nil, length-append}
+use Rattle.std.proofs.Common.{◌≡◌, ℕ, zero, suc, Bool, true, false, List, [], ◌∷◌, ◌++◌, length, Option, Result, Err, refl, sym, ap, ◌∙◌, subst, append-nil}
 use Rattle.std.specs.Global.{Vec}
 use Rattle.awk_world.specs.declared.world.InputKind.{InputKind}
 use Rattle.awk_world.specs.declared.world.OutputKind.{OutputKind}
-use Rattle.awk_channels.specs.declared.input.Input.{Input}
 use Rattle.awk_channels.specs.declared.named.NamedStream.{NamedStream}
-use Rattle.awk_channels.specs.declared.named.NamedStream.TheVariants as named
 use Rattle.awk_channels.specs.Log.{Event, OpenedInput, OpenedOutput, Read, Ended, Broke, Wrote, Flushed, Closed, Ran}
 use Rattle.awk_channels.specs.WorldState.{WorldState, FailsNow, MayFailNow}
 use Rattle.awk_channels.specs.Oracle.{Oracle, Source}
 use Rattle.awk_channels.specs.Writes.{GoesOn}
-use Rattle.awk_channels.specs.Openings.{Opening, Named, Begins, AreBrought}
+use Rattle.awk_channels.specs.Openings.{Opening, Begins, AreBrought}
 use Rattle.awk_channels.specs.Grows.{Grows}
 use Rattle.awk_channels.specs.Named as words
-use Rattle.awk_channels.specs.Streams.{StreamsView, StandFor, numbered, printed_openings, AreBringing, Brings, BringsIf}
-use Rattle.awk_channels.specs.NamedOutputs.{LosesBytes}
+use Rattle.awk_channels.specs.Streams.{StreamsView, StandFor, printed_openings, AreBringing, BringsIf}
 use Rattle.awk_functions.specs.declared.formats.Formats.{Formats}
 use Rattle.awk_semantics.specs.declared.halt.Halt.{Halt}
 use Rattle.awk_semantics.specs.declared.halt.Halt.TheVariants as halt
 use Rattle.awk_semantics.specs.declared.fault.Fault.TheVariants as faults
 use Rattle.awk_semantics.specs.State.{Request, Effect, Printed, Requested, State, Out, Run}
-use Rattle.awk_semantics.specs.Meaning.{with_bytes, outputs_asked, outputs_from, first_outputs, outputs_after, Asked, requests_from}
-use Rattle.awk_semantics.specs.Order.{Stage, AreBetween, GoesBetween, Meets, MeetsAll, first_stage}
+use Rattle.awk_semantics.specs.Meaning.{with_bytes, outputs_asked, first_outputs, outputs_after, Asked, requests_from}
+use Rattle.awk_semantics.specs.Order.{Stage, AreBetween, GoesBetween, Meets, MeetsAll}
 use Rattle.awk_semantics.proofs.Requests.{goes-self, meets_append, requests-append}
 use Rattle.awk_runtime.specs.declared.runtime.Runtime.{Runtime}
-use Rattle.awk_runtime.specs.support.Simulation.{OwnRelation, main_number, stage_of, StreamsRelation, StateRelation, FailureRelation, FailedLast, ResultRelation, SimulatesLogged, Simulates, Beside}
+use Rattle.awk_runtime.specs.support.Simulation.{OwnRelation, main_number, stage_of, StreamsRelation, StateRelation, ResultRelation, SimulatesLogged, Beside}
 use Rattle.awk_runtime.proofs.Effects.{outputs-append, begins-then, begins_still}
 use Rattle.awk_runtime.proofs.Steps.{beside_holds}
 

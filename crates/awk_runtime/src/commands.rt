@@ -1,1 +1,50 @@
-// Closings and runs of commands.
+// Closings, runs of commands, and the end of a run.
+
+ghost use Rattle.std.specs.Prelude.{IfErr};
+ghost use Rattle.awk_value.specs.Values.{str_of};
+ghost use Rattle.awk_channels.specs.Outputs.{IsOutputFault};
+ghost use Rattle.awk_semantics.specs.Streams.{close_named, run_command};
+ghost use Rattle.awk_runtime.specs.support.Simulation.{IsReady, Follows};
+ghost use Rattle.awk_runtime.specs.support.Endings.{EndsRun};
+
+use crate::runtime::Runtime;
+use awk_channels::{StreamFault, World};
+use awk_semantics::Halt;
+use awk_value::{Value, text_of};
+
+impl Runtime {
+    /// Closes the files and commands of a name, once all outputs are flushed. Gives 0 for a file, the world's number for a
+    /// command, and -1 where none is open. The faults are F1 and F2. (POSIX awk, Input/Output and General Functions: close)
+    pub fn close_named<W: World>(&mut self, world: &mut W, name: &Value) -> Result<i128, Halt>
+        requires ready { IsReady W.is_logged (W.state world.old) self.old.streams }
+        ensures ready { IsReady W.is_logged (W.state world.new) self.new.streams }
+        ensures follows { Follows W.is_logged (close_named (str_of name.now)) self.old (W.state world.old) self.new
+            (W.state world.new) result }
+    {
+        let name = text_of(self.alloc, name)?;
+        Ok(self.streams.close(world, name.as_slice())?)
+    }
+
+    /// Runs a command to its end, once all outputs are flushed, and gives the world's number. The faults are F1 and F2. (POSIX
+    /// awk, Input/Output and General Functions: system)
+    pub fn run_command<W: World>(&mut self, world: &mut W, command: &Value) -> Result<i128, Halt>
+        requires ready { IsReady W.is_logged (W.state world.old) self.old.streams }
+        ensures ready { IsReady W.is_logged (W.state world.new) self.new.streams }
+        ensures follows { Follows W.is_logged (run_command (str_of command.now)) self.old (W.state world.old) self.new
+            (W.state world.new) result }
+    {
+        let command = text_of(self.alloc, command)?;
+        Ok(self.streams.run(world, command.as_slice())?)
+    }
+
+    /// Ends a run: flushes all outputs, going on behind a failure, and closes all streams in the order of their openings. The
+    /// first failure is answered, F1 or F2. Takes no memory of its own. (POSIX awk, Overall Program Structure)
+    pub fn finish<W: World>(&mut self, world: &mut W) -> Result<(), StreamFault>
+        requires ready { IsReady W.is_logged (W.state world.old) self.old.streams }
+        ensures ready { IsReady W.is_logged (W.state world.new) self.new.streams }
+        ensures fault { IfErr result IsOutputFault }
+        ensures ends { W.is_logged → EndsRun self.old (W.state world.old) result (W.state world.new) }
+    {
+        self.streams.finish(world)
+    }
+}

@@ -1,1 +1,167 @@
-// Main records.
+// Where the main records come from.
+
+ghost use Rattle.std.specs.Prelude.{◌≡◌, ◌≢◌, [], None};
+ghost use Rattle.awk_semantics.specs.Streams.{take_record};
+ghost use Rattle.awk_semantics.specs.Inputs.{path_of, main_record, first_record};
+ghost use Rattle.awk_semantics.specs.Inputs.{operand_record, standard_record, search_operands, next_record};
+ghost use Rattle.awk_runtime.specs.support.Simulation.{IsReady, Follows};
+ghost use Rattle.awk_runtime.specs.support.Inputs.{ClosesMainInput, OpensMainInput, Seeks};
+
+use crate::operands::{OperandForm, form_of};
+use crate::runtime::Runtime;
+use awk_channels::{InputKind, World};
+use awk_semantics::Halt;
+use awk_value::{Bytes, text_of};
+use awk_variables::Special;
+
+// The path of an input; standard input has none.
+fn path_of(kind: InputKind, name: &Bytes) -> &[u8]
+    ensures path { result.now ≡ path_of kind name.now }
+    ensures standard { kind ≡ InputKind.Standard → result.now ≡ [] }
+{
+    match kind {
+        InputKind::Standard => b"",
+        InputKind::File | InputKind::Command => name.as_slice(),
+    }
+}
+
+impl Runtime {
+    /// The next main record, from the elements of ARGV in turn, or from standard input for want of a file operand. `None`
+    /// where no record is left. The faults are F1, F9, F15 and F16, and those of an operand that assigns. (POSIX awk, OPERANDS
+    /// and INPUT FILES)
+    pub fn next_record<W: World>(&mut self, world: &mut W) -> Result<Option<Bytes>, Halt>
+        requires ready { IsReady W.is_logged (W.state world.old) self.old.streams }
+        ensures ready { IsReady W.is_logged (W.state world.new) self.new.streams }
+        ensures follows { Follows W.is_logged next_record self.old (W.state world.old) self.new (W.state world.new) result }
+    {
+        match self.main_record(world)? {
+            Some(text) => Ok(Some(text)),
+            None => self.search_operands(world),
+        }
+    }
+
+    // Looks at the elements of ARGV in turn, until one leads to a record.
+    fn search_operands<W: World>(&mut self, world: &mut W) -> Result<Option<Bytes>, Halt>
+        requires none { self.old.streams.main ≡ None }
+        requires ready { IsReady W.is_logged (W.state world.old) self.old.streams }
+        ensures ready { IsReady W.is_logged (W.state world.new) self.new.streams }
+        ensures seeks { Seeks W.is_logged search_operands self.old (W.state world.old) self.new (W.state world.new) result }
+    {
+        while let Some(word) = self.take_argument()? {
+            self.spend()?;
+            if let Some(text) = self.operand_record(world, word)? {
+                return Ok(Some(text));
+            }
+        }
+        self.standard_record(world)
+    }
+
+    // The first record of standard input, unless a main input was found.
+    fn standard_record<W: World>(&mut self, world: &mut W) -> Result<Option<Bytes>, Halt>
+        requires none { self.old.streams.main ≡ None }
+        requires ready { IsReady W.is_logged (W.state world.old) self.old.streams }
+        ensures ready { IsReady W.is_logged (W.state world.new) self.new.streams }
+        ensures seeks { Seeks W.is_logged standard_record self.old (W.state world.old) self.new (W.state world.new) result }
+    {
+        if self.input_seen {
+            return Ok(None);
+        }
+        let name = Bytes::from_slice(self.alloc, b"")?;
+        self.first_record(world, InputKind::Standard, name)
+    }
+
+    // The first record that an element of ARGV leads to, if it leads to one.
+    fn operand_record<W: World>(
+        &mut self,
+        world: &mut W,
+        word: Bytes,
+    ) -> Result<Option<Bytes>, Halt>
+        requires none { self.old.streams.main ≡ None }
+        requires ready { IsReady W.is_logged (W.state world.old) self.old.streams }
+        ensures ready { IsReady W.is_logged (W.state world.new) self.new.streams }
+        ensures seeks { Seeks W.is_logged (operand_record word) self.old (W.state world.old) self.new (W.state world.new) result }
+    {
+        let bytes = word.as_slice();
+        match form_of(bytes) {
+            OperandForm::Nothing => Ok(None),
+            OperandForm::Assignment(len) => {
+                self.assign_text(&bytes[..len], &bytes[len + 1..])?;
+                Ok(None)
+            }
+            OperandForm::StandardInput => self.first_record(world, InputKind::Standard, word),
+            OperandForm::File => self.first_record(world, InputKind::File, word),
+        }
+    }
+
+    // Opens a main input under a name, and takes its first record.
+    fn first_record<W: World>(
+        &mut self,
+        world: &mut W,
+        kind: InputKind,
+        name: Bytes,
+    ) -> Result<Option<Bytes>, Halt>
+        requires none { self.old.streams.main ≡ None }
+        requires plain { kind ≢ InputKind.Command }
+        requires ready { IsReady W.is_logged (W.state world.old) self.old.streams }
+        ensures ready { IsReady W.is_logged (W.state world.new) self.new.streams }
+        ensures seeks { Seeks W.is_logged (first_record kind name) self.old (W.state world.old) self.new (W.state world.new) result }
+    {
+        self.open_main(world, kind, path_of(kind, &name))?;
+        self.begin_input(name)?;
+        self.main_record(world)
+    }
+
+    // The next record of the main input, which is closed at its end.
+    fn main_record<W: World>(&mut self, world: &mut W) -> Result<Option<Bytes>, Halt>
+        requires ready { IsReady W.is_logged (W.state world.old) self.old.streams }
+        ensures ready { IsReady W.is_logged (W.state world.new) self.new.streams }
+        ensures seeks { Seeks W.is_logged main_record self.old (W.state world.old) self.new (W.state world.new) result }
+    {
+        match self.take_record(world)? {
+            Some(text) => Ok(Some(text)),
+            None => {
+                self.close_main(world);
+                Ok(None)
+            }
+        }
+    }
+
+    // The next record of the main input, by RS. `None` at its end, and where none is open.
+    fn take_record<W: World>(&mut self, world: &mut W) -> Result<Option<Bytes>, Halt>
+        requires ready { IsReady W.is_logged (W.state world.old) self.old.streams }
+        ensures ready { IsReady W.is_logged (W.state world.new) self.new.streams }
+        ensures follows { Follows W.is_logged take_record self.old (W.state world.old) self.new (W.state world.new) result }
+    {
+        if !self.streams.has_main() {
+            return Ok(None);
+        }
+        let separator = text_of(self.alloc, self.specials.special(Special::Rs))?;
+        Ok(self.streams.next_main(world, separator.as_slice())?)
+    }
+
+    // Opens a main input; standard input has no path.
+    fn open_main<W: World>(
+        &mut self,
+        world: &mut W,
+        kind: InputKind,
+        path: &[u8],
+    ) -> Result<(), Halt>
+        requires none { self.old.streams.main ≡ None }
+        requires plain { kind ≢ InputKind.Command }
+        requires named { kind ≡ InputKind.Standard → path.now ≡ [] }
+        requires ready { IsReady W.is_logged (W.state world.old) self.old.streams }
+        ensures ready { IsReady W.is_logged (W.state world.new) self.new.streams }
+        ensures opens { OpensMainInput W.is_logged kind path.now self.old (W.state world.old) self.new (W.state world.new) result }
+    {
+        Ok(self.streams.open_main(world, kind, path)?)
+    }
+
+    // Closes the main input, if one is open.
+    fn close_main<W: World>(&mut self, world: &mut W)
+        requires ready { IsReady W.is_logged (W.state world.old) self.old.streams }
+        ensures ready { IsReady W.is_logged (W.state world.new) self.new.streams }
+        ensures closes { ClosesMainInput W.is_logged self.old (W.state world.old) self.new (W.state world.new) }
+    {
+        self.streams.close_main(world);
+    }
+}

@@ -8,6 +8,7 @@ mod fields;
 mod getlines;
 mod inputs;
 mod names;
+mod operands;
 mod operators;
 mod outputs;
 mod places;

@@ -1,0 +1,291 @@
+-- What closings, runs of commands and the end of a run do to the state of a run.
+use Rattle.std.proofs.Common.{◌≡◌, ◌+◌, ◌==◌, ℕ, suc, ℤ, pos, negsuc, Bool, true, false, List, [], ◌∷◌, ◌++◌, length, map, cond, Option, Some, None, Result, Ok, Err, if◌then◌else◌, refl, sym, ap, ◌∙◌, subst, arith, append-nil, append_assoc}
+use Rattle.std.specs.Prelude.{filter, bytes_eq}
+use Rattle.awk_world.specs.declared.world.InputKind.{InputKind}
+use Rattle.awk_world.specs.declared.world.OutputKind.{OutputKind}
+use Rattle.awk_channels.specs.declared.fault.StreamFault.{StreamFault}
+use Rattle.awk_channels.specs.declared.fault.StreamFault.TheVariants.{Memory, WriteFailed, InputNotReadable, OutputNotOpened, TooManyStreams, SeparatorTooLong, RecordTooLong}
+use Rattle.awk_channels.specs.declared.input.Input.{Input}
+use Rattle.awk_channels.specs.declared.named.NamedStream.{NamedStream}
+use Rattle.awk_channels.specs.declared.named.NamedStream.TheVariants as named
+use Rattle.awk_channels.specs.WorldState.{WorldState}
+use Rattle.awk_channels.specs.Log.{Event, Closed, Ran}
+use Rattle.awk_channels.specs.Oracle.{Oracle, IsConsistent, one_if, how_many, closes_command}
+use Rattle.awk_channels.specs.Openings.{Opening, AreFlushed, AreBrought, is_flushed, openings}
+use Rattle.awk_channels.specs.Grows.{Grows}
+use Rattle.awk_channels.specs.Named as words
+use Rattle.awk_channels.specs.Streams.{StreamsView, StandFor, numbered, printed_openings}
+use Rattle.awk_channels.specs.MainInput.{closed_main}
+use Rattle.awk_channels.specs.Commands.{closing_answer, ClosesStream, ClosesEach, BringsAll, names_called, all_names, ClosesNames, ClosesText, RanCommand, RunsCommand, EndsAll, Finishes}
+use Rattle.awk_semantics.specs.State.{Closes, Runs, Ends, Effect, Requested, State, Out, ◌>>=◌, go_on, ret}
+use Rattle.awk_semantics.specs.Streams.{has_the_name, without_stream, closed_by, close_stream, streams_named, close_each, close_named, run_command}
+use Rattle.awk_semantics.specs.Meaning.{closings_of, outputs_from, first_outputs, outputs_after}
+use Rattle.awk_semantics.specs.Order.{AreBetween, ClosesAs, first_stage}
+use Rattle.awk_runtime.specs.declared.runtime.Runtime.{Runtime}
+use Rattle.awk_runtime.specs.support.Simulation.{main_number, stage_of, StreamsRelation, StateRelation, ResultRelation, SimulatesLogged, Follows, Beside, halted}
+use Rattle.awk_runtime.specs.support.Endings.{effects_to_end, IsWhole, EndsRun}
+use Rattle.awk_runtime.proofs.Composition.{then_logged}
+use Rattle.awk_runtime.proofs.Effects.{turn_between, turn_requested, outputs-append}
+use Rattle.awk_runtime.proofs.Steps.{beside_holds}
+use Rattle.awk_runtime.proofs.Turns.{own_at, outputs_requested, goes_bringing, turn_brought, brought_as, memory_loses, write_loses, stage_same}
+use Rattle.awk_runtime.proofs.MainInput.{closes_stands}
+use Rattle.awk_runtime.proofs.NamedInputs.{between, beside_between, between_beside, ret_still}
+
+-- a run of a command
+
+ran_stands : (oracle : Oracle) (command : List ℕ) (answer : ℤ) (old new : StreamsView) (before after : WorldState) (s : State) (past : List Effect) → RanCommand command before old answer after new → StreamsRelation oracle old before s past
+    → StreamsRelation oracle new after (record s { runs = suc s.runs }) (past ++ Requested (Runs command) ∷ [])
+ran_stands oracle command answer old new before after s past told stands = record {
+  outside = stands.outside;
+  openings = λ k n. stands.openings k n ∙ sym (told.counts.inputs k n);
+  output_openings = λ k n. stands.output_openings k n ∙ sym (told.counts.outputs k n);
+  closings = stands.closings ∙ sym told.counts.closings;
+  runs = let one = told.counts.runs in let same = stands.runs in omega arith;
+  outputs = stands.outputs ∙ sym (ap (λ (os : List Opening). length os) (outputs_requested past (Runs command)));
+  are = told.same oracle s.main s.streams stands.are;
+  printed = told.printed ∙ (stands.printed ∙ sym (outputs_requested past (Runs command)));
+  turn = turn_brought oracle past (Runs command) first_stage (stage_of before.log old) (stage_of told.log old) (stage_of after.log new) stands.turn (goes_bringing before.log told.log old told.brings.only)
+      (brought_as oracle old before s past told.log stands told.brings.brought, (answer, stage_same after.log (Ran command answer ∷ told.log) (main_number new.main) (main_number old.main) (numbered new.named) (numbered old.named) told.adds (ap main_number told.main) told.numbers));
+}
+
+ran_comes : (oracle : Oracle) (command : List ℕ) (answer : ℤ) (new : Runtime) (after : WorldState) (s : State) (past : List Effect) → s.outside.running s.runs ≡ answer → StateRelation oracle new after (record s { runs = suc s.runs }) (past ++ Requested (Runs command) ∷ [])
+    → ResultRelation oracle new after (Ok answer) (run_command command s) past
+unfolding run_command
+ran_comes oracle command answer new after s past is stands = (ap (λ (x : ℤ). Ok x) is, stands)
+
+ran_logged : (command : List ℕ) (r : Result ℤ StreamFault) {old new : Runtime} {before after : WorldState} → Beside old new → RunsCommand command before old.streams r after new.streams → SimulatesLogged old before new after (halted r) (run_command command)
+ran_logged command (Ok answer) {old = old} {new = new} {before = before} {after = after} beside told = record {
+  grows = told.grows;
+  means = λ oracle s past consistent stands.
+      ran_comes oracle command answer new after s past (ap (λ (a : Oracle). a.running s.runs) stands.streams.outside ∙ (ap (λ (i : ℕ). oracle.running i) stands.streams.runs ∙ told.ran.answered oracle consistent)) (record {
+        clear = told.failure ∙ stands.clear;
+        streams = ran_stands oracle command answer old.streams new.streams before after s past told.ran stands.streams;
+        holds = own_at new s s.openings s.output_openings s.outputs s.closings (suc s.runs) s.main s.streams (beside_holds beside stands.holds);
+      });
+}
+ran_logged command (Err Memory) beside told = memory_loses (run_command command) told.grows told.ran.begins told.failure
+ran_logged command (Err WriteFailed) beside told = write_loses (run_command command) told.grows told.ran.begins told.failure
+ran_logged command (Err InputNotReadable) beside told = absurd told.ran
+ran_logged command (Err OutputNotOpened) beside told = absurd told.ran
+ran_logged command (Err TooManyStreams) beside told = absurd told.ran
+ran_logged command (Err SeparatorTooLong) beside told = absurd told.ran
+ran_logged command (Err RecordTooLong) beside told = absurd told.ran
+
+pub run_follows : {is_logged : Type 0} (command text : List ℕ) (r : Result ℤ StreamFault) {old new : Runtime} {before after : WorldState} → text ≡ command → Beside old new → (is_logged → RunsCommand text before old.streams r after new.streams) → Follows is_logged (run_command command) old before new after (halted r)
+run_follows {is_logged = is_logged} command text r {old = old} {new = new} {before = before} {after = after} named beside told =
+    subst (λ (l : List ℕ). Follows is_logged (run_command l) old before new after (halted r)) named (record {
+      simulates = record { steps = omega (arith, beside.steps); names = beside.names; told = λ t. ran_logged text r beside (told t) };
+    })
+
+-- all outputs are brought
+
+brought_stands : (oracle : Oracle) (old new : StreamsView) (before after : WorldState) (s : State) (past : List Effect) → BringsAll before old after new → StreamsRelation oracle old before s past → StreamsRelation oracle new after s (past ++ [])
+brought_stands oracle old new before after s past told stands = record {
+  outside = stands.outside;
+  openings = λ k n. stands.openings k n ∙ sym (told.counts.inputs k n);
+  output_openings = λ k n. stands.output_openings k n ∙ sym (told.counts.outputs k n);
+  closings = stands.closings ∙ sym told.counts.closings;
+  runs = stands.runs ∙ sym told.counts.runs;
+  outputs = stands.outputs ∙ ap (λ (l : List Effect). length (outputs_after l)) (sym (append-nil past));
+  are = told.same oracle s.main s.streams stands.are;
+  printed = told.printed ∙ (stands.printed ∙ ap (λ (l : List Effect). outputs_after l) (sym (append-nil past)));
+  turn = turn_between oracle past [] first_stage (stage_of before.log old) (stage_of after.log new) refl stands.turn (record {
+    events = (goes_bringing before.log after.log old told.brings.only).events;
+    log = (goes_bringing before.log after.log old told.brings.only).log;
+    between = subst (λ (m : Option Input). AreBetween (main_number old.main) (goes_bringing before.log after.log old told.brings.only).events (main_number m)) (sym told.main) (goes_bringing before.log after.log old told.brings.only).between;
+    streams = told.numbers;
+  });
+}
+
+-- a stream is closed
+
+closed_stands : (oracle : Oracle) (b : Bool) (x : words.Named) (answer : ℤ) (old new : StreamsView) (before after : WorldState) (s : State) (past : List Effect) → (told : ClosesStream x before old answer after new) → words.is_command x ≡ b → AreBrought (printed_openings before old) before.log
+    → StreamsRelation oracle old before s past → StreamsRelation oracle new after (record (without_stream x s) { closings = one_if b + s.closings }) (past ++ Requested (Closes x) ∷ [])
+closed_stands oracle b x answer old new before after s past told kind brought stands = record {
+  outside = stands.outside;
+  openings = λ k n. stands.openings k n ∙ sym (told.counts.inputs k n);
+  output_openings = λ k n. stands.output_openings k n ∙ sym (told.counts.outputs k n);
+  closings = ap (λ (i : ℕ). one_if b + i) stands.closings ∙ (ap (λ (c : Bool). one_if c + how_many closes_command before.log) (sym kind) ∙ sym told.counts.closings);
+  runs = stands.runs ∙ sym told.counts.runs;
+  outputs = stands.outputs ∙ sym (ap (λ (os : List Opening). length os) (outputs_requested past (Closes x)));
+  are = told.streams oracle s.main s.streams stands.are;
+  printed = told.printed ∙ (stands.printed ∙ sym (outputs_requested past (Closes x)));
+  turn = turn_requested oracle past (Closes x) first_stage (stage_of before.log old) (stage_of after.log new) stands.turn (
+    brought_as oracle old before s past before.log stands brought,
+    subst (λ (id : Option ℕ). ClosesAs x id (stage_of before.log old) (stage_of after.log new)) (sym told.number)
+        (told.told, stage_same after.log (Closed told.id told.told ∷ before.log) (main_number new.main) (main_number old.main) (numbered new.named) (words.without_number x (numbered old.named)) told.adds (ap main_number told.main) told.numbers),
+  );
+}
+
+closed_comes : (oracle : Oracle) (b : Bool) (x : words.Named) (answer : ℤ) (new : Runtime) (k : WorldState) (after : WorldState) (s : State) (past : List Effect) → closing_answer b oracle k.log ≡ answer → s.outside.closing s.closings ≡ oracle.closing (how_many closes_command k.log)
+    → StateRelation oracle new after (record (without_stream x s) { closings = one_if b + s.closings }) (past ++ Requested (Closes x) ∷ []) → ResultRelation oracle new after (Ok answer) (closed_by b x s) past
+closed_comes oracle true x answer new k after s past is outside stands = (ap (λ (i : ℤ). Ok i) (outside ∙ is), subst (λ (i : ℕ). StateRelation oracle new after (record (without_stream x s) { closings = i }) (past ++ Requested (Closes x) ∷ [])) (one_more s.closings) stands)
+  where
+    one_more : (n : ℕ) → 1 + n ≡ suc n
+    one_more n = omega arith
+closed_comes oracle false x answer new k after s past is outside stands = (ap (λ (i : ℤ). Ok i) is, subst (λ (i : ℕ). StateRelation oracle new after (record (without_stream x s) { closings = i }) (past ++ Requested (Closes x) ∷ [])) (no_more s.closings) stands)
+  where
+    no_more : (n : ℕ) → 0 + n ≡ n
+    no_more n = omega arith
+
+closed_logged : (x : words.Named) (answer : ℤ) {old new : Runtime} {before after : WorldState} → Beside old new → AreBrought (printed_openings before old.streams) before.log → ClosesStream x before old.streams answer after new.streams → SimulatesLogged old before new after (Ok answer) (close_stream x)
+unfolding close_stream
+closed_logged x answer {old = old} {new = new} {before = before} {after = after} beside brought told = record {
+  grows = told.grows;
+  means = λ oracle s past consistent stands.
+      closed_comes oracle (words.is_command x) x answer new before after s past (told.answered oracle consistent) (ap (λ (a : Oracle). a.closing s.closings) stands.streams.outside ∙ ap (λ (i : ℕ). oracle.closing i) stands.streams.closings) (record {
+        clear = told.no_failure ∙ stands.clear;
+        streams = closed_stands oracle (words.is_command x) x answer old.streams new.streams before after s past told refl brought stands.streams;
+        holds = own_at new s s.openings s.output_openings s.outputs (one_if (words.is_command x) + s.closings) s.runs s.main _ (beside_holds beside stands.holds);
+      });
+}
+
+-- streams are closed in turn
+
+each_logged : (zs : List words.Stream) (first answer : ℤ) {old new : Runtime} {before after : WorldState} → Beside old new → AreBrought (printed_openings before old.streams) before.log → ClosesEach (map words.named_of zs) first before old.streams answer after new.streams → SimulatesLogged old before new after (Ok answer) (close_each first zs)
+each_logged [] first answer {old = old} {new = new} {before = before} {after = after} beside brought told =
+    subst (λ (i : ℤ). SimulatesLogged old before new after (Ok answer) (ret i)) told.0 (ret_still answer beside told.2 told.1)
+each_logged (z ∷ zs) first answer {old = old} {new = new} {before = before} {after = after} beside brought told =
+    then_logged {mid = between old told.2} {between = told.1} (λ n. close_each n zs) (closed_logged (words.named_of z) told.0 (beside_between old told.2) brought told.3)
+    (each_logged zs told.0 answer (between_beside old told.2 new beside) (told.3.brought brought) told.4)
+
+-- the streams of a text
+
+called_by : (b : Bool) (y : words.Stream) (ys : List words.Stream) (x : words.Named) (xs : List words.Named) → words.named_of y ≡ x → map words.named_of ys ≡ xs → map words.named_of (cond b (y ∷ ys) ys) ≡ (if b then x ∷ xs else xs)
+called_by true y ys x xs e f = ap (λ (n : words.Named). n ∷ map words.named_of ys) e ∙ ap (λ (l : List words.Named). x ∷ l) f
+called_by false y ys x xs e f = f
+
+called_as : (a : Oracle) (log : List Event) (text : List ℕ) (xs : List NamedStream) (ys : List words.Stream) → StandFor a log xs ys → map words.named_of (filter (has_the_name text) ys) ≡ names_called text xs
+called_as a log text [] [] h = refl
+called_as a log text [] (y ∷ ys) h = absurd h
+called_as a log text (x ∷ xs) [] h = absurd h
+called_as a log text (named.Input k n i ∷ xs) (words.AnInput k' n' r ∷ ys) h =
+    ap (λ (m : List ℕ). map words.named_of (cond (bytes_eq m text) (words.AnInput k' n' r ∷ filter (has_the_name text) ys) (filter (has_the_name text) ys))) h.0.1
+    ∙ called_by (bytes_eq n text) (words.AnInput k' n' r) (filter (has_the_name text) ys) (words.Input k n) (names_called text xs) (ap (λ (j : InputKind). words.Input j n') h.0.0 ∙ ap (λ (m : List ℕ). words.Input k m) h.0.1) (called_as a log text xs ys h.1)
+called_as a log text (named.Output k n o ∷ xs) (words.AnOutput k' n' opening ∷ ys) h =
+    ap (λ (m : List ℕ). map words.named_of (cond (bytes_eq m text) (words.AnOutput k' n' opening ∷ filter (has_the_name text) ys) (filter (has_the_name text) ys))) h.0.1
+    ∙ called_by (bytes_eq n text) (words.AnOutput k' n' opening) (filter (has_the_name text) ys) (words.Output k n) (names_called text xs) (ap (λ (j : OutputKind). words.Output j n') h.0.0 ∙ ap (λ (m : List ℕ). words.Output k m) h.0.1) (called_as a log text xs ys h.1)
+called_as a log text (named.Input k n i ∷ xs) (words.AnOutput k' n' opening ∷ ys) h = absurd h.0
+called_as a log text (named.Output k n o ∷ xs) (words.AnInput k' n' r ∷ ys) h = absurd h.0
+
+close_named_as : (text : List ℕ) (s : State) → close_named text s ≡ close_each (negsuc 0) (filter (has_the_name text) s.streams) s
+unfolding close_named streams_named ◌>>=◌ go_on
+close_named_as text s = refl
+
+-- they are none, or they are closed
+names_logged : (text : List ℕ) (names : List words.Named) (answer : ℤ) {old new : Runtime} {before after : WorldState} → names_called text old.streams.named ≡ names → Beside old new → Grows before after → ClosesNames names before old.streams answer after new.streams
+    → (oracle : Oracle) (s : State) (past : List Effect) → IsConsistent oracle after.log → StateRelation oracle old before s past → ResultRelation oracle new after (Ok answer) (close_each (negsuc 0) (filter (has_the_name text) s.streams) s) past
+names_logged text [] answer {old = old} {new = new} {before = before} {after = after} none beside grows told oracle s past consistent stands =
+    let zs : List words.Stream = filter (has_the_name text) s.streams in
+    let empty : map words.named_of zs ≡ [] = called_as oracle before.log text old.streams.named s.streams stands.streams.are.named ∙ none in
+    none_closed zs empty told.0 (ret_still answer beside told.2 told.1)
+  where
+    none_closed : (zs : List words.Stream) → map words.named_of zs ≡ [] → answer ≡ negsuc 0 → SimulatesLogged old before new after (Ok answer) (ret answer) → ResultRelation oracle new after (Ok answer) (close_each (negsuc 0) zs s) past
+    none_closed [] e is h = subst (λ (i : ℤ). ResultRelation oracle new after (Ok answer) (ret i s) past) is (h.means oracle s past consistent stands)
+    none_closed (z ∷ zs) e is h = absurd (cc)
+names_logged text (x ∷ xs) answer {old = old} {new = new} {before = before} {after = after} is beside grows told oracle s past consistent stands =
+    let zs : List words.Stream = filter (has_the_name text) s.streams in
+    let names : map words.named_of zs ≡ x ∷ xs = called_as oracle before.log text old.streams.named s.streams stands.streams.are.named ∙ is in
+    let brought : AreBrought (printed_openings told.world told.streams) told.world.log = subst (λ (os : List Opening). AreBrought os told.world.log) (sym told.brings.printed) told.brings.brings.brought in
+    let closes = each_logged zs (negsuc 0) answer {old = between old told.streams} {new = new} (between_beside old told.streams new beside) brought (subst (λ (l : List words.Named). ClosesEach l (negsuc 0) told.world told.streams answer after new.streams) (sym names) told.closes) in
+    let before_them : StateRelation oracle (between old told.streams) told.world s past = record {
+      clear = told.brings.no_failure ∙ stands.clear;
+      streams = subst (λ (l : List Effect). StreamsRelation oracle told.streams told.world s l) (append-nil past) (brought_stands oracle old.streams told.streams before told.world s past told.brings stands.streams);
+      holds = beside_holds (beside_between old told.streams) stands.holds;
+    } in
+    closes.means oracle s past consistent before_them
+
+text_closed : (text : List ℕ) (r : Result ℤ StreamFault) {old new : Runtime} {before after : WorldState} → Beside old new → ClosesText text before old.streams r after new.streams → SimulatesLogged old before new after (halted r) (close_named text)
+text_closed text (Ok answer) {old = old} {new = new} {before = before} {after = after} beside told = record {
+  grows = told.grows;
+  means = λ oracle s past consistent stands. subst (λ (o : Out ℤ). ResultRelation oracle new after (Ok answer) o past) (sym (close_named_as text s))
+      (names_logged text (names_called text old.streams.named) answer refl beside told.grows told.closed oracle s past consistent stands);
+}
+text_closed text (Err Memory) beside told = memory_loses (close_named text) told.grows told.closed.begins told.failure
+text_closed text (Err WriteFailed) beside told = write_loses (close_named text) told.grows told.closed.begins told.failure
+text_closed text (Err InputNotReadable) beside told = absurd told.closed
+text_closed text (Err OutputNotOpened) beside told = absurd told.closed
+text_closed text (Err TooManyStreams) beside told = absurd told.closed
+text_closed text (Err SeparatorTooLong) beside told = absurd told.closed
+text_closed text (Err RecordTooLong) beside told = absurd told.closed
+
+pub close_follows : {is_logged : Type 0} (name text : List ℕ) (r : Result ℤ StreamFault) {old new : Runtime} {before after : WorldState} → text ≡ name → Beside old new → (is_logged → ClosesText text before old.streams r after new.streams) → Follows is_logged (close_named name) old before new after (halted r)
+close_follows {is_logged = is_logged} name text r {old = old} {new = new} {before = before} {after = after} named beside told =
+    subst (λ (l : List ℕ). Follows is_logged (close_named l) old before new after (halted r)) named (record {
+      simulates = record { steps = omega (arith, beside.steps); names = beside.names; told = λ t. text_closed text r beside (told t) };
+    })
+
+-- the end of a run
+
+flushed_by : (b flushed : Bool) → flushed ≡ true → (if b then true else flushed) ≡ true
+flushed_by true flushed e = refl
+flushed_by false flushed e = e
+
+flushed_closed : (i : ℕ) (answer : ℤ) (os : List (ℕ × Opening)) (log : List Event) → AreFlushed os log → AreFlushed os (Closed i answer ∷ log)
+flushed_closed i answer [] log h = tt
+flushed_closed i answer (o ∷ os) log h = (flushed_by (i == o.0) (is_flushed o.0 log) h.0, flushed_closed i answer os log h.1)
+
+-- a closing of the main input brings nothing more, and loses nothing
+main_brought : (main : Option Input) (answer : ℤ) (os : List Opening) (log log' : List Event) → log' ≡ closed_main main answer log → AreBrought os log → AreBrought os log'
+main_brought None answer os log log' is h = subst (λ (l : List Event). AreBrought os l) (sym is) h
+main_brought (Some v) answer os log log' is h = subst (λ (l : List Event). AreBrought os l) (sym is) (record { received = h.received; flushed = flushed_closed v.id answer (openings log) log h.flushed })
+
+ended_stands : (oracle : Oracle) (streams : StreamsView) (k : WorldState) (s : State) (past : List Effect) → AreBrought (printed_openings k streams) k.log → StreamsRelation oracle streams k s past → StreamsRelation oracle streams k s (past ++ Requested Ends ∷ [])
+ended_stands oracle streams k s past brought stands = record {
+  outside = stands.outside;
+  openings = stands.openings;
+  output_openings = stands.output_openings;
+  closings = stands.closings;
+  runs = stands.runs;
+  outputs = stands.outputs ∙ sym (ap (λ (os : List Opening). length os) (outputs_requested past Ends));
+  are = stands.are;
+  printed = stands.printed ∙ sym (outputs_requested past Ends);
+  turn = turn_requested oracle past Ends first_stage (stage_of k.log streams) (stage_of k.log streams) stands.turn (brought_as oracle streams k s past k.log stands brought, refl);
+}
+
+each_stands : (oracle : Oracle) (zs : List words.Stream) (first answer : ℤ) (old new : StreamsView) (before after : WorldState) (s : State) (past : List Effect) → AreBrought (printed_openings before old) before.log → ClosesEach (map words.named_of zs) first before old answer after new
+    → StreamsRelation oracle old before s past → (t : State) × StreamsRelation oracle new after t (past ++ closings_of zs)
+each_stands oracle [] first answer old new before after s past brought told stands =
+    (s, subst (λ (l : List Effect). StreamsRelation oracle new after s l) (sym (append-nil past)) (subst (λ (w : WorldState). StreamsRelation oracle new w s past) (sym told.1) (subst (λ (v : StreamsView). StreamsRelation oracle v before s past) (sym told.2) stands)))
+each_stands oracle (z ∷ zs) first answer old new before after s past brought told stands =
+    let x : words.Named = words.named_of z in
+    let rest = each_stands oracle zs told.0 answer told.2 new told.1 after (record (without_stream x s) { closings = one_if (words.is_command x) + s.closings }) (past ++ Requested (Closes x) ∷ []) (told.3.brought brought) told.4 (closed_stands oracle (words.is_command x) x told.0 old told.2 before told.1 s past told.3 refl brought stands) in
+    (rest.0, subst (λ (l : List Effect). StreamsRelation oracle new after rest.0 l) (append_assoc past (Requested (Closes x) ∷ []) (closings_of zs)) rest.1)
+
+all_as : (a : Oracle) (log : List Event) (xs : List NamedStream) (ys : List words.Stream) → StandFor a log xs ys → map words.named_of ys ≡ all_names xs
+all_as a log [] [] h = refl
+all_as a log [] (y ∷ ys) h = absurd h
+all_as a log (x ∷ xs) [] h = absurd h
+all_as a log (named.Input k n i ∷ xs) (words.AnInput k' n' r ∷ ys) h = ap (λ (j : InputKind). words.Input j n' ∷ map words.named_of ys) h.0.0 ∙ (ap (λ (m : List ℕ). words.Input k m ∷ map words.named_of ys) h.0.1 ∙ ap (λ (l : List words.Named). words.Input k n ∷ l) (all_as a log xs ys h.1))
+all_as a log (named.Output k n o ∷ xs) (words.AnOutput k' n' opening ∷ ys) h = ap (λ (j : OutputKind). words.Output j n' ∷ map words.named_of ys) h.0.0 ∙ (ap (λ (m : List ℕ). words.Output k m ∷ map words.named_of ys) h.0.1 ∙ ap (λ (l : List words.Named). words.Output k n ∷ l) (all_as a log xs ys h.1))
+all_as a log (named.Input k n i ∷ xs) (words.AnOutput k' n' opening ∷ ys) h = absurd h.0
+all_as a log (named.Output k n o ∷ xs) (words.AnInput k' n' r ∷ ys) h = absurd h.0
+
+outputs_closings : (os : List Opening) (zs : List words.Stream) → outputs_from os (closings_of zs) ≡ os
+outputs_closings os [] = refl
+outputs_closings os (z ∷ zs) = outputs_closings os zs
+
+ends_whole : (oracle : Oracle) (old new : StreamsView) (before after : WorldState) (s : State) (past : List Effect) → EndsAll before old after new → AreBrought (printed_openings before old) after.log → StreamsRelation oracle old before s past → IsWhole oracle (effects_to_end s past) after.log
+ends_whole oracle old new before after s past e received stands =
+    let over : List Effect = past ++ Requested Ends ∷ [] in
+    let brought : AreBrought (printed_openings e.world e.streams) e.world.log = subst (λ (os : List Opening). AreBrought os e.world.log) (sym e.brings.printed) e.brings.brings.brought in
+    let first : StreamsRelation oracle e.streams e.world s past = subst (λ (l : List Effect). StreamsRelation oracle e.streams e.world s l) (append-nil past) (brought_stands oracle old e.streams before e.world s past e.brings stands) in
+    let closed : StreamsRelation oracle e.streams' e.world' (record s { main = None }) over = subst (λ (l : List Effect). StreamsRelation oracle e.streams' e.world' (record s { main = None }) l) (append-nil over) (closes_stands oracle e.streams e.streams' e.world e.world' s over e.main (ended_stands oracle e.streams e.world s past brought first)) in
+    let still : AreBrought (printed_openings e.world' e.streams') e.world'.log = subst (λ (os : List Opening). AreBrought os e.world'.log) (sym e.main.printed) (main_brought e.streams.main e.main.adds.0 (printed_openings e.world e.streams) e.world.log e.world'.log e.main.adds.1 brought) in
+    let closes : ClosesEach (map words.named_of s.streams) (pos 0) e.world' e.streams' e.answer after new = subst (λ (l : List words.Named). ClosesEach l (pos 0) e.world' e.streams' e.answer after new) (sym (all_as oracle before.log old.named s.streams stands.are.named)) e.closes in
+    let rest = each_stands oracle s.streams (pos 0) e.answer e.streams' new e.world' after (record s { main = None }) over still closes closed in
+    let whole : StreamsRelation oracle new after rest.0 (effects_to_end s past) = subst (λ (l : List Effect). StreamsRelation oracle new after rest.0 l) (append_assoc past (Requested Ends ∷ []) (closings_of s.streams)) rest.1 in
+    record {
+      last = stage_of after.log new;
+      is = refl;
+      meets = whole.turn;
+      brought = subst (λ (os : List Opening). AreBrought os after.log) (stands.printed ∙ sym (outputs-append first_outputs past (Requested Ends ∷ closings_of s.streams) ∙ outputs_closings (outputs_after past) s.streams)) received;
+    }
+
+pub ends_run : (r : Result (Unit {0}) StreamFault) (m : Runtime) {before after : WorldState} {last : StreamsView} → Finishes before m.streams r after last → EndsRun m before r after
+ends_run (Ok tt) m {before = before} {after = after} {last = last} told = record {
+  last = last;
+  finishes = told;
+  whole = λ oracle s past consistent stands. ends_whole oracle m.streams last before after s past told.ends told.brought stands.streams;
+}
+ends_run (Err fault) m {last = last} told = record { last = last; finishes = told; whole = tt }
