@@ -19,5 +19,5 @@ mod variables;
 
 pub use names::{ProgramNames, add_name, array_names, function_names};
 pub use runtime::Runtime;
-pub use texts::PatternSource;
 pub use start::Assignment;
+pub use texts::PatternSource;

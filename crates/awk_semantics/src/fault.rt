@@ -4,10 +4,10 @@ ghost use Rattle.std.specs.Prelude.{◌≡◌};
 ghost use Rattle.awk_semantics.specs.definitions.Faults.{value_fault, record_fault, stream_fault, pattern_fault, variable_fault, format_fault, text_fault};
 ghost use Rattle.awk_semantics.specs.definitions.Outcome.{fault_text};
 
+use awk_channels::StreamFault;
 use awk_ere::PatternFault;
 use awk_fields::RecordFault;
 use awk_format::FormatFault;
-use awk_channels::StreamFault;
 use awk_text::TextFault;
 use awk_value::ValueFault;
 use awk_variables::VariableFault;

@@ -6,10 +6,10 @@ ghost use Rattle.awk_semantics.specs.declared.halt.Halt.TheVariants.{Fault as Fa
 ghost use Rattle.awk_semantics.specs.declared.fault.Fault.TheVariants.{OutOfMemory};
 
 use crate::fault::Fault;
+use awk_channels::StreamFault;
 use awk_ere::PatternFault;
 use awk_fields::RecordFault;
 use awk_format::FormatFault;
-use awk_channels::StreamFault;
 use awk_text::TextFault;
 use awk_value::ValueFault;
 use awk_variables::VariableFault;
