@@ -195,10 +195,10 @@ arrays_then (false ∷ ks) k = arrays_then ks k
 missing_more : (m : Runtime) (ks : List Bool) (k : Bool) → with_missing (k ∷ []) (with_missing ks m) ≡ with_missing (ks ++ k ∷ []) m
 missing_more m ks k =
     let arrays : (m.arrays ++ missing_arrays ks) ++ missing_arrays (k ∷ []) ≡ m.arrays ++ missing_arrays (ks ++ k ∷ []) =
-        append_assoc m.arrays (missing_arrays ks) (missing_arrays (k ∷ [])) ∙ ap (λ l. m.arrays ++ l) (sym (arrays_then ks k)) in
+    append_assoc m.arrays (missing_arrays ks) (missing_arrays (k ∷ [])) ∙ ap (λ l. m.arrays ++ l) (sym (arrays_then ks k)) in
     let staged : (m.frames.staged ++ missing_locals ks (length m.arrays)) ++ missing_locals (k ∷ []) (length (m.arrays ++ missing_arrays ks)) ≡ m.frames.staged ++ missing_locals (ks ++ k ∷ []) (length m.arrays) =
-        append_assoc m.frames.staged (missing_locals ks (length m.arrays)) (missing_locals (k ∷ []) (length (m.arrays ++ missing_arrays ks)))
-        ∙ ap (λ l. m.frames.staged ++ l) (ap (λ n. missing_locals ks (length m.arrays) ++ missing_locals (k ∷ []) n) (length-append m.arrays (missing_arrays ks)) ∙ sym (missing_then ks (length m.arrays) k)) in
+    append_assoc m.frames.staged (missing_locals ks (length m.arrays)) (missing_locals (k ∷ []) (length (m.arrays ++ missing_arrays ks)))
+    ∙ ap (λ l. m.frames.staged ++ l) (ap (λ n. missing_locals ks (length m.arrays) ++ missing_locals (k ∷ []) n) (length-append m.arrays (missing_arrays ks)) ∙ sym (missing_then ks (length m.arrays) k)) in
     ap (λ l. record m { arrays = l; frames = record { frames = m.frames.frames; staged = (m.frames.staged ++ missing_locals ks (length m.arrays)) ++ missing_locals (k ∷ []) (length (m.arrays ++ missing_arrays ks)) } }) arrays
     ∙ ap (λ l. record m { arrays = m.arrays ++ missing_arrays (ks ++ k ∷ []); frames = record { frames = m.frames.frames; staged = l } }) staged
 
@@ -246,40 +246,42 @@ entered_by m height before = record m { frames = record { frames = record { loca
 
 pub call_entered : (m : Runtime) (kinds : List Bool) (height : ℕ) → EntersCall kinds height m (entered_by (completed kinds m) height (length m.arrays)) (Ok tt)
 unfolding enter
-call_entered m kinds height = record { enters = λ parameters are. own_changes (enter parameters height m.frames.staged) refl refl (omega arith) (λ s h.
-  let n : length s.arrays ≡ length m.arrays = ap length h.arrays in
-  let given = m.frames.staged in
-  let locals : map (λ (l : List ℕ × Local). l.1) (bound parameters given (length s.arrays)) ≡ take (length kinds) given ++ missing_locals (drop (length given) kinds) (length m.arrays) =
+call_entered m kinds height = record {
+  enters = λ parameters are. own_changes (enter parameters height m.frames.staged) refl refl (omega arith) (λ s h.
+      let n : length s.arrays ≡ length m.arrays = ap length h.arrays in
+      let given = m.frames.staged in
+      let locals : map (λ (l : List ℕ × Local). l.1) (bound parameters given (length s.arrays)) ≡ take (length kinds) given ++ missing_locals (drop (length given) kinds) (length m.arrays) =
       bound_locals parameters given (length s.arrays)
       ∙ (ap (λ ks. take (length ks) given ++ missing_locals (drop (length given) ks) (length s.arrays)) are
       ∙ ap (λ k. take (length kinds) given ++ missing_locals (drop (length given) kinds) k) n) in
-  record {
-    result = Ok tt;
-    state = record s {
-      frames = record { locals = bound parameters given (length s.arrays); height = height; arrays_before = length s.arrays } ∷ s.frames;
-      arrays = s.arrays ++ made parameters given;
-    };
-    is = refl;
-    part = record { outside = refl; openings = refl; output_openings = refl; closings = refl; runs = refl; outputs = refl; main = refl; streams = refl };
-    matches = refl;
-    holds = record {
-      current = h.current;
-      specials = h.specials;
-      globals = h.globals;
-      slots = h.slots;
-      array_names = h.array_names;
-      function_names = h.function_names;
-      arrays = ap (λ l. l ++ made parameters given) h.arrays ∙ ap (λ l. m.arrays ++ l) (made_arrays parameters given ∙ ap (λ ks. missing_arrays (drop (length given) ks)) are);
-      frames = ap (λ l. record { frames = record { locals = l; height = height; arrays_before = length m.arrays } ∷ m.frames.frames; staged = [] }) (sym locals)
-          ∙ (ap (λ k. record { frames = record { locals = map (λ (l : List ℕ × Local). l.1) (bound parameters given (length s.arrays)); height = height; arrays_before = k } ∷ m.frames.frames; staged = [] }) (sym n)
-          ∙ ap (λ fs. record { frames = record { locals = map (λ (l : List ℕ × Local). l.1) (bound parameters given (length s.arrays)); height = height; arrays_before = length s.arrays } ∷ fs; staged = [] }) (ap (λ f. f.frames) h.frames));
-      next = h.next;
-      input_seen = h.input_seen;
-      inside = h.inside;
-      status = h.status;
-      steps = h.steps;
-    };
-  }) }
+      record {
+        result = Ok tt;
+        state = record s {
+          frames = record { locals = bound parameters given (length s.arrays); height = height; arrays_before = length s.arrays } ∷ s.frames;
+          arrays = s.arrays ++ made parameters given;
+        };
+        is = refl;
+        part = record { outside = refl; openings = refl; output_openings = refl; closings = refl; runs = refl; outputs = refl; main = refl; streams = refl };
+        matches = refl;
+        holds = record {
+          current = h.current;
+          specials = h.specials;
+          globals = h.globals;
+          slots = h.slots;
+          array_names = h.array_names;
+          function_names = h.function_names;
+          arrays = ap (λ l. l ++ made parameters given) h.arrays ∙ ap (λ l. m.arrays ++ l) (made_arrays parameters given ∙ ap (λ ks. missing_arrays (drop (length given) ks)) are);
+          frames = ap (λ l. record { frames = record { locals = l; height = height; arrays_before = length m.arrays } ∷ m.frames.frames; staged = [] }) (sym locals)
+              ∙ (ap (λ k. record { frames = record { locals = map (λ (l : List ℕ × Local). l.1) (bound parameters given (length s.arrays)); height = height; arrays_before = k } ∷ m.frames.frames; staged = [] }) (sym n)
+              ∙ ap (λ fs. record { frames = record { locals = map (λ (l : List ℕ × Local). l.1) (bound parameters given (length s.arrays)); height = height; arrays_before = length s.arrays } ∷ fs; staged = [] }) (ap (λ f. f.frames) h.frames));
+          next = h.next;
+          input_seen = h.input_seen;
+          inside = h.inside;
+          status = h.status;
+          steps = h.steps;
+        };
+      });
+}
 
 pub call_refused : (kinds : List Bool) (height : ℕ) {m new : Runtime} → Refused m new → EntersCall kinds height m new (Err (halt.Fault OutOfMemory))
 call_refused kinds height refused = record { enters = λ parameters are. memory_changes (enter parameters height _) refused.streams refused.names (omega (arith, refused.steps)) }

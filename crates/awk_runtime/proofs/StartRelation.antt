@@ -68,7 +68,6 @@ module _ (items : List Item) (naming : Naming) (start : StartValues) (oracle : O
 abbrev no_streams : StreamsView
 no_streams = record { main = None; output = []; error = []; named = [] }
 
-
 module _ (items : List Item) (start : StartValues) (oracle : Oracle) (limit : ℕ) (k : WorldState) (empty : k.log ≡ []) where
   fresh_streams : StreamsRelation oracle no_streams k (start_state items start oracle limit) []
   fresh_streams = record {
