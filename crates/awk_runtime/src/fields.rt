@@ -51,5 +51,4 @@ impl Runtime {
     {
         unreachable!()
     }
-
 }

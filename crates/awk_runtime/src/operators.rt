@@ -27,5 +27,4 @@ impl Runtime {
     {
         unreachable!()
     }
-
 }

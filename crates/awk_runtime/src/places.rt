@@ -26,24 +26,39 @@ impl Runtime {
     }
 
     /// Gives a place a value, or what an operator makes of its old value and of this one; gives what it then holds.
-    pub fn assign_by_at(&mut self, operator: Option<Operator>, place: Place, operand: &Value, value: Value) -> Result<Value, Halt>
+    pub fn assign_by_at(
+        &mut self,
+        operator: Option<Operator>,
+        place: Place,
+        operand: &Value,
+        value: Value,
+    ) -> Result<Value, Halt>
         ensures { Changes (assign_by_at self.old.names.scalars operator place operand.now value) self.old self.new result }
     {
         unreachable!()
     }
 
     /// Gives a place its number raised or lowered by 1; gives what it then holds.
-    pub fn pre_increment_at(&mut self, operator: IncrementOperator, place: Place, operand: &Value) -> Result<Value, Halt>
+    pub fn pre_increment_at(
+        &mut self,
+        operator: IncrementOperator,
+        place: Place,
+        operand: &Value,
+    ) -> Result<Value, Halt>
         ensures { Changes (assign_by_at self.old.names.scalars (Some (by_one operator)) place operand.now one) self.old self.new result }
     {
         unreachable!()
     }
 
     /// Gives a place its number raised or lowered by 1; gives the number that it had.
-    pub fn post_increment_at(&mut self, operator: IncrementOperator, place: Place, operand: &Value) -> Result<Value, Halt>
+    pub fn post_increment_at(
+        &mut self,
+        operator: IncrementOperator,
+        place: Place,
+        operand: &Value,
+    ) -> Result<Value, Halt>
         ensures { Changes (post_increment_at self.old.names.scalars operator place operand.now) self.old self.new result }
     {
         unreachable!()
     }
-
 }

@@ -75,5 +75,4 @@ impl Runtime {
     {
         unreachable!()
     }
-
 }
