@@ -185,54 +185,55 @@ fn first_readers(alloc: Global) -> Result<Readers, Halt>
     })
 }
 
-/// The values and the arrays before a run.
+/// What a state is made of before a run.
 #[derive(Drop)]
-struct Values {
-    specials: Variables,
+struct Parts {
+    readers: Readers,
     globals: Vec<Value>,
     arrays: Arrays,
+    specials: Variables,
 }
 
-/// The values and the arrays before a run. The only fault is want of memory.
-fn first_values(
+/// What a state is made of before a run. The only fault is want of memory.
+fn first_parts(
     alloc: Global,
     names: &ProgramNames,
     operands: &[Vec<u8>],
     environ: &[Assignment],
-) -> Result<Values, Halt>
+) -> Result<Parts, Halt>
+    ensures text { IfOk result (λ v. v.readers.current.text ≡ []) }
+    ensures fields { IfOk result (λ v. v.readers.current.fields ≡ []) }
+    ensures streams { IfOk result (λ v. v.readers.streams ≡ record { main = None; output = []; error = []; named = [] }) }
     ensures specials { IfOk result (λ v. (x : List ℕ) → value_of v.specials x ≡ initial_value (suc (length operands.now)) x) }
     ensures slots { IfOk result (λ v. length v.globals.items ≡ length names.now.scalars) }
     ensures nothing { IfOk result (λ v. (i : ℕ) → get_or v.globals.items i Nothing ≡ Nothing) }
     ensures arrays { IfOk result (λ v. v.arrays ≡ first_arrays (start_of operands.now environ.now) names.now.arrays) }
     ensures memory { IfErr result IsWantOfMemory }
 {
+    let readers = first_readers(alloc)?;
     let globals = unassigned(alloc, names.scalar_count())?;
     let arrays = first_arrays(alloc, names, operands, environ)?;
     let specials = first_specials(alloc, operands.len())?;
-    Ok(Values {
-        specials,
+    Ok(Parts {
+        readers,
         globals,
         arrays,
+        specials,
     })
 }
 
 /// A state of these parts, in which nothing was done.
-fn put_together(
-    alloc: Global,
-    names: ProgramNames,
-    values: Values,
-    readers: Readers,
-    limit: u64,
-) -> Runtime
-    ensures { IsPutTogether names values readers limit result }
+fn put_together(alloc: Global, names: ProgramNames, parts: Parts, limit: u64) -> Runtime
+    ensures { IsPutTogether names parts limit result }
 {
+    let readers = parts.readers;
     Runtime {
         alloc,
         names,
         current: readers.current,
-        specials: values.specials,
-        globals: values.globals,
-        arrays: values.arrays,
+        specials: parts.specials,
+        globals: parts.globals,
+        arrays: parts.arrays,
         frames: Frames::new(alloc),
         streams: readers.streams,
         patterns: readers.patterns,
@@ -261,8 +262,7 @@ impl Runtime {
         ensures memory { IfErr result IsWantOfMemory }
     {
         let _own = names.scalar_count();
-        let values = first_values(alloc, &names, operands, environ)?;
-        let readers = first_readers(alloc)?;
-        Ok(put_together(alloc, names, values, readers, limit))
+        let parts = first_parts(alloc, &names, operands, environ)?;
+        Ok(put_together(alloc, names, parts, limit))
     }
 }

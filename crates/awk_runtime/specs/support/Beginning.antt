@@ -6,8 +6,7 @@ use Rattle.awk_variables.specs.declared.special.Special.{Special}
 use Rattle.awk_variables.specs.Variables.{value_of, name_of, initial_value}
 use Rattle.awk_semantics.specs.Meaning.{StartValues, first_arrays}
 use Rattle.awk_runtime.specs.declared.start.Assignment.{Assignment}
-use Rattle.awk_runtime.specs.declared.start.Readers.{Readers}
-use Rattle.awk_runtime.specs.declared.start.Values.{Values}
+use Rattle.awk_runtime.specs.declared.start.Parts.{Parts}
 use Rattle.awk_runtime.specs.declared.runtime.Runtime.{Runtime}
 use Rattle.awk_runtime.specs.support.Naming.{Naming, AreOwn}
 
@@ -41,14 +40,14 @@ pub record IsStart (naming : Naming) (start : StartValues) (limit : ℕ) (m : Ru
   pub steps : m.steps ≡ limit
 
 -- the code's state of these parts, in which nothing was done
-pub record IsPutTogether (naming : Naming) (values : Values) (readers : Readers) (limit : ℕ) (m : Runtime) : Type 0 where
+pub record IsPutTogether (naming : Naming) (parts : Parts) (limit : ℕ) (m : Runtime) : Type 0 where
   pub names : m.names ≡ naming
-  pub current : m.current ≡ readers.current
-  pub specials : m.specials ≡ values.specials
-  pub globals : m.globals ≡ values.globals
-  pub arrays : m.arrays ≡ values.arrays
+  pub current : m.current ≡ parts.readers.current
+  pub specials : m.specials ≡ parts.specials
+  pub globals : m.globals ≡ parts.globals
+  pub arrays : m.arrays ≡ parts.arrays
   pub frames : m.frames ≡ record { frames = []; staged = [] }
-  pub streams : m.streams ≡ readers.streams
+  pub streams : m.streams ≡ parts.readers.streams
   pub next : m.next ≡ pos 1
   pub input_seen : m.input_seen ≡ false
   pub inside : m.inside.items ≡ []
