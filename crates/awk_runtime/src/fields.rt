@@ -75,7 +75,6 @@ impl Runtime {
         self.count_in(Special::Nr)?;
         self.count_in(Special::Fnr)
     }
-<<<<<<< HEAD
 
     /// The number of fields, as a value. The fault is F1. (POSIX awk, Variables and Special Variables: NF)
     pub(crate) fn field_count(&mut self) -> Result<Value, Halt>
@@ -93,6 +92,4 @@ impl Runtime {
         let separator = text_of(self.alloc, self.specials.special(Special::Ofs))?;
         Ok(self.current.set_count(count, separator)?)
     }
-=======
->>>>>>> e307edf26d18804d4ee19ff07887c768aa9c757c
 }

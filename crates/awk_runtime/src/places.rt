@@ -47,7 +47,6 @@ impl Runtime {
         }
     }
 
-<<<<<<< HEAD
     /// Gives a place a value; gives what it then holds.
     fn assign_at(&mut self, place: Place, operand: &Value, value: Value) -> Result<Value, Halt>
         ensures { Changes (assign_at self.old.names.scalars place operand.now value) self.old self.new result }
@@ -59,9 +58,6 @@ impl Runtime {
     /// Gives a place a value, or what an operator makes of its old value and of this one; gives what it then holds. A variable's
     /// number changes where it stands. (POSIX awk, Expressions in awk)
     #[inline(always)]
-=======
-    /// Gives a place a value, or what an operator makes of its old value and of this one; gives what it then holds.
->>>>>>> e307edf26d18804d4ee19ff07887c768aa9c757c
     pub fn assign_by_at(
         &mut self,
         operator: Option<Operator>,
@@ -80,7 +76,6 @@ impl Runtime {
         self.assign_applied(operator, place, operand, &value)
     }
 
-<<<<<<< HEAD
     /// Gives a place what an operator makes of its old value and of this one; gives what it then holds.
     #[inline(never)]
     fn assign_applied(
@@ -99,9 +94,6 @@ impl Runtime {
 
     /// Gives a place its number raised or lowered by 1; gives what it then holds. (POSIX awk, Expressions in awk: `++x`, `--x`)
     #[inline(always)]
-=======
-    /// Gives a place its number raised or lowered by 1; gives what it then holds.
->>>>>>> e307edf26d18804d4ee19ff07887c768aa9c757c
     pub fn pre_increment_at(
         &mut self,
         operator: IncrementOperator,
@@ -113,12 +105,8 @@ impl Runtime {
         self.assign_by_at(Some(by_one(operator)), place, operand, Value::Number(1))
     }
 
-<<<<<<< HEAD
     /// Gives a place its number raised or lowered by 1; gives the number that it had. (POSIX awk, Expressions in awk: `x++`, `x--`)
     #[inline(always)]
-=======
-    /// Gives a place its number raised or lowered by 1; gives the number that it had.
->>>>>>> e307edf26d18804d4ee19ff07887c768aa9c757c
     pub fn post_increment_at(
         &mut self,
         operator: IncrementOperator,
@@ -132,7 +120,6 @@ impl Runtime {
         }
         self.post_increment_any(operator, place, operand)
     }
-<<<<<<< HEAD
 
     /// The same of a place that holds no number, or that is no variable.
     #[inline(never)]
@@ -219,6 +206,4 @@ impl Runtime {
         };
         Some(Updated { before, after })
     }
-=======
->>>>>>> e307edf26d18804d4ee19ff07887c768aa9c757c
 }
