@@ -1,0 +1,100 @@
+-- The arguments of a call, one after the other.
+use Rattle.std.proofs.Common.{◌≡◌, ℕ, zero, suc, ◌+◌, ◌≤◌, List, [], ◌∷◌, ◌++◌, length, drop, slice_get, Option, Some, None, Ok, refl, sym, ap, ◌∙◌, subst, arith, append_assoc, append-nil}
+use Rattle.std.proofs.lemmas.List.{drop-drop}
+use Rattle.awk_value.specs.declared.value.Value.{Value}
+use Rattle.awk_semantics.specs.declared.local.Local.{Local}
+use Rattle.awk_semantics.specs.declared.local.Local.TheVariants as local
+use Rattle.awk_storage.specs.declared.position.Array.{Array}
+use Rattle.awk_storage.specs.declared.position.Array.TheVariants as array
+use Rattle.awk_storage.specs.support.Frames.{FramesView, newest_of}
+use Rattle.awk_compile.specs.declared.node.ArgumentForm.{ArgumentForm}
+use Rattle.awk_compile.specs.declared.node.ArgumentForm.TheVariants as form
+use Rattle.awk_compile.specs.Nodes.{behind_form, taken, values_among}
+use Rattle.awk_runtime.specs.declared.runtime.Runtime.{Runtime}
+use Rattle.awk_runtime.specs.Calling.{number_of_kept, kept_number, with_given}
+use Rattle.awk_evaluator.specs.declared.machine.Machine.{Machine}
+use Rattle.awk_evaluator.specs.Operands.{OperandsView}
+use Rattle.awk_evaluator.specs.Calling.{kept_by, kept_all, with_all, GivesAll}
+
+drop_get : {A : Type 0} (xs : List A) (i : ℕ) (x : A) → slice_get xs i ≡ Some x → drop i xs ≡ x ∷ drop (suc i) xs
+drop_get [] i x e = cc
+drop_get (z ∷ zs) zero x e = let same : z ≡ x = cc in ap (λ y. y ∷ zs) same
+drop_get (z ∷ zs) (suc i) x e = drop_get zs i x e
+
+drop_none : {A : Type 0} (xs : List A) (i : ℕ) → slice_get xs i ≡ None → drop i xs ≡ []
+drop_none [] zero e = refl
+drop_none [] (suc i) e = refl
+drop_none (z ∷ zs) zero e = cc
+drop_none (z ∷ zs) (suc i) e = drop_none zs i e
+
+pub one_within : {A : Type 0} (xs : List A) (i : ℕ) {x : A} → slice_get xs i ≡ Some x → i + 1 ≤ length xs
+one_within [] i e = cc
+one_within (z ∷ zs) zero e = omega arith
+one_within (z ∷ zs) (suc i) e = let h = one_within zs i e in omega (arith, h)
+
+counted : (f : ArgumentForm) (fs : List ArgumentForm) → values_among (f ∷ fs) ≡ values_among (f ∷ []) + values_among fs
+counted form.Value fs = omega arith
+counted (form.Array a) fs = omega arith
+
+pub one_more : (fs : List ArgumentForm) (i count one : ℕ) {f : ArgumentForm} → slice_get fs i ≡ Some f → one ≡ values_among (f ∷ []) → count + values_among (drop i fs) ≡ values_among fs → (count + one) + values_among (drop (i + 1) fs) ≡ values_among fs
+one_more fs i count one {f = f} at is e =
+    let rest = ap values_among (drop_get fs i f at) in
+    let parts = counted f (drop (suc i) fs) in
+    let next : i + 1 ≡ suc i = omega arith in
+    let same = ap (λ j. values_among (drop j fs)) next in
+    omega (arith, rest, parts, same, is, e)
+
+pub none_more : (fs : List ArgumentForm) (i count : ℕ) → slice_get fs i ≡ None → count + values_among (drop i fs) ≡ values_among fs → count ≡ values_among fs
+none_more fs i count none e = let rest = ap values_among (drop_none fs i none) in omega (arith, rest, e)
+
+-- what an argument gives is told by the calls that are active
+
+number_still : (a : Array) (x y : FramesView) → x.frames ≡ y.frames → kept_number a x ≡ kept_number a y
+number_still (array.Global n) x y e = refl
+number_still (array.Local i) x y e = ap (λ fs. number_of_kept (slice_get (newest_of fs) i)) e
+
+kept_still : (f : ArgumentForm) (vs : List Value) (x y : FramesView) → x.frames ≡ y.frames → kept_by f vs x ≡ kept_by f vs y
+kept_still form.Value vs x y e = refl
+kept_still (form.Array a) vs x y e = ap (λ n. local.Array n) (number_still a x y e)
+
+behind_given : (f : ArgumentForm) (given : ℕ) (args : List Value) → behind_form f (drop given args) ≡ drop (given + values_among (f ∷ [])) args
+behind_given form.Value given args = drop-drop 1 given args
+behind_given (form.Array a) given args = let e : given + 0 ≡ given = omega arith in ap (λ n. drop n args) (sym e)
+
+with_more : (l : Local) (ls : List Local) (m : Runtime) → with_all (l ∷ ls) m ≡ with_all ls (with_given l m)
+with_more l ls m = ap (λ (staged : List Local). record m { frames = record { frames = m.frames.frames; staged = staged } }) (sym (append_assoc m.frames.staged (l ∷ []) ls))
+
+-- one more is given
+pub given_more : (fs : List ArgumentForm) (args : List Value) (i given one : ℕ) (calls : FramesView) (m m' goal : Runtime) {f : ArgumentForm} → slice_get fs i ≡ Some f → one ≡ values_among (f ∷ []) → m.frames.frames ≡ calls.frames
+    → m' ≡ with_given (kept_by f (drop given args) m.frames) m → with_all (kept_all (drop i fs) (drop given args) calls) m ≡ goal → with_all (kept_all (drop (i + 1) fs) (drop (given + one) args) calls) m' ≡ goal
+given_more fs args i given one calls m m' goal {f = f} at is same gives e =
+    let next : i + 1 ≡ suc i = omega arith in
+    let l = kept_by f (drop given args) calls in
+    let rest = kept_all (drop (suc i) fs) (behind_form f (drop given args)) calls in
+    ap (λ j. with_all (kept_all (drop j fs) (drop (given + one) args) calls) m') next
+    ∙ ap (λ k. with_all (kept_all (drop (suc i) fs) (drop (given + k) args) calls) m') is
+    ∙ ap (λ vs. with_all (kept_all (drop (suc i) fs) vs calls) m') (sym (behind_given f given args))
+    ∙ ap (λ x. with_all rest x) (gives ∙ ap (λ k. with_given k m) (kept_still f (drop given args) m.frames calls same))
+    ∙ sym (with_more l rest m)
+    ∙ sym (ap (λ gs. with_all (kept_all gs (drop given args) calls) m) (drop_get fs i f at))
+    ∙ e
+
+pub given_none : (fs : List ArgumentForm) (args : List Value) (i given : ℕ) (calls : FramesView) (m goal : Runtime) → slice_get fs i ≡ None → with_all (kept_all (drop i fs) (drop given args) calls) m ≡ goal → m ≡ goal
+given_none fs args i given calls m goal none e =
+    sym (ap (λ (staged : List Local). record m { frames = record { frames = m.frames.frames; staged = staged } }) (append-nil m.frames.staged))
+    ∙ sym (ap (λ gs. with_all (kept_all gs (drop given args) calls) m) (drop_none fs i none)) ∙ e
+
+-- all are given
+pub all_given : {fs : List ArgumentForm} {m m' : Machine} (count : ℕ) → count ≡ values_among fs → m'.runtime ≡ with_all (kept_all fs (taken count m.operands.values) m.runtime.frames) m.runtime
+    → m'.operands ≡ record m.operands { values = drop count m.operands.values } → m'.calls ≡ m.calls → GivesAll fs m (Ok tt) m'
+all_given {fs = fs} {m = m} count is given operands calls =
+    let dropped : ℕ → OperandsView = λ n. record { values = drop n m.operands.values; below = m.operands.below } in
+    record {
+      given = given ∙ ap (λ n. with_all (kept_all fs (taken n m.operands.values) m.runtime.frames) m.runtime) is;
+      operands = operands ∙ ap dropped is;
+      calls = calls;
+      names = ap (λ (x : Runtime). x.names) given;
+      steps = (let e = ap (λ (x : Runtime). x.steps) given in omega (arith, e));
+      streams = ap (λ (x : Runtime). x.streams) given;
+      memory = tt;
+    }

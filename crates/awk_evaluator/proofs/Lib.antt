@@ -1,0 +1,10 @@
+pub mod Stacks
+pub mod Heights
+pub mod Resting
+pub mod Moving
+pub mod CallMoves
+pub mod Returning
+pub mod KeysTaken
+pub mod Arguments
+pub mod CallBegins
+pub mod Computing

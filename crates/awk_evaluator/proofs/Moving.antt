@@ -1,0 +1,376 @@
+-- The moves.
+use Rattle.std.specs.Prelude.{◌==◌}
+use Rattle.std.proofs.lemmas.Bool.{eqb-true}
+use Rattle.std.proofs.Common.{◌≡◌, ◌≢◌, ℕ, zero, suc, ◌-◌, ◌<◌, ◌≤◌, Bool, true, false, List, [], ◌∷◌, ◌++◌, length, drop, reverse, slice_get, Option, Some, None, Result, Ok, Err, OnOk, refl, sym, ap, ◌∙◌, subst, arith, get_or, inl, pos}
+use Rattle.awk_value.specs.declared.value.Value.{Value}
+use Rattle.awk_value.specs.declared.value.Value.TheVariants as value
+use Rattle.awk_value.specs.Values.{truth_of}
+use Rattle.awk_channels.specs.WorldState.{WorldState}
+use Rattle.awk_channels.specs.Streams.{printed_openings}
+use Rattle.awk_kinds.specs.Kinds.{Definition}
+use Rattle.awk_semantics.specs.declared.halt.Halt.{Halt}
+use Rattle.awk_semantics.specs.declared.halt.Halt.TheVariants as halt
+use Rattle.awk_semantics.specs.declared.fault.Fault.TheVariants.{OutOfMemory}
+use Rattle.awk_semantics.specs.State.{State, Run, ◌>>=◌, lift, ret}
+use Rattle.awk_semantics.specs.Results.{Yields}
+use Rattle.awk_semantics.specs.Semantics.{Functions, choose}
+use Rattle.awk_semantics.specs.Calls.{functions_within}
+use Rattle.awk_semantics.specs.Primitives.{spend, leave}
+use Rattle.awk_storage.specs.declared.position.Array.{Array}
+use Rattle.awk_storage.specs.declared.position.Variable.{Variable}
+use Rattle.awk_storage.specs.Positions.{put_variable}
+use Rattle.awk_storage.specs.Forms.{keys_of_array}
+use Rattle.awk_compile.specs.declared.node.Node.{Node}
+use Rattle.awk_compile.specs.declared.node.Node.TheVariants as n
+use Rattle.awk_compile.specs.declared.node.ValueNode.{ValueNode}
+use Rattle.awk_compile.specs.declared.node.EffectNode.{EffectNode}
+use Rattle.awk_compile.specs.declared.plan.Plan.{Plan}
+use Rattle.awk_compile.specs.Nodes.{Tables, Cont, nothing, first, second, value_of, popped, effect_of, dropped, walk_values, keys_left, next_key_by, level, cont_at, AreBelow}
+use Rattle.awk_compile.proofs.Listed.{node_at, no_node_at}
+use Rattle.awk_runtime.specs.declared.runtime.Runtime.{Runtime}
+use Rattle.awk_runtime.specs.Simulation.{IsReady, SimulatesLogged, Simulates, Changes, Spends}
+use Rattle.awk_runtime.proofs.Composition.{ready_same, ends_simulates, change_simulates, lift_simulates}
+use Rattle.awk_runtime.proofs.Effects.{begins_same}
+use Rattle.awk_evaluator.specs.declared.machine.Machine.{Machine}
+use Rattle.awk_evaluator.specs.declared.machine.Move.{Move}
+use Rattle.awk_evaluator.specs.declared.machine.Move.TheVariants as move
+use Rattle.awk_evaluator.specs.Operands.{OperandsView}
+use Rattle.awk_evaluator.specs.Rest.{IsSound, PlanStands, tables_in, Entry, Bound, Bounds, Start, AtPlace, AtNode, IsBefore, cont, turn, begun, resume, Rest}
+use Rattle.awk_evaluator.specs.Moves.{seen_of, stack_of, IsIdle, RestOf, Leads, Ends, Onward, Upward, Backward, MovesBy, Moves, Evaluates, Computes, Performs, GivesBackBy, GivesBack, Executes}
+use Rattle.awk_evaluator.specs.Walks.{PutsKeys, TakesKey}
+use Rattle.awk_evaluator.proofs.Resting.{same_simulates, then_rest, ends_rest, same_rest, return_rest, return_stuck, over_rest, whole, turn_rest, turn_stuck}
+
+-- memory may be refused behind what went well
+memory_logged : {A : Type 0} {old new : Runtime} {before after : WorldState} {a : A} {run : Run A} → SimulatesLogged old before new after (Ok a) run → SimulatesLogged old before new after (Err (halt.Fault OutOfMemory)) run
+memory_logged {new = new} {after = after} {run = run} x = record {
+  grows = x.grows;
+  means = λ oracle s past consistent stands.
+      let c = x.means oracle s past consistent stands in
+      record { begins = begins_same (printed_openings after new.streams) (past ++ (run s).effects) c.1.streams.printed; failure = inl c.1.clear };
+}
+
+pub memory_behind : {A : Type 0} {is_logged : Type 0} {old new : Runtime} {before after : WorldState} {a : A} {run : Run A} → Simulates is_logged old before new after (Ok a) run → Simulates is_logged old before new after (Err (halt.Fault OutOfMemory)) run
+memory_behind x = record { steps = x.steps; names = x.names; told = λ t. memory_logged (x.told t) }
+
+pub memory_behind_changes : {A : Type 0} {old new : Runtime} {a : A} {run : Run A} → Changes run old new (Ok a) → Changes run old new (Err (halt.Fault OutOfMemory))
+memory_behind_changes x = record { steps = x.steps; names = x.names; streams = x.streams; means = λ k. memory_logged (x.means k) }
+
+no_tables : Tables
+no_tables = record { names = []; eres = []; arrays = []; functions = [] }
+
+no_functions : Functions
+no_functions = functions_within [] 0
+
+-- what a test of a number says
+
+pub zero_test : (n : ℕ) → (n == 0) ≡ true → n ≡ 0
+zero_test n e = eqb-true n 0 e
+
+pub no_zero_test : (n : ℕ) → (n == 0) ≡ false → n ≢ 0
+no_zero_test n e h = let t : (n == 0) ≡ true = ap (λ k. k == 0) h in cc
+
+-- from a node to its place
+
+module _ {is_logged : Type 0} {plan : Plan} (sound : IsSound plan) {at : ℕ} {node : Node} (is : slice_get plan.nodes.items at ≡ Some node) where
+  place_rest : {tables : Tables} {ds : List Definition} {vs : List Value} {stack : List Entry} {old new : Runtime} {before after : WorldState} {r : Result Value Halt} → Rest tables ds plan is_logged (AtNode node) vs stack old before new after r → Rest tables ds plan is_logged (AtPlace at) vs stack old before new after r
+  place_rest {tables = tables} {ds = ds} {vs = vs} {stack = stack} {old = old} {new = new} {before = before} {after = after} {r = r} d = record {
+    does = λ b bs p q.
+        subst (λ (c : Cont). Simulates is_logged old before new after r (c vs >>= λ w. resume tables ds plan bs stack w)) (sym (node_at tables (functions_within ds b.calls) plan.heads.items plan.nodes.items b.turns at node sound.ordered is)) (d.does b bs p q);
+  }
+
+  place_leads : {m m' : Machine} {k k' : WorldState} {i : ℕ} → Leads is_logged plan (AtNode node) m k i m' k' → Leads is_logged plan (AtPlace at) m k i m' k'
+  place_leads x = record { names = x.names; steps = x.steps; leads = λ tables ds stands new after r d. place_rest (x.leads tables ds stands new after r d) }
+
+  place_ends : {m m' : Machine} {k k' : WorldState} {r : Result Value Halt} → Ends is_logged plan (AtNode node) m k r m' k' → Ends is_logged plan (AtPlace at) m k r m' k'
+  place_ends x = record { idle = x.idle; ends = λ tables ds stands. place_rest (x.ends tables ds stands) }
+
+  -- by what a move comes to
+  pub by_place : {m m' : Machine} {k k' : WorldState} {r : Result Move Halt} → Moves is_logged plan (AtNode node) m k r m' k' → Moves is_logged plan (AtPlace at) m k r m' k'
+  by_place {m = m} {m' = m'} {k = k} {k' = k'} {r = r} x = record { moves = by r x.moves }
+    where
+      by : (q : Result Move Halt) → MovesBy is_logged plan (AtNode node) m k q m' k' → MovesBy is_logged plan (AtPlace at) m k q m' k'
+      by (Ok (move.On i)) x = record { leads = place_leads x.leads; less = x.less at (sound.ordered at node is); calls = x.calls }
+      by (Ok (move.Up i)) x = record { leads = place_leads x.leads; less = x.less }
+      by (Ok (move.Back i)) x = record { leads = place_leads x.leads; less = x.less }
+      by (Ok (move.Over v)) x = place_ends x
+      by (Err h) x = place_ends x
+
+module _ {is_logged : Type 0} {plan : Plan} {from : Start} where
+  -- a part is done, and then a place is next
+  module _ {A : Type 0} (run : Tables → Functions → Run A) (f : Tables → List Definition → Bound → A → Run Value) {m : Machine}
+      (is : (tables : Tables) (ds : List Definition) (b : Bound) → begun tables ds plan from b m.operands.values ≡ (run tables (functions_within ds b.calls) >>= f tables ds b)) where
+    pub leads_on : {m' : Machine} {k k' : WorldState} {a : A} {i : ℕ} → ((tables : Tables) (functions : Functions) → Simulates is_logged m.runtime k m'.runtime k' (Ok a) (run (tables_in m.runtime.names tables) functions))
+        → ((tables : Tables) (ds : List Definition) (b : Bound) → f tables ds b a ≡ cont tables ds plan b i m'.operands.values)
+        → stack_of m' ≡ stack_of m → Leads is_logged plan from m k i m' k'
+    leads_on {m' = m'} {k' = k'} {i = i} done next stack = record {
+      names = (done no_tables no_functions).names;
+      steps = (done no_tables no_functions).steps;
+      leads = λ tables ds stands new after r d.
+          let t = tables_in m.runtime.names tables in
+          then_rest t ds plan is_logged (λ b. run t (functions_within ds b.calls)) (λ b. f t ds b) (λ b. is t ds b) (λ b. done tables (functions_within ds b.calls)) (done no_tables no_functions).steps
+          (λ b bs p q. subst (λ (c : Run Value). Simulates is_logged m'.runtime k' new after r (c >>= λ w. resume t ds plan bs (stack_of m) w)) (sym (next t ds b))
+          (subst (λ (es : List Entry). Simulates is_logged m'.runtime k' new after r (cont t ds plan b i m'.operands.values >>= λ w. resume t ds plan bs es w)) stack (d.does b bs p q)));
+    }
+
+    pub ends_on : {m' : Machine} {k k' : WorldState} {h : Halt} → ((tables : Tables) (functions : Functions) → Simulates is_logged m.runtime k m'.runtime k' (Err h) (run (tables_in m.runtime.names tables) functions)) → Moves is_logged plan from m k (Err h) m' k'
+    ends_on done = record {
+      moves = record {
+        idle = tt;
+        ends = λ tables ds stands.
+            let t = tables_in m.runtime.names tables in
+            ends_rest t ds plan is_logged (λ b. run t (functions_within ds b.calls)) (λ b. f t ds b) (λ b. is t ds b) (λ b. done tables (functions_within ds b.calls));
+      };
+    }
+
+  -- a place is next at once
+  pub leads_at_once : {m m' : Machine} {k : WorldState} {i : ℕ} → ((tables : Tables) (ds : List Definition) (b : Bound) → begun tables ds plan from b m.operands.values ≡ cont tables ds plan b i m'.operands.values)
+      → m'.runtime ≡ m.runtime → stack_of m' ≡ stack_of m → Leads is_logged plan from m k i m' k
+  leads_at_once {m = m} {m' = m'} {k = k} {i = i} is same stack = record {
+    names = ap (λ (x : Runtime). x.names) same;
+    steps = (let e = ap (λ (x : Runtime). x.steps) same in omega (arith, e));
+    leads = λ tables ds stands new after r d.
+        let t = tables_in m.runtime.names tables in
+        same_rest t ds plan is_logged (λ b. is t ds b)
+        (subst (λ (x : Runtime). Rest t ds plan is_logged (AtPlace i) m'.operands.values (stack_of m) x k new after r) same
+        (subst (λ (es : List Entry). Rest t ds plan is_logged (AtPlace i) m'.operands.values es m'.runtime k new after r) stack d));
+  }
+
+  -- a turn of a loop
+  module _ {m m' : Machine} {k : WorldState} (i : ℕ) (is : (tables : Tables) (ds : List Definition) (b : Bound) → begun tables ds plan from b m.operands.values ≡ turn tables ds plan b i m.operands.values) where
+    pub turns_on : {j : ℕ} → j ≡ get_or plan.heads.items i 0 → m'.operands ≡ m.operands → m'.calls ≡ m.calls → Spends m.runtime m'.runtime (Ok tt) → Moves is_logged plan from m k (Ok (move.Up j)) m' k
+    turns_on {j = j} at operands calls s = record {
+      moves = record {
+        less = s.falls;
+        leads = record {
+          names = s.changes.names;
+          steps = s.changes.steps;
+          leads = λ tables ds stands new after r d.
+              let t = tables_in m.runtime.names tables in
+              turn_rest t ds plan is_logged i (λ b. is t ds b) (change_simulates s.changes) s.falls
+              (subst (λ (x : ℕ). Rest t ds plan is_logged (AtPlace x) m.operands.values (stack_of m) m'.runtime k new after r) at
+              (subst (λ (es : List _). Rest t ds plan is_logged (AtPlace j) m.operands.values (seen_of m.operands es) m'.runtime k new after r) calls
+              (subst (λ (o : OperandsView). Rest t ds plan is_logged (AtPlace j) o.values (seen_of o m'.calls) m'.runtime k new after r) operands d)));
+        };
+      };
+    }
+
+    pub turns_stuck : {h : Halt} → Spends m.runtime m'.runtime (Err h) → Moves is_logged plan from m k (Err h) m' k
+    turns_stuck s = record {
+      moves = record {
+        idle = tt;
+        ends = λ tables ds stands. turn_stuck (tables_in m.runtime.names tables) ds plan is_logged i (λ b. is (tables_in m.runtime.names tables) ds b) (change_simulates s.changes);
+      };
+    }
+
+  -- a value is returned
+  module _ {m m1 : Machine} {k : WorldState} {w : Value} (stack : stack_of m1 ≡ stack_of m) (calls : m1.calls ≡ m.calls) (same : m1.runtime ≡ m.runtime)
+      (is : (tables : Tables) (ds : List Definition) (b : Bound) → begun tables ds plan from b m.operands.values ≡ ret w) where
+    pub gives_back : {m' : Machine} {r : Result Move Halt} → GivesBack w m1 r m' → Moves is_logged plan from m k r m' k
+    gives_back {m' = m'} {r = r} g = record { moves = by r g.gives }
+      where
+        to_left : Changes leave m1.runtime m'.runtime (Ok tt) → Changes leave m.runtime m'.runtime (Ok tt)
+        to_left x = subst (λ (y : Runtime). Changes leave y m'.runtime (Ok tt)) same x
+
+        by : (q : Result Move Halt) → GivesBackBy w m1 q m' → MovesBy is_logged plan from m k q m' k
+        by (Ok (move.On i)) g = absurd g
+        by (Ok (move.Up i)) g = absurd g
+        by (Ok (move.Back i)) g = record {
+          less = (let e = g.4 in let f = ap length calls in omega (arith, e, f));
+          leads = record {
+            names = (to_left g.3).names;
+            steps = (to_left g.3).steps;
+            leads = λ tables ds stands new after r d.
+                let t = tables_in m.runtime.names tables in
+                let e : Entry = record { next = i; values = g.0 } in
+                subst (λ (es : List Entry). Rest t ds plan is_logged from m.operands.values es m.runtime k new after r) (sym g.1 ∙ stack)
+                (return_rest t ds plan is_logged {e = e} w (λ b. is t ds b) (change_simulates (to_left g.3)) (to_left g.3).steps
+                (subst (λ (vs : List Value). Rest t ds plan is_logged (AtPlace i) vs (stack_of m') m'.runtime k new after r) g.2 d));
+          };
+        }
+        by (Ok (move.Over v)) g = record {
+          idle = g.2;
+          ends = λ tables ds stands.
+              let t = tables_in m.runtime.names tables in
+              let none : stack_of m ≡ [] = sym stack ∙ ap (λ es. seen_of m1.operands es) g.1 in
+              subst (λ (x : Runtime). Rest t ds plan is_logged from m.operands.values (stack_of m) m.runtime k x k (Ok v)) (sym same ∙ sym g.3)
+              (subst (λ (es : List Entry). Rest t ds plan is_logged from m.operands.values es m.runtime k m.runtime k (Ok v)) (sym none)
+              (over_rest t ds plan is_logged w (λ b. is t ds b) (lift_simulates {c = Ok v} (Ok w) m.runtime k (ap (λ x. Ok x) (sym g.0)))));
+        }
+        by (Err h) g = record {
+          idle = tt;
+          ends = λ tables ds stands.
+              let t = tables_in m.runtime.names tables in
+              subst (λ (x : Halt). Rest t ds plan is_logged from m.operands.values (stack_of m) m.runtime k m'.runtime k (Err x)) (sym g.4)
+              (subst (λ (es : List Entry). Rest t ds plan is_logged from m.operands.values es m.runtime k m'.runtime k (Err (halt.Fault OutOfMemory))) (sym g.2 ∙ stack)
+              (return_stuck t ds plan is_logged {e = g.0} w (λ b. is t ds b) (memory_behind (change_simulates (to_left g.3)))));
+        }
+
+-- a value that needs no world
+pub evaluated : {is_logged : Type 0} {x : ValueNode} {m m' : Machine} {k : WorldState} {r : Result Value Halt} → Computes x m r m' → Evaluates is_logged x m k r m' k
+evaluated c = record { operands = c.operands; calls = c.calls; simulates = λ tables functions. change_simulates (c.changes tables functions) }
+
+pub ready_computed : {is_logged : Type 0} {x : ValueNode} {m m' : Machine} {k : WorldState} {r : Result Value Halt} → Computes x m r m' → IsReady is_logged k m.runtime.streams → IsReady is_logged k m'.runtime.streams
+ready_computed c ready = ready_same (c.changes no_tables no_functions).streams ready
+
+next_turn : (c : ℕ) (t e : Run Value) → c ≢ 0 → next_key_by c t e ≡ t
+next_turn zero t e h = absurd (h refl)
+next_turn (suc c) t e h = refl
+
+-- the nodes
+
+module _ {is_logged : Type 0} {plan : Plan} where
+  -- a node that gives a value
+
+  module _ {x : ValueNode} {i : ℕ} where
+    pub value_on : {m m1 m2 : Machine} {k k' : WorldState} {w : Value} → Evaluates is_logged x m k (Ok w) m1 k' → m2.operands ≡ record m1.operands { values = w ∷ m1.operands.values } → m2.calls ≡ m1.calls → m2.runtime ≡ m1.runtime → Moves is_logged plan (AtNode (n.Value x i)) m k (Ok (move.On i)) m2 k'
+    value_on {m = m} {m1 = m1} {m2 = m2} {k = k} {k' = k'} {w = w} e operands calls same = record {
+      moves = record {
+        less = λ at low. low;
+        calls = calls ∙ e.calls;
+        leads = leads_on (λ tables functions. value_of tables functions x m.operands.values) (λ tables ds b u. cont tables ds plan b i (u ∷ drop (popped x) m.operands.values)) (λ tables ds b. refl)
+            (λ tables functions. subst (λ (y : Runtime). Simulates is_logged m.runtime k y k' (Ok w) (value_of (tables_in m.runtime.names tables) functions x m.operands.values)) (sym same) (e.simulates tables functions))
+            (λ tables ds b. ap (λ vs. cont tables ds plan b i vs) (ap (λ (o : OperandsView). w ∷ o.values) (sym e.operands) ∙ ap (λ (o : OperandsView). o.values) (sym operands)))
+            (ap (λ es. seen_of m2.operands es) (calls ∙ e.calls) ∙ ap (λ (o : OperandsView). seen_of o m.calls) operands ∙ ap (λ (o : OperandsView). seen_of o m.calls) e.operands);
+      };
+    }
+
+    pub value_ends : {m m' : Machine} {k k' : WorldState} {h : Halt} → Evaluates is_logged x m k (Err h) m' k' → Moves is_logged plan (AtNode (n.Value x i)) m k (Err h) m' k'
+    value_ends {m = m} e = ends_on (λ tables functions. value_of tables functions x m.operands.values) (λ tables ds b u. cont tables ds plan b i (u ∷ drop (popped x) m.operands.values)) (λ tables ds b. refl) e.simulates
+
+    pub value_memory : {m m1 m2 : Machine} {k k' : WorldState} {w : Value} → Evaluates is_logged x m k (Ok w) m1 k' → m2.runtime ≡ m1.runtime → Moves is_logged plan (AtNode (n.Value x i)) m k (Err (halt.Fault OutOfMemory)) m2 k'
+    value_memory {m = m} {k = k} {k' = k'} e same = ends_on (λ tables functions. value_of tables functions x m.operands.values) (λ tables ds b u. cont tables ds plan b i (u ∷ drop (popped x) m.operands.values)) (λ tables ds b. refl)
+        (λ tables functions. subst (λ (y : Runtime). Simulates is_logged m.runtime k y k' (Err (halt.Fault OutOfMemory)) (value_of (tables_in m.runtime.names tables) functions x m.operands.values)) (sym same) (memory_behind (e.simulates tables functions)))
+
+  -- a node that gives none
+
+  module _ {x : EffectNode} {i : ℕ} where
+    pub effect_on : {m m' : Machine} {k k' : WorldState} → Performs is_logged x m k (Ok tt) m' k' → Moves is_logged plan (AtNode (n.Effect x i)) m k (Ok (move.On i)) m' k'
+    effect_on {m = m} {m' = m'} e = record {
+      moves = record {
+        less = λ at low. low;
+        calls = e.calls;
+        leads = leads_on (λ tables functions. effect_of functions x m.operands.values) (λ tables ds b u. cont tables ds plan b i (drop (dropped x) m.operands.values)) (λ tables ds b. refl)
+            (λ tables functions. e.simulates functions)
+            (λ tables ds b. ap (λ vs. cont tables ds plan b i vs) (ap (λ (o : OperandsView). o.values) (sym e.operands)))
+            (ap (λ es. seen_of m'.operands es) e.calls ∙ ap (λ (o : OperandsView). seen_of o m.calls) e.operands);
+      };
+    }
+
+    pub effect_ends : {m m' : Machine} {k k' : WorldState} {h : Halt} → Performs is_logged x m k (Err h) m' k' → Moves is_logged plan (AtNode (n.Effect x i)) m k (Err h) m' k'
+    effect_ends {m = m} e = ends_on (λ tables functions. effect_of functions x m.operands.values) (λ tables ds b u. cont tables ds plan b i (drop (dropped x) m.operands.values)) (λ tables ds b. refl) (λ tables functions. e.simulates functions)
+
+  -- tests
+
+  module _ {here other : ℕ} where
+    tested : {m m' : Machine} {k : WorldState} {t : Bool} (i : ℕ) → truth_of (first m.operands.values) ≡ t → m'.operands ≡ record m.operands { values = drop 1 m.operands.values } → m'.calls ≡ m.calls → m'.runtime ≡ m.runtime
+        → ((tables : Tables) (ds : List Definition) (b : Bound) → choose t (cont tables ds plan b here (drop 1 m.operands.values)) (cont tables ds plan b other (drop 1 m.operands.values)) ≡ cont tables ds plan b i (drop 1 m.operands.values))
+        → Leads is_logged plan (AtNode (n.Test here other)) m k i m' k
+    tested {m = m} {m' = m'} i e operands calls same chosen = leads_at_once
+        (λ tables ds b. ap (λ x. choose x (cont tables ds plan b here (drop 1 m.operands.values)) (cont tables ds plan b other (drop 1 m.operands.values))) e ∙ chosen tables ds b ∙ ap (λ (o : OperandsView). cont tables ds plan b i o.values) (sym operands))
+        same (ap (λ es. seen_of m'.operands es) calls ∙ ap (λ (o : OperandsView). seen_of o m.calls) operands)
+
+    pub test_true : {m m' : Machine} {k : WorldState} → truth_of (first m.operands.values) ≡ true → m'.operands ≡ record m.operands { values = drop 1 m.operands.values } → m'.calls ≡ m.calls → m'.runtime ≡ m.runtime → Moves is_logged plan (AtNode (n.Test here other)) m k (Ok (move.On here)) m' k
+    test_true e operands calls same = record { moves = record { less = λ at low. low.0; calls = calls; leads = tested here e operands calls same (λ tables ds b. refl) } }
+
+    pub test_false : {m m' : Machine} {k : WorldState} → truth_of (first m.operands.values) ≡ false → m'.operands ≡ record m.operands { values = drop 1 m.operands.values } → m'.calls ≡ m.calls → m'.runtime ≡ m.runtime → Moves is_logged plan (AtNode (n.Test here other)) m k (Ok (move.On other)) m' k
+    test_false e operands calls same = record { moves = record { less = λ at low. low.1; calls = calls; leads = tested other e operands calls same (λ tables ds b. refl) } }
+
+  -- turns
+
+  pub again_on : {i j : ℕ} {m m' : Machine} {k : WorldState} → j ≡ get_or plan.heads.items i 0 → m'.operands ≡ m.operands → m'.calls ≡ m.calls → Spends m.runtime m'.runtime (Ok tt) → Moves is_logged plan (AtNode (n.Again i)) m k (Ok (move.Up j)) m' k
+  again_on {i = i} = turns_on i (λ tables ds b. refl)
+
+  pub again_stuck : {i : ℕ} {m m' : Machine} {k : WorldState} {h : Halt} → Spends m.runtime m'.runtime (Err h) → Moves is_logged plan (AtNode (n.Again i)) m k (Err h) m' k
+  again_stuck {i = i} = turns_stuck i (λ tables ds b. refl)
+
+  -- walks
+
+  pub key_on : {i exit j : ℕ} {m m' : Machine} {k : WorldState} → keys_left (first m.operands.values) ≢ 0 → j ≡ get_or plan.heads.items i 0 → m'.operands ≡ m.operands → m'.calls ≡ m.calls → Spends m.runtime m'.runtime (Ok tt) → Moves is_logged plan (AtNode (n.NextKey i exit)) m k (Ok (move.Up j)) m' k
+  key_on {i = i} {exit = exit} {m = m} h = turns_on i (λ tables ds b. next_turn (keys_left (first m.operands.values)) _ _ h)
+
+  pub key_stuck : {i exit : ℕ} {m m' : Machine} {k : WorldState} {h : Halt} → keys_left (first m.operands.values) ≢ 0 → Spends m.runtime m'.runtime (Err h) → Moves is_logged plan (AtNode (n.NextKey i exit)) m k (Err h) m' k
+  key_stuck {i = i} {exit = exit} {m = m} h = turns_stuck i (λ tables ds b. next_turn (keys_left (first m.operands.values)) _ _ h)
+
+  pub key_exit : {i exit : ℕ} {m m' : Machine} {k : WorldState} → keys_left (first m.operands.values) ≡ 0 → m'.operands ≡ record m.operands { values = drop 1 m.operands.values } → m'.calls ≡ m.calls → m'.runtime ≡ m.runtime → Moves is_logged plan (AtNode (n.NextKey i exit)) m k (Ok (move.On exit)) m' k
+  key_exit {i = i} {exit = exit} {m = m} {m' = m'} e operands calls same = record {
+    moves = record {
+      less = λ at low. low;
+      calls = calls;
+      leads = leads_at_once (λ tables ds b. ap (λ c. next_key_by c (turn tables ds plan b i m.operands.values) (cont tables ds plan b exit (drop 1 m.operands.values))) e ∙ ap (λ (o : OperandsView). cont tables ds plan b exit o.values) (sym operands))
+          same (ap (λ es. seen_of m'.operands es) calls ∙ ap (λ (o : OperandsView). seen_of o m.calls) operands);
+    };
+  }
+
+  pub walk_on : {a : Array} {i : ℕ} {m m' : Machine} {k : WorldState} → PutsKeys a m (Ok tt) m' → Moves is_logged plan (AtNode (n.Walk a i)) m k (Ok (move.On i)) m' k
+  walk_on {a = a} {i = i} {m = m} {m' = m'} p = record {
+    moves = record {
+      less = λ at low. low;
+      calls = p.puts.3;
+      leads = leads_on (λ tables functions. keys_of_array a) (λ tables ds b keys. cont tables ds plan b i (walk_values keys ++ m.operands.values)) (λ tables ds b. refl)
+          (λ tables functions. change_simulates p.puts.1)
+          (λ tables ds b. ap (λ (o : OperandsView). cont tables ds plan b i o.values) (sym p.puts.2))
+          (ap (λ es. seen_of m'.operands es) p.puts.3 ∙ ap (λ (o : OperandsView). seen_of o m.calls) p.puts.2);
+    };
+  }
+
+  pub walk_ends : {a : Array} {i : ℕ} {m m' : Machine} {k : WorldState} {h : Halt} → PutsKeys a m (Err h) m' → Moves is_logged plan (AtNode (n.Walk a i)) m k (Err h) m' k
+  walk_ends {a = a} {i = i} {m = m} p = ends_on (λ tables functions. keys_of_array a) (λ tables ds b keys. cont tables ds plan b i (walk_values keys ++ m.operands.values)) (λ tables ds b. refl) (λ tables functions. change_simulates p.puts)
+
+  pub key_taken : {x : Variable} {i : ℕ} {m m' : Machine} {k : WorldState} → TakesKey x m (Ok tt) m' → Moves is_logged plan (AtNode (n.TakeKey x i)) m k (Ok (move.On i)) m' k
+  key_taken {x = x} {i = i} {m = m} {m' = m'} p = record {
+    moves = record {
+      less = λ at low. low;
+      calls = p.calls;
+      leads = leads_on (λ tables functions. put_variable tables.names x (second m.operands.values)) (λ tables ds b u. cont tables ds plan b i (value.Number (pos (keys_left (first m.operands.values) - 1)) ∷ drop 2 m.operands.values)) (λ tables ds b. refl)
+          (λ tables functions. change_simulates p.changes)
+          (λ tables ds b. ap (λ (o : OperandsView). cont tables ds plan b i o.values) (sym p.operands))
+          (ap (λ es. seen_of m'.operands es) p.calls ∙ ap (λ (o : OperandsView). seen_of o m.calls) p.operands);
+    };
+  }
+
+  pub key_ends : {x : Variable} {i : ℕ} {m m' : Machine} {k : WorldState} {h : Halt} → TakesKey x m (Err h) m' → Moves is_logged plan (AtNode (n.TakeKey x i)) m k (Err h) m' k
+  key_ends {x = x} {i = i} {m = m} p = ends_on (λ tables functions. put_variable tables.names x (second m.operands.values)) (λ tables ds b u. cont tables ds plan b i (value.Number (pos (keys_left (first m.operands.values) - 1)) ∷ drop 2 m.operands.values)) (λ tables ds b. refl) (λ tables functions. change_simulates p.changes)
+
+  pub walk_left : {i : ℕ} {m m' : Machine} {k : WorldState} → m'.operands ≡ record m.operands { values = drop (suc (keys_left (first m.operands.values))) m.operands.values } → m'.calls ≡ m.calls → m'.runtime ≡ m.runtime → Moves is_logged plan (AtNode (n.LeaveWalk i)) m k (Ok (move.On i)) m' k
+  walk_left {i = i} {m = m} {m' = m'} operands calls same = record {
+    moves = record {
+      less = λ at low. low;
+      calls = calls;
+      leads = leads_at_once (λ tables ds b. ap (λ (o : OperandsView). cont tables ds plan b i o.values) (sym operands)) same (ap (λ es. seen_of m'.operands es) calls ∙ ap (λ (o : OperandsView). seen_of o m.calls) operands);
+    };
+  }
+
+  -- ends
+
+  pub stopped_by : {h : Halt} {m : Machine} {k : WorldState} → Yields {A = Value} (Err h) (Err h) → Moves is_logged plan (AtNode (n.Stop h)) m k (Err h) m k
+  stopped_by {h = h} {m = m} {k = k} e = record {
+    moves = record {
+      idle = tt;
+      ends = λ tables ds stands. record { does = λ b bs p q. ends_simulates (λ w. resume (tables_in m.runtime.names tables) ds plan bs (stack_of m) w) (lift_simulates (Err h) m.runtime k e) };
+    };
+  }
+
+  pub returns_value : {m m1 m' : Machine} {k : WorldState} {w : Value} {r : Result Move Halt} → w ≡ first m.operands.values → m1.operands ≡ record m.operands { values = drop 1 m.operands.values } → m1.calls ≡ m.calls → m1.runtime ≡ m.runtime → GivesBack w m1 r m' → Moves is_logged plan (AtNode n.Return) m k r m' k
+  returns_value {m = m} {m1 = m1} top operands calls same g = gives_back (ap (λ es. seen_of m1.operands es) calls ∙ ap (λ (o : OperandsView). seen_of o m.calls) operands) calls same (λ tables ds b. ap (λ v. ret v) (sym top)) g
+
+  pub returns_nothing : {m m' : Machine} {k : WorldState} {r : Result Move Halt} → GivesBack value.Nothing m r m' → Moves is_logged plan (AtNode n.End) m k r m' k
+  returns_nothing g = gives_back refl refl refl (λ tables ds b. refl) g
+
+  pub past_end : {at : ℕ} {m m' : Machine} {k : WorldState} {r : Result Move Halt} → None ≡ slice_get plan.nodes.items at → GivesBack value.Nothing m r m' → Moves is_logged plan (AtPlace at) m k r m' k
+  past_end {at = at} {m = m} none g = gives_back refl refl refl (λ tables ds b. ap (λ (c : Cont). c m.operands.values) (no_node_at tables (functions_within ds b.calls) plan.heads.items plan.nodes.items b.turns at (beyond plan.nodes.items at none))) g
+    where
+      beyond : (xs : List Node) (i : ℕ) → None ≡ slice_get xs i → length xs ≤ i
+      beyond [] i e = omega arith
+      beyond (x ∷ xs) zero e = cc
+      beyond (x ∷ xs) (suc i) e = let h = beyond xs i e in omega (arith, h)
+
+  -- a whole run
+  pub executes : {at : ℕ} {m m' : Machine} {k k' : WorldState} {r : Result Value Halt} → IsIdle m → Ends is_logged plan (AtPlace at) m k r m' k' → Executes is_logged plan at m k r m' k'
+  executes {at = at} {m = m} {m' = m'} {k = k} {k' = k'} {r = r} idle e = record {
+    executes = λ tables ds stands steps low.
+        let t = tables_in m.runtime.names tables in
+        let none : stack_of m ≡ [] = ap (λ es. seen_of m.operands es) idle.calls in
+        whole t ds plan is_logged
+        (subst (λ (o : OperandsView). Rest t ds plan is_logged (AtPlace at) o.values [] m.runtime k m'.runtime k' r) idle.operands
+        (subst (λ (es : List Entry). Rest t ds plan is_logged (AtPlace at) m.operands.values es m.runtime k m'.runtime k' r) none (e.ends tables ds stands))) steps low;
+  }

@@ -1,0 +1,69 @@
+-- The topmost values of a stack, from its end and from its beginning.
+use Rattle.std.proofs.Common.{◌≡◌, ℕ, ◌+◌, ◌-◌, ◌≤◌, ◌<◌, max, min, [], List, ◌++◌, length, take, drop, reverse, refl, sym, ap, ◌∙◌, arith}
+use Rattle.std.proofs.lemmas.List.{take-append-drop, drop-drop, drop-take, take-take, take_min, drop_min, reverse-append, reverse-reverse, length-reverse}
+use Rattle.std.proofs.Math.Seq.{drop-append_seam}
+use Rattle.std.proofs.Common.{length-append, length-drop}
+use Rattle.std.proofs.lemmas.List.{length-take}
+use Rattle.std.proofs.Math.ListN.{drop_of_length-le}
+use Rattle.awk_value.specs.declared.value.Value.{Value}
+use Rattle.awk_compile.specs.Nodes.{taken}
+use Rattle.awk_evaluator.specs.support.Operands.{OperandsView}
+
+-- all but the last ones, from the end
+pub behind_reverse : {A : Type 0} (ys : List A) (count : ℕ) → reverse (take (length ys - count) ys) ≡ drop count (reverse ys)
+behind_reverse {A = A} ys count =
+    let n = length ys - count in
+    let xs : List A = reverse (drop n ys) in
+    let zs : List A = reverse (take n ys) in
+    let parts : reverse ys ≡ xs ++ zs = ap reverse (sym (take-append-drop n ys)) ∙ reverse-append (take n ys) (drop n ys) in
+    let long : length xs ≡ length ys - n = length-reverse (drop n ys) ∙ length-drop n ys in
+    let all : length (xs ++ zs) ≡ length ys = ap length (sym parts) ∙ length-reverse ys in
+    let seam : min count (length (xs ++ zs)) ≡ length xs = omega (arith, long, all) in
+    sym (ap (drop count) parts ∙ sym (drop_min count (xs ++ zs)) ∙ ap (λ k. drop k (xs ++ zs)) seam ∙ drop-append_seam xs zs)
+
+-- the last ones, in their order
+pub front_reverse : {A : Type 0} (ys : List A) (count : ℕ) → reverse (take count (reverse ys)) ≡ drop (length ys - count) ys
+front_reverse ys count =
+    let k = length ys - count in
+    let long = length-reverse ys in
+    let few : length (reverse ys) - k ≡ min count (length (reverse ys)) = omega (arith, long) in
+    ap reverse (sym (take_min count (reverse ys)) ∙ ap (λ n. take n (reverse ys)) (sym few))
+    ∙ behind_reverse (reverse ys) k
+    ∙ ap (drop k) (reverse-reverse ys)
+
+-- so many values are taken off, but none of those below
+pub dropped_view : (items : List Value) (base start count : ℕ) → base ≤ length items → start ≡ max base (length items - count)
+    → let left : OperandsView = record { values = reverse (drop base (take start items)); below = take base (take start items) } in left ≡ record { values = drop count (reverse (drop base items)); below = take base items }
+dropped_view items base start count low is =
+    let ys = drop base items in
+    let long = length-drop base items in
+    let over : start ≡ base + (length ys - count) = omega (arith, is, low, long) in
+    let values = ap (λ k. reverse (drop base (take k items))) over ∙ ap reverse (drop-take base (length ys - count) items) ∙ behind_reverse ys count in
+    let le : base ≤ start = omega (arith, over) in
+    let below = take-take base start items le in
+    let first : List Value → OperandsView = λ vs. record { values = vs; below = take base (take start items) } in
+    let second : List Value → OperandsView = λ vs. record { values = drop count (reverse ys); below = vs } in
+    ap first values ∙ ap second below
+
+-- the newest values
+pub newest_values : (items : List Value) (base start count : ℕ) → base ≤ length items → start ≡ max base (length items - count) → drop start items ≡ taken count (reverse (drop base items))
+newest_values items base start count low is =
+    let ys = drop base items in
+    let long = length-drop base items in
+    let over : start ≡ base + (length ys - count) = omega (arith, is, low, long) in
+    ap (λ k. drop k items) over ∙ sym (drop-drop (length ys - count) base items) ∙ sym (front_reverse ys count)
+
+-- where more are taken off than there are
+pub all_dropped : (items : List Value) (base count : ℕ) → length items < count
+    → let left : OperandsView = record { values = reverse (drop base (take base items)); below = take base (take base items) } in left ≡ record { values = drop count (reverse (drop base items)); below = take base items }
+all_dropped items base count few =
+    let cut = length-take base items in
+    let long = length-drop base items in
+    let turned = length-reverse (drop base items) in
+    let short : length (take base items) ≤ base = omega (arith, cut) in
+    let less : length (reverse (drop base items)) ≤ count = omega (arith, few, long, turned) in
+    let le : base ≤ base = omega arith in
+    let first : List Value → OperandsView = λ vs. record { values = reverse vs; below = take base (take base items) } in
+    let second : List Value → OperandsView = λ vs. record { values = []; below = vs } in
+    let third : List Value → OperandsView = λ vs. record { values = vs; below = take base items } in
+    ap first (drop_of_length-le (take base items) short) ∙ ap second (take-take base base items le) ∙ sym (ap third (drop_of_length-le (reverse (drop base items)) less))

@@ -1,0 +1,22 @@
+use Rattle.std.proofs.Common.{refl, ap, Ok}
+use Rattle.awk_runtime.proofs.Composition.{change_simulates, lift_simulates}
+use Rattle.awk_evaluator.proofs.Computing.{performed, acted, acted_ready}
+use Rattle.awk_evaluator.proofs.machine.Machine.perform.Goals as goal
+
+pub returns-in-Spend-clause-performs : goal.returns-in-Spend-clause-performs
+returns-in-Spend-clause-performs g c = rw c.in-Spend.is (performed c.spend.result refl refl (λ functions. change_simulates c.spend.ensures.changes))
+
+pub returns-in-Drop-clause-performs : goal.returns-in-Drop-clause-performs
+returns-in-Drop-clause-performs g c = rw c.in-Drop.is (performed (Ok tt) c.drop.ensures refl (λ functions. lift_simulates (Ok tt) _ _ refl))
+
+pub returns-in-Delete-clause-ready : goal.returns-in-Delete-clause-ready
+returns-in-Delete-clause-ready g c = acted_ready c.delete.ensures c.requires.ready
+
+pub returns-in-Delete-clause-performs : goal.returns-in-Delete-clause-performs
+returns-in-Delete-clause-performs g c = rw c.in-Delete.is (acted c.delete.ensures)
+
+pub returns-in-SetStatus-clause-ready : goal.returns-in-SetStatus-clause-ready
+returns-in-SetStatus-clause-ready g c = acted_ready c.set_status.ensures c.requires.ready
+
+pub returns-in-SetStatus-clause-performs : goal.returns-in-SetStatus-clause-performs
+returns-in-SetStatus-clause-performs g c = rw c.in-SetStatus.is (acted c.set_status.ensures)

@@ -1,0 +1,7 @@
+-- What serves the proofs.
+pub mod Entered
+pub mod Operands
+pub mod Rest
+pub mod Moves
+pub mod Walks
+pub mod Calling

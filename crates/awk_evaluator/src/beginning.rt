@@ -1,0 +1,100 @@
+// Calls of functions.
+
+ghost use Rattle.std.specs.Prelude.{◌≡◌, ◌<◌, ◌≤◌, [], ◌∷◌, drop, slice_get};
+ghost use Rattle.awk_compile.specs.Nodes.{taken, values_among};
+ghost use Rattle.awk_runtime.specs.Calling.{Gives};
+ghost use Rattle.awk_evaluator.specs.Calling.{kept_by, BeginsCall, GivesAll};
+
+use crate::entry::Entry;
+use crate::machine::Machine;
+use awk_compile::Function;
+use awk_compile::node::ArgumentForm;
+use awk_semantics::Halt;
+
+/// How an argument is given.
+#[inline(always)]
+fn form_at(forms: &[ArgumentForm], index: usize) -> Option<ArgumentForm>
+    ensures { result ≡ slice_get forms.now index }
+{
+    forms.get(index).copied()
+}
+
+/// How many values an argument takes.
+#[inline(always)]
+fn count_of(form: ArgumentForm) -> usize
+    ensures count { result ≡ values_among (form ∷ []) }
+    ensures low { result ≤ 1 }
+{
+    match form {
+        ArgumentForm::Value => 1,
+        ArgumentForm::Array(_) => 0,
+    }
+}
+
+/// How many arguments are values.
+fn values_among(forms: &[ArgumentForm]) -> usize
+    ensures { result ≡ values_among forms.now }
+{
+    let mut count = 0;
+    let mut index = 0;
+    'forms: while let Some(form) = form_at(forms, index) {
+        count += count_of(form);
+        index += 1;
+    }
+    count
+}
+
+impl Machine {
+    /// Begins a call of a function: its height is checked, a step is spent, and its parameters are what the topmost values and the
+    /// arrays give, or new. Gives the place of its body. (POSIX awk, User-Defined Functions)
+    #[inline(never)]
+    pub(crate) fn call(
+        &mut self,
+        function: &Function,
+        forms: &[ArgumentForm],
+        next: u32,
+    ) -> Result<u32, Halt>
+        requires { 0 < function.now.height }
+        ensures { BeginsCall function.now forms.now next self.old result self.new }
+    {
+        self.runtime.check_height(function.height)?;
+        self.runtime.spend()?;
+        self.give_arguments(forms)?;
+        self.runtime
+            .enter_call(function.arrays.as_slice(), function.height)?;
+        let base = self.operands.enter();
+        self.calls.enter(Entry { next, base }, function.height)?;
+        Ok(function.body)
+    }
+
+    /// Gives the call that is about to be made its arguments, and takes the values off the stack.
+    fn give_arguments(&mut self, forms: &[ArgumentForm]) -> Result<(), Halt>
+        ensures { GivesAll forms.now self.old result self.new }
+    {
+        let count = values_among(forms);
+        let mut given = 0;
+        let mut index = 0;
+        'arguments: while let Some(form) = form_at(forms, index) {
+            self.give_argument(form, count, given)?;
+            given += count_of(form);
+            index += 1;
+        }
+        self.operands.drop(count);
+        Ok(())
+    }
+
+    /// Gives the call one argument; a value is the given one of so many topmost.
+    fn give_argument(&mut self, form: ArgumentForm, count: usize, given: usize) -> Result<(), Halt>
+        ensures gives { Gives (kept_by form (drop given (taken count self.old.operands.values)) self.old.runtime.frames) self.old.runtime self.new.runtime result }
+        ensures operands { self.new.operands ≡ self.old.operands }
+        ensures calls { self.new.calls ≡ self.old.calls }
+    {
+        match form {
+            ArgumentForm::Value => {
+                let value = self.operands.copy_of(count, given)?;
+                self.runtime.give_value(value)
+            }
+            ArgumentForm::Array(array) => self.runtime.give_array(array),
+        }
+    }
+}

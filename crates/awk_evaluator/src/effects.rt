@@ -1,0 +1,83 @@
+// What nodes do that give no value: what a node takes is taken off the operands.
+
+ghost use Rattle.std.specs.Prelude.{None as NoneOf, Some as SomeOf};
+ghost use Rattle.awk_runtime.specs.Simulation.{IsReady};
+ghost use Rattle.awk_compile.specs.declared.node.EffectNode.TheVariants.{Delete, Print, SetStatus};
+ghost use Rattle.awk_evaluator.specs.Moves.{Acts, Performs};
+
+use crate::machine::Machine;
+use awk_channels::World;
+use awk_compile::node::EffectNode;
+use awk_grammar::tree::{PrintForm, Redirection};
+use awk_semantics::Halt;
+use awk_storage::Array;
+
+impl Machine {
+    /// Does what a node does.
+    #[inline(always)]
+    pub(crate) fn perform<W: World>(&mut self, world: &mut W, node: EffectNode) -> Result<(), Halt>
+        requires ready { IsReady W.is_logged (W.state world.old) self.old.runtime.streams }
+        ensures ready { IsReady W.is_logged (W.state world.new) self.new.runtime.streams }
+        ensures performs { Performs W.is_logged node self.old (W.state world.old) result self.new (W.state world.new) }
+    {
+        match node {
+            EffectNode::Spend => self.runtime.spend(),
+            EffectNode::Drop(count) => {
+                self.operands.drop(count as usize);
+                Ok(())
+            }
+            EffectNode::Delete(array) => self.delete(array),
+            EffectNode::Print(form, count, None) => self.print(world, form, count),
+            EffectNode::Print(form, count, Some(way)) => self.print_to(world, form, count, way),
+            EffectNode::SetStatus => self.set_status(),
+        }
+    }
+
+    // Removes the element at the key that an operand is.
+    fn delete(&mut self, array: Array) -> Result<(), Halt>
+        ensures { Acts (Delete array) self.old result self.new }
+    {
+        let key = self.operands.pop();
+        self.runtime.delete_at(array, &key)
+    }
+
+    // Sets the exit status to an operand's number.
+    fn set_status(&mut self) -> Result<(), Halt>
+        ensures { Acts SetStatus self.old result self.new }
+    {
+        let status = self.operands.pop();
+        self.runtime.set_status(&status)
+    }
+
+    // Prints so many operands to standard output.
+    fn print<W: World>(&mut self, world: &mut W, form: PrintForm, count: u32) -> Result<(), Halt>
+        requires ready { IsReady W.is_logged (W.state world.old) self.old.runtime.streams }
+        ensures ready { IsReady W.is_logged (W.state world.new) self.new.runtime.streams }
+        ensures performs { Performs W.is_logged (Print form count NoneOf) self.old (W.state world.old) result self.new (W.state world.new) }
+    {
+        let values = self.operands.newest(count as usize);
+        self.runtime.print(world, form, values)?;
+        self.operands.drop(count as usize);
+        Ok(())
+    }
+
+    // Prints so many operands to the target whose name is the topmost one.
+    #[inline(never)]
+    fn print_to<W: World>(
+        &mut self,
+        world: &mut W,
+        form: PrintForm,
+        count: u32,
+        way: Redirection,
+    ) -> Result<(), Halt>
+        requires ready { IsReady W.is_logged (W.state world.old) self.old.runtime.streams }
+        ensures ready { IsReady W.is_logged (W.state world.new) self.new.runtime.streams }
+        ensures performs { Performs W.is_logged (Print form count (SomeOf way)) self.old (W.state world.old) result self.new (W.state world.new) }
+    {
+        let name = self.operands.pop();
+        let values = self.operands.newest(count as usize);
+        self.runtime.print_to(world, form, values, way, &name)?;
+        self.operands.drop(count as usize);
+        Ok(())
+    }
+}

@@ -1,0 +1,52 @@
+// The value of a node that calls no function of the program.
+
+ghost use Rattle.awk_runtime.specs.Simulation.{IsReady};
+ghost use Rattle.awk_evaluator.specs.Moves.{IsStrict, Evaluates};
+
+use crate::machine::Machine;
+use awk_channels::World;
+use awk_compile::node::ValueNode;
+use awk_semantics::Halt;
+use awk_value::Value;
+
+impl Machine {
+    /// The value of a node, whose operands are taken off the stack.
+    #[inline(always)]
+    pub(crate) fn evaluate<W: World>(
+        &mut self,
+        world: &mut W,
+        node: &ValueNode,
+    ) -> Result<Value, Halt>
+        requires strict { IsStrict node.now }
+        requires ready { IsReady W.is_logged (W.state world.old) self.old.runtime.streams }
+        ensures ready { IsReady W.is_logged (W.state world.new) self.new.runtime.streams }
+        ensures evaluates { Evaluates W.is_logged node.now self.old (W.state world.old) result self.new (W.state world.new) }
+    {
+        match node {
+            ValueNode::Push(value) => self.constant(value),
+            ValueNode::Read(variable) => self.variable(*variable),
+            ValueNode::Operate(operator) => self.operate(*operator),
+            ValueNode::Change(operator) => self.change(*operator),
+            ValueNode::ReadField => self.field(),
+            ValueNode::ReadElement(array) => self.element(*array),
+            ValueNode::Assign(operator, place) => self.assign(*operator, *place),
+            ValueNode::PreIncrement(operator, place) => self.pre_increment(*operator, *place),
+            ValueNode::PostIncrement(operator, place) => self.post_increment(*operator, *place),
+            ValueNode::RecordMatches(ere) => self.record_matches(*ere),
+            ValueNode::MatchesEre(operator, ere) => self.matches_ere(*operator, *ere),
+            ValueNode::Contains(array) => self.contains(*array),
+            ValueNode::Key(count) => self.key(*count),
+            ValueNode::FieldNumber => self.field_number(),
+            ValueNode::Load(place) => self.load(*place),
+            ValueNode::RecordLength => self.record_length(),
+            ValueNode::Apply(function, count) => self.apply_function(*function, *count),
+            ValueNode::Match(ere) => self.match_in(*ere),
+            ValueNode::Split(array, by) => self.split(*array, *by),
+            ValueNode::Substitute(all, ere, place) => self.substitute(*all, *ere, *place),
+            ValueNode::Getline(source, place) => self.getline(world, *source, *place),
+            ValueNode::Close => self.close(world),
+            ValueNode::System => self.system(world),
+            ValueNode::Call(_, _) => unreachable!(),
+        }
+    }
+}

@@ -1,0 +1,18 @@
+//! The one evaluator over nodes: from a place of a plan to the end of a run.
+#![tactic(auto)]
+
+mod beginning;
+pub mod calls;
+pub mod control;
+mod effects;
+pub mod entry;
+mod evaluate;
+mod machine;
+pub mod operands;
+mod steps;
+mod stream_values;
+mod text_values;
+mod values;
+mod walks;
+
+pub use machine::{Machine, Move};

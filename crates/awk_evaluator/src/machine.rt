@@ -1,0 +1,128 @@
+// The machine: it moves from place to place, until nothing is left. No function of it calls itself.
+
+ghost use Rattle.std.specs.Prelude.{◌≡◌, OnOk};
+ghost use Rattle.awk_runtime.specs.Simulation.{IsReady};
+ghost use Rattle.awk_runtime.specs.Calling.{EndsCalls};
+ghost use Rattle.awk_compile.specs.declared.node.Node.TheVariants.{Value as NodeValue};
+ghost use Rattle.awk_evaluator.specs.Rest.{IsSound, AtPlace};
+ghost use Rattle.awk_evaluator.specs.Moves.{IsIdle, Turns, Steps, Ends, Executes};
+
+use crate::calls::Calls;
+use crate::operands::Operands;
+use awk_channels::World;
+use awk_compile::Plan;
+use awk_runtime::Runtime;
+use awk_semantics::Halt;
+use awk_value::Value;
+
+/// A run: its state, the operands of the active calls, and where their callers go on.
+#[derive(Drop)]
+pub struct Machine {
+    pub runtime: Runtime,
+    pub operands: Operands,
+    pub calls: Calls,
+}
+
+/// Where a move leads.
+#[derive(Drop)]
+pub enum Move {
+    /// To a place that stands before.
+    On(u32),
+    /// To any place, behind a step that was spent.
+    Up(u32),
+    /// To any place, behind a call.
+    Back(u32),
+    /// Nowhere: this is the last value.
+    Over(Value),
+}
+
+impl Machine {
+    /// A machine in which nothing is active. Takes no memory.
+    pub fn new(runtime: Runtime) -> Machine
+        ensures runtime { result.runtime ≡ runtime }
+        ensures idle { IsIdle result }
+    {
+        let alloc = runtime.alloc;
+        Machine {
+            runtime,
+            operands: Operands::new(alloc),
+            calls: Calls::new(alloc),
+        }
+    }
+
+    /// Runs what stands at a place of the plan. Behind an `Err` calls may be active still.
+    pub fn execute<W: World>(
+        &mut self,
+        world: &mut W,
+        plan: &Plan,
+        place: u32,
+    ) -> Result<Value, Halt>
+        requires sound { IsSound plan.now }
+        requires idle { IsIdle self.old }
+        requires ready { IsReady W.is_logged (W.state world.old) self.old.runtime.streams }
+        ensures ready { IsReady W.is_logged (W.state world.new) self.new.runtime.streams }
+        ensures idle { OnOk result (IsIdle self.new) }
+        ensures executes { Executes W.is_logged plan.now place self.old (W.state world.old) result self.new (W.state world.new) }
+    {
+        self.run(world, plan, place)
+    }
+
+    /// Behind a `next` or an `exit`: no call is active any more.
+    pub fn end_calls(&mut self)
+        ensures idle { IsIdle self.new }
+        ensures ends { EndsCalls self.old.runtime self.new.runtime }
+    {
+        self.operands.clear();
+        self.calls.clear();
+        self.runtime.end_calls();
+    }
+
+    /// Goes on from a place to the end.
+    fn run<W: World>(&mut self, world: &mut W, plan: &Plan, start: u32) -> Result<Value, Halt>
+        requires sound { IsSound plan.now }
+        requires ready { IsReady W.is_logged (W.state world.old) self.old.runtime.streams }
+        ensures ready { IsReady W.is_logged (W.state world.new) self.new.runtime.streams }
+        ensures ends { Ends W.is_logged plan.now (AtPlace start) self.old (W.state world.old) result self.new (W.state world.new) }
+    {
+        let mut at = start;
+        'steps: loop {
+            match self.to_step(world, plan, at)? {
+                Move::Up(next) => at = next,
+                Move::Over(value) => return Ok(value),
+                Move::On(_) | Move::Back(_) => unreachable!(),
+            }
+        }
+    }
+
+    /// Goes on to the next step or the end.
+    fn to_step<W: World>(&mut self, world: &mut W, plan: &Plan, start: u32) -> Result<Move, Halt>
+        requires sound { IsSound plan.now }
+        requires ready { IsReady W.is_logged (W.state world.old) self.old.runtime.streams }
+        ensures ready { IsReady W.is_logged (W.state world.new) self.new.runtime.streams }
+        ensures steps { Steps W.is_logged plan.now (AtPlace start) self.old (W.state world.old) result self.new (W.state world.new) }
+    {
+        let mut at = start;
+        'returns: loop {
+            match self.to_turn(world, plan, at)? {
+                Move::Back(next) => at = next,
+                other => return Ok(other),
+            }
+        }
+    }
+
+    /// Goes on to the next step, return or end.
+    fn to_turn<W: World>(&mut self, world: &mut W, plan: &Plan, start: u32) -> Result<Move, Halt>
+        requires sound { IsSound plan.now }
+        requires ready { IsReady W.is_logged (W.state world.old) self.old.runtime.streams }
+        ensures ready { IsReady W.is_logged (W.state world.new) self.new.runtime.streams }
+        ensures turns { Turns W.is_logged plan.now (AtPlace start) self.old (W.state world.old) result self.new (W.state world.new) }
+    {
+        let mut at = start;
+        'moves: loop {
+            match self.go_on(world, plan, at)? {
+                Move::On(next) => at = next,
+                other => return Ok(other),
+            }
+        }
+    }
+}

@@ -1,0 +1,179 @@
+// The operands: one stack of values for all active calls, of which the newest call sees its own alone.
+
+ghost use Rattle.std.specs.Prelude.{◌≡◌, ◌≤◌, ◌-◌, max, [], ◌∷◌, length, drop, take, reverse, get_or, unwrap_or, IfOk, OnOk, OnErr};
+ghost use Rattle.std.specs.Option.{option_map};
+ghost use Rattle.awk_value.specs.declared.value.Value.TheVariants.{Nothing};
+ghost use Rattle.awk_compile.specs.Nodes.{first, second, taken};
+ghost use Rattle.awk_evaluator.specs.support.Operands.{all_of};
+
+use awk_value::Value;
+use std::alloc::{AllocError, Global};
+use std::marker::Model;
+
+/// The operands of the active calls. A call takes none of its callers'.
+#[derive(Drop)]
+pub struct Operands {
+    values: Vec<Value>,
+    base: usize,
+}
+
+impl Model for Operands {
+    ghost use Rattle.std.specs.Prelude.{◌≤◌, drop, take, reverse, length};
+    ghost use Rattle.awk_evaluator.specs.support.Operands.{OperandsView};
+
+    ghost Value = { OperandsView };
+
+    ghost view = { λ o. record { values = reverse (drop o.base o.values.items); below = take o.base o.values.items } };
+
+    ghost invariant = { λ o. o.base ≤ length o.values.items };
+}
+
+/// Where the topmost of so many values begin, which are `count` or as many as there are from `base` on.
+#[inline(always)]
+fn start_of(length: usize, base: usize, count: usize) -> usize
+    requires { base ≤ length }
+    ensures { result ≡ max base (length - count) }
+{
+    if count > length - base {
+        return base;
+    }
+    length - count
+}
+
+impl Operands {
+    /// There are none. Takes no memory.
+    pub fn new(alloc: Global) -> Operands
+        ensures { result ≡ record { values = []; below = [] } }
+    {
+        Operands {
+            values: Vec::new(alloc),
+            base: 0,
+        }
+    }
+
+    /// Puts a value on top. An `Err`, which is want of memory, changes nothing.
+    #[inline(always)]
+    pub fn push(&mut self, value: Value) -> Result<(), AllocError>
+        ensures pushed { OnOk result (self.new ≡ record self.old { values = value ∷ self.old.values }) }
+        ensures unchanged { OnErr result (self.new ≡ self.old) }
+    {
+        self.values.push(value)?;
+        Ok(())
+    }
+
+    /// Takes the topmost value off; nothing, where there is none.
+    #[inline(always)]
+    pub fn pop(&mut self) -> Value
+        ensures top { result ≡ first self.old.values }
+        ensures rest { self.new ≡ record self.old { values = drop 1 self.old.values } }
+    {
+        if self.values.len() <= self.base {
+            return Value::Nothing;
+        }
+        match self.values.pop() {
+            Some(value) => value,
+            None => Value::Nothing,
+        }
+    }
+
+    /// Takes the two topmost values off, of which the topmost was evaluated last; nothing for one that isn't there.
+    #[inline(always)]
+    pub fn pop_two(&mut self) -> (Value, Value)
+        ensures left { result.0 ≡ second self.old.values }
+        ensures right { result.1 ≡ first self.old.values }
+        ensures rest { self.new ≡ record self.old { values = drop 2 self.old.values } }
+    {
+        let right = self.pop();
+        let left = self.pop();
+        (left, right)
+    }
+
+    /// The topmost value, if there is one.
+    #[inline(always)]
+    pub fn top(&self) -> Option<&Value>
+        ensures { unwrap_or (option_map (λ value. value.now) result) Nothing ≡ first self.now.values }
+    {
+        if self.values.len() <= self.base {
+            return None;
+        }
+        self.values.last()
+    }
+
+    /// The topmost value, or this one in place of nothing.
+    #[inline(always)]
+    pub fn top_or<'a>(&'a self, nothing: &'a Value) -> &'a Value
+        requires { nothing.now ≡ Nothing }
+        ensures { result.now ≡ first self.now.values }
+    {
+        match self.top() {
+            Some(value) => value,
+            None => nothing,
+        }
+    }
+
+    /// So many of the topmost values, in the order in which they were evaluated.
+    #[inline(always)]
+    pub fn newest(&self, count: usize) -> &[Value]
+        ensures { result.now ≡ taken count self.now.values }
+    {
+        let start = start_of(self.values.len(), self.base, count);
+        &self.values[start..]
+    }
+
+    /// A copy of one of so many topmost values, by its place in the order in which they were evaluated.
+    pub fn copy_of(&self, count: usize, index: usize) -> Result<Value, AllocError>
+        ensures { IfOk result (λ value. value ≡ get_or (taken count self.now.values) index Nothing) }
+    {
+        match self.newest(count).get(index) {
+            Some(value) => value.clone(),
+            None => Ok(Value::Nothing),
+        }
+    }
+
+    /// Takes so many values off.
+    #[inline(always)]
+    pub fn drop(&mut self, count: usize)
+        ensures { self.new ≡ record self.old { values = drop count self.old.values } }
+    {
+        let start = start_of(self.values.len(), self.base, count);
+        self.values.truncate(start);
+    }
+
+    /// Takes so many values off, however many that are.
+    pub fn drop_many(&mut self, count: u128)
+        ensures { self.new ≡ record self.old { values = drop count self.old.values } }
+    {
+        let length = self.values.len();
+        if count > length as u128 {
+            self.values.truncate(self.base);
+            return;
+        }
+        self.drop(count as usize);
+    }
+
+    /// A call begins, which has no operands yet. Gives how many its callers' callers have.
+    pub fn enter(&mut self) -> usize
+        ensures base { result ≡ length self.old.below }
+        ensures entered { self.new ≡ record { values = []; below = all_of self.old } }
+    {
+        let base = self.base;
+        self.base = self.values.len();
+        base
+    }
+
+    /// The newest call is over: its caller's operands are those behind so many.
+    pub fn leave(&mut self, base: usize)
+        ensures { self.new ≡ record { values = reverse (drop base self.old.below); below = take base self.old.below } }
+    {
+        self.values.truncate(self.base);
+        self.base = base.min(self.values.len());
+    }
+
+    /// There are none any more.
+    pub fn clear(&mut self)
+        ensures { self.new ≡ record { values = []; below = [] } }
+    {
+        self.values.clear();
+        self.base = 0;
+    }
+}

@@ -1,0 +1,146 @@
+// The values of nodes that reach the world.
+
+ghost use Rattle.std.specs.Prelude.{◌≡◌};
+ghost use Rattle.awk_value.specs.Values.{str_of};
+ghost use Rattle.awk_storage.specs.Forms.{named_getline_at};
+ghost use Rattle.awk_runtime.specs.Simulation.{IsReady, Follows};
+ghost use Rattle.awk_compile.specs.Nodes.{first, place_operands};
+ghost use Rattle.awk_compile.specs.declared.node.ValueNode.TheVariants.{Getline, Close, System};
+ghost use Rattle.awk_compile.specs.declared.node.Source.TheVariants.{Main, File, Command};
+ghost use Rattle.awk_evaluator.specs.Moves.{Evaluates};
+
+use crate::machine::Machine;
+use crate::values::operand_count;
+use awk_channels::{InputKind, World};
+use awk_compile::node::Source;
+use awk_semantics::Halt;
+use awk_storage::Place;
+use awk_value::Value;
+
+/// How many values lie on the stack for a place, if there is one.
+fn place_operand_count(place: Option<Place>) -> usize
+    ensures { result ≡ place_operands place }
+{
+    match place {
+        Some(place) => operand_count(place),
+        None => 0,
+    }
+}
+
+impl Machine {
+    /// Reads a record. (POSIX awk, Input/Output and General Functions: getline)
+    #[inline(never)]
+    pub(crate) fn getline<W: World>(
+        &mut self,
+        world: &mut W,
+        source: Source,
+        place: Option<Place>,
+    ) -> Result<Value, Halt>
+        requires ready { IsReady W.is_logged (W.state world.old) self.old.runtime.streams }
+        ensures ready { IsReady W.is_logged (W.state world.new) self.new.runtime.streams }
+        ensures evaluates { Evaluates W.is_logged (Getline source place) self.old (W.state world.old) result self.new (W.state world.new) }
+    {
+        match source {
+            Source::Main => self.getline_from_main(world, place),
+            Source::File => self.getline_from_file(world, place),
+            Source::Command => self.getline_from_command(world, place),
+        }
+    }
+
+    // From the main input.
+    fn getline_from_main<W: World>(
+        &mut self,
+        world: &mut W,
+        place: Option<Place>,
+    ) -> Result<Value, Halt>
+        requires ready { IsReady W.is_logged (W.state world.old) self.old.runtime.streams }
+        ensures ready { IsReady W.is_logged (W.state world.new) self.new.runtime.streams }
+        ensures evaluates { Evaluates W.is_logged (Getline Main place) self.old (W.state world.old) result self.new (W.state world.new) }
+    {
+        let nothing = Value::Nothing;
+        let operand = self.operands.top().unwrap_or(&nothing);
+        let answer = self.runtime.main_getline_at(world, place, operand)?;
+        self.operands.drop(place_operand_count(place));
+        Ok(answer)
+    }
+
+    // From the file whose name is the topmost operand.
+    fn getline_from_file<W: World>(
+        &mut self,
+        world: &mut W,
+        place: Option<Place>,
+    ) -> Result<Value, Halt>
+        requires ready { IsReady W.is_logged (W.state world.old) self.old.runtime.streams }
+        ensures ready { IsReady W.is_logged (W.state world.new) self.new.runtime.streams }
+        ensures evaluates { Evaluates W.is_logged (Getline File place) self.old (W.state world.old) result self.new (W.state world.new) }
+    {
+        let name = self.operands.pop();
+        let answer = self.named_getline(world, InputKind::File, &name, place)?;
+        self.operands.drop(place_operand_count(place));
+        Ok(answer)
+    }
+
+    // From a named input, to a place whose operand is the topmost one and stays.
+    fn named_getline<W: World>(
+        &mut self,
+        world: &mut W,
+        kind: InputKind,
+        name: &Value,
+        place: Option<Place>,
+    ) -> Result<Value, Halt>
+        requires ready { IsReady W.is_logged (W.state world.old) self.old.runtime.streams }
+        ensures ready { IsReady W.is_logged (W.state world.new) self.new.runtime.streams }
+        ensures operands { self.new.operands ≡ self.old.operands }
+        ensures calls { self.new.calls ≡ self.old.calls }
+        ensures follows { Follows W.is_logged (named_getline_at self.old.runtime.names.scalars kind (str_of name.now) place
+            (first self.old.operands.values)) self.old.runtime (W.state world.old) self.new.runtime (W.state world.new) result }
+    {
+        let nothing = Value::Nothing;
+        let operand = self.operands.top().unwrap_or(&nothing);
+        self.runtime
+            .named_getline_at(world, kind, name, place, operand)
+    }
+
+    // From the command that lies below the operand of the place.
+    fn getline_from_command<W: World>(
+        &mut self,
+        world: &mut W,
+        place: Option<Place>,
+    ) -> Result<Value, Halt>
+        requires ready { IsReady W.is_logged (W.state world.old) self.old.runtime.streams }
+        ensures ready { IsReady W.is_logged (W.state world.new) self.new.runtime.streams }
+        ensures evaluates { Evaluates W.is_logged (Getline Command place) self.old (W.state world.old) result self.new (W.state world.new) }
+    {
+        let top = self.operands.pop();
+        if place_operand_count(place) == 0 {
+            return self
+                .runtime
+                .named_getline_at(world, InputKind::Command, &top, place, &top);
+        }
+        let command = self.operands.pop();
+        self.runtime
+            .named_getline_at(world, InputKind::Command, &command, place, &top)
+    }
+
+    /// Closes each stream whose name an operand is. (POSIX awk, Input/Output and General Functions: close)
+    #[inline(never)]
+    pub(crate) fn close<W: World>(&mut self, world: &mut W) -> Result<Value, Halt>
+        requires ready { IsReady W.is_logged (W.state world.old) self.old.runtime.streams }
+        ensures ready { IsReady W.is_logged (W.state world.new) self.new.runtime.streams }
+        ensures evaluates { Evaluates W.is_logged Close self.old (W.state world.old) result self.new (W.state world.new) }
+    {
+        let name = self.operands.pop();
+        Ok(Value::Number(self.runtime.close_named(world, &name)?))
+    }
+
+    /// Runs the command that an operand is. (POSIX awk, Input/Output and General Functions: system)
+    #[inline(never)]
+    pub(crate) fn system<W: World>(&mut self, world: &mut W) -> Result<Value, Halt>
+        requires ready { IsReady W.is_logged (W.state world.old) self.old.runtime.streams }
+        ensures ready { IsReady W.is_logged (W.state world.new) self.new.runtime.streams }
+        ensures evaluates { Evaluates W.is_logged System self.old (W.state world.old) result self.new (W.state world.new) }
+    {
+        let command = self.operands.pop();
+        Ok(Value::Number(self.runtime.run_command(world, &command)?))
+    }
+}

@@ -1,0 +1,142 @@
+// The values of functions that search in texts.
+
+ghost use Rattle.std.specs.Prelude.{◌≡◌, ◌∷◌, drop, None as NoneOf, Some as SomeOf};
+ghost use Rattle.awk_runtime.specs.Simulation.{Changes};
+ghost use Rattle.awk_compile.specs.Nodes.{Tables, pattern_operands, substitute_by};
+ghost use Rattle.awk_compile.specs.declared.node.ValueNode.TheVariants.{Match, Split, Substitute};
+ghost use Rattle.awk_evaluator.specs.Rest.{tables_in};
+ghost use Rattle.awk_evaluator.specs.Moves.{Computes};
+
+use crate::machine::Machine;
+use crate::values::operand_count;
+use awk_compile::node::SplitBy;
+use awk_runtime::PatternSource;
+use awk_semantics::Halt;
+use awk_storage::{Array, Place};
+use awk_value::Value;
+
+impl Machine {
+    /// Where a pattern matches in an operand; sets RSTART and RLENGTH. (POSIX awk, String Functions: match)
+    #[inline(never)]
+    pub(crate) fn match_in(&mut self, ere: Option<u32>) -> Result<Value, Halt>
+        ensures { Computes (Match ere) self.old result self.new }
+    {
+        match ere {
+            Some(ere) => {
+                let text = self.operands.pop();
+                self.runtime.match_in(&text, PatternSource::Ere(ere))
+            }
+            None => {
+                let (text, pattern) = self.operands.pop_two();
+                self.runtime.match_in(&text, PatternSource::Value(&pattern))
+            }
+        }
+    }
+
+    /// Splits an operand into the elements of an array. (POSIX awk, String Functions: split)
+    #[inline(never)]
+    pub(crate) fn split(&mut self, array: Array, by: SplitBy) -> Result<Value, Halt>
+        ensures { Computes (Split array by) self.old result self.new }
+    {
+        match by {
+            SplitBy::FieldSeparator => {
+                let text = self.operands.pop();
+                self.runtime.split(array, &text, None)
+            }
+            SplitBy::Value => {
+                let (text, separator) = self.operands.pop_two();
+                let separator = PatternSource::Value(&separator);
+                self.runtime.split(array, &text, Some(separator))
+            }
+            SplitBy::Ere(ere) => {
+                let text = self.operands.pop();
+                self.runtime
+                    .split(array, &text, Some(PatternSource::Ere(ere)))
+            }
+        }
+    }
+
+    // Exchanges matches in the record.
+    fn substitute_in_record(&mut self, all: bool, ere: Option<u32>) -> Result<Value, Halt>
+        ensures { Computes (Substitute all ere NoneOf) self.old result self.new }
+    {
+        match ere {
+            Some(ere) => {
+                let replacement = self.operands.pop();
+                self.runtime
+                    .substitute_in_record(all, PatternSource::Ere(ere), &replacement)
+            }
+            None => {
+                let (pattern, replacement) = self.operands.pop_two();
+                let pattern = PatternSource::Value(&pattern);
+                self.runtime
+                    .substitute_in_record(all, pattern, &replacement)
+            }
+        }
+    }
+
+    // Exchanges matches in an old value, and assigns what was made to a place. A pattern that is a value is the topmost operand.
+    fn exchange(
+        &mut self,
+        all: bool,
+        ere: Option<u32>,
+        place: Place,
+        operand: &Value,
+        replacement: &Value,
+        old: &Value,
+    ) -> Result<Value, Halt>
+        ensures rest { self.new.operands
+            ≡ record self.old.operands { values = drop (pattern_operands ere) self.old.operands.values } }
+        ensures calls { self.new.calls ≡ self.old.calls }
+        ensures changes { (tables : Tables) → Changes (substitute_by (tables_in self.old.runtime.names tables) all ere place
+            operand.now old.now (replacement.now ∷ self.old.operands.values)) self.old.runtime self.new.runtime result }
+    {
+        match ere {
+            Some(ere) => {
+                let pattern = PatternSource::Ere(ere);
+                self.runtime
+                    .substitute(all, pattern, replacement, place, operand, old)
+            }
+            None => {
+                let pattern = self.operands.pop();
+                let pattern = PatternSource::Value(&pattern);
+                self.runtime
+                    .substitute(all, pattern, replacement, place, operand, old)
+            }
+        }
+    }
+
+    // Exchanges matches in the old value of a place, which is the topmost operand; the place's own operand lies below it.
+    fn substitute_in_place(
+        &mut self,
+        all: bool,
+        ere: Option<u32>,
+        place: Place,
+    ) -> Result<Value, Halt>
+        ensures { Computes (Substitute all ere (SomeOf place)) self.old result self.new }
+    {
+        let old = self.operands.pop();
+        let below = self.operands.pop();
+        if operand_count(place) == 0 {
+            return self.exchange(all, ere, place, &below, &below, &old);
+        }
+        let replacement = self.operands.pop();
+        self.exchange(all, ere, place, &below, &replacement, &old)
+    }
+
+    /// Exchanges matches in a place or in the record. (POSIX awk, String Functions: sub, gsub)
+    #[inline(never)]
+    pub(crate) fn substitute(
+        &mut self,
+        all: bool,
+        ere: Option<u32>,
+        place: Option<Place>,
+    ) -> Result<Value, Halt>
+        ensures { Computes (Substitute all ere place) self.old result self.new }
+    {
+        match place {
+            Some(place) => self.substitute_in_place(all, ere, place),
+            None => self.substitute_in_record(all, ere),
+        }
+    }
+}

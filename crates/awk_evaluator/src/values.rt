@@ -1,0 +1,200 @@
+// The values of nodes over the state alone: what a node takes is taken off the operands, and its value is given.
+
+ghost use Rattle.std.specs.Prelude.{◌≡◌};
+ghost use Rattle.awk_compile.specs.Nodes.{operands};
+ghost use Rattle.awk_compile.specs.declared.node.ValueNode.TheVariants.{Push, Read, RecordMatches, Operate, MatchesEre, Change, ReadField, ReadElement, Contains, Key, FieldNumber, Assign, PreIncrement, PostIncrement, Load, RecordLength, Apply};
+ghost use Rattle.awk_evaluator.specs.Moves.{Computes};
+
+use crate::machine::Machine;
+use awk_functions::{operator_of, truth_value};
+use awk_grammar::tree::{BinaryOperator, UnaryOperator};
+use awk_lex::token::{AssignmentOperator, BuiltIn, IncrementOperator, Operator};
+use awk_semantics::Halt;
+use awk_storage::{Array, Place, Variable};
+use awk_value::Value;
+
+/// How many values lie on the stack for a place.
+#[inline(always)]
+pub(crate) fn operand_count(place: Place) -> usize
+    ensures { result ≡ operands place }
+{
+    match place {
+        Place::Variable(_) => 0,
+        Place::Element(_) | Place::Field => 1,
+    }
+}
+
+impl Machine {
+    /// A value of the program.
+    #[inline(always)]
+    pub(crate) fn constant(&mut self, value: &Value) -> Result<Value, Halt>
+        ensures { Computes (Push value.now) self.old result self.new }
+    {
+        Ok(value.clone()?)
+    }
+
+    /// The value of a variable.
+    #[inline(always)]
+    pub(crate) fn variable(&mut self, variable: Variable) -> Result<Value, Halt>
+        ensures { Computes (Read variable) self.old result self.new }
+    {
+        self.runtime.read_variable(variable)
+    }
+
+    /// Whether the record has a match of an ERE of the program.
+    pub(crate) fn record_matches(&mut self, ere: u32) -> Result<Value, Halt>
+        ensures { Computes (RecordMatches ere) self.old result self.new }
+    {
+        self.runtime.record_matches(ere)
+    }
+
+    /// What an operator makes of two operands.
+    #[inline(always)]
+    pub(crate) fn operate(&mut self, operator: BinaryOperator) -> Result<Value, Halt>
+        ensures { Computes (Operate operator) self.old result self.new }
+    {
+        let (left, right) = self.operands.pop_two();
+        match operator {
+            BinaryOperator::Concatenate => self.runtime.concatenate(left, &right),
+            BinaryOperator::Infix(operator) => self.runtime.apply(operator, &left, &right),
+        }
+    }
+
+    /// Whether an operand matches an ERE of the program, or doesn't.
+    pub(crate) fn matches_ere(&mut self, operator: Operator, ere: u32) -> Result<Value, Halt>
+        ensures { Computes (MatchesEre operator ere) self.old result self.new }
+    {
+        let text = self.operands.pop();
+        self.runtime.matches_ere(operator, &text, ere)
+    }
+
+    /// What an operator makes of an operand.
+    pub(crate) fn change(&mut self, operator: UnaryOperator) -> Result<Value, Halt>
+        ensures { Computes (Change operator) self.old result self.new }
+    {
+        let operand = self.operands.pop();
+        self.runtime.change(operator, &operand)
+    }
+
+    /// The field whose number an operand is.
+    #[inline(always)]
+    pub(crate) fn field(&mut self) -> Result<Value, Halt>
+        ensures { Computes ReadField self.old result self.new }
+    {
+        let number = self.operands.pop();
+        self.runtime.read_at(Place::Field, &number)
+    }
+
+    /// The element at the key that an operand is.
+    #[inline(always)]
+    pub(crate) fn element(&mut self, array: Array) -> Result<Value, Halt>
+        ensures { Computes (ReadElement array) self.old result self.new }
+    {
+        let key = self.operands.pop();
+        self.runtime.read_element_of(array, &key)
+    }
+
+    /// Whether there is an element at the key that an operand is.
+    pub(crate) fn contains(&mut self, array: Array) -> Result<Value, Halt>
+        ensures { Computes (Contains array) self.old result self.new }
+    {
+        let key = self.operands.pop();
+        let is_there = self.runtime.contains_at(array, &key)?;
+        Ok(truth_value(is_there))
+    }
+
+    /// So many subscripts as one text.
+    pub(crate) fn key(&mut self, count: u32) -> Result<Value, Halt>
+        ensures { Computes (Key count) self.old result self.new }
+    {
+        let subscripts = self.operands.newest(count as usize);
+        let key = self.runtime.joined_key(subscripts)?;
+        self.operands.drop(count as usize);
+        Ok(Value::Text(key))
+    }
+
+    /// The number of a field that is a place.
+    pub(crate) fn field_number(&mut self) -> Result<Value, Halt>
+        ensures { Computes FieldNumber self.old result self.new }
+    {
+        let operand = self.operands.pop();
+        self.runtime.change(UnaryOperator::Plus, &operand)
+    }
+
+    /// Assigns an operand to a place; gives what the place then holds.
+    #[inline(always)]
+    pub(crate) fn assign(
+        &mut self,
+        operator: AssignmentOperator,
+        place: Place,
+    ) -> Result<Value, Halt>
+        ensures { Computes (Assign operator place) self.old result self.new }
+    {
+        let value = self.operands.pop();
+        let nothing = Value::Nothing;
+        let operand = self.operands.top().unwrap_or(&nothing);
+        let assigned = self
+            .runtime
+            .assign_by_at(operator_of(operator), place, operand, value)?;
+        self.operands.drop(operand_count(place));
+        Ok(assigned)
+    }
+
+    /// Raises or lowers what a place holds by 1; gives what it then holds.
+    #[inline(always)]
+    pub(crate) fn pre_increment(
+        &mut self,
+        operator: IncrementOperator,
+        place: Place,
+    ) -> Result<Value, Halt>
+        ensures { Computes (PreIncrement operator place) self.old result self.new }
+    {
+        let nothing = Value::Nothing;
+        let operand = self.operands.top().unwrap_or(&nothing);
+        let raised = self.runtime.pre_increment_at(operator, place, operand)?;
+        self.operands.drop(operand_count(place));
+        Ok(raised)
+    }
+
+    /// Raises or lowers what a place holds by 1; gives the number that it had.
+    #[inline(always)]
+    pub(crate) fn post_increment(
+        &mut self,
+        operator: IncrementOperator,
+        place: Place,
+    ) -> Result<Value, Halt>
+        ensures { Computes (PostIncrement operator place) self.old result self.new }
+    {
+        let nothing = Value::Nothing;
+        let operand = self.operands.top().unwrap_or(&nothing);
+        let old = self.runtime.post_increment_at(operator, place, operand)?;
+        self.operands.drop(operand_count(place));
+        Ok(old)
+    }
+
+    /// What a place holds, whose operand stays.
+    pub(crate) fn load(&mut self, place: Place) -> Result<Value, Halt>
+        ensures { Computes (Load place) self.old result self.new }
+    {
+        let nothing = Value::Nothing;
+        let operand = self.operands.top().unwrap_or(&nothing);
+        self.runtime.read_at(place, operand)
+    }
+
+    /// The length of the record's text.
+    pub(crate) fn record_length(&mut self) -> Result<Value, Halt>
+        ensures { Computes RecordLength self.old result self.new }
+    {
+        self.runtime.record_length()
+    }
+
+    /// What a built-in function makes of so many operands.
+    pub(crate) fn apply_function(&mut self, function: BuiltIn, count: u32) -> Result<Value, Halt>
+        ensures { Computes (Apply function count) self.old result self.new }
+    {
+        let arguments = self.operands.newest(count as usize);
+        let value = self.runtime.apply_function(function, arguments)?;
+        self.operands.drop(count as usize);
+        Ok(value)
+    }
+}
