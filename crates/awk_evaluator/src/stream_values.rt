@@ -1,6 +1,7 @@
 // The values of nodes that reach the world.
 
-ghost use Rattle.std.specs.Prelude.{◌≡◌};
+ghost use Rattle.std.specs.Prelude.{◌≡◌, ◌≢◌};
+ghost use Rattle.awk_world.specs.declared.world.InputKind.TheVariants.{Standard};
 ghost use Rattle.awk_value.specs.Values.{str_of};
 ghost use Rattle.awk_storage.specs.Forms.{named_getline_at};
 ghost use Rattle.awk_runtime.specs.Simulation.{IsReady, Follows};
@@ -88,6 +89,7 @@ impl Machine {
         name: &Value,
         place: Option<Place>,
     ) -> Result<Value, Halt>
+        requires named { kind ≢ Standard }
         requires ready { IsReady W.is_logged (W.state world.old) self.old.runtime.streams }
         ensures ready { IsReady W.is_logged (W.state world.new) self.new.runtime.streams }
         ensures operands { self.new.operands ≡ self.old.operands }
