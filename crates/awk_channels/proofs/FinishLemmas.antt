@@ -130,9 +130,16 @@ finishes before mid later after old s v new result answer b main same empty flus
     let last_failure : after.first_failure ≡ mid.first_failure = each_no_failure (all_names v.named) (pos 0) answer later after v new closes ∙ later_failure in
     let received : outputs_of after.log ≡ in_order (with_held (held_of s) (openings mid.log)) =
     ap in_order (each_openings (all_names v.named) (pos 0) answer later after v new closes ∙ (ap openings ends.adds.1 ∙ (main_openings s.main ends.adds.0 mid.log ∙ sym (nothing_held s (openings mid.log) empty)))) in
+    let closed : GoesOn AreOfTheEnd mid.log after.log = ends-then (main_only s.main ends.adds.0 mid.log later.log ends.adds.1) (each_only (all_names v.named) (pos 0) answer later after v new closes) in
     record {
       grows = Grows-then b.touches.grows (Grows-then ends.grows (each_grows (all_names v.named) (pos 0) answer later after v new closes));
-      only = ends-then (bringing_only before.log mid.log b.touches.only) (ends-then (main_only s.main ends.adds.0 mid.log later.log ends.adds.1) (each_only (all_names v.named) (pos 0) answer later after v new closes));
+      only = ends-then (bringing_only before.log mid.log b.touches.only) closed;
+      first = record {
+        log = mid.log;
+        brings = b.touches.only;
+        closes = closed;
+        failure = λ n none some. (b.touches.grows.met none n (sym last_failure ∙ some)).1;
+      };
       ends = both.0;
       brought = both.1;
       begins = subst (λ l. Begins l (printed_openings before old)) (sym received) b.begins;

@@ -13,3 +13,4 @@ pub mod PlainParts
 pub mod PlainRuns
 pub mod PositionDecided
 pub mod Requests
+pub mod UnendedRuns

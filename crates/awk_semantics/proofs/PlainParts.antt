@@ -40,7 +40,7 @@ assigned_own b text = assigned_by b (unescaped text)
 
 pub check_assignment_plain : (x text : List ℕ) → Plain (check_assignment x text)
 unfolding check_assignment
-check_assignment_plain x text = record { at = λ s. record { own = assigned_own (is_unassignable s x) text; falls = le_refl s.steps; scope = refl } }
+check_assignment_plain x text = record { at = λ s. record { own = assigned_own (is_unassignable s x) text; falls = le_refl s.steps; scope = refl; unended = tt } }
 
 pub assign_plain : (x text : List ℕ) → Plain (assign_text x text)
 unfolding assign_text

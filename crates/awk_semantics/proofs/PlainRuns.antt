@@ -3,7 +3,7 @@
 use Rattle.std.proofs.Math.Nat.{le_refl, le_trans}
 use Rattle.std.proofs.lemmas.List.{length-set}
 use Rattle.std.specs.Map.{lookup, set_value}
-use Rattle.std.proofs.Common.{map, ◌≡◌, ℕ, zero, suc, ◌≤◌, Bool, true, false, List, [], ◌∷◌, Option, Some, None, Result, Ok, Err, pos, negsuc, ℤ, refl, sym, ap, ◌∙◌, arith, int_lt, cond, codes, bytes_eq}
+use Rattle.std.proofs.Common.{map, ◌≡◌, ℕ, zero, suc, ◌≤◌, Bool, true, false, List, [], ◌∷◌, ◌++◌, Option, Some, None, Result, Ok, Err, pos, negsuc, ℤ, refl, sym, ap, ◌∙◌, arith, int_lt, cond, codes, bytes_eq}
 use Rattle.awk_value.specs.declared.value.Value.{Value}
 use Rattle.awk_value.specs.declared.value.Value.TheVariants as value
 use Rattle.awk_record.specs.Cut.{Cut, Found, NoMore, BrokenOff, TooLong, BadSeparator}
@@ -24,7 +24,8 @@ use Rattle.awk_variables.specs.declared.special.Special.TheVariants.{Argc, Rs, F
 use Rattle.awk_variables.specs.Variables.{name_of, is_refused}
 use Rattle.awk_semantics.specs.declared.local.Local.{Local}
 use Rattle.awk_semantics.specs.declared.local.Local.TheVariants as local
-use Rattle.awk_semantics.specs.definitions.State.{Named, Effect, Frame, Stream, State, Out, Run, go_on, ◌>>=◌, lift}
+use Rattle.awk_semantics.specs.definitions.State.{Named, Request, OpensMain, OpensInput, OpensOutput, RecordOfMain, RecordOf, Closes, Runs, Ends, Effect, Printed, Requested, Frame, Stream, State, Out, Run, go_on, ◌>>=◌, lift}
+use Rattle.awk_semantics.specs.support.Unended.{AreUnended}
 use Rattle.awk_semantics.specs.definitions.Operators.{raised}
 use Rattle.awk_semantics.specs.definitions.Primitives.{text_in, spend, spend_of, fault_if, number_of, read_field, record_text, set_record, set_current, set_count, store_field, set_field, read_outside, read_name, put_unless, put_global, put_outside, put_by, put, put_special, count_in, array_number, read_element_at, store_element_at, has_element_at, delete_element_at, keys_at, read_element, store_element, has_element, delete_element, keys_in, fill_array_at, fill_array, field_separator, joined_key, check_height, print_bytes, print_line, argument_if, take_argument, is_inside, set_inside, set_status}
 use Rattle.awk_semantics.specs.definitions.Streams.{rest_in, opened, open_main, note_input, is_input_seen, begin_input, taken, taken_of, take_record, close_main, check_streams, NotReadable, input_granted, ask_input, open_input_unless, open_input, named_taken, named_taken_of, take_named, take_if, next_of, output_granted, ask_output, open_output_unless, open_output, open_file, open_target, is_command, closed_by, close_stream, named_of, streams_named, close_each, close_named, run_command}
@@ -42,14 +43,27 @@ pub record PlainAt {A : Type 0} (s : State) (o : Out A) : Type 0 where
   pub own : Own o.result
   pub falls : o.state.steps ≤ s.steps
   pub scope : scope_of o.state ≡ scope_of s
+  pub unended : AreUnended o.effects
 
 pub record Plain {A : Type 0} (m : Run A) : Type 0 where
   pub at : (s : State) → PlainAt s (m s)
 
+pub unended_append : (xs ys : List Effect) → AreUnended xs → AreUnended ys → AreUnended (xs ++ ys)
+unended_append [] ys h k = k
+unended_append (Printed n bytes ∷ xs) ys h k = unended_append xs ys h k
+unended_append (Requested (OpensMain kind name) ∷ xs) ys h k = unended_append xs ys h k
+unended_append (Requested (OpensInput kind name) ∷ xs) ys h k = unended_append xs ys h k
+unended_append (Requested (OpensOutput kind name mode is_granted) ∷ xs) ys h k = unended_append xs ys h k
+unended_append (Requested (RecordOfMain separator left) ∷ xs) ys h k = unended_append xs ys h k
+unended_append (Requested (RecordOf kind name separator left) ∷ xs) ys h k = unended_append xs ys h k
+unended_append (Requested (Closes x) ∷ xs) ys h k = unended_append xs ys h k
+unended_append (Requested (Runs command) ∷ xs) ys h k = unended_append xs ys h k
+unended_append (Requested Ends ∷ xs) ys h k = absurd h
+
 go_at : {A B : Type 0} (f : A → Run B) (s : State) → ((a : A) → Plain (f a)) → (r : Result A Halt) (t : State) (effects : List Effect) → PlainAt s (record { result = r; state = t; effects = effects }) → PlainAt s (go_on r t effects f)
 unfolding go_on
-go_at f s h (Ok a) t effects p = let q = (h a).at t in record { own = q.own; falls = le_trans q.falls p.falls; scope = q.scope ∙ p.scope }
-go_at f s h (Err e) t effects p = record { own = p.own; falls = p.falls; scope = p.scope }
+go_at f s h (Ok a) t effects p = let q = (h a).at t in record { own = q.own; falls = le_trans q.falls p.falls; scope = q.scope ∙ p.scope; unended = unended_append effects (f a t).effects p.unended q.unended }
+go_at f s h (Err e) t effects p = record { own = p.own; falls = p.falls; scope = p.scope; unended = p.unended }
 
 pub then_plain : {A B : Type 0} {m : Run A} (f : A → Run B) → Plain m → ((a : A) → Plain (f a)) → Plain (m >>= f)
 unfolding ◌>>=◌
@@ -57,14 +71,14 @@ then_plain {m = m} f x h = record { at = λ s. go_at f s h (m s).result (m s).st
 
 pub lift_plain : {A : Type 0} (r : Result A Halt) → Own r → Plain (lift r)
 unfolding lift
-lift_plain r own = record { at = λ s. record { own = own; falls = le_refl s.steps; scope = refl } }
+lift_plain r own = record { at = λ s. record { own = own; falls = le_refl s.steps; scope = refl; unended = tt } }
 
 pub ret_plain : {A : Type 0} (a : A) → Plain (lift (Ok a))
 ret_plain a = lift_plain (Ok a) tt
 
 spend_at : (n : ℕ) (s : State) → s.steps ≡ n → PlainAt s (spend_of n s)
-spend_at zero s e = record { own = tt; falls = le_refl s.steps; scope = refl }
-spend_at (suc n) s e = record { own = tt; falls = omega arith; scope = refl }
+spend_at zero s e = record { own = tt; falls = le_refl s.steps; scope = refl; unended = tt }
+spend_at (suc n) s e = record { own = tt; falls = omega arith; scope = refl; unended = tt }
 
 pub spend_plain : Plain spend
 unfolding spend
@@ -89,43 +103,43 @@ local_scope x old v (frame ∷ frames) e = ap (λ l. record (frame_scope frame) 
 
 pub text_plain : Plain record_text
 unfolding record_text
-text_plain = record { at = λ s. record { own = tt; falls = le_refl s.steps; scope = refl } }
+text_plain = record { at = λ s. record { own = tt; falls = le_refl s.steps; scope = refl; unended = tt } }
 
 pub set_plain : (text : List ℕ) → Plain (set_record text)
 unfolding set_record
-set_plain text = record { at = λ s. record { own = tt; falls = le_refl s.steps; scope = refl } }
+set_plain text = record { at = λ s. record { own = tt; falls = le_refl s.steps; scope = refl; unended = tt } }
 
 pub name_plain : (x : List ℕ) → Plain (read_name x)
 unfolding read_name
-name_plain x = record { at = λ s. record { own = tt; falls = le_refl s.steps; scope = refl } }
+name_plain x = record { at = λ s. record { own = tt; falls = le_refl s.steps; scope = refl; unended = tt } }
 
 pub outside_name_plain : (x : List ℕ) → Plain (read_outside x)
 unfolding read_outside
-outside_name_plain x = record { at = λ s. record { own = tt; falls = le_refl s.steps; scope = refl } }
+outside_name_plain x = record { at = λ s. record { own = tt; falls = le_refl s.steps; scope = refl; unended = tt } }
 
 pub element_at_plain : (n : ℕ) (key : List ℕ) → Plain (read_element_at n key)
 unfolding read_element_at
-element_at_plain n key = record { at = λ s. record { own = tt; falls = le_refl s.steps; scope = array_scope s n (with_key (array_in s n) key) } }
+element_at_plain n key = record { at = λ s. record { own = tt; falls = le_refl s.steps; scope = array_scope s n (with_key (array_in s n) key); unended = tt } }
 
 pub store_element_at_plain : (n : ℕ) (key : List ℕ) (v : Value) → Plain (store_element_at n key v)
 unfolding store_element_at
-store_element_at_plain n key v = record { at = λ s. record { own = tt; falls = le_refl s.steps; scope = array_scope s n (with_pair (array_in s n) key v) } }
+store_element_at_plain n key v = record { at = λ s. record { own = tt; falls = le_refl s.steps; scope = array_scope s n (with_pair (array_in s n) key v); unended = tt } }
 
 pub has_at_plain : (n : ℕ) (key : List ℕ) → Plain (has_element_at n key)
 unfolding has_element_at
-has_at_plain n key = record { at = λ s. record { own = tt; falls = le_refl s.steps; scope = refl } }
+has_at_plain n key = record { at = λ s. record { own = tt; falls = le_refl s.steps; scope = refl; unended = tt } }
 
 pub delete_at_plain : (n : ℕ) (key : List ℕ) → Plain (delete_element_at n key)
 unfolding delete_element_at
-delete_at_plain n key = record { at = λ s. record { own = tt; falls = le_refl s.steps; scope = array_scope s n (without (array_in s n) key) } }
+delete_at_plain n key = record { at = λ s. record { own = tt; falls = le_refl s.steps; scope = array_scope s n (without (array_in s n) key); unended = tt } }
 
 pub keys_at_plain : (n : ℕ) → Plain (keys_at n)
 unfolding keys_at
-keys_at_plain n = record { at = λ s. record { own = tt; falls = le_refl s.steps; scope = refl } }
+keys_at_plain n = record { at = λ s. record { own = tt; falls = le_refl s.steps; scope = refl; unended = tt } }
 
 pub fill_at_plain : (n : ℕ) (texts : List (List ℕ)) → Plain (fill_array_at n texts)
 unfolding fill_array_at
-fill_at_plain n texts = record { at = λ s. record { own = tt; falls = le_refl s.steps; scope = array_scope s n (elements_from 1 texts) } }
+fill_at_plain n texts = record { at = λ s. record { own = tt; falls = le_refl s.steps; scope = array_scope s n (elements_from 1 texts); unended = tt } }
 
 pub element_plain : (x key : List ℕ) → Plain (read_element x key)
 unfolding read_element
@@ -153,62 +167,62 @@ fill_plain x texts = record { at = λ s. (fill_at_plain (array_number s x) texts
 
 pub separator_plain : Plain field_separator
 unfolding field_separator
-separator_plain = record { at = λ s. record { own = tt; falls = le_refl s.steps; scope = refl } }
+separator_plain = record { at = λ s. record { own = tt; falls = le_refl s.steps; scope = refl; unended = tt } }
 
 pub key_plain : (vs : List Value) → Plain (joined_key vs)
 unfolding joined_key
-key_plain vs = record { at = λ s. record { own = tt; falls = le_refl s.steps; scope = refl } }
+key_plain vs = record { at = λ s. record { own = tt; falls = le_refl s.steps; scope = refl; unended = tt } }
 
 pub bytes_plain : (n : ℕ) (bytes : List ℕ) → Plain (print_bytes n bytes)
 unfolding print_bytes
-bytes_plain n bytes = record { at = λ s. record { own = tt; falls = le_refl s.steps; scope = refl } }
+bytes_plain n bytes = record { at = λ s. record { own = tt; falls = le_refl s.steps; scope = refl; unended = tt } }
 
 pub inside_plain : (n : ℕ) → Plain (is_inside n)
 unfolding is_inside
-inside_plain n = record { at = λ s. record { own = tt; falls = le_refl s.steps; scope = refl } }
+inside_plain n = record { at = λ s. record { own = tt; falls = le_refl s.steps; scope = refl; unended = tt } }
 
 pub set_inside_plain : (n : ℕ) (b : Bool) → Plain (set_inside n b)
 unfolding set_inside
-set_inside_plain n b = record { at = λ s. record { own = tt; falls = le_refl s.steps; scope = refl } }
+set_inside_plain n b = record { at = λ s. record { own = tt; falls = le_refl s.steps; scope = refl; unended = tt } }
 
 pub note_plain : Plain note_input
 unfolding note_input
-note_plain = record { at = λ s. record { own = tt; falls = le_refl s.steps; scope = refl } }
+note_plain = record { at = λ s. record { own = tt; falls = le_refl s.steps; scope = refl; unended = tt } }
 
 pub seen_plain : Plain is_input_seen
 unfolding is_input_seen
-seen_plain = record { at = λ s. record { own = tt; falls = le_refl s.steps; scope = refl } }
+seen_plain = record { at = λ s. record { own = tt; falls = le_refl s.steps; scope = refl; unended = tt } }
 
 pub close_main_plain : Plain close_main
 unfolding close_main
-close_main_plain = record { at = λ s. record { own = tt; falls = le_refl s.steps; scope = refl } }
+close_main_plain = record { at = λ s. record { own = tt; falls = le_refl s.steps; scope = refl; unended = tt } }
 
 pub named_plain : (name : List ℕ) → Plain (streams_named name)
 unfolding streams_named
-named_plain name = record { at = λ s. record { own = tt; falls = le_refl s.steps; scope = refl } }
+named_plain name = record { at = λ s. record { own = tt; falls = le_refl s.steps; scope = refl; unended = tt } }
 
 pub run_command_plain : (command : List ℕ) → Plain (run_command command)
 unfolding run_command
-run_command_plain command = record { at = λ s. record { own = tt; falls = le_refl s.steps; scope = refl } }
+run_command_plain command = record { at = λ s. record { own = tt; falls = le_refl s.steps; scope = refl; unended = tt } }
 
 pub locals_plain : (arguments : List Argument) → Plain (locals_of arguments)
 unfolding locals_of
-locals_plain arguments = record { at = λ s. record { own = tt; falls = le_refl s.steps; scope = refl } }
+locals_plain arguments = record { at = λ s. record { own = tt; falls = le_refl s.steps; scope = refl; unended = tt } }
 
 pub fault_if_at : (b : Bool) (f : Fault) (s : State) → OwnHalt (halt.Fault f) → PlainAt s (fault_if b f s)
-fault_if_at true f s own = record { own = own; falls = le_refl s.steps; scope = refl }
-fault_if_at false f s own = record { own = tt; falls = le_refl s.steps; scope = refl }
+fault_if_at true f s own = record { own = own; falls = le_refl s.steps; scope = refl; unended = tt }
+fault_if_at false f s own = record { own = tt; falls = le_refl s.steps; scope = refl; unended = tt }
 
 pub number_plain : (v : Value) → Plain (number_of v)
 number_plain v = lift_plain (of_values (num_of v)) (number_own v)
 
 pub field_plain : (n : ℤ) → Plain (read_field n)
 unfolding read_field
-field_plain n = record { at = λ s. record { own = field_own s.current n; falls = le_refl s.steps; scope = refl } }
+field_plain n = record { at = λ s. record { own = field_own s.current n; falls = le_refl s.steps; scope = refl; unended = tt } }
 
 pub current_at : (r : Result RecordPair Halt) (s : State) → Own r → PlainAt s (set_current r s)
-current_at (Ok r) s own = record { own = tt; falls = le_refl s.steps; scope = refl }
-current_at (Err reason) s own = record { own = own; falls = le_refl s.steps; scope = refl }
+current_at (Ok r) s own = record { own = tt; falls = le_refl s.steps; scope = refl; unended = tt }
+current_at (Err reason) s own = record { own = own; falls = le_refl s.steps; scope = refl; unended = tt }
 
 pub count_plain : (n : ℤ) → Plain (set_count n)
 unfolding set_count
@@ -219,7 +233,7 @@ field_at n v s = current_at _ s (of_record_own _ (with_field_own (assignable n) 
 
 pub store_field_plain : (n : ℤ) (v : Value) → Plain (store_field n v)
 unfolding set_record
-store_field_plain (pos zero) v = record { at = λ s. record { own = tt; falls = le_refl s.steps; scope = refl } }
+store_field_plain (pos zero) v = record { at = λ s. record { own = tt; falls = le_refl s.steps; scope = refl; unended = tt } }
 store_field_plain (pos (suc n)) v = record { at = λ s. field_at (pos (suc n)) v s }
 store_field_plain (negsuc n) v = record { at = λ s. field_at (negsuc n) v s }
 
@@ -228,8 +242,8 @@ unfolding set_field
 set_field_plain n v = record { at = λ s. (store_field_plain n v).at s }
 
 pub put_at : (refused : Bool) (x : List ℕ) (v : Value) (s : State) → PlainAt s (put_unless refused x v s)
-put_at true x v s = record { own = tt; falls = le_refl s.steps; scope = refl }
-put_at false x v s = record { own = tt; falls = le_refl s.steps; scope = refl }
+put_at true x v s = record { own = tt; falls = le_refl s.steps; scope = refl; unended = tt }
+put_at false x v s = record { own = tt; falls = le_refl s.steps; scope = refl; unended = tt }
 
 pub put_global_plain : (b : Bool) (x : List ℕ) (v : Value) → Plain (put_global b x v)
 put_global_plain true x v = record { at = λ s. (then_plain _ (number_plain v) (λ n. count_plain n)).at s }
@@ -241,8 +255,8 @@ put_outside_plain x v = record { at = λ s. (put_global_plain (bytes_eq x (codes
 
 pub put_by_at : (l : Option Local) (x : List ℕ) (v : Value) (s : State) → local_in s.frames x ≡ l → PlainAt s (put_by l x v s)
 put_by_at None x v s e = (put_outside_plain x v).at s
-put_by_at (Some (local.Value old)) x v s e = record { own = tt; falls = le_refl s.steps; scope = ap (λ frames. record (scope_of s) { frames = frames }) (local_scope x old v s.frames e) }
-put_by_at (Some (local.Array n)) x v s e = record { own = tt; falls = le_refl s.steps; scope = refl }
+put_by_at (Some (local.Value old)) x v s e = record { own = tt; falls = le_refl s.steps; scope = ap (λ frames. record (scope_of s) { frames = frames }) (local_scope x old v s.frames e); unended = tt }
+put_by_at (Some (local.Array n)) x v s e = record { own = tt; falls = le_refl s.steps; scope = refl; unended = tt }
 
 pub put_plain : (x : List ℕ) (v : Value) → Plain (put x v)
 unfolding put
@@ -262,23 +276,23 @@ height_plain height = record { at = λ s. fault_if_at _ _ s tt }
 
 pub line_plain : (n : ℕ) (vs : List Value) → Plain (print_line n vs)
 unfolding print_line print_bytes
-line_plain n vs = record { at = λ s. record { own = tt; falls = le_refl s.steps; scope = refl } }
+line_plain n vs = record { at = λ s. record { own = tt; falls = le_refl s.steps; scope = refl; unended = tt } }
 
 pub argument_if_at : (b : Bool) (s : State) → PlainAt s (argument_if b s)
-argument_if_at true s = record { own = tt; falls = le_refl s.steps; scope = refl }
-argument_if_at false s = record { own = tt; falls = le_refl s.steps; scope = refl }
+argument_if_at true s = record { own = tt; falls = le_refl s.steps; scope = refl; unended = tt }
+argument_if_at false s = record { own = tt; falls = le_refl s.steps; scope = refl; unended = tt }
 
 pub status_plain : (v : Value) → Plain (set_status v)
 unfolding set_status
-status_plain v = then_plain _ (number_plain v) (λ n. record { at = λ s. record { own = tt; falls = le_refl s.steps; scope = refl } })
+status_plain v = then_plain _ (number_plain v) (λ n. record { at = λ s. record { own = tt; falls = le_refl s.steps; scope = refl; unended = tt } })
 
 pub argument_plain : Plain take_argument
 unfolding take_argument
 argument_plain = record { at = λ s. (then_plain (λ n. argument_if (int_lt (pos s.next) n)) (number_plain (s.variables (name_of Argc))) (λ n. record { at = λ t. argument_if_at (int_lt (pos s.next) n) t })).at s }
 
 pub opened_at : (kind : InputKind) (name : List ℕ) (o : Option Source) (s : State) → PlainAt s (opened kind name o s)
-opened_at kind name None s = record { own = tt; falls = le_refl s.steps; scope = refl }
-opened_at kind name (Some source) s = record { own = tt; falls = le_refl s.steps; scope = refl }
+opened_at kind name None s = record { own = tt; falls = le_refl s.steps; scope = refl; unended = tt }
+opened_at kind name (Some source) s = record { own = tt; falls = le_refl s.steps; scope = refl; unended = tt }
 
 pub open_plain : (kind : InputKind) (name : List ℕ) → Plain (open_main kind name)
 unfolding open_main
@@ -289,11 +303,11 @@ unfolding begin_input
 input_plain name = then_plain _ (put_special_plain Filename (value.Input name)) (λ _. then_plain _ (put_special_plain Fnr (value.Number (pos 0))) (λ _. note_plain))
 
 pub taken_at : (c : Cut) (separator : List ℕ) (source : Source) (s : State) → PlainAt s (taken c separator source s)
-taken_at (Found first left) separator source s = record { own = tt; falls = le_refl s.steps; scope = refl }
-taken_at NoMore separator source s = record { own = tt; falls = le_refl s.steps; scope = refl }
-taken_at BrokenOff separator source s = record { own = tt; falls = le_refl s.steps; scope = refl }
-taken_at TooLong separator source s = record { own = tt; falls = le_refl s.steps; scope = refl }
-taken_at BadSeparator separator source s = record { own = tt; falls = le_refl s.steps; scope = refl }
+taken_at (Found first left) separator source s = record { own = tt; falls = le_refl s.steps; scope = refl; unended = tt }
+taken_at NoMore separator source s = record { own = tt; falls = le_refl s.steps; scope = refl; unended = tt }
+taken_at BrokenOff separator source s = record { own = tt; falls = le_refl s.steps; scope = refl; unended = tt }
+taken_at TooLong separator source s = record { own = tt; falls = le_refl s.steps; scope = refl; unended = tt }
+taken_at BadSeparator separator source s = record { own = tt; falls = le_refl s.steps; scope = refl; unended = tt }
 
 pub taken_of_at : (o : Option Source) (separator : List ℕ) (s : State) → PlainAt s (taken_of o separator s)
 taken_of_at None separator s = (ret_plain None).at s
@@ -308,8 +322,8 @@ unfolding check_streams
 check_plain = record { at = λ s. fault_if_at _ _ s tt }
 
 pub input_granted_at : (kind : InputKind) (name : List ℕ) (o : Option Source) (s : State) → PlainAt s (input_granted kind name o s)
-input_granted_at kind name None s = record { own = tt; falls = le_refl s.steps; scope = refl }
-input_granted_at kind name (Some source) s = record { own = tt; falls = le_refl s.steps; scope = refl }
+input_granted_at kind name None s = record { own = tt; falls = le_refl s.steps; scope = refl; unended = tt }
+input_granted_at kind name (Some source) s = record { own = tt; falls = le_refl s.steps; scope = refl; unended = tt }
 
 pub ask_input_plain : (kind : InputKind) (name : List ℕ) → Plain (ask_input kind name)
 unfolding ask_input
@@ -324,11 +338,11 @@ unfolding open_input
 open_input_plain kind name = record { at = λ s. (input_unless_plain _ kind name).at s }
 
 pub named_taken_at : (c : Cut) (kind : InputKind) (name separator : List ℕ) (source : Source) (s : State) → PlainAt s (named_taken c kind name separator source s)
-named_taken_at (Found first left) kind name separator source s = record { own = tt; falls = le_refl s.steps; scope = refl }
-named_taken_at NoMore kind name separator source s = record { own = tt; falls = le_refl s.steps; scope = refl }
-named_taken_at BrokenOff kind name separator source s = record { own = tt; falls = le_refl s.steps; scope = refl }
-named_taken_at TooLong kind name separator source s = record { own = tt; falls = le_refl s.steps; scope = refl }
-named_taken_at BadSeparator kind name separator source s = record { own = tt; falls = le_refl s.steps; scope = refl }
+named_taken_at (Found first left) kind name separator source s = record { own = tt; falls = le_refl s.steps; scope = refl; unended = tt }
+named_taken_at NoMore kind name separator source s = record { own = tt; falls = le_refl s.steps; scope = refl; unended = tt }
+named_taken_at BrokenOff kind name separator source s = record { own = tt; falls = le_refl s.steps; scope = refl; unended = tt }
+named_taken_at TooLong kind name separator source s = record { own = tt; falls = le_refl s.steps; scope = refl; unended = tt }
+named_taken_at BadSeparator kind name separator source s = record { own = tt; falls = le_refl s.steps; scope = refl; unended = tt }
 
 pub named_taken_of_plain : (o : Option Source) (kind : InputKind) (name separator : List ℕ) → Plain (named_taken_of o kind name separator)
 named_taken_of_plain None kind name separator = ret_plain NotReadable
@@ -347,8 +361,8 @@ unfolding next_of
 next_of_plain kind name = then_plain _ (open_input_plain kind name) (λ b. take_if_plain b kind name)
 
 pub output_granted_at : (b : Bool) (kind : OutputKind) (name : List ℕ) (mode : Mode) (s : State) → PlainAt s (output_granted b kind name mode s)
-output_granted_at true kind name mode s = record { own = tt; falls = le_refl s.steps; scope = refl }
-output_granted_at false kind name mode s = record { own = tt; falls = le_refl s.steps; scope = refl }
+output_granted_at true kind name mode s = record { own = tt; falls = le_refl s.steps; scope = refl; unended = tt }
+output_granted_at false kind name mode s = record { own = tt; falls = le_refl s.steps; scope = refl; unended = tt }
 
 pub ask_output_plain : (kind : OutputKind) (name : List ℕ) (mode : Mode) → Plain (ask_output kind name mode)
 unfolding ask_output
@@ -375,8 +389,8 @@ target_plain to.Append name = file_plain name mode.Append
 target_plain to.Pipe name = open_output_plain output.Command name mode.Truncate
 
 pub closed_by_at : (b : Bool) (x : Named) (s : State) → PlainAt s (closed_by b x s)
-closed_by_at true x s = record { own = tt; falls = le_refl s.steps; scope = refl }
-closed_by_at false x s = record { own = tt; falls = le_refl s.steps; scope = refl }
+closed_by_at true x s = record { own = tt; falls = le_refl s.steps; scope = refl; unended = tt }
+closed_by_at false x s = record { own = tt; falls = le_refl s.steps; scope = refl; unended = tt }
 
 pub close_stream_plain : (x : Named) → Plain (close_stream x)
 unfolding close_stream

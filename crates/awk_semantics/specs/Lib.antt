@@ -20,3 +20,4 @@ pub use Rattle.awk_semantics.specs.support.Results
 pub use Rattle.awk_semantics.specs.support.Keeps
 pub use Rattle.awk_semantics.specs.support.LawOfKeeping
 pub use Rattle.awk_semantics.specs.support.Exchanged
+pub use Rattle.awk_semantics.specs.support.Unended

@@ -2,3 +2,4 @@ pub mod Results
 pub mod Keeps
 pub mod LawOfKeeping
 pub mod Exchanged
+pub mod Unended

@@ -7,6 +7,7 @@ ghost use Rattle.awk_semantics.specs.declared.outcome.Outcome.TheVariants.{Fault
 ghost use Rattle.awk_semantics.specs.declared.fault.Fault.TheVariants.{OutOfMemory, WriteFailed};
 ghost use Rattle.awk_semantics.specs.definitions.Meaning.{LawOfLimits, Asked, StartValues, meaning_of};
 ghost use Rattle.awk_semantics.specs.definitions.Order.{Stage, MeetsAll};
+ghost use Rattle.awk_semantics.specs.support.Unended.{LawOfEnds};
 ghost use Rattle.awk_semantics.specs.support.LawOfKeeping.{LawOfKeeping, LawOfItems, SequenceKeeps, ResultKeeps, ChoiceKeeps};
 
 /// A run that isn't stopped at a limit is the same at every larger one, and one that is stopped
@@ -29,6 +30,12 @@ pub fn law_of_outcomes()
     ensures { (items : List Item) (start : StartValues) (oracle : Oracle) (limit : ℕ) →
         ((meaning_of items start oracle limit).outcome ≢ Fault OutOfMemory) ×
         ((meaning_of items start oracle limit).outcome ≢ Fault WriteFailed) }
+{}
+
+/// No part of a run before its end says that the run is over.
+#[tactic(auto, using(crate::proofs::UnendedRuns::law_of_ends))]
+pub fn law_of_ends()
+    ensures { LawOfEnds }
 {}
 
 /// Each part of a run keeps what names stand for, and raises no steps; so does a call whose body does.

@@ -14,7 +14,7 @@ pub use fault::{Fault, fault_line};
 pub use flow::Flow;
 pub use halt::Halt;
 pub use laws::{
-    law_of_choice, law_of_items, law_of_keeping, law_of_limits, law_of_outcomes, law_of_results,
+    law_of_choice, law_of_ends, law_of_items, law_of_keeping, law_of_limits, law_of_outcomes, law_of_results,
     law_of_sequence, law_of_turns,
 };
 pub use local::Local;

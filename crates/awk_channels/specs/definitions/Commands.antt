@@ -1,5 +1,5 @@
 -- What closings, runs of commands and the end of a run do (POSIX awk, Input/Output and General Functions: close, system).
-use Rattle.std.specs.Prelude.{◌≡◌, ◌+◌, ℕ, ℤ, pos, negsuc, Bool, true, false, List, [], ◌∷◌, Option, Some, is_some, filter, Result, Ok, Err, OnOk, OnErr, if◌then◌else◌}
+use Rattle.std.specs.Prelude.{◌≡◌, ◌+◌, ◌≤◌, ℕ, ℤ, pos, negsuc, Bool, true, false, List, [], ◌∷◌, length, Option, None, Some, is_some, filter, Result, Ok, Err, OnOk, OnErr, if◌then◌else◌}
 use Rattle.awk_world.specs.declared.world.InputKind.{InputKind}
 use Rattle.awk_world.specs.declared.world.OutputKind.{OutputKind}
 use Rattle.awk_world.specs.definitions.WorldState.{WorldState}
@@ -12,7 +12,7 @@ use Rattle.awk_channels.specs.declared.fault.StreamFault.{StreamFault}
 use Rattle.awk_channels.specs.declared.fault.StreamFault.TheVariants.{Memory, WriteFailed}
 use Rattle.awk_channels.specs.declared.named.NamedStream.{NamedStream}
 use Rattle.awk_channels.specs.definitions.Named.{Named, Stream, is_command, is_other, number_among, without_number}
-use Rattle.awk_channels.specs.definitions.Streams.{StreamsView, name_of, numbered, is_called, printed_openings, AreAs, FailsAs, Brings}
+use Rattle.awk_channels.specs.definitions.Streams.{StreamsView, name_of, numbered, is_called, printed_openings, AreAs, FailsAs, AreBringing, Brings}
 use Rattle.awk_channels.specs.definitions.MainInput.{EndsMain}
 use Rattle.awk_channels.specs.definitions.NamedOutputs.{LosesBytes}
 
@@ -144,10 +144,18 @@ pub record EndsAll (before : WorldState) (old : StreamsView) (after : WorldState
   pub answer : ℤ
   pub closes : ClosesEach (all_names old.named) (pos 0) world' streams' answer after new
 
+-- the outputs are brought before anything is closed, and only that meets a failure
+pub record BringsFirst (before after : WorldState) : Type 0 where
+  pub log : List Event
+  pub brings : GoesOn AreBringing before.log log
+  pub closes : GoesOn AreOfTheEnd log after.log
+  pub failure : (n : ℕ) → before.first_failure ≡ None → after.first_failure ≡ Some n → n ≤ length log
+
 -- the end of a run
 pub record Finishes (before : WorldState) (old : StreamsView) (result : Result (Unit {0}) StreamFault) (after : WorldState) (new : StreamsView) : Type 0 where
   pub grows : Grows before after
   pub only : GoesOn AreOfTheEnd before.log after.log
+  pub first : BringsFirst before after
   pub ends : OnOk result (EndsAll before old after new)
   pub brought : OnOk result (AreBrought (printed_openings before old) after.log)
   pub begins : Begins (outputs_of after.log) (printed_openings before old)

@@ -1,0 +1,3 @@
+pub mod Planned
+pub mod Follows
+pub mod Machine
