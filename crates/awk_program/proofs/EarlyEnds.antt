@@ -14,9 +14,10 @@ use Rattle.awk_semantics.specs.definitions.State.{Effect, Frame, State, Out, Run
 use Rattle.awk_semantics.specs.definitions.Primitives.{without_call, without_calls, outside_calls}
 use Rattle.awk_semantics.specs.definitions.Items.{unless_next, until_next, unless_exit, until_exit}
 use Rattle.awk_runtime.specs.declared.runtime.Runtime.{Runtime}
+use Rattle.awk_runtime.specs.support.Naming.{Naming}
 use Rattle.awk_runtime.specs.support.Simulation.{IsReady, StateRelation, StreamsRelation, FailureRelation, ResultRelation, SimulatesLogged, Simulates}
 use Rattle.awk_runtime.proofs.Composition.{OwnPart, same_part, streams_own, ready_same}
-use Rattle.awk_program.specs.support.Planned.{try_items_at, run_before_end_at, end_items_at, run_items_at}
+use Rattle.awk_program.specs.support.Planned.{IsPlanFor, try_items_at, run_before_end_at, end_items_at, run_items_at}
 use Rattle.awk_program.specs.support.Follows.{Part, FollowsPlan, IsSet}
 use Rattle.awk_program.specs.support.Machine.{EndsCalls}
 use Rattle.awk_program.proofs.PlanParts.{then_follows, ends_follows}
@@ -74,7 +75,7 @@ exit_logged {mid = mid} {new = new} {after = after} {r = r} {run = run} ends p =
 }
 
 pub ended_set : {is_logged : Type 0} {plan : Plan} {m m1 : Runtime} {k : WorldState} → EndsCalls m m1 → IsSet is_logged plan m k → IsSet is_logged plan m1 k
-ended_set ends set = record { ready = ready_same ends.streams set.ready; names = ap (λ n. n.scalars) ends.names ∙ set.names }
+ended_set {plan = plan} ends set = record { ready = ready_same ends.streams set.ready; items = set.items; planned = subst (λ (names : Naming). IsPlanFor set.items plan names) (sym ends.names) set.planned }
 
 -- `next` ends the items on a record
 pub until_next_follows : (xs : List PlannedItem) {is_logged : Type 0} {plan : Plan} {m m1 m2 : Runtime} {k k1 : WorldState} {r r' : Result (Unit {0}) Halt} → r' ≡ unless_next r → EndsCalls m1 m2 → FollowsPlan is_logged plan (λ at. try_items_at at 0 xs) m k m1 k1 r → FollowsPlan is_logged plan (λ at. until_next (try_items_at at 0 xs)) m k m2 k1 r'

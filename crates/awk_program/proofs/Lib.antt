@@ -3,3 +3,9 @@ pub mod ItemLemmas
 pub mod EarlyEnds
 pub mod Reading
 pub mod PlanMeans
+pub mod Closings
+pub mod RunEnds
+pub mod RunsFrom
+pub mod Assigning
+pub mod Starting
+pub mod Accepted

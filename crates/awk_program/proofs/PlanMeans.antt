@@ -156,16 +156,16 @@ one_of_ends functions calls (Function f parameters block) = keeps_lift (Ok tt)
 
 -- the parts of a program, by the places of its plan
 
-abbrev functions_of : List Item → ℕ → Functions
+abbrev pub functions_of : List Item → ℕ → Functions
 functions_of items limit = functions_within (definitions_of items) limit
 
 module _ (items : List Item) (plan : Plan) (limit : ℕ) (for : AreFor (tables_of items plan) (functions_of items limit)) where
   place_same : {k : ℕ} {m : Meaning} {s : State} → DoesIn items plan [] k m → IsOutside items limit s → place_in items plan limit k s ≡ m (functions_of items limit) s
   place_same {s = s} does o = does.is (functions_of items limit) for limit [] s (record { low = o.low; names = ap (λ (frames : List Frame). map (λ (l : List ℕ × Local). l.0) (newest_locals frames)) o.frames; arrays = o.arrays })
 
-  action_same : {k : ℕ} {block : Statements} {s : State} → DoesIn items plan [] k (body_run block) → IsOutside items limit s → action_at (place_in items plan limit) k s ≡ run_action (functions_of items limit) block s
+  action_same : {k : ℕ} (block : Statements) {s : State} → DoesIn items plan [] k (body_run block) → IsOutside items limit s → action_at (place_in items plan limit) k s ≡ run_action (functions_of items limit) block s
   unfolding action_at run_action
-  action_same {k = k} {block = block} {s = s} does o =
+  action_same {k = k} block {s = s} does o =
       first_same (place_in items plan limit k) (body_run block (functions_of items limit)) (λ v. ret tt) s (place_same does o)
       ∙ then_dropped (exec_all (functions_of items limit) block) returned tt s
 
@@ -175,9 +175,9 @@ module _ (items : List Item) (plan : Plan) (limit : ℕ) (for : AreFor (tables_o
       first_same (place_in items plan limit k) (print_run (functions_of items limit)) (λ v. ret tt) s (place_same does o)
       ∙ (then_dropped (print_record (functions_of items limit)) (λ _. value.Nothing) tt s ∙ then_unit (print_record (functions_of items limit)) s)
 
-  holds_same : {k : ℕ} {e : Expr} {s : State} → DoesIn items plan [] k (value_run e) → IsOutside items limit s → holds_at (place_in items plan limit) k s ≡ tested (eval (functions_of items limit) e) s
+  holds_same : {k : ℕ} (e : Expr) {s : State} → DoesIn items plan [] k (value_run e) → IsOutside items limit s → holds_at (place_in items plan limit) k s ≡ tested (eval (functions_of items limit) e) s
   unfolding holds_at tested
-  holds_same {k = k} {e = e} {s = s} does o = first_same (place_in items plan limit k) (eval (functions_of items limit) e) (λ v. ret (truth_of v)) s (place_same does o)
+  holds_same {k = k} e {s = s} does o = first_same (place_in items plan limit k) (eval (functions_of items limit) e) (λ v. ret (truth_of v)) s (place_same does o)
 
   calls : CallsKeep (functions_of items limit)
   calls = law_of_keeping.calls (definitions_of items) limit
@@ -185,28 +185,28 @@ module _ (items : List Item) (plan : Plan) (limit : ℕ) (for : AreFor (tables_o
   tested_keeps : (e : Expr) → Keeps (tested (eval (functions_of items limit) e))
   tested_keeps e = law_of_keeping.runs.tested _ ((law_of_keeping.forms (functions_of items limit) calls).eval e)
 
-  range_same : {k : ℕ} {e : Expr} (n : ℕ) {s : State} → DoesIn items plan [] k (value_run e) → IsOutside items limit s → in_range_at (place_in items plan limit) n k s ≡ in_range (functions_of items limit) n e s
+  range_same : {k : ℕ} (e : Expr) (n : ℕ) {s : State} → DoesIn items plan [] k (value_run e) → IsOutside items limit s → in_range_at (place_in items plan limit) n k s ≡ in_range (functions_of items limit) n e s
   unfolding in_range_at in_range
-  range_same {k = k} {e = e} n {s = s} does o =
+  range_same {k = k} e n {s = s} does o =
       both_same (IsOutside items limit) (is_inside n) (is_inside n) (λ x. choose x (ret true) (holds_at (place_in items plan limit) k)) (λ x. choose x (ret true) (tested (eval (functions_of items limit) e))) s refl (kept (law_of_keeping.parts.is_inside n) o)
-      (λ x t p. choose_same x (ret true) (ret true) (holds_at (place_in items plan limit) k) (tested (eval (functions_of items limit) e)) t refl (holds_same does p))
+      (λ x t p. choose_same x (ret true) (ret true) (holds_at (place_in items plan limit) k) (tested (eval (functions_of items limit) e)) t refl (holds_same e does p))
 
-  through_same : {k : ℕ} {e : Expr} (n : ℕ) {s : State} → DoesIn items plan [] k (value_run e) → IsOutside items limit s → go_through_at (place_in items plan limit) n k s ≡ go_through (functions_of items limit) n e s
+  through_same : {k : ℕ} (e : Expr) (n : ℕ) {s : State} → DoesIn items plan [] k (value_run e) → IsOutside items limit s → go_through_at (place_in items plan limit) n k s ≡ go_through (functions_of items limit) n e s
   unfolding go_through_at go_through
-  through_same {k = k} {e = e} n {s = s} does o =
-      first_same (holds_at (place_in items plan limit) k) (tested (eval (functions_of items limit) e)) (λ ends. set_inside n (not ends) >>= λ _. ret true) s (holds_same does o)
+  through_same {k = k} e n {s = s} does o =
+      first_same (holds_at (place_in items plan limit) k) (tested (eval (functions_of items limit) e)) (λ ends. set_inside n (not ends) >>= λ _. ret true) s (holds_same e does o)
 
   selects_same : (n : ℕ) (p : PlannedPattern) (q : Pattern) (s : State) → IsPattern (DoesIn items plan) p q → IsOutside items limit s → selects_at (place_in items plan limit) n p s ≡ selects (functions_of items limit) n q s
   unfolding selects_at selects
   selects_same n pattern.Every (Single e) s h o = absurd h
   selects_same n pattern.Every (Range d e) s h o = absurd h
-  selects_same n (pattern.Single k) (Single e) s h o = holds_same h o
+  selects_same n (pattern.Single k) (Single e) s h o = holds_same e h o
   selects_same n (pattern.Single k) (Range d e) s h o = absurd h
   selects_same n (pattern.Range k l) (Single e) s h o = absurd h
   selects_same n (pattern.Range k l) (Range d e) s h o =
-      both_same (IsOutside items limit) (in_range_at (place_in items plan limit) n k) (in_range (functions_of items limit) n d) (λ x. choose x (go_through_at (place_in items plan limit) n l) (ret false)) (λ x. choose x (go_through (functions_of items limit) n e) (ret false)) s (range_same n h.0 o)
+      both_same (IsOutside items limit) (in_range_at (place_in items plan limit) n k) (in_range (functions_of items limit) n d) (λ x. choose x (go_through_at (place_in items plan limit) n l) (ret false)) (λ x. choose x (go_through (functions_of items limit) n e) (ret false)) s (range_same d n h.0 o)
       (kept ((law_of_keeping.forms (functions_of items limit) calls).in_range n d) o)
-      (λ x t p. choose_same x (go_through_at (place_in items plan limit) n l) (go_through (functions_of items limit) n e) (ret false) (ret false) t (through_same n h.1 p) refl)
+      (λ x t p. choose_same x (go_through_at (place_in items plan limit) n l) (go_through (functions_of items limit) n e) (ret false) (ret false) t (through_same e n h.1 p) refl)
 
   -- a rule whose pattern selects so, and whose action does this
   chosen_same : (n : ℕ) (p : PlannedPattern) (k : ℕ) (q : Pattern) (m : Run (Unit {0})) (s : State) → IsPattern (DoesIn items plan) p q → ((t : State) → IsOutside items limit t → action_at (place_in items plan limit) k t ≡ m t) → IsOutside items limit s
@@ -222,11 +222,15 @@ module _ (items : List Item) (plan : Plan) (limit : ℕ) (for : AreFor (tables_o
 
   rule_same : (n : ℕ) (p : PlannedPattern) (k : ℕ) (x : Item) (s : State) → IsRule (DoesIn items plan) p k x → IsOutside items limit s → try_item_at (place_in items plan limit) n (item.Rule p k) s ≡ try_item (functions_of items limit) n x s
   unfolding try_item_at try_item
-  rule_same n pattern.Every k (Action block) s h o = every_same n k s ∙ action_same h o
+  rule_same n pattern.Every k (Action block) s h o = every_same n k s ∙ action_same block h o
   rule_same n (pattern.Single j) k (Action block) s h o = absurd h
   rule_same n (pattern.Range j l) k (Action block) s h o = absurd h
-  rule_same n p k (PatternAction q block) s h o = chosen_same n p k q (run_action (functions_of items limit) block) s h.0 (λ t r. action_same h.1 r) o
-  rule_same n p k (PatternOnly q) s h o = chosen_same n p k q (print_record (functions_of items limit)) s h.0 (λ t r. printed_same h.1 r) o
+  rule_same n pattern.Every k (PatternAction q block) s h o = chosen_same n pattern.Every k q (run_action (functions_of items limit) block) s h.0 (λ t r. action_same block h.1 r) o
+  rule_same n (pattern.Single j) k (PatternAction q block) s h o = chosen_same n (pattern.Single j) k q (run_action (functions_of items limit) block) s h.0 (λ t r. action_same block h.1 r) o
+  rule_same n (pattern.Range j l) k (PatternAction q block) s h o = chosen_same n (pattern.Range j l) k q (run_action (functions_of items limit) block) s h.0 (λ t r. action_same block h.1 r) o
+  rule_same n pattern.Every k (PatternOnly q) s h o = chosen_same n pattern.Every k q (print_record (functions_of items limit)) s h.0 (λ t r. printed_same h.1 r) o
+  rule_same n (pattern.Single j) k (PatternOnly q) s h o = chosen_same n (pattern.Single j) k q (print_record (functions_of items limit)) s h.0 (λ t r. printed_same h.1 r) o
+  rule_same n (pattern.Range j l) k (PatternOnly q) s h o = chosen_same n (pattern.Range j l) k q (print_record (functions_of items limit)) s h.0 (λ t r. printed_same h.1 r) o
   rule_same n pattern.Every k (Begin block) s h o = absurd h
   rule_same n (pattern.Single j) k (Begin block) s h o = absurd h
   rule_same n (pattern.Range j l) k (Begin block) s h o = absurd h
@@ -258,7 +262,7 @@ module _ (items : List Item) (plan : Plan) (limit : ℕ) (for : AreFor (tables_o
 
   begin_item_same : (x : PlannedItem) (y : Item) (s : State) → IsItem (DoesIn items plan) x y → IsOutside items limit s → begin_item_at (place_in items plan limit) x s ≡ begin_item (functions_of items limit) y s
   unfolding begin_item_at begin_item
-  begin_item_same (item.Begin k) (Begin block) s h o = action_same h o
+  begin_item_same (item.Begin k) (Begin block) s h o = action_same block h o
   begin_item_same (item.End k) (End block) s h o = refl
   begin_item_same item.Function (Function f parameters block) s h o = refl
   begin_item_same (item.Rule p k) (Action block) s h o = refl
@@ -282,7 +286,7 @@ module _ (items : List Item) (plan : Plan) (limit : ℕ) (for : AreFor (tables_o
 
   end_item_same : (x : PlannedItem) (y : Item) (s : State) → IsItem (DoesIn items plan) x y → IsOutside items limit s → end_item_at (place_in items plan limit) x s ≡ end_item (functions_of items limit) y s
   unfolding end_item_at end_item
-  end_item_same (item.End k) (End block) s h o = action_same h o
+  end_item_same (item.End k) (End block) s h o = action_same block h o
   end_item_same (item.Begin k) (Begin block) s h o = refl
   end_item_same item.Function (Function f parameters block) s h o = refl
   end_item_same (item.Rule p k) (Action block) s h o = refl

@@ -1,14 +1,15 @@
 -- Parts of a run over a plan, one after the other.
-use Rattle.std.proofs.Common.{◌≡◌, ℕ, ◌≤◌, Result, Ok, Err, arith, refl, ap, ◌∙◌}
+use Rattle.std.proofs.Common.{◌≡◌, ℕ, ◌≤◌, Result, Ok, Err, arith, refl, sym, subst, ◌∙◌}
 use Rattle.awk_channels.specs.WorldState.{WorldState}
 use Rattle.awk_compile.specs.declared.plan.Plan.{Plan}
 use Rattle.awk_semantics.specs.declared.halt.Halt.{Halt}
 use Rattle.awk_semantics.specs.definitions.State.{Run, ◌>>=◌, lift}
 use Rattle.awk_semantics.specs.support.Results.{Yields}
 use Rattle.awk_runtime.specs.declared.runtime.Runtime.{Runtime}
+use Rattle.awk_runtime.specs.support.Naming.{Naming}
 use Rattle.awk_runtime.specs.support.Simulation.{IsReady, Changes, Follows}
 use Rattle.awk_runtime.proofs.Composition.{then_simulates, ends_simulates, lift_simulates, change_simulates, ready_behind}
-use Rattle.awk_program.specs.support.Planned.{place_in}
+use Rattle.awk_program.specs.support.Planned.{IsPlanFor, place_in}
 use Rattle.awk_program.specs.support.Follows.{Part, FollowsPlan, IsSet}
 
 pub then_follows : {A B : Type 0} {is_logged : Type 0} {plan : Plan} {m m1 m2 : Runtime} {k k1 k2 : WorldState} {a : A} {r : Result B Halt} {part : Part A} (f : (ℕ → Run _) → A → Run B)
@@ -16,7 +17,7 @@ pub then_follows : {A B : Type 0} {is_logged : Type 0} {plan : Plan} {m m1 m2 : 
 then_follows {plan = plan} f p q = record {
   steps = omega (arith, p.steps, q.steps);
   names = q.names ∙ p.names;
-  told = λ items is n low. then_simulates (f (place_in items plan n)) (p.told items is n low) (q.told items is n (omega (arith, p.steps, low)));
+  told = λ items is n low. then_simulates (f (place_in items plan n)) (p.told items is n low) (q.told items (subst (λ (names : Naming). IsPlanFor items plan names) (sym p.names) is) n (omega (arith, p.steps, low)));
 }
 
 pub ends_follows : {A B : Type 0} {is_logged : Type 0} {plan : Plan} {m m1 : Runtime} {k k1 : WorldState} {h : Halt} {part : Part A} (f : (ℕ → Run _) → A → Run B)
@@ -51,7 +52,7 @@ world_follows p = record {
 -- what is known of the state stays
 
 pub set_behind : {A : Type 0} {is_logged : Type 0} {plan : Plan} {m m1 : Runtime} {k : WorldState} {r : Result A Halt} {run : Run A} → Changes run m m1 r → IsSet is_logged plan m k → IsSet is_logged plan m1 k
-set_behind p set = record { ready = ready_behind p set.ready; names = ap (λ n. n.scalars) p.names ∙ set.names }
+set_behind {plan = plan} p set = record { ready = ready_behind p set.ready; items = set.items; planned = subst (λ (names : Naming). IsPlanFor set.items plan names) (sym p.names) set.planned }
 
 pub set_follows : {A : Type 0} {is_logged : Type 0} {plan : Plan} {m m1 : Runtime} {k k1 : WorldState} {r : Result A Halt} {run : Run A} → Follows is_logged run m k m1 k1 r → IsReady is_logged k1 m1.streams → IsSet is_logged plan m k → IsSet is_logged plan m1 k1
-set_follows p ready set = record { ready = ready; names = ap (λ n. n.scalars) p.simulates.names ∙ set.names }
+set_follows {plan = plan} p ready set = record { ready = ready; items = set.items; planned = subst (λ (names : Naming). IsPlanFor set.items plan names) (sym p.simulates.names) set.planned }

@@ -1,3 +1,5 @@
 pub mod Planned
 pub mod Follows
 pub mod Machine
+pub mod Verdict
+pub mod Assigned

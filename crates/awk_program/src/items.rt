@@ -2,7 +2,7 @@
 
 ghost use Rattle.std.specs.Prelude.{◌≡◌, OnOk};
 ghost use Rattle.awk_semantics.specs.Items.{unless_next, unless_exit, until_next, until_exit};
-ghost use Rattle.awk_program.specs.support.Planned.{IsPlan, action_at, holds_at, in_range_at, go_through_at, selects_at, try_item_at, try_items_at};
+ghost use Rattle.awk_program.specs.support.Planned.{action_at, holds_at, in_range_at, go_through_at, selects_at, try_item_at, try_items_at};
 ghost use Rattle.awk_program.specs.support.Planned.{begin_item_at, begin_items_at, end_item_at, end_items_at};
 ghost use Rattle.awk_program.specs.support.Planned.{is_rule_at, has_rule_at, run_before_end_at, run_items_at};
 ghost use Rattle.awk_program.specs.support.Follows.{FollowsPlan, IsSet};
@@ -25,7 +25,6 @@ fn run_action<W: World>(
 ) -> Result<(), Halt>
     requires set { IsSet W.is_logged plan.now machine.old.runtime (W.state world.old) }
     requires idle { IsIdle machine.old }
-    requires planned { IsPlan plan.now }
     ensures set { IsSet W.is_logged plan.now machine.new.runtime (W.state world.new) }
     ensures idle { OnOk result (IsIdle machine.new) }
     ensures follows { FollowsPlan W.is_logged plan.now (λ at. action_at at action) machine.old.runtime (W.state world.old)
@@ -44,7 +43,6 @@ fn holds<W: World>(
 ) -> Result<bool, Halt>
     requires set { IsSet W.is_logged plan.now machine.old.runtime (W.state world.old) }
     requires idle { IsIdle machine.old }
-    requires planned { IsPlan plan.now }
     ensures set { IsSet W.is_logged plan.now machine.new.runtime (W.state world.new) }
     ensures idle { OnOk result (IsIdle machine.new) }
     ensures follows { FollowsPlan W.is_logged plan.now (λ at. holds_at at expression) machine.old.runtime (W.state world.old)
@@ -64,7 +62,6 @@ fn in_range<W: World>(
 ) -> Result<bool, Halt>
     requires set { IsSet W.is_logged plan.now machine.old.runtime (W.state world.old) }
     requires idle { IsIdle machine.old }
-    requires planned { IsPlan plan.now }
     ensures set { IsSet W.is_logged plan.now machine.new.runtime (W.state world.new) }
     ensures idle { OnOk result (IsIdle machine.new) }
     ensures follows { FollowsPlan W.is_logged plan.now (λ at. in_range_at at number from) machine.old.runtime (W.state world.old)
@@ -86,7 +83,6 @@ fn go_through<W: World>(
 ) -> Result<bool, Halt>
     requires set { IsSet W.is_logged plan.now machine.old.runtime (W.state world.old) }
     requires idle { IsIdle machine.old }
-    requires planned { IsPlan plan.now }
     ensures set { IsSet W.is_logged plan.now machine.new.runtime (W.state world.new) }
     ensures idle { OnOk result (IsIdle machine.new) }
     ensures follows { FollowsPlan W.is_logged plan.now (λ at. go_through_at at number to) machine.old.runtime (W.state world.old)
@@ -107,7 +103,6 @@ fn selects<W: World>(
 ) -> Result<bool, Halt>
     requires set { IsSet W.is_logged plan.now machine.old.runtime (W.state world.old) }
     requires idle { IsIdle machine.old }
-    requires planned { IsPlan plan.now }
     ensures set { IsSet W.is_logged plan.now machine.new.runtime (W.state world.new) }
     ensures idle { OnOk result (IsIdle machine.new) }
     ensures follows { FollowsPlan W.is_logged plan.now (λ at. selects_at at number pattern) machine.old.runtime (W.state world.old)
@@ -137,7 +132,6 @@ fn try_rule<W: World>(
 ) -> Result<(), Halt>
     requires set { IsSet W.is_logged plan.now machine.old.runtime (W.state world.old) }
     requires idle { IsIdle machine.old }
-    requires planned { IsPlan plan.now }
     ensures set { IsSet W.is_logged plan.now machine.new.runtime (W.state world.new) }
     ensures idle { OnOk result (IsIdle machine.new) }
     ensures follows { FollowsPlan W.is_logged plan.now (λ at. try_item_at at number (PlannedItem.Rule pattern action)) machine.old.runtime (W.state world.old)
@@ -160,7 +154,6 @@ fn try_item<W: World>(
 ) -> Result<(), Halt>
     requires set { IsSet W.is_logged plan.now machine.old.runtime (W.state world.old) }
     requires idle { IsIdle machine.old }
-    requires planned { IsPlan plan.now }
     ensures set { IsSet W.is_logged plan.now machine.new.runtime (W.state world.new) }
     ensures idle { OnOk result (IsIdle machine.new) }
     ensures follows { FollowsPlan W.is_logged plan.now (λ at. try_item_at at number item) machine.old.runtime (W.state world.old)
@@ -178,7 +171,6 @@ fn try_item<W: World>(
 fn try_items<W: World>(plan: &Plan, machine: &mut Machine, world: &mut W) -> Result<(), Halt>
     requires set { IsSet W.is_logged plan.now machine.old.runtime (W.state world.old) }
     requires idle { IsIdle machine.old }
-    requires planned { IsPlan plan.now }
     ensures set { IsSet W.is_logged plan.now machine.new.runtime (W.state world.new) }
     ensures idle { OnOk result (IsIdle machine.new) }
     ensures follows { FollowsPlan W.is_logged plan.now (λ at. try_items_at at 0 plan.now.items.items) machine.old.runtime (W.state world.old)
@@ -209,7 +201,6 @@ pub(crate) fn try_until_next<W: World>(
 ) -> Result<(), Halt>
     requires set { IsSet W.is_logged plan.now machine.old.runtime (W.state world.old) }
     requires idle { IsIdle machine.old }
-    requires planned { IsPlan plan.now }
     ensures set { IsSet W.is_logged plan.now machine.new.runtime (W.state world.new) }
     ensures idle { IsIdle machine.new }
     ensures follows { FollowsPlan W.is_logged plan.now (λ at. until_next (try_items_at at 0 plan.now.items.items)) machine.old.runtime
@@ -229,7 +220,6 @@ fn begin_item<W: World>(
 ) -> Result<(), Halt>
     requires set { IsSet W.is_logged plan.now machine.old.runtime (W.state world.old) }
     requires idle { IsIdle machine.old }
-    requires planned { IsPlan plan.now }
     ensures set { IsSet W.is_logged plan.now machine.new.runtime (W.state world.new) }
     ensures idle { OnOk result (IsIdle machine.new) }
     ensures follows { FollowsPlan W.is_logged plan.now (λ at. begin_item_at at item) machine.old.runtime (W.state world.old)
@@ -245,7 +235,6 @@ fn begin_item<W: World>(
 fn begin_items<W: World>(plan: &Plan, machine: &mut Machine, world: &mut W) -> Result<(), Halt>
     requires set { IsSet W.is_logged plan.now machine.old.runtime (W.state world.old) }
     requires idle { IsIdle machine.old }
-    requires planned { IsPlan plan.now }
     ensures set { IsSet W.is_logged plan.now machine.new.runtime (W.state world.new) }
     ensures idle { OnOk result (IsIdle machine.new) }
     ensures follows { FollowsPlan W.is_logged plan.now (λ at. begin_items_at at plan.now.items.items) machine.old.runtime (W.state world.old)
@@ -280,7 +269,6 @@ fn has_rule(plan: &Plan) -> bool
 fn run_before_end<W: World>(plan: &Plan, machine: &mut Machine, world: &mut W) -> Result<(), Halt>
     requires set { IsSet W.is_logged plan.now machine.old.runtime (W.state world.old) }
     requires idle { IsIdle machine.old }
-    requires planned { IsPlan plan.now }
     ensures set { IsSet W.is_logged plan.now machine.new.runtime (W.state world.new) }
     ensures follows { FollowsPlan W.is_logged plan.now (λ at. run_before_end_at at plan.now.items.items) machine.old.runtime
         (W.state world.old) machine.new.runtime (W.state world.new) result }
@@ -306,7 +294,6 @@ fn unless_exit(ended: Result<(), Halt>) -> Result<(), Halt>
 fn run_until_exit<W: World>(plan: &Plan, machine: &mut Machine, world: &mut W) -> Result<(), Halt>
     requires set { IsSet W.is_logged plan.now machine.old.runtime (W.state world.old) }
     requires idle { IsIdle machine.old }
-    requires planned { IsPlan plan.now }
     ensures set { IsSet W.is_logged plan.now machine.new.runtime (W.state world.new) }
     ensures idle { IsIdle machine.new }
     ensures follows { FollowsPlan W.is_logged plan.now (λ at. until_exit (run_before_end_at at plan.now.items.items)) machine.old.runtime
@@ -326,7 +313,6 @@ fn end_item<W: World>(
 ) -> Result<(), Halt>
     requires set { IsSet W.is_logged plan.now machine.old.runtime (W.state world.old) }
     requires idle { IsIdle machine.old }
-    requires planned { IsPlan plan.now }
     ensures set { IsSet W.is_logged plan.now machine.new.runtime (W.state world.new) }
     ensures idle { OnOk result (IsIdle machine.new) }
     ensures follows { FollowsPlan W.is_logged plan.now (λ at. end_item_at at item) machine.old.runtime (W.state world.old)
@@ -342,7 +328,6 @@ fn end_item<W: World>(
 fn end_items<W: World>(plan: &Plan, machine: &mut Machine, world: &mut W) -> Result<(), Halt>
     requires set { IsSet W.is_logged plan.now machine.old.runtime (W.state world.old) }
     requires idle { IsIdle machine.old }
-    requires planned { IsPlan plan.now }
     ensures set { IsSet W.is_logged plan.now machine.new.runtime (W.state world.new) }
     ensures follows { FollowsPlan W.is_logged plan.now (λ at. end_items_at at plan.now.items.items) machine.old.runtime (W.state world.old)
         machine.new.runtime (W.state world.new) result }
@@ -363,7 +348,6 @@ pub(crate) fn run_items<W: World>(
 ) -> Result<(), Halt>
     requires set { IsSet W.is_logged plan.now machine.old.runtime (W.state world.old) }
     requires idle { IsIdle machine.old }
-    requires planned { IsPlan plan.now }
     ensures set { IsSet W.is_logged plan.now machine.new.runtime (W.state world.new) }
     ensures follows { FollowsPlan W.is_logged plan.now (λ at. run_items_at at plan.now.items.items) machine.old.runtime (W.state world.old)
         machine.new.runtime (W.state world.new) result }

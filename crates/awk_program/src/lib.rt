@@ -3,8 +3,15 @@
 
 mod items;
 pub mod machine;
+mod names;
+mod program;
 mod records;
+mod run;
 mod start;
 mod words;
 
+pub use awk_semantics::{
+    Fault, Outcome, fault_line, law_of_limits, law_of_outcomes, law_of_turns, status,
+};
+pub use program::{execute, law_of_untouched, one_program};
 pub use start::{Assignment, Start};

@@ -2,7 +2,7 @@
 
 ghost use Rattle.std.specs.Prelude.{◌≡◌, OnOk};
 ghost use Rattle.awk_semantics.specs.Items.{until_next, run_records};
-ghost use Rattle.awk_program.specs.support.Planned.{IsPlan, try_items_at};
+ghost use Rattle.awk_program.specs.support.Planned.{try_items_at};
 ghost use Rattle.awk_program.specs.support.Follows.{FollowsPlan, IsSet};
 ghost use Rattle.awk_program.specs.support.Machine.{IsIdle};
 
@@ -22,7 +22,6 @@ pub(crate) fn run_records<W: World>(
 ) -> Result<(), Halt>
     requires set { IsSet W.is_logged plan.now machine.old.runtime (W.state world.old) }
     requires idle { IsIdle machine.old }
-    requires planned { IsPlan plan.now }
     ensures set { IsSet W.is_logged plan.now machine.new.runtime (W.state world.new) }
     ensures follows { FollowsPlan W.is_logged plan.now (λ at. run_records (until_next (try_items_at at 0 plan.now.items.items)))
         machine.old.runtime (W.state world.old) machine.new.runtime (W.state world.new) result }

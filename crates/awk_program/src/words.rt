@@ -8,7 +8,6 @@ ghost use Rattle.awk_runtime.specs.support.Simulation.{IsReady, Changes, Follows
 ghost use Rattle.awk_semantics.specs.Primitives.{is_inside, set_inside};
 ghost use Rattle.awk_semantics.specs.Inputs.{next_record, assign_text};
 ghost use Rattle.awk_semantics.specs.Items.{begin_record};
-ghost use Rattle.awk_program.specs.support.Planned.{IsPlan};
 ghost use Rattle.awk_program.specs.support.Follows.{FollowsPlan, IsSet};
 ghost use Rattle.awk_program.specs.support.Machine.{IsIdle, EndsCalls};
 
@@ -27,7 +26,6 @@ pub fn execute<W: World>(
 ) -> Result<Value, Halt>
     requires set { IsSet W.is_logged plan.now machine.old.runtime (W.state world.old) }
     requires idle { IsIdle machine.old }
-    requires planned { IsPlan plan.now }
     ensures set { IsSet W.is_logged plan.now machine.new.runtime (W.state world.new) }
     ensures idle { OnOk result (IsIdle machine.new) }
     ensures follows { FollowsPlan W.is_logged plan.now (λ at. at place) machine.old.runtime (W.state world.old) machine.new.runtime (W.state world.new) result }
@@ -70,6 +68,13 @@ pub fn next_record<W: World>(runtime: &mut Runtime, world: &mut W) -> Result<Opt
     requires ready { IsReady W.is_logged (W.state world.old) runtime.old.streams }
     ensures ready { IsReady W.is_logged (W.state world.new) runtime.new.streams }
     ensures follows { Follows W.is_logged next_record runtime.old (W.state world.old) runtime.new (W.state world.new) result }
+{
+    unreachable!()
+}
+
+pub fn new_machine(runtime: Runtime) -> Machine
+    ensures runtime { result.runtime ≡ runtime }
+    ensures idle { IsIdle result }
 {
     unreachable!()
 }

@@ -9,10 +9,9 @@ use Rattle.awk_semantics.specs.definitions.State.{State, Run}
 use Rattle.awk_semantics.specs.definitions.Items.{until_next, each_record}
 use Rattle.awk_compile.specs.declared.plan.PlannedItem.{PlannedItem}
 use Rattle.awk_compile.specs.declared.plan.Plan.{Plan}
-use Rattle.awk_compile.specs.definitions.Plans.{IsPlanOf}
 use Rattle.awk_runtime.specs.declared.runtime.Runtime.{Runtime}
 use Rattle.awk_runtime.specs.support.Simulation.{IsReady, Simulates}
-use Rattle.awk_program.specs.support.Planned.{place_in, try_items_at}
+use Rattle.awk_program.specs.support.Planned.{IsPlanFor, place_in, try_items_at}
 
 -- a part of a run that is made of what the places of a plan do
 abbrev pub Part : Type 0 → Type 0
@@ -22,7 +21,7 @@ Part A = (ℕ → Run Value) → Run A
 pub record FollowsPlan {A : Type 0} (is_logged : Type 0) (plan : Plan) (part : Part A) (old : Runtime) (before : WorldState) (new : Runtime) (after : WorldState) (r : Result A Halt) : Type 0 where
   pub steps : new.steps ≤ old.steps
   pub names : new.names ≡ old.names
-  pub told : (items : List Item) → IsPlanOf items plan → (n : ℕ) → old.steps ≤ n → Simulates is_logged old before new after r (part (place_in items plan n))
+  pub told : (items : List Item) → IsPlanFor items plan old.names → (n : ℕ) → old.steps ≤ n → Simulates is_logged old before new after r (part (place_in items plan n))
 
 -- the records that are left, at any bound above the steps
 pub record ReadsOn (is_logged : Type 0) (plan : Plan) (xs : List PlannedItem) (old : Runtime) (before : WorldState) (new : Runtime) (after : WorldState) (r : Result (Unit {0}) Halt) : Type 0 where
@@ -31,4 +30,5 @@ pub record ReadsOn (is_logged : Type 0) (plan : Plan) (xs : List PlannedItem) (o
 -- what is known of the state whenever the plan is run
 pub record IsSet (is_logged : Type 0) (plan : Plan) (m : Runtime) (k : WorldState) : Type 0 where
   pub ready : IsReady is_logged k m.streams
-  pub names : m.names.scalars ≡ plan.names
+  pub items : List Item
+  pub planned : IsPlanFor items plan m.names

@@ -1,8 +1,10 @@
 -- The items of a plan, by what its places do.
-use Rattle.std.specs.Prelude.{ℕ, zero, suc, Bool, true, false, not, ◌||◌, List, [], ◌∷◌}
+use Rattle.std.specs.Prelude.{◌≡◌, ℕ, zero, suc, Bool, true, false, not, ◌||◌, List, [], ◌∷◌}
 use Rattle.awk_value.specs.declared.value.Value.{Value}
 use Rattle.awk_grammar.specs.Tree.{Item}
-use Rattle.awk_kinds.specs.definitions.Kinds.{definitions_of}
+use Rattle.awk_kinds.specs.definitions.Fits.{has_repeat, Fits}
+use Rattle.awk_kinds.specs.definitions.Kinds.{definitions_of, array_names_of, function_names_of}
+use Rattle.awk_kinds.specs.definitions.Signatures.{ProgramKinds, signature_names, kinds_of}
 use Rattle.awk_semantics.specs.definitions.State.{Run, ◌>>=◌, ret}
 use Rattle.awk_semantics.specs.definitions.Primitives.{is_inside, set_inside}
 use Rattle.awk_semantics.specs.definitions.Semantics.{tested, choose}
@@ -16,11 +18,31 @@ use Rattle.awk_compile.specs.declared.plan.PlannedItem.TheVariants as item
 use Rattle.awk_compile.specs.declared.plan.Plan.{Plan}
 use Rattle.awk_compile.specs.definitions.Nodes.{cont_at}
 use Rattle.awk_compile.specs.definitions.Plans.{tables_of, IsPlanOf}
+use Rattle.awk_runtime.specs.support.Naming.{Naming}
 
--- a plan of some program
-pub record IsPlan (plan : Plan) : Type 0 where
-  pub items : List Item
+-- the plan of this program, whose names a run has
+pub record IsPlanFor (items : List Item) (plan : Plan) (names : Naming) : Type 0 where
   pub is : IsPlanOf items plan
+  -- each function is defined once
+  pub once : has_repeat (function_names_of items) ≡ false
+  pub scalars : names.scalars ≡ plan.names
+  pub eres : names.eres ≡ plan.eres.items
+  pub arrays : names.arrays ≡ array_names_of items
+  pub functions : names.functions ≡ function_names_of items
+
+-- a program that fits, its plan, and the kinds of its names
+pub record IsProgramOf (items : List Item) (plan : Plan) (kinds : ProgramKinds) : Type 0 where
+  pub is : IsPlanOf items plan
+  pub fits : Fits items
+  pub named : kinds ≡ kinds_of items
+
+pub record AreOfAProgram (plan : Plan) (kinds : ProgramKinds) : Type 0 where
+  pub items : List Item
+  pub is : IsProgramOf items plan kinds
+
+-- the names of a plan's program
+abbrev pub naming_of : Plan → ProgramKinds → Naming
+naming_of plan kinds = record { scalars = plan.names; arrays = kinds.arrays; functions = signature_names kinds.functions; eres = plan.eres.items }
 
 -- what the places of a plan do where no value is awaited, in a run of at most so many steps
 abbrev pub place_in : List Item → Plan → (steps : ℕ) → ℕ → Run Value

@@ -43,7 +43,6 @@ pub try_until_next-requires : goal.try_until_next-requires
 try_until_next-requires g c = record {
   set = begun_set _ c.in_ok-spend.ensures c.in_ok-begin_record.ensures (set_follows c.in_ok-text.ensures.follows c.in_ok-text.ensures.ready c.loop-text.invariant.set);
   idle = record { operands = c.loop-text.invariant.idle.operands; entries = c.loop-text.invariant.idle.entries };
-  planned = c.requires.planned;
 }
 
 pub returns-clause-follows : goal.returns-clause-follows
