@@ -11,7 +11,8 @@ use Rattle.awk_lex.specs.Lexes.{Lexes}
 use Rattle.awk_lex.specs.Told.{Refuses, kinds_of as token_kinds_of}
 use Rattle.awk_grammar.specs.Tree.{Item}
 use Rattle.awk_grammar.specs.Spelling.{IsProgram}
-use Rattle.awk_grammar.specs.View.{tree_of}
+use Rattle.awk_grammar.specs.View.{items_of, tree_of}
+use Rattle.awk_grammar.specs.declared.tree.Item.{Item as CodeItem}
 use Rattle.awk_grammar.specs.declared.tree.Tree.{Tree}
 use Rattle.awk_syntax.specs.Outcome.{Reads, IsProgramWithinHeight, RefusesPattern, Justifies}
 use Rattle.awk_syntax.specs.Patterns.{AreReadable}
@@ -52,6 +53,14 @@ same_read text tokens tree one only items a =
 
 none_some : {A B : Type 0} {x : A} → None ≡ Some x → B
 none_some e = absurd (cc)
+
+-- what is told of the same items
+
+pub fits_same : {xs ys : List CodeItem} → xs ≡ ys → first_refusal (items_of xs) ≡ None → first_refusal (items_of ys) ≡ None
+fits_same e h = subst (λ (l : List CodeItem). first_refusal (items_of l) ≡ None) e h
+
+pub told_same : {xs ys : List CodeItem} {refusal : Refusal} → xs ≡ ys → Resolves (items_of xs) (Err refusal) → Resolves (items_of ys) (Err refusal)
+told_same {refusal = refusal} e h = subst (λ (l : List CodeItem). Resolves (items_of l) (Err refusal)) e h
 
 -- a tree of which something is told is no program
 pub none_fits : ((items : List Item) → LawOfRefusals items) → (refusal : Refusal) (text : List ℕ) (tokens : List Kind) (tree : Tree) → HasOne text tokens

@@ -87,10 +87,13 @@ closings_met oracle [] (x ∷ names) first answer before after old new e h b = a
 closings_met oracle (y ∷ ys) [] first answer before after old new e h b = absurd (cc)
 closings_met oracle (y ∷ ys) (x ∷ names) first answer before after old new e (told, world, view, this, later) b =
     let same : x ≡ named_of y = cc in
-    let rest : names ≡ map named_of ys = cc in
-    (stage_of before.log old, stage_of world.log view, goes-self (stage_of before.log old),
-    (b, subst (λ (n : Named). ClosesAs n (number_among (numbered old.named) n) (stage_of before.log old) (stage_of world.log view)) same (closed_as x before world old view told this)),
-    subst (λ os. MeetsAll oracle (requests_from os (closings_of ys)) (stage_of world.log view) (stage_of after.log new)) this.printed (closings_met oracle ys names told answer world after view new rest later (this.brought b)))
+    let rest : names ≡ map named_of ys = cc in (
+      stage_of before.log old,
+      stage_of world.log view,
+      goes-self (stage_of before.log old),
+      (b, subst (λ (n : Named). ClosesAs n (number_among (numbered old.named) n) (stage_of before.log old) (stage_of world.log view)) same (closed_as x before world old view told this)),
+      subst (λ os. MeetsAll oracle (requests_from os (closings_of ys)) (stage_of world.log view) (stage_of after.log new)) this.printed (closings_met oracle ys names told answer world after view new rest later (this.brought b)),
+    )
 
 stand_names : (a : Oracle) (log : List Event) (xs : List NamedStream) (ys : List Stream) → StandFor a log xs ys → all_names xs ≡ map named_of ys
 stand_names a log [] [] h = refl
@@ -131,13 +134,17 @@ ends_met oracle ys before after old new all stand =
     let ends = all.main in
     let a : Stage = stage_of all.world.log all.streams in
     let at_main : AreBrought (printed_openings before old) all.world'.log = subst (λ (l : List Event). AreBrought (printed_openings before old) l) (sym ends.adds.1) (main_brought all.streams.main ends.adds.0 (printed_openings before old) all.world.log brings.brings.brought) in
-    let printed : printed_openings all.world' all.streams' ≡ printed_openings before old = ends.printed ∙ brings.printed in
-    (a, a, record {
-      events = brings.brings.only.events;
-      log = brings.brings.only.log;
-      between = subst (λ (m : Option ℕ). AreBetween (main_number old.main) brings.brings.only.events m) (ap main_number (sym brings.main)) (bringing_between (main_number old.main) brings.brings.only.events brings.brings.only.each);
-      streams = brings.numbers;
-    }, (brings.brings.brought, refl),
-    goes_first oracle (requests_from (printed_openings before old) (closings_of ys)) a (stage_of all.world'.log all.streams') (stage_of after.log new) (main_goes all.world all.world' all.streams all.streams' ends)
-    (subst (λ os. MeetsAll oracle (requests_from os (closings_of ys)) (stage_of all.world'.log all.streams') (stage_of after.log new)) printed
-    (closings_met oracle ys (all_names old.named) (pos 0) all.answer all.world' after all.streams' new (stand_names oracle before.log old.named ys stand) all.closes (subst (λ os. AreBrought os all.world'.log) (sym printed) at_main))))
+    let printed : printed_openings all.world' all.streams' ≡ printed_openings before old = ends.printed ∙ brings.printed in (
+      a,
+      a,
+      record {
+        events = brings.brings.only.events;
+        log = brings.brings.only.log;
+        between = subst (λ (m : Option ℕ). AreBetween (main_number old.main) brings.brings.only.events m) (ap main_number (sym brings.main)) (bringing_between (main_number old.main) brings.brings.only.events brings.brings.only.each);
+        streams = brings.numbers;
+      },
+      (brings.brings.brought, refl),
+      goes_first oracle (requests_from (printed_openings before old) (closings_of ys)) a (stage_of all.world'.log all.streams') (stage_of after.log new) (main_goes all.world all.world' all.streams all.streams' ends)
+          (subst (λ os. MeetsAll oracle (requests_from os (closings_of ys)) (stage_of all.world'.log all.streams') (stage_of after.log new)) printed
+          (closings_met oracle ys (all_names old.named) (pos 0) all.answer all.world' after all.streams' new (stand_names oracle before.log old.named ys stand) all.closes (subst (λ os. AreBrought os all.world'.log) (sym printed) at_main))),
+    )

@@ -30,21 +30,27 @@ module _ {is_logged : Type 0} {plan : Plan} {xs : List PlannedItem} where
 
   pub reading_stops : {text : List ℕ} {m m1 m2 : Runtime} {k k1 : WorldState} {h : Halt} → Follows is_logged next_record m k m1 k1 (Ok (Some text)) → Spends m1 m2 (Err h) → ReadsOn is_logged plan xs m k m2 k1 (Err h)
   unfolding each_record
-  reading_stops {text = text} p q = record { bounded = λ n low. then_follows (λ at found. on_record found (rest_of xs n at)) (world_follows p)
-      (ends_follows (λ at _. begin_record text >>= λ _. until_next (try_items_at at 0 xs) >>= λ _. each_record n (until_next (try_items_at at 0 xs))) (change_follows q.changes)) }
+  reading_stops {text = text} p q = record {
+    bounded = λ n low. then_follows (λ at found. on_record found (rest_of xs n at)) (world_follows p)
+        (ends_follows (λ at _. begin_record text >>= λ _. until_next (try_items_at at 0 xs) >>= λ _. each_record n (until_next (try_items_at at 0 xs))) (change_follows q.changes));
+  }
 
   pub reading_unset : {text : List ℕ} {m m1 m2 m3 : Runtime} {k k1 : WorldState} {h : Halt} → Follows is_logged next_record m k m1 k1 (Ok (Some text)) → Spends m1 m2 (Ok tt) → Changes (begin_record text) m2 m3 (Err h) → ReadsOn is_logged plan xs m k m3 k1 (Err h)
   unfolding each_record
-  reading_unset {text = text} p q r = record { bounded = λ n low. then_follows (λ at found. on_record found (rest_of xs n at)) (world_follows p)
-      (then_follows (λ at _. begin_record text >>= λ _. until_next (try_items_at at 0 xs) >>= λ _. each_record n (until_next (try_items_at at 0 xs))) (change_follows q.changes)
-      (ends_follows (λ at _. until_next (try_items_at at 0 xs) >>= λ _. each_record n (until_next (try_items_at at 0 xs))) (change_follows r))) }
+  reading_unset {text = text} p q r = record {
+    bounded = λ n low. then_follows (λ at found. on_record found (rest_of xs n at)) (world_follows p)
+        (then_follows (λ at _. begin_record text >>= λ _. until_next (try_items_at at 0 xs) >>= λ _. each_record n (until_next (try_items_at at 0 xs))) (change_follows q.changes)
+        (ends_follows (λ at _. until_next (try_items_at at 0 xs) >>= λ _. each_record n (until_next (try_items_at at 0 xs))) (change_follows r)));
+  }
 
   pub reading_halts : {text : List ℕ} {m m1 m2 m3 m4 : Runtime} {k k1 k4 : WorldState} {h : Halt} → Follows is_logged next_record m k m1 k1 (Ok (Some text)) → Spends m1 m2 (Ok tt) → Changes (begin_record text) m2 m3 (Ok tt) → FollowsPlan is_logged plan (λ at. until_next (try_items_at at 0 xs)) m3 k1 m4 k4 (Err h) → ReadsOn is_logged plan xs m k m4 k4 (Err h)
   unfolding each_record
-  reading_halts {text = text} p q r s = record { bounded = λ n low. then_follows (λ at found. on_record found (rest_of xs n at)) (world_follows p)
-      (then_follows (λ at _. begin_record text >>= λ _. until_next (try_items_at at 0 xs) >>= λ _. each_record n (until_next (try_items_at at 0 xs))) (change_follows q.changes)
-      (then_follows (λ at _. until_next (try_items_at at 0 xs) >>= λ _. each_record n (until_next (try_items_at at 0 xs))) (change_follows r)
-      (ends_follows (λ at _. each_record n (until_next (try_items_at at 0 xs))) s))) }
+  reading_halts {text = text} p q r s = record {
+    bounded = λ n low. then_follows (λ at found. on_record found (rest_of xs n at)) (world_follows p)
+        (then_follows (λ at _. begin_record text >>= λ _. until_next (try_items_at at 0 xs) >>= λ _. each_record n (until_next (try_items_at at 0 xs))) (change_follows q.changes)
+        (then_follows (λ at _. until_next (try_items_at at 0 xs) >>= λ _. each_record n (until_next (try_items_at at 0 xs))) (change_follows r)
+        (ends_follows (λ at _. each_record n (until_next (try_items_at at 0 xs))) s)));
+  }
 
   goes_at : (n : ℕ) {text : List ℕ} {m m1 m2 m3 m4 new : Runtime} {k k1 k4 after : WorldState} {x : Result (Unit {0}) Halt} → Follows is_logged next_record m k m1 k1 (Ok (Some text)) → Spends m1 m2 (Ok tt) → Changes (begin_record text) m2 m3 (Ok tt) → FollowsPlan is_logged plan (λ at. until_next (try_items_at at 0 xs)) m3 k1 m4 k4 (Ok tt) → ReadsOn is_logged plan xs m4 k4 new after x → m.steps ≤ n
       → FollowsPlan is_logged plan (λ at. each_record (suc n) (until_next (try_items_at at 0 xs))) m k new after x

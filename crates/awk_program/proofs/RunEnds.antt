@@ -104,12 +104,12 @@ brought oracle k1 k2 streams last ended o told meant =
 pub in_turn : (oracle : Oracle) (k1 k2 : WorldState) (streams last : StreamsView) (ended : Outcome) (o : Out (Unit {0})) → Finishes k1 streams (Ok tt) k2 last → IsMeant oracle k1 streams o ended → IsInTurn oracle (read_off o) k2.log
 in_turn oracle k1 k2 streams last ended o told meant =
     let behind : MeetsAll oracle (requests_from (outputs_after o.effects) (end_effects o.state.streams)) (stage_of k1.log streams) (stage_of k2.log last) =
-        subst (λ os. MeetsAll oracle (requests_from os (end_effects o.state.streams)) (stage_of k1.log streams) (stage_of k2.log last)) meant.stands.printed (ends_met oracle o.state.streams k1 k2 streams last told.ends meant.stands.are.named) in
+    subst (λ os. MeetsAll oracle (requests_from os (end_effects o.state.streams)) (stage_of k1.log streams) (stage_of k2.log last)) meant.stands.printed (ends_met oracle o.state.streams k1 k2 streams last told.ends meant.stands.are.named) in
     record {
       last = stage_of k2.log last;
       is = refl;
       meets = subst (λ (l : List Asked). MeetsAll oracle l first_stage (stage_of k2.log last)) (sym (requests-append first_outputs o.effects (end_effects o.state.streams)))
-      (meets_append oracle (requests_from first_outputs o.effects) (requests_from (outputs_after o.effects) (end_effects o.state.streams)) first_stage (stage_of k1.log streams) (stage_of k2.log last) meant.stands.turn behind);
+          (meets_append oracle (requests_from first_outputs o.effects) (requests_from (outputs_after o.effects) (end_effects o.state.streams)) first_stage (stage_of k1.log streams) (stage_of k2.log last) meant.stands.turn behind);
       brought = brought oracle k1 k2 streams last ended o told meant;
     }
 
@@ -202,9 +202,9 @@ settled oracle k1 streams ended o es bringing unended meant = record {
   last = record { log = with_events es k1.log; main = main_number streams.main; streams = numbered streams.named };
   at = refl;
   meets = subst (λ (l : List Asked). MeetsAll oracle l first_stage (record { log = with_events es k1.log; main = main_number streams.main; streams = numbered streams.named }))
-  (append-nil _ ∙ sym (ap before_end (requests-append first_outputs o.effects (end_effects o.state.streams)) ∙ before_the_end first_outputs o.effects (record { what = Ends; outputs = outputs_after o.effects }) (requests_from (outputs_after o.effects) (closings_of o.state.streams)) refl unended))
-  (meets_append oracle (requests_from first_outputs o.effects) [] first_stage (stage_of k1.log streams) (record { log = with_events es k1.log; main = main_number streams.main; streams = numbered streams.named }) meant.stands.turn
-  (record { events = es; log = refl; between = bringing_between (main_number streams.main) es bringing; streams = refl }));
+      (append-nil _ ∙ sym (ap before_end (requests-append first_outputs o.effects (end_effects o.state.streams)) ∙ before_the_end first_outputs o.effects (record { what = Ends; outputs = outputs_after o.effects }) (requests_from (outputs_after o.effects) (closings_of o.state.streams)) refl unended))
+      (meets_append oracle (requests_from first_outputs o.effects) [] first_stage (stage_of k1.log streams) (record { log = with_events es k1.log; main = main_number streams.main; streams = numbered streams.named }) meant.stands.turn
+      (record { events = es; log = refl; between = bringing_between (main_number streams.main) es bringing; streams = refl }));
 }
 
 cause : (oracle : Oracle) (k1 k2 : WorldState) (streams last : StreamsView) (ended : Outcome) (f : Result (Unit {0}) StreamFault) (o : Out (Unit {0})) (n : ℕ) (es : List Event) → Finishes k1 streams f k2 last → IfErr f IsOutputFault → k2.first_failure ≡ Some n →
@@ -230,7 +230,7 @@ fails_at out_by k1 k2 streams last ended f n told fault unended some_oracle body
       earlier = with_events (take m es) k1.log;
       later = drop m es ++ first.closes.events;
       parts = first.closes.log ∙ (ap (with_events first.closes.events) (first.brings.log ∙ (ap (λ l. with_events l k1.log) (sym (take-append-drop m es)) ∙ with_events-append (take m es) (drop m es) k1.log))
-      ∙ sym (with_events-append (drop m es) first.closes.events (with_events (take m es) k1.log)));
+          ∙ sym (with_events-append (drop m es) first.closes.events (with_events (take m es) k1.log)));
       count =
           let some_of : length (take m es) ≡ m = length-take-le m es within in
           let all = with_events-length (take m es) k1.log in

@@ -118,12 +118,12 @@ first_set {m = m} {k = k} program first sound = record {
   planned = plan_for program.is first;
 }
 
-pub begins_by : {items : List Item} {plan : Plan} {kinds : ProgramKinds} {start : Start} {limit : ℕ} {m : Machine} → IsProgramOf items plan kinds → IsFirst (naming_of plan kinds) start.operands.items start.environ.items limit m → Begins items (start_values start) limit m.runtime
-begins_by {items = items} {plan = plan} {kinds = kinds} {start = start} {limit = limit} {m = m} h first = record {
+pub begins_by : (start : Start) {items : List Item} {plan : Plan} {kinds : ProgramKinds} {limit : ℕ} {m : Machine} → IsProgramOf items plan kinds → IsFirst (naming_of plan kinds) start.operands.items start.environ.items limit m → Begins items (start_values start) limit m.runtime
+begins_by start {items = items} {plan = plan} {kinds = kinds} {limit = limit} {m = m} h first = record {
   streams = first.start.streams;
   steps = first.start.steps;
   stands = λ oracle k fresh. start_stands items (naming_of plan kinds) (start_of start.operands.items start.environ.items) oracle limit m.runtime k first.start (plan_of h).arrays (plan_of h).functions fresh.log fresh.first_failure;
 }
 
-pub functions_for : {items : List Item} {plan : Plan} {kinds : ProgramKinds} {limit : ℕ} → IsProgramOf items plan kinds → AreFor (tables_of items plan) (functions_of items limit)
-functions_for {items = items} {plan = plan} {limit = limit} h = are_for items (tables_of items plan) (h.fits DefinedTwice) refl limit
+pub functions_for : (limit : ℕ) {items : List Item} {plan : Plan} {kinds : ProgramKinds} → IsProgramOf items plan kinds → AreFor (tables_of items plan) (functions_of items limit)
+functions_for limit {items = items} {plan = plan} h = are_for items (tables_of items plan) (h.fits DefinedTwice) refl limit

@@ -56,19 +56,15 @@ pub(crate) fn program_names(
     requires arrays { AreDistinct kinds.now.arrays }
     requires functions { AreDistinct (signature_names kinds.now.functions) }
     ensures { IfOk result (λ names. names ≡ record {
-        scalars = plan.now.names;
-        arrays = kinds.now.arrays;
-        functions = signature_names kinds.now.functions;
-        eres = plan.now.eres.items;
+      scalars = plan.now.names;
+      arrays = kinds.now.arrays;
+      functions = signature_names kinds.now.functions;
+      eres = plan.now.eres.items;
     }) }
 {
-    let scalars = scalar_names(alloc, plan)?;
+    let eres = ere_texts(alloc, plan)?;
     let arrays = array_names(alloc, kinds)?;
     let functions = function_names(alloc, kinds)?;
-    Ok(ProgramNames::new(
-        scalars,
-        arrays,
-        functions,
-        ere_texts(alloc, plan)?,
-    ))
+    let scalars = scalar_names(alloc, plan)?;
+    Ok(ProgramNames::new(scalars, arrays, functions, eres))
 }

@@ -7,7 +7,7 @@ use Rattle.awk_program.proofs.run.end_without_streams.Goals as goal
 pub finish-requires : goal.finish-requires
 finish-requires g c = record {
   «open» = start_open (g.W.World.state c.args.world.now) c.new.result c.new.ensures;
-  sound = λ t. subst (λ (s : StreamsView). AreSound (g.W.World.state c.args.world.now) s) (sym c.new.ensures) (c.requires t);
+  sound = λ t. subst (λ (s : StreamsView). AreSound (g.W.World.state c.args.world.now) s) (sym c.new.ensures) (c.requires.sound t);
 }
 
 pub returns-clause-orderly : goal.returns-clause-orderly

@@ -4,10 +4,10 @@ use Rattle.awk_program.proofs.run.first_machine.Goals as goal
 
 pub program_names-requires : goal.program_names-requires
 program_names-requires c = record {
-  scalars = c.requires.is.is.scalars;
-  arrays = distinct_arrays c.requires.is;
-  functions = distinct_functions c.requires.is;
+  scalars = c.requires.program.is.is.scalars;
+  arrays = distinct_arrays c.requires.program.is;
+  functions = distinct_functions c.requires.program.is;
 }
 
 pub returns : goal.returns
-returns c = first_starts c.in_ok-names.ensures c.in_ok-runtime.ensures.start c.new_machine.ensures.runtime c.new_machine.ensures.idle
+returns c = first_starts c.in_ok-names.ensures (rw (c.deref.ensures.value, c.deref-2.ensures.value) at c.in_ok-runtime.ensures.start) c.new_machine.ensures.runtime c.new_machine.ensures.idle
