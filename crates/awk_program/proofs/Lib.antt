@@ -9,3 +9,4 @@ pub mod RunsFrom
 pub mod Assigning
 pub mod Starting
 pub mod Accepted
+pub mod Places

@@ -3,3 +3,4 @@ pub mod Follows
 pub mod Machine
 pub mod Verdict
 pub mod Assigned
+pub mod Evaluator

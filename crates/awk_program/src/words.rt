@@ -10,6 +10,7 @@ ghost use Rattle.awk_semantics.specs.Inputs.{next_record, assign_text};
 ghost use Rattle.awk_semantics.specs.Items.{begin_record};
 ghost use Rattle.awk_program.specs.support.Follows.{FollowsPlan, IsSet};
 ghost use Rattle.awk_program.specs.support.Machine.{IsIdle, EndsCalls};
+ghost use Rattle.awk_program.specs.support.Evaluator.{Executes, PlansStand};
 
 use crate::machine::Machine;
 use awk_channels::World;
@@ -18,6 +19,30 @@ use awk_runtime::Runtime;
 use awk_semantics::Halt;
 use awk_value::{Bytes, Value};
 
+/// Runs what stands at a place of the plan. Behind an `Err` calls may be active still.
+pub fn run_place<W: World>(
+    machine: &mut Machine,
+    world: &mut W,
+    plan: &Plan,
+    place: u32,
+) -> Result<Value, Halt>
+    requires idle { IsIdle machine.old }
+    requires ready { IsReady W.is_logged (W.state world.old) machine.old.runtime.streams }
+    ensures ready { IsReady W.is_logged (W.state world.new) machine.new.runtime.streams }
+    ensures idle { OnOk result (IsIdle machine.new) }
+    ensures executes { Executes W.is_logged plan.now place machine.old (W.state world.old) result machine.new (W.state world.new) }
+{
+    unreachable!()
+}
+
+/// The plan of a program does what its functions do.
+pub fn law_of_plans()
+    ensures { PlansStand }
+{
+    unreachable!()
+}
+
+/// Runs what stands at a place of the plan, whichever program it is of.
 pub fn execute<W: World>(
     machine: &mut Machine,
     world: &mut W,
@@ -30,7 +55,8 @@ pub fn execute<W: World>(
     ensures idle { OnOk result (IsIdle machine.new) }
     ensures follows { FollowsPlan W.is_logged plan.now (λ at. at place) machine.old.runtime (W.state world.old) machine.new.runtime (W.state world.new) result }
 {
-    unreachable!()
+    law_of_plans();
+    run_place(machine, world, plan, place)
 }
 
 pub fn end_calls(machine: &mut Machine)
