@@ -10,3 +10,4 @@ pub mod Assigning
 pub mod Starting
 pub mod Accepted
 pub mod Places
+pub mod PlansStand

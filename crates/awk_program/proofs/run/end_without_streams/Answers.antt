@@ -1,5 +1,5 @@
 use Rattle.std.proofs.Common.{sym, subst}
-use Rattle.awk_channels.specs.Streams.{StreamsView, AreOpen, AreSound}
+use Rattle.awk_channels.specs.Streams.{StreamsView, AreSound}
 use Rattle.awk_channels.specs.Commands.{Finishes}
 use Rattle.awk_runtime.proofs.StartRelation.{start_open}
 use Rattle.awk_program.proofs.run.end_without_streams.Goals as goal
