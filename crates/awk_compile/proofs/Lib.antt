@@ -28,3 +28,4 @@ pub mod LoopStatements
 pub mod WalkStatements
 pub mod Planning
 pub mod Calling
+pub mod InPlaceForms

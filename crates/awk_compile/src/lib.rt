@@ -11,6 +11,7 @@ mod heights;
 mod lists;
 pub mod names;
 pub mod node;
+mod operands;
 mod patterns;
 mod places;
 pub mod plan;

@@ -24,10 +24,11 @@ use Rattle.awk_storage.specs.declared.position.Array.{Array}
 use Rattle.awk_storage.specs.definitions.Positions.{newest_locals, number_at, read_variable, put_variable, read_at, store_at}
 use Rattle.awk_storage.specs.declared.position.Place.{Place}
 use Rattle.awk_compile.specs.declared.node.Node.{Node}
+use Rattle.awk_compile.specs.declared.node.Operand.{Operand}
 use Rattle.awk_compile.specs.declared.builder.Builder.{Builder}
 use Rattle.awk_compile.specs.declared.builder.Exits.{Exits}
 pub use Rattle.awk_compile.specs.definitions.States.{IsScalar, AreScalars, IsIn, AreFor}
-use Rattle.awk_compile.specs.definitions.Nodes.{Tables, Cont, first, operands, made, level, cont_at, IsOrdered}
+use Rattle.awk_compile.specs.definitions.Nodes.{Tables, Cont, operand_value, first, operands, made, level, cont_at, IsOrdered}
 
 -- building
 
@@ -108,6 +109,19 @@ pub record IsVariableOf (kinds : ProgramKinds) (parameters : List FormalParamete
 pub record FindsVariable (kinds : ProgramKinds) (parameters : List FormalParameter) (old new : Builder) (v : Variable) (x : List ℕ) : Type 0 where
   pub extends : Extends old new
   pub is : IsVariableOf kinds parameters new v x
+
+-- an operand that is read where it stands is what an expression is, now and later
+pub record IsOperandOf (kinds : ProgramKinds) (parameters : List FormalParameter) (b : Builder) (a : Operand) (e : Expr) : Type 0 where
+  pub is : (p : Program kinds) → Grows b p.all → (n : ℕ) (s : State) → IsIn p.tables parameters n s → operand_value p.tables.names a s ≡ eval p.functions e s
+
+pub record FindsAnOperand (kinds : ProgramKinds) (parameters : List FormalParameter) (old new : Builder) (a : Operand) (e : Expr) : Type 0 where
+  pub extends : Extends old new
+  pub is : IsOperandOf kinds parameters new a e
+
+-- the operand that an expression is, if it is one
+abbrev pub FindsOperand : (kinds : ProgramKinds) (parameters : List FormalParameter) (old new : Builder) → Option Operand → Expr → Type 0
+FindsOperand kinds parameters old new None e = new ≡ old
+FindsOperand kinds parameters old new (Some a) e = FindsAnOperand kinds parameters old new a e
 
 -- an array is what a name stands for in a body with these parameters
 pub record IsArrayOf (kinds : ProgramKinds) (parameters : List FormalParameter) (a : Array) (x : List ℕ) : Type 0 where

@@ -1,5 +1,5 @@
 -- What is pushed for operators and operands.
-use Rattle.std.specs.Prelude.{◌≡◌, ℕ, zero, pos, Bool, true, false, List, Option, Some, None}
+use Rattle.std.specs.Prelude.{◌≡◌, ℕ, zero, pos, Bool, true, false, not, ◌&&◌, is_none, List, Option, Some, None}
 use Rattle.awk_value.specs.declared.value.Value.TheVariants as value
 use Rattle.awk_lex.specs.declared.token.BuiltIn.{BuiltIn}
 use Rattle.awk_lex.specs.declared.token.BuiltIn.TheVariants as built_in
@@ -36,6 +36,9 @@ abbrev pub matching_operator : BinaryOperator → Option Operator
 matching_operator (Infix Matches) = Some Matches
 matching_operator (Infix NotMatches) = Some NotMatches
 matching_operator o = None
+
+abbrev pub is_strict : BinaryOperator → Bool
+is_strict o = not (is_and o) && (not (is_or o) && is_none (matching_operator o))
 
 abbrev pub matching : Operator → Option ℕ → ValueNode
 matching o (Some i) = v.MatchesEre o i

@@ -6,7 +6,8 @@ use Rattle.awk_compile.specs.declared.builder.Builder.{Builder}
 use Rattle.awk_compile.specs.declared.scope.Scope.{Scope}
 use Rattle.awk_grammar.specs.Tree.{Expr, OptionalExpr}
 use Rattle.awk_storage.specs.declared.position.Place.{Place}
-use Rattle.awk_compile.specs.support.Builds.{Part, Builds as BuildsWith, FindsPlace as FindsPlaceWith, FindsOptionalPlace as FindsOptionalPlaceWith}
+use Rattle.awk_compile.specs.support.Builds.{Part, Builds as BuildsWith, FindsPlace as FindsPlaceWith, FindsOptionalPlace as FindsOptionalPlaceWith, FindsOperand as FindsOperandWith}
+use Rattle.awk_compile.specs.declared.node.Operand.{Operand}
 
 abbrev pub given_parameters : Option (Bor (List FormalParameter)) → List FormalParameter
 given_parameters None = []
@@ -26,3 +27,7 @@ FindsPlace scope = FindsPlaceWith scope.kinds.now (parameters_of scope)
 
 abbrev pub FindsOptionalPlace : Scope → (old new : Builder) → Option Place → OptionalExpr → Type 0
 FindsOptionalPlace scope = FindsOptionalPlaceWith scope.kinds.now (parameters_of scope)
+
+-- the operand that an expression is there, if it is one
+abbrev pub FindsOperand : Scope → (old new : Builder) → Option Operand → Expr → Type 0
+FindsOperand scope = FindsOperandWith scope.kinds.now (parameters_of scope)
