@@ -3,7 +3,7 @@
 
 pub use awk_command::main_words;
 use awk_command::{given_environment, given_words};
-use awk_run::{Fault, fault_line};
+use awk_program::{Fault, fault_line};
 use awk_system::SysWorld;
 use std::env::Env;
 use std::fs::{File, Files};

@@ -7,7 +7,7 @@ ghost use Rattle.awk_command.specs.CommandLine.{Settings as SettingsView, comman
 ghost use Rattle.awk_command.specs.CommandLine.{command_line_of, texts, source_of, view_of};
 
 use crate::options::{CommandFault, Settings, read_options};
-use awk_run::Assignment;
+use awk_program::Assignment;
 use std::alloc::{AllocError, Global};
 
 /// Where the program's text is.

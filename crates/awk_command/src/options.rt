@@ -6,14 +6,14 @@ ghost use Rattle.std.specs.List.{list_all};
 ghost use Rattle.std.specs.Option.{option_map};
 ghost use Rattle.std.specs.Char.{is_ascii_digit};
 ghost use Rattle.std.specs.Str.Parse.{digits_value};
-ghost use Rattle.awk_run.specs.Start.{pair_of};
+ghost use Rattle.awk_program.specs.Start.{pair_of};
 ghost use Rattle.awk_command.specs.CommandLine.{option_of, word_kind, assignment_of, steps_of};
 ghost use Rattle.awk_command.specs.CommandLine.{with_option, with_pre, no_settings, parse_options, texts};
 ghost use Rattle.awk_command.specs.Parts.{settings_of};
 ghost use Rattle.awk_command.specs.declared.options.CommandFault.TheVariants.{Memory};
 
 use awk_lex::words::is_name;
-use awk_run::Assignment;
+use awk_program::Assignment;
 use std::alloc::{AllocError, AllocFailed, Global};
 
 /// The options.

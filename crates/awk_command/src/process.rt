@@ -3,11 +3,11 @@
 ghost use Rattle.std.specs.Prelude.{◌≡◌, IfOk};
 ghost use Rattle.std.specs.Option.{option_map};
 ghost use Rattle.std.specs.Io.{WritesAtMost};
-ghost use Rattle.awk_run.specs.Start.{pair_of};
+ghost use Rattle.awk_program.specs.Start.{pair_of};
 ghost use Rattle.awk_command.specs.Invocation.{entry_of};
 
 use crate::options::first_equals_sign;
-use awk_run::Assignment;
+use awk_program::Assignment;
 use std::alloc::{AllocError, Global};
 use std::env::{Env, FillError};
 

@@ -6,8 +6,8 @@ ghost use Rattle.awk_command.specs.declared.report.NotRun.TheVariants.{Memory, R
 ghost use Rattle.awk_command.specs.Report.{line_of, ReportsLine, ReportsOutcome, ReportsNotRun};
 
 use awk_lex::refusal::Refusal;
-use awk_run::{Fault, Outcome, fault_line};
-use awk_streams::{World, print_error};
+use awk_program::{Fault, Outcome, fault_line};
+use awk_channels::{World, print_error};
 use std::alloc::{AllocError, AllocFailed, Global};
 
 const USAGE: &str =

@@ -6,7 +6,7 @@ use Rattle.std.specs.Option.{option_map}
 use Rattle.std.specs.Str.{is_utf8}
 use Rattle.std.specs.Str.Parse.{digits_value}
 use Rattle.awk_lex.specs.Words.{is_word, is_digits}
-use Rattle.awk_run.specs.Start.{pair_of}
+use Rattle.awk_program.specs.Start.{pair_of}
 use Rattle.awk_command.specs.declared.command_line.ProgramSource.{ProgramSource as CodeProgramSource}
 use Rattle.awk_command.specs.declared.command_line.ProgramSource.TheVariants as code
 use Rattle.awk_command.specs.declared.command_line.CommandLine.{CommandLine as CodeCommandLine}

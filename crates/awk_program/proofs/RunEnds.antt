@@ -1,0 +1,244 @@
+-- What the end of a run leaves, after a body that ended well or by a failure.
+use Rattle.std.proofs.Common.{◌≡◌, ◌⊎◌, inl, inr, ℕ, zero, suc, ◌+◌, ◌-◌, ◌≤◌, List, [], ◌∷◌, ◌++◌, length, take, drop, Option, None, Some, is_some, Result, Ok, Err, true, refl, sym, ap, ◌∙◌, subst, append-nil, arith}
+use Rattle.std.specs.Prelude.{IfErr}
+use Rattle.std.proofs.lemmas.List.{take-append-drop, length-take-le}
+use Rattle.std.proofs.lemmas.Option.{same_Some}
+use Rattle.awk_channels.specs.declared.fault.StreamFault.{StreamFault}
+use Rattle.awk_channels.specs.Log.{Event, Wrote, Flushed, Closed}
+use Rattle.awk_channels.specs.Oracle.{Oracle, IsConsistent}
+use Rattle.awk_channels.specs.Writes.{with_events}
+use Rattle.awk_channels.specs.Openings.{Opening, outputs_of, AreBrought, Begins}
+use Rattle.awk_channels.specs.Outputs.{IsOutputFault}
+use Rattle.awk_channels.specs.Grows.{Grows}
+use Rattle.awk_channels.specs.WorldState.{WorldState}
+use Rattle.awk_channels.specs.Streams.{StreamsView, printed_openings, numbered, AreBringing}
+use Rattle.awk_channels.specs.Commands.{Finishes, AreOfTheEnd as AreOfTheEnding}
+use Rattle.awk_channels.proofs.GrowsLemmas.{with_events-append}
+use Rattle.awk_semantics.specs.declared.halt.Halt.{Halt}
+use Rattle.awk_semantics.specs.declared.halt.Halt.TheVariants as halt
+use Rattle.awk_semantics.specs.declared.outcome.Outcome.{Outcome}
+use Rattle.awk_semantics.specs.declared.outcome.Outcome.TheVariants.{Ended as EndedWith, Fault, Stopped}
+use Rattle.awk_semantics.specs.declared.fault as declared
+use Rattle.awk_semantics.specs.declared.fault.Fault.TheVariants as faults
+use Rattle.awk_semantics.specs.definitions.State.{Effect, Requested, Ends, Stream, Out}
+use Rattle.awk_semantics.specs.definitions.Meaning.{Asked, Meaning, closings_of, with_end, outcome_of, first_outputs, outputs_after, requests_from}
+use Rattle.awk_semantics.specs.definitions.Order.{Stage, MeetsAll, first_stage, IsInTurn}
+use Rattle.awk_semantics.specs.definitions.Failure.{AreOfTheEnd, before_end, FailsAs, FailsAt}
+use Rattle.awk_semantics.specs.definitions.Faults.{stream_fault}
+use Rattle.awk_semantics.specs.support.Results.{Sort, WantOfMemory, FailedWrite, OfLanguage, sort_of}
+use Rattle.awk_semantics.specs.support.Unended.{AreUnended}
+use Rattle.awk_semantics.proofs.Requests.{goes-append, meets_append, requests-append}
+use Rattle.awk_runtime.specs.declared.runtime.Runtime.{Runtime}
+use Rattle.awk_runtime.specs.support.Simulation.{main_number, stage_of, StreamsRelation, FailedLast, ResultRelation, ResultRelationBy}
+use Rattle.awk_runtime.proofs.Effects.{begins-then}
+use Rattle.awk_program.specs.support.Verdict.{outcome_after}
+use Rattle.awk_program.proofs.Closings.{end_prints, before_the_end, bringing_between, ends_met}
+
+-- what is shown from the end of a run on
+abbrev end_effects : List Stream → List Effect
+end_effects streams = Requested Ends ∷ closings_of streams
+
+-- a meaning, read off what the body of a run comes to
+abbrev pub read_off : Out (Unit {0}) → Meaning
+read_off o = record { outcome = outcome_of (with_end o).result (with_end o).state.status; outputs = outputs_after (with_end o).effects; requests = requests_from first_outputs (with_end o).effects }
+
+-- the body of a run came to what the meaning has
+pub record IsMeant (oracle : Oracle) (k : WorldState) (streams : StreamsView) (o : Out (Unit {0})) (result : Outcome) : Type 0 where
+  pub clear : k.first_failure ≡ None
+  pub outcome : outcome_of o.result o.state.status ≡ result
+  pub stands : StreamsRelation oracle streams k o.state o.effects
+
+-- the body was ended by want of memory or a failed write
+pub record IsCut (k : WorldState) (streams : StreamsView) (ended : Outcome) (o : Out (Unit {0})) : Type 0 where
+  pub begins : Begins (printed_openings k streams) (outputs_after o.effects)
+  pub failure : (k.first_failure ≡ None) ⊎ FailedLast k
+  pub cause : (ended ≡ Fault faults.OutOfMemory) ⊎ ((ended ≡ Fault faults.WriteFailed) × FailedLast k)
+
+abbrev pub Came : Oracle → WorldState → StreamsView → Outcome → Out (Unit {0}) → Type 0
+Came oracle k streams ended o = IsMeant oracle k streams o ended ⊎ IsCut k streams ended o
+
+-- the outcome of a halt, by what the language knows of it
+outcome_by : (h reason : Halt) (status : ℕ) → sort_of h ≡ OfLanguage reason → outcome_of (Err reason) status ≡ outcome_of (Err h) status
+outcome_by halt.OutOfSteps reason status e = let s : halt.OutOfSteps ≡ reason = cc in ap (λ (x : Halt). outcome_of (Err x) status) (sym s)
+outcome_by halt.Next reason status e = let s : halt.Next ≡ reason = cc in ap (λ (x : Halt). outcome_of (Err x) status) (sym s)
+outcome_by halt.Exit reason status e = let s : halt.Exit ≡ reason = cc in ap (λ (x : Halt). outcome_of (Err x) status) (sym s)
+outcome_by (halt.Fault faults.OutOfMemory) reason status e = absurd (cc)
+outcome_by (halt.Fault faults.WriteFailed) reason status e = absurd (cc)
+outcome_by (halt.Fault f) reason status e = let s : halt.Fault f ≡ reason = cc in ap (λ (x : Halt). outcome_of (Err x) status) (sym s)
+
+memory_sort : (h : Halt) → sort_of h ≡ WantOfMemory → h ≡ halt.Fault faults.OutOfMemory
+memory_sort (halt.Fault faults.OutOfMemory) e = refl
+memory_sort (halt.Fault faults.WriteFailed) e = absurd (cc)
+memory_sort (halt.Fault f) e = absurd (cc)
+memory_sort halt.OutOfSteps e = absurd (cc)
+memory_sort halt.Next e = absurd (cc)
+memory_sort halt.Exit e = absurd (cc)
+
+write_sort : (h : Halt) → sort_of h ≡ FailedWrite → h ≡ halt.Fault faults.WriteFailed
+write_sort (halt.Fault faults.OutOfMemory) e = absurd (cc)
+write_sort (halt.Fault faults.WriteFailed) e = refl
+write_sort (halt.Fault f) e = absurd (cc)
+write_sort halt.OutOfSteps e = absurd (cc)
+write_sort halt.Next e = absurd (cc)
+write_sort halt.Exit e = absurd (cc)
+
+-- the outcome that the definitions have is the one of the code's result and status
+same_outcome : (o : Out (Unit {0})) (r : Result (Unit {0}) Halt) (status : ℕ) → o.result ≡ r → o.state.status ≡ status → outcome_of o.result o.state.status ≡ outcome_of r status
+same_outcome o r status e same = ap (λ (x : Result (Unit {0}) Halt). outcome_of x o.state.status) e ∙ ap (λ (n : ℕ). outcome_of r n) same
+
+came_by : (oracle : Oracle) (m : Runtime) (k : WorldState) (h : Halt) (s : Sort) (o : Out (Unit {0})) → sort_of h ≡ s → ResultRelationBy oracle m k s o [] → Came oracle k m.streams (outcome_of (Err h) m.status) o
+came_by oracle m k h WantOfMemory o e comes = inr record { begins = comes.begins; failure = comes.failure; cause = inl (ap (λ (x : Halt). outcome_of (Err x) m.status) (memory_sort h e)) }
+came_by oracle m k h FailedWrite o e comes = inr record { begins = comes.begins; failure = inr comes.failure; cause = inr (ap (λ (x : Halt). outcome_of (Err x) m.status) (write_sort h e), comes.failure) }
+came_by oracle m k h (OfLanguage reason) o e comes = inl record { clear = comes.1.clear; outcome = same_outcome o (Err reason) m.status comes.0 comes.1.holds.status ∙ outcome_by h reason m.status e; stands = comes.1.streams }
+
+pub came : (oracle : Oracle) (m : Runtime) (k : WorldState) (r : Result (Unit {0}) Halt) (o : Out (Unit {0})) → ResultRelation oracle m k r o [] → Came oracle k m.streams (outcome_of r m.status) o
+came oracle m k (Ok u) o comes = inl record { clear = comes.1.clear; outcome = same_outcome o (Ok u) m.status comes.0 comes.1.holds.status; stands = comes.1.streams }
+came oracle m k (Err h) o comes = came_by oracle m k h (sort_of h) o refl comes
+
+-- an end that did all
+
+pub brought : (oracle : Oracle) (k1 k2 : WorldState) (streams last : StreamsView) (ended : Outcome) (o : Out (Unit {0})) → Finishes k1 streams (Ok tt) k2 last → IsMeant oracle k1 streams o ended → AreBrought (outputs_after (with_end o).effects) k2.log
+brought oracle k1 k2 streams last ended o told meant =
+    subst (λ os. AreBrought os k2.log) (meant.stands.printed ∙ sym (end_prints o.effects o.state.streams)) told.brought
+
+pub in_turn : (oracle : Oracle) (k1 k2 : WorldState) (streams last : StreamsView) (ended : Outcome) (o : Out (Unit {0})) → Finishes k1 streams (Ok tt) k2 last → IsMeant oracle k1 streams o ended → IsInTurn oracle (read_off o) k2.log
+in_turn oracle k1 k2 streams last ended o told meant =
+    let behind : MeetsAll oracle (requests_from (outputs_after o.effects) (end_effects o.state.streams)) (stage_of k1.log streams) (stage_of k2.log last) =
+    subst (λ os. MeetsAll oracle (requests_from os (end_effects o.state.streams)) (stage_of k1.log streams) (stage_of k2.log last)) meant.stands.printed (ends_met oracle o.state.streams k1 k2 streams last told.ends meant.stands.are.named) in
+    record {
+      last = stage_of k2.log last;
+      is = refl;
+      meets = subst (λ (l : List Asked). MeetsAll oracle l first_stage (stage_of k2.log last)) (sym (requests-append first_outputs o.effects (end_effects o.state.streams)))
+          (meets_append oracle (requests_from first_outputs o.effects) (requests_from (outputs_after o.effects) (end_effects o.state.streams)) first_stage (stage_of k1.log streams) (stage_of k2.log last) meant.stands.turn behind);
+      brought = brought oracle k1 k2 streams last ended o told meant;
+    }
+
+-- an end that failed, or a body
+
+not_some : (failure : Option ℕ) → failure ≡ None → is_some failure ≡ true → ⊥
+not_some None e s = absurd (cc)
+not_some (Some n) e s = absurd (cc)
+
+pub no_failure_before : (f : Result (Unit {0}) StreamFault) {k k' : WorldState} {old new : StreamsView} → Finishes k old f k' new → k'.first_failure ≡ None → (f ≡ Ok tt) × (k.first_failure ≡ None)
+no_failure_before (Ok u) told clear = (refl, sym told.no_failure ∙ clear)
+no_failure_before (Err e) {k' = k'} told clear = absurd (not_some k'.first_failure clear told.failure)
+
+pub halted_by : (fault : declared.Fault.Fault) (ended : Outcome) (f : Result (Unit {0}) StreamFault) → ended ≡ Fault fault → outcome_after ended f ≡ Fault fault
+halted_by fault ended (Ok u) e = e
+halted_by fault ended (Err x) e = ap (λ (o : Outcome). outcome_after o (Err x)) e
+
+-- the code's own failure of the end
+own_failure : (oracle : Oracle) (meaning : Meaning) (l : List Event) (e : StreamFault) → IsOutputFault e → FailsAs oracle meaning l (Fault (stream_fault e))
+own_failure oracle meaning l e (inl is) = inl (ap (λ x. Fault (stream_fault x)) is)
+own_failure oracle meaning l e (inr is) = inr (inl (ap (λ x. Fault (stream_fault x)) is))
+
+-- the log met all requests before the end when it was this
+pub record Settled (oracle : Oracle) (meaning : Meaning) (l : List Event) : Type 0 where
+  pub last : Stage
+  pub at : last.log ≡ l
+  pub meets : MeetsAll oracle (before_end meaning.requests) first_stage last
+
+-- the end failed, after a body that is as the meaning has it
+end_fails : (oracle : Oracle) (meaning : Meaning) (l : List Event) (ended : Outcome) (e : StreamFault) → IsOutputFault e → meaning.outcome ≡ ended → Settled oracle meaning l → FailsAs oracle meaning l (outcome_after ended (Err e))
+end_fails oracle meaning l (EndedWith status) e fault outcome settled = own_failure oracle meaning l e fault
+end_fails oracle meaning l Stopped e fault outcome settled = own_failure oracle meaning l e fault
+end_fails oracle meaning l (Fault f) e fault outcome settled = inr (inr record { fault = f; is = refl; outcome = outcome; last = settled.last; at = settled.at; meets = settled.meets })
+
+fails_by : (oracle : Oracle) (meaning : Meaning) (l : List Event) (ended : Outcome) (f : Result (Unit {0}) StreamFault) {k k' : WorldState} {old new : StreamsView} (n : ℕ) → Finishes k old f k' new → IfErr f IsOutputFault → k.first_failure ≡ None → k'.first_failure ≡ Some n →
+    meaning.outcome ≡ ended → Settled oracle meaning l → FailsAs oracle meaning l (outcome_after ended f)
+fails_by oracle meaning l ended (Ok u) {k' = k'} n told fault clear some outcome settled = absurd (not_some k'.first_failure (told.no_failure ∙ clear) (ap is_some some))
+fails_by oracle meaning l ended (Err e) n told fault clear some outcome settled = end_fails oracle meaning l ended e fault outcome settled
+
+-- the failure stands at the end of the body or later, before anything is closed
+
+with_events-length : (es log : List Event) → length (with_events es log) ≡ length es + length log
+with_events-length [] log = omega arith
+with_events-length (e ∷ es) log = let rest = with_events-length es (e ∷ log) in omega (arith, rest)
+
+bounds : (k1 k2 : WorldState) (es : List Event) (log : List Event) (n : ℕ) → Grows k1 k2 → log ≡ with_events es k1.log → (k1.first_failure ≡ None → k2.first_failure ≡ Some n → n ≤ length log) → (k1.first_failure ≡ None) ⊎ FailedLast k1 → k2.first_failure ≡ Some n → (length k1.log ≤ n) × (n ≤ length log)
+bounds k1 k2 es log n grows is early (inl none) some = ((grows.met none n some).0, early none some)
+bounds k1 k2 es log n grows is early (inr last) some =
+    let at : length k1.log ≡ n = same_Some (length k1.log) n (sym (grows.kept (length k1.log) last) ∙ some) in
+    let long : length log ≡ length es + length k1.log = ap length is ∙ with_events-length es k1.log in
+    (omega (arith, at), omega (arith, at, long))
+
+stood : (oracle : Oracle) (k1 : WorldState) (streams : StreamsView) (ended : Outcome) (o : Out (Unit {0})) → Came oracle k1 streams ended o → (k1.first_failure ≡ None) ⊎ FailedLast k1
+stood oracle k1 streams ended o (inl meant) = inl meant.clear
+stood oracle k1 streams ended o (inr cut) = cut.failure
+
+-- a part of what brings bytes
+
+bringing_take : (es : List Event) (m : ℕ) → AreBringing es → AreBringing (take m es)
+bringing_take es zero h = tt
+bringing_take [] (suc m) h = tt
+bringing_take (Wrote id bytes ∷ es) (suc m) h = bringing_take es m h
+bringing_take (Flushed id ∷ es) (suc m) h = bringing_take es m h
+bringing_take (e ∷ es) (suc m) h = absurd h
+
+bringing_drop : (es : List Event) (m : ℕ) → AreBringing es → AreOfTheEnd (drop m es)
+bringing_drop [] zero h = tt
+bringing_drop (Wrote id bytes ∷ es) zero h = bringing_drop es zero h
+bringing_drop (Flushed id ∷ es) zero h = bringing_drop es zero h
+bringing_drop (e ∷ es) zero h = absurd h
+bringing_drop [] (suc m) h = tt
+bringing_drop (Wrote id bytes ∷ es) (suc m) h = bringing_drop es m h
+bringing_drop (Flushed id ∷ es) (suc m) h = bringing_drop es m h
+bringing_drop (e ∷ es) (suc m) h = absurd h
+
+ends_append : (es fs : List Event) → AreOfTheEnd es → AreOfTheEnding fs → AreOfTheEnd (es ++ fs)
+ends_append [] [] h k = tt
+ends_append [] (Wrote id bytes ∷ fs) h k = ends_append [] fs h k
+ends_append [] (Flushed id ∷ fs) h k = ends_append [] fs h k
+ends_append [] (Closed id answer ∷ fs) h k = ends_append [] fs h k
+ends_append [] (f ∷ fs) h k = absurd k
+ends_append (Wrote id bytes ∷ es) fs h k = ends_append es fs h k
+ends_append (Flushed id ∷ es) fs h k = ends_append es fs h k
+ends_append (Closed id answer ∷ es) fs h k = ends_append es fs h k
+ends_append (e ∷ es) fs h k = absurd h
+
+-- the log that was met by then, with some of what brings bytes
+settled : (oracle : Oracle) (k1 : WorldState) (streams : StreamsView) (ended : Outcome) (o : Out (Unit {0})) (es : List Event) → AreBringing es → AreUnended o.effects → IsMeant oracle k1 streams o ended → Settled oracle (read_off o) (with_events es k1.log)
+settled oracle k1 streams ended o es bringing unended meant = record {
+  last = record { log = with_events es k1.log; main = main_number streams.main; streams = numbered streams.named };
+  at = refl;
+  meets = subst (λ (l : List Asked). MeetsAll oracle l first_stage (record { log = with_events es k1.log; main = main_number streams.main; streams = numbered streams.named }))
+      (append-nil _ ∙ sym (ap before_end (requests-append first_outputs o.effects (end_effects o.state.streams)) ∙ before_the_end first_outputs o.effects (record { what = Ends; outputs = outputs_after o.effects }) (requests_from (outputs_after o.effects) (closings_of o.state.streams)) refl unended))
+      (meets_append oracle (requests_from first_outputs o.effects) [] first_stage (stage_of k1.log streams) (record { log = with_events es k1.log; main = main_number streams.main; streams = numbered streams.named }) meant.stands.turn
+      (record { events = es; log = refl; between = bringing_between (main_number streams.main) es bringing; streams = refl }));
+}
+
+cause : (oracle : Oracle) (k1 k2 : WorldState) (streams last : StreamsView) (ended : Outcome) (f : Result (Unit {0}) StreamFault) (o : Out (Unit {0})) (n : ℕ) (es : List Event) → Finishes k1 streams f k2 last → IfErr f IsOutputFault → k2.first_failure ≡ Some n →
+    AreBringing es → AreUnended o.effects → Came oracle k1 streams ended o → FailsAs oracle (read_off o) (with_events es k1.log) (outcome_after ended f)
+cause oracle k1 k2 streams last ended f o n es told fault some bringing unended (inl meant) =
+    fails_by oracle (read_off o) (with_events es k1.log) ended f n told fault meant.clear some meant.outcome (settled oracle k1 streams ended o es bringing unended meant)
+cause oracle k1 k2 streams last ended f o n es told fault some bringing unended (inr cut) = elim cut.cause [
+  | inl memory ↦ inl (halted_by faults.OutOfMemory ended f memory)
+  | inr write ↦ inr (inl (halted_by faults.WriteFailed ended f write.0))
+]
+
+pub fails_at : (out_by : Oracle → Out (Unit {0})) (k1 k2 : WorldState) (streams last : StreamsView) (ended : Outcome) (f : Result (Unit {0}) StreamFault) (n : ℕ) → Finishes k1 streams f k2 last → IfErr f IsOutputFault → ((oracle : Oracle) → AreUnended (out_by oracle).effects) →
+    ((oracle : Oracle) × IsConsistent oracle k2.log) → ((oracle : Oracle) → IsConsistent oracle k2.log → Came oracle k1 streams ended (out_by oracle)) → k2.first_failure ≡ Some n →
+    FailsAt (λ oracle. read_off (out_by oracle)) n k2.log (outcome_after ended f)
+fails_at out_by k1 k2 streams last ended f n told fault unended some_oracle body some =
+    let first = told.first in
+    let es : List Event = first.brings.events in
+    let at = bounds k1 k2 es first.log n told.grows first.brings.log (λ none e. first.failure n none e) (stood some_oracle.0 k1 streams ended (out_by some_oracle.0) (body some_oracle.0 some_oracle.1)) some in
+    let long : length first.log ≡ length es + length k1.log = ap length first.brings.log ∙ with_events-length es k1.log in
+    let m : ℕ = n - length k1.log in
+    let within : m ≤ length es = omega (arith, at.0, at.1, long) in
+    record {
+      earlier = with_events (take m es) k1.log;
+      later = drop m es ++ first.closes.events;
+      parts = first.closes.log ∙ (ap (with_events first.closes.events) (first.brings.log ∙ (ap (λ l. with_events l k1.log) (sym (take-append-drop m es)) ∙ with_events-append (take m es) (drop m es) k1.log))
+          ∙ sym (with_events-append (drop m es) first.closes.events (with_events (take m es) k1.log)));
+      count =
+          let some_of : length (take m es) ≡ m = length-take-le m es within in
+          let all = with_events-length (take m es) k1.log in
+          omega (arith, all, some_of, at.0);
+      ends = ends_append (drop m es) first.closes.events (bringing_drop es m first.brings.each) first.closes.each;
+      fails = λ oracle consistent. cause oracle k1 k2 streams last ended f (out_by oracle) n (take m es) told fault some (bringing_take es m first.brings.each) (unended oracle) (body oracle consistent);
+    }
+
+pub begins_at_end : (oracle : Oracle) (k1 k2 : WorldState) (streams last : StreamsView) (ended : Outcome) (f : Result (Unit {0}) StreamFault) (o : Out (Unit {0})) → Finishes k1 streams f k2 last → Came oracle k1 streams ended o → Begins (outputs_of k2.log) (outputs_after (with_end o).effects)
+begins_at_end oracle k1 k2 streams last ended f o told (inl meant) = subst (λ (os : List Opening). Begins (outputs_of k2.log) os) (meant.stands.printed ∙ sym (end_prints o.effects o.state.streams)) told.begins
+begins_at_end oracle k1 k2 streams last ended f o told (inr cut) = subst (λ (os : List Opening). Begins (outputs_of k2.log) os) (sym (end_prints o.effects o.state.streams)) (begins-then (outputs_of k2.log) (printed_openings k1 streams) (outputs_after o.effects) told.begins cut.begins)

@@ -1,0 +1,127 @@
+-- From the parts of a run to the whole.
+use Rattle.std.proofs.Common.{◌≡◌, ℕ, ◌≤◌, Bool, false, List, [], length, None, Some, inl, inr, Result, Ok, refl, sym, ap, ◌∙◌, subst, arith}
+use Rattle.std.specs.Prelude.{IfErr}
+use Rattle.awk_channels.specs.declared.fault.StreamFault.{StreamFault}
+use Rattle.awk_channels.specs.Outputs.{IsOutputFault}
+use Rattle.awk_channels.specs.Log as log
+use Rattle.awk_channels.specs.Oracle.{Oracle, IsConsistent}
+use Rattle.awk_channels.specs.Orderly.{IsOrderly, IsInOrder}
+use Rattle.awk_channels.specs.Openings.{Begins as BeginsOutputs, outputs_of, is_flushed}
+use Rattle.awk_channels.specs.Streams.{StreamsView, AreOpen, AreSound, printed_openings}
+use Rattle.awk_channels.specs.Commands.{Finishes}
+use Rattle.awk_channels.specs.WorldState.{WorldState}
+use Rattle.awk_grammar.specs.Tree.{Item}
+use Rattle.awk_kinds.specs.definitions.Kinds.{array_names_of}
+use Rattle.awk_compile.specs.declared.plan.Plan.{Plan}
+use Rattle.awk_compile.specs.definitions.States.{AreFor}
+use Rattle.awk_compile.specs.definitions.Plans.{tables_of}
+use Rattle.awk_semantics.specs.declared.halt.Halt.{Halt}
+use Rattle.awk_semantics.specs.declared.outcome.Outcome.{Outcome}
+use Rattle.awk_semantics.specs.declared.outcome.Outcome.TheVariants.{Fault}
+use Rattle.awk_semantics.specs.declared.fault.Fault.TheVariants as faults
+use Rattle.awk_semantics.specs.definitions.State.{State, Out}
+use Rattle.awk_semantics.specs.definitions.Meaning.{StartValues, start_state, assign_and_run, with_end, run_program, outcome_of, outputs_after, first_outputs}
+use Rattle.awk_semantics.specs.definitions.Order.{IsInTurn}
+use Rattle.awk_semantics.specs.definitions.Failure.{FailsAt}
+use Rattle.awk_semantics.specs.support.Unended.{AreUnended, LawOfEnds}
+use Rattle.awk_runtime.specs.declared.runtime.Runtime.{Runtime}
+use Rattle.awk_runtime.specs.support.Simulation.{IsReady, StateRelation, ResultRelation}
+use Rattle.awk_runtime.proofs.Effects.{begins-later}
+use Rattle.awk_program.specs.definitions.Runs.{IsUntouched, IsUndisturbed, Runs, RunsFrom}
+use Rattle.awk_program.specs.support.Assigned.{Begins}
+use Rattle.awk_program.specs.support.Follows.{FollowsPlan}
+use Rattle.awk_program.specs.support.Planned.{IsPlanFor, place_in, assign_and_run_at}
+use Rattle.awk_program.specs.support.Verdict.{outcome_after, no_streams, EndsWithoutStreams}
+use Rattle.awk_program.proofs.PlanMeans.{functions_of, whole_same}
+use Rattle.awk_program.proofs.RunEnds.{read_off, IsMeant, Came, came, brought, in_turn, no_failure_before, halted_by, fails_at, begins_at_end}
+
+-- the law that some oracle is consistent with an orderly log, as the streams give it
+abbrev pub SomeIsConsistent : Type 0
+SomeIsConsistent = (l : List log.Event) → IsOrderly l → (a : Oracle) × IsConsistent a l
+
+-- an undisturbed run came to what the meaning has
+calm_meant : (oracle : Oracle) (k1 k2 : WorldState) (streams : StreamsView) (ended : Outcome) (f : Result (Unit {0}) StreamFault) (o : Out (Unit {0})) {result : Outcome} → result ≡ outcome_after ended f → k1.first_failure ≡ None → IsUndisturbed k2 result → Came oracle k1 streams ended o →
+    IsMeant oracle k1 streams o ended
+calm_meant oracle k1 k2 streams ended f o is clear calm (inl meant) = meant
+calm_meant oracle k1 k2 streams ended f o is clear calm (inr cut) = elim cut.cause [
+  | inl memory ↦ absurd (calm.memory (is ∙ halted_by faults.OutOfMemory ended f memory))
+  | inr write ↦ let bad : None ≡ Some (length k1.log) = sym clear ∙ write.1 in absurd cc
+]
+
+-- a run that was undisturbed
+pub record IsWhole (oracle : Oracle) (k2 : WorldState) (o : Out (Unit {0})) (result : Outcome) : Type 0 where
+  pub outcome : outcome_of o.result o.state.status ≡ result
+  pub outputs : outputs_of k2.log ≡ outputs_after (with_end o).effects
+  pub turn : IsInTurn oracle (read_off o) k2.log
+
+calm_whole : (oracle : Oracle) (k1 k2 : WorldState) (streams last : StreamsView) (ended : Outcome) (f : Result (Unit {0}) StreamFault) (o : Out (Unit {0})) {result : Outcome} → Finishes k1 streams f k2 last → result ≡ outcome_after ended f → IsUndisturbed k2 result → Came oracle k1 streams ended o → IsWhole oracle k2 o result
+calm_whole oracle k1 k2 streams last ended f o told is calm body =
+    let before = no_failure_before f told calm.first_failure in
+    let meant = calm_meant oracle k1 k2 streams ended f o is before.1 calm body in
+    let ends : Finishes k1 streams (Ok tt) k2 last = subst (λ x. Finishes k1 streams x k2 last) before.0 told in
+    record {
+      outcome = meant.outcome ∙ (ap (λ x. outcome_after ended x) (sym before.0) ∙ sym is);
+      outputs = (brought oracle k1 k2 streams last ended o ends meant).received;
+      turn = in_turn oracle k1 k2 streams last ended o ends meant;
+    }
+
+-- a body that came to this, and its end, are a run
+runs_by : (items : List Item) (start : StartValues) (limit : ℕ) (k1 k2 : WorldState) (streams last : StreamsView) (ended : Outcome) (f : Result (Unit {0}) StreamFault) {result : Outcome} → SomeIsConsistent → LawOfEnds → IsOrderly k2.log → Finishes k1 streams f k2 last → IfErr f IsOutputFault → result ≡ outcome_after ended f
+    → ((oracle : Oracle) → IsConsistent oracle k2.log → Came oracle k1 streams ended (assign_and_run items limit start.pre (start_state items start oracle limit))) → Runs items start limit k2 result
+unfolding run_program
+runs_by items start limit k1 k2 streams last ended f law unended orderly told fault is body =
+    let out_by = λ (oracle : Oracle). assign_and_run items limit start.pre (start_state items start oracle limit) in
+    record {
+      some = law k2.log orderly;
+      orderly = orderly;
+      outcome = λ calm oracle consistent. (calm_whole oracle k1 k2 streams last ended f (out_by oracle) told is calm (body oracle consistent)).outcome;
+      outputs = λ calm oracle consistent. (calm_whole oracle k1 k2 streams last ended f (out_by oracle) told is calm (body oracle consistent)).outputs;
+      turn = λ calm oracle consistent. (calm_whole oracle k1 k2 streams last ended f (out_by oracle) told is calm (body oracle consistent)).turn;
+      failure = record {
+        begins = λ cause oracle consistent. begins_at_end oracle k1 k2 streams last ended f (out_by oracle) told (body oracle consistent);
+        at = λ n some. subst (λ x. FailsAt (λ oracle. read_off (out_by oracle)) n k2.log x) (sym is) (fails_at out_by k1 k2 streams last ended f n told fault (λ oracle. unended items limit start.pre (start_state items start oracle limit)) (law k2.log orderly) body some);
+      };
+    }
+
+-- the body of a run, for each oracle
+body_came : (items : List Item) (plan : Plan) (start : StartValues) (limit : ℕ) {is_logged : Type 0} {m m1 : Runtime} {k k1 : WorldState} {r : Result (Unit {0}) Halt} → IsPlanFor items plan m.names → AreFor (tables_of items plan) (functions_of items limit) → Begins items start limit m → IsUntouched k → is_logged
+    → FollowsPlan is_logged plan (λ at. assign_and_run_at at plan.items.items start.pre) m k m1 k1 r → (oracle : Oracle) → IsConsistent oracle k1.log → Came oracle k1 m1.streams (outcome_of r m1.status) (assign_and_run items limit start.pre (start_state items start oracle limit))
+body_came items plan start limit {m = m} {m1 = m1} {k = k} {k1 = k1} {r = r} is for began fresh t ran oracle consistent =
+    let s : State = start_state items start oracle limit in
+    let low : m.steps ≤ limit = (let e = began.steps in omega (arith, e)) in
+    let same = whole_same items plan limit for start.pre s is.is (record { low = omega arith; frames = refl; arrays = refl }) in
+    came oracle m1 k1 r (assign_and_run items limit start.pre s)
+    (subst (λ (o : Out (Unit {0})). ResultRelation oracle m1 k1 r o []) same (((ran.told items is limit low).told t).means oracle s [] consistent (began.stands oracle k fresh)))
+
+-- the log is empty, and in order
+pub untouched_sound : (k : WorldState) → ((is_open : ℕ → Bool) → IsInOrder is_open []) → IsUntouched k → AreSound k no_streams
+untouched_sound k order fresh = record {
+  order = subst (λ (x : List log.Event). IsInOrder k.is_open x) (sym fresh.log) (order k.is_open);
+  main = tt;
+  named = tt;
+  once = tt;
+  few = omega arith;
+  flushed = λ id none. ap (λ (x : List log.Event). is_flushed id x) fresh.log;
+}
+
+pub runs_from : (items : List Item) (plan : Plan) (start : StartValues) (limit : ℕ) {is_logged : Type 0} {m m1 : Runtime} {k k1 k2 : WorldState} {r : Result (Unit {0}) Halt} {f : Result (Unit {0}) StreamFault} {last : StreamsView} {result : Outcome} → SomeIsConsistent → LawOfEnds → IsPlanFor items plan m.names → AreFor (tables_of items plan) (functions_of items limit) → Begins items start limit m
+    → FollowsPlan is_logged plan (λ at. assign_and_run_at at plan.items.items start.pre) m k m1 k1 r → (is_logged → AreSound k2 last) → (is_logged → Finishes k1 m1.streams f k2 last) → IfErr f IsOutputFault → result ≡ outcome_after (outcome_of r m1.status) f
+    → RunsFrom is_logged items start limit k k2 result
+runs_from items plan start limit {m1 = m1} {k = k} {k1 = k1} {k2 = k2} {r = r} {f = f} {last = last} law unended is for began ran sound told fault result = record {
+  runs = λ t fresh.
+      runs_by items start limit k1 k2 m1.streams last (outcome_of r m1.status) f law unended (sound t).order.orderly (told t) fault result
+      (λ oracle consistent. body_came items plan start limit is for began fresh t ran oracle ((told t).grows.consistent oracle consistent));
+}
+
+-- before a run nothing is printed
+none_begins : (k : WorldState) (o : Out (Unit {0})) → k.log ≡ [] → BeginsOutputs (printed_openings k no_streams) (outputs_after o.effects)
+none_begins k o empty = subst (λ (x : List log.Event). BeginsOutputs (printed_openings (record k { log = x }) no_streams) (outputs_after o.effects)) (sym empty) (begins-later first_outputs o.effects)
+
+-- a run that found no memory before it began, and its end
+pub runs_not : (items : List Item) (start : StartValues) (limit : ℕ) {is_logged : Type 0} {k k2 : WorldState} {f : Result (Unit {0}) StreamFault} → SomeIsConsistent → LawOfEnds → (is_logged → EndsWithoutStreams k f k2) → (is_logged → IsOrderly k2.log) → IfErr f IsOutputFault →
+    RunsFrom is_logged items start limit k k2 (Fault faults.OutOfMemory)
+runs_not items start limit {k = k} {k2 = k2} {f = f} law unended told orderly fault = record {
+  runs = λ t fresh.
+      runs_by items start limit k k2 no_streams (told t).last (Fault faults.OutOfMemory) f law unended (orderly t) (told t).finishes fault (sym (halted_by faults.OutOfMemory (Fault faults.OutOfMemory) f refl))
+      (λ oracle consistent. inr record { begins = none_begins k (assign_and_run items limit start.pre (start_state items start oracle limit)) fresh.log; failure = inl fresh.first_failure; cause = inl refl });
+}
