@@ -11,7 +11,7 @@ use crate::options::CommandFault;
 use crate::program_text::program_text;
 use crate::report::{NotRun, report_not_run, report_outcome};
 use awk_run::{Assignment, Outcome, Start, execute, status};
-use awk_streams::World;
+use awk_channels::World;
 use std::alloc::{AllocError, Global};
 
 /// The status where nothing was run.

@@ -7,7 +7,7 @@ ghost use Rattle.awk_command.specs.Report.{line_of, ReportsLine, ReportsOutcome,
 
 use awk_lex::refusal::Refusal;
 use awk_run::{Fault, Outcome, fault_line};
-use awk_streams::{World, print_error};
+use awk_channels::{World, print_error};
 use std::alloc::{AllocError, AllocFailed, Global};
 
 const USAGE: &str =

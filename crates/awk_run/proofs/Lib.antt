@@ -1,4 +1,13 @@
-mod Accepted
-mod AssignmentLemmas
-mod RunEnds
-mod RunsFrom
+pub mod PlanParts
+pub mod ItemLemmas
+pub mod EarlyEnds
+pub mod Reading
+pub mod PlanMeans
+pub mod Closings
+pub mod RunEnds
+pub mod RunsFrom
+pub mod Assigning
+pub mod Starting
+pub mod Accepted
+pub mod Places
+pub mod PlansStand

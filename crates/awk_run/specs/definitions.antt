@@ -1,3 +1,4 @@
 pub mod Accepted
+pub mod Runs
 pub mod Headline
 pub mod Start

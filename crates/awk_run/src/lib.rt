@@ -1,13 +1,16 @@
 //! The run of a program: from a text and a world to the bytes on the outputs and an outcome.
 #![tactic(auto)]
 
+mod items;
+mod names;
 mod program;
+mod records;
+mod run;
 mod start;
+mod words;
 
-pub use awk_control::control::Control;
-pub use awk_control::entry::{Entry, State};
-pub use awk_meaning::{
+pub use awk_semantics::{
     Fault, Outcome, fault_line, law_of_limits, law_of_outcomes, law_of_turns, status,
 };
-pub use program::{execute, one_program, run};
+pub use program::{execute, law_of_untouched, one_program};
 pub use start::{Assignment, Start};

@@ -2,14 +2,8 @@
 
 ghost use Rattle.awk_run.specs.definitions.Start.{IsPlain};
 
+pub use awk_runtime::Assignment;
 use std::alloc::Global;
-
-/// A name and the text that it is given.
-#[derive(Drop)]
-pub struct Assignment {
-    pub name: Vec<u8>,
-    pub text: Vec<u8>,
-}
 
 /// What a run is started with: assignments made before it, operands, and the environment
 /// (POSIX awk, OPERANDS and ENVIRONMENT VARIABLES).

@@ -4,15 +4,15 @@ use Rattle.std.specs.Prelude.{◌≡◌, ◌⊎◌, ℕ, ◌+◌, ◌&&◌, ◌=
 use Rattle.std.specs.Global.{Global}
 use Rattle.std.specs.Option.{option_map}
 use Rattle.std.specs.Str.{is_utf8}
-use Rattle.awk_streams.specs.Writes.{OnlyWritesTo}
-use Rattle.awk_tree.specs.Tree.{Item}
+use Rattle.awk_channels.specs.Writes.{OnlyWritesTo}
+use Rattle.awk_grammar.specs.Tree.{Item}
 use Rattle.awk_run.specs.Accepted.{Accepted}
-use Rattle.awk_streams.specs.WorldState.{WorldState}
+use Rattle.awk_channels.specs.WorldState.{WorldState}
 use Rattle.awk_run.specs.Headline.{Executed}
 use Rattle.awk_run.specs.Meaning.{StartValues}
 use Rattle.awk_run.specs.Outcome.{status_of}
 use Rattle.awk_run.specs.Start.{pair_of}
-use Rattle.awk_meaning.specs.declared.outcome.Outcome.{Outcome}
+use Rattle.awk_semantics.specs.declared.outcome.Outcome.{Outcome}
 use Rattle.awk_run.specs.declared.start.Assignment.{Assignment}
 use Rattle.awk_command.specs.definitions.CommandLine.{Text, CommandLine, command_line_of}
 use Rattle.awk_command.specs.definitions.ProgramText.{ProvidesText}

@@ -2,7 +2,7 @@
 use Rattle.std.specs.Prelude.{◌≡◌, ℕ, Bool, true, false, List, ◌∷◌, ◌++◌, map}
 use Rattle.awk_world.specs.declared.world.WorldFault.{WorldFault}
 use Rattle.awk_world.specs.declared.world.WorldFault.TheVariants as fault
-use Rattle.awk_streams.specs.Log.{Event, Read, Ended}
+use Rattle.awk_channels.specs.Log.{Event, Read, Ended}
 use Rattle.awk_run.specs.Start.{pair_of}
 use Rattle.awk_command.specs.declared.options.Settings.{Settings as CodeSettings}
 use Rattle.awk_command.specs.declared.report.NotRun.{NotRun}

@@ -1,11 +1,8 @@
 -- What a run is started with.
 use Rattle.std.specs.Prelude.{◌≡◌, ℕ, List, [], map}
-use Rattle.awk_run.specs.declared.start.Assignment.{Assignment}
 use Rattle.awk_run.specs.declared.start.Start.{Start}
-use Rattle.awk_meaning.specs.Meaning.{StartValues}
-
-abbrev pub pair_of : Assignment → List ℕ × List ℕ
-pair_of a = (a.name.items, a.text.items)
+use Rattle.awk_semantics.specs.Meaning.{StartValues}
+pub use Rattle.awk_runtime.specs.Beginning.{pair_of}
 
 abbrev pub start_values : Start → StartValues
 start_values s = record { pre = map pair_of s.pre.items; operands = map (λ text. text.items) s.operands.items; environ = map pair_of s.environ.items }

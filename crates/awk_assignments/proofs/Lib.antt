@@ -1,4 +1,0 @@
-mod Stores
-mod AssignedMoves
-pub mod LeafMoves
-pub mod LeafOperands

@@ -1,3 +1,0 @@
-mod BuiltLists
-mod Leaves
-pub mod Rows

@@ -1,2 +1,0 @@
-pub mod support
-pub use Rattle.awk_conditions.specs.support.Matches

@@ -1,2 +1,0 @@
-pub mod support
-pub use Rattle.awk_fast_numbers.specs.support.Found

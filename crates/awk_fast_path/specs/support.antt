@@ -1,2 +1,0 @@
-pub mod Executed
-pub mod Written

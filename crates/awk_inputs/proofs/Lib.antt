@@ -1,2 +1,0 @@
-mod MainInput
-mod Seeks

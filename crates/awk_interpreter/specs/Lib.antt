@@ -1,2 +1,0 @@
-pub mod support
-pub use Rattle.awk_interpreter.specs.support.Simulation

@@ -1,4 +1,0 @@
-use Rattle.awk_meaning.proofs.fault.fault_line.Goals as goal
-
-pub returns-in-DivisionByZero : goal.returns-in-DivisionByZero
-returns-in-DivisionByZero c = rw c.in-DivisionByZero.is

@@ -1,5 +1,0 @@
-use Rattle.std.proofs.Common.{◌+◌, ◌-◌, vec_len}
-use Rattle.awk_operators.proofs.patterns.reserve_place.Given as goal
-
-abbrev pub decreases-loop-places : goal.decreases-loop-places
-decreases-loop-places g l = l.number + 1 - vec_len l.places

@@ -1,3 +1,0 @@
-pub mod support
-pub use Rattle.awk_operators.specs.support.Compiled
-pub use Rattle.awk_operators.specs.support.Kept

@@ -1,6 +1,0 @@
-mod Lookups
-mod Listed
-mod Growing
-mod Making
-mod Lists
-mod Items

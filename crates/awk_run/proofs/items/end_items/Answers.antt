@@ -1,0 +1,19 @@
+use Rattle.std.proofs.lemmas.Result.{err_from_is_err_and}
+use Rattle.std.proofs.Common.{arith}
+use Rattle.awk_run.proofs.ItemLemmas.{ends_end, ends_halt, ends_step, item_from, items_over, same_ended}
+use Rattle.awk_run.proofs.items.end_items.Goals as goal
+
+pub loop-item-preserved : goal.loop-item-preserved
+loop-item-preserved g c = record {
+  on = λ new after r h. c.loop-item.invariant.on new after r (rw (item_from c.as_slice-items.result.now c.loop-item.item-index (omega arith)) (ends_step _ _ c.in_ok-end_item.ensures.follows h));
+  set = c.in_ok-end_item.ensures.set;
+  idle = c.in_ok-end_item.ensures.idle;
+}
+
+pub returns-in_err-end_item-clause-follows : goal.returns-in_err-end_item-clause-follows
+returns-in_err-end_item-clause-follows g c =
+    let p = err_from_is_err_and c.from_residual.result c.from_residual.ensures.1 in
+    rw (p.1, p.2) (same_ended c.as_slice-items.ensures.value (c.loop-item.invariant.on _ _ _ (rw (item_from c.as_slice-items.result.now c.loop-item.item-index (omega arith)) (ends_halt _ _ c.in_err-end_item.ensures.follows))))
+
+pub returns-clause-follows : goal.returns-clause-follows
+returns-clause-follows g c = same_ended c.as_slice-items.ensures.value (c.loop-item.invariant.on _ _ _ (rw (items_over c.as_slice-items.result.now c.loop-item.item-index (omega arith)) ends_end))

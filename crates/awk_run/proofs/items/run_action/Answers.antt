@@ -1,0 +1,11 @@
+use Rattle.std.proofs.lemmas.Result.{err_from_is_err_and}
+use Rattle.awk_run.proofs.ItemLemmas.{action_halts, action_runs}
+use Rattle.awk_run.proofs.items.run_action.Goals as goal
+
+pub returns-in_err-execute-clause-follows : goal.returns-in_err-execute-clause-follows
+returns-in_err-execute-clause-follows g c =
+    let p = err_from_is_err_and c.from_residual.result c.from_residual.ensures.1 in
+    rw (p.1, p.2) (action_halts c.in_err-execute.ensures.follows)
+
+pub returns-clause-follows : goal.returns-clause-follows
+returns-clause-follows g c = action_runs c.in_ok-execute.ensures.follows

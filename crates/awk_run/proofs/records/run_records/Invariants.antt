@@ -1,0 +1,20 @@
+use Rattle.std.proofs.Common.{Result}
+use Rattle.awk_channels.specs.WorldState.{WorldState}
+use Rattle.awk_semantics.specs.declared.halt.Halt.{Halt}
+use Rattle.awk_runtime.specs.declared.runtime.Runtime.{Runtime}
+use Rattle.awk_run.specs.support.Follows.{ReadsOn, IsSet}
+use Rattle.awk_run.specs.support.Machine.{IsIdle}
+use Rattle.awk_run.proofs.records.run_records.Given as goal
+
+-- the records that are left
+abbrev pub invariant-loop-text : goal.invariant-loop-text
+invariant-loop-text g l = record {
+  on : (new : Runtime) (after : WorldState) (r : Result (Unit {0}) Halt) →
+      ReadsOn g.W.World.is_logged l.plan l.plan.items.items l.machine.runtime (g.W.World.state l.world) new after r →
+      ReadsOn g.W.World.is_logged l.plan l.plan.items.items l.fn.machine.runtime (g.W.World.state l.fn.world) new after r;
+  set : IsSet g.W.World.is_logged l.plan l.machine.runtime (g.W.World.state l.world);
+  idle : IsIdle l.machine;
+}
+
+abbrev pub decreases-loop-text : goal.decreases-loop-text
+decreases-loop-text g l = l.machine.runtime.steps

@@ -1,0 +1,34 @@
+-- What the parts of a run over a plan do.
+use Rattle.std.specs.Prelude.{◌≡◌, ℕ, ◌≤◌, suc, List, Result}
+use Rattle.awk_value.specs.declared.value.Value.{Value}
+use Rattle.awk_channels.specs.WorldState.{WorldState}
+use Rattle.awk_channels.specs.Streams.{StreamsView}
+use Rattle.awk_grammar.specs.Tree.{Item}
+use Rattle.awk_semantics.specs.declared.halt.Halt.{Halt}
+use Rattle.awk_semantics.specs.definitions.State.{State, Run}
+use Rattle.awk_semantics.specs.definitions.Items.{until_next, each_record}
+use Rattle.awk_compile.specs.declared.plan.PlannedItem.{PlannedItem}
+use Rattle.awk_compile.specs.declared.plan.Plan.{Plan}
+use Rattle.awk_runtime.specs.declared.runtime.Runtime.{Runtime}
+use Rattle.awk_runtime.specs.support.Simulation.{IsReady, Simulates}
+use Rattle.awk_run.specs.support.Planned.{IsPlanFor, place_in, try_items_at}
+
+-- a part of a run that is made of what the places of a plan do
+abbrev pub Part : Type 0 → Type 0
+Part A = (ℕ → Run Value) → Run A
+
+-- the code does what the part says, whichever program the plan is of, and at any bound above the steps
+pub record FollowsPlan {A : Type 0} (is_logged : Type 0) (plan : Plan) (part : Part A) (old : Runtime) (before : WorldState) (new : Runtime) (after : WorldState) (r : Result A Halt) : Type 0 where
+  pub steps : new.steps ≤ old.steps
+  pub names : new.names ≡ old.names
+  pub told : (items : List Item) → IsPlanFor items plan old.names → (n : ℕ) → old.steps ≤ n → Simulates is_logged old before new after r (part (place_in items plan n))
+
+-- the records that are left, at any bound above the steps
+pub record ReadsOn (is_logged : Type 0) (plan : Plan) (xs : List PlannedItem) (old : Runtime) (before : WorldState) (new : Runtime) (after : WorldState) (r : Result (Unit {0}) Halt) : Type 0 where
+  pub bounded : (m : ℕ) → old.steps ≤ m → FollowsPlan is_logged plan (λ at. each_record (suc m) (until_next (try_items_at at 0 xs))) old before new after r
+
+-- what is known of the state whenever the plan is run
+pub record IsSet (is_logged : Type 0) (plan : Plan) (m : Runtime) (k : WorldState) : Type 0 where
+  pub ready : IsReady is_logged k m.streams
+  pub items : List Item
+  pub planned : IsPlanFor items plan m.names

@@ -1,0 +1,35 @@
+// The main records.
+
+ghost use Rattle.std.specs.Prelude.{◌≡◌, OnOk};
+ghost use Rattle.awk_semantics.specs.Items.{until_next, run_records};
+ghost use Rattle.awk_run.specs.support.Planned.{try_items_at};
+ghost use Rattle.awk_run.specs.support.Follows.{FollowsPlan, IsSet};
+ghost use Rattle.awk_run.specs.support.Machine.{IsIdle};
+
+use crate::items::try_until_next;
+use awk_evaluator::Machine;
+use crate::words::{begin_record, next_record};
+use awk_channels::World;
+use awk_compile::Plan;
+use awk_semantics::Halt;
+
+/// Reads the main records to their end, and tries the items on each (POSIX awk, Overall Program
+/// Structure).
+pub(crate) fn run_records<W: World>(
+    plan: &Plan,
+    machine: &mut Machine,
+    world: &mut W,
+) -> Result<(), Halt>
+    requires set { IsSet W.is_logged plan.now machine.old.runtime (W.state world.old) }
+    requires idle { IsIdle machine.old }
+    ensures set { IsSet W.is_logged plan.now machine.new.runtime (W.state world.new) }
+    ensures follows { FollowsPlan W.is_logged plan.now (λ at. run_records (until_next (try_items_at at 0 plan.now.items.items)))
+        machine.old.runtime (W.state world.old) machine.new.runtime (W.state world.new) result }
+{
+    while let Some(text) = next_record(&mut machine.runtime, world)? {
+        machine.runtime.spend()?;
+        begin_record(&mut machine.runtime, text)?;
+        try_until_next(plan, machine, world)?;
+    }
+    Ok(())
+}

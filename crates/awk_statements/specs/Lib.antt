@@ -1,3 +1,0 @@
-pub mod support
-pub use Rattle.awk_statements.specs.support.Printed
-pub use Rattle.awk_statements.specs.support.BegunLoops

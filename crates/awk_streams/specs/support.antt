@@ -1,3 +1,0 @@
-pub mod Pulls
-pub mod Kept
-pub mod Buffered

@@ -1,4 +1,0 @@
-// The command line over a world in memory: program files and the environment.
-
-mod environment;
-mod files;

@@ -1,5 +1,0 @@
-// Whole programs over a world in memory.
-
-mod disturbed;
-mod execute;
-mod witness;
