@@ -19,7 +19,7 @@ use Rattle.awk_runtime.specs.support.Simulation.{IsReady, StateRelation, Streams
 use Rattle.awk_runtime.proofs.Composition.{OwnPart, same_part, streams_own, ready_same}
 use Rattle.awk_run.specs.support.Planned.{IsPlanFor, try_items_at, run_before_end_at, end_items_at, run_items_at}
 use Rattle.awk_run.specs.support.Follows.{Part, FollowsPlan, IsSet}
-use Rattle.awk_run.specs.support.Machine.{EndsCalls}
+use Rattle.awk_runtime.specs.Calling.{EndsCalls}
 use Rattle.awk_run.proofs.PlanParts.{then_follows, ends_follows}
 
 -- calls that are over leave what lies outside the code's own part

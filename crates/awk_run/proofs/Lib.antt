@@ -9,5 +9,5 @@ pub mod RunsFrom
 pub mod Assigning
 pub mod Starting
 pub mod Accepted
-pub mod Places
+pub mod PlaceRuns
 pub mod PlansStand

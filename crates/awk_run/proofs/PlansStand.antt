@@ -15,16 +15,10 @@ use Rattle.awk_compile.specs.declared.plan.Function.{Function as PlannedFunction
 use Rattle.awk_compile.specs.declared.plan.Plan.{Plan}
 use Rattle.awk_compile.specs.definitions.Nodes.{cont_at, function_at}
 use Rattle.awk_compile.specs.definitions.Plans.{Meaning, IsFunction, AreFunctions, tables_of, DoesIn, IsPlanOf}
-use Rattle.awk_compile.proofs.Calling.{found}
-use Rattle.awk_run.specs.support.Evaluator.{StandsFor, PlanStands, PlansStand}
-
--- a call of a function does what the place of its body does
-abbrev pub CallsDo : Type 0
-CallsDo =
-    (items : List Item) (plan : Plan) → IsPlanOf items plan → has_repeat (function_names_of items) ≡ false → (i : ℕ) (f : PlannedFunction) (d : Definition) → slice_get plan.functions.items i ≡ Some f → slice_get (definitions_of items) i ≡ Some d
-    → (n m : ℕ) (given : List Local) (vs : List Value) (s : State) → s.steps ≤ m → s.array_names ≡ (kinds_of items).arrays
-    → call_within (definitions_of items) (suc n) d.name given s
-    ≡ (enter d.parameters f.height given >>= λ _. cont_at (tables_of items plan) (functions_within (definitions_of items) n) plan.heads.items plan.nodes.items m f.body vs >>= λ w. leave >>= λ _. ret w) s
+use Rattle.awk_compile.proofs.Calling.{found, called}
+use Rattle.awk_evaluator.specs.Rest.{StandsFor, PlanStands, IsSound}
+use Rattle.awk_runtime.specs.support.Naming.{Naming}
+use Rattle.awk_run.specs.support.Planned.{IsPlanFor}
 
 -- a planned function and its definition
 record Planned (Does : List FormalParameter → ℕ → Meaning → Type 0) (ds : List Definition) (i : ℕ) (f : PlannedFunction) : Type 0 where
@@ -43,8 +37,8 @@ signed_at [] i d e = absurd (cc)
 signed_at (c ∷ ds) zero d e = let same : c ≡ d = cc in ap (λ x. Some (signature_by x)) same
 signed_at (c ∷ ds) (suc i) d e = signed_at ds i d e
 
-pub plans_stand : CallsDo → PlansStand
-plans_stand calls items plan names h = record {
+pub plans_stand : {items : List Item} {plan : Plan} {names : Naming} → IsPlanFor items plan names → PlanStands (tables_of items plan) (definitions_of items) plan
+plans_stand {items = items} {plan = plan} h = record {
   functions = λ i f e.
       let ds : List Definition = definitions_of items in
       let p : Planned (DoesIn items plan) ds i f = planned_at plan.functions.items ds i f h.is.functions e in
@@ -54,6 +48,6 @@ plans_stand calls items plan names h = record {
         parameters = d.parameters;
         kinds = sym p.is.arrays;
         height = ap (λ (x : List ℕ). body_height (definition_of ds x)) name ∙ (ap body_height (found ds i d h.once p.at) ∙ sym p.is.height);
-        calls = λ n m given vs s low arrays. ap (λ (x : List ℕ). call_within ds (suc n) x given s) name ∙ calls items plan h.is h.once i f d e p.at n m given vs s low arrays;
+        calls = λ n m given vs s low arrays. ap (λ (x : List ℕ). call_within ds (suc n) x given s) name ∙ called items plan h.is h.once i f d e p.at n m given vs s low arrays;
       };
 }

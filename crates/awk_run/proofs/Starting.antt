@@ -24,12 +24,12 @@ use Rattle.awk_runtime.specs.support.Beginning.{start_of, IsStart}
 use Rattle.awk_runtime.specs.support.Naming.{Naming, AreOwn}
 use Rattle.awk_runtime.specs.support.Simulation.{IsReady}
 use Rattle.awk_runtime.proofs.StartRelation.{start_stands, start_open}
-use Rattle.awk_run.specs.declared.machine.Machine.{Machine}
+use Rattle.awk_evaluator.specs.declared.machine.Machine.{Machine}
 use Rattle.awk_run.specs.declared.start.Start.{Start}
 use Rattle.awk_run.specs.definitions.Start.{start_values}
 use Rattle.awk_run.specs.support.Assigned.{IsFirst, Begins}
 use Rattle.awk_run.specs.support.Follows.{IsSet}
-use Rattle.awk_run.specs.support.Machine.{IsIdle}
+use Rattle.awk_evaluator.specs.Moves.{IsIdle}
 use Rattle.awk_run.specs.support.Planned.{IsPlanFor, IsProgramOf, AreOfAProgram, naming_of}
 use Rattle.awk_run.specs.support.Verdict.{no_streams}
 use Rattle.awk_run.proofs.PlanMeans.{functions_of}

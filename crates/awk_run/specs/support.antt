@@ -1,6 +1,4 @@
 pub mod Planned
 pub mod Follows
-pub mod Machine
 pub mod Verdict
 pub mod Assigned
-pub mod Evaluator

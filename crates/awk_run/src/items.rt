@@ -6,13 +6,13 @@ ghost use Rattle.awk_run.specs.support.Planned.{action_at, holds_at, in_range_at
 ghost use Rattle.awk_run.specs.support.Planned.{begin_item_at, begin_items_at, end_item_at, end_items_at};
 ghost use Rattle.awk_run.specs.support.Planned.{is_rule_at, has_rule_at, run_before_end_at, run_items_at};
 ghost use Rattle.awk_run.specs.support.Follows.{FollowsPlan, IsSet};
-ghost use Rattle.awk_run.specs.support.Machine.{IsIdle};
+ghost use Rattle.awk_evaluator.specs.Moves.{IsIdle};
 
-use awk_evaluator::Machine;
+use crate::places::run_place;
 use crate::records::run_records;
-use crate::words::{end_calls, execute, is_inside, set_inside};
 use awk_channels::World;
 use awk_compile::{Plan, PlannedItem, PlannedPattern};
+use awk_evaluator::Machine;
 use awk_semantics::Halt;
 use awk_value::is_true;
 
@@ -30,7 +30,7 @@ fn run_action<W: World>(
     ensures follows { FollowsPlan W.is_logged plan.now (λ at. action_at at action) machine.old.runtime (W.state world.old)
         machine.new.runtime (W.state world.new) result }
 {
-    execute(machine, world, plan, action)?;
+    run_place(plan, action, machine, world)?;
     Ok(())
 }
 
@@ -48,7 +48,7 @@ fn holds<W: World>(
     ensures follows { FollowsPlan W.is_logged plan.now (λ at. holds_at at expression) machine.old.runtime (W.state world.old)
         machine.new.runtime (W.state world.new) result }
 {
-    let value = execute(machine, world, plan, expression)?;
+    let value = run_place(plan, expression, machine, world)?;
     Ok(is_true(&value))
 }
 
@@ -67,7 +67,7 @@ fn in_range<W: World>(
     ensures follows { FollowsPlan W.is_logged plan.now (λ at. in_range_at at number from) machine.old.runtime (W.state world.old)
         machine.new.runtime (W.state world.new) result }
 {
-    if is_inside(&machine.runtime, number) {
+    if machine.runtime.is_inside(number) {
         return Ok(true);
     }
     holds(plan, from, machine, world)
@@ -89,7 +89,7 @@ fn go_through<W: World>(
         machine.new.runtime (W.state world.new) result }
 {
     let ends = holds(plan, to, machine, world)?;
-    set_inside(&mut machine.runtime, number, !ends)?;
+    machine.runtime.set_inside(number, !ends)?;
     Ok(true)
 }
 
@@ -207,7 +207,7 @@ pub(crate) fn try_until_next<W: World>(
         (W.state world.old) machine.new.runtime (W.state world.new) result }
 {
     let tried = try_items(plan, machine, world);
-    end_calls(machine);
+    machine.end_calls();
     unless_next(tried)
 }
 
@@ -300,7 +300,7 @@ fn run_until_exit<W: World>(plan: &Plan, machine: &mut Machine, world: &mut W) -
         (W.state world.old) machine.new.runtime (W.state world.new) result }
 {
     let before = run_before_end(plan, machine, world);
-    end_calls(machine);
+    machine.end_calls();
     unless_exit(before)
 }
 

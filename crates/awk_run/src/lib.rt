@@ -3,11 +3,11 @@
 
 mod items;
 mod names;
+mod places;
 mod program;
 mod records;
 mod run;
 mod start;
-mod words;
 
 pub use awk_semantics::{
     Fault, Outcome, fault_line, law_of_limits, law_of_outcomes, law_of_turns, status,

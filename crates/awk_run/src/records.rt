@@ -4,13 +4,12 @@ ghost use Rattle.std.specs.Prelude.{◌≡◌, OnOk};
 ghost use Rattle.awk_semantics.specs.Items.{until_next, run_records};
 ghost use Rattle.awk_run.specs.support.Planned.{try_items_at};
 ghost use Rattle.awk_run.specs.support.Follows.{FollowsPlan, IsSet};
-ghost use Rattle.awk_run.specs.support.Machine.{IsIdle};
+ghost use Rattle.awk_evaluator.specs.Moves.{IsIdle};
 
 use crate::items::try_until_next;
-use awk_evaluator::Machine;
-use crate::words::{begin_record, next_record};
 use awk_channels::World;
 use awk_compile::Plan;
+use awk_evaluator::Machine;
 use awk_semantics::Halt;
 
 /// Reads the main records to their end, and tries the items on each (POSIX awk, Overall Program
@@ -26,9 +25,9 @@ pub(crate) fn run_records<W: World>(
     ensures follows { FollowsPlan W.is_logged plan.now (λ at. run_records (until_next (try_items_at at 0 plan.now.items.items)))
         machine.old.runtime (W.state world.old) machine.new.runtime (W.state world.new) result }
 {
-    while let Some(text) = next_record(&mut machine.runtime, world)? {
+    while let Some(text) = machine.runtime.next_record(world)? {
         machine.runtime.spend()?;
-        begin_record(&mut machine.runtime, text)?;
+        machine.runtime.begin_record(text)?;
         try_until_next(plan, machine, world)?;
     }
     Ok(())

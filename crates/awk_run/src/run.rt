@@ -11,17 +11,16 @@ ghost use Rattle.awk_run.specs.definitions.Start.{start_values};
 ghost use Rattle.awk_run.specs.definitions.Runs.{RunsFrom};
 ghost use Rattle.awk_run.specs.support.Assigned.{Assigns, IsFirst};
 ghost use Rattle.awk_run.specs.support.Follows.{FollowsPlan, IsSet};
-ghost use Rattle.awk_run.specs.support.Machine.{IsIdle};
+ghost use Rattle.awk_evaluator.specs.Moves.{IsIdle};
 ghost use Rattle.awk_run.specs.support.Planned.{IsProgramOf, AreOfAProgram, naming_of, assign_and_run_at};
 ghost use Rattle.awk_run.specs.support.Verdict.{outcome_after, no_streams, EndsWithoutStreams};
 
 use crate::items::run_items;
-use awk_evaluator::Machine;
 use crate::names::program_names;
 use crate::start::{Assignment, Start};
-use crate::words::{assign_text, new_machine};
 use awk_channels::{StreamFault, Streams, World, some_oracle_is_consistent};
 use awk_compile::Plan;
+use awk_evaluator::Machine;
 use awk_kinds::Kinds;
 use awk_runtime::Runtime;
 use awk_semantics::{Fault, Halt, Outcome, law_of_ends};
@@ -58,7 +57,7 @@ fn assign_all(assignments: &[Assignment], runtime: &mut Runtime) -> Result<(), H
     ensures { Assigns (map pair_of assignments.now) runtime.old runtime.new result }
 {
     for assignment in assignments {
-        assign_text(runtime, &assignment.name, &assignment.text)?;
+        runtime.assign_text(&assignment.name, &assignment.text)?;
     }
     Ok(())
 }
@@ -93,7 +92,7 @@ fn first_machine(
 {
     let names = program_names(alloc, plan, kinds)?;
     let runtime = Runtime::new(alloc, names, &start.operands, &start.environ, limit)?;
-    Ok(new_machine(runtime))
+    Ok(Machine::new(runtime))
 }
 
 /// The end of a run that found no memory to begin.

@@ -12,9 +12,9 @@ use Rattle.std.specs.Global.{Vec}
 use Rattle.awk_runtime.specs.declared.start.Assignment.{Assignment}
 use Rattle.awk_runtime.specs.support.Beginning.{start_of, IsStart}
 use Rattle.awk_runtime.specs.support.Naming.{Naming}
-use Rattle.awk_run.specs.declared.machine.Machine.{Machine}
+use Rattle.awk_evaluator.specs.declared.machine.Machine.{Machine}
 use Rattle.awk_run.specs.definitions.Runs.{IsUntouched}
-use Rattle.awk_run.specs.support.Machine.{IsIdle}
+use Rattle.awk_evaluator.specs.Moves.{IsIdle}
 use Rattle.awk_run.specs.support.Verdict.{no_streams}
 
 -- the assignments before a run

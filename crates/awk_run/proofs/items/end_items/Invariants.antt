@@ -4,7 +4,7 @@ use Rattle.awk_semantics.specs.declared.halt.Halt.{Halt}
 use Rattle.awk_runtime.specs.declared.runtime.Runtime.{Runtime}
 use Rattle.awk_run.specs.support.Planned.{end_items_at}
 use Rattle.awk_run.specs.support.Follows.{FollowsPlan, IsSet}
-use Rattle.awk_run.specs.support.Machine.{IsIdle}
+use Rattle.awk_evaluator.specs.Moves.{IsIdle}
 use Rattle.awk_run.proofs.items.end_items.Given as goal
 
 -- the items that are left

@@ -42,7 +42,7 @@ loop-text-preserved g c = record {
 pub try_until_next-requires : goal.try_until_next-requires
 try_until_next-requires g c = record {
   set = begun_set _ c.in_ok-spend.ensures c.in_ok-begin_record.ensures (set_follows c.in_ok-text.ensures.follows c.in_ok-text.ensures.ready c.loop-text.invariant.set);
-  idle = record { operands = c.loop-text.invariant.idle.operands; entries = c.loop-text.invariant.idle.entries };
+  idle = record { operands = c.loop-text.invariant.idle.operands; calls = c.loop-text.invariant.idle.calls };
 }
 
 pub returns-clause-follows : goal.returns-clause-follows

@@ -3,7 +3,7 @@ use Rattle.awk_channels.specs.WorldState.{WorldState}
 use Rattle.awk_semantics.specs.declared.halt.Halt.{Halt}
 use Rattle.awk_runtime.specs.declared.runtime.Runtime.{Runtime}
 use Rattle.awk_run.specs.support.Follows.{ReadsOn, IsSet}
-use Rattle.awk_run.specs.support.Machine.{IsIdle}
+use Rattle.awk_evaluator.specs.Moves.{IsIdle}
 use Rattle.awk_run.proofs.records.run_records.Given as goal
 
 -- the records that are left

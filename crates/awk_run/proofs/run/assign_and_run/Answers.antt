@@ -14,7 +14,7 @@ returns-in_err-assign_all-clause-set g c = set_behind c.in_err-assign_all.ensure
 pub run_items-requires : goal.run_items-requires
 run_items-requires g c = record {
   set = set_behind c.in_ok-assign_all.ensures.changes c.requires.set;
-  idle = record { operands = c.requires.idle.operands; entries = c.requires.idle.entries };
+  idle = record { operands = c.requires.idle.operands; calls = c.requires.idle.calls };
 }
 
 pub returns-clause-follows : goal.returns-clause-follows

@@ -1,0 +1,16 @@
+use Rattle.awk_run.proofs.PlaceRuns.{place_follows, place_set}
+use Rattle.awk_run.proofs.PlansStand.{sound_plan}
+use Rattle.awk_run.proofs.places.run_place.Goals as goal
+
+pub execute-requires : goal.execute-requires
+execute-requires g c = record {
+  sound = sound_plan c.requires.set.planned.is;
+  idle = record { operands = c.requires.idle.operands; calls = c.requires.idle.calls };
+  ready = record { are_open = c.requires.set.ready.are_open; are_sound = c.requires.set.ready.are_sound };
+}
+
+pub returns-clause-set : goal.returns-clause-set
+returns-clause-set g c = place_set c.requires.set c.execute.ensures.executes c.execute.ensures.ready
+
+pub returns-clause-follows : goal.returns-clause-follows
+returns-clause-follows g c = place_follows c.requires.set c.execute.ensures.executes
