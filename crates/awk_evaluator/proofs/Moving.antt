@@ -342,13 +342,24 @@ module _ {is_logged : Type 0} {plan : Plan} where
 
   -- ends
 
-  pub stopped_by : {h : Halt} {m : Machine} {k : WorldState} → Yields {A = Value} (Err h) (Err h) → Moves is_logged plan (AtNode (n.Stop h)) m k (Err h) m k
-  stopped_by {h = h} {m = m} {k = k} e = record {
+  stops : {m : Machine} {k : WorldState} (h : Halt) (node : Node) → ((tables : Tables) (ds : List Definition) (b : Bound) (vs : List Value) → begun tables ds plan (AtNode node) b vs ≡ lift (Err h)) → Yields {A = Value} (Err h) (Err h) → Moves is_logged plan (AtNode node) m k (Err h) m k
+  stops {m = m} {k = k} h node is e = record {
     moves = record {
       idle = tt;
-      ends = λ tables ds stands. record { does = λ b bs p q. ends_simulates (λ w. resume (tables_in m.runtime.names tables) ds plan bs (stack_of m) w) (lift_simulates (Err h) m.runtime k e) };
+      ends = λ tables ds stands. record {
+        does = λ b bs p q.
+            let t = tables_in m.runtime.names tables in
+            let later : Value → Run Value = λ w. resume t ds plan bs (stack_of m) w in
+            subst (λ (run : Run Value). Simulates is_logged m.runtime k m.runtime k (Err h) (run >>= later)) (sym (is t ds b m.operands.values)) (ends_simulates later (lift_simulates (Err h) m.runtime k e));
+      };
     };
   }
+
+  pub next_stops : {m : Machine} {k : WorldState} → Moves is_logged plan (AtNode n.Next) m k (Err halt.Next) m k
+  next_stops = stops halt.Next n.Next (λ tables ds b vs. refl) refl
+
+  pub exit_stops : {m : Machine} {k : WorldState} → Moves is_logged plan (AtNode n.Exit) m k (Err halt.Exit) m k
+  exit_stops = stops halt.Exit n.Exit (λ tables ds b vs. refl) refl
 
   pub returns_value : {m m1 m' : Machine} {k : WorldState} {w : Value} {r : Result Move Halt} → w ≡ first m.operands.values → m1.operands ≡ record m.operands { values = drop 1 m.operands.values } → m1.calls ≡ m.calls → m1.runtime ≡ m.runtime → GivesBack w m1 r m' → Moves is_logged plan (AtNode n.Return) m k r m' k
   returns_value {m = m} {m1 = m1} top operands calls same g = gives_back (ap (λ es. seen_of m1.operands es) calls ∙ ap (λ (o : OperandsView). seen_of o m.calls) operands) calls same (λ tables ds b. ap (λ v. ret v) (sym top)) g
