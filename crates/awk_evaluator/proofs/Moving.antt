@@ -1,7 +1,7 @@
 -- The moves.
 use Rattle.std.specs.Prelude.{◌==◌}
 use Rattle.std.proofs.lemmas.Bool.{eqb-true}
-use Rattle.std.proofs.Common.{◌≡◌, ◌≢◌, ℕ, zero, suc, ◌-◌, ◌<◌, ◌≤◌, Bool, true, false, List, [], ◌∷◌, ◌++◌, length, drop, reverse, slice_get, Option, Some, None, Result, Ok, Err, OnOk, refl, sym, ap, ◌∙◌, subst, arith, get_or, inl, pos}
+use Rattle.std.proofs.Common.{◌≡◌, ◌≢◌, ℕ, zero, suc, ◌-◌, ◌≤◌, Bool, true, false, List, [], ◌∷◌, ◌++◌, length, drop, slice_get, Some, None, Result, Ok, Err, refl, sym, ap, ◌∙◌, subst, arith, get_or, inl, pos}
 use Rattle.awk_value.specs.declared.value.Value.{Value}
 use Rattle.awk_value.specs.declared.value.Value.TheVariants as value
 use Rattle.awk_value.specs.Values.{truth_of}
@@ -11,11 +11,11 @@ use Rattle.awk_kinds.specs.Kinds.{Definition}
 use Rattle.awk_semantics.specs.declared.halt.Halt.{Halt}
 use Rattle.awk_semantics.specs.declared.halt.Halt.TheVariants as halt
 use Rattle.awk_semantics.specs.declared.fault.Fault.TheVariants.{OutOfMemory}
-use Rattle.awk_semantics.specs.State.{State, Run, ◌>>=◌, lift, ret}
+use Rattle.awk_semantics.specs.State.{Run, ◌>>=◌, lift, ret}
 use Rattle.awk_semantics.specs.Results.{Yields}
 use Rattle.awk_semantics.specs.Semantics.{Functions, choose}
 use Rattle.awk_semantics.specs.Calls.{functions_within}
-use Rattle.awk_semantics.specs.Primitives.{spend, leave}
+use Rattle.awk_semantics.specs.Primitives.{leave}
 use Rattle.awk_storage.specs.declared.position.Array.{Array}
 use Rattle.awk_storage.specs.declared.position.Variable.{Variable}
 use Rattle.awk_storage.specs.Positions.{put_variable}
@@ -25,7 +25,7 @@ use Rattle.awk_compile.specs.declared.node.Node.TheVariants as n
 use Rattle.awk_compile.specs.declared.node.ValueNode.{ValueNode}
 use Rattle.awk_compile.specs.declared.node.EffectNode.{EffectNode}
 use Rattle.awk_compile.specs.declared.plan.Plan.{Plan}
-use Rattle.awk_compile.specs.Nodes.{Tables, Cont, nothing, first, second, value_of, popped, effect_of, dropped, walk_values, keys_left, next_key_by, level, cont_at, AreBelow}
+use Rattle.awk_compile.specs.Nodes.{Tables, Cont, first, second, value_of, popped, effect_of, dropped, walk_values, keys_left, next_key_by}
 use Rattle.awk_compile.proofs.Listed.{node_at, no_node_at}
 use Rattle.awk_runtime.specs.declared.runtime.Runtime.{Runtime}
 use Rattle.awk_runtime.specs.Simulation.{IsReady, SimulatesLogged, Simulates, Changes, Spends}
@@ -35,10 +35,10 @@ use Rattle.awk_evaluator.specs.declared.machine.Machine.{Machine}
 use Rattle.awk_evaluator.specs.declared.machine.Move.{Move}
 use Rattle.awk_evaluator.specs.declared.machine.Move.TheVariants as move
 use Rattle.awk_evaluator.specs.Operands.{OperandsView}
-use Rattle.awk_evaluator.specs.Rest.{IsSound, PlanStands, tables_in, Entry, Bound, Bounds, Start, AtPlace, AtNode, IsBefore, cont, turn, begun, resume, Rest}
-use Rattle.awk_evaluator.specs.Moves.{seen_of, stack_of, IsIdle, RestOf, Leads, Ends, Onward, Upward, Backward, MovesBy, Moves, Evaluates, Computes, Performs, GivesBackBy, GivesBack, Executes}
+use Rattle.awk_evaluator.specs.Rest.{IsSound, tables_in, Entry, Bound, Start, AtPlace, AtNode, cont, turn, begun, resume, Rest}
+use Rattle.awk_evaluator.specs.Moves.{seen_of, stack_of, IsIdle, Leads, Ends, MovesBy, Moves, Evaluates, Computes, Performs, GivesBackBy, GivesBack, Executes}
 use Rattle.awk_evaluator.specs.Walks.{PutsKeys, TakesKey}
-use Rattle.awk_evaluator.proofs.Resting.{same_simulates, then_rest, ends_rest, same_rest, return_rest, return_stuck, over_rest, whole, turn_rest, turn_stuck}
+use Rattle.awk_evaluator.proofs.Resting.{then_rest, ends_rest, same_rest, return_rest, return_stuck, over_rest, whole, turn_rest, turn_stuck}
 
 -- memory may be refused behind what went well
 memory_logged : {A : Type 0} {old new : Runtime} {before after : WorldState} {a : A} {run : Run A} → SimulatesLogged old before new after (Ok a) run → SimulatesLogged old before new after (Err (halt.Fault OutOfMemory)) run
