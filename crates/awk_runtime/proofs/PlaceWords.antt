@@ -122,7 +122,7 @@ post_updated o p operand {old = old} {new = new} {u = u} x = then_changes _ (x.r
 pub of_variable : (o : Operator) (x : Variable) (n : ℤ) {old new : Runtime} {u : Updated} → UpdatesVariable o x n old new u → Updates o (place.Variable x) (value.Number n) old new u
 of_variable o x n h = record { read = λ operand. h.read; made = h.made; put = λ operand. h.put; again = λ operand. h.again }
 
-get-set : {A : Type 0} (xs : List A) (i : ℕ) (x : A) → i < length xs → slice_get (set xs i x) i ≡ Some x
+pub get-set : {A : Type 0} (xs : List A) (i : ℕ) (x : A) → i < length xs → slice_get (set xs i x) i ≡ Some x
 get-set [] i x low = absurd (omega arith)
 get-set (y ∷ xs) zero x low = refl
 get-set (y ∷ xs) (suc i) x low = get-set xs i x (omega arith)

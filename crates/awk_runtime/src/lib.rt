@@ -1,6 +1,7 @@
 //! The state of a run, and what each word of the language does to it and to the world.
 #![tactic(auto)]
 
+mod appends;
 mod arrays;
 mod calls;
 mod commands;
