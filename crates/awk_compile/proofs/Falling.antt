@@ -223,6 +223,7 @@ module _ (tables : Tables) where
     value_falls (v.Key k) vs = then_falls _ (kept_falls (keeps_joined_key (taken k vs))) (λ key. lift_falls _)
     value_falls v.FieldNumber vs = then_falls _ (kept_falls (keeps_number_of (first vs))) (λ k. lift_falls _)
     value_falls (v.Assign o p) vs = assign_by_falls tables.names (operator_of o) p (second vs) (first vs)
+    value_falls (v.Append x) vs = then_falls _ (lift_falls _) (λ w. assign_by_falls tables.names None (place.Variable x) value.Nothing w)
     value_falls (v.PreIncrement o p) vs = assign_by_falls tables.names (Some (by_one o)) p (first vs) one
     value_falls (v.PostIncrement o p) vs = post_falls tables.names o p (first vs)
     value_falls (v.Load p) vs = read_at_falls tables.names p (first vs)

@@ -11,6 +11,7 @@ pub mod ValueLists
 pub mod Taking
 pub mod Targets
 pub mod ExpressionForms
+pub mod AppendForms
 pub mod PatternForms
 pub mod ConditionForms
 pub mod ListForms

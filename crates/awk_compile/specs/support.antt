@@ -1,4 +1,5 @@
 -- What serves the proofs.
+pub mod Appends
 pub mod Builds
 pub mod Scopes
 pub mod Operands

@@ -8,6 +8,7 @@ ghost use Rattle.awk_compile.specs.support.Builds.{Pushes, Stands, Evaluate};
 ghost use Rattle.awk_compile.specs.support.Operands.{is_and, is_or, matching_operator, matching, PushesTruths, PushesEre};
 ghost use Rattle.awk_compile.specs.support.Scopes.{Builds};
 
+use crate::appends::is_append;
 use crate::builder::Builder;
 use crate::getlines::source_of;
 use crate::node::{Node, Source, ValueNode};
@@ -74,7 +75,12 @@ impl Builder {
         Ok((yes, no))
     }
 
-    fn push_name(&mut self, scope: &Scope, x: &Bytes, next: u32) -> Result<u32, AllocError>
+    pub(crate) fn push_name(
+        &mut self,
+        scope: &Scope,
+        x: &Bytes,
+        next: u32,
+    ) -> Result<u32, AllocError>
         requires { Stands next self.old }
         ensures { IfOk result (λ place. Builds scope.now self.old self.new place (Evaluate (Name x.now) next)) }
     {
@@ -138,6 +144,9 @@ impl Builder {
                 self.lower_test(scope, c, here, other)
             }
             Expr::Assign(o, place, e) => {
+                if is_append(*o, place, e) {
+                    return self.lower_append(scope, place, e, next);
+                }
                 let target = self.place_of(scope, place)?;
                 let assign = self.push_value(ValueNode::Assign(*o, target), next)?;
                 let right = self.lower(scope, e, assign)?;

@@ -1,6 +1,7 @@
 //! Programs as nodes that name what follows them: what a place in the list of nodes means, and the lowering of trees.
 #![tactic(auto)]
 
+mod appends;
 pub mod builder;
 mod built_ins;
 mod calls;

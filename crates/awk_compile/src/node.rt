@@ -47,6 +47,8 @@ pub enum ValueNode {
     /// The number of a field that is a place.
     FieldNumber,
     Assign(AssignmentOperator, Place),
+    /// Assigns a variable the text of a value that it had, with that of another one behind it.
+    Append(Variable),
     PreIncrement(IncrementOperator, Place),
     PostIncrement(IncrementOperator, Place),
     /// The value of a place, whose operand stays on the stack.

@@ -30,6 +30,7 @@ impl Machine {
             ValueNode::ReadField => self.field(),
             ValueNode::ReadElement(array) => self.element(*array),
             ValueNode::Assign(operator, place) => self.assign(*operator, *place),
+            ValueNode::Append(variable) => self.append(*variable),
             ValueNode::PreIncrement(operator, place) => self.pre_increment(*operator, *place),
             ValueNode::PostIncrement(operator, place) => self.post_increment(*operator, *place),
             ValueNode::RecordMatches(ere) => self.record_matches(*ere),

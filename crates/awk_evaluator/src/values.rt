@@ -2,7 +2,7 @@
 
 ghost use Rattle.std.specs.Prelude.{◌≡◌};
 ghost use Rattle.awk_compile.specs.Nodes.{operands};
-ghost use Rattle.awk_compile.specs.declared.node.ValueNode.TheVariants.{Push, Read, RecordMatches, Operate, MatchesEre, Change, ReadField, ReadElement, Contains, Key, FieldNumber, Assign, PreIncrement, PostIncrement, Load, RecordLength, Apply};
+ghost use Rattle.awk_compile.specs.declared.node.ValueNode.TheVariants.{Push, Read, RecordMatches, Operate, MatchesEre, Change, ReadField, ReadElement, Contains, Key, FieldNumber, Assign, Append, PreIncrement, PostIncrement, Load, RecordLength, Apply};
 ghost use Rattle.awk_evaluator.specs.Moves.{Computes};
 
 use crate::machine::Machine;
@@ -138,6 +138,14 @@ impl Machine {
             .assign_by_at(operator_of(operator), place, operand, value)?;
         self.operands.drop(operand_count(place));
         Ok(assigned)
+    }
+
+    /// Gives a variable the text of an operand, which it held, with that of the operand above it; gives what it then holds.
+    pub(crate) fn append(&mut self, variable: Variable) -> Result<Value, Halt>
+        ensures { Computes (Append variable) self.old result self.new }
+    {
+        let (left, right) = self.operands.pop_two();
+        self.runtime.append_to(variable, left, &right)
     }
 
     /// Raises or lowers what a place holds by 1; gives what it then holds.

@@ -141,6 +141,7 @@ module _ (tables : Tables) where
   value_of functions (v.Key k) vs = joined_key (taken k vs) >>= λ key. ret (value.Text key)
   value_of functions v.FieldNumber vs = number_of (first vs) >>= λ k. ret (value.Number k)
   value_of functions (v.Assign o p) vs = assign_by_at tables.names (operator_of o) p (second vs) (first vs)
+  value_of functions (v.Append x) vs = lift (operated Concatenate (second vs) (first vs)) >>= λ w. assign_by_at tables.names None (place.Variable x) value.Nothing w
   value_of functions (v.PreIncrement o p) vs = assign_by_at tables.names (Some (by_one o)) p (first vs) one
   value_of functions (v.PostIncrement o p) vs = post_increment_at tables.names o p (first vs)
   value_of functions (v.Load p) vs = read_at tables.names p (first vs)
@@ -188,6 +189,7 @@ popped (v.Contains a) = 1
 popped (v.Key k) = k
 popped v.FieldNumber = 1
 popped (v.Assign o p) = suc (operands p)
+popped (v.Append x) = 2
 popped (v.PreIncrement o p) = operands p
 popped (v.PostIncrement o p) = operands p
 popped (v.Load p) = 0

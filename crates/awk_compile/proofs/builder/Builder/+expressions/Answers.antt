@@ -1,9 +1,10 @@
-use Rattle.std.proofs.Common.{Option, ◌≡◌, suc, ◌-◌, true, rules, drop, length, sym, subst, ap, ◌∙◌, true≢false, arith, to_z, of_z}
+use Rattle.std.proofs.Common.{Option, ◌≡◌, suc, ◌-◌, true, rules, drop, length, refl, sym, subst, ap, ◌∙◌, true≢false, arith, to_z, of_z}
 use Rattle.awk_grammar.specs.declared.tree.Expr.{Expr as CodeExpr}
 use Rattle.awk_grammar.specs.declared.tree.Expr.TheVariants as code
 use Rattle.std.specs.Global.{Box}
 use mir.Syntax.{w128}
 use Rattle.awk_grammar.specs.declared.tree.Expr.TheViews.{the_lemmas}
+use Rattle.awk_grammar.specs.declared.tree.BinaryOperator.TheVariants.{Concatenate}
 use Rattle.awk_grammar.specs.Tree as tree
 use Rattle.awk_grammar.specs.View.{expr_of, exprs_of, optional_expr_of}
 use Rattle.awk_kinds.proofs.Rows.{row_is_list}
@@ -12,6 +13,7 @@ use Rattle.awk_compile.specs.support.Calls.{roles_from}
 use Rattle.awk_compile.specs.support.Scopes.{Builds}
 use Rattle.awk_compile.proofs.Building.{ok_map, stands}
 use Rattle.awk_compile.proofs.ExpressionForms.{number_lowered, strict_lowered, string_lowered, ere_lowered, length_lowered, element_lowered, field_lowered, group_lowered, unary_lowered, membership_lowered, list_membership_lowered, assign_lowered, pre_increment_lowered, post_increment_lowered}
+use Rattle.awk_compile.proofs.AppendForms.{plain_append, append_lowered}
 use Rattle.awk_compile.proofs.PatternForms.{matched, unless_ere_lowered, ere_stays}
 use Rattle.awk_compile.proofs.ConditionForms.{test_lowered, group_tested, not_tested, and_tested, or_tested, and_lowered, or_lowered, conditional_lowered}
 use Rattle.awk_compile.proofs.ListForms.{none_lowered, more_lowered, count_exprs, exprs_over, exprs_at, some_expr, two_exprs, three_exprs, key_lowered}
@@ -68,7 +70,27 @@ lower-returns-in_ok-other-in-Conditional t c =
 pub lower-returns-in_ok-right-in-Assign : goal.lower-returns-in_ok-right-in-Assign
 lower-returns-in_ok-right-in-Assign t c =
     rw (ap expr_of c.in-Assign.is)
-    (ok_map _ (λ i q. assign_lowered c.requires (rw c.deref-in-Assign.ensures at c.in_ok-target-in-Assign.ensures) c.in-Assign.o c.in_ok-assign-in-Assign.ensures (rw c.deref-in-Assign-2.ensures at c.in_ok-right-in-Assign.ensures) q) (rw c.deref-in-Assign-3.ensures at c.lower_operand.ensures))
+    (ok_map _ (λ i q. assign_lowered c.requires (rw c.deref-in-Assign-3.ensures at c.in_ok-target-in-Assign.ensures) c.in-Assign.o c.in_ok-assign-in-Assign.ensures (rw c.deref-in-Assign-4.ensures at c.in_ok-right-in-Assign.ensures) q) (rw c.deref-in-Assign-5.ensures at c.lower_operand.ensures))
+
+pub lower-returns-then-is_append : goal.lower-returns-then-is_append
+lower-returns-then-is_append t c =
+    let is = rw (c.deref-in-Assign.ensures, c.deref-in-Assign-2.ensures) at (c.is_append.ensures c.if-is_append.true) in
+    rw (ap expr_of c.in-Assign.is, plain_append c.in-Assign.o _ _ is) (rw (c.deref-then-is_append.ensures, c.deref-then-is_append-2.ensures) at c.lower_append.ensures)
+
+pub lower_append-returns : goal.lower_append-returns
+lower_append-returns t c =
+    let place : expr_of c.args.place.now ≡ tree.Name c.in-Name.x = ap expr_of c.in-Name.is in
+    let value : expr_of c.args.e.now ≡ tree.Binary Concatenate (expr_of c.in-Binary-Concatenate.a.value) (expr_of c.in-Binary-Concatenate.b.value) = ap expr_of c.in-Binary-Concatenate.is ∙ ap (λ o. tree.Binary o (expr_of c.in-Binary-Concatenate.a.value) (expr_of c.in-Binary-Concatenate.b.value)) c.in-Binary-Concatenate.field-0-is in
+    rw (place, value)
+    (ok_map _ (λ i q. append_lowered c.in-Name.x (expr_of c.in-Binary-Concatenate.a.value) (expr_of c.in-Binary-Concatenate.b.value) c.requires.stands (rw c.as_slice.ensures at c.in_ok-variable.ensures) (rw (place, value) at c.requires.append) c.in_ok-append.ensures (rw (c.deref.ensures, c.deref-2.ensures) at c.in_ok-right.ensures) q) c.push_name.ensures)
+
+pub lower_behind_first-returns-in-Name : goal.lower_behind_first-returns-in-Name
+lower_behind_first-returns-in-Name t c = rw (ap expr_of c.in-Name.is) c.lower.ensures
+
+pub lower_behind_first-returns-in_ok-last-in-Binary-Concatenate : goal.lower_behind_first-returns-in_ok-last-in-Binary-Concatenate
+lower_behind_first-returns-in_ok-last-in-Binary-Concatenate t c =
+    let value : expr_of c.args.left.now ≡ tree.Binary Concatenate (expr_of c.in-Binary-Concatenate.a.value) (expr_of c.in-Binary-Concatenate.b.value) = ap expr_of c.in-Binary-Concatenate.is ∙ ap (λ o. tree.Binary o (expr_of c.in-Binary-Concatenate.a.value) (expr_of c.in-Binary-Concatenate.b.value)) c.in-Binary-Concatenate.field-0-is in
+    rw value (ok_map _ (λ i q. strict_lowered Concatenate refl refl refl c.requires c.in_ok-operate-in-Binary-Concatenate.ensures c.in_ok-last-in-Binary-Concatenate.ensures q) (rw (c.deref.ensures, c.deref-2.ensures) at c.lower_behind_first.ensures))
 
 pub lower-returns-in_ok-increment-in-PreIncrement : goal.lower-returns-in_ok-increment-in-PreIncrement
 lower-returns-in_ok-increment-in-PreIncrement t c =

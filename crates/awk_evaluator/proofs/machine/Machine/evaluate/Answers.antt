@@ -37,6 +37,12 @@ returns-in-ReadElement-clause-ready g c = computed_ready c.element.ensures c.req
 pub returns-in-ReadElement-clause-evaluates : goal.returns-in-ReadElement-clause-evaluates
 returns-in-ReadElement-clause-evaluates g c = rw c.in-ReadElement.is (computed_evaluates c.element.ensures)
 
+pub returns-in-Append-clause-ready : goal.returns-in-Append-clause-ready
+returns-in-Append-clause-ready g c = computed_ready c.append.ensures c.requires.ready
+
+pub returns-in-Append-clause-evaluates : goal.returns-in-Append-clause-evaluates
+returns-in-Append-clause-evaluates g c = rw c.in-Append.is (computed_evaluates c.append.ensures)
+
 pub returns-in-Assign-clause-ready : goal.returns-in-Assign-clause-ready
 returns-in-Assign-clause-ready g c = computed_ready c.assign.ensures c.requires.ready
 
