@@ -19,7 +19,7 @@ sign() {
 
 # This awk's refusals that say that the text is no program.
 this() {
-    case $(timeout 5 "$root/out/awk" -L 0 -f "$1" </dev/null 2>&1 >/dev/null | tail -n 1) in
+    case $(timeout 5 "$executable" -L 0 -f "$1" </dev/null 2>&1 >/dev/null | tail -n 1) in
     *'refusal S'[12]* | *'refusal L'* | *'refusal P'*) printf - ;;
     *) printf + ;;
     esac

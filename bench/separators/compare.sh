@@ -19,7 +19,7 @@ of() {
 
 n=0
 while [ "$n" -lt "$count" ]; do
-    of this "$n" "$root/out/awk"
+    of this "$n" "$executable"
     of gawk "$n" gawk --posix
     of mawk "$n" mawk
     of original "$n" original-awk

@@ -1,0 +1,4 @@
+// The command line over a world in memory: program files and the environment.
+
+mod environment;
+mod files;

@@ -1,0 +1,5 @@
+// Whole programs over a world in memory.
+
+mod disturbed;
+mod execute;
+mod witness;

@@ -1,0 +1,57 @@
+// The premises of the theorem on `execute` can be met: a run over a fresh world in memory leaves what its one
+// program means, with no premise.
+ghost use Rattle.std.specs.Prelude.{List, IfOk, IfErr};
+ghost use Rattle.awk_lex.specs.Refused.{IsOutOfMemory};
+ghost use Rattle.awk_grammar.specs.Tree.{Item};
+ghost use Rattle.awk_run.specs.Accepted.{Accepted};
+ghost use Rattle.awk_run.specs.Start.{start_values};
+ghost use Rattle.awk_run.specs.Runs.{Runs};
+
+use awk_channels::{Answer, ScriptWorld, World};
+use awk_lex::refusal::Refusal;
+use awk_run::{Outcome, Start, execute, law_of_untouched};
+use std::alloc::Global;
+use std::process::Abort;
+use std::test::Fail;
+
+/// What a run over a fresh world leaves.
+#[derive(Drop)]
+pub struct Run {
+    pub world: ScriptWorld,
+    pub outcome: Result<Outcome, Refusal>,
+}
+
+/// Runs a text over a fresh world with these answers. A text that is refused for another cause than memory is no
+/// program; any other leaves what its program means.
+pub fn run_in_memory(
+    alloc: Global,
+    answers: Vec<Answer>,
+    text: &[u8],
+    start: &Start,
+    limit: u64,
+) -> Run
+    ensures refused { IfErr result.outcome (λ refusal. (IsOutOfMemory refusal → ⊥) →
+        (items : List Item) → Accepted text.now items → ⊥) }
+    ensures run { IfOk result.outcome (λ outcome. (items : List Item) × Accepted text.now items ×
+        Runs items (start_values start.now) limit (⟦<ScriptWorld as World>⟧.state result.world) outcome) }
+{
+    law_of_untouched();
+    let mut world = ScriptWorld::new(alloc, answers);
+    let outcome = execute(alloc, text, start, limit, &mut world);
+    Run { world, outcome }
+}
+
+#[test]
+fn a_run_in_memory(rt: HostRuntime) -> Result<(), Fail> {
+    let alloc = rt.alloc();
+    let run = run_in_memory(
+        alloc,
+        Vec::new(alloc),
+        b"BEGIN { print 1 }",
+        &Start::new(alloc),
+        1,
+    );
+    assert!(rt; run.outcome == Ok(Outcome::Ended(0)));
+    assert!(rt; run.world.received(0)?.as_slice() == b"1\n".as_slice());
+    Ok(())
+}
