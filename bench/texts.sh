@@ -1,5 +1,5 @@
 #!/bin/sh
-# Runs a small program over the libraries awk_text and awk_substitute beside the other awks of this machine.
+# Runs a small program over the library awk_text beside the other awks of this machine.
 # First random cases of gsub, sub, match and substr, byte for byte: it prints how many of them each awk
 # answers in another way, and the first few of those. Then times, a row for each: the least seconds of the
 # rounds, of the processor in user mode, which other work on the machine changes least. A run is stopped after
@@ -15,8 +15,8 @@ limit=60
 . "$(dirname "$0")/program.sh"
 
 # The program: its first word says what it does with each line of its input.
-program_over texts 'awk_value awk_ere_syntax awk_ere_compile awk_ere awk_text awk_substitute' \
-    'awk_value awk_ere awk_text awk_substitute memchr'
+program_over texts 'awk_value awk_ere_syntax awk_ere_compile awk_ere awk_text' \
+    'awk_value awk_ere awk_text memchr'
 cat >"$program/src/main.rt" <<'PROGRAM'
 //! Does with each line of standard input what its first word says.
 #![tactic(auto)]
@@ -24,8 +24,7 @@ cat >"$program/src/main.rt" <<'PROGRAM'
 ghost use Rattle.awk_ere.specs.Table.{IsFor};
 
 use awk_ere::{Pattern, Scratch};
-use awk_substitute::{match_at, substitute_into};
-use awk_text::{Separator, Span, index, split_text, substr, upper};
+use awk_text::{Separator, Span, index, match_at, split_text, substitute_into, substr, upper};
 use awk_value::{Bytes, Value, number_of};
 use memchr::memchr_iter;
 use std::alloc::Global;

@@ -1,7 +1,7 @@
 #!/bin/sh
 # Which random programs this awk reads, and which other awks do: a line for each kind of answer and how many programs had
 # it, `+` where an awk read the program, `-` where it refused it, in the order of the columns. No program is run: the
-# others get options or a head that keep them from it, and this awk an input without records.
+# others get options or a head that keep them from it, and this awk no step.
 #
 #   bench/grammar/compare.sh [COUNT [SEED [FOLDER]]]
 #
@@ -19,7 +19,7 @@ sign() {
 
 # This awk's refusals that say that the text is no program.
 this() {
-    case $(timeout 5 "$root/out/awk" -f "$1" </dev/null 2>&1 >/dev/null | tail -n 1) in
+    case $(timeout 5 "$root/out/awk" -L 0 -f "$1" </dev/null 2>&1 >/dev/null | tail -n 1) in
     *'refusal S'[12]* | *'refusal L'* | *'refusal P'*) printf - ;;
     *) printf + ;;
     esac

@@ -8,13 +8,13 @@ use awk_system::SysWorld;
 use std::env::Env;
 use std::fs::{File, Files};
 use std::io::{self, Stderr, Stdin, Stdout};
-use std::process::ExitCode;
+use std::process::{ExitCode, Processes};
 
 /// The status where there is no memory to begin.
 const NOT_RUN: u8 = 2;
 
 /// The status of the program with what the process was started with. Fails only for want of memory.
-fn serve<R: Env + Files<File = File> + AllocGlobal>(
+fn serve<R: Env + Files<File = File> + Processes + AllocGlobal>(
     rt: &R,
     stdin: Stdin,
     stdout: Stdout,

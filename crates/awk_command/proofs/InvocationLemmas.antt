@@ -7,7 +7,7 @@ use Rattle.awk_run.specs.Accepted.{Accepted}
 use Rattle.awk_channels.specs.WorldState.{WorldState}
 use Rattle.awk_run.specs.Meaning.{StartValues}
 use Rattle.awk_semantics.specs.declared.outcome.Outcome.{Outcome}
-use Rattle.awk_run.specs.declared.start.Assignment.{Assignment}
+use Rattle.awk_runtime.specs.declared.start.Assignment.{Assignment}
 use Rattle.awk_command.specs.CommandLine.{ProgramSource, Text, CommandLine}
 use Rattle.awk_command.specs.Invocation.{RunsText, RunsProvidedText, RunsCommandLine, DoesNothing, Invokes, status_after, Reports, OnlyReports, RunsUtility}
 use Rattle.awk_command.specs.ProgramText.{ProvidesText}

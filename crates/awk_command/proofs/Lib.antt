@@ -2,3 +2,4 @@ pub mod CommandLineLemmas
 pub mod InvocationLemmas
 pub mod ProgramTextLemmas
 pub mod ReportLemmas
+pub mod SoundLemmas

@@ -1,5 +1,5 @@
 -- Lemmas on reading the files of a program.
-use Rattle.std.proofs.Common.{◌≡◌, ◌<◌, ℕ, Bool, true, false, inl, inr, List, [], ◌∷◌, ◌++◌, length, refl, sym, ◌∙◌, ap, subst, arith, append_assoc, append-nil}
+use Rattle.std.proofs.Common.{◌≡◌, ◌<◌, ℕ, Bool, true, false, inl, inr, List, [], ◌∷◌, ◌++◌, length, refl, sym, ◌∙◌, ap, subst, append_assoc, append-nil}
 use Rattle.awk_channels.specs.Log.{Event, Read}
 use Rattle.awk_channels.specs.Writes.{GoesOn}
 use Rattle.awk_channels.proofs.WritesLemmas.{with_events-push}

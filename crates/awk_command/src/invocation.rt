@@ -2,7 +2,9 @@
 
 ghost use Rattle.std.specs.Prelude.{◌≡◌, ◌&&◌, IfOk, map, filter};
 ghost use Rattle.std.specs.Str.{is_utf8};
+ghost use Rattle.awk_channels.specs.Streams.{AreSound};
 ghost use Rattle.awk_run.specs.Start.{pair_of};
+ghost use Rattle.awk_run.specs.support.Verdict.{no_streams};
 ghost use Rattle.awk_command.specs.CommandLine.{texts, view_of};
 ghost use Rattle.awk_command.specs.Invocation.{environ_of, RunsCommandLine, Invokes, RunsUtility};
 
@@ -10,8 +12,8 @@ use crate::command_line::{CommandLine, is_utf8, read_command_line};
 use crate::options::CommandFault;
 use crate::program_text::program_text;
 use crate::report::{NotRun, report_not_run, report_outcome};
-use awk_run::{Assignment, Outcome, Start, execute, status};
 use awk_channels::World;
+use awk_run::{Assignment, Outcome, Start, execute, status};
 use std::alloc::{AllocError, Global};
 
 /// The status where nothing was run.
@@ -41,6 +43,7 @@ fn run_command_line<W: World>(
     environ: Vec<Assignment>,
     world: &mut W,
 ) -> Result<Outcome, NotRun>
+    requires sound { W.is_logged → AreSound (W.state world.old) no_streams }
     ensures { RunsCommandLine W.is_logged (view_of line) environ.items (W.state world.old) result (W.state world.new) }
 {
     let CommandLine {
@@ -66,6 +69,7 @@ fn invoke<W: World>(
     environ: Vec<Assignment>,
     world: &mut W,
 ) -> Result<Outcome, NotRun>
+    requires sound { W.is_logged → AreSound (W.state world.old) no_streams }
     ensures { Invokes W.is_logged (texts words.now) environ.items (W.state world.old) result (W.state world.new) }
 {
     match read_command_line(alloc, words) {
@@ -76,7 +80,9 @@ fn invoke<W: World>(
 }
 
 /// The program: runs what the words after its name ask for, in a world and with the entries of an
-/// environment, reports on standard error what there is to report, and answers the exit status.
+/// environment, reports on standard error what there is to report, and answers the exit status. The
+/// log of the world is in order, and nothing stands open in it or is to be flushed, as it is before
+/// anything was done there.
 ///
 /// The words are `[-F sep] [-v name=text].. [-L n] [-f file.. | program] [operand..]`. The status is
 /// the program's own from 0 to 255, 2 for a usage fault, a program file that isn't readable, a
@@ -88,6 +94,7 @@ pub fn main_words<W: World>(
     environ: Vec<Assignment>,
     world: &mut W,
 ) -> u8
+    requires sound { W.is_logged → AreSound (W.state world.old) no_streams }
     ensures { RunsUtility W.is_logged (texts words.now) environ.items (W.state world.old) result (W.state world.new) }
 {
     match invoke(alloc, words, environ, world) {

@@ -10,7 +10,7 @@ use Rattle.awk_semantics.specs.definitions.Semantics.{choose, eval}
 use Rattle.awk_semantics.proofs.KeepsForms.{keeps_eval}
 use Rattle.awk_compile.specs.declared.builder.Builder.{Builder}
 use Rattle.awk_compile.specs.declared.node.Node.{Node}
-use Rattle.awk_compile.specs.definitions.Nodes.{Cont, made, AreBelow, IsOrdered}
+use Rattle.awk_compile.specs.definitions.Nodes.{Cont, made, AreBelow, IsOrdered, CallsBelow, AllCallBelow}
 use Rattle.awk_compile.specs.support.Builds.{AreScalars, Grows, Pushes, Opens, Closes, Extends, IsIn, Program, Part, Evaluate, does, place_in, turns_in, Places, Builds, Stands}
 use Rattle.awk_compile.proofs.Calculus.{later_in}
 use Rattle.awk_compile.proofs.Listed.{placed_behind}
@@ -25,6 +25,13 @@ get_pushed (z ∷ zs) x (suc i) y h = elim (get_pushed zs x i y h) [ inl e ↦ i
 
 ordered_pushed : (xs : List Node) (x : Node) → AreBelow (length xs) x → IsOrdered xs → IsOrdered (xs ++ x ∷ [])
 ordered_pushed xs x last each i y h = elim (get_pushed xs x i y h) [ inl e ↦ each i y e | inr e ↦ subst (λ k. AreBelow k y) (sym e.0) (subst (AreBelow (length xs)) (sym e.1) last) ]
+
+calls_pushed : (count : ℕ) (xs : List Node) (x : Node) → CallsBelow count x → AllCallBelow count xs → AllCallBelow count (xs ++ x ∷ [])
+calls_pushed count xs x last each i y h = elim (get_pushed xs x i y h) [ inl e ↦ each i y e | inr e ↦ subst (CallsBelow count) (sym e.1) last ]
+
+-- as many functions, and the same nodes
+calls_same : (a b : Builder) → b.function_count ≡ a.function_count → b.nodes ≡ a.nodes → AllCallBelow a.function_count a.nodes.items → AllCallBelow b.function_count b.nodes.items
+calls_same a b many nodes h = subst (λ k. AllCallBelow k b.nodes.items) (sym many) (subst (λ (v : _). AllCallBelow a.function_count v.items) (sym nodes) h)
 
 get_longer : (xs : List ℕ) (i : ℕ) → i < length xs → get_or (xs ++ 0 ∷ []) i 0 ≡ get_or xs i 0
 get_longer [] i h = absurd (omega (arith, h))
@@ -53,6 +60,8 @@ grows {a = a} p q = record {
   more = p.more ++ q.more;
   is = q.is ∙ ap (λ l. l ++ q.more) p.is ∙ append_assoc a.nodes.items p.more q.more;
   ordered = λ h. q.ordered (p.ordered h);
+  functions = q.functions ∙ p.functions;
+  calls = λ h. q.calls (p.calls h);
   heads = λ i k e. q.heads i k (p.heads i k e);
   names = front_then a.names p.names q.names;
   eres = front_then a.eres.items p.eres q.eres;
@@ -64,18 +73,20 @@ extends {a = a} {b = b} p q = record { grows = grows p.grows q.grows; kept = λ 
 
 pub same : {a : Builder} → Extends a a
 same {a = a} = record {
-  grows = record { more = []; is = sym (append-nil a.nodes.items); ordered = λ o. o; heads = λ i k e. e; names = front_same refl; eres = front_same refl; scalars = λ h. h };
+  grows = record { more = []; is = sym (append-nil a.nodes.items); ordered = λ o. o; functions = refl; calls = λ h. h; heads = λ i k e. e; names = front_same refl; eres = front_same refl; scalars = λ h. h };
   kept = λ i l. refl;
   long = omega arith;
 }
 
 -- names and EREs alone are added
-pub named : {a b : Builder} → b.nodes ≡ a.nodes → b.heads ≡ a.heads → IsFront a.names b.names → IsFront a.eres.items b.eres.items → (AreScalars a.names → AreScalars b.names) → Extends a b
-named {a = a} {b = b} nodes heads names eres scalars = record {
+pub named : {a b : Builder} → b.nodes ≡ a.nodes → b.heads ≡ a.heads → IsFront a.names b.names → IsFront a.eres.items b.eres.items → b.function_count ≡ a.function_count → (AreScalars a.names → AreScalars b.names) → Extends a b
+named {a = a} {b = b} nodes heads names eres functions scalars = record {
   grows = record {
     more = [];
     is = ap (λ (v : _). v.items) nodes ∙ sym (append-nil a.nodes.items);
     ordered = λ o. subst (λ (v : _). IsOrdered v.items) (sym nodes) o;
+    functions = functions;
+    calls = calls_same a b functions nodes;
     heads = λ i k e. ap (λ (h : _). get_or h.items i 0) heads ∙ e;
     names = names;
     eres = eres;
@@ -99,7 +110,17 @@ stands p = record { below = p.below; pos = p.pos }
 pub placed : {kinds : ProgramKinds} {a b : Builder} {x : Node} {i : ℕ} → Pushes a b x i → AreBelow (length a.nodes.items) x → Places kinds a b i x
 placed {a = a} {b = b} {x = x} {i = i} p below = record {
   extends = record {
-    grows = record { more = x ∷ []; is = p.nodes; ordered = λ h. subst IsOrdered (sym p.nodes) (ordered_pushed a.nodes.items x below h); heads = λ j k e. ap (λ (h : _). get_or h.items j 0) p.heads ∙ e; names = front_same p.same.names; eres = front_same (ap (λ (v : _). v.items) p.same.eres); scalars = λ h. subst AreScalars (sym p.same.names) h };
+    grows = record {
+      more = x ∷ [];
+      is = p.nodes;
+      ordered = λ h. subst IsOrdered (sym p.nodes) (ordered_pushed a.nodes.items x below h);
+      functions = p.same.functions;
+      calls = λ h. subst (λ k. AllCallBelow k b.nodes.items) (sym p.same.functions) (subst (AllCallBelow a.function_count) (sym p.nodes) (calls_pushed a.function_count a.nodes.items x p.calls h));
+      heads = λ j k e. ap (λ (h : _). get_or h.items j 0) p.heads ∙ e;
+      names = front_same p.same.names;
+      eres = front_same (ap (λ (v : _). v.items) p.same.eres);
+      scalars = λ h. subst AreScalars (sym p.same.names) h;
+    };
     kept = λ j h. ap (λ (h : _). get_or h.items j 0) p.heads;
     long = (let e = ap (λ (h : _). length h.items) p.heads in omega (arith, e));
   };
@@ -173,6 +194,8 @@ opened {a = a} {b = b} p = record {
     more = [];
     is = ap (λ (v : _). v.items) p.nodes ∙ sym (append-nil a.nodes.items);
     ordered = λ o. subst (λ (v : _). IsOrdered v.items) (sym p.nodes) o;
+    functions = p.same.functions;
+    calls = calls_same a b p.same.functions p.nodes;
     heads = λ i k e. ap (λ l. get_or l i 0) p.heads ∙ get_longer a.heads.items i (get_over a.heads.items i k e) ∙ e;
     names = front_same p.same.names;
     eres = front_same (ap (λ (v : _). v.items) p.same.eres);
@@ -187,6 +210,8 @@ closed {e = e} {f = f} {number = number} p unset = record {
   more = [];
   is = ap (λ (v : _). v.items) p.nodes ∙ sym (append-nil e.nodes.items);
   ordered = λ o. subst (λ (v : _). IsOrdered v.items) (sym p.nodes) o;
+  functions = p.same.functions;
+  calls = calls_same e f p.same.functions p.nodes;
   heads = λ i k h. elim (decide i number) [ inl x ↦ (let y = sym unset ∙ ap (λ j. get_or e.heads.items j 0) (sym x) ∙ h in absurd (omega (arith, y))) | inr x ↦ p.others i x ∙ h ];
   names = front_same p.same.names;
   eres = front_same (ap (λ (v : _). v.items) p.same.eres);

@@ -63,7 +63,7 @@ name_lowered {x = x} h f q =
 -- EREs
 
 pub ere_added : {a b : Builder} {number : ℕ} {text : List ℕ} → AddsEre a b number text → Extends a b
-ere_added {text = text} q = named q.nodes q.heads ([], q.names ∙ sym (append-nil _)) (text ∷ [], q.eres) (λ h. subst AreScalars (sym q.names) h)
+ere_added {text = text} q = named q.nodes q.heads ([], q.names ∙ sym (append-nil _)) (text ∷ [], q.eres) q.functions (λ h. subst AreScalars (sym q.names) h)
 
 pub ere_there : {kinds : ProgramKinds} {a b : Builder} {number : ℕ} {text : List ℕ} → AddsEre a b number text → (p : Program kinds) → Grows b p.all → ere_at p.tables number ≡ text
 ere_there {a = a} {b = b} {number = number} {text = text} q p g =

@@ -1,5 +1,6 @@
 -- The parts of a program, one after the other, are a plan.
 use Rattle.std.proofs.Common.{◌≡◌, ℕ, suc, ◌+◌, ◌<◌, List, [], ◌∷◌, ◌++◌, Some, Result, Ok, Err, slice_get, get_or, length, map, take, drop, reverse, None, refl, sym, subst, ap, ◌∙◌, arith, append-nil}
+use Rattle.std.proofs.lemmas.List.{length-map}
 use Rattle.std.specs.Global.{Vec}
 use Rattle.awk_value.specs.declared.value.Value.{Value}
 use Rattle.awk_grammar.specs.Tree.{Expr, Nil, Bare, Standard, Print, Simple, Statements, Pattern, Single, Range, Item, Begin, End, Action, PatternAction, PatternOnly, Function}
@@ -27,7 +28,7 @@ use Rattle.awk_compile.specs.declared.plan.PlannedPattern.{PlannedPattern}
 use Rattle.awk_compile.specs.declared.plan.PlannedPattern.TheVariants as pattern
 use Rattle.awk_compile.specs.declared.plan.PlannedItem.{PlannedItem}
 use Rattle.awk_compile.specs.declared.plan.PlannedItem.TheVariants as item
-use Rattle.awk_compile.specs.definitions.Nodes.{nothing, IsOrdered}
+use Rattle.awk_compile.specs.definitions.Nodes.{nothing, IsOrdered, AllCallBelow}
 use Rattle.awk_compile.specs.definitions.Plans.{Meaning, body_run, print_run, value_run, tables_of, DoesIn, IsPlanOf, IsPattern, IsRule, IsItem, AreItems, IsFunction, AreFunctions}
 use Rattle.awk_compile.specs.support.Builds.{AreScalars, Grows, Pushes, Extends, Program, Evaluate, EvaluateAll, Execute, ExecuteAll, leave_by, place_in, Builds, Stands}
 use Rattle.awk_compile.specs.support.Holding.{Holds, EndsStand, AddsEnds, AddsPlace, AddsPattern, AddsItem, AddsItems, AddsBody, AddsFunctions}
@@ -335,13 +336,15 @@ done items b functions made parameters k m h = record {
       }) (let stays : Extends b b = same in stays.grows) n vs s i;
 }
 
-pub planned : {items : List Item} {a b c d : Builder} {ends : Ends} {functions : Vec PlannedFunction} {made : Vec PlannedItem} → a.nodes.items ≡ [] → a.names ≡ [] → AddsEnds (kinds_of items) a b ends → AddsFunctions (kinds_of items) b c functions.items (definitions_of items)
+pub planned : {items : List Item} {a b c d : Builder} {ends : Ends} {functions : Vec PlannedFunction} {made : Vec PlannedItem} → a.nodes.items ≡ [] → a.names ≡ [] → a.function_count ≡ length (kinds_of items).functions → AddsEnds (kinds_of items) a b ends → AddsFunctions (kinds_of items) b c functions.items (definitions_of items)
     → AddsItems (kinds_of items) c d made.items items → IsPlanOf items (record { nodes = d.nodes; heads = d.heads; names = d.names; eres = d.eres; functions = functions; items = made })
-planned {items = items} {d = d} {functions = functions} {made = made} no_nodes no_names first second third =
+planned {items = items} {d = d} {functions = functions} {made = made} no_nodes no_names count first second third =
     let g = grows first.grows (grows second.grows third.grows) in
+    let many : d.function_count ≡ length functions.items = g.functions ∙ count ∙ length-map (definitions_of items) signature_by ∙ sym (as_many (Holds (kinds_of items) _) functions.items (definitions_of items) second.are) in
     let scalars : AreScalars d.names = g.scalars (subst AreScalars (sym no_names) (record { each = λ i x e. cc; distinct = λ i j x e k. cc })) in
     record {
       ordered = g.ordered (subst IsOrdered (sym no_nodes) (λ at node e. cc));
+      calls = subst (λ k. AllCallBelow k d.nodes.items) many (g.calls (subst (AllCallBelow _) (sym no_nodes) (λ at node e. cc)));
       distinct = scalars.distinct;
       scalars = scalars;
       functions = functions_also (λ parameters k m h. done items d functions made parameters k m (holds_later third.grows h)) functions.items (definitions_of items) second.are;

@@ -91,7 +91,7 @@ module _ {kinds : ProgramKinds} {parameters : List FormalParameter} where
       (λ y g m vs s i. evaluated q y g m vs s i (λ w. place_in y m exits.next vs) (λ w t k. dropped_at o y (grows q.extends.grows g) m w vs t))
       (λ functions at vs s. simple_then functions (leave_by exits at vs) s (Expression x) ∙ expression_then functions (leave_by exits at vs) s x)
 
-  pub next_built : {a b c : Builder} {exits : Exits} {i j : ℕ} → Pushes a b (n.Stop halt.Next) i → Pushes b c (n.Effect e.Spend i) j → Builds kinds parameters a c j (Execute (Simple Next) exits)
+  pub next_built : {a b c : Builder} {exits : Exits} {i j : ℕ} → Pushes a b n.Next i → Pushes b c (n.Effect e.Spend i) j → Builds kinds parameters a c j (Execute (Simple Next) exits)
   next_built {exits = exits} p r =
       let o = placed p tt in
       stepped (simply Next exits) (λ functions at vs. lift (Err halt.Next)) o.extends r o.below
@@ -110,14 +110,14 @@ module _ {kinds : ProgramKinds} {parameters : List FormalParameter} where
       (λ y g m vs s i. refl)
       (λ functions at vs s. simple_then functions (leave_by exits at vs) s Continue ∙ continue_then functions (leave_by exits at vs) s)
 
-  pub exit_built : {a b c : Builder} {exits : Exits} {i j : ℕ} → Pushes a b (n.Stop halt.Exit) i → Pushes b c (n.Effect e.Spend i) j → Builds kinds parameters a c j (Execute (Simple (Exit NoExpr)) exits)
+  pub exit_built : {a b c : Builder} {exits : Exits} {i j : ℕ} → Pushes a b n.Exit i → Pushes b c (n.Effect e.Spend i) j → Builds kinds parameters a c j (Execute (Simple (Exit NoExpr)) exits)
   exit_built {exits = exits} p r =
       let o = placed p tt in
       stepped (simply (Exit NoExpr) exits) (λ functions at vs. lift (Err halt.Exit)) o.extends r o.below
       (λ y g m vs s i. at_once (o.is y g m) vs s)
       (λ functions at vs s. simple_then functions (leave_by exits at vs) s (Exit NoExpr) ∙ exit_then functions (leave_by exits at vs) s)
 
-  pub exit_with_built : {a b c d f : Builder} {x : Expr} {exits : Exits} {i j k l : ℕ} → Pushes a b (n.Stop halt.Exit) k → Pushes b c (n.Effect e.SetStatus k) l → Builds kinds parameters c d i (Evaluate x l) → Pushes d f (n.Effect e.Spend i) j
+  pub exit_with_built : {a b c d f : Builder} {x : Expr} {exits : Exits} {i j k l : ℕ} → Pushes a b n.Exit k → Pushes b c (n.Effect e.SetStatus k) l → Builds kinds parameters c d i (Evaluate x l) → Pushes d f (n.Effect e.Spend i) j
       → Builds kinds parameters a f j (Execute (Simple (Exit (AnExpr x))) exits)
   exit_with_built {x = x} {exits = exits} {k = k} stop set q r =
       let o = placed stop tt in

@@ -165,7 +165,7 @@ scalars_with names x is all = by (has_name names x) refl
 
 pub finds_global : {kinds : ProgramKinds} {parameters : List FormalParameter} {a b : Builder} {slot : ℕ} {x : List ℕ} → AddsName a b slot x → place_of (parameter_names parameters) x ≡ None → IsScalar x → FindsVariable kinds parameters a b (variable.Global slot) x
 finds_global {a = a} {b = b} {slot = slot} {x = x} adds outside is = record {
-  extends = named adds.nodes adds.heads adds.numbers.grows ([], ap (λ (v : _). v.items) adds.eres ∙ sym (append-nil a.eres.items)) (λ h. subst AreScalars (sym adds.names) (scalars_with a.names x is h));
+  extends = named adds.nodes adds.heads adds.numbers.grows ([], ap (λ (v : _). v.items) adds.eres ∙ sym (append-nil a.eres.items)) adds.functions (λ h. subst AreScalars (sym adds.names) (scalars_with a.names x is h));
   is = is_global x b outside slot adds.numbers.stands;
 }
 

@@ -1,6 +1,7 @@
 // What is built of a program: nodes, and the places of loops' bodies; and the names and EREs that nodes tell by numbers.
 
 ghost use Rattle.std.specs.Prelude.{◌≡◌, ◌<◌, length, IfOk};
+ghost use Rattle.awk_compile.specs.definitions.Nodes.{CallsBelow};
 ghost use Rattle.awk_compile.specs.support.Builds.{Pushes, Opens, Closes, AddsName, AddsEre};
 
 use crate::names::ScalarNames;
@@ -19,6 +20,8 @@ pub struct Builder {
     pub names: ScalarNames,
     /// The texts of the program's EREs.
     pub eres: Vec<Bytes>,
+    /// How many functions the program has.
+    pub function_count: u32,
 }
 
 /// Where a statement goes on.
@@ -37,12 +40,13 @@ pub(crate) fn next_number(length: usize) -> Result<u32, AllocError>
 }
 
 impl Builder {
-    /// Puts a node behind the others, and gives its place.
+    /// Puts a node behind the others, and gives its place. What it calls is a function that is there.
     ///
     /// # Errors
     ///
     /// Where memory is refused, or 2^32 nodes are there.
     pub fn push(&mut self, node: Node) -> Result<u32, AllocError>
+        requires { CallsBelow self.old.function_count node }
         ensures { IfOk result (λ place. Pushes self.old self.new node place) }
     {
         let place = next_number(self.nodes.len())?;

@@ -105,6 +105,9 @@ impl Builder {
         let Some(number) = scope.kinds.function(function.as_slice()) else {
             return Err(AllocError);
         };
+        if self.function_count <= number {
+            return Err(AllocError);
+        }
         let Some(parameters) = scope.kinds.parameters(number) else {
             return Err(AllocError);
         };

@@ -2,7 +2,6 @@
 
 use awk_grammar::tree::{BinaryOperator, PrintForm, Redirection, UnaryOperator};
 use awk_lex::token::{AssignmentOperator, BuiltIn, IncrementOperator, Operator};
-use awk_semantics::Halt;
 use awk_storage::{Array, Place, Variable};
 use awk_value::Value;
 
@@ -96,6 +95,9 @@ pub enum Node {
     /// Takes the keys that are left, and their count, off the stack.
     LeaveWalk(u32),
     Return,
-    Stop(Halt),
+    /// Ends as `next` does.
+    Next,
+    /// Ends as `exit` does.
+    Exit,
     End,
 }

@@ -224,12 +224,14 @@ pub fn lower_program(alloc: Global, items: &[Item], kinds: &Kinds) -> Result<Pla
     requires { kinds.now ≡ kinds_of (items_of items.now) }
     ensures { IfOk result (IsPlanOf (items_of items.now)) }
 {
+    let function_count = next_number(kinds.function_count())?;
     let mut builder = Builder {
         alloc,
         nodes: Vec::new(alloc),
         heads: Vec::new(alloc),
         names: ScalarNames::new(alloc),
         eres: Vec::new(alloc),
+        function_count,
     };
     let ends = builder.push_ends()?;
     let functions = builder.lower_functions(kinds, items, ends)?;

@@ -13,7 +13,6 @@ use crate::builder::{Builder, Exits, next_number};
 use crate::node::{EffectNode, Node, ValueNode};
 use crate::scope::Scope;
 use awk_grammar::tree::{Expr, Output, PrintForm, PrintList, SimpleStatement};
-use awk_semantics::Halt;
 use awk_value::{Bytes, Value};
 use std::alloc::AllocError;
 
@@ -103,7 +102,7 @@ impl Builder {
         requires { ExitsStand exits self.old }
         ensures { IfOk result (λ place. Builds scope.now self.old self.new place (Execute (Simple (Exit (optional_expr_of e.now))) exits)) }
     {
-        let stop = self.push(Node::Stop(Halt::Exit))?;
+        let stop = self.push(Node::Exit)?;
         match e {
             None => self.step(stop),
             Some(e) => {
@@ -158,7 +157,7 @@ impl Builder {
             }
             SimpleStatement::Delete(name, list) => self.lower_delete(scope, name, list, exits),
             SimpleStatement::Next => {
-                let stop = self.push(Node::Stop(Halt::Next))?;
+                let stop = self.push(Node::Next)?;
                 self.step(stop)
             }
             SimpleStatement::Break => self.step(exits.breaks),

@@ -8,3 +8,4 @@ pub mod KeysTaken
 pub mod Arguments
 pub mod CallBegins
 pub mod Computing
+pub mod SoundPlans

@@ -1,7 +1,7 @@
 -- The moves.
 use Rattle.std.specs.Prelude.{◌==◌}
 use Rattle.std.proofs.lemmas.Bool.{eqb-true}
-use Rattle.std.proofs.Common.{◌≡◌, ◌≢◌, ℕ, zero, suc, ◌-◌, ◌<◌, ◌≤◌, Bool, true, false, List, [], ◌∷◌, ◌++◌, length, drop, reverse, slice_get, Option, Some, None, Result, Ok, Err, OnOk, refl, sym, ap, ◌∙◌, subst, arith, get_or, inl, pos}
+use Rattle.std.proofs.Common.{◌≡◌, ◌≢◌, ℕ, zero, suc, ◌-◌, ◌≤◌, Bool, true, false, List, [], ◌∷◌, ◌++◌, length, drop, slice_get, Some, None, Result, Ok, Err, refl, sym, ap, ◌∙◌, subst, arith, get_or, inl, pos}
 use Rattle.awk_value.specs.declared.value.Value.{Value}
 use Rattle.awk_value.specs.declared.value.Value.TheVariants as value
 use Rattle.awk_value.specs.Values.{truth_of}
@@ -11,11 +11,11 @@ use Rattle.awk_kinds.specs.Kinds.{Definition}
 use Rattle.awk_semantics.specs.declared.halt.Halt.{Halt}
 use Rattle.awk_semantics.specs.declared.halt.Halt.TheVariants as halt
 use Rattle.awk_semantics.specs.declared.fault.Fault.TheVariants.{OutOfMemory}
-use Rattle.awk_semantics.specs.State.{State, Run, ◌>>=◌, lift, ret}
+use Rattle.awk_semantics.specs.State.{Run, ◌>>=◌, lift, ret}
 use Rattle.awk_semantics.specs.Results.{Yields}
 use Rattle.awk_semantics.specs.Semantics.{Functions, choose}
 use Rattle.awk_semantics.specs.Calls.{functions_within}
-use Rattle.awk_semantics.specs.Primitives.{spend, leave}
+use Rattle.awk_semantics.specs.Primitives.{leave}
 use Rattle.awk_storage.specs.declared.position.Array.{Array}
 use Rattle.awk_storage.specs.declared.position.Variable.{Variable}
 use Rattle.awk_storage.specs.Positions.{put_variable}
@@ -25,7 +25,7 @@ use Rattle.awk_compile.specs.declared.node.Node.TheVariants as n
 use Rattle.awk_compile.specs.declared.node.ValueNode.{ValueNode}
 use Rattle.awk_compile.specs.declared.node.EffectNode.{EffectNode}
 use Rattle.awk_compile.specs.declared.plan.Plan.{Plan}
-use Rattle.awk_compile.specs.Nodes.{Tables, Cont, nothing, first, second, value_of, popped, effect_of, dropped, walk_values, keys_left, next_key_by, level, cont_at, AreBelow}
+use Rattle.awk_compile.specs.Nodes.{Tables, Cont, first, second, value_of, popped, effect_of, dropped, walk_values, keys_left, next_key_by}
 use Rattle.awk_compile.proofs.Listed.{node_at, no_node_at}
 use Rattle.awk_runtime.specs.declared.runtime.Runtime.{Runtime}
 use Rattle.awk_runtime.specs.Simulation.{IsReady, SimulatesLogged, Simulates, Changes, Spends}
@@ -35,10 +35,10 @@ use Rattle.awk_evaluator.specs.declared.machine.Machine.{Machine}
 use Rattle.awk_evaluator.specs.declared.machine.Move.{Move}
 use Rattle.awk_evaluator.specs.declared.machine.Move.TheVariants as move
 use Rattle.awk_evaluator.specs.Operands.{OperandsView}
-use Rattle.awk_evaluator.specs.Rest.{IsSound, PlanStands, tables_in, Entry, Bound, Bounds, Start, AtPlace, AtNode, IsBefore, cont, turn, begun, resume, Rest}
-use Rattle.awk_evaluator.specs.Moves.{seen_of, stack_of, IsIdle, RestOf, Leads, Ends, Onward, Upward, Backward, MovesBy, Moves, Evaluates, Computes, Performs, GivesBackBy, GivesBack, Executes}
+use Rattle.awk_evaluator.specs.Rest.{IsSound, tables_in, Entry, Bound, Start, AtPlace, AtNode, cont, turn, begun, resume, Rest}
+use Rattle.awk_evaluator.specs.Moves.{seen_of, stack_of, IsIdle, Leads, Ends, MovesBy, Moves, Evaluates, Computes, Performs, GivesBackBy, GivesBack, Executes}
 use Rattle.awk_evaluator.specs.Walks.{PutsKeys, TakesKey}
-use Rattle.awk_evaluator.proofs.Resting.{same_simulates, then_rest, ends_rest, same_rest, return_rest, return_stuck, over_rest, whole, turn_rest, turn_stuck}
+use Rattle.awk_evaluator.proofs.Resting.{then_rest, ends_rest, same_rest, return_rest, return_stuck, over_rest, whole, turn_rest, turn_stuck}
 
 -- memory may be refused behind what went well
 memory_logged : {A : Type 0} {old new : Runtime} {before after : WorldState} {a : A} {run : Run A} → SimulatesLogged old before new after (Ok a) run → SimulatesLogged old before new after (Err (halt.Fault OutOfMemory)) run
@@ -342,13 +342,24 @@ module _ {is_logged : Type 0} {plan : Plan} where
 
   -- ends
 
-  pub stopped_by : {h : Halt} {m : Machine} {k : WorldState} → Yields {A = Value} (Err h) (Err h) → Moves is_logged plan (AtNode (n.Stop h)) m k (Err h) m k
-  stopped_by {h = h} {m = m} {k = k} e = record {
+  stops : {m : Machine} {k : WorldState} (h : Halt) (node : Node) → ((tables : Tables) (ds : List Definition) (b : Bound) (vs : List Value) → begun tables ds plan (AtNode node) b vs ≡ lift (Err h)) → Yields {A = Value} (Err h) (Err h) → Moves is_logged plan (AtNode node) m k (Err h) m k
+  stops {m = m} {k = k} h node is e = record {
     moves = record {
       idle = tt;
-      ends = λ tables ds stands. record { does = λ b bs p q. ends_simulates (λ w. resume (tables_in m.runtime.names tables) ds plan bs (stack_of m) w) (lift_simulates (Err h) m.runtime k e) };
+      ends = λ tables ds stands. record {
+        does = λ b bs p q.
+            let t = tables_in m.runtime.names tables in
+            let later : Value → Run Value = λ w. resume t ds plan bs (stack_of m) w in
+            subst (λ (run : Run Value). Simulates is_logged m.runtime k m.runtime k (Err h) (run >>= later)) (sym (is t ds b m.operands.values)) (ends_simulates later (lift_simulates (Err h) m.runtime k e));
+      };
     };
   }
+
+  pub next_stops : {m : Machine} {k : WorldState} → Moves is_logged plan (AtNode n.Next) m k (Err halt.Next) m k
+  next_stops = stops halt.Next n.Next (λ tables ds b vs. refl) refl
+
+  pub exit_stops : {m : Machine} {k : WorldState} → Moves is_logged plan (AtNode n.Exit) m k (Err halt.Exit) m k
+  exit_stops = stops halt.Exit n.Exit (λ tables ds b vs. refl) refl
 
   pub returns_value : {m m1 m' : Machine} {k : WorldState} {w : Value} {r : Result Move Halt} → w ≡ first m.operands.values → m1.operands ≡ record m.operands { values = drop 1 m.operands.values } → m1.calls ≡ m.calls → m1.runtime ≡ m.runtime → GivesBack w m1 r m' → Moves is_logged plan (AtNode n.Return) m k r m' k
   returns_value {m = m} {m1 = m1} top operands calls same g = gives_back (ap (λ es. seen_of m1.operands es) calls ∙ ap (λ (o : OperandsView). seen_of o m.calls) operands) calls same (λ tables ds b. ap (λ v. ret v) (sym top)) g

@@ -7,6 +7,7 @@ pub mod control;
 mod effects;
 pub mod entry;
 mod evaluate;
+mod laws;
 mod machine;
 pub mod operands;
 mod steps;
@@ -15,4 +16,5 @@ mod text_values;
 mod values;
 mod walks;
 
+pub use laws::law_of_plans;
 pub use machine::{Machine, Move};

@@ -4,7 +4,8 @@ ghost use Rattle.std.specs.Prelude.{◌≡◌, ◌<◌, Some, slice_get, get_or,
 ghost use Rattle.std.specs.Option.{option_map};
 ghost use Rattle.awk_runtime.specs.Simulation.{IsReady};
 ghost use Rattle.awk_compile.specs.declared.node.Node.TheVariants.{Value as ValueAt};
-ghost use Rattle.awk_evaluator.specs.Rest.{IsSound, FitsIn, AtPlace, AtNode};
+ghost use Rattle.awk_compile.specs.Nodes.{CallsBelow};
+ghost use Rattle.awk_evaluator.specs.Rest.{IsSound, AtPlace, AtNode};
 ghost use Rattle.awk_evaluator.specs.Moves.{Moves, GivesBack};
 
 use crate::machine::{Machine, Move};
@@ -101,7 +102,8 @@ impl Machine {
                 let value = self.operands.pop();
                 self.give_back(value)
             }
-            Node::Stop(reason) => Err(*reason),
+            Node::Next => Err(Halt::Next),
+            Node::Exit => Err(Halt::Exit),
             Node::End => self.give_back(Value::Nothing),
         }
     }
@@ -116,7 +118,7 @@ impl Machine {
         next: u32,
     ) -> Result<Move, Halt>
         requires sound { IsSound plan.now }
-        requires fits { FitsIn (length plan.now.functions.items) (ValueAt node.now next) }
+        requires calls { CallsBelow (length plan.now.functions.items) (ValueAt node.now next) }
         requires ready { IsReady W.is_logged (W.state world.old) self.old.runtime.streams }
         ensures ready { IsReady W.is_logged (W.state world.new) self.new.runtime.streams }
         ensures moves { Moves W.is_logged plan.now (AtNode (ValueAt node.now next)) self.old (W.state world.old) result self.new (W.state world.new) }

@@ -220,7 +220,7 @@ module _ (items : List Item) (plan : Plan) (limit : ℕ) (for : AreFor (tables_o
   unfolding selects_at
   every_same n k s = given_same true (λ x. choose x (action_at (place_in items plan limit) k) (ret tt)) s
 
-  rule_same : (n : ℕ) (p : PlannedPattern) (k : ℕ) (x : Item) (s : State) → IsRule (DoesIn items plan) p k x → IsOutside items limit s → try_item_at (place_in items plan limit) n (item.Rule p k) s ≡ try_item (functions_of items limit) n x s
+  rule_same : (n : ℕ) (p : PlannedPattern) (k : ℕ) (x : Item) (s : State) → IsRule (DoesIn items plan) x p k → IsOutside items limit s → try_item_at (place_in items plan limit) n (item.Rule p k) s ≡ try_item (functions_of items limit) n x s
   unfolding try_item_at try_item
   rule_same n pattern.Every k (Action block) s h o = every_same n k s ∙ action_same block h o
   rule_same n (pattern.Single j) k (Action block) s h o = absurd h

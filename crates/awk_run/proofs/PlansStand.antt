@@ -16,7 +16,7 @@ use Rattle.awk_compile.specs.declared.plan.Plan.{Plan}
 use Rattle.awk_compile.specs.definitions.Nodes.{cont_at, function_at}
 use Rattle.awk_compile.specs.definitions.Plans.{Meaning, IsFunction, AreFunctions, tables_of, DoesIn, IsPlanOf}
 use Rattle.awk_compile.proofs.Calling.{found, called}
-use Rattle.awk_evaluator.specs.Rest.{StandsFor, PlanStands, IsSound}
+use Rattle.awk_evaluator.specs.Rest.{StandsFor, PlanStands}
 use Rattle.awk_runtime.specs.support.Naming.{Naming}
 use Rattle.awk_run.specs.support.Planned.{IsPlanFor}
 

@@ -1,8 +1,9 @@
-// Reads, writes and flushes of the system, begun again where a signal interrupts them, and what their errors are to a world.
+// Calls of the system, begun again where a signal interrupts them, and what their errors are to a world.
 
-ghost use Rattle.std.specs.Prelude.{◌≡◌, ◌≤◌, ◌↔◌, IfOk, length};
+ghost use Rattle.std.specs.Prelude.{◌≡◌, ◌≤◌, ◌↔◌, IfOk, MatchResult, length};
 ghost use Rattle.std.specs.IoError.{error_kind};
 ghost use Rattle.std.specs.Io.KnownBytes.{Keeps, ReadConsumes, WriteAppends};
+ghost use Rattle.std.specs.Str.{IsUtf8};
 
 use awk_world::WorldFault;
 use std::io::{self, ErrorKind, Read, Write};
@@ -15,6 +16,14 @@ pub fn fault_of(error: io::Error) -> WorldFault
         ErrorKind::OutOfMemory => WorldFault::Memory,
         _ => WorldFault::Failed,
     }
+}
+
+/// A name or a command as a text. `Failed`: it is not UTF-8.
+pub fn text_of(bytes: &[u8]) -> Result<&str, WorldFault>
+    ensures { MatchResult result (λ text. (text.now ≡ bytes.now) × IsUtf8 bytes.now)
+        (λ fault. (fault ≡ WorldFault.Failed) × ¬ (IsUtf8 bytes.now)) }
+{
+    std::str::from_utf8(bytes).map_err(|_| WorldFault::Failed)
 }
 
 /// One read, begun again where a signal interrupts it.

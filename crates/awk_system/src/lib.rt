@@ -2,6 +2,8 @@
 #![tactic(auto)]
 
 mod calls;
+mod commands;
+mod opened;
 mod system_world;
 
 pub use system_world::SysWorld;

@@ -1,19 +1,24 @@
 // The system as the outside of a run.
-ghost use Rattle.std.specs.Prelude.{◌≡◌, ◌≤◌, ◌⊎◌, ℕ, Ok, Err, [], None, Some, IfOk, OnErr};
-ghost use Rattle.std.specs.Prelude.{IsTrue, false, is_some, length, nat_lt, pos, if◌then◌else◌};
+ghost use Rattle.std.specs.Prelude.{◌≡◌, ◌≢◌, ◌≤◌, ◌⊎◌, ℕ, Ok, Err, [], None, Some, IfOk, OnErr};
+ghost use Rattle.std.specs.Prelude.{IsTrue, IsSome, true, false, is_some, length, nat_lt, pos, if◌then◌else◌};
+ghost use Rattle.std.specs.Str.{IsUtf8};
 ghost use Rattle.std.specs.Ordering.{nat_cmp};
 ghost use Rattle.std.specs.BTreeMap.{get};
 ghost use Rattle.std.specs.Io.KnownBytes.{Keeps, ReadConsumes, WriteAppends};
 ghost use Rattle.awk_world.specs.WorldState.{IsFresh, Opens, Closes, SameOpen};
-ghost use Rattle.awk_system.specs.definitions.Opened.{is_open_in};
+ghost use Rattle.awk_system.specs.definitions.Opened.{is_open_in, is_command, is_command_at};
+ghost use Rattle.awk_system.specs.definitions.Commands.{IsCommandNumber};
 ghost use Rattle.awk_system.specs.support.StandardOutputs.{standard_outputs_open};
 
-use crate::calls::{fault_of, flush_of, read_from, write_to};
+use crate::calls::{fault_of, flush_of, text_of, write_to};
+use crate::commands::{start, wait_for};
+use crate::opened::Opened;
 use awk_world::{InputKind, Mode, OUTPUT_BUFFER_SIZE, OutputKind, World, WorldFault};
 use std::alloc::Global;
 use std::collections::BTreeMap;
 use std::fs::{File, Files, OpenOptions};
 use std::io::{IsTerminal, Read, Write};
+use std::process::{Processes, Stdio};
 
 const STANDARD_OUTPUT: u64 = 0;
 
@@ -22,54 +27,53 @@ const STANDARD_ERROR: u64 = 1;
 /// The number that the first opening is granted.
 const FIRST_OPENED: u64 = 2;
 
-/// The number that a shell answers for a command that can't be started.
+/// The number of a command that can't be started.
 const NOT_STARTED: i128 = 127;
 
 /// The name of a file that is standard input.
-const STANDARD_INPUT_NAME: &[u8] = b"/dev/stdin";
+const STANDARD_INPUT_NAME: &str = "/dev/stdin";
 
-/// What stands open under a number.
-#[derive(Drop)]
-pub enum Opened {
-    StandardInput,
-    Input(File),
-    Output(File),
-}
-
-/// The system as the outside of a run: standard input and files can be opened, and no command is
-/// started. Each call is one of the system's, begun again where a signal interrupts it: nothing is
-/// held back here, and nothing read ahead. Where standard output is a terminal, the world asks that
-/// what is printed be written at once. It is not logged.
+/// The system as the outside of a run: its standard streams, its files, and its commands, which
+/// `sh -c` runs (POSIX awk, Input/Output and General Functions). Each call is one of the system's,
+/// begun again where a signal interrupts it: nothing is held back here, and nothing read ahead. Where
+/// standard output is a terminal, the world asks that what is printed be written at once. It is not
+/// logged.
+///
+/// A name or a command to be opened is refused (`Failed`) where it is not UTF-8 or holds a NUL, and
+/// where the system refuses it. A command has the standard streams of this process, but for the one
+/// that a pipe takes the place of. A closing closes the pipe, waits for the command's end and answers
+/// its exit status from 0 to 255, or 256 where it ended without one, as by a signal; the closing of a
+/// file answers 0. A run answers in the same way, and 127 where its command can't be started.
 #[derive(Drop)]
 pub struct SysWorld<
-    R: Files<File = File> + Drop,
+    R: Files<File = File> + Processes + Drop,
     I: Read + Drop,
     O: Write + Drop,
     E: Write + Drop,
 > {
     alloc: Global,
-    files: R,
+    runtime: R,
     stdin: I,
     stdout: O,
     stderr: E,
     /// Whether standard output is a terminal.
     is_terminal: bool,
-    opened: BTreeMap<u64, Opened>,
+    opened: BTreeMap<u64, Opened<R::Started>>,
     /// The number of the next opening: above those of all that was opened.
     next: u64,
     ghost named: { 2 ≤ next },
     ghost unused: { (id : ℕ) → next ≤ id → is_some (get nat_cmp opened id) ≡ false },
 }
 
-impl<R: Files<File = File> + Drop, I: Read + Drop, O: Write + Drop, E: Write + Drop> SysWorld<
-    R,
-    I,
-    O,
-    E,
-> {
+impl<
+    R: Files<File = File> + Processes + Drop,
+    I: Read + Drop,
+    O: Write + Drop,
+    E: Write + Drop,
+> SysWorld<R, I, O, E> {
     /// The system as it stands before a run: of its streams the two standard outputs are open.
     /// Takes no memory.
-    pub fn new(alloc: Global, files: R, stdin: I, stdout: O, stderr: E) -> Self
+    pub fn new(alloc: Global, runtime: R, stdin: I, stdout: O, stderr: E) -> Self
     where
         O: IsTerminal,
         ensures open { (id : ℕ) → is_open_in result.opened id ≡ nat_lt id 2 }
@@ -79,7 +83,7 @@ impl<R: Files<File = File> + Drop, I: Read + Drop, O: Write + Drop, E: Write + D
     {
         SysWorld {
             alloc,
-            files,
+            runtime,
             stdin,
             is_terminal: stdout.is_terminal(),
             stdout,
@@ -90,7 +94,7 @@ impl<R: Files<File = File> + Drop, I: Read + Drop, O: Write + Drop, E: Write + D
     }
 
     /// Keeps what was opened, and answers its number. `Failed`: no number is left.
-    fn keep(&mut self, opened: Opened) -> Result<u64, WorldFault>
+    fn keep(&mut self, opened: Opened<R::Started>) -> Result<u64, WorldFault>
         ensures fresh { IfOk result (IsFresh (⟦<SysWorld<R, I, O, E> as World>⟧.state self.old)) }
         ensures opens { IfOk result
             (Opens (⟦<SysWorld<R, I, O, E> as World>⟧.state self.old) (⟦<SysWorld<R, I, O, E> as World>⟧.state self.new)) }
@@ -108,15 +112,66 @@ impl<R: Files<File = File> + Drop, I: Read + Drop, O: Write + Drop, E: Write + D
         Ok(id)
     }
 
+    /// Puts what was opened in the place that was kept for it.
+    fn settle(&mut self, id: u64, opened: Opened<R::Started>)
+        requires { IsSome (get nat_cmp self.old.opened id) }
+        ensures kept { get nat_cmp self.new.opened id ≡ Some opened }
+        ensures open { SameOpen (⟦<SysWorld<R, I, O, E> as World>⟧.state self.old)
+            (⟦<SysWorld<R, I, O, E> as World>⟧.state self.new) }
+    {
+        if let Some(place) = self.opened.get_mut(&id) {
+            *place = opened;
+        }
+    }
+
+    /// Opens a command. Its number is kept before it is started, so that no command runs for which
+    /// there is no memory.
+    fn open_command(
+        &mut self,
+        command: &[u8],
+        stdin: Stdio,
+        stdout: Stdio,
+    ) -> Result<u64, WorldFault>
+        ensures fresh { IfOk result (IsFresh (⟦<SysWorld<R, I, O, E> as World>⟧.state self.old)) }
+        ensures opens { IfOk result
+            (Opens (⟦<SysWorld<R, I, O, E> as World>⟧.state self.old) (⟦<SysWorld<R, I, O, E> as World>⟧.state self.new)) }
+        ensures err { OnErr result
+            (SameOpen (⟦<SysWorld<R, I, O, E> as World>⟧.state self.old) (⟦<SysWorld<R, I, O, E> as World>⟧.state self.new)) }
+        ensures command { IfOk result (λ id. is_command_at id self.new.opened ≡ true) }
+        ensures no_text { ¬ (IsUtf8 command.now) → result ≡ Err WorldFault.Failed }
+    {
+        let command = text_of(command)?;
+        let id = self.keep(Opened::Unstarted)?;
+        match start(&self.runtime, self.alloc, command, stdin, stdout) {
+            Ok(child) => {
+                self.settle(id, Opened::Command(child));
+                Ok(id)
+            }
+            Err(fault) => {
+                let _ = self.opened.remove(&id);
+                Err(fault)
+            }
+        }
+    }
+
     /// Opens a file to be read.
-    fn open_reader(&self, name: &[u8]) -> Result<File, WorldFault> {
-        let path = std::str::from_utf8(name).map_err(|_| WorldFault::Failed)?;
-        File::open(&self.files, path).map_err(fault_of)
+    fn open_reader(&self, name: &[u8]) -> Result<Opened<R::Started>, WorldFault>
+        ensures file { IfOk result (λ opened. is_command opened ≡ false) }
+        ensures no_text { ¬ (IsUtf8 name.now) → result ≡ Err WorldFault.Failed }
+    {
+        let path = text_of(name)?;
+        if path == STANDARD_INPUT_NAME {
+            return Ok(Opened::StandardInput);
+        }
+        let file = File::open(&self.runtime, path).map_err(fault_of)?;
+        Ok(Opened::Input(file))
     }
 
     /// Opens a file to be written.
-    fn open_writer(&self, name: &[u8], mode: Mode) -> Result<File, WorldFault> {
-        let path = std::str::from_utf8(name).map_err(|_| WorldFault::Failed)?;
+    fn open_writer(&self, name: &[u8], mode: Mode) -> Result<File, WorldFault>
+        ensures { ¬ (IsUtf8 name.now) → result ≡ Err WorldFault.Failed }
+    {
+        let path = text_of(name)?;
         let mut options = OpenOptions::new();
         match mode {
             Mode::Truncate => options.write(true).truncate(true),
@@ -124,13 +179,17 @@ impl<R: Files<File = File> + Drop, I: Read + Drop, O: Write + Drop, E: Write + D
         };
         options
             .create(true)
-            .open(&self.files, path)
+            .open(&self.runtime, path)
             .map_err(fault_of)
     }
 }
 
-impl<R: Files<File = File> + Drop, I: Read + Drop, O: Write + Drop, E: Write + Drop> World
-    for SysWorld<R, I, O, E> {
+impl<
+    R: Files<File = File> + Processes + Drop,
+    I: Read + Drop,
+    O: Write + Drop,
+    E: Write + Drop,
+> World for SysWorld<R, I, O, E> {
     ghost is_logged = { ⊥ };
 
     ghost state = { λ world. record { is_open = is_open_in world.opened; log = []; first_failure = None } };
@@ -145,15 +204,17 @@ impl<R: Files<File = File> + Drop, I: Read + Drop, O: Write + Drop, E: Write + D
             (SameOpen (⟦<SysWorld<R, I, O, E> as World>⟧.state self.old) (⟦<SysWorld<R, I, O, E> as World>⟧.state self.new)) }
         ensures standard { kind ≡ InputKind.Standard →
             IfOk result (λ id. get nat_cmp self.new.opened id ≡ Some Opened.StandardInput) }
+        ensures file { kind ≡ InputKind.File → IfOk result (λ id. is_command_at id self.new.opened ≡ false) }
+        ensures command { kind ≡ InputKind.Command → IfOk result (λ id. is_command_at id self.new.opened ≡ true) }
+        ensures no_text { kind ≢ InputKind.Standard → ¬ (IsUtf8 name.now) → result ≡ Err WorldFault.Failed }
     {
         match kind {
             InputKind::Standard => self.keep(Opened::StandardInput),
-            InputKind::File if name == STANDARD_INPUT_NAME => self.keep(Opened::StandardInput),
             InputKind::File => {
-                let file = self.open_reader(name)?;
-                self.keep(Opened::Input(file))
+                let opened = self.open_reader(name)?;
+                self.keep(opened)
             }
-            InputKind::Command => Err(WorldFault::Failed),
+            InputKind::Command => self.open_command(name, Stdio::inherit(), Stdio::piped()),
         }
     }
 
@@ -164,28 +225,28 @@ impl<R: Files<File = File> + Drop, I: Read + Drop, O: Write + Drop, E: Write + D
         ensures standard { get nat_cmp self.old.opened id ≡ Some Opened.StandardInput →
             ReadConsumes (I.remaining self.old.stdin) (I.remaining self.new.stdin) result into.new }
     {
-        match self.opened.get(&id) {
-            Some(Opened::StandardInput) => read_from(&mut self.stdin, into),
-            Some(Opened::Input(file)) => {
-                let mut file: &File = file;
-                read_from(&mut file, into)
-            }
-            Some(Opened::Output(_)) | None => Err(WorldFault::Failed),
+        match self.opened.get_mut(&id) {
+            Some(opened) => opened.read(&mut self.stdin, into),
+            None => Err(WorldFault::Failed),
         }
     }
 
-    fn open_output(
-        &mut self,
-        kind: OutputKind,
-        name: &[u8],
-        mode: Mode,
-    ) -> Result<u64, WorldFault> {
+    fn open_output(&mut self, kind: OutputKind, name: &[u8], mode: Mode) -> Result<u64, WorldFault>
+        ensures fresh { IfOk result (IsFresh (⟦<SysWorld<R, I, O, E> as World>⟧.state self.old)) }
+        ensures opens { IfOk result
+            (Opens (⟦<SysWorld<R, I, O, E> as World>⟧.state self.old) (⟦<SysWorld<R, I, O, E> as World>⟧.state self.new)) }
+        ensures err { OnErr result
+            (SameOpen (⟦<SysWorld<R, I, O, E> as World>⟧.state self.old) (⟦<SysWorld<R, I, O, E> as World>⟧.state self.new)) }
+        ensures file { kind ≡ OutputKind.File → IfOk result (λ id. is_command_at id self.new.opened ≡ false) }
+        ensures command { kind ≡ OutputKind.Command → IfOk result (λ id. is_command_at id self.new.opened ≡ true) }
+        ensures no_text { ¬ (IsUtf8 name.now) → result ≡ Err WorldFault.Failed }
+    {
         match kind {
             OutputKind::File => {
                 let file = self.open_writer(name, mode)?;
                 self.keep(Opened::Output(file))
             }
-            OutputKind::Command => Err(WorldFault::Failed),
+            OutputKind::Command => self.open_command(name, Stdio::piped(), Stdio::inherit()),
         }
     }
 
@@ -199,12 +260,9 @@ impl<R: Files<File = File> + Drop, I: Read + Drop, O: Write + Drop, E: Write + D
         match id {
             STANDARD_OUTPUT => write_to(&mut self.stdout, bytes),
             STANDARD_ERROR => write_to(&mut self.stderr, bytes),
-            _ => match self.opened.get(&id) {
-                Some(Opened::Output(file)) => {
-                    let mut file: &File = file;
-                    write_to(&mut file, bytes)
-                }
-                _ => Err(WorldFault::Failed),
+            _ => match self.opened.get_mut(&id) {
+                Some(opened) => opened.write(bytes),
+                None => Err(WorldFault::Failed),
             },
         }
     }
@@ -237,18 +295,30 @@ impl<R: Files<File = File> + Drop, I: Read + Drop, O: Write + Drop, E: Write + D
         requires opened { 2 ≤ id }
         ensures closes { Closes (⟦<SysWorld<R, I, O, E> as World>⟧.state self.old)
             (⟦<SysWorld<R, I, O, E> as World>⟧.state self.new) id }
-        ensures answer { result ≡ pos 0 }
+        ensures file { is_command_at id self.old.opened ≡ false → result ≡ pos 0 }
+        ensures command { IsCommandNumber result }
     {
-        let _ = self.opened.remove(&id);
-        0
+        match self.opened.remove(&id) {
+            Some(opened) => opened.close(),
+            None => 0,
+        }
     }
 
-    fn run(&mut self, _command: &[u8]) -> Result<i128, WorldFault>
+    fn run(&mut self, command: &[u8]) -> Result<i128, WorldFault>
         ensures open { SameOpen (⟦<SysWorld<R, I, O, E> as World>⟧.state self.old)
             (⟦<SysWorld<R, I, O, E> as World>⟧.state self.new) }
         ensures never_failed { result ≡ Err WorldFault.Failed → ⊥ }
-        ensures answer { result ≡ Ok (pos 127) }
+        ensures number { IfOk result IsCommandNumber }
+        ensures no_text { ¬ (IsUtf8 command.now) → result ≡ Ok (pos 127) }
     {
-        Ok(NOT_STARTED)
+        let Ok(command) = text_of(command) else {
+            return Ok(NOT_STARTED);
+        };
+        let (stdin, stdout) = (Stdio::inherit(), Stdio::inherit());
+        match start(&self.runtime, self.alloc, command, stdin, stdout) {
+            Ok(child) => Ok(wait_for(child)),
+            Err(WorldFault::Failed) => Ok(NOT_STARTED),
+            Err(WorldFault::Memory) => Err(WorldFault::Memory),
+        }
     }
 }

@@ -13,7 +13,7 @@ use Rattle.awk_run.specs.Meaning.{StartValues}
 use Rattle.awk_run.specs.Outcome.{status_of}
 use Rattle.awk_run.specs.Start.{pair_of}
 use Rattle.awk_semantics.specs.declared.outcome.Outcome.{Outcome}
-use Rattle.awk_run.specs.declared.start.Assignment.{Assignment}
+use Rattle.awk_runtime.specs.declared.start.Assignment.{Assignment}
 use Rattle.awk_command.specs.definitions.CommandLine.{Text, CommandLine, command_line_of}
 use Rattle.awk_command.specs.definitions.ProgramText.{ProvidesText}
 use Rattle.awk_command.specs.definitions.Report.{ReportsOutcome, ReportsNotRun}

@@ -250,7 +250,8 @@ module _ (tables : Tables) (functions : Functions) (again : ℕ → Cont) where
   made at (n.TakeKey x k) = λ vs. put_variable tables.names x (second vs) >>= λ _. at k (value.Number (pos (keys_left (first vs) - 1)) ∷ drop 2 vs)
   made at (n.LeaveWalk k) = λ vs. at k (drop (suc (keys_left (first vs))) vs)
   made at n.Return = λ vs. ret (first vs)
-  made at (n.Stop reason) = λ vs. lift (Err reason)
+  made at n.Next = λ vs. lift (Err halt.Next)
+  made at n.Exit = λ vs. lift (Err halt.Exit)
   made at n.End = nothing
 
   abbrev pub conts : List Cont → List Node → List Cont
@@ -277,8 +278,17 @@ AreBelow at (n.NextKey i exit) = exit < at
 AreBelow at (n.TakeKey x k) = k < at
 AreBelow at (n.LeaveWalk k) = k < at
 AreBelow at n.Return = Unit {0}
-AreBelow at (n.Stop reason) = Unit {0}
+AreBelow at n.Next = Unit {0}
+AreBelow at n.Exit = Unit {0}
 AreBelow at n.End = Unit {0}
 
 abbrev pub IsOrdered : List Node → Type 0
 IsOrdered nodes = (at : ℕ) (node : Node) → slice_get nodes at ≡ Some node → AreBelow at node
+
+-- what a node calls is one of so many functions
+abbrev pub CallsBelow : ℕ → Node → Type 0
+CallsBelow count (n.Value (v.Call f fs) k) = f < count
+CallsBelow count x = Unit {0}
+
+abbrev pub AllCallBelow : ℕ → List Node → Type 0
+AllCallBelow count nodes = (at : ℕ) (node : Node) → slice_get nodes at ≡ Some node → CallsBelow count node

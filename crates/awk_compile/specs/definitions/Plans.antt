@@ -17,7 +17,7 @@ use Rattle.awk_compile.specs.declared.plan.PlannedPattern.TheVariants as pattern
 use Rattle.awk_compile.specs.declared.plan.PlannedItem.{PlannedItem}
 use Rattle.awk_compile.specs.declared.plan.PlannedItem.TheVariants as item
 use Rattle.awk_compile.specs.declared.plan.Plan.{Plan}
-use Rattle.awk_compile.specs.definitions.Nodes.{Tables, cont_at, IsOrdered}
+use Rattle.awk_compile.specs.definitions.Nodes.{Tables, cont_at, IsOrdered, AllCallBelow}
 use Rattle.awk_compile.specs.definitions.States.{AreScalars, IsIn, AreFor}
 
 -- what a place comes to, whatever lies on the stack there
@@ -89,6 +89,7 @@ pub record DoesIn (items : List Item) (plan : Plan) (parameters : List FormalPar
 
 pub record IsPlanOf (items : List Item) (plan : Plan) : Type 0 where
   pub ordered : IsOrdered plan.nodes.items
+  pub calls : AllCallBelow (length plan.functions.items) plan.nodes.items
   -- each scalar has one slot, and none of them is one of awk's own
   pub distinct : AreDistinct plan.names
   pub scalars : AreScalars plan.names

@@ -22,7 +22,7 @@ use Rattle.awk_compile.specs.declared.node.Node.{Node}
 use Rattle.awk_compile.specs.declared.builder.Builder.{Builder}
 use Rattle.awk_compile.specs.declared.builder.Exits.{Exits}
 pub use Rattle.awk_compile.specs.definitions.States.{IsScalar, AreScalars, IsIn, AreFor}
-use Rattle.awk_compile.specs.definitions.Nodes.{Tables, Cont, first, operands, made, level, cont_at, IsOrdered}
+use Rattle.awk_compile.specs.definitions.Nodes.{Tables, Cont, first, operands, made, level, cont_at, IsOrdered, CallsBelow, AllCallBelow}
 
 -- building
 
@@ -30,6 +30,8 @@ pub record Grows (old new : Builder) : Type 0 where
   pub more : List Node
   pub is : new.nodes.items ≡ old.nodes.items ++ more
   pub ordered : IsOrdered old.nodes.items → IsOrdered new.nodes.items
+  pub functions : new.function_count ≡ old.function_count
+  pub calls : AllCallBelow old.function_count old.nodes.items → AllCallBelow new.function_count new.nodes.items
   -- a loop whose body stands keeps it
   pub heads : (i k : ℕ) → get_or old.heads.items i 0 ≡ suc k → get_or new.heads.items i 0 ≡ suc k
   -- slots and numbers stay
@@ -37,29 +39,31 @@ pub record Grows (old new : Builder) : Type 0 where
   pub eres : IsFront old.eres.items new.eres.items
   pub scalars : AreScalars old.names → AreScalars new.names
 
--- the names and the EREs stay as they are
-pub record SameNames (old new : Builder) : Type 0 where
+-- what nodes tell by numbers stays as it is
+pub record SameTables (old new : Builder) : Type 0 where
   pub names : new.names ≡ old.names
   pub eres : new.eres ≡ old.eres
+  pub functions : new.function_count ≡ old.function_count
 
 pub record Pushes (old new : Builder) (node : Node) (place : ℕ) : Type 0 where
   pub nodes : new.nodes.items ≡ old.nodes.items ++ node ∷ []
+  pub calls : CallsBelow old.function_count node
   pub last : place ≡ length old.nodes.items
   pub heads : new.heads ≡ old.heads
-  pub same : SameNames old new
+  pub same : SameTables old new
 
 pub record Opens (old new : Builder) (number : ℕ) : Type 0 where
   pub nodes : new.nodes ≡ old.nodes
   pub heads : new.heads.items ≡ old.heads.items ++ 0 ∷ []
   pub last : number ≡ length old.heads.items
-  pub same : SameNames old new
+  pub same : SameTables old new
 
 pub record Closes (old new : Builder) (number body : ℕ) : Type 0 where
   pub nodes : new.nodes ≡ old.nodes
   pub here : get_or new.heads.items number 0 ≡ body
   pub others : (i : ℕ) → i ≢ number → get_or new.heads.items i 0 ≡ get_or old.heads.items i 0
   pub long : length new.heads.items ≡ length old.heads.items
-  pub same : SameNames old new
+  pub same : SameTables old new
 
 pub record AddsName (old new : Builder) (slot : ℕ) (name : List ℕ) : Type 0 where
   pub nodes : new.nodes ≡ old.nodes
@@ -67,6 +71,7 @@ pub record AddsName (old new : Builder) (slot : ℕ) (name : List ℕ) : Type 0 
   pub numbers : Numbers old.names new.names slot name
   pub names : new.names ≡ with_name old.names name
   pub eres : new.eres ≡ old.eres
+  pub functions : new.function_count ≡ old.function_count
 
 pub record AddsEre (old new : Builder) (number : ℕ) (text : List ℕ) : Type 0 where
   pub nodes : new.nodes ≡ old.nodes
@@ -74,6 +79,7 @@ pub record AddsEre (old new : Builder) (number : ℕ) (text : List ℕ) : Type 0
   pub names : new.names ≡ old.names
   pub eres : new.eres.items ≡ old.eres.items ++ text ∷ []
   pub last : number ≡ length old.eres.items
+  pub functions : new.function_count ≡ old.function_count
 
 -- loops that were open keep their heads
 pub record Extends (old new : Builder) : Type 0 where

@@ -1,38 +1,27 @@
 -- What is still to be done: from a place, and then from the entry of each active call, the newest first. Each has bounds of its
 -- own: how many calls may be within one another, and how many turns of loops may follow.
-use Rattle.std.specs.Prelude.{◌≡◌, ◌≤◌, ◌<◌, ℕ, suc, Bool, List, [], ◌∷◌, drop, take, reverse, map, length, slice_get, Some, Result, Err}
+use Rattle.std.specs.Prelude.{◌≡◌, ◌≤◌, ◌<◌, ℕ, suc, List, [], ◌∷◌, drop, take, reverse, map, length, slice_get, Some, Result}
 use Rattle.awk_value.specs.declared.value.Value.{Value}
 use Rattle.awk_channels.specs.WorldState.{WorldState}
 use Rattle.awk_kinds.specs.Kinds.{FormalParameter, Definition}
 use Rattle.awk_semantics.specs.declared.halt.Halt.{Halt}
 use Rattle.awk_semantics.specs.declared.local.Local.{Local}
 use Rattle.awk_semantics.specs.State.{State, Run, ◌>>=◌, ret}
-use Rattle.awk_semantics.specs.Results.{Yields}
 use Rattle.awk_semantics.specs.Primitives.{enter, leave}
 use Rattle.awk_semantics.specs.Calls.{definition_of, body_height, call_within, functions_within}
 use Rattle.awk_compile.specs.declared.node.Node.{Node}
-use Rattle.awk_compile.specs.declared.node.Node.TheVariants as n
-use Rattle.awk_compile.specs.declared.node.ValueNode.TheVariants as v
 use Rattle.awk_compile.specs.declared.plan.Function.{Function as PlannedFunction}
 use Rattle.awk_compile.specs.declared.plan.Plan.{Plan}
-use Rattle.awk_compile.specs.Nodes.{Tables, Cont, function_at, made, level, cont_at, AreBelow, IsOrdered}
+use Rattle.awk_compile.specs.Nodes.{Tables, Cont, function_at, made, level, cont_at, AreBelow, IsOrdered, AllCallBelow}
 use Rattle.awk_runtime.specs.support.Naming.{Naming}
 use Rattle.awk_runtime.specs.declared.runtime.Runtime.{Runtime}
 use Rattle.awk_runtime.specs.support.Simulation.{Simulates}
 use Rattle.awk_evaluator.specs.declared.entry.Entry.{Entry as CodeEntry}
 
--- what a plan is asked for
-
--- calls are of functions that are there, and what ends early does so by the language
-abbrev pub FitsIn : ℕ → Node → Type 0
-FitsIn count (n.Value (v.Call f fs) k) = f < count
-FitsIn count (n.Stop reason) = Yields {A = Value} (Err reason) (Err reason)
-FitsIn count x = Unit {0}
-
 -- what the evaluator needs of a plan's lists
 pub record IsSound (plan : Plan) : Type 0 where
   pub ordered : IsOrdered plan.nodes.items
-  pub fits : (at : ℕ) (node : Node) → slice_get plan.nodes.items at ≡ Some node → FitsIn (length plan.functions.items) node
+  pub calls : AllCallBelow (length plan.functions.items) plan.nodes.items
   -- a body has a height
   pub high : (i : ℕ) (f : PlannedFunction) → slice_get plan.functions.items i ≡ Some f → 0 < f.height
 

@@ -10,6 +10,6 @@ returns-in_err-execute g c =
     rw (p.1, p.2) (record {
       text = Ok c.in_ok-text.text;
       between = w.state c.program_text.new.world;
-      provided = c.in_ok-text.ensures;
+      provided = c.in_ok-text.ensures.text;
       ran = (executed, ap (λ v. w.state v) c.in_err-execute.ensures.untouched);
     })

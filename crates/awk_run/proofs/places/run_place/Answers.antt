@@ -1,10 +1,10 @@
 use Rattle.awk_run.proofs.PlaceRuns.{place_follows, place_set}
-use Rattle.awk_run.proofs.PlansStand.{sound_plan}
+use Rattle.awk_evaluator.proofs.SoundPlans.{plans_are_sound}
 use Rattle.awk_run.proofs.places.run_place.Goals as goal
 
 pub execute-requires : goal.execute-requires
 execute-requires g c = record {
-  sound = sound_plan c.requires.set.planned.is;
+  sound = plans_are_sound _ _ c.requires.set.planned.is;
   idle = record { operands = c.requires.idle.operands; calls = c.requires.idle.calls };
   ready = record { are_open = c.requires.set.ready.are_open; are_sound = c.requires.set.ready.are_sound };
 }

@@ -10,4 +10,4 @@ program_names-requires c = record {
 }
 
 pub returns : goal.returns
-returns c = first_starts c.in_ok-names.ensures (rw (c.deref.ensures.value, c.deref-2.ensures.value) at c.in_ok-runtime.ensures.start) c.new_machine.ensures.runtime c.new_machine.ensures.idle
+returns c = first_starts c.in_ok-names.ensures (rw (c.deref.ensures.value, c.deref-2.ensures.value) at c.in_ok-runtime.ensures.start) c.new-2.ensures.runtime c.new-2.ensures.idle

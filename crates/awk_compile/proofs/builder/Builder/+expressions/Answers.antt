@@ -19,7 +19,7 @@ use Rattle.awk_compile.proofs.OperandForms.{name_operand, element_operand, field
 use Rattle.awk_compile.proofs.CallForms.{call_lowered, no_arguments, array_argument, value_argument}
 use Rattle.awk_compile.proofs.BuiltInForms.{strict_applied, match_lowered, fields_split, split_lowered}
 use Rattle.awk_compile.proofs.SubstituteForms.{substitute_lowered, substitute_place_lowered}
-use Rattle.awk_compile.proofs.GetlineForms.{something_lowered, operand_there, getline_lowered, piped_getline_lowered}
+use Rattle.awk_compile.proofs.GetlineForms.{nothing_stays, something_lowered, no_operand_stays, operand_there, getline_lowered, piped_getline_lowered}
 use Rattle.awk_compile.proofs.builder.Builder.+expressions.Goals as goal
 use Rattle.awk_compile.proofs.builder.Builder.+expressions.Goals.{lower_built_in-else-takes_one-via-then-takes_one+else-list-ne1, lower_built_in-else-takes_one-via-else-takes_one}
 
@@ -163,8 +163,14 @@ lower_operand-returns-in-Element t c =
 pub lower_operand-returns-in_ok-number-in-Field : goal.lower_operand-returns-in_ok-number-in-Field
 lower_operand-returns-in_ok-number-in-Field t c = rw (ap expr_of c.in-Field.is) (ok_map _ (λ i q. field_operand c.requires c.in_ok-number-in-Field.ensures q) (rw c.deref-in-Field.ensures at c.lower.ensures))
 
+pub lower_optional-returns-in-None : goal.lower_optional-returns-in-None
+lower_optional-returns-in-None t c = rw (ap optional_expr_of c.in-None.is) (nothing_stays c.requires)
+
 pub lower_optional-returns-in-Some : goal.lower_optional-returns-in-Some
 lower_optional-returns-in-Some t c = rw (ap optional_expr_of c.in-Some.is) (ok_map _ (λ i q. something_lowered q) (rw c.deref.ensures at c.lower.ensures))
+
+pub lower_optional_operand-returns-in-None : goal.lower_optional_operand-returns-in-None
+lower_optional_operand-returns-in-None t c = rw (ap optional_expr_of c.in-None.is) (no_operand_stays c.requires)
 
 pub lower_optional_operand-returns-in-Some : goal.lower_optional_operand-returns-in-Some
 lower_optional_operand-returns-in-Some t c = rw (ap optional_expr_of c.in-Some.is) (ok_map _ (λ i q. operand_there q) (rw c.deref.ensures at c.lower_operand.ensures))

@@ -1,16 +1,16 @@
 use Rattle.std.proofs.Common.{refl, sym, ap, ◌∙◌}
 use Rattle.std.proofs.lemmas.Result.{err_from_is_err_and}
 use Rattle.awk_value.specs.Values.{truth_of}
-use Rattle.awk_evaluator.proofs.Moving.{by_place, effect_on, effect_ends, test_true, test_false, again_on, again_stuck, key_on, key_stuck, key_exit, walk_on, walk_ends, key_taken, key_ends, walk_left, stopped_by, returns_value, returns_nothing, past_end, zero_test, no_zero_test}
+use Rattle.awk_evaluator.proofs.Moving.{by_place, effect_on, effect_ends, test_true, test_false, again_on, again_stuck, key_on, key_stuck, key_exit, walk_on, walk_ends, key_taken, key_ends, walk_left, next_stops, exit_stops, returns_value, returns_nothing, past_end, zero_test, no_zero_test}
 use Rattle.awk_evaluator.proofs.machine.Machine.go_on.Goals as goal
 
 pub returns-in_default-clause-moves : goal.returns-in_default-clause-moves
 returns-in_default-clause-moves g c =
     past_end (rw c.in_default.is at c.node_at.ensures) c.give_back.ensures
 
-pub value-requires-clause-fits : goal.value-requires-clause-fits
-value-requires-clause-fits g c =
-    let e = rw c.in-Value.is at c.in-Some.ensures in c.requires.sound.fits c.args.at _ (sym e)
+pub value-requires-clause-calls : goal.value-requires-clause-calls
+value-requires-clause-calls g c =
+    let e = rw c.in-Value.is at c.in-Some.ensures in c.requires.sound.calls c.args.at _ (sym e)
 
 pub returns-in-Value-clause-moves : goal.returns-in-Value-clause-moves
 returns-in-Value-clause-moves g c =
@@ -86,9 +86,13 @@ pub returns-in-Return-clause-moves : goal.returns-in-Return-clause-moves
 returns-in-Return-clause-moves g c =
     let e = rw c.in-Return.is at c.in-Some.ensures in by_place c.requires.sound (sym e) (returns_value c.pop-value-in-Return.ensures.top c.pop-value-in-Return.ensures.rest refl refl c.give_back-in-Return.ensures)
 
-pub returns-in-Stop-clause-moves : goal.returns-in-Stop-clause-moves
-returns-in-Stop-clause-moves g c =
-    let e = rw c.in-Stop.is at c.in-Some.ensures in by_place c.requires.sound (sym e) (stopped_by (c.requires.sound.fits c.args.at _ (sym e)))
+pub returns-in-Next-clause-moves : goal.returns-in-Next-clause-moves
+returns-in-Next-clause-moves g c =
+    let e = rw c.in-Next.is at c.in-Some.ensures in by_place c.requires.sound (sym e) next_stops
+
+pub returns-in-Exit-clause-moves : goal.returns-in-Exit-clause-moves
+returns-in-Exit-clause-moves g c =
+    let e = rw c.in-Exit.is at c.in-Some.ensures in by_place c.requires.sound (sym e) exit_stops
 
 pub returns-clause-moves : goal.returns-clause-moves
 returns-clause-moves g c =
