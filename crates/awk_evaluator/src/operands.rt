@@ -151,6 +151,14 @@ impl Operands {
         self.drop(count as usize);
     }
 
+    /// Takes the newest call's values off.
+    #[inline(always)]
+    pub fn drop_all(&mut self)
+        ensures { self.new ≡ record self.old { values = [] } }
+    {
+        self.values.truncate(self.base);
+    }
+
     /// A call begins, which has no operands yet. Gives how many its callers' callers have.
     pub fn enter(&mut self) -> usize
         ensures base { result ≡ length self.old.below }

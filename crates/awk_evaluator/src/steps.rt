@@ -1,10 +1,12 @@
 // The moves: one for each node.
 
-ghost use Rattle.std.specs.Prelude.{◌≡◌, ◌<◌, Some, slice_get, get_or, length};
+ghost use Rattle.std.specs.Prelude.{◌≡◌, ◌<◌, Some, slice_get, get_or, length, drop};
 ghost use Rattle.std.specs.Option.{option_map};
 ghost use Rattle.awk_runtime.specs.Simulation.{IsReady};
 ghost use Rattle.awk_compile.specs.declared.node.Node.TheVariants.{Value as ValueAt};
-ghost use Rattle.awk_compile.specs.Nodes.{CallsBelow};
+ghost use Rattle.awk_value.specs.Values.{truth_of};
+ghost use Rattle.awk_value.specs.declared.value.Value.TheVariants.{Nothing};
+ghost use Rattle.awk_compile.specs.Nodes.{CallsBelow, first};
 ghost use Rattle.awk_evaluator.specs.Rest.{IsSound, AtPlace, AtNode};
 ghost use Rattle.awk_evaluator.specs.Moves.{Moves, GivesBack};
 
@@ -58,7 +60,7 @@ impl Machine {
         ensures moves { Moves W.is_logged plan.now (AtPlace at) self.old (W.state world.old) result self.new (W.state world.new) }
     {
         let Some(node) = node_at(plan, at) else {
-            return self.give_back(Value::Nothing);
+            return self.give_nothing();
         };
         match node {
             Node::Value(value, next) => self.value(world, plan, value, *next),
@@ -67,8 +69,7 @@ impl Machine {
                 Ok(Move::On(*next))
             }
             Node::Test(here, other) => {
-                let value = self.operands.pop();
-                if is_true(&value) {
+                if self.test() {
                     Ok(Move::On(*here))
                 } else {
                     Ok(Move::On(*other))
@@ -98,13 +99,10 @@ impl Machine {
                 self.leave_walk();
                 Ok(Move::On(*next))
             }
-            Node::Return => {
-                let value = self.operands.pop();
-                self.give_back(value)
-            }
+            Node::Return => self.give_back(),
             Node::Next => Err(Halt::Next),
             Node::Exit => Err(Halt::Exit),
-            Node::End => self.give_back(Value::Nothing),
+            Node::End => self.give_nothing(),
         }
     }
 
@@ -136,17 +134,39 @@ impl Machine {
         }
     }
 
-    /// Gives the newest caller a value, or the run where no call is active.
-    fn give_back(&mut self, value: Value) -> Result<Move, Halt>
-        ensures { GivesBack value self.old result self.new }
+    /// Whether the topmost operand is true, which is taken off.
+    #[inline(always)]
+    fn test(&mut self) -> bool
+        ensures truth { result ≡ truth_of (first self.old.operands.values) }
+        ensures rest { self.new.operands ≡ record self.old.operands { values = drop 1 self.old.operands.values } }
+        ensures calls { self.new.calls ≡ self.old.calls }
+        ensures runtime { self.new.runtime ≡ self.old.runtime }
+    {
+        let nothing = Value::Nothing;
+        let holds = is_true(self.operands.top_or(&nothing));
+        self.operands.drop(1);
+        holds
+    }
+
+    /// Gives the newest caller the topmost operand, which stays where no call is active.
+    fn give_back(&mut self) -> Result<Move, Halt>
+        ensures { GivesBack (first self.old.operands.values) self.old result self.new }
     {
         let Some(entry) = self.calls.leave() else {
-            self.operands.clear();
-            return Ok(Move::Over(value));
+            return Ok(Move::Over);
         };
         self.runtime.leave_call();
+        let value = self.operands.pop();
         self.operands.leave(entry.base);
         self.operands.push(value)?;
         Ok(Move::Back(entry.next))
+    }
+
+    /// Gives back that there is no value.
+    fn give_nothing(&mut self) -> Result<Move, Halt>
+        ensures { GivesBack Nothing self.old result self.new }
+    {
+        self.operands.drop_all();
+        self.give_back()
     }
 }
