@@ -2,6 +2,7 @@ pub mod Stacks
 pub mod Heights
 pub mod Resting
 pub mod Moving
+pub mod Putting
 pub mod CallMoves
 pub mod Returning
 pub mod KeysTaken

@@ -28,8 +28,8 @@ use Rattle.awk_compile.specs.declared.plan.Plan.{Plan}
 use Rattle.awk_compile.specs.Nodes.{Tables, Cont, first, second, value_of, popped, effect_of, dropped, walk_values, keys_left, next_key_by}
 use Rattle.awk_compile.proofs.Listed.{node_at, no_node_at}
 use Rattle.awk_runtime.specs.declared.runtime.Runtime.{Runtime}
-use Rattle.awk_runtime.specs.Simulation.{IsReady, SimulatesLogged, Simulates, Changes, Spends}
-use Rattle.awk_runtime.proofs.Composition.{ready_same, ends_simulates, change_simulates, lift_simulates}
+use Rattle.awk_runtime.specs.Simulation.{SimulatesLogged, Simulates, Changes, Spends}
+use Rattle.awk_runtime.proofs.Composition.{ends_simulates, change_simulates, lift_simulates}
 use Rattle.awk_runtime.proofs.Effects.{begins_same}
 use Rattle.awk_evaluator.specs.declared.machine.Machine.{Machine}
 use Rattle.awk_evaluator.specs.declared.machine.Move.{Move}
@@ -37,7 +37,7 @@ use Rattle.awk_evaluator.specs.declared.machine.Move.TheVariants as move
 use Rattle.awk_evaluator.specs.Operands.{OperandsView}
 use Rattle.awk_runtime.specs.Naming.{Naming}
 use Rattle.awk_evaluator.specs.Rest.{IsSound, PlanStands, tables_in, Entry, Bound, Start, AtPlace, AtNode, cont, turn, begun, resume, Rest}
-use Rattle.awk_evaluator.specs.Moves.{seen_of, stack_of, IsIdle, RestOf, Leads, Ends, Finishes, MovesBy, Moves, Evaluates, Computes, Performs, GivesBackBy, GivesBack, Executes}
+use Rattle.awk_evaluator.specs.Moves.{seen_of, stack_of, IsIdle, RestOf, Leads, Ends, Finishes, MovesBy, Moves, Pushes, Performs, GivesBackBy, GivesBack, Executes}
 use Rattle.awk_evaluator.specs.Walks.{PutsKeys, TakesKey}
 use Rattle.awk_evaluator.proofs.Resting.{then_rest, ends_rest, same_rest, return_rest, return_stuck, over_rest, whole, turn_rest, turn_stuck}
 
@@ -207,13 +207,6 @@ module _ {is_logged : Type 0} {plan : Plan} {from : Start} where
               (return_stuck t ds plan is_logged {e = g.0} w (λ b. is t ds b) (memory_behind (change_simulates (to_left g.3)))));
         }
 
--- a value that needs no world
-pub evaluated : {is_logged : Type 0} {x : ValueNode} {m m' : Machine} {k : WorldState} {r : Result Value Halt} → Computes x m r m' → Evaluates is_logged x m k r m' k
-evaluated c = record { operands = c.operands; calls = c.calls; simulates = λ tables functions. change_simulates (c.changes tables functions) }
-
-pub ready_computed : {is_logged : Type 0} {x : ValueNode} {m m' : Machine} {k : WorldState} {r : Result Value Halt} → Computes x m r m' → IsReady is_logged k m.runtime.streams → IsReady is_logged k m'.runtime.streams
-ready_computed c ready = ready_same (c.changes no_tables no_functions).streams ready
-
 next_turn : (c : ℕ) (t e : Run Value) → c ≢ 0 → next_key_by c t e ≡ t
 next_turn zero t e h = absurd (h refl)
 next_turn (suc c) t e h = refl
@@ -224,24 +217,20 @@ module _ {is_logged : Type 0} {plan : Plan} where
   -- a node that gives a value
 
   module _ {x : ValueNode} {i : ℕ} where
-    pub value_on : {m m1 m2 : Machine} {k k' : WorldState} {w : Value} → Evaluates is_logged x m k (Ok w) m1 k' → m2.operands ≡ record m1.operands { values = w ∷ m1.operands.values } → m2.calls ≡ m1.calls → m2.runtime ≡ m1.runtime → Moves is_logged plan (AtNode (n.Value x i)) m k (Ok (move.On i)) m2 k'
-    value_on {m = m} {m1 = m1} {m2 = m2} {k = k} {k' = k'} {w = w} e operands calls same = record {
+    pub value_on : {m m' : Machine} {k k' : WorldState} → Pushes is_logged x m k (Ok tt) m' k' → Moves is_logged plan (AtNode (n.Value x i)) m k (Ok (move.On i)) m' k'
+    value_on {m = m} {m' = m'} p = record {
       moves = record {
         less = λ at low. low;
-        calls = calls ∙ e.calls;
+        calls = p.calls;
         leads = leads_on (λ tables functions. value_of tables functions x m.operands.values) (λ tables ds b u. cont tables ds plan b i (u ∷ drop (popped x) m.operands.values)) (λ tables ds b. refl)
-            (λ tables functions. subst (λ (y : Runtime). Simulates is_logged m.runtime k y k' (Ok w) (value_of (tables_in m.runtime.names tables) functions x m.operands.values)) (sym same) (e.simulates tables functions))
-            (λ tables ds b. ap (λ vs. cont tables ds plan b i vs) (ap (λ (o : OperandsView). w ∷ o.values) (sym e.operands) ∙ ap (λ (o : OperandsView). o.values) (sym operands)))
-            (ap (λ es. seen_of m2.operands es) (calls ∙ e.calls) ∙ ap (λ (o : OperandsView). seen_of o m.calls) operands ∙ ap (λ (o : OperandsView). seen_of o m.calls) e.operands);
+            p.simulates
+            (λ tables ds b. ap (λ (o : OperandsView). cont tables ds plan b i o.values) (sym p.operands))
+            (ap (λ es. seen_of m'.operands es) p.calls ∙ ap (λ (o : OperandsView). seen_of o m.calls) p.operands);
       };
     }
 
-    pub value_ends : {m m' : Machine} {k k' : WorldState} {h : Halt} → Evaluates is_logged x m k (Err h) m' k' → Moves is_logged plan (AtNode (n.Value x i)) m k (Err h) m' k'
-    value_ends {m = m} e = ends_on (λ tables functions. value_of tables functions x m.operands.values) (λ tables ds b u. cont tables ds plan b i (u ∷ drop (popped x) m.operands.values)) (λ tables ds b. refl) e.simulates
-
-    pub value_memory : {m m1 m2 : Machine} {k k' : WorldState} {w : Value} → Evaluates is_logged x m k (Ok w) m1 k' → m2.runtime ≡ m1.runtime → Moves is_logged plan (AtNode (n.Value x i)) m k (Err (halt.Fault OutOfMemory)) m2 k'
-    value_memory {m = m} {k = k} {k' = k'} e same = ends_on (λ tables functions. value_of tables functions x m.operands.values) (λ tables ds b u. cont tables ds plan b i (u ∷ drop (popped x) m.operands.values)) (λ tables ds b. refl)
-        (λ tables functions. subst (λ (y : Runtime). Simulates is_logged m.runtime k y k' (Err (halt.Fault OutOfMemory)) (value_of (tables_in m.runtime.names tables) functions x m.operands.values)) (sym same) (memory_behind (e.simulates tables functions)))
+    pub value_ends : {m m' : Machine} {k k' : WorldState} {h : Halt} → Pushes is_logged x m k (Err h) m' k' → Moves is_logged plan (AtNode (n.Value x i)) m k (Err h) m' k'
+    value_ends {m = m} p = ends_on (λ tables functions. value_of tables functions x m.operands.values) (λ tables ds b u. cont tables ds plan b i (u ∷ drop (popped x) m.operands.values)) (λ tables ds b. refl) p.simulates
 
   -- a node that gives none
 

@@ -1,12 +1,13 @@
 -- The topmost values of a stack, from its end and from its beginning.
-use Rattle.std.proofs.Common.{◌≡◌, ℕ, ◌+◌, ◌-◌, ◌≤◌, ◌<◌, max, min, [], List, ◌++◌, length, take, drop, reverse, refl, sym, ap, ◌∙◌, arith}
+use Rattle.std.proofs.Common.{◌≡◌, ℕ, ◌+◌, ◌-◌, ◌≤◌, ◌<◌, max, min, [], ◌∷◌, List, ◌++◌, slice_get, Some, length, take, drop, reverse, refl, sym, ap, ◌∙◌, arith}
 use Rattle.std.proofs.lemmas.List.{take-append-drop, drop-drop, drop-take, take-take, take_min, drop_min, reverse-append, reverse-reverse, length-reverse}
 use Rattle.std.proofs.Math.Seq.{drop-append_seam}
 use Rattle.std.proofs.Common.{length-append, length-drop}
 use Rattle.std.proofs.lemmas.List.{length-take}
 use Rattle.std.proofs.Math.ListN.{drop_of_length-le}
 use Rattle.awk_value.specs.declared.value.Value.{Value}
-use Rattle.awk_compile.specs.Nodes.{taken}
+use Rattle.awk_value.specs.declared.value.Value.TheVariants.{Nothing}
+use Rattle.awk_compile.specs.Nodes.{taken, second}
 use Rattle.awk_evaluator.specs.support.Operands.{OperandsView}
 
 -- all but the last ones, from the end
@@ -77,3 +78,15 @@ own_dropped items base =
     let first : List Value → OperandsView = λ vs. record { values = reverse vs; below = take base (take base items) } in
     let second : List Value → OperandsView = λ vs. record { values = []; below = vs } in
     ap first (drop_of_length-le (take base items) short) ∙ ap second (take-take base base items le)
+
+-- the first of the two newest values
+
+pub pair_second : (vs pair : List Value) {w : Value} → pair ≡ taken 2 vs → 2 ≤ length pair → slice_get pair 0 ≡ Some w → w ≡ second vs
+pair_second [] pair is long at = let e = ap length is in absurd (omega (arith, long, e))
+pair_second (x ∷ []) pair is long at = let e = ap length is in absurd (omega (arith, long, e))
+pair_second (x ∷ y ∷ vs) pair is long at = let e = ap (λ (l : List Value). slice_get l 0) is in cc
+
+pub no_second : (vs pair : List Value) → pair ≡ taken 2 vs → length pair < 2 → Nothing ≡ second vs
+no_second [] pair is short = refl
+no_second (x ∷ []) pair is short = refl
+no_second (x ∷ y ∷ vs) pair is short = let e = ap length is in absurd (omega (arith, short, e))

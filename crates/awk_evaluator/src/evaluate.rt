@@ -1,7 +1,7 @@
 // The value of a node that calls no function of the program.
 
 ghost use Rattle.awk_runtime.specs.Simulation.{IsReady};
-ghost use Rattle.awk_evaluator.specs.Moves.{IsStrict, Evaluates};
+ghost use Rattle.awk_evaluator.specs.Moves.{IsStrict, IsRare, Evaluates, Pushes};
 
 use crate::machine::Machine;
 use awk_channels::World;
@@ -10,28 +10,50 @@ use awk_semantics::Halt;
 use awk_value::Value;
 
 impl Machine {
-    /// The value of a node, whose operands are taken off the stack.
+    /// Puts the value of a node on the stack, in the place of its operands.
     #[inline(always)]
-    pub(crate) fn evaluate<W: World>(
-        &mut self,
-        world: &mut W,
-        node: &ValueNode,
-    ) -> Result<Value, Halt>
+    pub(crate) fn evaluate<W: World>(&mut self, world: &mut W, node: &ValueNode) -> Result<(), Halt>
         requires strict { IsStrict node.now }
         requires ready { IsReady W.is_logged (W.state world.old) self.old.runtime.streams }
         ensures ready { IsReady W.is_logged (W.state world.new) self.new.runtime.streams }
-        ensures evaluates { Evaluates W.is_logged node.now self.old (W.state world.old) result self.new (W.state world.new) }
+        ensures pushes { Pushes W.is_logged node.now self.old (W.state world.old) result self.new (W.state world.new) }
     {
         match node {
             ValueNode::Push(value) => self.constant(value),
             ValueNode::Read(variable) => self.variable(*variable),
             ValueNode::Operate(operator) => self.operate(*operator),
-            ValueNode::Change(operator) => self.change(*operator),
-            ValueNode::ReadField => self.field(),
-            ValueNode::ReadElement(array) => self.element(*array),
             ValueNode::Assign(operator, place) => self.assign(*operator, *place),
             ValueNode::PreIncrement(operator, place) => self.pre_increment(*operator, *place),
             ValueNode::PostIncrement(operator, place) => self.post_increment(*operator, *place),
+            node => self.put_found(world, node),
+        }
+    }
+
+    /// The same of a node that no loop leans on.
+    #[inline(never)]
+    fn put_found<W: World>(&mut self, world: &mut W, node: &ValueNode) -> Result<(), Halt>
+        requires rare { IsRare node.now }
+        requires ready { IsReady W.is_logged (W.state world.old) self.old.runtime.streams }
+        ensures ready { IsReady W.is_logged (W.state world.new) self.new.runtime.streams }
+        ensures pushes { Pushes W.is_logged node.now self.old (W.state world.old) result self.new (W.state world.new) }
+    {
+        let value = self.find(world, node)?;
+        self.operands.push(value)?;
+        Ok(())
+    }
+
+    /// The value of such a node, whose operands are taken off the stack.
+    #[inline(always)]
+    fn find<W: World>(&mut self, world: &mut W, node: &ValueNode) -> Result<Value, Halt>
+        requires rare { IsRare node.now }
+        requires ready { IsReady W.is_logged (W.state world.old) self.old.runtime.streams }
+        ensures ready { IsReady W.is_logged (W.state world.new) self.new.runtime.streams }
+        ensures evaluates { Evaluates W.is_logged node.now self.old (W.state world.old) result self.new (W.state world.new) }
+    {
+        match node {
+            ValueNode::Change(operator) => self.change(*operator),
+            ValueNode::ReadField => self.field(),
+            ValueNode::ReadElement(array) => self.element(*array),
             ValueNode::RecordMatches(ere) => self.record_matches(*ere),
             ValueNode::MatchesEre(operator, ere) => self.matches_ere(*operator, *ere),
             ValueNode::Contains(array) => self.contains(*array),
@@ -46,7 +68,13 @@ impl Machine {
             ValueNode::Getline(source, place) => self.getline(world, *source, *place),
             ValueNode::Close => self.close(world),
             ValueNode::System => self.system(world),
-            ValueNode::Call(_, _) => unreachable!(),
+            ValueNode::Push(_)
+            | ValueNode::Read(_)
+            | ValueNode::Operate(_)
+            | ValueNode::Assign(_, _)
+            | ValueNode::PreIncrement(_, _)
+            | ValueNode::PostIncrement(_, _)
+            | ValueNode::Call(_, _) => unreachable!(),
         }
     }
 }

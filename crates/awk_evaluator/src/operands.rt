@@ -111,6 +111,19 @@ impl Operands {
         }
     }
 
+    /// The value below the topmost one, or this one in place of nothing.
+    #[inline(always)]
+    pub fn second_or<'a>(&'a self, nothing: &'a Value) -> &'a Value
+        requires { nothing.now ≡ Nothing }
+        ensures { result.now ≡ second self.now.values }
+    {
+        let pair = self.newest(2);
+        if pair.len() < 2 {
+            return nothing;
+        }
+        &pair[0]
+    }
+
     /// So many of the topmost values, in the order in which they were evaluated.
     #[inline(always)]
     pub fn newest(&self, count: usize) -> &[Value]
@@ -137,6 +150,17 @@ impl Operands {
     {
         let start = start_of(self.values.len(), self.base, count);
         self.values.truncate(start);
+    }
+
+    /// Puts a value in the place of so many.
+    #[inline(always)]
+    pub fn replace(&mut self, count: usize, value: Value) -> Result<(), AllocError>
+        ensures replaced { OnOk result (self.new ≡ record self.old { values = value ∷ drop count self.old.values }) }
+    {
+        if count > 0 {
+            self.drop(count);
+        }
+        self.push(value)
     }
 
     /// Takes so many values off, however many that are.

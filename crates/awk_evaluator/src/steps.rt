@@ -127,8 +127,7 @@ impl Machine {
                 Ok(Move::Up(body))
             }
             node => {
-                let value = self.evaluate(world, node)?;
-                self.operands.push(value)?;
+                self.evaluate(world, node)?;
                 Ok(Move::On(next))
             }
         }
@@ -142,10 +141,8 @@ impl Machine {
         ensures calls { self.new.calls ≡ self.old.calls }
         ensures runtime { self.new.runtime ≡ self.old.runtime }
     {
-        let nothing = Value::Nothing;
-        let holds = is_true(self.operands.top_or(&nothing));
-        self.operands.drop(1);
-        holds
+        let value = self.operands.pop();
+        is_true(&value)
     }
 
     /// Gives the newest caller the topmost operand, which stays where no call is active.

@@ -1,9 +1,11 @@
-// The values of nodes over the state alone: what a node takes is taken off the operands, and its value is given.
+// The values of nodes over the state alone: what a node takes is taken off the operands. The value of one that loops lean on
+// is put in its place, and that of any other is given.
 
 ghost use Rattle.std.specs.Prelude.{◌≡◌};
 ghost use Rattle.awk_compile.specs.Nodes.{operands};
 ghost use Rattle.awk_compile.specs.declared.node.ValueNode.TheVariants.{Push, Read, RecordMatches, Operate, MatchesEre, Change, ReadField, ReadElement, Contains, Key, FieldNumber, Assign, PreIncrement, PostIncrement, Load, RecordLength, Apply};
-ghost use Rattle.awk_evaluator.specs.Moves.{Computes};
+ghost use Rattle.awk_grammar.specs.declared.tree.BinaryOperator.TheVariants.{Concatenate, Infix};
+ghost use Rattle.awk_evaluator.specs.Moves.{Computes, Puts};
 
 use crate::machine::Machine;
 use awk_functions::{operator_of, truth_value};
@@ -25,20 +27,24 @@ pub(crate) fn operand_count(place: Place) -> usize
 }
 
 impl Machine {
-    /// A value of the program.
+    /// Puts a value of the program on the stack.
     #[inline(always)]
-    pub(crate) fn constant(&mut self, value: &Value) -> Result<Value, Halt>
-        ensures { Computes (Push value.now) self.old result self.new }
+    pub(crate) fn constant(&mut self, value: &Value) -> Result<(), Halt>
+        ensures { Puts (Push value.now) self.old result self.new }
     {
-        Ok(value.clone()?)
+        let copy = value.clone()?;
+        self.operands.push(copy)?;
+        Ok(())
     }
 
-    /// The value of a variable.
+    /// Puts the value of a variable on the stack.
     #[inline(always)]
-    pub(crate) fn variable(&mut self, variable: Variable) -> Result<Value, Halt>
-        ensures { Computes (Read variable) self.old result self.new }
+    pub(crate) fn variable(&mut self, variable: Variable) -> Result<(), Halt>
+        ensures { Puts (Read variable) self.old result self.new }
     {
-        self.runtime.read_variable(variable)
+        let value = self.runtime.read_variable(variable)?;
+        self.operands.push(value)?;
+        Ok(())
     }
 
     /// Whether the record has a match of an ERE of the program.
@@ -48,16 +54,39 @@ impl Machine {
         self.runtime.record_matches(ere)
     }
 
-    /// What an operator makes of two operands.
+    /// Puts what an operator makes of two operands in their place.
     #[inline(always)]
-    pub(crate) fn operate(&mut self, operator: BinaryOperator) -> Result<Value, Halt>
-        ensures { Computes (Operate operator) self.old result self.new }
+    pub(crate) fn operate(&mut self, operator: BinaryOperator) -> Result<(), Halt>
+        ensures { Puts (Operate operator) self.old result self.new }
+    {
+        match operator {
+            BinaryOperator::Concatenate => self.concatenate(),
+            BinaryOperator::Infix(operator) => self.apply(operator),
+        }
+    }
+
+    // Puts the texts of two operands, one behind the other, in their place.
+    #[inline(never)]
+    fn concatenate(&mut self) -> Result<(), Halt>
+        ensures { Puts (Operate Concatenate) self.old result self.new }
     {
         let (left, right) = self.operands.pop_two();
-        match operator {
-            BinaryOperator::Concatenate => self.runtime.concatenate(left, &right),
-            BinaryOperator::Infix(operator) => self.runtime.apply(operator, &left, &right),
-        }
+        let text = self.runtime.concatenate(left, &right)?;
+        self.operands.push(text)?;
+        Ok(())
+    }
+
+    // Puts what an operator between two operands makes of them in their place.
+    #[inline(always)]
+    fn apply(&mut self, operator: Operator) -> Result<(), Halt>
+        ensures { Puts (Operate (Infix operator)) self.old result self.new }
+    {
+        let nothing = Value::Nothing;
+        let left = self.operands.second_or(&nothing);
+        let right = self.operands.top_or(&nothing);
+        let value = self.runtime.apply(operator, left, right)?;
+        self.operands.replace(2, value)?;
+        Ok(())
     }
 
     /// Whether an operand matches an ERE of the program, or doesn't.
@@ -121,55 +150,51 @@ impl Machine {
         self.runtime.change(UnaryOperator::Plus, &operand)
     }
 
-    /// Assigns an operand to a place; gives what the place then holds.
+    /// Assigns an operand to a place; puts what the place then holds on the stack.
     #[inline(always)]
-    pub(crate) fn assign(
-        &mut self,
-        operator: AssignmentOperator,
-        place: Place,
-    ) -> Result<Value, Halt>
-        ensures { Computes (Assign operator place) self.old result self.new }
+    pub(crate) fn assign(&mut self, operator: AssignmentOperator, place: Place) -> Result<(), Halt>
+        ensures { Puts (Assign operator place) self.old result self.new }
     {
         let value = self.operands.pop();
         let nothing = Value::Nothing;
-        let operand = self.operands.top().unwrap_or(&nothing);
+        let operand = self.operands.top_or(&nothing);
         let assigned = self
             .runtime
             .assign_by_at(operator_of(operator), place, operand, value)?;
-        self.operands.drop(operand_count(place));
-        Ok(assigned)
+        self.operands.replace(operand_count(place), assigned)?;
+        Ok(())
     }
 
-    /// Raises or lowers what a place holds by 1; gives what it then holds.
+    /// Raises or lowers what a place holds by 1; puts what it then holds on the stack.
     #[inline(always)]
     pub(crate) fn pre_increment(
         &mut self,
         operator: IncrementOperator,
         place: Place,
-    ) -> Result<Value, Halt>
-        ensures { Computes (PreIncrement operator place) self.old result self.new }
+    ) -> Result<(), Halt>
+        ensures { Puts (PreIncrement operator place) self.old result self.new }
     {
         let nothing = Value::Nothing;
-        let operand = self.operands.top().unwrap_or(&nothing);
+        let operand = self.operands.top_or(&nothing);
         let raised = self.runtime.pre_increment_at(operator, place, operand)?;
-        self.operands.drop(operand_count(place));
-        Ok(raised)
+        self.operands.replace(operand_count(place), raised)?;
+        Ok(())
     }
 
-    /// Raises or lowers what a place holds by 1; gives the number that it had.
+    /// Raises or lowers what a place holds by 1; puts the number that it had on the stack.
     #[inline(always)]
     pub(crate) fn post_increment(
         &mut self,
         operator: IncrementOperator,
         place: Place,
-    ) -> Result<Value, Halt>
-        ensures { Computes (PostIncrement operator place) self.old result self.new }
+    ) -> Result<(), Halt>
+        ensures { Puts (PostIncrement operator place) self.old result self.new }
     {
         let nothing = Value::Nothing;
-        let operand = self.operands.top().unwrap_or(&nothing);
+        let operand = self.operands.top_or(&nothing);
         let old = self.runtime.post_increment_at(operator, place, operand)?;
-        self.operands.drop(operand_count(place));
-        Ok(old)
+        self.operands.replace(operand_count(place), old)?;
+        Ok(())
     }
 
     /// What a place holds, whose operand stays.

@@ -4,6 +4,11 @@ use Rattle.std.specs.Global.{Vec}
 use Rattle.awk_value.specs.declared.value.Value.{Value}
 use Rattle.awk_channels.specs.WorldState.{WorldState}
 use Rattle.awk_kinds.specs.Kinds.{Definition}
+use Rattle.awk_grammar.specs.declared.tree.BinaryOperator.{BinaryOperator}
+use Rattle.awk_lex.specs.declared.token.AssignmentOperator.{AssignmentOperator}
+use Rattle.awk_lex.specs.declared.token.IncrementOperator.{IncrementOperator}
+use Rattle.awk_storage.specs.declared.position.Place.{Place}
+use Rattle.awk_storage.specs.declared.position.Variable.{Variable}
 use Rattle.awk_semantics.specs.declared.halt.Halt.{Halt}
 use Rattle.awk_semantics.specs.declared.halt.Halt.TheVariants as halt
 use Rattle.awk_semantics.specs.declared.fault.Fault.TheVariants.{OutOfMemory}
@@ -120,6 +125,33 @@ pub record Computes (x : ValueNode) (m : Machine) (r : Result Value Halt) (m' : 
   pub operands : OnOk r (m'.operands ≡ record m.operands { values = drop (popped x) m.operands.values })
   pub calls : OnOk r (m'.calls ≡ m.calls)
   pub changes : (tables : Tables) (functions : Functions) → Changes (value_of (tables_in m.runtime.names tables) functions x m.operands.values) m.runtime m'.runtime r
+
+-- the topmost operand, where nothing failed
+abbrev pub topmost : Result (Unit {0}) Halt → Machine → Result Value Halt
+topmost (Ok u) m = Ok (first m.operands.values)
+topmost (Err h) m = Err h
+
+-- the value of a node is put on the stack, in the place of what it takes
+pub record Pushes (is_logged : Type 0) (x : ValueNode) (m : Machine) (k : WorldState) (r : Result (Unit {0}) Halt) (m' : Machine) (k' : WorldState) : Type 0 where
+  pub operands : OnOk r (m'.operands ≡ record m.operands { values = first m'.operands.values ∷ drop (popped x) m.operands.values })
+  pub calls : OnOk r (m'.calls ≡ m.calls)
+  pub simulates : (tables : Tables) (functions : Functions) → Simulates is_logged m.runtime k m'.runtime k' (topmost r m') (value_of (tables_in m.runtime.names tables) functions x m.operands.values)
+
+-- the same without the world
+pub record Puts (x : ValueNode) (m : Machine) (r : Result (Unit {0}) Halt) (m' : Machine) : Type 0 where
+  pub operands : OnOk r (m'.operands ≡ record m.operands { values = first m'.operands.values ∷ drop (popped x) m.operands.values })
+  pub calls : OnOk r (m'.calls ≡ m.calls)
+  pub changes : (tables : Tables) (functions : Functions) → Changes (value_of (tables_in m.runtime.names tables) functions x m.operands.values) m.runtime m'.runtime (topmost r m')
+
+-- a node that no loop leans on, and no call
+pub record IsRare (x : ValueNode) : Type 0 where
+  pub push : (w : Value) → x ≢ v.Push w
+  pub read : (y : Variable) → x ≢ v.Read y
+  pub operate : (o : BinaryOperator) → x ≢ v.Operate o
+  pub assign : (o : AssignmentOperator) (p : Place) → x ≢ v.Assign o p
+  pub pre_increment : (o : IncrementOperator) (p : Place) → x ≢ v.PreIncrement o p
+  pub post_increment : (o : IncrementOperator) (p : Place) → x ≢ v.PostIncrement o p
+  pub call : IsStrict x
 
 -- what a node does is done
 pub record Performs (is_logged : Type 0) (x : EffectNode) (m : Machine) (k : WorldState) (r : Result (Unit {0}) Halt) (m' : Machine) (k' : WorldState) : Type 0 where
