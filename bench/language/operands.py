@@ -46,7 +46,7 @@ class Operands(Writer):
     def simple_forms(self):
         forms = super().simple_forms() + [
             lambda: "print ARGC, ARGV[1], ARGV[2]",
-            lambda: f"print {self.pick('getline', 'getline s', 'getline $0')}, NR, FNR, $0, s",
+            lambda: f"print {self.pick('getline', 'getline s')}, NR, FNR, $0, s",
             lambda: "for (k in ARGV) b++; print b",
         ]
         if self.has_name and self.in_rule:

@@ -94,7 +94,7 @@ class Commands(Streams):
     def __init__(self, seed):
         super().__init__(seed)
         self.keeps = self.below(2) == 0
-        self.keeper = self.pick('"cat > o3"', '"cat > o3"', '"sort >> o4"', '"sort | cat >> o5"')
+        self.keeper = self.pick('"cat > c1"', '"cat > c1"', '"sort >> c2"', '"sort | cat >> c3"')
 
     def counted(self):
         return self.pick("NF", "FNR")
@@ -106,7 +106,7 @@ class Commands(Streams):
         """A command that is read."""
         joined = self.pick(f'("echo " {self.word()})', '("cat f" 1 + (b > 2))')
         commands = ["printf 'a b\\\\n7\\\\n'", "cat f1", "sort f1 f2", "cat f1 f2 | sort", "true", "echo 7"]
-        return self.pick(*[f'"{each}"' for each in commands], joined)
+        return self.pick(*[f'"{each}"' for each in commands], *([] if self.keeps else [joined, joined]))
 
     def line_read(self):
         if self.keeps:

@@ -19,14 +19,17 @@ class Texts(Writer):
 
     # Regular expressions.
 
+    def byte_matched(self):
+        return self.random.choice("abk07z :ab")
+
     def atom(self):
-        byte = self.random.choice("abk07z :ab")
+        byte = self.byte_matched()
         return self.pick(byte, byte, byte, ".", "\\*", "\\/", self.random.choice(CLASSES))
 
     def piece(self, height):
         if height > 0 and self.below(3) == 0:
-            return f"({self.pick(self.sequence, self.branches)(height - 1)}){self.pick('', '', '+', '*', '?')}"
-        return self.atom() + self.pick("", "", "", "", "*", "+", "?")
+            return f"({self.pick(self.sequence, self.branches)(height - 1)}){self.pick('', '', '+', '*')}"
+        return self.pick(self.atom(), self.byte_matched() + self.pick("", "*", "+", "?"))
 
     def sequence(self, height):
         return self.atom() + self.several(0, 2, lambda: self.piece(height), "")
@@ -36,20 +39,16 @@ class Texts(Writer):
         return "|".join(first + self.pick("", "", self.piece(height)) for first in firsts)
 
     def ere(self):
-        """Mawk doesn't always find the longest match where two branches begin alike, or where much may be empty."""
+        """A regular expression that matches a byte at least.
+
+        Mawk doesn't always find the longest match where two branches begin alike, or behind a repeat of what matches any
+        of several bytes.
+        """
         height = self.below(3)
-        body = self.pick("", "", self.piece(height)) + self.sequence(height)
+        last = self.pick("", "", self.atom() + self.pick("*", "+"))
+        body = self.pick("", "", self.piece(height)) + self.sequence(height) + last
         branches = self.branches(height)
-        return self.pick(
-            body,
-            f"^{body}",
-            f"{body}$",
-            f"^{body}$",
-            branches,
-            f"^({branches})",
-            f"({branches})$",
-            f"{self.atom()}{self.pick('*', '?')}",
-        )
+        return self.pick(body, f"^{body}", f"{body}$", f"^{body}$", branches, f"^({branches})", f"({branches})$")
 
     def pattern_argument(self):
         """A regular expression, or a text that is one."""
@@ -77,6 +76,10 @@ class Texts(Writer):
     def replacement(self):
         return '"' + self.several(0, 3, lambda: self.pick("a", "k", "&", "\\\\&", "-", "[&]", ""), "") + '"'
 
+    def same(self):
+        """A replacement that makes no text longer, since it may stand in loops."""
+        return self.pick('""', '"&"', '"&"')
+
     def number_leaves(self):
         return super().number_leaves() + [lambda: "RSTART", lambda: "RLENGTH", lambda: "(length)"]
 
@@ -88,8 +91,10 @@ class Texts(Writer):
             lambda: f"match({value()}, {self.pattern_argument()})",
             lambda: f"(match({value()}, {self.pattern_argument()}) \" \" RSTART \" \" RLENGTH)",
             lambda: f"split({text()}, m{self.cut_by()})",
-            lambda: f"sub({self.pattern_argument()}, {self.replacement()}, {self.text_name()})",
-            lambda: f"gsub({self.pattern_argument()}, {self.replacement()}, {self.text_name()})",
+            lambda: f"sub({self.pattern_argument()}, {self.same()}, {self.text_name()})",
+            lambda: f"gsub({self.pattern_argument()}, {self.same()}, {self.text_name()})",
+            lambda: f"gsub(/{self.sequence(1)}/, {self.same()}, {self.text_name()})",
+            lambda: f'gsub(/{self.sequence(1)}/, "{self.pick("a", "k", "-")}", {self.text_name()})',
             lambda: f"int({self.pick(text(), self.number(height))})",
             lambda: f"int(({self.number(height)}) / {1 + self.below(9)})",
             lambda: f"(substr({text()}, 1, 4) + 0)",
@@ -114,14 +119,21 @@ class Texts(Writer):
             lambda: f"({self.text_name()} = substr({text()}, 1, 12))",
         ]
 
+    def exchange_of(self, place):
+        """A sub or gsub of a place, whose text it keeps short before."""
+        arguments = f"{self.pattern_argument()}, {self.replacement()}"
+        if self.below(6) == 0:
+            arguments = f"/{self.byte_matched()}{self.pick('*', '?')}/, \"{self.pick('', '-', 'k', '&')}\""
+        call = f"{self.pick('sub', 'gsub', 'gsub')}({arguments}, {place})"
+        begin = self.pick("", "c = ", "print ")
+        return f'{place} = substr({place}, 1, 12); {begin}{call}; print s "|" t "|" m[1] "|" $0'
+
     def simple_forms(self):
-        place = lambda: self.pick("s", "t", "m[1]", "$0", "s")
-        names = ["sub", "gsub", "gsub"]
-        exchanges = lambda: f"{self.pick(*names)}({self.pattern_argument()}, {self.replacement()}, {place()})"
+        place = lambda: self.pick("s", "t", "m[1]", "$0")
         return super().simple_forms() + 2 * [
-            lambda: f"{self.text_name()} = {self.constant()}; print {exchanges()}, s, t",
-            lambda: f"{self.text_name()} = {self.constant()}; {exchanges()}; print s \"|\" t \"|\" m[1]",
-            lambda: f"print {self.pick('sub', 'gsub')}({self.pattern_argument()}, {self.replacement()}), $0",
+            lambda: f"{self.text_name()} = {self.constant()}; {self.exchange_of(place())}",
+            lambda: f"{self.text_name()} = {self.constant()}; {self.exchange_of(place())}",
+            lambda: f"{self.exchange_of('$0')}; print {self.pick('sub', 'gsub')}({self.pattern_argument()}, \"&\"), $0",
             lambda: f"print match({self.constant()}, {self.pattern_argument()}), RSTART, RLENGTH",
             lambda: f"print split({self.constant()}, m{self.cut_by()}), m[1] \"|\" m[2] \"|\" m[3]",
             lambda: "s = substr(s, 1, 9); t = substr(t, 1, 9)",
