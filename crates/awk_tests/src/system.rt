@@ -85,3 +85,27 @@ fn what_the_system_refuses(rt: HostRuntime) -> Result<(), Fail> {
     expect_refusals(&rt, &mut world);
     Ok(())
 }
+
+// Commands are read to their end and written to; their closings and their runs answer how they ended.
+fn expect_commands<W: World>(rt: &impl Abort, world: &mut W) -> Result<(), WorldFault> {
+    let mut into = [0u8; 2];
+    let input = world.open_input(InputKind::Command, b"echo a; exit 3")?;
+    assert!(rt; world.read(input, &mut into) == Ok(2));
+    assert!(rt; into.as_slice() == b"a\n".as_slice());
+    assert!(rt; world.read(input, &mut into) == Ok(0));
+    assert!(rt; world.close(input) == 3);
+    let output = world.open_output(OutputKind::Command, b"read n; exit $n", Mode::Truncate)?;
+    assert!(rt; world.write(output, b"4\n") == Ok(2));
+    assert!(rt; world.close(output) == 4);
+    assert!(rt; world.run(b"exit 5") == Ok(5));
+    assert!(rt; world.run(b"kill $$") == Ok(256));
+    Ok(())
+}
+
+#[test]
+fn commands_of_the_system(rt: HostRuntime) -> Result<(), Fail> {
+    let alloc = rt.alloc();
+    let mut world = SysWorld::new(alloc, &rt, b"".as_slice(), make_screen(alloc), rt.stderr());
+    expect_commands(&rt, &mut world)?;
+    Ok(())
+}
