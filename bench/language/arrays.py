@@ -9,8 +9,8 @@ class Arrays(Writer):
     """The arrays m and n are printed at the end in the order of their keys, which are few and short.
 
     Where an element is assigned, neither its subscript nor what it is assigned changes anything or looks into an array
-    but for an element that is there, since awks differ on what is evaluated first. An element that may be missing is
-    neither printed as it is nor changed by sub: gawk takes it for a text from there on.
+    but for an element that is there, since awks differ on what is evaluated first. An element that may be
+    uninitialized is neither printed as it is nor changed by sub: gawk takes it for a text from there on.
     """
 
     def __init__(self, seed):
@@ -31,8 +31,8 @@ class Arrays(Writer):
         return f"{self.array()}[{self.key()}]"
 
     def assigned(self):
-        values = [str(self.below(20)), self.constant(), "a % 50", "NR", "substr(s, 1, 3)"]
-        return self.random.choice(values + (["$1", "$2"] if self.in_rule else []))
+        field = self.raw_field()
+        return self.pick(str(self.below(20)), self.constant(), "a % 50", "NR", "substr(s, 1, 3)", field, field)
 
     def member(self):
         return f"(({self.key()}) in {self.array()})"
@@ -53,16 +53,15 @@ class Arrays(Writer):
         return f'({value} "")' if value[:2] in ("m[", "n[") else value
 
     def exchange(self):
-        array, key = self.array(), self.key()
-        replacement = self.pick("", "b", "[&]")
-        return f'{{ if (({key}) in {array}) sub(/{self.ere()}/, "{replacement}", {array}[{key}]) }}'
+        element, replacement = self.element(), self.pick("", "b", "[&]")
+        return f'{{ if ({element} != "") sub(/{self.ere()}/, "{replacement}", {element}) }}'
 
     def walk(self):
         """A walk in which each key does the same, whatever its order."""
         m, n = self.array(), self.array()
         number = self.pick("1", "length(k)", f"({m}[k] == 7)", f"(k in {n})", f"(k < {self.constant()})")
         adds = self.pick("c++", f"c += {number}", f"c += {number}")
-        passed = f"k {self.pick('==', '!=', '~', '<')} {self.constant()}"
+        passed = f"k {self.pick('==', '!=', '<')} {self.constant()}"
         compared = f"(k \"\") {self.pick('<', '==', '>=')} (l \"\")"
         return self.pick(
             f"c = 0; for (k in {m}) {adds}; print c",

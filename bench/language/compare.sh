@@ -4,15 +4,15 @@
 #
 #   bench/language/compare.sh [COUNT [SEED [FOLDER [GROUP..]]]]
 #
-# The groups are control, records, arrays, functions, texts, formats, operands, streams and commands, and without one all of
-# them are taken. The programs, their inputs and what came of them are left in FOLDER/GROUP, if a folder is given.
+# The groups are control, records, arrays, functions, texts, formats, mixed, operands, streams and commands, and without one
+# all of them are taken. The programs, their inputs and what came of them are left in FOLDER/GROUP, if a folder is given.
 set -eu
 
 . "$(dirname "$0")/../random.sh"
 if [ $# -gt 3 ]; then
     shift 3
 else
-    set -- control records arrays functions texts formats operands streams commands
+    set -- control records arrays functions texts formats mixed operands streams commands
 fi
 # An element of ENVIRON that programs read, and the order of bytes in sort.
 export WORD=7 LC_ALL=C

@@ -13,6 +13,7 @@ sys.dont_write_bytecode = True
 from arrays import Arrays
 from formats import Formats
 from functions import Functions
+from mixed import Mixed
 from operands import Operands
 from records import Records
 from streams import Commands, Streams
@@ -26,6 +27,7 @@ GROUPS = {
     "functions": Functions,
     "texts": Texts,
     "formats": Formats,
+    "mixed": Mixed,
     "operands": Operands,
     "streams": Streams,
     "commands": Commands,

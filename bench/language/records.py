@@ -41,7 +41,7 @@ class Records(Writer):
         """A field that may be assigned."""
         return self.pick("$1", "$2", "$3", "$4", "$(NF + ! NF)", "$(NF + 1)", "$(NF + 2)", "$(b % 3 + 3)", "$0")
 
-    def assigned(self):
+    def field_value(self):
         """What a field is assigned: short, and nothing that changes a record."""
         return self.pick(
             str(self.below(20)),
@@ -89,12 +89,12 @@ class Records(Writer):
     def simple_forms(self):
         place = self.place
         return super().simple_forms() + [
-            lambda: f"{place()} = {self.assigned()}",
-            lambda: f"{place()} = {self.assigned()}",
+            lambda: f"{place()} = {self.field_value()}",
+            lambda: f"{place()} = {self.field_value()}",
             lambda: f"{place()} {self.pick('+=', '-=')} {self.number(0)} % 10",
             lambda: f"{place()} {self.pick('++', '--')}",
             lambda: f"{self.pick('++', '--')}{place()}",
-            lambda: f"print ({place()} = {self.assigned()}), NF",
+            lambda: f"print ({place()} = {self.field_value()}), NF",
             lambda: f"NF = {self.below(6)}",
             lambda: f"NF = {self.below(6)}",
             lambda: self.pick("NF++", "if (NF > 0) NF--", "NF += 2", "if (NF > 1) NF -= 1", "NF = NF"),

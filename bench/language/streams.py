@@ -9,6 +9,9 @@ class Streams(Writer):
     def field(self):
         return f"({self.pick('$0', '$1', '$2')} \"\")"
 
+    def raw_field(self):
+        return self.field()
+
     def target(self):
         """A file that is written, which what is printed doesn't change."""
         joined = self.pick(f'("o" {self.below(4)})', '("o" FNR % 3)', '("o" FNR % 3)', '("p" FNR)')
@@ -17,7 +20,7 @@ class Streams(Writer):
     def list(self):
         return self.several(1, 3, lambda: self.value(1), ", ")
 
-    def written(self):
+    def redirected(self):
         into = f"{self.pick('>', '>', '>>')} {self.target()}"
         return self.pick(
             f"print {self.list()} {into}",
@@ -35,11 +38,13 @@ class Streams(Writer):
         """A getline that gives a number."""
         return self.pick(
             f"(getline < {self.file()})",
-            f"(getline {self.text_name()} < {self.file()})",
-            f"(getline {self.text_name()} < {self.file()})",
-            "(getline m[7] < \"f1\")",
-            "(getline $1 < \"f2\")" if self.in_rule else "(getline a < \"f2\") % 10",
+            f"(getline {self.read_place()} < {self.file()})",
+            f"(getline {self.read_place()} < {self.file()})",
+            "(getline $(NF > 0) < \"f2\")" if self.in_rule else "(getline a < \"f2\") % 10",
         )
+
+    def read_place(self):
+        return self.pick(self.text_name(), self.text_name(), "m[7]")
 
     def lines_read(self):
         i, file = self.counter(), self.file()
@@ -63,10 +68,10 @@ class Streams(Writer):
 
     def simple_forms(self):
         return super().simple_forms() + [
-            self.written,
-            self.written,
-            self.written,
-            self.written,
+            self.redirected,
+            self.redirected,
+            self.redirected,
+            self.redirected,
             self.lines_read,
             self.lines_read,
             self.lines_read,
@@ -107,7 +112,7 @@ class Commands(Streams):
         if self.keeps:
             return super().line_read()
         command = self.source()
-        place = self.pick("", self.text_name(), self.text_name(), "m[7]")
+        place = self.pick("", self.read_place(), self.read_place())
         piped = f"({command} | getline {place})"
         return self.pick(piped, piped, super().line_read())
 

@@ -56,7 +56,7 @@ class Texts(Writer):
         ere = self.ere()
         return self.pick(f"/{ere}/", f"/{ere}/", self.spelled(ere), f"({self.spelled(ere)})")
 
-    def separator(self):
+    def cut_by(self):
         """The third argument of split, if any: a regular expression matches a byte at least, wherever it stands."""
         ere = self.several(1, 2, lambda: self.atom() + self.pick("", "", "+"), "") + self.pick("", "|b", "b*", ":?")
         constant = self.pick('" "', '":"', '"a"', '"|"')
@@ -87,7 +87,7 @@ class Texts(Writer):
             lambda: f"index({text()}, {self.letter()})",
             lambda: f"match({value()}, {self.pattern_argument()})",
             lambda: f"(match({value()}, {self.pattern_argument()}) \" \" RSTART \" \" RLENGTH)",
-            lambda: f"split({text()}, m{self.separator()})",
+            lambda: f"split({text()}, m{self.cut_by()})",
             lambda: f"sub({self.pattern_argument()}, {self.replacement()}, {self.text_name()})",
             lambda: f"gsub({self.pattern_argument()}, {self.replacement()}, {self.text_name()})",
             lambda: f"int({self.pick(text(), self.number(height))})",
@@ -123,7 +123,7 @@ class Texts(Writer):
             lambda: f"{self.text_name()} = {self.constant()}; {exchanges()}; print s \"|\" t \"|\" m[1]",
             lambda: f"print {self.pick('sub', 'gsub')}({self.pattern_argument()}, {self.replacement()}), $0",
             lambda: f"print match({self.constant()}, {self.pattern_argument()}), RSTART, RLENGTH",
-            lambda: f"print split({self.constant()}, m{self.separator()}), m[1] \"|\" m[2] \"|\" m[3]",
+            lambda: f"print split({self.constant()}, m{self.cut_by()}), m[1] \"|\" m[2] \"|\" m[3]",
             lambda: "s = substr(s, 1, 9); t = substr(t, 1, 9)",
         ]
 

@@ -2,10 +2,12 @@
 
 import random
 
+from operators import Operators
+
 WORDS = ["1", "2", "a", "k3", "07", "0", "-4", "10", "b", "ab", "3b", "-"]
 
 
-class Writer:
+class Writer(Operators):
     """Writes random programs on which awks have to agree.
 
     Numbers are whole and stay within 31 bits, and texts stay short: what can grow in a loop grows by a sum or by a few
@@ -47,6 +49,10 @@ class Writer:
 
     def counted(self):
         return self.pick("NR", "NF", "FNR")
+
+    def raw_field(self):
+        """A field as it is, where there is one."""
+        return self.pick("$1", "$2") if self.in_rule else '"7"'
 
     def constant(self):
         return self.pick('"a"', '"b"', '""', '"k"', '"3"', '"2b"', '"0"', '"ab"', '" "', '":"', '"-"')
@@ -112,7 +118,7 @@ class Writer:
         forms = [
             lambda: f"({value()} {self.pick('<', '<=', '==', '!=', '>', '>=')} {value()})",
             lambda: f"({value()} {self.pick('<', '<=', '==', '!=', '>', '>=')} {value()})",
-            lambda: f"({value()} && {value()})",
+            lambda: f"({value()} &&{self.pick(' ', ' ', chr(10))}{value()})",
             lambda: f"({value()} || {value()})",
             lambda: f"({value()} {self.pick('~', '!~')} /{self.ere()}/)",
             lambda: f"({value()} {self.pick('~', '!~')} {self.spelled(self.ere())})",
@@ -143,7 +149,7 @@ class Writer:
     # Statements.
 
     def printed(self):
-        return self.value(2)
+        return f"({self.loose()})" if self.below(4) == 0 else self.value(2)
 
     def print(self):
         return f"print {self.several(1, 3, self.printed, ', ')}"
@@ -156,8 +162,8 @@ class Writer:
         s, value = lambda: self.statement(height, in_loop), lambda: self.value(2)
         forms = [
             lambda: f"if ({value()}) {{ {s()} }}",
-            lambda: f"if ({value()}) {{ {s()} }} else {{ {s()} }}",
-            lambda: f"if ({value()}) {self.print()}; else {self.print()}",
+            lambda: f"if ({value()}) {{ {s()} }}{self.pick(' ', chr(10))}else {{ {s()} }}",
+            lambda: f"if ({value()}) {self.print()}{self.pick('; ', chr(10))}else {self.print()}",
             lambda: f"if ({value()}) {{ {s()} }} else if ({value()}) {{ {s()} }} else {{ {s()} }}",
             lambda: f"{{ {s()}; {s()} }}",
             lambda: f"{s()}; {s()}",
@@ -179,7 +185,7 @@ class Writer:
             f"for ({i} = 0; {i}++ < {bound};) {{ {body} }}",
             f"for ({i} = 0; {i} < {bound}; {i}++) {{ {body} }}",
             f"for ({i} = {bound}; {i}; {i}--) {{ {body} }}",
-            f"{i} = 0; while ({i}++ < {bound}) {{ {body} }}",
+            f"{i} = 0; while ({i}++ < {bound}){self.pick(' ', chr(10))}{{ {body} }}",
             f"{i} = 0; do {{ {body} }} while ({i}++ < {bound})",
             f"{i} = 0; for (;;) {{ if ({i}++ >= {bound}) break; {body} }}",
         )
@@ -194,7 +200,8 @@ class Writer:
 
     def block(self, in_rule=False):
         self.in_rule = in_rule
-        block = f"{{ {self.several(1, 4, lambda: self.statement(self.below(3)), '; ')} }}"
+        between = self.pick("; ", "; ", "\n", " # k\n", ";\n\n")
+        block = f"{{ {self.several(1, 4, lambda: self.statement(self.below(3)), between)} }}"
         self.in_rule = False
         return block
 
@@ -219,7 +226,6 @@ class Writer:
         ]
 
     def program(self):
-        """One program, each of whose items is a line."""
         return self.several(1, 4, lambda: self.one_of(self.items()), "\n") + "\n"
 
     def line(self):
