@@ -99,7 +99,7 @@ $ g
 = 0
 "#;
 
-// Programs that read and print by name, and what they leave. Of a break of what they read they go on.
+// Programs that read and print by name, and what they leave. Where what they read breaks, they go on.
 const NAMED: &str = r#"
 $ BEGIN { while ((getline l < "f") > 0) n++; print n, NR, (getline l < "none") }
 [f] 1
@@ -406,7 +406,7 @@ fn expect_disturbances(rt: &impl Abort, alloc: Global, program: &Program) -> Res
     Ok(whole)
 }
 
-// The same of the rows of a table, with buffers of this size; and of those that end where an input breaks, breaks.
+// The same of each row of a table, with buffers of this size; and of its breaks, if a break ends its programs.
 fn expect_disturbed_rows(
     rt: &impl Abort,
     alloc: Global,
