@@ -29,7 +29,7 @@ pub enum Fault {
     PatternRefused,
     /// F7: a format that is none of this profile.
     FormatRefused,
-    /// F8: a field number below 0, or an assigned one above 1,000,000.
+    /// F8: a field number below 0, or an assigned one above 16,777,216.
     FieldNumberOutOfRange,
     /// F9: a main input that can't be opened, or broke.
     InputNotReadable,
@@ -43,8 +43,6 @@ pub enum Fault {
     TooManyStreams,
     /// F14: a command-line assignment that can't be made.
     AssignmentRefused,
-    /// F15: a record separator of two or more bytes.
-    RecordSeparatorTooLong,
     /// F16: a record above 1,073,741,824 bytes.
     RecordTooLong,
 }
@@ -68,7 +66,6 @@ pub fn fault_line(fault: Fault) -> &'static str
         Fault::NextWithoutRecord => "awk: fault 12: next without a record",
         Fault::TooManyStreams => "awk: fault 13: too many streams",
         Fault::AssignmentRefused => "awk: fault 14: assignment refused",
-        Fault::RecordSeparatorTooLong => "awk: fault 15: record separator too long",
         Fault::RecordTooLong => "awk: fault 16: record too long",
     }
 }
@@ -132,7 +129,6 @@ impl From<StreamFault> for Fault {
             StreamFault::InputNotReadable => Fault::InputNotReadable,
             StreamFault::OutputNotOpened => Fault::OutputNotOpened,
             StreamFault::TooManyStreams => Fault::TooManyStreams,
-            StreamFault::SeparatorTooLong => Fault::RecordSeparatorTooLong,
             StreamFault::RecordTooLong => Fault::RecordTooLong,
         }
     }

@@ -10,7 +10,7 @@ use Rattle.awk_text.specs.definitions.Fields.{pieces_of}
 use Rattle.awk_text.specs.declared.span.Span.{Span}
 use Rattle.awk_text.specs.definitions.Functions.{substr_of, lower_of, upper_of}
 use Rattle.awk_lex.specs.declared.token.BuiltIn.{BuiltIn as BuiltInName}
-use Rattle.awk_lex.specs.declared.token.BuiltIn.TheVariants.{Length, Substr, Index, Split, Sub, Gsub, Match, Sprintf, ToLower, ToUpper, Int, System, Close}
+use Rattle.awk_lex.specs.declared.token.BuiltIn.TheVariants.{Length, Substr, Index, Split, Sub, Gsub, Match, Sprintf, ToLower, ToUpper, Int, System, Close, Fflush}
 use Rattle.awk_grammar.specs.Tree.{Expr, Ere, Name}
 use Rattle.awk_variables.specs.declared.special.Special.TheVariants.{Rstart, Rlength}
 use Rattle.awk_semantics.specs.declared.local.Local.{Local}
@@ -20,8 +20,8 @@ use Rattle.awk_semantics.specs.declared.halt.Halt.{Halt}
 use Rattle.awk_semantics.specs.definitions.Faults.{of_values}
 use Rattle.awk_semantics.specs.definitions.Operators.{pattern_in}
 use Rattle.awk_semantics.specs.definitions.Texts.{position_of, find_from, exchanged, start_of, length_of, separator_in, ere_separator}
-use Rattle.awk_semantics.specs.definitions.Primitives.{record_text, put_special, array_number, fill_array, field_separator, format_values}
-use Rattle.awk_semantics.specs.definitions.Streams.{close_named, run_command}
+use Rattle.awk_semantics.specs.definitions.Primitives.{record_text, put_special, array_number, fill_array, is_array, array_length, field_separator, format_values}
+use Rattle.awk_semantics.specs.definitions.Streams.{close_named, run_command, flush_all, flush_named}
 use Rattle.awk_semantics.specs.definitions.Places.{Place, AField, read_place, store}
 
 -- how an argument is taken
@@ -33,6 +33,8 @@ pub data Role : Type 0 where
   AsArray : Role
   -- a place that may be assigned: its old value is read
   AsPlace : Role
+  -- a name of an array stands for its array, and all else for its value
+  AsMeasured : Role
 
 -- an argument that was taken
 pub data Argument : Type 0 where
@@ -42,6 +44,7 @@ pub data Argument : Type 0 where
   OfPlace : (p : Place) (old : Value) → Argument
 
 abbrev pub roles_of : BuiltInName → List Role
+roles_of Length = AsMeasured ∷ []
 roles_of Match = AsValue ∷ AsPattern ∷ []
 roles_of Split = AsValue ∷ AsArray ∷ AsPattern ∷ []
 roles_of Sub = AsPattern ∷ AsValue ∷ AsPlace ∷ []
@@ -63,10 +66,20 @@ abbrev pub array_named : Expr → Argument
 array_named (Name x) = OfArray x
 array_named e = OfArray []
 
+abbrev pub array_or_value : (is_array : Bool) → (name : List ℕ) → Run Value → Run Argument
+array_or_value true x evaluated = ret (OfArray x)
+array_or_value false x evaluated = evaluated >>= λ v. ret (OfValue v)
+
+-- an array, or else a value
+abbrev pub array_or : Expr → Run Value → Run Argument
+array_or (Name x) evaluated = is_array x >>= λ b. array_or_value b x evaluated
+array_or e evaluated = evaluated >>= λ v. ret (OfValue v)
+
 abbrev pub taken_as : Role → Expr → (evaluated : Run Value) → (place : Run Place) → Run Argument
 taken_as AsValue e evaluated place = evaluated >>= λ v. ret (OfValue v)
 taken_as AsPattern e evaluated place = ere_or e evaluated
 taken_as AsArray e evaluated place = ret (array_named e)
+taken_as AsMeasured e evaluated place = array_or e evaluated
 taken_as AsPlace e evaluated place = place >>= λ p. read_place p >>= λ v. ret (OfPlace p v)
 
 -- the value of an argument, where it has one
@@ -175,13 +188,24 @@ applied_all f vs = Ok value.Nothing
 unfoldable pub record_length : Run Value
 record_length = record_text >>= λ v. lift (applied_all Length (v ∷ []))
 
+-- `length` of an array is the count of its elements
+unfoldable pub count_elements : (array : List ℕ) → Run Value
+count_elements x = array_length x >>= λ n. count_value n
+
+-- `fflush` without an argument flushes all outputs
+unfoldable pub flush_outputs : Run Value
+flush_outputs = flush_all >>= λ _. count_value 0
+
 -- what a built-in function makes of its arguments
 unfoldable pub apply_built_in : BuiltInName → List Argument → Run Value
 apply_built_in Length [] = record_length
+apply_built_in Length (OfArray x ∷ arguments) = count_elements x
 apply_built_in Match arguments = lift (pattern_in (text_at arguments 1)) >>= λ t. note_match (find_from t (text_at arguments 0) 0)
 apply_built_in Split arguments = separator_for (slice_get arguments 2) >>= λ separator. split_into (array_at arguments) (pieces_of separator false (text_at arguments 0))
 apply_built_in Sub arguments = exchange false arguments
 apply_built_in Gsub arguments = exchange true arguments
 apply_built_in System arguments = run_command (text_at arguments 0) >>= λ n. ret (value.Number n)
+apply_built_in Fflush [] = flush_outputs
+apply_built_in Fflush (a ∷ arguments) = flush_named (str_of (value_of a)) >>= λ n. ret (value.Number n)
 apply_built_in Close arguments = close_named (text_at arguments 0) >>= λ n. ret (value.Number n)
 apply_built_in f arguments = lift (applied_all f (map value_of arguments))

@@ -36,7 +36,6 @@ stream_fault streams.WriteFailed = fault.WriteFailed
 stream_fault streams.InputNotReadable = fault.InputNotReadable
 stream_fault streams.OutputNotOpened = fault.OutputNotOpened
 stream_fault streams.TooManyStreams = fault.TooManyStreams
-stream_fault streams.SeparatorTooLong = fault.RecordSeparatorTooLong
 stream_fault streams.RecordTooLong = fault.RecordTooLong
 
 abbrev pub variable_fault : VariableFault → Fault

@@ -10,6 +10,7 @@ use Rattle.awk_table.specs.Arrays.{Array, value_at, with_pair, with_key, without
 use Rattle.awk_fields.specs.Record.{RecordPair, split_by, field_of, assignable, with_count, with_field}
 use Rattle.awk_variables.specs.declared.special.Special.{Special}
 use Rattle.awk_variables.specs.declared.special.Special.TheVariants.{Argc, Fs, Ofs, Ors, Rs, Subsep}
+use Rattle.awk_variables.specs.Names.{has_name}
 use Rattle.awk_variables.specs.Variables.{name_of, with_value, is_refused}
 use Rattle.awk_format.specs.Formatted.{formatted}
 use Rattle.awk_semantics.specs.declared.fault.Fault.{Fault}
@@ -154,6 +155,15 @@ local_number (Some (local.Value v)) global = 0
 abbrev pub array_number : State → List ℕ → ℕ
 array_number s x = local_number (local_in s.frames x) (number_in s.array_names x)
 
+abbrev pub is_local_array : Option Local → (global : Bool) → Bool
+is_local_array None global = global
+is_local_array (Some (local.Array n)) global = true
+is_local_array (Some (local.Value v)) global = false
+
+-- whether a name stands for an array
+unfoldable pub is_array : List ℕ → Run Bool
+is_array x s = gives (is_local_array (local_in s.frames x) (has_name s.array_names x)) s
+
 abbrev pub array_in : State → ℕ → Array
 array_in s n = unwrap_or (slice_get s.arrays n) []
 
@@ -172,6 +182,14 @@ has_element_at n key s = gives (is_some (value_at (array_in s n) key)) s
 
 unfoldable pub delete_element_at : ℕ → (key : List ℕ) → Run (Unit {0})
 delete_element_at n key s = gives tt (with_array n (without (array_in s n) key) s)
+
+-- all elements are deleted
+unfoldable pub clear_array_at : ℕ → Run (Unit {0})
+clear_array_at n s = gives tt (with_array n [] s)
+
+-- how many elements an array has
+unfoldable pub array_length_at : ℕ → Run ℕ
+array_length_at n s = gives (length (array_in s n)) s
 
 -- the keys of an array, in the order in which they were made
 unfoldable pub keys_at : ℕ → Run (List (List ℕ))
@@ -203,6 +221,12 @@ elements_from n (text ∷ texts) = (signed_decimal (pos n), value.Input text) �
 unfoldable pub fill_array_at : ℕ → List (List ℕ) → Run (Unit {0})
 fill_array_at n texts s = gives tt (with_array n (elements_from 1 texts) s)
 
+unfoldable pub clear_array : (array : List ℕ) → Run (Unit {0})
+clear_array x s = clear_array_at (array_number s x) s
+
+unfoldable pub array_length : (array : List ℕ) → Run ℕ
+array_length x s = array_length_at (array_number s x) s
+
 unfoldable pub fill_array : (array : List ℕ) → List (List ℕ) → Run (Unit {0})
 fill_array x texts s = fill_array_at (array_number s x) texts s
 
@@ -218,7 +242,7 @@ joined_key vs s = gives (join (text_in s Subsep) (map str_of vs)) s
 
 -- the bodies of the active calls are no higher together
 abbrev pub most_height : ℕ
-most_height = 10000
+most_height = 1000000
 
 abbrev pub height_in : List Frame → ℕ
 height_in [] = 0

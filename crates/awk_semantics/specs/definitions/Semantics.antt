@@ -9,7 +9,7 @@ use Rattle.awk_grammar.specs.declared.tree.BinaryOperator.{BinaryOperator}
 use Rattle.awk_grammar.specs.declared.tree.BinaryOperator.TheVariants.{Concatenate, Infix}
 use Rattle.awk_grammar.specs.declared.tree.PrintForm.{PrintForm}
 use Rattle.awk_grammar.specs.declared.tree.PrintForm.TheVariants as form
-use Rattle.awk_grammar.specs.Tree.{Expr, Number, String, Ere, Name, Element, Field, Group, Call, BuiltIn, Length, PreIncrement, PostIncrement, Getline, PipedGetline, Unary, Binary, Membership, ListMembership, Conditional, Assign, Exprs, Nil, Cons, OptionalExpr, NoExpr, AnExpr, PrintList, Bare, Parenthesized, Output, Standard, Redirected, SimpleStatement, Expression, Print, Delete, Next, Break, Continue, Exit, Return, OptionalSimple, NoSimple, ASimple, Statement, Empty, Simple, Block, If, IfElse, While, Do, ForIn, For, Statements, NoMore, Then}
+use Rattle.awk_grammar.specs.Tree.{Expr, Number, String, Ere, Name, Element, Field, Group, Call, BuiltIn, Length, PreIncrement, PostIncrement, Getline, PipedGetline, Unary, Binary, Membership, ListMembership, Conditional, Assign, Exprs, Nil, Cons, OptionalExpr, NoExpr, AnExpr, PrintList, Bare, Parenthesized, Output, Standard, Redirected, SimpleStatement, Expression, Print, Delete, DeleteAll, Next, NextFile, Break, Continue, Exit, Return, OptionalSimple, NoSimple, ASimple, Statement, Empty, Simple, Block, If, IfElse, While, Do, ForIn, For, Statements, NoMore, Then}
 use Rattle.awk_world.specs.declared.world.InputKind.TheVariants as input
 use Rattle.awk_semantics.specs.declared.flow.Flow.{Flow}
 use Rattle.awk_semantics.specs.declared.flow.Flow.TheVariants as flow
@@ -17,8 +17,8 @@ use Rattle.awk_semantics.specs.declared.halt.Halt.TheVariants as halt
 use Rattle.awk_semantics.specs.declared.local.Local.{Local}
 use Rattle.awk_semantics.specs.definitions.State.{Run, ◌>>=◌, lift, ret}
 use Rattle.awk_semantics.specs.definitions.Operators.{truth_value, changed, applied, by_one, one, operator_of, takes_pattern}
-use Rattle.awk_semantics.specs.definitions.Primitives.{spend, number_of, read_name, read_field, record_text, put, read_element, has_element, delete_element, keys_in, joined_key, check_height, print_bytes, print_line, format_values, set_status}
-use Rattle.awk_semantics.specs.definitions.Streams.{open_target}
+use Rattle.awk_semantics.specs.definitions.Primitives.{spend, number_of, read_name, read_field, record_text, put, read_element, has_element, delete_element, clear_array, keys_in, joined_key, check_height, print_bytes, print_line, format_values, set_status}
+use Rattle.awk_semantics.specs.definitions.Streams.{open_target, close_main}
 use Rattle.awk_semantics.specs.definitions.Places.{Place, AName, AnElement, AField, assign_by, post_increment, main_getline, named_getline}
 use Rattle.awk_semantics.specs.definitions.BuiltIns.{Role, Argument, roles_of, next_role, taken_as, locals_of, record_length, apply_built_in}
 
@@ -153,6 +153,9 @@ module _ (functions : Functions) where
   exec_simple (Expression e) = spend >>= λ _. eval e >>= λ v. ret flow.Normal
   exec_simple (Print form list output) = print form list output >>= λ _. ret flow.Normal
   exec_simple (Delete x es) = spend >>= λ _. key_of [] es >>= λ key. delete_element x key >>= λ _. ret flow.Normal
+  exec_simple (DeleteAll x) = spend >>= λ _. clear_array x >>= λ _. ret flow.Normal
+  -- `nextfile` ends the main input, and goes on as `next`
+  exec_simple NextFile = spend >>= λ _. close_main >>= λ _. lift (Err halt.Next)
   exec_simple Next = spend >>= λ _. lift (Err halt.Next)
   exec_simple Break = spend >>= λ _. ret flow.Break
   exec_simple Continue = spend >>= λ _. ret flow.Continue

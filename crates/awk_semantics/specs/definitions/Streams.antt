@@ -1,8 +1,8 @@
 -- The primitives of a run that reach the outside: the main input, named streams, commands
 -- (POSIX awk, INPUT FILES; Output Statements; Input/Output and General Functions).
-use Rattle.std.specs.Prelude.{ℕ, suc, ◌+◌, nat_le, ℤ, pos, negsuc, Bool, true, false, ◌&&◌, not, List, [], ◌∷◌, ◌++◌, length, filter, codes, Option, Some, None, Ok, Err, bytes_eq, if◌then◌else◌}
+use Rattle.std.specs.Prelude.{ℕ, suc, ◌+◌, nat_le, ℤ, pos, negsuc, Bool, true, false, ◌&&◌, ◌||◌, not, List, [], ◌∷◌, ◌++◌, length, filter, codes, Option, Some, None, is_some, Ok, Err, bytes_eq, if◌then◌else◌}
 use Rattle.awk_value.specs.declared.value.Value.TheVariants as value
-use Rattle.awk_record.specs.Cut.{Ending, Cut, Found, NoMore, BrokenOff, TooLong, BadSeparator, cut_of}
+use Rattle.awk_record.specs.Cut.{Ending, Cut, Found, NoMore, BrokenOff, TooLong, cut_of}
 use Rattle.awk_world.specs.declared.world.InputKind.{InputKind}
 use Rattle.awk_world.specs.declared.world.InputKind.TheVariants as input
 use Rattle.awk_world.specs.declared.world.OutputKind.{OutputKind}
@@ -66,7 +66,6 @@ taken (Found first left) separator source s = asking (RecordOfMain separator sou
 taken NoMore separator source s = asking (RecordOfMain separator source.bytes) None (with_rest s [] source.ending)
 taken BrokenOff separator source s = failing (RecordOfMain separator source.bytes) fault.InputNotReadable (with_rest s [] source.ending)
 taken TooLong separator source s = failing (RecordOfMain separator source.bytes) fault.RecordTooLong (with_rest s source.bytes source.ending)
-taken BadSeparator separator source s = failing (RecordOfMain separator source.bytes) fault.RecordSeparatorTooLong (with_rest s source.bytes source.ending)
 
 -- the first record of a rest, cut by a record separator
 abbrev pub taken_of : Option Source → List ℕ → Run (Option (List ℕ))
@@ -122,7 +121,6 @@ named_taken (Found first left) kind name separator source s = asking (RecordOf k
 named_taken NoMore kind name separator source s = asking (RecordOf kind name separator source.bytes) NoRecord (with_left kind name [] source.ending s)
 named_taken BrokenOff kind name separator source s = asking (RecordOf kind name separator source.bytes) NotReadable (with_left kind name [] source.ending s)
 named_taken TooLong kind name separator source s = failing (RecordOf kind name separator source.bytes) fault.RecordTooLong s
-named_taken BadSeparator kind name separator source s = failing (RecordOf kind name separator source.bytes) fault.RecordSeparatorTooLong s
 
 abbrev pub named_taken_of : Option Source → InputKind → List ℕ → (separator : List ℕ) → Run Answer
 named_taken_of None kind name separator = ret NotReadable
@@ -201,6 +199,22 @@ close_each answer (x ∷ xs) = close_stream (named_of x) >>= λ n. close_each n 
 -- each stream of a name is closed; -1 where none is open
 unfoldable pub close_named : List ℕ → Run ℤ
 close_named name = streams_named name >>= λ xs. close_each (negsuc 0) xs
+
+-- flushes: what was printed is received then, which changes nothing that a program sees
+
+unfoldable pub flush_all : Run (Unit {0})
+flush_all s = gives tt s
+
+abbrev pub has_output : List Stream → List ℕ → Bool
+has_output streams name = is_some (opening_in streams output.File name) || is_some (opening_in streams output.Command name)
+
+-- whether outputs have this name: those that are open, and standard output and standard error
+abbrev pub is_output : List Stream → List ℕ → Bool
+is_output streams name = bytes_eq name (codes "/dev/stdout") || (bytes_eq name (codes "/dev/stderr") || has_output streams name)
+
+-- each output of a name is flushed; -1 where there is none
+unfoldable pub flush_named : List ℕ → Run ℤ
+flush_named name s = gives (if is_output s.streams name then pos 0 else negsuc 0) s
 
 -- a command is run to its end
 unfoldable pub run_command : List ℕ → Run ℤ

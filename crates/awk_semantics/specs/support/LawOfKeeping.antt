@@ -16,8 +16,8 @@ use Rattle.awk_semantics.specs.declared.flow.Flow.{Flow}
 use Rattle.awk_semantics.specs.declared.halt.Halt.{Halt}
 use Rattle.awk_semantics.specs.declared.local.Local.{Local}
 use Rattle.awk_semantics.specs.definitions.State.{Run, ◌>>=◌, lift}
-use Rattle.awk_semantics.specs.definitions.Primitives.{spend, number_of, read_field, record_text, set_record, read_outside, read_name, set_field, put_outside, put, put_special, count_in, read_element_at, store_element_at, has_element_at, delete_element_at, keys_at, fill_array_at, read_element, store_element, has_element, delete_element, keys_in, fill_array, joined_key, field_separator, check_height, print_bytes, print_line, is_inside, set_inside, set_status}
-use Rattle.awk_semantics.specs.definitions.Streams.{open_target, close_named, run_command}
+use Rattle.awk_semantics.specs.definitions.Primitives.{spend, number_of, read_field, record_text, set_record, read_outside, read_name, set_field, put_outside, put, put_special, count_in, read_element_at, store_element_at, has_element_at, delete_element_at, clear_array_at, array_length_at, keys_at, fill_array_at, read_element, store_element, has_element, delete_element, clear_array, array_length, is_array, keys_in, fill_array, joined_key, field_separator, check_height, print_bytes, print_line, is_inside, set_inside, set_status}
+use Rattle.awk_semantics.specs.definitions.Streams.{open_target, close_main, close_named, run_command, flush_all, flush_named}
 use Rattle.awk_semantics.specs.definitions.Inputs.{next_record}
 use Rattle.awk_semantics.specs.definitions.Places.{Place, read_place, store, assign, assign_by, post_increment, main_getline, named_getline}
 use Rattle.awk_semantics.specs.definitions.BuiltIns.{Role, Argument, taken_as, locals_of, note_match, separator_for, split_into, exchange, record_length, apply_built_in}
@@ -89,12 +89,17 @@ pub record PartsKeep : Type 0 where
   pub store_element_at : (n : ℕ) (key : List ℕ) (v : Value) → Keeps (store_element_at n key v)
   pub has_element_at : (n : ℕ) (key : List ℕ) → Keeps (has_element_at n key)
   pub delete_element_at : (n : ℕ) (key : List ℕ) → Keeps (delete_element_at n key)
+  pub clear_array_at : (n : ℕ) → Keeps (clear_array_at n)
+  pub array_length_at : (n : ℕ) → Keeps (array_length_at n)
   pub keys_at : (n : ℕ) → Keeps (keys_at n)
   pub fill_array_at : (n : ℕ) (texts : List (List ℕ)) → Keeps (fill_array_at n texts)
   pub read_element : (x key : List ℕ) → Keeps (read_element x key)
   pub store_element : (x key : List ℕ) (v : Value) → Keeps (store_element x key v)
   pub has_element : (x key : List ℕ) → Keeps (has_element x key)
   pub delete_element : (x key : List ℕ) → Keeps (delete_element x key)
+  pub clear_array : (x : List ℕ) → Keeps (clear_array x)
+  pub array_length : (x : List ℕ) → Keeps (array_length x)
+  pub is_array : (x : List ℕ) → Keeps (is_array x)
   pub keys_in : (x : List ℕ) → Keeps (keys_in x)
   pub fill_array : (x : List ℕ) (texts : List (List ℕ)) → Keeps (fill_array x texts)
   pub joined_key : (vs : List Value) → Keeps (joined_key vs)
@@ -107,8 +112,11 @@ pub record PartsKeep : Type 0 where
   pub set_inside : (n : ℕ) (b : Bool) → Keeps (set_inside n b)
   pub set_status : (v : Value) → Keeps (set_status v)
   pub open_target : (way : Redirection) (name : List ℕ) → Keeps (open_target way name)
+  pub close_main : Keeps close_main
   pub close_named : (name : List ℕ) → Keeps (close_named name)
   pub run_command : (command : List ℕ) → Keeps (run_command command)
+  pub flush_all : Keeps flush_all
+  pub flush_named : (name : List ℕ) → Keeps (flush_named name)
   pub next_record : Keeps next_record
   pub read_place : (p : Place) → Keeps (read_place p)
   pub store : (p : Place) (v : Value) → Keeps (store p v)

@@ -11,7 +11,7 @@ use Rattle.awk_variables.specs.declared.special.Special.TheVariants.{Nr, Fnr}
 use Rattle.awk_semantics.specs.definitions.State.{State, Run, ◌>>=◌, lift, ret}
 use Rattle.awk_semantics.specs.definitions.Operators.{pattern_in}
 use Rattle.awk_semantics.specs.definitions.Texts.{find_from, exchanged}
-use Rattle.awk_semantics.specs.definitions.Primitives.{spend, set_record, count_in, has_element_at, delete_element_at, keys_at, fill_array_at}
+use Rattle.awk_semantics.specs.definitions.Primitives.{spend, set_record, count_in, has_element_at, delete_element_at, clear_array_at, array_length_at, keys_at, fill_array_at}
 use Rattle.awk_semantics.specs.definitions.BuiltIns.{note_match, count_value}
 use Rattle.awk_semantics.specs.definitions.Streams.{Answer, ARecord, NoRecord, NotReadable, next_of}
 use Rattle.awk_semantics.specs.definitions.Inputs.{next_record}
@@ -27,6 +27,13 @@ contains_at a key s = has_element_at (number_at a s) key s
 
 unfoldable pub delete_at : Array → (key : List ℕ) → Run (Unit {0})
 delete_at a key s = delete_element_at (number_at a s) key s
+
+unfoldable pub clear_at : Array → Run (Unit {0})
+clear_at a s = clear_array_at (number_at a s) s
+
+-- `length` of an array
+unfoldable pub count_elements_at : Array → Run Value
+count_elements_at a s = (array_length_at (number_at a s) >>= λ n. count_value n) s
 
 unfoldable pub keys_of_array : Array → Run (List (List ℕ))
 keys_of_array a s = keys_at (number_at a s) s
