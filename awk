@@ -24,8 +24,6 @@ program=$root/out/awk
 lock=$root/out/lock
 # What a build leaves: of each crate what its proof says, and its status.
 build=$root/out/build
-# How many crates are proved side by side.
-lanes=2
 
 say() {
     printf 'awk: %s\n' "$*" >&2
@@ -34,6 +32,16 @@ say() {
 fail() {
     say "$*"
     exit 2
+}
+
+# How many crates are proved side by side: as many as there are processors, each with 3 GB of memory.
+count_lanes() {
+    lanes=$(getconf _NPROCESSORS_ONLN 2>/dev/null) || lanes=2
+    free=$(sed -n 's/^MemAvailable: *\([0-9]*\) kB$/\1/p' /proc/meminfo 2>/dev/null) || free=
+    if [ -n "$free" ] && [ "$((free / 3000000))" -lt "$lanes" ]; then
+        lanes=$((free / 3000000))
+    fi
+    [ "$lanes" -ge 1 ] || lanes=1
 }
 
 # Whether something that the program is made of is newer than it. A folder is newer where a file of
@@ -152,6 +160,8 @@ prove_all() {
     left=$needed
     count=$(printf '%s\n' $needed | wc -l)
     begun=$(date +%s)
+    count_lanes
+    say "the first call proves $count crates, up to $lanes side by side, which takes about an hour"
     while [ -n "$left$running" ]; do
         for crate in $left; do
             set -- $running
