@@ -7,7 +7,7 @@ use Rattle.awk_grammar.specs.declared.tree.Expr.{Expr as CodeExpr}
 use Rattle.awk_grammar.specs.declared.tree.Expr.TheVariants as code
 use Rattle.awk_grammar.specs.declared.tree.Statement.{Statement as CodeStatement}
 use Rattle.awk_grammar.specs.declared.tree.Item.{Item as CodeItem}
-use Rattle.awk_grammar.specs.Tree.{Expr, Name, Exprs, Nil, Cons, NoMore, Then}
+use Rattle.awk_grammar.specs.Tree.{Exprs, Nil, Cons, NoMore, Then}
 use Rattle.awk_grammar.specs.View.{expr_of, exprs_of, statement_of, statements_of, item_of, items_of}
 use Rattle.awk_kinds.specs.declared.uses.ArrayUse.{ArrayUse}
 use Rattle.awk_kinds.specs.declared.uses.NameUse.{NameUse}

@@ -43,7 +43,7 @@ abbrev pub has_refused_parameter : List Item → Item → Bool
 has_refused_parameter items (Function f parameters block) = has_repeat parameters || list_any (λ x. is_function items x || is_special x) parameters
 has_refused_parameter items x = false
 
--- the variable that a form uses as a scalar, if it uses one; a variable that `length` measures is not used so
+-- the variable that a form uses as a scalar, if it uses one; one that is measured is not so used
 abbrev pub in_scalar_use : NameUse → List Variable
 in_scalar_use (AsScalar v) = v ∷ []
 in_scalar_use name = []
@@ -62,7 +62,7 @@ abbrev pub variables_among : List NameUse → List Variable
 variables_among [] = []
 variables_among (name ∷ names) = in_name_use name ++ variables_among names
 
--- all variables that are used, in any way
+-- all variables that are used, in any way: as arrays or passed, as scalars, or measured
 abbrev pub variables_in : List Item → List Variable
 variables_in items = map in_array_use (uses_in items) ++ variables_among (names_in items)
 
