@@ -48,6 +48,7 @@ item_word stack word.Do h0 h1 h2 = refl
 item_word stack word.Break h0 h1 h2 = refl
 item_word stack word.Continue h0 h1 h2 = refl
 item_word stack word.Next h0 h1 h2 = refl
+item_word stack word.NextFile h0 h1 h2 = refl
 item_word stack word.Exit h0 h1 h2 = refl
 item_word stack word.Return h0 h1 h2 = refl
 item_word stack word.Delete h0 h1 h2 = refl

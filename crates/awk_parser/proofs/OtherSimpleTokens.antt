@@ -1,11 +1,11 @@
 -- What the parser over lists does at the tokens that no clause of a function names.
-use Rattle.std.proofs.Common.{◌≡◌, false, List, ◌∷◌, Option, refl}
+use Rattle.std.proofs.Common.{◌≡◌, ℕ, false, List, ◌∷◌, Option, refl}
 use Rattle.awk_lex.specs.declared.token.Kind.{Kind}
 use Rattle.awk_lex.specs.declared.token.Kind.TheVariants as t
 use Rattle.awk_grammar.specs.declared.tree.PrintForm.{PrintForm}
 use Rattle.awk_grammar.specs.definitions.Height.{max_height, height_of_print_list}
-use Rattle.awk_grammar.specs.definitions.Tree.{SimpleStatement, OptionalSimple, OptionalExpr, Parenthesized}
-use Rattle.awk_grammar.specs.support.Nodes.{over_one}
+use Rattle.awk_grammar.specs.definitions.Tree.{SimpleStatement, OptionalSimple, OptionalExpr, Parenthesized, DeleteAll}
+use Rattle.awk_grammar.specs.support.Nodes.{limited, over_one}
 use Rattle.awk_grammar.specs.support.Parser as parser
 
 -- the value of an exit or a return
@@ -35,6 +35,11 @@ exit_has_value without begun stack t.OpenBracket h0 h1 h2 = refl
 exit_has_value without begun stack t.CloseBracket h0 h1 h2 = refl
 exit_has_value without begun stack t.OpenParenthesis h0 h1 h2 = refl
 exit_has_value without begun stack t.CloseParenthesis h0 h1 h2 = refl
+
+-- the end of a deletion of a whole array
+pub deletes_all : (a : List ℕ) (stack : List parser.Frame) (k : Kind) → (k ≡ t.OpenBracket → ⊥) → parser.after_delete_name max_height a stack k ≡ parser.end_simple max_height k (limited max_height 1 (DeleteAll a)) stack
+deletes_all a stack t.OpenBracket h = absurd (h refl)
+deletes_all a stack k h = refl
 
 -- the parts of a `for`
 pub first_begins : (stack : List parser.Frame) (k : Kind) → (k ≡ t.Semicolon → ⊥) → parser.before_for_first max_height stack k ≡ parser.start_part max_height k (parser.InForFirst ∷ stack)

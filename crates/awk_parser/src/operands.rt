@@ -67,18 +67,17 @@ fn after_string(
     Ok(operand(in_print_list, Operand::string(alloc, bytes)?))
 }
 
-/// An ERE, before which so many stand in the program.
+/// An ERE.
 fn after_ere(
     alloc: Global,
     text: &Bytes,
-    number: usize,
     in_print_list: bool,
 ) -> Result<Option<ParserState>, AllocError>
     ensures { (frames : List Frame) → IfOk result (λ state. next_of state frames
         ≡ parser.AfterOperand in_print_list (parser.leaf max_height (t.Ere text.now)) (stack_of frames)) }
 {
     let text = text.clone()?;
-    Ok(operand(in_print_list, Operand::ere(alloc, Ere { text, number })?))
+    Ok(operand(in_print_list, Operand::ere(alloc, Ere { text })?))
 }
 
 /// A name.
@@ -266,7 +265,7 @@ pub fn start_operand(
     match next.kind {
         Kind::Number(n) => Ok(operand(in_print_list, Operand::number(alloc, *n)?)),
         Kind::String(bytes) => after_string(alloc, bytes, in_print_list),
-        Kind::Ere(text) => after_ere(alloc, text, next.eres, in_print_list),
+        Kind::Ere(text) => after_ere(alloc, text, in_print_list),
         Kind::Name(name) => after_name(name, in_print_list),
         Kind::Called(name) => before_call(alloc, name, in_print_list),
         Kind::BuiltIn(function) => after_built_in(alloc, *function, in_print_list),

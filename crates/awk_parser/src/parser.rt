@@ -183,7 +183,6 @@ pub(crate) fn finish(
 {
     let next = NextToken {
         kind: &Kind::Newline,
-        eres: 0,
     };
     let state = step(alloc, state, next, stack)?;
     let is_between_items = matches!(state, Some(ParserState::Item(ItemState::BetweenItems)));

@@ -14,7 +14,7 @@ use awk_frames::stack::push;
 use awk_frames::state::{ItemState, NextToken, ParserState};
 use awk_grammar::tree::Tree;
 use awk_lex::refusal::{Refusal, RefusalCode};
-use awk_lex::token::{Kind, Token};
+use awk_lex::token::Token;
 use std::alloc::Global;
 
 /// The tree that the tokens spell (POSIX awk, Grammar).
@@ -30,19 +30,15 @@ pub fn read(alloc: Global, tokens: &[Token]) -> Result<Tree, Refusal>
     let mut stack = Vec::new(alloc);
     push(&mut stack, Frame::Program(Some(CheckedItems::new(alloc))))?;
     let mut state = ParserState::Item(ItemState::BetweenItems);
-    let mut eres = 0;
     for token in tokens {
-        let kind = &token.kind;
-        let Some(then) = step(alloc, state, NextToken { kind, eres }, &mut stack)? else {
+        let next = NextToken { kind: &token.kind };
+        let Some(then) = step(alloc, state, next, &mut stack)? else {
             return Err(Refusal {
                 code: RefusalCode::NotAProgram,
                 line: token.line,
             });
         };
         state = then;
-        if matches!(kind, Kind::Ere(_)) {
-            eres += 1;
-        }
     }
     match finish(alloc, state, &mut stack)? {
         Some(Some(checked)) => Ok(Tree {

@@ -8,7 +8,7 @@ ghost use Rattle.awk_frames.specs.support.FrameView.{list_of, expression_frame_o
 
 use crate::for_part_ends::{end_part, is_part_on};
 use crate::operands::start_operand;
-use crate::simple_nodes::{delete, simple};
+use crate::simple_nodes::{delete, delete_all, simple};
 use crate::statements::end_simple_statement;
 use crate::taken::begin;
 use awk_frames::checked_statements::CheckedSimple;
@@ -64,7 +64,7 @@ pub fn after_delete_subscript(
     }
 }
 
-/// Behind the word `delete` and a name.
+/// Behind the word `delete` and a name: its subscripts, or the whole array is meant.
 pub(crate) fn after_delete_name(
     alloc: Global,
     next: NextToken,
@@ -80,7 +80,7 @@ pub(crate) fn after_delete_name(
             let frame = Frame::list(alloc, ListHead::Delete(name), list)?;
             begin(frame, false, false, stack)
         }
-        _ => Ok(None),
+        _ => end_simple(alloc, next, Some(delete_all(name)), stack),
     }
 }
 

@@ -1,10 +1,10 @@
 // The nodes of simple statements: none where a child is none or the node is too high.
 
-ghost use Rattle.std.specs.Prelude.{◌≡◌, IfOk};
+ghost use Rattle.std.specs.Prelude.{◌≡◌, Some, IfOk};
 ghost use Rattle.awk_grammar.specs.definitions.Tree as t;
 ghost use Rattle.awk_grammar.specs.definitions.Height.{max_height, height_of_print_list};
 ghost use Rattle.awk_grammar.specs.definitions.Height.{height_of_simple, height_of_statement};
-ghost use Rattle.awk_grammar.specs.support.Nodes.{over_one};
+ghost use Rattle.awk_grammar.specs.support.Nodes.{limited, over_one};
 ghost use Rattle.awk_grammar.specs.support.ParserStatements as parser;
 ghost use Rattle.awk_frames.specs.support.CheckedExpressions.{checked_exprs};
 ghost use Rattle.awk_frames.specs.support.CheckedStatementNodes.{checked_print_list, checked_simple};
@@ -58,6 +58,16 @@ pub(crate) fn delete(name: Bytes, subscripts: Option<CheckedExprs>) -> Option<Ch
     let subscripts = subscripts?;
     let height = subscripts.height + 1;
     CheckedSimple::of(SimpleStatement::Delete(name, subscripts.exprs), height)
+}
+
+/// `delete name`
+pub(crate) fn delete_all(name: Bytes) -> CheckedSimple
+    ensures { checked_simple (Some result) ≡ limited max_height 1 (t.DeleteAll name) }
+{
+    CheckedSimple {
+        simple: SimpleStatement::DeleteAll(name),
+        height: 1,
+    }
 }
 
 /// `exit`, with its value or without.

@@ -26,6 +26,16 @@ pub(crate) fn next() -> CheckedSimple
     }
 }
 
+/// `nextfile`
+pub(crate) fn next_file() -> CheckedSimple
+    ensures { checked_simple (Some result) ≡ limited max_height 1 t.NextFile }
+{
+    CheckedSimple {
+        simple: SimpleStatement::NextFile,
+        height: 1,
+    }
+}
+
 /// `break`
 pub(crate) fn break_statement() -> CheckedSimple
     ensures { checked_simple (Some result) ≡ limited max_height 1 t.Break }

@@ -12,7 +12,7 @@ use crate::items::{end_item, make_item};
 use crate::operands::{before_parenthesis, start_operand};
 use crate::statement_nodes::{
     block, break_statement, continue_statement, empty, for_in, for_loop, if_else, if_statement,
-    next as next_statement, one_more_statement, while_loop,
+    next as next_statement, next_file, one_more_statement, while_loop,
 };
 use crate::taken::{begin_body, begin_statement};
 use awk_frames::checked_statements::{CheckedPart, CheckedStatement, CheckedStatements};
@@ -104,6 +104,7 @@ fn start_keyword(
 {
     let state = match keyword {
         Keyword::Next => { StatementState::AfterSimple(Box::new(alloc, Some(next_statement()))?) }
+        Keyword::NextFile => { StatementState::AfterSimple(Box::new(alloc, Some(next_file()))?) }
         Keyword::Break => { StatementState::AfterSimple(Box::new(alloc, Some(break_statement()))?) }
         Keyword::Continue => {
             StatementState::AfterSimple(Box::new(alloc, Some(continue_statement()))?)

@@ -1,4 +1,4 @@
-use Rattle.std.proofs.Common.{inl, inr, refl, sym, ap, ◌∙◌, arith}
+use Rattle.std.proofs.Common.{inl, inr, refl, sym, ap, ◌∙◌}
 use Rattle.awk_grammar.specs.definitions.Height.{max_height}
 use Rattle.awk_lex.specs.Told.{kinds_of}
 use Rattle.awk_grammar.specs.support.Parser.{BetweenItems, answer}
@@ -6,7 +6,6 @@ use Rattle.awk_frames.specs.support.FrameView.{state_of}
 use Rattle.awk_parser.proofs.TokensInTurn.{read_on, read_all, refused_at}
 use Rattle.awk_parser.proofs.WhereStopped.{reached_on, stops_at, stops_behind}
 use Rattle.awk_parser.proofs.read.read.Goals as goal
-use Rattle.awk_parser.proofs.read.read.Goals.{then-matches, else-matches}
 
 pub returns-in_default-clause-answered : goal.returns-in_default-clause-answered
 returns-in_default-clause-answered c =
@@ -28,9 +27,6 @@ loop-token-preserved c =
       stands =
           reached_on (state_of c.loop-token.state c.loop-token.stack.items) (state_of c.in-Some.then c.step.new.stack.items) c.args.tokens.now c.loop-token.token-index c.token-item.result
           c.loop-token-test.true c.token-item.is c.loop-token.invariant.stands is;
-      counted =
-          let counted = c.loop-token.invariant.counted in
-          elim c.if-matches.branch [ then-matches w ↦ omega arith | else-matches w ↦ omega arith ];
     }
 
 pub loop-token-init : goal.loop-token-init
@@ -39,7 +35,6 @@ loop-token-init c =
     record {
       read = ap (λ k. answer max_height (BetweenItems k) (kinds_of c.args.tokens.now)) stack;
       stands = ap (λ k. BetweenItems k) (sym stack);
-      counted = omega arith;
     }
 
 pub returns-in-Some-Some-clause-answered : goal.returns-in-Some-Some-clause-answered

@@ -1,4 +1,4 @@
-use Rattle.std.proofs.Common.{◌≡◌, ◌≤◌, take, drop}
+use Rattle.std.proofs.Common.{◌≡◌, take, drop}
 use Rattle.awk_lex.specs.Told.{kinds_of}
 use Rattle.awk_grammar.specs.definitions.Height.{max_height}
 use Rattle.awk_grammar.specs.support.Parser as parser
@@ -11,5 +11,4 @@ invariant-loop-token l =
     record {
       read : parser.answer max_height (state_of l.state l.stack.items) (kinds_of (drop l.token-index l.tokens)) ≡ parser.read max_height (kinds_of l.tokens);
       stands : reached (kinds_of (take l.token-index l.tokens)) ≡ state_of l.state l.stack.items;
-      counted : l.eres ≤ l.token-index;
     }
