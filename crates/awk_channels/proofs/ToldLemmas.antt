@@ -59,6 +59,7 @@ told_decided separator a id log s whole seen new result r (inr decides) h =
     let all : TooLong ≡ cut_of separator whole s.ending = sym (ap (λ b. cut_of separator b s.ending) r.same ∙ decides r.more s.ending) in
     let answer = subst (λ (c : Cut). IsAnswerOf c None result seen new) here h in
     (whole, subst (λ (c : Cut). Tells c result whole whole) all (answer.0, refl), subst (λ (p : Pending). Rest a id log s whole p.bytes p.ending) (sym answer.1) r)
+
 is_broken_off : (c : Cut) → (c ≡ BrokenOff) ⊎ (c ≢ BrokenOff)
 is_broken_off (Found first rest) = inr (λ (e : Found first rest ≡ BrokenOff). cc)
 is_broken_off NoMore = inr (λ (e : NoMore ≡ BrokenOff). cc)
