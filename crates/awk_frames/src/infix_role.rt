@@ -110,7 +110,7 @@ impl InfixRole {
         ensures { result ≡ parser.continues (role_of self) (operand_of operand.now) greatest_allowed }
     {
         match self {
-            InfixRole::Assigns(_) => operand.is_place && EXPR <= greatest_allowed,
+            InfixRole::Assigns(_) => operand.is_place && MEMBERSHIP <= greatest_allowed,
             InfixRole::Increments(_) if operand.is_place && POST_INCREMENT <= greatest_allowed =>
                 true,
             InfixRole::Subscripts | InfixRole::Ends => false,

@@ -35,6 +35,13 @@ pub fn getline_operand(
     Ok(Operand::new(PIPE, tree))
 }
 
+// The precedence of a node of a level, by that of its last child: what ends in an assignment is any expression.
+fn ending(last: u8, level: u8) -> u8
+    ensures { result ≡ parser.ending last level }
+{
+    if last >= EXPR { EXPR } else { level }
+}
+
 impl NodeFrame {
     /// The greatest precedence that may stand as the last child.
     pub(crate) fn greatest_allowed(&self) -> u8
@@ -45,7 +52,7 @@ impl NodeFrame {
             NodeFrame::Unary(_) => UNARY,
             NodeFrame::Binary(operator, _) => operator.greatest_right(),
             NodeFrame::Assign(..) => EXPR,
-            NodeFrame::SecondChoice(..) => CONDITIONAL,
+            NodeFrame::SecondChoice(..) => EXPR,
             NodeFrame::PreIncrement(_) => FIELD_REFERENCE,
             NodeFrame::GetlinePlace(_) => FIELD_REFERENCE,
             NodeFrame::GetlineFile(_) => FIELD_REFERENCE,
@@ -85,7 +92,7 @@ impl NodeFrame {
             }
             NodeFrame::Binary(operator, left) => {
                 let tree = binary(alloc, operator, left.tree, operand.tree)?;
-                Ok(Operand::new(operator.precedence(), tree))
+                Ok(Operand::new(ending(operand.precedence, operator.precedence()), tree))
             }
             NodeFrame::Assign(operator, place) => {
                 let tree = assign(alloc, operator, place.tree, operand.tree)?;
@@ -95,7 +102,7 @@ impl NodeFrame {
                 let Choice { condition, first } = Box::into_inner(choice);
                 let condition = Box::into_inner(condition);
                 let tree = conditional(alloc, condition.tree, first.tree, operand.tree)?;
-                Ok(Operand::new(CONDITIONAL, tree))
+                Ok(Operand::new(ending(operand.precedence, CONDITIONAL), tree))
             }
             NodeFrame::GetlinePlace(command) => getline_operand(
                 alloc,

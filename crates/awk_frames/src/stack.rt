@@ -5,7 +5,7 @@ ghost use Rattle.awk_grammar.specs.support.Parser as parser;
 ghost use Rattle.awk_frames.specs.support.FrameView.{frame_of, stack_of, popped};
 
 use crate::frame::{ExpressionFrame, Frame};
-use awk_grammar::precedence::{CONDITIONAL, EXPR, FIELD_REFERENCE};
+use awk_grammar::precedence::{EXPR, FIELD_REFERENCE};
 use std::alloc::AllocError;
 
 /// A node begins.
@@ -30,7 +30,6 @@ impl Frame {
     {
         match self {
             Frame::Node(node) => node.greatest_allowed(),
-            Frame::Expression(ExpressionFrame::FirstChoice(_)) => CONDITIONAL,
             Frame::Expression(ExpressionFrame::Output(..)) => FIELD_REFERENCE,
             _ => EXPR,
         }

@@ -15,7 +15,7 @@ use Rattle.awk_lex.specs.declared.token.BuiltIn.TheVariants as built_in
 use Rattle.awk_lex.specs.declared.token.Operator.TheVariants as operator
 use Rattle.awk_grammar.specs.declared.tree.UnaryOperator.TheVariants as prefix
 use Rattle.awk_grammar.specs.definitions.Tree.{Expr, Number, String, Ere, Name, Element, Field, Group, Call, BuiltIn, Length, PreIncrement, PostIncrement, Getline, PipedGetline, Unary, Binary, Membership, ListMembership, Conditional, Assign, Exprs, Nil, Cons, OptionalExpr, NoExpr, AnExpr}
-use Rattle.awk_grammar.specs.definitions.Precedence.{operator_precedence, greatest_left, is_greater, expr_precedence}
+use Rattle.awk_grammar.specs.definitions.Precedence.{operator_precedence, greatest_left, is_greater, right_precedence, expr_precedence}
 use Rattle.awk_grammar.specs.definitions.Arguments.{is_place, count, accepts_list}
 use Rattle.awk_grammar.specs.definitions.OperandsAllowed.{KeepsPrecedence, AllKeepPrecedence, PlaceKeepsPrecedence}
 use Rattle.awk_grammar.specs.definitions.SpellingOfExpressions.{newlines, allows_newlines, newlines_if, prefix_of, begins_sign, begins_place, begins_less, begins_parenthesis, Joined, StandsAsOperand, Spells, SpellsList, SpellsMore, SpellsPlace}
@@ -25,7 +25,7 @@ use Rattle.awk_grammar.specs.support.UnlimitedState.{Frame, InGroup, InCall, InB
 use Rattle.awk_grammar.specs.support.UnlimitedOperands.{start_operand}
 use Rattle.awk_grammar.specs.support.UnlimitedStatements.{redirect_to_pipe}
 use Rattle.awk_grammar.specs.support.UnlimitedParser.{shift, after_reduced, step, whole, answer}
-use Rattle.awk_grammar.proofs.RightEdges.{pipes, next, subscripts, Stops, StopsTo, bounds, precedence_most, place_precedence, neither, tight_place, stops_end, starts_role, steps_role, no_file, no_place, stops}
+use Rattle.awk_grammar.proofs.RightEdges.{pipes, next, subscripts, Stops, StopsTo, bounds, precedence_most, as_right, place_precedence, neither, tight_place, stops_end, starts_role, steps_role, no_file, no_place, stops}
 
 test_true : {A : Type 0} (b : Bool) (x y : A) → b ≡ true → cond b x y ≡ x
 test_true true x y h = refl
@@ -247,7 +247,7 @@ comma : (q : ListFrame) (e : Expr) (done : Exprs) (k : List Frame) (ts : List Ki
 comma (OfPrint how) e done k ts = refl
 comma q e done k ts = refl
 
-room : (q : ListFrame) (done : Exprs) (e : Expr) → expr_precedence e ≤ greatest_allowed (frame q done)
+room : (q : ListFrame) (done : Exprs) (e : Expr) → right_precedence e ≤ greatest_allowed (frame q done)
 room (OfPrint how) done e = precedence_most e
 room q done e = precedence_most e
 
@@ -331,7 +331,7 @@ getline_begins : (s g : Bool) (k : List Frame) (ts u : List Kind) → ts ≡ t.K
 getline_begins s g k ts u p h = ap (answer (BeforeOperand s g k)) p ∙ ap (λ x. answer x u) (when_true _ _ (le-leb 3 (greatest_allowed_on k) h))
 
 mutual
-  pub complete : (e : Expr) (ts rest : List Kind) (s g : Bool) (k : List Frame) → KeepsPrecedence g e → Spells e ts rest → expr_precedence e ≤ greatest_allowed_on k → Stops (next g rest) e → answer (BeforeOperand s g k) ts ≡ answer (AfterOperand g e k) rest
+  pub complete : (e : Expr) (ts rest : List Kind) (s g : Bool) (k : List Frame) → KeepsPrecedence g e → Spells e ts rest → right_precedence e ≤ greatest_allowed_on k → Stops (next g rest) e → answer (BeforeOperand s g k) ts ≡ answer (AfterOperand g e k) rest
   complete (Number n) ts rest s g k l p h z = ap (answer (BeforeOperand s g k)) p
   complete (String b) ts rest s g k l p h z = ap (answer (BeforeOperand s g k)) p
   complete (Ere b) ts rest s g k l p h z = ap (answer (BeforeOperand s g k)) p
@@ -340,7 +340,7 @@ mutual
   complete (Element a xs) ts rest s g k l p h z =
       ap (answer (BeforeOperand s g k)) p.1 ∙ element_read a xs g k p.0 rest l.0 (complete_list xs (OfElement a g) Nil p.0 (t.CloseBracket ∷ rest) false k l.1 p.2 refl)
   complete (Field e) ts rest s g k l p h z =
-      ap (answer (BeforeOperand s g k)) p.1 ∙ complete e p.0 rest false g (InField ∷ k) l.1 p.2 l.0 z.1 ∙ reduced g InField k e rest refl refl z.0
+      ap (answer (BeforeOperand s g k)) p.1 ∙ complete e p.0 rest false g (InField ∷ k) l.1 p.2 (as_right e 2 l.0) z.1 ∙ reduced g InField k e rest refl refl z.0
   complete (Group e) ts rest s g k l p h z =
       ap (answer (BeforeOperand s g k)) p.1 ∙ complete e p.0 (t.CloseParenthesis ∷ rest) false false (InGroup g Nil ∷ k) l p.2 (precedence_most e) (stops_end false e l)
   complete (Call f xs) ts rest s g k l p h z =
@@ -354,7 +354,7 @@ mutual
       ∙ complete e p.0 rest false g (InPreIncrement x ∷ k) l.1 p.2 m z.1 ∙ reduced g (InPreIncrement x) k e rest (ap not l.0) refl z.0
   complete (PostIncrement x e) ts rest s g k l p h z =
       let m = place_precedence e l.0 in
-      let m' : expr_precedence e ≤ greatest_allowed_on k = omega arith in
+      let m' : right_precedence e ≤ greatest_allowed_on k = omega arith in
       complete e ts (t.Increment x ∷ rest) s g k l.1 p m' (tight_place (Increments x) g e refl l.1 l.0)
       ∙ ap (λ y. answer y rest) (shifted (t.Increment x) (Increments x) g e k refl refl (or_left _ _ (and_from _ _ l.0 (le-leb 3 (greatest_allowed_on k) h))) ∙ test_true (is_place e) _ _ l.0)
   complete (Getline NoExpr NoExpr) ts rest s g k l p h z =
@@ -366,43 +366,43 @@ mutual
   complete (Getline NoExpr (AnExpr e)) ts rest s g k l p h z =
       let q = p.4 in
       getline_begins s g k ts p.0 p.2 h ∙ ap (answer (AfterGetline NoExpr g k)) (p.3.0 ∙ q.1)
-      ∙ complete e q.0 rest false g (InGetlineFile NoExpr ∷ k) l.1.1 q.2 l.1.0 z.1 ∙ reduced g (InGetlineFile NoExpr) k e rest refl refl z.0
+      ∙ complete e q.0 rest false g (InGetlineFile NoExpr ∷ k) l.1.1 q.2 (as_right e 1 l.1.0) z.1 ∙ reduced g (InGetlineFile NoExpr) k e rest refl refl z.0
   complete (Getline (AnExpr d) (AnExpr e)) ts rest s g k l p h z =
       let q = p.4 in
       getline_begins s g k ts p.0 p.2 h ∙ getline_place NoExpr g k d p.0 p.1 l.0.0 p.3
       ∙ complete d p.0 p.1 false g (InGetlinePlace NoExpr ∷ k) l.0.1 p.3 (place_precedence d l.0.0) (tight_place (next g p.1) g d (ap (λ x. subscripts (next g x)) q.1) l.0.1 l.0.0)
       ∙ ap (answer (AfterOperand g d (InGetlinePlace NoExpr ∷ k))) q.1 ∙ filed g d k q.0 l.0.0
-      ∙ complete e q.0 rest false g (InGetlineFile (AnExpr d) ∷ k) l.1.1 q.2 l.1.0 z.1 ∙ reduced g (InGetlineFile (AnExpr d)) k e rest refl refl z.0
+      ∙ complete e q.0 rest false g (InGetlineFile (AnExpr d) ∷ k) l.1.1 q.2 (as_right e 1 l.1.0) z.1 ∙ reduced g (InGetlineFile (AnExpr d)) k e rest refl refl z.0
   complete (PipedGetline c to) ts rest s g k l p h z =
-      let m : expr_precedence c ≤ greatest_allowed_on k = omega (arith, l.0) in
+      let m : right_precedence c ≤ greatest_allowed_on k = omega (arith, as_right c 9 l.0) in
       complete c ts (t.Bar ∷ t.Keyword word.Getline ∷ p.0) s g k l.1 p.1 m (stops Pipes g c ts (t.Bar ∷ t.Keyword word.Getline ∷ p.0) refl refl refl l.1 p.1 l.0)
       ∙ bars g c k p.0 l.0 h ∙ complete_to c to p.0 rest g k l.2 p.2 z
   complete (Unary o e) ts rest s g k l p h z =
       ap (answer (BeforeOperand s g k)) p.1 ∙ unary_begins o s g k p.0 h
-      ∙ complete e p.0 rest false g (InUnary o ∷ k) l.1 p.2 l.0 z.1 ∙ reduced g (InUnary o) k e rest refl refl z.0
+      ∙ complete e p.0 rest false g (InUnary o ∷ k) l.1 p.2 (as_right e 5 l.0) z.1 ∙ reduced g (InUnary o) k e rest refl refl z.0
   complete (Binary o a b) ts rest s g k l p h z =
-      let m : expr_precedence a ≤ greatest_allowed_on k = omega (arith, bounds o, l.0) in
+      let m : right_precedence a ≤ greatest_allowed_on k = omega (arith, bounds o, as_right a (greatest_left o) l.0) in
       complete a ts p.0 s g k l.2 p.2 m (left_stops o g a b ts p.0 p.1 rest p.4 l.4 l.2 p.2 p.5 l.0)
       ∙ joins o g a b k ts p.0 p.1 rest p.4 p.2 p.3 p.5 l.4 l.0 h
       ∙ complete b p.1 rest (loose o) g (InBinary o a ∷ k) l.3 p.5 l.1 z.1 ∙ reduced g (InBinary o a) k b rest refl refl z.0
   complete (Membership e a) ts rest s g k l p h z =
-      let m : expr_precedence e ≤ greatest_allowed_on k = omega (arith, l.0) in
+      let m : right_precedence e ≤ greatest_allowed_on k = omega (arith, as_right e 12 l.0) in
       complete e ts (t.Keyword word.In ∷ t.Name a ∷ rest) s g k l.1 p m (stops TestsMembership g e ts (t.Keyword word.In ∷ t.Name a ∷ rest) refl refl refl l.1 p l.0)
       ∙ ap (λ y. answer y (t.Name a ∷ rest)) (shifted (t.Keyword word.In) TestsMembership g e k refl refl (and_from _ _ (le-leb (expr_precedence e) 12 l.0) (le-leb 12 (greatest_allowed_on k) h)))
   complete (ListMembership xs a) ts rest s g k l p h z =
       ap (answer (BeforeOperand s g k)) p.1
       ∙ members_read xs a g k p.0 rest l.0 h (complete_list xs (OfGroup g) Nil p.0 (t.CloseParenthesis ∷ t.Keyword word.In ∷ t.Name a ∷ rest) false k l.1 p.2 refl)
   complete (Conditional c a b) ts rest s g k l p h z =
-      let m : expr_precedence c ≤ greatest_allowed_on k = omega (arith, l.0) in
-      complete c ts (t.Question ∷ p.0) s g k l.3 p.2 m (stops Asks g c ts (t.Question ∷ p.0) refl refl refl l.3 p.2 l.0)
+      let m : right_precedence c ≤ greatest_allowed_on k = omega (arith, as_right c 14 l.0) in
+      complete c ts (t.Question ∷ p.0) s g k l.1 p.2 m (stops Asks g c ts (t.Question ∷ p.0) refl refl refl l.1 p.2 l.0)
       ∙ ap (λ y. answer y p.0) (shifted t.Question Asks g c k refl refl (and_from _ _ (le-leb (expr_precedence c) 14 l.0) (le-leb 15 (greatest_allowed_on k) h)))
-      ∙ complete a p.0 (t.Colon ∷ p.1) false g (InFirstChoice c ∷ k) l.4 p.3 l.1 (stops_end g a l.4)
-      ∙ complete b p.1 rest false g (InSecondChoice c a ∷ k) l.5 p.4 l.2 z.1 ∙ reduced g (InSecondChoice c a) k b rest refl refl z.0
+      ∙ complete a p.0 (t.Colon ∷ p.1) false g (InFirstChoice c ∷ k) l.2 p.3 (precedence_most a) (stops_end g a l.2)
+      ∙ complete b p.1 rest false g (InSecondChoice c a ∷ k) l.3 p.4 (precedence_most b) z.1 ∙ reduced g (InSecondChoice c a) k b rest refl refl z.0
   complete (Assign o e x) ts rest s g k l p h z =
       let m = place_precedence e l.0 in
-      let m' : expr_precedence e ≤ greatest_allowed_on k = omega arith in
+      let m' : right_precedence e ≤ greatest_allowed_on k = omega arith in
       complete e ts (t.Assign o ∷ p.0) s g k l.1 p.1 m' (tight_place (Assigns o) g e refl l.1 l.0)
-      ∙ ap (λ y. answer y p.0) (shifted (t.Assign o) (Assigns o) g e k refl refl (and_from _ _ l.0 (le-leb 16 (greatest_allowed_on k) h)))
+      ∙ ap (λ y. answer y p.0) (shifted (t.Assign o) (Assigns o) g e k refl refl (and_from _ _ l.0 (le-leb 12 (greatest_allowed_on k) h)))
       ∙ complete x p.0 rest false g (InAssign o e ∷ k) l.2 p.2 (precedence_most x) z.1 ∙ reduced g (InAssign o e) k x rest refl refl z.0
 
   complete_to : (c : Expr) (to : OptionalExpr) (ts rest : List Kind) (g : Bool) (k : List Frame) → PlaceKeepsPrecedence g to → SpellsPlace to ts rest → StopsTo (next g rest) to → answer (AfterGetline (AnExpr c) g k) ts ≡ answer (AfterOperand g (PipedGetline c to) k) rest

@@ -14,7 +14,7 @@ use Rattle.awk_lex.specs.declared.token.BuiltIn.TheVariants as built_in
 use Rattle.awk_lex.specs.declared.token.Operator.TheVariants as operator
 use Rattle.awk_grammar.specs.declared.tree.UnaryOperator.TheVariants as prefix
 use Rattle.awk_grammar.specs.definitions.Tree.{Expr, Number, String, Ere, BuiltIn, PostIncrement, PipedGetline, Exprs, Nil, Cons, OptionalExpr, NoExpr, AnExpr}
-use Rattle.awk_grammar.specs.definitions.Precedence.{operator_precedence, greatest_left, greatest_right, is_greater, expr_precedence}
+use Rattle.awk_grammar.specs.definitions.Precedence.{operator_precedence, greatest_left, greatest_right, is_greater, right_precedence, expr_precedence}
 use Rattle.awk_grammar.specs.definitions.Arguments.{is_place, count, accepts_list}
 use Rattle.awk_grammar.specs.definitions.OperandsAllowed.{KeepsPrecedence, AllKeepPrecedence}
 use Rattle.awk_grammar.specs.definitions.SpellingOfExpressions.{newlines, allows_newlines, newlines_if, prefix_of, begins_sign, begins_increment, begins_place, begins_less, StandsAsOperand, Spells, SpellsList, SpellsMore}
@@ -23,6 +23,7 @@ use Rattle.awk_grammar.specs.support.InfixRole.{InfixRole, Operates, Increments,
 use Rattle.awk_grammar.specs.support.UnlimitedState.{getline_of, Frame, InCall, InBuiltIn, InField, InPreIncrement, InUnary, InBinary, InAssign, InFirstChoice, InSecondChoice, InGetlinePlace, InGetlineFile, greatest_allowed, greatest_allowed_on, stays_open, finish_node, takes_file, fits, continues, Reduced, reduce, ParserState, BeforeOperand, AfterOperand, AfterGetline, when}
 use Rattle.awk_grammar.specs.support.UnlimitedOperands.{start_unary, close_empty_list, start_operand, close_group, close_call, close_built_in, close_element, close_first_choice, after_getline_place}
 use Rattle.awk_grammar.specs.support.UnlimitedParser.{shift}
+use Rattle.awk_grammar.proofs.RightEdges.{as_tight}
 use Rattle.awk_grammar.proofs.ParserInvariant.{SpellsBefore, Stacked, OperandRead, Holds}
 
 pub by_test : {A : Type 0} (P : A → Type 0) (b : Bool) (x y : A) → (b ≡ true → P x) → (b ≡ false → P y) → P (cond b x y)
@@ -85,11 +86,11 @@ stands r e h here n q s = and_right _ _ s.0
 
 pub reduces : (r : InfixRole) (g : Bool) (f : Frame) (k : List Frame) (e : Expr) (all here : List Kind) → continues r e (greatest_allowed f) ≡ false → stays_open f e ≡ false → takes_file f r ≡ false → Seen r here → OperandRead g e (f ∷ k) all here → OperandRead g (finish_node f e) k all here
 reduces r g InField k e all here q c n s p =
-    record { from = t.Dollar ∷ p.from; below = p.below; spelled = (p.from, refl, p.spelled); keeps = (p.fits, p.keeps); fits = least k }
+    record { from = t.Dollar ∷ p.from; below = p.below; spelled = (p.from, refl, p.spelled); keeps = (as_tight g e 2 (omega arith) p.keeps p.fits, p.keeps); fits = least k }
 reduces r g (InPreIncrement x) k e all here q c n s p =
     record { from = t.Increment x ∷ p.from; below = p.below.0; spelled = (p.from, refl, p.spelled); keeps = (not_false _ c, p.keeps); fits = p.below.1 }
 reduces r g (InUnary o) k e all here q c n s p =
-    record { from = prefix_of o ∷ p.from; below = p.below.0; spelled = (p.from, refl, p.spelled, stands r e 5 here (omega arith) q s); keeps = (p.fits, p.keeps); fits = p.below.1 }
+    record { from = prefix_of o ∷ p.from; below = p.below.0; spelled = (p.from, refl, p.spelled, stands r e 5 here (omega arith) q s); keeps = (as_tight g e 5 (omega arith) p.keeps p.fits, p.keeps); fits = p.below.1 }
 reduces r g (InBinary o a) k e all here q c n s p =
     let b = p.below in
     let l = right_least o in
@@ -99,7 +100,7 @@ reduces r g (InAssign o d) k e all here q c n s p =
     record { from = b.0; below = b.1; spelled = (p.from, b.2, p.spelled, stands r e 16 here (omega arith) q s); keeps = (b.4, b.3, p.keeps); fits = b.5 }
 reduces r g (InSecondChoice d a) k e all here q c n s p =
     let b = p.below in
-    record { from = b.0; below = b.2; spelled = (b.1, p.from, b.3, b.4, p.spelled, stands r e 15 here (omega arith) q s); keeps = (b.7, b.8, p.fits, b.5, b.6, p.keeps); fits = b.9 }
+    record { from = b.0; below = b.2; spelled = (b.1, p.from, b.3, b.4, p.spelled, stands r e 16 here (omega arith) q s); keeps = (b.7, b.5, b.6, p.keeps); fits = b.8 }
 reduces r g (InGetlinePlace NoExpr) k e all here q c n s p =
     record { from = (t.Keyword word.Getline) ∷ p.from; below = p.below.0; spelled = (p.from, here, refl, p.spelled, (refl, s.1 ∙ n)); keeps = ((not_false _ c, p.keeps), tt); fits = p.below.1 }
 reduces r g (InGetlinePlace (AnExpr d)) k e all here q c n s p =
@@ -107,7 +108,7 @@ reduces r g (InGetlinePlace (AnExpr d)) k e all here q c n s p =
     record { from = b.0; below = b.1; spelled = (p.from, b.2, p.spelled); keeps = (b.4, b.3, (not_false _ c, p.keeps)); fits = b.5 }
 reduces r g (InGetlineFile to) k e all here q c n s p =
     let b = p.below in
-    record { from = (t.Keyword word.Getline) ∷ b.0; below = b.1; spelled = (b.0, t.Operator operator.Less ∷ p.from, refl, b.2, (p.from, refl, p.spelled)); keeps = (b.3, (p.fits, p.keeps)); fits = b.4 }
+    record { from = (t.Keyword word.Getline) ∷ b.0; below = b.1; spelled = (b.0, t.Operator operator.Less ∷ p.from, refl, b.2, (p.from, refl, p.spelled)); keeps = (b.3, (as_tight g e 1 (omega arith) p.keeps p.fits, p.keeps)); fits = b.4 }
 reduces r g f k e all here q c n s p = absurd (cc)
 
 abbrev pub IsOperand : Bool → List Kind → List Kind → Reduced → Type 0
@@ -135,7 +136,7 @@ unaries : (o : UnaryOperator) (g : Bool) (k : List Frame) (all rest : List Kind)
 unaries o g k all rest h = when_so (leb 5 (greatest_allowed_on k)) (BeforeOperand false g (InUnary o ∷ k)) all rest (λ e. (h, leb-true _ _ e))
 
 -- an operand that is one token
-pub one : (g : Bool) (y : Kind) (e : Expr) (k : List Frame) (all rest : List Kind) → Stacked g k all (y ∷ rest) → Spells e (y ∷ rest) rest → KeepsPrecedence g e → expr_precedence e ≤ 0 → OperandRead g e k all rest
+pub one : (g : Bool) (y : Kind) (e : Expr) (k : List Frame) (all rest : List Kind) → Stacked g k all (y ∷ rest) → Spells e (y ∷ rest) rest → KeepsPrecedence g e → right_precedence e ≤ 0 → OperandRead g e k all rest
 one g y e k all rest h p l n = record { from = y ∷ rest; below = h; spelled = p; keeps = l; fits = omega arith }
 
 -- at the beginning of an operand
@@ -246,7 +247,7 @@ pub shifts : (r : InfixRole) (y : Kind) (g : Bool) (e : Expr) (k : List Frame) (
 shifts (Operates o) y g e k all rest b h p = expects (allows_newlines o) g (InBinary (Infix o) e ∷ k) all rest (infix_on o y g e k all rest b h p)
 shifts (Increments x) y g e k all rest b h p = steps_on x y g e k all rest b h p
 shifts (Assigns o) y g e k all rest b h p =
-    let c = and_parts (is_place e) (leb 16 (greatest_allowed_on k)) h in
+    let c = and_parts (is_place e) (leb 12 (greatest_allowed_on k)) h in
     (p.from, p.below, subst (λ z. Spells e p.from (z ∷ rest)) b p.spelled, p.keeps, c.0, leb-true _ _ c.1)
 shifts Starts y g e k all rest b h p = besides y g e k all rest (and_right _ _ (b rest).1) (b rest).0 h p
 shifts TestsMembership y g e k all rest b h p =
@@ -320,7 +321,7 @@ closes_element y a o xs k all v rest h l = tt
 pub closes_then : (y : Kind) (g : Bool) (c e : Expr) (k : List Frame) (all rest : List Kind) → OperandRead g e (InFirstChoice c ∷ k) all (y ∷ rest) → Holds (close_first_choice y g c e k) all rest
 closes_then t.Colon g c e k all rest p =
     let b = p.below in
-    (b.0, p.from, b.1, b.2, p.spelled, b.3, p.keeps, b.4, p.fits, b.5)
+    (b.0, p.from, b.1, b.2, p.spelled, b.3, p.keeps, b.4, b.5)
 closes_then y g c e k all rest p = tt
 
 pub closes_to : (y : Kind) (g : Bool) (c : OptionalExpr) (e : Expr) (k : List Frame) (all rest : List Kind) → OperandRead g e (InGetlinePlace c ∷ k) all (y ∷ rest) → Holds (after_getline_place y g c e k) all rest

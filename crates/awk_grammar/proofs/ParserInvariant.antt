@@ -6,7 +6,7 @@ use Rattle.awk_lex.specs.declared.token.Keyword.TheVariants as word
 use Rattle.awk_lex.specs.declared.token.BuiltIn.TheVariants as built_in
 use Rattle.awk_lex.specs.declared.token.Operator.TheVariants as operator
 use Rattle.awk_grammar.specs.definitions.Tree.{Expr, Exprs, Nil, Cons, NoExpr, AnExpr, SimpleStatement, Statement, Item}
-use Rattle.awk_grammar.specs.definitions.Precedence.{operator_precedence, greatest_left, is_greater, expr_precedence}
+use Rattle.awk_grammar.specs.definitions.Precedence.{operator_precedence, greatest_left, is_greater, right_precedence, expr_precedence}
 use Rattle.awk_grammar.specs.definitions.Arguments.{is_place, count}
 use Rattle.awk_grammar.specs.definitions.OperandsAllowed.{KeepsPrecedence, AllKeepPrecedence, PlaceKeepsPrecedence, OptionalKeepsPrecedence}
 use Rattle.awk_grammar.specs.definitions.StatementsAllowed.{PrintListKeepsPrecedence, SimpleKeepsPrecedence, is_for_part, ForPartKeepsPrecedence, StatementKeepsPrecedence, StatementsKeepPrecedence, PatternKeepsPrecedence, ProgramKeepsPrecedence}
@@ -58,9 +58,9 @@ Stacked g (InField ∷ k) all here = Stacked g k all (t.Dollar ∷ here)
 Stacked g (InPreIncrement x ∷ k) all here = Stacked g k all (t.Increment x ∷ here) × (2 ≤ greatest_allowed_on k)
 Stacked g (InUnary o ∷ k) all here = Stacked g k all (prefix_of o ∷ here) × (5 ≤ greatest_allowed_on k)
 Stacked g (InBinary o a ∷ k) all here = (u v : List Kind) × Stacked g k all u × Spells a u v × StandsAsOperand a v × Joined o v here × KeepsPrecedence g a × (expr_precedence a ≤ greatest_left o) × (operator_precedence o ≤ greatest_allowed_on k) × ((g && is_greater o) ≡ false)
-Stacked g (InAssign o p ∷ k) all here = (u : List Kind) × Stacked g k all u × Spells p u (t.Assign o ∷ here) × KeepsPrecedence g p × (is_place p ≡ true) × (16 ≤ greatest_allowed_on k)
+Stacked g (InAssign o p ∷ k) all here = (u : List Kind) × Stacked g k all u × Spells p u (t.Assign o ∷ here) × KeepsPrecedence g p × (is_place p ≡ true) × (12 ≤ greatest_allowed_on k)
 Stacked g (InFirstChoice c ∷ k) all here = (u : List Kind) × Stacked g k all u × Spells c u (t.Question ∷ here) × KeepsPrecedence g c × (expr_precedence c ≤ 14) × (15 ≤ greatest_allowed_on k)
-Stacked g (InSecondChoice c a ∷ k) all here = (u v : List Kind) × Stacked g k all u × Spells c u (t.Question ∷ v) × Spells a v (t.Colon ∷ here) × KeepsPrecedence g c × KeepsPrecedence g a × (expr_precedence c ≤ 14) × (expr_precedence a ≤ 15) × (15 ≤ greatest_allowed_on k)
+Stacked g (InSecondChoice c a ∷ k) all here = (u v : List Kind) × Stacked g k all u × Spells c u (t.Question ∷ v) × Spells a v (t.Colon ∷ here) × KeepsPrecedence g c × KeepsPrecedence g a × (expr_precedence c ≤ 14) × (15 ≤ greatest_allowed_on k)
 Stacked g (InGetlinePlace NoExpr ∷ k) all here = Stacked g k all (t.Keyword word.Getline ∷ here) × (3 ≤ greatest_allowed_on k)
 Stacked g (InGetlinePlace (AnExpr c) ∷ k) all here = (u : List Kind) × Stacked g k all u × Spells c u (t.Bar ∷ t.Keyword word.Getline ∷ here) × KeepsPrecedence g c × (expr_precedence c ≤ 9) × (9 ≤ greatest_allowed_on k)
 Stacked g (InGetlineFile to ∷ k) all here = (v : List Kind) × Stacked g k all (t.Keyword word.Getline ∷ v) × SpellsPlace to v (t.Operator operator.Less ∷ here) × PlaceKeepsPrecedence g to × (3 ≤ greatest_allowed_on k)
@@ -93,7 +93,7 @@ pub record OperandRead (g : Bool) (e : Expr) (k : List Frame) (all here : List K
   pub below : Stacked g k all from
   pub spelled : Spells e from here
   pub keeps : KeepsPrecedence g e
-  pub fits : expr_precedence e ≤ greatest_allowed_on k
+  pub fits : right_precedence e ≤ greatest_allowed_on k
 
 -- a simple statement; in a part of a `for` it may be one
 pub record Said (m : SimpleStatement) (k : List Frame) (all here : List Kind) : Type 0 where

@@ -20,6 +20,7 @@ use Rattle.awk_grammar.specs.support.InfixRole.{InfixRole, Pipes, Ends, role}
 use Rattle.awk_grammar.specs.support.UnlimitedState.{getline_of, Frame, InGroup, InCall, InBuiltIn, InElement, InFirstChoice, InGetlinePlace, InExpression, InPrint, InOutput, InDelete, InExit, InReturn, InIfCondition, InWhileCondition, InDoCondition, InForCondition, InPattern, InRangeEnd, InProgram, greatest_allowed_on, continues, Reduced, reduce, ParserState, BeforeOperand, AfterOperand, AfterName, AfterLength, AfterGetline, AfterBar, BeforeParenthesis, AfterList, AfterIn, AfterListIn, AfterPrint, AfterDelete, AfterDeleteName, AfterExit, AfterReturn, AfterSimpleStatement, AfterDo, AfterFor, BeforeForFirst, BeforeForCondition, BeforeForLast, BeforeStatement, AfterStatement, BetweenItems, BeforeAction, AfterFunction, AfterFunctionName, BeforeParameter, AfterParameter, Failed}
 use Rattle.awk_grammar.specs.support.UnlimitedStatements.{redirect_to_pipe, end_list}
 use Rattle.awk_grammar.specs.support.UnlimitedParser.{end_operand, shift, after_reduced, after_operand, after_name, after_length, after_getline, after_bar, after_list, step, items, answer, read}
+use Rattle.awk_grammar.proofs.RightEdges.{as_tight}
 use Rattle.awk_grammar.proofs.ProgramsComplete.{reads}
 use Rattle.awk_grammar.proofs.ParserInvariant.{SpellsItems, Stacked, OperandRead, Holds}
 use Rattle.awk_grammar.proofs.OperandsSound.{by_test, when_so, seen, reduce_sound, one, starts_operand, Is, is, shifts, lists, closes_group, closes_call, closes_built_in, closes_element, closes_then, closes_to, alone, piped_alone}
@@ -52,7 +53,7 @@ closes y g e (InPrint how made ∷ k) all rest p =
     closes_print y how (append made e) k all b.0 rest b.2 (lists true made e b.0 p.from (y ∷ rest) b.3 b.4 p.spelled (flat g true e b.1 p.keeps))
 closes y g e (InOutput how what way ∷ k) all rest p =
     let b = p.below in
-    endeds y (tree.Print how what (Redirected way e)) k all rest (record { from = print_token how ∷ b.0; below = b.2; spelled = (b.0, _, refl, b.3, (p.from, refl, p.spelled)); keeps = (b.4, (p.fits, flat g false e b.1 p.keeps)); allowed = λ _. refl })
+    endeds y (tree.Print how what (Redirected way e)) k all rest (record { from = print_token how ∷ b.0; below = b.2; spelled = (b.0, _, refl, b.3, (p.from, refl, p.spelled)); keeps = (b.4, (as_tight g e 1 (omega arith) p.keeps p.fits, flat g false e b.1 p.keeps)); allowed = λ _. refl })
 closes y g e (InDelete a made ∷ k) all rest p =
     let b = p.below in
     closes_delete y a (append made e) k all b.0 rest b.2 (lists false made e b.0 p.from (y ∷ rest) b.3 b.4 p.spelled (flat g false e b.1 p.keeps))

@@ -13,12 +13,13 @@ use Rattle.awk_grammar.specs.support.UnlimitedParser as unlimited
 use Rattle.awk_grammar.specs.support.Parser as parser
 use Rattle.awk_grammar.specs.definitions.Tree.{Expr, Field, Call, BuiltIn, PreIncrement, Getline, PipedGetline, Unary, Binary, Conditional, Assign, Exprs, Nil, Cons, OptionalExpr, NoExpr, AnExpr, PrintList, SimpleStatement, OptionalSimple, Statement, Statements, Pattern, Item}
 use Rattle.awk_grammar.specs.definitions.Height.{height_of, tallest, optional_height, height_of_print_list, height_of_simple, height_of_optional_simple, height_of_statement, tallest_of, height_of_pattern, height_of_item, height_of_program}
-use Rattle.awk_grammar.specs.definitions.Precedence.{operator_precedence, expr_precedence}
+use Rattle.awk_grammar.specs.definitions.Precedence.{operator_precedence, ends_in_assignment, right_precedence, expr_precedence}
 use Rattle.awk_grammar.specs.definitions.Arguments.{is_place, count, third_is_place, accepts, accepts_list}
 use Rattle.awk_grammar.specs.support.Nodes.{limited, over_one, over_two, over_three, over_four, append}
 use Rattle.awk_grammar.specs.support.InfixRole.{InfixRole, Starts}
-use Rattle.awk_grammar.specs.support.ParserState.{Operand, OperandList, OptionalOperand, NoOperand, AnOperand, optional_expr, operand_of, third_after, one_more, finish_node}
+use Rattle.awk_grammar.specs.support.ParserState.{Operand, OperandList, OptionalOperand, NoOperand, AnOperand, optional_expr, operand_of, third_after, one_more, ending, finish_node}
 use Rattle.awk_grammar.specs.support.ParserOperands.{is_none}
+use Rattle.awk_grammar.proofs.RightEdges.{right_precedence_most}
 
 pub test_true : {A : Type 0} (b : Bool) (x y : A) → b ≡ true → cond b x y ≡ x
 test_true true x y h = refl
@@ -203,13 +204,25 @@ piped_kept m c to =
     ap (operand_of 9) (ap (over_two m height_of PipedGetline (limited m (height_of c) c)) (maybe_kept m to)
     ∙ two_limited m (height_of c) (optional_height to) height_of PipedGetline c to (omega arith) (omega arith))
 
+-- what ends in an assignment, told by precedences
+ending_by : (b : Bool) (l n : ℕ) → l ≤ 15 → ending (cond b 16 l) n ≡ cond b 16 n
+ending_by true l n h = refl
+ending_by false l n h = test_false (leb 16 l) 16 n (lt-leb 16 l (omega arith))
+
+ending_kept : (e : Expr) (n : ℕ) → ending (expr_precedence e) n ≡ cond (ends_in_assignment e) 16 n
+ending_kept e n = ending_by (ends_in_assignment e) (right_precedence e) n (right_precedence_most e)
+
 pub finish_node_kept : (m : ℕ) (f : unlimited.Frame) (e : Expr) → finish_node m (frame m f) (keep m e) ≡ keep m (unlimited.finish_node f e)
 finish_node_kept m unlimited.InField e = ap (parser.place_operand 1) (one_limited m (height_of e) height_of Field e (omega arith))
 finish_node_kept m (unlimited.InPreIncrement x) e = ap (operand_of 2) (one_limited m (height_of e) height_of (PreIncrement x) e (omega arith))
 finish_node_kept m (unlimited.InUnary o) e = ap (operand_of 5) (one_limited m (height_of e) height_of (Unary o) e (omega arith))
-finish_node_kept m (unlimited.InBinary o x) e = ap (operand_of (operator_precedence o)) (two_limited m (height_of x) (height_of e) height_of (Binary o) x e (omega arith) (omega arith))
+finish_node_kept m (unlimited.InBinary o x) e =
+    ap (λ n. operand_of n (over_two m height_of (Binary o) (limited m (height_of x) x) (limited m (height_of e) e))) (ending_kept e (operator_precedence o))
+    ∙ ap (operand_of (expr_precedence (Binary o x e))) (two_limited m (height_of x) (height_of e) height_of (Binary o) x e (omega arith) (omega arith))
 finish_node_kept m (unlimited.InAssign o x) e = ap (operand_of 16) (two_limited m (height_of x) (height_of e) height_of (Assign o) x e (omega arith) (omega arith))
-finish_node_kept m (unlimited.InSecondChoice c x) e = ap (operand_of 15) (three_limited m (height_of c) (height_of x) (height_of e) height_of Conditional c x e (omega arith) (omega arith) (omega arith))
+finish_node_kept m (unlimited.InSecondChoice c x) e =
+    ap (λ n. operand_of n (over_three m height_of Conditional (limited m (height_of c) c) (limited m (height_of x) x) (limited m (height_of e) e))) (ending_kept e 15)
+    ∙ ap (operand_of (expr_precedence (Conditional c x e))) (three_limited m (height_of c) (height_of x) (height_of e) height_of Conditional c x e (omega arith) (omega arith) (omega arith))
 finish_node_kept m (unlimited.InGetlinePlace NoExpr) e = getline_kept m (AnExpr e) NoExpr
 finish_node_kept m (unlimited.InGetlinePlace (AnExpr c)) e = piped_kept m c (AnExpr e)
 finish_node_kept m (unlimited.InGetlineFile to) e = getline_kept m to (AnExpr e)

@@ -1,5 +1,5 @@
 -- Where the right edge of a tree ends.
-use Rattle.std.proofs.Common.{◌≡◌, ℕ, ◌≤◌, ◌<◌, Bool, true, false, ◌&&◌, ◌||◌, ◌⊎◌, inl, inr, List, [], ◌∷◌, refl, sym, ap, ◌∙◌, arith}
+use Rattle.std.proofs.Common.{◌≡◌, ℕ, ◌≤◌, ◌<◌, Bool, true, false, cond, ◌&&◌, ◌||◌, ◌⊎◌, inl, inr, List, [], ◌∷◌, refl, sym, ap, ◌∙◌, arith}
 use Rattle.std.proofs.lemmas.Bool.{lt-leb, and_right, and_left}
 use Rattle.awk_lex.specs.declared.token.Kind.{Kind}
 use Rattle.awk_lex.specs.declared.token.Operator.{Operator}
@@ -10,7 +10,7 @@ use Rattle.awk_lex.specs.declared.token.Kind.TheVariants as t
 use Rattle.awk_lex.specs.declared.token.Keyword.TheVariants as word
 use Rattle.awk_lex.specs.declared.token.Operator.TheVariants as operator
 use Rattle.awk_grammar.specs.definitions.Tree.{Expr, Name, Element, Field, PreIncrement, Getline, PipedGetline, Unary, Binary, Conditional, Assign, OptionalExpr, NoExpr, AnExpr}
-use Rattle.awk_grammar.specs.definitions.Precedence.{operator_precedence, greatest_left, greatest_right, expr_precedence}
+use Rattle.awk_grammar.specs.definitions.Precedence.{operator_precedence, greatest_left, greatest_right, ends_in_assignment, right_precedence, expr_precedence}
 use Rattle.awk_grammar.specs.definitions.Arguments.{is_place}
 use Rattle.awk_grammar.specs.definitions.OperandsAllowed.{KeepsPrecedence, PlaceKeepsPrecedence}
 use Rattle.awk_grammar.specs.definitions.SpellingOfExpressions.{begins_increment, begins_less, StandsAsOperand, Spells}
@@ -43,7 +43,7 @@ abbrev mutual
   Stops r (PipedGetline c to) = StopsTo r to
   Stops r (Unary o e) = (continues r e 5 ≡ false) × Stops r e
   Stops r (Binary o a b) = (continues r b (greatest_right o) ≡ false) × Stops r b
-  Stops r (Conditional c a b) = (continues r b 15 ≡ false) × Stops r b
+  Stops r (Conditional c a b) = (continues r b 16 ≡ false) × Stops r b
   Stops r (Assign o p e) = (continues r e 16 ≡ false) × Stops r e
   Stops r e = Unit {0}
 
@@ -75,11 +75,47 @@ table (Infix o) = table_by o
 pub bounds : (o : BinaryOperator) → (4 ≤ operator_precedence o) × (greatest_left o ≤ operator_precedence o) × (operator_precedence o ≤ 14) × (greatest_right o ≤ 13)
 bounds o = elim (table o) [ inl p ↦ (omega arith, p.left_most, p.precedence_most, omega arith) | inr p ↦ (omega arith, omega arith, omega arith, omega arith) ]
 
-pub precedence_most : (e : Expr) → expr_precedence e ≤ 16
-precedence_most (Binary o a b) = omega (arith, bounds o)
-precedence_most e = omega arith
+pub right_precedence_most : (e : Expr) → right_precedence e ≤ 15
+right_precedence_most (Binary o a b) = omega (arith, bounds o)
+right_precedence_most e = omega arith
 
-pub place_precedence : (e : Expr) → is_place e ≡ true → expr_precedence e ≤ 1
+-- what binds tighter than a membership has no assignment at its end
+right_low : (o : BinaryOperator) → operator_precedence o ≤ 11 → greatest_right o ≤ 11
+right_low o l = elim (table o) [ inl p ↦ omega (arith, p.right_most) | inr p ↦ omega (arith, p.its_right) ]
+
+tight_end : (g : Bool) (e : Expr) → KeepsPrecedence g e → right_precedence e ≤ 11 → ends_in_assignment e ≡ false
+tight_end g (Binary o a b) l h = tight_end g b l.3 (omega (arith, l.1, right_low o h))
+tight_end g (Conditional c a b) l h = absurd (omega arith)
+tight_end g (Assign o p e) l h = absurd (omega arith)
+tight_end g e l h = refl
+
+pub precedence_most : (e : Expr) → right_precedence e ≤ 16
+precedence_most e = omega (arith, right_precedence_most e)
+
+-- an operand that may stand anywhere may stand right of an operator
+pub right_by : (b : Bool) (n h : ℕ) → n ≤ 15 → cond b 16 n ≤ h → n ≤ h
+right_by true n h l m = omega (arith, l, m)
+right_by false n h l m = m
+
+pub as_right : (e : Expr) (h : ℕ) → expr_precedence e ≤ h → right_precedence e ≤ h
+as_right e h l = right_by (ends_in_assignment e) (right_precedence e) h (right_precedence_most e) l
+
+-- what is tighter than an assignment ends in none
+pub no_end : (b : Bool) (n h : ℕ) → cond b 16 n ≤ h → h ≤ 15 → (b ≡ false) × (n ≤ h)
+no_end true n h l m = absurd (omega (arith, l, m))
+no_end false n h l m = (refl, l)
+
+without_end : (b : Bool) (n h : ℕ) → b ≡ false → n ≤ h → cond b 16 n ≤ h
+without_end true n h e l = absurd (cc)
+without_end false n h e l = l
+
+pub as_any : (e : Expr) (h : ℕ) → ends_in_assignment e ≡ false → right_precedence e ≤ h → expr_precedence e ≤ h
+as_any e h q l = without_end (ends_in_assignment e) (right_precedence e) h q l
+
+pub as_tight : (g : Bool) (e : Expr) (h : ℕ) → h ≤ 11 → KeepsPrecedence g e → right_precedence e ≤ h → expr_precedence e ≤ h
+as_tight g e h i l m = as_any e h (tight_end g e l (omega arith)) m
+
+pub place_precedence : (e : Expr) → is_place e ≡ true → right_precedence e ≤ 1
 place_precedence (Name a) h = omega arith
 place_precedence (Element a xs) h = omega arith
 place_precedence (Field e) h = omega arith
@@ -129,10 +165,10 @@ pub neither : (x y : Bool) → x ≡ false → y ≡ false → (x || y) ≡ fals
 neither true y h i = absurd (cc)
 neither false y h i = i
 
-low : (r : InfixRole) (e : Expr) (h : ℕ) → h ≤ 2 → expr_precedence e ≤ 2 → continues r e h ≡ false
+low : (r : InfixRole) (e : Expr) (h : ℕ) → h ≤ 2 → right_precedence e ≤ 2 → continues r e h ≡ false
 low (Operates o) e h i l = and_right _ _ (lt-leb (operator_precedence (Infix o)) h (omega (arith, bounds (Infix o))))
 low (Increments x) e h i l = neither _ _ (and_right _ _ (lt-leb 3 h (omega arith))) (and_right _ _ (lt-leb 8 h (omega arith)))
-low (Assigns o) e h i l = and_right _ _ (lt-leb 16 h (omega arith))
+low (Assigns o) e h i l = and_right _ _ (lt-leb 12 h (omega arith))
 low Starts e h i l = and_right _ _ (lt-leb 8 h (omega arith))
 low TestsMembership e h i l = and_right _ _ (lt-leb 12 h (omega arith))
 low Pipes e h i l = and_right _ _ (lt-leb 9 h (omega arith))
@@ -140,9 +176,9 @@ low Asks e h i l = and_right _ _ (lt-leb 15 h (omega arith))
 low Subscripts e h i l = refl
 low Ends e h i l = refl
 
-pub tight : (r : InfixRole) (g : Bool) (e : Expr) → subscripts r ≡ false → KeepsPrecedence g e → expr_precedence e ≤ 2 → Stops r e
+pub tight : (r : InfixRole) (g : Bool) (e : Expr) → subscripts r ≡ false → KeepsPrecedence g e → right_precedence e ≤ 2 → Stops r e
 tight r g (Name a) q l h = q
-tight r g (Field e) q l h = (low r e 2 (omega arith) l.0, tight r g e q l.1 l.0)
+tight r g (Field e) q l h = let m = as_right e 2 l.0 in (low r e 2 (omega arith) m, tight r g e q l.1 m)
 tight r g (PreIncrement x e) q l h = let n = place_precedence e l.0 in (low r e 1 (omega arith) (omega arith), tight r g e q l.1 (omega arith))
 tight r g (Getline to file) q l h = absurd (omega arith)
 tight r g (Unary o e) q l h = absurd (omega arith)
@@ -168,7 +204,7 @@ stops_end g (Getline to (AnExpr e)) l = (refl, stops_end g e l.1.1)
 stops_end g (PipedGetline c to) l = to_stops Ends g to refl l.2
 stops_end g (Unary o e) l = (refl, stops_end g e l.1)
 stops_end g (Binary o a b) l = (refl, stops_end g b l.3)
-stops_end g (Conditional c a b) l = (refl, stops_end g b l.5)
+stops_end g (Conditional c a b) l = (refl, stops_end g b l.3)
 stops_end g (Assign o p e) l = (refl, stops_end g e l.2)
 stops_end g e l = tt
 
@@ -254,18 +290,21 @@ ordinary r g e ts rest h p s = refl
 -- a left operand's right edge ends where the next token goes on with the whole
 pub stops : (r : InfixRole) (g : Bool) (e : Expr) (ts rest : List Kind) → next g rest ≡ r → goes r ≡ true → subscripts r ≡ false → KeepsPrecedence g e → Spells e ts rest → expr_precedence e ≤ greatest_operand r → Stops r e
 stops r g (Name a) ts rest n o q l p h = q
-stops r g (Field e) ts rest n o q l p h = (low r e 2 (omega arith) l.0, tight r g e q l.1 l.0)
+stops r g (Field e) ts rest n o q l p h = let m = as_right e 2 l.0 in (low r e 2 (omega arith) m, tight r g e q l.1 m)
 stops r g (PreIncrement x e) ts rest n o q l p h = let m = place_precedence e l.0 in (low r e 1 (omega arith) (omega arith), tight r g e q l.1 (omega arith))
 stops r g (Getline to NoExpr) ts rest n o q l p h = to_stops r g to q l.0
 stops r g (Getline to (AnExpr e)) ts rest n o q l p h =
-    let m : expr_precedence e ≤ 1 = l.1.0 in
+    let m = as_right e 1 l.1.0 in
     (low r e 1 (omega arith) (omega arith), tight r g e q l.1.1 (omega arith))
 stops r g (PipedGetline c to) ts rest n o q l p h = to_stops r g to q l.2
 stops r g (Unary x e) ts rest n o q l p h =
     (continues_not r e 5 o (ordinary r g e p.0 rest n p.2 p.3) (unary_clash r o h), stops r g e p.0 rest n o q l.1 p.2 (omega arith))
 stops r g (Binary j a b) ts rest n o q l p h =
-    let c = clash r j o h in
-    (continues_not r b (greatest_right j) o (ordinary r g b p.1 rest n p.5 p.6) c.0, stops r g b p.1 rest n o q l.3 p.5 (omega arith))
-stops r g (Conditional c a b) ts rest n o q l p h = absurd (omega (arith, most_below r o))
+    let d = no_end (ends_in_assignment b) (operator_precedence j) (greatest_operand r) h (omega (arith, most_below r o)) in
+    let c = clash r j o d.1 in
+    (continues_not r b (greatest_right j) o (ordinary r g b p.1 rest n p.5 p.6) c.0, stops r g b p.1 rest n o q l.3 p.5 (as_any b (greatest_operand r) d.0 (omega (arith, c.1, l.1))))
+stops r g (Conditional c a b) ts rest n o q l p h =
+    let d = no_end (ends_in_assignment b) 15 (greatest_operand r) h (omega (arith, most_below r o)) in
+    absurd (omega (arith, most_below r o, d.1))
 stops r g (Assign x d e) ts rest n o q l p h = absurd (omega (arith, most_below r o))
 stops r g e ts rest n o q l p h = tt

@@ -6,6 +6,7 @@ use Rattle.awk_grammar.specs.declared.tree.BinaryOperator.TheVariants.{Concatena
 use Rattle.awk_lex.specs.declared.token.Kind.TheVariants as t
 use Rattle.awk_lex.specs.declared.token.Keyword.TheVariants as word
 use Rattle.awk_lex.specs.declared.token.IncrementOperator.TheVariants as increment
+use Rattle.awk_lex.specs.declared.token.AssignmentOperator.TheVariants as assign
 use Rattle.awk_grammar.specs.definitions.Tree as tree
 use Rattle.awk_grammar.specs.definitions.Height.{max_height}
 use Rattle.awk_grammar.specs.support.Parser.{read}
@@ -58,6 +59,9 @@ op o = t.Operator o
 abbrev pub up : Kind
 up = t.Increment increment.Increment
 
+abbrev pub set : Kind
+set = t.Assign assign.Plain
+
 abbrev pub va : tree.Expr
 va = tree.Name a
 
@@ -87,6 +91,9 @@ by o d e = tree.Binary (Infix o) d e
 
 abbrev pub beside : tree.Expr → tree.Expr → tree.Expr
 beside d e = tree.Binary Concatenate d e
+
+abbrev pub sets_to : tree.Expr → tree.Expr → tree.Expr
+sets_to d e = tree.Assign assign.Plain d e
 
 abbrev pub two : tree.Expr → tree.Expr → tree.Exprs
 two d e = tree.Cons d (tree.Cons e tree.Nil)

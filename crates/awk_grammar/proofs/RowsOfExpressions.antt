@@ -8,7 +8,7 @@ use Rattle.awk_lex.specs.declared.token.IncrementOperator.TheVariants as increme
 use Rattle.awk_lex.specs.declared.token.AssignmentOperator.TheVariants as assign
 use Rattle.awk_grammar.specs.declared.tree.UnaryOperator.TheVariants as prefix
 use Rattle.awk_grammar.specs.definitions.Tree as tree
-use Rattle.awk_grammar.proofs.RowWords.{a, b, c, x, y, na, nb, nx, ny, nz, n1, n2, n3, op, up, va, vb, vx, vy, vz, e1, e2, e3, by, beside, two, only, Reads, RefusedExpr}
+use Rattle.awk_grammar.proofs.RowWords.{a, b, c, x, y, na, nb, nx, ny, nz, n1, n2, n3, op, up, set, va, vb, vx, vy, vz, e1, e2, e3, by, beside, sets_to, two, only, Reads, RefusedExpr}
 
 -- -2^2
 negative : Reads (op operator.Minus ∷ n2 ∷ op operator.Power ∷ n2 ∷ []) (tree.Unary prefix.Minus (by operator.Power e2 e2))
@@ -69,6 +69,45 @@ choices = refl
 
 inner_choice : Reads (nx ∷ t.Question ∷ ny ∷ t.Question ∷ na ∷ t.Colon ∷ nb ∷ t.Colon ∷ nz ∷ []) (tree.Conditional vx (tree.Conditional vy va vb) vz)
 inner_choice = refl
+
+-- a && b = 1, 1 && y = 2, x = 1 && y = 2
+and_set : Reads (na ∷ op operator.And ∷ nb ∷ set ∷ n1 ∷ []) (by operator.And va (sets_to vb e1))
+and_set = refl
+
+number_and_set : Reads (n1 ∷ op operator.And ∷ ny ∷ set ∷ n2 ∷ []) (by operator.And e1 (sets_to vy e2))
+number_and_set = refl
+
+set_and_set : Reads (nx ∷ set ∷ n1 ∷ op operator.And ∷ ny ∷ set ∷ n2 ∷ []) (sets_to vx (by operator.And e1 (sets_to vy e2)))
+set_and_set = refl
+
+-- a && newline $b = 1, a && b ^= x += 1
+and_set_field : Reads (na ∷ op operator.And ∷ t.Newline ∷ t.Dollar ∷ nb ∷ set ∷ n1 ∷ []) (by operator.And va (sets_to (tree.Field vb) e1))
+and_set_field = refl
+
+and_sets : Reads (na ∷ op operator.And ∷ nb ∷ t.Assign assign.Power ∷ nx ∷ t.Assign assign.Add ∷ n1 ∷ []) (by operator.And va (tree.Assign assign.Power vb (tree.Assign assign.Add vx e1)))
+and_sets = refl
+
+-- 1 || y = 2 || 3 is 1 || (y = (2 || 3))
+or_set : Reads (n1 ∷ op operator.Or ∷ ny ∷ set ∷ n2 ∷ op operator.Or ∷ n3 ∷ []) (by operator.Or e1 (sets_to vy (by operator.Or e2 e3)))
+or_set = refl
+
+-- a && b || x = 1, a || b && x = 1
+and_or_set : Reads (na ∷ op operator.And ∷ nb ∷ op operator.Or ∷ nx ∷ set ∷ n1 ∷ []) (by operator.Or (by operator.And va vb) (sets_to vx e1))
+and_or_set = refl
+
+or_and_set : Reads (na ∷ op operator.Or ∷ nb ∷ op operator.And ∷ nx ∷ set ∷ n1 ∷ []) (by operator.Or va (by operator.And vb (sets_to vx e1)))
+or_and_set = refl
+
+-- x ? a = 1 : b = 2, x ? a : y && b = 1
+choice_sets : Reads (nx ∷ t.Question ∷ na ∷ set ∷ n1 ∷ t.Colon ∷ nb ∷ set ∷ n2 ∷ []) (tree.Conditional vx (sets_to va e1) (sets_to vb e2))
+choice_sets = refl
+
+choice_and_set : Reads (nx ∷ t.Question ∷ na ∷ t.Colon ∷ ny ∷ op operator.And ∷ nb ∷ set ∷ n1 ∷ []) (tree.Conditional vx va (by operator.And vy (sets_to vb e1)))
+choice_and_set = refl
+
+-- x || y ? a : z ? b : c = 1
+or_choices_set : Reads (nx ∷ op operator.Or ∷ ny ∷ t.Question ∷ na ∷ t.Colon ∷ nz ∷ t.Question ∷ nb ∷ t.Colon ∷ na ∷ set ∷ n1 ∷ []) (tree.Conditional (by operator.Or vx vy) va (tree.Conditional vz vb (sets_to va e1)))
+or_choices_set = refl
 
 -- "c" "d" | getline x
 piped : Reads (t.String c ∷ t.String b ∷ t.Bar ∷ t.Keyword word.Getline ∷ nx ∷ []) (tree.PipedGetline (beside (tree.String c) (tree.String b)) (tree.AnExpr vx))
@@ -174,8 +213,8 @@ call_two = refl
 sub_place : Reads (t.BuiltIn built_in.Sub ∷ t.OpenParenthesis ∷ t.Ere a ∷ t.Comma ∷ t.String b ∷ t.Comma ∷ nx ∷ t.CloseParenthesis ∷ []) (tree.BuiltIn built_in.Sub (tree.Cons (tree.Ere a) (two (tree.String b) vx)))
 sub_place = refl
 
--- refused: 1 < 2 < 3; !x = 1; $-1; 2**3; x ~ y ~ z; a && b = 1; x ++ 1 = 2; sub(1, 2, 3); substr(1); length(1, 2); f(1,); f(,1);
--- getline++ ; (1, 2); (1, 2) + 1; -(1, 2) in x; 1 + x in; a[]; ++1; ++++x; x++++; 1 ? 2; 1 ? x = 2 : 3; $x = ; 1 | 2; x[1][2]
+-- refused: 1 < 2 < 3; !x = 1; $-1; 2**3; x ~ y ~ z; x ++ 1 = 2; sub(1, 2, 3); substr(1); length(1, 2); f(1,); f(,1);
+-- getline++ ; (1, 2); (1, 2) + 1; -(1, 2) in x; 1 + x in; a[]; ++1; ++++x; x++++; 1 ? 2; $x = ; 1 | 2; x[1][2]
 less_less : RefusedExpr (n1 ∷ op operator.Less ∷ n2 ∷ op operator.Less ∷ n3 ∷ [])
 less_less = refl
 
@@ -190,9 +229,6 @@ times_times = refl
 
 match_match : RefusedExpr (nx ∷ op operator.Matches ∷ ny ∷ op operator.NotMatches ∷ nz ∷ [])
 match_match = refl
-
-and_set : RefusedExpr (na ∷ op operator.And ∷ nb ∷ t.Assign assign.Plain ∷ n1 ∷ [])
-and_set = refl
 
 sub_number : RefusedExpr (t.BuiltIn built_in.Sub ∷ t.OpenParenthesis ∷ t.Ere a ∷ t.Comma ∷ t.String b ∷ t.Comma ∷ n1 ∷ t.CloseParenthesis ∷ [])
 sub_number = refl
@@ -227,9 +263,6 @@ up_up = refl
 after_after : RefusedExpr (nx ∷ up ∷ up ∷ [])
 after_after = refl
 
-choice_set : RefusedExpr (n1 ∷ t.Question ∷ nx ∷ t.Assign assign.Plain ∷ n2 ∷ t.Colon ∷ n3 ∷ [])
-choice_set = refl
-
 bar_number : RefusedExpr (n1 ∷ t.Bar ∷ n2 ∷ [])
 bar_number = refl
 
@@ -248,6 +281,28 @@ power_twice = refl
 
 sum_set : RefusedExpr (nx ∷ op operator.Plus ∷ ny ∷ t.Assign assign.Plain ∷ n1 ∷ [])
 sum_set = refl
+
+-- 1 == y = 2; x ~ y = 1; x y = 1; x && !y = 1; x && y + z = 1; x && y in z = 1; x ? y : !z = 1
+equal_set : RefusedExpr (n1 ∷ op operator.Equal ∷ ny ∷ set ∷ n2 ∷ [])
+equal_set = refl
+
+match_set : RefusedExpr (nx ∷ op operator.Matches ∷ ny ∷ set ∷ n1 ∷ [])
+match_set = refl
+
+beside_set : RefusedExpr (nx ∷ ny ∷ set ∷ n1 ∷ [])
+beside_set = refl
+
+and_not_set : RefusedExpr (nx ∷ op operator.And ∷ t.Not ∷ ny ∷ set ∷ n1 ∷ [])
+and_not_set = refl
+
+and_sum_set : RefusedExpr (nx ∷ op operator.And ∷ ny ∷ op operator.Plus ∷ nz ∷ set ∷ n1 ∷ [])
+and_sum_set = refl
+
+and_member_set : RefusedExpr (nx ∷ op operator.And ∷ ny ∷ t.Keyword word.In ∷ nz ∷ set ∷ n1 ∷ [])
+and_member_set = refl
+
+choice_not_set : RefusedExpr (nx ∷ t.Question ∷ ny ∷ t.Colon ∷ t.Not ∷ nz ∷ set ∷ n1 ∷ [])
+choice_not_set = refl
 
 -- 1 - -1
 minus_negative : Reads (n1 ∷ op operator.Minus ∷ op operator.Minus ∷ n1 ∷ []) (by operator.Minus e1 (tree.Unary prefix.Minus e1))

@@ -9,7 +9,7 @@ use Rattle.awk_grammar.specs.declared.tree.UnaryOperator.TheVariants as prefix
 use Rattle.awk_grammar.specs.declared.tree.PrintForm.TheVariants as form
 use Rattle.awk_grammar.specs.declared.tree.Redirection.TheVariants as redirection
 use Rattle.awk_grammar.specs.definitions.Tree as tree
-use Rattle.awk_grammar.proofs.RowWords.{a, b, c, x, na, nb, nx, n1, n2, n3, op, up, va, vb, vx, e1, e2, by, beside, two, only, just, Does, Prints, RefusedStatement}
+use Rattle.awk_grammar.proofs.RowWords.{a, b, c, x, na, nb, nx, n1, n2, n3, op, up, set, va, vb, vx, e1, e2, by, beside, sets_to, two, only, just, Does, Prints, RefusedStatement}
 
 -- print 1, 2 > "f"
 print_to : Prints (n1 ∷ t.Comma ∷ n2 ∷ op operator.Greater ∷ t.String c ∷ []) (tree.Print form.Print (tree.Bare (two e1 e2)) (tree.Redirected redirection.Truncate (tree.String c)))
@@ -42,6 +42,13 @@ print_piped = refl
 
 print_and_through : Prints (na ∷ op operator.And ∷ nb ∷ t.Bar ∷ t.String c ∷ []) (tree.Print form.Print (tree.Bare (only (by operator.And va vb))) (tree.Redirected redirection.Pipe (tree.String c)))
 print_and_through = refl
+
+-- print a && x = 1 > "f", print x ? a = 1 : b = 2 | "c"
+print_set : Prints (na ∷ op operator.And ∷ nx ∷ set ∷ n1 ∷ op operator.Greater ∷ t.String c ∷ []) (tree.Print form.Print (tree.Bare (only (by operator.And va (sets_to vx e1)))) (tree.Redirected redirection.Truncate (tree.String c)))
+print_set = refl
+
+print_choice_sets : Prints (nx ∷ t.Question ∷ na ∷ set ∷ n1 ∷ t.Colon ∷ nb ∷ set ∷ n2 ∷ t.Bar ∷ t.String c ∷ []) (tree.Print form.Print (tree.Bare (only (tree.Conditional vx (sets_to va e1) (sets_to vb e2)))) (tree.Redirected redirection.Pipe (tree.String c)))
+print_choice_sets = refl
 
 -- print, print > "f", print 1 < 2, print 1 > $x
 print_none : Prints [] (tree.Print form.Print (tree.Bare tree.Nil) tree.Standard)

@@ -12,7 +12,7 @@ use Rattle.awk_grammar.specs.declared.tree.PrintForm.TheVariants as form
 use Rattle.awk_grammar.specs.declared.tree.Redirection.TheVariants as redirection
 use Rattle.awk_grammar.specs.definitions.Tree as tree
 use Rattle.awk_grammar.specs.definitions.Tree.{Expr, Number, String, Ere, Name, Element, Field, Group, Call, BuiltIn, Length, PostIncrement, Getline, PipedGetline, Unary, Binary, Membership, Conditional, Assign, Exprs, Nil, Cons, PrintList, Bare, Parenthesized, Output, Standard, Redirected, SimpleStatement, Item}
-use Rattle.awk_grammar.specs.definitions.Precedence.{expr_precedence}
+use Rattle.awk_grammar.specs.definitions.Precedence.{right_precedence}
 use Rattle.awk_grammar.specs.definitions.Arguments.{count}
 use Rattle.awk_grammar.specs.definitions.StatementsAllowed.{PrintListKeepsPrecedence, OutputKeepsPrecedence, SimpleKeepsPrecedence, is_for_part}
 use Rattle.awk_grammar.specs.definitions.SpellingOfExpressions.{Spells}
@@ -22,7 +22,7 @@ use Rattle.awk_grammar.specs.support.InfixRole.{Ends}
 use Rattle.awk_grammar.specs.support.UnlimitedState.{Frame, InGroup, InExpression, InPrint, InOutput, InDelete, BeforeOperand, AfterOperand, AfterList, AfterPrint, AfterDeleteName}
 use Rattle.awk_grammar.specs.support.UnlimitedStatements.{start_part, end_simple, end_print_list, redirect_to_pipe}
 use Rattle.awk_grammar.specs.support.UnlimitedParser.{answer}
-use Rattle.awk_grammar.proofs.RightEdges.{pipes, next, Stops, bounds, precedence_most, stops_end}
+use Rattle.awk_grammar.proofs.RightEdges.{pipes, next, Stops, bounds, precedence_most, as_right, stops_end}
 use Rattle.awk_grammar.proofs.ExpressionsComplete.{reduced_twice, OfGroup, OfPrint, OfDelete, last, front, all_of, close_list, ListRead, complete, complete_list}
 
 -- the tokens that begin an operand
@@ -65,7 +65,7 @@ starts_so (Assign o e x) ts rest p = starts_so e ts (t.Assign o ∷ p.0) p.1
 starts_so e ts rest p = ap started p.1
 
 -- a dollar doesn't begin with `getline`
-no_getline : (e : Expr) (ts rest : List Kind) → expr_precedence e ≤ 1 → Spells e ts rest → pipes ts ≡ Ends
+no_getline : (e : Expr) (ts rest : List Kind) → right_precedence e ≤ 1 → Spells e ts rest → pipes ts ≡ Ends
 no_getline (Number n) ts rest h p = ap pipes p
 no_getline (String b) ts rest h p = ap pipes p
 no_getline (Ere b) ts rest h p = ap pipes p
@@ -145,7 +145,7 @@ outputs : (how : PrintForm) (what : PrintList) (to : Output) (v : List Kind) (y 
 outputs how what Standard v y r k l p h = ap (printed_from how what k) p ∙ printed_here how what y r k h
 outputs how what (Redirected way e) v y r k l p h =
     ap (printed_from how what k) p.1 ∙ printed_to how what way p.0 k
-    ∙ complete e p.0 (y ∷ r) false false (InOutput how what way ∷ k) l.1 p.2 l.0 (subst (λ x. Stops x e) (sym (ender_role false y r h)) (stops_end false e l.1))
+    ∙ complete e p.0 (y ∷ r) false false (InOutput how what way ∷ k) l.1 p.2 (as_right e 1 l.0) (subst (λ x. Stops x e) (sym (ender_role false y r h)) (stops_end false e l.1))
     ∙ targeted how what way e y r k h
 
 -- the tokens behind what is printed
@@ -175,7 +175,7 @@ closes_to redirection.Pipe u h i = closes_bar u h i
 
 closes : (to : Output) (v : List Kind) (y : Kind) (r : List Kind) → OutputKeepsPrecedence to → SpellsOutput to v (y ∷ r) → ender y ≡ true → FollowsPrint v
 closes Standard v y r l p h = subst FollowsPrint (sym p) (closes_here y r h)
-closes (Redirected way e) v y r l p h = subst FollowsPrint (sym p.1) (closes_to way p.0 (starts_so e p.0 (y ∷ r) p.2) (no_getline e p.0 (y ∷ r) l.0 p.2))
+closes (Redirected way e) v y r l p h = subst FollowsPrint (sym p.1) (closes_to way p.0 (starts_so e p.0 (y ∷ r) p.2) (no_getline e p.0 (y ∷ r) (as_right e 1 l.0) p.2))
 
 close_role : (v : List Kind) → FollowsPrint v → next true v ≡ Ends
 close_role [] h = absurd h

@@ -46,7 +46,7 @@ pub const OR: u8 = 14;
 
 pub const CONDITIONAL: u8 = 15;
 
-/// Any expression, an assignment too.
+/// Any expression, an assignment and what ends in one too.
 pub const EXPR: u8 = 16;
 
 /// An operator's level, and the greatest levels that may stand left and right of it.

@@ -1,7 +1,7 @@
 -- Which operands, subscripts and arguments an expression may have.
 use Rattle.std.specs.Prelude.{◌≤◌, ◌≡◌, Bool, true, false, ◌&&◌}
 use Rattle.awk_grammar.specs.definitions.Tree.{Expr, Number, String, Ere, Name, Element, Field, Group, Call, BuiltIn, Length, PreIncrement, PostIncrement, Getline, PipedGetline, Unary, Binary, Membership, ListMembership, Conditional, Assign, Exprs, Nil, Cons, OptionalExpr, NoExpr, AnExpr}
-use Rattle.awk_grammar.specs.definitions.Precedence.{field_reference, pre_increment, unary, pipe, membership, or, conditional, greatest_left, greatest_right, is_greater, expr_precedence}
+use Rattle.awk_grammar.specs.definitions.Precedence.{field_reference, pre_increment, unary, pipe, membership, or, greatest_left, greatest_right, is_greater, right_precedence, expr_precedence}
 use Rattle.awk_grammar.specs.definitions.Arguments.{is_place, count, accepts_list}
 
 -- Each operand is of a level that is allowed, each place is one, and each list is long enough. In the list of a print `>`
@@ -25,12 +25,12 @@ abbrev mutual
   KeepsPrecedence g (PipedGetline c p) = (expr_precedence c ≤ pipe) × KeepsPrecedence g c × PlaceKeepsPrecedence g p
   -- `!`, `+` and `-` may stand before one another, and before a power
   KeepsPrecedence g (Unary o e) = (expr_precedence e ≤ unary) × KeepsPrecedence g e
-  KeepsPrecedence g (Binary o a b) = (expr_precedence a ≤ greatest_left o) × (expr_precedence b ≤ greatest_right o) × KeepsPrecedence g a × KeepsPrecedence g b × ((g && is_greater o) ≡ false)
+  KeepsPrecedence g (Binary o a b) = (expr_precedence a ≤ greatest_left o) × (right_precedence b ≤ greatest_right o) × KeepsPrecedence g a × KeepsPrecedence g b × ((g && is_greater o) ≡ false)
   -- left-associative
   KeepsPrecedence g (Membership e x) = (expr_precedence e ≤ membership) × KeepsPrecedence g e
   KeepsPrecedence g (ListMembership xs x) = (2 ≤ count xs) × AllKeepPrecedence false xs
-  -- right-associative
-  KeepsPrecedence g (Conditional c a b) = (expr_precedence c ≤ or) × (expr_precedence a ≤ conditional) × (expr_precedence b ≤ conditional) × KeepsPrecedence g c × KeepsPrecedence g a × KeepsPrecedence g b
+  -- right-associative; anything may stand between `?` and `:` and right of them
+  KeepsPrecedence g (Conditional c a b) = (expr_precedence c ≤ or) × KeepsPrecedence g c × KeepsPrecedence g a × KeepsPrecedence g b
   -- right-associative; anything may stand right of it
   KeepsPrecedence g (Assign o p e) = (is_place p ≡ true) × KeepsPrecedence g p × KeepsPrecedence g e
 

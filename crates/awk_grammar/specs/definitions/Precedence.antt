@@ -1,5 +1,5 @@
 -- The table of operators (POSIX awk, Expressions in awk, Table: Expressions in Decreasing Precedence in awk).
-use Rattle.std.specs.Prelude.{ℕ, Bool, true, false}
+use Rattle.std.specs.Prelude.{ℕ, Bool, true, false, if◌then◌else◌}
 use Rattle.awk_lex.specs.declared.token.Operator.TheVariants.{Power, Times, Divide, Remainder, Plus, Minus, Less, LessEqual, NotEqual, Equal, Greater, GreaterEqual, Matches, NotMatches, And, Or}
 use Rattle.awk_grammar.specs.declared.tree.BinaryOperator.{BinaryOperator}
 use Rattle.awk_grammar.specs.declared.tree.BinaryOperator.TheVariants.{Concatenate, Infix}
@@ -60,7 +60,7 @@ or = 14
 abbrev pub conditional : ℕ
 conditional = 15
 
--- any expression, an assignment too
+-- any expression, an assignment and what ends in one too
 abbrev pub expr : ℕ
 expr = 16
 
@@ -116,24 +116,37 @@ abbrev pub is_greater : BinaryOperator → Bool
 is_greater (Infix Greater) = true
 is_greater o = false
 
+-- an assignment without parentheses is the last thing in it
+abbrev pub ends_in_assignment : Expr → Bool
+ends_in_assignment (Binary o a b) = ends_in_assignment b
+ends_in_assignment (Conditional c a b) = ends_in_assignment b
+ends_in_assignment (Assign o p e) = true
+ends_in_assignment e = false
+
+-- the level of an expression right of an operator, told by what joins it outermost: an assignment may stand where a
+-- membership may, right of `&&` and `||`
+abbrev pub right_precedence : Expr → ℕ
+right_precedence (Number n) = primary
+right_precedence (String bytes) = primary
+right_precedence (Ere text) = primary
+right_precedence (Name x) = primary
+right_precedence (Element x xs) = primary
+right_precedence (Group e) = primary
+right_precedence (Call f xs) = primary
+right_precedence (BuiltIn f xs) = primary
+right_precedence Length = primary
+right_precedence (Field e) = field_reference
+right_precedence (PreIncrement o p) = pre_increment
+right_precedence (PostIncrement o p) = post_increment
+right_precedence (Getline p file) = post_increment
+right_precedence (Unary o e) = unary
+right_precedence (Binary o a b) = operator_precedence o
+right_precedence (PipedGetline c p) = pipe
+right_precedence (Membership e x) = membership
+right_precedence (ListMembership xs x) = membership
+right_precedence (Conditional c a b) = conditional
+right_precedence (Assign o p e) = membership
+
+-- its level anywhere else
 abbrev pub expr_precedence : Expr → ℕ
-expr_precedence (Number n) = primary
-expr_precedence (String bytes) = primary
-expr_precedence (Ere text) = primary
-expr_precedence (Name x) = primary
-expr_precedence (Element x xs) = primary
-expr_precedence (Group e) = primary
-expr_precedence (Call f xs) = primary
-expr_precedence (BuiltIn f xs) = primary
-expr_precedence Length = primary
-expr_precedence (Field e) = field_reference
-expr_precedence (PreIncrement o p) = pre_increment
-expr_precedence (PostIncrement o p) = post_increment
-expr_precedence (Getline p file) = post_increment
-expr_precedence (Unary o e) = unary
-expr_precedence (Binary o a b) = operator_precedence o
-expr_precedence (PipedGetline c p) = pipe
-expr_precedence (Membership e x) = membership
-expr_precedence (ListMembership xs x) = membership
-expr_precedence (Conditional c a b) = conditional
-expr_precedence (Assign o p e) = expr
+expr_precedence e = if ends_in_assignment e then expr else right_precedence e

@@ -112,7 +112,8 @@ abbrev mutual
   Spells (ListMembership xs x) ts rest = (u : List Kind) × (ts ≡ t.OpenParenthesis ∷ u) × SpellsList xs u (t.CloseParenthesis ∷ t.Keyword word.In ∷ t.Name x ∷ rest)
   -- expr '?' expr ':' expr
   Spells (Conditional c a b) ts rest = (u v : List Kind) × Spells c ts (t.Question ∷ u) × Spells a u (t.Colon ∷ v) × Spells b v rest × StandsAsOperand b rest
-  -- lvalue POW_ASSIGN expr .. lvalue '=' expr; narrower: it is no operand without parentheses, but of another assignment
+  -- lvalue POW_ASSIGN expr .. lvalue '=' expr; narrower: without parentheses it is an operand of `&&`, `||`, `?:` and
+  -- other assignments alone, and behind them
   Spells (Assign o p e) ts rest = (u : List Kind) × Spells p ts (t.Assign o ∷ u) × Spells e u rest × StandsAsOperand e rest
 
   -- expr_list_opt

@@ -14,7 +14,7 @@ use Rattle.awk_grammar.specs.definitions.Precedence.{primary, post_increment, me
 use Rattle.awk_grammar.specs.definitions.SpellingOfExpressions.{allows_newlines}
 use Rattle.awk_grammar.specs.support.Nodes.{limited, over_one, over_two}
 use Rattle.awk_grammar.specs.support.InfixRole.{InfixRole, Operates, Increments, Assigns, Starts, TestsMembership, Pipes, Asks, Subscripts, Ends, role}
-pub use Rattle.awk_grammar.specs.support.ParserState.{Operand, OperandList, OptionalOperand, NoOperand, AnOperand, optional_expr, operand_of, place_operand, leaf, third_after, no_operands, one_more, Head, OfBegin, OfEnd, OfNoPattern, OfPattern, OfFunction, Frame, InGroup, InCall, InBuiltIn, InElement, InField, InPreIncrement, InUnary, InBinary, InAssign, InFirstChoice, InSecondChoice, InGetlinePlace, InGetlineFile, InExpression, InPrint, InOutput, InDelete, InExit, InReturn, InIfCondition, InWhileCondition, InDoCondition, InForFirst, InForCondition, InForLast, InBlock, InIfBody, InElseBody, InWhileBody, InDoBody, InForInBody, InForBody, InPattern, InRangeEnd, InAction, InProgram, greatest_allowed, greatest_allowed_on, stays_open, getline_operand, finish_node, takes_file, fits, continues, Reduced, reduce, ParserState, BeforeOperand, AfterOperand, AfterName, AfterLength, AfterGetline, AfterBar, BeforeParenthesis, AfterList, AfterIn, AfterListIn, AfterPrint, AfterDelete, AfterDeleteName, AfterExit, AfterReturn, AfterSimpleStatement, AfterDo, AfterFor, BeforeForFirst, BeforeForCondition, BeforeForLast, BeforeStatement, AfterStatement, BetweenItems, BeforeAction, AfterFunction, AfterFunctionName, BeforeParameter, AfterParameter, Failed, when}
+pub use Rattle.awk_grammar.specs.support.ParserState.{Operand, OperandList, OptionalOperand, NoOperand, AnOperand, optional_expr, operand_of, place_operand, leaf, third_after, no_operands, one_more, Head, OfBegin, OfEnd, OfNoPattern, OfPattern, OfFunction, Frame, InGroup, InCall, InBuiltIn, InElement, InField, InPreIncrement, InUnary, InBinary, InAssign, InFirstChoice, InSecondChoice, InGetlinePlace, InGetlineFile, InExpression, InPrint, InOutput, InDelete, InExit, InReturn, InIfCondition, InWhileCondition, InDoCondition, InForFirst, InForCondition, InForLast, InBlock, InIfBody, InElseBody, InWhileBody, InDoBody, InForInBody, InForBody, InPattern, InRangeEnd, InAction, InProgram, greatest_allowed, greatest_allowed_on, stays_open, getline_operand, ending, finish_node, takes_file, fits, continues, Reduced, reduce, ParserState, BeforeOperand, AfterOperand, AfterName, AfterLength, AfterGetline, AfterBar, BeforeParenthesis, AfterList, AfterIn, AfterListIn, AfterPrint, AfterDelete, AfterDeleteName, AfterExit, AfterReturn, AfterSimpleStatement, AfterDo, AfterFor, BeforeForFirst, BeforeForCondition, BeforeForLast, BeforeStatement, AfterStatement, BetweenItems, BeforeAction, AfterFunction, AfterFunctionName, BeforeParameter, AfterParameter, Failed, when}
 pub use Rattle.awk_grammar.specs.support.ParserOperands.{start_unary, is_none, close_empty_list, start_operand, close_group, close_call, close_built_in, close_element, close_first_choice, after_getline_place, membership_operand, list_membership_operand, name_then, at_parenthesis}
 pub use Rattle.awk_grammar.specs.support.ParserItems.{make_item, end_item, after_pattern, after_pattern_expr, start_item, before_action, after_function, before_parameter, after_parameter}
 pub use Rattle.awk_grammar.specs.support.ParserStatements.{for_part, simple_statement, for_node, close_block, start_part, start_statement, after_do_body, end_statement, end_simple_statement, start_for_in, end_for_first, end_for_last, end_simple, printed_here, printed_to, end_print_list, after_delete_subscript, bare_list, after_print_expr, close_condition, close_for_condition, optional_tree, redirect_to_pipe, end_list, empty_list, print_alone, after_print, after_exit, before_for_first, before_for_condition, before_for_last, after_statement, after_delete_name}

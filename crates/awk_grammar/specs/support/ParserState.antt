@@ -12,7 +12,7 @@ use Rattle.awk_lex.specs.declared.token.BuiltIn.{BuiltIn as BuiltInName}
 use Rattle.awk_grammar.specs.definitions.Tree as tree
 use Rattle.awk_grammar.specs.definitions.Tree.{Expr, Exprs, Nil, OptionalExpr, NoExpr, AnExpr, PrintList, SimpleStatement, OptionalSimple, Statement, Statements, Pattern, Item}
 use Rattle.awk_grammar.specs.definitions.Height.{height_of, tallest, optional_height}
-use Rattle.awk_grammar.specs.definitions.Precedence.{primary, field_reference, pre_increment, post_increment, unary, pipe, conditional, expr, operator_precedence, greatest_right}
+use Rattle.awk_grammar.specs.definitions.Precedence.{primary, field_reference, pre_increment, post_increment, unary, pipe, membership, conditional, expr, operator_precedence, greatest_right}
 use Rattle.awk_grammar.specs.support.Nodes.{limited, over_one, over_two, over_three, append}
 use Rattle.awk_grammar.specs.support.InfixRole.{InfixRole, Operates, Increments, Assigns, Starts, TestsMembership, Pipes, Asks, Subscripts, Ends, is_less, greatest_operand, least_allowed}
 
@@ -111,8 +111,6 @@ greatest_allowed InField = pre_increment
 greatest_allowed (InPreIncrement x) = field_reference
 greatest_allowed (InUnary o) = unary
 greatest_allowed (InBinary o a) = greatest_right o
-greatest_allowed (InFirstChoice c) = conditional
-greatest_allowed (InSecondChoice c a) = conditional
 greatest_allowed (InGetlinePlace c) = field_reference
 greatest_allowed (InGetlineFile to) = field_reference
 greatest_allowed (InOutput how what way) = field_reference
@@ -139,14 +137,18 @@ abbrev pub getline_operand : ℕ → OptionalOperand → OptionalOperand → Opt
 getline_operand m NoOperand to file = operand_of post_increment (over_two m height_of tree.Getline (optional_expr m to) (optional_expr m file))
 getline_operand m (AnOperand c) to file = operand_of pipe (over_two m height_of tree.PipedGetline c.tree (optional_expr m to))
 
+-- the precedence of a node of a level, by that of its last child: what ends in an assignment is any expression
+abbrev pub ending : (last level : ℕ) → ℕ
+ending last level = if nat_le expr last then expr else level
+
 -- the node that an operand ends
 abbrev pub finish_node : ℕ → Frame → Operand → Operand
 finish_node m InField e = place_operand field_reference (over_one m height_of tree.Field e.tree)
 finish_node m (InPreIncrement x) e = operand_of pre_increment (over_one m height_of (tree.PreIncrement x) e.tree)
 finish_node m (InUnary o) e = operand_of unary (over_one m height_of (tree.Unary o) e.tree)
-finish_node m (InBinary o a) e = operand_of (operator_precedence o) (over_two m height_of (tree.Binary o) a.tree e.tree)
+finish_node m (InBinary o a) e = operand_of (ending e.precedence (operator_precedence o)) (over_two m height_of (tree.Binary o) a.tree e.tree)
 finish_node m (InAssign o p) e = operand_of expr (over_two m height_of (tree.Assign o) p.tree e.tree)
-finish_node m (InSecondChoice c a) e = operand_of conditional (over_three m height_of tree.Conditional c.tree a.tree e.tree)
+finish_node m (InSecondChoice c a) e = operand_of (ending e.precedence conditional) (over_three m height_of tree.Conditional c.tree a.tree e.tree)
 finish_node m (InGetlinePlace c) e = getline_operand m c (AnOperand e) NoOperand
 finish_node m (InGetlineFile to) e = getline_operand m NoOperand to (AnOperand e)
 finish_node m f e = e
@@ -160,11 +162,11 @@ takes_file f r = false
 abbrev pub fits : InfixRole → Operand → ℕ → Bool
 fits r e h = nat_le e.precedence (greatest_operand r) && nat_le (least_allowed r) h
 
--- the same, where `++` may also end a place, and an assignment begins with one
+-- the same, where `++` may also end a place, and an assignment begins with one, where a membership is allowed
 abbrev pub continues : InfixRole → Operand → ℕ → Bool
 continues (Operates o) e h = fits (Operates o) e h
 continues (Increments x) e h = (e.is_place && nat_le post_increment h) || fits (Increments x) e h
-continues (Assigns o) e h = e.is_place && nat_le expr h
+continues (Assigns o) e h = e.is_place && nat_le membership h
 continues Starts e h = fits Starts e h
 continues TestsMembership e h = fits TestsMembership e h
 continues Pipes e h = fits Pipes e h

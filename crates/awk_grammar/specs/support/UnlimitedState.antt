@@ -8,7 +8,7 @@ use Rattle.awk_grammar.specs.declared.tree.PrintForm.{PrintForm}
 use Rattle.awk_grammar.specs.declared.tree.Redirection.{Redirection}
 use Rattle.awk_lex.specs.declared.token.BuiltIn.{BuiltIn as BuiltInName}
 use Rattle.awk_grammar.specs.definitions.Tree.{Expr, Field, PreIncrement, Getline, PipedGetline, Unary, Binary, Conditional, Assign, Exprs, OptionalExpr, NoExpr, AnExpr, PrintList, SimpleStatement, OptionalSimple, Statement, Statements, Pattern, Item}
-use Rattle.awk_grammar.specs.definitions.Precedence.{field_reference, pre_increment, post_increment, unary, conditional, expr, greatest_right, expr_precedence}
+use Rattle.awk_grammar.specs.definitions.Precedence.{field_reference, pre_increment, post_increment, unary, membership, expr, greatest_right, expr_precedence}
 use Rattle.awk_grammar.specs.definitions.Arguments.{is_place}
 use Rattle.awk_grammar.specs.support.InfixRole.{InfixRole, Operates, Increments, Assigns, Starts, TestsMembership, Pipes, Asks, Subscripts, Ends, is_less, greatest_operand, least_allowed}
 
@@ -70,8 +70,6 @@ greatest_allowed InField = pre_increment
 greatest_allowed (InPreIncrement x) = field_reference
 greatest_allowed (InUnary o) = unary
 greatest_allowed (InBinary o a) = greatest_right o
-greatest_allowed (InFirstChoice c) = conditional
-greatest_allowed (InSecondChoice c a) = conditional
 greatest_allowed (InGetlinePlace c) = field_reference
 greatest_allowed (InGetlineFile to) = field_reference
 greatest_allowed (InOutput how what way) = field_reference
@@ -114,11 +112,11 @@ takes_file f r = false
 abbrev pub fits : InfixRole → Expr → ℕ → Bool
 fits r e h = nat_le (expr_precedence e) (greatest_operand r) && nat_le (least_allowed r) h
 
--- the same, where `++` may also end a place, and an assignment begins with one
+-- the same, where `++` may also end a place, and an assignment begins with one, where a membership is allowed
 abbrev pub continues : InfixRole → Expr → ℕ → Bool
 continues (Operates o) e h = fits (Operates o) e h
 continues (Increments x) e h = (is_place e && nat_le post_increment h) || fits (Increments x) e h
-continues (Assigns o) e h = is_place e && nat_le expr h
+continues (Assigns o) e h = is_place e && nat_le membership h
 continues Starts e h = fits Starts e h
 continues TestsMembership e h = fits TestsMembership e h
 continues Pipes e h = fits Pipes e h
