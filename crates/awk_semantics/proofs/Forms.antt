@@ -19,7 +19,7 @@ use Rattle.awk_semantics.specs.definitions.State.{State, Run, ◌>>=◌, lift}
 use Rattle.awk_semantics.specs.definitions.Operators.{truth_value, changed, applied, by_one, one, operator_of, takes_pattern}
 use Rattle.awk_semantics.specs.definitions.Primitives.{format_values}
 use Rattle.awk_semantics.specs.definitions.Places.{Place}
-use Rattle.awk_semantics.specs.definitions.BuiltIns.{Role, AsValue, AsPattern, AsArray, AsPlace, AsMeasured, Argument, roles_of, next_role, ere_or, bare_name, array_or_value, array_or, taken_as}
+use Rattle.awk_semantics.specs.definitions.BuiltIns.{Role, AsValue, AsPattern, AsArray, AsPlace, AsMeasured, Argument, roles_of, next_role, ere_or, bare_name, array_or_value, array_named_or, taken_as}
 use Rattle.awk_semantics.specs.definitions.Semantics.{Functions, right_operand, tested, choose, combined, call_with, getline_from, eval, place_of, key_of, take_arguments, optional_place, optional_value, eval_all, printed_values, target_of, print_by, print, begin_test, exit_with, returned_value, exec_simple, exec_part, goes_on, ending, turn, unless_ended, repeat_within, repeat, walk, pass_on, exec, exec_all}
 use Rattle.awk_semantics.specs.definitions.Items.{run_action, in_range, go_through, selects, print_record, try_item, try_items, begin_item, begin_items, end_item, end_items}
 use Rattle.awk_semantics.proofs.OwnValues.{Own, changed_own, applied_own, format_own}
@@ -98,15 +98,15 @@ module _ (P : (A : Type 0) → Run A → Type 0) (closed : GoesOn P) where
   array_or_value_holds true x h = ret_holds _
   array_or_value_holds false x h = then_holds h (λ v. ret_holds _)
 
-  pub array_or_holds : (name : Option (List ℕ)) {m : Run Value} → P _ m → P _ (array_or name m)
-  array_or_holds None h = then_holds h (λ v. ret_holds _)
-  array_or_holds (Some x) h = after (is_array_plain x) (λ b. array_or_value_holds b x h)
+  pub array_named_or_holds : (name : Option (List ℕ)) {m : Run Value} → P _ m → P _ (array_named_or name m)
+  array_named_or_holds None h = then_holds h (λ v. ret_holds _)
+  array_named_or_holds (Some x) h = after (is_array_plain x) (λ b. array_or_value_holds b x h)
 
   pub taken_as_holds : (r : Role) (e : Expr) {m : Run Value} {p : Run Place} → P _ m → P _ p → P _ (taken_as r e m p)
   taken_as_holds AsValue e h k = then_holds h (λ v. ret_holds _)
   taken_as_holds AsPattern e h k = ere_holds e h
   taken_as_holds AsArray e h k = ret_holds _
-  taken_as_holds AsMeasured e h k = array_or_holds (bare_name e) h
+  taken_as_holds AsMeasured e h k = array_named_or_holds (bare_name e) h
   taken_as_holds AsPlace e h k = then_holds k (λ p. after (read_plain p) (λ v. ret_holds _))
 
   pub tested_holds : {m : Run Value} → P _ m → P _ (tested m)

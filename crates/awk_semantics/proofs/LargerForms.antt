@@ -19,7 +19,7 @@ use Rattle.awk_semantics.specs.definitions.Operators.{truth_value, changed, appl
 use Rattle.awk_kinds.specs.definitions.Kinds.{Definition}
 use Rattle.awk_semantics.specs.definitions.Primitives.{format_values}
 use Rattle.awk_semantics.specs.definitions.Places.{Place}
-use Rattle.awk_semantics.specs.definitions.BuiltIns.{Role, AsValue, AsPattern, AsArray, AsPlace, AsMeasured, Argument, roles_of, next_role, ere_or, bare_name, array_or_value, array_or, taken_as}
+use Rattle.awk_semantics.specs.definitions.BuiltIns.{Role, AsValue, AsPattern, AsArray, AsPlace, AsMeasured, Argument, roles_of, next_role, ere_or, bare_name, array_or_value, array_named_or, taken_as}
 use Rattle.awk_semantics.specs.definitions.Semantics.{Functions, right_operand, tested, choose, combined, call_with, getline_from, eval, place_of, key_of, take_arguments, optional_place, optional_value, eval_all, printed_values, target_of, print_by, print, begin_test, exit_with, returned_value, exec_simple, exec_part, goes_on, ending, turn, unless_ended, repeat_within, repeat, walk, pass_on, exec, exec_all}
 use Rattle.awk_semantics.specs.definitions.Calls.{functions_by}
 use Rattle.awk_semantics.specs.definitions.Items.{run_action, in_range, go_through, selects, print_record, try_item, try_items, begin_item, begin_items, end_item, end_items}
@@ -77,15 +77,15 @@ pub array_or_value_larger : (b : Bool) (x : List ℕ) {m n : Run Value} → Larg
 array_or_value_larger true x h = lift_larger _
 array_or_value_larger false x h = then_larger _ _ h (λ v. lift_larger _)
 
-pub array_or_larger : (name : Option (List ℕ)) {m n : Run Value} → Larger m n → Larger (array_or name m) (array_or name n)
-array_or_larger None h = then_larger _ _ h (λ v. lift_larger _)
-array_or_larger (Some x) h = then_larger _ _ (is_array_larger x) (λ b. array_or_value_larger b x h)
+pub array_named_or_larger : (name : Option (List ℕ)) {m n : Run Value} → Larger m n → Larger (array_named_or name m) (array_named_or name n)
+array_named_or_larger None h = then_larger _ _ h (λ v. lift_larger _)
+array_named_or_larger (Some x) h = then_larger _ _ (is_array_larger x) (λ b. array_or_value_larger b x h)
 
 pub taken_as_larger : (r : Role) (e : Expr) {m n : Run Value} {p q : Run Place} → Larger m n → Larger p q → Larger (taken_as r e m p) (taken_as r e n q)
 taken_as_larger AsValue e h k = then_larger _ _ h (λ v. lift_larger _)
 taken_as_larger AsPattern e h k = ere_larger e h
 taken_as_larger AsArray e h k = lift_larger _
-taken_as_larger AsMeasured e h k = array_or_larger (bare_name e) h
+taken_as_larger AsMeasured e h k = array_named_or_larger (bare_name e) h
 taken_as_larger AsPlace e h k = then_larger _ _ k (λ p. then_larger _ _ (read_larger p) (λ v. lift_larger _))
 
 pub tested_larger : {m n : Run Value} → Larger m n → Larger (tested m) (tested n)

@@ -75,16 +75,19 @@ abbrev pub array_or_value : (stands_for_one : Bool) → (name : List ℕ) → Ru
 array_or_value true x evaluated = ret (OfArray x)
 array_or_value false x evaluated = evaluated >>= λ v. ret (OfValue v)
 
+abbrev pub array_named_or : Option (List ℕ) → Run Value → Run Argument
+array_named_or None evaluated = evaluated >>= λ v. ret (OfValue v)
+array_named_or (Some x) evaluated = is_array x >>= λ b. array_or_value b x evaluated
+
 -- the array that a bare name stands for, or else a value
-abbrev pub array_or : Option (List ℕ) → Run Value → Run Argument
-array_or None evaluated = evaluated >>= λ v. ret (OfValue v)
-array_or (Some x) evaluated = is_array x >>= λ b. array_or_value b x evaluated
+abbrev pub array_or : Expr → Run Value → Run Argument
+array_or e evaluated = array_named_or (bare_name e) evaluated
 
 abbrev pub taken_as : Role → Expr → (evaluated : Run Value) → (place : Run Place) → Run Argument
 taken_as AsValue e evaluated place = evaluated >>= λ v. ret (OfValue v)
 taken_as AsPattern e evaluated place = ere_or e evaluated
 taken_as AsArray e evaluated place = ret (array_named e)
-taken_as AsMeasured e evaluated place = array_or (bare_name e) evaluated
+taken_as AsMeasured e evaluated place = array_or e evaluated
 taken_as AsPlace e evaluated place = place >>= λ p. read_place p >>= λ v. ret (OfPlace p v)
 
 -- the value of an argument, where it has one
