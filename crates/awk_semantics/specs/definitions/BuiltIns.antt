@@ -75,11 +75,11 @@ abbrev pub array_or_value : (stands_for_one : Bool) → (name : List ℕ) → Ru
 array_or_value true x evaluated = ret (OfArray x)
 array_or_value false x evaluated = evaluated >>= λ v. ret (OfValue v)
 
+-- the array that such a name stands for, or else a value
 abbrev pub array_named_or : Option (List ℕ) → Run Value → Run Argument
 array_named_or None evaluated = evaluated >>= λ v. ret (OfValue v)
 array_named_or (Some x) evaluated = is_array x >>= λ b. array_or_value b x evaluated
 
--- the array that a bare name stands for, or else a value
 abbrev pub array_or : Expr → Run Value → Run Argument
 array_or e evaluated = array_named_or (bare_name e) evaluated
 

@@ -1,10 +1,9 @@
 -- The primitives of a run that reach the outside: the main input, named streams, commands
 -- (POSIX awk, INPUT FILES; Output Statements; Input/Output and General Functions).
-use Rattle.std.specs.Prelude.{ℕ, suc, ◌+◌, nat_le, ℤ, pos, negsuc, Bool, true, false, ◌&&◌, ◌||◌, not, List, [], ◌∷◌, ◌++◌, length, filter, codes, Option, Some, None, is_some, Ok, Err, bytes_eq, if◌then◌else◌}
+use Rattle.std.specs.Prelude.{ℕ, suc, ◌+◌, nat_le, ℤ, pos, negsuc, Bool, true, false, ◌&&◌, ◌||◌, List, [], ◌∷◌, ◌++◌, length, filter, codes, Option, Some, None, is_some, Ok, Err, bytes_eq, if◌then◌else◌}
 use Rattle.awk_value.specs.declared.value.Value.TheVariants as value
 use Rattle.awk_record.specs.Cut.{Ending, Cut, Found, NoMore, BrokenOff, TooLong, cut_of}
 use Rattle.awk_world.specs.declared.world.InputKind.{InputKind}
-use Rattle.awk_world.specs.declared.world.InputKind.TheVariants as input
 use Rattle.awk_world.specs.declared.world.OutputKind.{OutputKind}
 use Rattle.awk_world.specs.declared.world.OutputKind.TheVariants as output
 use Rattle.awk_world.specs.declared.world.Mode.{Mode}
@@ -17,7 +16,7 @@ use Rattle.awk_variables.specs.declared.special.Special.TheVariants.{Filename, F
 use Rattle.awk_semantics.specs.declared.fault.Fault.{Fault}
 use Rattle.awk_semantics.specs.declared.fault.Fault.TheVariants as fault
 use Rattle.awk_semantics.specs.declared.halt.Halt.TheVariants as halt
-use Rattle.awk_semantics.specs.definitions.State.{Named, Input, Output, Request, OpensMain, OpensInput, OpensOutput, RecordOfMain, RecordOf, Closes, Runs, Requested, Stream, AnInput, AnOutput, State, Out, Run, ◌>>=◌, ret, gives}
+use Rattle.awk_semantics.specs.definitions.State.{Named, Request, OpensMain, OpensInput, OpensOutput, RecordOfMain, RecordOf, Closes, Runs, Requested, Stream, AnInput, AnOutput, State, Out, Run, ◌>>=◌, ret, gives}
 use Rattle.awk_semantics.specs.definitions.Primitives.{text_in, put_special, fault_if}
 
 -- Terms of a primitive's own clause: what it gives where it asks this of the outside.
