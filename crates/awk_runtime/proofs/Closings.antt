@@ -4,7 +4,7 @@ use Rattle.std.specs.Prelude.{filter, bytes_eq}
 use Rattle.awk_world.specs.declared.world.InputKind.{InputKind}
 use Rattle.awk_world.specs.declared.world.OutputKind.{OutputKind}
 use Rattle.awk_channels.specs.declared.fault.StreamFault.{StreamFault}
-use Rattle.awk_channels.specs.declared.fault.StreamFault.TheVariants.{Memory, WriteFailed, InputNotReadable, OutputNotOpened, TooManyStreams, SeparatorTooLong, RecordTooLong}
+use Rattle.awk_channels.specs.declared.fault.StreamFault.TheVariants.{Memory, WriteFailed, InputNotReadable, OutputNotOpened, TooManyStreams, RecordTooLong}
 use Rattle.awk_channels.specs.declared.input.Input.{Input}
 use Rattle.awk_channels.specs.declared.named.NamedStream.{NamedStream}
 use Rattle.awk_channels.specs.declared.named.NamedStream.TheVariants as named
@@ -68,7 +68,6 @@ ran_logged command (Err WriteFailed) beside told = write_loses (run_command comm
 ran_logged command (Err InputNotReadable) beside told = absurd told.ran
 ran_logged command (Err OutputNotOpened) beside told = absurd told.ran
 ran_logged command (Err TooManyStreams) beside told = absurd told.ran
-ran_logged command (Err SeparatorTooLong) beside told = absurd told.ran
 ran_logged command (Err RecordTooLong) beside told = absurd told.ran
 
 pub run_follows : {is_logged : Type 0} (command text : List ℕ) (r : Result ℤ StreamFault) {old new : Runtime} {before after : WorldState} → text ≡ command → Beside old new → (is_logged → RunsCommand text before old.streams r after new.streams) → Follows is_logged (run_command command) old before new after (halted r)
@@ -206,7 +205,6 @@ text_closed text (Err WriteFailed) beside told = write_loses (close_named text) 
 text_closed text (Err InputNotReadable) beside told = absurd told.closed
 text_closed text (Err OutputNotOpened) beside told = absurd told.closed
 text_closed text (Err TooManyStreams) beside told = absurd told.closed
-text_closed text (Err SeparatorTooLong) beside told = absurd told.closed
 text_closed text (Err RecordTooLong) beside told = absurd told.closed
 
 pub close_follows : {is_logged : Type 0} (name text : List ℕ) (r : Result ℤ StreamFault) {old new : Runtime} {before after : WorldState} → text ≡ name → Beside old new → (is_logged → ClosesText text before old.streams r after new.streams) → Follows is_logged (close_named name) old before new after (halted r)
