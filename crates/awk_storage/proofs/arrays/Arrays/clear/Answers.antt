@@ -9,7 +9,7 @@ returns c =
     let b = c.self.inside in
     let tables : List Array = b.tables.items in
     let old : Array = c.index_mut.result.now in
-    let f = λ (array : Array). [] in
+    let f : Array → Array = λ (array : Array). [] in
     let within : c.args.number < length tables = omega (arith, c.if-number-self.false, c.self.invariant.0) in
     let at : old ≡ get_or tables c.args.number [] = get_or_read tables c.args.number old within c.index_mut.ensures.value [] in
     ap (λ (array : Array). take b.live (set tables c.args.number array)) c.clear.ensures
