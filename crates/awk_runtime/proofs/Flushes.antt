@@ -1,16 +1,16 @@
 -- What bringing outputs does to the state of a run, and so what flushes do: nothing that the definitions know.
-use Rattle.std.proofs.Common.{◌≡◌, ℕ, ℤ, pos, negsuc, Bool, true, List, [], ◌∷◌, ◌++◌, length, Option, Result, Ok, Err, if◌then◌else◌, refl, sym, ap, ◌∙◌, subst, arith, append-nil}
+use Rattle.std.proofs.Common.{◌≡◌, ℕ, ℤ, pos, negsuc, Bool, List, [], ◌++◌, length, Option, Result, Ok, Err, if◌then◌else◌, refl, sym, ap, ◌∙◌, subst, arith, append-nil}
 use Rattle.awk_channels.specs.declared.fault.StreamFault.{StreamFault}
 use Rattle.awk_channels.specs.declared.fault.StreamFault.TheVariants.{Memory, WriteFailed, InputNotReadable, OutputNotOpened, TooManyStreams, RecordTooLong}
 use Rattle.awk_channels.specs.declared.input.Input.{Input}
 use Rattle.awk_channels.specs.WorldState.{WorldState}
-use Rattle.awk_channels.specs.Log.{Event, OpenedInput, OpenedOutput, Read, Ended, Broke, Wrote, Flushed, Closed, Ran}
 use Rattle.awk_channels.specs.Oracle.{Oracle, Source, SameCounts}
 use Rattle.awk_channels.specs.Writes.{GoesOn}
 use Rattle.awk_channels.specs.Named as words
 use Rattle.awk_channels.specs.Streams.{StreamsView, AreAs, AreBringing, numbered, printed_openings}
 use Rattle.awk_channels.specs.Commands.{BringsAll}
 use Rattle.awk_channels.specs.Flushes.{AreBringingTo, FlushesAll, FlushesCalled, FlushesText, is_number_of}
+use Rattle.awk_channels.proofs.FlushLemmas.{to_some_bringing}
 use Rattle.awk_semantics.specs.declared.halt.Halt.TheVariants as halt
 use Rattle.awk_semantics.specs.Faults.{stream_fault}
 use Rattle.awk_semantics.specs.State.{Effect, State}
@@ -85,21 +85,9 @@ all_follows r beside told = record { simulates = record { steps = omega (arith, 
 
 -- the outputs of a name are flushed
 
-bringing_to : (among : ℕ → Bool) (es : List Event) → AreBringingTo among es → AreBringing es
-bringing_to among [] h = tt
-bringing_to among (Wrote id bytes ∷ es) h = bringing_to among es h.1
-bringing_to among (Flushed id ∷ es) h = bringing_to among es h.1
-bringing_to among (OpenedInput kind name id ∷ es) h = absurd h
-bringing_to among (OpenedOutput kind name mode id ∷ es) h = absurd h
-bringing_to among (Read id bytes ∷ es) h = absurd h
-bringing_to among (Ended id ∷ es) h = absurd h
-bringing_to among (Broke id ∷ es) h = absurd h
-bringing_to among (Closed id answer ∷ es) h = absurd h
-bringing_to among (Ran command answer ∷ es) h = absurd h
-
 called_brought : {text : List ℕ} {is_open : Bool} {before after : WorldState} {old new : StreamsView} → GoesOn (AreBringingTo (is_number_of text old)) before.log after.log → FlushesCalled text before old is_open after new → BringsOutputs before old after new
 called_brought {text = text} {old = old} only told = record {
-  only = record { events = only.events; log = only.log; each = bringing_to (is_number_of text old) only.events only.each };
+  only = record { events = only.events; log = only.log; each = to_some_bringing (is_number_of text old) only.events only.each };
   main = told.main;
   numbers = told.numbers;
   printed = told.printed;
