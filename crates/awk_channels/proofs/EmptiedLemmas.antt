@@ -8,9 +8,8 @@ use Rattle.awk_channels.specs.declared.input.Input.{Input}
 use Rattle.awk_channels.specs.declared.output.Output.{Output}
 use Rattle.awk_channels.specs.declared.named.NamedStream.{NamedStream}
 use Rattle.awk_channels.specs.declared.named.NamedStream.TheVariants as named
-use Rattle.awk_channels.specs.definitions.Streams.{number_of}
+use Rattle.awk_channels.specs.definitions.Streams.{number_of, unheld, all_unheld}
 use Rattle.awk_channels.specs.definitions.Flushes.{is_output_called, is_number_among, held_unless, emptied, all_emptied}
-use Rattle.awk_channels.specs.support.Kept.{unheld, all_unheld}
 use Rattle.awk_channels.specs.support.Held.{held_by, AreEmpty}
 use Rattle.awk_channels.specs.support.Flushing.{is_number_at, emptied_to, emptied_at}
 

@@ -15,10 +15,10 @@ use Rattle.awk_channels.specs.declared.input.Input.{Input}
 use Rattle.awk_channels.specs.declared.output.Output.{Output}
 use Rattle.awk_channels.specs.declared.named.NamedStream.{NamedStream}
 use Rattle.awk_channels.specs.declared.named.NamedStream.TheVariants as named
-use Rattle.awk_channels.specs.definitions.Streams.{StreamsView, AreOpen, AreSound, number_of, held_of, is_output_among, AreBringing}
+use Rattle.awk_channels.specs.definitions.Streams.{StreamsView, AreOpen, AreSound, number_of, held_of, is_output_among, AreBringing, unheld, all_unheld}
 use Rattle.awk_channels.specs.definitions.Flushes.{is_standard_output, is_standard_error, is_output_called, is_number_among, is_standard_number, AreBringingTo}
 use Rattle.awk_channels.specs.support.Buffered.{WritesAndFlushes}
-use Rattle.awk_channels.specs.support.Kept.{AreOfOutput, unheld, all_unheld}
+use Rattle.awk_channels.specs.support.Kept.{AreOfOutput}
 use Rattle.awk_channels.specs.support.Held.{ChangesHeld, held_by}
 use Rattle.awk_channels.specs.support.Brings.{FlushesNamed, BringsHeld}
 use Rattle.awk_channels.specs.support.Flushing.{BringsSome, BringsSomeTo, is_number_at, emptied_to, emptied_at}

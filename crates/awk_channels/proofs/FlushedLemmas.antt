@@ -16,9 +16,8 @@ use Rattle.awk_channels.specs.declared.named.NamedStream.{NamedStream}
 use Rattle.awk_channels.specs.declared.named.NamedStream.TheVariants as named
 use Rattle.awk_channels.specs.definitions.Outputs.{IsOutputFault}
 use Rattle.awk_channels.specs.definitions.Named as words
-use Rattle.awk_channels.specs.definitions.Streams.{StreamsView, number_of, AreOthers, AreApart, AreOpen, held_in, held_of, with_held, place_of, StandFor, FailsBy}
+use Rattle.awk_channels.specs.definitions.Streams.{StreamsView, number_of, AreOthers, AreApart, AreOpen, held_in, held_of, with_held, place_of, StandFor, FailsBy, all_unheld}
 use Rattle.awk_channels.specs.definitions.Flushes.{FlushesAll, is_standard_output, is_standard_error, is_output_called, has_output_called, is_number_among, is_standard_number, is_number_of, held_unless, all_emptied, without_held, AreBringingTo, FlushesText}
-use Rattle.awk_channels.specs.support.Kept.{all_unheld}
 use Rattle.awk_channels.specs.support.Held.{HoldsNothing}
 use Rattle.awk_channels.specs.support.Brings.{BringsHeld, AreFlushedBut}
 use Rattle.awk_channels.specs.support.Flushing.{BringsSome, standard_emptied}

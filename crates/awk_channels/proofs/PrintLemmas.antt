@@ -19,10 +19,9 @@ use Rattle.awk_channels.specs.declared.streams.Target.{Target}
 use Rattle.awk_channels.specs.declared.streams.Target.TheVariants as target
 use Rattle.awk_channels.specs.definitions.Named.{with_bytes}
 use Rattle.awk_channels.specs.definitions.Outputs.{IsOutputFault, WritesAll}
-use Rattle.awk_channels.specs.definitions.Streams.{StreamsView, AreOpen, AreSound, held_of, with_held, is_output_among, place_of, number_of, number_of_some, place_of_some, number_at, opening_at, IsTarget, FailsAs}
+use Rattle.awk_channels.specs.definitions.Streams.{StreamsView, AreOpen, AreSound, held_of, with_held, is_output_among, place_of, number_of, number_of_some, place_of_some, number_at, opening_at, IsTarget, FailsAs, unheld, all_unheld}
 use Rattle.awk_channels.specs.definitions.NamedOutputs.{Prints}
 use Rattle.awk_channels.specs.support.Buffered.{PrintsOrHolds}
-use Rattle.awk_channels.specs.support.Kept.{unheld, all_unheld}
 use Rattle.awk_channels.specs.support.Held.{ChangesHeld, held_by, is_an_output}
 use Rattle.awk_channels.specs.support.Printing.{PrintsAt}
 use Rattle.awk_channels.specs.support.Brings.{Touches}

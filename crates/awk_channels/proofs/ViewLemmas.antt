@@ -12,11 +12,11 @@ use Rattle.awk_channels.specs.declared.named.NamedStream.{NamedStream}
 use Rattle.awk_channels.specs.declared.named.NamedStream.TheVariants as named
 use Rattle.awk_channels.specs.definitions.Outputs.{IsOutputFault}
 use Rattle.awk_channels.specs.definitions.Named as words
-use Rattle.awk_channels.specs.definitions.Streams.{StreamsView, numbered, IsOpenMain, AreOpenNamed, AreOthers, IsApartFrom, AreApart, AreOpen, number_of, held_in, held_of, with_held, is_output_among, IsSoundMain, AreSoundNamed, AreSound, IsMainRest, StandFor, AreAs, FailsBy, Brings}
+use Rattle.awk_channels.specs.definitions.Streams.{StreamsView, numbered, IsOpenMain, AreOpenNamed, AreOthers, IsApartFrom, AreApart, AreOpen, number_of, held_in, held_of, with_held, is_output_among, IsSoundMain, AreSoundNamed, AreSound, IsMainRest, StandFor, AreAs, FailsBy, Brings, all_unheld}
 use Rattle.awk_channels.specs.definitions.NamedOutputs.{LosesBytes}
 use Rattle.awk_channels.specs.definitions.Commands.{BringsAll}
 use Rattle.awk_channels.specs.support.Buffered.{WritesAndFlushes}
-use Rattle.awk_channels.specs.support.Kept.{SameAt, all_unheld}
+use Rattle.awk_channels.specs.support.Kept.{SameAt}
 use Rattle.awk_channels.specs.support.Held.{ChangesHeld, AreEmpty, HoldsNothing}
 use Rattle.awk_channels.specs.support.Brings.{Touches, BringsHeld, BringsTo, AreFlushedBut}
 use Rattle.awk_channels.proofs.OpeningsLemmas.{receives-none}

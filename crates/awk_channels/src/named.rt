@@ -12,7 +12,7 @@ ghost use Rattle.awk_channels.specs.definitions.Streams.{AreOpenNamed, AreApart,
 ghost use Rattle.awk_channels.specs.definitions.Flushes.{is_output_called as is_output_called_so};
 ghost use Rattle.awk_channels.specs.support.Places.{is_named_input, is_named_output};
 ghost use Rattle.awk_channels.specs.support.Buffered.{PrintsOrHolds};
-ghost use Rattle.awk_channels.specs.support.Kept.{unheld, all_unheld};
+ghost use Rattle.awk_channels.specs.definitions.Streams.{unheld, all_unheld};
 ghost use Rattle.awk_channels.specs.support.Held.{held_by, is_an_output, AreEmpty};
 ghost use Rattle.awk_channels.specs.support.Asks.{TakesNamed};
 ghost use Rattle.awk_channels.specs.support.Brings.{FlushesNamed, BringsHeld, AreFlushedBut};

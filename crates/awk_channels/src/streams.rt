@@ -6,7 +6,7 @@ ghost use Rattle.awk_channels.specs.definitions.Inputs.{IsInputFault};
 ghost use Rattle.awk_channels.specs.definitions.Outputs.{IsOutputFault};
 ghost use Rattle.awk_channels.specs.definitions.Streams.{AreOpen, AreSound, IsFreshMain, IsSameMain, ClosesMain, held_of};
 ghost use Rattle.awk_channels.specs.definitions.MainInput.{OpensMain, AsksMain, EndsMain};
-ghost use Rattle.awk_channels.specs.support.Kept.{all_unheld};
+ghost use Rattle.awk_channels.specs.definitions.Streams.{all_unheld};
 ghost use Rattle.awk_channels.specs.support.Held.{HoldsNothing};
 ghost use Rattle.awk_channels.specs.support.Brings.{BringsHeld, AreFlushedBut};
 ghost use Rattle.awk_channels.specs.support.Asks.{Prepares};

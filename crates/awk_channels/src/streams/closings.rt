@@ -4,7 +4,7 @@ ghost use Rattle.awk_world.specs.definitions.WorldState.{SameOpen};
 ghost use Rattle.awk_channels.specs.definitions.Outputs.{IsOutputFault};
 ghost use Rattle.awk_channels.specs.definitions.Streams.{AreOpen, AreSound, held_of, name_of};
 ghost use Rattle.awk_channels.specs.definitions.Commands.{ClosesStream, ClosesEach, ClosesText, Finishes, names_called, all_names};
-ghost use Rattle.awk_channels.specs.support.Kept.{all_unheld};
+ghost use Rattle.awk_channels.specs.definitions.Streams.{all_unheld};
 ghost use Rattle.awk_channels.specs.support.Held.{HoldsNothing};
 ghost use Rattle.awk_channels.specs.support.Brings.{BringsHeld, AreFlushedBut};
 ghost use Rattle.awk_channels.specs.support.Closes.{ClosesAt, without_place};

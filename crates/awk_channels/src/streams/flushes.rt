@@ -4,7 +4,7 @@ ghost use Rattle.awk_channels.specs.definitions.Outputs.{IsOutputFault};
 ghost use Rattle.awk_channels.specs.definitions.Streams.{AreOpen, AreSound};
 ghost use Rattle.awk_channels.specs.definitions.Flushes.{FlushesAll, FlushesText, has_output_called as has_output_called_so, is_standard_number};
 ghost use Rattle.awk_channels.specs.definitions.Flushes.{is_number_among, all_emptied, without_held};
-ghost use Rattle.awk_channels.specs.support.Kept.{all_unheld};
+ghost use Rattle.awk_channels.specs.definitions.Streams.{all_unheld};
 ghost use Rattle.awk_channels.specs.support.Flushing.{BringsSome, is_number_at, emptied_at, standard_emptied};
 
 use super::Streams;
