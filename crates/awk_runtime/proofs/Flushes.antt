@@ -121,11 +121,13 @@ text_unflushed text OutputNotOpened told = absurd told.flushed
 text_unflushed text TooManyStreams told = absurd told.flushed
 text_unflushed text RecordTooLong told = absurd told.flushed
 
-pub flush_follows : {is_logged : Type 0} (name text : List ℕ) (is_open : Bool) {old new : Runtime} {before after : WorldState} → text ≡ name → Beside old new → (is_logged → FlushesText text before old.streams (Ok is_open) after new.streams) → Follows is_logged (flush_named name) old before new after (Ok (flush_answer is_open))
-flush_follows {is_logged = is_logged} name text is_open {old = old} {new = new} {before = before} {after = after} named beside told =
-    subst (λ (l : List ℕ). Follows is_logged (flush_named l) old before new after (Ok (flush_answer is_open))) named (record {
+pub flush_follows : {is_logged : Type 0} (name text : List ℕ) (is_open open_so : Bool) {old new : Runtime} {before after : WorldState} → is_open ≡ open_so → text ≡ name → Beside old new → (is_logged → FlushesText text before old.streams (Ok is_open) after new.streams)
+    → Follows is_logged (flush_named name) old before new after (Ok (flush_answer open_so))
+flush_follows {is_logged = is_logged} name text is_open open_so {old = old} {new = new} {before = before} {after = after} is named beside told =
+    subst (λ (b : Bool). Follows is_logged (flush_named name) old before new after (Ok (flush_answer b))) is
+    (subst (λ (l : List ℕ). Follows is_logged (flush_named l) old before new after (Ok (flush_answer is_open))) named (record {
       simulates = record { steps = omega (arith, beside.steps); names = beside.names; told = λ t. text_flushed text is_open beside (told t) };
-    })
+    }))
 
 pub flush_fails : {is_logged : Type 0} (name text : List ℕ) (fault : StreamFault) {old new : Runtime} {before after : WorldState} → text ≡ name → Beside old new → (is_logged → FlushesText text before old.streams (Err fault) after new.streams) → Follows is_logged (flush_named name) old before new after (Err (halt.Fault (stream_fault fault)))
 flush_fails {is_logged = is_logged} name text fault {old = old} {new = new} {before = before} {after = after} named beside told =
