@@ -4,7 +4,7 @@ use Rattle.awk_lex.specs.declared.token.Kind.TheVariants as t
 use Rattle.awk_grammar.specs.declared.tree.PrintForm.TheVariants as form
 use Rattle.awk_grammar.specs.definitions.Tree.{Expr, Name, Length, Exprs, Nil, Cons, NoExpr, SimpleStatement, Single, Range, Item, PatternOnly}
 use Rattle.awk_grammar.specs.support.InfixRole.{Ends}
-use Rattle.awk_grammar.specs.support.UnlimitedState.{Frame, InPrint, InExpression, InOutput, InExit, InReturn, InForFirst, InForLast, InPattern, InRangeEnd, InProgram, getline_of, reduce, ParserState, BeforeOperand, AfterOperand, AfterName, AfterLength, AfterGetline, AfterBar, AfterList, AfterPrint, AfterExit, AfterReturn, AfterSimpleStatement, BetweenItems, BeforeAction, BeforeParameter}
+use Rattle.awk_grammar.specs.support.UnlimitedState.{Frame, InPrint, InExpression, InOutput, InExit, InReturn, InForFirst, InForLast, InPattern, InRangeEnd, InProgram, getline_of, reduce, ParserState, BeforeOperand, AfterOperand, AfterName, AfterLength, AfterGetline, AfterBar, AfterList, AfterPrint, AfterDeleteName, AfterExit, AfterReturn, AfterSimpleStatement, BetweenItems, BeforeAction, BeforeParameter}
 use Rattle.awk_grammar.specs.support.UnlimitedStatements.{end_simple, redirect_to_pipe, end_list}
 use Rattle.awk_grammar.specs.support.UnlimitedParser.{end_operand, items, whole, finish}
 
@@ -73,6 +73,7 @@ ends (AfterBar g e k) = let h = reduce Ends e k in bar_ends h.operand h.stack
 ends (AfterList g xs k) = list_ends xs k
 ends (AfterPrint form.Print k) = simple_ends _ k
 ends (AfterPrint form.Printf k) = refl
+ends (AfterDeleteName a k) = simple_ends _ k
 ends (AfterExit k) = simple_ends _ k
 ends (AfterReturn k) = simple_ends _ k
 ends (AfterSimpleStatement m k) = simple_ends m k

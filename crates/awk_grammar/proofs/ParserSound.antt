@@ -164,7 +164,8 @@ deletes_so y k all rest h = tt
 
 delete_open_so : (y : Kind) (a : List ℕ) (k : List Frame) (all rest : List Kind) → Holds (AfterDeleteName a k) all (y ∷ rest) → Holds (step (AfterDeleteName a k) y) all rest
 delete_open_so t.OpenBracket a k all rest h = (rest, refl, h, refl, tt)
-delete_open_so y a k all rest h = tt
+delete_open_so y a k all rest h =
+    endeds y (tree.DeleteAll a) k all rest (record { from = (t.Keyword word.Delete) ∷ t.Name a ∷ y ∷ rest; below = h; spelled = refl; keeps = tt; allowed = λ _. refl })
 
 opens_for_so : (y : Kind) (k : List Frame) (all rest : List Kind) → Holds (AfterFor k) all (y ∷ rest) → Holds (step (AfterFor k) y) all rest
 opens_for_so t.OpenParenthesis k all rest h = h

@@ -67,6 +67,7 @@ start_statement_kept m t.Semicolon k = refl
 start_statement_kept m t.OpenBrace k = refl
 start_statement_kept m t.CloseBrace k = close_block_kept m k
 start_statement_kept m (t.Keyword word.Next) k = refl
+start_statement_kept m (t.Keyword word.NextFile) k = refl
 start_statement_kept m (t.Keyword word.Break) k = refl
 start_statement_kept m (t.Keyword word.Continue) k = refl
 start_statement_kept m (t.Keyword word.Exit) k = refl
@@ -369,9 +370,9 @@ open_kept : (m : ℕ) (y : Kind) (z : unlimited.ParserState) → parser.at_paren
 open_kept m t.OpenParenthesis z = refl
 open_kept m y z = refl
 
-delete_kept : (m : ℕ) (x : List ℕ) (k : List unlimited.Frame) (y : Kind) → parser.after_delete_name m x (frames m k) y ≡ state m (unlimited.after_delete_name x k y)
-delete_kept m x k t.OpenBracket = refl
-delete_kept m x k y = refl
+delete_kept : (m : ℕ) (x : List ℕ) (k : List unlimited.Frame) (y : Kind) → 3 ≤ m → parser.after_delete_name m x (frames m k) y ≡ state m (unlimited.after_delete_name x k y)
+delete_kept m x k t.OpenBracket h = refl
+delete_kept m x k y h = end_simple_kept m y (tree.DeleteAll x) k h
 
 step_kept : (m : ℕ) (x : unlimited.ParserState) (y : Kind) → 3 ≤ m → parser.step m (state m x) y ≡ state m (unlimited.step x y)
 step_kept m (unlimited.BeforeOperand l g k) y h = start_operand_kept m y l g k
@@ -386,7 +387,7 @@ step_kept m (unlimited.AfterIn e g k) y h = name_kept m y _ (λ x. unlimited.Aft
 step_kept m (unlimited.AfterListIn xs g k) y h = name_kept m y _ (λ x. unlimited.AfterOperand g (ListMembership xs x) k) (λ x. ap (λ z. parser.AfterOperand g (operand_of 12 z) (frames m k)) (one_limited m (tallest xs) height_of (λ z. ListMembership z x) xs (omega arith)))
 step_kept m (unlimited.AfterPrint how k) y h = after_print_kept m y how k h
 step_kept m (unlimited.AfterDelete k) y h = name_kept m y _ (λ x. unlimited.AfterDeleteName x k) (λ x. refl)
-step_kept m (unlimited.AfterDeleteName x k) y h = delete_kept m x k y
+step_kept m (unlimited.AfterDeleteName x k) y h = delete_kept m x k y h
 step_kept m (unlimited.AfterExit k) y h = after_exit_kept m _ (tree.Exit NoExpr) unlimited.InExit k y h (one_limited m 0 height_of_simple tree.Exit NoExpr (omega arith))
 step_kept m (unlimited.AfterReturn k) y h = after_exit_kept m _ (tree.Return NoExpr) unlimited.InReturn k y h (one_limited m 0 height_of_simple tree.Return NoExpr (omega arith))
 step_kept m (unlimited.AfterSimpleStatement x k) y h = end_simple_kept m y x k h

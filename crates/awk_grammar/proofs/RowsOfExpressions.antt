@@ -146,6 +146,19 @@ length_none = refl
 field_length : Reads (t.Dollar ∷ t.BuiltIn built_in.Length ∷ []) (tree.Field tree.Length)
 field_length = refl
 
+-- fflush(), fflush(x); refused: fflush, fflush(1, 2)
+flush_all : Reads (t.BuiltIn built_in.Fflush ∷ t.OpenParenthesis ∷ t.CloseParenthesis ∷ []) (tree.BuiltIn built_in.Fflush tree.Nil)
+flush_all = refl
+
+flush_one : Reads (t.BuiltIn built_in.Fflush ∷ t.OpenParenthesis ∷ nx ∷ t.CloseParenthesis ∷ []) (tree.BuiltIn built_in.Fflush (only vx))
+flush_one = refl
+
+flush_bare : RefusedExpr (t.BuiltIn built_in.Fflush ∷ [])
+flush_bare = refl
+
+flush_two : RefusedExpr (t.BuiltIn built_in.Fflush ∷ t.OpenParenthesis ∷ n1 ∷ t.Comma ∷ n2 ∷ t.CloseParenthesis ∷ [])
+flush_two = refl
+
 -- /a/ ~ x, x ~ /a/
 ere : Reads (nx ∷ op operator.Matches ∷ t.Ere a ∷ []) (by operator.Matches vx (tree.Ere a))
 ere = refl

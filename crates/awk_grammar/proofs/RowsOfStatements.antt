@@ -9,7 +9,7 @@ use Rattle.awk_grammar.specs.declared.tree.UnaryOperator.TheVariants as prefix
 use Rattle.awk_grammar.specs.declared.tree.PrintForm.TheVariants as form
 use Rattle.awk_grammar.specs.declared.tree.Redirection.TheVariants as redirection
 use Rattle.awk_grammar.specs.definitions.Tree as tree
-use Rattle.awk_grammar.proofs.RowWords.{a, c, x, na, nb, nx, n1, n2, n3, op, up, va, vb, vx, e1, e2, by, beside, two, only, just, Does, Prints, RefusedStatement}
+use Rattle.awk_grammar.proofs.RowWords.{a, b, c, x, na, nb, nx, n1, n2, n3, op, up, va, vb, vx, e1, e2, by, beside, two, only, just, Does, Prints, RefusedStatement}
 
 -- print 1, 2 > "f"
 print_to : Prints (n1 ∷ t.Comma ∷ n2 ∷ op operator.Greater ∷ t.String c ∷ []) (tree.Print form.Print (tree.Bare (two e1 e2)) (tree.Redirected redirection.Truncate (tree.String c)))
@@ -111,8 +111,24 @@ exit_one : Does (t.Keyword word.Exit ∷ op operator.Minus ∷ n1 ∷ []) (just 
 exit_one = refl
 
 -- delete a
-delete_all : RefusedStatement (t.Keyword word.Delete ∷ na ∷ [])
+delete_all : Does (t.Keyword word.Delete ∷ na ∷ []) (just (tree.DeleteAll a))
 delete_all = refl
+
+-- delete a b
+delete_two : RefusedStatement (t.Keyword word.Delete ∷ na ∷ nb ∷ [])
+delete_two = refl
+
+-- for (delete a; ; delete b) ;
+for_delete : Does (t.Keyword word.For ∷ t.OpenParenthesis ∷ t.Keyword word.Delete ∷ na ∷ t.Semicolon ∷ t.Semicolon ∷ t.Keyword word.Delete ∷ nb ∷ t.CloseParenthesis ∷ t.Semicolon ∷ []) (tree.Then (tree.For (tree.ASimple (tree.DeleteAll a)) tree.NoExpr (tree.ASimple (tree.DeleteAll b)) tree.Empty) tree.NoMore)
+for_delete = refl
+
+-- nextfile ; nextfile
+next_files : Does (t.Keyword word.NextFile ∷ t.Semicolon ∷ t.Keyword word.NextFile ∷ []) (tree.Then (tree.Simple tree.NextFile) (just tree.NextFile))
+next_files = refl
+
+-- for (nextfile; ;) ;
+for_next_file : RefusedStatement (t.Keyword word.For ∷ t.OpenParenthesis ∷ t.Keyword word.NextFile ∷ t.Semicolon ∷ t.Semicolon ∷ t.CloseParenthesis ∷ t.Semicolon ∷ [])
+for_next_file = refl
 
 -- next ; ;
 next_empty : Does (t.Keyword word.Next ∷ t.Semicolon ∷ t.Semicolon ∷ t.Newline ∷ t.Keyword word.Break ∷ []) (tree.Then (tree.Simple tree.Next) (tree.Then tree.Empty (just tree.Break)))

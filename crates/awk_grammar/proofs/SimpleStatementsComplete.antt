@@ -19,7 +19,7 @@ use Rattle.awk_grammar.specs.definitions.SpellingOfExpressions.{Spells}
 use Rattle.awk_grammar.specs.definitions.SpellingOfStatements.{print_token, SpellsPrintList, redirection_token, SpellsOutput, SpellsSimple}
 use Rattle.awk_grammar.specs.support.Nodes.{append}
 use Rattle.awk_grammar.specs.support.InfixRole.{Ends}
-use Rattle.awk_grammar.specs.support.UnlimitedState.{Frame, InGroup, InExpression, InPrint, InOutput, InDelete, BeforeOperand, AfterOperand, AfterList, AfterPrint}
+use Rattle.awk_grammar.specs.support.UnlimitedState.{Frame, InGroup, InExpression, InPrint, InOutput, InDelete, BeforeOperand, AfterOperand, AfterList, AfterPrint, AfterDeleteName}
 use Rattle.awk_grammar.specs.support.UnlimitedStatements.{start_part, end_simple, end_print_list, redirect_to_pipe}
 use Rattle.awk_grammar.specs.support.UnlimitedParser.{answer}
 use Rattle.awk_grammar.proofs.RightEdges.{pipes, next, Stops, bounds, precedence_most, stops_end}
@@ -274,6 +274,10 @@ delete_read : (a : List ℕ) (xs : Exprs) (k : List Frame) (u : List Kind) (y : 
 delete_read a Nil k u y r l c = absurd (omega (arith, l))
 delete_read a (Cons e xs) k u y r l c = c ∙ ap (λ x. answer (end_simple y (tree.Delete a x) k) r) (all_of Nil e xs)
 
+all_deleted : (a : List ℕ) (y : Kind) (r : List Kind) (k : List Frame) → ender y ≡ true → answer (AfterDeleteName a k) (y ∷ r) ≡ answer (end_simple y (tree.DeleteAll a) k) r
+all_deleted a t.OpenBracket r k h = absurd (cc)
+all_deleted a y r k h = refl
+
 -- an expression, a print, a printf or a delete is read up to the token that ends it
 pub complete_part : (m : SimpleStatement) (ts : List Kind) (y : Kind) (r : List Kind) (k : List Frame) → is_for_part m ≡ true → SimpleKeepsPrecedence m → SpellsSimple m ts (y ∷ r) → ender y ≡ true → part_from k ts ≡ answer (end_simple y m k) r
 complete_part (tree.Expression e) ts y r k q l p h =
@@ -284,4 +288,5 @@ complete_part (tree.Print how what to) ts y r k q l p h =
     ap (part_from k) p.2 ∙ print_begins how k p.0 ∙ prints_read how what p.0 p.1 k l.0 p.3 (closes to p.1 y r l.1 p.4 h) ∙ outputs how what to p.1 y r k l.1 p.4 h
 complete_part (tree.Delete a xs) ts y r k q l p h =
     ap (part_from k) p.1 ∙ delete_read a xs k p.0 y r l.0 (complete_list xs (OfDelete a) Nil p.0 (t.CloseBracket ∷ y ∷ r) false k l.1 p.2 refl)
+complete_part (tree.DeleteAll a) ts y r k q l p h = ap (part_from k) p ∙ all_deleted a y r k h
 complete_part m ts y r k q l p h = absurd (cc)

@@ -65,6 +65,7 @@ part_first : (m : SimpleStatement) (ts rest : List Kind) → is_for_part m ≡ t
 part_first (tree.Expression e) ts rest q p = parted_start ts (starts_so e ts rest p)
 part_first (tree.Print how what to) ts rest q p = ap parted p.2 ∙ print_parted how p.0
 part_first (tree.Delete a xs) ts rest q p = ap parted p.1
+part_first (tree.DeleteAll a) ts rest q p = ap parted p
 part_first m ts rest q p = absurd (cc)
 
 begins_part : (k : List Frame) (ts : List Kind) → parted ts ≡ true → answer (BeforeStatement k) ts ≡ part_from k ts
@@ -74,6 +75,7 @@ begins_part k (t.Semicolon ∷ ts) h = absurd (cc)
 begins_part k (t.OpenBrace ∷ ts) h = absurd (cc)
 begins_part k (t.CloseBrace ∷ ts) h = absurd (cc)
 begins_part k (t.Keyword word.Next ∷ ts) h = absurd (cc)
+begins_part k (t.Keyword word.NextFile ∷ ts) h = absurd (cc)
 begins_part k (t.Keyword word.Break ∷ ts) h = absurd (cc)
 begins_part k (t.Keyword word.Continue ∷ ts) h = absurd (cc)
 begins_part k (t.Keyword word.Exit ∷ ts) h = absurd (cc)
@@ -210,6 +212,7 @@ simple_read : (m : SimpleStatement) (ts : List Kind) (y : Kind) (r : List Kind) 
 simple_read (tree.Expression e) ts y r k l p h = part_read (tree.Expression e) ts y r k refl l p h
 simple_read (tree.Print how what to) ts y r k l p h = part_read (tree.Print how what to) ts y r k refl l p h
 simple_read (tree.Delete a xs) ts y r k l p h = part_read (tree.Delete a xs) ts y r k refl l p h
+simple_read (tree.DeleteAll a) ts y r k l p h = part_read (tree.DeleteAll a) ts y r k refl l p h
 simple_read (tree.Exit e) ts y r k l p h = ap (answer (BeforeStatement k)) p.1 ∙ exit_read e p.0 y r k l p.2 h
 simple_read (tree.Return e) ts y r k l p h = ap (answer (BeforeStatement k)) p.1 ∙ return_read e p.0 y r k l p.2 h
 simple_read m ts y r k l p h = ap (answer (BeforeStatement k)) p

@@ -110,6 +110,7 @@ begins_at t.Semicolon k all rest n g h =
 begins_at t.OpenBrace k all rest n g h = (refl, λ n r e. (n, r, subst (λ z. Stacked false k all (t.OpenBrace ∷ z)) e h, refl, tt))
 begins_at t.CloseBrace k all rest n g h = closes_block k all rest h
 begins_at (t.Keyword word.Next) k all rest n g h = one_word (t.Keyword word.Next) tree.Next k all rest g h refl tt
+begins_at (t.Keyword word.NextFile) k all rest n g h = one_word (t.Keyword word.NextFile) tree.NextFile k all rest g h refl tt
 begins_at (t.Keyword word.Break) k all rest n g h = one_word (t.Keyword word.Break) tree.Break k all rest g h refl tt
 begins_at (t.Keyword word.Continue) k all rest n g h = one_word (t.Keyword word.Continue) tree.Continue k all rest g h refl tt
 begins_at (t.Keyword word.Exit) k all rest n g h = (h, g)

@@ -30,5 +30,6 @@ pub fn accepts(function: BuiltIn, count: usize, third_is_place: bool) -> bool
         BuiltIn::Int => is_between(1, 1, count),
         BuiltIn::System => is_between(1, 1, count),
         BuiltIn::Close => is_between(1, 1, count),
+        BuiltIn::Fflush => count <= 1,
     }
 }

@@ -25,8 +25,6 @@ pub enum BinaryOperator {
 pub struct Ere {
     /// The text between the slashes.
     pub text: Bytes,
-    /// Which of the program's EREs it is, in the order of the text, from 0.
-    pub number: usize,
 }
 
 /// An expression. A place, what can be assigned, is a `Name`, an `Element` or a `Field`.
@@ -113,7 +111,11 @@ pub enum SimpleStatement {
     Print(PrintForm, PrintList, Output),
     /// `delete name[list]`.
     Delete(Bytes, Vec<Expr>),
+    /// `delete name`: all elements of the array.
+    DeleteAll(Bytes),
     Next,
+    /// `nextfile`.
+    NextFile,
     Break,
     Continue,
     Exit(Option<Box<Expr>>),

@@ -41,14 +41,12 @@ pub enum RefusalCode {
     TooManyArguments,
     /// K5: a parameter that is repeated, or named as a function or a special variable.
     ParameterRefused,
-    /// K6: a `next`, `break`, `continue` or `return` where it ends nothing.
+    /// K6: a `next`, `nextfile`, `break`, `continue` or `return` where it ends nothing.
     StatementOutOfPlace,
     /// K7: a name that other awks give a meaning which this one leaves out.
     NameLeftOut,
     /// K8: a function's name without a call, or a function named as a special variable.
     FunctionAsVariable,
-    /// K9: a form of the language that can't be run yet.
-    NotBuilt,
     /// M0: memory was refused.
     OutOfMemory,
 }
@@ -78,7 +76,6 @@ impl RefusalCode {
             RefusalCode::StatementOutOfPlace => "K6: statement out of place",
             RefusalCode::NameLeftOut => "K7: name left out",
             RefusalCode::FunctionAsVariable => "K8: function used as a variable",
-            RefusalCode::NotBuilt => "K9: not built yet",
             RefusalCode::OutOfMemory => "M0: out of memory",
         }
     }

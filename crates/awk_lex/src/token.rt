@@ -81,6 +81,8 @@ pub enum Keyword {
     Break,
     Continue,
     Next,
+    /// `nextfile`, which the standard's grammar doesn't have.
+    NextFile,
     Exit,
     Return,
     Delete,
@@ -106,6 +108,8 @@ pub enum BuiltIn {
     Int,
     System,
     Close,
+    /// `fflush`, which the standard's grammar doesn't have.
+    Fflush,
 }
 
 /// What a token is.

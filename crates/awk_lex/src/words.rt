@@ -8,7 +8,7 @@ ghost use Rattle.awk_lex.specs.definitions.Words.{is_name_start, is_word_byte, i
 
 use crate::token::{BuiltIn, Keyword, Kind};
 
-const KEYWORDS: [(&[u8], Keyword); 18] = [
+const KEYWORDS: [(&[u8], Keyword); 19] = [
     (b"BEGIN", Keyword::Begin),
     (b"END", Keyword::End),
     (b"function", Keyword::Function),
@@ -20,6 +20,7 @@ const KEYWORDS: [(&[u8], Keyword); 18] = [
     (b"break", Keyword::Break),
     (b"continue", Keyword::Continue),
     (b"next", Keyword::Next),
+    (b"nextfile", Keyword::NextFile),
     (b"exit", Keyword::Exit),
     (b"return", Keyword::Return),
     (b"delete", Keyword::Delete),
@@ -29,7 +30,7 @@ const KEYWORDS: [(&[u8], Keyword); 18] = [
     (b"printf", Keyword::Printf),
 ];
 
-const BUILT_INS: [(&[u8], BuiltIn); 13] = [
+const BUILT_INS: [(&[u8], BuiltIn); 14] = [
     (b"length", BuiltIn::Length),
     (b"substr", BuiltIn::Substr),
     (b"index", BuiltIn::Index),
@@ -43,20 +44,11 @@ const BUILT_INS: [(&[u8], BuiltIn); 13] = [
     (b"int", BuiltIn::Int),
     (b"system", BuiltIn::System),
     (b"close", BuiltIn::Close),
+    (b"fflush", BuiltIn::Fflush),
 ];
 
-const LEFT_OUT: [&[u8]; 11] = [
-    b"atan2",
-    b"cos",
-    b"sin",
-    b"exp",
-    b"log",
-    b"sqrt",
-    b"rand",
-    b"srand",
-    b"func",
-    b"nextfile",
-    b"fflush",
+const LEFT_OUT: [&[u8]; 9] = [
+    b"atan2", b"cos", b"sin", b"exp", b"log", b"sqrt", b"rand", b"srand", b"func",
 ];
 
 pub(crate) fn is_name_start(byte: u8) -> bool

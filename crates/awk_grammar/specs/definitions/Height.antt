@@ -53,7 +53,9 @@ abbrev pub height_of_simple : SimpleStatement → ℕ
 height_of_simple (tree.Expression e) = 1 + height_of e
 height_of_simple (tree.Print form xs output) = 1 + max (height_of_print_list xs) (height_of_output output)
 height_of_simple (tree.Delete x xs) = 1 + tallest xs
+height_of_simple (tree.DeleteAll x) = 1
 height_of_simple tree.Next = 1
+height_of_simple tree.NextFile = 1
 height_of_simple tree.Break = 1
 height_of_simple tree.Continue = 1
 height_of_simple (tree.Exit e) = 1 + optional_height e

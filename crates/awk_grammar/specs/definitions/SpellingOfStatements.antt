@@ -43,8 +43,11 @@ SpellsSimple (tree.Expression e) ts rest = Spells e ts rest
 SpellsSimple (tree.Print form xs output) ts rest = (u v : List Kind) × (ts ≡ print_token form ∷ u) × SpellsPrintList xs u v × SpellsOutput output v rest
 -- Delete NAME '[' expr_list ']'
 SpellsSimple (tree.Delete x xs) ts rest = (u : List Kind) × (ts ≡ t.Keyword word.Delete ∷ t.Name x ∷ t.OpenBracket ∷ u) × SpellsList xs u (t.CloseBracket ∷ rest)
--- Next, Break, Continue
+-- wider: Delete NAME
+SpellsSimple (tree.DeleteAll x) ts rest = ts ≡ t.Keyword word.Delete ∷ t.Name x ∷ rest
+-- Next, Break, Continue; wider: `nextfile`
 SpellsSimple tree.Next ts rest = ts ≡ t.Keyword word.Next ∷ rest
+SpellsSimple tree.NextFile ts rest = ts ≡ t.Keyword word.NextFile ∷ rest
 SpellsSimple tree.Break ts rest = ts ≡ t.Keyword word.Break ∷ rest
 SpellsSimple tree.Continue ts rest = ts ≡ t.Keyword word.Continue ∷ rest
 -- Exit expr_opt, Return expr_opt

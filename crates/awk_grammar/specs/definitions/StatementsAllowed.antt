@@ -26,7 +26,9 @@ abbrev pub SimpleKeepsPrecedence : SimpleStatement → Type 0
 SimpleKeepsPrecedence (tree.Expression e) = KeepsPrecedence false e
 SimpleKeepsPrecedence (tree.Print form xs output) = PrintListKeepsPrecedence form xs × OutputKeepsPrecedence output
 SimpleKeepsPrecedence (tree.Delete x xs) = (1 ≤ count xs) × AllKeepPrecedence false xs
+SimpleKeepsPrecedence (tree.DeleteAll x) = Unit {0}
 SimpleKeepsPrecedence tree.Next = Unit {0}
+SimpleKeepsPrecedence tree.NextFile = Unit {0}
 SimpleKeepsPrecedence tree.Break = Unit {0}
 SimpleKeepsPrecedence tree.Continue = Unit {0}
 SimpleKeepsPrecedence (tree.Exit e) = OptionalKeepsPrecedence e
@@ -37,6 +39,7 @@ abbrev pub is_for_part : SimpleStatement → Bool
 is_for_part (tree.Expression e) = true
 is_for_part (tree.Print form xs output) = true
 is_for_part (tree.Delete x xs) = true
+is_for_part (tree.DeleteAll x) = true
 is_for_part m = false
 
 abbrev pub ForPartKeepsPrecedence : OptionalSimple → Type 0

@@ -62,7 +62,10 @@ pub data SimpleStatement : Type 0 where
   Expression : (e : Expr) → SimpleStatement
   Print : (form : PrintForm) (list : PrintList) (output : Output) → SimpleStatement
   Delete : (name : List ℕ) (subscripts : Exprs) → SimpleStatement
+  -- all elements of an array
+  DeleteAll : (name : List ℕ) → SimpleStatement
   Next : SimpleStatement
+  NextFile : SimpleStatement
   Break : SimpleStatement
   Continue : SimpleStatement
   Exit : (e : OptionalExpr) → SimpleStatement

@@ -70,7 +70,9 @@ abbrev pub simple_of : SimpleStatement → t.SimpleStatement
 simple_of (simple.Expression a) = t.Expression (expr_of a.value)
 simple_of (simple.Print form xs o) = t.Print form (print_list_of xs) (output_of o)
 simple_of (simple.Delete x xs) = t.Delete x (exprs_of xs.items)
+simple_of (simple.DeleteAll x) = t.DeleteAll x
 simple_of simple.Next = t.Next
+simple_of simple.NextFile = t.NextFile
 simple_of simple.Break = t.Break
 simple_of simple.Continue = t.Continue
 simple_of (simple.Exit a) = t.Exit (optional_expr_of a)

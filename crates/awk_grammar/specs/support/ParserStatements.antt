@@ -46,6 +46,7 @@ start_statement m t.Semicolon k = AfterStatement (limited m 1 tree.Empty) k
 start_statement m t.OpenBrace k = BeforeStatement (InBlock (limited m 0 tree.NoMore) ∷ k)
 start_statement m t.CloseBrace k = close_block m k
 start_statement m (t.Keyword word.Next) k = AfterSimpleStatement (limited m 1 tree.Next) k
+start_statement m (t.Keyword word.NextFile) k = AfterSimpleStatement (limited m 1 tree.NextFile) k
 start_statement m (t.Keyword word.Break) k = AfterSimpleStatement (limited m 1 tree.Break) k
 start_statement m (t.Keyword word.Continue) k = AfterSimpleStatement (limited m 1 tree.Continue) k
 start_statement m (t.Keyword word.Exit) k = AfterExit k
@@ -193,4 +194,4 @@ after_statement m x k y = end_statement m y x k
 
 abbrev pub after_delete_name : ℕ → List ℕ → List Frame → Kind → ParserState
 after_delete_name m a k t.OpenBracket = BeforeOperand false false (InDelete a (no_operands m) ∷ k)
-after_delete_name m a k y = Failed
+after_delete_name m a k y = end_simple m y (limited m 1 (tree.DeleteAll a)) k

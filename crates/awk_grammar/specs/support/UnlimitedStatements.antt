@@ -35,6 +35,7 @@ start_statement t.Semicolon k = AfterStatement Empty k
 start_statement t.OpenBrace k = BeforeStatement (InBlock NoMore ∷ k)
 start_statement t.CloseBrace k = close_block k
 start_statement (t.Keyword word.Next) k = AfterSimpleStatement tree.Next k
+start_statement (t.Keyword word.NextFile) k = AfterSimpleStatement tree.NextFile k
 start_statement (t.Keyword word.Break) k = AfterSimpleStatement tree.Break k
 start_statement (t.Keyword word.Continue) k = AfterSimpleStatement tree.Continue k
 start_statement (t.Keyword word.Exit) k = AfterExit k
@@ -159,4 +160,4 @@ after_statement x k y = end_statement y x k
 
 abbrev pub after_delete_name : List ℕ → List Frame → Kind → ParserState
 after_delete_name a k t.OpenBracket = BeforeOperand false false (InDelete a Nil ∷ k)
-after_delete_name a k y = Failed
+after_delete_name a k y = end_simple y (tree.DeleteAll a) k

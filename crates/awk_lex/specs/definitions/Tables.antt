@@ -8,7 +8,7 @@ use Rattle.awk_lex.specs.declared.token.BuiltIn.TheVariants as built_in
 use Rattle.awk_lex.specs.declared.token.Kind.{Kind}
 use Rattle.awk_lex.specs.declared.token.Kind.TheVariants.{Keyword, BuiltIn, Operator, Assign, Increment, Not, Dollar, Comma, Semicolon, Newline, Question, Colon, Bar, Append, OpenBrace, CloseBrace, OpenBracket, CloseBracket, OpenParenthesis, CloseParenthesis}
 
--- the keywords
+-- the keywords; wider: `nextfile`
 abbrev pub keywords : List (List ℕ × Kind)
 keywords =
     (codes "BEGIN", Keyword keyword.Begin)
@@ -22,6 +22,7 @@ keywords =
     ∷ (codes "break", Keyword keyword.Break)
     ∷ (codes "continue", Keyword keyword.Continue)
     ∷ (codes "next", Keyword keyword.Next)
+    ∷ (codes "nextfile", Keyword keyword.NextFile)
     ∷ (codes "exit", Keyword keyword.Exit)
     ∷ (codes "return", Keyword keyword.Return)
     ∷ (codes "delete", Keyword keyword.Delete)
@@ -31,7 +32,7 @@ keywords =
     ∷ (codes "printf", Keyword keyword.Printf)
     ∷ []
 
--- the names of the built-in functions
+-- the names of the built-in functions; wider: `fflush`
 abbrev pub built_ins : List (List ℕ × Kind)
 built_ins =
     (codes "length", BuiltIn built_in.Length)
@@ -47,6 +48,7 @@ built_ins =
     ∷ (codes "int", BuiltIn built_in.Int)
     ∷ (codes "system", BuiltIn built_in.System)
     ∷ (codes "close", BuiltIn built_in.Close)
+    ∷ (codes "fflush", BuiltIn built_in.Fflush)
     ∷ []
 
 -- the words that are no names
@@ -65,8 +67,6 @@ left_out =
     ∷ codes "rand"
     ∷ codes "srand"
     ∷ codes "func"
-    ∷ codes "nextfile"
-    ∷ codes "fflush"
     ∷ []
 
 -- the punctuators, newline included, but for those that begin with a slash
