@@ -7,11 +7,10 @@ use awk_grammar::tree::PrintForm;
 use awk_lex::token::Kind;
 use awk_value::Bytes;
 
-/// The token that is read next, and how many EREs of the program stand before it.
+/// The token that is read next.
 #[derive(Clone, Copy)]
 pub struct NextToken<'a> {
     pub kind: &'a Kind,
-    pub eres: usize,
 }
 
 /// Where the parser stands.

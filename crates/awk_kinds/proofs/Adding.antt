@@ -1,5 +1,5 @@
 -- How uses are added one after another.
-use Rattle.std.proofs.Common.{◌≡◌, ℕ, suc, ◌+◌, ◌<◌, ◌≤◌, true, false, List, [], ◌∷◌, ◌++◌, get_or, length, drop, drop-cons, add-one, append_assoc, if◌then◌else◌, refl, sym, ap, ◌∙◌, arith}
+use Rattle.std.proofs.Common.{◌≡◌, ℕ, suc, ◌+◌, ◌<◌, ◌≤◌, Bool, true, false, List, [], ◌∷◌, ◌++◌, get_or, length, drop, drop-cons, add-one, append_assoc, if◌then◌else◌, refl, sym, ap, ◌∙◌, arith}
 use Rattle.std.proofs.lemmas.List.{drop_all, append-nil}
 use Rattle.awk_lex.specs.declared.token.BuiltIn.{BuiltIn}
 use Rattle.awk_lex.specs.declared.token.BuiltIn.TheVariants as built_in
@@ -7,15 +7,15 @@ use Rattle.awk_grammar.specs.declared.tree.Expr.{Expr as CodeExpr}
 use Rattle.awk_grammar.specs.declared.tree.Expr.TheVariants as code
 use Rattle.awk_grammar.specs.declared.tree.Statement.{Statement as CodeStatement}
 use Rattle.awk_grammar.specs.declared.tree.Item.{Item as CodeItem}
-use Rattle.awk_grammar.specs.Tree.{Expr, Name, Exprs, Nil, Cons, NoMore, Then}
+use Rattle.awk_grammar.specs.Tree.{Exprs, Nil, Cons, NoMore, Then}
 use Rattle.awk_grammar.specs.View.{expr_of, exprs_of, statement_of, statements_of, item_of, items_of}
 use Rattle.awk_kinds.specs.declared.uses.ArrayUse.{ArrayUse}
 use Rattle.awk_kinds.specs.declared.uses.NameUse.{NameUse}
 use Rattle.awk_kinds.specs.declared.uses.NameUse.TheVariants.{Computed, NoArray}
 use Rattle.awk_kinds.specs.declared.uses.Uses.{Uses}
 use Rattle.awk_kinds.specs.definitions.Kinds.{Scope, passed, split_into, uses_in_expr, uses_in_arguments}
-use Rattle.awk_kinds.specs.definitions.NameUses.{makes_array, names_in_passed, names_in_array, count_of, names_in_expr, names_in_call, names_in_built_in}
-use Rattle.awk_kinds.specs.support.Adds.{Adds, is_name}
+use Rattle.awk_kinds.specs.definitions.NameUses.{makes_array, measures, names_in_passed, names_in_array, names_in_measured, names_in_argument, count_of, names_in_expr, names_in_call, names_in_built_in}
+use Rattle.awk_kinds.specs.support.Adds.{Adds}
 
 pub adds_none : {a : Uses} → Adds a a [] []
 adds_none {a = a} = record { arrays = sym (append-nil a.arrays.items); names = sym (append-nil a.names.items) }
@@ -71,10 +71,6 @@ pub computed : (f : List ℕ) (n : ℕ) (e : CodeExpr) (names : List NameUse) �
 computed f n (code.Name x) names h = absurd (h x refl)
 computed f n e names h = refl
 
-array_names : (e : Expr) (names : List NameUse) → names_in_array e names ≡ (if is_name e then [] else NoArray ∷ names)
-array_names (Name x) names = refl
-array_names e names = refl
-
 -- the array that split makes
 
 pub no_split : (scope : Scope) (f : BuiltIn) (es : Exprs) → makes_array f 1 ≡ false → split_into scope f es ≡ []
@@ -110,28 +106,27 @@ called_at scope f es i e low is =
     let next : i + 1 ≡ suc i = omega arith in
     ap (λ l. names_in_call scope f i l) (list_at es i e low is) ∙ ap (λ j. names_in_passed f i (expr_of e) (names_in_expr scope (expr_of e)) ++ names_in_call scope f j (exprs_of (drop (i + 1) es))) (sym next)
 
--- the names in an argument of a built-in
-abbrev pub names_at_built_in : Scope → BuiltIn → ℕ → Expr → List NameUse
-names_at_built_in scope f i e = if makes_array f i then names_in_array e (names_in_expr scope e) else names_in_expr scope e
+-- an argument of a built-in
 
-pub built_in_at : (scope : Scope) (f : BuiltIn) (es : List CodeExpr) (i : ℕ) (e : CodeExpr) → i < length es → get_or es i e ≡ e → names_in_built_in scope f i (exprs_of (drop i es)) ≡ names_at_built_in scope f i (expr_of e) ++ names_in_built_in scope f (i + 1) (exprs_of (drop (i + 1) es))
+pub built_in_at : (scope : Scope) (f : BuiltIn) (es : List CodeExpr) (i : ℕ) (e : CodeExpr) → i < length es → get_or es i e ≡ e → names_in_built_in scope f i (exprs_of (drop i es)) ≡ names_in_argument scope f i (expr_of e) (names_in_expr scope (expr_of e)) ++ names_in_built_in scope f (i + 1) (exprs_of (drop (i + 1) es))
 built_in_at scope f es i e low is =
     let next : i + 1 ≡ suc i = omega arith in
-    ap (λ l. names_in_built_in scope f i l) (list_at es i e low is) ∙ ap (λ j. names_at_built_in scope f i (expr_of e) ++ names_in_built_in scope f j (exprs_of (drop (i + 1) es))) (sym next)
+    ap (λ l. names_in_built_in scope f i l) (list_at es i e low is) ∙ ap (λ j. names_in_argument scope f i (expr_of e) (names_in_expr scope (expr_of e)) ++ names_in_built_in scope f j (exprs_of (drop (i + 1) es))) (sym next)
 
--- a bare name has no uses as an array
-pub uses_of_name : (scope : Scope) (e : Expr) → is_name e ≡ true → uses_in_expr scope e ≡ []
-uses_of_name scope (Name x) h = refl
-uses_of_name scope e h = let bad : false ≡ true = h in cc
+array_of_other : (e : CodeExpr) (names : List NameUse) → ((x : List ℕ) → e ≡ code.Name x → ⊥) → names_in_array (expr_of e) names ≡ NoArray ∷ names
+array_of_other (code.Name x) names h = absurd (h x refl)
+array_of_other e names h = refl
 
-pub not_array : (scope : Scope) (f : BuiltIn) (i : ℕ) (e : Expr) → makes_array f i ≡ false → names_at_built_in scope f i e ≡ names_in_expr scope e
-not_array scope f i e h = ap (λ b. if b then names_in_array e (names_in_expr scope e) else names_in_expr scope e) h
+measured_other : (scope : Scope) (e : CodeExpr) (names : List NameUse) → ((x : List ℕ) → e ≡ code.Name x → ⊥) → names_in_measured scope (expr_of e) names ≡ names
+measured_other scope (code.Name x) names h = absurd (h x refl)
+measured_other scope e names h = refl
 
-made_array : (scope : Scope) (f : BuiltIn) (i : ℕ) (e : Expr) → makes_array f i ≡ true → names_at_built_in scope f i e ≡ (if is_name e then [] else NoArray ∷ names_in_expr scope e)
-made_array scope f i e h = ap (λ b. if b then names_in_array e (names_in_expr scope e) else names_in_expr scope e) h ∙ array_names e (names_in_expr scope e)
+argument_by : (scope : Scope) (made measured : Bool) (e : CodeExpr) (names : List NameUse) → ((x : List ℕ) → e ≡ code.Name x → ⊥)
+    → (if made then names_in_array (expr_of e) names else (if measured then names_in_measured scope (expr_of e) names else names)) ≡ (if made then NoArray ∷ [] else []) ++ names
+argument_by scope true measured e names h = array_of_other e names h
+argument_by scope false true e names h = measured_other scope e names h
+argument_by scope false false e names h = refl
 
-pub made_array_of_name : (scope : Scope) (f : BuiltIn) (i : ℕ) (e : Expr) → makes_array f i ≡ true → is_name e ≡ true → names_at_built_in scope f i e ≡ []
-made_array_of_name scope f i e h k = made_array scope f i e h ∙ ap (λ b. if b then [] else NoArray ∷ names_in_expr scope e) k
-
-pub made_array_of_other : (scope : Scope) (f : BuiltIn) (i : ℕ) (e : Expr) → makes_array f i ≡ true → is_name e ≡ false → names_at_built_in scope f i e ≡ NoArray ∷ names_in_expr scope e
-made_array_of_other scope f i e h k = made_array scope f i e h ∙ ap (λ b. if b then [] else NoArray ∷ names_in_expr scope e) k
+-- one that is no bare name
+pub argument_of_other : (scope : Scope) (f : BuiltIn) (i : ℕ) (e : CodeExpr) (names : List NameUse) → ((x : List ℕ) → e ≡ code.Name x → ⊥) → names_in_argument scope f i (expr_of e) names ≡ (if makes_array f i then NoArray ∷ [] else []) ++ names
+argument_of_other scope f i e names h = argument_by scope (makes_array f i) (measures f i) e names h

@@ -3,7 +3,7 @@ use Rattle.std.specs.Prelude.{◌≡◌, refl, Bool, true, false, List, [], ◌�
 use Rattle.std.proofs.Common.{arith}
 use Rattle.awk_grammar.specs.Tree.{Item}
 use Rattle.awk_lex.specs.declared.refusal.RefusalCode.{RefusalCode}
-use Rattle.awk_lex.specs.declared.refusal.RefusalCode.TheVariants.{UnexpectedByte, OpenString, EscapeRefused, OpenPattern, NumberRefused, ProgramTooLong, NotAProgram, NestedTooDeep, PatternIllFormed, PatternCountRefused, PatternTooLarge, UnknownFunction, DefinedTwice, TooManyArguments, ParameterRefused, StatementOutOfPlace, NameLeftOut, FunctionAsVariable, ArrayAndScalar, NotBuilt, OutOfMemory}
+use Rattle.awk_lex.specs.declared.refusal.RefusalCode.TheVariants.{UnexpectedByte, OpenString, EscapeRefused, OpenPattern, NumberRefused, ProgramTooLong, NotAProgram, NestedTooDeep, PatternIllFormed, PatternCountRefused, PatternTooLarge, UnknownFunction, DefinedTwice, TooManyArguments, ParameterRefused, StatementOutOfPlace, NameLeftOut, FunctionAsVariable, ArrayAndScalar, OutOfMemory}
 use Rattle.awk_kinds.specs.definitions.Fits.{holds, first_of, in_order, first_refusal, Fits, LawOfRefusals}
 
 -- a cause that isn't told doesn't hold, nor is one of the later ones told
@@ -34,7 +34,6 @@ each items two three four five six seven eight one NestedTooDeep = refl
 each items two three four five six seven eight one PatternIllFormed = refl
 each items two three four five six seven eight one PatternCountRefused = refl
 each items two three four five six seven eight one PatternTooLarge = refl
-each items two three four five six seven eight one NotBuilt = refl
 each items two three four five six seven eight one OutOfMemory = refl
 
 fits_by : (items : List Item) → first_refusal items ≡ None → Fits items

@@ -12,5 +12,6 @@ pub mod ArrayNames
 pub mod ArraysHeld
 pub mod Searching
 pub mod Rows
+pub mod ProgramRows
 pub mod Adding
 pub mod Defined

@@ -11,15 +11,15 @@ use Rattle.awk_kinds.specs.declared.variable.Variable.TheVariants.{Global, Param
 use Rattle.awk_kinds.specs.declared.uses.ArrayUse.{ArrayUse}
 use Rattle.awk_kinds.specs.declared.uses.ArrayUse.TheVariants.{Used, Passed}
 use Rattle.awk_kinds.specs.declared.uses.NameUse.{NameUse}
-use Rattle.awk_kinds.specs.declared.uses.NameUse.TheVariants.{AsScalar, Called, Computed, NoArray}
+use Rattle.awk_kinds.specs.declared.uses.NameUse.TheVariants.{AsScalar, Measured, Called, Computed, NoArray}
 use Rattle.awk_kinds.specs.declared.functions.Functions.{Functions}
 use Rattle.awk_kinds.specs.declared.arrays.Arrays.{Arrays}
 use Rattle.awk_kinds.specs.definitions.SpecialNames.{special_scalars}
 use Rattle.awk_kinds.specs.definitions.Kinds.{Definition, parameters_of, definitions_by, function_names_of, arrays_of, is_member, is_parameter_among}
 use Rattle.awk_kinds.specs.definitions.Kinds.{in_array_use}
-use Rattle.awk_kinds.specs.definitions.Fits.{has_repeat, is_special, is_function, is_unknown_call, is_overfull_call, has_refused_parameter, scalars_among, is_function_name, passed_by_value, all_passed_by_value, lacks_array}
+use Rattle.awk_kinds.specs.definitions.Fits.{has_repeat, is_special, is_function, is_unknown_call, is_overfull_call, has_refused_parameter, scalars_among, variables_among, is_function_name, passed_by_value, all_passed_by_value, lacks_array}
 use Rattle.awk_kinds.specs.support.Functions.{signature_of, names_defined, found, parameter_at, HoldsFunctions}
-use Rattle.awk_kinds.specs.support.Misuses.{unknown_call, are_fewer, overfull_call, is_taken, refused_item, function_variable, as_scalar, any_array, any_scalar, any_variable}
+use Rattle.awk_kinds.specs.support.Misuses.{unknown_call, are_fewer, overfull_call, is_taken, refused_item, function_variable, any_array, any_scalar, any_named, any_variable}
 use Rattle.awk_kinds.specs.support.Arrays.{is_marked}
 use Rattle.awk_kinds.specs.support.Known.{HoldsArrays}
 use Rattle.awk_kinds.specs.support.Mixed as m
@@ -69,19 +69,24 @@ place_in (Some ps) n = refl
 scalars_any : (P : Variable → Bool) (ns : List NameUse) → list_any P (scalars_among ns) ≡ any_scalar P ns
 scalars_any P [] = refl
 scalars_any P (AsScalar v ∷ ns) = ap (λ b. P v || b) (scalars_any P ns)
+scalars_any P (Measured v ∷ ns) = scalars_any P ns
 scalars_any P (Called f n ∷ ns) = scalars_any P ns
 scalars_any P (Computed f n ∷ ns) = scalars_any P ns
 scalars_any P (NoArray ∷ ns) = scalars_any P ns
 
-pub variables_any : (P : Variable → Bool) (us : List ArrayUse) (ns : List NameUse) → list_any P (map in_array_use us ++ scalars_among ns) ≡ any_variable P us ns
-variables_any P us ns =
-    list_any-append P (map in_array_use us) (scalars_among ns)
-    ∙ ap (λ b. b || list_any P (scalars_among ns)) (any_map in_array_use P us)
-    ∙ ap (λ b. any_array P us || b) (scalars_any P ns)
+named_any : (P : Variable → Bool) (ns : List NameUse) → list_any P (variables_among ns) ≡ any_named P ns
+named_any P [] = refl
+named_any P (AsScalar v ∷ ns) = ap (λ b. P v || b) (named_any P ns)
+named_any P (Measured v ∷ ns) = ap (λ b. P v || b) (named_any P ns)
+named_any P (Called f n ∷ ns) = named_any P ns
+named_any P (Computed f n ∷ ns) = named_any P ns
+named_any P (NoArray ∷ ns) = named_any P ns
 
-as_scalar_same : (P Q : Variable → Bool) → ((v : Variable) → P v ≡ Q v) → (n : NameUse) → as_scalar P n ≡ as_scalar Q n
-as_scalar_same P Q same (AsScalar v) = same v
-as_scalar_same P Q same n = refl
+pub variables_any : (P : Variable → Bool) (us : List ArrayUse) (ns : List NameUse) → list_any P (map in_array_use us ++ variables_among ns) ≡ any_variable P us ns
+variables_any P us ns =
+    list_any-append P (map in_array_use us) (variables_among ns)
+    ∙ ap (λ b. b || list_any P (variables_among ns)) (any_map in_array_use P us)
+    ∙ ap (λ b. any_array P us || b) (named_any P ns)
 
 module _ (items : List Item) (functions : Functions) (h : HoldsFunctions items functions) where
   pub function_is : (x : List ℕ) → is_function items x ≡ is_some (found functions x)
@@ -128,8 +133,8 @@ module _ (items : List Item) (functions : Functions) (h : HoldsFunctions items f
   pub special_any : list_any is_special (function_names_of items) ≡ list_any is_special functions.names.items
   special_any = ap (list_any is_special) (names_are items ∙ sym h.names)
 
-  pub function_names_any : (us : List ArrayUse) (ns : List NameUse) → list_any (is_function_name items) (map in_array_use us ++ scalars_among ns) ≡ any_variable (function_variable functions) us ns
-  function_names_any us ns = any_same (is_function_name items) (function_variable functions) function_name_is (map in_array_use us ++ scalars_among ns) ∙ variables_any (function_variable functions) us ns
+  pub function_names_any : (us : List ArrayUse) (ns : List NameUse) → list_any (is_function_name items) (map in_array_use us ++ variables_among ns) ≡ any_variable (function_variable functions) us ns
+  function_names_any us ns = any_same (is_function_name items) (function_variable functions) function_name_is (map in_array_use us ++ variables_among ns) ∙ variables_any (function_variable functions) us ns
 
   module _ (arrays : Arrays) (k : HoldsArrays items arrays) where
     among_is : (f : List ℕ) (r : Option (List ℕ)) → is_parameter_among (arrays_of items) f r ≡ m.is_marked_at arrays f r
@@ -143,6 +148,7 @@ module _ (items : List Item) (functions : Functions) (h : HoldsFunctions items f
     lacks_is (Computed f n) = wanted_is f n
     lacks_is NoArray = refl
     lacks_is (AsScalar v) = refl
+    lacks_is (Measured v) = refl
     lacks_is (Called f n) = refl
 
     by_value : (P : Variable → Bool) (v : Variable) (b : Bool) → list_any P (if b then [] else v ∷ []) ≡ (P v && not b)

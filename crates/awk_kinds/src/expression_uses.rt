@@ -1,10 +1,12 @@
 // What an expression does with names.
 
-ghost use Rattle.std.specs.Prelude.{◌≡◌, [], OnOk};
+ghost use Rattle.std.specs.Prelude.{◌≡◌, [], ◌∷◌, OnOk, if◌then◌else◌};
+ghost use Rattle.awk_grammar.specs.Tree.{Name};
 ghost use Rattle.awk_grammar.specs.View.{expr_of, exprs_of, optional_expr_of};
 ghost use Rattle.awk_kinds.specs.definitions.Kinds.{split_into, uses_in_expr, uses_in_list, uses_in_arguments, uses_in_optional_expr};
-ghost use Rattle.awk_kinds.specs.definitions.NameUses.{makes_array, names_in_expr, names_in_list, names_in_call, names_in_built_in, names_in_optional_expr};
-ghost use Rattle.awk_kinds.specs.support.Adds.{Adds, is_name};
+ghost use Rattle.awk_kinds.specs.definitions.NameUses.{makes_array, measures, names_in_argument, names_in_expr, names_in_list, names_in_call, names_in_built_in, names_in_optional_expr};
+ghost use Rattle.awk_kinds.specs.declared.uses.NameUse.TheVariants.{NoArray};
+ghost use Rattle.awk_kinds.specs.support.Adds.{Adds};
 
 use crate::scope::Scope;
 use crate::uses::{NameUse, Uses};
@@ -23,12 +25,12 @@ fn makes_array(function: BuiltIn, place: usize) -> bool
     }
 }
 
-/// Whether the expression is a bare name.
-fn is_name(e: &Expr) -> bool
-    ensures { result ≡ is_name (expr_of e.now) }
+/// Whether the built-in takes an array at this argument too.
+fn measures(function: BuiltIn, place: usize) -> bool
+    ensures { result ≡ measures function place }
 {
-    match e {
-        Expr::Name(_) => true,
+    match function {
+        BuiltIn::Length => place == 0,
         _ => false,
     }
 }
@@ -53,6 +55,35 @@ impl Uses {
             Expr::Name(name) => self.add_array(scope, name),
             _ => Ok(()),
         }
+    }
+
+    /// A bare name is this argument of a built-in.
+    fn add_bare(
+        &mut self,
+        scope: &Scope,
+        function: BuiltIn,
+        place: usize,
+        name: &Bytes,
+    ) -> Result<(), AllocError>
+        ensures { OnOk result (Adds self.old self.new [] (names_in_argument scope.now function place (Name name.now) (names_in_expr scope.now (Name name.now)))) }
+    {
+        if makes_array(function, place) {
+            return Ok(());
+        }
+        if measures(function, place) {
+            return self.add_measured(scope, name);
+        }
+        self.add_scalar(scope, name)
+    }
+
+    /// This argument of a built-in is no bare name.
+    fn add_no_name(&mut self, function: BuiltIn, place: usize) -> Result<(), AllocError>
+        ensures { OnOk result (Adds self.old self.new [] (if makes_array function place then NoArray ∷ [] else [])) }
+    {
+        if makes_array(function, place) {
+            self.add_name_use(NameUse::NoArray)?;
+        }
+        Ok(())
     }
 
     #[cycle(expressions)]
@@ -163,10 +194,10 @@ impl Uses {
         ensures { OnOk result (Adds self.old self.new (uses_in_list scope.now (exprs_of list.now)) (names_in_built_in scope.now function 0 (exprs_of list.now))) }
     {
         for (i, e) in list.iter().enumerate() {
-            if !makes_array(function, i) {
-                self.add_expr(scope, e)?;
-            } else if !is_name(e) {
-                self.add_name_use(NameUse::NoArray)?;
+            if let Expr::Name(x) = e {
+                self.add_bare(scope, function, i, x)?;
+            } else {
+                self.add_no_name(function, i)?;
                 self.add_expr(scope, e)?;
             }
         }

@@ -6,7 +6,7 @@ ghost use Rattle.awk_lex.specs.Words.{is_left_out};
 ghost use Rattle.awk_grammar.specs.View.{item_of, items_of};
 ghost use Rattle.awk_kinds.specs.definitions.Kinds.{in_array_use};
 ghost use Rattle.awk_kinds.specs.definitions.Fits.{is_special, is_variable_left_out, calls_left_out, item_names_left_out};
-ghost use Rattle.awk_kinds.specs.support.Misuses.{unknown_call, overfull_call, is_taken, refused_parameters, refused_item, function_variable, as_scalar, any_array, any_scalar, any_variable};
+ghost use Rattle.awk_kinds.specs.support.Misuses.{unknown_call, overfull_call, is_taken, refused_parameters, refused_item, function_variable, as_variable, any_array, any_named, any_variable};
 
 use crate::functions::{Functions, has_repeat};
 use crate::special_names::is_special;
@@ -161,11 +161,12 @@ fn is_variable_left_out(v: &Variable) -> bool
     }
 }
 
-fn is_scalar_left_out(name: &NameUse) -> bool
-    ensures { result ≡ as_scalar is_variable_left_out name.now }
+/// Whether a variable that is used otherwise than as an array is left out.
+fn is_named_left_out(name: &NameUse) -> bool
+    ensures { result ≡ as_variable is_variable_left_out name.now }
 {
     match name {
-        NameUse::AsScalar(v) => is_variable_left_out(v),
+        NameUse::AsScalar(v) | NameUse::Measured(v) => is_variable_left_out(v),
         _ => false,
     }
 }
@@ -178,10 +179,10 @@ fn any_array_left_out(arrays: &[ArrayUse]) -> bool
         .any(|array| is_variable_left_out(array.variable()))
 }
 
-fn any_scalar_left_out(names: &[NameUse]) -> bool
-    ensures { result ≡ any_scalar is_variable_left_out names.now }
+fn any_named_left_out(names: &[NameUse]) -> bool
+    ensures { result ≡ any_named is_variable_left_out names.now }
 {
-    names.iter().any(|name| is_scalar_left_out(name))
+    names.iter().any(|name| is_named_left_out(name))
 }
 
 /// Whether a name that is left out stands anywhere.
@@ -191,7 +192,7 @@ pub(crate) fn names_left_out(items: &[Item], uses: &Uses) -> bool
     any_item_left_out(items)
         || any_call_left_out(&uses.names)
         || any_array_left_out(&uses.arrays)
-        || any_scalar_left_out(&uses.names)
+        || any_named_left_out(&uses.names)
 }
 
 fn is_function_variable(v: &Variable, functions: &Functions) -> bool
@@ -203,11 +204,12 @@ fn is_function_variable(v: &Variable, functions: &Functions) -> bool
     }
 }
 
-fn is_function_scalar(name: &NameUse, functions: &Functions) -> bool
-    ensures { result ≡ as_scalar (function_variable functions.now) name.now }
+/// Whether a variable that is used otherwise than as an array is named as a function.
+fn is_named_function(name: &NameUse, functions: &Functions) -> bool
+    ensures { result ≡ as_variable (function_variable functions.now) name.now }
 {
     match name {
-        NameUse::AsScalar(v) => is_function_variable(v, functions),
+        NameUse::AsScalar(v) | NameUse::Measured(v) => is_function_variable(v, functions),
         _ => false,
     }
 }
@@ -226,10 +228,10 @@ fn any_function_array(arrays: &[ArrayUse], functions: &Functions) -> bool
         .any(|array| is_function_variable(array.variable(), functions))
 }
 
-fn any_function_scalar(names: &[NameUse], functions: &Functions) -> bool
-    ensures { result ≡ any_scalar (function_variable functions.now) names.now }
+fn any_named_function(names: &[NameUse], functions: &Functions) -> bool
+    ensures { result ≡ any_named (function_variable functions.now) names.now }
 {
-    names.iter().any(|name| is_function_scalar(name, functions))
+    names.iter().any(|name| is_named_function(name, functions))
 }
 
 /// Whether a function is named as a special variable, or a variable of the whole program as a function.
@@ -238,5 +240,5 @@ pub(crate) fn has_function_variable(uses: &Uses, functions: &Functions) -> bool
 {
     any_special(&functions.names)
         || any_function_array(&uses.arrays, functions)
-        || any_function_scalar(&uses.names, functions)
+        || any_named_function(&uses.names, functions)
 }

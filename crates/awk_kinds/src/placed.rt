@@ -49,7 +49,7 @@ fn simple_fits(place: Place, simple: &grammar::SimpleStatement) -> bool
     ensures { result ≡ simple_fits (place_of place) (g.simple_of simple.now) }
 {
     match simple {
-        grammar::SimpleStatement::Next => place.a_record,
+        grammar::SimpleStatement::Next | grammar::SimpleStatement::NextFile => place.a_record,
         grammar::SimpleStatement::Break | grammar::SimpleStatement::Continue => place.a_loop,
         grammar::SimpleStatement::Return(_) => place.a_function,
         _ => true,
@@ -102,7 +102,7 @@ fn item_fits(item: &grammar::Item) -> bool
     }
 }
 
-/// Whether each `next`, `break`, `continue` and `return` stands where it may (POSIX awk, Actions;
+/// Whether each `next`, `nextfile`, `break`, `continue` and `return` stands where it may (POSIX awk, Actions;
 /// User-Defined Functions).
 pub(crate) fn are_in_place(items: &[grammar::Item]) -> bool
     ensures { result ≡ are_in_place (g.items_of items.now) }

@@ -47,7 +47,11 @@ impl Uses {
                 self.add_array(scope, array)?;
                 self.add_list(scope, list)
             }
-            SimpleStatement::Next | SimpleStatement::Break | SimpleStatement::Continue => Ok(()),
+            SimpleStatement::DeleteAll(array) => self.add_array(scope, array),
+            SimpleStatement::Next
+            | SimpleStatement::NextFile
+            | SimpleStatement::Break
+            | SimpleStatement::Continue => Ok(()),
             SimpleStatement::Exit(e) => self.add_optional_expr(scope, e),
             SimpleStatement::Return(e) => self.add_optional_expr(scope, e),
         }

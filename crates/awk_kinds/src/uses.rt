@@ -2,7 +2,7 @@
 
 ghost use Rattle.std.specs.Prelude.{◌≡◌, [], ◌∷◌, IfOk, OnOk};
 ghost use Rattle.awk_kinds.specs.declared.uses.ArrayUse.TheVariants.{Passed};
-ghost use Rattle.awk_kinds.specs.declared.uses.NameUse.TheVariants.{AsScalar};
+ghost use Rattle.awk_kinds.specs.declared.uses.NameUse.TheVariants.{AsScalar, Measured};
 ghost use Rattle.awk_kinds.specs.definitions.Kinds.{variable_in, used};
 ghost use Rattle.awk_kinds.specs.support.Adds.{Adds};
 
@@ -23,8 +23,10 @@ pub enum ArrayUse {
 /// What a program does with its names besides using them as arrays.
 #[derive(Drop)]
 pub enum NameUse {
-    /// A bare name, but for one that is an argument of a call or that `split` makes an array.
+    /// A bare name, but for one that is an argument of a call, that `split` makes an array or that `length` measures.
     AsScalar(Variable),
+    /// A bare name that `length` measures, be it an array or a scalar.
+    Measured(Variable),
     /// A call of this function with so many arguments.
     Called(Bytes, usize),
     /// This argument of a call of this function is no bare name.
@@ -80,6 +82,14 @@ impl Uses {
     {
         let variable = scope.variable(name)?;
         self.add_name_use(NameUse::AsScalar(variable))
+    }
+
+    /// A name stands for an array or a value.
+    pub(crate) fn add_measured(&mut self, scope: &Scope, name: &Bytes) -> Result<(), AllocError>
+        ensures { OnOk result (Adds self.old self.new [] (Measured (variable_in scope.now name.now) ∷ [])) }
+    {
+        let variable = scope.variable(name)?;
+        self.add_name_use(NameUse::Measured(variable))
     }
 
     /// A bare name is an argument of a call.

@@ -13,7 +13,7 @@ use Rattle.awk_kinds.specs.declared.variable.Variable.TheVariants.{Global, Param
 use Rattle.awk_kinds.specs.declared.uses.ArrayUse.{ArrayUse}
 use Rattle.awk_kinds.specs.declared.uses.ArrayUse.TheVariants.{Used, Passed}
 use Rattle.awk_kinds.specs.declared.uses.NameUse.{NameUse}
-use Rattle.awk_kinds.specs.declared.uses.NameUse.TheVariants.{AsScalar, Called, Computed, NoArray}
+use Rattle.awk_kinds.specs.declared.uses.NameUse.TheVariants.{AsScalar, Measured, Called, Computed, NoArray}
 use Rattle.awk_kinds.specs.definitions.Kinds.{uses_in, in_array_use, parameters_of, is_member, is_parameter_among, arrays_of, function_names_of}
 use Rattle.awk_kinds.specs.definitions.NameUses.{names_in}
 
@@ -43,18 +43,28 @@ abbrev pub has_refused_parameter : List Item → Item → Bool
 has_refused_parameter items (Function f parameters block) = has_repeat parameters || list_any (λ x. is_function items x || is_special x) parameters
 has_refused_parameter items x = false
 
--- the variable that a form uses as a scalar, if it uses one
-abbrev pub in_name_use : NameUse → List Variable
-in_name_use (AsScalar v) = v ∷ []
-in_name_use name = []
+-- the variable that a form uses as a scalar, if it uses one; one that is measured is not so used
+abbrev pub in_scalar_use : NameUse → List Variable
+in_scalar_use (AsScalar v) = v ∷ []
+in_scalar_use name = []
 
 abbrev pub scalars_among : List NameUse → List Variable
 scalars_among [] = []
-scalars_among (name ∷ names) = in_name_use name ++ scalars_among names
+scalars_among (name ∷ names) = in_scalar_use name ++ scalars_among names
 
--- all variables that are used, in any way
+-- the variable that a form uses as a scalar or measures, if it does either
+abbrev pub in_name_use : NameUse → List Variable
+in_name_use (AsScalar v) = v ∷ []
+in_name_use (Measured v) = v ∷ []
+in_name_use name = []
+
+abbrev pub variables_among : List NameUse → List Variable
+variables_among [] = []
+variables_among (name ∷ names) = in_name_use name ++ variables_among names
+
+-- all variables that are used, in any way: as arrays or passed, as scalars, or measured
 abbrev pub variables_in : List Item → List Variable
-variables_in items = map in_array_use (uses_in items) ++ scalars_among (names_in items)
+variables_in items = map in_array_use (uses_in items) ++ variables_among (names_in items)
 
 -- K7: a name left out is a function's or a parameter's, is called, or is a variable's
 abbrev pub item_names_left_out : Item → Bool

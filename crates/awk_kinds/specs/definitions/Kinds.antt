@@ -1,12 +1,13 @@
 -- Which names of a program are arrays (POSIX awk, Variables and Special Variables; User-Defined Functions): the least set
 -- that holds ARGV, ENVIRON and every name that is subscripted, walked, deleted from, split into, right of `in`, or passed
--- where one of the set stands. A parameter is a name of its own function.
+-- where one of the set stands; wider: emptied by `delete`. A parameter is a name of its own function. That `length` counts
+-- the elements of a name makes no array of it.
 use Rattle.std.specs.Prelude.{◌≡◌, ℕ, zero, suc, Bool, true, false, ◌&&◌, List, [], ◌∷◌, ◌++◌, length, map, filter, slice_get, bytes_eq, Option, Some, None, if◌then◌else◌}
 use Rattle.std.specs.List.{list_any}
 use Rattle.awk_variables.specs.Names.{has_name, with_name}
 use Rattle.awk_lex.specs.declared.token.BuiltIn.{BuiltIn as BuiltInName}
 use Rattle.awk_lex.specs.declared.token.BuiltIn.TheVariants as built_in
-use Rattle.awk_grammar.specs.Tree.{Expr, Number, String, Ere, Name, Element, Field, Group, Call, BuiltIn, Length, PreIncrement, PostIncrement, Getline, PipedGetline, Unary, Binary, Membership, ListMembership, Conditional, Assign, Exprs, Nil, Cons, OptionalExpr, NoExpr, AnExpr, PrintList, Bare, Parenthesized, Output, Standard, Redirected, SimpleStatement, Expression, Print, Delete, Next, Break, Continue, Exit, Return, OptionalSimple, NoSimple, ASimple, Statement, Empty, Simple, Block, If, IfElse, While, Do, ForIn, For, Statements, NoMore, Then, Pattern, Single, Range, Item, Begin, End, Action, PatternAction, PatternOnly, Function}
+use Rattle.awk_grammar.specs.Tree.{Expr, Number, String, Ere, Name, Element, Field, Group, Call, BuiltIn, Length, PreIncrement, PostIncrement, Getline, PipedGetline, Unary, Binary, Membership, ListMembership, Conditional, Assign, Exprs, Nil, Cons, OptionalExpr, NoExpr, AnExpr, PrintList, Bare, Parenthesized, Output, Standard, Redirected, SimpleStatement, Expression, Print, Delete, DeleteAll, Next, NextFile, Break, Continue, Exit, Return, OptionalSimple, NoSimple, ASimple, Statement, Empty, Simple, Block, If, IfElse, While, Do, ForIn, For, Statements, NoMore, Then, Pattern, Single, Range, Item, Begin, End, Action, PatternAction, PatternOnly, Function}
 use Rattle.awk_kinds.specs.declared.variable.Variable.{Variable}
 use Rattle.awk_kinds.specs.declared.variable.Variable.TheVariants.{Global, Parameter}
 use Rattle.awk_kinds.specs.declared.uses.ArrayUse.{ArrayUse}
@@ -88,7 +89,9 @@ abbrev pub uses_in_simple : Scope → SimpleStatement → List ArrayUse
 uses_in_simple scope (Expression e) = uses_in_expr scope e
 uses_in_simple scope (Print form list output) = uses_in_print_list scope list ++ uses_in_output scope output
 uses_in_simple scope (Delete x es) = used scope x ++ uses_in_list scope es
+uses_in_simple scope (DeleteAll x) = used scope x
 uses_in_simple scope Next = []
+uses_in_simple scope NextFile = []
 uses_in_simple scope Break = []
 uses_in_simple scope Continue = []
 uses_in_simple scope (Exit e) = uses_in_optional_expr scope e

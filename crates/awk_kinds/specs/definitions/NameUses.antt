@@ -1,11 +1,12 @@
--- What a program does with its names besides using them as arrays (Kinds tells that): scalars, calls, and the arguments
--- that are no bare name (POSIX awk, Variables and Special Variables; User-Defined Functions).
+-- What a program does with its names besides using them as arrays (Kinds tells that): scalars, calls, the arguments that
+-- are no bare name, and the names that `length` measures (POSIX awk, Variables and Special Variables; User-Defined
+-- Functions; String Functions).
 use Rattle.std.specs.Prelude.{ℕ, zero, suc, Bool, false, List, [], ◌∷◌, ◌++◌, ◌==◌, if◌then◌else◌}
 use Rattle.awk_lex.specs.declared.token.BuiltIn.{BuiltIn as BuiltInName}
 use Rattle.awk_lex.specs.declared.token.BuiltIn.TheVariants as built_in
-use Rattle.awk_grammar.specs.Tree.{Expr, Number, String, Ere, Name, Element, Field, Group, Call, BuiltIn, Length, PreIncrement, PostIncrement, Getline, PipedGetline, Unary, Binary, Membership, ListMembership, Conditional, Assign, Exprs, Nil, Cons, OptionalExpr, NoExpr, AnExpr, PrintList, Bare, Parenthesized, Output, Standard, Redirected, SimpleStatement, Expression, Print, Delete, Next, Break, Continue, Exit, Return, OptionalSimple, NoSimple, ASimple, Statement, Empty, Simple, Block, If, IfElse, While, Do, ForIn, For, Statements, NoMore, Then, Pattern, Single, Range, Item, Begin, End, Action, PatternAction, PatternOnly, Function}
+use Rattle.awk_grammar.specs.Tree.{Expr, Number, String, Ere, Name, Element, Field, Group, Call, BuiltIn, Length, PreIncrement, PostIncrement, Getline, PipedGetline, Unary, Binary, Membership, ListMembership, Conditional, Assign, Exprs, Nil, Cons, OptionalExpr, NoExpr, AnExpr, PrintList, Bare, Parenthesized, Output, Standard, Redirected, SimpleStatement, Expression, Print, Delete, DeleteAll, Next, NextFile, Break, Continue, Exit, Return, OptionalSimple, NoSimple, ASimple, Statement, Empty, Simple, Block, If, IfElse, While, Do, ForIn, For, Statements, NoMore, Then, Pattern, Single, Range, Item, Begin, End, Action, PatternAction, PatternOnly, Function}
 use Rattle.awk_kinds.specs.declared.uses.NameUse.{NameUse}
-use Rattle.awk_kinds.specs.declared.uses.NameUse.TheVariants.{AsScalar, Called, Computed, NoArray}
+use Rattle.awk_kinds.specs.declared.uses.NameUse.TheVariants.{AsScalar, Measured, Called, Computed, NoArray}
 use Rattle.awk_kinds.specs.definitions.Kinds.{Scope, variable_in, outside_functions}
 
 abbrev pub count_of : Exprs → ℕ
@@ -17,6 +18,11 @@ abbrev pub makes_array : BuiltInName → (place : ℕ) → Bool
 makes_array built_in.Split n = n == 1
 makes_array f n = false
 
+-- wider: the built-in takes an array at this argument too, as `length` does, which counts its elements
+abbrev pub measures : BuiltInName → (place : ℕ) → Bool
+measures built_in.Length n = n == 0
+measures f n = false
+
 -- an argument of a call, where these are the names in it; Kinds tells which bare names are passed
 abbrev pub names_in_passed : (function : List ℕ) → (place : ℕ) → Expr → List NameUse → List NameUse
 names_in_passed f n (Name x) names = []
@@ -26,6 +32,16 @@ names_in_passed f n e names = Computed f n ∷ names
 abbrev pub names_in_array : Expr → List NameUse → List NameUse
 names_in_array (Name x) names = []
 names_in_array e names = NoArray ∷ names
+
+-- what is measured, where these are the names in it: a bare name is used, as neither a scalar nor an array
+abbrev pub names_in_measured : Scope → Expr → List NameUse → List NameUse
+names_in_measured scope (Name x) names = Measured (variable_in scope x) ∷ []
+names_in_measured scope e names = names
+
+-- an argument of a built-in, where these are the names in it
+abbrev pub names_in_argument : Scope → BuiltInName → (place : ℕ) → Expr → List NameUse → List NameUse
+names_in_argument scope f n e names =
+    if makes_array f n then names_in_array e names else (if measures f n then names_in_measured scope e names else names)
 
 abbrev mutual
   pub names_in_expr : Scope → Expr → List NameUse
@@ -59,10 +75,10 @@ abbrev mutual
   names_in_call scope f n Nil = []
   names_in_call scope f n (Cons e es) = names_in_passed f n e (names_in_expr scope e) ++ names_in_call scope f (suc n) es
 
+  -- the arguments of a built-in, the first of which has this place
   pub names_in_built_in : Scope → BuiltInName → (place : ℕ) → Exprs → List NameUse
   names_in_built_in scope f n Nil = []
-  names_in_built_in scope f n (Cons e es) =
-      (if makes_array f n then names_in_array e (names_in_expr scope e) else names_in_expr scope e) ++ names_in_built_in scope f (suc n) es
+  names_in_built_in scope f n (Cons e es) = names_in_argument scope f n e (names_in_expr scope e) ++ names_in_built_in scope f (suc n) es
 
   pub names_in_optional_expr : Scope → OptionalExpr → List NameUse
   names_in_optional_expr scope NoExpr = []
@@ -80,7 +96,9 @@ abbrev pub names_in_simple : Scope → SimpleStatement → List NameUse
 names_in_simple scope (Expression e) = names_in_expr scope e
 names_in_simple scope (Print form list output) = names_in_print_list scope list ++ names_in_output scope output
 names_in_simple scope (Delete x es) = names_in_list scope es
+names_in_simple scope (DeleteAll x) = []
 names_in_simple scope Next = []
+names_in_simple scope NextFile = []
 names_in_simple scope Break = []
 names_in_simple scope Continue = []
 names_in_simple scope (Exit e) = names_in_optional_expr scope e

@@ -1,5 +1,5 @@
 -- Where a statement may stand that ends something: `break` and `continue` in a loop, `return` in a function, and `next`
--- anywhere but in BEGIN and END (POSIX awk, Actions; User-Defined Functions).
+-- anywhere but in BEGIN and END; wider: `nextfile` where `next` may (POSIX awk, Actions; User-Defined Functions).
 use Rattle.std.specs.Prelude.{Bool, true, false, ◌&&◌, List, [], ◌∷◌}
 use Rattle.awk_grammar.specs.Tree as g
 
@@ -14,6 +14,7 @@ in_a_loop place = record place { a_loop = true }
 
 abbrev pub simple_fits : Place → g.SimpleStatement → Bool
 simple_fits place g.Next = place.a_record
+simple_fits place g.NextFile = place.a_record
 simple_fits place g.Break = place.a_loop
 simple_fits place g.Continue = place.a_loop
 simple_fits place (g.Return e) = place.a_function
@@ -41,7 +42,7 @@ in_begin_or_end = record { a_loop = false; a_function = false; a_record = false 
 abbrev pub in_a_rule : Place
 in_a_rule = record { a_loop = false; a_function = false; a_record = true }
 
--- a `next` in a function that BEGIN or END calls is a fault of the run
+-- a `next` or `nextfile` in a function that BEGIN or END calls is a fault of the run
 abbrev pub in_a_function : Place
 in_a_function = record { a_loop = false; a_function = true; a_record = true }
 

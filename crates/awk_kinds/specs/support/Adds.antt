@@ -1,6 +1,5 @@
 -- What is added to the uses of names.
-use Rattle.std.specs.Prelude.{◌≡◌, Bool, true, false, List, ◌++◌}
-use Rattle.awk_grammar.specs.Tree.{Expr, Name}
+use Rattle.std.specs.Prelude.{◌≡◌, List, ◌++◌}
 use Rattle.awk_kinds.specs.declared.uses.ArrayUse.{ArrayUse}
 use Rattle.awk_kinds.specs.declared.uses.NameUse.{NameUse}
 use Rattle.awk_kinds.specs.declared.uses.Uses.{Uses}
@@ -9,8 +8,3 @@ use Rattle.awk_kinds.specs.declared.uses.Uses.{Uses}
 pub record Adds (old new : Uses) (us : List ArrayUse) (ns : List NameUse) : Type 0 where
   pub arrays : new.arrays.items ≡ old.arrays.items ++ us
   pub names : new.names.items ≡ old.names.items ++ ns
-
--- a bare name
-abbrev pub is_name : Expr → Bool
-is_name (Name x) = true
-is_name e = false

@@ -7,7 +7,7 @@ use Rattle.awk_kinds.specs.declared.variable.Variable.{Variable}
 use Rattle.awk_kinds.specs.declared.variable.Variable.TheVariants.{Global, Parameter}
 use Rattle.awk_kinds.specs.declared.uses.ArrayUse.{ArrayUse}
 use Rattle.awk_kinds.specs.declared.uses.NameUse.{NameUse}
-use Rattle.awk_kinds.specs.declared.uses.NameUse.TheVariants.{AsScalar, Called}
+use Rattle.awk_kinds.specs.declared.uses.NameUse.TheVariants.{AsScalar, Measured, Called}
 use Rattle.awk_kinds.specs.declared.functions.Functions.{Functions}
 use Rattle.awk_kinds.specs.definitions.Kinds.{in_array_use}
 use Rattle.awk_kinds.specs.definitions.Fits.{has_repeat, is_special}
@@ -46,12 +46,21 @@ abbrev pub as_scalar : (Variable → Bool) → NameUse → Bool
 as_scalar test (AsScalar v) = test v
 as_scalar test name = false
 
--- a variable that is used passes the test
+-- a variable that is used as a scalar or measured passes the test
+abbrev pub as_variable : (Variable → Bool) → NameUse → Bool
+as_variable test (AsScalar v) = test v
+as_variable test (Measured v) = test v
+as_variable test name = false
+
 abbrev pub any_array : (Variable → Bool) → List ArrayUse → Bool
 any_array test arrays = list_any (λ u. test (in_array_use u)) arrays
 
 abbrev pub any_scalar : (Variable → Bool) → List NameUse → Bool
 any_scalar test names = list_any (as_scalar test) names
 
+abbrev pub any_named : (Variable → Bool) → List NameUse → Bool
+any_named test names = list_any (as_variable test) names
+
+-- a variable that is used passes the test
 abbrev pub any_variable : (Variable → Bool) → List ArrayUse → List NameUse → Bool
-any_variable test arrays names = any_array test arrays || any_scalar test names
+any_variable test arrays names = any_array test arrays || any_named test names

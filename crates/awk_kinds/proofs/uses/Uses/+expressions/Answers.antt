@@ -1,17 +1,17 @@
-use Rattle.std.proofs.Common.{◌≡◌, ◌++◌, ◌∷◌, [], true, rules, sym, ap, ◌∙◌, arith}
+use Rattle.std.proofs.Common.{◌≡◌, ◌++◌, rules, sym, ap, ◌∙◌, arith}
 use Rattle.std.proofs.lemmas.Result.{IfOk-weaker}
 use Rattle.awk_grammar.specs.declared.tree.Expr.TheViews.{the_lemmas}
 use Rattle.awk_grammar.specs.Tree as tree
 use Rattle.awk_grammar.specs.View.{expr_of, exprs_of}
 use Rattle.awk_kinds.specs.definitions.Kinds.{passed, uses_in_expr}
-use Rattle.awk_kinds.specs.definitions.NameUses.{count_of, names_in_expr, names_in_passed}
-use Rattle.awk_kinds.specs.declared.uses.NameUse.TheVariants.{Called, Computed, NoArray}
-use Rattle.awk_kinds.specs.support.Adds.{Adds, is_name}
+use Rattle.awk_kinds.specs.definitions.NameUses.{count_of, names_in_expr, names_in_passed, names_in_argument}
+use Rattle.awk_kinds.specs.declared.uses.NameUse.TheVariants.{Called, Computed}
+use Rattle.awk_kinds.specs.support.Adds.{Adds}
 use Rattle.awk_kinds.proofs.Rows.{row_is_list}
-use Rattle.awk_kinds.proofs.Adding.{adds_none, adds_both, adds_arrays, list_at, list_over, count_is, arguments_at, called_at, built_in_at, not_passed, computed, names_at_built_in, not_array, made_array_of_other, made_array_of_name, adds_nothing, uses_of_name}
+use Rattle.awk_kinds.proofs.Adding.{adds_none, adds_both, adds_arrays, list_at, list_over, count_is, arguments_at, called_at, built_in_at, not_passed, computed, argument_of_other}
 use Rattle.awk_kinds.proofs.uses.Uses.+expressions.Goals as goal
 use Rattle.awk_kinds.proofs.uses.Uses.+expressions.Goals.{add_arguments-in-Name+in_ok-add_passed, add_arguments-in_default+in_ok-clone+in_ok-add_name_use+in_ok-add_expr}
-use Rattle.awk_kinds.proofs.uses.Uses.+expressions.Goals.{add_built_in-then-not-makes_array+in_ok-add_expr, add_built_in-else-not-makes_array+then-not-is_name+in_ok-add_name_use+in_ok-add_expr-2, add_built_in-else-not-makes_array+else-not-is_name}
+use Rattle.awk_kinds.proofs.uses.Uses.+expressions.Goals.{add_built_in-in-Name+in_ok-add_bare, add_built_in-in_default+in_ok-add_no_name+in_ok-add_expr}
 
 pub add_expr-returns-in_ok-add_array-in-Element : goal.add_expr-returns-in_ok-add_array-in-Element
 add_expr-returns-in_ok-add_array-in-Element t c =
@@ -70,16 +70,11 @@ add_built_in-loop-i-preserved t c = λ new h.
     let f = c.args.function in
     let i = c.loop-i.i in
     let e = c.index-list-i.result in
-    let step : Adds c.loop-i.self c.if-not-makes_array.self (uses_in_expr scope (expr_of e)) (names_at_built_in scope f i (expr_of e)) =
-    elim c.if-not-makes_array.branch [
-      | add_built_in-then-not-makes_array+in_ok-add_expr w ↦
-          rw (w.self-is, not_array scope f i (expr_of e) (sym c.makes_array.ensures ∙ w.if-not-makes_array.true)) w.in_ok-add_expr.ensures
-      | add_built_in-else-not-makes_array+then-not-is_name+in_ok-add_name_use+in_ok-add_expr-2 w ↦
-          let made : names_at_built_in scope f i (expr_of e) ≡ NoArray ∷ names_in_expr scope (expr_of e) = made_array_of_other scope f i (expr_of e) (sym c.makes_array.ensures ∙ w.if-not-makes_array.false) (sym w.is_name.ensures ∙ w.if-not-is_name.true) in
-          rw (w.self-is, made) (adds_both w.in_ok-add_name_use.ensures w.in_ok-add_expr-2.ensures)
-      | add_built_in-else-not-makes_array+else-not-is_name w ↦
-          let named : is_name (expr_of e) ≡ true = sym w.is_name.ensures ∙ w.if-not-is_name.false in
-          let made : names_at_built_in scope f i (expr_of e) ≡ [] = made_array_of_name scope f i (expr_of e) (sym c.makes_array.ensures ∙ w.if-not-makes_array.false) named in
-          rw (w.self-is, made) (adds_nothing (uses_of_name scope (expr_of e) named))
+    let step : Adds c.loop-i.self c.match-e.self (uses_in_expr scope (expr_of e)) (names_in_argument scope f i (expr_of e) (names_in_expr scope (expr_of e))) =
+    elim c.match-e.branch [
+      | add_built_in-in-Name+in_ok-add_bare w ↦ rw (w.self-is, ap expr_of w.in-Name.is) w.in_ok-add_bare.ensures
+      | add_built_in-in_default+in_ok-add_no_name+in_ok-add_expr w ↦
+          rw (w.self-is, argument_of_other scope f i e (names_in_expr scope (expr_of e)) (λ x eq. w.in_default.not-Name x eq))
+          (adds_both w.in_ok-add_no_name.ensures w.in_ok-add_expr.ensures)
     ] in
     c.loop-i.invariant new (rw (built_in_at scope f c.args.list.now i e (omega arith) (sym c.index-list-i.is), list_at c.args.list.now i e (omega arith) (sym c.index-list-i.is)) (adds_both step h))
