@@ -1,5 +1,6 @@
 -- What is built stays, and does what its part does.
-use Rattle.std.proofs.Common.{◌≡◌, ◌≢◌, ◌⊎◌, inl, inr, ℕ, zero, suc, ◌<◌, Bool, true, false, List, [], ◌∷◌, ◌++◌, Some, slice_get, get_or, length, refl, sym, subst, ap, ◌∙◌, arith, append_assoc, append-nil, length-append, Result, Ok, Err, IfOk}
+use Rattle.std.proofs.Common.{◌≡◌, ◌≢◌, ◌⊎◌, inl, inr, ℕ, zero, suc, ◌<◌, Bool, true, false, List, [], ◌∷◌, ◌++◌, map, Some, slice_get, get_or, length, refl, sym, subst, ap, ◌∙◌, arith, append_assoc, append-nil, length-append, Result, Ok, Err, IfOk}
+use Rattle.std.specs.Global.{Vec}
 use Rattle.awk_value.specs.declared.value.Value.{Value}
 use Rattle.awk_grammar.specs.Tree.{Expr}
 use Rattle.awk_variables.specs.Names.{IsFront}
@@ -10,8 +11,8 @@ use Rattle.awk_semantics.specs.definitions.Semantics.{choose, eval}
 use Rattle.awk_semantics.proofs.KeepsForms.{keeps_eval}
 use Rattle.awk_compile.specs.declared.builder.Builder.{Builder}
 use Rattle.awk_compile.specs.declared.node.Node.{Node}
-use Rattle.awk_compile.specs.definitions.Nodes.{Cont, made, AreBelow, IsOrdered, CallsBelow, AllCallBelow}
-use Rattle.awk_compile.specs.support.Builds.{AreScalars, Grows, Pushes, Opens, Closes, Extends, IsIn, Program, Part, Evaluate, does, place_in, turns_in, Places, Builds, Stands}
+use Rattle.awk_compile.specs.definitions.Nodes.{Cont, made, AreBelow, IsOrdered, CallsFit, AllCallsFit}
+use Rattle.awk_compile.specs.support.Builds.{array_parameters_in, AreScalars, Grows, Pushes, Opens, Closes, Extends, IsIn, Program, Part, Evaluate, does, place_in, turns_in, Places, Builds, Stands}
 use Rattle.awk_compile.proofs.Calculus.{later_in}
 use Rattle.awk_compile.proofs.Listed.{placed_behind}
 
@@ -26,12 +27,16 @@ get_pushed (z ∷ zs) x (suc i) y h = elim (get_pushed zs x i y h) [ inl e ↦ i
 ordered_pushed : (xs : List Node) (x : Node) → AreBelow (length xs) x → IsOrdered xs → IsOrdered (xs ++ x ∷ [])
 ordered_pushed xs x last each i y h = elim (get_pushed xs x i y h) [ inl e ↦ each i y e | inr e ↦ subst (λ k. AreBelow k y) (sym e.0) (subst (AreBelow (length xs)) (sym e.1) last) ]
 
-calls_pushed : (count : ℕ) (xs : List Node) (x : Node) → CallsBelow count x → AllCallBelow count xs → AllCallBelow count (xs ++ x ∷ [])
-calls_pushed count xs x last each i y h = elim (get_pushed xs x i y h) [ inl e ↦ each i y e | inr e ↦ subst (CallsBelow count) (sym e.1) last ]
+calls_pushed : (functions : List (List Bool)) (xs : List Node) (x : Node) → CallsFit functions x → AllCallsFit functions xs → AllCallsFit functions (xs ++ x ∷ [])
+calls_pushed functions xs x last each i y h = elim (get_pushed xs x i y h) [ inl e ↦ each i y e | inr e ↦ subst (CallsFit functions) (sym e.1) last ]
 
--- as many functions, and the same nodes
-calls_same : (a b : Builder) → b.function_count ≡ a.function_count → b.nodes ≡ a.nodes → AllCallBelow a.function_count a.nodes.items → AllCallBelow b.function_count b.nodes.items
-calls_same a b many nodes h = subst (λ k. AllCallBelow k b.nodes.items) (sym many) (subst (λ (v : _). AllCallBelow a.function_count v.items) (sym nodes) h)
+-- the same functions
+pub arrays_same : (a b : Builder) → b.array_parameters ≡ a.array_parameters → array_parameters_in b ≡ array_parameters_in a
+arrays_same a b e = ap (λ (v : _). map (λ (w : Vec Bool). w.items) v.items) e
+
+-- and the same nodes
+calls_same : (a b : Builder) → b.array_parameters ≡ a.array_parameters → b.nodes ≡ a.nodes → AllCallsFit (array_parameters_in a) a.nodes.items → AllCallsFit (array_parameters_in b) b.nodes.items
+calls_same a b functions nodes h = subst (λ k. AllCallsFit k b.nodes.items) (sym (arrays_same a b functions)) (subst (λ (v : _). AllCallsFit (array_parameters_in a) v.items) (sym nodes) h)
 
 get_longer : (xs : List ℕ) (i : ℕ) → i < length xs → get_or (xs ++ 0 ∷ []) i 0 ≡ get_or xs i 0
 get_longer [] i h = absurd (omega (arith, h))
@@ -79,7 +84,7 @@ same {a = a} = record {
 }
 
 -- names and EREs alone are added
-pub named : {a b : Builder} → b.nodes ≡ a.nodes → b.heads ≡ a.heads → IsFront a.names b.names → IsFront a.eres.items b.eres.items → b.function_count ≡ a.function_count → (AreScalars a.names → AreScalars b.names) → Extends a b
+pub named : {a b : Builder} → b.nodes ≡ a.nodes → b.heads ≡ a.heads → IsFront a.names b.names → IsFront a.eres.items b.eres.items → b.array_parameters ≡ a.array_parameters → (AreScalars a.names → AreScalars b.names) → Extends a b
 named {a = a} {b = b} nodes heads names eres functions scalars = record {
   grows = record {
     more = [];
@@ -115,7 +120,7 @@ placed {a = a} {b = b} {x = x} {i = i} p below = record {
       is = p.nodes;
       ordered = λ h. subst IsOrdered (sym p.nodes) (ordered_pushed a.nodes.items x below h);
       functions = p.same.functions;
-      calls = λ h. subst (λ k. AllCallBelow k b.nodes.items) (sym p.same.functions) (subst (AllCallBelow a.function_count) (sym p.nodes) (calls_pushed a.function_count a.nodes.items x p.calls h));
+      calls = λ h. subst (λ k. AllCallsFit k b.nodes.items) (sym (arrays_same a b p.same.functions)) (subst (AllCallsFit (array_parameters_in a)) (sym p.nodes) (calls_pushed (array_parameters_in a) a.nodes.items x p.calls h));
       heads = λ j k e. ap (λ (h : _). get_or h.items j 0) p.heads ∙ e;
       names = front_same p.same.names;
       eres = front_same (ap (λ (v : _). v.items) p.same.eres);

@@ -1,5 +1,5 @@
 -- Built-in functions: their arguments on the stack, and what is made of them.
-use Rattle.std.proofs.Common.{◌≡◌, ◌≢◌, ℕ, zero, suc, true, false, List, [], ◌∷◌, ◌++◌, length, map, drop, reverse, Option, Some, None, refl, sym, subst, ap, ◌∙◌, arith}
+use Rattle.std.proofs.Common.{◌≡◌, ◌≢◌, ℕ, zero, suc, Bool, true, false, List, [], ◌∷◌, ◌++◌, length, map, drop, reverse, Option, Some, None, refl, sym, subst, ap, ◌∙◌, arith}
 use Rattle.awk_value.specs.declared.value.Value.{Value}
 use Rattle.awk_value.specs.Values.{str_of}
 use Rattle.awk_text.specs.definitions.Fields.{pieces_of}
@@ -9,12 +9,12 @@ use Rattle.awk_grammar.specs.Tree.{Expr, Ere, BuiltIn, Exprs, Nil, Cons}
 use Rattle.awk_kinds.specs.definitions.Kinds.{FormalParameter}
 use Rattle.awk_kinds.specs.definitions.NameUses.{count_of}
 use Rattle.awk_kinds.specs.definitions.Signatures.{ProgramKinds}
-use Rattle.awk_semantics.specs.definitions.State.{State, Run, ◌>>=◌, lift, ret}
+use Rattle.awk_semantics.specs.definitions.State.{State, Run, ◌>>=◌, lift, ret, gives}
 use Rattle.awk_semantics.specs.definitions.Operators.{pattern_in}
 use Rattle.awk_semantics.specs.definitions.Texts.{separator_in, ere_separator}
-use Rattle.awk_semantics.specs.definitions.Primitives.{fill_array, array_number}
+use Rattle.awk_semantics.specs.definitions.Primitives.{fill_array, array_number, is_array}
 use Rattle.awk_semantics.specs.definitions.Places.{read_place}
-use Rattle.awk_semantics.specs.definitions.BuiltIns.{Role, AsValue, AsPattern, AsArray, AsPlace, Argument, OfValue, OfEre, OfArray, OfPlace, roles_of, value_of as argument_value, applied_all, count_value, split_into, apply_built_in}
+use Rattle.awk_semantics.specs.definitions.BuiltIns.{Role, AsValue, AsPattern, AsArray, AsPlace, AsMeasured, Argument, OfValue, OfEre, OfArray, OfPlace, roles_of, bare_name, array_or_value, array_named_or, value_of as argument_value, applied_all, count_value, split_into, apply_built_in}
 use Rattle.awk_semantics.specs.definitions.Semantics.{Functions, eval, place_of, take_arguments, eval_all}
 use Rattle.awk_semantics.proofs.Keeping.{keeps_lift}
 use Rattle.awk_semantics.proofs.KeepsForms.{keeps_eval, keeps_field_separator}
@@ -26,12 +26,13 @@ use Rattle.awk_compile.specs.declared.node.ValueNode.TheVariants as v
 use Rattle.awk_compile.specs.declared.node.SplitBy.TheVariants as by
 use Rattle.awk_compile.specs.declared.node.Node.TheVariants as n
 use Rattle.awk_compile.specs.definitions.Nodes.{Tables, taken, value_of, popped}
-use Rattle.awk_compile.specs.support.Builds.{Pushes, Evaluate, EvaluateAll, EvaluateUnlessEre, IsArrayOf, Builds, Stands}
+use Rattle.awk_compile.specs.support.Builds.{Pushes, IsIn, Program, Evaluate, EvaluateAll, EvaluateUnlessEre, IsArrayOf, NamesArray, Builds, Stands}
 use Rattle.awk_compile.specs.support.Operands.{FindsPattern, split_by, takes_one, strict_node}
 use Rattle.awk_compile.specs.support.Calls.{name_in}
+use Rattle.awk_compile.specs.support.Scopes.{MeasuredBy}
 use Rattle.awk_compile.proofs.Calculus.{assoc_at, later_same, later_in, first_same, given}
 use Rattle.awk_compile.proofs.Building.{grows, still}
-use Rattle.awk_compile.proofs.Elements.{fills_array}
+use Rattle.awk_compile.proofs.Elements.{counts_elements, fills_array}
 use Rattle.awk_compile.proofs.ValueLists.{taken_all, dropped_all, all_first, counted}
 use Rattle.awk_compile.proofs.Taking.{node, value_first, list_first, evaluates}
 use Rattle.awk_compile.proofs.ExpressionForms.{takes_behind, ere_added, ere_there}
@@ -75,15 +76,38 @@ module _ (functions : Functions) where
       assoc_at (read_place p) (λ x. ret (OfPlace p x)) _ t
       ∙ later_same (read_place p) _ _ t (λ x u. given (OfPlace p x) (λ a. take_arguments functions roles [] es >>= λ as'. k (a ∷ as')) u))
 
+  -- a value, for want of a role
+  pub bare_taken : {B : Type 0} (e : Expr) (es : Exprs) (k : List Argument → Run B) (s : State) → (take_arguments functions [] [] (Cons e es) >>= k) s ≡ (eval functions e >>= λ x. take_arguments functions [] [] es >>= λ as'. k (OfValue x ∷ as')) s
+  bare_taken e es k s =
+      argument_first functions [] e es k s
+      ∙ assoc_at (eval functions e) (λ x. ret (OfValue x)) _ s
+      ∙ later_same (eval functions e) _ _ s (λ x t. given (OfValue x) (λ a. take_arguments functions [] [] es >>= λ as'. k (a ∷ as')) t)
+
   -- where all are values
   pub values_taken : {B : Type 0} (es : Exprs) (k : List Argument → Run B) (s : State) → (take_arguments functions [] [] es >>= k) s ≡ (eval_all functions [] es >>= λ ws. k (map OfValue ws)) s
   unfolding eval_all
   values_taken Nil k s = none_left [] k s ∙ sym (given [] (λ ws. k (map OfValue ws)) s)
   values_taken (Cons e es) k s =
-      argument_first functions [] e es k s
-      ∙ assoc_at (eval functions e) (λ x. ret (OfValue x)) _ s
-      ∙ later_same (eval functions e) _ _ s (λ x t. given (OfValue x) (λ a. take_arguments functions [] [] es >>= λ as'. k (a ∷ as')) t ∙ values_taken es (λ as'. k (OfValue x ∷ as')) t)
+      bare_taken e es k s
+      ∙ later_same (eval functions e) _ _ s (λ x t. values_taken es (λ as'. k (OfValue x ∷ as')) t)
       ∙ sym (all_first functions e es (λ ws. k (map OfValue ws)) s)
+
+-- the argument of `length`
+
+measured_by : (x : List ℕ) (b : Bool) (evaluated : Run Value) (s : State) → is_array x s ≡ gives b s → array_named_or (Some x) evaluated s ≡ array_or_value b x evaluated s
+unfolding lift
+measured_by x b evaluated s e = first_same (is_array x) (ret b) (λ c. array_or_value c x evaluated) s e ∙ given b (λ c. array_or_value c x evaluated) s
+
+module _ {kinds : ProgramKinds} {parameters : List FormalParameter} where
+  -- a name that stands for an array
+  pub an_array : (array : Array) (name : Option (List ℕ)) → MeasuredBy kinds parameters (Some array) name → (x : List ℕ) × (name ≡ Some x) × NamesArray kinds parameters (Some array) x
+  an_array array None h = cc
+  an_array array (Some x) h = (x, refl, h)
+
+  -- none
+  pub no_array : (name : Option (List ℕ)) → MeasuredBy kinds parameters None name → (p : Program kinds) (n : ℕ) (s : State) (evaluated : Run Value) → IsIn p.tables parameters n s → array_named_or name evaluated s ≡ (evaluated >>= λ x. ret (OfValue x)) s
+  no_array None h p n s evaluated i = refl
+  no_array (Some x) h p n s evaluated i = measured_by x false evaluated s (h.is p n s i)
 
 -- functions of values alone
 
@@ -105,53 +129,94 @@ one_value [] e = absurd (omega (arith, e))
 one_value (x ∷ []) e = (x, refl)
 one_value (x ∷ (y ∷ ws)) e = absurd (omega (arith, e))
 
-strict : (f : BuiltInName) → f ≢ w.Match → f ≢ w.Split → f ≢ w.Sub → f ≢ w.Gsub → IsStrict f
+-- a function that has no lowering of its own
+pub record IsPlain (f : BuiltInName) : Type 0 where
+  pub no_length : f ≢ w.Length
+  pub no_flush : f ≢ w.Fflush
+  pub no_match : f ≢ w.Match
+  pub no_split : f ≢ w.Split
+  pub no_sub : f ≢ w.Sub
+  pub no_gsub : f ≢ w.Gsub
+
+strict : (f : BuiltInName) → IsPlain f → IsStrict f
 unfolding apply_built_in
-strict w.Length a b c d = record {
-  roles = refl;
-  pops = λ k h. length_pops k;
-  made = λ tables functions ws vs k s e h. length_made tables functions ws vs k s e;
-}
-  where
-    length_pops : (k : ℕ) → popped (strict_node w.Length k) ≡ k
-    length_pops zero = refl
-    length_pops (suc k) = refl
-
-    length_made : (tables : Tables) (functions : Functions) (ws vs : List Value) (k : ℕ) (s : State) → length ws ≡ k → value_of tables functions (strict_node w.Length k) (reverse ws ++ vs) s ≡ apply_built_in w.Length (map OfValue ws) s
-    length_made tables functions [] vs zero s e = refl
-    length_made tables functions [] vs (suc k) s e = cc
-    length_made tables functions (x ∷ ws) vs zero s e = cc
-    length_made tables functions (x ∷ ws) vs (suc k) s e = applied_same w.Length (x ∷ ws) vs (suc k) s e
-strict w.Substr a b c d = record { roles = refl; pops = λ k h. refl; made = λ tables functions ws vs k s e h. applied_same w.Substr ws vs k s e }
-strict w.Index a b c d = record { roles = refl; pops = λ k h. refl; made = λ tables functions ws vs k s e h. applied_same w.Index ws vs k s e }
-strict w.Sprintf a b c d = record { roles = refl; pops = λ k h. refl; made = λ tables functions ws vs k s e h. applied_same w.Sprintf ws vs k s e }
-strict w.ToLower a b c d = record { roles = refl; pops = λ k h. refl; made = λ tables functions ws vs k s e h. applied_same w.ToLower ws vs k s e }
-strict w.ToUpper a b c d = record { roles = refl; pops = λ k h. refl; made = λ tables functions ws vs k s e h. applied_same w.ToUpper ws vs k s e }
-strict w.Int a b c d = record { roles = refl; pops = λ k h. refl; made = λ tables functions ws vs k s e h. applied_same w.Int ws vs k s e }
-strict w.System a b c d = record {
+strict w.Length a = absurd (a.no_length refl)
+strict w.Substr a = record { roles = refl; pops = λ k h. refl; made = λ tables functions ws vs k s e h. applied_same w.Substr ws vs k s e }
+strict w.Index a = record { roles = refl; pops = λ k h. refl; made = λ tables functions ws vs k s e h. applied_same w.Index ws vs k s e }
+strict w.Sprintf a = record { roles = refl; pops = λ k h. refl; made = λ tables functions ws vs k s e h. applied_same w.Sprintf ws vs k s e }
+strict w.ToLower a = record { roles = refl; pops = λ k h. refl; made = λ tables functions ws vs k s e h. applied_same w.ToLower ws vs k s e }
+strict w.ToUpper a = record { roles = refl; pops = λ k h. refl; made = λ tables functions ws vs k s e h. applied_same w.ToUpper ws vs k s e }
+strict w.Int a = record { roles = refl; pops = λ k h. refl; made = λ tables functions ws vs k s e h. applied_same w.Int ws vs k s e }
+strict w.System a = record {
   roles = refl;
   pops = λ k h. sym (h refl);
   made = λ tables functions ws vs k s e h. let o = one_value ws (e ∙ h refl) in rw (o.1) refl;
 }
-strict w.Close a b c d = record {
+strict w.Close a = record {
   roles = refl;
   pops = λ k h. sym (h refl);
   made = λ tables functions ws vs k s e h. let o = one_value ws (e ∙ h refl) in rw (o.1) refl;
 }
-strict w.Match a b c d = absurd (a refl)
-strict w.Split a b c d = absurd (b refl)
-strict w.Sub a b c d = absurd (c refl)
-strict w.Gsub a b c d = absurd (d refl)
+strict w.Fflush a = absurd (a.no_flush refl)
+strict w.Match a = absurd (a.no_match refl)
+strict w.Split a = absurd (a.no_split refl)
+strict w.Sub a = absurd (a.no_sub refl)
+strict w.Gsub a = absurd (a.no_gsub refl)
 
-pub strict_applied : {kinds : ProgramKinds} {parameters : List FormalParameter} {a b c : Builder} {i j next : ℕ} {es : Exprs} (f : BuiltInName) (k : ℕ) → f ≢ w.Match → f ≢ w.Split → f ≢ w.Sub → f ≢ w.Gsub → (takes_one f ≡ true → k ≡ 1) → k ≡ count_of es → Stands next a
+pub strict_applied : {kinds : ProgramKinds} {parameters : List FormalParameter} {a b c : Builder} {i j next : ℕ} {es : Exprs} (f : BuiltInName) (k : ℕ) → IsPlain f → (takes_one f ≡ true → k ≡ 1) → k ≡ count_of es → Stands next a
     → Pushes a b (n.Value (strict_node f k) next) j → Builds kinds parameters b c i (EvaluateAll es j) → Builds kinds parameters a c i (Evaluate (BuiltIn f es) next)
 unfolding eval
-strict_applied {es = es} f k m s b g one e h q r =
-    let is = strict f m s b g in
+strict_applied {es = es} f k plain one e h q r =
+    let is = strict f plain in
     evaluates (list_first (λ vs. vs) (node h q) es r (λ ws vs l. ap (λ x. drop x (reverse ws ++ vs)) (is.pops k one) ∙ dropped_all ws vs k (l ∙ sym e))) (λ vs. refl) (BuiltIn f es) (λ p g' m' vs s' i.
     counted p.functions p.calls.keep es _ _ m' s' i (λ ws u l j. is.made p.tables p.functions ws vs k u (l ∙ sym e) one)
     ∙ sym (values_taken p.functions es (λ as'. apply_built_in f as') s')
     ∙ ap (λ roles. (take_arguments p.functions roles [] es >>= λ as'. apply_built_in f as') s') (sym is.roles))
+
+-- `length`
+
+module _ {kinds : ProgramKinds} {parameters : List FormalParameter} where
+  pub record_length_lowered : {a b : Builder} {i next : ℕ} → Stands next a → Pushes a b (n.Value v.RecordLength next) i → Builds kinds parameters a b i (Evaluate (BuiltIn w.Length Nil) next)
+  unfolding eval apply_built_in
+  record_length_lowered h q = evaluates (node h q) (λ vs. refl) (BuiltIn w.Length Nil) (λ p g m vs s l. sym (none_left p.functions (AsMeasured ∷ []) (λ as'. apply_built_in w.Length as') s))
+
+  pub count_lowered : {a b : Builder} {i next : ℕ} {array : Array} (e : Expr) → Stands next a → MeasuredBy kinds parameters (Some array) (bare_name e) → Pushes a b (n.Value (v.CountElements array) next) i → Builds kinds parameters a b i (Evaluate (BuiltIn w.Length (Cons e Nil)) next)
+  unfolding eval apply_built_in
+  count_lowered {array = array} e h measured q =
+      let named = an_array array (bare_name e) measured in
+      let x = named.0 in
+      evaluates (node h q) (λ vs. refl) (BuiltIn w.Length (Cons e Nil)) (λ p g m vs s l.
+      let rest : Argument → Run Value = λ a'. take_arguments p.functions [] [] Nil >>= λ as'. apply_built_in w.Length (a' ∷ as') in
+      sym (argument_first p.functions (AsMeasured ∷ []) e Nil (λ as'. apply_built_in w.Length as') s
+      ∙ first_same (array_named_or (bare_name e) (eval p.functions e)) (ret (OfArray x)) rest s
+      (ap (λ (o : Option (List ℕ)). array_named_or o (eval p.functions e) s) named.1 ∙ measured_by x true (eval p.functions e) s (named.2.1.is p m s l))
+      ∙ given (OfArray x) rest s
+      ∙ none_left p.functions [] (λ as'. apply_built_in w.Length (OfArray x ∷ as')) s
+      ∙ counts_elements array x s (named.2.0.is p m s l)))
+
+  pub length_lowered : {a b c : Builder} {i j next : ℕ} (e : Expr) → Stands next a → MeasuredBy kinds parameters None (bare_name e) → Pushes a b (n.Value (v.Apply w.Length 1) next) j → Builds kinds parameters b c i (Evaluate e j)
+      → Builds kinds parameters a c i (Evaluate (BuiltIn w.Length (Cons e Nil)) next)
+  unfolding eval apply_built_in
+  length_lowered e h measured q r =
+      evaluates (value_first (λ vs. vs) (node h q) e r (λ u vs. refl)) (λ vs. refl) (BuiltIn w.Length (Cons e Nil)) (λ p g m vs s l.
+      let rest : Argument → Run Value = λ a'. take_arguments p.functions [] [] Nil >>= λ as'. apply_built_in w.Length (a' ∷ as') in
+      sym (argument_first p.functions (AsMeasured ∷ []) e Nil (λ as'. apply_built_in w.Length as') s
+      ∙ first_same (array_named_or (bare_name e) (eval p.functions e)) (eval p.functions e >>= λ u. ret (OfValue u)) rest s (no_array (bare_name e) measured p m s (eval p.functions e) l)
+      ∙ assoc_at (eval p.functions e) (λ u. ret (OfValue u)) rest s
+      ∙ later_same (eval p.functions e) _ _ s (λ u t. given (OfValue u) rest t ∙ none_left p.functions [] (λ as'. apply_built_in w.Length (OfValue u ∷ as')) t)))
+
+  -- `fflush`
+
+  pub flush_all_lowered : {a b : Builder} {i next : ℕ} → Stands next a → Pushes a b (n.Value v.FlushAll next) i → Builds kinds parameters a b i (Evaluate (BuiltIn w.Fflush Nil) next)
+  unfolding eval apply_built_in
+  flush_all_lowered h q = evaluates (node h q) (λ vs. refl) (BuiltIn w.Fflush Nil) (λ p g m vs s l. sym (none_left p.functions [] (λ as'. apply_built_in w.Fflush as') s))
+
+  pub flush_lowered : {a b c : Builder} {i j next : ℕ} {e : Expr} → Stands next a → Pushes a b (n.Value v.Flush next) j → Builds kinds parameters b c i (Evaluate e j) → Builds kinds parameters a c i (Evaluate (BuiltIn w.Fflush (Cons e Nil)) next)
+  unfolding eval apply_built_in
+  flush_lowered {e = e} h q r =
+      evaluates (value_first (λ vs. vs) (node h q) e r (λ u vs. refl)) (λ vs. refl) (BuiltIn w.Fflush (Cons e Nil)) (λ p g m vs s l.
+      sym (bare_taken p.functions e Nil (λ as'. apply_built_in w.Fflush as') s
+      ∙ later_same (eval p.functions e) _ _ s (λ u t. none_left p.functions [] (λ as'. apply_built_in w.Fflush (OfValue u ∷ as')) t)))
 
 -- `match`
 

@@ -1,14 +1,15 @@
 -- Parts of a run in a row: what follows may be exchanged for what does the same.
 use Rattle.std.proofs.Math.Nat.{le_trans}
-use Rattle.std.proofs.Common.{◌≡◌, ℕ, ◌≤◌, List, [], ◌∷◌, ◌++◌, map, Option, Result, Ok, Err, refl, sym, ap, ◌∙◌, append_assoc}
+use Rattle.std.proofs.Common.{◌≡◌, ℕ, ◌≤◌, Bool, is_some, List, [], ◌∷◌, ◌++◌, map, Option, Result, Ok, Err, refl, sym, ap, ◌∙◌, append_assoc}
 use Rattle.awk_kinds.specs.definitions.Kinds.{FormalParameter}
 use Rattle.awk_semantics.specs.declared.halt.Halt.{Halt}
 use Rattle.awk_semantics.specs.declared.local.Local.{Local}
+use Rattle.awk_semantics.specs.declared.local.Local.TheVariants as local
 use Rattle.awk_semantics.specs.definitions.State.{Effect, Frame, State, Run, Out, go_on, ◌>>=◌, lift}
-use Rattle.awk_semantics.specs.support.Keeps.{FrameScope, Scope, parameter_of, frame_scope, scope_of, Keeps}
+use Rattle.awk_semantics.specs.support.Keeps.{FrameScope, Scope, kind_of, parameter_of, frame_scope, scope_of, Keeps}
 use Rattle.awk_storage.specs.definitions.Positions.{newest_locals}
 use Rattle.awk_compile.specs.definitions.Nodes.{Tables}
-use Rattle.awk_compile.specs.support.Builds.{IsIn}
+use Rattle.awk_compile.specs.definitions.States.{is_array_local, IsIn}
 
 -- with more effects before it
 abbrev behind_effects : {A : Type 0} → List Effect → Out A → Out A
@@ -79,16 +80,35 @@ newest_seen : (frames : List Frame) → newest_names (map frame_scope frames) �
 newest_seen [] = refl
 newest_seen (frame ∷ frames) = names_seen frame.locals
 
+-- and so is which of them stand for arrays
+
+abbrev newest_kinds : List FrameScope → List Bool
+newest_kinds [] = []
+newest_kinds (frame ∷ frames) = map (λ (l : List ℕ × Option ℕ). is_some l.1) frame.locals
+
+kind_seen : (l : Local) → is_some (kind_of l) ≡ is_array_local l
+kind_seen (local.Value v) = refl
+kind_seen (local.Array n) = refl
+
+kinds_seen : (xs : List (List ℕ × Local)) → map (λ (l : List ℕ × Option ℕ). is_some l.1) (map parameter_of xs) ≡ map (λ (l : List ℕ × Local). is_array_local l.1) xs
+kinds_seen [] = refl
+kinds_seen (x ∷ xs) = ap (λ b. b ∷ map (λ (l : List ℕ × Option ℕ). is_some l.1) (map parameter_of xs)) (kind_seen x.1) ∙ ap (λ l. is_array_local x.1 ∷ l) (kinds_seen xs)
+
+newest_kinds_seen : (frames : List Frame) → newest_kinds (map frame_scope frames) ≡ map (λ (l : List ℕ × Local). is_array_local l.1) (newest_locals frames)
+newest_kinds_seen [] = refl
+newest_kinds_seen (frame ∷ frames) = kinds_seen frame.locals
+
 pub still_in : {tables : Tables} {parameters : List FormalParameter} {n : ℕ} {s t : State} → IsIn tables parameters n s → t.steps ≤ s.steps → scope_of t ≡ scope_of s → IsIn tables parameters n t
 still_in {s = s} {t = t} i low e = record {
   low = le_trans low i.low;
   names = sym (newest_seen t.frames) ∙ ap (λ (x : Scope). newest_names x.frames) e ∙ newest_seen s.frames ∙ i.names;
+  kinds = sym (newest_kinds_seen t.frames) ∙ ap (λ (x : Scope). newest_kinds x.frames) e ∙ newest_kinds_seen s.frames ∙ i.kinds;
   arrays = ap (λ (x : Scope). x.array_names) e ∙ i.arrays;
 }
 
 -- with another bound of the steps
 pub bounded_by : {tables : Tables} {parameters : List FormalParameter} {n : ℕ} {s : State} (m : ℕ) → IsIn tables parameters n s → s.steps ≤ m → IsIn tables parameters m s
-bounded_by m i low = record { low = low; names = i.names; arrays = i.arrays }
+bounded_by m i low = record { low = low; names = i.names; kinds = i.kinds; arrays = i.arrays }
 
 pub later_in : {tables : Tables} {parameters : List FormalParameter} {A B : Type 0} {m : Run A} (f g : A → Run B) (s : State) (n : ℕ) → Keeps m → IsIn tables parameters n s
     → ((a : A) (u : State) → IsIn tables parameters n u → f a u ≡ g a u) → (m >>= f) s ≡ (m >>= g) s

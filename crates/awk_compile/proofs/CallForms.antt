@@ -2,6 +2,7 @@
 use Rattle.std.proofs.Common.{◌≡◌, ℕ, zero, suc, Bool, true, false, List, [], ◌∷◌, ◌++◌, length, map, drop, reverse, slice_get, unwrap_or, bytes_eq, Option, Some, None, if◌then◌else◌, Vec, Global, refl, sym, subst, ap, ◌∙◌, append_assoc, append-nil}
 use Rattle.std.specs.Option.{option_map}
 use Rattle.std.proofs.lemmas.Slice.Eq.{bytes_eq-Decides}
+use Rattle.std.proofs.lemmas.Option.{slice_get-map}
 use Rattle.awk_value.specs.declared.value.Value.{Value}
 use Rattle.awk_grammar.specs.Tree.{Expr, Number, String, Ere, Name, Element, Field, Group, Call, BuiltIn, Length, PreIncrement, PostIncrement, Getline, PipedGetline, Unary, Binary, Membership, ListMembership, Conditional, Assign, Exprs, Nil, Cons}
 use Rattle.awk_kinds.specs.definitions.Kinds.{FormalParameter}
@@ -11,7 +12,7 @@ use Rattle.awk_semantics.specs.declared.local.Local.TheVariants as local
 use Rattle.awk_semantics.specs.definitions.State.{State, Run, ◌>>=◌, ret, gives}
 use Rattle.awk_semantics.specs.definitions.Primitives.{array_number}
 use Rattle.awk_semantics.specs.definitions.Places as target
-use Rattle.awk_semantics.specs.definitions.BuiltIns.{Role, AsValue, AsArray, Argument, OfValue, OfArray, next_role, array_named, taken_as, local_of, locals_of}
+use Rattle.awk_semantics.specs.definitions.BuiltIns.{Role, Argument, OfValue, OfArray, next_role, array_named, taken_as, local_of, locals_of}
 use Rattle.awk_semantics.specs.definitions.Calls.{role_of}
 use Rattle.awk_semantics.specs.definitions.Semantics.{Functions, call_with, eval, place_of, take_arguments}
 use Rattle.awk_semantics.proofs.KeepsForms.{keeps_eval}
@@ -21,30 +22,31 @@ use Rattle.awk_compile.specs.declared.node.ArgumentForm.{ArgumentForm}
 use Rattle.awk_compile.specs.declared.node.ArgumentForm.TheVariants as form
 use Rattle.awk_compile.specs.declared.node.ValueNode.TheVariants as v
 use Rattle.awk_compile.specs.declared.node.Node.TheVariants as n
-use Rattle.awk_compile.specs.definitions.Nodes.{Cont, function_at, taken, locals_by, values_among, given_by, call_at}
-use Rattle.awk_compile.specs.support.Builds.{Pushes, IsIn, Program, Evaluate, EvaluateArguments, with_argument, with_arguments, place_in, Builds, Stands}
+use Rattle.awk_compile.specs.definitions.Nodes.{Cont, function_at, taken, locals_by, values_among, given_by, call_at, is_array_form, FormsFit, CallFits}
+use Rattle.awk_compile.specs.support.Builds.{arrays_among, array_parameters_in, Pushes, IsIn, Program, Evaluate, EvaluateArguments, with_argument, with_arguments, place_in, Builds, Stands}
 use Rattle.awk_compile.specs.support.Scopes.{parameters_of}
-use Rattle.awk_compile.specs.support.Calls.{is_array_at, name_in, roles_from, IsFormOf, AreForms}
+use Rattle.awk_compile.specs.support.Calls.{is_array_at, name_in, role_by, roles_from, IsFormOf, AreForms}
 use Rattle.awk_compile.proofs.Calculus.{assoc_at, later_same, later_in, first_same, given}
-use Rattle.awk_compile.proofs.Building.{grows, extends, same}
+use Rattle.awk_compile.proofs.Building.{arrays_same, grows, extends, same}
 use Rattle.awk_compile.proofs.ValueLists.{onto_more, taken_all, dropped_all}
 use Rattle.awk_compile.proofs.Taking.{Takes, node}
 
 -- roles and arrays
-
-abbrev role_by : Bool → Role
-role_by b = if b then AsArray else AsValue
 
 drop_more : {A : Type 0} (i : ℕ) (xs : List A) → drop 1 (drop i xs) ≡ drop (suc i) xs
 drop_more zero xs = refl
 drop_more (suc i) [] = refl
 drop_more (suc i) (x ∷ xs) = drop_more i xs
 
-role_at : (ps : List FormalParameter) (i : ℕ) → next_role (roles_from i ps) ≡ role_by (is_array_at ps i)
+role_at : (bs : List Bool) (i : ℕ) → next_role (roles_from i bs) ≡ role_by (is_array_at bs i)
 role_at [] zero = refl
 role_at [] (suc i) = refl
-role_at (p ∷ ps) zero = refl
-role_at (p ∷ ps) (suc i) = role_at ps i
+role_at (b ∷ bs) zero = refl
+role_at (b ∷ bs) (suc i) = role_at bs i
+
+roles_are : (ps : List FormalParameter) → map role_of ps ≡ map role_by (arrays_among ps)
+roles_are [] = refl
+roles_are (p ∷ ps) = ap (λ l. role_of p ∷ l) (roles_are ps)
 
 pub named_array : (e : Expr) → array_named e ≡ OfArray (name_in e)
 named_array (Name x) = refl
@@ -97,7 +99,7 @@ pub record Matches {kinds : ProgramKinds} (p : Program kinds) (parameters : List
   pub locals : (n : ℕ) (t : State) → IsIn p.tables parameters n t → locals_by fs ws t ≡ map (local_of t) as'
   pub count : values_among fs ≡ length ws
 
-module _ (scope : Scope) (p : Program scope.kinds.now) (ps : List FormalParameter) where
+module _ (scope : Scope) (p : Program scope.kinds.now) (bs : List Bool) where
   abbrev pub Fit : List ArgumentForm → List Value → List Argument → Type 0
   Fit = Matches p (parameters_of scope)
 
@@ -123,21 +125,21 @@ module _ (scope : Scope) (p : Program scope.kinds.now) (ps : List FormalParamete
 
   -- what the other arguments do, where they do so from the next place on
   rest_passed : (i : ℕ) (fs : List ArgumentForm) (es : Exprs) (g : List Argument → Run Value) (k : Cont) (n : ℕ) (us : List Value) (t : State)
-      → ((take_arguments p.functions (roles_from (suc i) ps) [] es >>= g) t ≡ with_arguments p.functions (roles_from (suc i) ps) es k us t)
-      → (take_arguments p.functions (drop 1 (roles_from i ps)) [] es >>= g) t ≡ with_arguments p.functions (drop 1 (roles_from i ps)) es k us t
-  rest_passed i fs es g k n us t e = subst (λ roles. (take_arguments p.functions roles [] es >>= g) t ≡ with_arguments p.functions roles es k us t) (sym (drop_more i (map role_of ps))) e
+      → ((take_arguments p.functions (roles_from (suc i) bs) [] es >>= g) t ≡ with_arguments p.functions (roles_from (suc i) bs) es k us t)
+      → (take_arguments p.functions (drop 1 (roles_from i bs)) [] es >>= g) t ≡ with_arguments p.functions (drop 1 (roles_from i bs)) es k us t
+  rest_passed i fs es g k n us t e = subst (λ roles. (take_arguments p.functions roles [] es >>= g) t ≡ with_arguments p.functions roles es k us t) (sym (drop_more i (map role_by bs))) e
 
-  pub arguments_passed : (i : ℕ) (fs : List ArgumentForm) (es : Exprs) → AreForms scope ps i fs es → (g : List Argument → Run Value) (k : Cont) (n : ℕ) (vs : List Value) (s : State) → IsIn p.tables (parameters_of scope) n s
+  pub arguments_passed : (i : ℕ) (fs : List ArgumentForm) (es : Exprs) → AreForms scope bs i fs es → (g : List Argument → Run Value) (k : Cont) (n : ℕ) (vs : List Value) (s : State) → IsIn p.tables (parameters_of scope) n s
       → ((as' : List Argument) (ws : List Value) (t : State) → IsIn p.tables (parameters_of scope) n t → Fit fs ws as' → g as' t ≡ k (reverse ws ++ vs) t)
-      → (take_arguments p.functions (roles_from i ps) [] es >>= g) s ≡ with_arguments p.functions (roles_from i ps) es k vs s
+      → (take_arguments p.functions (roles_from i bs) [] es >>= g) s ≡ with_arguments p.functions (roles_from i bs) es k vs s
   unfolding take_arguments
   arguments_passed i [] Nil are g k n vs s h alike = given [] g s ∙ alike [] [] s h (record { locals = λ m t l. refl; count = refl })
   arguments_passed i [] (Cons e es) are g k n vs s h alike = absurd are
   arguments_passed i (f ∷ fs) Nil are g k n vs s h alike = absurd are
   arguments_passed i (f ∷ fs) (Cons e es) are g k n vs s h alike =
-      argument_first p.functions (roles_from i ps) e es g s
-      ∙ argument_passed (next_role (roles_from i ps)) (is_array_at ps i) e f (role_at ps i) are.0 (place_of p.functions e) (λ a. take_arguments p.functions (drop 1 (roles_from i ps)) [] es >>= λ as'. g (a ∷ as'))
-      (with_arguments p.functions (drop 1 (roles_from i ps)) es k) n vs s h
+      argument_first p.functions (roles_from i bs) e es g s
+      ∙ argument_passed (next_role (roles_from i bs)) (is_array_at bs i) e f (role_at bs i) are.0 (place_of p.functions e) (λ a. take_arguments p.functions (drop 1 (roles_from i bs)) [] es >>= λ as'. g (a ∷ as'))
+      (with_arguments p.functions (drop 1 (roles_from i bs)) es k) n vs s h
       (λ w t b is j. rest_passed i fs es (λ as'. g (OfValue w ∷ as')) k n (w ∷ vs) t (arguments_passed (suc i) fs es are.1 (λ as'. g (OfValue w ∷ as')) k n (w ∷ vs) t j (λ as' ws u l fit.
       alike (OfValue w ∷ as') (w ∷ ws) u l (subst (λ x. Fit (x ∷ fs) (w ∷ ws) (OfValue w ∷ as')) (sym is) (value_fits w fit)) ∙ ap (λ xs. k xs u) (onto_more w ws vs))))
       (λ b. rest_passed i fs es (λ as'. g (OfArray (name_in e) ∷ as')) k n vs s (arguments_passed (suc i) fs es are.1 (λ as'. g (OfArray (name_in e) ∷ as')) k n vs s h (λ as' ws u l fit.
@@ -162,15 +164,45 @@ function_there (f ∷ fs) name number e = by (bytes_eq name f.name) number (λ j
         later None k h' found = cc
         later (Some j) k h' found = let r = found j refl in let z : suc j ≡ k = cc in (r.0, subst (λ l. slice_get (f ∷ fs) l ≡ Some r.0) z r.1, r.2)
 
-pub call_lowered : {a b c : Builder} {i j next number : ℕ} {name : List ℕ} {es : Exprs} {forms : Vec ArgumentForm Global} (scope : Scope) (ps : List FormalParameter) → Stands next a
-    → number_of_name (signature_names scope.kinds.now.functions) name ≡ Some number → Some ps ≡ option_map (λ (f : Signature). f.parameters) (slice_get scope.kinds.now.functions number)
-    → AreForms scope ps 0 forms.items es → Pushes a b (n.Value (v.Call number forms) next) j → Builds scope.kinds.now (parameters_of scope) b c i (EvaluateArguments (roles_from 0 ps) es j)
+first_dropped : (bs : List Bool) (i : ℕ) → is_array_at (drop i bs) 0 ≡ is_array_at bs i
+first_dropped [] zero = refl
+first_dropped [] (suc i) = refl
+first_dropped (b ∷ bs) zero = refl
+first_dropped (b ∷ bs) (suc i) = first_dropped bs i
+
+-- forms that fit the parameters from a place on
+forms_fit_from : (scope : Scope) (bs : List Bool) (i : ℕ) (fs : List ArgumentForm) (es : Exprs) → AreForms scope bs i fs es → FormsFit (drop i bs) fs
+forms_fit_from scope bs i [] es are = no_forms (drop i bs)
+  where
+    no_forms : (cs : List Bool) → FormsFit cs []
+    no_forms [] = tt
+    no_forms (c ∷ cs) = tt
+forms_fit_from scope bs i (f ∷ fs) Nil are = absurd are
+forms_fit_from scope bs i (f ∷ fs) (Cons e es) are =
+    by (drop i bs) (first_dropped bs i ∙ sym (kind (is_array_at bs i) f are.0)) (subst (λ cs. FormsFit cs fs) (sym (drop_more i bs)) (forms_fit_from scope bs (suc i) fs es are.1))
+  where
+    kind : (b : Bool) (g : ArgumentForm) → IsFormOf scope b g e → is_array_form g ≡ b
+    kind true (form.Array a) is = refl
+    kind true form.Value is = absurd is
+    kind false (form.Array a) is = absurd is
+    kind false form.Value is = refl
+
+    by : (cs : List Bool) → is_array_at cs 0 ≡ is_array_form f → FormsFit (drop 1 cs) fs → FormsFit cs (f ∷ fs)
+    by [] is rest = tt
+    by (c ∷ cs) is rest = (sym is, rest)
+
+-- a call that is made so fits its function
+pub call_fits : (scope : Scope) (functions : List (List Bool)) (number : ℕ) (bs : List Bool) (fs : List ArgumentForm) (es : Exprs) → slice_get functions number ≡ Some bs → AreForms scope bs 0 fs es → CallFits (slice_get functions number) fs
+call_fits scope functions number bs fs es at are = subst (λ (o : Option (List Bool)). CallFits o fs) (sym at) (forms_fit_from scope bs 0 fs es are)
+
+pub call_lowered : {a b c : Builder} {i j next number : ℕ} {name : List ℕ} {es : Exprs} {forms : Vec ArgumentForm Global} (scope : Scope) (bs : List Bool) → Stands next a
+    → number_of_name (signature_names scope.kinds.now.functions) name ≡ Some number → slice_get (array_parameters_in a) number ≡ Some bs
+    → AreForms scope bs 0 forms.items es → Pushes a b (n.Value (v.Call number forms) next) j → Builds scope.kinds.now (parameters_of scope) b c i (EvaluateArguments (roles_from 0 bs) es j)
     → Builds scope.kinds.now (parameters_of scope) a c i (Evaluate (Call name es) next)
 unfolding eval
-call_lowered {next = next} {number = number} {name = name} {es = es} {forms = forms} scope ps h found its are q r =
+call_lowered {a = a} {next = next} {number = number} {name = name} {es = es} {forms = forms} scope bs h found its are q r =
     let t : Takes scope.kinds.now (parameters_of scope) _ _ _ _ _ _ = node h q in
     let f = function_there scope.kinds.now.functions name number found in
-    let parameters_are : ps ≡ f.0.parameters = (let e = its ∙ ap (option_map (λ (x : Signature). x.parameters)) f.1 in cc) in
     record {
       extends = extends t.extends r.extends;
       below = r.below;
@@ -178,9 +210,13 @@ call_lowered {next = next} {number = number} {name = name} {es = es} {forms = fo
       is = λ p g m vs s l.
           let there : slice_get p.tables.functions number ≡ Some f.0 = ap (λ fs. slice_get fs number) p.signatures ∙ f.1 in
           let is_name : function_at p.tables number ≡ name = ap (λ o. unwrap_or (option_map (λ (x : Signature). x.name) o) []) there ∙ f.2 in
-          let roles : p.functions.roles name ≡ roles_from 0 ps = ap p.functions.roles (sym f.2) ∙ p.calls.roles number f.0 there ∙ ap (map role_of) (sym parameters_are) in
+          let its_arrays : Some bs ≡ Some (arrays_among f.0.parameters) =
+          sym its ∙ sym (ap (λ l. slice_get l number) (arrays_same a p.all (g.functions ∙ r.extends.grows.functions ∙ q.same.functions)))
+          ∙ ap (λ l. slice_get l number) p.parameters ∙ slice_get-map (λ (x : Signature). arrays_among x.parameters) scope.kinds.now.functions number ∙ ap (option_map (λ (x : Signature). arrays_among x.parameters)) f.1 in
+          let are_arrays : bs ≡ arrays_among f.0.parameters = cc in
+          let roles : p.functions.roles name ≡ roles_from 0 bs = ap p.functions.roles (sym f.2) ∙ p.calls.roles number f.0 there ∙ roles_are f.0.parameters ∙ ap (map role_by) (sym are_arrays) in
           r.is p g m vs s l
-          ∙ sym (arguments_passed scope p ps 0 forms.items es are (λ as'. call_with p.functions name as' >>= λ w. place_in p m next (w ∷ vs)) _ m vs s l (λ as' ws u k fit.
+          ∙ sym (arguments_passed scope p bs 0 forms.items es are (λ as'. call_with p.functions name as' >>= λ w. place_in p m next (w ∷ vs)) _ m vs s l (λ as' ws u k fit.
           first_same (call_with p.functions name as') (call_at p.functions name forms.items ws) _ u (call_same name forms.items ws as' m u k fit)
           ∙ ap (λ (x : List ℕ). (call_at p.functions x forms.items ws >>= λ w. place_in p m next (w ∷ vs)) u) (sym is_name)
           ∙ ap (λ (x : List Value). (call_at p.functions (function_at p.tables number) forms.items x >>= λ w. place_in p m next (w ∷ vs)) u) (sym (taken_all ws vs (values_among forms.items) (sym fit.count)))
@@ -190,10 +226,10 @@ call_lowered {next = next} {number = number} {name = name} {es = es} {forms = fo
           ∙ sym (assoc_at (take_arguments p.functions (p.functions.roles name) [] es) (λ as'. call_with p.functions name as') (λ w. place_in p m next (w ∷ vs)) s);
     }
 
-by_role : (functions : Functions) (ps : List FormalParameter) (i : ℕ) (b : Bool) → is_array_at ps i ≡ b → (e : Expr) (es : Exprs) (k : Cont) (vs : List Value) → with_arguments functions (roles_from i ps) (Cons e es) k vs ≡ with_argument (role_by b) (eval functions e) (with_arguments functions (roles_from (suc i) ps) es k) vs
-by_role functions ps i b is e es k vs =
-    ap (λ (r : Role). with_argument r (eval functions e) (with_arguments functions (drop 1 (roles_from i ps)) es k) vs) (role_at ps i ∙ ap role_by is)
-    ∙ ap (λ roles. with_argument (role_by b) (eval functions e) (with_arguments functions roles es k) vs) (drop_more i (map role_of ps))
+by_role : (functions : Functions) (bs : List Bool) (i : ℕ) (b : Bool) → is_array_at bs i ≡ b → (e : Expr) (es : Exprs) (k : Cont) (vs : List Value) → with_arguments functions (roles_from i bs) (Cons e es) k vs ≡ with_argument (role_by b) (eval functions e) (with_arguments functions (roles_from (suc i) bs) es k) vs
+by_role functions bs i b is e es k vs =
+    ap (λ (r : Role). with_argument r (eval functions e) (with_arguments functions (drop 1 (roles_from i bs)) es k) vs) (role_at bs i ∙ ap role_by is)
+    ∙ ap (λ roles. with_argument (role_by b) (eval functions e) (with_arguments functions roles es k) vs) (drop_more i (map role_by bs))
 
 -- the arguments one by one, from the last one
 
@@ -201,22 +237,22 @@ module _ {kinds : ProgramKinds} {parameters : List FormalParameter} where
   pub no_arguments : {a : Builder} {next : ℕ} (roles : List Role) → Stands next a → Builds kinds parameters a a next (EvaluateArguments roles Nil next)
   no_arguments roles h = record { extends = same; below = h.below; pos = h.pos; is = λ p g m vs s l. refl }
 
-  pub array_argument : {a b : Builder} {j next : ℕ} {e : Expr} {es : Exprs} (ps : List FormalParameter) (i : ℕ) → is_array_at ps i ≡ true → Builds kinds parameters a b j (EvaluateArguments (roles_from (suc i) ps) es next) → Builds kinds parameters a b j (EvaluateArguments (roles_from i ps) (Cons e es) next)
-  array_argument {next = next} {e = e} {es = es} ps i is q = record {
+  pub array_argument : {a b : Builder} {j next : ℕ} {e : Expr} {es : Exprs} (bs : List Bool) (i : ℕ) → is_array_at bs i ≡ true → Builds kinds parameters a b j (EvaluateArguments (roles_from (suc i) bs) es next) → Builds kinds parameters a b j (EvaluateArguments (roles_from i bs) (Cons e es) next)
+  array_argument {next = next} {e = e} {es = es} bs i is q = record {
     extends = q.extends;
     below = q.below;
     pos = q.pos;
-    is = λ p g m vs s l. q.is p g m vs s l ∙ sym (ap (λ (r : Run Value). r s) (by_role p.functions ps i true is e es (place_in p m next) vs));
+    is = λ p g m vs s l. q.is p g m vs s l ∙ sym (ap (λ (r : Run Value). r s) (by_role p.functions bs i true is e es (place_in p m next) vs));
   }
 
-  pub value_argument : {a b c : Builder} {j k next : ℕ} {e : Expr} {es : Exprs} (ps : List FormalParameter) (i : ℕ) → is_array_at ps i ≡ false → Builds kinds parameters a b j (EvaluateArguments (roles_from (suc i) ps) es next) → Builds kinds parameters b c k (Evaluate e j)
-      → Builds kinds parameters a c k (EvaluateArguments (roles_from i ps) (Cons e es) next)
-  value_argument {next = next} {e = e} {es = es} ps i is q r = record {
+  pub value_argument : {a b c : Builder} {j k next : ℕ} {e : Expr} {es : Exprs} (bs : List Bool) (i : ℕ) → is_array_at bs i ≡ false → Builds kinds parameters a b j (EvaluateArguments (roles_from (suc i) bs) es next) → Builds kinds parameters b c k (Evaluate e j)
+      → Builds kinds parameters a c k (EvaluateArguments (roles_from i bs) (Cons e es) next)
+  value_argument {next = next} {e = e} {es = es} bs i is q r = record {
     extends = extends q.extends r.extends;
     below = r.below;
     pos = r.pos;
     is = λ p g m vs s l.
         r.is p g m vs s l
         ∙ later_in _ _ s m (keeps_eval p.functions p.calls.keep e) l (λ w u j. q.is p (grows r.extends.grows g) m (w ∷ vs) u j)
-        ∙ sym (ap (λ (x : Run Value). x s) (by_role p.functions ps i false is e es (place_in p m next) vs));
+        ∙ sym (ap (λ (x : Run Value). x s) (by_role p.functions bs i false is e es (place_in p m next) vs));
   }

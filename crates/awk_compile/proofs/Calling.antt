@@ -21,9 +21,12 @@ use Rattle.awk_semantics.proofs.KeepsForms.{law_of_keeping}
 use Rattle.awk_storage.specs.definitions.Positions.{newest_locals}
 use Rattle.awk_compile.specs.declared.plan.Function.{Function as PlannedFunction}
 use Rattle.awk_compile.specs.declared.plan.Plan.{Plan}
-use Rattle.awk_compile.specs.definitions.Nodes.{Tables, cont_at}
+use Rattle.awk_compile.specs.definitions.Nodes.{Tables, local_by, behind_form, locals_by, is_array_form, FormsFit, cont_at}
+use Rattle.awk_compile.specs.declared.node.ArgumentForm.{ArgumentForm}
+use Rattle.awk_compile.specs.declared.node.ArgumentForm.TheVariants as form
 use Rattle.awk_compile.specs.definitions.Plans.{Meaning, body_run, print_run, IsFunction, AreFunctions, tables_of, IsPlanOf}
-use Rattle.awk_compile.specs.support.Builds.{IsIn, AreFor}
+use Rattle.awk_compile.specs.definitions.States.{is_array_local, LocalsFit, IsIn, AreFor}
+use Rattle.awk_compile.specs.support.Builds.{arrays_among}
 use Rattle.awk_compile.proofs.Calculus.{assoc_at, later_same, first_same, given}
 
 -- a function by its name
@@ -86,21 +89,53 @@ bound_names [] given n = refl
 bound_names (p ∷ ps) (a ∷ given) n = ap (λ l. p.name ∷ l) (bound_names ps given n)
 bound_names (p ∷ ps) [] n = named_bound p.is_array p.name (bound ps [] (suc n)) (bound ps [] n) n (map (λ (q : FormalParameter). q.name) ps) (bound_names ps [] (suc n)) (bound_names ps [] n)
 
+-- and arrays are given where the parameters are arrays
+
+none_fit : (bs : List Bool) → LocalsFit bs []
+none_fit [] = tt
+none_fit (b ∷ bs) = tt
+
+-- so do the arguments of a call that fits
+local_kind : (f : ArgumentForm) (vs : List Value) (s : State) → is_array_local (local_by f vs s) ≡ is_array_form f
+local_kind form.Value vs s = refl
+local_kind (form.Array a) vs s = refl
+
+pub locals_fit : (bs : List Bool) (fs : List ArgumentForm) (vs : List Value) (s : State) → FormsFit bs fs → LocalsFit bs (locals_by fs vs s)
+locals_fit [] fs vs s fit = tt
+locals_fit (b ∷ bs) [] vs s fit = tt
+locals_fit (b ∷ bs) (f ∷ fs) vs s fit = (local_kind f vs s ∙ fit.0, locals_fit bs fs (behind_form f vs) s fit.1)
+
+kind_bound : (b : Bool) (x : List ℕ) (made other : List (List ℕ × Local)) (n : ℕ) (kinds : List Bool) → map (λ (l : List ℕ × Local). is_array_local l.1) made ≡ kinds → map (λ (l : List ℕ × Local). is_array_local l.1) other ≡ kinds
+    → map (λ (l : List ℕ × Local). is_array_local l.1) (if b then (x, local.Array n) ∷ made else (x, local.Value value.Nothing) ∷ other) ≡ b ∷ kinds
+kind_bound true x made other n kinds h k = ap (λ l. true ∷ l) h
+kind_bound false x made other n kinds h k = ap (λ l. false ∷ l) k
+
+bound_kinds : (parameters : List FormalParameter) (given : List Local) (n : ℕ) → LocalsFit (arrays_among parameters) given → map (λ (l : List ℕ × Local). is_array_local l.1) (bound parameters given n) ≡ arrays_among parameters
+bound_kinds [] given n fit = refl
+bound_kinds (p ∷ ps) (a ∷ given) n fit = ap (λ b. b ∷ map (λ (l : List ℕ × Local). is_array_local l.1) (bound ps given n)) fit.0 ∙ ap (λ l. p.is_array ∷ l) (bound_kinds ps given n fit.1)
+bound_kinds (p ∷ ps) [] n fit = kind_bound p.is_array p.name (bound ps [] (suc n)) (bound ps [] n) n (arrays_among ps) (bound_kinds ps [] (suc n) (none_fit (arrays_among ps))) (bound_kinds ps [] n (none_fit (arrays_among ps)))
+
 -- a body runs in the state that its call enters
-pub entered_in : (tables : Tables) (parameters : List FormalParameter) (height : ℕ) (given : List Local) (m : ℕ) (s : State) → s.steps ≤ m → s.array_names ≡ tables.arrays → IsIn tables parameters m (enter parameters height given s).state
+pub entered_in : (tables : Tables) (parameters : List FormalParameter) (height : ℕ) (given : List Local) (m : ℕ) (s : State) → LocalsFit (arrays_among parameters) given → s.steps ≤ m → s.array_names ≡ tables.arrays
+    → IsIn tables parameters m (enter parameters height given s).state
 unfolding enter
-entered_in tables parameters height given m s low arrays = record { low = low; names = bound_names parameters given _; arrays = arrays }
+entered_in tables parameters height given m s fit low arrays = record { low = low; names = bound_names parameters given _; kinds = bound_kinds parameters given _ fit; arrays = arrays }
 
 -- an action, and a pattern, run where no call is active
 pub outside_in : (tables : Tables) (m : ℕ) (s : State) → s.frames ≡ [] → s.steps ≤ m → s.array_names ≡ tables.arrays → IsIn tables [] m s
-outside_in tables m s none low arrays = record { low = low; names = ap (λ (frames : List Frame). map (λ (l : List ℕ × Local). l.0) (newest_locals frames)) none; arrays = arrays }
+outside_in tables m s none low arrays = record {
+  low = low;
+  names = ap (λ (frames : List Frame). map (λ (l : List ℕ × Local). l.0) (newest_locals frames)) none;
+  kinds = ap (λ (frames : List Frame). map (λ (l : List ℕ × Local). is_array_local l.1) (newest_locals frames)) none;
+  arrays = arrays;
+}
 
 -- what follows is asked of the state in which the body runs
-entered_same : {A : Type 0} (tables : Tables) (parameters : List FormalParameter) (height : ℕ) (given : List Local) (f g : Unit {0} → Run A) (m : ℕ) (s : State) → s.steps ≤ m → s.array_names ≡ tables.arrays
+entered_same : {A : Type 0} (tables : Tables) (parameters : List FormalParameter) (height : ℕ) (given : List Local) (f g : Unit {0} → Run A) (m : ℕ) (s : State) → LocalsFit (arrays_among parameters) given → s.steps ≤ m → s.array_names ≡ tables.arrays
     → ((t : State) → IsIn tables parameters m t → f tt t ≡ g tt t) → (enter parameters height given >>= f) s ≡ (enter parameters height given >>= g) s
 unfolding enter ◌>>=◌ go_on
-entered_same {A = A} tables parameters height given f g m s low arrays h =
-    ap (λ (o : Out A). record { result = o.result; state = o.state; effects = [] ++ o.effects }) (h (enter parameters height given s).state (entered_in tables parameters height given m s low arrays))
+entered_same {A = A} tables parameters height given f g m s fit low arrays h =
+    ap (λ (o : Out A). record { result = o.result; state = o.state; effects = [] ++ o.effects }) (h (enter parameters height given s).state (entered_in tables parameters height given m s fit low arrays))
 
 -- a function of a plan
 pub function_in : {Does : List FormalParameter → ℕ → Meaning → Type 0} (fs : List PlannedFunction) (ds : List Definition) (i : ℕ) (f : PlannedFunction) (d : Definition) → AreFunctions Does fs ds → slice_get fs i ≡ Some f → slice_get ds i ≡ Some d → IsFunction Does f d
@@ -111,18 +146,18 @@ function_in (g ∷ fs) (c ∷ ds) (suc i) f d h e k = function_in fs ds i f d h.
 
 -- a call of a function does what the place of its body does
 pub called : (items : List Item) (plan : Plan) → IsPlanOf items plan → has_repeat (function_names_of items) ≡ false → (i : ℕ) (f : PlannedFunction) (d : Definition) → slice_get plan.functions.items i ≡ Some f → slice_get (definitions_of items) i ≡ Some d
-    → (n m : ℕ) (given : List Local) (vs : List Value) (s : State) → s.steps ≤ m → s.array_names ≡ (kinds_of items).arrays
+    → (n m : ℕ) (given : List Local) (vs : List Value) (s : State) → LocalsFit (arrays_among d.parameters) given → s.steps ≤ m → s.array_names ≡ (kinds_of items).arrays
     → call_within (definitions_of items) (suc n) d.name given s
     ≡ (enter d.parameters f.height given >>= λ _. cont_at (tables_of items plan) (functions_within (definitions_of items) n) plan.heads.items plan.nodes.items m f.body vs >>= λ w. leave >>= λ _. ret w) s
 unfolding call_within
-called items plan is once i f d e k n m given' vs s low arrays =
+called items plan is once i f d e k n m given' vs s fit low arrays =
     let ds = definitions_of items in
     let functions = functions_within ds n in
     let tables = tables_of items plan in
     let made = function_in plan.functions.items ds i f d is.functions e k in
     let behind : Value → Run Value = λ w. leave >>= λ _. ret w in
     ap (λ (o : Option Definition). call_by o given' (λ c. exec_all functions c.body) s) (found ds i d once k)
-    ∙ entered_same tables d.parameters (height_of_block d.body) given' _ (λ _. cont_at tables functions plan.heads.items plan.nodes.items m f.body vs >>= behind) m s low arrays
+    ∙ entered_same tables d.parameters (height_of_block d.body) given' _ (λ _. cont_at tables functions plan.heads.items plan.nodes.items m f.body vs >>= behind) m s fit low arrays
     (λ t j.
     later_same (exec_all functions d.body) _ _ t (λ fl u. sym (given (returned fl) behind u))
     ∙ sym (assoc_at (exec_all functions d.body) (λ fl. ret (returned fl)) behind t)

@@ -4,12 +4,13 @@ use Rattle.awk_value.specs.declared.value.Value.{Value}
 use Rattle.awk_value.specs.declared.value.Value.TheVariants as value
 use Rattle.awk_value.specs.Values.{truth_of}
 use Rattle.awk_grammar.specs.declared.tree.PrintForm.{PrintForm}
-use Rattle.awk_grammar.specs.Tree.{Expr, Exprs, OptionalExpr, NoExpr, AnExpr, PrintList, Output, Expression, Print, Delete, Next, Break, Continue, Exit, Return, SimpleStatement, OptionalSimple, ASimple, Statement, Empty, Simple, Block, If, IfElse, While, Do, ForIn, For, Statements, NoMore, Then}
+use Rattle.awk_grammar.specs.Tree.{Expr, Exprs, OptionalExpr, NoExpr, AnExpr, PrintList, Output, Expression, Print, Delete, DeleteAll, Next, NextFile, Break, Continue, Exit, Return, SimpleStatement, OptionalSimple, ASimple, Statement, Empty, Simple, Block, If, IfElse, While, Do, ForIn, For, Statements, NoMore, Then}
 use Rattle.awk_semantics.specs.declared.flow.Flow.{Flow}
 use Rattle.awk_semantics.specs.declared.flow.Flow.TheVariants as flow
 use Rattle.awk_semantics.specs.declared.halt.Halt.TheVariants as halt
 use Rattle.awk_semantics.specs.definitions.State.{State, Run, ◌>>=◌, lift, ret}
-use Rattle.awk_semantics.specs.definitions.Primitives.{spend, keys_in, delete_element, set_status}
+use Rattle.awk_semantics.specs.definitions.Primitives.{spend, keys_in, delete_element, clear_array, set_status}
+use Rattle.awk_semantics.specs.definitions.Streams.{close_main}
 use Rattle.awk_semantics.specs.definitions.Semantics.{Functions, choose, tested, eval, key_of, printed_values, target_of, print_by, print, begin_test, exit_with, returned_value, exec_simple, exec_part, goes_on, turn, unless_ended, repeat, walk, pass_on, exec, exec_all}
 use Rattle.awk_compile.proofs.Calculus.{assoc_at, later_same, given, stopped}
 
@@ -50,6 +51,18 @@ module _ (functions : Functions) {B : Type 0} (out : Flow → Run B) (s : State)
       ∙ later_same spend _ _ s (λ _ t.
       assoc_at (key_of functions [] es) (λ key. delete_element x key >>= λ _. ret flow.Normal) out t
       ∙ later_same (key_of functions [] es) _ _ t (λ key u. assoc_at (delete_element x key) (λ _. ret flow.Normal) out u ∙ later_same (delete_element x key) _ _ u (λ _ w. given flow.Normal out w)))
+
+  pub delete_all_then : (x : List ℕ) → (exec_simple functions (DeleteAll x) >>= out) s ≡ (spend >>= λ _. clear_array x >>= λ _. out flow.Normal) s
+  unfolding exec_simple
+  delete_all_then x =
+      assoc_at spend (λ _. clear_array x >>= λ _. ret flow.Normal) out s
+      ∙ later_same spend _ _ s (λ _ t. assoc_at (clear_array x) (λ _. ret flow.Normal) out t ∙ later_same (clear_array x) _ _ t (λ _ u. given flow.Normal out u))
+
+  pub next_file_then : (exec_simple functions NextFile >>= out) s ≡ (spend >>= λ _. close_main >>= λ _. lift (Err halt.Next)) s
+  unfolding exec_simple
+  next_file_then =
+      assoc_at spend (λ _. close_main >>= λ _. lift (Err halt.Next)) out s
+      ∙ later_same spend _ _ s (λ _ t. assoc_at close_main (λ _. lift (Err halt.Next)) out t ∙ later_same close_main _ _ t (λ _ u. stopped halt.Next out u))
 
   pub next_then : (exec_simple functions Next >>= out) s ≡ (spend >>= λ _. lift (Err halt.Next)) s
   unfolding exec_simple

@@ -1,6 +1,5 @@
 -- The parts of a program, one after the other, are a plan.
 use Rattle.std.proofs.Common.{◌≡◌, ℕ, suc, ◌+◌, ◌<◌, List, [], ◌∷◌, ◌++◌, Some, Result, Ok, Err, slice_get, get_or, length, map, take, drop, reverse, None, refl, sym, subst, ap, ◌∙◌, arith, append-nil}
-use Rattle.std.proofs.lemmas.List.{length-map}
 use Rattle.std.specs.Global.{Vec}
 use Rattle.awk_value.specs.declared.value.Value.{Value}
 use Rattle.awk_grammar.specs.Tree.{Expr, Nil, Bare, Standard, Print, Simple, Statements, Pattern, Single, Range, Item, Begin, End, Action, PatternAction, PatternOnly, Function}
@@ -11,7 +10,7 @@ use Rattle.awk_grammar.specs.View.{item_of, items_of}
 use Rattle.awk_kinds.specs.declared.variable.Variable.{Variable}
 use Rattle.awk_kinds.specs.definitions.Kinds.{FormalParameter, Definition, arrays_of, parameter_by, definitions_by, definitions_of}
 use Rattle.awk_kinds.proofs.KindsMade.{items_around}
-use Rattle.awk_kinds.specs.definitions.Signatures.{ProgramKinds, signature_by, kinds_of}
+use Rattle.awk_kinds.specs.definitions.Signatures.{Signature, ProgramKinds, signature_by, kinds_of}
 use Rattle.awk_semantics.specs.declared.flow.Flow.{Flow}
 use Rattle.awk_semantics.specs.declared.flow.Flow.TheVariants as flow
 use Rattle.awk_semantics.specs.declared.halt.Halt.{Halt}
@@ -28,12 +27,12 @@ use Rattle.awk_compile.specs.declared.plan.PlannedPattern.{PlannedPattern}
 use Rattle.awk_compile.specs.declared.plan.PlannedPattern.TheVariants as pattern
 use Rattle.awk_compile.specs.declared.plan.PlannedItem.{PlannedItem}
 use Rattle.awk_compile.specs.declared.plan.PlannedItem.TheVariants as item
-use Rattle.awk_compile.specs.definitions.Nodes.{nothing, IsOrdered, AllCallBelow}
-use Rattle.awk_compile.specs.definitions.Plans.{Meaning, body_run, print_run, value_run, tables_of, DoesIn, IsPlanOf, IsPattern, IsRule, IsItem, AreItems, IsFunction, AreFunctions}
-use Rattle.awk_compile.specs.support.Builds.{AreScalars, Grows, Pushes, Extends, Program, Evaluate, EvaluateAll, Execute, ExecuteAll, leave_by, place_in, Builds, Stands}
+use Rattle.awk_compile.specs.definitions.Nodes.{nothing, IsOrdered, AllCallsFit}
+use Rattle.awk_compile.specs.definitions.Plans.{Meaning, body_run, print_run, value_run, tables_of, array_parameters, DoesIn, IsPlanOf, IsPattern, IsRule, IsItem, AreItems, IsFunction, AreFunctions}
+use Rattle.awk_compile.specs.support.Builds.{arrays_among, array_parameters_in, AreScalars, Grows, Pushes, Extends, Program, Evaluate, EvaluateAll, Execute, ExecuteAll, leave_by, place_in, Builds, Stands}
 use Rattle.awk_compile.specs.support.Holding.{Holds, EndsStand, AddsEnds, AddsPlace, AddsPattern, AddsItem, AddsItems, AddsBody, AddsFunctions}
 use Rattle.awk_compile.proofs.Calculus.{assoc_at, given, later_same}
-use Rattle.awk_compile.proofs.Building.{grows, longer, same, still, placed, at_once}
+use Rattle.awk_compile.proofs.Building.{arrays_same, grows, longer, same, still, placed, at_once}
 use Rattle.awk_compile.proofs.Passing.{simple_then}
 use Rattle.awk_compile.proofs.PrintStatements.{print_built}
 
@@ -319,9 +318,9 @@ module _ {kinds : ProgramKinds} where
 -- a plan
 
 -- what is held while a program is lowered is done by its plan
-done : (items : List Item) (b : Builder) (functions : Vec PlannedFunction) (made : Vec PlannedItem) (parameters : List FormalParameter) (k : ℕ) (m : Meaning) → Holds (kinds_of items) b parameters k m
-    → DoesIn items (record { nodes = b.nodes; heads = b.heads; names = b.names; eres = b.eres; functions = functions; items = made }) parameters k m
-done items b functions made parameters k m h = record {
+done : (items : List Item) (b : Builder) (functions : Vec PlannedFunction) (made : Vec PlannedItem) → array_parameters_in b ≡ map (λ (f : Signature). arrays_among f.parameters) (kinds_of items).functions
+    → (parameters : List FormalParameter) (k : ℕ) (m : Meaning) → Holds (kinds_of items) b parameters k m → DoesIn items (record { nodes = b.nodes; heads = b.heads; names = b.names; eres = b.eres; functions = functions; items = made }) parameters k m
+done items b functions made arrays parameters k m h = record {
   below = h.below;
   is = λ calls for n vs s i.
       h.is (record {
@@ -332,21 +331,31 @@ done items b functions made parameters k m h = record {
         eres = ([], sym (append-nil b.eres.items));
         arrays = refl;
         signatures = refl;
+        parameters = arrays;
         calls = for;
       }) (let stays : Extends b b = same in stays.grows) n vs s i;
 }
 
-pub planned : {items : List Item} {a b c d : Builder} {ends : Ends} {functions : Vec PlannedFunction} {made : Vec PlannedItem} → a.nodes.items ≡ [] → a.names ≡ [] → a.function_count ≡ length (kinds_of items).functions → AddsEnds (kinds_of items) a b ends → AddsFunctions (kinds_of items) b c functions.items (definitions_of items)
+-- which parameters are arrays is told by the definitions
+planned_arrays : (Does : List FormalParameter → ℕ → Meaning → Type 0) (fs : List PlannedFunction) (ds : List Definition) → AreFunctions Does fs ds → map (λ (f : Signature). arrays_among f.parameters) (map signature_by ds) ≡ array_parameters fs
+planned_arrays Does [] [] h = refl
+planned_arrays Does [] (d ∷ ds) h = absurd h
+planned_arrays Does (f ∷ fs) [] h = absurd h
+planned_arrays Does (f ∷ fs) (d ∷ ds) h = ap (λ a. a ∷ map (λ (g : Signature). arrays_among g.parameters) (map signature_by ds)) (sym h.0.arrays) ∙ ap (λ l. f.arrays.items ∷ l) (planned_arrays Does fs ds h.1)
+
+pub planned : {items : List Item} {a b c d : Builder} {ends : Ends} {functions : Vec PlannedFunction} {made : Vec PlannedItem} → a.nodes.items ≡ [] → a.names ≡ [] → array_parameters_in a ≡ map (λ (f : Signature). arrays_among f.parameters) (kinds_of items).functions
+    → AddsEnds (kinds_of items) a b ends → AddsFunctions (kinds_of items) b c functions.items (definitions_of items)
     → AddsItems (kinds_of items) c d made.items items → IsPlanOf items (record { nodes = d.nodes; heads = d.heads; names = d.names; eres = d.eres; functions = functions; items = made })
-planned {items = items} {d = d} {functions = functions} {made = made} no_nodes no_names count first second third =
+planned {items = items} {a = a} {d = d} {functions = functions} {made = made} no_nodes no_names arrays first second third =
     let g = grows first.grows (grows second.grows third.grows) in
-    let many : d.function_count ≡ length functions.items = g.functions ∙ count ∙ length-map (definitions_of items) signature_by ∙ sym (as_many (Holds (kinds_of items) _) functions.items (definitions_of items) second.are) in
+    let are : array_parameters_in d ≡ map (λ (f : Signature). arrays_among f.parameters) (kinds_of items).functions = arrays_same a d g.functions ∙ arrays in
+    let fit : AllCallsFit (array_parameters_in d) d.nodes.items = g.calls (subst (AllCallsFit (array_parameters_in a)) (sym no_nodes) (λ at node e. cc)) in
     let scalars : AreScalars d.names = g.scalars (subst AreScalars (sym no_names) (record { each = λ i x e. cc; distinct = λ i j x e k. cc })) in
     record {
       ordered = g.ordered (subst IsOrdered (sym no_nodes) (λ at node e. cc));
-      calls = subst (λ k. AllCallBelow k d.nodes.items) many (g.calls (subst (AllCallBelow _) (sym no_nodes) (λ at node e. cc)));
+      calls = subst (λ k. AllCallsFit k d.nodes.items) (are ∙ planned_arrays (Holds (kinds_of items) _) functions.items (definitions_of items) second.are) fit;
       distinct = scalars.distinct;
       scalars = scalars;
-      functions = functions_also (λ parameters k m h. done items d functions made parameters k m (holds_later third.grows h)) functions.items (definitions_of items) second.are;
-      parts = items_also (done items d functions made) made.items items third.are;
+      functions = functions_also (λ parameters k m h. done items d functions made are parameters k m (holds_later third.grows h)) functions.items (definitions_of items) second.are;
+      parts = items_also (done items d functions made are) made.items items third.are;
     }

@@ -4,16 +4,16 @@ use Rattle.awk_value.specs.declared.value.Value.{Value}
 use Rattle.awk_value.specs.Values.{str_of}
 use Rattle.awk_grammar.specs.declared.tree.PrintForm.{PrintForm}
 use Rattle.awk_grammar.specs.declared.tree.Redirection.{Redirection}
-use Rattle.awk_grammar.specs.Tree.{Expr, Exprs, PrintList, Bare, Parenthesized, Standard, Redirected, Print, Delete, Simple}
+use Rattle.awk_grammar.specs.Tree.{Expr, Exprs, PrintList, Bare, Parenthesized, Standard, Redirected, Print, Delete, DeleteAll, Simple}
 use Rattle.awk_kinds.specs.definitions.Kinds.{FormalParameter}
 use Rattle.awk_kinds.specs.definitions.Signatures.{ProgramKinds}
 use Rattle.awk_kinds.specs.definitions.NameUses.{count_of}
 use Rattle.awk_semantics.specs.definitions.State.{State, Run, ◌>>=◌, ret}
-use Rattle.awk_semantics.specs.definitions.Primitives.{spend, delete_element}
+use Rattle.awk_semantics.specs.definitions.Primitives.{spend, delete_element, clear_array}
 use Rattle.awk_semantics.specs.definitions.Streams.{open_target}
 use Rattle.awk_semantics.specs.definitions.Semantics.{Functions, eval, eval_all, key_of, printed_values, target_of, print_by}
 use Rattle.awk_storage.specs.declared.position.Array.{Array}
-use Rattle.awk_storage.specs.definitions.Forms.{delete_at}
+use Rattle.awk_storage.specs.definitions.Forms.{delete_at, clear_at}
 use Rattle.awk_compile.specs.declared.node.Node.TheVariants as n
 use Rattle.awk_compile.specs.declared.node.EffectNode.TheVariants as e
 use Rattle.awk_compile.specs.declared.builder.Builder.{Builder}
@@ -23,9 +23,9 @@ use Rattle.awk_compile.specs.support.Printed.{listed}
 use Rattle.awk_compile.specs.support.Builds.{Grows, Pushes, IsIn, Program, Evaluate, EvaluateAll, EvaluateKey, Execute, IsArrayOf, leave_by, place_in, Places, Builds, Stands}
 use Rattle.awk_compile.proofs.Calculus.{assoc_at, later_in, first_same}
 use Rattle.awk_compile.proofs.Building.{grows, extends, placed, at_once}
-use Rattle.awk_compile.proofs.Elements.{deletes_element}
+use Rattle.awk_compile.proofs.Elements.{deletes_element, clears_array}
 use Rattle.awk_compile.proofs.ValueLists.{taken_all, dropped_all, keyed, keeps_key_value, counted}
-use Rattle.awk_compile.proofs.Passing.{print_then, delete_then, simple_then}
+use Rattle.awk_compile.proofs.Passing.{print_then, delete_then, delete_all_then, simple_then}
 use Rattle.awk_compile.proofs.SimpleStatements.{evaluated, stepped}
 
 -- a print node, with the values of the list on the stack
@@ -117,3 +117,11 @@ module _ {kinds : ProgramKinds} {parameters : List FormalParameter} where
       ∙ first_same (delete_at position (str_of w)) (delete_element x (str_of w)) (λ _. place_in y m exits.next vs) t (sym (deletes_element position x t (is.is y m t j) (str_of w))))
       ∙ keyed y.functions es rest s)
       (λ functions at vs s. simple_then functions (leave_by exits at vs) s (Delete x es) ∙ delete_then functions (leave_by exits at vs) s x es)
+
+  pub delete_all_built : {a b c : Builder} {x : List ℕ} {position : Array} {exits : Exits} {i j : ℕ} → Stands exits.next a → IsArrayOf kinds parameters position x → Pushes a b (n.Effect (e.Clear position) exits.next) i → Pushes b c (n.Effect e.Spend i) j
+      → Builds kinds parameters a c j (Execute (Simple (DeleteAll x)) exits)
+  delete_all_built {x = x} {position = position} {exits = exits} h is p r =
+      let o = placed p h.below in
+      stepped (Execute (Simple (DeleteAll x)) exits) (λ functions at vs. clear_array x >>= λ _. at exits.next vs) o.extends r o.below
+      (λ y g m vs s i. at_once (o.is y g m) vs s ∙ first_same (clear_at position) (clear_array x) (λ _. place_in y m exits.next vs) s (sym (clears_array position x s (is.is y m s i))))
+      (λ functions at vs s. simple_then functions (leave_by exits at vs) s (DeleteAll x) ∙ delete_all_then functions (leave_by exits at vs) s x)

@@ -3,14 +3,15 @@ use Rattle.std.proofs.Common.{◌≡◌, ℕ, ◌<◌, true, List, [], ◌∷◌
 use Rattle.awk_value.specs.declared.value.Value.{Value}
 use Rattle.awk_value.specs.declared.value.Value.TheVariants as value
 use Rattle.awk_value.specs.Values.{truth_of}
-use Rattle.awk_grammar.specs.Tree.{Expr, OptionalExpr, NoExpr, AnExpr, Expression, Next, Break, Continue, Exit, Return, Print, Delete, SimpleStatement, NoSimple, ASimple, Simple}
+use Rattle.awk_grammar.specs.Tree.{Expr, OptionalExpr, NoExpr, AnExpr, Expression, Next, NextFile, Break, Continue, Exit, Return, Print, Delete, DeleteAll, SimpleStatement, NoSimple, ASimple, Simple}
 use Rattle.awk_kinds.specs.definitions.Kinds.{FormalParameter}
 use Rattle.awk_kinds.specs.definitions.Signatures.{ProgramKinds}
 use Rattle.awk_semantics.specs.declared.flow.Flow.{Flow}
 use Rattle.awk_semantics.specs.declared.flow.Flow.TheVariants as flow
 use Rattle.awk_semantics.specs.declared.halt.Halt.TheVariants as halt
 use Rattle.awk_semantics.specs.definitions.State.{State, Run, ◌>>=◌, lift, ret}
-use Rattle.awk_semantics.specs.definitions.Primitives.{spend, set_status, delete_element}
+use Rattle.awk_semantics.specs.definitions.Primitives.{spend, set_status, delete_element, clear_array}
+use Rattle.awk_semantics.specs.definitions.Streams.{close_main}
 use Rattle.awk_semantics.specs.definitions.Semantics.{Functions, choose, eval, key_of, printed_values, target_of, print_by, exec_simple, exec_part, goes_on}
 use Rattle.awk_semantics.proofs.KeepsForms.{keeps_spend, keeps_eval}
 use Rattle.awk_compile.specs.declared.node.Node.TheVariants as n
@@ -22,7 +23,7 @@ use Rattle.awk_compile.specs.definitions.Nodes.{Cont}
 use Rattle.awk_compile.specs.support.Builds.{Grows, Pushes, Extends, IsIn, Program, Part, Evaluate, Decide, DecideOptional, Execute, ExecutePart, does, leave_by, place_in, Places, Builds, Stands}
 use Rattle.awk_compile.proofs.Calculus.{given, later_same, later_in}
 use Rattle.awk_compile.proofs.Building.{grows, extends, same, placed, at_once, both}
-use Rattle.awk_compile.proofs.Passing.{expression_then, next_then, break_then, continue_then, exit_then, exit_with_then, return_then, return_with_then, print_then, delete_then, simple_then, part_then, tested_then}
+use Rattle.awk_compile.proofs.Passing.{expression_then, next_then, break_then, continue_then, exit_then, exit_with_then, return_then, return_with_then, print_then, delete_then, delete_all_then, next_file_then, simple_then, part_then, tested_then}
 
 -- a simple statement that is no `return` passes on to the same
 module _ (functions : Functions) {B : Type 0} (out out' : Flow → Run B) (normal : out flow.Normal ≡ out' flow.Normal) (breaks : out flow.Break ≡ out' flow.Break) (continues : out flow.Continue ≡ out' flow.Continue) where
@@ -39,7 +40,12 @@ module _ (functions : Functions) {B : Type 0} (out out' : Flow → Run B) (norma
       delete_then functions out s x es
       ∙ ap (λ (r : Run B). (spend >>= λ _. key_of functions [] es >>= λ key. delete_element x key >>= λ _. r) s) normal
       ∙ sym (delete_then functions out' s x es)
+  passes_alike (DeleteAll x) other s =
+      delete_all_then functions out s x
+      ∙ ap (λ (r : Run B). (spend >>= λ _. clear_array x >>= λ _. r) s) normal
+      ∙ sym (delete_all_then functions out' s x)
   passes_alike Next other s = next_then functions out s ∙ sym (next_then functions out' s)
+  passes_alike NextFile other s = next_file_then functions out s ∙ sym (next_file_then functions out' s)
   passes_alike Break other s = break_then functions out s ∙ ap (λ (r : Run B). (spend >>= λ _. r) s) breaks ∙ sym (break_then functions out' s)
   passes_alike Continue other s = continue_then functions out s ∙ ap (λ (r : Run B). (spend >>= λ _. r) s) continues ∙ sym (continue_then functions out' s)
   passes_alike (Exit NoExpr) other s = exit_then functions out s ∙ sym (exit_then functions out' s)
@@ -97,6 +103,14 @@ module _ {kinds : ProgramKinds} {parameters : List FormalParameter} where
       stepped (simply Next exits) (λ functions at vs. lift (Err halt.Next)) o.extends r o.below
       (λ y g m vs s i. at_once (o.is y g m) vs s)
       (λ functions at vs s. simple_then functions (leave_by exits at vs) s Next ∙ next_then functions (leave_by exits at vs) s)
+
+  pub next_file_built : {a b c d : Builder} {exits : Exits} {i j k : ℕ} → Pushes a b n.Next k → Pushes b c (n.Effect e.EndInput k) i → Pushes c d (n.Effect e.Spend i) j → Builds kinds parameters a d j (Execute (Simple NextFile) exits)
+  next_file_built {exits = exits} p q r =
+      let o = placed p tt in
+      let u = placed q o.below in
+      stepped (simply NextFile exits) (λ functions at vs. close_main >>= λ _. lift (Err halt.Next)) (extends o.extends u.extends) r u.below
+      (λ y g m vs s i. at_once (u.is y g m) vs s ∙ later_same close_main _ _ s (λ _ t. at_once (o.is y (grows u.extends.grows g) m) vs t))
+      (λ functions at vs s. simple_then functions (leave_by exits at vs) s NextFile ∙ next_file_then functions (leave_by exits at vs) s)
 
   pub break_built : {a b : Builder} {exits : Exits} {j : ℕ} → Stands exits.breaks a → Pushes a b (n.Effect e.Spend exits.breaks) j → Builds kinds parameters a b j (Execute (Simple Break) exits)
   break_built {exits = exits} h r =

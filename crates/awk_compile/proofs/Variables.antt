@@ -1,5 +1,5 @@
 -- A name stands for its parameter, or for what the whole program has under it.
-use Rattle.std.proofs.Common.{◌≡◌, ℕ, zero, suc, Bool, true, false, cond, List, [], ◌∷◌, ◌++◌, length, map, slice_get, slice_set, append-nil, bytes_eq, Option, Some, None, if◌then◌else◌, inl, inr, refl, sym, subst, ap, ◌∙◌}
+use Rattle.std.proofs.Common.{◌≡◌, ℕ, zero, suc, Bool, true, false, cond, List, [], ◌∷◌, ◌++◌, ◌||◌, length, map, slice_get, slice_set, append-nil, bytes_eq, Option, Some, None, if◌then◌else◌, inl, inr, refl, sym, subst, ap, ◌∙◌}
 use Rattle.std.specs.Option.{option_map}
 use Rattle.std.specs.Map.{lookup, set_value}
 use Rattle.std.specs.Prelude.{codes}
@@ -7,18 +7,20 @@ use Rattle.awk_value.specs.declared.value.Value.{Value}
 use Rattle.awk_variables.specs.declared.special.Special.{Special}
 use Rattle.awk_variables.specs.Variables.{name_of}
 use Rattle.awk_variables.specs.Names.{IsFront, has_name, with_name}
-use Rattle.awk_compile.proofs.Slots.{has_name-stands}
+use Rattle.awk_compile.proofs.Slots.{has_name-stands, stands_at}
 use Rattle.awk_kinds.specs.definitions.Kinds.{FormalParameter}
 use Rattle.awk_kinds.specs.definitions.Signatures.{ProgramKinds, place_of, parameter_names}
 use Rattle.awk_semantics.specs.declared.local.Local.{Local}
 use Rattle.awk_semantics.specs.declared.local.Local.TheVariants as local
 use Rattle.awk_semantics.specs.definitions.State.{Frame, State, gives}
-use Rattle.awk_semantics.specs.definitions.Primitives.{local_in, global_value, local_value, read_outside, read_name, with_local, put_outside, put_by, put, number_in, local_number}
+use Rattle.awk_semantics.specs.definitions.Primitives.{local_in, global_value, local_value, read_outside, read_name, with_local, put_outside, put_by, put, number_in, local_number, is_local_array as kind_by, is_array}
 use Rattle.awk_storage.specs.declared.position.Variable.TheVariants as variable
 use Rattle.awk_storage.specs.declared.position.Array.TheVariants as array
 use Rattle.awk_storage.specs.definitions.Positions.{newest_locals, value_of_local, read_local, with_newest, with_local_at, put_local, read_slot, put_slot, number_of_local}
 use Rattle.awk_compile.specs.declared.builder.Builder.{Builder}
-use Rattle.awk_compile.specs.support.Builds.{IsScalar, AreScalars, AddsName, IsVariableOf, FindsVariable, IsArrayOf}
+use Rattle.awk_compile.specs.definitions.States.{is_array_local}
+use Rattle.awk_compile.specs.support.Builds.{arrays_among, IsScalar, AreScalars, AddsName, IsVariableOf, FindsVariable, IsArrayOf, IsOfKind}
+use Rattle.awk_compile.specs.support.Calls.{is_array_at}
 use Rattle.awk_compile.proofs.Building.{get_pushed, front_then, named}
 
 abbrev Locals : Type 0
@@ -213,3 +215,50 @@ module _ {kinds : ProgramKinds} {parameters : List FormalParameter} (x : List �
   -- a name that is no array of the program
   pub is_no_array : (m : ℕ) → place_of (parameter_names parameters) x ≡ None → place_of kinds.arrays x ≡ None → m ≡ length kinds.arrays → IsArrayOf kinds parameters (array.Global m) x
   is_no_array m outside e last = is_outside m outside (number_beyond kinds.arrays x e ∙ sym last)
+
+-- whether a name stands for an array
+
+pub named_there : (names : List (List ℕ)) (x : List ℕ) (n : ℕ) → place_of names x ≡ Some n → has_name names x ≡ true
+named_there names x n e = has_name-stands names n x (stands_at names x n e)
+
+pub none_there : (names : List (List ℕ)) (x : List ℕ) → place_of names x ≡ None → has_name names x ≡ false
+none_there [] x e = refl
+none_there (y ∷ ys) x e = by (bytes_eq x y) (place_of ys x) e (λ h. none_there ys x h)
+  where
+    by : (b : Bool) (o : Option ℕ) → (if b then Some 0 else option_map suc o) ≡ None → (o ≡ None → has_name ys x ≡ false) → (b || has_name ys x) ≡ false
+    by true o h k = cc
+    by false None h k = k refl
+    by false (Some j) h k = cc
+
+same_kind : (l : Local) (global : Bool) → kind_by (Some l) global ≡ is_array_local l
+same_kind (local.Value v) global = refl
+same_kind (local.Array n) global = refl
+
+kind_at : (xs : Locals) (i : ℕ) (l : List ℕ × Local) → slice_get xs i ≡ Some l → is_array_local l.1 ≡ is_array_at (map (λ (y : List ℕ × Local). is_array_local y.1) xs) i
+kind_at [] i l e = cc
+kind_at (x ∷ xs) zero l e = let z : x ≡ l = cc in ap (λ (y : List ℕ × Local). is_array_local y.1) (sym z)
+kind_at (x ∷ xs) (suc i) l e = kind_at xs i l e
+
+module _ {kinds : ProgramKinds} {parameters : List FormalParameter} (x : List ℕ) where
+  pub is_parameter_of_kind : (i : ℕ) (b : Bool) → place_of (parameter_names parameters) x ≡ Some i → b ≡ is_array_at (arrays_among parameters) i → IsOfKind kinds parameters b x
+  unfolding is_array
+  is_parameter_of_kind i b e kind = record {
+    is = λ p n s h.
+        let f = found (newest_locals s.frames) x i (ap (λ ns. place_of ns x) h.names ∙ e) in
+        ap (λ c. gives c s)
+        (ap (λ (o : Option Local). kind_by o (has_name s.array_names x)) (newest s.frames x ∙ f.by_name)
+        ∙ same_kind f.here.1 (has_name s.array_names x)
+        ∙ kind_at (newest_locals s.frames) i f.here f.at
+        ∙ ap (λ bs. is_array_at bs i) h.kinds
+        ∙ sym kind);
+  }
+
+  pub is_outside_of_kind : (b : Bool) → place_of (parameter_names parameters) x ≡ None → has_name kinds.arrays x ≡ b → IsOfKind kinds parameters b x
+  unfolding is_array
+  is_outside_of_kind b outside e = record {
+    is = λ p n s h.
+        ap (λ c. gives c s)
+        (ap (λ (o : Option Local). kind_by o (has_name s.array_names x)) (newest s.frames x ∙ none (newest_locals s.frames) x (ap (λ ns. place_of ns x) h.names ∙ outside))
+        ∙ ap (λ names. has_name names x) (h.arrays ∙ p.arrays)
+        ∙ e);
+  }

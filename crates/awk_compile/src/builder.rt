@@ -1,8 +1,8 @@
 // What is built of a program: nodes, and the places of loops' bodies; and the names and EREs that nodes tell by numbers.
 
 ghost use Rattle.std.specs.Prelude.{◌≡◌, ◌<◌, length, IfOk};
-ghost use Rattle.awk_compile.specs.definitions.Nodes.{CallsBelow};
-ghost use Rattle.awk_compile.specs.support.Builds.{Pushes, Opens, Closes, AddsName, AddsEre};
+ghost use Rattle.awk_compile.specs.definitions.Nodes.{CallsFit};
+ghost use Rattle.awk_compile.specs.support.Builds.{array_parameters_in, Pushes, Opens, Closes, AddsName, AddsEre};
 
 use crate::names::ScalarNames;
 use crate::node::Node;
@@ -20,8 +20,8 @@ pub struct Builder {
     pub names: ScalarNames,
     /// The texts of the program's EREs.
     pub eres: Vec<Bytes>,
-    /// How many functions the program has.
-    pub function_count: u32,
+    /// Whether each parameter is an array, of each function of the program.
+    pub array_parameters: Vec<Vec<bool>>,
 }
 
 /// Where a statement goes on.
@@ -40,13 +40,13 @@ pub(crate) fn next_number(length: usize) -> Result<u32, AllocError>
 }
 
 impl Builder {
-    /// Puts a node behind the others, and gives its place. What it calls is a function that is there.
+    /// Puts a node behind the others, and gives its place. What it calls is a function that is there, with arguments that fit it.
     ///
     /// # Errors
     ///
     /// Where memory is refused, or 2^32 nodes are there.
     pub fn push(&mut self, node: Node) -> Result<u32, AllocError>
-        requires { CallsBelow self.old.function_count node }
+        requires { CallsFit (array_parameters_in self.old) node }
         ensures { IfOk result (λ place. Pushes self.old self.new node place) }
     {
         let place = next_number(self.nodes.len())?;

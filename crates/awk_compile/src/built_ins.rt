@@ -43,13 +43,47 @@ fn strict_node(function: BuiltIn, count: u32) -> ValueNode
     match function {
         BuiltIn::Close => ValueNode::Close,
         BuiltIn::System => ValueNode::System,
-        BuiltIn::Length if count == 0 => ValueNode::RecordLength,
         _ => ValueNode::Apply(function, count),
     }
 }
 
 // The functions below know the numbers of arguments that the grammar has; a call with another one is never parsed.
 impl Builder {
+    /// `length`
+    #[cycle(expressions)]
+    fn lower_length(&mut self, scope: &Scope, list: &[Expr], next: u32) -> Result<u32, AllocError>
+        requires { Stands next self.old }
+        ensures { IfOk result (λ place. Builds scope.now self.old self.new place (Evaluate (tree.BuiltIn BuiltIn.Length (exprs_of list.now)) next)) }
+    {
+        match list {
+            [] => self.push_value(ValueNode::RecordLength, next),
+            [e] => {
+                if let Some(array) = scope.measured(e) {
+                    return self.push_value(ValueNode::CountElements(array), next);
+                }
+                let length = self.push_value(ValueNode::Apply(BuiltIn::Length, 1), next)?;
+                self.lower(scope, e, length)
+            }
+            _ => Err(AllocError),
+        }
+    }
+
+    /// `fflush`
+    #[cycle(expressions)]
+    fn lower_flush(&mut self, scope: &Scope, list: &[Expr], next: u32) -> Result<u32, AllocError>
+        requires { Stands next self.old }
+        ensures { IfOk result (λ place. Builds scope.now self.old self.new place (Evaluate (tree.BuiltIn BuiltIn.Fflush (exprs_of list.now)) next)) }
+    {
+        match list {
+            [] => self.push_value(ValueNode::FlushAll, next),
+            [name] => {
+                let flush = self.push_value(ValueNode::Flush, next)?;
+                self.lower(scope, name, flush)
+            }
+            _ => Err(AllocError),
+        }
+    }
+
     /// `match`
     #[cycle(expressions)]
     fn lower_match(&mut self, scope: &Scope, list: &[Expr], next: u32) -> Result<u32, AllocError>
@@ -135,6 +169,8 @@ impl Builder {
         ensures { IfOk result (λ place. Builds scope.now self.old self.new place (Evaluate (tree.BuiltIn function (exprs_of list.now)) next)) }
     {
         match function {
+            BuiltIn::Length => self.lower_length(scope, list, next),
+            BuiltIn::Fflush => self.lower_flush(scope, list, next),
             BuiltIn::Match => self.lower_match(scope, list, next),
             BuiltIn::Split => self.lower_split(scope, list, next),
             BuiltIn::Sub => self.lower_substitute(scope, false, list, next),

@@ -1,28 +1,27 @@
 // Calls of a program's functions as nodes.
 
-ghost use Rattle.std.specs.Prelude.{◌≡◌, IfOk};
+ghost use Rattle.std.specs.Prelude.{◌≡◌, IfOk, slice_get};
+ghost use Rattle.std.specs.Option.{option_map};
 ghost use Rattle.awk_grammar.specs.Tree.{Call};
 ghost use Rattle.awk_grammar.specs.View.{expr_of, exprs_of};
-ghost use Rattle.awk_compile.specs.support.Builds.{Stands, Evaluate, EvaluateArguments};
-ghost use Rattle.awk_compile.specs.support.Calls.{is_array_at, name_in, roles_from, IsFormOf, AreForms};
+ghost use Rattle.awk_compile.specs.support.Builds.{array_parameters_in, Stands, Evaluate, EvaluateArguments};
+ghost use Rattle.awk_compile.specs.support.Calls.{arrays_of, is_array_at, name_in, roles_from, IsFormOf, AreForms};
 ghost use Rattle.awk_compile.specs.support.Scopes.{Builds};
 
-use crate::builder::{Builder, next_number};
+use crate::builder::Builder;
 use crate::node::{ArgumentForm, ValueNode};
 use crate::scope::Scope;
 use awk_grammar::tree::Expr;
-use awk_kinds::Parameters;
 use awk_value::Bytes;
 use std::alloc::{AllocError, Global};
 
 /// Whether the parameter at a place is an array. There may be more arguments than parameters.
-fn is_array_at(parameters: &Parameters, place: usize) -> Result<bool, AllocError>
-    ensures { IfOk result (λ answer. answer ≡ is_array_at parameters.now place) }
+fn is_array_at(are_arrays: &[bool], place: usize) -> bool
+    ensures { result ≡ is_array_at are_arrays.now place }
 {
-    let place = next_number(place)?;
-    match parameters.is_array(place) {
-        Some(answer) => Ok(answer),
-        None => Ok(false),
+    match are_arrays.get(place) {
+        Some(answer) => *answer,
+        None => false,
     }
 }
 
@@ -36,16 +35,11 @@ pub(crate) fn name_in(e: &Expr) -> &[u8]
     }
 }
 
-/// How the argument at a place is given.
-fn form_of(
-    scope: &Scope,
-    parameters: &Parameters,
-    place: usize,
-    e: &Expr,
-) -> Result<ArgumentForm, AllocError>
-    ensures { IfOk result (λ form. IsFormOf scope.now (is_array_at parameters.now place) form (expr_of e.now)) }
+/// How an argument is given for a parameter that is an array or isn't.
+fn form_of(scope: &Scope, is_array: bool, e: &Expr) -> Result<ArgumentForm, AllocError>
+    ensures { IfOk result (λ form. IsFormOf scope.now is_array form (expr_of e.now)) }
 {
-    if is_array_at(parameters, place)? {
+    if is_array {
         return Ok(ArgumentForm::Array(scope.array_of(name_in(e))?));
     }
     Ok(ArgumentForm::Value)
@@ -55,34 +49,52 @@ fn form_of(
 fn forms_of(
     alloc: Global,
     scope: &Scope,
-    parameters: &Parameters,
+    are_arrays: &[bool],
     list: &[Expr],
 ) -> Result<Vec<ArgumentForm>, AllocError>
-    ensures { IfOk result (λ forms. AreForms scope.now parameters.now 0 forms.items (exprs_of list.now)) }
+    ensures { IfOk result (λ forms. AreForms scope.now are_arrays.now 0 forms.items (exprs_of list.now)) }
 {
     let mut forms = Vec::new(alloc);
     for (place, e) in list.iter().enumerate() {
-        forms.push(form_of(scope, parameters, place, e)?)?;
+        forms.push(form_of(scope, is_array_at(are_arrays, place), e)?)?;
     }
     Ok(forms)
 }
 
 impl Builder {
-    /// The arguments that aren't arrays are put on the stack, in their order.
+    /// Whether each parameter of a function is an array, if there is this function.
+    fn array_parameters_of(&self, function: u32) -> Option<&[bool]>
+        ensures { option_map (λ are_arrays. are_arrays.now) result ≡ slice_get (array_parameters_in self.now) function }
+    {
+        let are_arrays = self.array_parameters.get(function as usize)?;
+        Some(are_arrays.as_slice())
+    }
+
+    /// Whether the parameter of a function at a place is an array.
+    fn takes_array(&self, function: u32, place: usize) -> bool
+        ensures { result ≡ is_array_at (arrays_of self.now function) place }
+    {
+        match self.array_parameters_of(function) {
+            Some(are_arrays) => is_array_at(are_arrays, place),
+            None => false,
+        }
+    }
+
+    /// The arguments of a call of a function that aren't arrays are put on the stack, in their order.
     #[cycle(expressions)]
     fn lower_arguments(
         &mut self,
         scope: &Scope,
-        parameters: &Parameters,
+        function: u32,
         list: &[Expr],
         next: u32,
     ) -> Result<u32, AllocError>
         requires { Stands next self.old }
-        ensures { IfOk result (λ place. Builds scope.now self.old self.new place (EvaluateArguments (roles_from 0 parameters.now) (exprs_of list.now) next)) }
+        ensures { IfOk result (λ place. Builds scope.now self.old self.new place (EvaluateArguments (roles_from 0 (arrays_of self.old function)) (exprs_of list.now) next)) }
     {
         let mut rest = next;
         for i in (0..list.len()).rev() {
-            if !is_array_at(parameters, i)? {
+            if !self.takes_array(function, i) {
                 rest = self.lower(scope, &list[i], rest)?;
             }
         }
@@ -105,14 +117,11 @@ impl Builder {
         let Some(number) = scope.kinds.function(function.as_slice()) else {
             return Err(AllocError);
         };
-        if self.function_count <= number {
-            return Err(AllocError);
-        }
-        let Some(parameters) = scope.kinds.parameters(number) else {
+        let Some(are_arrays) = self.array_parameters_of(number) else {
             return Err(AllocError);
         };
-        let forms = forms_of(self.alloc, scope, parameters, list)?;
+        let forms = forms_of(self.alloc, scope, are_arrays, list)?;
         let call = self.push_value(ValueNode::Call(number, forms), next)?;
-        self.lower_arguments(scope, parameters, list, call)
+        self.lower_arguments(scope, number, list, call)
     }
 }

@@ -3,8 +3,8 @@
 ghost use Rattle.std.specs.Prelude.{◌≡◌, IfOk};
 ghost use Rattle.awk_grammar.specs.Tree.{Name};
 ghost use Rattle.awk_grammar.specs.View.{expr_of};
-ghost use Rattle.awk_compile.specs.definitions.Nodes.{CallsBelow};
-ghost use Rattle.awk_compile.specs.support.Builds.{Pushes, Stands, Evaluate};
+ghost use Rattle.awk_compile.specs.definitions.Nodes.{CallsFit};
+ghost use Rattle.awk_compile.specs.support.Builds.{array_parameters_in, Pushes, Stands, Evaluate};
 ghost use Rattle.awk_compile.specs.support.Operands.{is_and, is_or, matching_operator, matching, PushesTruths, PushesEre};
 ghost use Rattle.awk_compile.specs.support.Scopes.{Builds};
 
@@ -59,7 +59,7 @@ fn matching(o: Operator, pattern: Option<u32>) -> ValueNode
 impl Builder {
     /// A node that takes values off the stack and puts one on it.
     pub(crate) fn push_value(&mut self, node: ValueNode, next: u32) -> Result<u32, AllocError>
-        requires { CallsBelow self.old.function_count (Node.Value node next) }
+        requires { CallsFit (array_parameters_in self.old) (Node.Value node next) }
         ensures { IfOk result (λ place. Pushes self.old self.new (Node.Value node next) place) }
     {
         self.push(Node::Value(node, next))

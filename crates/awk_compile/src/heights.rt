@@ -100,7 +100,11 @@ fn height_of_simple(simple: &SimpleStatement) -> Result<u64, AllocError>
             above(list.max(height_of_output(output)?))
         }
         SimpleStatement::Delete(_, list) => above(tallest(list)?),
-        SimpleStatement::Next | SimpleStatement::Break | SimpleStatement::Continue => Ok(1),
+        SimpleStatement::DeleteAll(_)
+        | SimpleStatement::Next
+        | SimpleStatement::NextFile
+        | SimpleStatement::Break
+        | SimpleStatement::Continue => Ok(1),
         SimpleStatement::Exit(e) | SimpleStatement::Return(e) => above(optional_height(e)?),
     }
 }

@@ -52,6 +52,8 @@ pub enum ValueNode {
     /// The value of a place, whose operand stays on the stack.
     Load(Place),
     RecordLength,
+    /// How many elements an array has.
+    CountElements(Array),
     /// A built-in function of so many values.
     Apply(BuiltIn, u32),
     Match(Option<u32>),
@@ -62,6 +64,10 @@ pub enum ValueNode {
     Getline(Source, Option<Place>),
     Close,
     System,
+    /// Flushes all outputs.
+    FlushAll,
+    /// Flushes each output whose name is a value.
+    Flush,
     /// A call of a function of the program, by its number.
     Call(u32, Vec<ArgumentForm>),
 }
@@ -72,6 +78,10 @@ pub enum EffectNode {
     Spend,
     Drop(u32),
     Delete(Array),
+    /// Deletes all elements of an array.
+    Clear(Array),
+    /// Closes the main input, if one is open.
+    EndInput,
     /// A print of so many values, to standard output or to a target whose name is the topmost value.
     Print(PrintForm, u32, Option<Redirection>),
     SetStatus,

@@ -1,10 +1,12 @@
 // Programs as plans.
 
-ghost use Rattle.std.specs.Prelude.{◌≡◌, [], map, IfOk};
+ghost use Rattle.std.specs.Prelude.{◌≡◌, Bool, [], map, IfOk};
+ghost use Rattle.std.specs.Global.{Vec};
 ghost use Rattle.awk_grammar.specs.View.{expr_of, statements_of, pattern_of, item_of, items_of};
-ghost use Rattle.awk_kinds.specs.definitions.Kinds.{FormalParameter, definitions_of};
-ghost use Rattle.awk_kinds.specs.definitions.Signatures.{ProgramKinds, kinds_of};
+ghost use Rattle.awk_kinds.specs.definitions.Kinds.{definitions_of};
+ghost use Rattle.awk_kinds.specs.definitions.Signatures.{Signature, ProgramKinds, kinds_of};
 ghost use Rattle.awk_compile.specs.definitions.Plans.{body_run, value_run, IsPlanOf};
+ghost use Rattle.awk_compile.specs.support.Builds.{arrays_among};
 ghost use Rattle.awk_compile.specs.support.Holding.{EndsStand, AddsEnds, AddsPlace, AddsPattern, AddsItem, AddsItems, AddsBody, AddsFunctions};
 ghost use Rattle.awk_compile.specs.support.Scopes.{parameters_of};
 
@@ -29,9 +31,9 @@ struct Ends {
     print: u32,
 }
 
-/// Which parameters are arrays.
+/// Whether each of these parameters is an array.
 fn are_arrays(alloc: Global, parameters: &Parameters) -> Result<Vec<bool>, AllocError>
-    ensures { IfOk result (λ arrays. arrays.items ≡ map (λ (p : FormalParameter). p.is_array) parameters.now) }
+    ensures { IfOk result (λ arrays. arrays.items ≡ arrays_among parameters.now) }
 {
     let mut arrays = Vec::new(alloc);
     for place in 0..next_number(parameters.len())? {
@@ -41,6 +43,20 @@ fn are_arrays(alloc: Global, parameters: &Parameters) -> Result<Vec<bool>, Alloc
         arrays.push(is_array)?;
     }
     Ok(arrays)
+}
+
+/// Whether each parameter is an array, of each function of the program.
+fn array_parameters(alloc: Global, kinds: &Kinds) -> Result<Vec<Vec<bool>>, AllocError>
+    ensures { IfOk result (λ all. map (λ (v : Vec Bool). v.items) all.items ≡ map (λ (f : Signature). arrays_among f.parameters) kinds.now.functions) }
+{
+    let mut all = Vec::new(alloc);
+    for number in 0..next_number(kinds.function_count())? {
+        let Some(parameters) = kinds.parameters(number) else {
+            unreachable!();
+        };
+        all.push(are_arrays(alloc, parameters)?)?;
+    }
+    Ok(all)
 }
 
 impl Builder {
@@ -224,14 +240,14 @@ pub fn lower_program(alloc: Global, items: &[Item], kinds: &Kinds) -> Result<Pla
     requires { kinds.now ≡ kinds_of (items_of items.now) }
     ensures { IfOk result (IsPlanOf (items_of items.now)) }
 {
-    let function_count = next_number(kinds.function_count())?;
+    let array_parameters = array_parameters(alloc, kinds)?;
     let mut builder = Builder {
         alloc,
         nodes: Vec::new(alloc),
         heads: Vec::new(alloc),
         names: ScalarNames::new(alloc),
         eres: Vec::new(alloc),
-        function_count,
+        array_parameters,
     };
     let ends = builder.push_ends()?;
     let functions = builder.lower_functions(kinds, items, ends)?;

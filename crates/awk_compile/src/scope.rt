@@ -1,11 +1,14 @@
 // Where names of a part of a program stand.
 
 ghost use Rattle.std.specs.Prelude.{◌≡◌, IfOk};
+ghost use Rattle.awk_grammar.specs.View.{expr_of};
 ghost use Rattle.awk_kinds.specs.definitions.Signatures.{place_of, parameter_names};
-ghost use Rattle.awk_compile.specs.support.Builds.{IsArrayOf, FindsVariable};
-ghost use Rattle.awk_compile.specs.support.Scopes.{parameters_of};
+ghost use Rattle.awk_compile.specs.support.Builds.{arrays_among, IsArrayOf, NamesArray, FindsVariable};
+ghost use Rattle.awk_compile.specs.support.Calls.{is_array_at};
+ghost use Rattle.awk_compile.specs.support.Scopes.{parameters_of, Measures};
 
 use crate::builder::{Builder, next_number};
+use awk_grammar::tree::Expr;
 use awk_kinds::{Kinds, Parameters};
 use awk_storage::{Array, Variable};
 use awk_variables::Special;
@@ -25,6 +28,16 @@ impl Scope<'_> {
     {
         let parameters = self.parameters?;
         parameters.find(name)
+    }
+
+    /// Whether the parameter at a place is an array.
+    fn is_array_parameter(&self, place: u32) -> bool
+        ensures { result ≡ is_array_at (arrays_among (parameters_of self.now)) place }
+    {
+        let Some(parameters) = self.parameters else {
+            return false;
+        };
+        parameters.is_array(place).unwrap_or(false)
     }
 }
 
@@ -65,6 +78,30 @@ impl Scope<'_> {
         match self.kinds.array(name) {
             Some(number) => Ok(Array::Global(number)),
             None => Ok(Array::Global(next_number(self.kinds.array_count())?)),
+        }
+    }
+
+    /// The array that a name stands for, if it stands for one.
+    fn array_named(&self, name: &[u8]) -> Option<Array>
+        ensures { NamesArray self.now.kinds.now (parameters_of self.now) result name.now }
+    {
+        if let Some(place) = self.parameter(name) {
+            if self.is_array_parameter(place) {
+                return Some(Array::Local(place));
+            }
+            return None;
+        }
+        let number = self.kinds.array(name)?;
+        Some(Array::Global(number))
+    }
+
+    /// The array that the argument of `length` is, if it is a bare name of one. (POSIX awk, String Functions)
+    pub(crate) fn measured(&self, e: &Expr) -> Option<Array>
+        ensures { Measures self.now result (expr_of e.now) }
+    {
+        match e {
+            Expr::Name(x) => self.array_named(x.as_slice()),
+            _ => None,
         }
     }
 }

@@ -2,7 +2,7 @@
 
 ghost use Rattle.std.specs.Prelude.{◌≡◌, IfOk};
 ghost use Rattle.awk_grammar.specs.View.{expr_of, exprs_of, optional_expr_of, print_list_of, output_of, simple_of, optional_simple_of};
-ghost use Rattle.awk_grammar.specs.Tree.{Expression, Print, Delete, Exit, Return, Simple};
+ghost use Rattle.awk_grammar.specs.Tree.{Expression, Print, Delete, DeleteAll, NextFile, Exit, Return, Simple};
 ghost use Rattle.awk_compile.specs.declared.node.Node.TheVariants.{Effect};
 ghost use Rattle.awk_compile.specs.declared.node.EffectNode.TheVariants.{Spend};
 ghost use Rattle.awk_compile.specs.support.Builds.{Pushes, Stands, ExitsStand, Execute, ExecutePart};
@@ -92,6 +92,30 @@ impl Builder {
         self.step(key)
     }
 
+    /// A deletion of all elements of an array.
+    fn lower_delete_all(
+        &mut self,
+        scope: &Scope,
+        name: &Bytes,
+        exits: Exits,
+    ) -> Result<u32, AllocError>
+        requires { ExitsStand exits self.old }
+        ensures { IfOk result (λ place. Builds scope.now self.old self.new place (Execute (Simple (DeleteAll name.now)) exits)) }
+    {
+        let array = scope.array_of(name.as_slice())?;
+        let clear = self.push(Node::Effect(EffectNode::Clear(array), exits.next))?;
+        self.step(clear)
+    }
+
+    /// A `nextfile`: the main input is closed, and then it ends as `next` does.
+    fn lower_next_file(&mut self, scope: &Scope, exits: Exits) -> Result<u32, AllocError>
+        ensures { IfOk result (λ place. Builds scope.now self.old self.new place (Execute (Simple NextFile) exits)) }
+    {
+        let stop = self.push(Node::Next)?;
+        let end = self.push(Node::Effect(EffectNode::EndInput, stop))?;
+        self.step(end)
+    }
+
     /// An `exit`; its expression sets the status first.
     fn lower_exit(
         &mut self,
@@ -156,10 +180,12 @@ impl Builder {
                 self.lower_print(scope, *form, list, output, exits)
             }
             SimpleStatement::Delete(name, list) => self.lower_delete(scope, name, list, exits),
+            SimpleStatement::DeleteAll(name) => self.lower_delete_all(scope, name, exits),
             SimpleStatement::Next => {
                 let stop = self.push(Node::Next)?;
                 self.step(stop)
             }
+            SimpleStatement::NextFile => self.lower_next_file(scope, exits),
             SimpleStatement::Break => self.step(exits.breaks),
             SimpleStatement::Continue => self.step(exits.continues),
             SimpleStatement::Exit(e) => self.lower_exit(scope, e, exits),

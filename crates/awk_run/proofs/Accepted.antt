@@ -5,7 +5,7 @@ use Rattle.awk_lex.specs.declared.token.Kind.{Kind}
 use Rattle.awk_lex.specs.declared.token.Token.{Token}
 use Rattle.awk_lex.specs.declared.refusal.Refusal.{Refusal}
 use Rattle.awk_lex.specs.declared.refusal.RefusalCode.{RefusalCode}
-use Rattle.awk_lex.specs.declared.refusal.RefusalCode.TheVariants.{UnexpectedByte, OpenString, OpenPattern, EscapeRefused, NumberRefused, ProgramTooLong, NotAProgram, NestedTooDeep, PatternIllFormed, PatternCountRefused, PatternTooLarge, ArrayAndScalar, UnknownFunction, DefinedTwice, TooManyArguments, ParameterRefused, StatementOutOfPlace, NameLeftOut, FunctionAsVariable, NotBuilt, OutOfMemory}
+use Rattle.awk_lex.specs.declared.refusal.RefusalCode.TheVariants.{UnexpectedByte, OpenString, OpenPattern, EscapeRefused, NumberRefused, ProgramTooLong, NotAProgram, NestedTooDeep, PatternIllFormed, PatternCountRefused, PatternTooLarge, ArrayAndScalar, UnknownFunction, DefinedTwice, TooManyArguments, ParameterRefused, StatementOutOfPlace, NameLeftOut, FunctionAsVariable, OutOfMemory}
 use Rattle.awk_lex.specs.Refused.{IsOutOfMemory}
 use Rattle.awk_lex.specs.Lexes.{Lexes}
 use Rattle.awk_lex.specs.Told.{Refuses, kinds_of as token_kinds_of}
@@ -110,7 +110,6 @@ does_not_fit NameLeftOut text n = n
 does_not_fit FunctionAsVariable text n = n
 does_not_fit ArrayAndScalar text n = n
 does_not_fit OutOfMemory text n = tt
-does_not_fit NotBuilt text n = not_among NotBuilt n.1 refl n.3
 does_not_fit ProgramTooLong text n = absurd (not_among ProgramTooLong n.1 refl n.3)
 does_not_fit UnexpectedByte text n = absurd (not_among UnexpectedByte n.1 refl n.3)
 does_not_fit OpenString text n = absurd (not_among OpenString n.1 refl n.3)

@@ -10,12 +10,11 @@ use Rattle.awk_compile.specs.declared.plan.PlannedPattern.TheVariants as pattern
 use Rattle.awk_compile.specs.declared.plan.PlannedItem.{PlannedItem}
 use Rattle.awk_compile.specs.declared.plan.PlannedItem.TheVariants as item
 use Rattle.awk_compile.specs.declared.plan.Plan.{Plan}
-use Rattle.awk_compile.specs.definitions.States.{IsIn, AreFor}
+use Rattle.awk_compile.specs.definitions.States.{AreFor}
 use Rattle.awk_compile.specs.definitions.Plans.{Meaning, body_run, print_run, value_run, tables_of, DoesIn, IsPattern, IsRule, IsItem, AreItems, IsPlanOf}
 use Rattle.awk_semantics.specs.declared.halt.Halt.{Halt}
 use Rattle.awk_semantics.specs.declared.halt.Halt.TheVariants as halt
 use Rattle.awk_semantics.specs.declared.flow.Flow.{Flow}
-use Rattle.awk_semantics.specs.declared.local.Local.{Local}
 use Rattle.awk_semantics.specs.definitions.State.{Effect, Frame, State, Out, Run, go_on, ◌>>=◌, lift, ret}
 use Rattle.awk_semantics.specs.definitions.Primitives.{spend, is_inside, set_inside, outside_calls}
 use Rattle.awk_semantics.specs.definitions.Inputs.{next_record, assign_text}
@@ -28,7 +27,7 @@ use Rattle.awk_semantics.proofs.PlainParts.{assign_plain}
 use Rattle.awk_semantics.proofs.Keeping.{keeps_plain, keeps_bind, keeps_lift}
 use Rattle.awk_semantics.proofs.KeepsForms.{law_of_keeping}
 use Rattle.awk_semantics.proofs.KeepsOutside.{law_of_items}
-use Rattle.awk_storage.specs.definitions.Positions.{newest_locals}
+use Rattle.awk_compile.proofs.Calling.{outside_in}
 use Rattle.awk_run.specs.support.Planned.{place_in, is_rule_at, has_rule_at, action_at, holds_at, in_range_at, go_through_at, selects_at, try_item_at, try_items_at, begin_item_at, begin_items_at, end_item_at, end_items_at, run_before_end_at, run_items_at, assign_and_run_at}
 
 -- one run after another, from one state
@@ -161,7 +160,7 @@ functions_of items limit = functions_within (definitions_of items) limit
 
 module _ (items : List Item) (plan : Plan) (limit : ℕ) (for : AreFor (tables_of items plan) (functions_of items limit)) where
   place_same : {k : ℕ} {m : Meaning} {s : State} → DoesIn items plan [] k m → IsOutside items limit s → place_in items plan limit k s ≡ m (functions_of items limit) s
-  place_same {s = s} does o = does.is (functions_of items limit) for limit [] s (record { low = o.low; names = ap (λ (frames : List Frame). map (λ (l : List ℕ × Local). l.0) (newest_locals frames)) o.frames; arrays = o.arrays })
+  place_same {s = s} does o = does.is (functions_of items limit) for limit [] s (outside_in (tables_of items plan) limit s o.frames o.low o.arrays)
 
   action_same : {k : ℕ} (block : Statements) {s : State} → DoesIn items plan [] k (body_run block) → IsOutside items limit s → action_at (place_in items plan limit) k s ≡ run_action (functions_of items limit) block s
   unfolding action_at run_action

@@ -1,5 +1,5 @@
 -- The functions of a plan do what calls do, where each does what the place of its body does.
-use Rattle.std.proofs.Common.{◌≡◌, ℕ, zero, suc, ◌≤◌, false, List, [], ◌∷◌, map, slice_get, unwrap_or, Option, Some, None, refl, sym, ap, ◌∙◌, subst}
+use Rattle.std.proofs.Common.{◌≡◌, ℕ, zero, suc, ◌≤◌, Bool, false, List, [], ◌∷◌, map, slice_get, unwrap_or, Option, Some, None, refl, sym, ap, ◌∙◌, subst}
 use Rattle.std.specs.Option.{option_map}
 use Rattle.awk_value.specs.declared.value.Value.{Value}
 use Rattle.awk_grammar.specs.Tree.{Item}
@@ -14,6 +14,7 @@ use Rattle.awk_semantics.specs.definitions.Calls.{definition_of, body_height, ca
 use Rattle.awk_compile.specs.declared.plan.Function.{Function as PlannedFunction}
 use Rattle.awk_compile.specs.declared.plan.Plan.{Plan}
 use Rattle.awk_compile.specs.definitions.Nodes.{cont_at, function_at}
+use Rattle.awk_compile.specs.definitions.States.{LocalsFit}
 use Rattle.awk_compile.specs.definitions.Plans.{Meaning, IsFunction, AreFunctions, tables_of, DoesIn, IsPlanOf}
 use Rattle.awk_compile.proofs.Calling.{found, called}
 use Rattle.awk_evaluator.specs.Rest.{StandsFor, PlanStands}
@@ -48,6 +49,6 @@ plans_stand {items = items} {plan = plan} h = record {
         parameters = d.parameters;
         kinds = sym p.is.arrays;
         height = ap (λ (x : List ℕ). body_height (definition_of ds x)) name ∙ (ap body_height (found ds i d h.once p.at) ∙ sym p.is.height);
-        calls = λ n m given vs s low arrays. ap (λ (x : List ℕ). call_within ds (suc n) x given s) name ∙ called items plan h.is h.once i f d e p.at n m given vs s low arrays;
+        calls = λ n m given vs s fit low arrays. ap (λ (x : List ℕ). call_within ds (suc n) x given s) name ∙ called items plan h.is h.once i f d e p.at n m given vs s (subst (λ (bs : List Bool). LocalsFit bs given) p.is.arrays fit) low arrays;
       };
 }

@@ -1,5 +1,5 @@
 -- What nodes mean: what is still to be done from a place, with the values that are awaited, the newest first.
-use Rattle.std.specs.Prelude.{◌≡◌, ℕ, zero, suc, ◌+◌, ◌-◌, ◌<◌, pos, Bool, List, [], ◌∷◌, ◌++◌, length, map, reverse, take, drop, slice_get, get_or, unwrap_or, Option, Some, None, Result, Ok, Err}
+use Rattle.std.specs.Prelude.{◌≡◌, ℕ, zero, suc, ◌+◌, ◌-◌, ◌<◌, pos, Bool, true, false, List, [], ◌∷◌, ◌++◌, length, map, reverse, take, drop, slice_get, get_or, unwrap_or, Option, Some, None, Result, Ok, Err}
 use Rattle.std.specs.Option.{option_map}
 use Rattle.awk_value.specs.declared.value.Value.{Value}
 use Rattle.awk_value.specs.declared.value.Value.TheVariants as value
@@ -18,13 +18,13 @@ use Rattle.awk_semantics.specs.definitions.State.{State, Run, ◌>>=◌, lift, r
 use Rattle.awk_semantics.specs.definitions.Operators.{truth_value, changed, applied, by_one, one, operator_of, pattern_in}
 use Rattle.awk_semantics.specs.definitions.Texts.{separator_in, ere_separator}
 use Rattle.awk_semantics.specs.definitions.Primitives.{spend, number_of, record_text, read_field, field_separator, joined_key, check_height, set_status}
-use Rattle.awk_semantics.specs.definitions.BuiltIns.{applied_all, record_length}
-use Rattle.awk_semantics.specs.definitions.Streams.{open_target, close_named, run_command}
+use Rattle.awk_semantics.specs.definitions.BuiltIns.{applied_all, record_length, flush_outputs}
+use Rattle.awk_semantics.specs.definitions.Streams.{open_target, close_main, close_named, run_command, flush_named}
 use Rattle.awk_semantics.specs.definitions.Semantics.{Functions, choose, print_by}
 use Rattle.awk_storage.specs.declared.position.Place.{Place}
 use Rattle.awk_storage.specs.declared.position.Place.TheVariants as place
 use Rattle.awk_storage.specs.definitions.Positions.{number_at, read_element_of, read_variable, put_variable, read_at, assign_by_at, post_increment_at}
-use Rattle.awk_storage.specs.definitions.Forms.{contains_at, delete_at, keys_of_array, match_in, split_with, substitute_at, main_getline_at, named_getline_at}
+use Rattle.awk_storage.specs.definitions.Forms.{contains_at, delete_at, clear_at, count_elements_at, keys_of_array, match_in, split_with, substitute_at, main_getline_at, named_getline_at}
 use Rattle.awk_compile.specs.declared.node.Source.{Source}
 use Rattle.awk_compile.specs.declared.node.Source.TheVariants as source
 use Rattle.awk_compile.specs.declared.node.ArgumentForm.{ArgumentForm}
@@ -145,6 +145,7 @@ module _ (tables : Tables) where
   value_of functions (v.PostIncrement o p) vs = post_increment_at tables.names o p (first vs)
   value_of functions (v.Load p) vs = read_at tables.names p (first vs)
   value_of functions v.RecordLength vs = record_length
+  value_of functions (v.CountElements a) vs = count_elements_at a
   value_of functions (v.Apply f k) vs = lift (applied_all f (taken k vs))
   value_of functions (v.Match (Some i)) vs = match_in (ere_at tables i) (str_of (first vs))
   value_of functions (v.Match None) vs = match_in (str_of (first vs)) (str_of (second vs))
@@ -155,6 +156,8 @@ module _ (tables : Tables) where
   value_of functions (v.Getline x p) vs = getline_by x p vs
   value_of functions v.Close vs = close_named (str_of (first vs)) >>= λ k. ret (value.Number k)
   value_of functions v.System vs = run_command (str_of (first vs)) >>= λ k. ret (value.Number k)
+  value_of functions v.FlushAll vs = flush_outputs
+  value_of functions v.Flush vs = flush_named (str_of (first vs)) >>= λ k. ret (value.Number k)
   value_of functions (v.Call f fs) vs = call_at functions (function_at tables f) fs.items (taken (values_among fs.items) vs)
 
 -- how many values a substitution takes
@@ -192,6 +195,7 @@ popped (v.PreIncrement o p) = operands p
 popped (v.PostIncrement o p) = operands p
 popped (v.Load p) = 0
 popped v.RecordLength = 0
+popped (v.CountElements a) = 0
 popped (v.Apply f k) = k
 popped (v.Match pattern) = suc (pattern_operands pattern)
 popped (v.Split a b) = suc (split_operands b)
@@ -199,6 +203,8 @@ popped (v.Substitute all pattern p) = target_operands p + suc (pattern_operands 
 popped (v.Getline x p) = source_operands x + place_operands p
 popped v.Close = 1
 popped v.System = 1
+popped v.FlushAll = 0
+popped v.Flush = 1
 popped (v.Call f fs) = values_among fs.items
 
 -- the opening that a print prints to; the name of a redirection's target is the topmost value
@@ -215,6 +221,8 @@ abbrev pub effect_of : Functions → EffectNode → List Value → Run (Unit {0}
 effect_of functions e.Spend vs = spend
 effect_of functions (e.Drop k) vs = ret tt
 effect_of functions (e.Delete a) vs = delete_at a (str_of (first vs))
+effect_of functions (e.Clear a) vs = clear_at a
+effect_of functions e.EndInput vs = close_main
 effect_of functions (e.Print f k way) vs = target_by way vs >>= λ n. print_by functions f n (taken k (drop (way_operands way) vs))
 effect_of functions e.SetStatus vs = set_status (first vs)
 
@@ -222,6 +230,8 @@ abbrev pub dropped : EffectNode → ℕ
 dropped e.Spend = 0
 dropped (e.Drop k) = k
 dropped (e.Delete a) = 1
+dropped (e.Clear a) = 0
+dropped e.EndInput = 0
 dropped (e.Print f k way) = way_operands way + k
 dropped e.SetStatus = 1
 
@@ -285,10 +295,25 @@ AreBelow at n.End = Unit {0}
 abbrev pub IsOrdered : List Node → Type 0
 IsOrdered nodes = (at : ℕ) (node : Node) → slice_get nodes at ≡ Some node → AreBelow at node
 
--- what a node calls is one of so many functions
-abbrev pub CallsBelow : ℕ → Node → Type 0
-CallsBelow count (n.Value (v.Call f fs) k) = f < count
-CallsBelow count x = Unit {0}
+-- arguments of these forms are arrays where the parameters are; what is given behind the last parameter is of no use
 
-abbrev pub AllCallBelow : ℕ → List Node → Type 0
-AllCallBelow count nodes = (at : ℕ) (node : Node) → slice_get nodes at ≡ Some node → CallsBelow count node
+abbrev pub is_array_form : ArgumentForm → Bool
+is_array_form form.Value = false
+is_array_form (form.Array a) = true
+
+abbrev pub FormsFit : (are_arrays : List Bool) → List ArgumentForm → Type 0
+FormsFit [] fs = Unit {0}
+FormsFit (b ∷ bs) [] = Unit {0}
+FormsFit (b ∷ bs) (f ∷ fs) = (is_array_form f ≡ b) × FormsFit bs fs
+
+abbrev pub CallFits : (function : Option (List Bool)) → List ArgumentForm → Type 0
+CallFits None fs = ⊥
+CallFits (Some bs) fs = FormsFit bs fs
+
+-- a call is of one of these functions, by which of their parameters are arrays, and fits it
+abbrev pub CallsFit : (functions : List (List Bool)) → Node → Type 0
+CallsFit functions (n.Value (v.Call f fs) k) = CallFits (slice_get functions f) fs.items
+CallsFit functions x = Unit {0}
+
+abbrev pub AllCallsFit : (functions : List (List Bool)) → List Node → Type 0
+AllCallsFit functions nodes = (at : ℕ) (node : Node) → slice_get nodes at ≡ Some node → CallsFit functions node

@@ -1,5 +1,5 @@
 -- What a plan is: its places do what the parts of its program mean.
-use Rattle.std.specs.Prelude.{◌≡◌, ℕ, ◌<◌, List, [], ◌∷◌, length, map}
+use Rattle.std.specs.Prelude.{◌≡◌, ℕ, ◌<◌, Bool, List, [], ◌∷◌, length, map}
 use Rattle.awk_value.specs.declared.value.Value.{Value}
 use Rattle.awk_value.specs.declared.value.Value.TheVariants as value
 use Rattle.awk_grammar.specs.Tree.{Expr, Statements, Pattern, Single, Range, Item, Begin, End, Action, PatternAction, PatternOnly, Function}
@@ -17,7 +17,7 @@ use Rattle.awk_compile.specs.declared.plan.PlannedPattern.TheVariants as pattern
 use Rattle.awk_compile.specs.declared.plan.PlannedItem.{PlannedItem}
 use Rattle.awk_compile.specs.declared.plan.PlannedItem.TheVariants as item
 use Rattle.awk_compile.specs.declared.plan.Plan.{Plan}
-use Rattle.awk_compile.specs.definitions.Nodes.{Tables, cont_at, IsOrdered, AllCallBelow}
+use Rattle.awk_compile.specs.definitions.Nodes.{Tables, cont_at, IsOrdered, AllCallsFit}
 use Rattle.awk_compile.specs.definitions.States.{AreScalars, IsIn, AreFor}
 
 -- what a place comes to, whatever lies on the stack there
@@ -77,6 +77,10 @@ module _ (Does : Doing) where
 
 -- the plan of a program
 
+-- which parameters of each function are arrays
+abbrev pub array_parameters : List PlannedFunction → List (List Bool)
+array_parameters functions = map (λ (f : PlannedFunction). f.arrays.items) functions
+
 -- what the numbers in its nodes stand for
 abbrev pub tables_of : List Item → Plan → Tables
 tables_of items plan = record { names = plan.names; eres = plan.eres.items; arrays = (kinds_of items).arrays; functions = (kinds_of items).functions }
@@ -89,7 +93,7 @@ pub record DoesIn (items : List Item) (plan : Plan) (parameters : List FormalPar
 
 pub record IsPlanOf (items : List Item) (plan : Plan) : Type 0 where
   pub ordered : IsOrdered plan.nodes.items
-  pub calls : AllCallBelow (length plan.functions.items) plan.nodes.items
+  pub calls : AllCallsFit (array_parameters plan.functions.items) plan.nodes.items
   -- each scalar has one slot, and none of them is one of awk's own
   pub distinct : AreDistinct plan.names
   pub scalars : AreScalars plan.names

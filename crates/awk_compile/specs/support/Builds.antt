@@ -1,16 +1,17 @@
 -- What the lowering builds: from a place, what a part of the program means, whatever is built later.
-use Rattle.std.specs.Prelude.{◌≡◌, ◌≢◌, ℕ, suc, ◌<◌, ◌≤◌, List, [], ◌∷◌, ◌++◌, drop, get_or, length, reverse, Option, Some, None}
+use Rattle.std.specs.Prelude.{◌≡◌, ◌≢◌, ℕ, suc, ◌<◌, ◌≤◌, Bool, true, false, List, [], ◌∷◌, ◌++◌, map, drop, get_or, length, reverse, Option, Some, None}
+use Rattle.std.specs.Global.{Vec}
 use Rattle.awk_value.specs.declared.value.Value.{Value}
 use Rattle.awk_value.specs.declared.value.Value.TheVariants as value
 use Rattle.awk_value.specs.Values.{truth_of}
 use Rattle.awk_grammar.specs.Tree.{Expr, Ere, Element, Field, Exprs, Nil, Cons, OptionalExpr, NoExpr, AnExpr, Statement, Statements, OptionalSimple}
 use Rattle.awk_variables.specs.Names.{IsFront, with_name, Numbers}
 use Rattle.awk_kinds.specs.definitions.Kinds.{FormalParameter}
-use Rattle.awk_kinds.specs.definitions.Signatures.{ProgramKinds}
+use Rattle.awk_kinds.specs.definitions.Signatures.{Signature, ProgramKinds}
 use Rattle.awk_semantics.specs.declared.flow.Flow.{Flow}
 use Rattle.awk_semantics.specs.declared.flow.Flow.TheVariants as flow
-use Rattle.awk_semantics.specs.definitions.State.{State, Run, ◌>>=◌, ret}
-use Rattle.awk_semantics.specs.definitions.Primitives.{number_of, read_name, put, array_number}
+use Rattle.awk_semantics.specs.definitions.State.{State, Run, ◌>>=◌, ret, gives}
+use Rattle.awk_semantics.specs.definitions.Primitives.{number_of, read_name, put, array_number, is_array}
 use Rattle.awk_semantics.specs.definitions.Places as target
 use Rattle.awk_semantics.specs.definitions.BuiltIns.{Role, AsArray, next_role}
 use Rattle.awk_semantics.specs.definitions.Semantics.{Functions, choose, eval, place_of, eval_all, key_of, exec, exec_all, exec_part, goes_on}
@@ -22,7 +23,15 @@ use Rattle.awk_compile.specs.declared.node.Node.{Node}
 use Rattle.awk_compile.specs.declared.builder.Builder.{Builder}
 use Rattle.awk_compile.specs.declared.builder.Exits.{Exits}
 pub use Rattle.awk_compile.specs.definitions.States.{IsScalar, AreScalars, IsIn, AreFor}
-use Rattle.awk_compile.specs.definitions.Nodes.{Tables, Cont, first, operands, made, level, cont_at, IsOrdered, CallsBelow, AllCallBelow}
+use Rattle.awk_compile.specs.definitions.Nodes.{Tables, Cont, first, operands, made, level, cont_at, IsOrdered, CallsFit, AllCallsFit}
+
+-- which parameters of the functions are arrays
+
+abbrev pub arrays_among : List FormalParameter → List Bool
+arrays_among parameters = map (λ (p : FormalParameter). p.is_array) parameters
+
+abbrev pub array_parameters_in : Builder → List (List Bool)
+array_parameters_in b = map (λ (v : Vec Bool). v.items) b.array_parameters.items
 
 -- building
 
@@ -30,8 +39,8 @@ pub record Grows (old new : Builder) : Type 0 where
   pub more : List Node
   pub is : new.nodes.items ≡ old.nodes.items ++ more
   pub ordered : IsOrdered old.nodes.items → IsOrdered new.nodes.items
-  pub functions : new.function_count ≡ old.function_count
-  pub calls : AllCallBelow old.function_count old.nodes.items → AllCallBelow new.function_count new.nodes.items
+  pub functions : new.array_parameters ≡ old.array_parameters
+  pub calls : AllCallsFit (array_parameters_in old) old.nodes.items → AllCallsFit (array_parameters_in new) new.nodes.items
   -- a loop whose body stands keeps it
   pub heads : (i k : ℕ) → get_or old.heads.items i 0 ≡ suc k → get_or new.heads.items i 0 ≡ suc k
   -- slots and numbers stay
@@ -43,11 +52,11 @@ pub record Grows (old new : Builder) : Type 0 where
 pub record SameTables (old new : Builder) : Type 0 where
   pub names : new.names ≡ old.names
   pub eres : new.eres ≡ old.eres
-  pub functions : new.function_count ≡ old.function_count
+  pub functions : new.array_parameters ≡ old.array_parameters
 
 pub record Pushes (old new : Builder) (node : Node) (place : ℕ) : Type 0 where
   pub nodes : new.nodes.items ≡ old.nodes.items ++ node ∷ []
-  pub calls : CallsBelow old.function_count node
+  pub calls : CallsFit (array_parameters_in old) node
   pub last : place ≡ length old.nodes.items
   pub heads : new.heads ≡ old.heads
   pub same : SameTables old new
@@ -71,7 +80,7 @@ pub record AddsName (old new : Builder) (slot : ℕ) (name : List ℕ) : Type 0 
   pub numbers : Numbers old.names new.names slot name
   pub names : new.names ≡ with_name old.names name
   pub eres : new.eres ≡ old.eres
-  pub functions : new.function_count ≡ old.function_count
+  pub functions : new.array_parameters ≡ old.array_parameters
 
 pub record AddsEre (old new : Builder) (number : ℕ) (text : List ℕ) : Type 0 where
   pub nodes : new.nodes ≡ old.nodes
@@ -79,7 +88,7 @@ pub record AddsEre (old new : Builder) (number : ℕ) (text : List ℕ) : Type 0
   pub names : new.names ≡ old.names
   pub eres : new.eres.items ≡ old.eres.items ++ text ∷ []
   pub last : number ≡ length old.eres.items
-  pub functions : new.function_count ≡ old.function_count
+  pub functions : new.array_parameters ≡ old.array_parameters
 
 -- loops that were open keep their heads
 pub record Extends (old new : Builder) : Type 0 where
@@ -98,6 +107,7 @@ pub record Program (kinds : ProgramKinds) : Type 0 where
   pub eres : IsFront all.eres.items tables.eres
   pub arrays : tables.arrays ≡ kinds.arrays
   pub signatures : tables.functions ≡ kinds.functions
+  pub parameters : array_parameters_in all ≡ map (λ (f : Signature). arrays_among f.parameters) kinds.functions
   pub calls : AreFor tables functions
 
 -- a variable is what a name stands for in a body with these parameters, now and later
@@ -113,6 +123,15 @@ pub record FindsVariable (kinds : ProgramKinds) (parameters : List FormalParamet
 -- an array is what a name stands for in a body with these parameters
 pub record IsArrayOf (kinds : ProgramKinds) (parameters : List FormalParameter) (a : Array) (x : List ℕ) : Type 0 where
   pub is : (p : Program kinds) (n : ℕ) (s : State) → IsIn p.tables parameters n s → array_number s x ≡ number_at a s
+
+-- whether a name stands for an array in a body with these parameters
+pub record IsOfKind (kinds : ProgramKinds) (parameters : List FormalParameter) (b : Bool) (x : List ℕ) : Type 0 where
+  pub is : (p : Program kinds) (n : ℕ) (s : State) → IsIn p.tables parameters n s → is_array x s ≡ gives b s
+
+-- the array that a name stands for there, if it stands for one
+abbrev pub NamesArray : (kinds : ProgramKinds) (parameters : List FormalParameter) → Option Array → (x : List ℕ) → Type 0
+NamesArray kinds parameters (Some a) x = IsArrayOf kinds parameters a x × IsOfKind kinds parameters true x
+NamesArray kinds parameters None x = IsOfKind kinds parameters false x
 
 -- what a place does, from what others do
 

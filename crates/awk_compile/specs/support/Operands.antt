@@ -1,5 +1,5 @@
 -- What is pushed for operators and operands.
-use Rattle.std.specs.Prelude.{◌≡◌, ℕ, zero, pos, Bool, true, false, List, Option, Some, None}
+use Rattle.std.specs.Prelude.{◌≡◌, ℕ, pos, Bool, true, false, List, Option, Some, None}
 use Rattle.awk_value.specs.declared.value.Value.TheVariants as value
 use Rattle.awk_lex.specs.declared.token.BuiltIn.{BuiltIn}
 use Rattle.awk_lex.specs.declared.token.BuiltIn.TheVariants as built_in
@@ -84,7 +84,6 @@ takes_one f = false
 abbrev pub strict_node : BuiltIn → ℕ → ValueNode
 strict_node built_in.Close k = v.Close
 strict_node built_in.System k = v.System
-strict_node built_in.Length zero = v.RecordLength
 strict_node f k = v.Apply f k
 
 abbrev pub substitution : Bool → BuiltIn

@@ -2,7 +2,7 @@
 use Rattle.std.specs.Prelude.{◌≡◌, ◌≤◌, ◌<◌, ℕ, List, length, Some}
 use Rattle.awk_lex.specs.declared.token.Kind.{Kind}
 use Rattle.awk_lex.specs.declared.refusal.RefusalCode.{RefusalCode}
-use Rattle.awk_lex.specs.declared.refusal.RefusalCode.TheVariants.{UnexpectedByte, OpenString, OpenPattern, EscapeRefused, NumberRefused, ProgramTooLong, NotAProgram, NestedTooDeep, PatternIllFormed, PatternCountRefused, PatternTooLarge, ArrayAndScalar, UnknownFunction, DefinedTwice, TooManyArguments, ParameterRefused, StatementOutOfPlace, NameLeftOut, FunctionAsVariable, NotBuilt, OutOfMemory}
+use Rattle.awk_lex.specs.declared.refusal.RefusalCode.TheVariants.{UnexpectedByte, OpenString, OpenPattern, EscapeRefused, NumberRefused, ProgramTooLong, NotAProgram, NestedTooDeep, PatternIllFormed, PatternCountRefused, PatternTooLarge, ArrayAndScalar, UnknownFunction, DefinedTwice, TooManyArguments, ParameterRefused, StatementOutOfPlace, NameLeftOut, FunctionAsVariable, OutOfMemory}
 use Rattle.awk_lex.specs.Lexes.{Lexes, Breaks}
 use Rattle.awk_lex.specs.declared.lexer.TheConstants.{LIMIT}
 use Rattle.awk_grammar.specs.Tree.{Item}
@@ -64,7 +64,5 @@ RefusedFor StatementOutOfPlace text = DoesNotFit StatementOutOfPlace text
 RefusedFor NameLeftOut text = DoesNotFit NameLeftOut text
 RefusedFor FunctionAsVariable text = DoesNotFit FunctionAsVariable text
 RefusedFor ArrayAndScalar text = DoesNotFit ArrayAndScalar text
--- all forms of the language are run
-RefusedFor NotBuilt text = ⊥
 -- of growths that are refused nothing is said here
 RefusedFor OutOfMemory text = Unit {0}

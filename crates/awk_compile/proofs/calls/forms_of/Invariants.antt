@@ -5,4 +5,4 @@ use Rattle.awk_compile.specs.support.Calls.{AreForms}
 use Rattle.awk_compile.proofs.calls.forms_of.Given as goal
 
 abbrev pub invariant-loop-place : goal.invariant-loop-place
-invariant-loop-place l = (more : List ArgumentForm) → AreForms l.scope l.parameters l.place more (exprs_of (drop l.place l.list)) → AreForms l.scope l.parameters 0 (l.forms.items ++ more) (exprs_of l.list)
+invariant-loop-place l = (more : List ArgumentForm) → AreForms l.scope l.are_arrays l.place more (exprs_of (drop l.place l.list)) → AreForms l.scope l.are_arrays 0 (l.forms.items ++ more) (exprs_of l.list)

@@ -1,4 +1,4 @@
-use Rattle.std.proofs.Common.{Option, ◌≡◌, suc, ◌-◌, true, rules, drop, length, sym, subst, ap, ◌∙◌, true≢false, arith, to_z, of_z}
+use Rattle.std.proofs.Common.{Option, ◌≡◌, ℕ, suc, ◌-◌, Bool, true, List, [], rules, get_or, drop, length, sym, subst, ap, ◌∙◌, true≢false, arith, to_z, of_z}
 use Rattle.awk_grammar.specs.declared.tree.Expr.{Expr as CodeExpr}
 use Rattle.awk_grammar.specs.declared.tree.Expr.TheVariants as code
 use Rattle.std.specs.Global.{Box}
@@ -6,18 +6,22 @@ use mir.Syntax.{w128}
 use Rattle.awk_grammar.specs.declared.tree.Expr.TheViews.{the_lemmas}
 use Rattle.awk_grammar.specs.Tree as tree
 use Rattle.awk_grammar.specs.View.{expr_of, exprs_of, optional_expr_of}
+use Rattle.std.proofs.lemmas.Option.{get_or_from_slice_get}
+use Rattle.awk_kinds.specs.definitions.Kinds.{FormalParameter}
+use Rattle.awk_kinds.specs.definitions.Signatures.{ProgramKinds}
 use Rattle.awk_kinds.proofs.Rows.{row_is_list}
-use Rattle.awk_compile.specs.support.Builds.{EvaluateAll, EvaluateArguments}
-use Rattle.awk_compile.specs.support.Calls.{roles_from}
+use Rattle.awk_compile.specs.declared.builder.Builder.{Builder}
+use Rattle.awk_compile.specs.support.Builds.{array_parameters_in, Part, EvaluateAll, EvaluateArguments, Builds as Builds'}
+use Rattle.awk_compile.specs.support.Calls.{arrays_of, is_array_at, roles_from}
 use Rattle.awk_compile.specs.support.Scopes.{Builds}
-use Rattle.awk_compile.proofs.Building.{ok_map, stands}
+use Rattle.awk_compile.proofs.Building.{ok_map, stands, arrays_same}
 use Rattle.awk_compile.proofs.ExpressionForms.{number_lowered, strict_lowered, string_lowered, ere_lowered, length_lowered, element_lowered, field_lowered, group_lowered, unary_lowered, membership_lowered, list_membership_lowered, assign_lowered, pre_increment_lowered, post_increment_lowered}
 use Rattle.awk_compile.proofs.PatternForms.{matched, unless_ere_lowered, ere_stays}
 use Rattle.awk_compile.proofs.ConditionForms.{test_lowered, group_tested, not_tested, and_tested, or_tested, and_lowered, or_lowered, conditional_lowered}
-use Rattle.awk_compile.proofs.ListForms.{none_lowered, more_lowered, count_exprs, exprs_over, exprs_at, some_expr, two_exprs, three_exprs, key_lowered}
+use Rattle.awk_compile.proofs.ListForms.{none_lowered, more_lowered, count_exprs, exprs_over, exprs_at, some_expr, one_expr, two_exprs, three_exprs, key_lowered}
 use Rattle.awk_compile.proofs.OperandForms.{name_operand, element_operand, field_operand, not_an_ere}
-use Rattle.awk_compile.proofs.CallForms.{call_lowered, no_arguments, array_argument, value_argument}
-use Rattle.awk_compile.proofs.BuiltInForms.{strict_applied, match_lowered, fields_split, split_lowered}
+use Rattle.awk_compile.proofs.CallForms.{call_fits, call_lowered, no_arguments, array_argument, value_argument}
+use Rattle.awk_compile.proofs.BuiltInForms.{IsPlain, strict_applied, record_length_lowered, count_lowered, length_lowered, flush_all_lowered, flush_lowered, match_lowered, fields_split, split_lowered}
 use Rattle.awk_compile.proofs.SubstituteForms.{substitute_lowered, substitute_place_lowered}
 use Rattle.awk_compile.proofs.GetlineForms.{nothing_stays, something_lowered, no_operand_stays, operand_there, getline_lowered, piped_getline_lowered}
 use Rattle.awk_compile.proofs.builder.Builder.+expressions.Goals as goal
@@ -98,9 +102,12 @@ lower-returns-in_ok-name-in-Getline t c =
     let is : expr_of c.args.e.now ≡ tree.Getline (optional_expr_of c.in-Getline.place) (optional_expr_of c.in-Getline.file) = getline_is c.args.e.now c.in-Getline.place c.in-Getline.file c.in-Getline.is in
     rw is (ok_map _ (λ i q. getline_lowered c.in_ok-target-in-Getline.target (optional_expr_of c.in-Getline.place) (optional_expr_of c.in-Getline.file) c.requires c.in_ok-target-in-Getline.ensures (rw c.source_of.ensures at c.in_ok-read-in-Getline.ensures) c.in_ok-name-in-Getline.ensures q) c.lower_optional_operand.ensures)
 
+piped_is : (e : CodeExpr) (command : Box CodeExpr) (place : Option (Box CodeExpr)) → e ≡ code.PipedGetline command place → expr_of e ≡ tree.PipedGetline (expr_of command.value) (optional_expr_of place)
+piped_is e command place is = search (rules, the_lemmas)
+
 pub lower-returns-in_ok-operand-in-PipedGetline : goal.lower-returns-in_ok-operand-in-PipedGetline
 lower-returns-in_ok-operand-in-PipedGetline t c =
-    let is : expr_of c.args.e.now ≡ tree.PipedGetline (expr_of c.in-PipedGetline.command.value) (optional_expr_of c.in-PipedGetline.place) = search (rules, the_lemmas) in
+    let is = piped_is c.args.e.now c.in-PipedGetline.command c.in-PipedGetline.place c.in-PipedGetline.is in
     rw is (ok_map _ (λ i q. piped_getline_lowered c.in_ok-target-in-PipedGetline.target (optional_expr_of c.in-PipedGetline.place) c.requires c.in_ok-target-in-PipedGetline.ensures c.in_ok-read-in-PipedGetline.ensures c.in_ok-operand-in-PipedGetline.ensures q) (rw c.deref-in-PipedGetline.ensures at c.lower-in-PipedGetline.ensures))
 
 -- lists
@@ -122,28 +129,33 @@ lower_all-returns t c =
 pub lower_arguments-loop-i-init : goal.lower_arguments-loop-i-init
 lower_arguments-loop-i-init t c = (rw (exprs_over c.args.list.now (length c.args.list.now) (omega arith)) (no_arguments _ c.requires), c.requires)
 
-pub lower_arguments-loop-i-preserved-then-not-branch : goal.lower_arguments-loop-i-preserved-then-not-branch
-lower_arguments-loop-i-preserved-then-not-branch t c =
-    let ps = c.args.parameters.now in
+-- the functions stay
+same_arrays : {kinds : ProgramKinds} {parameters : List FormalParameter} {a b : Builder} {place : ℕ} {part : Part} (f : ℕ) → Builds' kinds parameters a b place part → arrays_of b f ≡ arrays_of a f
+same_arrays {a = a} {b = b} f q = ap (λ (l : List (List Bool)). get_or l f []) (arrays_same a b q.extends.grows.functions)
+
+pub lower_arguments-loop-i-preserved-then-not-takes_array : goal.lower_arguments-loop-i-preserved-then-not-takes_array
+lower_arguments-loop-i-preserved-then-not-takes_array t c =
+    let bs = arrays_of c.args.self.now c.args.function in
     let back : c.loop-i.i ≡ suc (c.loop-i.i - 1) = omega arith in
-    let rest = subst (λ k. Builds c.args.scope.now c.args.self.now c.loop-i.self c.loop-i.rest (EvaluateArguments (roles_from k ps) (exprs_of (drop k c.args.list.now)) c.args.next)) back c.loop-i.invariant.0 in (
-      rw (exprs_at c.args.list.now (c.loop-i.i - 1) c.index-list-i.result (omega arith) (sym c.index-list-i.is))
-          (value_argument ps (c.loop-i.i - 1) (sym c.in_ok-is_array_at.ensures ∙ c.if-not-branch.true) rest c.in_ok-rest.ensures),
+    let rest = subst (λ k. Builds c.args.scope.now c.args.self.now c.loop-i.self c.loop-i.rest (EvaluateArguments (roles_from k bs) (exprs_of (drop k c.args.list.now)) c.args.next)) back c.loop-i.invariant.0 in
+    let is = ap (λ cs. is_array_at cs (c.loop-i.i - 1)) (sym (same_arrays c.args.function c.loop-i.invariant.0)) ∙ sym c.takes_array.ensures ∙ c.if-not-takes_array.true in (
+      rw (exprs_at c.args.list.now (c.loop-i.i - 1) c.index-list-i.result (omega arith) (sym c.index-list-i.is)) (value_argument bs (c.loop-i.i - 1) is rest c.in_ok-rest.ensures),
       stands c.in_ok-rest.ensures,
     )
 
 pub lower_arguments-loop-i-preserved : goal.lower_arguments-loop-i-preserved
 lower_arguments-loop-i-preserved t c =
-    let ps = c.args.parameters.now in
+    let bs = arrays_of c.args.self.now c.args.function in
     let back : c.loop-i.i ≡ suc (c.loop-i.i - 1) = omega arith in
-    let rest = subst (λ k. Builds c.args.scope.now c.args.self.now c.loop-i.self c.loop-i.rest (EvaluateArguments (roles_from k ps) (exprs_of (drop k c.args.list.now)) c.args.next)) back c.loop-i.invariant.0 in
+    let rest = subst (λ k. Builds c.args.scope.now c.args.self.now c.loop-i.self c.loop-i.rest (EvaluateArguments (roles_from k bs) (exprs_of (drop k c.args.list.now)) c.args.next)) back c.loop-i.invariant.0 in
+    let is = ap (λ cs. is_array_at cs (c.loop-i.i - 1)) (sym (same_arrays c.args.function c.loop-i.invariant.0)) ∙ sym c.takes_array.ensures ∙ c.if-not-takes_array.false in
     let some = some_expr c.args.list.now (c.loop-i.i - 1) (omega arith) in
-    (rw some.1 (array_argument ps (c.loop-i.i - 1) (sym c.in_ok-is_array_at.ensures ∙ c.if-not-branch.false) rest), c.loop-i.invariant.1)
+    (rw some.1 (array_argument bs (c.loop-i.i - 1) is rest), c.loop-i.invariant.1)
 
 pub lower_arguments-returns : goal.lower_arguments-returns
 lower_arguments-returns t c =
     let none : c.loop-i.i ≡ 0 = omega arith in
-    subst (λ k. Builds c.args.scope.now c.args.self.now c.loop-i.self c.loop-i.rest (EvaluateArguments (roles_from k c.args.parameters.now) (exprs_of (drop k c.args.list.now)) c.args.next)) none c.loop-i.invariant.0
+    subst (λ k. Builds c.args.scope.now c.args.self.now c.loop-i.self c.loop-i.rest (EvaluateArguments (roles_from k (arrays_of c.args.self.now c.args.function)) (exprs_of (drop k c.args.list.now)) c.args.next)) none c.loop-i.invariant.0
 
 pub lower_key-returns : goal.lower_key-returns
 lower_key-returns t c =
@@ -226,9 +238,33 @@ lower_binary-returns t c =
 
 -- calls
 
+pub lower_call-push_value-requires : goal.lower_call-push_value-requires
+lower_call-push_value-requires t c = call_fits c.args.scope.now (array_parameters_in c.args.self.now) c.in-Some.number c.in-Some-array_parameters_of.are_arrays.now c.in_ok-forms.forms.items _ (sym c.in-Some-array_parameters_of.ensures) c.in_ok-forms.ensures
+
 pub lower_call-returns : goal.lower_call-returns
 lower_call-returns t c =
-    ok_map _ (λ i q. call_lowered c.args.scope.now c.in-Some-parameters.parameters.now c.requires (rw c.as_slice.ensures at (sym c.in-Some.ensures)) c.in-Some-parameters.ensures c.in_ok-forms.ensures c.in_ok-call.ensures q) c.lower_arguments.ensures
+    let bs = c.in-Some-array_parameters_of.are_arrays.now in
+    let arrays : bs ≡ arrays_of c.push_value.new.self c.in-Some.number = (let e = get_or_from_slice_get (array_parameters_in c.args.self.now) c.in-Some.number bs [] (sym c.in-Some-array_parameters_of.ensures) in sym e) ∙ sym (ap (λ (l : List (List Bool)). get_or l c.in-Some.number []) (arrays_same c.args.self.now c.push_value.new.self c.in_ok-call.ensures.same.functions)) in
+    ok_map _ (λ i q. call_lowered c.args.scope.now bs c.requires (rw c.as_slice.ensures at (sym c.in-Some.ensures)) (sym c.in-Some-array_parameters_of.ensures) c.in_ok-forms.ensures c.in_ok-call.ensures q) (rw (sym arrays) at c.lower_arguments.ensures)
+
+pub lower_length-returns-in-empty : goal.lower_length-returns-in-empty
+lower_length-returns-in-empty t c = rw (exprs_over c.args.list.now 0 (omega arith)) (ok_map _ (λ i p. record_length_lowered c.requires p) c.push_value.ensures)
+
+pub lower_length-returns-in-Some-in-len1 : goal.lower_length-returns-in-Some-in-len1
+lower_length-returns-in-Some-in-len1 t c =
+    rw (one_expr c.args.list.now c.e-item.result (omega arith) (sym c.e-item.is)) (ok_map _ (λ i p. count_lowered (expr_of c.e-item.result) c.requires c.in-Some-in-len1.ensures p) c.push_value-in-Some-in-len1.ensures)
+
+pub lower_length-returns-in_ok-length-in-len1 : goal.lower_length-returns-in_ok-length-in-len1
+lower_length-returns-in_ok-length-in-len1 t c =
+    rw (one_expr c.args.list.now c.e-item.result (omega arith) (sym c.e-item.is))
+    (ok_map _ (λ i q. length_lowered (expr_of c.e-item.result) c.requires c.in_default-in-len1.ensures c.in_ok-length-in-len1.ensures q) c.lower.ensures)
+
+pub lower_flush-returns-in-empty : goal.lower_flush-returns-in-empty
+lower_flush-returns-in-empty t c = rw (exprs_over c.args.list.now 0 (omega arith)) (ok_map _ (λ i p. flush_all_lowered c.requires p) c.push_value.ensures)
+
+pub lower_flush-returns-in_ok-flush-in-len1 : goal.lower_flush-returns-in_ok-flush-in-len1
+lower_flush-returns-in_ok-flush-in-len1 t c =
+    rw (one_expr c.args.list.now c.name-item.result (omega arith) (sym c.name-item.is)) (ok_map _ (λ i q. flush_lowered c.requires c.in_ok-flush-in-len1.ensures q) c.lower.ensures)
 
 pub lower_match-returns : goal.lower_match-returns
 lower_match-returns t c =
@@ -262,5 +298,13 @@ lower_built_in-returns-in_ok-last-in_default t c =
       | lower_built_in-else-takes_one-via-then-takes_one+else-list-ne1 w ↦ omega (arith, w.if-list-ne1.false, c.in_ok-count-in_default.ensures)
       | lower_built_in-else-takes_one-via-else-takes_one w ↦ absurd (true≢false (sym h ∙ w.if-takes_one.false))
     ] in
-    ok_map _ (λ i q. strict_applied c.args.function c.in_ok-count-in_default.count (λ e. c.in_default.not-Match e) (λ e. c.in_default.not-Split e) (λ e. c.in_default.not-Sub e) (λ e. c.in_default.not-Gsub e) (λ h. one (c.takes_one.ensures ∙ h)) (c.in_ok-count-in_default.ensures ∙ sym (count_exprs c.args.list.now)) c.requires
+    let plain : IsPlain c.args.function = record {
+      no_length = λ e. c.in_default.not-Length e;
+      no_flush = λ e. c.in_default.not-Fflush e;
+      no_match = λ e. c.in_default.not-Match e;
+      no_split = λ e. c.in_default.not-Split e;
+      no_sub = λ e. c.in_default.not-Sub e;
+      no_gsub = λ e. c.in_default.not-Gsub e;
+    } in
+    ok_map _ (λ i q. strict_applied c.args.function c.in_ok-count-in_default.count plain (λ h. one (c.takes_one.ensures ∙ h)) (c.in_ok-count-in_default.ensures ∙ sym (count_exprs c.args.list.now)) c.requires
     (rw c.strict_node.ensures at c.in_ok-last-in_default.ensures) q) c.lower_all.ensures
