@@ -161,7 +161,7 @@ prove_all() {
     count=$(printf '%s\n' $needed | wc -l)
     begun=$(date +%s)
     count_lanes
-    say "the first call proves $count crates, up to $lanes side by side, which takes about an hour"
+    say "proving $count crates, up to $lanes side by side, which takes some $((30 + 65 / lanes)) minutes from nothing"
     while [ -n "$left$running" ]; do
         for crate in $left; do
             set -- $running
