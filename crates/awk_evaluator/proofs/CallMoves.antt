@@ -45,14 +45,7 @@ abbrev pushed_bound : Bound → Bounds → Bounds
 pushed_bound b bs zero = b
 pushed_bound b bs (suc i) = bs i
 
--- a function that is called is there, and the call fits it
-
-pub called_below : (functions : List PlannedFunction) (i : ℕ) (fs : List ArgumentForm) → CallFits (slice_get (array_parameters functions) i) fs → i < length functions
-called_below [] zero fs fits = absurd fits
-called_below [] (suc i) fs fits = absurd fits
-called_below (f ∷ functions) zero fs fits = omega arith
-called_below (f ∷ functions) (suc i) fs fits = let rest = called_below functions i fs fits in omega (arith, rest)
-
+-- a call fits the function that it is of
 forms_fit : (functions : List PlannedFunction) (i : ℕ) (fs : List ArgumentForm) {f : PlannedFunction} → slice_get functions i ≡ Some f → CallFits (slice_get (array_parameters functions) i) fs → FormsFit f.arrays.items fs
 forms_fit functions i fs at fits = subst (λ o. CallFits o fs) (slice_get-map (λ (f : PlannedFunction). f.arrays.items) functions i ∙ ap (option_map (λ (f : PlannedFunction). f.arrays.items)) at) fits
 

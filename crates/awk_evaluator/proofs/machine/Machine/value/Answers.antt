@@ -2,7 +2,7 @@ use Rattle.std.proofs.Common.{refl, ◌≡◌, rules}
 use Rattle.std.proofs.lemmas.Result.{err_from_is_err_and}
 use Rattle.awk_evaluator.proofs.Moving.{value_on, value_ends, value_memory}
 use Rattle.awk_runtime.proofs.Composition.{ready_same}
-use Rattle.awk_evaluator.proofs.CallMoves.{called_below, call_on, call_ends}
+use Rattle.awk_evaluator.proofs.CallMoves.{call_on, call_ends}
 use Rattle.awk_evaluator.proofs.machine.Machine.value.Goals as goal
 
 pub returns-in_err-value-in_default : goal.returns-in_err-value-in_default
@@ -17,9 +17,6 @@ returns-in_err-push-in_default g c =
 
 pub returns-in_ok-push-in_default : goal.returns-in_ok-push-in_default
 returns-in_ok-push-in_default g c = record { ready = c.in_ok-value-in_default.ensures.ready; moves = value_on c.in_ok-value-in_default.ensures.evaluates c.in_ok-push-in_default.ensures.pushed refl refl }
-
-pub function_of-requires : goal.function_of-requires
-function_of-requires g c = called_below _ _ _ (rw c.in-Call.is at c.requires.calls)
 
 pub returns-in_err-body-in-Call : goal.returns-in_err-body-in-Call
 returns-in_err-body-in-Call g c =
