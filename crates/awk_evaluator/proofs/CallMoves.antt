@@ -1,7 +1,9 @@
 -- A call: its entry is put on the stack, and the place of the body is next.
 use Rattle.std.proofs.Common.{◌≡◌, ℕ, zero, suc, ◌<◌, ◌≤◌, Bool, List, [], ◌∷◌, ◌++◌, length, drop, reverse, map, slice_get, Some, Result, Ok, Err, refl, sym, ap, ◌∙◌, subst, arith}
 use Rattle.std.specs.Global.{Vec}
+use Rattle.std.specs.Option.{option_map}
 use Rattle.std.proofs.lemmas.List.{reverse-append}
+use Rattle.std.proofs.lemmas.Option.{slice_get-map}
 use Rattle.awk_value.specs.declared.value.Value.{Value}
 use Rattle.awk_value.specs.declared.value.Value.TheVariants as value
 use Rattle.awk_channels.specs.WorldState.{WorldState}
@@ -22,8 +24,10 @@ use Rattle.awk_compile.specs.declared.node.Node.TheVariants as n
 use Rattle.awk_compile.specs.declared.node.ValueNode.TheVariants as v
 use Rattle.awk_compile.specs.declared.plan.Function.{Function as PlannedFunction}
 use Rattle.awk_compile.specs.declared.plan.Plan.{Plan}
-use Rattle.awk_compile.specs.Nodes.{Tables, Cont, function_at, given_by, local_by, behind_form, locals_by, call_at, taken, values_among}
+use Rattle.awk_compile.specs.Nodes.{Tables, Cont, function_at, given_by, local_by, behind_form, locals_by, call_at, taken, values_among, FormsFit, CallFits}
+use Rattle.awk_compile.specs.Plans.{array_parameters}
 use Rattle.awk_compile.proofs.Calculus.{assoc_at, given, later_same, later_kept, first_same}
+use Rattle.awk_compile.proofs.Calling.{locals_fit}
 use Rattle.awk_runtime.specs.declared.runtime.Runtime.{Runtime}
 use Rattle.awk_runtime.specs.Simulation.{OwnRelation, Simulates, Changes}
 use Rattle.awk_runtime.proofs.Composition.{then_simulates, ends_simulates, change_simulates}
@@ -40,6 +44,10 @@ use Rattle.awk_evaluator.proofs.Resting.{same_simulates, above_less}
 abbrev pushed_bound : Bound → Bounds → Bounds
 pushed_bound b bs zero = b
 pushed_bound b bs (suc i) = bs i
+
+-- a call fits the function that it is of
+forms_fit : (functions : List PlannedFunction) (i : ℕ) (fs : List ArgumentForm) {f : PlannedFunction} → slice_get functions i ≡ Some f → CallFits (slice_get (array_parameters functions) i) fs → FormsFit f.arrays.items fs
+forms_fit functions i fs at fits = subst (λ o. CallFits o fs) (slice_get-map (λ (f : PlannedFunction). f.arrays.items) functions i ∙ ap (option_map (λ (f : PlannedFunction). f.arrays.items)) at) fits
 
 given_at : {A : Type 0} (fs : List ArgumentForm) (vs : List Value) (f : List Local → Run A) (s : State) → (given_by fs vs >>= f) s ≡ f (locals_by fs vs s) s
 unfolding ◌>>=◌ go_on given_by
@@ -71,17 +79,17 @@ module _ (tables : Tables) (ds : List Definition) (plan : Plan) {i : ℕ} {f : P
   begun_run = check_height f.height >>= λ _. spend >>= λ _. given_by fs args >>= λ g. enter stands.parameters f.height g
 
   -- what follows the checks of a call is the body, and then the caller
-  body_at : (c : ℕ) (b : Bound) (bs : Bounds) (e : Entry) (stack : List Entry) (vs : List Value) (u : State) → u.steps ≤ b.turns → u.array_names ≡ tables.arrays
+  body_at : FormsFit f.arrays.items fs → (c : ℕ) (b : Bound) (bs : Bounds) (e : Entry) (stack : List Entry) (vs : List Value) (u : State) → u.steps ≤ b.turns → u.array_names ≡ tables.arrays
       → (given_by fs args >>= λ g. call_within ds (suc c) (function_at tables i) g >>= λ w. cont tables ds plan b e.next (w ∷ e.values) >>= λ x. resume tables ds plan bs stack x) u
       ≡ (given_by fs args >>= λ g. enter stands.parameters f.height g >>= λ _. cont tables ds plan (record { calls = c; turns = b.turns }) f.body vs >>= λ w. resume tables ds plan (pushed_bound b bs) (e ∷ stack) w) u
   unfolding resume
-  body_at c b bs e stack vs u low arrays =
+  body_at fit c b bs e stack vs u low arrays =
       let g = locals_by fs args u in
       let q : Value → Run Value = λ w. cont tables ds plan b e.next (w ∷ e.values) >>= λ x. resume tables ds plan bs stack x in
       let body : Run Value = cont tables ds plan (record { calls = c; turns = b.turns }) f.body vs in
       let back : Value → Run Value = λ w. leave >>= λ _. ret w in
       given_at fs args (λ g. call_within ds (suc c) (function_at tables i) g >>= q) u
-      ∙ first_same (call_within ds (suc c) (function_at tables i) g) (enter stands.parameters f.height g >>= λ _. body >>= back) q u (stands.calls c b.turns g vs u low arrays)
+      ∙ first_same (call_within ds (suc c) (function_at tables i) g) (enter stands.parameters f.height g >>= λ _. body >>= back) q u (stands.calls c b.turns g vs u (locals_fit f.arrays.items fs args u fit) low arrays)
       ∙ assoc_at (enter stands.parameters f.height g) (λ _. body >>= back) q u
       ∙ later_same (enter stands.parameters f.height g) (λ _. (body >>= back) >>= q) (λ _. body >>= λ w. leave >>= λ _. q w) u
       (λ _ t. assoc_at body back q t ∙ later_same body (λ w. back w >>= q) (λ w. leave >>= λ _. q w) t
@@ -107,10 +115,10 @@ module _ (tables : Tables) (ds : List Definition) (plan : Plan) {i : ℕ} {f : P
       first_same (within f.height n) (check_height f.height >>= λ _. spend >>= λ _. given_by fs args >>= k) q s (given_behind fs args f.height k s)
       ∙ assoc_at (check_height f.height) (λ _. spend >>= λ _. given_by fs args >>= k) q s
 
-  pub called_at : (c : ℕ) (b : Bound) (bs : Bounds) (e : Entry) (stack : List Entry) (vs : List Value) (s : State) → b.calls ≡ suc c → s.steps ≤ b.turns → s.array_names ≡ tables.arrays
+  pub called_at : FormsFit f.arrays.items fs → (c : ℕ) (b : Bound) (bs : Bounds) (e : Entry) (stack : List Entry) (vs : List Value) (s : State) → b.calls ≡ suc c → s.steps ≤ b.turns → s.array_names ≡ tables.arrays
       → ((call_run b >>= λ w. cont tables ds plan b e.next (w ∷ e.values)) >>= λ x. resume tables ds plan bs stack x) s
       ≡ (begun_run >>= λ _. cont tables ds plan (record { calls = c; turns = b.turns }) f.body vs >>= λ w. resume tables ds plan (pushed_bound b bs) (e ∷ stack) w) s
-  called_at c b bs e stack vs s is low arrays =
+  called_at fit c b bs e stack vs s is low arrays =
       let q : Value → Run Value = λ w. cont tables ds plan b e.next (w ∷ e.values) >>= λ x. resume tables ds plan bs stack x in
       let k : List Local → Run Value = λ g. call_within ds (suc c) (function_at tables i) g in
       let z : Run Value = cont tables ds plan (record { calls = c; turns = b.turns }) f.body vs >>= λ w. resume tables ds plan (pushed_bound b bs) (e ∷ stack) w in
@@ -123,7 +131,7 @@ module _ (tables : Tables) (ds : List Definition) (plan : Plan) {i : ℕ} {f : P
       (λ _ u low1 scope1. assoc_at spend (λ _. given_by fs args >>= k) q u
       ∙ later_kept (λ _. (given_by fs args >>= k) >>= q) (λ _. m) u keeps_spend
       (λ _ t low2 scope2. assoc_at (given_by fs args) k q t
-      ∙ body_at c b bs e stack vs t (omega (arith, low, low1, low2)) (ap (λ (x : Scope). x.array_names) (scope2 ∙ scope1) ∙ arrays)))
+      ∙ body_at fit c b bs e stack vs t (omega (arith, low, low1, low2)) (ap (λ (x : Scope). x.array_names) (scope2 ∙ scope1) ∙ arrays)))
       ∙ begun_then z s
 
   -- no step is left
@@ -164,7 +172,7 @@ args_of fs m = taken (values_among fs) m.operands.values
 abbrev caller_of : ℕ → List ArgumentForm → Machine → Entry
 caller_of next fs m = record { next = next; values = drop (values_among fs) m.operands.values }
 
-module _ {is_logged : Type 0} {plan : Plan} {i next : ℕ} {fs : Vec ArgumentForm} {f : PlannedFunction} (at : slice_get plan.functions.items i ≡ Some f) where
+module _ {is_logged : Type 0} {plan : Plan} {i next : ℕ} {fs : Vec ArgumentForm} {f : PlannedFunction} (at : slice_get plan.functions.items i ≡ Some f) (fits : CallFits (slice_get (array_parameters plan.functions.items) i) fs.items) where
   module _ (m m' : Machine) (k : WorldState) where
     module _ (t : Tables) (ds : List Definition) (arrays : t.arrays ≡ m.runtime.names.arrays) (st : StandsFor t ds plan i f) where
       entered_rest : {new : Runtime} {after : WorldState} {r : Result Value Halt} → Changes (begin_call st.parameters f.height fs.items m) m.runtime m'.runtime (Ok tt) → m'.runtime.steps < m.runtime.steps
@@ -181,7 +189,7 @@ module _ {is_logged : Type 0} {plan : Plan} {i next : ℕ} {fs : Vec ArgumentFor
               let low : m'.runtime.steps ≤ m.runtime.steps = omega (arith, less) in
               let z : Run Value = cont t ds plan (record { calls = c; turns = b.turns }) f.body m'.operands.values >>= λ w. resume t ds plan (pushed_bound b bs) ((caller_of next fs.items m) ∷ stack_of m) w in
               same_simulates _ (begun_run t ds plan st fs.items (args_of fs.items m) >>= λ _. z)
-              (λ s h. called_at t ds plan st fs.items (args_of fs.items m) c b bs (caller_of next fs.items m) (stack_of m) m'.operands.values s is (low_in h.steps turns) (h.array_names ∙ sym arrays))
+              (λ s h. called_at t ds plan st fs.items (args_of fs.items m) (forms_fit plan.functions.items i fs.items at fits) c b bs (caller_of next fs.items m) (stack_of m) m'.operands.values s is (low_in h.steps turns) (h.array_names ∙ sym arrays))
               (then_simulates (λ _. z) (change_simulates changes)
               (d.does (record { calls = c; turns = b.turns }) (pushed_bound b bs) (omega (arith, is, calls, less), omega (arith, turns, less))
               (pushed_above {b = b} {bs = bs} (above_less low p) (λ j. above_less low (q j)))))
@@ -203,7 +211,7 @@ module _ {is_logged : Type 0} {plan : Plan} {i next : ℕ} {fs : Vec ArgumentFor
               let turns = p.1 in
               let z : Run Value = cont t ds plan (record { calls = c; turns = b.turns }) f.body m'.operands.values >>= λ w. resume t ds plan (pushed_bound b bs) ((caller_of next fs.items m) ∷ stack_of m) w in
               same_simulates _ (begun_run t ds plan st fs.items (args_of fs.items m) >>= λ _. z)
-              (λ s r. called_at t ds plan st fs.items (args_of fs.items m) c b bs (caller_of next fs.items m) (stack_of m) m'.operands.values s is (low_in r.steps turns) (r.array_names ∙ sym arrays))
+              (λ s r. called_at t ds plan st fs.items (args_of fs.items m) (forms_fit plan.functions.items i fs.items at fits) c b bs (caller_of next fs.items m) (stack_of m) m'.operands.values s is (low_in r.steps turns) (r.array_names ∙ sym arrays))
               (ends_simulates (λ _. z) (change_simulates changes))
 
   pub call_on : {m m' : Machine} {k : WorldState} {body : ℕ} → BeginsCall f fs.items next m (Ok body) m' → Moves is_logged plan (AtNode (n.Value (v.Call i fs) next)) m k (Ok (move.Up body)) m' k

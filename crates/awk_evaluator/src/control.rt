@@ -14,7 +14,7 @@ use std::marker::Model;
 pub const FIRST_BOUND: usize = MAX_HEIGHT as usize;
 
 /// The heights of all bodies that are entered at a time are no more together.
-pub const HIGHEST_SUM: usize = 10_000;
+pub const HIGHEST_SUM: usize = 1_000_000;
 
 /// The entries of the calls that have begun and not ended, and the heights of the bodies that were entered and not left, the
 /// newest last. The entries are never more than `bound`.

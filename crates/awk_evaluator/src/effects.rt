@@ -27,6 +27,14 @@ impl Machine {
                 Ok(())
             }
             EffectNode::Delete(array) => self.delete(array),
+            EffectNode::Clear(array) => {
+                self.runtime.clear_at(array);
+                Ok(())
+            }
+            EffectNode::EndInput => {
+                self.runtime.close_main_input(world);
+                Ok(())
+            }
             EffectNode::Print(form, count, None) => self.print(world, form, count),
             EffectNode::Print(form, count, Some(way)) => self.print_to(world, form, count, way),
             EffectNode::SetStatus => self.set_status(),

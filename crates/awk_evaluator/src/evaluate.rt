@@ -39,6 +39,7 @@ impl Machine {
             ValueNode::FieldNumber => self.field_number(),
             ValueNode::Load(place) => self.load(*place),
             ValueNode::RecordLength => self.record_length(),
+            ValueNode::CountElements(array) => self.count_elements(*array),
             ValueNode::Apply(function, count) => self.apply_function(*function, *count),
             ValueNode::Match(ere) => self.match_in(*ere),
             ValueNode::Split(array, by) => self.split(*array, *by),
@@ -46,6 +47,8 @@ impl Machine {
             ValueNode::Getline(source, place) => self.getline(world, *source, *place),
             ValueNode::Close => self.close(world),
             ValueNode::System => self.system(world),
+            ValueNode::FlushAll => self.flush_all(world),
+            ValueNode::Flush => self.flush(world),
             ValueNode::Call(_, _) => unreachable!(),
         }
     }

@@ -4,7 +4,8 @@ ghost use Rattle.std.specs.Prelude.{◌≡◌, ◌<◌, Some, slice_get, get_or,
 ghost use Rattle.std.specs.Option.{option_map};
 ghost use Rattle.awk_runtime.specs.Simulation.{IsReady};
 ghost use Rattle.awk_compile.specs.declared.node.Node.TheVariants.{Value as ValueAt};
-ghost use Rattle.awk_compile.specs.Nodes.{CallsBelow};
+ghost use Rattle.awk_compile.specs.Nodes.{CallsFit};
+ghost use Rattle.awk_compile.specs.Plans.{array_parameters};
 ghost use Rattle.awk_evaluator.specs.Rest.{IsSound, AtPlace, AtNode};
 ghost use Rattle.awk_evaluator.specs.Moves.{Moves, GivesBack};
 
@@ -118,7 +119,7 @@ impl Machine {
         next: u32,
     ) -> Result<Move, Halt>
         requires sound { IsSound plan.now }
-        requires calls { CallsBelow (length plan.now.functions.items) (ValueAt node.now next) }
+        requires calls { CallsFit (array_parameters plan.now.functions.items) (ValueAt node.now next) }
         requires ready { IsReady W.is_logged (W.state world.old) self.old.runtime.streams }
         ensures ready { IsReady W.is_logged (W.state world.new) self.new.runtime.streams }
         ensures moves { Moves W.is_logged plan.now (AtNode (ValueAt node.now next)) self.old (W.state world.old) result self.new (W.state world.new) }

@@ -6,7 +6,7 @@ ghost use Rattle.awk_value.specs.Values.{str_of};
 ghost use Rattle.awk_storage.specs.Forms.{named_getline_at};
 ghost use Rattle.awk_runtime.specs.Simulation.{IsReady, Follows};
 ghost use Rattle.awk_compile.specs.Nodes.{first, place_operands};
-ghost use Rattle.awk_compile.specs.declared.node.ValueNode.TheVariants.{Getline, Close, System};
+ghost use Rattle.awk_compile.specs.declared.node.ValueNode.TheVariants.{Getline, Close, System, FlushAll, Flush};
 ghost use Rattle.awk_compile.specs.declared.node.Source.TheVariants.{Main, File, Command};
 ghost use Rattle.awk_evaluator.specs.Moves.{Evaluates};
 
@@ -144,5 +144,27 @@ impl Machine {
     {
         let command = self.operands.pop();
         Ok(Value::Number(self.runtime.run_command(world, &command)?))
+    }
+
+    /// Flushes all outputs.
+    #[inline(never)]
+    pub(crate) fn flush_all<W: World>(&mut self, world: &mut W) -> Result<Value, Halt>
+        requires ready { IsReady W.is_logged (W.state world.old) self.old.runtime.streams }
+        ensures ready { IsReady W.is_logged (W.state world.new) self.new.runtime.streams }
+        ensures evaluates { Evaluates W.is_logged FlushAll self.old (W.state world.old) result self.new (W.state world.new) }
+    {
+        self.runtime.flush_all(world)?;
+        Ok(Value::Number(0))
+    }
+
+    /// Flushes each output whose name an operand is.
+    #[inline(never)]
+    pub(crate) fn flush<W: World>(&mut self, world: &mut W) -> Result<Value, Halt>
+        requires ready { IsReady W.is_logged (W.state world.old) self.old.runtime.streams }
+        ensures ready { IsReady W.is_logged (W.state world.new) self.new.runtime.streams }
+        ensures evaluates { Evaluates W.is_logged Flush self.old (W.state world.old) result self.new (W.state world.new) }
+    {
+        let name = self.operands.pop();
+        Ok(Value::Number(self.runtime.flush_named(world, &name)?))
     }
 }

@@ -2,7 +2,7 @@
 
 ghost use Rattle.std.specs.Prelude.{◌≡◌};
 ghost use Rattle.awk_compile.specs.Nodes.{operands};
-ghost use Rattle.awk_compile.specs.declared.node.ValueNode.TheVariants.{Push, Read, RecordMatches, Operate, MatchesEre, Change, ReadField, ReadElement, Contains, Key, FieldNumber, Assign, PreIncrement, PostIncrement, Load, RecordLength, Apply};
+ghost use Rattle.awk_compile.specs.declared.node.ValueNode.TheVariants.{Push, Read, RecordMatches, Operate, MatchesEre, Change, ReadField, ReadElement, Contains, Key, FieldNumber, Assign, PreIncrement, PostIncrement, Load, RecordLength, CountElements, Apply};
 ghost use Rattle.awk_evaluator.specs.Moves.{Computes};
 
 use crate::machine::Machine;
@@ -186,6 +186,13 @@ impl Machine {
         ensures { Computes RecordLength self.old result self.new }
     {
         self.runtime.record_length()
+    }
+
+    /// How many elements an array has.
+    pub(crate) fn count_elements(&mut self, array: Array) -> Result<Value, Halt>
+        ensures { Computes (CountElements array) self.old result self.new }
+    {
+        Ok(self.runtime.count_elements_at(array))
     }
 
     /// What a built-in function makes of so many operands.

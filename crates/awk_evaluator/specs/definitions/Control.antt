@@ -11,7 +11,7 @@ pub record Controlled : Type 0 where
 
 -- the heights of all bodies that are entered at a time
 abbrev pub highest_sum : ℕ
-highest_sum = 10000
+highest_sum = 1000000
 
 -- the bodies below the one that was entered last
 abbrev pub but_last : List ℕ → List ℕ

@@ -12,7 +12,9 @@ use Rattle.awk_semantics.specs.Calls.{definition_of, body_height, call_within, f
 use Rattle.awk_compile.specs.declared.node.Node.{Node}
 use Rattle.awk_compile.specs.declared.plan.Function.{Function as PlannedFunction}
 use Rattle.awk_compile.specs.declared.plan.Plan.{Plan}
-use Rattle.awk_compile.specs.Nodes.{Tables, Cont, function_at, made, level, cont_at, AreBelow, IsOrdered, AllCallBelow}
+use Rattle.awk_compile.specs.Nodes.{Tables, Cont, function_at, made, level, cont_at, AreBelow, IsOrdered, AllCallsFit}
+use Rattle.awk_compile.specs.States.{LocalsFit}
+use Rattle.awk_compile.specs.Plans.{array_parameters}
 use Rattle.awk_runtime.specs.support.Naming.{Naming}
 use Rattle.awk_runtime.specs.declared.runtime.Runtime.{Runtime}
 use Rattle.awk_runtime.specs.support.Simulation.{Simulates}
@@ -21,7 +23,7 @@ use Rattle.awk_evaluator.specs.declared.entry.Entry.{Entry as CodeEntry}
 -- what the evaluator needs of a plan's lists
 pub record IsSound (plan : Plan) : Type 0 where
   pub ordered : IsOrdered plan.nodes.items
-  pub calls : AllCallBelow (length plan.functions.items) plan.nodes.items
+  pub calls : AllCallsFit (array_parameters plan.functions.items) plan.nodes.items
   -- a body has a height
   pub high : (i : ℕ) (f : PlannedFunction) → slice_get plan.functions.items i ≡ Some f → 0 < f.height
 
@@ -31,7 +33,7 @@ module _ (tables : Tables) (ds : List Definition) (plan : Plan) where
     pub parameters : List FormalParameter
     pub kinds : map (λ (p : FormalParameter). p.is_array) parameters ≡ f.arrays.items
     pub height : body_height (definition_of ds (function_at tables i)) ≡ f.height
-    pub calls : (n m : ℕ) (given : List Local) (vs : List Value) (s : State) → s.steps ≤ m → s.array_names ≡ tables.arrays
+    pub calls : (n m : ℕ) (given : List Local) (vs : List Value) (s : State) → LocalsFit f.arrays.items given → s.steps ≤ m → s.array_names ≡ tables.arrays
         → call_within ds (suc n) (function_at tables i) given s
         ≡ (enter parameters f.height given >>= λ _. cont_at tables (functions_within ds n) plan.heads.items plan.nodes.items m f.body vs >>= λ w. leave >>= λ _. ret w) s
 

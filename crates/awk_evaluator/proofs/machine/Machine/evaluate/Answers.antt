@@ -97,6 +97,12 @@ returns-in-RecordLength-clause-ready g c = computed_ready c.record_length.ensure
 pub returns-in-RecordLength-clause-evaluates : goal.returns-in-RecordLength-clause-evaluates
 returns-in-RecordLength-clause-evaluates g c = rw c.in-RecordLength.is (computed_evaluates c.record_length.ensures)
 
+pub returns-in-CountElements-clause-ready : goal.returns-in-CountElements-clause-ready
+returns-in-CountElements-clause-ready g c = computed_ready c.count_elements.ensures c.requires.ready
+
+pub returns-in-CountElements-clause-evaluates : goal.returns-in-CountElements-clause-evaluates
+returns-in-CountElements-clause-evaluates g c = rw c.in-CountElements.is (computed_evaluates c.count_elements.ensures)
+
 pub returns-in-Apply-clause-ready : goal.returns-in-Apply-clause-ready
 returns-in-Apply-clause-ready g c = computed_ready c.apply_function.ensures c.requires.ready
 
@@ -129,3 +135,9 @@ returns-in-Close-clause-evaluates g c = rw c.in-Close.is c.close.ensures.evaluat
 
 pub returns-in-System-clause-evaluates : goal.returns-in-System-clause-evaluates
 returns-in-System-clause-evaluates g c = rw c.in-System.is c.system.ensures.evaluates
+
+pub returns-in-FlushAll-clause-evaluates : goal.returns-in-FlushAll-clause-evaluates
+returns-in-FlushAll-clause-evaluates g c = rw c.in-FlushAll.is c.flush_all.ensures.evaluates
+
+pub returns-in-Flush-clause-evaluates : goal.returns-in-Flush-clause-evaluates
+returns-in-Flush-clause-evaluates g c = rw c.in-Flush.is c.flush.ensures.evaluates

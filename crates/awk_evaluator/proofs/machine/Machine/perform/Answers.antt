@@ -1,5 +1,5 @@
 use Rattle.std.proofs.Common.{refl, ap, Ok}
-use Rattle.awk_runtime.proofs.Composition.{change_simulates, lift_simulates}
+use Rattle.awk_runtime.proofs.Composition.{change_simulates, lift_simulates, ready_behind}
 use Rattle.awk_evaluator.proofs.Computing.{performed, acted, acted_ready}
 use Rattle.awk_evaluator.proofs.machine.Machine.perform.Goals as goal
 
@@ -14,6 +14,15 @@ returns-in-Delete-clause-ready g c = acted_ready c.delete.ensures c.requires.rea
 
 pub returns-in-Delete-clause-performs : goal.returns-in-Delete-clause-performs
 returns-in-Delete-clause-performs g c = rw c.in-Delete.is (acted c.delete.ensures)
+
+pub returns-in-Clear-clause-ready : goal.returns-in-Clear-clause-ready
+returns-in-Clear-clause-ready g c = ready_behind c.clear_at.ensures c.requires.ready
+
+pub returns-in-Clear-clause-performs : goal.returns-in-Clear-clause-performs
+returns-in-Clear-clause-performs g c = rw c.in-Clear.is (performed (Ok tt) refl refl (λ functions. change_simulates c.clear_at.ensures))
+
+pub returns-in-EndInput-clause-performs : goal.returns-in-EndInput-clause-performs
+returns-in-EndInput-clause-performs g c = rw c.in-EndInput.is (performed (Ok tt) refl refl (λ functions. c.close_main_input.ensures.follows.simulates))
 
 pub returns-in-SetStatus-clause-ready : goal.returns-in-SetStatus-clause-ready
 returns-in-SetStatus-clause-ready g c = acted_ready c.set_status.ensures c.requires.ready

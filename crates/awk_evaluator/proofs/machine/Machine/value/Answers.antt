@@ -21,7 +21,7 @@ returns-in_ok-push-in_default g c = record { ready = c.in_ok-value-in_default.en
 pub returns-in_err-body-in-Call : goal.returns-in_err-body-in-Call
 returns-in_err-body-in-Call g c =
     let p = err_from_is_err_and c.from_residual.result c.from_residual.ensures.1 in
-    rw (p.1, p.2) (record { ready = ready_same c.call.ensures.streams c.requires.ready; moves = rw c.in-Call.is (let same : c.as_slice.result.now ≡ c.in-Call.forms.items = search rules in call_ends c.function_of.ensures (rw same at (c.in_err-body-in-Call.ensures {u = tt}))) })
+    rw (p.1, p.2) (record { ready = ready_same c.call.ensures.streams c.requires.ready; moves = rw c.in-Call.is (let same : c.as_slice.result.now ≡ c.in-Call.forms.items = search rules in call_ends c.function_of.ensures (rw c.in-Call.is at c.requires.calls) (rw same at (c.in_err-body-in-Call.ensures {u = tt}))) })
 
 pub returns-in_ok-body-in-Call : goal.returns-in_ok-body-in-Call
-returns-in_ok-body-in-Call g c = record { ready = ready_same c.call.ensures.streams c.requires.ready; moves = rw c.in-Call.is (let same : c.as_slice.result.now ≡ c.in-Call.forms.items = search rules in call_on c.function_of.ensures (rw same at (c.in_ok-body-in-Call.ensures {u = tt}))) }
+returns-in_ok-body-in-Call g c = record { ready = ready_same c.call.ensures.streams c.requires.ready; moves = rw c.in-Call.is (let same : c.as_slice.result.now ≡ c.in-Call.forms.items = search rules in call_on c.function_of.ensures (rw c.in-Call.is at c.requires.calls) (rw same at (c.in_ok-body-in-Call.ensures {u = tt}))) }
