@@ -1,5 +1,5 @@
 -- Built-in functions: their arguments on the stack, and what is made of them.
-use Rattle.std.proofs.Common.{◌≡◌, ◌≢◌, ℕ, zero, suc, Bool, true, false, List, [], ◌∷◌, ◌++◌, length, map, drop, reverse, Option, Some, None, refl, sym, subst, ap, ◌∙◌, arith}
+use Rattle.std.proofs.Common.{◌≡◌, ◌≢◌, ℕ, Bool, true, false, List, [], ◌∷◌, ◌++◌, length, map, drop, reverse, Option, Some, None, refl, sym, subst, ap, ◌∙◌, arith}
 use Rattle.awk_value.specs.declared.value.Value.{Value}
 use Rattle.awk_value.specs.Values.{str_of}
 use Rattle.awk_text.specs.definitions.Fields.{pieces_of}
@@ -194,10 +194,10 @@ module _ {kinds : ProgramKinds} {parameters : List FormalParameter} where
       ∙ none_left p.functions [] (λ as'. apply_built_in w.Length (OfArray x ∷ as')) s
       ∙ counts_elements array x s (named.2.0.is p m s l)))
 
-  pub length_lowered : {a b c : Builder} {i j next : ℕ} (e : Expr) → Stands next a → MeasuredBy kinds parameters None (bare_name e) → Pushes a b (n.Value (v.Apply w.Length 1) next) j → Builds kinds parameters b c i (Evaluate e j)
+  pub length_of_lowered : {a b c : Builder} {i j next : ℕ} (e : Expr) → Stands next a → MeasuredBy kinds parameters None (bare_name e) → Pushes a b (n.Value (v.Apply w.Length 1) next) j → Builds kinds parameters b c i (Evaluate e j)
       → Builds kinds parameters a c i (Evaluate (BuiltIn w.Length (Cons e Nil)) next)
   unfolding eval apply_built_in
-  length_lowered e h measured q r =
+  length_of_lowered e h measured q r =
       evaluates (value_first (λ vs. vs) (node h q) e r (λ u vs. refl)) (λ vs. refl) (BuiltIn w.Length (Cons e Nil)) (λ p g m vs s l.
       let rest : Argument → Run Value = λ a'. take_arguments p.functions [] [] Nil >>= λ as'. apply_built_in w.Length (a' ∷ as') in
       sym (argument_first p.functions (AsMeasured ∷ []) e Nil (λ as'. apply_built_in w.Length as') s

@@ -1,7 +1,7 @@
 -- What is done with the array of a name is done with the array at its position.
 use Rattle.std.proofs.Common.{◌≡◌, ℕ, List, ap}
 use Rattle.awk_value.specs.declared.value.Value.{Value}
-use Rattle.awk_semantics.specs.definitions.State.{State, ◌>>=◌}
+use Rattle.awk_semantics.specs.definitions.State.{State}
 use Rattle.awk_semantics.specs.definitions.Primitives.{array_number, read_element_at, store_element_at, has_element_at, delete_element_at, clear_array_at, array_length_at, keys_at, fill_array_at, read_element, store_element, has_element, delete_element, clear_array, array_length, keys_in, fill_array}
 use Rattle.awk_semantics.specs.definitions.BuiltIns.{count_value, count_elements}
 use Rattle.awk_storage.specs.declared.position.Array.{Array}

@@ -17,21 +17,22 @@ use Rattle.awk_semantics.specs.declared.local.Local.{Local}
 use Rattle.awk_semantics.specs.declared.local.Local.TheVariants as local
 use Rattle.awk_semantics.specs.definitions.State.{Effect, State, Out, Run, go_on, ◌>>=◌, lift}
 use Rattle.awk_semantics.specs.definitions.Operators.{by_one, one, operator_of}
-use Rattle.awk_semantics.specs.definitions.Primitives.{read_element_at, store_element_at, has_element_at, delete_element_at, keys_at, fill_array_at}
+use Rattle.awk_semantics.specs.definitions.Primitives.{read_element_at, store_element_at, has_element_at, delete_element_at, clear_array_at, array_length_at, keys_at, fill_array_at}
+use Rattle.awk_semantics.specs.definitions.BuiltIns.{count_value}
 use Rattle.awk_semantics.specs.definitions.Streams.{Answer, ARecord, NoRecord, NotReadable}
 use Rattle.awk_semantics.specs.definitions.Semantics.{Functions}
 use Rattle.awk_semantics.specs.support.Keeps.{Keeps, CallsKeep}
 use Rattle.awk_semantics.proofs.Keeping.{keeps_lift, keeps_plain}
 use Rattle.awk_semantics.proofs.PlainRuns.{next_of_plain}
 use Rattle.awk_semantics.proofs.PlainParts.{count_of_plain}
-use Rattle.awk_semantics.proofs.KeepsForms.{keeps_spend, keeps_number_of, keeps_read_field, keeps_record_text, keeps_read_outside, keeps_set_field, keeps_put_outside, keeps_read_element_at, keeps_store_element_at, keeps_has_element_at, keeps_delete_element_at, keeps_keys_at, keeps_fill_array_at, keeps_joined_key, keeps_field_separator, keeps_check_height, keeps_set_status, keeps_note_match, keeps_record_length, keeps_print_by, keeps_open_target, keeps_close_named, keeps_run_command, keeps_next_record, keeps_set_record, keeps_count_in}
+use Rattle.awk_semantics.proofs.KeepsForms.{keeps_spend, keeps_number_of, keeps_read_field, keeps_record_text, keeps_read_outside, keeps_set_field, keeps_put_outside, keeps_read_element_at, keeps_store_element_at, keeps_has_element_at, keeps_delete_element_at, keeps_clear_array_at, keeps_array_length_at, keeps_keys_at, keeps_fill_array_at, keeps_joined_key, keeps_field_separator, keeps_check_height, keeps_set_status, keeps_note_match, keeps_record_length, keeps_print_by, keeps_open_target, keeps_close_main, keeps_close_named, keeps_run_command, keeps_flush_outputs, keeps_flush_named, keeps_next_record, keeps_set_record, keeps_count_in}
 use Rattle.awk_storage.specs.declared.position.Array.{Array}
 use Rattle.awk_storage.specs.declared.position.Variable.{Variable}
 use Rattle.awk_storage.specs.declared.position.Variable.TheVariants as variable
 use Rattle.awk_storage.specs.declared.position.Place.{Place}
 use Rattle.awk_storage.specs.declared.position.Place.TheVariants as place
 use Rattle.awk_storage.specs.definitions.Positions.{newest_locals, with_local_at, read_local, put_local, read_slot, put_slot, number_at, read_element_of, store_element_of, read_variable, put_variable, read_at, store_at, assign_at, assign_by_at, post_increment_at}
-use Rattle.awk_storage.specs.definitions.Forms.{contains_at, delete_at, keys_of_array, fill_at, match_in, split_with, assign_exchange_at, substitute_at, receive_at, receive_main_at, main_getline_at, receive_named_at, named_getline_at}
+use Rattle.awk_storage.specs.definitions.Forms.{contains_at, delete_at, clear_at, count_elements_at, keys_of_array, fill_at, match_in, split_with, assign_exchange_at, substitute_at, receive_at, receive_main_at, main_getline_at, receive_named_at, named_getline_at}
 use Rattle.awk_compile.specs.declared.node.ArgumentForm.{ArgumentForm}
 use Rattle.awk_compile.specs.declared.node.Source.{Source}
 use Rattle.awk_compile.specs.declared.node.Source.TheVariants as source
@@ -102,6 +103,14 @@ contains_falls a key = falls_at _ (λ s. (has_element_at (number_at a s) key, ke
 delete_falls : (a : Array) (key : List ℕ) → Falls (delete_at a key)
 unfolding delete_at
 delete_falls a key = falls_at _ (λ s. (delete_element_at (number_at a s) key, kept_falls (keeps_delete_element_at (number_at a s) key), refl))
+
+clear_falls : (a : Array) → Falls (clear_at a)
+unfolding clear_at
+clear_falls a = falls_at _ (λ s. (clear_array_at (number_at a s), kept_falls (keeps_clear_array_at (number_at a s)), refl))
+
+count_falls : (a : Array) → Falls (count_elements_at a)
+unfolding count_elements_at
+count_falls a = falls_at _ (λ s. ((array_length_at (number_at a s) >>= λ n. count_value n), then_falls _ (kept_falls (keeps_array_length_at (number_at a s))) (λ n. lift_falls _), refl))
 
 pub keys_falls : (a : Array) → Falls (keys_of_array a)
 unfolding keys_of_array
@@ -227,6 +236,7 @@ module _ (tables : Tables) where
     value_falls (v.PostIncrement o p) vs = post_falls tables.names o p (first vs)
     value_falls (v.Load p) vs = read_at_falls tables.names p (first vs)
     value_falls v.RecordLength vs = kept_falls keeps_record_length
+    value_falls (v.CountElements a) vs = count_falls a
     value_falls (v.Apply f k) vs = lift_falls _
     value_falls (v.Match (Some i)) vs = match_falls _ _
     value_falls (v.Match None) vs = match_falls _ _
@@ -237,11 +247,15 @@ module _ (tables : Tables) where
     value_falls (v.Getline x p) vs = getline_falls x p vs
     value_falls v.Close vs = then_falls _ (kept_falls (keeps_close_named (str_of (first vs)))) (λ k. lift_falls _)
     value_falls v.System vs = then_falls _ (kept_falls (keeps_run_command (str_of (first vs)))) (λ k. lift_falls _)
+    value_falls v.FlushAll vs = kept_falls keeps_flush_outputs
+    value_falls v.Flush vs = then_falls _ (kept_falls (keeps_flush_named (str_of (first vs)))) (λ k. lift_falls _)
     value_falls (v.Call f fs) vs = call_falls _ fs.items _
 
     pub effect_falls : (x : EffectNode) (vs : List Value) → Falls (effect_of functions x vs)
     effect_falls e.Spend vs = kept_falls keeps_spend
     effect_falls (e.Drop k) vs = lift_falls (Ok tt)
     effect_falls (e.Delete a) vs = delete_falls a _
+    effect_falls (e.Clear a) vs = clear_falls a
+    effect_falls e.EndInput vs = kept_falls keeps_close_main
     effect_falls (e.Print f k way) vs = then_falls _ (target_falls way vs) (λ n. kept_falls (keeps_print_by functions calls f n _))
     effect_falls e.SetStatus vs = kept_falls (keeps_set_status (first vs))

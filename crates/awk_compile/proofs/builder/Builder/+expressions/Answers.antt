@@ -21,7 +21,7 @@ use Rattle.awk_compile.proofs.ConditionForms.{test_lowered, group_tested, not_te
 use Rattle.awk_compile.proofs.ListForms.{none_lowered, more_lowered, count_exprs, exprs_over, exprs_at, some_expr, one_expr, two_exprs, three_exprs, key_lowered}
 use Rattle.awk_compile.proofs.OperandForms.{name_operand, element_operand, field_operand, not_an_ere}
 use Rattle.awk_compile.proofs.CallForms.{call_fits, call_lowered, no_arguments, array_argument, value_argument}
-use Rattle.awk_compile.proofs.BuiltInForms.{IsPlain, strict_applied, record_length_lowered, count_lowered, length_lowered, flush_all_lowered, flush_lowered, match_lowered, fields_split, split_lowered}
+use Rattle.awk_compile.proofs.BuiltInForms.{IsPlain, strict_applied, record_length_lowered, count_lowered, length_of_lowered, flush_all_lowered, flush_lowered, match_lowered, fields_split, split_lowered}
 use Rattle.awk_compile.proofs.SubstituteForms.{substitute_lowered, substitute_place_lowered}
 use Rattle.awk_compile.proofs.GetlineForms.{nothing_stays, something_lowered, no_operand_stays, operand_there, getline_lowered, piped_getline_lowered}
 use Rattle.awk_compile.proofs.builder.Builder.+expressions.Goals as goal
@@ -250,14 +250,14 @@ lower_call-returns t c =
 pub lower_length-returns-in-empty : goal.lower_length-returns-in-empty
 lower_length-returns-in-empty t c = rw (exprs_over c.args.list.now 0 (omega arith)) (ok_map _ (λ i p. record_length_lowered c.requires p) c.push_value.ensures)
 
-pub lower_length-returns-in-Some-in-len1 : goal.lower_length-returns-in-Some-in-len1
-lower_length-returns-in-Some-in-len1 t c =
-    rw (one_expr c.args.list.now c.e-item.result (omega arith) (sym c.e-item.is)) (ok_map _ (λ i p. count_lowered (expr_of c.e-item.result) c.requires c.in-Some-in-len1.ensures p) c.push_value-in-Some-in-len1.ensures)
+pub lower_length-returns-in-Some : goal.lower_length-returns-in-Some
+lower_length-returns-in-Some t c =
+    rw (one_expr c.args.list.now c.e-item.result (omega arith) (sym c.e-item.is)) (ok_map _ (λ i p. count_lowered (expr_of c.e-item.result) c.requires c.in-Some.ensures p) c.push_value-in-Some.ensures)
 
 pub lower_length-returns-in_ok-length-in-len1 : goal.lower_length-returns-in_ok-length-in-len1
 lower_length-returns-in_ok-length-in-len1 t c =
     rw (one_expr c.args.list.now c.e-item.result (omega arith) (sym c.e-item.is))
-    (ok_map _ (λ i q. length_lowered (expr_of c.e-item.result) c.requires c.in_default-in-len1.ensures c.in_ok-length-in-len1.ensures q) c.lower.ensures)
+    (ok_map _ (λ i q. length_of_lowered (expr_of c.e-item.result) c.requires c.in_default-measured.ensures c.in_ok-length-in-len1.ensures q) c.lower.ensures)
 
 pub lower_flush-returns-in-empty : goal.lower_flush-returns-in-empty
 lower_flush-returns-in-empty t c = rw (exprs_over c.args.list.now 0 (omega arith)) (ok_map _ (λ i p. flush_all_lowered c.requires p) c.push_value.ensures)
