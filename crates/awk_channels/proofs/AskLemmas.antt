@@ -2,12 +2,12 @@
 use Rattle.std.proofs.Common.{◌≡◌, ◌≢◌, ◌⊎◌, inl, inr, ℕ, List, [], ◌∷◌, ◌++◌, Option, None, Result, Ok, Err, refl, sym, ◌∙◌, ap, subst}
 use Rattle.std.specs.Prelude.{is_some}
 use Rattle.std.proofs.lemmas.Bool.{cond-false, ne_eqb}
-use Rattle.awk_record.specs.Cut.{Ending, Cut, Found, NoMore, BrokenOff, TooLong, BadSeparator, cut_of}
+use Rattle.awk_record.specs.Cut.{Ending, Cut, Found, NoMore, BrokenOff, TooLong, cut_of}
 use Rattle.awk_record.specs.Buffer.{Pending}
 use Rattle.awk_record.specs.declared.buffer.Step.{Step}
 use Rattle.awk_record.specs.declared.buffer.Step.TheVariants.{Record, NeedMore, End, Broken}
 use Rattle.awk_record.specs.declared.fault.BufferFault.{BufferFault}
-use Rattle.awk_record.specs.declared.fault.BufferFault.TheVariants.{Memory as BufferMemory, SeparatorTooLong as BufferSeparatorTooLong, RecordTooLong as BufferRecordTooLong}
+use Rattle.awk_record.specs.declared.fault.BufferFault.TheVariants.{Memory as BufferMemory, RecordTooLong as BufferRecordTooLong}
 use Rattle.awk_world.specs.declared.world.InputKind.{InputKind}
 use Rattle.awk_world.specs.definitions.Log.{Event, Read, Ended, Broke}
 use Rattle.awk_world.specs.definitions.Oracle.{Oracle, Source, IsConsistent, standing}
@@ -36,7 +36,6 @@ next_told (Found first rest) step result whole left says tells = (subst (λ (r :
 next_told NoMore step result whole left says tells = (subst (λ (r : Result Step BufferFault). IsToldAs r result) tells.0 says, tells.1)
 next_told BrokenOff step result whole left says tells = (subst (λ (r : Result Step BufferFault). IsToldAs r result) tells.0 says, tells.1)
 next_told TooLong step result whole left says tells = (subst (λ (r : Result Step BufferFault). IsToldAs r result) tells.0 says, tells.1)
-next_told BadSeparator step result whole left says tells = (subst (λ (r : Result Step BufferFault). IsToldAs r result) tells.0 says, tells.1)
 
 -- a want of memory alone is told so
 pub told_memory : (step : Result Step BufferFault) (result : Result (Option (List ℕ)) StreamFault) → IsToldAs step result → result ≡ Err Memory → step ≡ Err BufferMemory
@@ -45,7 +44,6 @@ told_memory (Ok End) result says is = let bad = sym says ∙ is in absurd cc
 told_memory (Ok Broken) result says is = let bad = sym says ∙ is in absurd cc
 told_memory (Ok NeedMore) result says is = absurd says
 told_memory (Err BufferMemory) result says is = refl
-told_memory (Err BufferSeparatorTooLong) result says is = let bad = sym says ∙ is in absurd cc
 told_memory (Err BufferRecordTooLong) result says is = let bad = sym says ∙ is in absurd cc
 
 -- a want of memory is told as such
@@ -84,7 +82,6 @@ named_next (Found first rest) step result whole left says tells = (subst (λ (r 
 named_next NoMore step result whole left says tells = (subst (λ (r : Result Step BufferFault). IsNamedAs r result) tells.0 says, tells.1)
 named_next BrokenOff step result whole left says tells = (subst (λ (r : Result Step BufferFault). IsNamedAs r result) tells.0 says, tells.1)
 named_next TooLong step result whole left says tells = (subst (λ (r : Result Step BufferFault). IsNamedAs r result) tells.0 says, tells.1)
-named_next BadSeparator step result whole left says tells = (subst (λ (r : Result Step BufferFault). IsNamedAs r result) tells.0 says, tells.1)
 
 pub named_memory : (step : Result Step BufferFault) (result : Result NextNamed StreamFault) → IsNamedAs step result → step ≡ Err BufferMemory → result ≡ Err Memory
 named_memory step result says is = subst (λ (r : Result Step BufferFault). IsNamedAs r result) is says
@@ -160,7 +157,6 @@ named_wants (Ok End) result says is = let bad = sym says ∙ is in absurd cc
 named_wants (Ok Broken) result says is = let bad = sym says ∙ is in absurd cc
 named_wants (Ok NeedMore) result says is = absurd says
 named_wants (Err BufferMemory) result says is = refl
-named_wants (Err BufferSeparatorTooLong) result says is = let bad = sym says ∙ is in absurd cc
 named_wants (Err BufferRecordTooLong) result says is = let bad = sym says ∙ is in absurd cc
 
 pub named_not_write : (step : Result Step BufferFault) (result : Result NextNamed StreamFault) → IsNamedAs step result → result ≢ Err WriteFailed
@@ -169,5 +165,4 @@ named_not_write (Ok End) result says = λ is. let bad = sym says ∙ is in absur
 named_not_write (Ok Broken) result says = λ is. let bad = sym says ∙ is in absurd cc
 named_not_write (Ok NeedMore) result says = absurd says
 named_not_write (Err BufferMemory) result says = λ is. let bad = sym says ∙ is in absurd cc
-named_not_write (Err BufferSeparatorTooLong) result says = λ is. let bad = sym says ∙ is in absurd cc
 named_not_write (Err BufferRecordTooLong) result says = λ is. let bad = sym says ∙ is in absurd cc

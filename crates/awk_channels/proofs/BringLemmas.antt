@@ -104,15 +104,15 @@ events_touch among id es before after is writable open' of_output log grows = re
 
 -- a flush of what is held back
 
-flush_events : {id : ℕ} {held : List ℕ} {before : WorldState} {result : Result (Unit {0}) StreamFault} {after : WorldState} → WritesAndFlushes id held before result after → List Event
+pub flush_events : {id : ℕ} {held : List ℕ} {before : WorldState} {result : Result (Unit {0}) StreamFault} {after : WorldState} → WritesAndFlushes id held before result after → List Event
 flush_events {id = id} {result = result} w = w.writes.events ++ flushed_if_events (is_ok result) id
 
-flush_log : {id : ℕ} {held : List ℕ} {before : WorldState} {result : Result (Unit {0}) StreamFault} {after : WorldState} (w : WritesAndFlushes id held before result after) → after.log ≡ with_events (flush_events w) before.log
+pub flush_log : {id : ℕ} {held : List ℕ} {before : WorldState} {result : Result (Unit {0}) StreamFault} {after : WorldState} (w : WritesAndFlushes id held before result after) → after.log ≡ with_events (flush_events w) before.log
 unfolding flush_events
 flush_log {id = id} {before = before} {result = result} w =
     w.adds ∙ (flushed_if_is (is_ok result) id w.written ∙ (ap (with_events (flushed_if_events (is_ok result) id)) w.writes.log ∙ sym (with_events-append w.writes.events (flushed_if_events (is_ok result) id) before.log)))
 
-flush_of : {id : ℕ} {held : List ℕ} {before : WorldState} {result : Result (Unit {0}) StreamFault} {after : WorldState} (w : WritesAndFlushes id held before result after) → AreOfOutput id (flush_events w)
+pub flush_of : {id : ℕ} {held : List ℕ} {before : WorldState} {result : Result (Unit {0}) StreamFault} {after : WorldState} (w : WritesAndFlushes id held before result after) → AreOfOutput id (flush_events w)
 unfolding flush_events
 flush_of {id = id} {held = held} {result = result} w = of_output_append id w.writes.events (flushed_if_events (is_ok result) id) (writes_of id (take w.count held) w.writes.events w.writes.each) (flushed_if_of (is_ok result) id)
 

@@ -12,9 +12,8 @@ use Rattle.awk_channels.specs.declared.named.NamedStream.{NamedStream}
 use Rattle.awk_channels.specs.declared.named.NamedStream.TheVariants as named
 use Rattle.awk_channels.specs.definitions.Outputs.{IsOutputFault}
 use Rattle.awk_channels.specs.definitions.Named.{Named}
-use Rattle.awk_channels.specs.definitions.Streams.{StreamsView, name_of, is_called, held_of, FailsBy}
+use Rattle.awk_channels.specs.definitions.Streams.{StreamsView, name_of, is_called, held_of, FailsBy, unheld, all_unheld}
 use Rattle.awk_channels.specs.definitions.Commands.{ClosesStream, ClosesEach, BringsAll, names_called, all_names, ClosesNames, ClosesText}
-use Rattle.awk_channels.specs.support.Kept.{unheld, all_unheld}
 use Rattle.awk_channels.specs.support.Brings.{BringsHeld}
 use Rattle.awk_channels.specs.support.Closes.{ClosesAt, without_place}
 use Rattle.awk_channels.specs.support.ClosesSoFar.{ClosesSome}

@@ -8,10 +8,9 @@ use Rattle.awk_world.specs.definitions.Openings.{Opening, openings, in_order, ou
 use Rattle.awk_channels.specs.declared.fault.StreamFault.{StreamFault}
 use Rattle.awk_channels.specs.declared.input.Input.{Input}
 use Rattle.awk_channels.specs.definitions.Named.{Named}
-use Rattle.awk_channels.specs.definitions.Streams.{StreamsView, held_of, with_held, printed_openings, AreBringing}
+use Rattle.awk_channels.specs.definitions.Streams.{StreamsView, held_of, with_held, printed_openings, AreBringing, all_unheld}
 use Rattle.awk_channels.specs.definitions.MainInput.{EndsMain, closed_main}
 use Rattle.awk_channels.specs.definitions.Commands.{ClosesEach, BringsAll, all_names, AreOfTheEnd, EndsAll, Finishes}
-use Rattle.awk_channels.specs.support.Kept.{all_unheld}
 use Rattle.awk_channels.specs.support.Held.{HoldsNothing}
 use Rattle.awk_channels.specs.support.Brings.{BringsHeld, AreFlushedBut}
 use Rattle.awk_channels.proofs.GrowsLemmas.{Grows-then, with_events-append}

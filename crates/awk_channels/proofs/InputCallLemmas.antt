@@ -17,10 +17,10 @@ use Rattle.awk_channels.specs.declared.named.NamedStream.{NamedStream}
 use Rattle.awk_channels.specs.declared.named.NamedStream.TheVariants as named
 use Rattle.awk_channels.specs.definitions.Outputs.{IsOutputFault}
 use Rattle.awk_channels.specs.definitions.Named as words
-use Rattle.awk_channels.specs.definitions.Streams.{StreamsView, numbered, AreOpen, HaveOtherNames, AreOnce, held_of, with_held, IsRestOf, IsMainRest, StandsFor, StandFor, FailsBy, BringsIf}
+use Rattle.awk_channels.specs.definitions.Streams.{StreamsView, numbered, AreOpen, HaveOtherNames, AreOnce, held_of, with_held, IsRestOf, IsMainRest, StandsFor, StandFor, FailsBy, BringsIf, all_unheld}
 use Rattle.awk_channels.specs.definitions.MainInput.{CountsInput}
 use Rattle.awk_channels.specs.definitions.NamedInputs.{FindsInput, LacksInput, OpensInput}
-use Rattle.awk_channels.specs.support.Kept.{SameFor, all_unheld}
+use Rattle.awk_channels.specs.support.Kept.{SameFor}
 use Rattle.awk_channels.specs.support.Places.{is_named_input}
 use Rattle.awk_channels.specs.support.Asks.{Prepares, AsksForNamed, FindsNoMemory, IsAdded, IsRefused, new_input}
 use Rattle.awk_channels.proofs.GrowsLemmas.{grows_on, Grows-self, Grows-then, may_fail_later}

@@ -5,11 +5,11 @@ use Rattle.awk_record.specs.Buffer.{Pending}
 use Rattle.awk_world.specs.definitions.Writes.{with_events}
 use Rattle.awk_channels.specs.definitions.Inputs.{NeededReads, Reaches}
 use Rattle.awk_channels.specs.support.Pulls.{Brings, Pulls}
-use Rattle.awk_record.specs.Cut.{Cut, Found, NoMore, BrokenOff, TooLong, BadSeparator, cut_of}
+use Rattle.awk_record.specs.Cut.{Cut, Found, NoMore, BrokenOff, TooLong, cut_of}
 use Rattle.awk_record.specs.Buffer.{Steps, IsAnswerOf}
 use Rattle.awk_record.specs.declared.buffer.Step.{Step}
 use Rattle.awk_record.specs.declared.fault.BufferFault.{BufferFault}
-use Rattle.awk_record.specs.declared.fault.BufferFault.TheVariants.{Memory, SeparatorTooLong, RecordTooLong}
+use Rattle.awk_record.specs.declared.fault.BufferFault.TheVariants.{Memory, RecordTooLong}
 
 with_events-push : (es : List Event) (e : Event) (log : List Event) → with_events (es ++ e ∷ []) log ≡ e ∷ with_events es log
 with_events-push [] e log = refl
@@ -54,7 +54,6 @@ kept_ending (Found first rest) e result old new is h = h.2
 kept_ending NoMore e result old new is h = h.2
 kept_ending BrokenOff e result old new is h = h.2
 kept_ending TooLong e result old new is h = ap (λ (p : Pending). p.ending) h.1 ∙ is
-kept_ending BadSeparator e result old new is h = ap (λ (p : Pending). p.ending) h.1 ∙ is
 
 some_none : {T : Type 0} {P : Type 0} (x : T) → Some x ≡ None → P
 some_none x e = cc
@@ -71,7 +70,6 @@ steps_ending separator result old new steps none = steps_at old.ending separator
 pub step_ending : (separator : List ℕ) (result : Result Step BufferFault) (old new : Pending) → ((result ≡ Err Memory → ⊥) → Steps separator old result new) → (result ≡ Err Memory → new ≡ old) → new.ending ≡ None → old.ending ≡ None
 step_ending separator (Err Memory) old new steps memory none = ap (λ (p : Pending). p.ending) (sym (memory refl)) ∙ none
 step_ending separator (Ok s) old new steps memory none = steps_ending separator (Ok s) old new (steps (λ (e : Ok s ≡ Err Memory). cc)) none
-step_ending separator (Err SeparatorTooLong) old new steps memory none = steps_ending separator (Err SeparatorTooLong) old new (steps (λ (e : Err SeparatorTooLong ≡ Err Memory). cc)) none
 step_ending separator (Err RecordTooLong) old new steps memory none = steps_ending separator (Err RecordTooLong) old new (steps (λ (e : Err RecordTooLong ≡ Err Memory). cc)) none
 
 -- a reading that found no memory: nothing was done, or its bytes are lost

@@ -28,3 +28,6 @@ pub mod RunLemmas
 pub mod CloseLemmas
 pub mod ClosesLemmas
 pub mod FinishLemmas
+pub mod EmptiedLemmas
+pub mod FlushLemmas
+pub mod FlushedLemmas

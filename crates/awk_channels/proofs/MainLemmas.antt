@@ -17,7 +17,7 @@ use Rattle.awk_world.specs.definitions.WorldState.{WorldState, Logs, SameOpen, I
 use Rattle.awk_world.specs.definitions.Writes.{with_events}
 use Rattle.awk_world.specs.definitions.Openings.{openings, in_order, is_flushed}
 use Rattle.awk_channels.specs.declared.fault.StreamFault.{StreamFault}
-use Rattle.awk_channels.specs.declared.fault.StreamFault.TheVariants.{Memory, WriteFailed, InputNotReadable, OutputNotOpened, TooManyStreams, SeparatorTooLong, RecordTooLong}
+use Rattle.awk_channels.specs.declared.fault.StreamFault.TheVariants.{Memory, WriteFailed, InputNotReadable, OutputNotOpened, TooManyStreams, RecordTooLong}
 use Rattle.awk_channels.specs.declared.input.Input.{Input}
 use Rattle.awk_channels.specs.declared.named.NamedStream.{NamedStream}
 use Rattle.awk_channels.specs.definitions.Inputs.{IsInputFault}
@@ -196,7 +196,6 @@ step_failure before after step (Err WriteFailed) differs is ok same fails = absu
 step_failure before after step (Err InputNotReadable) differs is ok same fails = same (differs (λ (e : Err InputNotReadable ≡ Err Memory). cc))
 step_failure before after step (Err OutputNotOpened) differs is ok same fails = same (differs (λ (e : Err OutputNotOpened ≡ Err Memory). cc))
 step_failure before after step (Err TooManyStreams) differs is ok same fails = same (differs (λ (e : Err TooManyStreams ≡ Err Memory). cc))
-step_failure before after step (Err SeparatorTooLong) differs is ok same fails = same (differs (λ (e : Err SeparatorTooLong ≡ Err Memory). cc))
 step_failure before after step (Err RecordTooLong) differs is ok same fails = same (differs (λ (e : Err RecordTooLong ≡ Err Memory). cc))
 
 asked_main_told : (separator : List ℕ) (before after : WorldState) (s : StreamsView) (old new : Input) (step : Result Step BufferFault) (result : Result (Option (List ℕ)) StreamFault) → s.main ≡ Some old → AreOpen before s → AreSound before s → step ≢ Ok NeedMore → Takes separator before old step after new → IsToldAs step result →

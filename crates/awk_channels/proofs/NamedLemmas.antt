@@ -14,8 +14,7 @@ use Rattle.awk_channels.specs.declared.input.Input.{Input}
 use Rattle.awk_channels.specs.declared.output.Output.{Output}
 use Rattle.awk_channels.specs.declared.named.NamedStream.{NamedStream}
 use Rattle.awk_channels.specs.declared.named.NamedStream.TheVariants as named
-use Rattle.awk_channels.specs.definitions.Streams.{number_of, AreOpenNamed, AreOthers, AreApart, held_in, is_output_among, IsSound, AreSoundNamed}
-use Rattle.awk_channels.specs.support.Kept.{unheld, all_unheld}
+use Rattle.awk_channels.specs.definitions.Streams.{number_of, AreOpenNamed, AreOthers, AreApart, held_in, is_output_among, IsSound, AreSoundNamed, unheld, all_unheld}
 use Rattle.awk_channels.specs.support.Held.{AreOtherOutputs, ChangesHeld, AreEmpty, held_by}
 use Rattle.awk_channels.specs.support.Brings.{FlushesNamed, BringsHeld, AreFlushedBut}
 use Rattle.awk_channels.proofs.StreamsLemmas.{but_held_among, but_held_numbered, but_held_sound, apart_by, sound_same, same_for_all}

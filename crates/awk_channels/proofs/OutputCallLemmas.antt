@@ -17,10 +17,9 @@ use Rattle.awk_channels.specs.declared.named.NamedStream.TheVariants as named
 use Rattle.awk_channels.specs.declared.streams.Target.{Target}
 use Rattle.awk_channels.specs.declared.streams.Target.TheVariants as target
 use Rattle.awk_channels.specs.definitions.Named as words
-use Rattle.awk_channels.specs.definitions.Streams.{StreamsView, AreOpen, AreSound, AreSoundNamed, held_of, with_held, printed_openings, IsMainRest, StandFor, place_of, number_of_some, place_of_some, IsTarget, FailsBy, BringsIf}
+use Rattle.awk_channels.specs.definitions.Streams.{StreamsView, AreOpen, AreSound, AreSoundNamed, held_of, with_held, printed_openings, IsMainRest, StandFor, place_of, number_of_some, place_of_some, IsTarget, FailsBy, BringsIf, all_unheld}
 use Rattle.awk_channels.specs.definitions.Outputs.{IsOutputFault}
 use Rattle.awk_channels.specs.definitions.NamedOutputs.{CountsOutput, FindsOutput, LacksOutput, OpensOutput}
-use Rattle.awk_channels.specs.support.Kept.{all_unheld}
 use Rattle.awk_channels.specs.support.Places.{is_named_output}
 use Rattle.awk_channels.specs.support.Asks.{Prepares, AsksOutput, FindsNoMemory, IsAdded, IsRefused, new_output}
 use Rattle.awk_channels.proofs.GrowsLemmas.{grows_on, Grows-self, Grows-then, may_fail_later}

@@ -19,10 +19,9 @@ use Rattle.awk_channels.specs.declared.streams.Target.{Target}
 use Rattle.awk_channels.specs.declared.streams.Target.TheVariants as target
 use Rattle.awk_channels.specs.definitions.Named.{with_bytes}
 use Rattle.awk_channels.specs.definitions.Outputs.{IsOutputFault, WritesAll}
-use Rattle.awk_channels.specs.definitions.Streams.{StreamsView, AreOpen, AreSound, held_of, with_held, is_output_among, place_of, number_of, number_of_some, place_of_some, number_at, opening_at, IsTarget, FailsAs}
+use Rattle.awk_channels.specs.definitions.Streams.{StreamsView, AreOpen, AreSound, held_of, with_held, is_output_among, place_of, number_of, number_of_some, place_of_some, number_at, opening_at, IsTarget, FailsAs, unheld, all_unheld}
 use Rattle.awk_channels.specs.definitions.NamedOutputs.{Prints}
 use Rattle.awk_channels.specs.support.Buffered.{PrintsOrHolds}
-use Rattle.awk_channels.specs.support.Kept.{unheld, all_unheld}
 use Rattle.awk_channels.specs.support.Held.{ChangesHeld, held_by, is_an_output}
 use Rattle.awk_channels.specs.support.Printing.{PrintsAt}
 use Rattle.awk_channels.specs.support.Brings.{Touches}
@@ -116,7 +115,7 @@ print_to_error L before after s held bytes result open' sound same fault did =
       told = λ t. prints target.StandardError 1 1 s.error held bytes before after s new result refl refl refl (standard_opened 1 before.log (omega arith) (sound t).order.orderly) refl writable same refl refl (change_error before s s.error held open') fault (did t);
     }
 
-two_true : (a b : Bool) → (a || (b || true)) ≡ true
+pub two_true : (a b : Bool) → (a || (b || true)) ≡ true
 two_true true b = refl
 two_true false true = refl
 two_true false false = refl
@@ -146,7 +145,7 @@ set_at [] i x y at = no_element x at
 set_at (z ∷ zs) zero x y at = refl
 set_at (z ∷ zs) (suc i) x y at = set_at zs i x y at
 
-change_at : (world : WorldState) (s : StreamsView) (i : ℕ) (k k' : OutputKind) (n n' : List ℕ) (o o' : Output) → AreOpen world s → slice_get s.named i ≡ Some (named.Output k n o) → o'.id ≡ o.id →
+pub change_at : (world : WorldState) (s : StreamsView) (i : ℕ) (k k' : OutputKind) (n n' : List ℕ) (o o' : Output) → AreOpen world s → slice_get s.named i ≡ Some (named.Output k n o) → o'.id ≡ o.id →
     ChangesHeld o.id o.held o'.held (held_of s) (held_of record s { named = set s.named i (named.Output k' n' o') })
 change_at world s i k k' n n' o o' open' at same =
     let c = change_named s.named i k k' n n' o o' open'.apart at same in

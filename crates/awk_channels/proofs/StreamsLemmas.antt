@@ -12,8 +12,8 @@ use Rattle.awk_channels.specs.declared.named.NamedStream.{NamedStream}
 use Rattle.awk_channels.specs.declared.named.NamedStream.TheVariants as named
 use Rattle.awk_channels.specs.definitions.Inputs.{Rest}
 use Rattle.awk_channels.specs.definitions.Named as words
-use Rattle.awk_channels.specs.definitions.Streams.{number_of, name_of, numbered, AreOpenNamed, AreOthers, AreApart, IsApartFrom, held_in, is_output_among, IsSoundInput, IsSoundMain, AreSoundNamed, HaveOtherNames, AreOnce, IsMainRest, StandFor}
-use Rattle.awk_channels.specs.support.Kept.{SameAt, SameFor, SameForMain, unheld, all_unheld}
+use Rattle.awk_channels.specs.definitions.Streams.{number_of, name_of, numbered, AreOpenNamed, AreOthers, AreApart, IsApartFrom, held_in, is_output_among, IsSoundInput, IsSoundMain, AreSoundNamed, HaveOtherNames, AreOnce, IsMainRest, StandFor, unheld, all_unheld}
+use Rattle.awk_channels.specs.support.Kept.{SameAt, SameFor, SameForMain}
 
 readable_same : (id : ℕ) (log log' : List Event) → reading_of id log' ≡ reading_of id log → IsReadable id log → IsReadable id log'
 readable_same id log log' same r = record { reading = r.reading; stands = same ∙ r.stands; unended = r.unended }

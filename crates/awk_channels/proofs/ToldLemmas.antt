@@ -2,7 +2,7 @@
 use Rattle.std.proofs.Common.{◌≡◌, ◌≢◌, ◌⊎◌, inl, inr, ◌↔◌, ℕ, List, [], ◌++◌, Option, Some, None, Result, Ok, Err, refl, sym, ◌∙◌, ap, subst, append-nil}
 use Rattle.std.proofs.lemmas.Option.{none-some, same_Some}
 use Rattle.awk_world.specs.definitions.Log.{Event}
-use Rattle.awk_record.specs.Cut.{Ending, AtBreak, Cut, Found, NoMore, BrokenOff, TooLong, BadSeparator, cut_of, IsDecided}
+use Rattle.awk_record.specs.Cut.{Ending, AtBreak, Cut, Found, NoMore, BrokenOff, TooLong, cut_of, IsDecided}
 use Rattle.awk_record.specs.Buffer.{Pending, Steps, IsAnswerOf}
 use Rattle.awk_record.specs.declared.buffer.Step.{Step}
 use Rattle.awk_record.specs.declared.buffer.Step.TheVariants.{NeedMore}
@@ -38,7 +38,6 @@ told_ended NoMore a id log s whole e seen new result r none ends h =
 told_ended BrokenOff a id log s whole e seen new result r none ends h =
     ([], (h.0, refl), rest_with r [] new.bytes new.ending (sym (ap (λ b. b ++ r.more) h.1 ∙ none)) (λ e' is. (none, ends ∙ same_Some e e' (sym h.2 ∙ is))))
 told_ended TooLong a id log s whole e seen new result r none ends h = (whole, (h.0, refl), subst (λ (p : Pending). Rest a id log s whole p.bytes p.ending) (sym h.1) r)
-told_ended BadSeparator a id log s whole e seen new result r none ends h = (whole, (h.0, refl), subst (λ (p : Pending). Rest a id log s whole p.bytes p.ending) (sym h.1) r)
 
 -- what the bytes in hand decide is the same of them alone
 alone : (separator b : List ℕ) (c : Cut) (e : Ending) → cut_of separator (b ++ []) e ≡ c → cut_of separator b e ≡ c
@@ -55,14 +54,9 @@ told_decided separator a id log s whole seen new result r (inl (first, rest, dec
       subst (λ (c : Cut). Tells c result whole (rest ++ r.more)) all (answer.0, refl),
       rest_with r (rest ++ r.more) new.bytes new.ending (ap (λ b. b ++ r.more) (sym answer.1)) (λ e is. absurd (none-some e (sym answer.2 ∙ is))),
     )
-told_decided separator a id log s whole seen new result r (inr (inl decides)) h =
+told_decided separator a id log s whole seen new result r (inr decides) h =
     let here : cut_of separator seen.bytes s.ending ≡ TooLong = alone separator seen.bytes TooLong s.ending (decides [] s.ending) in
     let all : TooLong ≡ cut_of separator whole s.ending = sym (ap (λ b. cut_of separator b s.ending) r.same ∙ decides r.more s.ending) in
-    let answer = subst (λ (c : Cut). IsAnswerOf c None result seen new) here h in
-    (whole, subst (λ (c : Cut). Tells c result whole whole) all (answer.0, refl), subst (λ (p : Pending). Rest a id log s whole p.bytes p.ending) (sym answer.1) r)
-told_decided separator a id log s whole seen new result r (inr (inr decides)) h =
-    let here : cut_of separator seen.bytes s.ending ≡ BadSeparator = alone separator seen.bytes BadSeparator s.ending (decides [] s.ending) in
-    let all : BadSeparator ≡ cut_of separator whole s.ending = sym (ap (λ b. cut_of separator b s.ending) r.same ∙ decides r.more s.ending) in
     let answer = subst (λ (c : Cut). IsAnswerOf c None result seen new) here h in
     (whole, subst (λ (c : Cut). Tells c result whole whole) all (answer.0, refl), subst (λ (p : Pending). Rest a id log s whole p.bytes p.ending) (sym answer.1) r)
 
@@ -71,7 +65,6 @@ is_broken_off (Found first rest) = inr (λ (e : Found first rest ≡ BrokenOff).
 is_broken_off NoMore = inr (λ (e : NoMore ≡ BrokenOff). cc)
 is_broken_off BrokenOff = inl refl
 is_broken_off TooLong = inr (λ (e : TooLong ≡ BrokenOff). cc)
-is_broken_off BadSeparator = inr (λ (e : BadSeparator ≡ BrokenOff). cc)
 
 ending_is : (o : Option Ending) → (o ≡ None) ⊎ ((e : Ending) × (o ≡ Some e))
 ending_is None = inl refl

@@ -12,11 +12,11 @@ use Rattle.awk_channels.specs.declared.named.NamedStream.{NamedStream}
 use Rattle.awk_channels.specs.declared.named.NamedStream.TheVariants as named
 use Rattle.awk_channels.specs.definitions.Outputs.{IsOutputFault}
 use Rattle.awk_channels.specs.definitions.Named as words
-use Rattle.awk_channels.specs.definitions.Streams.{StreamsView, numbered, IsOpenMain, AreOpenNamed, AreOthers, IsApartFrom, AreApart, AreOpen, number_of, held_in, held_of, with_held, is_output_among, IsSoundMain, AreSoundNamed, AreSound, IsMainRest, StandFor, AreAs, FailsBy, Brings}
+use Rattle.awk_channels.specs.definitions.Streams.{StreamsView, numbered, IsOpenMain, AreOpenNamed, AreOthers, IsApartFrom, AreApart, AreOpen, number_of, held_in, held_of, with_held, is_output_among, IsSoundMain, AreSoundNamed, AreSound, IsMainRest, StandFor, AreAs, FailsBy, Brings, all_unheld}
 use Rattle.awk_channels.specs.definitions.NamedOutputs.{LosesBytes}
 use Rattle.awk_channels.specs.definitions.Commands.{BringsAll}
 use Rattle.awk_channels.specs.support.Buffered.{WritesAndFlushes}
-use Rattle.awk_channels.specs.support.Kept.{SameAt, all_unheld}
+use Rattle.awk_channels.specs.support.Kept.{SameAt}
 use Rattle.awk_channels.specs.support.Held.{ChangesHeld, AreEmpty, HoldsNothing}
 use Rattle.awk_channels.specs.support.Brings.{Touches, BringsHeld, BringsTo, AreFlushedBut}
 use Rattle.awk_channels.proofs.OpeningsLemmas.{receives-none}
@@ -42,7 +42,7 @@ keeps_open before after old new same main numbers h = record {
   apart_from_main = subst (λ (m : Option Input). IsApartFrom m new.named) (sym main) (apart_from_main_by old.main old.named new.named numbers h.apart_from_main);
 }
 
-same_among : (j : ℕ) (old new : StreamsView) → all_unheld new.named ≡ all_unheld old.named → is_output_among j (held_of new) ≡ is_output_among j (held_of old)
+pub same_among : (j : ℕ) (old new : StreamsView) → all_unheld new.named ≡ all_unheld old.named → is_output_among j (held_of new) ≡ is_output_among j (held_of old)
 same_among j old new same = ap (λ b. 0 == j || (1 == j || b)) (but_held_among j old.named new.named same)
 
 pub keeps_sound : (before after : WorldState) (old new : StreamsView) → Touches (λ j. is_output_among j (held_of old)) before after → new.main ≡ old.main → all_unheld new.named ≡ all_unheld old.named → AreSound before old → AreSound after new

@@ -17,3 +17,4 @@ pub use Rattle.awk_channels.specs.definitions.MainInput
 pub use Rattle.awk_channels.specs.definitions.NamedOutputs
 pub use Rattle.awk_channels.specs.definitions.NamedInputs
 pub use Rattle.awk_channels.specs.definitions.Commands
+pub use Rattle.awk_channels.specs.definitions.Flushes

@@ -6,3 +6,4 @@ pub mod MainInput
 pub mod NamedOutputs
 pub mod NamedInputs
 pub mod Commands
+pub mod Flushes

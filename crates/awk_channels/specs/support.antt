@@ -8,3 +8,4 @@ pub mod Asks
 pub mod Closes
 pub mod Printing
 pub mod ClosesSoFar
+pub mod Flushing

@@ -22,9 +22,6 @@ pub enum StreamFault {
     /// F13.
     #[error("too many streams")]
     TooManyStreams,
-    /// F15.
-    #[error("record separator too long")]
-    SeparatorTooLong,
     /// F16.
     #[error("record too long")]
     RecordTooLong,
@@ -39,7 +36,6 @@ impl From<BufferFault> for StreamFault {
     fn from(fault: BufferFault) -> Self {
         match fault {
             BufferFault::Memory => StreamFault::Memory,
-            BufferFault::SeparatorTooLong => StreamFault::SeparatorTooLong,
             BufferFault::RecordTooLong => StreamFault::RecordTooLong,
         }
     }

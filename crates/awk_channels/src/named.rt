@@ -5,13 +5,14 @@ ghost use Rattle.awk_channels.specs.definitions.Named.{is_command};
 ghost use Rattle.awk_channels.specs.definitions.Named.{is_input_command as is_input_command_so};
 ghost use Rattle.awk_channels.specs.definitions.Named.{is_output_command as is_output_command_so};
 ghost use Rattle.std.specs.Prelude.{List, ℕ, [], false, ◌≢◌, Ok, IsTrue, IfErr, OnOk, OnErr, Some, None, length, ◌<◌, vec_len, vec_capacity, ◌++◌, ◌∷◌};
-ghost use Rattle.std.specs.List.{position};
+ghost use Rattle.std.specs.List.{position, list_any};
 ghost use Rattle.awk_world.specs.definitions.WorldState.{SameOpen, FailsNow};
 ghost use Rattle.awk_channels.specs.definitions.Outputs.{IsOutputFault};
 ghost use Rattle.awk_channels.specs.definitions.Streams.{AreOpenNamed, AreApart, AreSoundNamed, held_in};
+ghost use Rattle.awk_channels.specs.definitions.Flushes.{is_output_called as is_output_called_so};
 ghost use Rattle.awk_channels.specs.support.Places.{is_named_input, is_named_output};
 ghost use Rattle.awk_channels.specs.support.Buffered.{PrintsOrHolds};
-ghost use Rattle.awk_channels.specs.support.Kept.{unheld, all_unheld};
+ghost use Rattle.awk_channels.specs.definitions.Streams.{unheld, all_unheld};
 ghost use Rattle.awk_channels.specs.support.Held.{held_by, is_an_output, AreEmpty};
 ghost use Rattle.awk_channels.specs.support.Asks.{TakesNamed};
 ghost use Rattle.awk_channels.specs.support.Brings.{FlushesNamed, BringsHeld, AreFlushedBut};
@@ -74,6 +75,15 @@ impl NamedStream {
         match self {
             NamedStream::Input { .. } => false,
             NamedStream::Output { kind, name, .. } => *kind == wanted && name.as_slice() == text,
+        }
+    }
+
+    pub fn is_output_called(&self, text: &[u8]) -> bool
+        ensures { result ≡ is_output_called_so text.now self.now }
+    {
+        match self {
+            NamedStream::Input { .. } => false,
+            NamedStream::Output { name, .. } => name.as_slice() == text,
         }
     }
 
@@ -171,6 +181,13 @@ pub fn find_called(named: &[NamedStream], text: &[u8]) -> Option<usize>
     ensures { result ≡ position (is_called_so text.now) named.now }
 {
     named.iter().position(|stream| stream.is_called(text))
+}
+
+// Whether an output of this text is among these streams.
+pub fn has_output_called(named: &[NamedStream], text: &[u8]) -> bool
+    ensures { result ≡ list_any (is_output_called_so text.now) named.now }
+{
+    named.iter().any(|stream| stream.is_output_called(text))
 }
 
 // Adds a stream for which there is room.

@@ -6,7 +6,7 @@ ghost use Rattle.awk_channels.specs.definitions.Inputs.{IsInputFault};
 ghost use Rattle.awk_channels.specs.definitions.Outputs.{IsOutputFault};
 ghost use Rattle.awk_channels.specs.definitions.Streams.{AreOpen, AreSound, IsFreshMain, IsSameMain, ClosesMain, held_of};
 ghost use Rattle.awk_channels.specs.definitions.MainInput.{OpensMain, AsksMain, EndsMain};
-ghost use Rattle.awk_channels.specs.support.Kept.{all_unheld};
+ghost use Rattle.awk_channels.specs.definitions.Streams.{all_unheld};
 ghost use Rattle.awk_channels.specs.support.Held.{HoldsNothing};
 ghost use Rattle.awk_channels.specs.support.Brings.{BringsHeld, AreFlushedBut};
 ghost use Rattle.awk_channels.specs.support.Asks.{Prepares};
@@ -22,6 +22,8 @@ use std::alloc::Global;
 use std::marker::Model;
 
 mod closings;
+mod commands;
+mod flushes;
 mod inputs;
 mod outputs;
 
@@ -125,8 +127,7 @@ impl Streams {
 
     /// The next record of the main input by this separator, read only as far as it is needed;
     /// `None` at the input's end. Fails with `Memory` (F1), `InputNotReadable` (F9) where the input
-    /// broke before the record was whole, `SeparatorTooLong` (F15) or `RecordTooLong` (F16).
-    /// (POSIX awk, INPUT FILES; RS)
+    /// broke before the record was whole, or `RecordTooLong` (F16). (POSIX awk, INPUT FILES; RS)
     pub fn next_main<W: World>(
         &mut self,
         world: &mut W,

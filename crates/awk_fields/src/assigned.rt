@@ -9,9 +9,9 @@ use awk_text::Span;
 use awk_value::{Bytes, Value, append_text};
 use std::alloc::Global;
 
-const MOST_FIELDS: i128 = 1_000_000;
+const MOST_FIELDS: i128 = 16_777_216;
 
-/// A number or a count of fields that is assigned: from 0 up to 1,000,000,
+/// A number or a count of fields that is assigned: from 0 up to 16,777,216,
 /// else `FieldNumber`.
 pub fn assigned_number(number: i128) -> Result<usize, RecordFault>
     ensures { result ≡ assignable number }

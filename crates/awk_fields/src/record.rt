@@ -244,7 +244,7 @@ impl Record {
 
     /// Gives the field this value, and makes those missing before it `Nothing`;
     /// the text is that of the fields with this separator between them, whatever
-    /// comes. A number that isn't from 1 to 1,000,000 is refused by
+    /// comes. A number that isn't from 1 to 16,777,216 is refused by
     /// `FieldNumber`: field 0 is set by `set_text`. The other error is `Memory`.
     /// An error changes nothing. (POSIX awk, Variables and Special Variables)
     pub fn set_field(
@@ -271,7 +271,7 @@ impl Record {
 
     /// Gives the record so many fields: those behind are cut off, and missing
     /// ones are `Nothing`; the text is that of the fields with this separator
-    /// between them, whatever comes. A count that isn't from 0 to 1,000,000 is
+    /// between them, whatever comes. A count that isn't from 0 to 16,777,216 is
     /// refused by `FieldNumber`; the other error is `Memory`. An error changes
     /// nothing. (POSIX awk, Variables and Special Variables: NF)
     pub fn set_count(&mut self, count: i128, separator: Bytes) -> Result<(), RecordFault>

@@ -176,6 +176,7 @@ pub fn apply_function(
         | BuiltIn::Gsub
         | BuiltIn::Match
         | BuiltIn::System
-        | BuiltIn::Close => Ok(Value::Nothing),
+        | BuiltIn::Close
+        | BuiltIn::Fflush => Ok(Value::Nothing),
     }
 }

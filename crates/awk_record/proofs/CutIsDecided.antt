@@ -3,7 +3,7 @@ use Rattle.std.proofs.Common.{◌≡◌, ◌≢◌, ◌↔◌, inl, inr, ℕ, su
 use Rattle.std.proofs.lemmas.Bool.{cases_Bool, cases_lt, cond-true, cond-false, lt-ltb, ltb-true}
 use Rattle.std.proofs.lemmas.Bool.Decides.{nat_tests}
 use Rattle.std.proofs.lemmas.List.{take-append-le, drop-append-le, drop_all, drop-drop}
-use Rattle.awk_record.specs.Cut.{Ending, AtBreak, Cut, Found, NoMore, BrokenOff, TooLong, BadSeparator, longest, begins_with, one_later, first_at, limited, cut_at, cut_behind, newlines, without_newline, cut_of, IsDecided}
+use Rattle.awk_record.specs.Cut.{Ending, AtBreak, Cut, Found, NoMore, BrokenOff, TooLong, longest, begins_with, one_later, first_at, limited, cut_at, cut_behind, newlines, without_newline, cut_of, IsDecided}
 
 pub begins_with-append : (w xs ys : List ℕ) → begins_with w xs ≡ true → begins_with w (xs ++ ys) ≡ true
 begins_with-append [] xs ys e = refl
@@ -161,8 +161,7 @@ newlines_at_least (x ∷ xs) more e = elim (cases_Bool (x == 10)) [
 -- what is found is found whatever follows
 pub cut-found : (separator bytes more : List ℕ) (ending : Ending) (first rest : List ℕ) →
     cut_of separator bytes AtBreak ≡ Found first rest → cut_of separator (bytes ++ more) ending ≡ Found first (rest ++ more)
-cut-found (c ∷ []) bytes more ending first rest e = cut_behind-found 0 (c ∷ []) (λ s. s) bytes more ending first rest e
-cut-found (c ∷ d ∷ separator) bytes more ending first rest e = cc
+cut-found (c ∷ separator) bytes more ending first rest e = cut_behind-found 0 (c ∷ separator) (λ s. s) bytes more ending first rest e
 cut-found [] bytes more ending first rest e = elim (cases_lt (newlines bytes) (length bytes)) [
   | inl lt ↦ rw (newlines-append bytes more lt, drop-append-le (newlines bytes) bytes more (newlines-fit bytes))
       (cut_behind-found (newlines bytes) (10 ∷ 10 ∷ []) without_newline (drop (newlines bytes) bytes) more ending first rest e)
@@ -178,8 +177,7 @@ over_all None k w trim s ending over = limited-over (k + length s) _ (omega arit
 
 pub cut-too_long : (separator bytes more : List ℕ) (ending : Ending) →
     cut_of separator bytes AtBreak ≡ TooLong → cut_of separator (bytes ++ more) ending ≡ TooLong
-cut-too_long (c ∷ []) bytes more ending e = cut_behind-too_long 0 (c ∷ []) (λ s. s) bytes more ending (omega arith) e
-cut-too_long (c ∷ d ∷ separator) bytes more ending e = cc
+cut-too_long (c ∷ separator) bytes more ending e = cut_behind-too_long 0 (c ∷ separator) (λ s. s) bytes more ending (omega arith) e
 cut-too_long [] bytes more ending e = elim (cases_lt (newlines bytes) (length bytes)) [
   | inl lt ↦ rw (newlines-append bytes more lt, drop-append-le (newlines bytes) bytes more (newlines-fit bytes))
       (cut_behind-too_long (newlines bytes) (10 ∷ 10 ∷ []) without_newline (drop (newlines bytes) bytes) more ending (omega arith) e)
@@ -192,16 +190,6 @@ cut-too_long [] bytes more ending e = elim (cases_lt (newlines bytes) (length by
       over_all (first_at (10 ∷ 10 ∷ []) (drop (newlines (bytes ++ more)) (bytes ++ more))) (newlines (bytes ++ more)) (10 ∷ 10 ∷ []) without_newline (drop (newlines (bytes ++ more)) (bytes ++ more)) ending (omega arith)
 ]
 
-bad_at : (o : Option ℕ) (k : ℕ) (w : List ℕ) (trim : List ℕ → List ℕ) (s : List ℕ) → cut_at o k w trim s AtBreak ≡ BadSeparator → ⊥
-bad_at (Some i) k w trim s e = elim (cases_Bool (nat_lt longest (k + (i + length w)))) [
-  | inl over ↦ let bad : TooLong ≡ BadSeparator = sym (cond-true _ _ _ over) ∙ e in cc
-  | inr within ↦ let bad : Found (take i s) (drop (i + length w) s) ≡ BadSeparator = sym (cond-false _ _ _ within) ∙ e in cc
-]
-bad_at None k w trim s e = elim (cases_Bool (nat_lt longest (k + length s))) [
-  | inl over ↦ let bad : TooLong ≡ BadSeparator = sym (cond-true _ _ _ over) ∙ e in cc
-  | inr within ↦ let bad : BrokenOff ≡ BadSeparator = sym (cond-false _ _ _ within) ∙ e in cc
-]
-
 none_at : (o : Option ℕ) (k : ℕ) (w : List ℕ) (trim : List ℕ → List ℕ) (s : List ℕ) → cut_at o k w trim s AtBreak ≡ NoMore → ⊥
 none_at (Some i) k w trim s e = elim (cases_Bool (nat_lt longest (k + (i + length w)))) [
   | inl over ↦ let bad : TooLong ≡ NoMore = sym (cond-true _ _ _ over) ∙ e in cc
@@ -212,29 +200,20 @@ none_at None k w trim s e = elim (cases_Bool (nat_lt longest (k + length s))) [
   | inr within ↦ let bad : BrokenOff ≡ NoMore = sym (cond-false _ _ _ within) ∙ e in cc
 ]
 
-pub cut-bad : (separator bytes more : List ℕ) (ending : Ending) → cut_of separator bytes AtBreak ≡ BadSeparator → cut_of separator (bytes ++ more) ending ≡ BadSeparator
-cut-bad (c ∷ []) bytes more ending e = absurd (bad_at (first_at (c ∷ []) bytes) 0 (c ∷ []) (λ s. s) bytes e)
-cut-bad (c ∷ d ∷ separator) bytes more ending e = refl
-cut-bad [] bytes more ending e = absurd (bad_at (first_at (10 ∷ 10 ∷ []) (drop (newlines bytes) bytes)) (newlines bytes) (10 ∷ 10 ∷ []) without_newline (drop (newlines bytes) bytes) e)
-
 pub cut-never_none : (separator bytes : List ℕ) → cut_of separator bytes AtBreak ≡ NoMore → ⊥
-cut-never_none (c ∷ []) bytes e = none_at (first_at (c ∷ []) bytes) 0 (c ∷ []) (λ s. s) bytes e
-cut-never_none (c ∷ d ∷ separator) bytes e = cc
+cut-never_none (c ∷ separator) bytes e = none_at (first_at (c ∷ separator) bytes) 0 (c ∷ separator) (λ s. s) bytes e
 cut-never_none [] bytes e = none_at (first_at (10 ∷ 10 ∷ []) (drop (newlines bytes) bytes)) (newlines bytes) (10 ∷ 10 ∷ []) without_newline (drop (newlines bytes) bytes) e
 
 settled : (separator bytes : List ℕ) → IsDecided separator bytes → cut_of separator bytes AtBreak ≢ BrokenOff
 settled separator bytes (inl (first, rest, always)) broken =
     let bad : BrokenOff ≡ Found first (rest ++ []) = sym broken ∙ (ap (λ b. cut_of separator b AtBreak) (sym (append-nil bytes)) ∙ always [] AtBreak) in cc
-settled separator bytes (inr (inl always)) broken =
+settled separator bytes (inr always) broken =
     let bad : BrokenOff ≡ TooLong = sym broken ∙ (ap (λ b. cut_of separator b AtBreak) (sym (append-nil bytes)) ∙ always [] AtBreak) in cc
-settled separator bytes (inr (inr always)) broken =
-    let bad : BrokenOff ≡ BadSeparator = sym broken ∙ (ap (λ b. cut_of separator b AtBreak) (sym (append-nil bytes)) ∙ always [] AtBreak) in cc
 
 settles : (separator bytes : List ℕ) (c : Cut) → cut_of separator bytes AtBreak ≡ c → c ≢ BrokenOff → IsDecided separator bytes
 settles separator bytes (Found first rest) is not_broken = inl (first, rest, λ more ending. cut-found separator bytes more ending first rest is)
-settles separator bytes TooLong is not_broken = inr (inl (λ more ending. cut-too_long separator bytes more ending is))
+settles separator bytes TooLong is not_broken = inr (λ more ending. cut-too_long separator bytes more ending is)
 settles separator bytes BrokenOff is not_broken = absurd (not_broken refl)
-settles separator bytes BadSeparator is not_broken = inr (inr (λ more ending. cut-bad separator bytes more ending is))
 settles separator bytes NoMore is not_broken = absurd (cut-never_none separator bytes is)
 
 -- what is there settles the record exactly where it would be no broken record if nothing followed

@@ -1,11 +1,10 @@
 -- The cut of bytes whose first paragraph is known.
-use Rattle.std.proofs.Common.{◌≡◌, ◌≢◌, inl, inr, ℕ, suc, ◌+◌, ◌-◌, ◌<◌, ◌≤◌, ◌==◌, true, false, List, [], ◌∷◌, ◌++◌, length, take, drop, get_or, Option, Some, None, refl, sym, ◌∙◌, ap, subst, arith, length-append, append-nil}
-use Rattle.std.specs.List.{All}
+use Rattle.std.proofs.Common.{◌≡◌, ◌≢◌, inl, inr, ℕ, suc, ◌+◌, ◌-◌, ◌<◌, ◌≤◌, ◌==◌, true, false, List, [], ◌∷◌, ◌++◌, length, take, drop, get_or, Option, refl, sym, ◌∙◌, ap, arith, length-append, append-nil}
 use Rattle.std.proofs.Math.Seq.{take-append_seam, drop-append_seam, get_or-append_seam}
-use Rattle.std.proofs.lemmas.Bool.{cases_Bool, cases_lt, cond-true, cond-false, eqb-true, eq-eqb, false≢true}
+use Rattle.std.proofs.lemmas.Bool.{cases_Bool, cases_lt, cond-true, cond-false, eqb-true, eq-eqb}
 use Rattle.std.proofs.lemmas.List.{drop-drop, get_or_append_left, get_or_past}
 use Rattle.std.proofs.lemmas.List.Elements.{All-head, All-tail}
-use Rattle.awk_record.specs.Cut.{Ending, AtEnd, AtBreak, Cut, Found, NoMore, BrokenOff, longest, begins_with, first_at, limited, unfinished, cut_at, cut_behind, newlines, without_newline, cut_of}
+use Rattle.awk_record.specs.Cut.{Ending, AtEnd, AtBreak, Found, NoMore, BrokenOff, longest, begins_with, unfinished, cut_at, cut_behind, newlines, without_newline, cut_of}
 use Rattle.awk_record.specs.definitions.Paragraph.{AreNewline, IsParagraph}
 use Rattle.awk_record.proofs.SearchFindsFirst.{first_at_some, first_at_none}
 use Rattle.awk_record.proofs.BlankLines.{two_fail}

@@ -1,7 +1,7 @@
 -- An answer of the buffer, from the cut that it looked at.
 use Rattle.std.proofs.Common.{◌≡◌, ◌≢◌, ◌⊎◌, inl, inr, ℕ, List, [], Option, Some, None, Result, Ok, refl, sym, ◌∙◌, ap, subst, append-nil, take, drop, length, ◌+◌, ◌-◌}
 use Rattle.std.proofs.lemmas.List.{take_rest, drop-drop}
-use Rattle.awk_record.specs.Cut.{Ending, AtEnd, AtBreak, Cut, Found, NoMore, BrokenOff, TooLong, BadSeparator, cut_of}
+use Rattle.awk_record.specs.Cut.{Ending, AtEnd, AtBreak, Cut, Found, NoMore, BrokenOff, TooLong, cut_of}
 use Rattle.awk_record.specs.Buffer.{Pending, IsAnswerOf, Steps}
 use Rattle.awk_record.specs.Boundary.{ending_of, ending_or_break}
 use Rattle.awk_record.specs.declared.buffer.Step.{Step}
@@ -9,7 +9,7 @@ use Rattle.awk_record.specs.declared.buffer.Step.TheVariants.{NeedMore, Broken}
 use Rattle.awk_record.specs.declared.buffer.Supply.{Supply}
 use Rattle.awk_record.specs.declared.buffer.Supply.TheVariants.{Open, Ended, Broke}
 use Rattle.awk_record.specs.declared.fault.BufferFault.{BufferFault}
-use Rattle.awk_record.proofs.CutIsDecided.{IsDecided_law, cut-found, cut-too_long, cut-bad, cut-never_none}
+use Rattle.awk_record.proofs.CutIsDecided.{IsDecided_law, cut-found, cut-too_long, cut-never_none}
 
 -- what is settled is so for each ending
 same_for_each : (separator bytes : List ℕ) (c : Cut) → cut_of separator bytes AtBreak ≡ c → c ≢ BrokenOff → (ending : Ending) → cut_of separator bytes ending ≡ c
@@ -17,8 +17,6 @@ same_for_each separator bytes (Found first rest) is other ending =
     ap (λ b. cut_of separator b ending) (sym (append-nil bytes)) ∙ (cut-found separator bytes [] ending first rest is ∙ ap (Found first) (append-nil rest))
 same_for_each separator bytes TooLong is other ending =
     ap (λ b. cut_of separator b ending) (sym (append-nil bytes)) ∙ cut-too_long separator bytes [] ending is
-same_for_each separator bytes BadSeparator is other ending =
-    ap (λ b. cut_of separator b ending) (sym (append-nil bytes)) ∙ cut-bad separator bytes [] ending is
 same_for_each separator bytes BrokenOff is other ending = absurd (other refl)
 same_for_each separator bytes NoMore is other ending = absurd (cut-never_none separator bytes is)
 
@@ -27,7 +25,6 @@ no_more_asked (Found first rest) ending result old new (answer, rest_is, ending_
 no_more_asked NoMore ending result old new (answer, rest_is, ending_is) e = cc
 no_more_asked BrokenOff ending result old new (answer, rest_is, ending_is) e = cc
 no_more_asked TooLong ending result old new (answer, same) e = cc
-no_more_asked BadSeparator ending result old new (answer, same) e = cc
 
 pub Steps-more : (separator : List ℕ) (old : Pending) → old.ending ≡ None → cut_of separator old.bytes AtBreak ≡ BrokenOff → Steps separator old (Ok NeedMore) old
 Steps-more separator old none is = record {

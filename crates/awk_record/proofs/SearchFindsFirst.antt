@@ -5,8 +5,12 @@ use Rattle.std.proofs.lemmas.Bool.Decides.{nat_tests}
 use Rattle.std.proofs.lemmas.List.{at_drop_more, get_or-drop, length-drop}
 use Rattle.memchr.specs.Find.{IsFirstByte, FindsNeedle, OccursAt, is_byte}
 use Rattle.awk_record.specs.Cut.{Ending, Found, BrokenOff, TooLong, longest, begins_with, one_later, first_at, cut_at}
-use Rattle.awk_record.specs.Boundary.{IsNotAmong}
+use Rattle.awk_record.specs.Boundary.{HasNoWord}
 use Rattle.awk_record.proofs.CutIsDecided.{begins_with-length, one_later-none}
+
+-- the byte doesn't stand among the first n bytes
+abbrev pub IsNotAmong : (byte n : ℕ) → (bytes : List ℕ) → Type 0
+IsNotAmong byte n bytes = (k : ℕ) → k < n → get_or bytes k 0 ≢ byte
 
 -- the word begins at none of the places
 pub first_at_none : (word bytes : List ℕ) → ((k : ℕ) → k < length bytes → begins_with word (drop k bytes) ≡ false) → first_at word bytes ≡ None
@@ -93,7 +97,7 @@ begins_occurs word bytes k le holds = record {
   reads = λ j less. sym (get_or-drop k bytes j 0) ∙ begins_reads word (drop k bytes) j less holds;
 }
 
-word_fails : (word bytes : List ℕ) (k : ℕ) → k ≤ length bytes → (OccursAt bytes word k → ⊥) → begins_with word (drop k bytes) ≡ false
+pub word_fails : (word bytes : List ℕ) (k : ℕ) → k ≤ length bytes → (OccursAt bytes word k → ⊥) → begins_with word (drop k bytes) ≡ false
 word_fails word bytes k le nowhere = elim (cases_Bool (begins_with word (drop k bytes))) [
   | inl holds ↦ absurd (nowhere (begins_occurs word bytes k le holds))
   | inr fails ↦ fails
@@ -119,9 +123,9 @@ none_begins word (b ∷ bytes) none (suc k) lt = elim (cases_Bool (begins_with w
   | inr fails ↦ none_begins word bytes (one_later-none (first_at word bytes) (sym (cond-false _ _ _ fails) ∙ none)) k (omega arith)
 ]
 
--- where a cut finds no byte, it is none of the bytes
-pub not_among : (c : ℕ) (bytes : List ℕ) → first_at (c ∷ []) bytes ≡ None → IsNotAmong c (length bytes) bytes
-not_among c bytes none k lt = λ is. false≢true (sym (none_begins (c ∷ []) bytes none k lt) ∙ byte_holds c bytes k lt is)
+-- where the word that is a byte doesn't stand, the byte doesn't
+pub not_among : (c n : ℕ) (bytes : List ℕ) → n ≤ length bytes → HasNoWord (c ∷ []) 0 n bytes → IsNotAmong c n bytes
+not_among c n bytes le none k lt = λ is. false≢true (sym (none k (omega arith) (omega arith)) ∙ byte_holds c bytes k (omega arith) is)
 
 pub nothing_found : (place : Option ℕ) (skipped : ℕ) (word : List ℕ) (trim : List ℕ → List ℕ) (bytes : List ℕ) (ending : Ending) → BrokenOff ≡ cut_at place skipped word trim bytes ending → place ≡ None
 nothing_found None skipped word trim bytes ending is = refl

@@ -1,4 +1,5 @@
 -- What a reader has to believe.
 pub mod Buffer
 pub mod Cut
+pub mod Literal
 pub mod Paragraph

@@ -1,10 +1,10 @@
-// Where the first record of the bytes at hand ends: at a byte, or at a blank line.
-ghost use Rattle.std.specs.Prelude.{◌≡◌, ℕ, List, ◌≤◌, ◌∷◌, [], length, take, drop};
-ghost use Rattle.awk_record.specs.Cut.{without_newline, cut_of, cut_behind, limited, unfinished, Found};
-ghost use Rattle.awk_record.specs.Boundary.{cut_by, trim_if, end_if, IsWithin, IsNotAmong, AreNewlines};
-ghost use Rattle.awk_record.specs.Boundary.{HasNoBlankLine, IsKnown, IsSkipped, Skips, IsShort};
+// Where the first record of the bytes at hand ends: at a separator, or at a blank line.
+ghost use Rattle.std.specs.Prelude.{◌≡◌, ℕ, List, ◌≤◌, ◌<◌, ◌∷◌, [], length, take, drop};
+ghost use Rattle.awk_record.specs.Cut.{without_newline, cut_of, cut_behind, limited, unfinished};
+ghost use Rattle.awk_record.specs.Boundary.{cut_by, trim_if, end_if, IsWithin, AreNewlines, HasNoWord};
+ghost use Rattle.awk_record.specs.Boundary.{IsKnown, IsSkipped, Skips, IsShort};
 
-use crate::separator_search::{ResumedSearch, first_blank_line, first_byte, leading_newlines};
+use crate::separator_search::{Progress, first_separator, first_word, leading_newlines};
 
 /// Where the first record of the bytes at hand lies.
 #[derive(Clone, Copy)]
@@ -17,12 +17,13 @@ pub enum Boundary {
     Unfinished { skipped: usize },
     /// The record is too long.
     Over,
-    /// The separator has two or more bytes.
-    NoSeparator,
 }
 
 /// The most bytes of a record with what is skipped before it and its separator.
 const LONGEST: usize = 1_073_741_824;
+
+/// What ends a paragraph.
+const BLANK_LINE: &[u8] = b"\n\n";
 
 // How many of the bytes are left without one newline at their end.
 fn trimmed_len(bytes: &[u8]) -> usize
@@ -68,19 +69,19 @@ fn boundary_at_end(skipped: usize, trims: bool, held: &[u8], at_end: bool) -> Bo
     }
 }
 
-// The boundary at a byte, which isn't among the first `searched` bytes.
-fn line_boundary(byte: u8, held: &[u8], searched: usize, at_end: bool) -> Boundary
+// The boundary at a separator of one or more bytes, which doesn't stand among the first `searched` bytes.
+fn separator_boundary(separator: &[u8], held: &[u8], searched: usize, at_end: bool) -> Boundary
+    requires some { 0 < length separator.now }
     requires within { searched ≤ length held.now }
-    requires none { IsNotAmong byte searched held.now }
-    ensures value { cut_by result held.now ≡ cut_behind 0 (byte ∷ []) (λ b. b) held.now (end_if at_end) }
+    requires none { HasNoWord separator.now 0 searched held.now }
+    ensures value { cut_by result held.now ≡ cut_behind 0 separator.now (λ b. b) held.now (end_if at_end) }
     ensures within { IsWithin (length held.now) result }
-    ensures skips { Skips (byte ∷ []) held.now result }
     ensures short { IsShort (length held.now) result }
 {
-    let Some(to) = first_byte(byte, held, searched) else {
+    let Some(to) = first_separator(separator, held, searched) else {
         return boundary_at_end(0, false, held, at_end);
     };
-    let next = to + 1;
+    let next = to + separator.len();
     if next > LONGEST {
         return Boundary::Over;
     }
@@ -93,14 +94,14 @@ fn paragraph_boundary(held: &[u8], known: usize, searched: usize, at_end: bool) 
     requires known { known ≤ length held.now }
     requires within { searched ≤ length held.now }
     requires front { AreNewlines known held.now }
-    requires none { HasNoBlankLine known searched held.now }
+    requires none { HasNoWord (10 ∷ 10 ∷ []) known searched held.now }
     ensures value { cut_by result held.now ≡ cut_of [] held.now (end_if at_end) }
     ensures within { IsWithin (length held.now) result }
     ensures skips { Skips [] held.now result }
     ensures short { IsShort (length held.now) result }
 {
     let from = leading_newlines(held, known);
-    let Some(len) = first_blank_line(held, from, searched) else {
+    let Some(len) = first_word(BLANK_LINE, held, from, searched) else {
         return boundary_at_end(from, true, held, at_end);
     };
     let next = from + (len + 2);
@@ -116,23 +117,17 @@ fn paragraph_boundary(held: &[u8], known: usize, searched: usize, at_end: bool) 
 
 /// The boundary of the first record, if the input has ended behind the bytes
 /// at hand, or else if it broke, where so much is known of the separator.
-pub fn first_boundary(
-    separator: &[u8],
-    held: &[u8],
-    search: ResumedSearch,
-    at_end: bool,
-) -> Boundary
-    requires skipped { search.skipped ≤ length held.now }
-    requires searched { search.searched ≤ length held.now }
-    requires known { IsKnown separator.now search.skipped search.searched held.now }
+pub fn first_boundary(separator: &[u8], held: &[u8], progress: Progress, at_end: bool) -> Boundary
+    requires skipped { progress.skipped ≤ length held.now }
+    requires searched { progress.searched ≤ length held.now }
+    requires known { IsKnown separator.now progress held.now }
     ensures value { cut_by result held.now ≡ cut_of separator.now held.now (end_if at_end) }
     ensures within { IsWithin (length held.now) result }
     ensures skips { Skips separator.now held.now result }
     ensures short { IsShort (length held.now) result }
 {
     match separator {
-        [] => paragraph_boundary(held, search.skipped, search.searched, at_end),
-        [byte] => line_boundary(*byte, held, search.searched, at_end),
-        _ => Boundary::NoSeparator,
+        [] => paragraph_boundary(held, progress.skipped, progress.searched, at_end),
+        [_, ..] => separator_boundary(separator, held, progress.searched, at_end),
     }
 }

@@ -5,7 +5,7 @@ ghost use Rattle.awk_record.specs.Boundary.{end_if, ending_or_break};
 
 use crate::boundary::{Boundary, first_boundary};
 use crate::fault::BufferFault;
-use crate::separator_search::ResumedSearch;
+use crate::separator_search::{Progress, ResumedSearch};
 use crate::spare_records::SpareRecords;
 use awk_value::Bytes;
 use std::alloc::Global;
@@ -87,7 +87,7 @@ impl RecordBuffer {
             bytes: Vec::new(alloc),
             start: 0,
             supply: Supply::Open,
-            search: ResumedSearch::NONE,
+            search: ResumedSearch::new(alloc),
             spares: SpareRecords::new(),
         }
     }
@@ -110,7 +110,7 @@ impl RecordBuffer {
         ensures ending { self.new.ending ≡ self.old.ending }
     {
         self.start = self.bytes.len();
-        self.search = ResumedSearch::NONE;
+        self.search.forget();
     }
 
     /// Adds the next bytes of the input. The only error is `Memory`, and it
@@ -149,9 +149,10 @@ impl RecordBuffer {
         }
     }
 
-    /// The next record by this separator: one byte, or none, where blank lines
-    /// separate. After `End` or `Broken` no bytes are left. An `Err` changes
-    /// nothing.
+    /// The next record by this separator: some bytes, at the first place where
+    /// they stand, or none, where blank lines separate. After `End` or `Broken`
+    /// no bytes are left. Fails with `Memory` (F1) or `RecordTooLong` (F16), and
+    /// an `Err` changes nothing. (POSIX awk, Variables and Special Variables: RS)
     pub fn next(&mut self, separator: &[u8]) -> Result<Step, BufferFault>
         ensures steps { result ≢ Err BufferFault.Memory → Steps separator.now self.old result self.new }
         ensures memory { result ≡ Err BufferFault.Memory → self.new ≡ self.old }
@@ -159,12 +160,12 @@ impl RecordBuffer {
         ensures short { result ≡ Ok Step.NeedMore → length self.old.bytes ≤ longest }
     {
         let held = &self.bytes[self.start..];
-        let search = self.search.resumed_for(separator);
-        match first_boundary(separator, held, search, at_end(self.supply)) {
+        let progress = self.search.progress_for(separator);
+        match first_boundary(separator, held, progress, at_end(self.supply)) {
             Boundary::Stretch { from, to, next } => {
                 let record = self.spares.copy(self.alloc, &held[from..to])?;
                 self.start += next;
-                self.search = ResumedSearch::NONE;
+                self.search.forget();
                 Ok(Step::Record(record))
             }
             Boundary::Empty => {
@@ -173,7 +174,8 @@ impl RecordBuffer {
             }
             Boundary::Unfinished { skipped } => match self.supply {
                 Supply::Open => {
-                    self.search = ResumedSearch::of(separator, skipped, held.len());
+                    let searched = held.len();
+                    self.search.keep(separator, Progress { skipped, searched })?;
                     Ok(Step::NeedMore)
                 }
                 Supply::Ended | Supply::Broke => {
@@ -182,7 +184,6 @@ impl RecordBuffer {
                 }
             },
             Boundary::Over => Err(BufferFault::RecordTooLong),
-            Boundary::NoSeparator => Err(BufferFault::SeparatorTooLong),
         }
     }
 }

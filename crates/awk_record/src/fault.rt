@@ -9,9 +9,6 @@ pub enum BufferFault {
     /// F1.
     #[error("out of memory")]
     Memory,
-    /// F15.
-    #[error("record separator too long")]
-    SeparatorTooLong,
     /// F16.
     #[error("record too long")]
     RecordTooLong,

@@ -4,6 +4,7 @@
 ghost use Rattle.std.specs.Prelude.{◌≡◌, ◌≢◌, ◌↔◌, ℕ, ◌+◌, ◌<◌, ◌≤◌, List, [], ◌∷◌, ◌++◌, length};
 ghost use Rattle.std.specs.List.{All};
 ghost use Rattle.awk_record.specs.Cut.{Ending, AtEnd, AtBreak, Found, NoMore, BrokenOff, longest, cut_of, IsDecided};
+ghost use Rattle.awk_record.specs.Literal.{StandsAt};
 ghost use Rattle.awk_record.specs.Paragraph.{AreNewline, IsParagraph};
 
 mod boundary;
@@ -34,6 +35,21 @@ pub fn line_law()
     ensures broken { (c : ℕ) (bytes : List ℕ) →
         All (λ b. b ≢ c) bytes → length bytes ≤ longest →
         cut_of (c ∷ []) bytes AtBreak ≡ BrokenOff }
+{}
+
+/// Where the separator has one or more bytes, a record goes up to the first place where it stands, and the bytes behind it are
+/// left. Those behind the last separator are a record, unless the input broke.
+pub fn literal_law()
+    ensures literal { (separator first rest : List ℕ) (ending : Ending) → separator ≢ [] →
+        ((k : ℕ) → k < length first → StandsAt k separator (first ++ (separator ++ rest)) → ⊥) →
+        length first + length separator ≤ longest →
+        cut_of separator (first ++ (separator ++ rest)) ending ≡ Found first rest }
+    ensures last { (separator bytes : List ℕ) → separator ≢ [] → ((k : ℕ) → StandsAt k separator bytes → ⊥) →
+        bytes ≢ [] → length bytes ≤ longest →
+        cut_of separator bytes AtEnd ≡ Found bytes [] }
+    ensures broken { (separator bytes : List ℕ) → separator ≢ [] → ((k : ℕ) → StandsAt k separator bytes → ⊥) →
+        length bytes ≤ longest →
+        cut_of separator bytes AtBreak ≡ BrokenOff }
 {}
 
 /// Where the separator is empty, newlines in front are skipped, and a paragraph goes up to the first two newlines in a row.

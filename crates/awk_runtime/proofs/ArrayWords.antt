@@ -1,26 +1,24 @@
 -- What is done to arrays.
-use Rattle.std.proofs.Common.{◌≡◌, ◌≤◌, ℕ, zero, suc, List, [], ◌∷◌, ◌++◌, map, slice_get, Option, Some, None, Result, Ok, Err, refl, sym, ap, ◌∙◌, subst, arith}
+use Rattle.std.proofs.Common.{◌≡◌, ℕ, zero, suc, List, [], ◌∷◌, length, map, slice_get, pos, Ok, refl, sym, ap, ◌∙◌, subst, arith}
 use Rattle.std.specs.Prelude.{slice_set, is_some, unwrap_or, Bool}
 use Rattle.std.specs.Map.{keys_of}
-use Rattle.std.specs.Global.{Vec}
 use Rattle.awk_value.specs.declared.value.Value.{Value}
 use Rattle.awk_value.specs.declared.value.Value.TheVariants as value
 use Rattle.awk_table.specs.Arrays.{Array as Elements, value_at, with_pair, with_key, without}
-use Rattle.awk_semantics.specs.declared.halt.Halt.{Halt}
 use Rattle.awk_semantics.specs.declared.local.Local.{Local}
 use Rattle.awk_semantics.specs.declared.local.Local.TheVariants as local
-use Rattle.awk_semantics.specs.State.{Frame, State, Out, Run}
-use Rattle.awk_semantics.specs.Primitives.{elements_from, read_element_at, store_element_at, has_element_at, delete_element_at, keys_at, fill_array_at}
+use Rattle.awk_semantics.specs.State.{Frame, State, Run, ◌>>=◌, go_on, lift}
+use Rattle.awk_semantics.specs.Primitives.{elements_from, read_element_at, store_element_at, has_element_at, delete_element_at, clear_array_at, array_length_at, keys_at, fill_array_at}
 use Rattle.awk_storage.specs.declared.position.Array.{Array}
 use Rattle.awk_storage.specs.declared.position.Array.TheVariants as array
 use Rattle.awk_storage.specs.Positions.{newest_locals, number_of_local, number_at, read_element_of, store_element_of}
-use Rattle.awk_storage.specs.Forms.{contains_at, delete_at, keys_of_array, fill_at}
+use Rattle.awk_storage.specs.Forms.{contains_at, delete_at, clear_at, count_elements_at, keys_of_array, fill_at}
 use Rattle.awk_storage.specs.support.Frames.{FramesView, newest_of}
 use Rattle.awk_storage.specs.support.Tables.{array_of}
 use Rattle.awk_runtime.specs.declared.runtime.Runtime.{Runtime}
 use Rattle.awk_runtime.specs.support.Simulation.{frame_view, OwnRelation, Changes}
-use Rattle.awk_runtime.specs.support.Calling.{number_of_kept, kept_number, listed}
-use Rattle.awk_runtime.proofs.Composition.{OwnPart, own_changes}
+use Rattle.awk_runtime.specs.support.Calling.{number_of_kept, kept_number}
+use Rattle.awk_runtime.proofs.Composition.{own_changes}
 
 -- the number of an array
 
@@ -93,6 +91,14 @@ module _ (m : Runtime) (a : Array) (key : List ℕ) (n : ℕ) (number : n ≡ ke
   pub element_found : {b : Bool} → b ≡ is_some (value_at (array_of m.arrays n) key) → Changes (contains_at a key) m m (Ok b)
   unfolding contains_at has_element_at
   element_found given = array_changes m (contains_at a key) a (λ l k. is_some (value_at (array_of l k) key)) (λ l k. l) n (λ s. refl) number given refl
+
+pub array_cleared : (m : Runtime) (a : Array) (n : ℕ) → n ≡ kept_number a m.frames → {xs : List Elements} → xs ≡ slice_set m.arrays n [] → Changes (clear_at a) m (record m { arrays = xs }) (Ok tt)
+unfolding clear_at clear_array_at
+array_cleared m a n number made = array_changes m (clear_at a) a (λ l k. tt) (λ l k. slice_set l k []) n (λ s. refl) number refl made
+
+pub elements_counted : (m : Runtime) (a : Array) (n : ℕ) → n ≡ kept_number a m.frames → {v : Value} → v ≡ value.Number (pos (length (array_of m.arrays n))) → Changes (count_elements_at a) m m (Ok v)
+unfolding count_elements_at array_length_at ◌>>=◌ go_on lift
+elements_counted m a n number given = array_changes m (count_elements_at a) a (λ l k. value.Number (pos (length (array_of l k)))) (λ l k. l) n (λ s. refl) number given refl
 
 pub keys_listed : (m : Runtime) (a : Array) (n : ℕ) → n ≡ kept_number a m.frames → {keys : List (List ℕ)} → keys ≡ keys_of (array_of m.arrays n) → Changes (keys_of_array a) m m (Ok keys)
 unfolding keys_of_array keys_at

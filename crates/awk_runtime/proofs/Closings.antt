@@ -4,7 +4,7 @@ use Rattle.std.specs.Prelude.{filter, bytes_eq}
 use Rattle.awk_world.specs.declared.world.InputKind.{InputKind}
 use Rattle.awk_world.specs.declared.world.OutputKind.{OutputKind}
 use Rattle.awk_channels.specs.declared.fault.StreamFault.{StreamFault}
-use Rattle.awk_channels.specs.declared.fault.StreamFault.TheVariants.{Memory, WriteFailed, InputNotReadable, OutputNotOpened, TooManyStreams, SeparatorTooLong, RecordTooLong}
+use Rattle.awk_channels.specs.declared.fault.StreamFault.TheVariants.{Memory, WriteFailed, InputNotReadable, OutputNotOpened, TooManyStreams, RecordTooLong}
 use Rattle.awk_channels.specs.declared.input.Input.{Input}
 use Rattle.awk_channels.specs.declared.named.NamedStream.{NamedStream}
 use Rattle.awk_channels.specs.declared.named.NamedStream.TheVariants as named
@@ -16,16 +16,17 @@ use Rattle.awk_channels.specs.Grows.{Grows}
 use Rattle.awk_channels.specs.Named as words
 use Rattle.awk_channels.specs.Streams.{StreamsView, StandFor, numbered, printed_openings}
 use Rattle.awk_channels.specs.MainInput.{closed_main}
-use Rattle.awk_channels.specs.Commands.{closing_answer, ClosesStream, ClosesEach, BringsAll, names_called, all_names, ClosesNames, ClosesText, RanCommand, RunsCommand, EndsAll, Finishes}
+use Rattle.awk_channels.specs.Commands.{closing_answer, ClosesStream, ClosesEach, names_called, all_names, ClosesNames, ClosesText, RanCommand, RunsCommand, EndsAll, Finishes}
 use Rattle.awk_semantics.specs.State.{Closes, Runs, Ends, Effect, Requested, State, Out, ◌>>=◌, go_on, ret}
 use Rattle.awk_semantics.specs.Streams.{has_the_name, without_stream, closed_by, close_stream, streams_named, close_each, close_named, run_command}
 use Rattle.awk_semantics.specs.Meaning.{closings_of, outputs_from, first_outputs, outputs_after}
-use Rattle.awk_semantics.specs.Order.{AreBetween, ClosesAs, first_stage}
+use Rattle.awk_semantics.specs.Order.{ClosesAs, first_stage}
 use Rattle.awk_runtime.specs.declared.runtime.Runtime.{Runtime}
 use Rattle.awk_runtime.specs.support.Simulation.{main_number, stage_of, StreamsRelation, StateRelation, ResultRelation, SimulatesLogged, Follows, Beside, halted}
 use Rattle.awk_runtime.specs.support.Endings.{effects_to_end, IsWhole, EndsRun}
 use Rattle.awk_runtime.proofs.Composition.{then_logged}
-use Rattle.awk_runtime.proofs.Effects.{turn_between, turn_requested, outputs-append}
+use Rattle.awk_runtime.proofs.Effects.{turn_requested, outputs-append}
+use Rattle.awk_runtime.proofs.Flushes.{all_brought, brought_stands}
 use Rattle.awk_runtime.proofs.Steps.{beside_holds}
 use Rattle.awk_runtime.proofs.Turns.{own_at, outputs_requested, goes_bringing, turn_brought, brought_as, memory_loses, write_loses, stage_same}
 use Rattle.awk_runtime.proofs.MainInput.{closes_stands}
@@ -68,7 +69,6 @@ ran_logged command (Err WriteFailed) beside told = write_loses (run_command comm
 ran_logged command (Err InputNotReadable) beside told = absurd told.ran
 ran_logged command (Err OutputNotOpened) beside told = absurd told.ran
 ran_logged command (Err TooManyStreams) beside told = absurd told.ran
-ran_logged command (Err SeparatorTooLong) beside told = absurd told.ran
 ran_logged command (Err RecordTooLong) beside told = absurd told.ran
 
 pub run_follows : {is_logged : Type 0} (command text : List ℕ) (r : Result ℤ StreamFault) {old new : Runtime} {before after : WorldState} → text ≡ command → Beside old new → (is_logged → RunsCommand text before old.streams r after new.streams) → Follows is_logged (run_command command) old before new after (halted r)
@@ -76,26 +76,6 @@ run_follows {is_logged = is_logged} command text r {old = old} {new = new} {befo
     subst (λ (l : List ℕ). Follows is_logged (run_command l) old before new after (halted r)) named (record {
       simulates = record { steps = omega (arith, beside.steps); names = beside.names; told = λ t. ran_logged text r beside (told t) };
     })
-
--- all outputs are brought
-
-brought_stands : (oracle : Oracle) (old new : StreamsView) (before after : WorldState) (s : State) (past : List Effect) → BringsAll before old after new → StreamsRelation oracle old before s past → StreamsRelation oracle new after s (past ++ [])
-brought_stands oracle old new before after s past told stands = record {
-  outside = stands.outside;
-  openings = λ k n. stands.openings k n ∙ sym (told.counts.inputs k n);
-  output_openings = λ k n. stands.output_openings k n ∙ sym (told.counts.outputs k n);
-  closings = stands.closings ∙ sym told.counts.closings;
-  runs = stands.runs ∙ sym told.counts.runs;
-  outputs = stands.outputs ∙ ap (λ (l : List Effect). length (outputs_after l)) (sym (append-nil past));
-  are = told.same oracle s.main s.streams stands.are;
-  printed = told.printed ∙ (stands.printed ∙ ap (λ (l : List Effect). outputs_after l) (sym (append-nil past)));
-  turn = turn_between oracle past [] first_stage (stage_of before.log old) (stage_of after.log new) refl stands.turn (record {
-    events = (goes_bringing before.log after.log old told.brings.only).events;
-    log = (goes_bringing before.log after.log old told.brings.only).log;
-    between = subst (λ (m : Option Input). AreBetween (main_number old.main) (goes_bringing before.log after.log old told.brings.only).events (main_number m)) (sym told.main) (goes_bringing before.log after.log old told.brings.only).between;
-    streams = told.numbers;
-  });
-}
 
 -- a stream is closed
 
@@ -190,7 +170,7 @@ names_logged text (x ∷ xs) answer {old = old} {new = new} {before = before} {a
     let closes = each_logged zs (negsuc 0) answer {old = between old told.streams} {new = new} (between_beside old told.streams new beside) brought (subst (λ (l : List words.Named). ClosesEach l (negsuc 0) told.world told.streams answer after new.streams) (sym names) told.closes) in
     let before_them : StateRelation oracle (between old told.streams) told.world s past = record {
       clear = told.brings.no_failure ∙ stands.clear;
-      streams = subst (λ (l : List Effect). StreamsRelation oracle told.streams told.world s l) (append-nil past) (brought_stands oracle old.streams told.streams before told.world s past told.brings stands.streams);
+      streams = subst (λ (l : List Effect). StreamsRelation oracle told.streams told.world s l) (append-nil past) (brought_stands oracle old.streams told.streams before told.world s past (all_brought told.brings) stands.streams);
       holds = beside_holds (beside_between old told.streams) stands.holds;
     } in
     closes.means oracle s past consistent before_them
@@ -206,7 +186,6 @@ text_closed text (Err WriteFailed) beside told = write_loses (close_named text) 
 text_closed text (Err InputNotReadable) beside told = absurd told.closed
 text_closed text (Err OutputNotOpened) beside told = absurd told.closed
 text_closed text (Err TooManyStreams) beside told = absurd told.closed
-text_closed text (Err SeparatorTooLong) beside told = absurd told.closed
 text_closed text (Err RecordTooLong) beside told = absurd told.closed
 
 pub close_follows : {is_logged : Type 0} (name text : List ℕ) (r : Result ℤ StreamFault) {old new : Runtime} {before after : WorldState} → text ≡ name → Beside old new → (is_logged → ClosesText text before old.streams r after new.streams) → Follows is_logged (close_named name) old before new after (halted r)
@@ -269,7 +248,7 @@ ends_whole : (oracle : Oracle) (old new : StreamsView) (before after : WorldStat
 ends_whole oracle old new before after s past e received stands =
     let over : List Effect = past ++ Requested Ends ∷ [] in
     let brought : AreBrought (printed_openings e.world e.streams) e.world.log = subst (λ (os : List Opening). AreBrought os e.world.log) (sym e.brings.printed) e.brings.brings.brought in
-    let first : StreamsRelation oracle e.streams e.world s past = subst (λ (l : List Effect). StreamsRelation oracle e.streams e.world s l) (append-nil past) (brought_stands oracle old e.streams before e.world s past e.brings stands) in
+    let first : StreamsRelation oracle e.streams e.world s past = subst (λ (l : List Effect). StreamsRelation oracle e.streams e.world s l) (append-nil past) (brought_stands oracle old e.streams before e.world s past (all_brought e.brings) stands) in
     let closed : StreamsRelation oracle e.streams' e.world' (record s { main = None }) over = subst (λ (l : List Effect). StreamsRelation oracle e.streams' e.world' (record s { main = None }) l) (append-nil over) (closes_stands oracle e.streams e.streams' e.world e.world' s over e.main (ended_stands oracle e.streams e.world s past brought first)) in
     let still : AreBrought (printed_openings e.world' e.streams') e.world'.log = subst (λ (os : List Opening). AreBrought os e.world'.log) (sym e.main.printed) (main_brought e.streams.main e.main.adds.0 (printed_openings e.world e.streams) e.world.log e.world'.log e.main.adds.1 brought) in
     let closes : ClosesEach (map words.named_of s.streams) (pos 0) e.world' e.streams' e.answer after new = subst (λ (l : List words.Named). ClosesEach l (pos 0) e.world' e.streams' e.answer after new) (sym (all_as oracle before.log old.named s.streams stands.are.named)) e.closes in

@@ -12,6 +12,7 @@ pub mod NameWords
 pub mod EndWords
 pub mod PlaceWords
 pub mod Turns
+pub mod Flushes
 pub mod Prints
 pub mod Openings
 pub mod CallLemmas

@@ -2,11 +2,11 @@
 use Rattle.std.proofs.Common.{◌≡◌, ◌≢◌, ℕ, ℤ, ◌+◌, true, false, ◌&&◌, List, [], ◌∷◌, ◌++◌, length, Option, Some, None, is_some, Result, Ok, Err, IfErr, ◌⊎◌, inl, inr, refl, sym, ap, ◌∙◌, subst, append-nil, arith}
 use Rattle.std.specs.Prelude.{bytes_eq}
 use Rattle.awk_value.specs.Values.{str_of}
-use Rattle.awk_record.specs.Cut.{Cut, Found, NoMore, BrokenOff, TooLong, BadSeparator, cut_of}
+use Rattle.awk_record.specs.Cut.{Cut, Found, NoMore, BrokenOff, TooLong, cut_of}
 use Rattle.awk_record.specs.Buffer.{Pending}
 use Rattle.awk_world.specs.declared.world.InputKind.{InputKind}
 use Rattle.awk_channels.specs.declared.fault.StreamFault.{StreamFault}
-use Rattle.awk_channels.specs.declared.fault.StreamFault.TheVariants.{Memory, WriteFailed, InputNotReadable, OutputNotOpened, TooManyStreams, SeparatorTooLong, RecordTooLong}
+use Rattle.awk_channels.specs.declared.fault.StreamFault.TheVariants.{Memory, WriteFailed, InputNotReadable, OutputNotOpened, TooManyStreams, RecordTooLong}
 use Rattle.awk_channels.specs.declared.input.Input.{Input}
 use Rattle.awk_channels.specs.Log.{Event, OpenedInput, Closed, logged}
 use Rattle.awk_channels.specs.WorldState.{WorldState}
@@ -26,8 +26,7 @@ use Rattle.awk_semantics.specs.Order.{GoesBetween, ReadsAsRequested, ReadsFrom, 
 use Rattle.awk_variables.specs.declared.special.Special.TheVariants.{Rs}
 use Rattle.awk_variables.specs.Variables.{value_of, name_of}
 use Rattle.awk_runtime.specs.declared.runtime.Runtime.{Runtime}
-use Rattle.awk_runtime.specs.support.Simulation.{OwnRelation, main_number, stage_of, StreamsRelation, StateRelation, ResultRelation, SimulatesLogged, Simulates, Beside, halted}
-use Rattle.awk_runtime.specs.support.Inputs.{ClosesMainInput}
+use Rattle.awk_runtime.specs.support.Simulation.{OwnRelation, main_number, stage_of, StreamsRelation, StateRelation, ResultRelation, SimulatesLogged, Simulates, Follows, Beside, halted}
 use Rattle.awk_runtime.proofs.Effects.{turn_between, turn_requested, begins_still}
 use Rattle.awk_runtime.proofs.Steps.{beside_holds}
 use Rattle.awk_runtime.proofs.Turns.{own_at, outputs_requested, stage_same}
@@ -130,7 +129,6 @@ opens_logged kind path (Err Memory) {new = new} {before = before} {after = after
 opens_logged kind path (Err WriteFailed) beside none same told fault = absurd (elim fault [ inl e ↦ (cc) | inr e ↦ (cc) ])
 opens_logged kind path (Err OutputNotOpened) beside none same told fault = absurd (elim fault [ inl e ↦ (cc) | inr e ↦ (cc) ])
 opens_logged kind path (Err TooManyStreams) beside none same told fault = absurd (elim fault [ inl e ↦ (cc) | inr e ↦ (cc) ])
-opens_logged kind path (Err SeparatorTooLong) beside none same told fault = absurd (elim fault [ inl e ↦ (cc) | inr e ↦ (cc) ])
 opens_logged kind path (Err RecordTooLong) beside none same told fault = absurd (elim fault [ inl e ↦ (cc) | inr e ↦ (cc) ])
 
 pub opens_simulates : {is_logged : Type 0} (kind : InputKind) (path : List ℕ) (r : Result (Unit {0}) StreamFault) {old new : Runtime} {before after : WorldState} → Beside old new → old.streams.main ≡ None
@@ -227,9 +225,6 @@ asked_comes BrokenOff oracle new after r separator whole left s past told stands
 asked_comes TooLong oracle new after r separator whole left s past told stands =
     subst (λ x. ResultRelation oracle new after (halted x) (taken TooLong separator whole s) past) (sym told.0)
     (refl, subst (λ l. StateRelation oracle new after (with_rest s l whole.ending) (past ++ Requested (RecordOfMain separator whole.bytes) ∷ [])) told.1 stands)
-asked_comes BadSeparator oracle new after r separator whole left s past told stands =
-    subst (λ x. ResultRelation oracle new after (halted x) (taken BadSeparator separator whole s) past) (sym told.0)
-    (refl, subst (λ l. StateRelation oracle new after (with_rest s l whole.ending) (past ++ Requested (RecordOfMain separator whole.bytes) ∷ [])) told.1 stands)
 
 some_rest : (oracle : Oracle) (log : List Event) (main : Option Input) (rest : Option Source) → is_some main ≡ true → IsMainRest oracle log main rest → (whole : Source) × (rest ≡ Some whole)
 some_rest oracle log None rest there stands = absurd (cc)
@@ -281,7 +276,6 @@ asks_by separator (Err WriteFailed) rs beside there same_main told unwritten = a
 asks_by separator (Err InputNotReadable) rs beside there same_main told unwritten = asks_logged separator (Err InputNotReadable) rs beside there same_main (λ (e : Err InputNotReadable ≡ Err Memory). absurd (cc)) told.failure told
 asks_by separator (Err OutputNotOpened) rs beside there same_main told unwritten = asks_logged separator (Err OutputNotOpened) rs beside there same_main (λ (e : Err OutputNotOpened ≡ Err Memory). absurd (cc)) told.failure told
 asks_by separator (Err TooManyStreams) rs beside there same_main told unwritten = asks_logged separator (Err TooManyStreams) rs beside there same_main (λ (e : Err TooManyStreams ≡ Err Memory). absurd (cc)) told.failure told
-asks_by separator (Err SeparatorTooLong) rs beside there same_main told unwritten = asks_logged separator (Err SeparatorTooLong) rs beside there same_main (λ (e : Err SeparatorTooLong ≡ Err Memory). absurd (cc)) told.failure told
 asks_by separator (Err RecordTooLong) rs beside there same_main told unwritten = asks_logged separator (Err RecordTooLong) rs beside there same_main (λ (e : Err RecordTooLong ≡ Err Memory). absurd (cc)) told.failure told
 
 pub asks_simulates : {is_logged : Type 0} (separator : List ℕ) (r : Result (Option (List ℕ)) StreamFault) {old new : Runtime} {before after : WorldState} → separator ≡ str_of (value_of old.specials (name_of Rs)) → Beside old new → is_some old.streams.main ≡ true → IsSameMain old.streams.main new.streams.main
@@ -349,11 +343,8 @@ closes_logged {old = old} {new = new} {before = before} {after = after} beside t
   );
 }
 
-pub closes_simulates : {is_logged : Type 0} {old new : Runtime} {before after : WorldState} → Beside old new → new.streams ≡ record old.streams { main = None } → (is_logged → EndsMain before old.streams after new.streams) → ClosesMainInput is_logged old before new after
-closes_simulates beside same told = record {
-  simulates = record { steps = omega (arith, beside.steps); names = beside.names; told = λ t. closes_logged beside (told t) };
-  main = ap (λ (v : StreamsView). v.main) same;
-}
+pub closes_follows : {is_logged : Type 0} {old new : Runtime} {before after : WorldState} → Beside old new → (is_logged → EndsMain before old.streams after new.streams) → Follows is_logged close_main old before new after (Ok tt)
+closes_follows beside told = record { simulates = record { steps = omega (arith, beside.steps); names = beside.names; told = λ t. closes_logged beside (told t) } }
 
 pub none_of : (o : Option Input) → is_some o ≡ false → o ≡ None
 none_of None e = refl

@@ -3,11 +3,11 @@ use Rattle.std.proofs.Common.{◌≡◌, ◌≢◌, ◌<◌, ◌≤◌, ◌+◌,
 use Rattle.std.specs.Prelude.{nat_le, bytes_eq}
 use Rattle.std.proofs.lemmas.Bool.{le-leb, lt-leb}
 use Rattle.awk_value.specs.Values.{str_of}
-use Rattle.awk_record.specs.Cut.{Cut, Found, NoMore, BrokenOff, TooLong, BadSeparator, cut_of}
+use Rattle.awk_record.specs.Cut.{Cut, Found, NoMore, BrokenOff, TooLong, cut_of}
 use Rattle.awk_world.specs.declared.world.InputKind.{InputKind}
 use Rattle.awk_world.specs.declared.world.InputKind.TheVariants as input
 use Rattle.awk_channels.specs.declared.fault.StreamFault.{StreamFault}
-use Rattle.awk_channels.specs.declared.fault.StreamFault.TheVariants.{Memory, WriteFailed, InputNotReadable, OutputNotOpened, TooManyStreams, SeparatorTooLong, RecordTooLong}
+use Rattle.awk_channels.specs.declared.fault.StreamFault.TheVariants.{Memory, WriteFailed, InputNotReadable, OutputNotOpened, TooManyStreams, RecordTooLong}
 use Rattle.awk_channels.specs.declared.input.NextNamed.{NextNamed}
 use Rattle.awk_channels.specs.declared.named.NamedStream.{NamedStream}
 use Rattle.awk_channels.specs.declared.named.NamedStream.TheVariants as named
@@ -180,7 +180,6 @@ input_told kind name (Err Memory) beside told = memory_loses (open_input kind na
 input_told kind name (Err WriteFailed) beside told = write_loses (open_input kind name) told.grows told.opened.begins told.failure
 input_told kind name (Err InputNotReadable) beside told = absurd told.opened
 input_told kind name (Err OutputNotOpened) beside told = absurd told.opened
-input_told kind name (Err SeparatorTooLong) beside told = absurd told.opened
 input_told kind name (Err RecordTooLong) beside told = absurd told.opened
 
 -- streams of which none is this input, or one alone whose rest is this already, are the same with this rest
@@ -267,12 +266,6 @@ named_comes TooLong oracle new after r kind name separator whole left s past tol
       subst (λ (xs : List words.Stream). StateRelation oracle new after (record s { streams = xs }) (past ++ Requested (RecordOf kind name separator whole.bytes) ∷ [])) (keeps told.1)
           (subst (λ l. StateRelation oracle new after (with_left kind name l whole.ending s) (past ++ Requested (RecordOf kind name separator whole.bytes) ∷ [])) told.1 stands),
     )
-named_comes BadSeparator oracle new after r kind name separator whole left s past told stands keeps =
-    subst (λ x. ResultRelation oracle new after (answers_of (halted x)) (named_taken BadSeparator kind name separator whole s) past) (sym told.0) (
-      refl,
-      subst (λ (xs : List words.Stream). StateRelation oracle new after (record s { streams = xs }) (past ++ Requested (RecordOf kind name separator whole.bytes) ∷ [])) (keeps told.1)
-          (subst (λ l. StateRelation oracle new after (with_left kind name l whole.ending s) (past ++ Requested (RecordOf kind name separator whole.bytes) ∷ [])) told.1 stands),
-    )
 
 -- what the definitions take, by the code's RS
 named_as : (kind : InputKind) (name : List ℕ) (m : Runtime) (s : State) (whole : Source) → OwnRelation m s → rest_in s.streams kind name ≡ Some whole → take_named kind name s ≡ named_taken_of (Some whole) kind name (str_of (value_of m.specials (name_of Rs))) s
@@ -307,7 +300,6 @@ named_by kind name separator (Err WriteFailed) {new = new} {before = before} {af
 named_by kind name separator (Err InputNotReadable) rs beside once told = named_logged kind name separator (Err InputNotReadable) rs beside once (λ (e : Err InputNotReadable ≡ Err Memory). absurd (cc)) told.failure told
 named_by kind name separator (Err OutputNotOpened) rs beside once told = named_logged kind name separator (Err OutputNotOpened) rs beside once (λ (e : Err OutputNotOpened ≡ Err Memory). absurd (cc)) told.failure told
 named_by kind name separator (Err TooManyStreams) rs beside once told = named_logged kind name separator (Err TooManyStreams) rs beside once (λ (e : Err TooManyStreams ≡ Err Memory). absurd (cc)) told.failure told
-named_by kind name separator (Err SeparatorTooLong) rs beside once told = named_logged kind name separator (Err SeparatorTooLong) rs beside once (λ (e : Err SeparatorTooLong ≡ Err Memory). absurd (cc)) told.failure told
 named_by kind name separator (Err RecordTooLong) rs beside once told = named_logged kind name separator (Err RecordTooLong) rs beside once (λ (e : Err RecordTooLong ≡ Err Memory). absurd (cc)) told.failure told
 
 -- the one behind the other

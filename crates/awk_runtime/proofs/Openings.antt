@@ -6,7 +6,7 @@ use Rattle.awk_world.specs.declared.world.OutputKind.{OutputKind}
 use Rattle.awk_world.specs.declared.world.OutputKind.TheVariants as output
 use Rattle.awk_world.specs.declared.world.Mode.{Mode}
 use Rattle.awk_channels.specs.declared.fault.StreamFault.{StreamFault}
-use Rattle.awk_channels.specs.declared.fault.StreamFault.TheVariants.{Memory, WriteFailed, InputNotReadable, OutputNotOpened, TooManyStreams, SeparatorTooLong, RecordTooLong}
+use Rattle.awk_channels.specs.declared.fault.StreamFault.TheVariants.{Memory, WriteFailed, InputNotReadable, OutputNotOpened, TooManyStreams, RecordTooLong}
 use Rattle.awk_channels.specs.declared.streams.Target.{Target}
 use Rattle.awk_channels.specs.declared.streams.Target.TheVariants as target
 use Rattle.awk_channels.specs.WorldState.{WorldState}
@@ -170,7 +170,6 @@ output_told kind name mode (Err TooManyStreams) beside told = output_full kind n
 output_told kind name mode (Err Memory) beside told = memory_loses (open_output kind name mode) told.grows told.opened.begins told.failure
 output_told kind name mode (Err WriteFailed) beside told = write_loses (open_output kind name mode) told.grows told.opened.begins told.failure
 output_told kind name mode (Err InputNotReadable) beside told = absurd told.opened
-output_told kind name mode (Err SeparatorTooLong) beside told = absurd told.opened
 output_told kind name mode (Err RecordTooLong) beside told = absurd told.opened
 
 pub output_opens : {is_logged : Type 0} (kind : OutputKind) (name : List ℕ) (mode : Mode) (r : Result Target StreamFault) {old new : Runtime} {before after : WorldState} → Beside old new → (is_logged → OpensOutput kind name mode before old.streams r after new.streams) → OpensTarget is_logged (open_output kind name mode) old before new after (halted r)

@@ -3,7 +3,7 @@ use Rattle.std.proofs.Common.{rules, ◌≡◌, ◌==◌, true, ℕ, List, [], �
 use Rattle.awk_value.specs.declared.value.Value.{Value}
 use Rattle.awk_value.specs.Values.{str_of}
 use Rattle.awk_channels.specs.declared.fault.StreamFault.{StreamFault}
-use Rattle.awk_channels.specs.declared.fault.StreamFault.TheVariants.{Memory, WriteFailed, InputNotReadable, OutputNotOpened, TooManyStreams, SeparatorTooLong, RecordTooLong}
+use Rattle.awk_channels.specs.declared.fault.StreamFault.TheVariants.{Memory, WriteFailed, InputNotReadable, OutputNotOpened, TooManyStreams, RecordTooLong}
 use Rattle.awk_channels.specs.declared.input.Input.{Input}
 use Rattle.awk_channels.specs.declared.streams.Target.{Target}
 use Rattle.awk_channels.specs.declared.streams.Target.TheVariants as target
@@ -96,7 +96,6 @@ print_told (Err WriteFailed) to bytes beside told fault = record { grows = told.
 print_told (Err InputNotReadable) to bytes beside told fault = absurd (elim fault [ inl e ↦ (cc) | inr e ↦ (cc) ])
 print_told (Err OutputNotOpened) to bytes beside told fault = absurd (elim fault [ inl e ↦ (cc) | inr e ↦ (cc) ])
 print_told (Err TooManyStreams) to bytes beside told fault = absurd (elim fault [ inl e ↦ (cc) | inr e ↦ (cc) ])
-print_told (Err SeparatorTooLong) to bytes beside told fault = absurd (elim fault [ inl e ↦ (cc) | inr e ↦ (cc) ])
 print_told (Err RecordTooLong) to bytes beside told fault = absurd (elim fault [ inl e ↦ (cc) | inr e ↦ (cc) ])
 
 same_opening : (o : Option ℕ) (m n : ℕ) → o ≡ Some m → o ≡ Some n → m ≡ n

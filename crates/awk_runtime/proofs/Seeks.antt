@@ -7,11 +7,11 @@ use Rattle.awk_world.specs.declared.world.InputKind.TheVariants.{Standard, File}
 use Rattle.awk_channels.specs.WorldState.{WorldState}
 use Rattle.awk_semantics.specs.declared.halt.Halt.{Halt}
 use Rattle.awk_semantics.specs.Primitives.{take_argument}
-use Rattle.awk_semantics.specs.Streams.{begin_input, take_record, is_input_seen}
+use Rattle.awk_semantics.specs.Streams.{begin_input, take_record, close_main, is_input_seen}
 use Rattle.awk_semantics.specs.Inputs.{assign_text, Operand, Nothing, Assignment, StandardInput, AFile, operand_of, main_record, path_of, first_record, record_by, operand_record, standard_record, search_operands_within, search_operands, next_record}
 use Rattle.awk_runtime.specs.declared.runtime.Runtime.{Runtime}
 use Rattle.awk_runtime.specs.support.Simulation.{Simulates, Changes, Spends, Follows}
-use Rattle.awk_runtime.specs.support.Inputs.{ClosesMainInput, OpensMainInput, ClosedUnless, Seeks, SearchesOn}
+use Rattle.awk_runtime.specs.support.Inputs.{OpensMainInput, ClosedUnless, Seeks, SearchesOn}
 use Rattle.awk_runtime.proofs.Composition.{then_simulates, ends_simulates, lift_simulates, change_simulates}
 use Rattle.awk_runtime.proofs.Steps.{reads_changes, still}
 
@@ -25,9 +25,9 @@ pub main_gives : {is_logged : Type 0} {text : List ℕ} {m m1 : Runtime} {k k1 :
 unfolding main_record
 main_gives {m1 = m1} {k1 = k1} p = record { simulates = then_simulates _ p.simulates (lift_simulates _ m1 k1 refl); closed = tt }
 
-pub main_closes : {is_logged : Type 0} {m m1 m2 : Runtime} {k k1 k2 : WorldState} → Follows is_logged take_record m k m1 k1 (Ok None) → ClosesMainInput is_logged m1 k1 m2 k2 → Seeks is_logged main_record m k m2 k2 (Ok None)
+pub main_closes : {is_logged : Type 0} {m m1 m2 : Runtime} {k k1 k2 : WorldState} → Follows is_logged take_record m k m1 k1 (Ok None) → Follows is_logged close_main m1 k1 m2 k2 (Ok tt) → m2.streams.main ≡ None → Seeks is_logged main_record m k m2 k2 (Ok None)
 unfolding main_record
-main_closes {m2 = m2} {k2 = k2} p q = record { simulates = then_simulates _ p.simulates (then_simulates _ q.simulates (lift_simulates _ m2 k2 refl)); closed = q.main }
+main_closes {m2 = m2} {k2 = k2} p q none = record { simulates = then_simulates _ p.simulates (then_simulates _ q.simulates (lift_simulates _ m2 k2 refl)); closed = none }
 
 pub first_unopened : {is_logged : Type 0} {kind : InputKind} (name : List ℕ) {m m1 : Runtime} {k k1 : WorldState} {h : Halt} → OpensMainInput is_logged kind (path_of kind name) m k m1 k1 (Err h) → Seeks is_logged (first_record kind name) m k m1 k1 (Err h)
 unfolding first_record

@@ -1,14 +1,15 @@
 // Arrays and their elements.
 
-ghost use Rattle.std.specs.Prelude.{◌≡◌, IfOk, IfErr, codes};
+ghost use Rattle.std.specs.Prelude.{◌≡◌, Ok, IfOk, IfErr, codes};
 ghost use Rattle.awk_runtime.specs.support.Simulation.{Changes};
 ghost use Rattle.awk_runtime.specs.support.Calling.{kept_number, listed, argument_text};
 ghost use Rattle.awk_value.specs.Values.{str_of};
 ghost use Rattle.awk_semantics.specs.Primitives.{number_in, joined_key, take_argument};
 ghost use Rattle.awk_semantics.specs.Results.{IsWantOfMemory};
 ghost use Rattle.awk_storage.specs.Positions.{read_element_of, store_element_of};
-ghost use Rattle.awk_storage.specs.Forms.{contains_at, delete_at, keys_of_array, fill_at};
+ghost use Rattle.awk_storage.specs.Forms.{contains_at, delete_at, clear_at, count_elements_at, keys_of_array, fill_at};
 
+use crate::fields::count_value;
 use crate::runtime::Runtime;
 use awk_functions::joined_key;
 use awk_semantics::{Halt, Local};
@@ -64,6 +65,22 @@ impl Runtime {
         let number = self.number_at(array);
         self.arrays.remove(number as usize, key);
         Ok(())
+    }
+
+    /// Removes all elements of an array. Takes no memory. (POSIX awk, Actions: delete)
+    pub fn clear_at(&mut self, array: Array)
+        ensures { Changes (clear_at array) self.old self.new (Ok tt) }
+    {
+        let number = self.number_at(array);
+        self.arrays.clear(number as usize);
+    }
+
+    /// How many elements an array has, as a value. Takes no memory. (POSIX awk, String Functions: length)
+    pub fn count_elements_at(&self, array: Array) -> Value
+        ensures { Changes (count_elements_at array) self.now self.now (Ok result) }
+    {
+        let number = self.number_at(array);
+        count_value(self.arrays.count(number as usize))
     }
 
     /// The keys of an array, in the order in which they were made.

@@ -14,7 +14,7 @@ use awk_storage::Array;
 use awk_value::Value;
 
 /// The bodies of the active calls are no higher together.
-const MOST_HEIGHT: u64 = 10_000;
+const MOST_HEIGHT: u64 = 1_000_000;
 
 impl Runtime {
     /// Whether a call of a body of this height may be made; else the fault is F11. (POSIX awk, User-Defined Functions)

@@ -1,9 +1,11 @@
-// Closings, runs of commands, and the end of a run.
+// Closings, flushes, runs of commands, and the end of a run.
 
-ghost use Rattle.std.specs.Prelude.{IfErr};
+ghost use Rattle.std.specs.Prelude.{Bool, IfErr, OnOk};
 ghost use Rattle.awk_value.specs.Values.{str_of};
 ghost use Rattle.awk_channels.specs.Outputs.{IsOutputFault};
-ghost use Rattle.awk_semantics.specs.Streams.{close_named, run_command};
+ghost use Rattle.awk_channels.specs.Commands.{BringsAll};
+ghost use Rattle.awk_channels.specs.Flushes.{FlushesCalled};
+ghost use Rattle.awk_semantics.specs.Streams.{close_named, flush_all, flush_named, run_command};
 ghost use Rattle.awk_runtime.specs.support.Simulation.{IsReady, Follows};
 ghost use Rattle.awk_runtime.specs.support.Endings.{EndsRun};
 
@@ -23,6 +25,36 @@ impl Runtime {
     {
         let name = text_of(self.alloc, name)?;
         Ok(self.streams.close(world, name.as_slice())?)
+    }
+
+    /// Flushes all outputs: each has then received what was printed to it. The faults are F1 and F2. (POSIX awk, STDOUT; STDERR;
+    /// OUTPUT FILES)
+    pub fn flush_all<W: World>(&mut self, world: &mut W) -> Result<(), Halt>
+        requires ready { IsReady W.is_logged (W.state world.old) self.old.streams }
+        ensures ready { IsReady W.is_logged (W.state world.new) self.new.streams }
+        ensures follows { Follows W.is_logged flush_all self.old (W.state world.old) self.new (W.state world.new) result }
+        ensures brings { OnOk result (W.is_logged → BringsAll (W.state world.old) self.old.streams (W.state world.new) self.new.streams) }
+    {
+        Ok(self.streams.flush_all(world)?)
+    }
+
+    /// Flushes each open output of a name, where `/dev/stdout` and `/dev/stderr` are the standard outputs: it has then received
+    /// what was printed to it. Gives 0, and -1 where none is open. The faults are F1 and F2. (POSIX awk, STDOUT; STDERR; OUTPUT
+    /// FILES)
+    pub fn flush_named<W: World>(&mut self, world: &mut W, name: &Value) -> Result<i128, Halt>
+        requires ready { IsReady W.is_logged (W.state world.old) self.old.streams }
+        ensures ready { IsReady W.is_logged (W.state world.new) self.new.streams }
+        ensures follows { Follows W.is_logged (flush_named (str_of name.now)) self.old (W.state world.old) self.new
+            (W.state world.new) result }
+        ensures flushes { OnOk result (W.is_logged → (is_open : Bool) × FlushesCalled (str_of name.now) (W.state world.old)
+            self.old.streams is_open (W.state world.new) self.new.streams) }
+    {
+        let name = text_of(self.alloc, name)?;
+        if self.streams.flush(world, name.as_slice())? {
+            Ok(0)
+        } else {
+            Ok(-1)
+        }
     }
 
     /// Runs a command to its end, once all outputs are flushed, and gives the world's number. The faults are F1 and F2. (POSIX

@@ -13,7 +13,7 @@ use awk_value::{Bytes, Value, number_of, text_of};
 use awk_variables::Special;
 
 /// A count, as a value.
-fn count_value(count: usize) -> Value
+pub(crate) fn count_value(count: usize) -> Value
     ensures { result ≡ Number (pos count) }
 {
     Value::Number(count as i128)
@@ -30,7 +30,7 @@ impl Runtime {
     }
 
     /// Gives a field a value, and the record the text that its fields then make by OFS; `$0` is the whole record, by FS and RS.
-    /// The faults are F1, and F8 of a number that isn't from 0 to 1,000,000. (POSIX awk, Variables and Special Variables)
+    /// The faults are F1, and F8 of a number that isn't from 0 to 16,777,216. (POSIX awk, Variables and Special Variables)
     pub fn set_field(&mut self, number: i128, value: Value) -> Result<(), Halt>
         ensures { Changes (set_field number value) self.old self.new result }
     {

@@ -38,7 +38,7 @@ impl Runtime {
 
     /// Reads the next record of a file or a command into a place, or for want of one makes it the record at hand; a record of
     /// a command is counted in NR. Gives 1, 0 where the input has ended, and -1 where it can't be opened or broke. The faults
-    /// are F1, F2, F13, F15 and F16, and those of an assignment. (POSIX awk, Input/Output and General Functions: getline)
+    /// are F1, F2, F13 and F16, and those of an assignment. (POSIX awk, Input/Output and General Functions: getline)
     pub fn named_getline_at<W: World>(
         &mut self,
         world: &mut W,

@@ -1,11 +1,11 @@
 // Where the main records come from.
 
-ghost use Rattle.std.specs.Prelude.{◌≡◌, ◌≢◌, [], None};
-ghost use Rattle.awk_semantics.specs.Streams.{take_record};
+ghost use Rattle.std.specs.Prelude.{◌≡◌, ◌≢◌, [], None, Ok};
+ghost use Rattle.awk_semantics.specs.Streams.{take_record, close_main};
 ghost use Rattle.awk_semantics.specs.Inputs.{path_of, main_record, first_record};
 ghost use Rattle.awk_semantics.specs.Inputs.{operand_record, standard_record, search_operands, next_record};
 ghost use Rattle.awk_runtime.specs.support.Simulation.{IsReady, Follows};
-ghost use Rattle.awk_runtime.specs.support.Inputs.{ClosesMainInput, OpensMainInput, Seeks};
+ghost use Rattle.awk_runtime.specs.support.Inputs.{OpensMainInput, Seeks};
 
 use crate::operands::{OperandForm, form_of};
 use crate::runtime::Runtime;
@@ -27,8 +27,8 @@ fn path_of(kind: InputKind, name: &Bytes) -> &[u8]
 
 impl Runtime {
     /// The next main record, from the elements of ARGV in turn, or from standard input for want of a file operand. `None`
-    /// where no record is left. The faults are F1, F9, F15 and F16, and those of an operand that assigns. (POSIX awk, OPERANDS
-    /// and INPUT FILES)
+    /// where no record is left. The faults are F1, F9 and F16, and those of an operand that assigns. (POSIX awk, OPERANDS and
+    /// INPUT FILES)
     pub fn next_record<W: World>(&mut self, world: &mut W) -> Result<Option<Bytes>, Halt>
         requires ready { IsReady W.is_logged (W.state world.old) self.old.streams }
         ensures ready { IsReady W.is_logged (W.state world.new) self.new.streams }
@@ -38,6 +38,16 @@ impl Runtime {
             Some(text) => Ok(Some(text)),
             None => self.search_operands(world),
         }
+    }
+
+    /// Closes the main input, if one is open. Takes no memory. (POSIX awk, INPUT FILES)
+    pub fn close_main_input<W: World>(&mut self, world: &mut W)
+        requires ready { IsReady W.is_logged (W.state world.old) self.old.streams }
+        ensures ready { IsReady W.is_logged (W.state world.new) self.new.streams }
+        ensures none { self.new.streams.main ≡ None }
+        ensures follows { Follows W.is_logged close_main self.old (W.state world.old) self.new (W.state world.new) (Ok tt) }
+    {
+        self.streams.close_main(world);
     }
 
     // Looks at the elements of ARGV in turn, until one leads to a record.
@@ -120,7 +130,7 @@ impl Runtime {
         match self.take_record(world)? {
             Some(text) => Ok(Some(text)),
             None => {
-                self.close_main(world);
+                self.close_main_input(world);
                 Ok(None)
             }
         }
@@ -154,14 +164,5 @@ impl Runtime {
         ensures opens { OpensMainInput W.is_logged kind path.now self.old (W.state world.old) self.new (W.state world.new) result }
     {
         Ok(self.streams.open_main(world, kind, path)?)
-    }
-
-    // Closes the main input, if one is open.
-    fn close_main<W: World>(&mut self, world: &mut W)
-        requires ready { IsReady W.is_logged (W.state world.old) self.old.streams }
-        ensures ready { IsReady W.is_logged (W.state world.new) self.new.streams }
-        ensures closes { ClosesMainInput W.is_logged self.old (W.state world.old) self.new (W.state world.new) }
-    {
-        self.streams.close_main(world);
     }
 }

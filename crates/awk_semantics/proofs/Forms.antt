@@ -9,7 +9,7 @@ use Rattle.awk_grammar.specs.declared.tree.BinaryOperator.{BinaryOperator}
 use Rattle.awk_grammar.specs.declared.tree.BinaryOperator.TheVariants.{Concatenate, Infix}
 use Rattle.awk_grammar.specs.declared.tree.PrintForm.{PrintForm}
 use Rattle.awk_grammar.specs.declared.tree.PrintForm.TheVariants as form
-use Rattle.awk_grammar.specs.Tree.{Expr, Number, String, Ere, Name, Element, Field, Group, Call, BuiltIn, Length, PreIncrement, PostIncrement, Getline, PipedGetline, Unary, Binary, Membership, ListMembership, Conditional, Assign, Exprs, Nil, Cons, OptionalExpr, NoExpr, AnExpr, PrintList, Bare, Parenthesized, Output, Standard, Redirected, SimpleStatement, Expression, Print, Delete, Next, Break, Continue, Exit, Return, OptionalSimple, NoSimple, ASimple, Statement, Empty, Simple, Block, If, IfElse, While, Do, ForIn, For, Statements, NoMore, Then, Pattern, Single, Range, Item, Begin, End, Action, PatternAction, PatternOnly, Function}
+use Rattle.awk_grammar.specs.Tree.{Expr, Number, String, Ere, Name, Element, Field, Group, Call, BuiltIn, Length, PreIncrement, PostIncrement, Getline, PipedGetline, Unary, Binary, Membership, ListMembership, Conditional, Assign, Exprs, Nil, Cons, OptionalExpr, NoExpr, AnExpr, PrintList, Bare, Parenthesized, Output, Standard, Redirected, SimpleStatement, Expression, Print, Delete, DeleteAll, Next, NextFile, Break, Continue, Exit, Return, OptionalSimple, NoSimple, ASimple, Statement, Empty, Simple, Block, If, IfElse, While, Do, ForIn, For, Statements, NoMore, Then, Pattern, Single, Range, Item, Begin, End, Action, PatternAction, PatternOnly, Function}
 use Rattle.awk_semantics.specs.declared.flow.Flow.{Flow}
 use Rattle.awk_semantics.specs.declared.flow.Flow.TheVariants as flow
 use Rattle.awk_semantics.specs.declared.local.Local.{Local}
@@ -19,11 +19,11 @@ use Rattle.awk_semantics.specs.definitions.State.{State, Run, ◌>>=◌, lift}
 use Rattle.awk_semantics.specs.definitions.Operators.{truth_value, changed, applied, by_one, one, operator_of, takes_pattern}
 use Rattle.awk_semantics.specs.definitions.Primitives.{format_values}
 use Rattle.awk_semantics.specs.definitions.Places.{Place}
-use Rattle.awk_semantics.specs.definitions.BuiltIns.{Role, AsValue, AsPattern, AsArray, AsPlace, Argument, roles_of, next_role, ere_or, taken_as}
+use Rattle.awk_semantics.specs.definitions.BuiltIns.{Role, AsValue, AsPattern, AsArray, AsPlace, AsMeasured, Argument, roles_of, next_role, ere_or, bare_name, array_or_value, array_named_or, taken_as}
 use Rattle.awk_semantics.specs.definitions.Semantics.{Functions, right_operand, tested, choose, combined, call_with, getline_from, eval, place_of, key_of, take_arguments, optional_place, optional_value, eval_all, printed_values, target_of, print_by, print, begin_test, exit_with, returned_value, exec_simple, exec_part, goes_on, ending, turn, unless_ended, repeat_within, repeat, walk, pass_on, exec, exec_all}
 use Rattle.awk_semantics.specs.definitions.Items.{run_action, in_range, go_through, selects, print_record, try_item, try_items, begin_item, begin_items, end_item, end_items}
 use Rattle.awk_semantics.proofs.OwnValues.{Own, changed_own, applied_own, format_own}
-use Rattle.awk_semantics.proofs.PlainRuns.{Plain, lift_plain, spend_plain, number_plain, field_plain, text_plain, name_plain, put_plain, element_plain, has_plain, delete_plain, keys_plain, key_plain, height_plain, bytes_plain, line_plain, inside_plain, set_inside_plain, status_plain, locals_plain, target_plain}
+use Rattle.awk_semantics.proofs.PlainRuns.{Plain, lift_plain, spend_plain, number_plain, field_plain, text_plain, name_plain, put_plain, element_plain, has_plain, delete_plain, clear_plain, is_array_plain, keys_plain, key_plain, height_plain, bytes_plain, line_plain, inside_plain, set_inside_plain, status_plain, locals_plain, target_plain, close_main_plain}
 use Rattle.awk_semantics.proofs.PlainParts.{read_plain, assign_by_plain, post_plain, main_getline_plain, named_getline_plain, record_length_plain, built_in_plain}
 
 -- a property that the plain runs have, and that goes on from one run to the next; and it asks of a run no more than of what the
@@ -94,10 +94,19 @@ module _ (P : (A : Type 0) → Run A → Type 0) (closed : GoesOn P) where
   ere_holds (Conditional c a b) h = then_holds h (λ v. ret_holds _)
   ere_holds (Assign o p a) h = then_holds h (λ v. ret_holds _)
 
+  pub array_or_value_holds : (b : Bool) (x : List ℕ) {m : Run Value} → P _ m → P _ (array_or_value b x m)
+  array_or_value_holds true x h = ret_holds _
+  array_or_value_holds false x h = then_holds h (λ v. ret_holds _)
+
+  pub array_named_or_holds : (name : Option (List ℕ)) {m : Run Value} → P _ m → P _ (array_named_or name m)
+  array_named_or_holds None h = then_holds h (λ v. ret_holds _)
+  array_named_or_holds (Some x) h = after (is_array_plain x) (λ b. array_or_value_holds b x h)
+
   pub taken_as_holds : (r : Role) (e : Expr) {m : Run Value} {p : Run Place} → P _ m → P _ p → P _ (taken_as r e m p)
   taken_as_holds AsValue e h k = then_holds h (λ v. ret_holds _)
   taken_as_holds AsPattern e h k = ere_holds e h
   taken_as_holds AsArray e h k = ret_holds _
+  taken_as_holds AsMeasured e h k = array_named_or_holds (bare_name e) h
   taken_as_holds AsPlace e h k = then_holds k (λ p. after (read_plain p) (λ v. ret_holds _))
 
   pub tested_holds : {m : Run Value} → P _ m → P _ (tested m)
@@ -271,6 +280,8 @@ module _ (P : (A : Type 0) → Run A → Type 0) (closed : GoesOn P) where
     simple_holds (Expression e) = after spend_plain (λ _. then_holds (eval_holds e) (λ v. ret_holds flow.Normal))
     simple_holds (Print f list output) = then_holds (print_holds f list output) (λ _. ret_holds flow.Normal)
     simple_holds (Delete x es) = after spend_plain (λ _. then_holds (key_of_holds [] es) (λ key. after (delete_plain x key) (λ _. ret_holds flow.Normal)))
+    simple_holds (DeleteAll x) = after spend_plain (λ _. after (clear_plain x) (λ _. ret_holds flow.Normal))
+    simple_holds NextFile = after spend_plain (λ _. after close_main_plain (λ _. lift_holds (Err halt.Next) tt))
     simple_holds Next = after spend_plain (λ _. lift_holds (Err halt.Next) tt)
     simple_holds Break = after spend_plain (λ _. ret_holds flow.Break)
     simple_holds Continue = after spend_plain (λ _. ret_holds flow.Continue)

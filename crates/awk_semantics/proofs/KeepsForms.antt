@@ -13,11 +13,11 @@ use Rattle.awk_world.specs.declared.world.InputKind.{InputKind}
 use Rattle.awk_variables.specs.declared.special.Special.{Special}
 use Rattle.awk_semantics.specs.declared.flow.Flow.{Flow}
 use Rattle.awk_semantics.specs.definitions.State.{Run}
-use Rattle.awk_semantics.specs.definitions.Primitives.{spend, number_of, read_field, record_text, set_record, read_outside, read_name, set_field, put_outside, put, put_special, count_in, read_element_at, store_element_at, has_element_at, delete_element_at, keys_at, fill_array_at, read_element, store_element, has_element, delete_element, keys_in, fill_array, joined_key, field_separator, check_height, print_bytes, print_line, is_inside, set_inside, set_status}
-use Rattle.awk_semantics.specs.definitions.Streams.{open_target, close_named, run_command}
+use Rattle.awk_semantics.specs.definitions.Primitives.{spend, number_of, read_field, record_text, set_record, read_outside, read_name, set_field, put_outside, put, put_special, count_in, read_element_at, store_element_at, has_element_at, delete_element_at, clear_array_at, array_length_at, keys_at, fill_array_at, read_element, store_element, has_element, delete_element, clear_array, array_length, is_array, keys_in, fill_array, joined_key, field_separator, check_height, print_bytes, print_line, is_inside, set_inside, set_status}
+use Rattle.awk_semantics.specs.definitions.Streams.{open_target, close_main, close_named, run_command, flush_all, flush_named}
 use Rattle.awk_semantics.specs.definitions.Inputs.{next_record}
 use Rattle.awk_semantics.specs.definitions.Places.{Place, read_place, store, assign, assign_by, post_increment, main_getline, named_getline}
-use Rattle.awk_semantics.specs.definitions.BuiltIns.{Role, Argument, taken_as, locals_of, note_match, separator_for, split_into, exchange, record_length, apply_built_in}
+use Rattle.awk_semantics.specs.definitions.BuiltIns.{Role, Argument, taken_as, locals_of, note_match, separator_for, split_into, exchange, record_length, count_elements, flush_outputs, apply_built_in}
 use Rattle.awk_semantics.specs.definitions.Semantics.{Functions, right_operand, tested, choose, combined, call_with, getline_from, eval, place_of, key_of, take_arguments, optional_place, optional_value, eval_all, printed_values, target_of, print_by, print, begin_test, exit_with, returned_value, exec_simple, exec_part, goes_on, turn, unless_ended, repeat_within, repeat, walk, pass_on, exec, exec_all}
 use Rattle.awk_semantics.specs.definitions.Items.{begin_record, run_action, in_range, go_through, selects, print_record, try_item, try_items, begin_items, end_items}
 use Rattle.awk_world.specs.declared.world.InputKind.TheVariants as input
@@ -25,8 +25,8 @@ use Rattle.awk_variables.specs.declared.special.Special.TheVariants.{Nr, Fnr}
 use Rattle.awk_value.specs.Values.{str_of}
 use Rattle.awk_semantics.specs.support.Keeps.{Keeps, CallsKeep}
 use Rattle.awk_semantics.specs.support.LawOfKeeping.{SequenceKeeps, ResultKeeps, ChoiceKeeps, LawOfKeeping}
-use Rattle.awk_semantics.proofs.PlainRuns.{spend_plain, number_plain, field_plain, text_plain, set_plain, outside_name_plain, name_plain, set_field_plain, put_outside_plain, put_plain, put_special_plain, count_in_plain, element_at_plain, store_element_at_plain, has_at_plain, delete_at_plain, keys_at_plain, fill_at_plain, element_plain, store_element_plain, has_plain, delete_plain, keys_plain, fill_plain, key_plain, separator_plain, locals_plain, height_plain, bytes_plain, line_plain, inside_plain, set_inside_plain, status_plain, target_plain, close_named_plain, run_command_plain}
-use Rattle.awk_semantics.proofs.PlainParts.{next_plain, read_plain, store_plain, assign_place_plain, assign_by_plain, post_plain, main_getline_plain, named_getline_plain, note_match_plain, separator_for_plain, split_into_plain, exchange_plain, record_length_plain, built_in_plain}
+use Rattle.awk_semantics.proofs.PlainRuns.{spend_plain, number_plain, field_plain, text_plain, set_plain, outside_name_plain, name_plain, set_field_plain, put_outside_plain, put_plain, put_special_plain, count_in_plain, element_at_plain, store_element_at_plain, has_at_plain, delete_at_plain, clear_at_plain, length_at_plain, keys_at_plain, fill_at_plain, element_plain, store_element_plain, has_plain, delete_plain, clear_plain, length_plain, is_array_plain, keys_plain, fill_plain, key_plain, separator_plain, locals_plain, height_plain, bytes_plain, line_plain, inside_plain, set_inside_plain, status_plain, target_plain, close_main_plain, close_named_plain, run_command_plain, flush_all_plain, flush_named_plain}
+use Rattle.awk_semantics.proofs.PlainParts.{next_plain, read_plain, store_plain, assign_place_plain, assign_by_plain, post_plain, main_getline_plain, named_getline_plain, note_match_plain, separator_for_plain, split_into_plain, exchange_plain, record_length_plain, count_elements_plain, flush_outputs_plain, built_in_plain}
 use Rattle.awk_semantics.proofs.Forms.{choose_holds, eval_holds, place_of_holds, key_of_holds, take_arguments_holds, optional_place_holds, optional_value_holds, call_holds, values_holds, printed_holds, output_holds, print_by_holds, print_holds, begin_test_holds, exit_holds, returned_holds, simple_holds, part_holds, goes_on_holds, exec_holds, exec_all_holds, action_holds, in_range_holds, through_holds, selects_holds, print_record_holds, item_holds, items_holds, begin_items_holds, end_items_holds, right_holds, taken_as_holds, tested_holds, combined_holds, turn_holds, unless_ended_holds, repeat_within_holds, repeat_holds, walk_holds, pass_holds}
 use Rattle.awk_semantics.proofs.Keeping.{keeps_bind, keeps_lift, keeps_plain, keeps_closed, keeps_call_by, keeps_call_within}
 
@@ -83,6 +83,12 @@ keeps_has_element_at n key = keeps_plain (has_at_plain n key)
 pub keeps_delete_element_at : (n : ℕ) (key : List ℕ) → Keeps (delete_element_at n key)
 keeps_delete_element_at n key = keeps_plain (delete_at_plain n key)
 
+pub keeps_clear_array_at : (n : ℕ) → Keeps (clear_array_at n)
+keeps_clear_array_at n = keeps_plain (clear_at_plain n)
+
+pub keeps_array_length_at : (n : ℕ) → Keeps (array_length_at n)
+keeps_array_length_at n = keeps_plain (length_at_plain n)
+
 pub keeps_keys_at : (n : ℕ) → Keeps (keys_at n)
 keeps_keys_at n = keeps_plain (keys_at_plain n)
 
@@ -100,6 +106,15 @@ keeps_has_element x key = keeps_plain (has_plain x key)
 
 pub keeps_delete_element : (x key : List ℕ) → Keeps (delete_element x key)
 keeps_delete_element x key = keeps_plain (delete_plain x key)
+
+pub keeps_clear_array : (x : List ℕ) → Keeps (clear_array x)
+keeps_clear_array x = keeps_plain (clear_plain x)
+
+pub keeps_array_length : (x : List ℕ) → Keeps (array_length x)
+keeps_array_length x = keeps_plain (length_plain x)
+
+pub keeps_is_array : (x : List ℕ) → Keeps (is_array x)
+keeps_is_array x = keeps_plain (is_array_plain x)
 
 pub keeps_keys_in : (x : List ℕ) → Keeps (keys_in x)
 keeps_keys_in x = keeps_plain (keys_plain x)
@@ -137,11 +152,20 @@ keeps_set_status v = keeps_plain (status_plain v)
 pub keeps_open_target : (way : Redirection) (name : List ℕ) → Keeps (open_target way name)
 keeps_open_target way name = keeps_plain (target_plain way name)
 
+pub keeps_close_main : Keeps close_main
+keeps_close_main = keeps_plain close_main_plain
+
 pub keeps_close_named : (name : List ℕ) → Keeps (close_named name)
 keeps_close_named name = keeps_plain (close_named_plain name)
 
 pub keeps_run_command : (command : List ℕ) → Keeps (run_command command)
 keeps_run_command command = keeps_plain (run_command_plain command)
+
+pub keeps_flush_all : Keeps flush_all
+keeps_flush_all = keeps_plain flush_all_plain
+
+pub keeps_flush_named : (name : List ℕ) → Keeps (flush_named name)
+keeps_flush_named name = keeps_plain (flush_named_plain name)
 
 pub keeps_next_record : Keeps next_record
 keeps_next_record = keeps_plain next_plain
@@ -185,6 +209,12 @@ keeps_exchange all arguments = keeps_plain (exchange_plain all arguments)
 
 pub keeps_record_length : Keeps record_length
 keeps_record_length = keeps_plain record_length_plain
+
+pub keeps_count_elements : (x : List ℕ) → Keeps (count_elements x)
+keeps_count_elements x = keeps_plain (count_elements_plain x)
+
+pub keeps_flush_outputs : Keeps flush_outputs
+keeps_flush_outputs = keeps_plain flush_outputs_plain
 
 pub keeps_apply_built_in : (f : BuiltInName) (arguments : List Argument) → Keeps (apply_built_in f arguments)
 keeps_apply_built_in f arguments = keeps_plain (built_in_plain f arguments)
@@ -346,12 +376,17 @@ law_of_keeping = record {
     store_element_at = keeps_store_element_at;
     has_element_at = keeps_has_element_at;
     delete_element_at = keeps_delete_element_at;
+    clear_array_at = keeps_clear_array_at;
+    array_length_at = keeps_array_length_at;
     keys_at = keeps_keys_at;
     fill_array_at = keeps_fill_array_at;
     read_element = keeps_read_element;
     store_element = keeps_store_element;
     has_element = keeps_has_element;
     delete_element = keeps_delete_element;
+    clear_array = keeps_clear_array;
+    array_length = keeps_array_length;
+    is_array = keeps_is_array;
     keys_in = keeps_keys_in;
     fill_array = keeps_fill_array;
     joined_key = keeps_joined_key;
@@ -364,8 +399,11 @@ law_of_keeping = record {
     set_inside = keeps_set_inside;
     set_status = keeps_set_status;
     open_target = keeps_open_target;
+    close_main = keeps_close_main;
     close_named = keeps_close_named;
     run_command = keeps_run_command;
+    flush_all = keeps_flush_all;
+    flush_named = keeps_flush_named;
     next_record = keeps_next_record;
     read_place = keeps_read_place;
     store = keeps_store;
@@ -380,6 +418,8 @@ law_of_keeping = record {
     split_into = keeps_split_into;
     exchange = keeps_exchange;
     record_length = keeps_record_length;
+    count_elements = keeps_count_elements;
+    flush_outputs = keeps_flush_outputs;
     apply_built_in = keeps_apply_built_in;
     begin_record = keeps_begin_record;
   };

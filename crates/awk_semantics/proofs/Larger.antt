@@ -2,7 +2,7 @@
 use Rattle.std.proofs.Common.{◌≡◌, ℕ, zero, suc, ◌+◌, Bool, true, false, List, [], ◌∷◌, ◌++◌, Option, Some, None, Result, Ok, Err, pos, negsuc, ℤ, refl, sym, ap, ◌∙◌, append_assoc, append-nil, arith, int_lt, cond, codes, bytes_eq}
 use Rattle.awk_value.specs.declared.value.Value.{Value}
 use Rattle.awk_value.specs.declared.value.Value.TheVariants as value
-use Rattle.awk_record.specs.Cut.{Cut, Found, NoMore, BrokenOff, TooLong, BadSeparator}
+use Rattle.awk_record.specs.Cut.{Cut, Found, NoMore, BrokenOff, TooLong}
 use Rattle.awk_fields.specs.Record.{RecordPair}
 use Rattle.awk_world.specs.declared.world.InputKind.{InputKind}
 use Rattle.awk_world.specs.declared.world.OutputKind.{OutputKind}
@@ -23,8 +23,8 @@ use Rattle.awk_semantics.specs.declared.local.Local.TheVariants as local
 use Rattle.awk_semantics.specs.definitions.State.{Named, Effect, Frame, Stream, State, Out, Run, go_on, ◌>>=◌, lift}
 use Rattle.awk_kinds.specs.definitions.Kinds.{FormalParameter}
 use Rattle.awk_semantics.specs.definitions.Operators.{raised}
-use Rattle.awk_semantics.specs.definitions.Primitives.{text_in, spend, spend_of, fault_if, number_of, read_field, record_text, set_record, set_current, set_count, store_field, set_field, read_outside, read_name, put_unless, put_global, put_outside, put_by, put, put_special, count_in, array_number, read_element_at, store_element_at, has_element_at, delete_element_at, keys_at, read_element, store_element, has_element, delete_element, keys_in, fill_array_at, fill_array, field_separator, joined_key, check_height, enter, without_call, leave, print_bytes, print_line, argument_if, take_argument, is_inside, set_inside, set_status}
-use Rattle.awk_semantics.specs.definitions.Streams.{rest_in, opened, open_main, note_input, is_input_seen, begin_input, taken, taken_of, take_record, close_main, check_streams, NotReadable, input_granted, ask_input, open_input_unless, open_input, named_taken, named_taken_of, take_named, take_if, next_of, output_granted, ask_output, open_output_unless, open_output, open_file, open_target, is_command, closed_by, close_stream, named_of, streams_named, close_each, close_named, run_command}
+use Rattle.awk_semantics.specs.definitions.Primitives.{text_in, spend, spend_of, fault_if, number_of, read_field, record_text, set_record, set_current, set_count, store_field, set_field, read_outside, read_name, put_unless, put_global, put_outside, put_by, put, put_special, count_in, array_number, read_element_at, store_element_at, has_element_at, delete_element_at, clear_array_at, array_length_at, keys_at, read_element, store_element, has_element, delete_element, clear_array, array_length, is_array, keys_in, fill_array_at, fill_array, field_separator, joined_key, check_height, enter, without_call, leave, print_bytes, print_line, argument_if, take_argument, is_inside, set_inside, set_status}
+use Rattle.awk_semantics.specs.definitions.Streams.{rest_in, opened, open_main, note_input, is_input_seen, begin_input, taken, taken_of, take_record, close_main, check_streams, NotReadable, input_granted, ask_input, open_input_unless, open_input, named_taken, named_taken_of, take_named, take_if, next_of, output_granted, ask_output, open_output_unless, open_output, open_file, open_target, is_command, closed_by, close_stream, named_of, streams_named, close_each, close_named, flush_all, flush_named, run_command}
 use Rattle.awk_semantics.specs.definitions.BuiltIns.{Argument, locals_of}
 
 abbrev pub richer_state : ℕ → State → State
@@ -134,6 +134,14 @@ pub delete_at_larger : (n : ℕ) (key : List ℕ) → Larger (delete_element_at 
 unfolding delete_element_at
 delete_at_larger n key = record { covers = λ s d. refl }
 
+pub clear_at_larger : (n : ℕ) → Larger (clear_array_at n) (clear_array_at n)
+unfolding clear_array_at
+clear_at_larger n = record { covers = λ s d. refl }
+
+pub length_at_larger : (n : ℕ) → Larger (array_length_at n) (array_length_at n)
+unfolding array_length_at
+length_at_larger n = record { covers = λ s d. refl }
+
 pub keys_at_larger : (n : ℕ) → Larger (keys_at n) (keys_at n)
 unfolding keys_at
 keys_at_larger n = record { covers = λ s d. refl }
@@ -157,6 +165,18 @@ has_larger x key = record { covers = λ s d. (has_at_larger (array_number s x) k
 pub delete_larger : (x key : List ℕ) → Larger (delete_element x key) (delete_element x key)
 unfolding delete_element
 delete_larger x key = record { covers = λ s d. (delete_at_larger (array_number s x) key).covers s d }
+
+pub clear_larger : (x : List ℕ) → Larger (clear_array x) (clear_array x)
+unfolding clear_array
+clear_larger x = record { covers = λ s d. (clear_at_larger (array_number s x)).covers s d }
+
+pub length_larger : (x : List ℕ) → Larger (array_length x) (array_length x)
+unfolding array_length
+length_larger x = record { covers = λ s d. (length_at_larger (array_number s x)).covers s d }
+
+pub is_array_larger : (x : List ℕ) → Larger (is_array x) (is_array x)
+unfolding is_array
+is_array_larger x = record { covers = λ s d. refl }
 
 pub keys_larger : (x : List ℕ) → Larger (keys_in x) (keys_in x)
 unfolding keys_in
@@ -205,6 +225,14 @@ close_main_larger = record { covers = λ s d. refl }
 pub named_larger : (name : List ℕ) → Larger (streams_named name) (streams_named name)
 unfolding streams_named
 named_larger name = record { covers = λ s d. refl }
+
+pub flush_all_larger : Larger flush_all flush_all
+unfolding flush_all
+flush_all_larger = record { covers = λ s d. refl }
+
+pub flush_named_larger : (name : List ℕ) → Larger (flush_named name) (flush_named name)
+unfolding flush_named
+flush_named_larger name = record { covers = λ s d. refl }
 
 pub run_command_larger : (command : List ℕ) → Larger (run_command command) (run_command command)
 unfolding run_command
@@ -317,7 +345,6 @@ taken_covers (Found first left) separator source s d = refl
 taken_covers NoMore separator source s d = refl
 taken_covers BrokenOff separator source s d = refl
 taken_covers TooLong separator source s d = refl
-taken_covers BadSeparator separator source s d = refl
 
 pub taken_of_covers : (o : Option Source) (separator : List ℕ) (s : State) (d : ℕ) → Covers (taken_of o separator s).result d (taken_of o separator s) (taken_of o separator (richer_state d s))
 taken_of_covers None separator s d = (lift_larger (Ok None)).covers s d
@@ -352,7 +379,6 @@ named_taken_covers (Found first left) kind name separator source s d = refl
 named_taken_covers NoMore kind name separator source s d = refl
 named_taken_covers BrokenOff kind name separator source s d = refl
 named_taken_covers TooLong kind name separator source s d = refl
-named_taken_covers BadSeparator kind name separator source s d = refl
 
 pub named_taken_of_larger : (o : Option Source) (kind : InputKind) (name separator : List ℕ) → Larger (named_taken_of o kind name separator) (named_taken_of o kind name separator)
 named_taken_of_larger None kind name separator = lift_larger (Ok NotReadable)

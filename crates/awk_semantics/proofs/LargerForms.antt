@@ -9,7 +9,7 @@ use Rattle.awk_grammar.specs.declared.tree.BinaryOperator.{BinaryOperator}
 use Rattle.awk_grammar.specs.declared.tree.BinaryOperator.TheVariants.{Concatenate, Infix}
 use Rattle.awk_grammar.specs.declared.tree.PrintForm.{PrintForm}
 use Rattle.awk_grammar.specs.declared.tree.PrintForm.TheVariants as form
-use Rattle.awk_grammar.specs.Tree.{Expr, Number, String, Ere, Name, Element, Field, Group, Call, BuiltIn, Length, PreIncrement, PostIncrement, Getline, PipedGetline, Unary, Binary, Membership, ListMembership, Conditional, Assign, Exprs, Nil, Cons, OptionalExpr, NoExpr, AnExpr, PrintList, Bare, Parenthesized, Output, Standard, Redirected, SimpleStatement, Expression, Print, Delete, Next, Break, Continue, Exit, Return, OptionalSimple, NoSimple, ASimple, Statement, Empty, Simple, Block, If, IfElse, While, Do, ForIn, For, Statements, NoMore, Then, Pattern, Single, Range, Item, Begin, End, Action, PatternAction, PatternOnly, Function}
+use Rattle.awk_grammar.specs.Tree.{Expr, Number, String, Ere, Name, Element, Field, Group, Call, BuiltIn, Length, PreIncrement, PostIncrement, Getline, PipedGetline, Unary, Binary, Membership, ListMembership, Conditional, Assign, Exprs, Nil, Cons, OptionalExpr, NoExpr, AnExpr, PrintList, Bare, Parenthesized, Output, Standard, Redirected, SimpleStatement, Expression, Print, Delete, DeleteAll, Next, NextFile, Break, Continue, Exit, Return, OptionalSimple, NoSimple, ASimple, Statement, Empty, Simple, Block, If, IfElse, While, Do, ForIn, For, Statements, NoMore, Then, Pattern, Single, Range, Item, Begin, End, Action, PatternAction, PatternOnly, Function}
 use Rattle.awk_semantics.specs.declared.flow.Flow.{Flow}
 use Rattle.awk_semantics.specs.declared.flow.Flow.TheVariants as flow
 use Rattle.awk_semantics.specs.declared.local.Local.{Local}
@@ -19,11 +19,11 @@ use Rattle.awk_semantics.specs.definitions.Operators.{truth_value, changed, appl
 use Rattle.awk_kinds.specs.definitions.Kinds.{Definition}
 use Rattle.awk_semantics.specs.definitions.Primitives.{format_values}
 use Rattle.awk_semantics.specs.definitions.Places.{Place}
-use Rattle.awk_semantics.specs.definitions.BuiltIns.{Role, AsValue, AsPattern, AsArray, AsPlace, Argument, roles_of, next_role, ere_or, taken_as}
+use Rattle.awk_semantics.specs.definitions.BuiltIns.{Role, AsValue, AsPattern, AsArray, AsPlace, AsMeasured, Argument, roles_of, next_role, ere_or, bare_name, array_or_value, array_named_or, taken_as}
 use Rattle.awk_semantics.specs.definitions.Semantics.{Functions, right_operand, tested, choose, combined, call_with, getline_from, eval, place_of, key_of, take_arguments, optional_place, optional_value, eval_all, printed_values, target_of, print_by, print, begin_test, exit_with, returned_value, exec_simple, exec_part, goes_on, ending, turn, unless_ended, repeat_within, repeat, walk, pass_on, exec, exec_all}
 use Rattle.awk_semantics.specs.definitions.Calls.{functions_by}
 use Rattle.awk_semantics.specs.definitions.Items.{run_action, in_range, go_through, selects, print_record, try_item, try_items, begin_item, begin_items, end_item, end_items}
-use Rattle.awk_semantics.proofs.Larger.{Larger, then_larger, steps_larger, lift_larger, spend_larger, number_larger, field_larger, text_larger, name_larger, put_larger, element_larger, has_larger, delete_larger, keys_larger, key_larger, height_larger, bytes_larger, line_larger, inside_larger, set_inside_larger, status_larger, locals_larger, target_larger}
+use Rattle.awk_semantics.proofs.Larger.{Larger, then_larger, steps_larger, lift_larger, spend_larger, number_larger, field_larger, text_larger, name_larger, put_larger, element_larger, has_larger, delete_larger, clear_larger, is_array_larger, keys_larger, key_larger, height_larger, bytes_larger, line_larger, inside_larger, set_inside_larger, status_larger, locals_larger, target_larger, close_main_larger}
 use Rattle.awk_semantics.proofs.LargerParts.{read_larger, assign_by_larger, post_larger, main_getline_larger, named_getline_larger, record_length_larger, built_in_larger}
 
 -- the forms
@@ -73,10 +73,19 @@ ere_larger (ListMembership es x) h = then_larger _ _ h (λ v. lift_larger _)
 ere_larger (Conditional c a b) h = then_larger _ _ h (λ v. lift_larger _)
 ere_larger (Assign o p a) h = then_larger _ _ h (λ v. lift_larger _)
 
+pub array_or_value_larger : (b : Bool) (x : List ℕ) {m n : Run Value} → Larger m n → Larger (array_or_value b x m) (array_or_value b x n)
+array_or_value_larger true x h = lift_larger _
+array_or_value_larger false x h = then_larger _ _ h (λ v. lift_larger _)
+
+pub array_named_or_larger : (name : Option (List ℕ)) {m n : Run Value} → Larger m n → Larger (array_named_or name m) (array_named_or name n)
+array_named_or_larger None h = then_larger _ _ h (λ v. lift_larger _)
+array_named_or_larger (Some x) h = then_larger _ _ (is_array_larger x) (λ b. array_or_value_larger b x h)
+
 pub taken_as_larger : (r : Role) (e : Expr) {m n : Run Value} {p q : Run Place} → Larger m n → Larger p q → Larger (taken_as r e m p) (taken_as r e n q)
 taken_as_larger AsValue e h k = then_larger _ _ h (λ v. lift_larger _)
 taken_as_larger AsPattern e h k = ere_larger e h
 taken_as_larger AsArray e h k = lift_larger _
+taken_as_larger AsMeasured e h k = array_named_or_larger (bare_name e) h
 taken_as_larger AsPlace e h k = then_larger _ _ k (λ p. then_larger _ _ (read_larger p) (λ v. lift_larger _))
 
 pub tested_larger : {m n : Run Value} → Larger m n → Larger (tested m) (tested n)
@@ -230,6 +239,8 @@ module _ (ds : List Definition) (call call' : List ℕ → List Local → Run Va
   simple_larger (Expression e) = then_larger _ _ spend_larger (λ _. then_larger _ _ (eval_larger e) (λ v. lift_larger (Ok flow.Normal)))
   simple_larger (Print f list output) = then_larger _ _ (print_larger f list output) (λ _. lift_larger (Ok flow.Normal))
   simple_larger (Delete x es) = then_larger _ _ spend_larger (λ _. then_larger _ _ (key_of_larger [] es) (λ key. then_larger _ _ (delete_larger x key) (λ _. lift_larger (Ok flow.Normal))))
+  simple_larger (DeleteAll x) = then_larger _ _ spend_larger (λ _. then_larger _ _ (clear_larger x) (λ _. lift_larger (Ok flow.Normal)))
+  simple_larger NextFile = then_larger _ _ spend_larger (λ _. then_larger _ _ close_main_larger (λ _. lift_larger (Err halt.Next)))
   simple_larger Next = then_larger _ _ spend_larger (λ _. lift_larger (Err halt.Next))
   simple_larger Break = then_larger _ _ spend_larger (λ _. lift_larger (Ok flow.Break))
   simple_larger Continue = then_larger _ _ spend_larger (λ _. lift_larger (Ok flow.Continue))

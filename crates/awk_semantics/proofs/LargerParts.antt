@@ -16,8 +16,8 @@ use Rattle.awk_semantics.specs.definitions.Texts.{find_from}
 use Rattle.awk_semantics.specs.definitions.Streams.{Answer, ARecord, NoRecord, NotReadable}
 use Rattle.awk_semantics.specs.definitions.Inputs.{check_assignment, assign_text, Operand, Nothing, Assignment, StandardInput, AFile, operand_of, at_end, main_record, path_of, first_record, record_by, operand_record, standard_unless, standard_record, or_else, search_by, search_operands_within, search_operands, next_record}
 use Rattle.awk_semantics.specs.definitions.Places.{Place, AName, AnElement, AField, read_place, store, assign, assign_by, post_increment, receive, receive_main, main_getline, count_of, receive_named, named_getline}
-use Rattle.awk_semantics.specs.definitions.BuiltIns.{Argument, OfValue, OfEre, OfArray, OfPlace, text_at, note_match, separator_for, array_at, split_into, target_of, assign_exchange, exchange, record_length, applied_all, apply_built_in}
-use Rattle.awk_semantics.proofs.Larger.{Larger, then_larger, steps_larger, lift_larger, same_covers, spend_larger, text_larger, set_larger, name_larger, element_larger, store_element_larger, fill_larger, separator_larger, seen_larger, close_main_larger, run_command_larger, number_larger, field_larger, set_field_larger, put_outside_larger, put_larger, put_special_larger, count_in_larger, argument_larger, open_larger, input_larger, take_larger, next_of_larger, close_named_larger}
+use Rattle.awk_semantics.specs.definitions.BuiltIns.{Argument, OfValue, OfEre, OfArray, OfPlace, text_at, note_match, separator_for, array_at, split_into, target_of, assign_exchange, exchange, record_length, count_elements, flush_outputs, applied_all, apply_built_in}
+use Rattle.awk_semantics.proofs.Larger.{Larger, then_larger, steps_larger, lift_larger, same_covers, spend_larger, text_larger, set_larger, name_larger, element_larger, store_element_larger, length_larger, fill_larger, separator_larger, seen_larger, close_main_larger, flush_all_larger, flush_named_larger, run_command_larger, number_larger, field_larger, set_field_larger, put_outside_larger, put_larger, put_special_larger, count_in_larger, argument_larger, open_larger, input_larger, take_larger, next_of_larger, close_named_larger}
 
 -- the main input
 
@@ -170,15 +170,28 @@ pub record_length_larger : Larger record_length record_length
 unfolding record_length
 record_length_larger = then_larger _ _ text_larger (λ v. lift_larger (applied_all built_in.Length (v ∷ [])))
 
+pub count_elements_larger : (x : List ℕ) → Larger (count_elements x) (count_elements x)
+unfolding count_elements
+count_elements_larger x = then_larger _ _ (length_larger x) (λ n. lift_larger _)
+
+pub flush_outputs_larger : Larger flush_outputs flush_outputs
+unfolding flush_outputs
+flush_outputs_larger = then_larger _ _ flush_all_larger (λ _. lift_larger _)
+
 pub built_in_larger : (f : BuiltInName) (arguments : List Argument) → Larger (apply_built_in f arguments) (apply_built_in f arguments)
 unfolding apply_built_in
 built_in_larger built_in.Length [] = record_length_larger
-built_in_larger built_in.Length (a ∷ arguments) = lift_larger _
+built_in_larger built_in.Length (OfArray x ∷ arguments) = count_elements_larger x
+built_in_larger built_in.Length (OfValue v ∷ arguments) = lift_larger _
+built_in_larger built_in.Length (OfEre text ∷ arguments) = lift_larger _
+built_in_larger built_in.Length (OfPlace p old ∷ arguments) = lift_larger _
 built_in_larger built_in.Match arguments = then_larger _ _ (lift_larger (pattern_in (text_at arguments 1))) (λ t. note_match_larger (find_from t (text_at arguments 0) 0))
 built_in_larger built_in.Split arguments = then_larger _ _ (separator_for_larger (slice_get arguments 2)) (λ separator. split_into_larger (array_at arguments) _)
 built_in_larger built_in.Sub arguments = exchange_larger false arguments
 built_in_larger built_in.Gsub arguments = exchange_larger true arguments
 built_in_larger built_in.System arguments = then_larger _ _ (run_command_larger _) (λ n. lift_larger _)
+built_in_larger built_in.Fflush [] = flush_outputs_larger
+built_in_larger built_in.Fflush (a ∷ arguments) = then_larger _ _ (flush_named_larger _) (λ n. lift_larger _)
 built_in_larger built_in.Close arguments = then_larger _ _ (close_named_larger _) (λ n. lift_larger _)
 built_in_larger built_in.Substr arguments = lift_larger _
 built_in_larger built_in.Index arguments = lift_larger _

@@ -290,4 +290,5 @@ applied_all_own built_in.Split vs = tt
 applied_all_own built_in.Sub vs = tt
 applied_all_own built_in.Gsub vs = tt
 applied_all_own built_in.System vs = tt
+applied_all_own built_in.Fflush vs = tt
 applied_all_own built_in.Close vs = tt

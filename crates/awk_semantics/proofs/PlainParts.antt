@@ -19,14 +19,14 @@ use Rattle.awk_semantics.specs.definitions.Texts.{find_from}
 use Rattle.awk_semantics.specs.definitions.Streams.{Answer, ARecord, NoRecord, NotReadable}
 use Rattle.awk_semantics.specs.definitions.Inputs.{check_assignment, assign_text, Operand, Nothing, Assignment, StandardInput, AFile, operand_of, at_end, main_record, path_of, first_record, record_by, operand_record, standard_unless, standard_record, or_else, search_by, search_operands_within, search_operands, next_record}
 use Rattle.awk_semantics.specs.definitions.Places.{Place, AName, AnElement, AField, read_place, store, assign, assign_by, post_increment, receive, receive_main, main_getline, count_of, receive_named, named_getline}
-use Rattle.awk_semantics.specs.definitions.BuiltIns.{Argument, OfValue, OfEre, OfArray, OfPlace, value_of, text_at, note_match, separator_for, array_at, split_into, target_of, assign_exchange, exchange, record_length, applied_all, apply_built_in}
+use Rattle.awk_semantics.specs.definitions.BuiltIns.{Argument, OfValue, OfEre, OfArray, OfPlace, value_of, text_at, note_match, separator_for, array_at, split_into, target_of, assign_exchange, exchange, record_length, count_elements, flush_outputs, applied_all, apply_built_in}
 use Rattle.awk_lex.specs.Escapes.{unescaped}
 use Rattle.awk_value.specs.Values.{str_of}
 use Rattle.awk_ere.specs.Means.{pattern_of}
 use Rattle.awk_text.specs.definitions.Separators.{separator_of}
 use Rattle.awk_semantics.specs.definitions.Inputs.{is_unassignable, text_or_fault, assigned_text}
 use Rattle.awk_semantics.proofs.OwnValues.{Own, applied_own, pattern_own, ere_own, separator_own, applied_all_own}
-use Rattle.awk_semantics.proofs.PlainRuns.{Plain, then_plain, lift_plain, ret_plain, spend_plain, text_plain, set_plain, name_plain, element_plain, store_element_plain, fill_plain, separator_plain, seen_plain, close_main_plain, run_command_plain, number_plain, field_plain, set_field_plain, put_outside_plain, put_plain, put_special_plain, count_in_plain, argument_plain, open_plain, input_plain, take_plain, next_of_plain, close_named_plain}
+use Rattle.awk_semantics.proofs.PlainRuns.{Plain, then_plain, lift_plain, ret_plain, spend_plain, text_plain, set_plain, name_plain, element_plain, store_element_plain, length_plain, fill_plain, separator_plain, seen_plain, close_main_plain, flush_all_plain, flush_named_plain, run_command_plain, number_plain, field_plain, set_field_plain, put_outside_plain, put_plain, put_special_plain, count_in_plain, argument_plain, open_plain, input_plain, take_plain, next_of_plain, close_named_plain}
 
 -- the main input
 
@@ -186,15 +186,28 @@ pub record_length_plain : Plain record_length
 unfolding record_length
 record_length_plain = then_plain _ text_plain (λ v. lift_plain (applied_all built_in.Length (v ∷ [])) tt)
 
+pub count_elements_plain : (x : List ℕ) → Plain (count_elements x)
+unfolding count_elements
+count_elements_plain x = then_plain _ (length_plain x) (λ n. ret_plain _)
+
+pub flush_outputs_plain : Plain flush_outputs
+unfolding flush_outputs
+flush_outputs_plain = then_plain _ flush_all_plain (λ _. ret_plain _)
+
 pub built_in_plain : (f : BuiltInName) (arguments : List Argument) → Plain (apply_built_in f arguments)
 unfolding apply_built_in
 built_in_plain built_in.Length [] = record_length_plain
-built_in_plain built_in.Length (a ∷ arguments) = lift_plain _ (applied_all_own built_in.Length (map value_of (a ∷ arguments)))
+built_in_plain built_in.Length (OfArray x ∷ arguments) = count_elements_plain x
+built_in_plain built_in.Length (OfValue v ∷ arguments) = lift_plain _ (applied_all_own built_in.Length (map value_of (OfValue v ∷ arguments)))
+built_in_plain built_in.Length (OfEre text ∷ arguments) = lift_plain _ (applied_all_own built_in.Length (map value_of (OfEre text ∷ arguments)))
+built_in_plain built_in.Length (OfPlace p old ∷ arguments) = lift_plain _ (applied_all_own built_in.Length (map value_of (OfPlace p old ∷ arguments)))
 built_in_plain built_in.Match arguments = then_plain _ (lift_plain (pattern_in (text_at arguments 1)) (pattern_own (pattern_of (text_at arguments 1)))) (λ t. note_match_plain (find_from t (text_at arguments 0) 0))
 built_in_plain built_in.Split arguments = then_plain _ (separator_for_plain (slice_get arguments 2)) (λ separator. split_into_plain (array_at arguments) _)
 built_in_plain built_in.Sub arguments = exchange_plain false arguments
 built_in_plain built_in.Gsub arguments = exchange_plain true arguments
 built_in_plain built_in.System arguments = then_plain _ (run_command_plain _) (λ n. ret_plain _)
+built_in_plain built_in.Fflush [] = flush_outputs_plain
+built_in_plain built_in.Fflush (a ∷ arguments) = then_plain _ (flush_named_plain _) (λ n. ret_plain _)
 built_in_plain built_in.Close arguments = then_plain _ (close_named_plain _) (λ n. ret_plain _)
 built_in_plain built_in.Substr arguments = lift_plain _ (applied_all_own built_in.Substr (map value_of arguments))
 built_in_plain built_in.Index arguments = lift_plain _ (applied_all_own built_in.Index (map value_of arguments))

@@ -6,7 +6,7 @@ use Rattle.std.specs.Map.{lookup, set_value}
 use Rattle.std.proofs.Common.{map, ◌≡◌, ℕ, zero, suc, ◌≤◌, Bool, true, false, List, [], ◌∷◌, ◌++◌, Option, Some, None, Result, Ok, Err, pos, negsuc, ℤ, refl, sym, ap, ◌∙◌, arith, int_lt, cond, codes, bytes_eq}
 use Rattle.awk_value.specs.declared.value.Value.{Value}
 use Rattle.awk_value.specs.declared.value.Value.TheVariants as value
-use Rattle.awk_record.specs.Cut.{Cut, Found, NoMore, BrokenOff, TooLong, BadSeparator}
+use Rattle.awk_record.specs.Cut.{Cut, Found, NoMore, BrokenOff, TooLong}
 use Rattle.awk_fields.specs.Record.{RecordPair}
 use Rattle.awk_world.specs.declared.world.InputKind.{InputKind}
 use Rattle.awk_world.specs.declared.world.OutputKind.{OutputKind}
@@ -24,11 +24,11 @@ use Rattle.awk_variables.specs.declared.special.Special.TheVariants.{Argc, Rs, F
 use Rattle.awk_variables.specs.Variables.{name_of, is_refused}
 use Rattle.awk_semantics.specs.declared.local.Local.{Local}
 use Rattle.awk_semantics.specs.declared.local.Local.TheVariants as local
-use Rattle.awk_semantics.specs.definitions.State.{Named, Request, OpensMain, OpensInput, OpensOutput, RecordOfMain, RecordOf, Closes, Runs, Ends, Effect, Printed, Requested, Frame, Stream, State, Out, Run, go_on, ◌>>=◌, lift}
+use Rattle.awk_semantics.specs.definitions.State.{Named, OpensMain, OpensInput, OpensOutput, RecordOfMain, RecordOf, Closes, Runs, Ends, Effect, Printed, Requested, Frame, Stream, State, Out, Run, go_on, ◌>>=◌, lift}
 use Rattle.awk_semantics.specs.support.Unended.{AreUnended}
 use Rattle.awk_semantics.specs.definitions.Operators.{raised}
-use Rattle.awk_semantics.specs.definitions.Primitives.{text_in, spend, spend_of, fault_if, number_of, read_field, record_text, set_record, set_current, set_count, store_field, set_field, read_outside, read_name, put_unless, put_global, put_outside, put_by, put, put_special, count_in, array_number, read_element_at, store_element_at, has_element_at, delete_element_at, keys_at, read_element, store_element, has_element, delete_element, keys_in, fill_array_at, fill_array, field_separator, joined_key, check_height, print_bytes, print_line, argument_if, take_argument, is_inside, set_inside, set_status}
-use Rattle.awk_semantics.specs.definitions.Streams.{rest_in, opened, open_main, note_input, is_input_seen, begin_input, taken, taken_of, take_record, close_main, check_streams, NotReadable, input_granted, ask_input, open_input_unless, open_input, named_taken, named_taken_of, take_named, take_if, next_of, output_granted, ask_output, open_output_unless, open_output, open_file, open_target, is_command, closed_by, close_stream, named_of, streams_named, close_each, close_named, run_command}
+use Rattle.awk_semantics.specs.definitions.Primitives.{text_in, spend, spend_of, fault_if, number_of, read_field, record_text, set_record, set_current, set_count, store_field, set_field, read_outside, read_name, put_unless, put_global, put_outside, put_by, put, put_special, count_in, array_number, read_element_at, store_element_at, has_element_at, delete_element_at, clear_array_at, array_length_at, keys_at, read_element, store_element, has_element, delete_element, clear_array, array_length, is_array, keys_in, fill_array_at, fill_array, field_separator, joined_key, check_height, print_bytes, print_line, argument_if, take_argument, is_inside, set_inside, set_status}
+use Rattle.awk_semantics.specs.definitions.Streams.{rest_in, opened, open_main, note_input, is_input_seen, begin_input, taken, taken_of, take_record, close_main, check_streams, NotReadable, input_granted, ask_input, open_input_unless, open_input, named_taken, named_taken_of, take_named, take_if, next_of, output_granted, ask_output, open_output_unless, open_output, open_file, open_target, is_command, closed_by, close_stream, named_of, streams_named, close_each, close_named, flush_all, flush_named, run_command}
 use Rattle.awk_semantics.specs.definitions.BuiltIns.{Argument, locals_of}
 use Rattle.awk_value.specs.Values.{num_of}
 use Rattle.awk_table.specs.Arrays.{Array, with_pair, with_key, without}
@@ -133,6 +133,14 @@ pub delete_at_plain : (n : ℕ) (key : List ℕ) → Plain (delete_element_at n 
 unfolding delete_element_at
 delete_at_plain n key = record { at = λ s. record { own = tt; falls = le_refl s.steps; scope = array_scope s n (without (array_in s n) key); unended = tt } }
 
+pub clear_at_plain : (n : ℕ) → Plain (clear_array_at n)
+unfolding clear_array_at
+clear_at_plain n = record { at = λ s. record { own = tt; falls = le_refl s.steps; scope = array_scope s n []; unended = tt } }
+
+pub length_at_plain : (n : ℕ) → Plain (array_length_at n)
+unfolding array_length_at
+length_at_plain n = record { at = λ s. record { own = tt; falls = le_refl s.steps; scope = refl; unended = tt } }
+
 pub keys_at_plain : (n : ℕ) → Plain (keys_at n)
 unfolding keys_at
 keys_at_plain n = record { at = λ s. record { own = tt; falls = le_refl s.steps; scope = refl; unended = tt } }
@@ -156,6 +164,18 @@ has_plain x key = record { at = λ s. (has_at_plain (array_number s x) key).at s
 pub delete_plain : (x key : List ℕ) → Plain (delete_element x key)
 unfolding delete_element
 delete_plain x key = record { at = λ s. (delete_at_plain (array_number s x) key).at s }
+
+pub clear_plain : (x : List ℕ) → Plain (clear_array x)
+unfolding clear_array
+clear_plain x = record { at = λ s. (clear_at_plain (array_number s x)).at s }
+
+pub length_plain : (x : List ℕ) → Plain (array_length x)
+unfolding array_length
+length_plain x = record { at = λ s. (length_at_plain (array_number s x)).at s }
+
+pub is_array_plain : (x : List ℕ) → Plain (is_array x)
+unfolding is_array
+is_array_plain x = record { at = λ s. record { own = tt; falls = le_refl s.steps; scope = refl; unended = tt } }
 
 pub keys_plain : (x : List ℕ) → Plain (keys_in x)
 unfolding keys_in
@@ -200,6 +220,14 @@ close_main_plain = record { at = λ s. record { own = tt; falls = le_refl s.step
 pub named_plain : (name : List ℕ) → Plain (streams_named name)
 unfolding streams_named
 named_plain name = record { at = λ s. record { own = tt; falls = le_refl s.steps; scope = refl; unended = tt } }
+
+pub flush_all_plain : Plain flush_all
+unfolding flush_all
+flush_all_plain = record { at = λ s. record { own = tt; falls = le_refl s.steps; scope = refl; unended = tt } }
+
+pub flush_named_plain : (name : List ℕ) → Plain (flush_named name)
+unfolding flush_named
+flush_named_plain name = record { at = λ s. record { own = tt; falls = le_refl s.steps; scope = refl; unended = tt } }
 
 pub run_command_plain : (command : List ℕ) → Plain (run_command command)
 unfolding run_command
@@ -307,7 +335,6 @@ taken_at (Found first left) separator source s = record { own = tt; falls = le_r
 taken_at NoMore separator source s = record { own = tt; falls = le_refl s.steps; scope = refl; unended = tt }
 taken_at BrokenOff separator source s = record { own = tt; falls = le_refl s.steps; scope = refl; unended = tt }
 taken_at TooLong separator source s = record { own = tt; falls = le_refl s.steps; scope = refl; unended = tt }
-taken_at BadSeparator separator source s = record { own = tt; falls = le_refl s.steps; scope = refl; unended = tt }
 
 pub taken_of_at : (o : Option Source) (separator : List ℕ) (s : State) → PlainAt s (taken_of o separator s)
 taken_of_at None separator s = (ret_plain None).at s
@@ -342,7 +369,6 @@ named_taken_at (Found first left) kind name separator source s = record { own = 
 named_taken_at NoMore kind name separator source s = record { own = tt; falls = le_refl s.steps; scope = refl; unended = tt }
 named_taken_at BrokenOff kind name separator source s = record { own = tt; falls = le_refl s.steps; scope = refl; unended = tt }
 named_taken_at TooLong kind name separator source s = record { own = tt; falls = le_refl s.steps; scope = refl; unended = tt }
-named_taken_at BadSeparator kind name separator source s = record { own = tt; falls = le_refl s.steps; scope = refl; unended = tt }
 
 pub named_taken_of_plain : (o : Option Source) (kind : InputKind) (name separator : List ℕ) → Plain (named_taken_of o kind name separator)
 named_taken_of_plain None kind name separator = ret_plain NotReadable

@@ -148,6 +148,26 @@ impl Arrays {
         key::remove(&mut self.tables[number], key);
     }
 
+    /// Removes all elements of an array. Takes no memory. (POSIX awk, Actions: delete)
+    pub fn clear(&mut self, number: usize)
+        ensures { self.new ≡ slice_set self.old number [] }
+    {
+        if number >= self.live {
+            return;
+        }
+        self.tables[number].clear();
+    }
+
+    /// How many elements an array has. Takes no memory. (POSIX awk, String Functions: length)
+    pub fn count(&self, number: usize) -> usize
+        ensures { result ≡ length (array_of self.now number) }
+    {
+        if number >= self.live {
+            return 0;
+        }
+        self.tables[number].len()
+    }
+
     /// The keys of an array, in order. The fault is `Memory`.
     pub fn keys(&self, number: usize) -> Result<Vec<Bytes>, ValueFault>
         ensures keys { IfOk result (λ keys. keys.items ≡ keys_of (array_of self.now number)) }

@@ -1,12 +1,12 @@
 -- How an input is read: only as far as its next record needs, what is left of it then, and what that record is.
 -- (POSIX awk, INPUT FILES; Variables and Special Variables: RS)
 use Rattle.std.specs.Prelude.{◌≡◌, ◌⊎◌, ℕ, List, [], ◌∷◌, ◌++◌, Option, Some, None, Result, Ok, Err}
-use Rattle.awk_record.specs.Cut.{Ending, AtEnd, AtBreak, IsDecided, Cut, Found, NoMore, BrokenOff, TooLong, BadSeparator}
+use Rattle.awk_record.specs.Cut.{Ending, AtEnd, AtBreak, IsDecided, Cut, Found, NoMore, BrokenOff, TooLong}
 use Rattle.awk_record.specs.Buffer.{Pending}
 use Rattle.awk_record.specs.declared.fault.BufferFault.{BufferFault}
 use Rattle.awk_record.specs.declared.fault.BufferFault.TheVariants as buffer
 use Rattle.awk_channels.specs.declared.fault.StreamFault.{StreamFault}
-use Rattle.awk_channels.specs.declared.fault.StreamFault.TheVariants.{Memory, InputNotReadable, SeparatorTooLong, RecordTooLong}
+use Rattle.awk_channels.specs.declared.fault.StreamFault.TheVariants.{Memory, InputNotReadable, RecordTooLong}
 use Rattle.awk_world.specs.definitions.Log.{Event, Read, Ended, Broke}
 use Rattle.awk_world.specs.definitions.Oracle.{Oracle, Source, Reading, reading_of}
 use Rattle.awk_world.specs.definitions.Writes.{GoesOn}
@@ -46,17 +46,14 @@ NextTold (Found first rest) result whole left = (result ≡ Ok (Some first)) × 
 NextTold NoMore result whole left = (result ≡ Ok None) × (left ≡ [])
 NextTold BrokenOff result whole left = (result ≡ Err InputNotReadable) × (left ≡ [])
 NextTold TooLong result whole left = (result ≡ Err RecordTooLong) × (left ≡ whole)
-NextTold BadSeparator result whole left = (result ≡ Err SeparatorTooLong) × (left ≡ whole)
 
 abbrev pub input_fault_of : BufferFault → StreamFault
 input_fault_of buffer.Memory = Memory
-input_fault_of buffer.SeparatorTooLong = SeparatorTooLong
 input_fault_of buffer.RecordTooLong = RecordTooLong
 
 -- the faults of asking an input for a record
 abbrev pub IsInputFault : StreamFault → Type 0
 IsInputFault Memory = Unit {0}
 IsInputFault InputNotReadable = Unit {0}
-IsInputFault SeparatorTooLong = Unit {0}
 IsInputFault RecordTooLong = Unit {0}
 IsInputFault fault = ⊥

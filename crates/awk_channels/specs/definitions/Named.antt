@@ -1,6 +1,6 @@
 -- Named streams in the words of the language: what is open, what is left of an input, and which opening an output is
 -- (POSIX awk, Output Statements; Input/Output and General Functions).
-use Rattle.std.specs.Prelude.{ℕ, zero, suc, Bool, true, false, ◌&&◌, not, List, [], ◌∷◌, ◌++◌, filter, Option, Some, None, bytes_eq, if◌then◌else◌}
+use Rattle.std.specs.Prelude.{ℕ, zero, suc, Bool, true, false, ◌&&◌, ◌||◌, not, List, [], ◌∷◌, ◌++◌, filter, codes, Option, Some, None, is_some, bytes_eq, if◌then◌else◌}
 use Rattle.awk_world.specs.declared.world.InputKind.{InputKind}
 use Rattle.awk_world.specs.declared.world.InputKind.TheVariants as input
 use Rattle.awk_world.specs.declared.world.OutputKind.{OutputKind}
@@ -59,6 +59,13 @@ abbrev pub opening_in : List Stream → OutputKind → List ℕ → Option ℕ
 opening_in [] kind name = None
 opening_in (AnOutput k n opening ∷ streams) kind name = if same_output_kind k kind && bytes_eq n name then Some opening else opening_in streams kind name
 opening_in (x ∷ streams) kind name = opening_in streams kind name
+
+abbrev pub has_output : List Stream → List ℕ → Bool
+has_output streams name = is_some (opening_in streams output.File name) || is_some (opening_in streams output.Command name)
+
+-- whether outputs have this name: those that are open, and standard output and standard error
+abbrev pub is_output : List Stream → List ℕ → Bool
+is_output streams name = bytes_eq name (codes "/dev/stdout") || (bytes_eq name (codes "/dev/stderr") || has_output streams name)
 
 abbrev pub is_other : Named → Stream → Bool
 is_other x y = not (same_named x (named_of y))

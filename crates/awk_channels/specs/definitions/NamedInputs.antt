@@ -1,6 +1,6 @@
 -- What asking a named input for a record does (POSIX awk, Input/Output and General Functions: getline).
 use Rattle.std.specs.Prelude.{◌≡◌, ◌≢◌, ◌⊎◌, ◌≤◌, ◌<◌, ℕ, Bool, true, false, List, [], ◌∷◌, ◌++◌, length, Option, Some, None, Result, Ok, Err}
-use Rattle.awk_record.specs.Cut.{Cut, Found, NoMore, BrokenOff, TooLong, BadSeparator, cut_of}
+use Rattle.awk_record.specs.Cut.{Cut, Found, NoMore, BrokenOff, TooLong, cut_of}
 use Rattle.awk_record.specs.Buffer.{Pending}
 use Rattle.awk_world.specs.declared.world.InputKind.{InputKind}
 use Rattle.awk_world.specs.definitions.WorldState.{WorldState}
@@ -9,7 +9,7 @@ use Rattle.awk_world.specs.definitions.Oracle.{Oracle, Source, IsConsistent, Sam
 use Rattle.awk_world.specs.definitions.Orderly.{IsReadable}
 use Rattle.awk_world.specs.definitions.Grows.{Grows}
 use Rattle.awk_channels.specs.declared.fault.StreamFault.{StreamFault}
-use Rattle.awk_channels.specs.declared.fault.StreamFault.TheVariants.{Memory, WriteFailed, TooManyStreams, SeparatorTooLong, RecordTooLong}
+use Rattle.awk_channels.specs.declared.fault.StreamFault.TheVariants.{Memory, WriteFailed, TooManyStreams, RecordTooLong}
 use Rattle.awk_channels.specs.declared.input.NextNamed.{NextNamed}
 use Rattle.awk_channels.specs.declared.input.NextNamed.TheVariants.{Record, End, NotReadable}
 use Rattle.awk_channels.specs.definitions.Inputs.{ReadsAsNeeded, Rest}
@@ -82,7 +82,6 @@ NamedTold (Found first rest) result whole left = (result ≡ Ok (Record first)) 
 NamedTold NoMore result whole left = (result ≡ Ok End) × (left ≡ [])
 NamedTold BrokenOff result whole left = (result ≡ Ok NotReadable) × (left ≡ [])
 NamedTold TooLong result whole left = (result ≡ Err RecordTooLong) × (left ≡ whole)
-NamedTold BadSeparator result whole left = (result ≡ Err SeparatorTooLong) × (left ≡ whole)
 
 -- what an asking answers for an oracle: the first record of what is left of the input; what is left then
 pub record IsNamedAnswer (kind : InputKind) (name separator : List ℕ) (id : ℕ) (pending : Pending) (a : Oracle) (main : Option Source) (open_streams : List Stream) (before : WorldState) (result : Result NextNamed StreamFault) (after : WorldState) (new : StreamsView) : Type 0 where

@@ -49,6 +49,15 @@ abbrev pub is_called : List ℕ → NamedStream → Bool
 is_called text (named.Input kind name input) = bytes_eq name text
 is_called text (named.Output kind name output) = bytes_eq name text
 
+-- a stream without what it holds back
+abbrev pub unheld : NamedStream → NamedStream
+unheld (named.Input kind name input) = named.Input kind name input
+unheld (named.Output kind name output) = named.Output kind name record { id = output.id; held = [] }
+
+abbrev pub all_unheld : List NamedStream → List NamedStream
+all_unheld [] = []
+all_unheld (x ∷ xs) = unheld x ∷ all_unheld xs
+
 -- What is known of every world: the streams are open in it, under different numbers.
 
 abbrev pub IsOpenMain : WorldState → Option Input → Type 0

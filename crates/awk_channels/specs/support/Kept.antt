@@ -5,7 +5,6 @@ use Rattle.awk_world.specs.definitions.Oracle.{SameCounts, standing, reading_of}
 use Rattle.awk_world.specs.definitions.Openings.{openings}
 use Rattle.awk_channels.specs.declared.input.Input.{Input}
 use Rattle.awk_channels.specs.declared.named.NamedStream.{NamedStream}
-use Rattle.awk_channels.specs.declared.named.NamedStream.TheVariants as named
 use Rattle.awk_channels.specs.definitions.Streams.{place_of, number_of}
 use Rattle.std.specs.Prelude.{Option, Some, None}
 
@@ -44,12 +43,3 @@ AreOfOutput id [] = Unit {0}
 AreOfOutput id (Wrote i bytes ∷ es) = (i ≡ id) × AreOfOutput id es
 AreOfOutput id (Flushed i ∷ es) = (i ≡ id) × AreOfOutput id es
 AreOfOutput id (e ∷ es) = ⊥
-
--- a stream without what it holds back
-abbrev pub unheld : NamedStream → NamedStream
-unheld (named.Input kind name input) = named.Input kind name input
-unheld (named.Output kind name output) = named.Output kind name record { id = output.id; held = [] }
-
-abbrev pub all_unheld : List NamedStream → List NamedStream
-all_unheld [] = []
-all_unheld (x ∷ xs) = unheld x ∷ all_unheld xs

@@ -1,11 +1,11 @@
 -- One asking for a record: what is read for it, what the buffer then answers, and what an oracle says of that.
 use Rattle.std.specs.Prelude.{◌≡◌, ◌≢◌, ℕ, List, [], ◌++◌, ◌+◌, ◌-◌, Result, Ok, Err, Option, Some, None}
 use Rattle.awk_record.specs.Buffer.{Pending, Steps}
-use Rattle.awk_record.specs.Cut.{Ending, AtEnd, AtBreak, longest, cut_of, Cut, Found, NoMore, BrokenOff, TooLong, BadSeparator}
+use Rattle.awk_record.specs.Cut.{Ending, AtEnd, AtBreak, longest, cut_of, Cut, Found, NoMore, BrokenOff, TooLong}
 use Rattle.awk_record.specs.declared.buffer.Step.{Step}
 use Rattle.awk_record.specs.declared.buffer.Step.TheVariants.{Record, NeedMore, End, Broken}
 use Rattle.awk_record.specs.declared.fault.BufferFault.{BufferFault}
-use Rattle.awk_record.specs.declared.fault.BufferFault.TheVariants.{Memory as BufferMemory, SeparatorTooLong as BufferSeparatorTooLong, RecordTooLong as BufferRecordTooLong}
+use Rattle.awk_record.specs.declared.fault.BufferFault.TheVariants.{Memory as BufferMemory, RecordTooLong as BufferRecordTooLong}
 use Rattle.awk_channels.specs.declared.fault.StreamFault.{StreamFault}
 use Rattle.awk_channels.specs.declared.fault.StreamFault.TheVariants.{InputNotReadable}
 use Rattle.awk_channels.specs.definitions.Inputs.{Reaches, Rest, input_fault_of}
@@ -38,7 +38,6 @@ Tells (Found first rest) result whole left = (result ≡ Ok (Record first)) × (
 Tells NoMore result whole left = (result ≡ Ok End) × (left ≡ [])
 Tells BrokenOff result whole left = (result ≡ Ok Broken) × (left ≡ [])
 Tells TooLong result whole left = (result ≡ Err BufferRecordTooLong) × (left ≡ whole)
-Tells BadSeparator result whole left = (result ≡ Err BufferSeparatorTooLong) × (left ≡ whole)
 
 -- for all oracles that are consistent: from the whole rest to what is left of it, by its first cut
 abbrev pub TellsNext : ℕ → List ℕ → Pending → List Event → Result Step BufferFault → Pending → List Event → Type 0

@@ -1,10 +1,10 @@
-// Closings, runs of commands, and the end of a run.
+// Closings, and the end of a run.
 ghost use Rattle.std.specs.Prelude.{◌≡◌, ◌<◌, ◌≤◌, List, ℕ, ℤ, [], length, None, IsTrue, IfErr, OnOk, OnErr, pos, negsuc, if◌then◌else◌};
 ghost use Rattle.awk_world.specs.definitions.WorldState.{SameOpen};
 ghost use Rattle.awk_channels.specs.definitions.Outputs.{IsOutputFault};
 ghost use Rattle.awk_channels.specs.definitions.Streams.{AreOpen, AreSound, held_of, name_of};
-ghost use Rattle.awk_channels.specs.definitions.Commands.{ClosesStream, ClosesEach, ClosesText, RunsCommand, Finishes, names_called, all_names};
-ghost use Rattle.awk_channels.specs.support.Kept.{all_unheld};
+ghost use Rattle.awk_channels.specs.definitions.Commands.{ClosesStream, ClosesEach, ClosesText, Finishes, names_called, all_names};
+ghost use Rattle.awk_channels.specs.definitions.Streams.{all_unheld};
 ghost use Rattle.awk_channels.specs.support.Held.{HoldsNothing};
 ghost use Rattle.awk_channels.specs.support.Brings.{BringsHeld, AreFlushedBut};
 ghost use Rattle.awk_channels.specs.support.Closes.{ClosesAt, without_place};
@@ -12,7 +12,7 @@ ghost use Rattle.awk_channels.specs.support.Closes.{ClosesAt, without_place};
 use super::Streams;
 use crate::fault::StreamFault;
 use crate::named::{bring_each, find_called};
-use crate::output::{STANDARD_ERROR, STANDARD_OUTPUT, run_answer};
+use crate::output::{STANDARD_ERROR, STANDARD_OUTPUT};
 use awk_world::World;
 
 // A command's closing gives the world's number, and a file's 0.
@@ -41,22 +41,6 @@ impl Streams {
         }
         self.bring(world)?;
         Ok(self.close_called(world, text))
-    }
-
-    /// Runs a command to its end, once all outputs are flushed, and answers the world's number. Fails
-    /// with `Memory` (F1), or `WriteFailed` (F2) where a flush fails; then nothing is run. (POSIX awk,
-    /// Input/Output and General Functions: system)
-    pub fn run<W: World>(&mut self, world: &mut W, command: &[u8]) -> Result<i128, StreamFault>
-        requires open { AreOpen (W.state world.old) self.old }
-        requires sound { W.is_logged → AreSound (W.state world.old) self.old }
-        ensures main { self.new.main ≡ self.old.main }
-        ensures fault { IfErr result IsOutputFault }
-        ensures open { AreOpen (W.state world.new) self.new }
-        ensures sound { W.is_logged → AreSound (W.state world.new) self.new }
-        ensures told { W.is_logged → RunsCommand command.now (W.state world.old) self.old result (W.state world.new) self.new }
-    {
-        self.bring(world)?;
-        run_answer(world.run(command))
     }
 
     /// Ends a run: flushes all outputs, going on behind a failure, though an output whose write failed

@@ -17,8 +17,8 @@ impl Streams {
     /// needed. The input is opened, unless it is open; before a command is opened, all outputs are
     /// flushed. One that the world refuses, or that broke, is `NotReadable`, and one that ended or broke
     /// stays open and answers the same again. Fails with `TooManyStreams` (F13) where 200 named streams
-    /// are open, `SeparatorTooLong` (F15), `RecordTooLong` (F16), `Memory` (F1), or `WriteFailed` (F2).
-    /// (POSIX awk, Input/Output and General Functions: getline)
+    /// are open, `RecordTooLong` (F16), `Memory` (F1), or `WriteFailed` (F2). (POSIX awk, Input/Output
+    /// and General Functions: getline)
     pub fn next_named<W: World>(
         &mut self,
         world: &mut W,

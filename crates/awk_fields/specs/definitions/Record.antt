@@ -53,7 +53,7 @@ resized count fields = take count fields ++ replicate (count - length fields) No
 
 -- the greatest field number and the greatest count that can be assigned
 abbrev pub most_fields : ℕ
-most_fields = 1000000
+most_fields = 16777216
 
 abbrev pub assignable : ℤ → Result ℕ RecordFault
 assignable (pos n) = if nat_lt most_fields n then Err FieldNumber else Ok n

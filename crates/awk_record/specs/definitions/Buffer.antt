@@ -1,10 +1,10 @@
 -- What a buffer of an input's bytes holds, and what it answers when it is asked for the next record.
 use Rattle.std.specs.Prelude.{◌≡◌, ℕ, List, [], Option, Some, None, Result, Ok, Err}
-use Rattle.awk_record.specs.definitions.Cut.{Ending, Cut, Found, NoMore, BrokenOff, TooLong, BadSeparator, cut_of, IsDecided}
+use Rattle.awk_record.specs.definitions.Cut.{Ending, Cut, Found, NoMore, BrokenOff, TooLong, cut_of, IsDecided}
 use Rattle.awk_record.specs.declared.buffer.Step.{Step}
 use Rattle.awk_record.specs.declared.buffer.Step.TheVariants.{Record, NeedMore, End, Broken}
 use Rattle.awk_record.specs.declared.fault.BufferFault.{BufferFault}
-use Rattle.awk_record.specs.declared.fault.BufferFault.TheVariants.{SeparatorTooLong, RecordTooLong}
+use Rattle.awk_record.specs.declared.fault.BufferFault.TheVariants.{RecordTooLong}
 
 -- the bytes that were fed and not yet taken, and the ending that was met behind them
 pub record Pending : Type 0 where
@@ -17,7 +17,6 @@ IsAnswerOf (Found first rest) ending result old new = (result ≡ Ok (Record fir
 IsAnswerOf NoMore ending result old new = (result ≡ Ok End) × (new.bytes ≡ []) × (new.ending ≡ ending)
 IsAnswerOf BrokenOff ending result old new = (result ≡ Ok Broken) × (new.bytes ≡ []) × (new.ending ≡ ending)
 IsAnswerOf TooLong ending result old new = (result ≡ Err RecordTooLong) × (new ≡ old)
-IsAnswerOf BadSeparator ending result old new = (result ≡ Err SeparatorTooLong) × (new ≡ old)
 
 -- what an asking for the next record answers, and what is pending then
 pub record Steps (separator : List ℕ) (old : Pending) (result : Result Step BufferFault) (new : Pending) : Type 0 where

@@ -16,8 +16,6 @@ pub data Cut : Type 0 where
   BrokenOff : Cut
   -- the record, with what is skipped before it and its separator, has more than `longest` bytes
   TooLong : Cut
-  -- the separator has two or more bytes, which the standard leaves unspecified
-  BadSeparator : Cut
 
 abbrev pub longest : ℕ
 longest = 1073741824
@@ -64,16 +62,15 @@ newlines (b ∷ bytes) = if b == 10 then suc (newlines bytes) else 0
 abbrev pub without_newline : List ℕ → List ℕ
 without_newline bytes = if slice_index bytes (length bytes - 1) == 10 then take (length bytes - 1) bytes else bytes
 
--- what is left of an input, cut by a record separator: one of one byte stands behind each record;
--- under an empty one leading newlines are skipped, and two newlines in a row, or the end with a newline before it, end a record
+-- what is left of an input, cut by a record separator: one of one or more bytes stands behind each record, which goes up to its
+-- first place; the standard leaves one of two or more bytes unspecified. Under an empty one leading newlines are skipped, and two
+-- newlines in a row, or the end with a newline before it, end a record
 abbrev pub cut_of : (separator bytes : List ℕ) → Ending → Cut
 cut_of [] bytes ending = cut_behind (newlines bytes) (10 ∷ 10 ∷ []) without_newline (drop (newlines bytes) bytes) ending
-cut_of (c ∷ []) bytes ending = cut_behind 0 (c ∷ []) (λ b. b) bytes ending
-cut_of (c ∷ d ∷ separator) bytes ending = BadSeparator
+cut_of (c ∷ separator) bytes ending = cut_behind 0 (c ∷ separator) (λ b. b) bytes ending
 
 -- these bytes settle what the first record is, whatever follows them and however the input stops
 abbrev pub IsDecided : (separator bytes : List ℕ) → Type 0
 IsDecided separator bytes =
     ((first rest : List ℕ) × ((more : List ℕ) (ending : Ending) → cut_of separator (bytes ++ more) ending ≡ Found first (rest ++ more)))
-    ⊎ (((more : List ℕ) (ending : Ending) → cut_of separator (bytes ++ more) ending ≡ TooLong)
-    ⊎ ((more : List ℕ) (ending : Ending) → cut_of separator (bytes ++ more) ending ≡ BadSeparator))
+    ⊎ ((more : List ℕ) (ending : Ending) → cut_of separator (bytes ++ more) ending ≡ TooLong)

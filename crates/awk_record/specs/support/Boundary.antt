@@ -1,8 +1,9 @@
 -- What a boundary, the supply and a resumed search stand for.
-use Rattle.std.specs.Prelude.{◌≡◌, ◌≢◌, ◌<◌, ◌≤◌, ℕ, ◌+◌, slice_index, length, List, [], ◌∷◌, Option, Some, None, Bool, take, drop, ◌-◌, if◌then◌else◌}
-use Rattle.awk_record.specs.definitions.Cut.{Ending, AtEnd, AtBreak, Cut, Found, NoMore, BrokenOff, TooLong, BadSeparator, longest, newlines, without_newline}
+use Rattle.std.specs.Prelude.{◌≡◌, ◌<◌, ◌≤◌, ℕ, ◌+◌, slice_index, length, List, [], ◌∷◌, Option, Some, None, Bool, false, take, drop, ◌-◌, if◌then◌else◌}
+use Rattle.awk_record.specs.definitions.Cut.{Ending, AtEnd, AtBreak, Cut, Found, NoMore, BrokenOff, TooLong, longest, begins_with, newlines, without_newline}
 use Rattle.awk_record.specs.declared.boundary.Boundary.{Boundary}
-use Rattle.awk_record.specs.declared.boundary.Boundary.TheVariants.{Stretch, Empty, Unfinished, Over, NoSeparator}
+use Rattle.awk_record.specs.declared.boundary.Boundary.TheVariants.{Stretch, Empty, Unfinished, Over}
+use Rattle.awk_record.specs.declared.separator_search.Progress.{Progress}
 use Rattle.awk_record.specs.declared.separator_search.ResumedSearch.{ResumedSearch}
 use Rattle.awk_record.specs.declared.buffer.Supply.{Supply}
 use Rattle.awk_record.specs.declared.buffer.Supply.TheVariants.{Open, Ended, Broke}
@@ -24,34 +25,28 @@ end_if at_end = if at_end then AtEnd else AtBreak
 abbrev pub trim_if : Bool → List ℕ → List ℕ
 trim_if trims bytes = if trims then without_newline bytes else bytes
 
--- the byte doesn't stand among the first n bytes
-abbrev pub IsNotAmong : (byte n : ℕ) → (bytes : List ℕ) → Type 0
-IsNotAmong byte n bytes = (k : ℕ) → k < n → slice_index bytes k ≢ byte
-
 -- so many newlines stand in front
 abbrev pub AreNewlines : (n : ℕ) → (bytes : List ℕ) → Type 0
 AreNewlines n bytes = (k : ℕ) → k < n → slice_index bytes k ≡ 10
 
--- from a place on no two newlines in a row stand among the first n bytes
-abbrev pub HasNoBlankLine : (place n : ℕ) → (bytes : List ℕ) → Type 0
-HasNoBlankLine place n bytes = (k : ℕ) → place ≤ k → k + 1 < n → slice_index bytes k ≡ 10 → slice_index bytes (k + 1) ≡ 10 → ⊥
+-- from a place on the word doesn't stand among the first n bytes
+abbrev pub HasNoWord : (word : List ℕ) (place n : ℕ) (bytes : List ℕ) → Type 0
+HasNoWord word place n bytes = (k : ℕ) → place ≤ k → k + length word ≤ n → begins_with word (drop k bytes) ≡ false
 
--- a search for a separator skipped so many newlines, where it is the empty one, and found none among so many bytes
-abbrev pub IsKnown : (separator : List ℕ) (skipped searched : ℕ) (bytes : List ℕ) → Type 0
-IsKnown [] skipped searched bytes = AreNewlines skipped bytes × HasNoBlankLine skipped searched bytes
-IsKnown (c ∷ []) skipped searched bytes = IsNotAmong c searched bytes
-IsKnown (c ∷ d ∷ separator) skipped searched bytes = Unit {0}
+-- a search for a separator that found none has come so far: it skipped so many newlines, where the separator is the empty one,
+-- and none stands among so many bytes
+abbrev pub IsKnown : (separator : List ℕ) → Progress → (bytes : List ℕ) → Type 0
+IsKnown [] progress bytes = AreNewlines progress.skipped bytes × HasNoWord (10 ∷ 10 ∷ []) progress.skipped progress.searched bytes
+IsKnown (c ∷ separator) progress bytes = HasNoWord (c ∷ separator) 0 progress.searched bytes
 
--- the separator that is this byte, or the empty one
-abbrev pub separator_for : Option ℕ → List ℕ
-separator_for None = []
-separator_for (Some c) = c ∷ []
+abbrev pub nothing_known : Progress
+nothing_known = record { skipped = 0; searched = 0 }
 
 -- so many bytes were taken, and those behind them were searched as is kept
 pub record IsSearched (items : List ℕ) (start : ℕ) (search : ResumedSearch) : Type 0 where
-  pub skipped : start + search.skipped ≤ length items
-  pub searched : start + search.searched ≤ length items
-  pub known : IsKnown (separator_for search.byte) search.skipped search.searched (drop start items)
+  pub skipped : start + search.progress.skipped ≤ length items
+  pub searched : start + search.progress.searched ≤ length items
+  pub known : IsKnown search.separator.items search.progress (drop start items)
 
 -- the cut of the bytes at a boundary
 abbrev pub cut_by : Boundary → List ℕ → Cut
@@ -59,7 +54,6 @@ cut_by (Stretch from to next) bytes = Found (take (to - from) (drop from bytes))
 cut_by Empty bytes = NoMore
 cut_by (Unfinished skipped) bytes = BrokenOff
 cut_by Over bytes = TooLong
-cut_by NoSeparator bytes = BadSeparator
 
 -- the boundary lies within so many bytes
 abbrev pub IsWithin : ℕ → Boundary → Type 0
@@ -67,7 +61,6 @@ IsWithin n (Stretch from to next) = (from ≤ to) × (to ≤ n) × (next ≤ n)
 IsWithin n Empty = Unit {0}
 IsWithin n (Unfinished skipped) = skipped ≤ n
 IsWithin n Over = Unit {0}
-IsWithin n NoSeparator = Unit {0}
 
 -- so many newlines were skipped, where the separator is the empty one
 abbrev pub IsSkipped : (separator : List ℕ) (skipped : ℕ) (bytes : List ℕ) → Type 0
@@ -80,7 +73,6 @@ Skips separator bytes (Unfinished skipped) = IsSkipped separator skipped bytes
 Skips separator bytes (Stretch from to next) = Unit {0}
 Skips separator bytes Empty = Unit {0}
 Skips separator bytes Over = Unit {0}
-Skips separator bytes NoSeparator = Unit {0}
 
 -- no more bytes are held than a record may have, where none is whole
 abbrev pub IsShort : (n : ℕ) → Boundary → Type 0
@@ -88,4 +80,3 @@ IsShort n (Unfinished skipped) = n ≤ longest
 IsShort n (Stretch from to next) = Unit {0}
 IsShort n Empty = Unit {0}
 IsShort n Over = Unit {0}
-IsShort n NoSeparator = Unit {0}

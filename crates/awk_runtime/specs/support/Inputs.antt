@@ -1,10 +1,10 @@
--- How the main input is looked for, opened and closed.
+-- How the main input is looked for and opened.
 use Rattle.std.specs.Prelude.{◌≡◌, ℕ, ◌≤◌, suc, true, List, Option, Some, None, is_some, Result, Ok, Err, OnOk}
 use Rattle.awk_world.specs.declared.world.InputKind.{InputKind}
 use Rattle.awk_channels.specs.WorldState.{WorldState}
 use Rattle.awk_semantics.specs.declared.halt.Halt.{Halt}
 use Rattle.awk_semantics.specs.State.{Run}
-use Rattle.awk_semantics.specs.Streams.{open_main, close_main}
+use Rattle.awk_semantics.specs.Streams.{open_main}
 use Rattle.awk_semantics.specs.Inputs.{search_operands_within}
 use Rattle.awk_runtime.specs.declared.runtime.Runtime.{Runtime}
 use Rattle.awk_runtime.specs.support.Simulation.{Simulates}
@@ -23,11 +23,6 @@ pub record Seeks (is_logged : Type 0) (run : Run (Option (List ℕ))) (old : Run
 -- the elements of ARGV that are left, at any bound above the steps
 pub record SearchesOn (is_logged : Type 0) (old : Runtime) (before : WorldState) (new : Runtime) (after : WorldState) (r : Result (Option (List ℕ)) Halt) : Type 0 where
   pub simulates : (n : ℕ) → old.steps ≤ n → Simulates is_logged old before new after r (search_operands_within (suc n))
-
--- the main input is closed, and then there is none
-pub record ClosesMainInput (is_logged : Type 0) (old : Runtime) (before : WorldState) (new : Runtime) (after : WorldState) : Type 0 where
-  pub simulates : Simulates is_logged old before new after (Ok tt) close_main
-  pub main : new.streams.main ≡ None
 
 -- a main input is opened, and then there is one
 pub record OpensMainInput (is_logged : Type 0) (kind : InputKind) (path : List ℕ) (old : Runtime) (before : WorldState) (new : Runtime) (after : WorldState) (r : Result (Unit {0}) Halt) : Type 0 where

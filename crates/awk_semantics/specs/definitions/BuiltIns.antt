@@ -66,14 +66,22 @@ abbrev pub array_named : Expr → Argument
 array_named (Name x) = OfArray x
 array_named e = OfArray []
 
-abbrev pub array_or_value : (is_array : Bool) → (name : List ℕ) → Run Value → Run Argument
+-- the name that an expression is, if it is a bare one
+abbrev pub bare_name : Expr → Option (List ℕ)
+bare_name (Name x) = Some x
+bare_name e = None
+
+abbrev pub array_or_value : (stands_for_one : Bool) → (name : List ℕ) → Run Value → Run Argument
 array_or_value true x evaluated = ret (OfArray x)
 array_or_value false x evaluated = evaluated >>= λ v. ret (OfValue v)
 
--- an array, or else a value
+-- the array that such a name stands for, or else a value
+abbrev pub array_named_or : Option (List ℕ) → Run Value → Run Argument
+array_named_or None evaluated = evaluated >>= λ v. ret (OfValue v)
+array_named_or (Some x) evaluated = is_array x >>= λ b. array_or_value b x evaluated
+
 abbrev pub array_or : Expr → Run Value → Run Argument
-array_or (Name x) evaluated = is_array x >>= λ b. array_or_value b x evaluated
-array_or e evaluated = evaluated >>= λ v. ret (OfValue v)
+array_or e evaluated = array_named_or (bare_name e) evaluated
 
 abbrev pub taken_as : Role → Expr → (evaluated : Run Value) → (place : Run Place) → Run Argument
 taken_as AsValue e evaluated place = evaluated >>= λ v. ret (OfValue v)

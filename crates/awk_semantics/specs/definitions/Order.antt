@@ -1,6 +1,6 @@
 -- When a run asks the outside for something: its log meets the requests of the meaning, one after the other
 -- (POSIX awk, INPUT FILES; Variables and Special Variables: RS; Output Statements; Input/Output and General Functions).
-use Rattle.std.specs.Prelude.{◌≡◌, ◌⊎◌, ℕ, ℤ, Bool, not, List, [], ◌∷◌, ◌++◌, filter, Option, Some, None, is_some, if◌then◌else◌}
+use Rattle.std.specs.Prelude.{◌≡◌, ◌⊎◌, ℕ, ℤ, Bool, List, [], ◌∷◌, ◌++◌, Option, Some, None, is_some}
 use Rattle.awk_record.specs.Cut.{Ending}
 use Rattle.awk_world.specs.declared.world.InputKind.{InputKind}
 use Rattle.awk_world.specs.declared.world.InputKind.TheVariants as input
@@ -14,7 +14,6 @@ use Rattle.awk_channels.specs.Openings.{Opening, AreBrought}
 use Rattle.awk_channels.specs.Inputs.{NeededReads, Rest}
 pub use Rattle.awk_channels.specs.Named.{number_among, without_number}
 use Rattle.awk_semantics.specs.definitions.State.{Named, Input, Output, Request, OpensMain, OpensInput, OpensOutput, RecordOfMain, RecordOf, Closes, Runs, Ends}
-use Rattle.awk_semantics.specs.definitions.Streams.{same_named}
 use Rattle.awk_semantics.specs.definitions.Meaning.{Asked, Meaning}
 
 -- how far a log goes, which of its inputs is the main one, and under which numbers the named streams stand open

@@ -1,23 +1,22 @@
 -- The primitives of a run that reach the outside: the main input, named streams, commands
 -- (POSIX awk, INPUT FILES; Output Statements; Input/Output and General Functions).
-use Rattle.std.specs.Prelude.{ℕ, suc, ◌+◌, nat_le, ℤ, pos, negsuc, Bool, true, false, ◌&&◌, ◌||◌, not, List, [], ◌∷◌, ◌++◌, length, filter, codes, Option, Some, None, is_some, Ok, Err, bytes_eq, if◌then◌else◌}
+use Rattle.std.specs.Prelude.{ℕ, suc, ◌+◌, nat_le, ℤ, pos, negsuc, Bool, true, false, ◌&&◌, List, [], ◌∷◌, ◌++◌, length, filter, codes, Option, Some, None, Ok, Err, bytes_eq, if◌then◌else◌}
 use Rattle.awk_value.specs.declared.value.Value.TheVariants as value
 use Rattle.awk_record.specs.Cut.{Ending, Cut, Found, NoMore, BrokenOff, TooLong, cut_of}
 use Rattle.awk_world.specs.declared.world.InputKind.{InputKind}
-use Rattle.awk_world.specs.declared.world.InputKind.TheVariants as input
 use Rattle.awk_world.specs.declared.world.OutputKind.{OutputKind}
 use Rattle.awk_world.specs.declared.world.OutputKind.TheVariants as output
 use Rattle.awk_world.specs.declared.world.Mode.{Mode}
 use Rattle.awk_world.specs.declared.world.Mode.TheVariants as mode
 use Rattle.awk_channels.specs.Oracle.{Source, same_input_kind, same_output_kind, one_if}
-pub use Rattle.awk_channels.specs.Named.{same_named, named_of, is_command, rest_in, with_rest_of, opening_in, is_other, has_the_name}
+pub use Rattle.awk_channels.specs.Named.{same_named, named_of, is_command, rest_in, with_rest_of, opening_in, is_output, is_other, has_the_name}
 use Rattle.awk_grammar.specs.declared.tree.Redirection.{Redirection}
 use Rattle.awk_grammar.specs.declared.tree.Redirection.TheVariants as to
 use Rattle.awk_variables.specs.declared.special.Special.TheVariants.{Filename, Fnr, Rs}
 use Rattle.awk_semantics.specs.declared.fault.Fault.{Fault}
 use Rattle.awk_semantics.specs.declared.fault.Fault.TheVariants as fault
 use Rattle.awk_semantics.specs.declared.halt.Halt.TheVariants as halt
-use Rattle.awk_semantics.specs.definitions.State.{Named, Input, Output, Request, OpensMain, OpensInput, OpensOutput, RecordOfMain, RecordOf, Closes, Runs, Requested, Stream, AnInput, AnOutput, State, Out, Run, ◌>>=◌, ret, gives}
+use Rattle.awk_semantics.specs.definitions.State.{Named, Request, OpensMain, OpensInput, OpensOutput, RecordOfMain, RecordOf, Closes, Runs, Requested, Stream, AnInput, AnOutput, State, Out, Run, ◌>>=◌, ret, gives}
 use Rattle.awk_semantics.specs.definitions.Primitives.{text_in, put_special, fault_if}
 
 -- Terms of a primitive's own clause: what it gives where it asks this of the outside.
@@ -204,13 +203,6 @@ close_named name = streams_named name >>= λ xs. close_each (negsuc 0) xs
 
 unfoldable pub flush_all : Run (Unit {0})
 flush_all s = gives tt s
-
-abbrev pub has_output : List Stream → List ℕ → Bool
-has_output streams name = is_some (opening_in streams output.File name) || is_some (opening_in streams output.Command name)
-
--- whether outputs have this name: those that are open, and standard output and standard error
-abbrev pub is_output : List Stream → List ℕ → Bool
-is_output streams name = bytes_eq name (codes "/dev/stdout") || (bytes_eq name (codes "/dev/stderr") || has_output streams name)
 
 -- each output of a name is flushed; -1 where there is none
 unfoldable pub flush_named : List ℕ → Run ℤ

@@ -1,5 +1,5 @@
 -- What the functions of texts give, as functions: where a part stands, which matches of a pattern are chosen, and a text
--- with them exchanged (POSIX awk, String Functions). That they are what the relations of awk_text and awk_substitute say
+-- with them exchanged (POSIX awk, String Functions). That they are what the relations of awk_text say
 -- is told by laws.
 use Rattle.std.specs.Prelude.{ℕ, zero, suc, ◌-◌, Bool, true, false, ℤ, pos, negsuc, List, [], ◌∷◌, length, Option, Some, None, Result, Ok, Err}
 use Rattle.awk_ere.specs.Tree.{Tree}

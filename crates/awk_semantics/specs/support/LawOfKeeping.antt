@@ -20,7 +20,7 @@ use Rattle.awk_semantics.specs.definitions.Primitives.{spend, number_of, read_fi
 use Rattle.awk_semantics.specs.definitions.Streams.{open_target, close_main, close_named, run_command, flush_all, flush_named}
 use Rattle.awk_semantics.specs.definitions.Inputs.{next_record}
 use Rattle.awk_semantics.specs.definitions.Places.{Place, read_place, store, assign, assign_by, post_increment, main_getline, named_getline}
-use Rattle.awk_semantics.specs.definitions.BuiltIns.{Role, Argument, taken_as, locals_of, note_match, separator_for, split_into, exchange, record_length, apply_built_in}
+use Rattle.awk_semantics.specs.definitions.BuiltIns.{Role, Argument, taken_as, locals_of, note_match, separator_for, split_into, exchange, record_length, count_elements, flush_outputs, apply_built_in}
 use Rattle.awk_semantics.specs.definitions.Semantics.{Functions, right_operand, tested, choose, combined, call_with, getline_from, eval, place_of, key_of, take_arguments, optional_place, optional_value, eval_all, printed_values, target_of, print_by, print, begin_test, exit_with, returned_value, exec_simple, exec_part, goes_on, turn, unless_ended, repeat_within, repeat, walk, pass_on, exec, exec_all}
 use Rattle.awk_semantics.specs.definitions.Calls.{call_by, functions_within}
 use Rattle.awk_semantics.specs.definitions.Items.{begin_record, run_action, in_range, go_through, selects, print_record, try_item, try_items, begin_items, end_items, until_next, until_exit, run_records, run_before_end, run_items}
@@ -131,6 +131,8 @@ pub record PartsKeep : Type 0 where
   pub split_into : (x : List ℕ) (pieces : List (List ℕ)) → Keeps (split_into x pieces)
   pub exchange : (all : Bool) (arguments : List Argument) → Keeps (exchange all arguments)
   pub record_length : Keeps record_length
+  pub count_elements : (x : List ℕ) → Keeps (count_elements x)
+  pub flush_outputs : Keeps flush_outputs
   pub apply_built_in : (f : BuiltInName) (arguments : List Argument) → Keeps (apply_built_in f arguments)
   pub begin_record : (text : List ℕ) → Keeps (begin_record text)
 

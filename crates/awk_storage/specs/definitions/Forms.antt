@@ -8,7 +8,7 @@ use Rattle.awk_text.specs.definitions.Separators.{Separator}
 use Rattle.awk_text.specs.definitions.Fields.{pieces_of}
 use Rattle.awk_world.specs.declared.world.InputKind.{InputKind}
 use Rattle.awk_variables.specs.declared.special.Special.TheVariants.{Nr, Fnr}
-use Rattle.awk_semantics.specs.definitions.State.{State, Run, ◌>>=◌, lift, ret}
+use Rattle.awk_semantics.specs.definitions.State.{Run, ◌>>=◌, lift}
 use Rattle.awk_semantics.specs.definitions.Operators.{pattern_in}
 use Rattle.awk_semantics.specs.definitions.Texts.{find_from, exchanged}
 use Rattle.awk_semantics.specs.definitions.Primitives.{spend, set_record, count_in, has_element_at, delete_element_at, clear_array_at, array_length_at, keys_at, fill_array_at}

@@ -1,7 +1,6 @@
 use Rattle.std.proofs.Common.{◌≡◌, take, drop, Ok}
 use Rattle.awk_world.specs.definitions.WorldState.{SameOpen}
-use Rattle.awk_channels.specs.definitions.Streams.{AreApart, AreSoundNamed, held_in}
-use Rattle.awk_channels.specs.support.Kept.{all_unheld}
+use Rattle.awk_channels.specs.definitions.Streams.{AreApart, AreSoundNamed, held_in, all_unheld}
 use Rattle.awk_channels.specs.support.Held.{AreEmpty}
 use Rattle.awk_channels.specs.support.Brings.{BringsHeld, AreFlushedBut}
 use Rattle.awk_channels.proofs.named.bring.Given as goal

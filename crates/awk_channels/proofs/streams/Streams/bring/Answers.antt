@@ -4,14 +4,13 @@ use Rattle.std.specs.Vec.{with_items}
 use Rattle.std.proofs.lemmas.List.{with_items_is}
 use Rattle.awk_channels.specs.declared.named.NamedStream.{NamedStream}
 use Rattle.awk_channels.specs.support.Held.{AreEmpty, HoldsNothing}
-use Rattle.awk_channels.specs.support.Kept.{all_unheld}
 use Rattle.awk_channels.proofs.StreamsLemmas.{but_held_length}
 use Rattle.awk_world.specs.definitions.WorldState.{FailsNow}
 use Rattle.awk_channels.proofs.GrowsLemmas.{fails_later}
 use Rattle.awk_channels.proofs.BufferedLemmas.{on_err}
 use Rattle.awk_channels.proofs.BringLemmas.{on_ok}
 use Rattle.std.proofs.lemmas.Result.{err_from_is_err_and}
-use Rattle.awk_channels.specs.definitions.Streams.{StreamsView, AreOpen, AreOpenNamed, AreApart, AreSoundNamed, AreSound, held_of, held_in}
+use Rattle.awk_channels.specs.definitions.Streams.{StreamsView, AreOpen, AreOpenNamed, AreApart, AreSoundNamed, AreSound, held_of, held_in, all_unheld}
 use Rattle.awk_channels.specs.support.Brings.{BringsHeld, AreFlushedBut}
 use Rattle.awk_channels.proofs.ViewLemmas.{bring_one, bring_two, bring_three, flushed_three}
 use Rattle.awk_channels.proofs.streams.Streams.bring.Goals as goal

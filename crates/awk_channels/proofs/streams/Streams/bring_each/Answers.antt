@@ -5,8 +5,7 @@ use Rattle.std.specs.Result.{result_and}
 use Rattle.std.proofs.lemmas.List.{with_items_is}
 use Rattle.awk_channels.specs.declared.fault.StreamFault.{StreamFault}
 use Rattle.awk_channels.specs.declared.named.NamedStream.{NamedStream}
-use Rattle.awk_channels.specs.definitions.Streams.{StreamsView, AreOpen, AreOpenNamed, AreApart, AreSoundNamed, AreSound, held_of, held_in}
-use Rattle.awk_channels.specs.support.Kept.{all_unheld}
+use Rattle.awk_channels.specs.definitions.Streams.{StreamsView, AreOpen, AreOpenNamed, AreApart, AreSoundNamed, AreSound, held_of, held_in, all_unheld}
 use Rattle.awk_channels.specs.support.Brings.{BringsHeld, AreFlushedBut}
 use Rattle.awk_channels.proofs.StreamsLemmas.{but_held_length}
 use Rattle.awk_channels.proofs.ViewLemmas.{bring_two, bring_three, flushed_each_three}

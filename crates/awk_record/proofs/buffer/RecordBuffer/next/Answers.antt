@@ -1,33 +1,27 @@
-use Rattle.std.proofs.Common.{◌≡◌, ◌∙◌, Ok, refl, sym, ap, subst, List, ℕ, drop, length, arith}
-use Rattle.std.proofs.lemmas.List.{length-drop}
+use Rattle.std.proofs.Common.{◌≡◌, ◌∙◌, Ok, refl, sym, ap, subst, List, ℕ, ◌-◌, take, drop, length, arith}
 use Rattle.awk_record.specs.Buffer.{Pending, Steps}
 use Rattle.awk_record.specs.Cut.{BrokenOff, NoMore, TooLong}
-use Rattle.awk_record.specs.Boundary.{IsKnown, separator_for}
+use Rattle.awk_record.specs.Boundary.{IsKnown}
 use Rattle.awk_record.specs.declared.buffer.Step.TheVariants.{Record, NeedMore}
 use Rattle.awk_record.proofs.NextAnswersSteps.{Steps-seen, Steps-waits, Steps-breaks, found_unbroken, held_is, drop_behind, something_met}
-use Rattle.awk_record.proofs.BlankLines.{unfinished_known}
+use Rattle.awk_record.proofs.ResumedSearches.{unfinished_known, searched_kept}
 use Rattle.awk_record.proofs.buffer.RecordBuffer.next.Goals as goal
 
 pub first_boundary-requires-clause-known : goal.first_boundary-requires-clause-known
 first_boundary-requires-clause-known c =
     let b = c.self.inside in
-    let search = c.resumed_for-search.result in
     let held = held_is c.deref.result.now b.bytes.items b.start c.deref.ensures.value in
-    subst (IsKnown c.args.separator.now search.skipped search.searched) (sym held) (c.resumed_for-search.ensures.known (drop b.start b.bytes.items) c.self.invariant.known)
+    subst (IsKnown c.args.separator.now c.progress_for-progress.result) (sym held) (c.progress_for-progress.ensures.known (drop b.start b.bytes.items) c.self.invariant.known)
 
 pub invariant_of-self-in-Open : goal.invariant_of-self-in-Open
 invariant_of-self-in-Open c =
     let b = c.self.inside in
-    let search = c.of-self-inside.result in
-    let held = held_is c.deref.result.now b.bytes.items b.start c.deref.ensures.value in
-    let known = unfinished_known c.args.separator.now _ _ c.in-Unfinished.skipped c.in-Unfinished.ensures.value c.in-Unfinished.ensures.skips in
-    let fits = ap (λ (bytes : List ℕ). length bytes) held in
+    let held = c.deref.result.now in
+    let bytes = take (length held - b.start) (drop b.start held) in
     let start = c.self.invariant.skipped in
-    record {
-      skipped = omega (arith, fits, length-drop b.start b.bytes.items, c.of-self-inside.ensures.skipped, c.in-Unfinished.ensures.within, start);
-      searched = omega (arith, fits, length-drop b.start b.bytes.items, c.of-self-inside.ensures.searched, start);
-      known = subst (IsKnown (separator_for search.byte) search.skipped search.searched) held (c.of-self-inside.ensures.known _ known);
-    }
+    searched_kept b.bytes.items bytes c.args.separator.now b.start record { skipped = c.in-Unfinished.skipped; searched = length bytes } c.keep.new.self (omega arith) (held_is held b.bytes.items b.start c.deref.ensures.value) c.in-Unfinished.ensures.within (omega arith)
+    c.in_ok-keep-in-Open.ensures.separator c.in_ok-keep-in-Open.ensures.progress
+    (unfinished_known c.args.separator.now bytes _ c.in-Unfinished.skipped c.in-Unfinished.ensures.value c.in-Unfinished.ensures.skips)
 
 pub returns-in-Empty-clause-steps : goal.returns-in-Empty-clause-steps
 returns-in-Empty-clause-steps c = λ _.
@@ -42,8 +36,8 @@ returns-in-Over-clause-steps c = λ _.
     Steps-seen c.args.separator.now c.deref.result.now b.bytes.items b.start b.supply _ c.args.self.now _ _ TooLong
     c.in-Over.ensures.value c.at_end.ensures c.deref.ensures.value c.self.view_is (λ (bad : TooLong ≡ BrokenOff). cc) (refl, refl)
 
-pub returns-in-Open-clause-steps : goal.returns-in-Open-clause-steps
-returns-in-Open-clause-steps c = λ _.
+pub returns-in_ok-keep-in-Open-clause-steps : goal.returns-in_ok-keep-in-Open-clause-steps
+returns-in_ok-keep-in-Open-clause-steps c = λ _.
     let b = c.self.inside in
     subst (λ (new : Pending). Steps c.args.separator.now c.args.self.now (Ok NeedMore) new) (sym c.self.view_is)
     (Steps-waits c.args.separator.now c.deref.result.now b.bytes.items b.start b.supply _ c.args.self.now

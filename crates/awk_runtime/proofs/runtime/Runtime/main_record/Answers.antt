@@ -11,4 +11,4 @@ pub returns-in-Some-clause-seeks : goal.returns-in-Some-clause-seeks
 returns-in-Some-clause-seeks g c = main_gives (rw c.in-Some.is at c.in_ok-text.ensures.follows)
 
 pub returns-in-None-clause-seeks : goal.returns-in-None-clause-seeks
-returns-in-None-clause-seeks g c = main_closes (rw c.in-None.is at c.in_ok-text.ensures.follows) c.close_main.ensures.closes
+returns-in-None-clause-seeks g c = main_closes (rw c.in-None.is at c.in_ok-text.ensures.follows) c.close_main_input.ensures.follows c.close_main_input.ensures.none

@@ -1,4 +1,4 @@
-use Rattle.std.proofs.Common.{[], ap, ◌∙◌, ◌≡◌, ◌≤◌, ◌-◌, ◌+◌, List, length, take, sym, subst, arith}
+use Rattle.std.proofs.Common.{[], ap, ◌∙◌, ◌≡◌, ◌-◌, List, length, take, sym, subst, arith}
 use Rattle.awk_semantics.specs.declared.local.Local.{Local}
 use Rattle.awk_storage.specs.support.Frames.{FramesView, frames_from, AreKept}
 use Rattle.awk_storage.proofs.FrameLemmas.{staged-count, staged-cut, kept-cut}

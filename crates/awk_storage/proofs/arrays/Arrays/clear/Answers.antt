@@ -1,0 +1,17 @@
+use Rattle.std.proofs.Common.{[], ap, ◌∙◌, List, length, ◌<◌, ◌≡◌, set, take, get_or, arith}
+use Rattle.std.proofs.lemmas.List.{get_or_read}
+use Rattle.awk_table.specs.Arrays.{Array}
+use Rattle.awk_storage.proofs.TableLemmas.{changed}
+use Rattle.awk_storage.proofs.arrays.Arrays.clear.Goals as goal
+
+pub returns : goal.returns
+returns c =
+    let b = c.self.inside in
+    let tables : List Array = b.tables.items in
+    let old : Array = c.index_mut.result.now in
+    let f : Array → Array = λ (array : Array). [] in
+    let within : c.args.number < length tables = omega (arith, c.if-number-self.false, c.self.invariant.0) in
+    let at : old ≡ get_or tables c.args.number [] = get_or_read tables c.args.number old within c.index_mut.ensures.value [] in
+    ap (λ (array : Array). take b.live (set tables c.args.number array)) c.clear.ensures
+    ∙ (changed tables b.live c.args.number old f c.if-number-self.false at
+    ∙ ap (λ (arrays : List Array). set arrays c.args.number []) c.self.view_is)
