@@ -1,8 +1,10 @@
 // The values of nodes that reach the world.
 
-ghost use Rattle.std.specs.Prelude.{◌≡◌, ◌≢◌};
+ghost use Rattle.std.specs.Prelude.{◌≡◌, ◌≢◌, Bool, OnOk};
 ghost use Rattle.awk_world.specs.declared.world.InputKind.TheVariants.{Standard};
 ghost use Rattle.awk_value.specs.Values.{str_of};
+ghost use Rattle.awk_channels.specs.Commands.{BringsAll};
+ghost use Rattle.awk_channels.specs.Flushes.{FlushesCalled};
 ghost use Rattle.awk_storage.specs.Forms.{named_getline_at};
 ghost use Rattle.awk_runtime.specs.Simulation.{IsReady, Follows};
 ghost use Rattle.awk_compile.specs.Nodes.{first, place_operands};
@@ -146,23 +148,26 @@ impl Machine {
         Ok(Value::Number(self.runtime.run_command(world, &command)?))
     }
 
-    /// Flushes all outputs.
+    /// Flushes all outputs: each has then received what was printed to it.
     #[inline(never)]
     pub(crate) fn flush_all<W: World>(&mut self, world: &mut W) -> Result<Value, Halt>
         requires ready { IsReady W.is_logged (W.state world.old) self.old.runtime.streams }
         ensures ready { IsReady W.is_logged (W.state world.new) self.new.runtime.streams }
         ensures evaluates { Evaluates W.is_logged FlushAll self.old (W.state world.old) result self.new (W.state world.new) }
+        ensures brings { OnOk result (W.is_logged → BringsAll (W.state world.old) self.old.runtime.streams (W.state world.new) self.new.runtime.streams) }
     {
         self.runtime.flush_all(world)?;
         Ok(Value::Number(0))
     }
 
-    /// Flushes each output whose name an operand is.
+    /// Flushes each open output whose name an operand is: it has then received what was printed to it.
     #[inline(never)]
     pub(crate) fn flush<W: World>(&mut self, world: &mut W) -> Result<Value, Halt>
         requires ready { IsReady W.is_logged (W.state world.old) self.old.runtime.streams }
         ensures ready { IsReady W.is_logged (W.state world.new) self.new.runtime.streams }
         ensures evaluates { Evaluates W.is_logged Flush self.old (W.state world.old) result self.new (W.state world.new) }
+        ensures flushes { OnOk result (W.is_logged → (is_open : Bool) × FlushesCalled (str_of (first self.old.operands.values)) (W.state world.old)
+            self.old.runtime.streams is_open (W.state world.new) self.new.runtime.streams) }
     {
         let name = self.operands.pop();
         Ok(Value::Number(self.runtime.flush_named(world, &name)?))
