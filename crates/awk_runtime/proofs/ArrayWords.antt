@@ -1,13 +1,15 @@
 -- What is done to arrays.
-use Rattle.std.proofs.Common.{◌≡◌, ℕ, zero, suc, List, [], ◌∷◌, length, map, slice_get, pos, Ok, refl, sym, ap, ◌∙◌, subst, arith}
+use Rattle.std.proofs.Common.{◌≡◌, ◌≤◌, ℕ, zero, suc, List, [], ◌∷◌, ◌++◌, length, map, slice_get, pos, Option, Some, None, Result, Ok, Err, refl, sym, ap, ◌∙◌, subst, arith}
 use Rattle.std.specs.Prelude.{slice_set, is_some, unwrap_or, Bool}
 use Rattle.std.specs.Map.{keys_of}
+use Rattle.std.specs.Global.{Vec}
 use Rattle.awk_value.specs.declared.value.Value.{Value}
 use Rattle.awk_value.specs.declared.value.Value.TheVariants as value
 use Rattle.awk_table.specs.Arrays.{Array as Elements, value_at, with_pair, with_key, without}
+use Rattle.awk_semantics.specs.declared.halt.Halt.{Halt}
 use Rattle.awk_semantics.specs.declared.local.Local.{Local}
 use Rattle.awk_semantics.specs.declared.local.Local.TheVariants as local
-use Rattle.awk_semantics.specs.State.{Frame, State, Run, ◌>>=◌, go_on, lift}
+use Rattle.awk_semantics.specs.State.{Frame, State, Out, Run, ◌>>=◌, go_on, lift}
 use Rattle.awk_semantics.specs.Primitives.{elements_from, read_element_at, store_element_at, has_element_at, delete_element_at, clear_array_at, array_length_at, keys_at, fill_array_at}
 use Rattle.awk_storage.specs.declared.position.Array.{Array}
 use Rattle.awk_storage.specs.declared.position.Array.TheVariants as array
@@ -17,8 +19,8 @@ use Rattle.awk_storage.specs.support.Frames.{FramesView, newest_of}
 use Rattle.awk_storage.specs.support.Tables.{array_of}
 use Rattle.awk_runtime.specs.declared.runtime.Runtime.{Runtime}
 use Rattle.awk_runtime.specs.support.Simulation.{frame_view, OwnRelation, Changes}
-use Rattle.awk_runtime.specs.support.Calling.{number_of_kept, kept_number}
-use Rattle.awk_runtime.proofs.Composition.{own_changes}
+use Rattle.awk_runtime.specs.support.Calling.{number_of_kept, kept_number, listed}
+use Rattle.awk_runtime.proofs.Composition.{OwnPart, own_changes}
 
 -- the number of an array
 
