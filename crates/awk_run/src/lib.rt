@@ -12,5 +12,6 @@ mod start;
 pub use awk_semantics::{
     Fault, Outcome, fault_line, law_of_limits, law_of_outcomes, law_of_turns, status,
 };
-pub use program::{execute, law_of_untouched, one_program};
+pub use program::{execute, execute_counted, law_of_untouched, one_program};
+pub use run::CountedRun;
 pub use start::{Assignment, Start};

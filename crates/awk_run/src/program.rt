@@ -11,9 +11,9 @@ ghost use Rattle.awk_run.specs.definitions.Accepted.{Accepted, RefusedFor};
 ghost use Rattle.awk_run.specs.definitions.Headline.{Executed};
 ghost use Rattle.awk_run.specs.definitions.Runs.{IsUntouched};
 ghost use Rattle.awk_run.specs.definitions.Start.{start_values};
-ghost use Rattle.awk_run.specs.support.Verdict.{no_streams};
+ghost use Rattle.awk_run.specs.support.Verdict.{no_streams, outcome_in};
 
-use crate::run::run;
+use crate::run::{CountedRun, run};
 use crate::start::Start;
 use awk_channels::{World, some_oracle_is_consistent};
 use awk_compile::lower_program;
@@ -62,6 +62,24 @@ pub fn execute<W: World>(
     requires sound { W.is_logged → AreSound (W.state world.old) no_streams }
     ensures executed { Executed W.is_logged text.now (start_values start.now) limit (W.state world.old)
         (W.state world.new) result }
+    ensures untouched { OnErr result (world.new ≡ world.old) }
+{
+    Ok(execute_counted(alloc, text, start, limit, world)?.outcome)
+}
+
+/// Does what `execute` does, and counts how often the texts of records were split and made anew.
+///
+/// No clause speaks of the counts. (POSIX awk, the awk utility)
+pub fn execute_counted<W: World>(
+    alloc: Global,
+    text: &[u8],
+    start: &Start,
+    limit: u64,
+    world: &mut W,
+) -> Result<CountedRun, Refusal>
+    requires sound { W.is_logged → AreSound (W.state world.old) no_streams }
+    ensures executed { Executed W.is_logged text.now (start_values start.now) limit (W.state world.old)
+        (W.state world.new) (outcome_in result) }
     ensures untouched { OnErr result (world.new ≡ world.old) }
 {
     let program = read_program(alloc, text)?;

@@ -26,6 +26,16 @@ use awk_runtime::Runtime;
 use awk_semantics::{Fault, Halt, Outcome, law_of_ends};
 use std::alloc::Global;
 
+/// How a run ended, and how often the texts of its records were split and made anew.
+#[derive(Clone, Copy, Debug, PartialEq, Eq)]
+pub struct CountedRun {
+    pub outcome: Outcome,
+    /// How often a text was begun to be split into fields: once for each whose fields or their count were asked.
+    pub splits: u64,
+    /// How often a text was made of the fields.
+    pub joins: u64,
+}
+
 /// How a run ended before its end, with the exit status that stands then. A `next` for which no
 /// record was at hand is a fault.
 fn outcome_of(ended: Result<(), Halt>, status: u8) -> Outcome
@@ -115,19 +125,30 @@ pub(crate) fn run<W: World>(
     start: &Start,
     limit: u64,
     world: &mut W,
-) -> Outcome
+) -> CountedRun
     requires program { AreOfAProgram plan.now kinds.now }
     requires sound { W.is_logged → AreSound (W.state world.old) no_streams }
     ensures { (items : List Item) → IsProgramOf items plan.now kinds.now →
-        RunsFrom W.is_logged items (start_values start.now) limit (W.state world.old) (W.state world.new) result }
+        RunsFrom W.is_logged items (start_values start.now) limit (W.state world.old) (W.state world.new) result.outcome }
 {
     some_oracle_is_consistent();
     law_of_ends();
     let Ok(mut machine) = first_machine(alloc, plan, kinds, start, limit) else {
         let _ = end_without_streams(alloc, world);
-        return Outcome::Fault(Fault::OutOfMemory);
+        let outcome = Outcome::Fault(Fault::OutOfMemory);
+        return CountedRun {
+            outcome,
+            splits: 0,
+            joins: 0,
+        };
     };
     let ended = assign_and_run(plan, &start.pre, &mut machine, world);
     let finished = machine.runtime.streams.finish(world);
-    outcome_after(outcome_of(ended, machine.runtime.status), finished)
+    let outcome = outcome_after(outcome_of(ended, machine.runtime.status), finished);
+    let record = &machine.runtime.current;
+    CountedRun {
+        outcome,
+        splits: record.splits(),
+        joins: record.joins(),
+    }
 }

@@ -7,10 +7,11 @@ ghost use Rattle.awk_run.specs.Accepted.{Accepted};
 ghost use Rattle.awk_run.specs.Start.{start_values};
 ghost use Rattle.awk_run.specs.Runs.{Runs};
 
-use awk_channels::{Answer, ScriptWorld, World};
+use crate::worlds::answer;
+use awk_channels::{Answer, InputKind, ScriptWorld, World};
 use awk_lex::refusal::Refusal;
-use awk_run::{Outcome, Start, execute, law_of_untouched};
-use std::alloc::Global;
+use awk_run::{Outcome, Start, execute, execute_counted, law_of_untouched};
+use std::alloc::{AllocError, Global};
 use std::process::Abort;
 use std::test::Fail;
 
@@ -53,5 +54,31 @@ fn a_run_in_memory(rt: HostRuntime) -> Result<(), Fail> {
     );
     assert!(rt; run.outcome == Ok(Outcome::Ended(0)));
     assert!(rt; run.world.received(0)?.as_slice() == b"1\n".as_slice());
+    Ok(())
+}
+
+// How often the texts of ten records `a b c` are split, and made anew, by a program.
+fn counts(alloc: Global, text: &[u8]) -> Result<Option<(u64, u64)>, AllocError> {
+    let mut bytes = Vec::new(alloc);
+    for _ in 0..10 {
+        bytes.extend_from_slice(b"a b c\n")?;
+    }
+    let input = answer(alloc, InputKind::Standard, b"", bytes, false)?;
+    let answers = vec![in alloc; input]?;
+    law_of_untouched();
+    let mut world = ScriptWorld::new(alloc, answers);
+    match execute_counted(alloc, text, &Start::new(alloc), 99, &mut world) {
+        Ok(run) => Ok(Some((run.splits, run.joins))),
+        Err(_) => Ok(None),
+    }
+}
+
+#[test]
+fn records_are_split_and_made_anew_where_that_is_asked(rt: HostRuntime) -> Result<(), Fail> {
+    let alloc = rt.alloc();
+    assert!(rt; counts(alloc, b"/b/")? == Some((0, 0)));
+    assert!(rt; counts(alloc, b"{ print $1 }")? == Some((10, 0)));
+    assert!(rt; counts(alloc, b"{ $1 = \"x\"; $2 = \"y\" }")? == Some((10, 0)));
+    assert!(rt; counts(alloc, b"{ $1 = \"x\"; print; print }")? == Some((10, 10)));
     Ok(())
 }

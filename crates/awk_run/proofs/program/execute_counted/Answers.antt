@@ -4,7 +4,7 @@ use Rattle.awk_grammar.specs.View.{items_of, tree_of}
 use Rattle.awk_kinds.specs.Signatures.{kinds_of}
 use Rattle.awk_run.specs.definitions.Accepted.{RefusedFor}
 use Rattle.awk_run.proofs.Accepted.{program_of}
-use Rattle.awk_run.proofs.program.execute.Goals as goal
+use Rattle.awk_run.proofs.program.execute_counted.Goals as goal
 
 pub returns-in_err-program-clause-executed : goal.returns-in_err-program-clause-executed
 returns-in_err-program-clause-executed g c =
