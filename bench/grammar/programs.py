@@ -13,12 +13,13 @@ ASSIGNMENTS = ["=", "+=", "-=", "*=", "/=", "%=", "^="]
 BUILT_INS = {
     "length": (0, 1), "substr": (2, 3), "index": (2, 2), "split": (2, 3), "sub": (2, 3), "gsub": (2, 3),
     "match": (2, 2), "sprintf": (1, 3), "tolower": (1, 1), "toupper": (1, 1), "int": (1, 1), "close": (1, 1),
-    "system": (1, 1),
+    "system": (1, 1), "fflush": (0, 1),
 }
 TOKENS = [
     "1", '"s"', "/e/", "a", "x", "f(", "$", "++", "--", "+", "-", "!", "*", "^", "<", ">", "==", "~", "in", "&&", "||",
     "?", ":", "=", "+=", ",", "(", ")", "[", "]", "{", "}", ";", "\n", "|", ">>", "getline", "print", "printf", "if",
-    "else", "while", "do", "for", "next", "exit", "return", "break", "delete", "BEGIN", "END", "length", "substr",
+    "else", "while", "do", "for", "next", "nextfile", "exit", "return", "break", "delete", "BEGIN", "END", "length",
+    "substr", "fflush",
 ]
 
 
@@ -95,8 +96,8 @@ class Writer:
         if kind < 6:
             return self.printed(depth)
         if kind == 6:
-            return ["delete", "a", "["] + self.list_of(depth - 1, 1, 2) + ["]"]
-        return self.numbers.choice([["next"], ["exit"], ["exit"] + self.expr(depth)])
+            return ["delete", "a"] + self.numbers.choice([[], ["["] + self.list_of(depth - 1, 1, 2) + ["]"]])
+        return self.numbers.choice([["next"], ["nextfile"], ["exit"], ["exit"] + self.expr(depth)])
 
     def statement(self, depth):
         kind = self.numbers.randrange(10) if depth > 0 else 0

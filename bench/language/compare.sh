@@ -4,15 +4,16 @@
 #
 #   bench/language/compare.sh [COUNT [SEED [FOLDER [GROUP..]]]]
 #
-# The groups are control, records, arrays, functions, texts, formats, mixed, operands, streams and commands, and without one
-# all of them are taken. The programs, their inputs and what came of them are left in FOLDER/GROUP, if a folder is given.
+# The groups are control, records, arrays, functions, texts, formats, mixed, operands, streams, commands and extensions, and
+# without one all of them are taken. The programs, their inputs and what came of them are left in FOLDER/GROUP, if a folder
+# is given. Gawk is held to the standard, but for extensions.
 set -eu
 
 . "$(dirname "$0")/../random.sh"
 if [ $# -gt 3 ]; then
     shift 3
 else
-    set -- control records arrays functions texts formats mixed operands streams commands
+    set -- control records arrays functions texts formats mixed operands streams commands extensions
 fi
 # An element of ENVIRON that programs read, and the order of bytes in sort.
 export WORD=7 LC_ALL=C
@@ -47,10 +48,12 @@ for group; do
     mkdir -p "$work/$group"
     "$root/bench/language/programs.py" "$work/$group" "$group" "$count" "$seed"
     cd "$work/$group"
+    posix=--posix
+    [ "$group" != extensions ] || posix=
     n=0
     while [ "$n" -lt "$count" ]; do
         of this "$n" "$executable"
-        of gawk "$n" gawk --posix
+        of gawk "$n" gawk $posix
         of mawk "$n" mawk
         n=$((n + 1))
     done

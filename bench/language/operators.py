@@ -41,12 +41,30 @@ class Operators:
         ]
         return self.joined() + self.one_of(forms)
 
+    def number_assignment(self):
+        operator = self.pick("= {}", "= {}", "+= {}", "-= {}", "*= 1", "*= 0", "^= 1")
+        return f"{self.number_name()} {operator.format(self.pick(self.number_name(), str(self.below(10))))}"
+
+    def chosen(self):
+        """Assignments right of `&&` and `||` and in the branches of `?:`, the last of which may take on what follows."""
+        match, assignment = self.match, self.number_assignment
+        forms = [
+            lambda: f"{match()} {self.pick('&&', '||')} {assignment()}",
+            lambda: f"{match()} && {match()} || {assignment()}",
+            lambda: f"{match()} || {match()} && {assignment()}",
+            lambda: f"{match()} ? {assignment()} : {self.one_of([match, assignment])}",
+            lambda: f"{match()} ? {match()} : {match()} ? {assignment()} : {assignment()}",
+        ]
+        return self.one_of(forms) + self.pick("", "", f" {self.pick('&&', '||')} {self.one_of([match, assignment])}")
+
     def loose(self):
         logical = lambda: self.several(1, 3, self.match, self.pick(" && ", " || "))
         place, value = self.number_name(), self.pick(self.number_name(), str(self.below(10)))
         forms = [
             logical,
             logical,
+            self.chosen,
+            self.chosen,
             lambda: f"{self.match()} ? {self.match()} : {self.match()}",
             lambda: f"{self.match()} ? {self.match()} : {logical()} ? {self.match()} : {self.match()}",
             lambda: f"{place} = {self.number_name()} {self.pick('+=', '-=', '=')} {value}",

@@ -11,6 +11,7 @@ import sys
 sys.dont_write_bytecode = True
 
 from arrays import Arrays
+from extensions import Extensions
 from formats import Formats
 from functions import Functions
 from mixed import Mixed
@@ -31,6 +32,7 @@ GROUPS = {
     "operands": Operands,
     "streams": Streams,
     "commands": Commands,
+    "extensions": Extensions,
 }
 
 
