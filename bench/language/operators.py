@@ -41,13 +41,13 @@ class Operators:
         ]
         return self.joined() + self.one_of(forms)
 
-    def assignment(self):
-        operator = self.pick("= {}", "= {}", "+= {}", "-= {}", "%= 7", "*= 1", "*= 0", "^= 1")
+    def number_assignment(self):
+        operator = self.pick("= {}", "= {}", "+= {}", "-= {}", "*= 1", "*= 0", "^= 1")
         return f"{self.number_name()} {operator.format(self.pick(self.number_name(), str(self.below(10))))}"
 
     def chosen(self):
         """Assignments right of `&&` and `||` and in the branches of `?:`, the last of which may take on what follows."""
-        match, assignment = self.match, self.assignment
+        match, assignment = self.match, self.number_assignment
         forms = [
             lambda: f"{match()} {self.pick('&&', '||')} {assignment()}",
             lambda: f"{match()} && {match()} || {assignment()}",

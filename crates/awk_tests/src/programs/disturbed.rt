@@ -97,6 +97,22 @@ $ g
 [g] b
 [g] c
 = 0
+$ -v
+$ RS=aab
+$ { print NR ":" $0 }
+< xaaab
+- aabya
+= 0
+$ FNR == 2 { nextfile } { print FILENAME, $0 }
+$ f
+$ g
+[f] a
+[f] b
+[f] c
+[g] d
+= 0
+$ BEGIN { print 1; fflush(); print 2; print fflush("/dev/stdout"); print 3 }
+= 0
 "#;
 
 // Programs that read and print by name, and what they leave. Of a break of what they read they go on.
