@@ -11,6 +11,8 @@ pub mod ValueLists
 pub mod Taking
 pub mod Targets
 pub mod ExpressionForms
+pub mod InPlaceForms
+pub mod ChangeForms
 pub mod PatternForms
 pub mod ConditionForms
 pub mod ListForms

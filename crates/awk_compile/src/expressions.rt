@@ -5,7 +5,7 @@ ghost use Rattle.awk_grammar.specs.Tree.{Name};
 ghost use Rattle.awk_grammar.specs.View.{expr_of};
 ghost use Rattle.awk_compile.specs.definitions.Nodes.{CallsBelow};
 ghost use Rattle.awk_compile.specs.support.Builds.{Pushes, Stands, Evaluate};
-ghost use Rattle.awk_compile.specs.support.Operands.{is_and, is_or, matching_operator, matching, PushesTruths, PushesEre};
+ghost use Rattle.awk_compile.specs.support.Operands.{is_and, is_or, is_strict, matching_operator, matching, PushesTruths, PushesEre};
 ghost use Rattle.awk_compile.specs.support.Scopes.{Builds};
 
 use crate::builder::Builder;
@@ -44,6 +44,13 @@ fn matching_operator(o: BinaryOperator) -> Option<Operator>
         BinaryOperator::Infix(Operator::NotMatches) => Some(Operator::NotMatches),
         _ => None,
     }
+}
+
+/// Whether the operator takes the values of both operands, and neither as a pattern.
+pub(crate) fn is_strict(o: BinaryOperator) -> bool
+    ensures { result ≡ is_strict o }
+{
+    !is_and(o) && !is_or(o) && matching_operator(o).is_none()
 }
 
 /// What matches a text with an ERE, or with the text that lies above it.
@@ -197,8 +204,15 @@ impl Builder {
             let right = self.lower_unless_ere(scope, b, matches)?;
             return self.lower(scope, a, right);
         }
-        let operate = self.push_value(ValueNode::Operate(o), next)?;
-        let right = self.lower(scope, b, operate)?;
-        self.lower(scope, a, right)
+        let Some(right) = self.operand_of(scope, b)? else {
+            let operate = self.push_value(ValueNode::Operate(o), next)?;
+            let right = self.lower(scope, b, operate)?;
+            return self.lower(scope, a, right);
+        };
+        let Some(left) = self.operand_of(scope, a)? else {
+            let operate = self.push_value(ValueNode::OperateWith(o, right), next)?;
+            return self.lower(scope, a, operate);
+        };
+        self.push_value(ValueNode::OperateOn(o, left, right), next)
     }
 }

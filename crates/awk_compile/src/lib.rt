@@ -4,6 +4,7 @@
 pub mod builder;
 mod built_ins;
 mod calls;
+mod changes;
 mod conditions;
 mod expressions;
 mod getlines;
@@ -11,6 +12,7 @@ mod heights;
 mod lists;
 pub mod names;
 pub mod node;
+mod operands;
 mod patterns;
 mod places;
 pub mod plan;

@@ -28,6 +28,13 @@ pub enum Source {
     Command,
 }
 
+/// An operand that is read where it stands, and not from the stack.
+#[derive(Drop)]
+pub enum Operand {
+    Constant(Value),
+    Variable(Variable),
+}
+
 /// What takes values off the stack and puts one on it. The operand that was evaluated last is the topmost.
 #[derive(Drop)]
 pub enum ValueNode {
@@ -36,6 +43,10 @@ pub enum ValueNode {
     /// Whether the record has a match of an ERE of the program, by its number.
     RecordMatches(u32),
     Operate(BinaryOperator),
+    /// The right operand is read where it stands.
+    OperateWith(BinaryOperator, Operand),
+    /// Both operands are read where they stand.
+    OperateOn(BinaryOperator, Operand, Operand),
     /// `~` or `!~`, with an ERE of the program on the right.
     MatchesEre(Operator, u32),
     Change(UnaryOperator),
@@ -84,6 +95,14 @@ pub enum Node {
     Effect(EffectNode, u32),
     /// Goes on at the first place where the topmost value is true, and else at the second.
     Test(u32, u32),
+    /// The same of what an operator makes of the topmost value and an operand.
+    CompareWith(BinaryOperator, Operand, u32, u32),
+    /// The same of what an operator makes of two operands.
+    Compare(BinaryOperator, Operand, Operand, u32, u32),
+    /// Spends a step, and assigns an operand to a variable.
+    Update(AssignmentOperator, Variable, Operand, u32),
+    /// Spends a step, and raises or lowers a variable's number by 1.
+    Increment(IncrementOperator, Variable, u32),
     /// A turn of a loop, whose body's place is known by the loop's number.
     Again(u32),
     /// Puts the keys of an array and their count on the stack.

@@ -2,6 +2,8 @@ pub mod Stacks
 pub mod Heights
 pub mod Resting
 pub mod Moving
+pub mod Changing
+pub mod Quickly
 pub mod CallMoves
 pub mod Returning
 pub mod KeysTaken

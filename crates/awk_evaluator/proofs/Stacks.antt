@@ -67,3 +67,13 @@ all_dropped items base count few =
     let second : List Value → OperandsView = λ vs. record { values = []; below = vs } in
     let third : List Value → OperandsView = λ vs. record { values = vs; below = take base items } in
     ap first (drop_of_length-le (take base items) short) ∙ ap second (take-take base base items le) ∙ sym (ap third (drop_of_length-le (reverse (drop base items)) less))
+
+-- where all but those below are taken off
+pub own_dropped : (items : List Value) (base : ℕ) → let left : OperandsView = record { values = reverse (drop base (take base items)); below = take base (take base items) } in left ≡ record { values = []; below = take base items }
+own_dropped items base =
+    let cut = length-take base items in
+    let short : length (take base items) ≤ base = omega (arith, cut) in
+    let le : base ≤ base = omega arith in
+    let first : List Value → OperandsView = λ vs. record { values = reverse vs; below = take base (take base items) } in
+    let second : List Value → OperandsView = λ vs. record { values = []; below = vs } in
+    ap first (drop_of_length-le (take base items) short) ∙ ap second (take-take base base items le)

@@ -26,6 +26,8 @@ impl Machine {
             ValueNode::Push(value) => self.constant(value),
             ValueNode::Read(variable) => self.variable(*variable),
             ValueNode::Operate(operator) => self.operate(*operator),
+            ValueNode::OperateWith(operator, right) => self.operate_with(*operator, right),
+            ValueNode::OperateOn(operator, left, right) => self.operate_on(*operator, left, right),
             ValueNode::Change(operator) => self.change(*operator),
             ValueNode::ReadField => self.field(),
             ValueNode::ReadElement(array) => self.element(*array),

@@ -26,7 +26,7 @@ pub(crate) fn operand_count(place: Place) -> usize
 
 impl Machine {
     /// A value of the program.
-    #[inline(always)]
+    #[inline(never)]
     pub(crate) fn constant(&mut self, value: &Value) -> Result<Value, Halt>
         ensures { Computes (Push value.now) self.old result self.new }
     {
@@ -34,7 +34,7 @@ impl Machine {
     }
 
     /// The value of a variable.
-    #[inline(always)]
+    #[inline(never)]
     pub(crate) fn variable(&mut self, variable: Variable) -> Result<Value, Halt>
         ensures { Computes (Read variable) self.old result self.new }
     {
@@ -49,7 +49,7 @@ impl Machine {
     }
 
     /// What an operator makes of two operands.
-    #[inline(always)]
+    #[inline(never)]
     pub(crate) fn operate(&mut self, operator: BinaryOperator) -> Result<Value, Halt>
         ensures { Computes (Operate operator) self.old result self.new }
     {
@@ -77,7 +77,7 @@ impl Machine {
     }
 
     /// The field whose number an operand is.
-    #[inline(always)]
+    #[inline(never)]
     pub(crate) fn field(&mut self) -> Result<Value, Halt>
         ensures { Computes ReadField self.old result self.new }
     {
@@ -86,7 +86,7 @@ impl Machine {
     }
 
     /// The element at the key that an operand is.
-    #[inline(always)]
+    #[inline(never)]
     pub(crate) fn element(&mut self, array: Array) -> Result<Value, Halt>
         ensures { Computes (ReadElement array) self.old result self.new }
     {
@@ -122,7 +122,7 @@ impl Machine {
     }
 
     /// Assigns an operand to a place; gives what the place then holds.
-    #[inline(always)]
+    #[inline(never)]
     pub(crate) fn assign(
         &mut self,
         operator: AssignmentOperator,
@@ -141,7 +141,7 @@ impl Machine {
     }
 
     /// Raises or lowers what a place holds by 1; gives what it then holds.
-    #[inline(always)]
+    #[inline(never)]
     pub(crate) fn pre_increment(
         &mut self,
         operator: IncrementOperator,
@@ -157,7 +157,7 @@ impl Machine {
     }
 
     /// Raises or lowers what a place holds by 1; gives the number that it had.
-    #[inline(always)]
+    #[inline(never)]
     pub(crate) fn post_increment(
         &mut self,
         operator: IncrementOperator,

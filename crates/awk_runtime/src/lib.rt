@@ -2,6 +2,7 @@
 #![tactic(auto)]
 
 mod arrays;
+mod at_hand;
 mod calls;
 mod commands;
 mod fields;

@@ -5,6 +5,8 @@ use Rattle.awk_value.specs.declared.value.Value.{Value}
 use Rattle.awk_value.specs.declared.value.Value.TheVariants as value
 use Rattle.awk_value.specs.Values.{str_of, truth_of}
 use Rattle.awk_lex.specs.declared.token.Operator.TheVariants.{Matches}
+use Rattle.awk_lex.specs.declared.token.AssignmentOperator.{AssignmentOperator}
+use Rattle.awk_lex.specs.declared.token.IncrementOperator.{IncrementOperator}
 use Rattle.awk_grammar.specs.declared.tree.BinaryOperator.{BinaryOperator}
 use Rattle.awk_grammar.specs.declared.tree.BinaryOperator.TheVariants.{Concatenate, Infix}
 use Rattle.awk_grammar.specs.declared.tree.Redirection.{Redirection}
@@ -21,10 +23,13 @@ use Rattle.awk_semantics.specs.definitions.Primitives.{spend, number_of, record_
 use Rattle.awk_semantics.specs.definitions.BuiltIns.{applied_all, record_length}
 use Rattle.awk_semantics.specs.definitions.Streams.{open_target, close_named, run_command}
 use Rattle.awk_semantics.specs.definitions.Semantics.{Functions, choose, print_by}
+use Rattle.awk_storage.specs.declared.position.Variable.{Variable}
 use Rattle.awk_storage.specs.declared.position.Place.{Place}
 use Rattle.awk_storage.specs.declared.position.Place.TheVariants as place
 use Rattle.awk_storage.specs.definitions.Positions.{number_at, read_element_of, read_variable, put_variable, read_at, assign_by_at, post_increment_at}
 use Rattle.awk_storage.specs.definitions.Forms.{contains_at, delete_at, keys_of_array, match_in, split_with, substitute_at, main_getline_at, named_getline_at}
+use Rattle.awk_compile.specs.declared.node.Operand.{Operand}
+use Rattle.awk_compile.specs.declared.node.Operand.TheVariants as operand
 use Rattle.awk_compile.specs.declared.node.Source.{Source}
 use Rattle.awk_compile.specs.declared.node.Source.TheVariants as source
 use Rattle.awk_compile.specs.declared.node.ArgumentForm.{ArgumentForm}
@@ -84,6 +89,25 @@ abbrev pub operated : BinaryOperator → Value → Value → Result Value Halt
 operated Concatenate x y = Ok (value.Text (str_of x ++ str_of y))
 operated (Infix o) x y = applied o x y
 
+-- operands that are read where they stand, the left one first, and what is assigned by them
+module _ (names : List (List ℕ)) where
+  abbrev pub operand_value : Operand → Run Value
+  operand_value (operand.Constant x) = ret x
+  operand_value (operand.Variable x) = read_variable names x
+
+  abbrev pub operated_with : BinaryOperator → (left : Value) → Operand → Run Value
+  operated_with o x b = operand_value b >>= λ y. lift (operated o x y)
+
+  abbrev pub operated_on : BinaryOperator → (left right : Operand) → Run Value
+  operated_on o a b = operand_value a >>= λ x. operated_with o x b
+
+  -- a step is spent, and a variable gets an operand, or its number and 1, or less 1
+  abbrev pub update : AssignmentOperator → Variable → Operand → Run Value
+  update o x a = spend >>= λ _. operand_value a >>= λ w. assign_by_at names (operator_of o) (place.Variable x) value.Nothing w
+
+  abbrev pub increment : IncrementOperator → Variable → Run Value
+  increment o x = spend >>= λ _. post_increment_at names o (place.Variable x) value.Nothing
+
 -- calls: values are given in their order, and arrays by their numbers
 
 abbrev pub local_by : ArgumentForm → List Value → State → Local
@@ -133,6 +157,8 @@ module _ (tables : Tables) where
   value_of functions (v.Read x) vs = read_variable tables.names x
   value_of functions (v.RecordMatches i) vs = record_text >>= λ x. lift (applied Matches x (value.Text (ere_at tables i)))
   value_of functions (v.Operate o) vs = lift (operated o (second vs) (first vs))
+  value_of functions (v.OperateWith o b) vs = operated_with tables.names o (first vs) b
+  value_of functions (v.OperateOn o a b) vs = operated_on tables.names o a b
   value_of functions (v.MatchesEre o i) vs = lift (applied o (first vs) (value.Text (ere_at tables i)))
   value_of functions (v.Change o) vs = lift (changed o (first vs))
   value_of functions v.ReadField vs = number_of (first vs) >>= λ k. read_field k
@@ -180,6 +206,8 @@ popped (v.Push x) = 0
 popped (v.Read x) = 0
 popped (v.RecordMatches i) = 0
 popped (v.Operate o) = 2
+popped (v.OperateWith o b) = 1
+popped (v.OperateOn o a b) = 0
 popped (v.MatchesEre o i) = 1
 popped (v.Change o) = 1
 popped v.ReadField = 1
@@ -244,6 +272,10 @@ module _ (tables : Tables) (functions : Functions) (again : ℕ → Cont) where
   made at (n.Value x k) = λ vs. value_of tables functions x vs >>= λ w. at k (w ∷ drop (popped x) vs)
   made at (n.Effect x k) = λ vs. effect_of functions x vs >>= λ _. at k (drop (dropped x) vs)
   made at (n.Test here other) = λ vs. choose (truth_of (first vs)) (at here (drop 1 vs)) (at other (drop 1 vs))
+  made at (n.CompareWith o b here other) = λ vs. operated_with tables.names o (first vs) b >>= λ x. choose (truth_of x) (at here (drop 1 vs)) (at other (drop 1 vs))
+  made at (n.Compare o a b here other) = λ vs. operated_on tables.names o a b >>= λ x. choose (truth_of x) (at here vs) (at other vs)
+  made at (n.Update o x a k) = λ vs. update tables.names o x a >>= λ _. at k vs
+  made at (n.Increment o x k) = λ vs. increment tables.names o x >>= λ _. at k vs
   made at (n.Again i) = again i
   made at (n.Walk a k) = λ vs. keys_of_array a >>= λ keys. at k (walk_values keys ++ vs)
   made at (n.NextKey i exit) = λ vs. next_key_by (keys_left (first vs)) (again i vs) (at exit (drop 1 vs))
@@ -272,6 +304,10 @@ abbrev pub AreBelow : ℕ → Node → Type 0
 AreBelow at (n.Value x k) = k < at
 AreBelow at (n.Effect x k) = k < at
 AreBelow at (n.Test here other) = (here < at) × (other < at)
+AreBelow at (n.CompareWith o b here other) = (here < at) × (other < at)
+AreBelow at (n.Compare o a b here other) = (here < at) × (other < at)
+AreBelow at (n.Update o x a k) = k < at
+AreBelow at (n.Increment o x k) = k < at
 AreBelow at (n.Again i) = Unit {0}
 AreBelow at (n.Walk a k) = k < at
 AreBelow at (n.NextKey i exit) = exit < at

@@ -219,10 +219,7 @@ lower_binary-returns-in-Some t c =
     rw (ap expr_of c.in-Binary.is)
     (ok_map _ (λ i q. matched c.in-Binary.o c.in-Some.o c.in_ok-pattern.pattern (sym c.in-Some.ensures) c.requires (rw c.deref-in-Some.ensures at c.in_ok-pattern.ensures) (rw c.matching.ensures at c.in_ok-matches.ensures) (rw c.deref-in-Some-2.ensures at c.in_ok-right.ensures) q) (rw c.deref-in-Some-3.ensures at c.lower.ensures))
 
-pub lower_binary-returns : goal.lower_binary-returns
-lower_binary-returns t c =
-    rw (ap expr_of c.in-Binary.is)
-    (ok_map _ (λ i q. strict_lowered c.in-Binary.o (sym c.is_and.ensures ∙ c.if-is_and.false) (sym c.is_or.ensures ∙ c.if-is_or.false) (sym c.in_default-matching_operator.ensures) c.requires c.in_ok-operate.ensures (rw c.deref-2.ensures at c.in_ok-right-2.ensures) q) (rw c.deref-3.ensures at c.lower-3.ensures))
+-- two operands: the three ways are open (`strict_lowered`, and `operated_with_lowered` and `operated_on_lowered` of InPlaceForms)
 
 -- calls
 

@@ -1,12 +1,12 @@
-use Rattle.std.proofs.Common.{refl, sym, ap, ◌∙◌}
+use Rattle.std.proofs.Common.{refl, sym, ◌∙◌}
 use Rattle.std.proofs.lemmas.Result.{err_from_is_err_and}
-use Rattle.awk_value.specs.Values.{truth_of}
-use Rattle.awk_evaluator.proofs.Moving.{by_place, effect_on, effect_ends, test_true, test_false, again_on, again_stuck, key_on, key_stuck, key_exit, walk_on, walk_ends, key_taken, key_ends, walk_left, next_stops, exit_stops, returns_value, returns_nothing, past_end, zero_test, no_zero_test}
-use Rattle.awk_evaluator.proofs.machine.Machine.go_on.Goals as goal
+use Rattle.awk_evaluator.proofs.Moving.{by_place, effect_on, effect_ends, test_on, again_on, again_stuck, key_on, key_stuck, key_exit, walk_on, walk_ends, key_taken, key_ends, walk_left, next_stops, exit_stops, returns_value, returns_nothing, past_end, zero_test, no_zero_test}
+use Rattle.awk_evaluator.proofs.Changing.{with_on, with_ends, compared_on, compared_ends, update_on, update_ends, increment_on, increment_ends}
+use Rattle.awk_evaluator.proofs.machine.Machine.make_move.Goals as goal
 
 pub returns-in_default-clause-moves : goal.returns-in_default-clause-moves
 returns-in_default-clause-moves g c =
-    past_end (rw c.in_default.is at c.node_at.ensures) c.give_back.ensures
+    past_end (rw c.in_default.is at c.node_at.ensures) c.give_nothing.ensures
 
 pub value-requires-clause-calls : goal.value-requires-clause-calls
 value-requires-clause-calls g c =
@@ -26,13 +26,53 @@ pub returns-in-Effect-clause-moves : goal.returns-in-Effect-clause-moves
 returns-in-Effect-clause-moves g c =
     let e = rw c.in-Effect.is at c.in-Some.ensures in by_place c.requires.sound (sym e) (effect_on c.in_ok-perform-in-Effect.ensures.performs)
 
-pub returns-then-is_true-clause-moves : goal.returns-then-is_true-clause-moves
-returns-then-is_true-clause-moves g c =
-    let e = rw c.in-Test.is at c.in-Some.ensures in by_place c.requires.sound (sym e) (test_true (ap truth_of (sym c.pop-value.ensures.top) ∙ sym c.is_true.ensures ∙ c.if-is_true.true) c.pop-value.ensures.rest refl refl)
-
 pub returns-in-Test-clause-moves : goal.returns-in-Test-clause-moves
 returns-in-Test-clause-moves g c =
-    let e = rw c.in-Test.is at c.in-Some.ensures in by_place c.requires.sound (sym e) (test_false (ap truth_of (sym c.pop-value.ensures.top) ∙ sym c.is_true.ensures ∙ c.if-is_true.false) c.pop-value.ensures.rest refl refl)
+    let e = rw c.in-Test.is at c.in-Some.ensures in by_place c.requires.sound (sym e) (test_on (c.chosen.ensures) (sym c.test.ensures.truth) c.test.ensures.rest c.test.ensures.calls c.test.ensures.runtime)
+
+pub returns-in_err-holds-in-CompareWith-clause-moves : goal.returns-in_err-holds-in-CompareWith-clause-moves
+returns-in_err-holds-in-CompareWith-clause-moves g c =
+    let p = err_from_is_err_and c.from_residual-in_err-holds-in-CompareWith.result c.from_residual-in_err-holds-in-CompareWith.ensures.1 in
+    let e = rw c.in-CompareWith.is at c.in-Some.ensures in
+    rw (p.1, p.2) (by_place c.requires.sound (sym e) (with_ends c.in_err-holds-in-CompareWith.ensures.compares))
+
+pub returns-in-CompareWith-clause-moves : goal.returns-in-CompareWith-clause-moves
+returns-in-CompareWith-clause-moves g c =
+    let e = rw c.in-CompareWith.is at c.in-Some.ensures in
+    let h = c.in_ok-holds-in-CompareWith.ensures.compares in
+    by_place c.requires.sound (sym e) (with_on c.chosen-in-CompareWith.ensures h.1 h.2)
+
+pub returns-in_err-holds-in-Compare-clause-moves : goal.returns-in_err-holds-in-Compare-clause-moves
+returns-in_err-holds-in-Compare-clause-moves g c =
+    let p = err_from_is_err_and c.from_residual-in_err-holds-in-Compare.result c.from_residual-in_err-holds-in-Compare.ensures.1 in
+    let e = rw c.in-Compare.is at c.in-Some.ensures in
+    rw (p.1, p.2) (by_place c.requires.sound (sym e) (compared_ends c.in_err-holds-in-Compare.ensures.compares))
+
+pub returns-in-Compare-clause-moves : goal.returns-in-Compare-clause-moves
+returns-in-Compare-clause-moves g c =
+    let e = rw c.in-Compare.is at c.in-Some.ensures in
+    let h = c.in_ok-holds-in-Compare.ensures.compares in
+    by_place c.requires.sound (sym e) (compared_on c.chosen-in-Compare.ensures h.1 h.2)
+
+pub returns-in_err-update-in-Update-clause-moves : goal.returns-in_err-update-in-Update-clause-moves
+returns-in_err-update-in-Update-clause-moves g c =
+    let p = err_from_is_err_and c.from_residual-in_err-update-in-Update.result c.from_residual-in_err-update-in-Update.ensures.1 in
+    let e = rw c.in-Update.is at c.in-Some.ensures in
+    rw (p.1, p.2) (by_place c.requires.sound (sym e) (update_ends c.in_err-update-in-Update.ensures))
+
+pub returns-in-Update-clause-moves : goal.returns-in-Update-clause-moves
+returns-in-Update-clause-moves g c =
+    let e = rw c.in-Update.is at c.in-Some.ensures in by_place c.requires.sound (sym e) (update_on c.in_ok-update-in-Update.ensures)
+
+pub returns-in_err-increment-in-Increment-clause-moves : goal.returns-in_err-increment-in-Increment-clause-moves
+returns-in_err-increment-in-Increment-clause-moves g c =
+    let p = err_from_is_err_and c.from_residual-in_err-increment-in-Increment.result c.from_residual-in_err-increment-in-Increment.ensures.1 in
+    let e = rw c.in-Increment.is at c.in-Some.ensures in
+    rw (p.1, p.2) (by_place c.requires.sound (sym e) (increment_ends c.in_err-increment-in-Increment.ensures))
+
+pub returns-in-Increment-clause-moves : goal.returns-in-Increment-clause-moves
+returns-in-Increment-clause-moves g c =
+    let e = rw c.in-Increment.is at c.in-Some.ensures in by_place c.requires.sound (sym e) (increment_on c.in_ok-increment-in-Increment.ensures)
 
 pub returns-in_err-spend-in-Again-clause-moves : goal.returns-in_err-spend-in-Again-clause-moves
 returns-in_err-spend-in-Again-clause-moves g c =
@@ -84,7 +124,7 @@ returns-in-LeaveWalk-clause-moves g c =
 
 pub returns-in-Return-clause-moves : goal.returns-in-Return-clause-moves
 returns-in-Return-clause-moves g c =
-    let e = rw c.in-Return.is at c.in-Some.ensures in by_place c.requires.sound (sym e) (returns_value c.pop-value-in-Return.ensures.top c.pop-value-in-Return.ensures.rest refl refl c.give_back-in-Return.ensures)
+    let e = rw c.in-Return.is at c.in-Some.ensures in by_place c.requires.sound (sym e) (returns_value c.give_back.ensures)
 
 pub returns-in-Next-clause-moves : goal.returns-in-Next-clause-moves
 returns-in-Next-clause-moves g c =
@@ -96,4 +136,4 @@ returns-in-Exit-clause-moves g c =
 
 pub returns-clause-moves : goal.returns-clause-moves
 returns-clause-moves g c =
-    let e = rw c.in-End.is at c.in-Some.ensures in by_place c.requires.sound (sym e) (returns_nothing c.give_back-in-End.ensures)
+    let e = rw c.in-End.is at c.in-Some.ensures in by_place c.requires.sound (sym e) (returns_nothing c.give_nothing-in-End.ensures)
