@@ -10,6 +10,7 @@ mod line;
 mod operators;
 mod patterns;
 mod separated;
+mod short;
 mod texts;
 
 pub use compiled::Compiled;
@@ -18,6 +19,7 @@ pub use found::{Exchanged, length_of, start_of};
 pub use functions::apply_function;
 pub use line::{append, concatenate, concatenate_all, join, joined_key, make_line};
 pub use operators::{
-    apply, apply_to_numbers, by_one, change, exit_status, operator_of, raise, truth_value,
+    apply, apply_to_numbers, by_one, change, exit_status, operator_of, raise, relate, truth_value,
 };
 pub use patterns::{PatternOperand, Patterns};
+pub use short::{apply_in_short, relate_numbers};

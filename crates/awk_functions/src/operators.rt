@@ -8,12 +8,13 @@ ghost use Rattle.awk_semantics.specs.Operators.{relates as related, truth_value}
 ghost use Rattle.awk_semantics.specs.Results.{Yields};
 
 use crate::patterns::{PatternOperand, Patterns};
+use crate::short::relate_numbers;
 use awk_grammar::tree::UnaryOperator;
 use awk_lex::token::{AssignmentOperator, IncrementOperator, Operator};
 use awk_semantics::Halt;
 use awk_value::{
     Value, ValueFault, add, compare, div, divide, is_true, minus, mul, multiply, negate, number_of,
-    plus, pow, power, rem, remainder, sub, to_number,
+    numeric_of, plus, pow, power, rem, remainder, sub, to_number,
 };
 use std::alloc::Global;
 use std::cmp::Ordering;
@@ -109,6 +110,41 @@ pub fn apply_to_numbers(operator: Operator, x: i128, y: i128) -> Option<i128>
         | Operator::Greater
         | Operator::GreaterEqual => Some(i128::from(relates(operator, x.cmp(&y)))),
         Operator::Matches | Operator::NotMatches | Operator::And | Operator::Or => None,
+    }
+}
+
+/// Whether two values are so related, by their numbers or by their texts. `None` of an operator that is no relation. (POSIX awk,
+/// Expressions in awk)
+#[inline(always)]
+pub fn relate(operator: Operator, x: &Value, y: &Value) -> Option<bool>
+    ensures { IfSome result (λ holds. applied operator x.now y.now ≡ Ok (truth_value holds)) }
+{
+    if let Some(m) = numeric_of(x) {
+        if let Some(n) = numeric_of(y) {
+            return relate_numbers(operator, m, n);
+        }
+    }
+    relate_values(operator, x, y)
+}
+
+// The same of values of any kind.
+#[inline(never)]
+fn relate_values(operator: Operator, x: &Value, y: &Value) -> Option<bool>
+    ensures { IfSome result (λ holds. applied operator x.now y.now ≡ Ok (truth_value holds)) }
+{
+    match operator {
+        Operator::Less
+        | Operator::LessEqual
+        | Operator::Equal
+        | Operator::NotEqual
+        | Operator::Greater
+        | Operator::GreaterEqual => {
+            let Ok(order) = compare(x, y) else {
+                return None;
+            };
+            Some(relates(operator, order))
+        }
+        _ => None,
     }
 }
 
