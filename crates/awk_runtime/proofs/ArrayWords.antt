@@ -1,15 +1,15 @@
 -- What is done to arrays.
-use Rattle.std.proofs.Common.{◌≡◌, ◌≤◌, ℕ, zero, suc, List, [], ◌∷◌, ◌++◌, length, map, slice_get, pos, Option, Some, None, Result, Ok, Err, refl, sym, ap, ◌∙◌, subst, arith}
-use Rattle.std.specs.Prelude.{slice_set, is_some, unwrap_or, Bool}
+use Rattle.std.proofs.Common.{◌≡◌, ℕ, zero, suc, List, [], ◌∷◌, ◌++◌, length, map, slice_get, pos, Some, Ok, refl, sym, ap, ◌∙◌, subst, arith}
+use Rattle.std.specs.Prelude.{if◌then◌else◌, slice_set, is_some, unwrap_or, Bool}
+use Rattle.std.proofs.lemmas.List.{set-get_or}
+use Rattle.std.proofs.lemmas.Option.{unwrap_or-slice_get}
 use Rattle.std.specs.Map.{keys_of}
-use Rattle.std.specs.Global.{Vec}
 use Rattle.awk_value.specs.declared.value.Value.{Value}
 use Rattle.awk_value.specs.declared.value.Value.TheVariants as value
 use Rattle.awk_table.specs.Arrays.{Array as Elements, value_at, with_pair, with_key, without}
-use Rattle.awk_semantics.specs.declared.halt.Halt.{Halt}
 use Rattle.awk_semantics.specs.declared.local.Local.{Local}
 use Rattle.awk_semantics.specs.declared.local.Local.TheVariants as local
-use Rattle.awk_semantics.specs.State.{Frame, State, Out, Run, ◌>>=◌, go_on, lift}
+use Rattle.awk_semantics.specs.State.{Frame, State, Run, ◌>>=◌, go_on, lift}
 use Rattle.awk_semantics.specs.Primitives.{elements_from, read_element_at, store_element_at, has_element_at, delete_element_at, clear_array_at, array_length_at, keys_at, fill_array_at}
 use Rattle.awk_storage.specs.declared.position.Array.{Array}
 use Rattle.awk_storage.specs.declared.position.Array.TheVariants as array
@@ -19,8 +19,8 @@ use Rattle.awk_storage.specs.support.Frames.{FramesView, newest_of}
 use Rattle.awk_storage.specs.support.Tables.{array_of}
 use Rattle.awk_runtime.specs.declared.runtime.Runtime.{Runtime}
 use Rattle.awk_runtime.specs.support.Simulation.{frame_view, OwnRelation, Changes}
-use Rattle.awk_runtime.specs.support.Calling.{number_of_kept, kept_number, listed}
-use Rattle.awk_runtime.proofs.Composition.{OwnPart, own_changes}
+use Rattle.awk_runtime.specs.support.Calling.{number_of_kept, kept_number}
+use Rattle.awk_runtime.proofs.Composition.{own_changes}
 
 -- the number of an array
 
@@ -77,10 +77,22 @@ array_changes m run a give change n {r = r} {xs = xs} is number given made = own
           (made ∙ (ap (λ k. change m.arrays k) (sym n_is) ∙ ap (λ l. change l (number_at a s)) (sym h.arrays))) (arrays_hold xs h);
     })
 
+-- an array that is put where it stands
+set_itself : (arrays : List Elements) (n : ℕ) → slice_set arrays n (array_of arrays n) ≡ arrays
+set_itself arrays n = ap (slice_set arrays n) (unwrap_or-slice_get arrays n []) ∙ set-get_or arrays n []
+
+-- an array with a key that is there
+key_there : (array : Elements) (key : List ℕ) {v : Value} → Some v ≡ value_at array key → with_key array key ≡ array
+key_there array key at = ap (λ o. if is_some o then array else array ++ (key, value.Nothing) ∷ []) (sym at)
+
 module _ (m : Runtime) (a : Array) (key : List ℕ) (n : ℕ) (number : n ≡ kept_number a m.frames) where
   pub element_read : {v : Value} {xs : List Elements} → v ≡ unwrap_or (value_at (array_of m.arrays n) key) value.Nothing → xs ≡ slice_set m.arrays n (with_key (array_of m.arrays n) key) → Changes (read_element_of a key) m (record m { arrays = xs }) (Ok v)
   unfolding read_element_of read_element_at
   element_read given made = array_changes m (read_element_of a key) a (λ l k. unwrap_or (value_at (array_of l k) key) value.Nothing) (λ l k. slice_set l k (with_key (array_of l k) key)) n (λ s. refl) number given made
+
+  -- an element that is there
+  pub element_there : {v : Value} → Some v ≡ value_at (array_of m.arrays n) key → Changes (read_element_of a key) m m (Ok v)
+  element_there at = element_read {xs = m.arrays} (ap (λ o. unwrap_or o value.Nothing) at) (sym (ap (slice_set m.arrays n) (key_there (array_of m.arrays n) key at) ∙ set_itself m.arrays n))
 
   pub element_stored : (v : Value) {xs : List Elements} → xs ≡ slice_set m.arrays n (with_pair (array_of m.arrays n) key v) → Changes (store_element_of a key v) m (record m { arrays = xs }) (Ok tt)
   unfolding store_element_of store_element_at

@@ -11,6 +11,7 @@ pub mod VariableWords
 pub mod NameWords
 pub mod EndWords
 pub mod PlaceWords
+pub mod AppendWords
 pub mod Turns
 pub mod Flushes
 pub mod Prints

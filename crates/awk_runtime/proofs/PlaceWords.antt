@@ -1,5 +1,5 @@
 -- What assignments to places do to the code's own state.
-use Rattle.std.proofs.Common.{◌≡◌, ◌<◌, ℕ, zero, suc, ℤ, List, [], ◌∷◌, length, set, slice_get, Some, None, Result, Ok, Err, refl, false, sym, ap, ◌∙◌, subst, arith}
+use Rattle.std.proofs.Common.{◌≡◌, ◌<◌, ℕ, zero, suc, ℤ, pos, List, [], ◌∷◌, length, set, slice_get, Some, None, Result, Ok, Err, refl, false, sym, ap, ◌∙◌, subst, arith}
 use Rattle.std.specs.Prelude.{if◌then◌else◌}
 use Rattle.std.proofs.lemmas.Slice.Eq.{bytes_eq-Decides}
 use Rattle.std.proofs.lemmas.Option.{slice_get_within}
@@ -30,7 +30,7 @@ use Rattle.awk_runtime.specs.declared.places.Updated.{Updated}
 use Rattle.awk_runtime.specs.declared.runtime.Runtime.{Runtime}
 use Rattle.awk_runtime.specs.support.Simulation.{Changes}
 use Rattle.awk_runtime.specs.support.Naming.{Naming, AreOwn}
-use Rattle.awk_runtime.specs.support.Updates.{UpdatesVariable, Updates}
+use Rattle.awk_runtime.specs.support.Updates.{UpdatesVariable, Updates, PutsNumber}
 use Rattle.awk_runtime.proofs.Composition.{then_changes, ends_changes, lift_changes}
 use Rattle.awk_runtime.proofs.Steps.{still}
 use Rattle.awk_runtime.proofs.Words.{number_had, number_lacked}
@@ -122,7 +122,7 @@ post_updated o p operand {old = old} {new = new} {u = u} x = then_changes _ (x.r
 pub of_variable : (o : Operator) (x : Variable) (n : ℤ) {old new : Runtime} {u : Updated} → UpdatesVariable o x n old new u → Updates o (place.Variable x) (value.Number n) old new u
 of_variable o x n h = record { read = λ operand. h.read; made = h.made; put = λ operand. h.put; again = λ operand. h.again }
 
-get-set : {A : Type 0} (xs : List A) (i : ℕ) (x : A) → i < length xs → slice_get (set xs i x) i ≡ Some x
+pub get-set : {A : Type 0} (xs : List A) (i : ℕ) (x : A) → i < length xs → slice_get (set xs i x) i ≡ Some x
 get-set [] i x low = absurd (omega arith)
 get-set (y ∷ xs) zero x low = refl
 get-set (y ∷ xs) (suc i) x low = get-set xs i x (omega arith)
@@ -159,3 +159,30 @@ special_updated o x n before after {old = old} {new = new} was made taken own pu
   put = special_outside x (value.Number after) (special_put x (value.Number after) taken own put globals same);
   again = special_read x (still new) (sym (put (name_of x) ∙ ap (λ b. if b then value.Number after else value_of old.specials (name_of x)) ((bytes_eq-Decides (name_of x) (name_of x)).1 refl)));
 }
+
+-- numbers that are put where they stand
+
+pub slot_numbered : (i : ℕ) (n : ℤ) {old new : Runtime} → i < length old.globals.items → AreOwn old.names.scalars → AreDistinct old.names.scalars → new.globals.items ≡ set old.globals.items i (value.Number n) → new.specials ≡ old.specials → SameButVariables old new → PutsNumber (variable.Global i) n old new
+slot_numbered i n {old = old} {new = new} within own distinct put specials same = record {
+  put = slot_given i (value.Number n) within own distinct put specials same;
+  again = subst (λ (k : Naming). Changes (read_variable k.scalars (variable.Global i)) new new (Ok (value.Number n))) same.names
+      (slot_read i new (subst (λ (k : Naming). AreOwn k.scalars) (sym same.names) own) (ap (λ l. slice_get l i) put ∙ get-set old.globals.items i (value.Number n) within));
+}
+
+pub local_numbered : (i : ℕ) (n : ℤ) {v : Value} {old new : Runtime} → slice_get (newest_of old.frames.frames) i ≡ Some (local.Value v) → new.frames ≡ record old.frames { frames = with_value_at (slice_get (newest_of old.frames.frames) i) i (value.Number n) old.frames.frames } → SameButFrames old new → PutsNumber (variable.Local i) n old new
+local_numbered i n {v = v} {old = old} {new = new} at put same = record {
+  put = local_given i (value.Number n) put same;
+  again = local_read i new (sym (ap value_in (ap (λ (f : FramesView). slice_get (newest_of f.frames) i) put
+      ∙ ap (λ l. slice_get (newest_of (with_value_at l i (value.Number n) old.frames.frames)) i) at
+      ∙ newest-put old.frames.frames i (local.Value v) (local.Value (value.Number n)) at)));
+}
+
+pub plainly_numbered : (x : Variable) (n : ℤ) {old new : Runtime} → PutsNumber x n old new → Changes (assign_by_at old.names.scalars None (place.Variable x) value.Nothing (value.Number n)) old new (Ok (value.Number n))
+unfolding assign_by_at assign_at
+plainly_numbered x n p = then_changes _ p.put p.again
+
+pub by_numbered : (o : Operator) (x : Variable) (n : ℤ) {old new : Runtime} {u : Updated} → UpdatesVariable o x n old new u → Changes (assign_by_at old.names.scalars (Some o) (place.Variable x) value.Nothing (value.Number n)) old new (Ok (value.Number u.after))
+by_numbered o x n h = by_updated o (place.Variable x) value.Nothing (value.Number n) (of_variable o x n h)
+
+pub post_numbered : (o : IncrementOperator) (x : Variable) {old new : Runtime} {u : Updated} → UpdatesVariable (by_one o) x (pos 1) old new u → Changes (post_increment_at old.names.scalars o (place.Variable x) value.Nothing) old new (Ok (value.Number u.before))
+post_numbered o x h = post_updated o (place.Variable x) value.Nothing (of_variable (by_one o) x (pos 1) h)

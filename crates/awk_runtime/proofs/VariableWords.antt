@@ -172,7 +172,7 @@ count_gives x {old = old} e p = same_changes _ (lift (raised (value_of old.speci
 -- variables of the program
 
 -- a variable of the program is neither NF nor FS
-plain : (names : List (List ℕ)) → AreOwn names → (i : ℕ) (x : List ℕ) → slice_get names i ≡ Some x → (v : Value) → (s : State) → put_outside x v s ≡ gives tt (with_variable x v s)
+pub plain : (names : List (List ℕ)) → AreOwn names → (i : ℕ) (x : List ℕ) → slice_get names i ≡ Some x → (v : Value) → (s : State) → put_outside x v s ≡ gives tt (with_variable x v s)
 unfolding put_outside
 plain names own i x at v s =
     ap (λ b. put_global b x v s) (own i x at).0
@@ -299,12 +299,12 @@ local_read i m {v = v} e =
     (λ s h. ap (λ w. Ok w) (local_value (slice_get (newest_locals s.frames) i) ∙ ap value_in (sym (newest-view s.frames i) ∙ ap (λ (f : FramesView). slice_get (newest_of f.frames) i) (sym h.frames)) ∙ sym e))
 
 -- the calls behind a parameter that was given a value
-abbrev frames_after : Option (List ℕ × Local) → ℕ → Value → List Frame → List Frame
+abbrev pub frames_after : Option (List ℕ × Local) → ℕ → Value → List Frame → List Frame
 frames_after (Some (x, local.Value old)) i v frames = with_newest (set (newest_locals frames) i (x, local.Value v)) frames
 frames_after (Some (x, local.Array n)) i v frames = frames
 frames_after None i v frames = frames
 
-with_local-is : (o : Option (List ℕ × Local)) (i : ℕ) (v : Value) (s : State) → with_local_at o i v s ≡ record s { frames = frames_after o i v s.frames }
+pub with_local-is : (o : Option (List ℕ × Local)) (i : ℕ) (v : Value) (s : State) → with_local_at o i v s ≡ record s { frames = frames_after o i v s.frames }
 with_local-is (Some (x, local.Value old)) i v s = refl
 with_local-is (Some (x, local.Array n)) i v s = refl
 with_local-is None i v s = refl

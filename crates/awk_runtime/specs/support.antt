@@ -5,6 +5,7 @@ pub mod Calling
 pub mod Beginning
 pub mod Updates
 pub mod Printing
+pub mod Appends
 pub mod Operands
 pub mod Inputs
 pub mod NamedInputs

@@ -1,7 +1,9 @@
 //! The state of a run, and what each word of the language does to it and to the world.
 #![tactic(auto)]
 
+mod appends;
 mod arrays;
+mod at_hand;
 mod calls;
 mod commands;
 mod fields;

@@ -7,7 +7,7 @@ ghost use Rattle.awk_semantics.specs.Operators.{by_one, one};
 ghost use Rattle.awk_storage.specs.Positions.{read_at, store_at, assign_at, assign_by_at, post_increment_at};
 
 use crate::runtime::Runtime;
-use awk_functions::{apply_to_numbers, by_one};
+use awk_functions::{apply_in_short, by_one};
 use awk_lex::token::{IncrementOperator, Operator};
 use awk_semantics::{Halt, Local};
 use awk_storage::{Place, Variable};
@@ -17,8 +17,8 @@ use awk_variables::Special;
 /// A number that was changed where it stands.
 #[derive(Clone, Copy)]
 pub(crate) struct Updated {
-    before: i128,
-    after: i128,
+    pub(crate) before: i128,
+    pub(crate) after: i128,
 }
 
 impl Runtime {
@@ -151,10 +151,24 @@ impl Runtime {
         let Value::Number(n) = value else {
             return None;
         };
+        self.update_number(operator, variable, *n)
+    }
+
+    /// The same of a variable and a number.
+    #[inline(always)]
+    pub(crate) fn update_number(
+        &mut self,
+        operator: Operator,
+        variable: Variable,
+        n: i128,
+    ) -> Option<Updated>
+        ensures updated { IfSome result (λ u. UpdatesVariable operator variable n self.old self.new u) }
+        ensures kept { IfNone result (self.new ≡ self.old) }
+    {
         match variable {
-            Variable::Global(slot) => self.update_global(operator, slot, *n),
-            Variable::Local(index) => self.update_local(operator, index, *n),
-            Variable::Special(special) => self.update_special(operator, special, *n),
+            Variable::Global(slot) => self.update_global(operator, slot, n),
+            Variable::Local(index) => self.update_local(operator, index, n),
+            Variable::Special(special) => self.update_special(operator, special, n),
             Variable::FieldCount => None,
         }
     }
@@ -170,7 +184,7 @@ impl Runtime {
             return None;
         };
         let before = *before;
-        let after = apply_to_numbers(operator, before, n)?;
+        let after = apply_in_short(operator, before, n)?;
         self.globals[slot as usize] = Value::Number(after);
         Some(Updated { before, after })
     }
@@ -185,7 +199,7 @@ impl Runtime {
             return None;
         };
         let before = *before;
-        let after = apply_to_numbers(operator, before, n)?;
+        let after = apply_in_short(operator, before, n)?;
         self.frames.set_value(index as usize, Value::Number(after));
         Some(Updated { before, after })
     }
@@ -200,7 +214,7 @@ impl Runtime {
             return None;
         };
         let before = *before;
-        let after = apply_to_numbers(operator, before, n)?;
+        let after = apply_in_short(operator, before, n)?;
         let Ok(()) = self.specials.set_special(special, Value::Number(after)) else {
             return None;
         };

@@ -1,6 +1,7 @@
 // Functions over texts.
 
-ghost use Rattle.std.specs.Prelude.{◌≡◌, ◌++◌, Ok, IfOk, OnOk};
+ghost use Rattle.std.specs.Prelude.{◌≡◌, ◌++◌, map, Ok, IfOk, OnOk};
+ghost use Rattle.std.specs.List.{concat};
 ghost use Rattle.awk_value.specs.Values.{str_of};
 ghost use Rattle.awk_value.specs.declared.value.Value.TheVariants.{Text};
 ghost use Rattle.awk_text.specs.Pieces.{stretches_at, AreSpansOf};
@@ -18,7 +19,8 @@ ghost use Rattle.awk_runtime.specs.support.Spelled.{record_tested, substitute_in
 use crate::names::ProgramNames;
 use crate::runtime::Runtime;
 use awk_functions::{
-    Exchanged, PatternOperand, append, apply, apply_function, length_of, start_of, truth_value,
+    Exchanged, PatternOperand, append, apply, apply_function, concatenate_all, length_of, start_of,
+    truth_value,
 };
 use awk_lex::token::{BuiltIn, Operator};
 use awk_semantics::Halt;
@@ -71,6 +73,13 @@ impl Runtime {
         ensures { Changes (lift (Ok (Text (str_of left ++ str_of right.now)))) self.now self.now result }
     {
         append(self.alloc, left, right)
+    }
+
+    /// The texts of values, one behind the other. (POSIX awk, Expressions in awk: string concatenation)
+    pub fn concatenate_all(&self, values: &[Value]) -> Result<Value, Halt>
+        ensures { Changes (lift (Ok (Text (concat (map str_of values.now))))) self.now self.now result }
+    {
+        concatenate_all(self.alloc, values)
     }
 
     /// Whether the record has a match of an ERE of the program, by its number. (POSIX awk, Expressions in awk; Regular

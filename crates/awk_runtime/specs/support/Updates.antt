@@ -24,3 +24,8 @@ pub record Updates (operator : Operator) (p : Place) (v : Value) (old new : Runt
   pub made : applied operator (Number u.before) v ≡ Ok (Number u.after)
   pub put : (operand : Value) → Changes (store_at old.names.scalars p operand (Number u.after)) old new (Ok tt)
   pub again : (operand : Value) → Changes (read_at old.names.scalars p operand) new new (Ok (Number u.after))
+
+-- a variable gets a number
+pub record PutsNumber (x : Variable) (n : ℤ) (old new : Runtime) : Type 0 where
+  pub put : Changes (put_variable old.names.scalars x (Number n)) old new (Ok tt)
+  pub again : Changes (read_variable old.names.scalars x) new new (Ok (Number n))

@@ -1,0 +1,45 @@
+// Texts that are appended to variables.
+
+ghost use Rattle.awk_runtime.specs.support.Appends.{LetsGo, appended};
+ghost use Rattle.awk_runtime.specs.support.Simulation.{Changes};
+
+use crate::runtime::Runtime;
+use awk_functions::append;
+use awk_semantics::Halt;
+use awk_storage::Variable;
+use awk_value::Value;
+
+impl Runtime {
+    /// Gives a variable the text of a value that it held, with that of another one behind it; gives what it then holds. The text
+    /// grows in its own memory, in time of what is appended on the mean, where nothing but a variable of the program or a parameter
+    /// shares it. The faults are those of the variable. (POSIX awk, Expressions in awk: string concatenation)
+    pub fn append_to(
+        &mut self,
+        variable: Variable,
+        left: Value,
+        right: &Value,
+    ) -> Result<Value, Halt>
+        ensures { Changes (appended self.old.names.scalars variable left right.now) self.old self.new result }
+    {
+        self.let_go(variable);
+        let text = append(self.alloc, left, right)?;
+        self.put_variable(variable, text)?;
+        self.read_variable(variable)
+    }
+
+    /// Lets go of what a variable of the program or a parameter holds, before it is given a value.
+    fn let_go(&mut self, variable: Variable)
+        ensures { LetsGo variable self.old self.new }
+    {
+        self.names.law_of_slots();
+        match variable {
+            Variable::Global(slot) => {
+                if (slot as usize) < self.globals.len() {
+                    self.globals[slot as usize] = Value::Nothing;
+                }
+            }
+            Variable::Local(index) => self.frames.set_value(index as usize, Value::Nothing),
+            Variable::Special(_) | Variable::FieldCount => {}
+        }
+    }
+}
