@@ -147,7 +147,7 @@ assign_lowered {place = place} {e = e} {x = x} h f o q r r' =
 
 -- two operands
 
-applied_strictly : (b : BinaryOperator) → is_and b ≡ false → is_or b ≡ false → matching_operator b ≡ None → (left right : Run Value) (s : State) → (e : Expr) → (left >>= λ x. right >>= λ y. lift (operated b x y)) s ≡ combined b left (right_operand (takes_pattern b) e right) s
+pub applied_strictly : (b : BinaryOperator) → is_and b ≡ false → is_or b ≡ false → matching_operator b ≡ None → (left right : Run Value) (s : State) → (e : Expr) → (left >>= λ x. right >>= λ y. lift (operated b x y)) s ≡ combined b left (right_operand (takes_pattern b) e right) s
 applied_strictly Concatenate f g h left right s e = refl
 applied_strictly (Infix o.Power) f g h left right s e = refl
 applied_strictly (Infix o.Times) f g h left right s e = refl

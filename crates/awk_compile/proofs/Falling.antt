@@ -34,6 +34,10 @@ use Rattle.awk_storage.specs.declared.position.Place.TheVariants as place
 use Rattle.awk_storage.specs.definitions.Positions.{newest_locals, with_local_at, read_local, put_local, read_slot, put_slot, number_at, read_element_of, store_element_of, read_variable, put_variable, read_at, store_at, assign_at, assign_by_at, post_increment_at}
 use Rattle.awk_storage.specs.definitions.Forms.{contains_at, delete_at, clear_at, count_elements_at, keys_of_array, fill_at, match_in, split_with, assign_exchange_at, substitute_at, receive_at, receive_main_at, main_getline_at, receive_named_at, named_getline_at}
 use Rattle.awk_compile.specs.declared.node.ArgumentForm.{ArgumentForm}
+use Rattle.awk_lex.specs.declared.token.AssignmentOperator.{AssignmentOperator}
+use Rattle.awk_grammar.specs.declared.tree.BinaryOperator.{BinaryOperator}
+use Rattle.awk_compile.specs.declared.node.Operand.{Operand}
+use Rattle.awk_compile.specs.declared.node.Operand.TheVariants as operand
 use Rattle.awk_compile.specs.declared.node.Source.{Source}
 use Rattle.awk_compile.specs.declared.node.Source.TheVariants as source
 use Rattle.awk_compile.specs.declared.node.SplitBy.TheVariants as by
@@ -41,7 +45,7 @@ use Rattle.awk_compile.specs.declared.node.ValueNode.{ValueNode}
 use Rattle.awk_compile.specs.declared.node.ValueNode.TheVariants as v
 use Rattle.awk_compile.specs.declared.node.EffectNode.{EffectNode}
 use Rattle.awk_compile.specs.declared.node.EffectNode.TheVariants as e
-use Rattle.awk_compile.specs.definitions.Nodes.{Tables, first, second, taken, given_by, call_at, substitute_by, substitute, getline_by, value_of, target_by, effect_of}
+use Rattle.awk_compile.specs.definitions.Nodes.{operand_value, operated_with, operated_on, field_at, assign_variable, update, increment, Tables, first, second, taken, given_by, call_at, substitute_by, substitute, getline_by, value_of, target_by, effect_of}
 
 pub record Falls {A : Type 0} (m : Run A) : Type 0 where
   pub falls : (s : State) → (m s).state.steps ≤ s.steps
@@ -156,6 +160,30 @@ module _ (names : List (List ℕ)) where
   unfolding post_increment_at
   post_falls o p operand = then_falls _ (read_at_falls p operand) (λ x. then_falls _ (kept_falls (keeps_number_of x)) (λ k. then_falls _ (lift_falls _) (λ w. then_falls _ (store_at_falls p operand w) (λ _. lift_falls _))))
 
+-- operands that are read where they stand
+module _ (names : List (List ℕ)) where
+  operand_falls : (a : Operand) → Falls (operand_value names a)
+  operand_falls (operand.Constant x) = lift_falls (Ok x)
+  operand_falls (operand.Variable x) = read_variable_falls names x
+
+  pub operated_with_falls : (o : BinaryOperator) (x : Value) (b : Operand) → Falls (operated_with names o x b)
+  operated_with_falls o x b = then_falls _ (operand_falls b) (λ y. lift_falls _)
+
+  pub operated_on_falls : (o : BinaryOperator) (a b : Operand) → Falls (operated_on names o a b)
+  operated_on_falls o a b = then_falls _ (operand_falls a) (λ x. operated_with_falls o x b)
+
+  pub field_at_falls : (a : Operand) → Falls (field_at names a)
+  field_at_falls a = then_falls _ (operand_falls a) (λ x. then_falls _ (kept_falls (keeps_number_of x)) (λ k. kept_falls (keeps_read_field k)))
+
+  pub assign_variable_falls : (o : AssignmentOperator) (x : Variable) (w : Value) → Falls (assign_variable names o x w)
+  assign_variable_falls o x w = assign_by_falls names (operator_of o) (place.Variable x) value.Nothing w
+
+  pub update_falls : (o : AssignmentOperator) (x : Variable) (a : Operand) → Falls (update names o x a)
+  update_falls o x a = then_falls _ (kept_falls keeps_spend) (λ _. then_falls _ (operand_falls a) (λ w. assign_variable_falls o x w))
+
+  pub increment_falls : (o : IncrementOperator) (x : Variable) → Falls (increment names o x)
+  increment_falls o x = then_falls _ (kept_falls keeps_spend) (λ _. post_falls names o (place.Variable x) value.Nothing)
+
 -- built-in functions and calls
 
 match_falls : (pattern text : List ℕ) → Falls (match_in pattern text)
@@ -224,14 +252,19 @@ module _ (tables : Tables) where
     value_falls (v.Read x) vs = read_variable_falls tables.names x
     value_falls (v.RecordMatches i) vs = then_falls _ (kept_falls keeps_record_text) (λ x. lift_falls _)
     value_falls (v.Operate o) vs = lift_falls _
+    value_falls (v.OperateWith o b) vs = operated_with_falls tables.names o (first vs) b
+    value_falls (v.OperateOn o a b) vs = operated_on_falls tables.names o a b
     value_falls (v.MatchesEre o i) vs = lift_falls _
     value_falls (v.Change o) vs = lift_falls _
+    value_falls (v.ConcatenateAll k) vs = lift_falls _
+    value_falls (v.ReadFieldAt a) vs = field_at_falls tables.names a
     value_falls v.ReadField vs = then_falls _ (kept_falls (keeps_number_of (first vs))) (λ k. kept_falls (keeps_read_field k))
     value_falls (v.ReadElement a) vs = read_element_falls a _
     value_falls (v.Contains a) vs = then_falls _ (contains_falls a _) (λ b. lift_falls _)
     value_falls (v.Key k) vs = then_falls _ (kept_falls (keeps_joined_key (taken k vs))) (λ key. lift_falls _)
     value_falls v.FieldNumber vs = then_falls _ (kept_falls (keeps_number_of (first vs))) (λ k. lift_falls _)
     value_falls (v.Assign o p) vs = assign_by_falls tables.names (operator_of o) p (second vs) (first vs)
+    value_falls (v.Append x) vs = then_falls _ (lift_falls _) (λ w. assign_by_falls tables.names None (place.Variable x) value.Nothing w)
     value_falls (v.PreIncrement o p) vs = assign_by_falls tables.names (Some (by_one o)) p (first vs) one
     value_falls (v.PostIncrement o p) vs = post_falls tables.names o p (first vs)
     value_falls (v.Load p) vs = read_at_falls tables.names p (first vs)

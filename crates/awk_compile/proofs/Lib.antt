@@ -11,9 +11,12 @@ pub mod ValueLists
 pub mod Taking
 pub mod Targets
 pub mod ExpressionForms
+pub mod InPlaceForms
+pub mod AppendForms
 pub mod PatternForms
 pub mod ConditionForms
 pub mod ListForms
+pub mod PartForms
 pub mod CallForms
 pub mod BuiltInForms
 pub mod GetlineForms
@@ -22,6 +25,7 @@ pub mod OperandForms
 pub mod Slots
 pub mod Passing
 pub mod SimpleStatements
+pub mod ChangeForms
 pub mod PrintStatements
 pub mod StatementForms
 pub mod LoopStatements

@@ -92,7 +92,7 @@ numbered : (k : ℤ) {B : Type 0} (f : ℤ → Run B) (s : State) → (number_of
 numbered k f s = given k f s
 
 module _ {kinds : ProgramKinds} {parameters : List FormalParameter} where
-  at_variable : {b : Builder} {p : Program kinds} {v : Variable} {x : List ℕ} {operand : Value} → Grows b p.all → IsVariableOf kinds parameters b v x → IsAt p parameters (AName x) (place.Variable v) operand
+  pub at_variable : {b : Builder} {p : Program kinds} {v : Variable} {x : List ℕ} {operand : Value} → Grows b p.all → IsVariableOf kinds parameters b v x → IsAt p parameters (AName x) (place.Variable v) operand
   unfolding read_place store
   at_variable {p = p} g is = record { reads = λ n s i. is.reads p g n s i; stores = λ n w s i. is.puts p g n w s i }
 

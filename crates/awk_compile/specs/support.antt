@@ -1,7 +1,9 @@
 -- What serves the proofs.
+pub mod Appends
 pub mod Builds
 pub mod Scopes
 pub mod Operands
+pub mod Parts
 pub mod Calls
 pub mod Printed
 pub mod Holding

@@ -7,7 +7,7 @@ ghost use Rattle.awk_compile.specs.support.Operands.{is_not};
 ghost use Rattle.awk_compile.specs.support.Scopes.{Builds};
 
 use crate::builder::Builder;
-use crate::expressions::{is_and, is_or};
+use crate::expressions::{is_and, is_or, is_strict};
 use crate::node::Node;
 use crate::scope::Scope;
 use awk_grammar::tree::{Expr, UnaryOperator};
@@ -51,10 +51,44 @@ impl Builder {
                 let second = self.lower_test(scope, b, here, other)?;
                 self.lower_test(scope, a, here, second)
             }
+            Expr::Binary(o, _, _) if is_strict(*o) => {
+                self.lower_comparison(scope, e, here, other)
+            }
             _ => {
                 let test = self.push(Node::Test(here, other))?;
                 self.lower(scope, e, test)
             }
         }
+    }
+
+    /// What an operator makes of two values is tested.
+    #[cycle(expressions)]
+    fn lower_comparison(
+        &mut self,
+        scope: &Scope,
+        e: &Expr,
+        here: u32,
+        other: u32,
+    ) -> Result<u32, AllocError>
+        requires here { Stands here self.old }
+        requires other { Stands other self.old }
+        ensures { IfOk result (λ place. Builds scope.now self.old self.new place (Decide (expr_of e.now) here other)) }
+    {
+        // No other expression is tested here.
+        let Expr::Binary(o, a, b) = e else {
+            return Err(AllocError);
+        };
+        if !is_strict(*o) {
+            return Err(AllocError);
+        }
+        let Some(right) = self.operand_of(scope, b)? else {
+            let test = self.push(Node::Test(here, other))?;
+            return self.lower(scope, e, test);
+        };
+        let Some(left) = self.operand_of(scope, a)? else {
+            let test = self.push(Node::CompareWith(*o, right, here, other))?;
+            return self.lower(scope, a, test);
+        };
+        self.push(Node::Compare(*o, left, right, here, other))
     }
 }

@@ -1,13 +1,16 @@
 // Expressions as nodes.
 
 ghost use Rattle.std.specs.Prelude.{◌≡◌, IfOk};
-ghost use Rattle.awk_grammar.specs.Tree.{Name};
+ghost use Rattle.awk_grammar.specs.Tree.{Field, Name};
 ghost use Rattle.awk_grammar.specs.View.{expr_of};
+ghost use Rattle.awk_kinds.specs.definitions.NameUses.{count_of};
 ghost use Rattle.awk_compile.specs.definitions.Nodes.{CallsFit};
-ghost use Rattle.awk_compile.specs.support.Builds.{array_parameters_in, Pushes, Stands, Evaluate};
-ghost use Rattle.awk_compile.specs.support.Operands.{is_and, is_or, matching_operator, matching, PushesTruths, PushesEre};
+ghost use Rattle.awk_compile.specs.support.Builds.{array_parameters_in, Pushes, Stands, Evaluate, EvaluateAll};
+ghost use Rattle.awk_compile.specs.support.Operands.{is_and, is_or, is_strict, matching_operator, matching, PushesTruths, PushesEre};
+ghost use Rattle.awk_compile.specs.support.Parts.{is_concatenation, parts_of};
 ghost use Rattle.awk_compile.specs.support.Scopes.{Builds};
 
+use crate::appends::is_append;
 use crate::builder::Builder;
 use crate::getlines::source_of;
 use crate::node::{Node, Source, ValueNode};
@@ -46,6 +49,35 @@ fn matching_operator(o: BinaryOperator) -> Option<Operator>
     }
 }
 
+/// Whether the operator takes the values of both operands, and neither as a pattern.
+pub(crate) fn is_strict(o: BinaryOperator) -> bool
+    ensures { result ≡ is_strict o }
+{
+    !is_and(o) && !is_or(o) && matching_operator(o).is_none()
+}
+
+pub(crate) fn is_concatenation(e: &Expr) -> bool
+    ensures { result ≡ is_concatenation (expr_of e.now) }
+{
+    match e {
+        Expr::Binary(BinaryOperator::Concatenate, _, _) => true,
+        _ => false,
+    }
+}
+
+/// How many parts a concatenation has: those of its left operand, which may be one too, and its right one. It is 1 of any other
+/// expression. An `Err` is that numbers run out.
+fn part_count(e: &Expr) -> Result<u32, AllocError>
+    ensures { IfOk result (λ count. count ≡ count_of (parts_of (expr_of e.now))) }
+{
+    match e {
+        Expr::Binary(BinaryOperator::Concatenate, a, _) => {
+            part_count(a)?.checked_add(1).ok_or(AllocError)
+        }
+        _ => Ok(1),
+    }
+}
+
 /// What matches a text with an ERE, or with the text that lies above it.
 fn matching(o: Operator, pattern: Option<u32>) -> ValueNode
     ensures { result ≡ matching o pattern }
@@ -74,7 +106,12 @@ impl Builder {
         Ok((yes, no))
     }
 
-    fn push_name(&mut self, scope: &Scope, x: &Bytes, next: u32) -> Result<u32, AllocError>
+    pub(crate) fn push_name(
+        &mut self,
+        scope: &Scope,
+        x: &Bytes,
+        next: u32,
+    ) -> Result<u32, AllocError>
         requires { Stands next self.old }
         ensures { IfOk result (λ place. Builds scope.now self.old self.new place (Evaluate (Name x.now) next)) }
     {
@@ -112,10 +149,7 @@ impl Builder {
                 let read = self.push_value(ValueNode::ReadElement(array), next)?;
                 self.lower_key(scope, list, read)
             }
-            Expr::Field(e) => {
-                let read = self.push_value(ValueNode::ReadField, next)?;
-                self.lower(scope, e, read)
-            }
+            Expr::Field(e) => self.lower_field(scope, e, next),
             Expr::Group(e) => self.lower(scope, e, next),
             Expr::Unary(o, e) => {
                 let change = self.push_value(ValueNode::Change(*o), next)?;
@@ -138,6 +172,9 @@ impl Builder {
                 self.lower_test(scope, c, here, other)
             }
             Expr::Assign(o, place, e) => {
+                if is_append(*o, place, e) {
+                    return self.lower_append(scope, e, place, next);
+                }
                 let target = self.place_of(scope, place)?;
                 let assign = self.push_value(ValueNode::Assign(*o, target), next)?;
                 let right = self.lower(scope, e, assign)?;
@@ -197,8 +234,51 @@ impl Builder {
             let right = self.lower_unless_ere(scope, b, matches)?;
             return self.lower(scope, a, right);
         }
-        let operate = self.push_value(ValueNode::Operate(o), next)?;
-        let right = self.lower(scope, b, operate)?;
-        self.lower(scope, a, right)
+        let count = part_count(e)?;
+        if count > 2 {
+            let join = self.push_value(ValueNode::ConcatenateAll(count), next)?;
+            return self.lower_parts(scope, e, join);
+        }
+        let Some(right) = self.operand_of(scope, b)? else {
+            let operate = self.push_value(ValueNode::Operate(o), next)?;
+            let right = self.lower(scope, b, operate)?;
+            return self.lower(scope, a, right);
+        };
+        let Some(left) = self.operand_of(scope, a)? else {
+            let operate = self.push_value(ValueNode::OperateWith(o, right), next)?;
+            return self.lower(scope, a, operate);
+        };
+        self.push_value(ValueNode::OperateOn(o, left, right), next)
+    }
+
+    /// The field of a number, which may be read where it stands.
+    #[cycle(expressions)]
+    fn lower_field(&mut self, scope: &Scope, number: &Expr, next: u32) -> Result<u32, AllocError>
+        requires { Stands next self.old }
+        ensures { IfOk result (λ place. Builds scope.now self.old self.new place (Evaluate (Field (expr_of number.now)) next)) }
+    {
+        let Some(operand) = self.operand_of(scope, number)? else {
+            let read = self.push_value(ValueNode::ReadField, next)?;
+            return self.lower(scope, number, read);
+        };
+        self.push_value(ValueNode::ReadFieldAt(operand), next)
+    }
+
+    /// The values of the parts of a concatenation are put on the stack.
+    #[cycle(expressions)]
+    fn lower_parts(&mut self, scope: &Scope, e: &Expr, next: u32) -> Result<u32, AllocError>
+        requires { Stands next self.old }
+        ensures { IfOk result (λ place. Builds scope.now self.old self.new place (EvaluateAll (parts_of (expr_of e.now)) next)) }
+    {
+        // No other expression has parts.
+        let Expr::Binary(BinaryOperator::Concatenate, a, b) = e else {
+            return Err(AllocError);
+        };
+        let last = self.lower(scope, b, next)?;
+        if is_concatenation(a) {
+            self.lower_parts(scope, a, last)
+        } else {
+            self.lower(scope, a, last)
+        }
     }
 }

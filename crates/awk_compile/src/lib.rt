@@ -1,9 +1,11 @@
 //! Programs as nodes that name what follows them: what a place in the list of nodes means, and the lowering of trees.
 #![tactic(auto)]
 
+mod appends;
 pub mod builder;
 mod built_ins;
 mod calls;
+mod changes;
 mod conditions;
 mod expressions;
 mod getlines;
@@ -11,6 +13,7 @@ mod heights;
 mod lists;
 pub mod names;
 pub mod node;
+mod operands;
 mod patterns;
 mod places;
 pub mod plan;

@@ -28,6 +28,13 @@ pub enum Source {
     Command,
 }
 
+/// An operand that is read where it stands, and not from the stack.
+#[derive(Drop)]
+pub enum Operand {
+    Constant(Value),
+    Variable(Variable),
+}
+
 /// What takes values off the stack and puts one on it. The operand that was evaluated last is the topmost.
 #[derive(Drop)]
 pub enum ValueNode {
@@ -36,10 +43,18 @@ pub enum ValueNode {
     /// Whether the record has a match of an ERE of the program, by its number.
     RecordMatches(u32),
     Operate(BinaryOperator),
+    /// The right operand is read where it stands.
+    OperateWith(BinaryOperator, Operand),
+    /// Both operands are read where they stand.
+    OperateOn(BinaryOperator, Operand, Operand),
+    /// The texts of so many values, one behind the other.
+    ConcatenateAll(u32),
     /// `~` or `!~`, with an ERE of the program on the right.
     MatchesEre(Operator, u32),
     Change(UnaryOperator),
     ReadField,
+    /// The field whose number is read where it stands.
+    ReadFieldAt(Operand),
     ReadElement(Array),
     Contains(Array),
     /// Several subscripts as one text.
@@ -47,6 +62,8 @@ pub enum ValueNode {
     /// The number of a field that is a place.
     FieldNumber,
     Assign(AssignmentOperator, Place),
+    /// Assigns a variable the text of a value that it had, with that of another one behind it.
+    Append(Variable),
     PreIncrement(IncrementOperator, Place),
     PostIncrement(IncrementOperator, Place),
     /// The value of a place, whose operand stays on the stack.
@@ -94,6 +111,16 @@ pub enum Node {
     Effect(EffectNode, u32),
     /// Goes on at the first place where the topmost value is true, and else at the second.
     Test(u32, u32),
+    /// The same of what an operator makes of the topmost value and an operand.
+    CompareWith(BinaryOperator, Operand, u32, u32),
+    /// The same of what an operator makes of two operands.
+    Compare(BinaryOperator, Operand, Operand, u32, u32),
+    /// Assigns the topmost value to a variable, and takes it off.
+    Assign(AssignmentOperator, Variable, u32),
+    /// Spends a step, and assigns an operand to a variable.
+    Update(AssignmentOperator, Variable, Operand, u32),
+    /// Spends a step, and raises or lowers a variable's number by 1.
+    Increment(IncrementOperator, Variable, u32),
     /// A turn of a loop, whose body's place is known by the loop's number.
     Again(u32),
     /// Puts the keys of an array and their count on the stack.

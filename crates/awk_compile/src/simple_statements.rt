@@ -39,6 +39,9 @@ impl Builder {
         requires { ExitsStand exits self.old }
         ensures { IfOk result (λ place. Builds scope.now self.old self.new place (Execute (Simple (Expression (expr_of e.now))) exits)) }
     {
+        if let Some(place) = self.lower_change(scope, e, exits)? {
+            return Ok(place);
+        }
         let leave = self.push(Node::Effect(EffectNode::Drop(1), exits.next))?;
         let value = self.lower(scope, e, leave)?;
         self.step(value)

@@ -1,10 +1,13 @@
 -- What nodes mean: what is still to be done from a place, with the values that are awaited, the newest first.
 use Rattle.std.specs.Prelude.{◌≡◌, ℕ, zero, suc, ◌+◌, ◌-◌, ◌<◌, pos, Bool, true, false, List, [], ◌∷◌, ◌++◌, length, map, reverse, take, drop, slice_get, get_or, unwrap_or, Option, Some, None, Result, Ok, Err}
+use Rattle.std.specs.List.{concat}
 use Rattle.std.specs.Option.{option_map}
 use Rattle.awk_value.specs.declared.value.Value.{Value}
 use Rattle.awk_value.specs.declared.value.Value.TheVariants as value
 use Rattle.awk_value.specs.Values.{str_of, truth_of}
 use Rattle.awk_lex.specs.declared.token.Operator.TheVariants.{Matches}
+use Rattle.awk_lex.specs.declared.token.AssignmentOperator.{AssignmentOperator}
+use Rattle.awk_lex.specs.declared.token.IncrementOperator.{IncrementOperator}
 use Rattle.awk_grammar.specs.declared.tree.BinaryOperator.{BinaryOperator}
 use Rattle.awk_grammar.specs.declared.tree.BinaryOperator.TheVariants.{Concatenate, Infix}
 use Rattle.awk_grammar.specs.declared.tree.Redirection.{Redirection}
@@ -21,10 +24,13 @@ use Rattle.awk_semantics.specs.definitions.Primitives.{spend, number_of, record_
 use Rattle.awk_semantics.specs.definitions.BuiltIns.{applied_all, record_length, flush_outputs}
 use Rattle.awk_semantics.specs.definitions.Streams.{open_target, close_main, close_named, run_command, flush_named}
 use Rattle.awk_semantics.specs.definitions.Semantics.{Functions, choose, print_by}
+use Rattle.awk_storage.specs.declared.position.Variable.{Variable}
 use Rattle.awk_storage.specs.declared.position.Place.{Place}
 use Rattle.awk_storage.specs.declared.position.Place.TheVariants as place
 use Rattle.awk_storage.specs.definitions.Positions.{number_at, read_element_of, read_variable, put_variable, read_at, assign_by_at, post_increment_at}
 use Rattle.awk_storage.specs.definitions.Forms.{contains_at, delete_at, clear_at, count_elements_at, keys_of_array, match_in, split_with, substitute_at, main_getline_at, named_getline_at}
+use Rattle.awk_compile.specs.declared.node.Operand.{Operand}
+use Rattle.awk_compile.specs.declared.node.Operand.TheVariants as operand
 use Rattle.awk_compile.specs.declared.node.Source.{Source}
 use Rattle.awk_compile.specs.declared.node.Source.TheVariants as source
 use Rattle.awk_compile.specs.declared.node.ArgumentForm.{ArgumentForm}
@@ -84,6 +90,33 @@ abbrev pub operated : BinaryOperator → Value → Value → Result Value Halt
 operated Concatenate x y = Ok (value.Text (str_of x ++ str_of y))
 operated (Infix o) x y = applied o x y
 
+-- operands that are read where they stand, the left one first, and what is assigned by them
+module _ (names : List (List ℕ)) where
+  abbrev pub operand_value : Operand → Run Value
+  operand_value (operand.Constant x) = ret x
+  operand_value (operand.Variable x) = read_variable names x
+
+  -- the field whose number an operand is
+  abbrev pub field_at : Operand → Run Value
+  field_at a = operand_value a >>= λ x. number_of x >>= λ k. read_field k
+
+  abbrev pub operated_with : BinaryOperator → (left : Value) → Operand → Run Value
+  operated_with o x b = operand_value b >>= λ y. lift (operated o x y)
+
+  abbrev pub operated_on : BinaryOperator → (left right : Operand) → Run Value
+  operated_on o a b = operand_value a >>= λ x. operated_with o x b
+
+  -- a variable gets a value
+  abbrev pub assign_variable : AssignmentOperator → Variable → Value → Run Value
+  assign_variable o x w = assign_by_at names (operator_of o) (place.Variable x) value.Nothing w
+
+  -- a step is spent, and a variable gets an operand, or its number and 1, or less 1
+  abbrev pub update : AssignmentOperator → Variable → Operand → Run Value
+  update o x a = spend >>= λ _. operand_value a >>= λ w. assign_variable o x w
+
+  abbrev pub increment : IncrementOperator → Variable → Run Value
+  increment o x = spend >>= λ _. post_increment_at names o (place.Variable x) value.Nothing
+
 -- calls: values are given in their order, and arrays by their numbers
 
 abbrev pub local_by : ArgumentForm → List Value → State → Local
@@ -133,14 +166,19 @@ module _ (tables : Tables) where
   value_of functions (v.Read x) vs = read_variable tables.names x
   value_of functions (v.RecordMatches i) vs = record_text >>= λ x. lift (applied Matches x (value.Text (ere_at tables i)))
   value_of functions (v.Operate o) vs = lift (operated o (second vs) (first vs))
+  value_of functions (v.OperateWith o b) vs = operated_with tables.names o (first vs) b
+  value_of functions (v.OperateOn o a b) vs = operated_on tables.names o a b
   value_of functions (v.MatchesEre o i) vs = lift (applied o (first vs) (value.Text (ere_at tables i)))
   value_of functions (v.Change o) vs = lift (changed o (first vs))
+  value_of functions (v.ConcatenateAll k) vs = lift (Ok (value.Text (concat (map str_of (taken k vs)))))
+  value_of functions (v.ReadFieldAt a) vs = field_at tables.names a
   value_of functions v.ReadField vs = number_of (first vs) >>= λ k. read_field k
   value_of functions (v.ReadElement a) vs = read_element_of a (str_of (first vs))
   value_of functions (v.Contains a) vs = contains_at a (str_of (first vs)) >>= λ b. ret (truth_value b)
   value_of functions (v.Key k) vs = joined_key (taken k vs) >>= λ key. ret (value.Text key)
   value_of functions v.FieldNumber vs = number_of (first vs) >>= λ k. ret (value.Number k)
   value_of functions (v.Assign o p) vs = assign_by_at tables.names (operator_of o) p (second vs) (first vs)
+  value_of functions (v.Append x) vs = lift (operated Concatenate (second vs) (first vs)) >>= λ w. assign_by_at tables.names None (place.Variable x) value.Nothing w
   value_of functions (v.PreIncrement o p) vs = assign_by_at tables.names (Some (by_one o)) p (first vs) one
   value_of functions (v.PostIncrement o p) vs = post_increment_at tables.names o p (first vs)
   value_of functions (v.Load p) vs = read_at tables.names p (first vs)
@@ -183,14 +221,19 @@ popped (v.Push x) = 0
 popped (v.Read x) = 0
 popped (v.RecordMatches i) = 0
 popped (v.Operate o) = 2
+popped (v.OperateWith o b) = 1
+popped (v.OperateOn o a b) = 0
 popped (v.MatchesEre o i) = 1
 popped (v.Change o) = 1
+popped (v.ConcatenateAll k) = k
+popped (v.ReadFieldAt a) = 0
 popped v.ReadField = 1
 popped (v.ReadElement a) = 1
 popped (v.Contains a) = 1
 popped (v.Key k) = k
 popped v.FieldNumber = 1
 popped (v.Assign o p) = suc (operands p)
+popped (v.Append x) = 2
 popped (v.PreIncrement o p) = operands p
 popped (v.PostIncrement o p) = operands p
 popped (v.Load p) = 0
@@ -254,6 +297,11 @@ module _ (tables : Tables) (functions : Functions) (again : ℕ → Cont) where
   made at (n.Value x k) = λ vs. value_of tables functions x vs >>= λ w. at k (w ∷ drop (popped x) vs)
   made at (n.Effect x k) = λ vs. effect_of functions x vs >>= λ _. at k (drop (dropped x) vs)
   made at (n.Test here other) = λ vs. choose (truth_of (first vs)) (at here (drop 1 vs)) (at other (drop 1 vs))
+  made at (n.CompareWith o b here other) = λ vs. operated_with tables.names o (first vs) b >>= λ x. choose (truth_of x) (at here (drop 1 vs)) (at other (drop 1 vs))
+  made at (n.Compare o a b here other) = λ vs. operated_on tables.names o a b >>= λ x. choose (truth_of x) (at here vs) (at other vs)
+  made at (n.Assign o x k) = λ vs. assign_variable tables.names o x (first vs) >>= λ _. at k (drop 1 vs)
+  made at (n.Update o x a k) = λ vs. update tables.names o x a >>= λ _. at k vs
+  made at (n.Increment o x k) = λ vs. increment tables.names o x >>= λ _. at k vs
   made at (n.Again i) = again i
   made at (n.Walk a k) = λ vs. keys_of_array a >>= λ keys. at k (walk_values keys ++ vs)
   made at (n.NextKey i exit) = λ vs. next_key_by (keys_left (first vs)) (again i vs) (at exit (drop 1 vs))
@@ -282,6 +330,11 @@ abbrev pub AreBelow : ℕ → Node → Type 0
 AreBelow at (n.Value x k) = k < at
 AreBelow at (n.Effect x k) = k < at
 AreBelow at (n.Test here other) = (here < at) × (other < at)
+AreBelow at (n.CompareWith o b here other) = (here < at) × (other < at)
+AreBelow at (n.Compare o a b here other) = (here < at) × (other < at)
+AreBelow at (n.Assign o x k) = k < at
+AreBelow at (n.Update o x a k) = k < at
+AreBelow at (n.Increment o x k) = k < at
 AreBelow at (n.Again i) = Unit {0}
 AreBelow at (n.Walk a k) = k < at
 AreBelow at (n.NextKey i exit) = exit < at

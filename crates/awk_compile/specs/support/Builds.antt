@@ -4,7 +4,7 @@ use Rattle.std.specs.Global.{Vec}
 use Rattle.awk_value.specs.declared.value.Value.{Value}
 use Rattle.awk_value.specs.declared.value.Value.TheVariants as value
 use Rattle.awk_value.specs.Values.{truth_of}
-use Rattle.awk_grammar.specs.Tree.{Expr, Ere, Element, Field, Exprs, Nil, Cons, OptionalExpr, NoExpr, AnExpr, Statement, Statements, OptionalSimple}
+use Rattle.awk_grammar.specs.Tree.{Expr, Ere, Name, Element, Field, Exprs, Nil, Cons, OptionalExpr, NoExpr, AnExpr, Statement, Statements, OptionalSimple}
 use Rattle.awk_variables.specs.Names.{IsFront, with_name, Numbers}
 use Rattle.awk_kinds.specs.definitions.Kinds.{FormalParameter}
 use Rattle.awk_kinds.specs.definitions.Signatures.{Signature, ProgramKinds}
@@ -20,10 +20,11 @@ use Rattle.awk_storage.specs.declared.position.Array.{Array}
 use Rattle.awk_storage.specs.definitions.Positions.{number_at, read_variable, put_variable, read_at, store_at}
 use Rattle.awk_storage.specs.declared.position.Place.{Place}
 use Rattle.awk_compile.specs.declared.node.Node.{Node}
+use Rattle.awk_compile.specs.declared.node.Operand.{Operand}
 use Rattle.awk_compile.specs.declared.builder.Builder.{Builder}
 use Rattle.awk_compile.specs.declared.builder.Exits.{Exits}
 pub use Rattle.awk_compile.specs.definitions.States.{IsScalar, AreScalars, IsIn, AreFor}
-use Rattle.awk_compile.specs.definitions.Nodes.{Tables, Cont, first, operands, made, level, cont_at, IsOrdered, CallsFit, AllCallsFit}
+use Rattle.awk_compile.specs.definitions.Nodes.{Tables, Cont, operand_value, first, operands, made, level, cont_at, IsOrdered, CallsFit, AllCallsFit}
 
 -- which parameters of the functions are arrays
 
@@ -119,6 +120,20 @@ pub record IsVariableOf (kinds : ProgramKinds) (parameters : List FormalParamete
 pub record FindsVariable (kinds : ProgramKinds) (parameters : List FormalParameter) (old new : Builder) (v : Variable) (x : List ℕ) : Type 0 where
   pub extends : Extends old new
   pub is : IsVariableOf kinds parameters new v x
+
+-- the variable that an expression is
+pub record FindsNamed (kinds : ProgramKinds) (parameters : List FormalParameter) (old new : Builder) (v : Variable) (e : Expr) : Type 0 where
+  pub name : List ℕ
+  pub is : e ≡ Name name
+  pub finds : FindsVariable kinds parameters old new v name
+
+-- an operand that is read where it stands is what an expression is, now and later
+pub record IsOperandOf (kinds : ProgramKinds) (parameters : List FormalParameter) (b : Builder) (a : Operand) (e : Expr) : Type 0 where
+  pub is : (p : Program kinds) → Grows b p.all → (n : ℕ) (s : State) → IsIn p.tables parameters n s → operand_value p.tables.names a s ≡ eval p.functions e s
+
+pub record FindsAnOperand (kinds : ProgramKinds) (parameters : List FormalParameter) (old new : Builder) (a : Operand) (e : Expr) : Type 0 where
+  pub extends : Extends old new
+  pub is : IsOperandOf kinds parameters new a e
 
 -- an array is what a name stands for in a body with these parameters
 pub record IsArrayOf (kinds : ProgramKinds) (parameters : List FormalParameter) (a : Array) (x : List ℕ) : Type 0 where

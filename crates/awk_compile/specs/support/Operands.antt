@@ -1,8 +1,12 @@
 -- What is pushed for operators and operands.
-use Rattle.std.specs.Prelude.{◌≡◌, ℕ, pos, Bool, true, false, List, Option, Some, None}
+use Rattle.std.specs.Prelude.{◌≡◌, ℕ, pos, Bool, true, false, not, ◌&&◌, is_none, List, Option, Some, None}
 use Rattle.awk_value.specs.declared.value.Value.TheVariants as value
 use Rattle.awk_lex.specs.declared.token.BuiltIn.{BuiltIn}
 use Rattle.awk_lex.specs.declared.token.BuiltIn.TheVariants as built_in
+use Rattle.awk_lex.specs.declared.token.AssignmentOperator.{AssignmentOperator}
+use Rattle.awk_lex.specs.declared.token.AssignmentOperator.TheVariants as assignment
+use Rattle.awk_lex.specs.declared.token.IncrementOperator.{IncrementOperator}
+use Rattle.awk_lex.specs.declared.token.IncrementOperator.TheVariants.{Increment, Decrement}
 use Rattle.awk_lex.specs.declared.token.Operator.{Operator}
 use Rattle.awk_lex.specs.declared.token.Operator.TheVariants.{Matches, NotMatches, And, Or}
 use Rattle.awk_grammar.specs.declared.tree.UnaryOperator.{UnaryOperator}
@@ -36,6 +40,14 @@ abbrev pub matching_operator : BinaryOperator → Option Operator
 matching_operator (Infix Matches) = Some Matches
 matching_operator (Infix NotMatches) = Some NotMatches
 matching_operator o = None
+
+abbrev pub is_strict : BinaryOperator → Bool
+is_strict o = not (is_and o) && (not (is_or o) && is_none (matching_operator o))
+
+-- the operator that assigns what `++` or `--` makes
+abbrev pub assigned_by_one : IncrementOperator → AssignmentOperator
+assigned_by_one Increment = assignment.Add
+assigned_by_one Decrement = assignment.Subtract
 
 abbrev pub matching : Operator → Option ℕ → ValueNode
 matching o (Some i) = v.MatchesEre o i

@@ -5,11 +5,14 @@ use Rattle.awk_kinds.specs.definitions.Kinds.{FormalParameter}
 use Rattle.awk_kinds.specs.definitions.Signatures.{ProgramKinds}
 use Rattle.awk_compile.specs.declared.builder.Builder.{Builder}
 use Rattle.awk_compile.specs.declared.scope.Scope.{Scope}
-use Rattle.awk_grammar.specs.Tree.{Expr, OptionalExpr}
+use Rattle.awk_grammar.specs.Tree.{Expr, OptionalExpr, Expression, Simple}
 use Rattle.awk_semantics.specs.definitions.BuiltIns.{bare_name}
 use Rattle.awk_storage.specs.declared.position.Array.{Array}
 use Rattle.awk_storage.specs.declared.position.Place.{Place}
-use Rattle.awk_compile.specs.support.Builds.{NamesArray, Part, Builds as BuildsWith, FindsPlace as FindsPlaceWith, FindsOptionalPlace as FindsOptionalPlaceWith}
+use Rattle.awk_storage.specs.declared.position.Variable.{Variable}
+use Rattle.awk_compile.specs.declared.builder.Exits.{Exits}
+use Rattle.awk_compile.specs.declared.node.Operand.{Operand}
+use Rattle.awk_compile.specs.support.Builds.{NamesArray, Part, Execute, Extends, Builds as BuildsWith, FindsPlace as FindsPlaceWith, FindsOptionalPlace as FindsOptionalPlaceWith, FindsNamed, FindsAnOperand}
 
 abbrev pub given_parameters : Option (Bor (List FormalParameter)) → List FormalParameter
 given_parameters None = []
@@ -37,3 +40,18 @@ MeasuredBy kinds parameters array None = array ≡ None
 
 abbrev pub Measures : Scope → Option Array → Expr → Type 0
 Measures scope array e = MeasuredBy scope.kinds.now (parameters_of scope) array (bare_name e)
+
+-- the variable that an expression is there, if it is one
+abbrev pub FindsName : Scope → (old new : Builder) → Option Variable → Expr → Type 0
+FindsName scope old new None e = new ≡ old
+FindsName scope old new (Some v) e = FindsNamed scope.kinds.now (parameters_of scope) old new v e
+
+-- the operand that an expression is there, if it is one
+abbrev pub FindsOperand : Scope → (old new : Builder) → Option Operand → Expr → Type 0
+FindsOperand scope old new None e = new ≡ old
+FindsOperand scope old new (Some a) e = FindsAnOperand scope.kinds.now (parameters_of scope) old new a e
+
+-- an expression whose value is of no use is one node there, if it is built
+abbrev pub LowersChange : Scope → (old new : Builder) → Option ℕ → Expr → Exits → Type 0
+LowersChange scope old new None e exits = Extends old new
+LowersChange scope old new (Some place) e exits = Builds scope old new place (Execute (Simple (Expression e)) exits)

@@ -1,9 +1,10 @@
-use Rattle.std.proofs.Common.{Option, ◌≡◌, ℕ, suc, ◌-◌, Bool, true, List, [], rules, get_or, drop, length, sym, subst, ap, ◌∙◌, true≢false, arith, to_z, of_z}
+use Rattle.std.proofs.Common.{Option, ◌≡◌, ℕ, suc, ◌-◌, Bool, true, false, List, [], rules, get_or, drop, length, refl, sym, subst, ap, ◌∙◌, true≢false, arith, to_z, of_z}
 use Rattle.awk_grammar.specs.declared.tree.Expr.{Expr as CodeExpr}
 use Rattle.awk_grammar.specs.declared.tree.Expr.TheVariants as code
 use Rattle.std.specs.Global.{Box}
 use mir.Syntax.{w128}
 use Rattle.awk_grammar.specs.declared.tree.Expr.TheViews.{the_lemmas}
+use Rattle.awk_grammar.specs.declared.tree.BinaryOperator.TheVariants.{Concatenate}
 use Rattle.awk_grammar.specs.Tree as tree
 use Rattle.awk_grammar.specs.View.{expr_of, exprs_of, optional_expr_of}
 use Rattle.std.proofs.lemmas.Option.{get_or_from_slice_get}
@@ -12,10 +13,15 @@ use Rattle.awk_kinds.specs.definitions.Signatures.{ProgramKinds}
 use Rattle.awk_kinds.proofs.Rows.{row_is_list}
 use Rattle.awk_compile.specs.declared.builder.Builder.{Builder}
 use Rattle.awk_compile.specs.support.Builds.{array_parameters_in, Part, EvaluateAll, EvaluateArguments, Builds as Builds'}
+use Rattle.awk_compile.specs.support.Appends.{without_first}
+use Rattle.awk_compile.specs.support.Parts.{is_concatenation, parts_of}
 use Rattle.awk_compile.specs.support.Calls.{arrays_of, is_array_at, roles_from}
 use Rattle.awk_compile.specs.support.Scopes.{Builds}
 use Rattle.awk_compile.proofs.Building.{ok_map, stands, arrays_same}
 use Rattle.awk_compile.proofs.ExpressionForms.{number_lowered, strict_lowered, string_lowered, ere_lowered, length_lowered, element_lowered, field_lowered, group_lowered, unary_lowered, membership_lowered, list_membership_lowered, assign_lowered, pre_increment_lowered, post_increment_lowered}
+use Rattle.awk_compile.proofs.InPlaceForms.{nothing_before, operated_with_lowered, operated_on_lowered, compared_with_lowered, compared_lowered}
+use Rattle.awk_compile.proofs.AppendForms.{plain_append, append_lowered, behind_concatenation, behind_other}
+use Rattle.awk_compile.proofs.PartForms.{field_at_lowered, part_lowered, whole_part_lowered, long_lowered}
 use Rattle.awk_compile.proofs.PatternForms.{matched, unless_ere_lowered, ere_stays}
 use Rattle.awk_compile.proofs.ConditionForms.{test_lowered, group_tested, not_tested, and_tested, or_tested, and_lowered, or_lowered, conditional_lowered}
 use Rattle.awk_compile.proofs.ListForms.{none_lowered, more_lowered, count_exprs, exprs_over, exprs_at, some_expr, one_expr, two_exprs, three_exprs, key_lowered}
@@ -46,11 +52,11 @@ lower-returns-in_ok-read-in-Element t c =
     let is : expr_of c.args.e.now ≡ tree.Element c.in-Element.x (exprs_of c.in-Element.list.items) = search (rules, the_lemmas, row_is_list) in
     rw is (ok_map _ (λ i q. element_lowered c.requires (rw c.as_slice.ensures at c.in_ok-array-in-Element.ensures) c.in_ok-read-in-Element.ensures q) (rw c.deref.ensures.value at c.lower_key.ensures))
 
-pub lower-returns-in_ok-read-in-Field : goal.lower-returns-in_ok-read-in-Field
-lower-returns-in_ok-read-in-Field t c = rw (ap expr_of c.in-Field.is) (ok_map _ (λ i q. field_lowered c.requires c.in_ok-read-in-Field.ensures q) (rw c.deref-in-Field.ensures at c.lower.ensures))
+pub lower-returns-in-Field : goal.lower-returns-in-Field
+lower-returns-in-Field t c = rw (ap expr_of c.in-Field.is) (rw c.deref-in-Field.ensures at c.lower_field.ensures)
 
 pub lower-returns-in-Group : goal.lower-returns-in-Group
-lower-returns-in-Group t c = rw (ap expr_of c.in-Group.is) (ok_map _ (λ i q. group_lowered q) (rw c.deref-in-Group.ensures at c.lower-in-Group.ensures))
+lower-returns-in-Group t c = rw (ap expr_of c.in-Group.is) (ok_map _ (λ i q. group_lowered q) (rw c.deref-in-Group.ensures at c.lower.ensures))
 
 pub lower-returns-in_ok-change-in-Unary : goal.lower-returns-in_ok-change-in-Unary
 lower-returns-in_ok-change-in-Unary t c = rw (ap expr_of c.in-Unary.is) (ok_map _ (λ i q. unary_lowered c.in-Unary.o c.requires c.in_ok-change-in-Unary.ensures q) (rw c.deref-in-Unary.ensures at c.lower-in-Unary.ensures))
@@ -72,7 +78,56 @@ lower-returns-in_ok-other-in-Conditional t c =
 pub lower-returns-in_ok-right-in-Assign : goal.lower-returns-in_ok-right-in-Assign
 lower-returns-in_ok-right-in-Assign t c =
     rw (ap expr_of c.in-Assign.is)
-    (ok_map _ (λ i q. assign_lowered c.requires (rw c.deref-in-Assign.ensures at c.in_ok-target-in-Assign.ensures) c.in-Assign.o c.in_ok-assign-in-Assign.ensures (rw c.deref-in-Assign-2.ensures at c.in_ok-right-in-Assign.ensures) q) (rw c.deref-in-Assign-3.ensures at c.lower_operand.ensures))
+    (ok_map _ (λ i q. assign_lowered c.requires (rw c.deref-in-Assign-3.ensures at c.in_ok-target-in-Assign.ensures) c.in-Assign.o c.in_ok-assign-in-Assign.ensures (rw c.deref-in-Assign-4.ensures at c.in_ok-right-in-Assign.ensures) q) (rw c.deref-in-Assign-5.ensures at c.lower_operand.ensures))
+
+pub lower-returns-then-is_append : goal.lower-returns-then-is_append
+lower-returns-then-is_append t c =
+    let is = rw (c.deref-in-Assign.ensures, c.deref-in-Assign-2.ensures) at (c.is_append.ensures c.if-is_append.true) in
+    rw (ap expr_of c.in-Assign.is, plain_append c.in-Assign.o _ _ is) (rw (c.deref-then-is_append.ensures, c.deref-then-is_append-2.ensures) at c.lower_append.ensures)
+
+pub lower_append-returns : goal.lower_append-returns
+lower_append-returns t c =
+    let place : expr_of c.args.place.now ≡ tree.Name c.in-Name.x = ap expr_of c.in-Name.is in
+    rw place (ok_map _ (λ i q. append_lowered c.in-Name.x (expr_of c.args.e.now) c.requires.stands (rw c.as_slice.ensures at c.in_ok-variable.ensures) (rw place at c.requires.append) c.in_ok-append.ensures c.in_ok-right.ensures q) c.push_name.ensures)
+
+pub lower_behind_first-returns-then-not-is_concatenation : goal.lower_behind_first-returns-then-not-is_concatenation
+lower_behind_first-returns-then-not-is_concatenation t c =
+    let x = c.in-Binary-Concatenate-default-default in
+    let is : expr_of c.args.e.now ≡ tree.Binary Concatenate (expr_of x.a.value) (expr_of x.b.value) = search (rules, the_lemmas) in
+    let other : is_concatenation (expr_of x.a.value) ≡ false = sym (rw c.deref.ensures at c.is_concatenation.ensures) ∙ c.if-not-is_concatenation.true in
+    let whole : without_first (expr_of c.args.e.now) ≡ expr_of x.b.value = ap without_first is ∙ behind_other (expr_of x.a.value) (expr_of x.b.value) other in
+    rw whole (rw c.deref-then-not-is_concatenation.ensures at c.lower.ensures)
+
+pub lower_behind_first-returns : goal.lower_behind_first-returns
+lower_behind_first-returns t c =
+    let x = c.in-Binary-Concatenate-default-default in
+    let is : expr_of c.args.e.now ≡ tree.Binary Concatenate (expr_of x.a.value) (expr_of x.b.value) = search (rules, the_lemmas) in
+    let more : is_concatenation (expr_of x.a.value) ≡ true = sym (rw c.deref.ensures at c.is_concatenation.ensures) ∙ c.if-not-is_concatenation.false in
+    let whole : without_first (expr_of c.args.e.now) ≡ tree.Binary Concatenate (without_first (expr_of x.a.value)) (expr_of x.b.value) = ap without_first is ∙ behind_concatenation (expr_of x.a.value) (expr_of x.b.value) more in
+    rw whole (ok_map _ (λ i q. strict_lowered Concatenate refl refl refl c.requires c.in_ok-operate.ensures (rw c.deref-2.ensures at c.in_ok-last.ensures) q) (rw c.deref-3.ensures at c.lower_behind_first.ensures))
+
+-- the parts of a concatenation
+
+pub lower_parts-returns-then-is_concatenation : goal.lower_parts-returns-then-is_concatenation
+lower_parts-returns-then-is_concatenation t c =
+    let x = c.in-Binary-Concatenate-default-default in
+    let is : expr_of c.args.e.now ≡ tree.Binary Concatenate (expr_of x.a.value) (expr_of x.b.value) = search (rules, the_lemmas) in
+    rw (ap parts_of is) (ok_map _ (λ i q. part_lowered (rw c.deref.ensures at c.in_ok-last.ensures) q) (rw c.deref-then-is_concatenation.ensures at c.lower_parts.ensures))
+
+pub lower_parts-returns-else-is_concatenation : goal.lower_parts-returns-else-is_concatenation
+lower_parts-returns-else-is_concatenation t c =
+    let x = c.in-Binary-Concatenate-default-default in
+    let is : expr_of c.args.e.now ≡ tree.Binary Concatenate (expr_of x.a.value) (expr_of x.b.value) = search (rules, the_lemmas) in
+    let other : is_concatenation (expr_of x.a.value) ≡ false = sym (rw c.deref-2.ensures at c.is_concatenation.ensures) ∙ c.if-is_concatenation.false in
+    rw (ap parts_of is) (ok_map _ (λ i q. part_lowered (rw c.deref.ensures at c.in_ok-last.ensures) (whole_part_lowered (expr_of x.a.value) other q)) (rw c.deref-else-is_concatenation.ensures at c.lower-else-is_concatenation.ensures))
+
+pub lower_field-returns-in_default : goal.lower_field-returns-in_default
+lower_field-returns-in_default t c =
+    let none = rw c.in_default.is at c.in_ok-operand.ensures in
+    ok_map _ (λ i q. field_lowered c.requires (nothing_before none c.in_ok-read.ensures) q) c.lower.ensures
+
+pub lower_field-returns : goal.lower_field-returns
+lower_field-returns t c = ok_map _ (λ i q. field_at_lowered c.requires (rw c.in-Some.is at c.in_ok-operand.ensures) q) c.push_value-2.ensures
 
 pub lower-returns-in_ok-increment-in-PreIncrement : goal.lower-returns-in_ok-increment-in-PreIncrement
 lower-returns-in_ok-increment-in-PreIncrement t c =
@@ -231,10 +286,52 @@ lower_binary-returns-in-Some t c =
     rw (ap expr_of c.in-Binary.is)
     (ok_map _ (λ i q. matched c.in-Binary.o c.in-Some.o c.in_ok-pattern.pattern (sym c.in-Some.ensures) c.requires (rw c.deref-in-Some.ensures at c.in_ok-pattern.ensures) (rw c.matching.ensures at c.in_ok-matches.ensures) (rw c.deref-in-Some-2.ensures at c.in_ok-right.ensures) q) (rw c.deref-in-Some-3.ensures at c.lower.ensures))
 
+-- two operands
+
+pub lower_binary-returns-then-count-gt2 : goal.lower_binary-returns-then-count-gt2
+lower_binary-returns-then-count-gt2 t c =
+    let is : expr_of c.args.e.now ≡ tree.Binary c.in-Binary.o (expr_of c.in-Binary.a.value) (expr_of c.in-Binary.b.value) = ap expr_of c.in-Binary.is in
+    rw is (ok_map _ (λ i q. long_lowered c.in-Binary.o (expr_of c.in-Binary.a.value) (expr_of c.in-Binary.b.value) c.requires c.if-count-gt2.true (rw is at c.in_ok-count.ensures) c.in_ok-join.ensures q) (rw is at c.lower_parts.ensures))
+
+pub lower_binary-returns-in_default-2 : goal.lower_binary-returns-in_default-2
+lower_binary-returns-in_default-2 t c =
+    let none = rw c.in_default-2.is at c.in_ok-right-2.ensures in
+    rw (ap expr_of c.in-Binary.is)
+    (ok_map _ (λ i q. strict_lowered c.in-Binary.o (sym c.is_and.ensures ∙ c.if-is_and.false) (sym c.is_or.ensures ∙ c.if-is_or.false) (sym c.in_default-matching_operator.ensures) c.requires (nothing_before none c.in_ok-operate.ensures) (rw c.deref-in_default-2.ensures at c.in_ok-right-3.ensures) q) (rw c.deref-in_default-2-2.ensures at c.lower-in_default-2-2.ensures))
+
+pub lower_binary-returns-in_default-3 : goal.lower_binary-returns-in_default-3
+lower_binary-returns-in_default-3 t c =
+    let none = rw c.in_default-3.is at c.in_ok-left.ensures in
+    let right = rw (c.in-Some-2.is, c.deref-2.ensures) at c.in_ok-right-2.ensures in
+    rw (ap expr_of c.in-Binary.is)
+    (ok_map _ (λ i q. operated_with_lowered c.in-Binary.o (sym c.is_and.ensures ∙ c.if-is_and.false) (sym c.is_or.ensures ∙ c.if-is_or.false) (sym c.in_default-matching_operator.ensures) c.requires right (nothing_before none c.in_ok-operate-2.ensures) q) (rw c.deref-in_default-3.ensures at c.lower-in_default-3.ensures))
+
 pub lower_binary-returns : goal.lower_binary-returns
 lower_binary-returns t c =
+    let right = rw (c.in-Some-2.is, c.deref-2.ensures) at c.in_ok-right-2.ensures in
+    let left = rw (c.in-Some-3.is, c.deref-3.ensures) at c.in_ok-left.ensures in
     rw (ap expr_of c.in-Binary.is)
-    (ok_map _ (λ i q. strict_lowered c.in-Binary.o (sym c.is_and.ensures ∙ c.if-is_and.false) (sym c.is_or.ensures ∙ c.if-is_or.false) (sym c.in_default-matching_operator.ensures) c.requires c.in_ok-operate.ensures (rw c.deref-2.ensures at c.in_ok-right-2.ensures) q) (rw c.deref-3.ensures at c.lower-3.ensures))
+    (ok_map _ (λ i q. operated_on_lowered c.in-Binary.o (sym c.is_and.ensures ∙ c.if-is_and.false) (sym c.is_or.ensures ∙ c.if-is_or.false) (sym c.in_default-matching_operator.ensures) c.requires right left q) c.push_value-2.ensures)
+
+-- the test of what an operator makes
+
+pub lower_comparison-returns-in_default-2 : goal.lower_comparison-returns-in_default-2
+lower_comparison-returns-in_default-2 t c =
+    let none = rw c.in_default-2.is at c.in_ok-right.ensures in
+    ok_map _ (λ i q. test_lowered c.requires.here c.requires.other (nothing_before none c.in_ok-test.ensures) q) c.lower.ensures
+
+pub lower_comparison-returns-in_default-3 : goal.lower_comparison-returns-in_default-3
+lower_comparison-returns-in_default-3 t c =
+    let none = rw c.in_default-3.is at c.in_ok-left.ensures in
+    let right = rw (c.in-Some.is, c.deref.ensures) at c.in_ok-right.ensures in
+    rw (ap expr_of c.in-Binary.is)
+    (ok_map _ (λ i q. compared_with_lowered c.in-Binary.o (sym c.is_strict.ensures ∙ c.if-not-is_strict.false) c.requires.here c.requires.other right (nothing_before none c.in_ok-test-2.ensures) q) (rw c.deref-in_default-3.ensures at c.lower-in_default-3.ensures))
+
+pub lower_comparison-returns : goal.lower_comparison-returns
+lower_comparison-returns t c =
+    let right = rw (c.in-Some.is, c.deref.ensures) at c.in_ok-right.ensures in
+    let left = rw (c.in-Some-2.is, c.deref-2.ensures) at c.in_ok-left.ensures in
+    rw (ap expr_of c.in-Binary.is) (ok_map _ (λ i q. compared_lowered c.in-Binary.o (sym c.is_strict.ensures ∙ c.if-not-is_strict.false) c.requires.here c.requires.other right left q) c.push-2.ensures)
 
 -- calls
 

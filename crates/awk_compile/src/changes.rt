@@ -1,0 +1,134 @@
+// Statements that change a variable by what is read where it stands, each as one node.
+
+ghost use Rattle.std.specs.Prelude.{◌≡◌, IfOk};
+ghost use Rattle.awk_grammar.specs.Tree.{Assign, PreIncrement, PostIncrement};
+ghost use Rattle.awk_grammar.specs.View.{expr_of};
+ghost use Rattle.awk_compile.specs.support.Builds.{ExitsStand};
+ghost use Rattle.awk_compile.specs.support.Operands.{assigned_by_one};
+ghost use Rattle.awk_compile.specs.support.Scopes.{LowersChange};
+
+use crate::appends::is_append;
+use crate::builder::{Builder, Exits};
+use crate::node::{Node, Operand};
+use crate::scope::Scope;
+use awk_grammar::tree::Expr;
+use awk_lex::token::{AssignmentOperator, IncrementOperator};
+use awk_value::Value;
+use std::alloc::AllocError;
+
+/// The operator that assigns what `++` or `--` makes.
+fn assigned_by_one(o: IncrementOperator) -> AssignmentOperator
+    ensures { result ≡ assigned_by_one o }
+{
+    match o {
+        IncrementOperator::Increment => AssignmentOperator::Add,
+        IncrementOperator::Decrement => AssignmentOperator::Subtract,
+    }
+}
+
+impl Builder {
+    /// An assignment of an operand to a variable.
+    fn lower_update(
+        &mut self,
+        scope: &Scope,
+        o: AssignmentOperator,
+        place: &Expr,
+        right: &Expr,
+        exits: Exits,
+    ) -> Result<Option<u32>, AllocError>
+        requires { ExitsStand exits self.old }
+        ensures { IfOk result (λ place'. LowersChange scope.now self.old self.new place' (Assign o (expr_of place.now) (expr_of right.now)) exits) }
+    {
+        let Some(operand) = self.operand_of(scope, right)? else {
+            return self.lower_assignment(scope, o, place, right, exits);
+        };
+        let Some(variable) = self.name_of(scope, place)? else {
+            return Ok(None);
+        };
+        let update = self.push(Node::Update(o, variable, operand, exits.next))?;
+        Ok(Some(update))
+    }
+
+    /// An assignment of any value to a variable; none where it appends to it.
+    fn lower_assignment(
+        &mut self,
+        scope: &Scope,
+        o: AssignmentOperator,
+        place: &Expr,
+        right: &Expr,
+        exits: Exits,
+    ) -> Result<Option<u32>, AllocError>
+        requires { ExitsStand exits self.old }
+        ensures { IfOk result (λ place'. LowersChange scope.now self.old self.new place' (Assign o (expr_of place.now) (expr_of right.now)) exits) }
+    {
+        if is_append(o, place, right) {
+            return Ok(None);
+        }
+        let Some(variable) = self.name_of(scope, place)? else {
+            return Ok(None);
+        };
+        let assign = self.push(Node::Assign(o, variable, exits.next))?;
+        let value = self.lower(scope, right, assign)?;
+        let step = self.step(value)?;
+        Ok(Some(step))
+    }
+
+    /// A variable that is raised or lowered by 1.
+    fn lower_pre_increment(
+        &mut self,
+        scope: &Scope,
+        o: IncrementOperator,
+        place: &Expr,
+        exits: Exits,
+    ) -> Result<Option<u32>, AllocError>
+        requires { ExitsStand exits self.old }
+        ensures { IfOk result (λ place'. LowersChange scope.now self.old self.new place' (PreIncrement o (expr_of place.now)) exits) }
+    {
+        let Some(variable) = self.name_of(scope, place)? else {
+            return Ok(None);
+        };
+        let one = Operand::Constant(Value::Number(1));
+        let update = self.push(Node::Update(assigned_by_one(o), variable, one, exits.next))?;
+        Ok(Some(update))
+    }
+
+    /// The same where the number before is the value.
+    fn lower_post_increment(
+        &mut self,
+        scope: &Scope,
+        o: IncrementOperator,
+        place: &Expr,
+        exits: Exits,
+    ) -> Result<Option<u32>, AllocError>
+        requires { ExitsStand exits self.old }
+        ensures { IfOk result (λ place'. LowersChange scope.now self.old self.new place' (PostIncrement o (expr_of place.now)) exits) }
+    {
+        let Some(variable) = self.name_of(scope, place)? else {
+            return Ok(None);
+        };
+        let increment = self.push(Node::Increment(o, variable, exits.next))?;
+        Ok(Some(increment))
+    }
+
+    /// An expression whose value is of no use, where it changes a variable by what is read where it stands; none of any other one.
+    ///
+    /// # Errors
+    ///
+    /// Where memory is refused, or places or numbers run out.
+    pub(crate) fn lower_change(
+        &mut self,
+        scope: &Scope,
+        e: &Expr,
+        exits: Exits,
+    ) -> Result<Option<u32>, AllocError>
+        requires { ExitsStand exits self.old }
+        ensures { IfOk result (λ place. LowersChange scope.now self.old self.new place (expr_of e.now) exits) }
+    {
+        match e {
+            Expr::Assign(o, place, right) => self.lower_update(scope, *o, place, right, exits),
+            Expr::PreIncrement(o, place) => self.lower_pre_increment(scope, *o, place, exits),
+            Expr::PostIncrement(o, place) => self.lower_post_increment(scope, *o, place, exits),
+            _ => Ok(None),
+        }
+    }
+}
