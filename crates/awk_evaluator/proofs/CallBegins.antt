@@ -1,20 +1,19 @@
 -- What the parts of a call's beginning do together.
-use Rattle.std.proofs.Common.{◌≡◌, ℕ, ◌<◌, ◌≤◌, Bool, List, [], ◌∷◌, ◌++◌, length, map, drop, take, reverse, Result, Ok, Err, refl, sym, ap, ◌∙◌, subst, arith}
-use Rattle.std.proofs.lemmas.List.{reverse-append, reverse-reverse, take_at, drop_at}
+use Rattle.std.proofs.Common.{◌≡◌, ℕ, Bool, List, [], ◌∷◌, ◌++◌, length, map, drop, take, reverse, Result, Ok, Err, refl, sym, ap, ◌∙◌, subst, arith}
+use Rattle.std.proofs.lemmas.List.{reverse-reverse, take_at, drop_at}
 use Rattle.awk_value.specs.declared.value.Value.{Value}
 use Rattle.awk_kinds.specs.Kinds.{FormalParameter}
 use Rattle.awk_semantics.specs.declared.halt.Halt.{Halt}
 use Rattle.awk_semantics.specs.declared.halt.Halt.TheVariants as halt
 use Rattle.awk_semantics.specs.declared.fault.Fault.TheVariants.{OutOfMemory}
-use Rattle.awk_semantics.specs.declared.local.Local.{Local}
 use Rattle.awk_semantics.specs.declared.local.Local.TheVariants as local
-use Rattle.awk_semantics.specs.State.{State, Run, ◌>>=◌}
+use Rattle.awk_semantics.specs.State.{State, ◌>>=◌}
 use Rattle.awk_semantics.specs.Primitives.{check_height, spend, enter}
 use Rattle.awk_storage.specs.support.Frames.{FramesView}
 use Rattle.awk_compile.specs.declared.node.ArgumentForm.{ArgumentForm}
 use Rattle.awk_compile.specs.declared.node.ArgumentForm.TheVariants as form
 use Rattle.awk_compile.specs.declared.plan.Function.{Function as PlannedFunction}
-use Rattle.awk_compile.specs.Nodes.{behind_form, given_by, locals_by, taken, values_among}
+use Rattle.awk_compile.specs.Nodes.{given_by, locals_by, taken, values_among}
 use Rattle.awk_runtime.specs.declared.runtime.Runtime.{Runtime}
 use Rattle.awk_runtime.specs.Simulation.{OwnRelation, Changes, Spends}
 use Rattle.awk_runtime.specs.Calling.{without_given, EntersCall}
@@ -25,7 +24,7 @@ use Rattle.awk_evaluator.specs.declared.entry.Entry.{Entry as CodeEntry}
 use Rattle.awk_evaluator.specs.declared.machine.Machine.{Machine}
 use Rattle.awk_evaluator.specs.Operands.{OperandsView, all_of}
 use Rattle.awk_evaluator.specs.Rest.{Entry, seen}
-use Rattle.awk_evaluator.specs.Moves.{seen_of, stack_of}
+use Rattle.awk_evaluator.specs.Moves.{stack_of}
 use Rattle.awk_evaluator.specs.Calling.{kept_by, kept_all, with_all, GivesAll, begin_call, BeginsCall}
 use Rattle.awk_evaluator.proofs.Moving.{memory_behind_changes}
 use Rattle.awk_evaluator.proofs.Returning.{newest_seen}

@@ -1,21 +1,18 @@
 -- A call: its entry is put on the stack, and the place of the body is next.
-use Rattle.std.proofs.Common.{◌≡◌, ℕ, zero, suc, ◌<◌, ◌≤◌, Bool, List, [], ◌∷◌, ◌++◌, length, drop, reverse, map, slice_get, Some, Result, Ok, Err, refl, sym, ap, ◌∙◌, subst, arith}
+use Rattle.std.proofs.Common.{◌≡◌, ℕ, zero, suc, ◌<◌, ◌≤◌, List, [], ◌∷◌, drop, slice_get, Some, Result, Ok, Err, refl, sym, ap, ◌∙◌, subst, arith}
 use Rattle.std.specs.Global.{Vec}
 use Rattle.std.specs.Option.{option_map}
-use Rattle.std.proofs.lemmas.List.{reverse-append}
 use Rattle.std.proofs.lemmas.Option.{slice_get-map}
 use Rattle.awk_value.specs.declared.value.Value.{Value}
 use Rattle.awk_value.specs.declared.value.Value.TheVariants as value
 use Rattle.awk_channels.specs.WorldState.{WorldState}
-use Rattle.awk_kinds.specs.Kinds.{FormalParameter, Definition}
+use Rattle.awk_kinds.specs.Kinds.{Definition}
 use Rattle.awk_semantics.specs.declared.halt.Halt.{Halt}
-use Rattle.awk_semantics.specs.declared.halt.Halt.TheVariants as halt
-use Rattle.awk_semantics.specs.declared.fault.Fault.TheVariants.{OutOfMemory}
 use Rattle.awk_semantics.specs.declared.local.Local.{Local}
 use Rattle.awk_semantics.specs.State.{State, Run, ◌>>=◌, go_on, ret}
-use Rattle.awk_semantics.specs.Keeps.{Scope, scope_of, Keeps}
+use Rattle.awk_semantics.specs.Keeps.{Scope}
 use Rattle.awk_semantics.specs.Primitives.{check_height, spend_of, spend, enter, leave}
-use Rattle.awk_semantics.specs.Calls.{definition_of, body_height, call_within, functions_within}
+use Rattle.awk_semantics.specs.Calls.{call_within, functions_within}
 use Rattle.awk_semantics.proofs.KeepsForms.{keeps_check_height, keeps_spend}
 use Rattle.awk_compile.specs.declared.node.ArgumentForm.{ArgumentForm}
 use Rattle.awk_compile.specs.declared.node.ArgumentForm.TheVariants as form
@@ -24,20 +21,18 @@ use Rattle.awk_compile.specs.declared.node.Node.TheVariants as n
 use Rattle.awk_compile.specs.declared.node.ValueNode.TheVariants as v
 use Rattle.awk_compile.specs.declared.plan.Function.{Function as PlannedFunction}
 use Rattle.awk_compile.specs.declared.plan.Plan.{Plan}
-use Rattle.awk_compile.specs.Nodes.{Tables, Cont, function_at, given_by, local_by, behind_form, locals_by, call_at, taken, values_among, FormsFit, CallFits}
+use Rattle.awk_compile.specs.Nodes.{Tables, function_at, given_by, local_by, behind_form, locals_by, call_at, taken, values_among, FormsFit, CallFits}
 use Rattle.awk_compile.specs.Plans.{array_parameters}
 use Rattle.awk_compile.proofs.Calculus.{assoc_at, given, later_same, later_kept, first_same}
 use Rattle.awk_compile.proofs.Calling.{locals_fit}
 use Rattle.awk_runtime.specs.declared.runtime.Runtime.{Runtime}
-use Rattle.awk_runtime.specs.Simulation.{OwnRelation, Simulates, Changes}
+use Rattle.awk_runtime.specs.Simulation.{Simulates, Changes}
 use Rattle.awk_runtime.proofs.Composition.{then_simulates, ends_simulates, change_simulates}
 use Rattle.awk_runtime.proofs.CallLemmas.{given_later}
-use Rattle.awk_evaluator.specs.declared.entry.Entry.{Entry as CodeEntry}
 use Rattle.awk_evaluator.specs.declared.machine.Machine.{Machine}
 use Rattle.awk_evaluator.specs.declared.machine.Move.TheVariants as move
-use Rattle.awk_evaluator.specs.Operands.{OperandsView}
-use Rattle.awk_evaluator.specs.Rest.{StandsFor, PlanStands, tables_in, Entry, Bound, Bounds, IsAbove, Start, AtPlace, AtNode, cont, begun, resume, Rest}
-use Rattle.awk_evaluator.specs.Moves.{seen_of, stack_of, Moves, GivesBack}
+use Rattle.awk_evaluator.specs.Rest.{StandsFor, tables_in, Entry, Bound, Bounds, IsAbove, AtPlace, AtNode, cont, begun, resume, Rest}
+use Rattle.awk_evaluator.specs.Moves.{stack_of, Moves}
 use Rattle.awk_evaluator.specs.Calling.{begin_call, BeginsCall}
 use Rattle.awk_evaluator.proofs.Resting.{same_simulates, above_less}
 

@@ -2,6 +2,11 @@ pub mod Stacks
 pub mod Heights
 pub mod Resting
 pub mod Moving
+pub mod Changing
+pub mod QuickValues
+pub mod Joining
+pub mod Quickly
+pub mod QuickMoves
 pub mod CallMoves
 pub mod Returning
 pub mod KeysTaken

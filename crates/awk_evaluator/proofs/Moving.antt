@@ -1,5 +1,5 @@
 -- The moves.
-use Rattle.std.specs.Prelude.{◌==◌}
+use Rattle.std.specs.Prelude.{◌==◌, ◌<◌, if◌then◌else◌}
 use Rattle.std.proofs.lemmas.Bool.{eqb-true}
 use Rattle.std.proofs.Common.{◌≡◌, ◌≢◌, ℕ, zero, suc, ◌-◌, ◌≤◌, Bool, true, false, List, [], ◌∷◌, ◌++◌, length, drop, slice_get, Some, None, Result, Ok, Err, refl, sym, ap, ◌∙◌, subst, arith, get_or, inl, pos}
 use Rattle.awk_value.specs.declared.value.Value.{Value}
@@ -35,8 +35,9 @@ use Rattle.awk_evaluator.specs.declared.machine.Machine.{Machine}
 use Rattle.awk_evaluator.specs.declared.machine.Move.{Move}
 use Rattle.awk_evaluator.specs.declared.machine.Move.TheVariants as move
 use Rattle.awk_evaluator.specs.Operands.{OperandsView}
-use Rattle.awk_evaluator.specs.Rest.{IsSound, tables_in, Entry, Bound, Start, AtPlace, AtNode, cont, turn, begun, resume, Rest}
-use Rattle.awk_evaluator.specs.Moves.{seen_of, stack_of, IsIdle, Leads, Ends, MovesBy, Moves, Evaluates, Computes, Performs, GivesBackBy, GivesBack, Executes}
+use Rattle.awk_runtime.specs.Naming.{Naming}
+use Rattle.awk_evaluator.specs.Rest.{IsSound, PlanStands, tables_in, Entry, Bound, Start, AtPlace, AtNode, cont, turn, begun, resume, Rest}
+use Rattle.awk_evaluator.specs.Moves.{seen_of, stack_of, IsIdle, RestOf, Leads, Ends, Finishes, MovesBy, Moves, Evaluates, Computes, Performs, GivesBackBy, GivesBack, Executes}
 use Rattle.awk_evaluator.specs.Walks.{PutsKeys, TakesKey}
 use Rattle.awk_evaluator.proofs.Resting.{then_rest, ends_rest, same_rest, return_rest, return_stuck, over_rest, whole, turn_rest, turn_stuck}
 
@@ -55,10 +56,10 @@ memory_behind x = record { steps = x.steps; names = x.names; told = λ t. memory
 pub memory_behind_changes : {A : Type 0} {old new : Runtime} {a : A} {run : Run A} → Changes run old new (Ok a) → Changes run old new (Err (halt.Fault OutOfMemory))
 memory_behind_changes x = record { steps = x.steps; names = x.names; streams = x.streams; means = λ k. memory_logged (x.means k) }
 
-no_tables : Tables
+pub no_tables : Tables
 no_tables = record { names = []; eres = []; arrays = []; functions = [] }
 
-no_functions : Functions
+pub no_functions : Functions
 no_functions = functions_within [] 0
 
 -- what a test of a number says
@@ -92,7 +93,7 @@ module _ {is_logged : Type 0} {plan : Plan} (sound : IsSound plan) {at : ℕ} {n
       by (Ok (move.On i)) x = record { leads = place_leads x.leads; less = x.less at (sound.ordered at node is); calls = x.calls }
       by (Ok (move.Up i)) x = record { leads = place_leads x.leads; less = x.less }
       by (Ok (move.Back i)) x = record { leads = place_leads x.leads; less = x.less }
-      by (Ok (move.Over v)) x = place_ends x
+      by (Ok move.Over) x = record { calls = x.calls; ends = λ tables ds stands. place_rest (x.ends tables ds stands) }
       by (Err h) x = place_ends x
 
 module _ {is_logged : Type 0} {plan : Plan} {from : Start} where
@@ -187,10 +188,11 @@ module _ {is_logged : Type 0} {plan : Plan} {from : Start} where
                 (subst (λ (vs : List Value). Rest t ds plan is_logged (AtPlace i) vs (stack_of m') m'.runtime k new after r) g.2 d));
           };
         }
-        by (Ok (move.Over v)) g = record {
-          idle = g.2;
+        by (Ok move.Over) g = record {
+          calls = g.2;
           ends = λ tables ds stands.
               let t = tables_in m.runtime.names tables in
+              let v = first m'.operands.values in
               let none : stack_of m ≡ [] = sym stack ∙ ap (λ es. seen_of m1.operands es) g.1 in
               subst (λ (x : Runtime). Rest t ds plan is_logged from m.operands.values (stack_of m) m.runtime k x k (Ok v)) (sym same ∙ sym g.3)
               (subst (λ (es : List Entry). Rest t ds plan is_logged from m.operands.values es m.runtime k m.runtime k (Ok v)) (sym none)
@@ -215,6 +217,16 @@ ready_computed c ready = ready_same (c.changes no_tables no_functions).streams r
 next_turn : (c : ℕ) (t e : Run Value) → c ≢ 0 → next_key_by c t e ≡ t
 next_turn zero t e h = absurd (h refl)
 next_turn (suc c) t e h = refl
+
+-- what a test chooses
+
+pub chosen_below : {here other : ℕ} (t : Bool) {at : ℕ} → (here < at) × (other < at) → (if t then here else other) < at
+chosen_below true low = low.0
+chosen_below false low = low.1
+
+pub chosen_cont : (here other : ℕ) (tables : Tables) (ds : List Definition) (plan : Plan) (b : Bound) (t : Bool) (vs : List Value) → choose t (cont tables ds plan b here vs) (cont tables ds plan b other vs) ≡ cont tables ds plan b (if t then here else other) vs
+chosen_cont here other tables ds plan b true vs = refl
+chosen_cont here other tables ds plan b false vs = refl
 
 -- the nodes
 
@@ -269,11 +281,14 @@ module _ {is_logged : Type 0} {plan : Plan} where
         (λ tables ds b. ap (λ x. choose x (cont tables ds plan b here (drop 1 m.operands.values)) (cont tables ds plan b other (drop 1 m.operands.values))) e ∙ chosen tables ds b ∙ ap (λ (o : OperandsView). cont tables ds plan b i o.values) (sym operands))
         same (ap (λ es. seen_of m'.operands es) calls ∙ ap (λ (o : OperandsView). seen_of o m.calls) operands)
 
-    pub test_true : {m m' : Machine} {k : WorldState} → truth_of (first m.operands.values) ≡ true → m'.operands ≡ record m.operands { values = drop 1 m.operands.values } → m'.calls ≡ m.calls → m'.runtime ≡ m.runtime → Moves is_logged plan (AtNode (n.Test here other)) m k (Ok (move.On here)) m' k
-    test_true e operands calls same = record { moves = record { less = λ at low. low.0; calls = calls; leads = tested here e operands calls same (λ tables ds b. refl) } }
-
-    pub test_false : {m m' : Machine} {k : WorldState} → truth_of (first m.operands.values) ≡ false → m'.operands ≡ record m.operands { values = drop 1 m.operands.values } → m'.calls ≡ m.calls → m'.runtime ≡ m.runtime → Moves is_logged plan (AtNode (n.Test here other)) m k (Ok (move.On other)) m' k
-    test_false e operands calls same = record { moves = record { less = λ at low. low.1; calls = calls; leads = tested other e operands calls same (λ tables ds b. refl) } }
+    pub test_on : {m m' : Machine} {k : WorldState} {t : Bool} {i : ℕ} → i ≡ (if t then here else other) → truth_of (first m.operands.values) ≡ t → m'.operands ≡ record m.operands { values = drop 1 m.operands.values } → m'.calls ≡ m.calls → m'.runtime ≡ m.runtime → Moves is_logged plan (AtNode (n.Test here other)) m k (Ok (move.On i)) m' k
+    test_on {m = m} {m' = m'} {k = k} {t = t} is e operands calls same = subst (λ (j : ℕ). Moves is_logged plan (AtNode (n.Test here other)) m k (Ok (move.On j)) m' k) (sym is) (record {
+      moves = record {
+        less = λ at low. chosen_below t low;
+        calls = calls;
+        leads = tested (if t then here else other) e operands calls same (λ tables ds b. chosen_cont here other tables ds plan b t (drop 1 m.operands.values));
+      };
+    })
 
   -- turns
 
@@ -361,8 +376,8 @@ module _ {is_logged : Type 0} {plan : Plan} where
   pub exit_stops : {m : Machine} {k : WorldState} → Moves is_logged plan (AtNode n.Exit) m k (Err halt.Exit) m k
   exit_stops = stops halt.Exit n.Exit (λ tables ds b vs. refl) refl
 
-  pub returns_value : {m m1 m' : Machine} {k : WorldState} {w : Value} {r : Result Move Halt} → w ≡ first m.operands.values → m1.operands ≡ record m.operands { values = drop 1 m.operands.values } → m1.calls ≡ m.calls → m1.runtime ≡ m.runtime → GivesBack w m1 r m' → Moves is_logged plan (AtNode n.Return) m k r m' k
-  returns_value {m = m} {m1 = m1} top operands calls same g = gives_back (ap (λ es. seen_of m1.operands es) calls ∙ ap (λ (o : OperandsView). seen_of o m.calls) operands) calls same (λ tables ds b. ap (λ v. ret v) (sym top)) g
+  pub returns_value : {m m' : Machine} {k : WorldState} {r : Result Move Halt} → GivesBack (first m.operands.values) m r m' → Moves is_logged plan (AtNode n.Return) m k r m' k
+  returns_value g = gives_back refl refl refl (λ tables ds b. refl) g
 
   pub returns_nothing : {m m' : Machine} {k : WorldState} {r : Result Move Halt} → GivesBack value.Nothing m r m' → Moves is_logged plan (AtNode n.End) m k r m' k
   returns_nothing g = gives_back refl refl refl (λ tables ds b. refl) g
@@ -374,6 +389,35 @@ module _ {is_logged : Type 0} {plan : Plan} where
       beyond [] i e = omega arith
       beyond (x ∷ xs) zero e = cc
       beyond (x ∷ xs) (suc i) e = let h = beyond xs i e in omega (arith, h)
+
+  -- what is led to leads on
+  pub led_on : {from : Start} {at i : ℕ} {m m1 m' : Machine} {k k1 k' : WorldState} → Leads is_logged plan from m k at m1 k1 → Leads is_logged plan (AtPlace at) m1 k1 i m' k' → Leads is_logged plan from m k i m' k'
+  led_on {at = at} {i = i} {m1 = m1} {m' = m'} {k1 = k1} {k' = k'} x y = record {
+    names = y.names ∙ x.names;
+    steps = omega (arith, x.steps, y.steps);
+    leads = λ tables ds stands new after r d. x.leads tables ds stands new after r
+        (subst (λ (names : Naming). PlanStands (tables_in names tables) ds plan → RestOf (tables_in names tables) ds plan is_logged (AtPlace i) m' k' new after r → RestOf (tables_in names tables) ds plan is_logged (AtPlace at) m1 k1 new after r)
+        x.names (λ st rest. y.leads tables ds st new after r rest) stands d);
+  }
+
+  -- what follows a place that is led to ends
+  pub led_ends : {from : Start} {at : ℕ} {m m1 m' : Machine} {k k1 k' : WorldState} {r : Result Value Halt} → Leads is_logged plan from m k at m1 k1 → Ends is_logged plan (AtPlace at) m1 k1 r m' k' → Ends is_logged plan from m k r m' k'
+  led_ends {at = at} {m1 = m1} {m' = m'} {k1 = k1} {k' = k'} {r = r} x e = record {
+    idle = e.idle;
+    ends = λ tables ds stands. x.leads tables ds stands m'.runtime k' r
+        (subst (λ (names : Naming). PlanStands (tables_in names tables) ds plan → RestOf (tables_in names tables) ds plan is_logged (AtPlace at) m1 k1 m'.runtime k' r) x.names (λ st. e.ends tables ds st) stands);
+  }
+
+  -- the last value is taken off
+  pub finished : {from : Start} {m m1 m' : Machine} {k k' : WorldState} {v : Value} → Finishes is_logged plan from m k m1 k' → v ≡ first m1.operands.values → m'.operands ≡ record { values = []; below = [] } → m'.calls ≡ m1.calls → m'.runtime ≡ m1.runtime
+      → Ends is_logged plan from m k (Ok v) m' k'
+  finished {from = from} {m = m} {m1 = m1} {k = k} {k' = k'} {v = v} f top operands calls same = record {
+    idle = record { operands = operands; calls = calls ∙ f.calls };
+    ends = λ tables ds stands.
+        let t = tables_in m.runtime.names tables in
+        subst (λ (x : Runtime). RestOf t ds plan is_logged from m k x k' (Ok v)) (sym same)
+        (subst (λ (w : Value). RestOf t ds plan is_logged from m k m1.runtime k' (Ok w)) (sym top) (f.ends tables ds stands));
+  }
 
   -- a whole run
   pub executes : {at : ℕ} {m m' : Machine} {k k' : WorldState} {r : Result Value Halt} → IsIdle m → Ends is_logged plan (AtPlace at) m k r m' k' → Executes is_logged plan at m k r m' k'

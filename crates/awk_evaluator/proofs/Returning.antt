@@ -1,17 +1,21 @@
 -- A value is given back to the newest caller.
-use Rattle.std.proofs.Common.{◌≡◌, ◌<◌, ℕ, List, [], ◌∷◌, ◌++◌, length, drop, take, reverse, Ok, Err, refl, sym, ap, ◌∙◌, arith, length-append}
+use Rattle.std.proofs.Common.{◌≡◌, List, [], ◌∷◌, ◌++◌, length, drop, take, reverse, Result, Ok, Err, refl, sym, ap, ◌∙◌, subst, arith, length-append}
 use Rattle.std.proofs.lemmas.List.{reverse-append}
 use Rattle.awk_value.specs.declared.value.Value.{Value}
+use Rattle.awk_value.specs.declared.value.Value.TheVariants as value
+use Rattle.awk_compile.specs.Nodes.{first}
+use Rattle.awk_semantics.specs.declared.halt.Halt.{Halt}
 use Rattle.awk_semantics.specs.declared.halt.Halt.TheVariants as halt
 use Rattle.awk_semantics.specs.declared.fault.Fault.TheVariants.{OutOfMemory}
 use Rattle.awk_semantics.specs.Primitives.{leave}
 use Rattle.awk_runtime.specs.Simulation.{Changes}
 use Rattle.awk_evaluator.specs.declared.entry.Entry.{Entry as CodeEntry}
 use Rattle.awk_evaluator.specs.declared.machine.Machine.{Machine}
+use Rattle.awk_evaluator.specs.declared.machine.Move.{Move}
 use Rattle.awk_evaluator.specs.declared.machine.Move.TheVariants as move
 use Rattle.awk_evaluator.specs.Operands.{OperandsView}
-use Rattle.awk_evaluator.specs.Rest.{Entry, seen}
-use Rattle.awk_evaluator.specs.Moves.{seen_of, stack_of, GivesBack}
+use Rattle.awk_evaluator.specs.Rest.{seen}
+use Rattle.awk_evaluator.specs.Moves.{seen_of, GivesBackBy, GivesBack}
 
 pub newest_seen : (o : OperandsView) (calls more : List CodeEntry) (e : CodeEntry) → calls ≡ more ++ e ∷ [] → seen_of o calls ≡ record { next = e.next; values = reverse (drop e.base o.below) } ∷ seen (take e.base o.below) (reverse more)
 newest_seen o calls more e is = ap (λ (es : List CodeEntry). seen o.below (reverse es)) is ∙ ap (λ (es : List CodeEntry). seen o.below es) (reverse-append more (e ∷ []))
@@ -30,3 +34,14 @@ given_back {m = m} {m' = m'} e is left operands = record {
 
 pub not_given : {m m' : Machine} (e : CodeEntry) {w : Value} → m.calls ≡ m'.calls ++ e ∷ [] → Changes leave m.runtime m'.runtime (Ok tt) → GivesBack w m (Err (halt.Fault OutOfMemory)) m'
 not_given {m = m} {m' = m'} e is left = record { gives = (record { next = e.next; values = reverse (drop e.base m.operands.below) }, seen (take e.base m.operands.below) (reverse m'.calls), newest_seen m.operands m.calls m'.calls e is, left, refl) }
+
+-- where the newest call has no operand, there is no value
+pub nothing_given : (m : Machine) {m' : Machine} {o : OperandsView} (r : Result Move Halt) → o ≡ record m.operands { values = [] } → GivesBack (first o.values) (record m { operands = o }) r m' → GivesBack value.Nothing m r m'
+nothing_given m {m' = m'} {o = o} r is g = record { gives = by r (subst (λ (x : OperandsView). GivesBackBy (first x.values) (record m { operands = x }) r m') is g.gives) }
+  where
+    by : (q : Result Move Halt) → GivesBackBy value.Nothing (record m { operands = record m.operands { values = [] } }) q m' → GivesBackBy value.Nothing m q m'
+    by (Ok (move.On i)) g = g
+    by (Ok (move.Up i)) g = g
+    by (Ok (move.Back i)) g = g
+    by (Ok move.Over) g = g
+    by (Err h) g = g

@@ -1,10 +1,10 @@
 -- The topmost values of a stack, from its end and from its beginning.
-use Rattle.std.proofs.Common.{◌≡◌, ℕ, ◌+◌, ◌-◌, ◌≤◌, ◌<◌, max, min, [], List, ◌++◌, length, take, drop, reverse, refl, sym, ap, ◌∙◌, arith}
-use Rattle.std.proofs.lemmas.List.{take-append-drop, drop-drop, drop-take, take-take, take_min, drop_min, reverse-append, reverse-reverse, length-reverse}
+use Rattle.std.proofs.Common.{◌≡◌, ℕ, ◌+◌, ◌-◌, ◌≤◌, ◌<◌, max, min, [], ◌∷◌, suc, List, ◌++◌, length, take, drop, reverse, sym, ap, ◌∙◌, arith}
+use Rattle.std.proofs.lemmas.List.{take-append-drop, drop-drop, drop-take, take-take, take_min, drop_min, reverse-append, reverse-reverse, length-reverse, drop-set-add, set_split, take-set-le}
 use Rattle.std.proofs.Math.Seq.{drop-append_seam}
-use Rattle.std.proofs.Common.{length-append, length-drop}
+use Rattle.std.proofs.Common.{length-drop}
 use Rattle.std.proofs.lemmas.List.{length-take}
-use Rattle.std.proofs.Math.ListN.{drop_of_length-le}
+use Rattle.std.proofs.Math.ListN.{drop_of_length-le, set}
 use Rattle.awk_value.specs.declared.value.Value.{Value}
 use Rattle.awk_compile.specs.Nodes.{taken}
 use Rattle.awk_evaluator.specs.support.Operands.{OperandsView}
@@ -67,3 +67,32 @@ all_dropped items base count few =
     let second : List Value → OperandsView = λ vs. record { values = []; below = vs } in
     let third : List Value → OperandsView = λ vs. record { values = vs; below = take base items } in
     ap first (drop_of_length-le (take base items) short) ∙ ap second (take-take base base items le) ∙ sym (ap third (drop_of_length-le (reverse (drop base items)) less))
+
+-- where all but those below are taken off
+pub own_dropped : (items : List Value) (base : ℕ) → let left : OperandsView = record { values = reverse (drop base (take base items)); below = take base (take base items) } in left ≡ record { values = []; below = take base items }
+own_dropped items base =
+    let cut = length-take base items in
+    let short : length (take base items) ≤ base = omega (arith, cut) in
+    let le : base ≤ base = omega arith in
+    let first : List Value → OperandsView = λ vs. record { values = reverse vs; below = take base (take base items) } in
+    let second : List Value → OperandsView = λ vs. record { values = []; below = vs } in
+    ap first (drop_of_length-le (take base items) short) ∙ ap second (take-take base base items le)
+
+-- the topmost value gives way to another one
+pub replaced_view : (items : List Value) (base : ℕ) (v : Value) → base < length items
+    → let new : OperandsView = record { values = reverse (drop base (set items (length items - 1) v)); below = take base (set items (length items - 1) v) } in new ≡ record { values = v ∷ drop 1 (reverse (drop base items)); below = take base items }
+replaced_view items base v low =
+    let ys = drop base items in
+    let long = length-drop base items in
+    let n = length ys - 1 in
+    let at : length items - 1 ≡ base + n = omega (arith, long, low) in
+    let within : n < length ys = omega (arith, long, low) in
+    let last : length ys ≤ suc n = omega (arith, long, low) in
+    let le : base ≤ length items - 1 = omega (arith, low) in
+    let changed : drop base (set items (length items - 1) v) ≡ take n ys ++ v ∷ [] =
+    ap (λ k. drop base (set items k v)) at ∙ drop-set-add base items n v ∙ set_split ys n v within ∙ ap (λ zs. take n ys ++ v ∷ zs) (drop_of_length-le ys last) in
+    let turned : reverse (take n ys ++ v ∷ []) ≡ v ∷ drop 1 (reverse ys) =
+    reverse-append (take n ys) (v ∷ []) ∙ ap (λ (zs : List Value). v ∷ zs) (behind_reverse ys 1) in
+    let first : List Value → OperandsView = λ vs. record { values = vs; below = take base (set items (length items - 1) v) } in
+    let second : List Value → OperandsView = λ vs. record { values = v ∷ drop 1 (reverse ys); below = vs } in
+    ap first (ap reverse changed ∙ turned) ∙ ap second (take-set-le base items (length items - 1) v le)

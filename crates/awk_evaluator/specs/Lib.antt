@@ -7,3 +7,5 @@ pub use Rattle.awk_evaluator.specs.support.Entered
 pub use Rattle.awk_evaluator.specs.support.Moves
 pub use Rattle.awk_evaluator.specs.support.Walks
 pub use Rattle.awk_evaluator.specs.support.Calling
+pub use Rattle.awk_evaluator.specs.support.Reading
+pub use Rattle.awk_evaluator.specs.support.Quick

@@ -5,3 +5,5 @@ pub mod Rest
 pub mod Moves
 pub mod Walks
 pub mod Calling
+pub mod Reading
+pub mod Quick

@@ -14,7 +14,7 @@ use awk_storage::Array;
 
 impl Machine {
     /// Does what a node does.
-    #[inline(always)]
+    #[inline(never)]
     pub(crate) fn perform<W: World>(&mut self, world: &mut W, node: EffectNode) -> Result<(), Halt>
         requires ready { IsReady W.is_logged (W.state world.old) self.old.runtime.streams }
         ensures ready { IsReady W.is_logged (W.state world.new) self.new.runtime.streams }

@@ -1,9 +1,10 @@
 // The machine: it moves from place to place, until nothing is left. No function of it calls itself.
 
-ghost use Rattle.std.specs.Prelude.{◌≡◌, OnOk};
+ghost use Rattle.std.specs.Prelude.{◌≡◌, [], OnOk};
 ghost use Rattle.awk_runtime.specs.Simulation.{IsReady};
 ghost use Rattle.awk_runtime.specs.Calling.{EndsCalls};
 ghost use Rattle.awk_compile.specs.declared.node.Node.TheVariants.{Value as NodeValue};
+ghost use Rattle.awk_compile.specs.Nodes.{first};
 ghost use Rattle.awk_evaluator.specs.Rest.{IsSound, AtPlace};
 ghost use Rattle.awk_evaluator.specs.Moves.{IsIdle, Turns, Steps, Ends, Executes};
 
@@ -24,7 +25,7 @@ pub struct Machine {
 }
 
 /// Where a move leads.
-#[derive(Drop)]
+#[derive(Clone, Copy)]
 pub enum Move {
     /// To a place that stands before.
     On(u32),
@@ -32,8 +33,8 @@ pub enum Move {
     Up(u32),
     /// To any place, behind a call.
     Back(u32),
-    /// Nowhere: this is the last value.
-    Over(Value),
+    /// Nowhere: the topmost operand is the last value.
+    Over,
 }
 
 impl Machine {
@@ -88,13 +89,26 @@ impl Machine {
         'steps: loop {
             match self.to_step(world, plan, at)? {
                 Move::Up(next) => at = next,
-                Move::Over(value) => return Ok(value),
+                Move::Over => return Ok(self.last_value()),
                 Move::On(_) | Move::Back(_) => unreachable!(),
             }
         }
     }
 
+    /// Takes the last value off, and whatever lies below it.
+    fn last_value(&mut self) -> Value
+        ensures top { result ≡ first self.old.operands.values }
+        ensures rest { self.new.operands ≡ record { values = []; below = [] } }
+        ensures calls { self.new.calls ≡ self.old.calls }
+        ensures runtime { self.new.runtime ≡ self.old.runtime }
+    {
+        let value = self.operands.pop();
+        self.operands.clear();
+        value
+    }
+
     /// Goes on to the next step or the end.
+    #[inline(always)]
     fn to_step<W: World>(&mut self, world: &mut W, plan: &Plan, start: u32) -> Result<Move, Halt>
         requires sound { IsSound plan.now }
         requires ready { IsReady W.is_logged (W.state world.old) self.old.runtime.streams }
@@ -111,6 +125,7 @@ impl Machine {
     }
 
     /// Goes on to the next step, return or end.
+    #[inline(always)]
     fn to_turn<W: World>(&mut self, world: &mut W, plan: &Plan, start: u32) -> Result<Move, Halt>
         requires sound { IsSound plan.now }
         requires ready { IsReady W.is_logged (W.state world.old) self.old.runtime.streams }
@@ -119,6 +134,10 @@ impl Machine {
     {
         let mut at = start;
         'moves: loop {
+            if let Some(next) = self.move_quickly::<W>(plan, at) {
+                at = next;
+                continue;
+            }
             match self.go_on(world, plan, at)? {
                 Move::On(next) => at = next,
                 other => return Ok(other),

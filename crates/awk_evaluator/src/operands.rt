@@ -1,8 +1,8 @@
 // The operands: one stack of values for all active calls, of which the newest call sees its own alone.
 
-ghost use Rattle.std.specs.Prelude.{◌≡◌, ◌≤◌, ◌-◌, max, [], ◌∷◌, length, drop, take, reverse, get_or, unwrap_or, IfOk, OnOk, OnErr};
+ghost use Rattle.std.specs.Prelude.{◌≡◌, ◌≤◌, ◌<◌, ◌-◌, IfSome, max, [], ◌∷◌, length, drop, take, reverse, get_or, unwrap_or, IfOk, OnOk, OnErr};
 ghost use Rattle.std.specs.Option.{option_map};
-ghost use Rattle.awk_value.specs.declared.value.Value.TheVariants.{Nothing};
+ghost use Rattle.awk_value.specs.declared.value.Value.TheVariants.{Nothing, Number};
 ghost use Rattle.awk_compile.specs.Nodes.{first, second, taken};
 ghost use Rattle.awk_evaluator.specs.support.Operands.{all_of};
 
@@ -91,7 +91,8 @@ impl Operands {
     /// The topmost value, if there is one.
     #[inline(always)]
     pub fn top(&self) -> Option<&Value>
-        ensures { unwrap_or (option_map (λ value. value.now) result) Nothing ≡ first self.now.values }
+        ensures top { unwrap_or (option_map (λ value. value.now) result) Nothing ≡ first self.now.values }
+        ensures there { IfSome result (λ value. 0 < length self.now.values) }
     {
         if self.values.len() <= self.base {
             return None;
@@ -139,6 +140,42 @@ impl Operands {
         self.values.truncate(start);
     }
 
+    /// The topmost value, where it is a number.
+    #[inline(always)]
+    pub fn number(&self) -> Option<i128>
+        ensures { IfSome result (λ n. first self.now.values ≡ Number n) }
+    {
+        match self.top() {
+            Some(Value::Number(n)) => Some(*n),
+            _ => None,
+        }
+    }
+
+    /// The value below the topmost one, where it is a number.
+    #[inline(always)]
+    pub fn number_below(&self) -> Option<i128>
+        ensures { IfSome result (λ n. second self.now.values ≡ Number n) }
+    {
+        let length = self.values.len();
+        if length - self.base < 2 {
+            return None;
+        }
+        match &self.values[length - 2] {
+            Value::Number(n) => Some(*n),
+            _ => None,
+        }
+    }
+
+    /// Puts a value in the place of the topmost one.
+    #[inline(always)]
+    pub fn replace(&mut self, value: Value)
+        requires { 0 < length self.old.values }
+        ensures { self.new ≡ record self.old { values = value ∷ drop 1 self.old.values } }
+    {
+        let last = self.values.len() - 1;
+        self.values[last] = value;
+    }
+
     /// Takes so many values off, however many that are.
     pub fn drop_many(&mut self, count: u128)
         ensures { self.new ≡ record self.old { values = drop count self.old.values } }
@@ -149,6 +186,14 @@ impl Operands {
             return;
         }
         self.drop(count as usize);
+    }
+
+    /// Takes the newest call's values off.
+    #[inline(always)]
+    pub fn drop_all(&mut self)
+        ensures { self.new ≡ record self.old { values = [] } }
+    {
+        self.values.truncate(self.base);
     }
 
     /// A call begins, which has no operands yet. Gives how many its callers' callers have.

@@ -1,24 +1,27 @@
 // The moves: one for each node.
 
-ghost use Rattle.std.specs.Prelude.{◌≡◌, ◌<◌, Some, slice_get, get_or, length};
+ghost use Rattle.std.specs.Prelude.{◌≡◌, ◌<◌, if◌then◌else◌, Some, slice_get, get_or, length, drop};
 ghost use Rattle.std.specs.Option.{option_map};
 ghost use Rattle.awk_runtime.specs.Simulation.{IsReady};
 ghost use Rattle.awk_compile.specs.declared.node.Node.TheVariants.{Value as ValueAt};
-ghost use Rattle.awk_compile.specs.Nodes.{CallsFit};
+ghost use Rattle.awk_value.specs.Values.{truth_of};
+ghost use Rattle.awk_value.specs.declared.value.Value.TheVariants.{Nothing};
+ghost use Rattle.awk_compile.specs.Nodes.{CallsFit, first};
 ghost use Rattle.awk_compile.specs.Plans.{array_parameters};
 ghost use Rattle.awk_evaluator.specs.Rest.{IsSound, AtPlace, AtNode};
-ghost use Rattle.awk_evaluator.specs.Moves.{Moves, GivesBack};
+ghost use Rattle.awk_evaluator.specs.Moves.{IsOther, Moves, GivesBack};
 
 use crate::machine::{Machine, Move};
 use awk_channels::World;
 use awk_compile::node::{Node, ValueNode};
 use awk_compile::{Function, Plan};
 use awk_semantics::Halt;
+use awk_storage::Place;
 use awk_value::{Value, is_true};
 
 /// The node at a place, if there is one.
 #[inline(always)]
-fn node_at(plan: &Plan, at: u32) -> Option<&Node>
+pub(crate) fn node_at(plan: &Plan, at: u32) -> Option<&Node>
     ensures { option_map (λ node. node.now) result ≡ slice_get plan.now.nodes.items at }
 {
     plan.nodes.get(at as usize)
@@ -44,8 +47,16 @@ fn head_of(plan: &Plan, number: u32) -> u32
     }
 }
 
+/// The place that a test leads to.
+#[inline(always)]
+pub(crate) fn chosen(holds: bool, here: u32, other: u32) -> u32
+    ensures { result ≡ (if holds then here else other) }
+{
+    if holds { here } else { other }
+}
+
 impl Machine {
-    /// One move.
+    /// One move. What most moves are is decided here.
     #[inline(always)]
     pub(crate) fn go_on<W: World>(
         &mut self,
@@ -58,26 +69,57 @@ impl Machine {
         ensures ready { IsReady W.is_logged (W.state world.new) self.new.runtime.streams }
         ensures moves { Moves W.is_logged plan.now (AtPlace at) self.old (W.state world.old) result self.new (W.state world.new) }
     {
-        let Some(node) = node_at(plan, at) else {
-            return self.give_back(Value::Nothing);
-        };
-        match node {
-            Node::Value(value, next) => self.value(world, plan, value, *next),
-            Node::Effect(effect, next) => {
+        match node_at(plan, at) {
+            Some(Node::Again(number)) => {
+                self.runtime.spend()?;
+                Ok(Move::Up(head_of(plan, *number)))
+            }
+            Some(Node::Value(value, next)) => self.value(world, plan, value, *next),
+            Some(Node::Effect(effect, next)) => {
                 self.perform(world, *effect)?;
                 Ok(Move::On(*next))
             }
-            Node::Test(here, other) => {
-                let value = self.operands.pop();
-                if is_true(&value) {
-                    Ok(Move::On(*here))
-                } else {
-                    Ok(Move::On(*other))
-                }
+            Some(Node::Return) => self.give_back(),
+            Some(Node::End) => self.give_nothing(),
+            None => self.give_nothing(),
+            Some(node) => self.make_other_move(world, plan, node),
+        }
+    }
+
+    /// The move of a node that tests, changes a variable, walks over keys or ends all calls.
+    #[inline(never)]
+    fn make_other_move<W: World>(
+        &mut self,
+        world: &mut W,
+        plan: &Plan,
+        node: &Node,
+    ) -> Result<Move, Halt>
+        requires other { IsOther node.now }
+        requires ready { IsReady W.is_logged (W.state world.old) self.old.runtime.streams }
+        ensures ready { IsReady W.is_logged (W.state world.new) self.new.runtime.streams }
+        ensures moves { Moves W.is_logged plan.now (AtNode node.now) self.old (W.state world.old) result self.new (W.state world.new) }
+    {
+        match node {
+            Node::Test(here, other) => Ok(Move::On(chosen(self.test(), *here, *other))),
+            Node::CompareWith(operator, right, here, other) => {
+                let holds = self.compare_with(*operator, right)?;
+                Ok(Move::On(chosen(holds, *here, *other)))
             }
-            Node::Again(number) => {
-                self.runtime.spend()?;
-                Ok(Move::Up(head_of(plan, *number)))
+            Node::Compare(operator, left, right, here, other) => {
+                let holds = self.compare(*operator, left, right)?;
+                Ok(Move::On(chosen(holds, *here, *other)))
+            }
+            Node::Assign(operator, variable, next) => {
+                self.assign(*operator, Place::Variable(*variable))?;
+                Ok(Move::On(*next))
+            }
+            Node::Update(operator, variable, operand, next) => {
+                self.update(*operator, *variable, operand)?;
+                Ok(Move::On(*next))
+            }
+            Node::Increment(operator, variable, next) => {
+                self.increment(*operator, *variable)?;
+                Ok(Move::On(*next))
             }
             Node::Walk(array, next) => {
                 self.begin_walk(*array)?;
@@ -99,18 +141,15 @@ impl Machine {
                 self.leave_walk();
                 Ok(Move::On(*next))
             }
-            Node::Return => {
-                let value = self.operands.pop();
-                self.give_back(value)
-            }
             Node::Next => Err(Halt::Next),
             Node::Exit => Err(Halt::Exit),
-            Node::End => self.give_back(Value::Nothing),
+            Node::Value(_, _) | Node::Effect(_, _) => unreachable!(),
+            Node::Again(_) | Node::Return | Node::End => unreachable!(),
         }
     }
 
     /// Finds the value of a node, and goes on with it; or begins a call.
-    #[inline(always)]
+    #[inline(never)]
     fn value<W: World>(
         &mut self,
         world: &mut W,
@@ -137,17 +176,41 @@ impl Machine {
         }
     }
 
-    /// Gives the newest caller a value, or the run where no call is active.
-    fn give_back(&mut self, value: Value) -> Result<Move, Halt>
-        ensures { GivesBack value self.old result self.new }
+    /// Whether the topmost operand is true, which is taken off.
+    #[inline(always)]
+    fn test(&mut self) -> bool
+        ensures truth { result ≡ truth_of (first self.old.operands.values) }
+        ensures rest { self.new.operands ≡ record self.old.operands { values = drop 1 self.old.operands.values } }
+        ensures calls { self.new.calls ≡ self.old.calls }
+        ensures runtime { self.new.runtime ≡ self.old.runtime }
+    {
+        let nothing = Value::Nothing;
+        let holds = is_true(self.operands.top_or(&nothing));
+        self.operands.drop(1);
+        holds
+    }
+
+    /// Gives the newest caller the topmost operand, which stays where no call is active.
+    #[inline(never)]
+    fn give_back(&mut self) -> Result<Move, Halt>
+        ensures { GivesBack (first self.old.operands.values) self.old result self.new }
     {
         let Some(entry) = self.calls.leave() else {
-            self.operands.clear();
-            return Ok(Move::Over(value));
+            return Ok(Move::Over);
         };
         self.runtime.leave_call();
+        let value = self.operands.pop();
         self.operands.leave(entry.base);
         self.operands.push(value)?;
         Ok(Move::Back(entry.next))
+    }
+
+    /// Gives back that there is no value.
+    #[inline(always)]
+    fn give_nothing(&mut self) -> Result<Move, Halt>
+        ensures { GivesBack Nothing self.old result self.new }
+    {
+        self.operands.drop_all();
+        self.give_back()
     }
 }

@@ -2,7 +2,7 @@
 
 ghost use Rattle.std.specs.Prelude.{◌≡◌};
 ghost use Rattle.awk_compile.specs.Nodes.{operands};
-ghost use Rattle.awk_compile.specs.declared.node.ValueNode.TheVariants.{Push, Read, RecordMatches, Operate, MatchesEre, Change, ReadField, ReadElement, Contains, Key, FieldNumber, Assign, PreIncrement, PostIncrement, Load, RecordLength, CountElements, Apply};
+ghost use Rattle.awk_compile.specs.declared.node.ValueNode.TheVariants.{Push, Read, RecordMatches, Operate, ConcatenateAll, MatchesEre, Change, ReadField, ReadElement, Contains, Key, FieldNumber, Assign, Append, PreIncrement, PostIncrement, Load, RecordLength, CountElements, Apply};
 ghost use Rattle.awk_evaluator.specs.Moves.{Computes};
 
 use crate::machine::Machine;
@@ -26,7 +26,7 @@ pub(crate) fn operand_count(place: Place) -> usize
 
 impl Machine {
     /// A value of the program.
-    #[inline(always)]
+    #[inline(never)]
     pub(crate) fn constant(&mut self, value: &Value) -> Result<Value, Halt>
         ensures { Computes (Push value.now) self.old result self.new }
     {
@@ -34,7 +34,7 @@ impl Machine {
     }
 
     /// The value of a variable.
-    #[inline(always)]
+    #[inline(never)]
     pub(crate) fn variable(&mut self, variable: Variable) -> Result<Value, Halt>
         ensures { Computes (Read variable) self.old result self.new }
     {
@@ -49,7 +49,7 @@ impl Machine {
     }
 
     /// What an operator makes of two operands.
-    #[inline(always)]
+    #[inline(never)]
     pub(crate) fn operate(&mut self, operator: BinaryOperator) -> Result<Value, Halt>
         ensures { Computes (Operate operator) self.old result self.new }
     {
@@ -77,7 +77,7 @@ impl Machine {
     }
 
     /// The field whose number an operand is.
-    #[inline(always)]
+    #[inline(never)]
     pub(crate) fn field(&mut self) -> Result<Value, Halt>
         ensures { Computes ReadField self.old result self.new }
     {
@@ -86,7 +86,7 @@ impl Machine {
     }
 
     /// The element at the key that an operand is.
-    #[inline(always)]
+    #[inline(never)]
     pub(crate) fn element(&mut self, array: Array) -> Result<Value, Halt>
         ensures { Computes (ReadElement array) self.old result self.new }
     {
@@ -113,6 +113,17 @@ impl Machine {
         Ok(Value::Text(key))
     }
 
+    /// So many texts, one behind the other.
+    #[inline(never)]
+    pub(crate) fn concatenate_all(&mut self, count: u32) -> Result<Value, Halt>
+        ensures { Computes (ConcatenateAll count) self.old result self.new }
+    {
+        let parts = self.operands.newest(count as usize);
+        let text = self.runtime.concatenate_all(parts)?;
+        self.operands.drop(count as usize);
+        Ok(text)
+    }
+
     /// The number of a field that is a place.
     pub(crate) fn field_number(&mut self) -> Result<Value, Halt>
         ensures { Computes FieldNumber self.old result self.new }
@@ -122,7 +133,7 @@ impl Machine {
     }
 
     /// Assigns an operand to a place; gives what the place then holds.
-    #[inline(always)]
+    #[inline(never)]
     pub(crate) fn assign(
         &mut self,
         operator: AssignmentOperator,
@@ -140,8 +151,16 @@ impl Machine {
         Ok(assigned)
     }
 
+    /// Gives a variable the text of an operand, which it held, with that of the operand above it; gives what it then holds.
+    pub(crate) fn append(&mut self, variable: Variable) -> Result<Value, Halt>
+        ensures { Computes (Append variable) self.old result self.new }
+    {
+        let (text, behind) = self.operands.pop_two();
+        self.runtime.append_to(variable, text, &behind)
+    }
+
     /// Raises or lowers what a place holds by 1; gives what it then holds.
-    #[inline(always)]
+    #[inline(never)]
     pub(crate) fn pre_increment(
         &mut self,
         operator: IncrementOperator,
@@ -157,7 +176,7 @@ impl Machine {
     }
 
     /// Raises or lowers what a place holds by 1; gives the number that it had.
-    #[inline(always)]
+    #[inline(never)]
     pub(crate) fn post_increment(
         &mut self,
         operator: IncrementOperator,

@@ -1,5 +1,5 @@
 -- What the evaluator does to begin a call.
-use Rattle.std.specs.Prelude.{◌≡◌, ◌<◌, ◌≤◌, ℕ, Bool, List, [], ◌∷◌, ◌++◌, drop, length, map, Result, Ok, Err, OnOk, IfErr}
+use Rattle.std.specs.Prelude.{◌≡◌, ◌<◌, ◌≤◌, ℕ, List, [], ◌∷◌, ◌++◌, drop, map, Result, Ok, Err, OnOk, IfErr}
 use Rattle.awk_kinds.specs.Kinds.{FormalParameter}
 use Rattle.awk_semantics.specs.declared.halt.Halt.{Halt}
 use Rattle.awk_value.specs.declared.value.Value.{Value}
@@ -17,7 +17,6 @@ use Rattle.awk_runtime.specs.declared.runtime.Runtime.{Runtime}
 use Rattle.awk_runtime.specs.Calling.{kept_number}
 use Rattle.awk_runtime.specs.Simulation.{Changes}
 use Rattle.awk_evaluator.specs.declared.machine.Machine.{Machine}
-use Rattle.awk_evaluator.specs.support.Rest.{Entry}
 use Rattle.awk_evaluator.specs.support.Moves.{stack_of}
 
 -- what an argument gives, and all of them, by the state of the code

@@ -10,12 +10,14 @@ use Rattle.awk_semantics.specs.declared.fault.Fault.TheVariants.{OutOfMemory}
 use Rattle.awk_semantics.specs.Primitives.{leave}
 use Rattle.awk_semantics.specs.Calls.{functions_within}
 use Rattle.awk_semantics.specs.Semantics.{Functions}
+use Rattle.awk_compile.specs.declared.node.Node.{Node}
+use Rattle.awk_compile.specs.declared.node.Node.TheVariants as n
 use Rattle.awk_compile.specs.declared.node.ArgumentForm.{ArgumentForm}
 use Rattle.awk_compile.specs.declared.node.ValueNode.{ValueNode}
 use Rattle.awk_compile.specs.declared.node.ValueNode.TheVariants as v
 use Rattle.awk_compile.specs.declared.node.EffectNode.{EffectNode}
 use Rattle.awk_compile.specs.declared.plan.Plan.{Plan}
-use Rattle.awk_compile.specs.Nodes.{Tables, value_of, popped, effect_of, dropped, cont_at}
+use Rattle.awk_compile.specs.Nodes.{Tables, first, value_of, popped, effect_of, dropped, cont_at}
 use Rattle.awk_runtime.specs.declared.runtime.Runtime.{Runtime}
 use Rattle.awk_runtime.specs.support.Simulation.{Simulates, Changes}
 use Rattle.awk_evaluator.specs.declared.entry.Entry.{Entry as CodeEntry}
@@ -54,6 +56,11 @@ pub record Ends (is_logged : Type 0) (plan : Plan) (at : Start) (m : Machine) (k
   pub idle : OnOk r (IsIdle m')
   pub ends : (tables : Tables) (ds : List Definition) → PlanStands (tables_in m.runtime.names tables) ds plan → RestOf (tables_in m.runtime.names tables) ds plan is_logged at m k m'.runtime k' r
 
+-- nothing is left, and the topmost operand is the last value
+pub record Finishes (is_logged : Type 0) (plan : Plan) (at : Start) (m : Machine) (k : WorldState) (m' : Machine) (k' : WorldState) : Type 0 where
+  pub calls : m'.calls ≡ []
+  pub ends : (tables : Tables) (ds : List Definition) → PlanStands (tables_in m.runtime.names tables) ds plan → RestOf (tables_in m.runtime.names tables) ds plan is_logged at m k m'.runtime k' (Ok (first m'.operands.values))
+
 -- to a place that stands before this one
 pub record Onward (is_logged : Type 0) (plan : Plan) (at : Start) (m : Machine) (k : WorldState) (at' : ℕ) (m' : Machine) (k' : WorldState) : Type 0 where
   pub leads : Leads is_logged plan at m k at' m' k'
@@ -74,7 +81,7 @@ abbrev pub MovesBy : Type 0 → Plan → Start → Machine → WorldState → Re
 MovesBy is_logged plan at m k (Ok (move.On i)) m' k' = Onward is_logged plan at m k i m' k'
 MovesBy is_logged plan at m k (Ok (move.Up i)) m' k' = Upward is_logged plan at m k i m' k'
 MovesBy is_logged plan at m k (Ok (move.Back i)) m' k' = Backward is_logged plan at m k i m' k'
-MovesBy is_logged plan at m k (Ok (move.Over v)) m' k' = Ends is_logged plan at m k (Ok v) m' k'
+MovesBy is_logged plan at m k (Ok move.Over) m' k' = Finishes is_logged plan at m k m' k'
 MovesBy is_logged plan at m k (Err h) m' k' = Ends is_logged plan at m k (Err h) m' k'
 
 pub record Moves (is_logged : Type 0) (plan : Plan) (at : Start) (m : Machine) (k : WorldState) (r : Result Move Halt) (m' : Machine) (k' : WorldState) : Type 0 where
@@ -84,7 +91,7 @@ abbrev pub TurnsBy : Type 0 → Plan → Start → Machine → WorldState → Re
 TurnsBy is_logged plan at m k (Ok (move.On i)) m' k' = ⊥
 TurnsBy is_logged plan at m k (Ok (move.Up i)) m' k' = Upward is_logged plan at m k i m' k'
 TurnsBy is_logged plan at m k (Ok (move.Back i)) m' k' = Backward is_logged plan at m k i m' k'
-TurnsBy is_logged plan at m k (Ok (move.Over v)) m' k' = Ends is_logged plan at m k (Ok v) m' k'
+TurnsBy is_logged plan at m k (Ok move.Over) m' k' = Finishes is_logged plan at m k m' k'
 TurnsBy is_logged plan at m k (Err h) m' k' = Ends is_logged plan at m k (Err h) m' k'
 
 pub record Turns (is_logged : Type 0) (plan : Plan) (at : Start) (m : Machine) (k : WorldState) (r : Result Move Halt) (m' : Machine) (k' : WorldState) : Type 0 where
@@ -94,11 +101,20 @@ abbrev pub StepsBy : Type 0 → Plan → Start → Machine → WorldState → Re
 StepsBy is_logged plan at m k (Ok (move.On i)) m' k' = ⊥
 StepsBy is_logged plan at m k (Ok (move.Up i)) m' k' = Upward is_logged plan at m k i m' k'
 StepsBy is_logged plan at m k (Ok (move.Back i)) m' k' = ⊥
-StepsBy is_logged plan at m k (Ok (move.Over v)) m' k' = Ends is_logged plan at m k (Ok v) m' k'
+StepsBy is_logged plan at m k (Ok move.Over) m' k' = Finishes is_logged plan at m k m' k'
 StepsBy is_logged plan at m k (Err h) m' k' = Ends is_logged plan at m k (Err h) m' k'
 
 pub record Steps (is_logged : Type 0) (plan : Plan) (at : Start) (m : Machine) (k : WorldState) (r : Result Move Halt) (m' : Machine) (k' : WorldState) : Type 0 where
   pub steps : StepsBy is_logged plan at m k r m' k'
+
+-- nodes that test, change a variable, walk over keys or end all calls
+abbrev pub IsOther : Node → Type 0
+IsOther (n.Again i) = ⊥
+IsOther (n.Value x k) = ⊥
+IsOther (n.Effect x k) = ⊥
+IsOther n.Return = ⊥
+IsOther n.End = ⊥
+IsOther x = Unit {0}
 
 -- a node that is no call
 abbrev pub IsStrict : ValueNode → Type 0
@@ -133,7 +149,7 @@ abbrev pub GivesBackBy : Value → Machine → Result Move Halt → Machine → 
 GivesBackBy v m (Ok (move.On i)) m' = ⊥
 GivesBackBy v m (Ok (move.Up i)) m' = ⊥
 GivesBackBy v m (Ok (move.Back i)) m' = (vs : List Value) × (stack_of m ≡ record { next = i; values = vs } ∷ stack_of m') × (m'.operands.values ≡ v ∷ vs) × Changes leave m.runtime m'.runtime (Ok tt) × (length m'.calls < length m.calls)
-GivesBackBy v m (Ok (move.Over w)) m' = (w ≡ v) × (m.calls ≡ []) × IsIdle m' × (m'.runtime ≡ m.runtime)
+GivesBackBy v m (Ok move.Over) m' = (first m'.operands.values ≡ v) × (m.calls ≡ []) × (m'.calls ≡ []) × (m'.runtime ≡ m.runtime)
 GivesBackBy v m (Err h) m' = (e : Entry) × (es : List Entry) × (stack_of m ≡ e ∷ es) × Changes leave m.runtime m'.runtime (Ok tt) × (h ≡ halt.Fault OutOfMemory)
 
 pub record GivesBack (v : Value) (m : Machine) (r : Result Move Halt) (m' : Machine) : Type 0 where

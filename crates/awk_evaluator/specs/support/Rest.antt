@@ -1,6 +1,6 @@
 -- What is still to be done: from a place, and then from the entry of each active call, the newest first. Each has bounds of its
 -- own: how many calls may be within one another, and how many turns of loops may follow.
-use Rattle.std.specs.Prelude.{◌≡◌, ◌≤◌, ◌<◌, ℕ, suc, List, [], ◌∷◌, drop, take, reverse, map, length, slice_get, Some, Result}
+use Rattle.std.specs.Prelude.{◌≡◌, ◌≤◌, ◌<◌, ℕ, suc, List, [], ◌∷◌, drop, take, reverse, map, slice_get, Some, Result}
 use Rattle.awk_value.specs.declared.value.Value.{Value}
 use Rattle.awk_channels.specs.WorldState.{WorldState}
 use Rattle.awk_kinds.specs.Kinds.{FormalParameter, Definition}

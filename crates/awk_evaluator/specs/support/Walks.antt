@@ -1,9 +1,7 @@
 -- What walks do with the operands.
-use Rattle.std.specs.Prelude.{◌≡◌, ◌-◌, ◌≤◌, ℕ, pos, List, ◌∷◌, ◌++◌, drop, map, Result, Ok, Err, OnOk}
+use Rattle.std.specs.Prelude.{◌≡◌, ◌-◌, ℕ, pos, List, ◌∷◌, ◌++◌, drop, map, Result, Ok, Err, OnOk}
 use Rattle.awk_value.specs.declared.value.Value.TheVariants as value
 use Rattle.awk_semantics.specs.declared.halt.Halt.{Halt}
-use Rattle.awk_semantics.specs.declared.halt.Halt.TheVariants as halt
-use Rattle.awk_semantics.specs.declared.fault.Fault.TheVariants.{OutOfMemory}
 use Rattle.awk_storage.specs.declared.position.Array.{Array}
 use Rattle.awk_storage.specs.declared.position.Variable.{Variable}
 use Rattle.awk_storage.specs.Positions.{put_variable}

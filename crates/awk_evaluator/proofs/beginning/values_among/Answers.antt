@@ -1,4 +1,4 @@
-use Rattle.std.proofs.Common.{arith, sym, ◌∙◌}
+use Rattle.std.proofs.Common.{arith, sym}
 use Rattle.awk_evaluator.proofs.Arguments.{one_more, none_more, one_within}
 use Rattle.awk_evaluator.proofs.beginning.values_among.Goals as goal
 

@@ -1,6 +1,5 @@
-use Rattle.std.proofs.Common.{◌≤◌, [], ◌∷◌, ◌++◌, ap, ◌∙◌, sym, subst, arith}
+use Rattle.std.proofs.Common.{[], ◌∷◌, ◌++◌, ap, ◌∙◌, sym, subst, arith}
 use Rattle.awk_evaluator.specs.definitions.Control.{Controlled, HasRoom}
-use Rattle.awk_evaluator.specs.support.Entered.{AreEntered}
 use Rattle.awk_evaluator.proofs.Heights.{room_for, fits_still, entered_with}
 use Rattle.awk_evaluator.proofs.calls.Calls.enter.Goals as goal
 

@@ -1,4 +1,4 @@
-use Rattle.std.proofs.Common.{◌≡◌, rules, refl, ◌∙◌}
+use Rattle.std.proofs.Common.{◌≡◌, rules, refl}
 use Rattle.std.proofs.lemmas.Result.{err_from_is_err_and}
 use Rattle.awk_evaluator.proofs.CallBegins.{check_ends, spend_ends, give_ends, enter_ends, entry_ends, begins_call}
 use Rattle.awk_evaluator.proofs.machine.Machine.call.Goals as goal

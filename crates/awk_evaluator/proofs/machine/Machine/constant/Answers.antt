@@ -1,7 +1,7 @@
-use Rattle.std.proofs.Common.{◌∙◌, sym, ap, refl, arith, Ok, Err}
+use Rattle.std.proofs.Common.{sym, ap, refl, arith, Ok}
 use Rattle.std.proofs.lemmas.Result.{err_from_is_err_and}
-use Rattle.awk_runtime.proofs.Composition.{memory_changes, lift_changes, ends_changes}
-use Rattle.awk_evaluator.proofs.Computing.{computed, ended, made_of}
+use Rattle.awk_runtime.proofs.Composition.{memory_changes, lift_changes}
+use Rattle.awk_evaluator.proofs.Computing.{computed, ended}
 use Rattle.awk_evaluator.proofs.machine.Machine.constant.Goals as goal
 
 pub returns-in_err-clone : goal.returns-in_err-clone

@@ -1,6 +1,6 @@
-use Rattle.std.proofs.Common.{◌∙◌, sym, refl, arith, Ok, Err}
+use Rattle.std.proofs.Common.{refl, Ok}
 use Rattle.std.proofs.lemmas.Result.{err_from_is_err_and}
-use Rattle.awk_runtime.proofs.Composition.{memory_changes, lift_changes, ends_changes}
+use Rattle.awk_runtime.proofs.Composition.{ends_changes}
 use Rattle.awk_evaluator.proofs.Computing.{computed, ended, made_of}
 use Rattle.awk_evaluator.proofs.machine.Machine.contains.Goals as goal
 

@@ -19,6 +19,18 @@ returns-in-Operate-clause-ready g c = computed_ready c.operate.ensures c.require
 pub returns-in-Operate-clause-evaluates : goal.returns-in-Operate-clause-evaluates
 returns-in-Operate-clause-evaluates g c = rw c.in-Operate.is (computed_evaluates c.operate.ensures)
 
+pub returns-in-OperateWith-clause-ready : goal.returns-in-OperateWith-clause-ready
+returns-in-OperateWith-clause-ready g c = computed_ready c.operate_with.ensures c.requires.ready
+
+pub returns-in-OperateWith-clause-evaluates : goal.returns-in-OperateWith-clause-evaluates
+returns-in-OperateWith-clause-evaluates g c = rw c.in-OperateWith.is (computed_evaluates c.operate_with.ensures)
+
+pub returns-in-OperateOn-clause-ready : goal.returns-in-OperateOn-clause-ready
+returns-in-OperateOn-clause-ready g c = computed_ready c.operate_on.ensures c.requires.ready
+
+pub returns-in-OperateOn-clause-evaluates : goal.returns-in-OperateOn-clause-evaluates
+returns-in-OperateOn-clause-evaluates g c = rw c.in-OperateOn.is (computed_evaluates c.operate_on.ensures)
+
 pub returns-in-Change-clause-ready : goal.returns-in-Change-clause-ready
 returns-in-Change-clause-ready g c = computed_ready c.change.ensures c.requires.ready
 
@@ -31,11 +43,29 @@ returns-in-ReadField-clause-ready g c = computed_ready c.field.ensures c.require
 pub returns-in-ReadField-clause-evaluates : goal.returns-in-ReadField-clause-evaluates
 returns-in-ReadField-clause-evaluates g c = rw c.in-ReadField.is (computed_evaluates c.field.ensures)
 
+pub returns-in-ReadFieldAt-clause-ready : goal.returns-in-ReadFieldAt-clause-ready
+returns-in-ReadFieldAt-clause-ready g c = computed_ready c.field_at.ensures c.requires.ready
+
+pub returns-in-ReadFieldAt-clause-evaluates : goal.returns-in-ReadFieldAt-clause-evaluates
+returns-in-ReadFieldAt-clause-evaluates g c = rw c.in-ReadFieldAt.is (computed_evaluates c.field_at.ensures)
+
+pub returns-in-ConcatenateAll-clause-ready : goal.returns-in-ConcatenateAll-clause-ready
+returns-in-ConcatenateAll-clause-ready g c = computed_ready c.concatenate_all.ensures c.requires.ready
+
+pub returns-in-ConcatenateAll-clause-evaluates : goal.returns-in-ConcatenateAll-clause-evaluates
+returns-in-ConcatenateAll-clause-evaluates g c = rw c.in-ConcatenateAll.is (computed_evaluates c.concatenate_all.ensures)
+
 pub returns-in-ReadElement-clause-ready : goal.returns-in-ReadElement-clause-ready
 returns-in-ReadElement-clause-ready g c = computed_ready c.element.ensures c.requires.ready
 
 pub returns-in-ReadElement-clause-evaluates : goal.returns-in-ReadElement-clause-evaluates
 returns-in-ReadElement-clause-evaluates g c = rw c.in-ReadElement.is (computed_evaluates c.element.ensures)
+
+pub returns-in-Append-clause-ready : goal.returns-in-Append-clause-ready
+returns-in-Append-clause-ready g c = computed_ready c.append.ensures c.requires.ready
+
+pub returns-in-Append-clause-evaluates : goal.returns-in-Append-clause-evaluates
+returns-in-Append-clause-evaluates g c = rw c.in-Append.is (computed_evaluates c.append.ensures)
 
 pub returns-in-Assign-clause-ready : goal.returns-in-Assign-clause-ready
 returns-in-Assign-clause-ready g c = computed_ready c.assign.ensures c.requires.ready

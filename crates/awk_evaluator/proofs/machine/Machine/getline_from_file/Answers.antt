@@ -1,4 +1,4 @@
-use Rattle.std.proofs.Common.{◌≡◌, List, drop, drop-drop, Ok, refl, ap, sym, ◌∙◌}
+use Rattle.std.proofs.Common.{List, drop, drop-drop, Ok, ap, ◌∙◌}
 use Rattle.std.proofs.lemmas.Result.{err_from_is_err_and}
 use Rattle.awk_value.specs.declared.value.Value.{Value}
 use Rattle.awk_compile.specs.Nodes.{first, place_operands}

@@ -1,4 +1,4 @@
-use Rattle.std.proofs.Common.{◌≡◌, arith, refl, sym, ap, ◌∙◌, drop}
+use Rattle.std.proofs.Common.{arith, sym, ap, ◌∙◌, drop}
 use Rattle.awk_compile.specs.Nodes.{taken}
 use Rattle.awk_runtime.specs.declared.runtime.Runtime.{Runtime}
 use Rattle.awk_runtime.specs.Calling.{with_given}

@@ -1,4 +1,4 @@
-use Rattle.std.proofs.Common.{refl, ap, Ok}
+use Rattle.std.proofs.Common.{refl, Ok}
 use Rattle.awk_runtime.proofs.Composition.{change_simulates, lift_simulates, ready_behind}
 use Rattle.awk_evaluator.proofs.Computing.{performed, acted, acted_ready}
 use Rattle.awk_evaluator.proofs.machine.Machine.perform.Goals as goal

@@ -1,4 +1,4 @@
-use Rattle.std.proofs.Common.{rules, ◌≡◌, ◌<◌, List, length, drop, take, reverse, ap, ◌∙◌}
+use Rattle.std.proofs.Common.{rules, ◌<◌, List, length, drop, take, reverse, ap, ◌∙◌}
 use Rattle.awk_value.specs.declared.value.Value.{Value}
 use Rattle.awk_evaluator.specs.support.Operands.{OperandsView}
 use Rattle.awk_evaluator.proofs.Stacks.{all_dropped}

@@ -1,6 +1,5 @@
-use Rattle.std.proofs.Common.{rules, ◌≡◌, ◌-◌, max, List, length, drop, take, reverse, sym, ap, ◌∙◌}
+use Rattle.std.proofs.Common.{rules, ◌≡◌, ◌-◌, max, length, drop, ap, ◌∙◌}
 use Rattle.std.proofs.lemmas.List.{take_rest}
-use Rattle.awk_value.specs.declared.value.Value.{Value}
 use Rattle.awk_compile.specs.Nodes.{taken}
 use Rattle.awk_evaluator.specs.support.Operands.{OperandsView}
 use Rattle.awk_evaluator.proofs.Stacks.{newest_values}

@@ -1,0 +1,143 @@
+-- The moves of nodes whose operands are read where they stand.
+use Rattle.std.specs.Prelude.{◌<◌, if◌then◌else◌}
+use Rattle.std.proofs.Common.{◌≡◌, ℕ, Bool, List, drop, Option, Some, None, Result, Ok, Err, refl, sym, ap, ◌∙◌, subst}
+use Rattle.awk_value.specs.declared.value.Value.{Value}
+use Rattle.awk_value.specs.declared.value.Value.TheVariants as value
+use Rattle.awk_value.specs.Values.{truth_of}
+use Rattle.awk_lex.specs.declared.token.AssignmentOperator.{AssignmentOperator}
+use Rattle.awk_lex.specs.declared.token.IncrementOperator.{IncrementOperator}
+use Rattle.awk_lex.specs.declared.token.Operator.{Operator}
+use Rattle.awk_grammar.specs.declared.tree.BinaryOperator.{BinaryOperator}
+use Rattle.awk_channels.specs.WorldState.{WorldState}
+use Rattle.awk_kinds.specs.Kinds.{Definition}
+use Rattle.awk_semantics.specs.declared.halt.Halt.{Halt}
+use Rattle.awk_semantics.specs.State.{Run, ◌>>=◌}
+use Rattle.awk_semantics.specs.Operators.{operator_of}
+use Rattle.awk_semantics.specs.Semantics.{choose}
+use Rattle.awk_semantics.specs.Calls.{functions_within}
+use Rattle.awk_storage.specs.declared.position.Variable.{Variable}
+use Rattle.awk_storage.specs.declared.position.Place.TheVariants as place
+use Rattle.awk_storage.specs.Positions.{assign_at, assign_by_at}
+use Rattle.awk_compile.specs.declared.node.Operand.{Operand}
+use Rattle.awk_compile.specs.declared.node.Node.{Node}
+use Rattle.awk_compile.specs.declared.node.Node.TheVariants as n
+use Rattle.awk_compile.specs.declared.node.ValueNode.{ValueNode}
+use Rattle.awk_compile.specs.declared.node.ValueNode.TheVariants as v
+use Rattle.awk_compile.specs.declared.plan.Plan.{Plan}
+use Rattle.awk_compile.specs.Nodes.{Tables, first, second, value_of, popped, assign_variable, update, increment, AreBelow}
+use Rattle.awk_runtime.specs.Simulation.{IsReady, Changes}
+use Rattle.awk_runtime.proofs.Composition.{change_simulates}
+use Rattle.awk_evaluator.specs.declared.machine.Machine.{Machine}
+use Rattle.awk_evaluator.specs.declared.machine.Move.TheVariants as move
+use Rattle.awk_evaluator.specs.Operands.{OperandsView}
+use Rattle.awk_evaluator.specs.Rest.{tables_in, Bound, AtNode, cont, begun}
+use Rattle.awk_evaluator.specs.Moves.{seen_of, Moves, Computes}
+use Rattle.awk_evaluator.specs.Reading.{ComparesBy, Compares, Updates, Increments}
+use Rattle.awk_evaluator.proofs.Moving.{no_tables, no_functions, leads_on, ends_on, chosen_below, chosen_cont, ready_computed}
+
+-- a variable has no operand
+variable_alike : (names : List (List ℕ)) (o : Option Operator) (x : Variable) (operand operand' w : Value) → assign_by_at names o (place.Variable x) operand w ≡ assign_by_at names o (place.Variable x) operand' w
+unfolding assign_by_at assign_at
+variable_alike names None x operand operand' w = refl
+variable_alike names (Some o) x operand operand' w = refl
+
+pub assigned_changes : {o : AssignmentOperator} {x : Variable} {m m' : Machine} {r : Result Value Halt} → Computes (v.Assign o (place.Variable x)) m r m' → Changes (assign_variable m.runtime.names.scalars o x (first m.operands.values)) m.runtime m'.runtime r
+assigned_changes {o = o} {x = x} {m = m} {m' = m'} {r = r} c = subst (λ (run : Run Value). Changes run m.runtime m'.runtime r)
+    (variable_alike m.runtime.names.scalars (operator_of o) x (second m.operands.values) value.Nothing (first m.operands.values)) (c.changes no_tables no_functions)
+
+-- what is ready stays so behind a comparison
+pub ready_compared : {is_logged : Type 0} {x : ValueNode} {m m' : Machine} {k : WorldState} {r : Result Bool Halt} → Compares x m r m' → IsReady is_logged k m.runtime.streams → IsReady is_logged k m'.runtime.streams
+ready_compared {is_logged = is_logged} {x = x} {m = m} {m' = m'} {k = k} {r = r} c ready = by r c.compares
+  where
+    by : (q : Result Bool Halt) → ComparesBy x m q m' → IsReady is_logged k m'.runtime.streams
+    by (Ok holds) d = ready_computed d.2 ready
+    by (Err h) d = ready_computed d ready
+
+module _ {is_logged : Type 0} {plan : Plan} where
+  -- a node whose value is tested at once
+
+  module _ {x : ValueNode} {node : Node} {here other : ℕ} (below : (at : ℕ) → AreBelow at node → (here < at) × (other < at))
+      (is : (tables : Tables) (ds : List Definition) (b : Bound) (vs : List Value) → begun tables ds plan (AtNode node) b vs ≡ (value_of tables (functions_within ds b.calls) x vs >>= λ w. choose (truth_of w) (cont tables ds plan b here (drop (popped x) vs)) (cont tables ds plan b other (drop (popped x) vs)))) where
+    tested_on : {m m' : Machine} {k : WorldState} {t : Bool} {i : ℕ} {w : Value} → i ≡ (if t then here else other) → truth_of w ≡ t → Computes x m (Ok w) m' → Moves is_logged plan (AtNode node) m k (Ok (move.On i)) m' k
+    tested_on {m = m} {m' = m'} {k = k} {t = t} {w = w} at e c =
+        let left = drop (popped x) m.operands.values in
+        subst (λ (j : ℕ). Moves is_logged plan (AtNode node) m k (Ok (move.On j)) m' k) (sym at) (record {
+          moves = record {
+            less = λ p low. chosen_below t (below p low);
+            calls = c.calls;
+            leads = leads_on (λ tables functions. value_of tables functions x m.operands.values) (λ tables ds b u. choose (truth_of u) (cont tables ds plan b here left) (cont tables ds plan b other left)) (λ tables ds b. is tables ds b m.operands.values)
+                (λ tables functions. change_simulates (c.changes tables functions))
+                (λ tables ds b.
+                ap (λ s. choose s (cont tables ds plan b here left) (cont tables ds plan b other left)) e
+                ∙ chosen_cont here other tables ds plan b t left
+                ∙ ap (λ (o : OperandsView). cont tables ds plan b (if t then here else other) o.values) (sym c.operands))
+                (ap (λ es. seen_of m'.operands es) c.calls ∙ ap (λ (o : OperandsView). seen_of o m.calls) c.operands);
+          };
+        })
+
+    tested_ends : {m m' : Machine} {k : WorldState} {h : Halt} → Computes x m (Err h) m' → Moves is_logged plan (AtNode node) m k (Err h) m' k
+    tested_ends {m = m} c =
+        let left = drop (popped x) m.operands.values in
+        ends_on (λ tables functions. value_of tables functions x m.operands.values) (λ tables ds b u. choose (truth_of u) (cont tables ds plan b here left) (cont tables ds plan b other left)) (λ tables ds b. is tables ds b m.operands.values)
+        (λ tables functions. change_simulates (c.changes tables functions))
+
+  module _ {o : BinaryOperator} {right : Operand} {here other : ℕ} {m m' : Machine} {k : WorldState} where
+    pub with_on : {t : Bool} {i : ℕ} {w : Value} → i ≡ (if t then here else other) → truth_of w ≡ t → Computes (v.OperateWith o right) m (Ok w) m' → Moves is_logged plan (AtNode (n.CompareWith o right here other)) m k (Ok (move.On i)) m' k
+    with_on at e c = tested_on {node = n.CompareWith o right here other} (λ p low. low) (λ tables ds b vs. refl) at e c
+
+    pub with_ends : {h : Halt} → Computes (v.OperateWith o right) m (Err h) m' → Moves is_logged plan (AtNode (n.CompareWith o right here other)) m k (Err h) m' k
+    with_ends c = tested_ends {node = n.CompareWith o right here other} (λ p low. low) (λ tables ds b vs. refl) c
+
+    pub compared_on : {left : Operand} {t : Bool} {i : ℕ} {w : Value} → i ≡ (if t then here else other) → truth_of w ≡ t → Computes (v.OperateOn o left right) m (Ok w) m' → Moves is_logged plan (AtNode (n.Compare o left right here other)) m k (Ok (move.On i)) m' k
+    compared_on {left = left} at e c = tested_on {node = n.Compare o left right here other} (λ p low. low) (λ tables ds b vs. refl) at e c
+
+    pub compared_ends : {left : Operand} {h : Halt} → Computes (v.OperateOn o left right) m (Err h) m' → Moves is_logged plan (AtNode (n.Compare o left right here other)) m k (Err h) m' k
+    compared_ends {left = left} c = tested_ends {node = n.Compare o left right here other} (λ p low. low) (λ tables ds b vs. refl) c
+
+  -- a node that takes no value off the stack, and puts none on it
+
+  module _ {node : Node} {i : ℕ} (run : Tables → Run Value) (below : (at : ℕ) → AreBelow at node → i < at)
+      (is : (tables : Tables) (ds : List Definition) (b : Bound) (vs : List Value) → begun tables ds plan (AtNode node) b vs ≡ (run tables >>= λ _. cont tables ds plan b i vs)) where
+    ran_on : {m m' : Machine} {k : WorldState} {w : Value} → m'.operands ≡ m.operands → m'.calls ≡ m.calls → ((tables : Tables) → Changes (run (tables_in m.runtime.names tables)) m.runtime m'.runtime (Ok w)) → Moves is_logged plan (AtNode node) m k (Ok (move.On i)) m' k
+    ran_on {m = m} {m' = m'} operands calls changes = record {
+      moves = record {
+        less = below;
+        calls = calls;
+        leads = leads_on (λ tables functions. run tables) (λ tables ds b _. cont tables ds plan b i m.operands.values) (λ tables ds b. is tables ds b m.operands.values)
+            (λ tables functions. change_simulates (changes tables))
+            (λ tables ds b. ap (λ (o : OperandsView). cont tables ds plan b i o.values) (sym operands))
+            (ap (λ es. seen_of m'.operands es) calls ∙ ap (λ (o : OperandsView). seen_of o m.calls) operands);
+      };
+    }
+
+    ran_ends : {m m' : Machine} {k : WorldState} {h : Halt} → ((tables : Tables) → Changes (run (tables_in m.runtime.names tables)) m.runtime m'.runtime (Err h)) → Moves is_logged plan (AtNode node) m k (Err h) m' k
+    ran_ends {m = m} changes = ends_on (λ tables functions. run tables) (λ tables ds b _. cont tables ds plan b i m.operands.values) (λ tables ds b. is tables ds b m.operands.values) (λ tables functions. change_simulates (changes tables))
+
+  module _ {variable : Variable} {i : ℕ} {m m' : Machine} {k : WorldState} where
+    pub update_on : {o : AssignmentOperator} {a : Operand} {w : Value} → Updates o variable a m (Ok w) m' → Moves is_logged plan (AtNode (n.Update o variable a i)) m k (Ok (move.On i)) m' k
+    update_on {o = o} {a = a} u = ran_on (λ tables. update tables.names o variable a) (λ at low. low) (λ tables ds b vs. refl) u.operands u.calls (λ tables. u.changes)
+
+    pub update_ends : {o : AssignmentOperator} {a : Operand} {h : Halt} → Updates o variable a m (Err h) m' → Moves is_logged plan (AtNode (n.Update o variable a i)) m k (Err h) m' k
+    update_ends {o = o} {a = a} u = ran_ends {node = n.Update o variable a i} (λ tables. update tables.names o variable a) (λ at low. low) (λ tables ds b vs. refl) (λ tables. u.changes)
+
+    pub increment_on : {o : IncrementOperator} {w : Value} → Increments o variable m (Ok w) m' → Moves is_logged plan (AtNode (n.Increment o variable i)) m k (Ok (move.On i)) m' k
+    increment_on {o = o} u = ran_on (λ tables. increment tables.names o variable) (λ at low. low) (λ tables ds b vs. refl) u.operands u.calls (λ tables. u.changes)
+
+    pub increment_ends : {o : IncrementOperator} {h : Halt} → Increments o variable m (Err h) m' → Moves is_logged plan (AtNode (n.Increment o variable i)) m k (Err h) m' k
+    increment_ends {o = o} u = ran_ends {node = n.Increment o variable i} (λ tables. increment tables.names o variable) (λ at low. low) (λ tables ds b vs. refl) (λ tables. u.changes)
+
+  module _ {o : AssignmentOperator} {x : Variable} {i : ℕ} {m m' : Machine} {k : WorldState} where
+    pub assign_on : {w : Value} → m'.operands ≡ record m.operands { values = drop 1 m.operands.values } → m'.calls ≡ m.calls → Changes (assign_variable m.runtime.names.scalars o x (first m.operands.values)) m.runtime m'.runtime (Ok w) → Moves is_logged plan (AtNode (n.Assign o x i)) m k (Ok (move.On i)) m' k
+    assign_on operands calls changes = record {
+      moves = record {
+        less = λ at low. low;
+        calls = calls;
+        leads = leads_on (λ tables functions. assign_variable tables.names o x (first m.operands.values)) (λ tables ds b _. cont tables ds plan b i (drop 1 m.operands.values)) (λ tables ds b. refl)
+            (λ tables functions. change_simulates changes)
+            (λ tables ds b. ap (λ (s : OperandsView). cont tables ds plan b i s.values) (sym operands))
+            (ap (λ es. seen_of m'.operands es) calls ∙ ap (λ (s : OperandsView). seen_of s m.calls) operands);
+      };
+    }
+
+    pub assign_ends : {h : Halt} → Changes (assign_variable m.runtime.names.scalars o x (first m.operands.values)) m.runtime m'.runtime (Err h) → Moves is_logged plan (AtNode (n.Assign o x i)) m k (Err h) m' k
+    assign_ends changes = ends_on (λ tables functions. assign_variable tables.names o x (first m.operands.values)) (λ tables ds b _. cont tables ds plan b i (drop 1 m.operands.values)) (λ tables ds b. refl) (λ tables functions. change_simulates changes)

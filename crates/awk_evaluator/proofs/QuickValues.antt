@@ -1,0 +1,143 @@
+-- Values that are put on the stack quickly.
+use Rattle.std.proofs.Common.{◌≡◌, ◌≢◌, ℕ, ℤ, true, List, ◌∷◌, drop, Option, Some, Result, Ok, Err, refl, sym, ap, ◌∙◌, subst}
+use Rattle.std.proofs.Math.Path.{fun_ext}
+use Rattle.std.specs.Prelude.{OnOk, IfSome, is_ok}
+use Rattle.std.specs.Result.{result_ok}
+use Rattle.awk_value.specs.declared.value.Value.{Value}
+use Rattle.awk_value.specs.declared.value.Value.TheVariants as value
+use Rattle.awk_value.specs.declared.fault.ValueFault.{ValueFault}
+use Rattle.awk_value.specs.Arithmetic.{product_of, sum_of, difference_of, quotient_of, remainder_of, negative_of, power_of}
+use Rattle.awk_value.specs.Values.{num_of, number_value, from_numbers}
+use Rattle.awk_lex.specs.declared.token.AssignmentOperator.{AssignmentOperator}
+use Rattle.awk_lex.specs.declared.token.AssignmentOperator.TheVariants as assignment
+use Rattle.awk_lex.specs.declared.token.Operator.{Operator}
+use Rattle.awk_lex.specs.declared.token.Operator.TheVariants as operator
+use Rattle.awk_grammar.specs.declared.tree.BinaryOperator.TheVariants.{Infix}
+use Rattle.awk_grammar.specs.declared.tree.UnaryOperator.TheVariants as unary
+use Rattle.awk_semantics.specs.declared.halt.Halt.{Halt}
+use Rattle.awk_semantics.specs.State.{Run, ◌>>=◌, lift}
+use Rattle.awk_semantics.specs.Faults.{of_values}
+use Rattle.awk_semantics.specs.Operators.{applied}
+use Rattle.awk_semantics.specs.Primitives.{read_field, number_of}
+use Rattle.awk_semantics.specs.Semantics.{Functions}
+use Rattle.awk_storage.specs.declared.position.Variable.{Variable}
+use Rattle.awk_storage.specs.declared.position.Place.TheVariants as place
+use Rattle.awk_storage.specs.Positions.{read_variable, assign_at, assign_by_at}
+use Rattle.awk_compile.specs.declared.node.Operand.{Operand}
+use Rattle.awk_compile.specs.declared.node.Operand.TheVariants as operand
+use Rattle.awk_compile.specs.declared.node.ValueNode.{ValueNode}
+use Rattle.awk_compile.specs.declared.node.ValueNode.TheVariants as v
+use Rattle.awk_compile.specs.Nodes.{Tables, first, second, value_of, popped, operated_with, operated_on}
+use Rattle.awk_runtime.specs.declared.runtime.Runtime.{Runtime}
+use Rattle.awk_runtime.specs.Simulation.{Changes}
+use Rattle.awk_runtime.proofs.Composition.{then_changes, lift_changes}
+use Rattle.awk_evaluator.specs.declared.machine.Machine.{Machine}
+use Rattle.awk_evaluator.specs.Rest.{tables_in}
+use Rattle.awk_evaluator.specs.Quick.{IsAtHand, Puts, Pushed, AssignsAlike}
+use Rattle.awk_evaluator.proofs.Computing.{drop_two}
+
+-- operands that are at hand
+
+pub constant_at_hand : {m : Machine} (v : Value) → IsAtHand (operand.Constant v) v m
+constant_at_hand {m = m} v = record { changes = lift_changes (Ok v) m.runtime refl }
+
+module _ {m : Machine} (o : Operator) {y w : Value} {b : Operand} (right : IsAtHand b y m) where
+  pub operated_with_hand : (x : Value) → applied o x y ≡ Ok w → Changes (operated_with m.runtime.names.scalars (Infix o) x b) m.runtime m.runtime (Ok w)
+  operated_with_hand x e = then_changes _ right.changes (lift_changes _ m.runtime e)
+
+  pub operated_on_hand : {x : Value} {a : Operand} → IsAtHand a x m → applied o x y ≡ Ok w → Changes (operated_on m.runtime.names.scalars (Infix o) a b) m.runtime m.runtime (Ok w)
+  operated_on_hand {x = x} left e = then_changes _ left.changes (operated_with_hand x e)
+
+-- the field of a number
+pub field_of : {m m' : Runtime} (n : ℤ) {r : Result Value Halt} → Changes (read_field n) m m' r → Changes (number_of (value.Number n) >>= λ k. read_field k) m m' r
+field_of {m = m} n h = then_changes read_field (lift_changes (Ok n) m refl) h
+
+-- values that are put on the stack
+
+pub pushed_by : {E : Type 0} {v : Value} {m m' : Machine} (r : Result (Unit {0}) E) → is_ok r ≡ true → OnOk r (m'.operands ≡ record m.operands { values = v ∷ m.operands.values }) → m'.calls ≡ m.calls → m'.runtime ≡ m.runtime → Pushed v m m'
+pushed_by (Ok u) ok operands calls runtime = record { operands = operands; calls = calls; runtime = runtime }
+pushed_by (Err e) ok operands calls runtime = cc
+
+pub pushed_puts : {x : ValueNode} {m m' : Machine} {w : Value} → drop (popped x) m.operands.values ≡ m.operands.values → ((tables : Tables) (functions : Functions) → Changes (value_of (tables_in m.runtime.names tables) functions x m.operands.values) m.runtime m.runtime (Ok w)) → Pushed w m m' → Puts x m m'
+pushed_puts {x = x} {m = m} {m' = m'} {w = w} none changes p = record {
+  value = w;
+  operands = p.operands ∙ ap (λ (vs : List Value). record m.operands { values = w ∷ vs }) (sym none);
+  calls = p.calls;
+  changes = λ tables functions. subst (λ (r : Runtime). Changes (value_of (tables_in m.runtime.names tables) functions x m.operands.values) m.runtime r (Ok w)) (sym p.runtime) (changes tables functions);
+}
+
+pub pushed_constant : {m m' : Machine} {w : Value} → Pushed w m m' → Puts (v.Push w) m m'
+pushed_constant {m = m} {w = w} p = pushed_puts refl (λ tables functions. lift_changes (Ok w) m.runtime refl) p
+
+-- in machines that a reading leaves as they were, too
+
+module _ {m between : Machine} (same : between ≡ m) where
+  pub operated_on_puts : {m' behind : Machine} {o : Operator} {a b : Operand} {x y w : Value} → behind ≡ between → IsAtHand a x m → IsAtHand b y between → applied o x y ≡ Ok w → Pushed w behind m' → Puts (v.OperateOn (Infix o) a b) m m'
+  operated_on_puts {m' = m'} {b = b} {y = y} {w = w} next left right e p = pushed_puts refl (λ tables functions. operated_on_hand _ (subst (λ (n : Machine). IsAtHand b y n) same right) left e) (subst (λ (n : Machine). Pushed w n m') (next ∙ same) p)
+
+  pub field_at_puts : {m' : Machine} {r : Runtime} {a : Operand} (n : ℤ) {w : Value} → IsAtHand a (value.Number n) m → r ≡ between.runtime → Changes (read_field n) between.runtime r (Ok w) → Pushed w between m' → Puts (v.ReadFieldAt a) m m'
+  field_at_puts {m' = m'} n {w = w} number kept h p =
+      let read : Changes (read_field n) m.runtime m.runtime (Ok w) = subst (λ (x : Machine). Changes (read_field n) x.runtime x.runtime (Ok w)) same (subst (λ (r : Runtime). Changes (read_field n) between.runtime r (Ok w)) kept h) in
+      pushed_puts refl (λ tables functions. then_changes _ number.changes (field_of n read)) (subst (λ (x : Machine). Pushed w x m') same p)
+
+  pub operated_with_puts : {m' : Machine} {o : Operator} {b : Operand} {x y w : Value} → first m.operands.values ≡ x → IsAtHand b y m → applied o x y ≡ Ok w → m'.operands ≡ record between.operands { values = w ∷ drop 1 between.operands.values } → m'.calls ≡ between.calls → m'.runtime ≡ between.runtime → Puts (v.OperateWith (Infix o) b) m m'
+  operated_with_puts {m' = m'} {o = o} {b = b} {x = x} {w = w} top right e operands calls runtime = record {
+    value = w;
+    operands = operands ∙ ap (λ (n : Machine). record n.operands { values = w ∷ drop 1 n.operands.values }) same;
+    calls = calls ∙ ap (λ (n : Machine). n.calls) same;
+    changes = λ tables functions. rw (runtime, same, top) (operated_with_hand o right x e);
+  }
+
+-- values that are put in the place of others
+
+pub operated_puts : {m m' : Machine} {o : Operator} {x y w : Value} → second m.operands.values ≡ x → first m.operands.values ≡ y → applied o x y ≡ Ok w → m'.operands ≡ record m.operands { values = w ∷ drop 1 (drop 1 m.operands.values) } → m'.calls ≡ m.calls → m'.runtime ≡ m.runtime → Puts (v.Operate (Infix o)) m m'
+operated_puts {m = m} {w = w} below top e operands calls runtime = record {
+  value = w;
+  operands = operands ∙ ap (λ (vs : List Value). record m.operands { values = w ∷ vs }) (drop_two m.operands.values);
+  calls = calls;
+  changes = λ tables functions. rw (runtime, below, top) (lift_changes _ m.runtime e);
+}
+
+pub negated_puts : {m m' : Machine} (n : ℤ) {z : ℤ} → first m.operands.values ≡ value.Number n → negative_of n ≡ Ok z → m'.operands ≡ record m.operands { values = value.Number z ∷ drop 1 m.operands.values } → m'.calls ≡ m.calls → m'.runtime ≡ m.runtime → Puts (v.Change unary.Minus) m m'
+negated_puts {m = m} n {z = z} top e operands calls runtime = record {
+  value = value.Number z;
+  operands = operands;
+  calls = calls;
+  changes = λ tables functions. rw (runtime, top) (lift_changes _ m.runtime (ap (λ r. of_values (number_value r)) e));
+}
+
+pub field_puts : {m m' : Machine} (n : ℤ) {w : Value} → first m.operands.values ≡ value.Number n → Changes (read_field n) m.runtime m'.runtime (Ok w) → m'.operands ≡ record m.operands { values = w ∷ drop 1 m.operands.values } → m'.calls ≡ m.calls → Puts v.ReadField m m'
+field_puts {m = m} n {w = w} top h operands calls = record {
+  value = w;
+  operands = operands;
+  calls = calls;
+  changes = λ tables functions. rw top (field_of n h);
+}
+
+-- assignments to variables
+
+-- a value is seen by an operator alone
+updated_alike : (names : List (List ℕ)) (o : Operator) (x : Variable) (v w : Value) → ((old : Value) → applied o old v ≡ applied o old w) → assign_by_at names (Some o) (place.Variable x) value.Nothing v ≡ assign_by_at names (Some o) (place.Variable x) value.Nothing w
+unfolding assign_by_at
+updated_alike names o x v w alike =
+    let before : Value → Run Value = λ old. lift (applied o old v) >>= λ z. assign_at names (place.Variable x) value.Nothing z in
+    let after : Value → Run Value = λ old. lift (applied o old w) >>= λ z. assign_at names (place.Variable x) value.Nothing z in
+    let same : before ≡ after = fun_ext (λ old. ap (λ (r : Result Value Halt). lift r >>= λ z. assign_at names (place.Variable x) value.Nothing z) (alike old)) in
+    ap (λ (f : Value → Run Value). read_variable names x >>= f) same
+
+-- by its number alone
+numbers_alike : (a : AssignmentOperator) (v w : Value) → a ≢ assignment.Plain → num_of v ≡ num_of w → AssignsAlike a v w
+numbers_alike assignment.Plain v w other e = absurd (other refl)
+numbers_alike assignment.Add v w other e = λ names x. updated_alike names operator.Plus x v w (λ old. ap (λ r. of_values (from_numbers sum_of (num_of old) r)) e)
+numbers_alike assignment.Subtract v w other e = λ names x. updated_alike names operator.Minus x v w (λ old. ap (λ r. of_values (from_numbers difference_of (num_of old) r)) e)
+numbers_alike assignment.Multiply v w other e = λ names x. updated_alike names operator.Times x v w (λ old. ap (λ r. of_values (from_numbers product_of (num_of old) r)) e)
+numbers_alike assignment.Divide v w other e = λ names x. updated_alike names operator.Divide x v w (λ old. ap (λ r. of_values (from_numbers quotient_of (num_of old) r)) e)
+numbers_alike assignment.Remainder v w other e = λ names x. updated_alike names operator.Remainder x v w (λ old. ap (λ r. of_values (from_numbers remainder_of (num_of old) r)) e)
+numbers_alike assignment.Power v w other e = λ names x. updated_alike names operator.Power x v w (λ old. ap (λ r. of_values (from_numbers power_of (num_of old) r)) e)
+
+alike_by : (a : AssignmentOperator) (v : Value) (r : Result ℤ ValueFault) → a ≢ assignment.Plain → num_of v ≡ r → IfSome (result_ok r) (λ n. AssignsAlike a v (value.Number n))
+alike_by a v (Ok n) other e = numbers_alike a v (value.Number n) other e
+alike_by a v (Err f) other e = tt
+
+pub number_alike : (a : AssignmentOperator) (v : Value) (found : Option ℤ) → a ≢ assignment.Plain → found ≡ result_ok (num_of v) → IfSome found (λ n. AssignsAlike a v (value.Number n))
+number_alike a v found other e = subst (λ (o : Option ℤ). IfSome o (λ n. AssignsAlike a v (value.Number n))) (sym e) (alike_by a v (num_of v) other refl)

@@ -1,0 +1,41 @@
+-- What is done with operands that are read where they stand, in any way.
+use Rattle.std.specs.Prelude.{◌≡◌, Bool, Result, Ok, Err}
+use Rattle.awk_lex.specs.declared.token.AssignmentOperator.{AssignmentOperator}
+use Rattle.awk_lex.specs.declared.token.IncrementOperator.{IncrementOperator}
+use Rattle.awk_value.specs.declared.value.Value.{Value}
+use Rattle.awk_value.specs.Values.{truth_of}
+use Rattle.awk_semantics.specs.declared.halt.Halt.{Halt}
+use Rattle.awk_semantics.specs.State.{Run}
+use Rattle.awk_storage.specs.declared.position.Variable.{Variable}
+use Rattle.awk_compile.specs.declared.node.Operand.{Operand}
+use Rattle.awk_compile.specs.declared.node.ValueNode.{ValueNode}
+use Rattle.awk_compile.specs.Nodes.{operand_value, update, increment}
+use Rattle.awk_runtime.specs.Simulation.{Changes}
+use Rattle.awk_evaluator.specs.declared.machine.Machine.{Machine}
+use Rattle.awk_evaluator.specs.support.Moves.{Computes}
+
+-- what takes no value off the stack, and puts none on it
+pub record Runs (run : Run Value) (m : Machine) (r : Result Value Halt) (m' : Machine) : Type 0 where
+  pub operands : m'.operands ≡ m.operands
+  pub calls : m'.calls ≡ m.calls
+  pub changes : Changes run m.runtime m'.runtime r
+
+abbrev pub ReadsOperand : Operand → Machine → Result Value Halt → Machine → Type 0
+ReadsOperand a m r m' = Runs (operand_value m.runtime.names.scalars a) m r m'
+
+-- whether the value of a node is true; what it takes is taken off the stack
+
+abbrev pub ComparesBy : ValueNode → Machine → Result Bool Halt → Machine → Type 0
+ComparesBy x m (Ok holds) m' = (w : Value) × (truth_of w ≡ holds) × Computes x m (Ok w) m'
+ComparesBy x m (Err h) m' = Computes x m (Err h) m'
+
+pub record Compares (x : ValueNode) (m : Machine) (r : Result Bool Halt) (m' : Machine) : Type 0 where
+  pub compares : ComparesBy x m r m'
+
+-- a step is spent, and a variable gets an operand, or its number and 1, or less 1
+
+abbrev pub Updates : AssignmentOperator → Variable → Operand → Machine → Result Value Halt → Machine → Type 0
+Updates o x a m r m' = Runs (update m.runtime.names.scalars o x a) m r m'
+
+abbrev pub Increments : IncrementOperator → Variable → Machine → Result Value Halt → Machine → Type 0
+Increments o x m r m' = Runs (increment m.runtime.names.scalars o x) m r m'

@@ -1,0 +1,246 @@
+// Values that are at hand, put on the stack. Where one can't be put there so, nothing changes.
+
+ghost use Rattle.std.specs.Prelude.{◌≡◌, IfSome, true, false};
+ghost use Rattle.awk_value.specs.declared.value.Value.TheVariants.{Number};
+ghost use Rattle.awk_grammar.specs.declared.tree.BinaryOperator.TheVariants.{Infix};
+ghost use Rattle.awk_grammar.specs.declared.tree.UnaryOperator.TheVariants.{Minus as Negative};
+ghost use Rattle.awk_compile.specs.declared.node.ValueNode.TheVariants.{Push, Read, Operate, OperateWith, OperateOn, Change, ReadField, ReadFieldAt, ReadElement};
+ghost use Rattle.awk_evaluator.specs.Quick.{IsAtHand, Puts, Pushed};
+
+use crate::machine::Machine;
+use awk_compile::node::{Operand, ValueNode};
+use awk_functions::apply_in_short;
+use awk_grammar::tree::{BinaryOperator, UnaryOperator};
+use awk_lex::token::Operator;
+use awk_storage::{Array, Variable};
+use awk_value::Value;
+
+impl Machine {
+    /// Puts the value of a node on the stack.
+    #[inline(always)]
+    pub(crate) fn put_quickly(&mut self, node: &ValueNode) -> bool
+        ensures puts { result ≡ true → Puts (node.now) self.old self.new }
+        ensures kept { result ≡ false → self.new ≡ self.old }
+    {
+        match node {
+            ValueNode::Push(value) => self.put_constant(value),
+            ValueNode::Read(variable) => self.put_variable(*variable),
+            ValueNode::Operate(BinaryOperator::Infix(operator)) => self.put_operated(*operator),
+            ValueNode::OperateWith(BinaryOperator::Infix(operator), right) => {
+                self.put_operated_with(*operator, right)
+            }
+            ValueNode::OperateOn(BinaryOperator::Infix(operator), left, right) => {
+                self.put_operated_on(*operator, left, right)
+            }
+            ValueNode::Change(UnaryOperator::Minus) => self.put_negated(),
+            ValueNode::ReadField => self.put_field(),
+            ValueNode::ReadFieldAt(number) => self.put_field_at(number),
+            ValueNode::ReadElement(array) => self.put_element(*array),
+            _ => false,
+        }
+    }
+
+    /// The number that an operand is, if it is one.
+    #[inline(always)]
+    pub(crate) fn number_at(&mut self, operand: &Operand) -> Option<i128>
+        ensures some { IfSome result (λ n. IsAtHand operand.now (Number n) self.old) }
+        ensures same { self.new ≡ self.old }
+    {
+        match operand {
+            Operand::Constant(Value::Number(n)) => Some(*n),
+            Operand::Constant(_) => None,
+            Operand::Variable(variable) => self.runtime.number_in(*variable),
+        }
+    }
+
+    /// The value that an operand is, where one is kept.
+    #[inline(always)]
+    pub(crate) fn value_at<'a>(&'a self, operand: &'a Operand) -> Option<&'a Value>
+        ensures { IfSome result (λ value. IsAtHand operand.now value.now self.now) }
+    {
+        match operand {
+            Operand::Constant(value) => Some(value),
+            Operand::Variable(variable) => self.runtime.value_in(*variable),
+        }
+    }
+
+    /// Puts a number on the stack.
+    #[inline(always)]
+    fn put(&mut self, n: i128) -> bool
+        ensures pushed { result ≡ true → Pushed (Number n) self.old self.new }
+        ensures kept { result ≡ false → self.new ≡ self.old }
+    {
+        self.operands.push(Value::Number(n)).is_ok()
+    }
+
+    /// Puts a value of the program on the stack.
+    #[inline(always)]
+    fn put_constant(&mut self, value: &Value) -> bool
+        ensures puts { result ≡ true → Puts (Push value.now) self.old self.new }
+        ensures kept { result ≡ false → self.new ≡ self.old }
+    {
+        if let Value::Number(n) = value {
+            return self.put(*n);
+        }
+        self.put_copy(value)
+    }
+
+    /// Puts a copy of a value on the stack.
+    #[inline(never)]
+    fn put_copy(&mut self, value: &Value) -> bool
+        ensures puts { result ≡ true → Puts (Push value.now) self.old self.new }
+        ensures kept { result ≡ false → self.new ≡ self.old }
+    {
+        match value.clone() {
+            Ok(copy) => self.operands.push(copy).is_ok(),
+            Err(_) => false,
+        }
+    }
+
+    /// Puts the value of a variable on the stack.
+    #[inline(always)]
+    fn put_variable(&mut self, variable: Variable) -> bool
+        ensures puts { result ≡ true → Puts (Read variable) self.old self.new }
+        ensures kept { result ≡ false → self.new ≡ self.old }
+    {
+        if let Some(n) = self.runtime.number_in(variable) {
+            return self.put(n);
+        }
+        self.put_copy_of(variable)
+    }
+
+    /// Puts a copy of the value of a variable on the stack.
+    #[inline(never)]
+    fn put_copy_of(&mut self, variable: Variable) -> bool
+        ensures puts { result ≡ true → Puts (Read variable) self.old self.new }
+        ensures kept { result ≡ false → self.new ≡ self.old }
+    {
+        let Some(value) = self.runtime.value_in(variable) else {
+            return false;
+        };
+        match value.clone() {
+            Ok(copy) => self.operands.push(copy).is_ok(),
+            Err(_) => false,
+        }
+    }
+
+    /// Puts what an operator makes of two values that are numbers in their place.
+    #[inline(always)]
+    fn put_operated(&mut self, operator: Operator) -> bool
+        ensures puts { result ≡ true → Puts (Operate (Infix operator)) self.old self.new }
+        ensures kept { result ≡ false → self.new ≡ self.old }
+    {
+        let Some(m) = self.operands.number_below() else {
+            return false;
+        };
+        let Some(n) = self.operands.number() else {
+            return false;
+        };
+        let Some(z) = apply_in_short(operator, m, n) else {
+            return false;
+        };
+        self.operands.pop();
+        self.operands.replace(Value::Number(z));
+        true
+    }
+
+    /// The same of a value and an operand.
+    #[inline(always)]
+    fn put_operated_with(&mut self, operator: Operator, right: &Operand) -> bool
+        ensures puts { result ≡ true → Puts (OperateWith (Infix operator) right.now) self.old self.new }
+        ensures kept { result ≡ false → self.new ≡ self.old }
+    {
+        let Some(m) = self.operands.number() else {
+            return false;
+        };
+        let Some(n) = self.number_at(right) else {
+            return false;
+        };
+        let Some(z) = apply_in_short(operator, m, n) else {
+            return false;
+        };
+        self.operands.replace(Value::Number(z));
+        true
+    }
+
+    /// The same of two operands.
+    #[inline(always)]
+    fn put_operated_on(&mut self, operator: Operator, left: &Operand, right: &Operand) -> bool
+        ensures puts { result ≡ true → Puts (OperateOn (Infix operator) left.now right.now) self.old self.new }
+        ensures kept { result ≡ false → self.new ≡ self.old }
+    {
+        let Some(m) = self.number_at(left) else {
+            return false;
+        };
+        let Some(n) = self.number_at(right) else {
+            return false;
+        };
+        let Some(z) = apply_in_short(operator, m, n) else {
+            return false;
+        };
+        self.put(z)
+    }
+
+    /// Puts the number with the other sign in the place of a number.
+    #[inline(always)]
+    fn put_negated(&mut self) -> bool
+        ensures puts { result ≡ true → Puts (Change Negative) self.old self.new }
+        ensures kept { result ≡ false → self.new ≡ self.old }
+    {
+        let Some(n) = self.operands.number() else {
+            return false;
+        };
+        let Some(z) = n.checked_neg() else {
+            return false;
+        };
+        self.operands.replace(Value::Number(z));
+        true
+    }
+
+    /// Puts the field whose number lies on top in its place.
+    #[inline(always)]
+    fn put_field(&mut self) -> bool
+        ensures puts { result ≡ true → Puts ReadField self.old self.new }
+        ensures kept { result ≡ false → self.new ≡ self.old }
+    {
+        let Some(n) = self.operands.number() else {
+            return false;
+        };
+        let Some(value) = self.runtime.field_at_hand(n) else {
+            return false;
+        };
+        self.operands.replace(value);
+        true
+    }
+
+    /// Puts the field whose number an operand is on the stack.
+    #[inline(always)]
+    fn put_field_at(&mut self, number: &Operand) -> bool
+        ensures puts { result ≡ true → Puts (ReadFieldAt number.now) self.old self.new }
+        ensures kept { result ≡ false → self.new ≡ self.old }
+    {
+        let Some(n) = self.number_at(number) else {
+            return false;
+        };
+        let Some(value) = self.runtime.field_at_hand(n) else {
+            return false;
+        };
+        self.operands.push(value).is_ok()
+    }
+
+    /// Puts the element whose key lies on top in its place.
+    #[inline(always)]
+    fn put_element(&mut self, array: Array) -> bool
+        ensures puts { result ≡ true → Puts (ReadElement array) self.old self.new }
+        ensures kept { result ≡ false → self.new ≡ self.old }
+    {
+        let Some(key) = self.operands.top() else {
+            return false;
+        };
+        let Some(value) = self.runtime.element_at_hand(array, key) else {
+            return false;
+        };
+        self.operands.replace(value);
+        true
+    }
+}
