@@ -1,4 +1,4 @@
-use Rattle.std.proofs.Common.{◌≡◌, ℕ, ◌+◌, ◌-◌, ◌≤◌, List, take, drop, arith}
+use Rattle.std.proofs.Common.{◌≡◌, ℕ, ◌+◌, ◌-◌, ◌≤◌, List, take, drop, length, length-take, length-drop, arith}
 use Rattle.std.proofs.lemmas.List.{drop-take, take-take, drop-drop}
 
 -- The bytes of a cut, in either order of its ends.
@@ -21,3 +21,7 @@ cut_of_cut xs start from to end ordered within =
     let inner = drop-take from (to - from) (drop start xs) in
     let both = drop-drop from start xs in
     cc
+
+-- The places of a cut are places of the whole.
+pub place_in_whole : (xs : List ℕ) (start end place : ℕ) → start ≤ end → end ≤ length xs → place ≤ length (drop start (take end xs)) → start + place ≤ end
+place_in_whole xs start end place ordered within inside = grind (arith, length-take, length-drop)

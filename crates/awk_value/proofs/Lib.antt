@@ -1,4 +1,5 @@
 pub mod CutOfCut
 pub mod DigitsPastRange
+pub mod FewDigits
 pub mod Powers
 pub mod RangeIsInt128

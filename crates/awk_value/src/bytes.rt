@@ -1,49 +1,101 @@
-// Texts of bytes that share their memory, which grows in place where one text alone holds it.
+// Texts of bytes. Short ones stand inside the value; others share their memory, which grows in
+// place where one text alone holds it.
 
-ghost use Rattle.std.specs.Prelude.{◌≡◌, ℕ, ◌+◌, ◌-◌, ◌<◌, ◌≤◌, ◌==◌, if◌then◌else◌, true};
-ghost use Rattle.std.specs.Prelude.{List, [], ◌++◌, length, take, drop, IfOk, OnOk, OnErr};
+ghost use Rattle.std.specs.Prelude.{◌≡◌, ℕ, ◌+◌, ◌<◌, ◌≤◌, ◌==◌, if◌then◌else◌, true, false};
+ghost use Rattle.std.specs.Prelude.{List, [], ◌++◌, length, take, drop, vec_len, IfOk, OnOk, OnErr};
 
+use crate::short::{MOST, ShortBytes};
 use std::alloc::{AllocError, Global};
 use std::marker::Model;
 use std::rc::Rc;
 
+/// The last place in memory that a text with places of 32 bits reaches.
+const LAST_PLACE: usize = u32::MAX as usize;
+
+/// Where the bytes of a text stand.
+#[derive(Debug, Drop)]
+enum Form {
+    /// In the value itself.
+    Short(ShortBytes),
+    /// Those of this memory from a place up to another.
+    Shared(Rc<Vec<u8>>, u32, u32),
+    /// Those of this memory from a place on, where it is too large for places of 32 bits.
+    Large(Rc<Vec<u8>>, usize, Global),
+}
+
 /// A text of bytes. Its clones and cuts share its memory, and none of them ever sees another
-/// change.
+/// change. A text of up to 20 bytes may stand in the value itself, with no memory.
 #[derive(Debug, Drop)]
 pub struct Bytes {
-    shared: Rc<Vec<u8>>,
-    start: usize,
-    end: usize,
+    form: Form,
 }
 
 impl Model for Bytes {
+    ghost use Rattle.std.specs.Prelude.{List, ℕ};
+
     ghost Value = { List ℕ };
 
-    ghost view = { λ b. drop b.start (take b.end b.shared.value.items) };
+    ghost use Rattle.awk_value.specs.Forms.{bytes_of, IsWithin};
 
-    ghost invariant = { λ b. (b.start ≤ b.end) × (b.end ≤ length b.shared.value.items) };
+    ghost view = { λ b. bytes_of b.form };
+
+    ghost invariant = { λ b. IsWithin b.form };
 }
 
 impl Bytes {
-    /// The text of these bytes, which are moved and not copied. Fails only where memory is
-    /// refused.
+    /// The empty text, which takes no memory.
+    #[inline]
+    pub fn empty() -> Bytes
+        ensures { result ≡ [] }
+    {
+        Bytes {
+            form: Form::Short(ShortBytes::empty()),
+        }
+    }
+
+    /// The text of these bytes, which are moved and not copied where they are many. Fails only
+    /// where memory is refused.
     pub fn from_vec(alloc: Global, bytes: Vec<u8>) -> Result<Bytes, AllocError>
         ensures { IfOk result (λ text. text ≡ bytes.items) }
     {
+        if bytes.len() <= MOST {
+            return Ok(short(bytes.as_slice()));
+        }
         let end = bytes.len();
-        let shared = Rc::new(alloc, bytes)?;
+        Bytes::from_part(alloc, bytes, end)
+    }
+
+    /// The text of the first of these bytes, in this memory, however few they are. Fails only
+    /// where memory is refused.
+    pub fn from_part(alloc: Global, bytes: Vec<u8>, end: usize) -> Result<Bytes, AllocError>
+        requires { end ≤ vec_len bytes }
+        ensures { IfOk result (λ text. text ≡ take end bytes.items) }
+    {
+        if end > LAST_PLACE {
+            return large(alloc, bytes, end);
+        }
         Ok(Bytes {
-            shared,
-            start: 0,
-            end,
+            form: Form::Shared(Rc::new(alloc, bytes)?, 0, end as u32),
         })
     }
 
+    /// The memory of the text, whatever it holds, where there is any and nothing else shares it.
+    pub fn into_memory(self) -> Option<Vec<u8>> {
+        match self.form {
+            Form::Short(..) => None,
+            Form::Shared(memory, ..) | Form::Large(memory, ..) => Rc::into_inner(memory),
+        }
+    }
+
     /// The text of a copy of these bytes. Fails only where memory is refused.
+    #[inline]
     pub fn from_slice(alloc: Global, bytes: &[u8]) -> Result<Bytes, AllocError>
         ensures { IfOk result (λ text. text ≡ bytes.now) }
     {
-        Bytes::from_vec(alloc, Vec::from_slice(alloc, bytes)?)
+        if bytes.len() <= MOST {
+            return Ok(short(bytes));
+        }
+        copied(alloc, bytes)
     }
 
     /// The bytes.
@@ -51,7 +103,13 @@ impl Bytes {
     pub fn as_slice(&self) -> &[u8]
         ensures { result.now ≡ self.now }
     {
-        &self.shared.as_slice()[self.start..self.end]
+        match &self.form {
+            Form::Short(text) => text.as_slice(),
+            Form::Shared(memory, start, end) => {
+                &memory.as_slice()[*start as usize..*end as usize]
+            }
+            Form::Large(memory, start, _) => &memory.as_slice()[*start..],
+        }
     }
 
     /// The number of bytes.
@@ -59,7 +117,11 @@ impl Bytes {
     pub fn len(&self) -> usize
         ensures { result ≡ length self.now }
     {
-        self.end - self.start
+        match &self.form {
+            Form::Short(text) => text.len(),
+            Form::Shared(_, start, end) => (*end - *start) as usize,
+            Form::Large(memory, start, _) => memory.len() - *start,
+        }
     }
 
     /// Whether there are no bytes.
@@ -70,19 +132,104 @@ impl Bytes {
         self.len() == 0
     }
 
-    /// The bytes from `from` up to `to`, which share this text's memory. Fails only where the
-    /// memory has no room for one more owner.
+    /// The bytes from `from` up to `to`, which share this text's memory where they are many. Fails
+    /// only where the memory has no room for one more owner, or where memory is refused.
     #[inline]
     pub fn cut(&self, from: usize, to: usize) -> Result<Bytes, AllocError>
         requires ordered { from ≤ to }
         requires within { to ≤ length self.now }
         ensures { IfOk result (λ text. text ≡ drop from (take to self.now)) }
     {
-        Ok(Bytes {
-            shared: self.shared.clone()?,
-            start: self.start + from,
-            end: self.start + to,
-        })
+        if let Form::Shared(memory, start, end) = &self.form {
+            let _end = *end;
+            return cut_shared(memory, *start, from, to);
+        }
+        self.cut_apart(from, to)
+    }
+
+    /// The same, by a copy.
+    #[inline(never)]
+    fn cut_apart(&self, from: usize, to: usize) -> Result<Bytes, AllocError>
+        requires ordered { from ≤ to }
+        requires within { to ≤ length self.now }
+        ensures { IfOk result (λ text. text ≡ drop from (take to self.now)) }
+    {
+        match &self.form {
+            Form::Short(text) => Ok(short(&text.as_slice()[from..to])),
+            Form::Shared(memory, start, end) => {
+                let _end = *end;
+                cut_shared(memory, *start, from, to)
+            }
+            Form::Large(_, _, alloc) => Bytes::from_slice(*alloc, &self.as_slice()[from..to]),
+        }
+    }
+
+    /// Drops the first bytes, so many, in no time.
+    #[inline(always)]
+    pub fn advance(&mut self, count: usize)
+        requires { count ≤ length self.old }
+        ensures { self.new ≡ drop count self.old }
+    {
+        match &mut self.form {
+            Form::Shared(_, start, end) => {
+                let _end = *end;
+                *start += count as u32;
+            }
+            Form::Large(_, start, _) => *start += count,
+            Form::Short(text) => *self = short(&text.as_slice()[count..]),
+        }
+    }
+
+    /// Moves the bytes to the front of their memory, where nothing else shares it.
+    pub fn compact(&mut self)
+        ensures { self.new ≡ self.old }
+    {
+        match &mut self.form {
+            Form::Short(..) => {}
+            Form::Shared(memory, start, end) => {
+                if move_to_front(memory, *start as usize, *end as usize) {
+                    *end -= *start;
+                    *start = 0;
+                }
+            }
+            Form::Large(memory, start, _) => {
+                let end = memory.len();
+                if move_to_front(memory, *start, end) {
+                    *start = 0;
+                }
+            }
+        }
+    }
+
+    /// Whether the text holds no memory that is much larger than the text.
+    #[inline]
+    pub fn is_settled(&self) -> bool {
+        match &self.form {
+            Form::Short(..) => true,
+            Form::Shared(memory, ..) | Form::Large(memory, ..) => {
+                self.len() > MOST && memory.len() / 4 <= self.len() + 64
+            }
+        }
+    }
+
+    /// The same text, without memory that is much larger than the text: so that a text that is
+    /// kept holds no input. Fails only where memory is refused.
+    #[inline]
+    pub fn settled(self, alloc: Global) -> Result<Bytes, AllocError>
+        ensures { IfOk result (λ text. text ≡ self) }
+    {
+        if self.is_settled() {
+            return Ok(self);
+        }
+        self.copied(alloc)
+    }
+
+    /// A copy of the text, in memory of its own where it is not short.
+    #[inline(never)]
+    fn copied(&self, alloc: Global) -> Result<Bytes, AllocError>
+        ensures { IfOk result (λ text. text ≡ self.now) }
+    {
+        Bytes::from_slice(alloc, self.as_slice())
     }
 
     /// Appends a copy of these bytes. The memory grows in place, in time of the bytes appended on
@@ -93,15 +240,63 @@ impl Bytes {
         ensures bytes { OnOk result (self.new ≡ self.old ++ bytes.now) }
         ensures unchanged { OnErr result (self.new ≡ self.old) }
     {
-        if extend_unshared(&mut self.shared, self.end, bytes)? {
-            self.end += bytes.len();
+        if self.extend_in_place(bytes)? {
             return Ok(());
         }
-        let mut copy = Vec::with_capacity(alloc, self.len() + bytes.len())?;
+        let mut copy = Vec::with_capacity(alloc, room_for_growth(self.len(), bytes.len()))?;
         copy.extend_from_slice(self.as_slice())?;
         copy.extend_from_slice(bytes)?;
         *self = Bytes::from_vec(alloc, copy)?;
         Ok(())
+    }
+
+    /// Appends a copy of these bytes where the text can grow in place: whether it could.
+    #[inline]
+    fn extend_in_place(&mut self, bytes: &[u8]) -> Result<bool, AllocError>
+        ensures bytes { IfOk result (λ extended.
+            self.new ≡ (if extended then self.old ++ bytes.now else self.old)) }
+        ensures unchanged { OnErr result (self.new ≡ self.old) }
+    {
+        match &mut self.form {
+            Form::Short(text) => Ok(text.try_extend(bytes)),
+            Form::Shared(memory, _, end) => {
+                if bytes.len() > LAST_PLACE - *end as usize {
+                    return Ok(false);
+                }
+                let extended = extend_unshared(memory, *end as usize, bytes)?;
+                if extended {
+                    *end += bytes.len() as u32;
+                }
+                Ok(extended)
+            }
+            Form::Large(memory, ..) => {
+                let end = memory.len();
+                extend_unshared(memory, end, bytes)
+            }
+        }
+    }
+
+    /// Makes the text empty and keeps its memory, where nothing else shares that: whether it could.
+    #[inline]
+    pub fn try_empty(&mut self) -> bool
+        ensures emptied { result ≡ true → self.new ≡ [] }
+        ensures unchanged { result ≡ false → self.new ≡ self.old }
+    {
+        match &mut self.form {
+            Form::Short(text) => {
+                text.clear();
+                true
+            }
+            Form::Shared(memory, start, end) => {
+                let emptied = empty_unshared(memory);
+                if emptied {
+                    *start = 0;
+                    *end = 0;
+                }
+                emptied
+            }
+            Form::Large(..) => false,
+        }
     }
 
     /// Makes the text a copy of these bytes. Its memory is written anew in place where nothing else
@@ -110,27 +305,105 @@ impl Bytes {
         ensures bytes { OnOk result (self.new ≡ bytes.now) }
         ensures empty { OnErr result (self.new ≡ []) }
     {
-        self.start = 0;
-        self.end = 0;
-        if overwrite_unshared(&mut self.shared, bytes)? {
-            self.end = bytes.len();
-            return Ok(());
+        if !self.try_empty() {
+            *self = Bytes::empty();
         }
-        *self = Bytes::from_slice(alloc, bytes)?;
-        Ok(())
+        self.extend_from_slice(alloc, bytes)
     }
 }
 
-/// Writes memory anew that has no other owner: whether it has none.
-fn overwrite_unshared(shared: &mut Rc<Vec<u8>>, bytes: &[u8]) -> Result<bool, AllocError>
-    ensures { IfOk result (λ written. written ≡ true → shared.new.value.items ≡ bytes.now) }
+/// The text of a few bytes, which stands in the value.
+#[inline]
+fn short(bytes: &[u8]) -> Bytes
+    requires { length bytes.now ≤ MOST }
+    ensures { result ≡ bytes.now }
 {
-    let Some(memory) = Rc::get_mut(shared) else {
-        return Ok(false);
-    };
-    memory.clear();
-    memory.extend_from_slice(bytes)?;
-    Ok(true)
+    Bytes {
+        form: Form::Short(ShortBytes::new(bytes)),
+    }
+}
+
+/// The text of a copy of these bytes, in memory of its own.
+#[inline(never)]
+fn copied(alloc: Global, bytes: &[u8]) -> Result<Bytes, AllocError>
+    ensures { IfOk result (λ text. text ≡ bytes.now) }
+{
+    Bytes::from_part(alloc, Vec::from_slice(alloc, bytes)?, bytes.len())
+}
+
+/// The text of a part of this memory behind a place.
+#[inline]
+fn cut_shared(memory: &Rc<Vec<u8>>, start: u32, from: usize, to: usize) -> Result<Bytes, AllocError>
+    requires ordered { from ≤ to }
+    requires within { start + to ≤ length memory.now.value.items }
+    requires places { start + to ≤ LAST_PLACE }
+    ensures { IfOk result (λ text. text ≡ drop (start + from) (take (start + to) memory.now.value.items)) }
+{
+    let start = start as usize;
+    let (from, to) = (start + from, start + to);
+    if to - from <= MOST {
+        return Ok(Bytes {
+            form: Form::Short(ShortBytes::cut(memory.as_slice(), from, to)),
+        });
+    }
+    Ok(Bytes {
+        form: Form::Shared(memory.clone()?, from as u32, to as u32),
+    })
+}
+
+/// The text of the first of these bytes, which may be too many for places of 32 bits.
+#[cold]
+#[inline(never)]
+fn large(alloc: Global, mut bytes: Vec<u8>, end: usize) -> Result<Bytes, AllocError>
+    requires { end ≤ vec_len bytes }
+    ensures { IfOk result (λ text. text ≡ take end bytes.items) }
+{
+    bytes.truncate(end);
+    Ok(Bytes {
+        form: Form::Large(Rc::new(alloc, bytes)?, 0, alloc),
+    })
+}
+
+/// The least memory that is taken for a text that grows.
+const LEAST_ROOM: usize = 64;
+
+/// Room for so many bytes, those appended, and some more.
+fn room_for_growth(len: usize, more: usize) -> usize {
+    let room = len
+        .saturating_add(len / 2)
+        .saturating_add(more)
+        .saturating_add(more);
+    if room < LEAST_ROOM { LEAST_ROOM } else { room }
+}
+
+/// Moves a part to the front of memory that has no other owner, which then ends with it: whether
+/// it is such memory.
+fn move_to_front(shared: &mut Rc<Vec<u8>>, from: usize, to: usize) -> bool
+    requires ordered { from ≤ to }
+    requires within { to ≤ length shared.old.value.items }
+    ensures { shared.new.value.items ≡ (if result then drop from (take to shared.old.value.items) else shared.old.value.items) }
+{
+    match Rc::get_mut(shared) {
+        Some(memory) => {
+            memory.copy_within(from..to, 0);
+            memory.truncate(to - from);
+            true
+        }
+        None => false,
+    }
+}
+
+/// Empties memory that has no other owner: whether it is such memory.
+fn empty_unshared(shared: &mut Rc<Vec<u8>>) -> bool
+    ensures { shared.new.value.items ≡ (if result then [] else shared.old.value.items) }
+{
+    match Rc::get_mut(shared) {
+        Some(memory) => {
+            memory.clear();
+            true
+        }
+        None => false,
+    }
 }
 
 /// Appends to memory that has no other owner and ends at `end`: whether it is such memory.
@@ -158,9 +431,11 @@ impl Clone for Bytes {
     #[inline]
     fn clone(&self) -> Result<Bytes, AllocError> {
         Ok(Bytes {
-            shared: self.shared.clone()?,
-            start: self.start,
-            end: self.end,
+            form: match &self.form {
+                Form::Short(text) => Form::Short(text.copy()),
+                Form::Shared(memory, start, end) => { Form::Shared(memory.clone()?, *start, *end) }
+                Form::Large(memory, start, alloc) => Form::Large(memory.clone()?, *start, *alloc),
+            },
         })
     }
 }

@@ -1,6 +1,7 @@
 // A value as a number, as a text and as a truth.
 
 ghost use Rattle.std.specs.Prelude.{◌≡◌, ◌++◌, Ok, IfSome, IfOk, IfErr, OnOk, OnErr};
+ghost use Rattle.std.specs.Fmt.{signed_decimal};
 ghost use Rattle.awk_value.specs.Values.{num_of, str_of, numeric_of, truth_of};
 ghost use Rattle.awk_value.specs.declared.fault.ValueFault.TheVariants.{Memory};
 ghost use Rattle.awk_value.specs.declared.value.Value.TheVariants.{Text};
@@ -43,7 +44,7 @@ pub fn numeric_of(value: &Value) -> Option<i128>
 }
 
 /// The bytes of a value's text. A number is written into the buffer, so no memory is taken.
-pub(crate) fn text_in<'a>(value: &'a Value, buffer: &'a mut Buffer) -> &'a [u8]
+pub fn text_in<'a>(value: &'a Value, buffer: &'a mut Buffer) -> &'a [u8]
     ensures { result.now ≡ str_of value.now }
 {
     match value {
@@ -61,7 +62,7 @@ pub fn text_of(alloc: Global, value: &Value) -> Result<Bytes, ValueFault>
     ensures fault { IfErr result (λ fault. fault ≡ Memory) }
 {
     Ok(match value {
-        Value::Nothing => Bytes::from_slice(alloc, b"")?,
+        Value::Nothing => Bytes::empty(),
         Value::Number(n) => Bytes::from_slice(alloc, Buffer::new().format(*n).as_bytes())?,
         Value::Text(text) => text.clone()?,
         Value::Input(text) => text.clone()?,
@@ -70,13 +71,43 @@ pub fn text_of(alloc: Global, value: &Value) -> Result<Bytes, ValueFault>
 
 /// Appends the text of a value, as `text_of` gives it, to the buffer. The fault is `Memory`, and
 /// leaves the buffer's bytes as they were.
+#[inline]
 pub fn append_text(value: &Value, buffer: &mut Vec<u8>) -> Result<(), ValueFault>
     ensures text { OnOk result (buffer.new.items ≡ buffer.old.items ++ str_of value.now) }
     ensures unchanged { OnErr result (buffer.new.items ≡ buffer.old.items) }
     ensures fault { IfErr result (λ fault. fault ≡ Memory) }
 {
+    match value {
+        Value::Nothing => Ok(()),
+        Value::Number(n) => append_number(*n, buffer),
+        Value::Text(text) => append_bytes(text.as_slice(), buffer),
+        Value::Input(text) => append_bytes(text.as_slice(), buffer),
+    }
+}
+
+/// Appends bytes, which often are but one.
+#[inline]
+fn append_bytes(bytes: &[u8], buffer: &mut Vec<u8>) -> Result<(), ValueFault>
+    ensures bytes { OnOk result (buffer.new.items ≡ buffer.old.items ++ bytes.now) }
+    ensures unchanged { OnErr result (buffer.new.items ≡ buffer.old.items) }
+    ensures fault { IfErr result (λ fault. fault ≡ Memory) }
+{
+    match bytes {
+        [byte] => buffer.push(*byte)?,
+        bytes => buffer.extend_from_slice(bytes)?,
+    }
+    Ok(())
+}
+
+/// Appends the decimal form of a number.
+#[inline(never)]
+fn append_number(n: i128, buffer: &mut Vec<u8>) -> Result<(), ValueFault>
+    ensures text { OnOk result (buffer.new.items ≡ buffer.old.items ++ signed_decimal n) }
+    ensures unchanged { OnErr result (buffer.new.items ≡ buffer.old.items) }
+    ensures fault { IfErr result (λ fault. fault ≡ Memory) }
+{
     let mut digits = Buffer::new();
-    buffer.extend_from_slice(text_in(value, &mut digits))?;
+    buffer.extend_from_slice(digits.format(n).as_bytes())?;
     Ok(())
 }
 

@@ -8,6 +8,7 @@ mod convert;
 mod fault;
 mod number;
 mod order;
+mod short;
 mod value;
 
 pub use crate::arithmetic::{
@@ -16,7 +17,8 @@ pub use crate::arithmetic::{
 };
 pub use crate::bytes::Bytes;
 pub use crate::convert::{
-    append_text, concatenate, concatenate_in_place, is_true, number_of, numeric_of, text_of,
+    append_text, concatenate, concatenate_in_place, is_true, number_of, numeric_of, text_in,
+    text_of,
 };
 pub use crate::fault::ValueFault;
 pub use crate::order::compare;

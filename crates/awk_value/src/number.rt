@@ -1,8 +1,8 @@
 // The number that a text spells.
 
-ghost use Rattle.std.specs.Prelude.{◌≡◌, ℕ, ◌+◌, ◌*◌, ◌^◌, ◌<◌, ◌≤◌, length, MatchOption};
+ghost use Rattle.std.specs.Prelude.{◌≡◌, ℕ, ◌+◌, ◌*◌, ◌^◌, ◌<◌, ◌≤◌, length, MatchOption, true, pos, [], Ok, Some, None, IfSome, OnSome};
 ghost use Rattle.awk_value.specs.Arithmetic.{range_checked};
-ghost use Rattle.awk_value.specs.Numbers.{after_blanks, has_minus, after_sign, digits_value};
+ghost use Rattle.awk_value.specs.Numbers.{after_blanks, has_minus, after_sign, has_digit, digits_value};
 ghost use Rattle.awk_value.specs.Numbers.{after_digits, signed_number, text_number, numeric_text};
 ghost use Rattle.awk_value.specs.Numbers.{is_blank_or_newline as blank_or_newline};
 
@@ -118,9 +118,73 @@ fn with_sign(negative: bool, size: u128) -> Result<i128, ValueFault>
     Err(ValueFault::Range)
 }
 
+/// So many digits have room in a `u64`.
+const FEW: usize = 18;
+
+/// The value of a text that is digits and nothing else, at least one and few; nothing of another.
+#[inline(always)]
+fn few_digits(text: &[u8]) -> Option<u64>
+    ensures value { IfSome result (λ n. n ≡ digits_value 0 text.now) }
+    ensures digits { OnSome result (has_digit text.now ≡ true) }
+    ensures rest { OnSome result (after_digits text.now ≡ []) }
+    ensures few { IfSome result (λ n. n < 10 ^ 18) }
+{
+    if text.is_empty() || text.len() > FEW {
+        return None;
+    }
+    let mut value: u64 = 0;
+    for byte in text {
+        if !byte.is_ascii_digit() {
+            return None;
+        }
+        value = value * 10 + (*byte - b'0') as u64;
+    }
+    Some(value)
+}
+
+/// The number of a text that is a minus or nothing, and then digits and nothing else, at least one
+/// and few; nothing of another.
+#[inline(always)]
+fn few_signed_digits(text: &[u8]) -> Option<i128>
+    ensures number { IfSome result (λ n. text_number text.now ≡ Ok n) }
+    ensures numeric { IfSome result (λ n. numeric_text text.now ≡ Some n) }
+{
+    match text.split_first() {
+        Some((first, others)) if *first == b'-' => Some(-(few_digits(others)? as i128)),
+        _ => Some(few_digits(text)? as i128),
+    }
+}
+
+/// Whether a byte behind the digits stands in front: then the text begins with no number.
+#[inline(always)]
+fn is_wordy(text: &[u8]) -> bool
+    ensures number { result ≡ true → text_number text.now ≡ Ok (pos 0) }
+    ensures numeric { result ≡ true → numeric_text text.now ≡ None }
+{
+    match text.split_first() {
+        Some((first, _)) => *first > b'9',
+        None => false,
+    }
+}
+
 /// The number that the text begins with, or 0; the fault is `Range`.
-#[tactic(auto, using(crate::proofs::RangeIsInt128::far_out_of_range))]
+#[inline(always)]
 pub(crate) fn number_of_text(text: &[u8]) -> Result<i128, ValueFault>
+    ensures { result ≡ text_number text.now }
+{
+    if is_wordy(text) {
+        return Ok(0);
+    }
+    if let Some(n) = few_signed_digits(text) {
+        return Ok(n);
+    }
+    number_of_any(text)
+}
+
+/// The same, of any text.
+#[tactic(auto, using(crate::proofs::RangeIsInt128::far_out_of_range))]
+#[inline(never)]
+fn number_of_any(text: &[u8]) -> Result<i128, ValueFault>
     ensures { result ≡ text_number text.now }
 {
     let text = skip_blanks(text);
@@ -133,8 +197,23 @@ pub(crate) fn number_of_text(text: &[u8]) -> Result<i128, ValueFault>
 }
 
 /// The number that the text is, where it is a number and nothing else, and in range.
-#[tactic(auto, using(crate::proofs::RangeIsInt128::far_out_of_range))]
+#[inline(always)]
 pub(crate) fn numeric_of_text(text: &[u8]) -> Option<i128>
+    ensures { result ≡ numeric_text text.now }
+{
+    if is_wordy(text) {
+        return None;
+    }
+    if let Some(n) = few_signed_digits(text) {
+        return Some(n);
+    }
+    numeric_of_any(text)
+}
+
+/// The same, of any text.
+#[tactic(auto, using(crate::proofs::RangeIsInt128::far_out_of_range))]
+#[inline(never)]
+fn numeric_of_any(text: &[u8]) -> Option<i128>
     ensures { result ≡ numeric_text text.now }
 {
     let text = skip_blanks(text);

@@ -1,0 +1,121 @@
+// Texts of a few bytes, which take no memory.
+
+ghost use Rattle.std.specs.Prelude.{◌≡◌, ℕ, ◌≤◌, ◌<◌, if◌then◌else◌, List, [], ◌+◌, ◌++◌, length, take, drop};
+
+use std::marker::Model;
+
+/// The most bytes of a short text.
+pub(crate) const MOST: usize = 20;
+
+/// A text of at most 20 bytes.
+#[derive(Debug, Drop)]
+pub(crate) struct ShortBytes {
+    len: u16,
+    bytes: [u8; MOST],
+}
+
+impl Model for ShortBytes {
+    ghost Value = { List ℕ };
+
+    ghost view = { λ b. take b.len b.bytes };
+
+    ghost invariant = { λ b. b.len ≤ 20 };
+}
+
+impl ShortBytes {
+    /// The empty text.
+    #[inline(always)]
+    pub(crate) fn empty() -> ShortBytes
+        ensures { result ≡ [] }
+    {
+        ShortBytes {
+            len: 0,
+            bytes: [0; MOST],
+        }
+    }
+
+    /// The text of a copy of these bytes.
+    #[inline(always)]
+    pub(crate) fn new(bytes: &[u8]) -> ShortBytes
+        requires { length bytes.now ≤ MOST }
+        ensures { result ≡ bytes.now }
+    {
+        let mut room = [0; MOST];
+        room[..bytes.len()].copy_from_slice(bytes);
+        ShortBytes {
+            len: bytes.len() as u16,
+            bytes: room,
+        }
+    }
+
+    /// The text of a part of this memory. The copy has a fixed size where there is memory behind.
+    #[inline(always)]
+    pub(crate) fn cut(memory: &[u8], from: usize, to: usize) -> ShortBytes
+        requires ordered { from ≤ to }
+        requires within { to ≤ length memory.now }
+        requires few { to ≤ from + MOST }
+        ensures { result ≡ drop from (take to memory.now) }
+    {
+        if memory.len() - from < MOST {
+            return ShortBytes::new(&memory[from..to]);
+        }
+        let mut room = [0; MOST];
+        room.copy_from_slice(&memory[from..from + MOST]);
+        ShortBytes {
+            len: (to - from) as u16,
+            bytes: room,
+        }
+    }
+
+    /// A copy of the text.
+    #[inline(always)]
+    pub(crate) fn copy(&self) -> ShortBytes
+        ensures { result ≡ self.now }
+    {
+        ShortBytes {
+            len: self.len,
+            bytes: self.bytes,
+        }
+    }
+
+    /// The bytes.
+    #[inline(always)]
+    pub(crate) fn as_slice(&self) -> &[u8]
+        ensures bytes { result.now ≡ self.now }
+        ensures few { length self.now ≤ MOST }
+    {
+        &self.bytes[..self.len as usize]
+    }
+
+    /// The number of bytes.
+    #[inline(always)]
+    pub(crate) fn len(&self) -> usize
+        ensures { result ≡ length self.now }
+    {
+        let _bytes = self.as_slice();
+        self.len as usize
+    }
+
+    /// Makes the text empty.
+    #[inline(always)]
+    pub(crate) fn clear(&mut self)
+        ensures { self.new ≡ [] }
+    {
+        self.len = 0;
+    }
+
+    /// Appends a copy of these bytes where there is room for them: whether there is.
+    #[inline]
+    pub(crate) fn try_extend(&mut self, bytes: &[u8]) -> bool
+        ensures { self.new ≡ (if result then self.old ++ bytes.now else self.old) }
+    {
+        let from = self.len as usize;
+        if bytes.len() > MOST - from {
+            return false;
+        }
+        let to = from + bytes.len();
+        self.bytes[from..to].copy_from_slice(bytes);
+        self.len = to as u16;
+        true
+    }
+}
