@@ -1,8 +1,9 @@
 -- What a call shows of the three maps that keep an array: one lemma a call, at a number, a short text
 -- and a long one.
-use Rattle.std.proofs.Common.{◌≡◌, ℕ, ℤ, ◌+◌, ◌-◌, ◌<◌, ◌≤◌, Bool, true, false, nat_eq, true≢false, arith, append_assoc, length-append, FitsSigned, w64, to_z, of_z, to_z-of_z, List, [], ◌∷◌, ◌++◌, length, refl, sym, ap, subst, ◌∙◌, Option, Some, None}
+use Rattle.std.proofs.Common.{◌≡◌, ℕ, ℤ, ◌+◌, ◌<◌, ◌≤◌, Bool, true, false, nat_eq, true≢false, arith, append_assoc, length-append, FitsSigned, w64, to_z, of_z, to_z-of_z, List, [], ◌∷◌, ◌++◌, length, refl, sym, ap, subst, ◌∙◌, Option, Some, None}
 use Rattle.std.specs.Fmt.{signed_decimal}
-use Rattle.std.specs.Prelude.{Result, Ok, Err, OnOk, bytes_eq, map, replicate, ◌&&◌}
+use Rattle.std.specs.Option.{option_map}
+use Rattle.std.specs.Prelude.{Result, Ok, Err, OnOk, bytes_eq, map, ◌&&◌, MatchOption}
 use Rattle.std.specs.Ordering.{int_eq}
 use Rattle.std.specs.Map.{lookup, set_value, keys_of}
 use Rattle.std.specs.List.{AllByRecursion}
@@ -19,8 +20,8 @@ use Rattle.awk_table.specs.declared.entry.Entry.{Entry}
 use Rattle.awk_table.specs.declared.short_text.ShortText.{ShortText}
 use Rattle.awk_table.specs.Arrays.{Array, value_at, with_pair, without, HasDistinctKeys}
 use Rattle.awk_table.specs.support.StampOrder.{stamp_order}
-use Rattle.awk_table.specs.support.Texts.{IsInt64, IsTextKey, short_text, IsPadded}
-use Rattle.awk_table.proofs.Numbers.{is_int64}
+use Rattle.awk_table.specs.support.Texts.{IsInt64, IsTextKey, short_text, packed, IsPadded}
+use Rattle.awk_table.proofs.Int64.{is_int64}
 use Rattle.awk_table.proofs.Rows.{map-both, map-twice}
 use Rattle.awk_table.specs.support.Entries.{IsConsistent, all_rows, joined}
 use Rattle.awk_table.proofs.NamedKeys.{chosen-none, chosen-some}
@@ -28,25 +29,27 @@ use Rattle.awk_table.proofs.Moves.{swap-hit, swap-missed}
 use Rattle.awk_table.proofs.Joined.{left-lookup, left-set, left-more, left-taken, right-lookup, right-set, right-more, right-taken}
 use Rattle.awk_table.proofs.Counts.{stamp_order-few}
 use Rattle.awk_table.proofs.NumbersAndTexts
+use Rattle.awk_table.specs.support.Numbers.{IsTaken, revalued, with_value}
+use Rattle.awk_table.proofs.BothNumbers.{Leaves}
 
 abbrev text_of : List ℕ → List ℕ
 text_of k = k
 
 abbrev short_of : ShortText → List ℕ
-short_of s = short_text s.bytes s.len
+short_of s = short_text s
 
 abbrev long_of : Vec ℕ → List ℕ
 long_of v = v.items
 
 abbrev IsShort : ShortText → Type 0
-IsShort s = IsPadded s.bytes s.len
+IsShort s = IsPadded s
 
 abbrev IsLong : Vec ℕ → Type 0
 IsLong v = 23 < length v.items
 
 -- the entries by texts
 abbrev texts_in : List (ShortText × Entry) → List (Vec ℕ × Entry) → List (List ℕ × Entry)
-texts_in ss ts = joined (λ s. short_text s.bytes s.len) (λ v. v.items) ss ts
+texts_in ss ts = joined (λ s. short_text s) (λ v. v.items) ss ts
 
 abbrev stamp_of : Entry → ℕ
 stamp_of e = e.stamp
@@ -59,8 +62,8 @@ both true true e = (refl, refl)
 both true false e = absurd (true≢false (sym e))
 both false b e = absurd (true≢false (sym e))
 
-too_long : (len : ℕ) (short long : List ℕ) → len ≤ 23 → len ≡ length short → 23 < length long → short ≡ long → ⊥
-too_long len short long a b c e = let h : length short ≡ length long = ap length e in omega arith
+too_long : (short long : List ℕ) → length short ≤ 23 → 23 < length long → short ≡ long → ⊥
+too_long short long a c e = let h : length short ≡ length long = ap length e in omega arith
 
 equal_numbers : (m n : ℕ) → nat_eq m n ≡ true → m ≡ n
 equal_numbers m n e = grind (arith, nat_tests)
@@ -68,28 +71,30 @@ equal_numbers m n e = grind (arith, nat_tests)
 numbers_equal : (m n : ℕ) → m ≡ n → nat_eq m n ≡ true
 numbers_equal m n e = grind (arith, nat_tests)
 
--- short texts are compared as their bytes and lengths are
-same-short : (k : ShortText) → IsPadded k.bytes k.len → (x : ShortText) → IsPadded x.bytes x.len
-    → bytes_eq (short_of k) (short_of x) ≡ (bytes_eq k.bytes x.bytes && nat_eq k.len x.len)
+-- short texts are compared as their words are
+same-short : (k : ShortText) → IsPadded k → (x : ShortText) → IsPadded x
+    → bytes_eq (short_of k) (short_of x) ≡ (nat_eq k.first x.first && (nat_eq k.second x.second && nat_eq k.third x.third))
 same-short k q x p =
     let whole = bytes_eq-Decides (short_of k) (short_of x) in
-    let room = bytes_eq-Decides k.bytes x.bytes in
-    let Parts : Type 0 = (k.bytes ≡ x.bytes) × (k.len ≡ x.len) in
-    NumbersAndTexts.same_tests {Q = Parts} (bytes_eq (short_of k) (short_of x)) (bytes_eq k.bytes x.bytes && nat_eq k.len x.len) whole.0 whole.1
-    (λ e. let h = both (bytes_eq k.bytes x.bytes) (nat_eq k.len x.len) e in (room.0 h.0, equal_numbers k.len x.len h.1))
-    (λ r. both_true (room.1 r.0) (numbers_equal k.len x.len r.1))
-    (λ e. let len : k.len ≡ x.len = q.1 ∙ ap length e ∙ sym p.1 in (q.2 ∙ (λ j. e j ++ replicate (23 - len j) 0) ∙ sym p.2, len))
-    (λ r. (λ j. short_text (r.0 j) (r.1 j)))
+    let test : Bool = nat_eq k.first x.first && (nat_eq k.second x.second && nat_eq k.third x.third) in
+    let Parts : Type 0 = (k.first ≡ x.first) × (k.second ≡ x.second) × (k.third ≡ x.third) in
+    NumbersAndTexts.same_tests {Q = Parts} (bytes_eq (short_of k) (short_of x)) test whole.0 whole.1
+    (λ e. let h = both (nat_eq k.first x.first) (nat_eq k.second x.second && nat_eq k.third x.third) e in
+    let g = both (nat_eq k.second x.second) (nat_eq k.third x.third) h.1 in
+    (equal_numbers k.first x.first h.0, equal_numbers k.second x.second g.0, equal_numbers k.third x.third g.1))
+    (λ r. both_true (numbers_equal k.first x.first r.0) (both_true (numbers_equal k.second x.second r.1) (numbers_equal k.third x.third r.2)))
+    (λ e. let same : k ≡ x = q.0 ∙ ap packed e ∙ sym p.0 in (ap (λ (s : ShortText). s.first) same, ap (λ (s : ShortText). s.second) same, ap (λ (s : ShortText). s.third) same))
+    (λ r. (λ j. short_text (record { first = r.0 j; second = r.1 j; third = r.2 j })))
 
 -- the maps keep the array
 pub record Keeps (n : ℕ) (ns : List (ℤ × Entry)) (ss : List (ShortText × Entry)) (ts : List (Vec ℕ × Entry)) (a : Array) : Type 0 where
   pub consistent : IsConsistent (λ k. k) (λ e. e.stamp) (λ e. e.value) n ns (texts_in ss ts)
-      × AllByRecursion (λ s. IsPadded s.bytes s.len) (keys_of ss) × AllByRecursion (λ v. 23 < length v.items) (keys_of ts)
+      × AllByRecursion (λ s. IsPadded s) (keys_of ss) × AllByRecursion (λ v. 23 < length v.items) (keys_of ts)
   pub view : stamp_order n (all_rows (λ k. k) (λ e. e.stamp) (λ e. e.value) ns (texts_in ss ts)) ≡ a
 
 pub keeps : (n : ℕ) (ns : List (ℤ × Entry)) (ss : List (ShortText × Entry)) (ts : List (Vec ℕ × Entry)) (a : Array)
     → IsConsistent (λ k. k) (λ e. e.stamp) (λ e. e.value) n ns (texts_in ss ts)
-    × AllByRecursion (λ s. IsPadded s.bytes s.len) (keys_of ss) × AllByRecursion (λ v. 23 < length v.items) (keys_of ts)
+    × AllByRecursion (λ s. IsPadded s) (keys_of ss) × AllByRecursion (λ v. 23 < length v.items) (keys_of ts)
     → stamp_order n (all_rows (λ k. k) (λ e. e.stamp) (λ e. e.value) ns (texts_in ss ts)) ≡ a → Keeps n ns ss ts a
 keeps n ns ss ts a i e = record { consistent = i; view = e }
 
@@ -118,12 +123,13 @@ module _ {n : ℕ} {ns : List (ℤ × Entry)} {ss : List (ShortText × Entry)} {
         sym (ap (λ t. value_at t key) now.view)
         ∙ NumbersAndTexts.number-none text_of stamp_of value_of n ns (texts_in ss ts) now.consistent.0 z s (own None e)
 
-    pub number-put : (x : Entry) (v : Value) → Some x ≡ lookup (int_eq lent) ns → (ms : List (ℤ × Entry))
-        → ms ≡ set_value (int_eq lent) ns (record { stamp = x.stamp; value = v }) → Keeps n ms ss ts (with_pair a key v)
-    number-put x v e ms m =
-        let w : Entry = record { stamp = x.stamp; value = v } in
+    -- the value is another one
+    pub number-put : (x : Entry) (v : Value) → Some x ≡ lookup (int_eq lent) ns → Keeps n (with_value (lookup (int_eq lent) ns) lent v ns) ss ts (with_pair a key v)
+    number-put x v e =
+        let w : Entry = revalued x v in
+        let ms = with_value (lookup (int_eq lent) ns) lent v ns in
         let there = own (Some x) e in
-        let set : ms ≡ set_value (int_eq z) ns w = m ∙ ap (λ k. set_value (int_eq k) ns w) (to_z-of_z f) in
+        let set : ms ≡ set_value (int_eq z) ns w = ap (λ o. with_value o lent v ns) (sym e) ∙ ap (λ k. set_value (int_eq k) ns w) (to_z-of_z f) in
         record {
           consistent = (NumbersAndTexts.number-kept-set text_of stamp_of value_of n ns (texts_in ss ts) now.consistent.0 z s x w refl there ms set, now.consistent.1, now.consistent.2);
           view =
@@ -137,21 +143,30 @@ module _ {n : ℕ} {ns : List (ℤ × Entry)} {ss : List (ShortText × Entry)} {
         NumbersAndTexts.number-absent text_of stamp_of value_of n ns (texts_in ss ts) now.consistent.0 z s (ap (λ t. value_at t key) now.view ∙ e)
 
     pub number-add : value_at a key ≡ None → (x : Entry) → x.stamp ≡ n → (m : ℕ) → m ≡ n + 1 → (ms : List (ℤ × Entry))
-        → ms ≡ ns ++ (z, x) ∷ [] → Keeps m ms ss ts (a ++ (key, x.value) ∷ [])
-    number-add none x e m up ms h =
+        → IsPermutation (ns ++ (z, x) ∷ []) ms → Keeps m ms ss ts (a ++ (key, x.value) ∷ [])
+    number-add none x e m up ms moves =
         let gone = number-absent none in
+        let more : List (ℤ × Entry) = ns ++ (z, x) ∷ [] in
+        let kept = NumbersAndTexts.number-kept-more text_of stamp_of value_of n ns (texts_in ss ts) now.consistent.0 z s x m e up gone more refl in
         record {
-          consistent = (NumbersAndTexts.number-kept-more text_of stamp_of value_of n ns (texts_in ss ts) now.consistent.0 z s x m e up gone ms h, now.consistent.1, now.consistent.2);
+          consistent = (NumbersAndTexts.number-kept-moved text_of stamp_of value_of m more ms (texts_in ss ts) moves kept, now.consistent.1, now.consistent.2);
           view =
-              NumbersAndTexts.number-seen-more text_of stamp_of value_of n ns (texts_in ss ts) now.consistent.0 z s x m e up gone ms h
+              NumbersAndTexts.number-seen-moved text_of stamp_of value_of m more ms (texts_in ss ts) moves kept
+              ∙ NumbersAndTexts.number-seen-more text_of stamp_of value_of n ns (texts_in ss ts) now.consistent.0 z s x m e up gone more refl
               ∙ ap (λ t. t ++ (key, x.value) ∷ []) now.view;
         }
 
-    pub number-removed : (ms : List (ℤ × Entry)) → ms ≡ swap_remove_entry (int_eq lent) ns → Keeps n ms ss ts (without a key)
-    number-removed ms h =
-        let swapped : ms ≡ swap_remove_entry (int_eq z) ns = h ∙ ap (λ k. swap_remove_entry (int_eq k) ns) (to_z-of_z f) in
-        let out = NumbersAndTexts.number-out text_of stamp_of value_of n ns (texts_in ss ts) now.consistent.0 z s ms swapped in
-        record { consistent = (out.kept, now.consistent.1, now.consistent.2); view = out.seen ∙ ap (λ t. without t key) now.view }
+    pub number-removed : (ms : List (ℤ × Entry)) → Leaves lent ns ms → Keeps n ms ss ts (without a key)
+    number-removed ms h = by (lookup (int_eq lent) ns) refl h
+      where
+        by : (o : Option Entry) → o ≡ lookup (int_eq lent) ns → MatchOption o (ms ≡ ns) (λ x. IsTaken x ns ms) → Keeps n ms ss ts (without a key)
+        by None e same =
+            let out = NumbersAndTexts.number-missed text_of stamp_of value_of n ns (texts_in ss ts) now.consistent.0 z s (own None e) in
+            subst (λ l. Keeps n l ss ts (without a key)) (sym same)
+            (record { consistent = (out.kept, now.consistent.1, now.consistent.2); view = out.seen ∙ ap (λ t. without t key) now.view })
+        by (Some x) e r =
+            let out = NumbersAndTexts.number-out text_of stamp_of value_of n ns (texts_in ss ts) now.consistent.0 z s r.key x ms (own (Some x) e) r.moved in
+            record { consistent = (out.kept, now.consistent.1, now.consistent.2); view = out.seen ∙ ap (λ t. without t key) now.view }
 
   -- at a text k, by what is looked up among the texts
   module _ (k : List ℕ) (s : IsTextKey k) where
@@ -210,12 +225,12 @@ module _ {n : ℕ} {ns : List (ℤ × Entry)} {ss : List (ShortText × Entry)} {
         record { consistent = (out.kept, now.consistent.1, now.consistent.2); view = out.seen ∙ ap (λ t. without t k) now.view }
 
   -- at a short text
-  module _ (k : ShortText) (s : IsTextKey (short_text k.bytes k.len)) (q : IsPadded k.bytes k.len) where
+  module _ (k : ShortText) (s : IsTextKey (short_text k)) (q : IsPadded k) where
     abbrev same : ShortText → Bool
-    same x = bytes_eq k.bytes x.bytes && nat_eq k.len x.len
+    same x = nat_eq k.first x.first && (nat_eq k.second x.second && nat_eq k.third x.third)
 
     far : (v : Vec ℕ) → 23 < length v.items → short_of k ≡ v.items → ⊥
-    far v l e = too_long k.len (short_of k) v.items q.0 q.1 l e
+    far v l e = too_long (short_of k) v.items q.1 l e
 
     at : lookup (bytes_eq (short_of k)) (texts_in ss ts) ≡ lookup same ss
     at = left-lookup short_of long_of IsShort IsLong ss ts now.consistent.1 now.consistent.2 (short_of k) same (same-short k q) far
@@ -255,8 +270,8 @@ module _ {n : ℕ} {ns : List (ℤ × Entry)} {ss : List (ShortText × Entry)} {
 
   -- at a long text
   module _ (k : List ℕ) (s : IsTextKey k) (q : 23 < length k) where
-    near : (x : ShortText) → IsPadded x.bytes x.len → k ≡ short_of x → ⊥
-    near x p e = too_long x.len (short_of x) k p.0 p.1 q (sym e)
+    near : (x : ShortText) → IsPadded x → k ≡ short_of x → ⊥
+    near x p e = too_long (short_of x) k p.1 q (sym e)
 
     at-long : lookup (bytes_eq k) (texts_in ss ts) ≡ lookup (λ t. bytes_eq k t.items) ts
     at-long =
@@ -318,7 +333,7 @@ module _ {n : ℕ} {ns : List (ℤ × Entry)} {ss : List (ShortText × Entry)} {
 
   -- the rows of the maps, sorted by their stamps, have the keys in order
   pub keys-are : (ps qs : List (ℕ × List ℕ))
-      → ps ≡ map (λ e. (e.1.stamp, signed_decimal e.0)) ns ++ map (λ e. (e.1.stamp, short_text e.0.bytes e.0.len)) ss ++ map (λ e. (e.1.stamp, e.0.items)) ts
+      → ps ≡ map (λ e. (e.1.stamp, signed_decimal e.0)) ns ++ map (λ e. (e.1.stamp, short_text e.0)) ss ++ map (λ e. (e.1.stamp, e.0.items)) ts
       → IsPermutation ps qs → IsNonDecreasingBy (λ r. r.0) qs → map (λ r. r.1) qs ≡ keys_of a
   keys-are ps qs e m s =
       let own : List ℕ × Entry → ℕ × List ℕ = λ e. (e.1.stamp, e.0) in
@@ -343,9 +358,23 @@ put_new (Err e) new was a k h v w p l n m none = tt
 -- empty maps keep the empty array
 pub none-kept : (n : ℕ) (ns : List (ℤ × Entry)) (ss : List (ShortText × Entry)) (ts : List (Vec ℕ × Entry)) → ns ≡ [] → ss ≡ [] → ts ≡ []
     → IsConsistent (λ k. k) (λ e. e.stamp) (λ e. e.value) n ns (texts_in ss ts)
-    × AllByRecursion (λ s. IsPadded s.bytes s.len) (keys_of ss) × AllByRecursion (λ v. 23 < length v.items) (keys_of ts)
+    × AllByRecursion (λ s. IsPadded s) (keys_of ss) × AllByRecursion (λ v. 23 < length v.items) (keys_of ts)
 none-kept n ns ss ts e f g = (
   NumbersAndTexts.split_none text_of stamp_of value_of n ns (texts_in ss ts) e (λ j. texts_in (f j) (g j)),
-  subst (λ l. AllByRecursion (λ s. IsPadded s.bytes s.len) (keys_of l)) (sym f) tt,
+  subst (λ l. AllByRecursion (λ s. IsPadded s) (keys_of l)) (sym f) tt,
   subst (λ l. AllByRecursion (λ v. 23 < length v.items) (keys_of l)) (sym g) tt,
 )
+
+-- the entry whose value is told
+pub record Seen (o : Option Entry) (v : Value) : Type 0 where
+  pub entry : Entry
+  pub is : Some entry ≡ o
+  pub value : v ≡ entry.value
+
+pub seen : (o : Option Entry) (v : Value) → Some v ≡ option_map (λ (e : Entry). e.value) o → Seen o v
+seen None v e = absurd (cc)
+seen (Some x) v e = record { entry = x; is = refl; value = cc }
+
+pub unseen : (o : Option Entry) → None ≡ option_map (λ (e : Entry). e.value) o → None ≡ o
+unseen None e = refl
+unseen (Some x) e = absurd (cc)

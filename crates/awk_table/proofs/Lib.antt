@@ -3,8 +3,13 @@ mod ByStamp
 mod OneEntry
 mod Counts
 mod Moves
-mod Numbers
+mod Int64
+mod Decimals
+mod Words
 mod NamedKeys
 mod NumbersAndTexts
 mod Joined
+mod Places
+mod BothNumbers
 mod Calls
+mod Lent

@@ -1,5 +1,5 @@
 -- Two maps, one by numbers and one by texts, seen as one list of entries by texts.
-use Rattle.std.proofs.Common.{◌≡◌, ℕ, ℤ, ◌<◌, ◌+◌, Bool, true, false, cond, List, [], ◌∷◌, ◌++◌, map, refl, sym, ap, subst, ◌∙◌, Option, Some, None, append_assoc, nat_eq, length, length-append}
+use Rattle.std.proofs.Common.{◌≡◌, ℕ, ℤ, ◌<◌, ◌+◌, Bool, true, false, cond, List, [], ◌∷◌, ◌++◌, map, refl, sym, ap, subst, ◌∙◌, Some, None, append_assoc, nat_eq, length, length-append}
 use Rattle.std.specs.Fmt.{signed_decimal}
 use Rattle.std.specs.Prelude.{bytes_eq}
 use Rattle.std.specs.Ordering.{int_eq}
@@ -15,12 +15,11 @@ use Rattle.awk_table.proofs.Rows.{map-twice, map-both, map-push}
 use Rattle.awk_table.specs.support.Entries.{all_entries, all_rows, IsConsistent}
 use Rattle.awk_table.specs.support.StampOrder.{stamp_order}
 use Rattle.awk_table.proofs.OneEntry.{rows, found-some, found-none, set-found, kept_put, absent-found, without-none}
-use Rattle.awk_table.proofs.Moves.{kept-moved, ordered-moved, kept-more, ordered-more, kept-taken, ordered-taken, swap-hit, swap-missed, flips, stamp_order-moved, stamp_order-made, stamp_order-ordered, ordered-distinct}
+use Rattle.awk_table.proofs.Moves.{kept-moved, ordered-moved, kept-more, ordered-more, kept-taken, ordered-taken, flips, stamp_order-moved, stamp_order-made, stamp_order-ordered, ordered-distinct}
 use Rattle.awk_table.proofs.Counts.{length-stamp_order}
 use Rattle.std.proofs.lemmas.List.{length-map}
 use Rattle.std.proofs.lemmas.Map.Keys.{IsDistinct-IsPermutation}
 use Rattle.std.proofs.lemmas.List.Elements.{recursion_from_All, All-from_recursion}
-use Rattle.indexmap.specs.IndexMap.{swap_remove_entry}
 use Rattle.std.specs.Cmp.Lexicographic.{nat_list_eq_equiv}
 use Rattle.awk_table.proofs.NamedKeys.{lookup-named, set_value-named}
 
@@ -331,26 +330,22 @@ module _ {T E V : Type 0} (items : T → List ℕ) (stamp : E → ℕ) (value : 
         sym (without-none (λ k. k) stamp value bytes_eq n (bytes_eq k) (λ x y. nat_list_eq_equiv.congr k x y) (all_entries items ns ts) i.0.0 i.0.1 i.0.2 e);
   }
 
-  pub number-out : (z : ℤ) → IsInt64 z → (ms : List (ℤ × E)) → ms ≡ swap_remove_entry (int_eq z) ns
-      → Out (signed_decimal z) ms ts
-  number-out z s ms h = by (lookup (int_eq z) ns) refl
-    where
-      by : (o : Option E) → lookup (int_eq z) ns ≡ o → Out (signed_decimal z) ms ts
-      by None e =
-          subst (λ l. Out (signed_decimal z) l ts) (sym (h ∙ swap-missed (int_eq z) ns e)) (missed (signed_decimal z) (number-lookup items ns ts i.1 i.2 z s ∙ e))
-      by (Some x) e =
-          let m = swap-hit (int_eq z) x ns e in
-          let moves : IsPermutation ns ((m.0, x) ∷ ms) = subst (λ l. IsPermutation ns ((m.0, x) ∷ l)) (sym h) m.1 in
-          let all = number-taken items ns ts i.1 i.2 m.0 x ms moves in
-          record {
-            kept = (
-              kept-taken (λ k. k) stamp value bytes_eq turned_keys n (all_entries items ns ts) (all_entries items ms ts) (signed_decimal m.0) x all i.0,
-              all_moved IsInt64 (keys_of ns) (keys_of ms) m.0 (IsPermutation-map (λ e. e.0) ns ((m.0, x) ∷ ms) moves) i.1,
-              i.2,
-            );
-            seen =
-                ordered-taken (λ k. k) stamp value bytes_eq turned_keys n (all_entries items ns ts) (all_entries items ms ts) (signed_decimal m.0) x all i.0 (bytes_eq (signed_decimal z)) (λ x y. nat_list_eq_equiv.congr (signed_decimal z) x y) (number-lookup items ns ts i.1 i.2 z s ∙ e);
-          }
+  pub number-missed : (z : ℤ) → IsInt64 z → lookup (int_eq z) ns ≡ None → Out (signed_decimal z) ns ts
+  number-missed z s e = missed (signed_decimal z) (number-lookup items ns ts i.1 i.2 z s ∙ e)
+
+  pub number-out : (z : ℤ) → IsInt64 z → (k : ℤ) (x : E) (ms : List (ℤ × E)) → lookup (int_eq z) ns ≡ Some x
+      → IsPermutation ns ((k, x) ∷ ms) → Out (signed_decimal z) ms ts
+  number-out z s k x ms e moves =
+      let all = number-taken items ns ts i.1 i.2 k x ms moves in
+      record {
+        kept = (
+          kept-taken (λ k. k) stamp value bytes_eq turned_keys n (all_entries items ns ts) (all_entries items ms ts) (signed_decimal k) x all i.0,
+          all_moved IsInt64 (keys_of ns) (keys_of ms) k (IsPermutation-map (λ e. e.0) ns ((k, x) ∷ ms) moves) i.1,
+          i.2,
+        );
+        seen =
+            ordered-taken (λ k. k) stamp value bytes_eq turned_keys n (all_entries items ns ts) (all_entries items ms ts) (signed_decimal k) x all i.0 (bytes_eq (signed_decimal z)) (λ x y. nat_list_eq_equiv.congr (signed_decimal z) x y) (number-lookup items ns ts i.1 i.2 z s ∙ e);
+      }
 
   pub text-missed : (k : List ℕ) → IsTextKey k → lookup (λ t. bytes_eq k (items t)) ts ≡ None → Out k ns ts
   text-missed k s e = missed k (text-lookup items ns ts i.1 i.2 k s ∙ e)
@@ -368,6 +363,23 @@ module _ {T E V : Type 0} (items : T → List ℕ) (stamp : E → ℕ) (value : 
         seen =
             ordered-taken (λ k. k) stamp value bytes_eq turned_keys n (all_entries items ns ts) (all_entries items ns us) (items t) x all i.0 (bytes_eq k) (λ x y. nat_list_eq_equiv.congr k x y) (text-lookup items ns ts i.1 i.2 k s ∙ e);
       }
+
+-- numbers that change places
+module _ {T E V : Type 0} (items : T → List ℕ) (stamp : E → ℕ) (value : E → V) (n : ℕ) (ns ms : List (ℤ × E)) (ts : List (T × E)) (m : IsPermutation ns ms) (i : IsConsistent items stamp value n ns ts) where
+  numbers-moved : IsPermutation (all_entries items ns ts) (all_entries items ms ts)
+  numbers-moved =
+      IsPermutation-append_left (map (λ e. (items e.0, e.1)) ts) _ _ (IsPermutation-map (λ e. (signed_decimal e.0, e.1)) ns ms m)
+
+  pub number-kept-moved : IsConsistent items stamp value n ms ts
+  number-kept-moved = (
+    kept-moved (λ k. k) stamp value bytes_eq turned_keys n (all_entries items ns ts) (all_entries items ms ts) numbers-moved i.0,
+    recursion_from_All IsInt64 (keys_of ms) (All-permutation IsInt64 (keys_of ns) (keys_of ms) (IsPermutation-map (λ e. e.0) ns ms m) (All-from_recursion IsInt64 (keys_of ns) i.1)),
+    i.2,
+  )
+
+  pub number-seen-moved : stamp_order n (all_rows items stamp value ms ts) ≡ stamp_order n (all_rows items stamp value ns ts)
+  number-seen-moved =
+      ordered-moved (λ k. k) stamp value bytes_eq n (all_entries items ns ts) (all_entries items ms ts) numbers-moved i.0
 
 -- texts that change places
 module _ {T E V : Type 0} (items : T → List ℕ) (stamp : E → ℕ) (value : E → V) (n : ℕ) (ns : List (ℤ × E)) (ts us : List (T × E)) (m : IsPermutation ts us) (i : IsConsistent items stamp value n ns ts) where

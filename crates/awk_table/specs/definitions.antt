@@ -1,2 +1,3 @@
 -- What a reader has to believe.
 pub mod Arrays
+pub mod Lending

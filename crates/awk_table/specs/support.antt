@@ -3,3 +3,5 @@ pub mod Texts
 pub mod Rows
 pub mod StampOrder
 pub mod Entries
+pub mod Numbers
+pub mod Lending

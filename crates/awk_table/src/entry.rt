@@ -1,8 +1,9 @@
 // What is kept at a key.
 
-ghost use Rattle.std.specs.Prelude.{◌≡◌, None, IfSome, IfNone, IfErr, OnOk, OnErr};
+ghost use Rattle.std.specs.Prelude.{◌≡◌, not, None, IfSome, IfNone, IfErr, OnOk, OnErr};
 ghost use Rattle.std.specs.Map.{lookup};
 ghost use Rattle.indexmap.specs.IndexMap.{insert_entry, swap_remove_entry, IsUnchanged};
+ghost use Rattle.awk_table.specs.support.Numbers.{is_gone};
 ghost use Rattle.awk_table.specs.support.Rows.{IsSet};
 ghost use Rattle.awk_value.specs.declared.fault.ValueFault.TheVariants.{Memory};
 
@@ -15,6 +16,19 @@ use std::hash::Hash;
 pub(crate) struct Entry {
     pub(crate) stamp: u64,
     pub(crate) value: Value,
+}
+
+/// The stamp of an entry at a place without a key.
+pub(crate) const GONE: u64 = u64::MAX;
+
+impl Entry {
+    /// Whether it is that of a key, and none at a place without one.
+    #[inline(always)]
+    pub(crate) fn is_kept(&self) -> bool
+        ensures { result ≡ not (is_gone self.now) }
+    {
+        self.stamp != GONE
+    }
 }
 
 /// Adds an entry to a map, where a new key goes last. The fault is `Memory`, and changes nothing.

@@ -2,9 +2,11 @@
 #![tactic(auto)]
 
 mod decimal;
+mod dense;
 mod entry;
 mod long_keys;
 mod number_keys;
+mod numbers;
 mod short_keys;
 mod short_text;
 mod table;

@@ -1,7 +1,8 @@
 // Keys that are texts of more than 23 bytes.
 
 ghost use Rattle.std.specs.Prelude.{◌≡◌, ◌<◌, ◌++◌, ◌∷◌, [], None, length, is_some, IfOk, IfErr, OnOk, OnErr};
-ghost use Rattle.std.specs.Option.{option_copied, unwrap_or};
+ghost use Rattle.std.specs.Borrow.{sem};
+ghost use Rattle.std.specs.Option.{option_copied, option_copied_mut, unwrap_or};
 ghost use Rattle.awk_value.specs.declared.value.Value.TheVariants.{Nothing};
 ghost use Rattle.awk_value.specs.declared.fault.ValueFault.TheVariants.{Memory};
 ghost use Rattle.awk_table.specs.Arrays.{value_at, with_pair, with_key, without};
@@ -14,6 +15,8 @@ use awk_value::{Value, ValueFault};
 use std::alloc::Global;
 
 impl Table {
+    ghost use Rattle.awk_table.specs.Lending.{LendsValue};
+
     /// As `get`.
     pub(crate) fn get_long(&self, key: &[u8]) -> Option<&Value>
         requires text { IsTextKey key.now }
@@ -22,6 +25,19 @@ impl Table {
     {
         match self.longs.get(key) {
             Some(entry) => Some(&entry.value),
+            None => None,
+        }
+    }
+
+    /// As `get_mut`.
+    pub(crate) fn get_long_mut(&mut self, key: &[u8]) -> Option<&mut Value>
+        requires text { IsTextKey key.now }
+        requires long { 23 < length key.now }
+        ensures* writes_back { sem 𝓛 (LendsValue self.entry key.now result) }
+        ensures value { option_copied_mut result ≡ value_at self.old key.now }
+    {
+        match self.longs.get_mut(key) {
+            Some(entry) => Some(&mut entry.value),
             None => None,
         }
     }

@@ -3,17 +3,21 @@
 
 ghost use Rattle.std.specs.Prelude.{◌≡◌, ◌++◌, ◌∷◌, [], None, is_some, IfOk, IfErr, OnOk, OnErr};
 ghost use Rattle.std.specs.Fmt.{signed_decimal};
-ghost use Rattle.std.specs.Option.{option_copied, unwrap_or};
+ghost use Rattle.std.specs.Borrow.{sem};
+ghost use Rattle.std.specs.Option.{option_copied, option_copied_mut, unwrap_or};
 ghost use Rattle.awk_value.specs.declared.value.Value.TheVariants.{Nothing};
 ghost use Rattle.awk_value.specs.declared.fault.ValueFault.TheVariants.{Memory};
 ghost use Rattle.awk_table.specs.Arrays.{value_at, with_pair, with_key, without};
 
-use crate::entry::{Entry, add_entry, set_entry, take_entry};
+use crate::entry::Entry;
 use crate::table::{Table, copy_of};
 use awk_value::{Value, ValueFault};
 
 impl Table {
+    ghost use Rattle.awk_table.specs.Lending.{LendsValue};
+
     /// Whether the number's decimal form is a key, as `has` tells.
+    #[inline]
     pub fn has_number(&self, key: i64) -> bool
         ensures { result ≡ is_some (value_at self.now (signed_decimal key)) }
     {
@@ -21,11 +25,24 @@ impl Table {
     }
 
     /// The value at the number's decimal form, as `get` gives it.
+    #[inline]
     pub fn get_number(&self, key: i64) -> Option<&Value>
         ensures { option_copied result ≡ value_at self.now (signed_decimal key) }
     {
-        match self.numbers.get(&key) {
+        match self.numbers.get(key) {
             Some(entry) => Some(&entry.value),
+            None => None,
+        }
+    }
+
+    /// The value at the number's decimal form, to be changed, as `get_mut` gives it.
+    #[inline]
+    pub fn get_number_mut(&mut self, key: i64) -> Option<&mut Value>
+        ensures* writes_back { sem 𝓛 (LendsValue self.entry (signed_decimal key) result) }
+        ensures value { option_copied_mut result ≡ value_at self.old (signed_decimal key) }
+    {
+        match self.numbers.get_mut(key) {
+            Some(value) => Some(value),
             None => None,
         }
     }
@@ -49,15 +66,19 @@ impl Table {
 
     /// Gives the number's decimal form the value, as `put` does. The fault is `Memory`, and changes
     /// nothing.
+    #[inline]
     pub fn put_number(&mut self, key: i64, value: Value) -> Result<(), ValueFault>
         ensures put { OnOk result (self.new ≡ with_pair self.old (signed_decimal key) value) }
         ensures unchanged { OnErr result (self.new ≡ self.old) }
         ensures absent { OnErr result (value_at self.old (signed_decimal key) ≡ None) }
         ensures fault { IfErr result (λ fault. fault ≡ Memory) }
     {
-        match set_entry(&mut self.numbers, &key, value) {
-            Some(value) => self.add_number(key, value),
-            None => Ok(()),
+        match self.get_number_mut(key) {
+            Some(place) => {
+                *place = value;
+                Ok(())
+            }
+            None => self.add_number(key, value),
         }
     }
 
@@ -65,11 +86,13 @@ impl Table {
     pub fn remove_number(&mut self, key: i64)
         ensures { self.new ≡ without self.old (signed_decimal key) }
     {
-        take_entry(&mut self.numbers, &key);
+        self.numbers.remove(key);
     }
 
-    /// Adds a new number, which goes last.
-    fn add_number(&mut self, key: i64, value: Value) -> Result<(), ValueFault>
+    /// Adds the decimal form of a number that isn't a key yet, without looking for it; it goes last.
+    /// The fault is `Memory`, and changes nothing.
+    #[inline]
+    pub fn add_number(&mut self, key: i64, value: Value) -> Result<(), ValueFault>
         requires { value_at self.old (signed_decimal key) ≡ None }
         ensures added { OnOk result (self.new ≡ self.old ++ (signed_decimal key, value) ∷ []) }
         ensures unchanged { OnErr result (self.new ≡ self.old) }
@@ -79,7 +102,7 @@ impl Table {
         let Some(next) = stamp.checked_add(1) else {
             return Err(ValueFault::Memory);
         };
-        add_entry(&mut self.numbers, key, Entry { stamp, value })?;
+        self.numbers.add(key, Entry { stamp, value })?;
         self.next = next;
         Ok(())
     }

@@ -1,7 +1,8 @@
 // Keys that are texts of at most 23 bytes.
 
 ghost use Rattle.std.specs.Prelude.{◌≡◌, ◌++◌, ◌∷◌, [], None, is_some, IfOk, IfErr, OnOk, OnErr};
-ghost use Rattle.std.specs.Option.{option_copied, unwrap_or};
+ghost use Rattle.std.specs.Borrow.{sem};
+ghost use Rattle.std.specs.Option.{option_copied, option_copied_mut, unwrap_or};
 ghost use Rattle.awk_value.specs.declared.value.Value.TheVariants.{Nothing};
 ghost use Rattle.awk_value.specs.declared.fault.ValueFault.TheVariants.{Memory};
 ghost use Rattle.awk_table.specs.Arrays.{value_at, with_pair, with_key, without};
@@ -13,11 +14,13 @@ use crate::table::{Table, copy_of};
 use awk_value::{Value, ValueFault};
 
 impl Table {
+    ghost use Rattle.awk_table.specs.Lending.{LendsValue};
+
     /// As `get`.
     pub(crate) fn get_short(&self, key: ShortText) -> Option<&Value>
-        requires text { IsTextKey (short_text key.bytes key.len) }
-        requires padded { IsPadded key.bytes key.len }
-        ensures { option_copied result ≡ value_at self.now (short_text key.bytes key.len) }
+        requires text { IsTextKey (short_text key) }
+        requires padded { IsPadded key }
+        ensures { option_copied result ≡ value_at self.now (short_text key) }
     {
         match self.shorts.get(&key) {
             Some(entry) => Some(&entry.value),
@@ -25,12 +28,26 @@ impl Table {
         }
     }
 
+    /// As `get_mut`.
+    #[inline]
+    pub(crate) fn get_short_mut(&mut self, key: ShortText) -> Option<&mut Value>
+        requires text { IsTextKey (short_text key) }
+        requires padded { IsPadded key }
+        ensures* writes_back { sem 𝓛 (LendsValue self.entry (short_text key) result) }
+        ensures value { option_copied_mut result ≡ value_at self.old (short_text key) }
+    {
+        match self.shorts.get_mut(&key) {
+            Some(entry) => Some(&mut entry.value),
+            None => None,
+        }
+    }
+
     /// As `get_or_make`.
     pub(crate) fn get_or_make_short(&mut self, key: ShortText) -> Result<Value, ValueFault>
-        requires text { IsTextKey (short_text key.bytes key.len) }
-        requires padded { IsPadded key.bytes key.len }
-        ensures value { IfOk result (λ v. v ≡ unwrap_or (value_at self.old (short_text key.bytes key.len)) Nothing) }
-        ensures made { OnOk result (self.new ≡ with_key self.old (short_text key.bytes key.len)) }
+        requires text { IsTextKey (short_text key) }
+        requires padded { IsPadded key }
+        ensures value { IfOk result (λ v. v ≡ unwrap_or (value_at self.old (short_text key)) Nothing) }
+        ensures made { OnOk result (self.new ≡ with_key self.old (short_text key)) }
         ensures unchanged { OnErr result (self.new ≡ self.old) }
         ensures fault { IfErr result (λ fault. fault ≡ Memory) }
     {
@@ -45,11 +62,11 @@ impl Table {
 
     /// As `put`.
     pub(crate) fn put_short(&mut self, key: ShortText, value: Value) -> Result<(), ValueFault>
-        requires text { IsTextKey (short_text key.bytes key.len) }
-        requires padded { IsPadded key.bytes key.len }
-        ensures put { OnOk result (self.new ≡ with_pair self.old (short_text key.bytes key.len) value) }
+        requires text { IsTextKey (short_text key) }
+        requires padded { IsPadded key }
+        ensures put { OnOk result (self.new ≡ with_pair self.old (short_text key) value) }
         ensures unchanged { OnErr result (self.new ≡ self.old) }
-        ensures absent { OnErr result (value_at self.old (short_text key.bytes key.len) ≡ None) }
+        ensures absent { OnErr result (value_at self.old (short_text key) ≡ None) }
         ensures fault { IfErr result (λ fault. fault ≡ Memory) }
     {
         match set_entry(&mut self.shorts, &key, value) {
@@ -60,19 +77,19 @@ impl Table {
 
     /// As `remove`.
     pub(crate) fn remove_short(&mut self, key: ShortText)
-        requires text { IsTextKey (short_text key.bytes key.len) }
-        requires padded { IsPadded key.bytes key.len }
-        ensures { self.new ≡ without self.old (short_text key.bytes key.len) }
+        requires text { IsTextKey (short_text key) }
+        requires padded { IsPadded key }
+        ensures { self.new ≡ without self.old (short_text key) }
     {
         take_entry(&mut self.shorts, &key);
     }
 
     /// Adds a new short text, which goes last.
     fn add_short(&mut self, key: ShortText, value: Value) -> Result<(), ValueFault>
-        requires text { IsTextKey (short_text key.bytes key.len) }
-        requires padded { IsPadded key.bytes key.len }
-        requires new { value_at self.old (short_text key.bytes key.len) ≡ None }
-        ensures added { OnOk result (self.new ≡ self.old ++ (short_text key.bytes key.len, value) ∷ []) }
+        requires text { IsTextKey (short_text key) }
+        requires padded { IsPadded key }
+        requires new { value_at self.old (short_text key) ≡ None }
+        ensures added { OnOk result (self.new ≡ self.old ++ (short_text key, value) ∷ []) }
         ensures unchanged { OnErr result (self.new ≡ self.old) }
         ensures fault { IfErr result (λ fault. fault ≡ Memory) }
     {

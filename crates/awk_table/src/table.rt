@@ -4,13 +4,15 @@
 
 ghost use Rattle.std.specs.Prelude.{◌≡◌, [], None, length, is_some, IfOk, IfErr, OnOk, OnErr};
 ghost use Rattle.std.specs.Map.{keys_of};
-ghost use Rattle.std.specs.Option.{option_copied, unwrap_or};
+ghost use Rattle.std.specs.Borrow.{sem};
+ghost use Rattle.std.specs.Option.{option_copied, option_copied_mut, unwrap_or};
 ghost use Rattle.awk_value.specs.declared.value.Value.TheVariants.{Nothing};
 ghost use Rattle.awk_value.specs.declared.fault.ValueFault.TheVariants.{Memory};
 ghost use Rattle.awk_table.specs.Arrays.{Array, value_at, with_pair, with_key, without, HasDistinctKeys};
 
 use crate::decimal::decimal_number;
 use crate::entry::Entry;
+use crate::numbers::Numbers;
 use crate::short_text::ShortText;
 use crate::walk::keys_by_stamp;
 use awk_value::{Bytes, Value, ValueFault};
@@ -31,7 +33,7 @@ pub(crate) fn copy_of(value: &Value) -> Result<Value, ValueFault>
 /// (POSIX awk, Expressions in awk)
 #[derive(Drop)]
 pub struct Table {
-    pub(crate) numbers: IndexMap<i64, Entry>,
+    pub(crate) numbers: Numbers,
     pub(crate) shorts: IndexMap<ShortText, Entry>,
     pub(crate) longs: IndexMap<Vec<u8>, Entry>,
     // above all stamps
@@ -39,7 +41,7 @@ pub struct Table {
 }
 
 impl Model for Table {
-    ghost use Rattle.awk_table.specs.Arrays.{Array};
+    ghost use Rattle.awk_table.specs.definitions.Arrays.{Array};
     ghost use Rattle.awk_table.specs.support.StampOrder.{stamp_order};
     ghost use Rattle.std.specs.Prelude.{◌<◌, length};
     ghost use Rattle.std.specs.List.{AllByRecursion};
@@ -49,22 +51,24 @@ impl Model for Table {
 
     ghost Value = { Array };
 
-    ghost view = { λ t. stamp_order t.next (all_rows (λ k. k) (λ e. e.stamp) (λ e. e.value) t.numbers.entries
-        (joined (λ s. short_text s.bytes s.len) (λ v. v.items) t.shorts.entries t.longs.entries)) };
+    ghost view = { λ t. stamp_order t.next (all_rows (λ k. k) (λ e. e.stamp) (λ e. e.value) t.numbers
+        (joined (λ s. short_text s) (λ v. v.items) t.shorts.entries t.longs.entries)) };
 
-    ghost invariant = { λ t. IsConsistent (λ k. k) (λ e. e.stamp) (λ e. e.value) t.next t.numbers.entries
-        (joined (λ s. short_text s.bytes s.len) (λ v. v.items) t.shorts.entries t.longs.entries)
-        × AllByRecursion (λ s. IsPadded s.bytes s.len) (keys_of t.shorts.entries)
+    ghost invariant = { λ t. IsConsistent (λ k. k) (λ e. e.stamp) (λ e. e.value) t.next t.numbers
+        (joined (λ s. short_text s) (λ v. v.items) t.shorts.entries t.longs.entries)
+        × AllByRecursion (λ s. IsPadded s) (keys_of t.shorts.entries)
         × AllByRecursion (λ v. 23 < length v.items) (keys_of t.longs.entries) };
 }
 
 impl Table {
+    ghost use Rattle.awk_table.specs.Lending.{LendsValue};
+
     /// The empty array. Takes no memory.
     pub fn new(alloc: Global) -> Table
         ensures { result ≡ [] }
     {
         Table {
-            numbers: IndexMap::new(alloc),
+            numbers: Numbers::new(alloc),
             shorts: IndexMap::new(alloc),
             longs: IndexMap::new(alloc),
             next: 0,
@@ -97,6 +101,22 @@ impl Table {
             None => match ShortText::new(key) {
                 Some(short) => self.get_short(short),
                 None => self.get_long(key),
+            },
+        }
+    }
+
+    /// The value at the key, to be changed, if it is present. Takes no memory.
+    /// (POSIX awk, Expressions in awk: assignment)
+    #[inline]
+    pub fn get_mut(&mut self, key: &[u8]) -> Option<&mut Value>
+        ensures* writes_back { sem 𝓛 (LendsValue self.entry key.now result) }
+        ensures value { option_copied_mut result ≡ value_at self.old key.now }
+    {
+        match decimal_number(key) {
+            Some(number) => self.get_number_mut(number),
+            None => match ShortText::new(key) {
+                Some(short) => self.get_short_mut(short),
+                None => self.get_long_mut(key),
             },
         }
     }

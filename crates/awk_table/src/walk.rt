@@ -4,10 +4,12 @@ ghost use Rattle.std.specs.Prelude.{◌≡◌, ◌++◌, ◌∷◌, [], map, nat
 ghost use Rattle.std.specs.Fmt.{signed_decimal};
 ghost use Rattle.std.specs.List.Sorted.{IsNonDecreasingBy};
 ghost use Rattle.awk_table.specs.support.Texts.{short_text};
+ghost use Rattle.awk_table.specs.support.Numbers.{numbered};
 ghost use Rattle.awk_table.specs.support.Rows.{AreByStamp};
 ghost use Rattle.awk_value.specs.declared.fault.ValueFault.TheVariants.{Memory};
 
 use crate::entry::Entry;
+use crate::numbers::Numbers;
 use crate::short_text::ShortText;
 use awk_value::{Bytes, ValueFault};
 use indexmap::IndexMap;
@@ -19,13 +21,13 @@ use std::alloc::{AllocError, Global};
 pub(crate) fn keys_by_stamp(
     alloc: Global,
     count: usize,
-    numbers: &IndexMap<i64, Entry>,
+    numbers: &Numbers,
     shorts: &IndexMap<ShortText, Entry>,
     longs: &IndexMap<Vec<u8>, Entry>,
 ) -> Result<Vec<Bytes>, ValueFault>
     ensures keys { IfOk result (λ texts. AreByStamp texts.items
-        (map (λ e. (e.1.stamp, signed_decimal e.0)) numbers.now.entries
-        ++ map (λ e. (e.1.stamp, short_text e.0.bytes e.0.len)) shorts.now.entries
+        (map (λ e. (e.1.stamp, signed_decimal e.0)) numbers.now
+        ++ map (λ e. (e.1.stamp, short_text e.0)) shorts.now.entries
         ++ map (λ e. (e.1.stamp, e.0.items)) longs.now.entries)) }
     ensures fault { IfErr result (λ fault. fault ≡ Memory) }
 {
@@ -37,8 +39,56 @@ pub(crate) fn keys_by_stamp(
     Ok(texts_of(alloc, rows)?)
 }
 
-/// Adds the numbers' decimal forms with their stamps, in the map's order.
+/// Adds the numbers' decimal forms with their stamps.
 fn list_numbers(
+    alloc: Global,
+    numbers: &Numbers,
+    rows: &mut Vec<(u64, Bytes)>,
+) -> Result<(), AllocError>
+    ensures { OnOk result (rows.new.items
+        ≡ rows.old.items ++ map (λ e. (e.1.stamp, signed_decimal e.0)) numbers.now) }
+{
+    list_dense(alloc, numbers.dense.entries(), rows)?;
+    list_sparse(alloc, &numbers.sparse, rows)
+}
+
+/// Adds the decimal forms of those of the numbers from 0 on that are keys, with their stamps.
+fn list_dense(
+    alloc: Global,
+    entries: &[Entry],
+    rows: &mut Vec<(u64, Bytes)>,
+) -> Result<(), AllocError>
+    ensures { OnOk result (rows.new.items
+        ≡ rows.old.items ++ map (λ e. (e.1.stamp, signed_decimal e.0)) (numbered 0 entries.now)) }
+{
+    let mut buffer = Buffer::new();
+    let mut number = 0;
+    while number < entries.len() {
+        list_place(alloc, number, &entries[number], &mut buffer, rows)?;
+        number += 1;
+    }
+    Ok(())
+}
+
+/// Adds the decimal form of a number with its stamp, if it is a key.
+fn list_place(
+    alloc: Global,
+    number: usize,
+    entry: &Entry,
+    buffer: &mut Buffer,
+    rows: &mut Vec<(u64, Bytes)>,
+) -> Result<(), AllocError>
+    ensures { OnOk result (rows.new.items
+        ≡ rows.old.items ++ map (λ e. (e.1.stamp, signed_decimal e.0)) (numbered number (entry.now ∷ []))) }
+{
+    if !entry.is_kept() {
+        return Ok(());
+    }
+    add_row(alloc, rows, entry.stamp, buffer.format(number).as_bytes())
+}
+
+/// Adds the decimal forms of numbers with their stamps, in the map's order.
+fn list_sparse(
     alloc: Global,
     entries: &IndexMap<i64, Entry>,
     rows: &mut Vec<(u64, Bytes)>,
@@ -60,10 +110,11 @@ fn list_shorts(
     rows: &mut Vec<(u64, Bytes)>,
 ) -> Result<(), AllocError>
     ensures { OnOk result (rows.new.items
-        ≡ rows.old.items ++ map (λ e. (e.1.stamp, short_text e.0.bytes e.0.len)) entries.now.entries) }
+        ≡ rows.old.items ++ map (λ e. (e.1.stamp, short_text e.0)) entries.now.entries) }
 {
     for (key, entry) in entries.iter() {
-        add_row(alloc, rows, entry.stamp, key.as_slice())?;
+        let (bytes, len) = key.bytes();
+        add_row(alloc, rows, entry.stamp, &bytes[..len])?;
     }
     Ok(())
 }

@@ -1,20 +1,24 @@
-use Rattle.std.proofs.Common.{◌≡◌, ◌≤◌, ◌∙◌, ◌++◌, ℕ, List, ap, drop, length, replicate, sym, take}
-use Rattle.std.proofs.Math.Seq.{take-append_seam}
-use Rattle.std.proofs.lemmas.List.{drop-replicate}
-use Rattle.awk_table.specs.support.Texts.{IsPadded}
+use Rattle.std.proofs.Common.{◌≡◌, ◌≤◌, ℕ, List, length, ap, sym, subst, ◌∙◌}
+use Rattle.awk_table.specs.declared.short_text.ShortText.{ShortText}
+use Rattle.awk_table.specs.support.Texts.{word_at, packed, short_text, IsPadded}
+use Rattle.awk_table.proofs.Words.{filled-is, packed-by, unpacked}
 use Rattle.awk_table.proofs.short_text.ShortText.new.Goals as goal
 
-kept : (text copied rest : List ℕ) → copied ≡ text → text ≡ take (length text) (copied ++ rest)
-kept text copied rest e = sym (ap (λ l. take (length text) (l ++ rest)) e ∙ take-append_seam text rest)
-
-padded : (text copied : List ℕ) → copied ≡ text → length text ≤ 23
-    → IsPadded (copied ++ drop (length text) (replicate 23 0)) (length text)
-padded text copied e l =
-    let k = kept text copied (drop (length text) (replicate 23 0)) e in
-    (l, ap length k, (λ j. (e ∙ k) j ++ drop-replicate (length text) 23 0 j))
-
 pub returns-clause-text : goal.returns-clause-text
-returns-clause-text c = kept c.args.text.now c.copy_from_slice.new.self _ c.copy_from_slice.ensures.after
+returns-clause-text c =
+    let text = c.args.text.now in
+    let few : length text ≤ 23 = c.if-text-gt-ROOM.false in
+    let e = filled-is text c.copy_from_slice.new.self c.copy_from_slice.ensures.after few in
+    let is = packed-by text _ _ _ (c.word.ensures ∙ ap (λ l. word_at l 0) e) (c.word-2.ensures ∙ ap (λ l. word_at l 8) e) (c.word-3.ensures ∙ ap (λ l. word_at l 16) e) in
+    sym (ap short_text is ∙ unpacked text few (λ i. (c.type_inv.text i).fits))
 
 pub returns-clause-padded : goal.returns-clause-padded
-returns-clause-padded c = padded c.args.text.now c.copy_from_slice.new.self c.copy_from_slice.ensures.after c.if-text-gt-ROOM.false
+returns-clause-padded c =
+    let text = c.args.text.now in
+    let few : length text ≤ 23 = c.if-text-gt-ROOM.false in
+    let e = filled-is text c.copy_from_slice.new.self c.copy_from_slice.ensures.after few in
+    let is = packed-by text _ _ _ (c.word.ensures ∙ ap (λ l. word_at l 0) e) (c.word-2.ensures ∙ ap (λ l. word_at l 8) e) (c.word-3.ensures ∙ ap (λ l. word_at l 16) e) in
+    padded text _ is (ap short_text is ∙ unpacked text few (λ i. (c.type_inv.text i).fits)) few
+  where
+    padded : (text : List ℕ) (s : ShortText) → s ≡ packed text → short_text s ≡ text → length text ≤ 23 → IsPadded s
+    padded text s is same few = (is ∙ ap packed (sym same), subst (λ l. length l ≤ 23) (sym same) few)

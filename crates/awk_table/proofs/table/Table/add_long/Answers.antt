@@ -9,7 +9,7 @@ use Rattle.awk_table.proofs.table.Table.add_long.Goals as goal
 pub invariant_of-self-2 : goal.invariant_of-self-2
 invariant_of-self-2 c =
     let b = c.self.inside in
-    let now = keeps b.next b.numbers.entries b.shorts.entries b.longs.entries _ c.self.invariant c.self.view_is in
+    let now = keeps b.next b.numbers b.shorts.entries b.longs.entries _ c.self.invariant c.self.view_is in
     let x : Entry = record { stamp = b.next; value = c.args.value } in
     let told = c.in_ok-add_text.ensures.added in
     let absent = long-absent now c.args.key.now c.requires.text c.requires.long c.requires.new in
@@ -23,7 +23,7 @@ invariant_of-self-2 c =
 pub returns-clause-added : goal.returns-clause-added
 returns-clause-added c =
     let b = c.self.inside in
-    let now = keeps b.next b.numbers.entries b.shorts.entries b.longs.entries _ c.self.invariant c.self.view_is in
+    let now = keeps b.next b.numbers b.shorts.entries b.longs.entries _ c.self.invariant c.self.view_is in
     let x : Entry = record { stamp = b.next; value = c.args.value } in
     let told = c.in_ok-add_text.ensures.added in
     let absent = long-absent now c.args.key.now c.requires.text c.requires.long c.requires.new in

@@ -4,11 +4,11 @@ use Rattle.awk_table.proofs.table.Table.remove_number.Goals as goal
 pub invariant_of-self : goal.invariant_of-self
 invariant_of-self c =
     let b = c.self.inside in
-    let now = keeps b.next b.numbers.entries b.shorts.entries b.longs.entries _ c.self.invariant c.self.view_is in
-    (number-removed now c.args.key c.ranges.key c.take_entry.new.entries.entries c.take_entry.ensures).consistent
+    let now = keeps b.next b.numbers b.shorts.entries b.longs.entries _ c.self.invariant c.self.view_is in
+    (number-removed now c.args.key c.ranges.key c.remove.new.self c.remove.ensures).consistent
 
 pub returns : goal.returns
 returns c =
     let b = c.self.inside in
-    let now = keeps b.next b.numbers.entries b.shorts.entries b.longs.entries _ c.self.invariant c.self.view_is in
-    (number-removed now c.args.key c.ranges.key c.take_entry.new.entries.entries c.take_entry.ensures).view
+    let now = keeps b.next b.numbers b.shorts.entries b.longs.entries _ c.self.invariant c.self.view_is in
+    (number-removed now c.args.key c.ranges.key c.remove.new.self c.remove.ensures).view

@@ -2,7 +2,7 @@ use Rattle.std.proofs.Common.{◌≡◌, ◌++◌, ◌∷◌, [], map, rules, ap
 use Rattle.std.specs.Fmt.{signed_decimal}
 use Rattle.std.proofs.lemmas.Map.Iter.{iter_end}
 use Rattle.awk_table.proofs.Rows.{one_more, of_all}
-use Rattle.awk_table.proofs.walk.list_numbers.Goals as goal
+use Rattle.awk_table.proofs.walk.list_sparse.Goals as goal
 
 pub loop-key-preserved : goal.loop-key-preserved
 loop-key-preserved c =
