@@ -7,7 +7,7 @@ use Rattle.std.proofs.Math.ListN.{get_or-eq_default}
 use Rattle.awk_ere_syntax.specs.definitions.Tree.{Tree, Matches, NoneFrom}
 use Rattle.awk_ere.specs.support.Layout.{byte_count, stride, start_state, dead_state, first_state, match_flag}
 use Rattle.awk_ere.specs.definitions.Means.{Means}
-use Rattle.awk_ere.specs.support.SimulationStep.{count_of, leaves, behind, dead_positions, IsStill}
+use Rattle.awk_ere.specs.support.SimulationStep.{count_of, leaves, behind, dead_positions, IsStillAt, IsStill}
 use Rattle.awk_ere.specs.support.Table.{IsKnown, state_number, IsState, IsEntry, AreTransitions, IsTable, positions_at}
 use Rattle.awk_ere.specs.support.CursorState.{Starts, Runs, Stood, Enters}
 use Rattle.awk_ere.specs.support.Found.{between, LastEnd, EndsBetween}
@@ -68,6 +68,17 @@ entry_of p tb m h v st cs k x lt =
 pub known_of : (p : Pattern) (tb : Table) (v : ℕ) (st : Bool) (cs : List Bool) → IsState p tb v st cs → IsKnown tb v
 known_of p tb v st cs h = record { number = state_number v; known = h.known; named = h.named }
 
+pub known_dead : (p : Pattern) (tb : Table) → IsTable p tb → IsKnown tb dead_state
+known_dead p tb h = record { number = 1; known = omega (arith, h.least); named = refl }
+
+-- the dead state stays where a byte leads to it
+pub still_of : (p : Pattern) (old tb : Table) (m : Bool) (x v : ℕ) → IsTable p old → IsTable p tb → ((st : Bool) (cs : List Bool) → IsState p old dead_state st cs → IsEntry p tb st m cs x v) → v ≡ dead_state → IsStillAt p m x
+still_of p old tb m x v before after entry dead =
+    let e = entry false (dead_positions p) (state_at p old dead_state false (dead_positions p) 1 (omega (arith, before.least)) refl refl before.idle) in
+    let one : state_number v ≡ 1 = omega (arith, dead) in
+    let goes = e.goes (omega (arith, dead)) (omega (arith, dead)) in
+    (e.miss (omega (arith, dead)) (omega (arith, dead)), sym goes.positions ∙ ap (positions_at p tb.rows.items) one ∙ after.idle)
+
 -- the state at a place before which nothing has begun
 pub known_first : (p : Pattern) (tb : Table) → IsTable p tb → (place v : ℕ) → v ≡ first_state place → IsKnown tb v
 known_first p tb h place v e = subst (IsKnown tb) (sym e) (by_start (nat_eq place 0))
@@ -92,13 +103,12 @@ stood_same p tb s t from w w' h place state end = record {
 
 -- where nothing begins, the state stays
 module _ (p : Pattern) (tb : Table) (table : IsTable p tb) (s : List ℕ) (bytes : (k : ℕ) → get_or s k 0 < byte_count) (t : Tree) (means : Means t p) (from : ℕ → Bool) (m : Bool) where
-  idle_entry : IsStill p m → (w : Cursor) (h : Stood p tb s t from w) → w.state ≡ dead_state → IsEntry p tb h.start m h.positions (get_or s w.place 0) dead_state
-  idle_entry still w h e =
+  idle_entry : (w : Cursor) (h : Stood p tb s t from w) → w.state ≡ dead_state → IsStillAt p m (get_or s w.place 0) → IsEntry p tb h.start m h.positions (get_or s w.place 0) dead_state
+  idle_entry w h e stays =
       let one : state_number w.state ≡ 1 = omega (arith, e) in
       let start : h.start ≡ false = h.state.start ∙ ap (λ d. nat_eq d 0) one in
       let positions = sym h.state.positions ∙ ap (positions_at p tb.rows.items) one ∙ table.idle in
       let x = get_or s w.place 0 in
-      let stays = still x (bytes w.place) in
       record {
         miss = λ _ _. ap (λ b. leaves p h.positions b m false x) start ∙ ap (λ l. leaves p l false m false x) positions ∙ stays.0;
         goes = λ _ _. subst (IsState p tb dead_state false) (sym (ap (λ b. behind p h.positions b m false x) start ∙ ap (λ l. behind p l false m false x) positions ∙ stays.1))
@@ -107,13 +117,18 @@ module _ (p : Pattern) (tb : Table) (table : IsTable p tb) (s : List ℕ) (bytes
         leads = λ a. absurd (omega (arith, a));
       }
 
-  pub stood_still : IsStill p m → (n : ℕ) (w w' : Cursor) → Stood p tb s t from w → w.state ≡ dead_state → w'.state ≡ dead_state → w'.end ≡ w.end → w'.place ≡ w.place + n → w'.place ≤ length s → Enters from m w.place w'.place → Stood p tb s t from w'
-  stood_still still zero w w' h e e' end place within enters =
+  pub stood_idle : (n : ℕ) (w w' : Cursor) → Stood p tb s t from w → w.state ≡ dead_state → w'.state ≡ dead_state → w'.end ≡ w.end → w'.place ≡ w.place + n → w'.place ≤ length s → Enters from m w.place w'.place → ((k : ℕ) → w.place ≤ k → k < w'.place → IsStillAt p m (get_or s k 0)) → Stood p tb s t from w'
+  stood_idle zero w w' h e e' end place within enters still =
       stood_same p tb s t from w w' h (omega (arith, place)) (omega (arith, e, e')) end
-  stood_still still (suc n) w w' h e e' end place within enters =
+  stood_idle (suc n) w w' h e e' end place within enters still =
       let further : Cursor = record { place = w.place + 1; state = dead_state; end = w.end } in
-      let one = stood_miss p tb tb s t means from w h m (enters w.place (omega arith) (omega (arith, place))) (omega (arith, place, within)) dead_state (idle_entry still w h e) further refl (omega arith) (omega arith) refl refl in
-      stood_still still n further w' one refl e' end (omega (arith, place)) within (λ k ge lt. enters k (omega (arith, ge)) lt)
+      let here = idle_entry w h e (still w.place (omega arith) (omega (arith, place))) in
+      let one = stood_miss p tb tb s t means from w h m (enters w.place (omega arith) (omega (arith, place))) (omega (arith, place, within)) dead_state here further refl (omega arith) (omega arith) refl refl in
+      stood_idle n further w' one refl e' end (omega (arith, place)) within (λ k ge lt. enters k (omega (arith, ge)) lt) (λ k ge lt. still k (omega (arith, ge)) lt)
+
+  pub stood_still : IsStill p m → (n : ℕ) (w w' : Cursor) → Stood p tb s t from w → w.state ≡ dead_state → w'.state ≡ dead_state → w'.end ≡ w.end → w'.place ≡ w.place + n → w'.place ≤ length s → Enters from m w.place w'.place → Stood p tb s t from w'
+  stood_still still n w w' h e e' end place within enters =
+      stood_idle n w w' h e e' end place within enters (λ k _ _. still (get_or s k 0) (bytes k))
 
 -- at the first place nothing has begun
 pub stood_begin : (p : Pattern) (tb : Table) → IsTable p tb → (s : List ℕ) (t : Tree) → Means t p → (from : ℕ → Bool) (w : Cursor) → ((i : ℕ) → from i ≡ true → w.place ≤ i) → w.state ≡ first_state w.place → w.end ≡ None → Stood p tb s t from w

@@ -10,5 +10,8 @@ pub mod NewlineBranch
 pub mod OccursDecided
 pub mod ProgramSimulatesMarks
 pub mod ReadDecided
+pub mod RequiredOccurs
+pub mod RequiredRun
+pub mod StandingText
 pub mod StepTellsMatches
 pub mod TableKept

@@ -1,16 +1,15 @@
 -- A pattern that is a text matches where the text stands.
-use Rattle.std.proofs.Common.{◌≡◌, ℕ, zero, suc, ◌+◌, ◌<◌, ◌≤◌, Bool, true, false, List, [], ◌∷◌, ◌++◌, length, map, take, drop, get_or, Option, Some, None, refl, sym, ap, subst, ◌∙◌, append_assoc, append-nil, ⊎_elim, arith}
-use Rattle.std.specs.Prelude.{◌==◌, slice_get, slice_index}
+use Rattle.std.proofs.Common.{◌≡◌, ℕ, suc, ◌+◌, ◌-◌, ◌<◌, ◌≤◌, Bool, true, false, List, [], ◌∷◌, ◌++◌, length, map, take, drop, get_or, Option, Some, None, refl, sym, ap, subst, ◌∙◌, append_assoc, append-nil, ⊎_elim, arith}
+use Rattle.std.specs.Prelude.{◌==◌}
 use Rattle.std.specs.List.{All}
 use Rattle.std.specs.Option.{is_some, option_map}
 use Rattle.std.proofs.lemmas.Bool.{false≢true, eq-eqb, eqb-true, cases_lt}
-use Rattle.std.proofs.lemmas.List.{get_or_past, length-append, map-append}
+use Rattle.std.proofs.lemmas.List.{get_or_past, length-append, length-drop, length-map, map-append}
 use Rattle.std.proofs.Math.ListN.{get_or-append}
 use Rattle.std.proofs.Math.Seq.{take-suc, get_or-append_seam}
-use Rattle.std.proofs.lemmas.Option.{slice_get_within, get_or_from_slice_get, slice_get-get_or}
 use Rattle.std.proofs.lemmas.List.FromFn.{length-map-range_with_len}
-use Rattle.memchr.specs.Find.{OccursAt, FindsNeedle}
-use Rattle.awk_ere_syntax.specs.definitions.Tree.{Class, has, class_of, Tree, Matches}
+use Rattle.memchr.specs.Find.{OccursAt, FindsNeedle, Nowhere}
+use Rattle.awk_ere_syntax.specs.definitions.Tree.{Class, has, class_of, Tree, Matches, Finds}
 use Rattle.awk_ere_compile.specs.definitions.Desugared.{Re, eps, one, first, last, cat, alt, plus, MatchesRe, desugar}
 use Rattle.awk_ere_compile.specs.definitions.Program.{ResolvedInstruction, read, resolve, code}
 use Rattle.awk_ere.specs.support.Layout.{byte_count}
@@ -21,63 +20,13 @@ use Rattle.awk_ere.specs.declared.pattern.Pattern.{Pattern}
 use Rattle.awk_ere_compile.specs.declared.program.Instruction.{Instruction}
 use Rattle.awk_ere_compile.specs.declared.program.Instruction.TheVariants as instructions
 use Rattle.awk_ere.proofs.ClassMembership.{has-class_of}
+use Rattle.awk_ere.proofs.StandingText.{Stands, stands_append, stands_split, Small, small_bytes, small_left, small_right, stands_occurs, occurs_stands, occurs_behind, occurs_before, rest_finds}
 use Rattle.awk_ere.proofs.OccursDecided.{tells_ends}
 use Rattle.awk_ere.proofs.DesugaredMatches.{desugar_to, desugar_from}
 
--- ---- a text in a text
-
--- the bytes stand in s from i up to j
-abbrev Stands : List ℕ → List ℕ → ℕ → ℕ → Type 0
-Stands s [] i j = i ≡ j
-Stands s (b ∷ l) i j = (slice_get s i ≡ Some b) × Stands s l (suc i) j
-
-stands_append : (s l1 l2 : List ℕ) (i k j : ℕ) → Stands s l1 i k → Stands s l2 k j → Stands s (l1 ++ l2) i j
-stands_append s [] l2 i k j e h = subst (λ a. Stands s l2 a j) (sym e) h
-stands_append s (b ∷ l) l2 i k j h g = (h.0, stands_append s l l2 (suc i) k j h.1 g)
-
-stands_split : (s l1 l2 : List ℕ) (i j : ℕ) → Stands s (l1 ++ l2) i j → (k : ℕ) × Stands s l1 i k × Stands s l2 k j
-stands_split s [] l2 i j h = (i, refl, h)
-stands_split s (b ∷ l) l2 i j h = let r = stands_split s l l2 (suc i) j h.1 in (r.0, (h.0, r.1), r.2)
-
-abbrev Small : List ℕ → Type 0
-Small [] = Unit {0}
-Small (b ∷ l) = (b < byte_count) × Small l
-
-small_bytes : (l : List ℕ) → All (λ b. b < byte_count) l → Small l
-small_bytes [] a = tt
-small_bytes (b ∷ l) a = (a 0 0 (omega arith), small_bytes l (λ i d lt. a (suc i) d (omega (arith, lt))))
-
-small_left : (l1 l2 : List ℕ) → Small (l1 ++ l2) → Small l1
-small_left [] l2 a = tt
-small_left (b ∷ l) l2 a = (a.0, small_left l l2 a.1)
-
-small_right : (l1 l2 : List ℕ) → Small (l1 ++ l2) → Small l2
-small_right [] l2 a = a
-small_right (b ∷ l) l2 a = small_right l l2 a.1
-
-front_reads : (s : List ℕ) (b : ℕ) (l : List ℕ) (i : ℕ) → slice_index s i ≡ b → ((k : ℕ) → k < length l → slice_index s (suc i + k) ≡ slice_index l k) → (k : ℕ) → k < length (b ∷ l) → slice_index s (i + k) ≡ slice_index (b ∷ l) k
-front_reads s b l i here later zero lt = ap (slice_index s) (omega arith) ∙ here
-front_reads s b l i here later (suc k) lt = ap (slice_index s) (omega arith) ∙ later k (omega (arith, lt))
-
-stands_occurs : (s l : List ℕ) (i j : ℕ) → i ≤ length s → Stands s l i j → OccursAt s l i × (j ≡ i + length l)
-stands_occurs s [] i j le e = (record { fits = omega (arith, le); reads = λ k lt. absurd (omega (arith, lt)) }, omega (arith, e))
-stands_occurs s (b ∷ l) i j le h =
-    let r = stands_occurs s l (suc i) j (slice_get_within s i b h.0) h.1 in
-    (record { fits = omega (arith, r.0.fits); reads = front_reads s b l i (get_or_from_slice_get s i b 0 h.0) r.0.reads }, omega (arith, r.1))
-
-occurs_stands : (s l : List ℕ) (i : ℕ) → OccursAt s l i → Stands s l i (i + length l)
-occurs_stands s [] i o = omega arith
-occurs_stands s (b ∷ l) i o =
-    let here : slice_index s i ≡ b = ap (slice_index s) (omega arith) ∙ o.reads 0 (omega arith) in
-    let next : OccursAt s l (suc i) = record {
-      fits = omega (arith, o.fits);
-      reads = λ k lt. ap (slice_index s) (omega arith) ∙ o.reads (suc k) (omega (arith, lt));
-    } in
-    (slice_get-get_or s i 0 (omega (arith, o.fits)) ∙ ap Some here, subst (λ n. Stands s l (suc i) n) (omega arith) (occurs_stands s l (suc i) next))
-
 -- ---- the instructions that read bytes
 
-abbrev byte_read : ℕ → ResolvedInstruction
+abbrev pub byte_read : ℕ → ResolvedInstruction
 byte_read b = read (class_of (λ x. x == b))
 
 seen_bytes : (cs : List Class) (l : List ℕ) → map (resolve cs) (map instructions.Byte l) ≡ map byte_read l
@@ -96,7 +45,7 @@ abbrev class_read : List ResolvedInstruction → Class
 class_read (read c ∷ rest) = c
 class_read rest = []
 
-has_byte : (b x : ℕ) → has (class_of (λ y. y == b)) x ≡ true → x ≡ b
+pub has_byte : (b x : ℕ) → has (class_of (λ y. y == b)) x ≡ true → x ≡ b
 has_byte b x h =
     ⊎_elim (λ lt. eqb-true x b (sym (has-class_of (λ y. y == b) x lt) ∙ h))
     (λ ge. absurd (false≢true (sym (get_or_past (class_of (λ y. y == b)) x false (omega (arith, ge, length-map-range_with_len (λ y. y == b) 0 byte_count))) ∙ h)))
@@ -185,6 +134,31 @@ is_some_mapped f (Some k) = refl
 pub literal_tells : (t : Tree) (p : Pattern) (s l : List ℕ) (r : Option ℕ) → Means t p → ReadsBytes l p → FindsNeedle s l 0 r → is_some r ≡ occurs t s
 literal_tells t p s l r means literal found =
     is_some_mapped (λ i. i + length l) r ∙ tells_ends t s _ means.0 (literal_ends t p s l r means literal found)
+
+-- a search from a place on finds the leftmost match, which is the only one that begins there
+module _ (t : Tree) (p : Pattern) (s l : List ℕ) (from : ℕ) (means : Means t p) (literal : ReadsBytes l p) where
+  none_before : (k : ℕ) → Nowhere (OccursAt (drop from s) l) 0 k → (i j : ℕ) → from ≤ i → i ≤ length s → i < from + k → Matches s t i j → ⊥
+  none_before k none i j ge within lt m =
+      let o = (stands_occurs s l i j within ((whole t p l means literal).sound s i j m)).0 in
+      none (i - from) (omega arith) (omega (arith, ge, lt)) (occurs_behind s l from i ge o)
+
+  pub literal_finds : (r : Option ℕ) → from ≤ length s → FindsNeedle (take (length s - from) (drop from s)) l 0 r → Finds t s from (option_map (λ k. (from + k, from + k + length l)) r)
+  literal_finds None le none = λ i j ge within m.
+      none_before (length (drop from s) + 1) (rest_finds s l from None none) i j ge within (omega (arith, within, length-drop from s)) m
+  literal_finds (Some k) le some =
+      let found = rest_finds s l from (Some k) some in
+      let o = occurs_before s l from k le found.1 in
+      let w = whole t p l means literal in (
+        omega arith,
+        omega (arith, o.fits),
+        (λ i j ge lt m. none_before k found.0.before i j ge (omega (arith, lt, o.fits)) lt m),
+        w.complete s (from + k) (from + k + length l) (occurs_stands s l (from + k) o),
+        (λ j m. let h = stands_occurs s l (from + k) j (omega (arith, o.fits)) (w.sound s (from + k) j m) in omega (arith, h.1)),
+      )
+
+-- how many bytes the pattern reads
+pub literal_length : (l : List ℕ) (p : Pattern) → ReadsBytes l p → length p.program.instructions.items ≡ length l
+literal_length l p literal = ap length literal.each ∙ length-map l instructions.Byte
 
 -- ---- one more byte is read
 

@@ -1,9 +1,9 @@
 -- What the table keeps where an entry or a state is added.
 use Rattle.std.proofs.Common.{◌≡◌, ℕ, suc, ◌+◌, ◌-◌, ◌*◌, ◌<◌, ◌≤◌, List, ◌++◌, length, take, drop, Bool, true, false, refl, sym, ap, ◌∙◌, subst, ⊎_elim, arith, get_or, set, replicate}
 use Rattle.std.specs.Prelude.{nat_eq, if◌then◌else◌}
-use Rattle.std.proofs.lemmas.List.{length-set, take-replicate, drop-replicate, get_or-set_same, get_or-set_other, get_or-replicate, length-replicate}
+use Rattle.std.proofs.lemmas.List.{length-set, length-drop, take-replicate, drop-replicate, get_or-set_same, get_or-set_other, get_or-replicate, get_or-append_right, length-replicate, drop-append-le, take-append-le}
 use Rattle.std.proofs.Math.Nat.{mul-le-mul_right}
-use Rattle.std.proofs.Math.ListN.{get_or-eq_default}
+use Rattle.std.proofs.Math.ListN.{get_or-eq_default, get_or-append}
 use Rattle.std.proofs.Math.Seq.{take-append_seam}
 use Rattle.std.proofs.lemmas.Bool.{cases_lt, cases_eq, ne_eqb}
 use Rattle.awk_ere.specs.support.Layout.{byte_count, end_of_text, stride, dead_state, match_flag, state_bound, fixed_states, least_limit}
@@ -92,9 +92,13 @@ steps_end p tb m transitions d v t most known h =
       blank = λ i le. get_or-set_other transitions at i v 0 (λ same. absurd (omega (arith, same, le, known))) ∙ t.blank i le;
     }
 
--- the same states, and perhaps one more
-module _ (p : Pattern) (tb tb' : Table) (g : Grows p tb tb') where
-  pub state_more : (v : ℕ) (st : Bool) (cs : List Bool) → IsState p tb v st cs → IsState p tb' v st cs
+-- the same states, and perhaps more
+record Keeps (p : Pattern) (tb tb' : Table) : Type 0 where
+  up : tb.count ≤ tb'.count
+  same : (d : ℕ) → d < tb.count → positions_at p tb'.rows.items d ≡ positions_at p tb.rows.items d
+
+module _ (p : Pattern) (tb tb' : Table) (g : Keeps p tb tb') where
+  state_more : (v : ℕ) (st : Bool) (cs : List Bool) → IsState p tb v st cs → IsState p tb' v st cs
   state_more v st cs h = record {
     known = omega (arith, h.known, g.up);
     named = h.named;
@@ -102,7 +106,7 @@ module _ (p : Pattern) (tb tb' : Table) (g : Grows p tb tb') where
     positions = g.same (state_number v) h.known ∙ h.positions;
   }
 
-  pub entry_more : (st m : Bool) (cs : List Bool) (x v : ℕ) → IsEntry p tb st m cs x v → IsEntry p tb' st m cs x v
+  entry_more : (st m : Bool) (cs : List Bool) (x v : ℕ) → IsEntry p tb st m cs x v → IsEntry p tb' st m cs x v
   entry_more st m cs x v h = record {
     miss = h.miss;
     goes = λ a b. state_more v false (behind p cs st m false x) (h.goes a b);
@@ -110,13 +114,18 @@ module _ (p : Pattern) (tb tb' : Table) (g : Grows p tb tb') where
     leads = λ a. state_more (v - match_flag) false (behind p cs st m false x) (h.leads a);
   }
 
+-- the same states, and perhaps one more
+module _ (p : Pattern) (tb tb' : Table) (g : Grows p tb tb') where
+  kept : Keeps p tb tb'
+  kept = record { up = g.up; same = g.same }
+
   -- of one more state nothing is known
   steps_more : (m : Bool) (transitions : List ℕ) → AreTransitions p tb m transitions → AreTransitions p tb' m transitions
   steps_more m transitions t = record {
     room = subst (λ n. stride * suc n ≤ length transitions) (sym g.limit) t.room;
     entries = λ d x dl xl.
         ⊎_elim
-        (λ old. subst (λ cs. IsEntry p tb' (nat_eq d 0) m cs x (get_or transitions (stride * suc d + x) 0)) (sym (g.same d old)) (entry_more (nat_eq d 0) m _ x _ (t.entries d x old xl)))
+        (λ old. subst (λ cs. IsEntry p tb' (nat_eq d 0) m cs x (get_or transitions (stride * suc d + x) 0)) (sym (g.same d old)) (entry_more p tb tb' kept (nat_eq d 0) m _ x _ (t.entries d x old xl)))
         (λ new. entry_zero p tb' (nat_eq d 0) m _ x _ (t.blank (stride * suc d + x) (omega (arith, new))))
         (cases_lt d tb.count);
     endings = λ d dl.
@@ -160,8 +169,10 @@ zeros n i =
     (λ ge. get_or-eq_default (replicate n 0) 0 {n = i} (subst (λ m. m ≤ i) (sym (length-replicate n 0)) ge))
     (cases_lt i n)
 
-pub table_begun : (p : Pattern) (tb : Table) (n : ℕ) → n ≡ count_of p → tb.count ≡ fixed_states → least_limit ≤ tb.limit → tb.limit < state_bound → tb.rows.items ≡ replicate (tb.limit * n) false → tb.unanchored.items ≡ replicate (stride * suc tb.limit) 0 → tb.anchored.items ≡ replicate (stride * suc tb.limit) 0 → IsTable p tb
-table_begun p tb n e two room few rows on off =
+pub table_begun : (p : Pattern) (tb : Table) (n : ℕ) → n ≡ count_of p → tb.count ≡ fixed_states → tb.limit ≡ least_limit → tb.rows.items ≡ replicate (tb.limit * n) false → tb.unanchored.items ≡ replicate (stride * suc tb.limit) 0 → tb.anchored.items ≡ replicate (stride * suc tb.limit) 0 → IsTable p tb
+table_begun p tb n e two limit rows on off =
+    let room : least_limit ≤ tb.limit = omega (arith, limit) in
+    let few : tb.limit < state_bound = omega (arith, limit) in
     let blank = rows ∙ ap (λ k. replicate (tb.limit * k) false) e in
     let rows_len = ap length blank ∙ length-replicate (tb.limit * count_of p) false in
     let unanchored_len = ap length on ∙ length-replicate (stride * suc tb.limit) 0 in
@@ -172,6 +183,66 @@ table_begun p tb n e two room few rows on off =
     (omega (arith, unanchored_len)) (omega (arith, anchored_len))
     (λ i. ap (λ l. get_or l i 0) on ∙ zeros (stride * suc tb.limit) i)
     (λ i. ap (λ l. get_or l i 0) off ∙ zeros (stride * suc tb.limit) i)
+
+-- room for more states
+module _ (p : Pattern) (tb tb' : Table) (t : IsTable p tb) (a b c : ℕ) (count : tb'.count ≡ tb.count)
+    (rows : tb'.rows.items ≡ tb.rows.items ++ replicate a false) (on : tb'.unanchored.items ≡ tb.unanchored.items ++ replicate b 0) (off : tb'.anchored.items ≡ tb.anchored.items ++ replicate c 0) where
+  positions_longer : (d : ℕ) → d < tb.limit → positions_at p tb'.rows.items d ≡ positions_at p tb.rows.items d
+  positions_longer d lt =
+      let n = count_of p in
+      let w = row_within d tb.limit n lt in
+      let old = tb.rows.items in
+      ap (λ l. positions_at p l d) rows
+      ∙ ap (take n) (drop-append-le (d * n) old (replicate a false) (omega (arith, w, t.rows)))
+      ∙ take-append-le n (drop (d * n) old) (replicate a false) (omega (arith, w, t.rows, length-drop (d * n) old))
+
+  keeps : Keeps p tb tb'
+  keeps = record { up = omega (arith, count); same = λ d lt. positions_longer d (omega (arith, lt, t.most)) }
+
+  longer_reads : (l : List ℕ) (k i : ℕ) → get_or (l ++ replicate k 0) i 0 ≡ get_or l i 0
+  longer_reads l k i =
+      ⊎_elim (λ below. get_or-append l (replicate k 0) 0 i below)
+      (λ ge. get_or-append_right l (replicate k 0) (length l) i 0 refl ge ∙ zeros k (i - length l) ∙ sym (get_or-eq_default l 0 {n = i} ge))
+      (cases_lt i (length l))
+
+  steps_longer : (m : Bool) (old new : List ℕ) (k : ℕ) → new ≡ old ++ replicate k 0 → stride * suc tb'.limit ≤ length new → AreTransitions p tb m old → AreTransitions p tb' m new
+  steps_longer m old new k is room s =
+      let reads = λ (i : ℕ). ap (λ l. get_or l i 0) is ∙ longer_reads old k i in
+      record {
+        room = room;
+        entries = λ d x dl xl.
+            let lt : d < tb.count = omega (arith, dl, count) in
+            let i = stride * suc d + x in
+            subst (λ v. IsEntry p tb' (nat_eq d 0) m (positions_at p tb'.rows.items d) x v) (sym (reads i))
+            (subst (λ cs. IsEntry p tb' (nat_eq d 0) m cs x (get_or old i 0)) (sym (keeps.same d lt)) (entry_more p tb tb' keeps (nat_eq d 0) m _ x _ (s.entries d x lt xl)));
+        endings = λ d dl.
+            let lt : d < tb.count = omega (arith, dl, count) in
+            let i = stride * suc d + end_of_text in
+            subst (λ v. IsEnding p (nat_eq d 0) m (positions_at p tb'.rows.items d) v) (sym (reads i))
+            (subst (λ cs. IsEnding p (nat_eq d 0) m cs (get_or old i 0)) (sym (keeps.same d lt)) (s.endings d lt));
+        blank = λ i le. reads i ∙ s.blank i (omega (arith, le, count));
+      }
+
+  pub table_longer : tb.limit ≤ tb'.limit → tb'.limit < state_bound → tb'.limit * count_of p ≤ length tb'.rows.items → stride * suc tb'.limit ≤ length tb'.unanchored.items → stride * suc tb'.limit ≤ length tb'.anchored.items → IsTable p tb'
+  table_longer up few rows_room on_room off_room = record {
+    least = omega (arith, t.least, count);
+    most = omega (arith, t.most, count, up);
+    room = omega (arith, t.room, up);
+    few = few;
+    rows = rows_room;
+    start = keeps.same 0 (omega (arith, t.least)) ∙ t.start;
+    idle = keeps.same 1 (omega (arith, t.least)) ∙ t.idle;
+    unanchored = steps_longer true tb.unanchored.items tb'.unanchored.items b on on_room t.unanchored;
+    anchored = steps_longer false tb.anchored.items tb'.anchored.items c off off_room t.anchored;
+  }
+
+-- all states but the first two are forgotten
+pub table_cleared : (p : Pattern) (tb tb' : Table) → IsTable p tb → tb'.rows.items ≡ tb.rows.items → tb'.count ≡ fixed_states → tb'.limit ≡ tb.limit → length tb'.unanchored.items ≡ length tb.unanchored.items → length tb'.anchored.items ≡ length tb.anchored.items → ((i : ℕ) → get_or tb'.unanchored.items i 0 ≡ 0) → ((i : ℕ) → get_or tb'.anchored.items i 0 ≡ 0) → IsTable p tb'
+table_cleared p tb tb' t rows two limit unanchored_len anchored_len on0 off0 =
+    table_first p tb' two (omega (arith, t.room, limit)) (omega (arith, t.few, limit))
+    (subst (λ n. n * count_of p ≤ length tb'.rows.items) (sym limit) (subst (λ l. tb.limit * count_of p ≤ length l) (sym rows) t.rows))
+    (ap (λ l. positions_at p l 0) rows ∙ t.start) (ap (λ l. positions_at p l 1) rows ∙ t.idle)
+    (omega (arith, t.unanchored.room, limit, unanchored_len)) (omega (arith, t.anchored.room, limit, anchored_len)) on0 off0
 
 -- a state by its number
 pub state_at : (p : Pattern) (tb : Table) (v : ℕ) (st : Bool) (cs : List Bool) (d : ℕ) → d < tb.count → v ≡ stride * suc d → st ≡ nat_eq d 0 → positions_at p tb.rows.items d ≡ cs → IsState p tb v st cs
@@ -253,7 +324,7 @@ module _ (p : Pattern) (tb : Table) (t : IsTable p tb) (state x : ℕ) (m left :
       (subst (IsState p to (stride * suc number) false) (positions_is st cs s) (state_named p to number positions pos lt e))
 
   module _ (tb2 tb3 : Table) (g : Grows p tb tb2) (on2 : tb2.unanchored.items ≡ tb.unanchored.items) (off2 : tb2.anchored.items ≡ tb.anchored.items) where
-    grown : IsTable p tb2
+    pub grown : IsTable p tb2
     grown = table_more p tb tb2 g t (subst (AreTransitions p tb true) (sym on2) t.unanchored) (subst (AreTransitions p tb false) (sym off2) t.anchored)
 
     -- that is there, or was added
@@ -261,7 +332,7 @@ module _ (p : Pattern) (tb : Table) (t : IsTable p tb) (state x : ℕ) (m left :
         (rows : tb3.rows.items ≡ tb2.rows.items) (count : tb3.count ≡ tb2.count) (limit : tb3.limit ≡ tb2.limit) where
       pub learn_entry : (st : Bool) (cs : List Bool) → IsState p tb state st cs → IsEntry p tb3 st m cs x v
       learn_entry st cs s =
-          entry_more p tb2 tb3 (grows_same p tb2 tb3 rows count limit) st m cs x v
+          entry_more p tb2 tb3 (kept p tb2 tb3 (grows_same p tb2 tb3 rows count limit)) st m cs x v
           (subst (IsEntry p tb2 st m cs x) (sym v_is) (made tb2 grown lt e st cs s))
 
       pub learn_table : IsKnown tb state → x < byte_count → tb3.unanchored.items ≡ (if m then set tb2.unanchored.items (state + x) v else tb2.unanchored.items) → tb3.anchored.items ≡ (if m then tb2.anchored.items else set tb2.anchored.items (state + x) v) → IsTable p tb3
@@ -271,20 +342,10 @@ module _ (p : Pattern) (tb : Table) (t : IsTable p tb) (state x : ℕ) (m left :
           table_set p tb2 tb3 m (λ l. set l (state + x) v) grown rows count limit on off
           (λ l a. subst (λ i. AreTransitions p tb2 m (set l (i + x) v)) (sym k.named) (steps_set p tb2 m l k.number x v a grown.most (omega (arith, k.known, g.up)) byte entry))
 
-    -- that is added to the first two
-    module _ (tb4 : Table) (rows : tb3.rows.items ≡ tb2.rows.items) (two : tb3.count ≡ fixed_states) (limit : tb3.limit ≡ tb2.limit)
-        (unanchored_len : length tb3.unanchored.items ≡ length tb2.unanchored.items) (anchored_len : length tb3.anchored.items ≡ length tb2.anchored.items)
-        (on0 : (i : ℕ) → get_or tb3.unanchored.items i 0 ≡ 0) (off0 : (i : ℕ) → get_or tb3.anchored.items i 0 ≡ 0)
-        (g4 : Grows p tb3 tb4) (on4 : tb4.unanchored.items ≡ tb3.unanchored.items) (off4 : tb4.anchored.items ≡ tb3.anchored.items) where
-      cleared : IsTable p tb3
-      cleared =
-          table_first p tb3 two (omega (arith, grown.room, limit)) (omega (arith, grown.few, limit))
-          (subst (λ n. n * count_of p ≤ length tb3.rows.items) (sym limit) (subst (λ l. tb2.limit * count_of p ≤ length l) (sym rows) grown.rows))
-          (ap (λ l. positions_at p l 0) rows ∙ grown.start) (ap (λ l. positions_at p l 1) rows ∙ grown.idle)
-          (omega (arith, grown.unanchored.room, limit, unanchored_len)) (omega (arith, grown.anchored.room, limit, anchored_len)) on0 off0
-
+    -- that is added where room was made
+    module _ (tb4 : Table) (room : IsTable p tb3) (g4 : Grows p tb3 tb4) (on4 : tb4.unanchored.items ≡ tb3.unanchored.items) (off4 : tb4.anchored.items ≡ tb3.anchored.items) where
       pub begun_table : IsTable p tb4
-      begun_table = table_more p tb3 tb4 g4 cleared (subst (AreTransitions p tb3 true) (sym on4) cleared.unanchored) (subst (AreTransitions p tb3 false) (sym off4) cleared.anchored)
+      begun_table = table_more p tb3 tb4 g4 room (subst (AreTransitions p tb3 true) (sym on4) room.unanchored) (subst (AreTransitions p tb3 false) (sym off4) room.anchored)
 
       pub begun_entry : number < tb4.count → positions_at p tb4.rows.items number ≡ positions → (st : Bool) (cs : List Bool) → IsState p tb state st cs → IsEntry p tb4 st m cs x (stride * suc number + (if left then match_flag else 0))
       begun_entry lt e st cs s = made tb4 begun_table lt e st cs s

@@ -2,6 +2,8 @@ pub mod CursorState
 pub mod Found
 pub mod Layout
 pub mod Marked
+pub mod Required
+pub mod RequiredRun
 pub mod Simulation
 pub mod SimulationStep
 pub mod Table

@@ -12,10 +12,12 @@
 #![tactic(auto)]
 
 mod dfa;
+mod first_bytes;
 pub mod laws;
 pub mod newline;
 pub mod pattern;
 mod prefilter;
+mod required;
 pub mod scratch;
 pub mod search;
 mod simulation;

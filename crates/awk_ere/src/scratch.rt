@@ -1,10 +1,11 @@
 // The cache of a search: a position set, the transition table, and what is known of the pattern.
 
-ghost use Rattle.std.specs.Prelude.{◌≡◌, true, MatchResult};
+ghost use Rattle.std.specs.Prelude.{◌≡◌, true, MatchResult, is_some};
 ghost use Rattle.awk_ere.specs.support.SimulationStep.{IsStill, AreFor};
 ghost use Rattle.awk_ere.specs.support.Table.{IsFor};
 
 use crate::dfa::table::Table;
+use crate::first_bytes::FirstBytes;
 use crate::pattern::Pattern;
 use crate::simulation::{Input, PositionSet};
 use awk_ere_compile::program::Instruction;
@@ -21,10 +22,17 @@ pub struct Scratch {
     pub(crate) anchored_at_start: bool,
     /// A search for the text that the pattern is, where it is one.
     pub(crate) literal: Option<Finder<'static>>,
+    /// The bytes with which a match may begin behind the text's start, as far as they are known.
+    pub(crate) first_bytes: FirstBytes,
+    /// How many long texts were searched, up to as many as are searched before the first bytes are learned.
+    pub(crate) searches: u32,
+    /// A search for a text that stands in each match, where one is known.
+    pub(crate) required: Option<Finder<'static>>,
 }
 
 impl Scratch {
-    /// The memory for searches for this pattern: at most some megabyte, and little for a small pattern.
+    /// The memory for searches for this pattern: some kilobytes for a small pattern. It grows with the texts that it meets,
+    /// to at most some megabyte.
     pub fn for_pattern(alloc: Global, pattern: &Pattern) -> Result<Scratch, PatternFault>
         ensures { MatchResult result (λ scratch. IsFor scratch pattern.now) (λ fault. fault ≡ PatternFault.Memory) }
     {
@@ -33,12 +41,24 @@ impl Scratch {
         let table = Table::for_count(alloc, count)?;
         let anchored_at_start = pattern.is_anchored_at_start(&mut position_set);
         let literal = pattern.literal_finder(alloc)?;
+        let required = pattern.required_finder(alloc)?;
         Ok(Scratch {
             position_set,
             table,
             anchored_at_start,
             literal,
+            first_bytes: FirstBytes::Any,
+            searches: 0,
+            required,
         })
+    }
+
+    /// Whether a text is known that stands in each match, so that other texts can be passed over.
+    #[inline]
+    pub fn has_required(&self) -> bool
+        ensures { result ≡ is_some self.now.required }
+    {
+        self.required.is_some()
     }
 }
 

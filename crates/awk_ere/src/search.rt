@@ -3,12 +3,14 @@
 
 ghost use Rattle.std.specs.Prelude.{◌≡◌, ◌↔◌, ℕ, ◌≤◌, true, false, length, IfSome, OnSome};
 ghost use Rattle.awk_ere_syntax.specs.definitions.Tree.{Tree, NoneFrom, Finds, Occurs};
-ghost use Rattle.awk_ere.specs.definitions.Means.{Means, occurs};
+ghost use Rattle.awk_ere.specs.definitions.Means.{Means, occurs, HasNoneUpTo};
 ghost use Rattle.awk_ere.specs.support.Table.{IsFor};
+ghost use Rattle.awk_ere.specs.support.Required.{PassesOver};
 ghost use Rattle.awk_ere.specs.support.Found.{EndsWithin, Longest, OccursBetween, EndsAt, Begins, BeginsWithin};
 
 use crate::dfa::cursor::Cursor;
 use crate::pattern::Pattern;
+use crate::required::LONG;
 use crate::scratch::Scratch;
 
 impl Pattern {
@@ -125,7 +127,8 @@ impl Pattern {
 }
 
 impl Pattern {
-    /// Whether the pattern matches somewhere in the text. It takes no memory, and time that grows with the text.
+    /// Whether the pattern matches somewhere in the text. The time grows with the text. The scratch may take memory, within
+    /// its bounds, and does without where memory is refused.
     pub fn is_match(&self, text: &[u8], scratch: &mut Scratch) -> bool
         requires { IsFor scratch.old self.now }
         ensures found { (t : Tree) → Means t self.now → (result ≡ true) ↔ Occurs t text.now }
@@ -135,12 +138,18 @@ impl Pattern {
         if let Some(finder) = &scratch.literal {
             return finder.find(text).is_some();
         }
+        if text.len() >= LONG {
+            self.count_search(scratch);
+        }
+        if !scratch.anchored_at_start && self.lacks_required(text, 0, scratch) {
+            return false;
+        }
         self.end_between(text, 0, text.len(), scratch).is_some()
     }
 
     /// The leftmost match at or behind a place of the text, and of those the longest: where it begins and
-    /// where it ends (XBD 9.1). Both lie within the text, whatever the pattern means. It takes no memory, and time that
-    /// grows with the text times its logarithm.
+    /// where it ends (XBD 9.1). Both lie within the text, whatever the pattern means. The time grows with the text times its
+    /// logarithm. The scratch may take memory, as in `is_match`.
     pub fn find_from(
         &self,
         text: &[u8],
@@ -153,6 +162,13 @@ impl Pattern {
         ensures found { (t : Tree) → Means t self.now → Finds t text.now from result }
         ensures same { IsFor scratch.new self.now }
     {
+        if let Some(finder) = &scratch.literal {
+            let start = from + finder.find(&text[from..])?;
+            return Some((start, start + self.program.instructions.len()));
+        }
+        if self.lacks_required(text, from, scratch) {
+            return None;
+        }
         let start = self.next_candidate(text, from, scratch);
         if let Some(end) = self.longest_from(text, start, scratch) {
             return Some((start, end));
@@ -164,5 +180,18 @@ impl Pattern {
         let start = self.first_between(text, low, high, scratch);
         let end = self.longest_from(text, start, scratch)?;
         Some((start, end))
+    }
+
+    /// How far a text can be passed over: no part of it that ends at or before this place has a match. It is the first
+    /// place of a text that stands in each match, or the end. Nothing is answered where no such text is known.
+    #[inline]
+    pub fn skippable(&self, text: &[u8], scratch: &Scratch) -> Option<usize>
+        requires same { IsFor scratch.now self.now }
+        ensures within { IfSome result (λ place. place ≤ length text.now) }
+        ensures none { IfSome result (λ place. (t : Tree) → Means t self.now → HasNoneUpTo t text.now place) }
+        ensures place { PassesOver scratch.now.required text.now result }
+    {
+        let finder = scratch.required.as_ref()?;
+        Some(finder.find(text).unwrap_or(text.len()))
     }
 }

@@ -1,5 +1,5 @@
 -- Which pattern a compiled pattern stands for, what reading a text answers, and whether a text has a match.
-use Rattle.std.specs.Prelude.{◌≡◌, ℕ, suc, Bool, true, false, ◌||◌, nat_eq, List, [], ◌∷◌, Option, Some, None, Result, Ok, Err}
+use Rattle.std.specs.Prelude.{◌≡◌, ℕ, suc, ◌+◌, ◌≤◌, Bool, true, false, ◌||◌, nat_eq, List, [], ◌∷◌, ◌++◌, length, Option, Some, None, Result, Ok, Err}
 use Rattle.awk_ere_syntax.specs.definitions.Tree.{Tree}
 use Rattle.awk_ere_syntax.specs.declared.fault.PatternFault.{PatternFault}
 use Rattle.awk_ere_syntax.specs.declared.fault.PatternFault.TheVariants.{Memory}
@@ -30,3 +30,8 @@ occurs_from p k (x ∷ xs) = flow (nat_eq k 0) false true p || occurs_from (step
 -- whether a pattern matches somewhere in a text
 unfoldable pub occurs : Tree → List ℕ → Bool
 occurs t s = occurs_from (fresh (desugar t)) 0 s
+
+-- no part of the text that ends at or before a place has a match
+abbrev pub HasNoneUpTo : Tree → List ℕ → ℕ → Type 0
+HasNoneUpTo t s place =
+    (before part after : List ℕ) → s ≡ before ++ (part ++ after) → length before + length part ≤ place → occurs t part ≡ false

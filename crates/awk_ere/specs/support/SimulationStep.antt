@@ -25,10 +25,14 @@ behind p cs st m en x = (exec st en x (program p) cs (registers m false [])).1
 abbrev pub dead_positions : Pattern → List Bool
 dead_positions p = replicate (count_of p) false
 
--- behind the text's start, nothing begins where m enters
+-- behind the text's start, nothing begins with the byte x where m enters
+abbrev pub IsStillAt : Pattern → Bool → ℕ → Type 0
+IsStillAt p m x =
+    (leaves p (dead_positions p) false m false x ≡ false) × (behind p (dead_positions p) false m false x ≡ dead_positions p)
+
+-- nor with any byte
 abbrev pub IsStill : Pattern → Bool → Type 0
-IsStill p m =
-    (x : ℕ) → x < byte_count → (leaves p (dead_positions p) false m false x ≡ false) × (behind p (dead_positions p) false m false x ≡ dead_positions p)
+IsStill p m = (x : ℕ) → x < byte_count → IsStillAt p m x
 
 -- there is a position and room for a signal for each instruction
 pub record AreFor (position_set : PositionSet) (p : Pattern) : Type 0 where

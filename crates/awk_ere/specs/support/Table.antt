@@ -6,8 +6,12 @@ use Rattle.awk_ere.specs.declared.dfa.table.Table.{Table}
 use Rattle.std.specs.List.{All}
 use Rattle.awk_ere_compile.specs.declared.program.Instruction.TheVariants as instructions
 use Rattle.awk_ere.specs.declared.pattern.Pattern.{Pattern}
-use Rattle.awk_ere.specs.support.SimulationStep.{count_of, leaves, behind, dead_positions, IsStill, AreFor}
+use Rattle.awk_ere.specs.support.SimulationStep.{count_of, leaves, behind, dead_positions, IsStillAt, IsStill, AreFor}
+use Rattle.awk_ere.specs.support.Required.{IsRequired}
 use Rattle.awk_ere.specs.declared.scratch.Scratch.{Scratch}
+use Rattle.awk_ere.specs.declared.first_bytes.FirstBytes.{FirstBytes}
+use Rattle.awk_ere.specs.declared.first_bytes.FirstBytes.TheVariants as first
+use Rattle.memchr.specs.Find.{is_byte, is_byte2, is_byte3}
 
 -- ---- the literal prefilter: patterns that are a text and nothing else
 
@@ -82,9 +86,25 @@ pub record Grows (p : Pattern) (old new : Table) : Type 0 where
   pub rows : length new.rows.items ≡ length old.rows.items
   pub same : (d : ℕ) → d < old.count → positions_at p new.rows.items d ≡ positions_at p old.rows.items d
 
+-- ---- the first bytes
+
+-- whether a byte is one of them
+abbrev pub is_first : FirstBytes → ℕ → Bool
+is_first first.Any x = true
+is_first first.Never x = false
+is_first (first.One a) x = is_byte a x
+is_first (first.Two a b) x = is_byte2 a b x
+is_first (first.Three a b c) x = is_byte3 a b c x
+
+-- behind the text's start, nothing begins with another one
+abbrev pub AreFirst : FirstBytes → Pattern → Type 0
+AreFirst f p = (x : ℕ) → x < byte_count → is_first f x ≡ false → IsStillAt p true x
+
 -- the memory of a search serves the pattern
 pub record IsFor (s : Scratch) (p : Pattern) : Type 0 where
   pub position_set : AreFor s.position_set p
   pub table : IsTable p s.table
   pub anchored_at_start : s.anchored_at_start ≡ true → IsStill p true
   pub literal : IsLiteral s.literal p
+  pub first_bytes : AreFirst s.first_bytes p
+  pub required : IsRequired s.required p

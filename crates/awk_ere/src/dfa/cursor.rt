@@ -24,6 +24,9 @@ pub(crate) struct Cursor {
 // How many bytes the fast loop reads before `skip` is tried again.
 const BLOCK: usize = 32;
 
+// Among fewer bytes the first ones are not searched for.
+const SHORT: usize = 32;
+
 /// The state at a place before which no match has begun.
 pub(crate) fn first_state(place: usize) -> u32
     ensures { result ≡ first_state place }
@@ -70,8 +73,8 @@ impl Cursor {
 }
 
 impl Pattern {
-    // Where a byte leads from a state.
-    fn entry(&self, scratch: &mut Scratch, state: u32, entering: bool, byte: u8) -> u32
+    /// Where a byte leads from a state.
+    pub(crate) fn entry(&self, scratch: &mut Scratch, state: u32, entering: bool, byte: u8) -> u32
         requires same { IsFor scratch.old self.now }
         requires known { IsKnown scratch.old.table state }
         ensures some { 0 < result }
@@ -134,6 +137,14 @@ impl Pattern {
         if !entering || scratch.anchored_at_start {
             return Cursor {
                 place: to,
+                ..cursor
+            };
+        }
+        if to - cursor.place >= SHORT
+            && let Some(skipped) = scratch.first_bytes.find(&text[cursor.place..to])
+        {
+            return Cursor {
+                place: cursor.place + skipped,
                 ..cursor
             };
         }

@@ -1,15 +1,15 @@
 // The transition table: the states that are known, and where each byte leads from them.
 
-ghost use Rattle.std.specs.Prelude.{◌≡◌, ℕ, suc, ◌+◌, ◌*◌, ◌<◌, ◌≤◌, length, take, drop, slice_index};
+ghost use Rattle.std.specs.Prelude.{◌≡◌, ℕ, suc, ◌+◌, ◌-◌, ◌*◌, ◌<◌, ◌≤◌, ◌++◌, length, take, drop, slice_index};
 ghost use Rattle.std.specs.Prelude.{slice_set, true, IfSome, IfOk, IfErr, replicate, false, if◌then◌else◌};
 ghost use Rattle.awk_ere.specs.support.Layout.{stride, match_flag, state_bound, fixed_states, least_limit};
 ghost use Rattle.awk_ere.specs.support.SimulationStep.{count_of};
-ghost use Rattle.awk_ere.specs.support.Table.{Grows, positions_at};
+ghost use Rattle.awk_ere.specs.support.Table.{Grows, IsTable, positions_at};
 
 use crate::pattern::Pattern;
 use awk_ere_syntax::fault::PatternFault;
 use awk_ere_syntax::token::BYTE_COUNT;
-use std::alloc::Global;
+use std::alloc::{AllocError, Global};
 
 /// The states that are known, and where each byte leads from them.
 #[derive(Drop)]
@@ -23,9 +23,9 @@ pub(crate) struct Table {
     pub(crate) anchored: Vec<u32>,
     /// How many states there are.
     pub(crate) count: usize,
-    /// How many states there may be.
+    /// How many states there is room for.
     pub(crate) limit: usize,
-    /// For a hash of positions the number of the last state that was added under it.
+    /// For a hash of positions the number of the last state that was added under it. A table of least room has none.
     slots: Vec<u32>,
 }
 
@@ -49,6 +49,9 @@ pub(crate) const MATCH_FLAG: u32 = 1 << 31;
 
 // The states that a table always has: that at the text's start, and the dead one.
 const FIXED_STATES: usize = 2;
+
+// How many states a table has room for at first.
+const LEAST_LIMIT: usize = FIXED_STATES + 1;
 
 // Writes a row among rows of one length.
 fn write_row(rows: &mut [bool], number: usize, row: &[bool])
@@ -81,7 +84,17 @@ fn limit_for(count: usize) -> usize
         .saturating_add(1)
         .saturating_mul(STATES_PER_INSTRUCTION);
     let fits = BUDGET / count.saturating_add(ENTRIES_SIZE);
-    wanted.min(fits).max(FIXED_STATES + 1)
+    wanted.min(fits).max(LEAST_LIMIT)
+}
+
+// The items, and then copies of a value up to a length.
+fn enlarged<T: Copy>(alloc: Global, items: &[T], len: usize, value: T) -> Result<Vec<T>, AllocError>
+    ensures { IfOk result (λ larger. larger.items ≡ items.now ++ replicate (len - length items.now) value) }
+{
+    let mut larger = Vec::with_capacity(alloc, len)?;
+    larger.extend_from_slice(items)?;
+    larger.resize(items.len().max(len), value)?;
+    Ok(larger)
 }
 
 // Entries of so many states, and one before them, of which none is known.
@@ -139,31 +152,28 @@ pub(crate) fn entry_to(number: usize, hit: bool) -> u32
 }
 
 impl Table {
-    /// A table of the first two states, for a program of this length.
+    /// A table of the first two states, with room for one more, for a program of this length.
     pub(crate) fn for_count(alloc: Global, count: usize) -> Result<Table, PatternFault>
-        ensures least { IfOk result (λ tb. least_limit ≤ tb.limit) }
-        ensures most { IfOk result (λ tb. tb.limit < state_bound) }
+        ensures limit { IfOk result (λ tb. tb.limit ≡ least_limit) }
         ensures count { IfOk result (λ tb. tb.count ≡ fixed_states) }
         ensures rows { IfOk result (λ tb. tb.rows.items ≡ replicate (tb.limit * count) false) }
         ensures unanchored { IfOk result (λ tb. tb.unanchored.items ≡ replicate (stride * suc tb.limit) 0) }
         ensures anchored { IfOk result (λ tb. tb.anchored.items ≡ replicate (stride * suc tb.limit) 0) }
         ensures fault { IfErr result (λ fault. fault ≡ PatternFault.Memory) }
     {
-        let limit = limit_for(count);
-        let Some(len) = limit.checked_mul(count) else {
+        let Some(len) = LEAST_LIMIT.checked_mul(count) else {
             return Err(PatternFault::Memory);
         };
         let rows = vec![in alloc; false; len]?;
-        let unanchored = unknown_entries(alloc, limit)?;
-        let anchored = unknown_entries(alloc, limit)?;
-        let slots = vec![in alloc; 0; 1 << SLOT_BITS]?;
+        let unanchored = unknown_entries(alloc, LEAST_LIMIT)?;
+        let anchored = unknown_entries(alloc, LEAST_LIMIT)?;
         Ok(Table {
             rows,
             unanchored,
             anchored,
             count: FIXED_STATES,
-            limit,
-            slots,
+            limit: LEAST_LIMIT,
+            slots: Vec::new(alloc),
         })
     }
 
@@ -258,7 +268,7 @@ impl Table {
     }
 
     // Forgets all states but the first two.
-    pub(crate) fn clear(&mut self)
+    fn clear(&mut self)
         ensures unanchored { (i : ℕ) → slice_index self.new.unanchored.items i ≡ 0 }
         ensures anchored { (i : ℕ) → slice_index self.new.anchored.items i ≡ 0 }
         ensures unanchored_len { length self.new.unanchored.items ≡ length self.old.unanchored.items }
@@ -270,6 +280,49 @@ impl Table {
         forget(self.unanchored.as_mut_slice());
         forget(self.anchored.as_mut_slice());
         self.count = FIXED_STATES;
+    }
+
+    // The same table with room for so many states.
+    fn with_limit(&self, limit: usize, count: usize) -> Result<Table, AllocError>
+        requires more { self.now.limit ≤ limit }
+        requires few { limit < state_bound }
+        ensures table { IfOk result (λ tb. (p : Pattern) → count ≡ count_of p → IsTable p self.now → IsTable p tb) }
+        ensures count { IfOk result (λ tb. tb.count ≡ self.now.count) }
+        ensures limit { IfOk result (λ tb. tb.limit ≡ limit) }
+    {
+        let Some(len) = limit.checked_mul(count) else {
+            return Err(AllocError);
+        };
+        let alloc = *self.rows.allocator();
+        let entries_len = STRIDE * (limit + 1);
+        Ok(Table {
+            rows: enlarged(alloc, &self.rows, len, false)?,
+            unanchored: enlarged(alloc, &self.unanchored, entries_len, UNKNOWN)?,
+            anchored: enlarged(alloc, &self.anchored, entries_len, UNKNOWN)?,
+            count: self.count,
+            limit,
+            slots: enlarged(alloc, &self.slots, 1 << SLOT_BITS, 0)?,
+        })
+    }
+
+    /// Makes room for one more state, for a program of this length. Where there may be more states and memory is given they
+    /// stay, and else all but the first two are forgotten.
+    pub(crate) fn make_room(&mut self, count: usize)
+        requires least { least_limit ≤ self.old.limit }
+        requires few { self.old.limit < state_bound }
+        requires full { self.old.count ≤ self.old.limit }
+        ensures table { (p : Pattern) → count ≡ count_of p → IsTable p self.old → IsTable p self.new }
+        ensures room { self.new.count < self.new.limit }
+        ensures few { self.new.limit < state_bound }
+    {
+        let limit = limit_for(count).min(2 * self.limit);
+        if self.limit < limit
+            && let Ok(larger) = self.with_limit(limit, count)
+        {
+            *self = larger;
+        } else {
+            self.clear();
+        }
     }
 
     // The number of the state of these positions, where there is one or room for one.

@@ -67,7 +67,7 @@ impl Pattern {
                 entry
             }
             None => {
-                table.clear();
+                table.make_room(positions.len());
                 entry_to(table.add(positions), hit)
             }
         }

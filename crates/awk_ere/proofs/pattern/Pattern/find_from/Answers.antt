@@ -1,18 +1,20 @@
-use Rattle.std.proofs.Common.{◌≡◌, ◌+◌, sym, subst, ⊎_elim, arith}
+use Rattle.std.proofs.Common.{◌≡◌, ◌+◌, length, Some, None, sym, subst, ◌∙◌, ⊎_elim, arith, rules}
 use Rattle.std.proofs.lemmas.Bool.{cases_lt}
 use Rattle.awk_ere_syntax.specs.definitions.Tree.{Matches, Finds}
+use Rattle.awk_ere.proofs.StandingText.{occurs_before, rest_finds}
+use Rattle.awk_ere.proofs.LiteralOccurs.{literal_finds, literal_length}
 use Rattle.awk_ere.proofs.pattern.Pattern.find_from.Goals as goal
 
 pub returns-in_err-low-clause-found : goal.returns-in_err-low-clause-found
 returns-in_err-low-clause-found c = λ t means.
     let s = c.args.text.now in
     let start = c.next_candidate-start.result in
-    subst (Finds t s c.args.from) (sym c.from_residual.ensures)
+    subst (Finds t s c.args.from) (sym c.from_residual-in_err-low.ensures)
     (λ i j ge le m.
     ⊎_elim (λ below. c.next_candidate-start.ensures.none t means i j ge below m)
     (λ at.
     ⊎_elim
-    (λ here. let same : i ≡ start = omega (arith, at, here) in c.in_default.ensures.found t means j (subst (λ a. Matches s t a j) same m))
+    (λ here. let same : i ≡ start = omega (arith, at, here) in c.in_default-longest_from.ensures.found t means j (subst (λ a. Matches s t a j) same m))
     (λ past. c.in_err-low.ensures.found t means i j past le m) (cases_lt i (start + 1)))
     (cases_lt i start))
 
@@ -21,10 +23,10 @@ returns-in_err-end-clause-found c = λ t means.
     let begins = c.first_between-start.ensures.found t means (c.in_ok-low.ensures.found t means).2 in
     absurd (c.in_err-end.ensures.found t means begins.1.0 begins.1.1)
 
-pub returns-in-Some-clause-found : goal.returns-in-Some-clause-found
-returns-in-Some-clause-found c = λ t means.
+pub returns-in-Some-longest_from-clause-found : goal.returns-in-Some-longest_from-clause-found
+returns-in-Some-longest_from-clause-found c = λ t means.
     let first = c.next_candidate-start.ensures in
-    let longest = c.in-Some.ensures.found t means in
+    let longest = c.in-Some-longest_from.ensures.found t means in
     (first.order, first.within, first.none t means, longest.0, longest.1)
 
 pub returns-then-start-text-clause-found : goal.returns-then-start-text-clause-found
@@ -32,7 +34,7 @@ returns-then-start-text-clause-found c = λ t means i j ge le m.
     let s = c.args.text.now in
     let start = c.next_candidate-start.result in
     ⊎_elim (λ below. c.next_candidate-start.ensures.none t means i j ge below m)
-    (λ at. let same : i ≡ start = omega (arith, at, le, c.if-start-text.true) in c.in_default.ensures.found t means j (subst (λ a. Matches s t a j) same m))
+    (λ at. let same : i ≡ start = omega (arith, at, le, c.if-start-text.true) in c.in_default-longest_from.ensures.found t means j (subst (λ a. Matches s t a j) same m))
     (cases_lt i start)
 
 pub returns-clause-found : goal.returns-clause-found
@@ -48,10 +50,37 @@ returns-clause-found c = λ t means.
           ⊎_elim (λ below. c.next_candidate-start.ensures.none t means i j ge below m)
           (λ at.
           ⊎_elim
-          (λ here. let same : i ≡ start = omega (arith, at, here) in c.in_default.ensures.found t means j (subst (λ a. Matches s t a j) same m))
+          (λ here. let same : i ≡ start = omega (arith, at, here) in c.in_default-longest_from.ensures.found t means j (subst (λ a. Matches s t a j) same m))
           (λ past. ⊎_elim (λ before. window.1 i j past before m) (λ behind. begins.2 i j behind lt m) (cases_lt i c.in_ok-low.low))
           (cases_lt i (start + 1)))
           (cases_lt i start)),
       longest.0,
       longest.1,
     )
+
+pub returns-in_err-start-clause-found : goal.returns-in_err-start-clause-found
+returns-in_err-start-clause-found c = λ t means.
+    let s = c.args.text.now in
+    let needle = c.in-Some.finder in
+    subst (Finds t s c.args.from) (sym c.from_residual.ensures)
+    (literal_finds t c.args.self.now s needle c.args.from means (c.requires.same.literal needle c.in-Some.is) None c.requires.within c.in_err-start.ensures)
+
+pub returns-in-Some-clause-found : goal.returns-in-Some-clause-found
+returns-in-Some-clause-found c = λ t means.
+    let s = c.args.text.now in
+    let start = c.args.from + c.in_ok-start.field-0 in
+    let needle = c.in-Some.finder in
+    let literal = c.requires.same.literal needle c.in-Some.is in
+    let count : c.len.result ≡ length c.args.self.now.program.instructions.items = search rules in
+    subst (λ n. Finds t s c.args.from (Some (start, start + n))) (sym (count ∙ literal_length needle c.args.self.now literal))
+    (literal_finds t c.args.self.now s needle c.args.from means literal (Some c.in_ok-start.field-0) c.requires.within c.in_ok-start.ensures)
+
+pub returns-in-Some-clause-within : goal.returns-in-Some-clause-within
+returns-in-Some-clause-within c =
+    let s = c.args.text.now in
+    let k = c.in_ok-start.field-0 in
+    let needle = c.in-Some.finder in
+    let literal = c.requires.same.literal needle c.in-Some.is in
+    let count : c.len.result ≡ length c.args.self.now.program.instructions.items = search rules in
+    let o = occurs_before s needle c.args.from k c.requires.within (rest_finds s needle c.args.from (Some k) c.in_ok-start.ensures).1 in
+    (omega arith, (omega arith, omega (arith, o.fits, count, literal_length needle c.args.self.now literal)))

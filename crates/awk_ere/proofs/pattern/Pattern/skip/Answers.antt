@@ -1,11 +1,12 @@
-use Rattle.std.proofs.Common.{◌≡◌, ℕ, ◌+◌, ◌-◌, ◌<◌, length, true, refl, sym, ap, ◌∙◌, subst, arith, get_or}
+use Rattle.std.proofs.Common.{◌≡◌, ℕ, ◌+◌, ◌-◌, ◌<◌, ◌≤◌, length, drop, true, refl, sym, ap, ◌∙◌, subst, arith, get_or}
+use Rattle.std.proofs.lemmas.List.{length-take, get_or-take, get_or-drop}
 use Rattle.awk_ere.specs.support.Layout.{byte_count, stride, dead_state}
-use Rattle.awk_ere.specs.support.SimulationStep.{IsStill}
-use Rattle.awk_ere.specs.support.Table.{IsEntry}
+use Rattle.awk_ere.specs.support.SimulationStep.{IsStillAt, IsStill}
+use Rattle.awk_ere.specs.support.Table.{IsEntry, is_first}
 use Rattle.awk_ere.specs.support.CursorState.{Stood}
 use Rattle.awk_ere.specs.declared.dfa.cursor.Cursor.{Cursor}
 use Rattle.awk_ere.proofs.StepTellsMatches.{still_off}
-use Rattle.awk_ere.proofs.CursorKept.{entry_of, entry_within, stood_miss, stood_still}
+use Rattle.awk_ere.proofs.CursorKept.{entry_of, entry_within, stood_miss, stood_idle, stood_still}
 use Rattle.awk_ere.proofs.pattern.Pattern.skip.Goals as goal
 use Rattle.awk_ere.proofs.pattern.Pattern.skip.Goals.{then-not-entering-via-then-not-entering, then-not-entering-via-else-not-entering+then-scratch}
 
@@ -58,6 +59,26 @@ returns-then-transitions-text-ne-DEAD-clause-stood c = c.loop-k.invariant
 
 pub returns-clause-stood : goal.returns-clause-stood
 returns-clause-stood c = λ t from means enters h.
+    let p = c.args.self.now in
+    let s = c.args.text.now in
+    let w = c.args.cursor in
+    let rest = drop w.place s in
+    let first = c.args.scratch.now.first_bytes in
+    let idle = c.if-cursor-ne-DEAD.false in
+    let within : w.place + c.in-Some.skipped ≤ c.args.to = omega (arith, c.requires.order, c.in-Some.ensures.within, length-take (c.args.to - w.place) rest) in
+    stood_idle p c.args.scratch.now.table c.requires.same.table s (λ k. omega (arith, c.type_inv.text k)) t means from c.args.entering
+    c.in-Some.skipped w _ h idle idle refl refl (omega (arith, within, c.requires.within)) (λ k ge lt. enters k ge (omega (arith, lt, within)))
+    (λ k ge lt.
+    let here =
+    get_or-take (c.args.to - w.place) rest (k - w.place) 0 (omega (arith, ge, lt, within))
+    ∙ get_or-drop w.place s (k - w.place) 0
+    ∙ ap (λ i. get_or s i 0) (let e : w.place + (k - w.place) ≡ k = omega (arith, ge) in e) in
+    let none = sym (ap (is_first first) here) ∙ c.in-Some.ensures.none (k - w.place) (omega (arith, ge, lt)) in
+    subst (λ m. IsStillAt p m (get_or s k 0)) (sym c.if-not-entering.false)
+    (c.requires.same.first_bytes (get_or s k 0) (omega (arith, c.type_inv.text k)) none))
+
+pub returns-2-clause-stood : goal.returns-2-clause-stood
+returns-2-clause-stood c = λ t from means enters h.
     let end : c.loop-k.k ≡ c.args.to = omega (arith, c.loop-k-test.false, c.requires.order) in
     subst (λ (k : ℕ). Stood c.args.self.now c.args.scratch.now.table c.args.text.now t from (record { place = k; state = c.args.cursor.state; end = c.args.cursor.end })) end
     (c.loop-k.invariant t from means enters h)
