@@ -14,7 +14,7 @@ use Rattle.awk_value.specs.declared.value.Value.{Value}
 use Rattle.awk_value.specs.declared.value.Value.TheVariants.{Nothing, Input}
 use Rattle.awk_fields.specs.declared.fault.RecordFault.{RecordFault}
 use Rattle.awk_fields.specs.declared.fault.RecordFault.TheVariants.{Memory}
-use Rattle.awk_fields.specs.Record.{RecordPair, inputs_of, field_of}
+use Rattle.awk_fields.specs.Record.{RecordPair, inputs_of, split_by, field_of}
 
 -- the index of the field of this number, or the greatest number there is
 abbrev pub IsIndexOf : (most : ℕ) (number : ℤ) (index : ℕ) → Type 0
@@ -68,3 +68,16 @@ pub no_value : (text seen : List ℕ) (separator : Rule) (index : ℕ) (found : 
 no_value text seen separator index found same is piece =
     let here = subst (λ (t : List ℕ). option_map (stretch_at t) found ≡ slice_get (pieces_by separator t) index) same piece in
     piece_value text (pieces_by separator text) index found here ∙ ap (λ (o : Option Span). option_map (λ (t : List ℕ). Input t) (option_map (stretch_at text) o)) is
+
+-- the field whose stretch was found
+pub stretch_found : (r : RecordPair) (rule : Rule) (text seen : List ℕ) (most : ℕ) (number : ℤ) (index : ℕ) (found : Option Span) (span : Span) → split_by rule text ≡ r → seen ≡ text →
+    pos 0 <ℤ number → IsIndexOf most number index → found ≡ Some span → option_map (stretch_at seen) found ≡ slice_get (pieces_by rule seen) index → (index ≡ most → found ≡ None) →
+    field_of r number ≡ Ok (Input (stretch_at r.text span))
+stretch_found r rule text seen most number index found span view same low at is piece none =
+    let here = subst (λ (t : List ℕ). option_map (stretch_at t) found ≡ slice_get (pieces_by rule t) index) same piece in
+    let field : slice_get r.fields index ≡ Some (Input (stretch_at text span)) =
+    ap (λ (p : RecordPair). slice_get p.fields index) (sym view)
+    ∙ (piece_value text (pieces_by rule text) index found here ∙ ap (λ (o : Option Span). option_map (λ (t : List ℕ). Input t) (option_map (stretch_at text) o)) is) in
+    let value : Input (stretch_at r.text span) ≡ unwrap_or (slice_get r.fields index) Nothing =
+    ap (λ (p : RecordPair). Input (stretch_at p.text span)) (sym view) ∙ ap (λ (o : Option Value). unwrap_or o Nothing) (sym field) in
+    sym (field_asked r most number index (Ok (Input (stretch_at r.text span))) low at value (λ last. let bad : Some span ≡ None = sym is ∙ none last in cc) tt (λ bad. cc))

@@ -82,13 +82,27 @@ fn append_behind(values: &[Value], separator: &[u8], text: &mut Vec<u8>) -> Resu
     Ok(())
 }
 
+// Room for the texts of values with a separator of this length between them; most of those that are written are short.
+fn room_for(values: &[Value], separator_len: usize) -> usize {
+    let mut room: usize = 0;
+    for value in values {
+        let length = match value {
+            Value::Nothing => 0,
+            Value::Number(_) => 20,
+            Value::Text(text) | Value::Input(text) => text.len(),
+        };
+        room = room.saturating_add(length).saturating_add(separator_len);
+    }
+    room
+}
+
 /// The texts of the values, with the separator between them. The only error is
 /// `Memory`.
 pub fn join(alloc: Global, values: &[Value], separator: &[u8]) -> Result<Bytes, RecordFault>
     ensures text { IfOk result (λ text. text ≡ joined separator.now values.now) }
     ensures memory { IfErr result (λ e. e ≡ RecordFault.Memory) }
 {
-    let mut text = Vec::new(alloc);
+    let mut text = Vec::with_capacity(alloc, room_for(values, separator.len()))?;
     if let Some((first, rest)) = values.split_first() {
         append_value(first, &mut text)?;
         append_behind(rest, separator, &mut text)?;

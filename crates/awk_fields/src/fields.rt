@@ -14,6 +14,7 @@ use awk_text::{FieldSeparator, Span, pieces_from_law};
 use awk_value::{Bytes, Value};
 use std::alloc::Global;
 
+#[inline(always)]
 fn span_at(spans: &[Span], index: usize) -> Option<Span>
     ensures { result ≡ slice_get spans.now index }
 {
@@ -63,6 +64,7 @@ impl Fields {
     }
 
     /// Takes a separator for the next text: it is read anew only where it isn't the one at hand.
+    #[inline(always)]
     pub fn take_separator(
         &mut self,
         alloc: Global,
@@ -81,6 +83,7 @@ impl Fields {
     }
 
     /// Forgets those that were found.
+    #[inline(always)]
     pub fn restart(&mut self)
         ensures separator { self.new.separator ≡ self.old.separator }
         ensures spans { self.new.spans.items ≡ [] }
@@ -91,6 +94,7 @@ impl Fields {
     }
 
     // Finds on until there is one at this index, or all are found.
+    #[inline(never)]
     fn find(&mut self, text: &[u8], index: usize) -> Result<(), RecordFault>
         requires { AreFieldsOf text.now self.old }
         ensures fields { AreFieldsOf text.now self.new }
@@ -120,6 +124,7 @@ impl Fields {
 
     /// The field at this index, from 0 on, if there is one. The only error is
     /// `Memory`.
+    #[inline(always)]
     pub fn at(&mut self, text: &[u8], index: usize) -> Result<Option<Span>, RecordFault>
         requires { AreFieldsOf text.now self.old }
         ensures fields { AreFieldsOf text.now self.new }
@@ -130,11 +135,28 @@ impl Fields {
         ensures none { IfOk result (λ span. index ≡ usize.MAX → span ≡ None) }
         ensures memory { IfErr result (λ e. e ≡ RecordFault.Memory) }
     {
+        if let Some(span) = span_at(self.spans.as_slice(), index) {
+            return Ok(Some(span));
+        }
         self.find(text, index)?;
         Ok(span_at(self.spans.as_slice(), index))
     }
 
+    /// How many there are, where all of them were found.
+    #[inline(always)]
+    pub fn known_count(&self, text: &[u8]) -> Option<usize>
+        requires { AreFieldsOf text.now self.now }
+        ensures { IfSome result (λ n. n ≡ length (pieces_by self.now.separator text.now)) }
+    {
+        pieces_from_law();
+        if self.rest <= text.len() {
+            return None;
+        }
+        Some(self.spans.len())
+    }
+
     /// How many there are. The only error is `Memory`.
+    #[inline(always)]
     pub fn count(&mut self, text: &[u8]) -> Result<usize, RecordFault>
         requires { AreFieldsOf text.now self.old }
         ensures fields { AreFieldsOf text.now self.new }
@@ -142,6 +164,9 @@ impl Fields {
         ensures value { IfOk result (λ n. n ≡ length (pieces_by self.old.separator text.now)) }
         ensures memory { IfErr result (λ e. e ≡ RecordFault.Memory) }
     {
+        if let Some(count) = self.known_count(text) {
+            return Ok(count);
+        }
         self.find(text, usize::MAX)?;
         Ok(self.spans.len())
     }

@@ -1,8 +1,9 @@
 // The record at hand, with its fields.
-ghost use Rattle.std.specs.Prelude.{◌≡◌, ◌≢◌, ℕ, true, suc, pos, ◌<ℤ◌, min, ◌++◌, [], length, slice_get};
-ghost use Rattle.std.specs.Prelude.{unwrap_or, OnOk, OnErr, IfOk, IfErr, Ok, Err, None, List};
+ghost use Rattle.std.specs.Prelude.{◌≡◌, ◌≢◌, ℕ, true, suc, pos, ◌<ℤ◌, ◌≤ℤ◌, min, [], length, slice_get};
+ghost use Rattle.std.specs.Prelude.{unwrap_or, IfSome, OnOk, OnErr, IfOk, IfErr, Ok, Err, None, List};
 ghost use Rattle.std.specs.Result.{is_err};
 ghost use Rattle.awk_text.specs.Separators.{separator_of};
+ghost use Rattle.awk_text.specs.Pieces.{stretch_at, IsSpanOf};
 ghost use Rattle.awk_text.specs.Fields.{pieces_by};
 ghost use Rattle.awk_fields.specs.Found.{AreFieldsOf};
 ghost use Rattle.awk_fields.specs.Record.{inputs_of};
@@ -11,20 +12,25 @@ ghost use Rattle.awk_fields.specs.Viewed.{pair_of};
 use crate::assigned::{assigned_number, join, resize, set_value};
 use crate::fault::RecordFault;
 use crate::fields::Fields;
-use awk_text::{FieldSeparator, pieces_from_law};
+use awk_text::{FieldSeparator, Span, pieces_from_law};
 use awk_value::{Bytes, Value};
 use std::alloc::Global;
 use std::marker::Model;
 
 // The index of the field of this number, or the greatest where that is past it.
+#[inline(always)]
 fn index_of(number: i128) -> usize
     requires { pos 0 <ℤ number }
     ensures { (i : ℕ) → number ≡ pos (suc i) → result ≡ min i usize.MAX }
 {
-    usize::try_from(number - 1).unwrap_or(usize::MAX)
+    match u64::try_from(number) {
+        Ok(number) => (number - 1) as usize,
+        Err(_) => usize::MAX,
+    }
 }
 
 // The field at an index of the text, whose memory it shares.
+#[inline(always)]
 fn cut_at(text: &Bytes, fields: &mut Fields, index: usize) -> Result<Value, RecordFault>
     requires { AreFieldsOf text.now fields.old }
     ensures fields { AreFieldsOf text.now fields.new }
@@ -148,6 +154,7 @@ impl Record {
     /// `newline_too`, where RS is empty, a newline separates as well. No field is looked for yet. A separator that isn't the
     /// one of the text before is read, and refused by `Pattern` where it spells no ERE. The other error is `Memory`. An error
     /// changes nothing. (POSIX awk, Regular Expressions; Variables and Special Variables: FS, RS)
+    #[inline(always)]
     pub fn set_text(
         &mut self,
         text: Bytes,
@@ -189,19 +196,52 @@ impl Record {
         Ok(self.text.clone()?)
     }
 
-    /// Appends the text of the record to the buffer. The only error is
-    /// `Memory`, and it leaves the buffer as it was.
-    pub fn append_text(&mut self, buffer: &mut Vec<u8>) -> Result<(), RecordFault>
-        ensures text { OnOk result (buffer.new.items ≡ buffer.old.items ++ self.old.text) }
+    /// Makes the text of the fields, where they were assigned and it wasn't asked yet. The only error is `Memory`.
+    #[inline(always)]
+    pub fn make_text(&mut self) -> Result<(), RecordFault>
         ensures same { self.new ≡ self.old }
-        ensures err { OnErr result (buffer.new.items ≡ buffer.old.items) }
         ensures memory { IfErr result (λ e. e ≡ RecordFault.Memory) }
     {
-        buffer.extend_from_slice(self.text()?.as_slice())?;
+        if let Form::Assigned = self.form {
+            return self.join_fields();
+        }
         Ok(())
     }
 
+    // Makes the text of fields that were assigned.
+    #[inline(never)]
+    fn join_fields(&mut self) -> Result<(), RecordFault>
+        ensures same { self.new ≡ self.old }
+        ensures memory { IfErr result (λ e. e ≡ RecordFault.Memory) }
+    {
+        self.text()?;
+        Ok(())
+    }
+
+    /// The text of the record, where it needn't be made of the fields.
+    #[inline(always)]
+    pub fn text_at_hand(&self) -> Option<&Bytes>
+        ensures { IfSome result (λ text. text.now ≡ self.now.text) }
+    {
+        match self.form {
+            Form::Assigned => None,
+            Form::Split | Form::Joined => Some(&self.text),
+        }
+    }
+
+    /// How many fields the record has, where that is known without a search.
+    #[inline(always)]
+    pub fn known_count(&self) -> Option<usize>
+        ensures { IfSome result (λ n. n ≡ length self.now.fields) }
+    {
+        match self.form {
+            Form::Split => self.fields.known_count(self.text.as_slice()),
+            Form::Assigned | Form::Joined => Some(self.values.len()),
+        }
+    }
+
     /// How many fields the record has. The only error is `Memory`.
+    #[inline(always)]
     pub fn count(&mut self) -> Result<usize, RecordFault>
         ensures count { IfOk result (λ n. n ≡ length self.old.fields) }
         ensures same { self.new ≡ self.old }
@@ -213,23 +253,54 @@ impl Record {
         }
     }
 
+    /// Where in the text the field of this number from 1 on stands, if it is a stretch of it. It takes no text.
+    #[inline(always)]
+    pub fn stretch(&mut self, number: i128) -> Option<Span>
+        ensures field { IfSome result (λ span. field_of self.old number ≡ Ok (Value.Input (stretch_at self.old.text span))) }
+        ensures within { IfSome result (IsSpanOf self.old.text) }
+        ensures same { self.new ≡ self.old }
+    {
+        let Form::Split = self.form else {
+            return None;
+        };
+        if number <= 0 {
+            return None;
+        }
+        let Ok(Some(span)) = self.fields.at(self.text.as_slice(), index_of(number)) else {
+            return None;
+        };
+        Some(span)
+    }
+
     /// Field 0 is the whole text, a field past the last is `Nothing`, and a
     /// negative number is refused by `FieldNumber`. The other error is
-    /// `Memory`. Looks at no byte behind the one that ends the field.
+    /// `Memory`. Takes no time for what stands behind the field.
+    #[inline(always)]
     pub fn field(&mut self, number: i128) -> Result<Value, RecordFault>
+        ensures field { result ≢ Err RecordFault.Memory → result ≡ field_of self.old number }
+        ensures same { self.new ≡ self.old }
+    {
+        if number <= 0 {
+            return self.whole(number);
+        }
+        self.field_at(index_of(number))
+    }
+
+    // Field 0, or the refusal of a negative number.
+    #[inline(never)]
+    fn whole(&mut self, number: i128) -> Result<Value, RecordFault>
+        requires { number ≤ℤ pos 0 }
         ensures field { result ≢ Err RecordFault.Memory → result ≡ field_of self.old number }
         ensures same { self.new ≡ self.old }
     {
         if number < 0 {
             return Err(RecordFault::FieldNumber);
         }
-        if number == 0 {
-            return Ok(Value::Input(self.text()?));
-        }
-        self.field_at(index_of(number))
+        Ok(Value::Input(self.text()?))
     }
 
     // The field at an index from 0 on.
+    #[inline(always)]
     fn field_at(&mut self, index: usize) -> Result<Value, RecordFault>
         ensures same { self.new ≡ self.old }
         ensures value { IfOk result (λ value. value ≡ unwrap_or (slice_get self.old.fields index) Value.Nothing) }

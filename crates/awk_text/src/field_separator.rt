@@ -9,6 +9,17 @@ use crate::{FoundField, Separator, Span, TextFault};
 use std::alloc::Global;
 use std::marker::Model;
 
+// Whether two texts are the same. Most separators are one byte.
+#[inline(always)]
+fn is_same(one: &[u8], other: &[u8]) -> bool
+    ensures { (result ≡ true) ↔ (one.now ≡ other.now) }
+{
+    match (one, other) {
+        ([one], [other]) => one == other,
+        _ => one == other,
+    }
+}
+
 /// What separates the fields of many texts: what a value of FS stands for, and whether newlines separate too. It is made
 /// once, with the memory of its searches.
 #[derive(Drop)]
@@ -49,15 +60,17 @@ impl FieldSeparator {
     }
 
     /// Whether it is what this value of FS stands for, with newlines that separate or without.
+    #[inline(always)]
     pub fn is_of(&self, text: &[u8], newline_too: bool) -> bool
         ensures { (result ≡ true) ↔ (self.now ≡ record { text = text.now; newline_too = newline_too }) }
     {
-        self.newline_too == newline_too && self.text.as_slice() == text
+        self.newline_too == newline_too && is_same(self.text.as_slice(), text)
     }
 
     /// The first field of the text from a place on where one may begin: its front, or the `rest` of the field before.
-    /// `None` where no field is left. It takes no memory. Looks at no byte behind the separator that ends the field, but
-    /// where that is an ERE's: it is the longest match.
+    /// `None` where no field is left. It takes no memory, and no time for what stands behind the separator that ends the
+    /// field, but where that is an ERE's: it is the longest match.
+    #[inline(always)]
     pub fn next_field(&mut self, text: &[u8], from: usize) -> Option<FoundField>
         ensures piece { IsNextPiece (pieces_from_by self.old text.now) text.now from result }
         ensures further { IfSome result (IsFurther text.now from) }

@@ -1,12 +1,13 @@
 // The functions of texts: a part by its positions, the position of a part, and the cases of letters.
-ghost use Rattle.std.specs.Prelude.{◌≡◌, ◌+ℤ◌, ◌≤◌, Some, min, length, IfOk, IfErr};
-ghost use Rattle.std.specs.Cow.{cow_slice_items};
+ghost use Rattle.std.specs.Prelude.{◌≡◌, ◌+ℤ◌, ◌<◌, ◌≤◌, Some, min, length, IfOk, IfErr};
+ghost use Rattle.std.specs.Cow.{cow_slice_items, IsBorrowedSlice};
+ghost use Rattle.memchr.specs.Find.{FindsNeedle};
 ghost use Rattle.awk_text.specs.definitions.Functions.{positions_before, substr_of, IsPositionOf, lower_of, upper_of};
 ghost use Rattle.awk_text.specs.definitions.Pieces.{stretch_at, IsSpanOf};
 
 use crate::fault::TextFault;
 use crate::span::Span;
-use memchr::memmem;
+use memchr::{memchr, memmem};
 use std::alloc::Global;
 use std::borrow::CowSlice;
 
@@ -64,6 +65,18 @@ pub fn substr(text: &[u8], start: i128, count: Option<i128>) -> Span
     }
 }
 
+// How many bytes stand before the first place of the part.
+#[inline]
+fn find_part(text: &[u8], part: &[u8]) -> Option<usize>
+    requires { 0 < length part.now }
+    ensures { FindsNeedle text.now part.now 0 result }
+{
+    match part {
+        [byte] => memchr(*byte, text),
+        _ => memmem::find(text, part),
+    }
+}
+
 /// The first position, counted from 1, where the part stands in the text; 0 if it doesn't, or is empty.
 /// Takes no memory, and time that grows with the text. (POSIX awk, String Functions: index)
 pub fn index(text: &[u8], part: &[u8]) -> usize
@@ -72,7 +85,7 @@ pub fn index(text: &[u8], part: &[u8]) -> usize
     if part.is_empty() {
         return 0;
     }
-    match memmem::find(text, part) {
+    match find_part(text, part) {
         Some(before) => before + 1,
         None => 0,
     }
@@ -82,6 +95,7 @@ pub fn index(text: &[u8], part: &[u8]) -> usize
 /// The only error is `Memory`. (POSIX awk, String Functions: tolower)
 pub fn lower<'a>(alloc: Global, text: &'a [u8]) -> Result<CowSlice<'a, u8>, TextFault>
     ensures bytes { IfOk result (λ small. cow_slice_items small ≡ lower_of text.now) }
+    ensures itself { IfOk result (λ small. IsBorrowedSlice small → lower_of text.now ≡ text.now) }
     ensures memory { IfErr result (λ e. e ≡ TextFault.Memory) }
 {
     if !text.iter().any(|byte| byte.is_ascii_uppercase()) {
@@ -94,6 +108,7 @@ pub fn lower<'a>(alloc: Global, text: &'a [u8]) -> Result<CowSlice<'a, u8>, Text
 /// The only error is `Memory`. (POSIX awk, String Functions: toupper)
 pub fn upper<'a>(alloc: Global, text: &'a [u8]) -> Result<CowSlice<'a, u8>, TextFault>
     ensures bytes { IfOk result (λ capital. cow_slice_items capital ≡ upper_of text.now) }
+    ensures itself { IfOk result (λ capital. IsBorrowedSlice capital → upper_of text.now ≡ text.now) }
     ensures memory { IfErr result (λ e. e ≡ TextFault.Memory) }
 {
     if !text.iter().any(|byte| byte.is_ascii_lowercase()) {

@@ -63,6 +63,7 @@ pub fn substitute_into(
     let Some(first) = match_at(pattern, text, scratch) else {
         return Ok(None);
     };
+    out.reserve(text.len().saturating_add(replacement.len()))?;
     let plain = is_plain(replacement);
     add_replaced(out, replacement, plain, text, 0, first)?;
     if !all {
@@ -98,8 +99,11 @@ pub fn substitute(
     ensures same { IsFor scratch.new pattern.now }
 {
     let mut out = Vec::new(alloc);
-    match substitute_into(pattern, scratch, replacement, text, all, &mut out)? {
-        Some(count) => Ok(Some(Substitution { count, text: out })),
-        None => Ok(None),
+    let Some(count) = substitute_into(pattern, scratch, replacement, text, all, &mut out)? else {
+        return Ok(None);
+    };
+    if out.len() < out.capacity() / 2 {
+        out.shrink_to_fit();
     }
+    Ok(Some(Substitution { count, text: out }))
 }

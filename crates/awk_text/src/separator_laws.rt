@@ -10,6 +10,7 @@ ghost use Rattle.awk_text.specs.support.ChosenSeparators.{separators_from};
 
 /// The pieces of a text between blanks, read off from its front: blanks are skipped, and a piece goes up to the next blank
 /// or to the end.
+#[inline(always)]
 pub fn pieces_law()
     ensures none { (n : Bool) (gap : List ℕ) → AreBlank gap → pieces_of blanks n gap ≡ [] }
     ensures last { (n : Bool) (gap piece : List ℕ) → AreBlank gap → IsPiece piece →
@@ -21,6 +22,7 @@ pub fn pieces_law()
 
 /// The pieces of a text between the places of a byte, or of newlines too, read off from its front: a piece goes up to the
 /// next such place or to the end. An empty text has none, and behind a separator at the end stands an empty one.
+#[inline(always)]
 pub fn byte_pieces_law()
     ensures none { (b : ℕ) (n : Bool) → pieces_of (byte b) n [] ≡ [] }
     ensures last { (b : ℕ) (n : Bool) (piece : List ℕ) → HoldsNone (separates b n) piece → piece ≢ [] →
@@ -36,12 +38,14 @@ pub fn byte_pieces_law()
 /// Which stretches of a text separate, where an ERE does whose counts are in order, is decided by `separators_from`: from
 /// a place on there is one choice, each the leftmost, and of those the longest match with a byte in it that doesn't
 /// begin before the end of the one before.
+#[inline(always)]
 pub fn separators_law()
     ensures { (t : Tree) (text : List ℕ) (place : ℕ) (ms : List Span) → IsOrdered t →
         AreSeparators t text place ms ↔ (ms ≡ separators_from t text place) }
 {}
 
 /// From the front of a text on there are all of its pieces, and none past its end.
+#[inline(always)]
 pub fn pieces_from_law()
     ensures front { (separator : Separator) (newline_too : Bool) (text : List ℕ) →
         pieces_from separator newline_too text 0 ≡ pieces_of separator newline_too text }

@@ -17,6 +17,7 @@ use memchr::{memchr, memchr2};
 use std::alloc::Global;
 
 // The first place where a byte stands, or a newline too.
+#[inline(always)]
 fn first_separator(text: &[u8], byte: u8, newline_too: bool) -> Option<usize>
     ensures { IsFirstByte (separates byte newline_too) text.now result }
 {
@@ -28,6 +29,7 @@ fn first_separator(text: &[u8], byte: u8, newline_too: bool) -> Option<usize>
 }
 
 // The first such place from here on, or the end.
+#[inline(always)]
 fn end_before_separator(text: &[u8], byte: u8, newline_too: bool, from: usize) -> usize
     requires { from ≤ length text.now }
     ensures { IsStretchEnd (separates byte newline_too) text.now from result }
@@ -38,6 +40,7 @@ fn end_before_separator(text: &[u8], byte: u8, newline_too: bool, from: usize) -
     }
 }
 
+#[inline(always)]
 fn next_at_byte(text: &[u8], byte: u8, newline_too: bool, from: usize) -> Option<FoundField>
     ensures piece { IsNextPiece (pieces_from (at_byte byte) newline_too text.now) text.now from result }
     ensures further { IfSome result (IsFurther text.now from) }
@@ -59,6 +62,7 @@ fn is_field(byte: u8, newline_too: bool) -> bool
     !newline_too || byte != b'\n'
 }
 
+#[inline(never)]
 fn next_each(text: &[u8], newline_too: bool, from: usize) -> Option<FoundField>
     ensures piece { IsNextPiece (pieces_from each newline_too text.now) text.now from result }
     ensures further { IfSome result (IsFurther text.now from) }
@@ -76,6 +80,7 @@ fn next_each(text: &[u8], newline_too: bool, from: usize) -> Option<FoundField>
 }
 
 // The next field between the matches of a pattern.
+#[inline(never)]
 fn next_between_matches(matcher: &mut Matcher, text: &[u8], from: usize) -> Option<FoundField>
     ensures piece { (t : Tree) → Means t matcher.old.pattern →
         IsNextPiece (ere_pieces_from t text.now) text.now from result }
@@ -133,6 +138,7 @@ impl Splitter {
     }
 
     /// The next field from a place on.
+    #[inline(always)]
     pub fn next_field(&mut self, text: &[u8], newline_too: bool, from: usize) -> Option<FoundField>
         ensures piece { (s : SeparatorSpec) → Stands s newline_too self.old →
             IsNextPiece (pieces_from s newline_too text.now) text.now from result }

@@ -9,7 +9,7 @@ returns-then-not-all-clause-replaced c = λ t means.
     let r = c.args.replacement.now in
     let s = c.args.text.now in
     let first = c.in-Some.first in
-    let written = c.in_ok-add_replaced.ensures.added ∙ ap (λ o. o ++ added r s 0 first) c.clear.ensures.items in (
+    let written = c.in_ok-add_replaced.ensures.added ∙ ap (λ o. o ++ added r s 0 first) (c.in_ok-reserve.ensures.items ∙ c.clear.ensures.items) in (
       omega arith,
       subst (λ all. Replaced t r s all 1 c.extend_from_slice.new.self.items) (sym c.if-not-all.true)
           (first_exchanged t r s c.add_replaced.new.out.items c.extend_from_slice.new.self.items first (c.in-Some.ensures.found t means) written c.in_ok-extend_from_slice.ensures.items),
@@ -20,7 +20,7 @@ loop-next-init c =
     let r = c.args.replacement.now in
     let s = c.args.text.now in
     let first = c.in-Some.first in
-    let written = c.in_ok-add_replaced.ensures.added ∙ ap (λ o. o ++ added r s 0 first) c.clear.ensures.items in
+    let written = c.in_ok-add_replaced.ensures.added ∙ ap (λ o. o ++ added r s 0 first) (c.in_ok-reserve.ensures.items ∙ c.clear.ensures.items) in
     record {
       inside = c.in-Some.ensures.within.1;
       longest = λ t means. first_longest t c.args.text.now first (c.in-Some.ensures.found t means);

@@ -14,6 +14,6 @@ returns-clause-value c =
     let index = c.args.index in
     let fields = c.find.new.self in
     let found = c.in_ok-find.ensures in
-    let got : c.span_at.result ≡ slice_get fields.spans.items index = c.span_at.ensures ∙ ap (λ (spans : List Span). slice_get spans index) c.as_slice.ensures.value in
+    let got : c.span_at-2.result ≡ slice_get fields.spans.items index = c.span_at-2.ensures ∙ ap (λ (spans : List Span). slice_get spans index) c.as_slice-2.ensures.value in
     ap (option_map (stretch_at text)) got
     ∙ (field-found text fields index found.fields found.found ∙ ap (λ (separator : Rule). slice_get (pieces_by separator text) index) found.separator)
