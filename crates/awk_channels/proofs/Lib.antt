@@ -16,12 +16,15 @@ pub mod ViewLemmas
 pub mod PreparesLemmas
 pub mod PlaceLemmas
 pub mod PrintLemmas
+pub mod HoldLemmas
 pub mod NamesLemmas
 pub mod OpenLemmas
 pub mod OpensLemmas
 pub mod OutputCallLemmas
 pub mod AskLemmas
 pub mod MainLemmas
+pub mod AtHandLemmas
+pub mod SkipLemmas
 pub mod InputCallLemmas
 pub mod NextLemmas
 pub mod RunLemmas

@@ -1,5 +1,5 @@
 // Inputs: records out of the bytes that a world hands over.
-ghost use Rattle.std.specs.Prelude.{◌≡◌, ◌≢◌, ◌≤◌, ◌<◌, ◌⊎◌, ℕ, List, ◌∷◌, length};
+ghost use Rattle.std.specs.Prelude.{◌≡◌, ◌≢◌, ◌≤◌, ◌<◌, ◌+◌, ◌⊎◌, ℕ, List, ◌∷◌, length, take, vec_len};
 ghost use Rattle.std.specs.Prelude.{IsTrue, ◌↔◌, OnOk, OnErr, IfErr, None, Err, Ok};
 ghost use Rattle.awk_record.specs.Cut.{longest};
 ghost use Rattle.awk_world.specs.definitions.WorldState.{SameOpen, MayFailNow};
@@ -85,7 +85,46 @@ fn read_into<W: World>(
     Ok(())
 }
 
-// One reading, into the buffer.
+// One reading behind the bytes at hand, into memory that the buffer lent with so many of them in front. `Memory` is the only
+// error; it leaves the buffer as it was, and may lose what was read.
+fn read_behind<W: World>(
+    world: &mut W,
+    id: u64,
+    buffer: &mut RecordBuffer,
+    mut memory: Vec<u8>,
+    front: usize,
+) -> Result<(), BufferFault>
+    requires open { IsTrue ((W.state world.old).is_open id) }
+    requires unended { buffer.old.ending ≡ None }
+    requires short { length buffer.old.bytes ≤ longest }
+    requires held { take front memory.items ≡ buffer.old.bytes }
+    requires place { front ≡ length buffer.old.bytes }
+    requires room { front + 65536 ≤ vec_len memory }
+    ensures open { SameOpen (W.state world.old) (W.state world.new) }
+    ensures read { OnOk result
+        (W.is_logged → ((e : Event) × ((W.state world.new).log ≡ e ∷ (W.state world.old).log) ×
+        Brings id e buffer.old buffer.new)) }
+    ensures lost { OnErr result
+        (W.is_logged → ((W.state world.new).log ≡ (W.state world.old).log) ⊎
+        ((bytes : List ℕ) × ((W.state world.new).log ≡ Read id bytes ∷ (W.state world.old).log))) }
+    ensures err { OnErr result (buffer.new ≡ buffer.old) }
+    ensures memory { IfErr result (λ e. e ≡ BufferFault.Memory) }
+    ensures less { OnOk result
+        (room_of buffer.new.ending (length buffer.new.bytes) < room_of buffer.old.ending (length buffer.old.bytes)) }
+    ensures no_failure { OnOk result (W.is_logged → (W.state world.new).first_failure ≡ (W.state world.old).first_failure) }
+    ensures failure { OnErr result (W.is_logged → MayFailNow (W.state world.old) (W.state world.new)) }
+    ensures grows { W.is_logged → Grows (W.state world.old) (W.state world.new) }
+{
+    match world.read(id, &mut memory[front..front + CHUNK]) {
+        Ok(0) => buffer.end(),
+        Ok(n) => buffer.take_memory(memory, front + n)?,
+        Err(WorldFault::Failed) => buffer.broken(),
+        Err(WorldFault::Memory) => return Err(BufferFault::Memory),
+    }
+    Ok(())
+}
+
+// One reading, into the buffer. What takes memory comes first.
 fn read_more<W: World>(
     world: &mut W,
     id: u64,
@@ -110,6 +149,9 @@ fn read_more<W: World>(
     ensures failure { OnErr result (W.is_logged → MayFailNow (W.state world.old) (W.state world.new)) }
     ensures grows { W.is_logged → Grows (W.state world.old) (W.state world.new) }
 {
+    if let Some((memory, front)) = buffer.lend_memory(CHUNK)? {
+        return read_behind(world, id, buffer, memory, front);
+    }
     prepare(chunk)?;
     read_into(world, id, buffer, chunk)
 }

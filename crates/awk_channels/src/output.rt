@@ -10,6 +10,7 @@ use crate::fault::StreamFault;
 use awk_world::{OUTPUT_BUFFER_SIZE, World, WorldFault};
 use std::alloc::{AllocError, Global};
 use std::marker::Model;
+use std::mem;
 
 /// The number of standard output, which is always open.
 pub const STANDARD_OUTPUT: u64 = 0;
@@ -86,6 +87,26 @@ fn hold(held: &mut Vec<u8>, size: usize, bytes: &[u8]) -> bool
 {
     let room = size.min(held.capacity()).saturating_sub(held.len());
     bytes.len() <= room && held.extend_from_slice(bytes).is_ok()
+}
+
+// Holds two texts back behind what is held, where a buffer of this size has room for both and no memory
+// is needed.
+#[inline]
+fn hold_both(held: &mut Vec<u8>, size: usize, front: &[u8], behind: &[u8]) -> bool
+    ensures { held.new.items ≡ (if result then held.old.items ++ (front.now ++ behind.now) else held.old.items) }
+{
+    let room = size.min(held.capacity()).saturating_sub(held.len());
+    if front.len() > room || behind.len() > room - front.len() {
+        return false;
+    }
+    if held.extend_from_slice(front).is_err() {
+        return false;
+    }
+    match behind {
+        [byte] => held.push_reserved(*byte),
+        behind => return held.extend_from_slice(behind).is_ok(),
+    }
+    true
 }
 
 // Writes what is held back. Then nothing is, also after an `Err`: an output whose write failed gets no
@@ -182,6 +203,33 @@ impl OutputBuffer {
             PrintsOrHolds id self.old bytes.now (W.state world.old) result self.new (W.state world.new) }
     {
         print_held(world, id, &mut self.bytes, bytes)
+    }
+
+    // Holds two texts back, where a buffer of this size has room for both.
+    #[inline]
+    pub fn hold_both(&mut self, size: usize, front: &[u8], behind: &[u8]) -> bool
+        ensures { self.new ≡ (if result then self.old ++ (front.now ++ behind.now) else self.old) }
+    {
+        hold_both(&mut self.bytes, size, front, behind)
+    }
+
+    // Gives away what is held back, and how many bytes more a buffer of this size has room for.
+    #[inline]
+    pub fn lend(&mut self, alloc: Global, size: usize) -> (Vec<u8>, usize)
+        ensures lent { result.0.items ≡ self.old }
+        ensures empty { self.new ≡ [] }
+    {
+        let bytes = mem::replace(&mut self.bytes, Vec::new(alloc));
+        let room = size.min(bytes.capacity()).saturating_sub(bytes.len());
+        (bytes, room)
+    }
+
+    // Takes back what is held back.
+    #[inline]
+    pub fn take_back(&mut self, bytes: Vec<u8>)
+        ensures { self.new ≡ bytes.items }
+    {
+        self.bytes = bytes;
     }
 
     pub fn flush<W: World>(&mut self, world: &mut W, id: u64) -> Result<(), StreamFault>

@@ -21,6 +21,7 @@ use awk_world::{InputKind, World, WorldFault};
 use std::alloc::Global;
 use std::marker::Model;
 
+mod at_hand;
 mod closings;
 mod commands;
 mod flushes;

@@ -1,6 +1,5 @@
 -- An answer of the buffer, from the cut that it looked at.
-use Rattle.std.proofs.Common.{◌≡◌, ◌≢◌, ◌⊎◌, inl, inr, ℕ, List, [], Option, Some, None, Result, Ok, refl, sym, ◌∙◌, ap, subst, append-nil, take, drop, length, ◌+◌, ◌-◌}
-use Rattle.std.proofs.lemmas.List.{take_rest, drop-drop}
+use Rattle.std.proofs.Common.{◌≡◌, ◌≢◌, ◌⊎◌, inl, inr, ℕ, List, [], Option, Some, None, Result, Ok, refl, sym, ◌∙◌, ap, subst, append-nil}
 use Rattle.awk_record.specs.Cut.{Ending, AtEnd, AtBreak, Cut, Found, NoMore, BrokenOff, TooLong, cut_of}
 use Rattle.awk_record.specs.Buffer.{Pending, IsAnswerOf, Steps}
 use Rattle.awk_record.specs.Boundary.{ending_of, ending_or_break}
@@ -61,53 +60,43 @@ Steps-at separator Open old new result c ending is other answers = Steps-open se
 Steps-at separator Ended old new result c ending is other answers = Steps-ended separator old new result AtEnd c ending is answers
 Steps-at separator Broke old new result c ending is other answers = Steps-ended separator old new result AtBreak c ending is answers
 
--- what is left, as a slice of what is held
-pub held_is : (xs items : List ℕ) (start : ℕ) → xs ≡ items → take (length xs - start) (drop start xs) ≡ drop start items
-held_is xs items start same = take_rest xs start ∙ ap (drop start) same
+-- the cut of what is pending, by a look at the bytes at hand
+cuts_at : (separator held bytes : List ℕ) (supply : Supply) (e : Ending) (old : Pending) (c : Cut) → c ≡ cut_of separator held e → e ≡ ending_or_break supply → held ≡ bytes →
+    record { bytes = bytes; ending = ending_of supply } ≡ old → cut_of separator old.bytes (ending_or_break supply) ≡ c
+cuts_at separator held bytes supply e old c is same_e same view =
+    let bytes_are : held ≡ old.bytes = same ∙ ap (λ (p : Pending). p.bytes) view in
+    sym (is ∙ (ap (λ b. cut_of separator b e) bytes_are ∙ ap (cut_of separator old.bytes) same_e))
 
--- from what a look at the bytes behind `start` showed
-pub Steps-seen : (separator xs items : List ℕ) (start : ℕ) (supply : Supply) (e : Ending) (old new : Pending) (result : Result Step BufferFault) (c : Cut) →
-    c ≡ cut_of separator (take (length xs - start) (drop start xs)) e → e ≡ ending_or_break supply → xs ≡ items → record { bytes = drop start items; ending = ending_of supply } ≡ old →
+-- from what a look at the bytes at hand showed
+pub Steps-seen : (separator held bytes : List ℕ) (supply : Supply) (e : Ending) (old new : Pending) (result : Result Step BufferFault) (c : Cut) →
+    c ≡ cut_of separator held e → e ≡ ending_or_break supply → held ≡ bytes → record { bytes = bytes; ending = ending_of supply } ≡ old →
     c ≢ BrokenOff → IsAnswerOf c (ending_of supply) result old new → Steps separator old result new
-Steps-seen separator xs items start supply e old new result c is same_e same view other answers =
-    let bytes_are : drop start items ≡ old.bytes = ap (λ (p : Pending). p.bytes) view in
+Steps-seen separator held bytes supply e old new result c is same_e same view other answers =
     let ending_is : ending_of supply ≡ old.ending = ap (λ (p : Pending). p.ending) view in
-    let held : take (length xs - start) (drop start xs) ≡ old.bytes = held_is xs items start same ∙ bytes_are in
-    let cuts : cut_of separator old.bytes (ending_or_break supply) ≡ c = sym (is ∙ (ap (λ b. cut_of separator b e) held ∙ ap (cut_of separator old.bytes) same_e)) in
-    Steps-at separator supply old new result c (sym ending_is) cuts other answers
+    Steps-at separator supply old new result c (sym ending_is) (cuts_at separator held bytes supply e old c is same_e same view) other answers
 
-pub Steps-waits : (separator xs items : List ℕ) (start : ℕ) (supply : Supply) (e : Ending) (old : Pending) →
-    BrokenOff ≡ cut_of separator (take (length xs - start) (drop start xs)) e → e ≡ ending_or_break supply → xs ≡ items → record { bytes = drop start items; ending = ending_of supply } ≡ old →
+pub Steps-waits : (separator held bytes : List ℕ) (supply : Supply) (e : Ending) (old : Pending) →
+    BrokenOff ≡ cut_of separator held e → e ≡ ending_or_break supply → held ≡ bytes → record { bytes = bytes; ending = ending_of supply } ≡ old →
     supply ≡ Open → Steps separator old (Ok NeedMore) old
-Steps-waits separator xs items start supply e old is same_e same view nothing =
-    let bytes_are : drop start items ≡ old.bytes = ap (λ (p : Pending). p.bytes) view in
+Steps-waits separator held bytes supply e old is same_e same view nothing =
     let ending_is : ending_of supply ≡ old.ending = ap (λ (p : Pending). p.ending) view in
-    let held : take (length xs - start) (drop start xs) ≡ old.bytes = held_is xs items start same ∙ bytes_are in
-    let cuts : cut_of separator old.bytes AtBreak ≡ BrokenOff = sym (is ∙ (ap (λ b. cut_of separator b e) held ∙ ap (cut_of separator old.bytes) (same_e ∙ ap ending_or_break nothing))) in
+    let cuts : cut_of separator old.bytes AtBreak ≡ BrokenOff =
+    ap (λ (s : Supply). cut_of separator old.bytes (ending_or_break s)) (sym nothing) ∙ cuts_at separator held bytes supply e old BrokenOff is same_e same view in
     Steps-more separator old (sym ending_is ∙ ap ending_of nothing) cuts
 
-pub Steps-breaks : (separator xs items : List ℕ) (start : ℕ) (supply : Supply) (e : Ending) (old new : Pending) →
-    BrokenOff ≡ cut_of separator (take (length xs - start) (drop start xs)) e → e ≡ ending_or_break supply → xs ≡ items → record { bytes = drop start items; ending = ending_of supply } ≡ old →
+pub Steps-breaks : (separator held bytes : List ℕ) (supply : Supply) (e : Ending) (old new : Pending) →
+    BrokenOff ≡ cut_of separator held e → e ≡ ending_or_break supply → held ≡ bytes → record { bytes = bytes; ending = ending_of supply } ≡ old →
     supply ≢ Open → new.bytes ≡ [] → new.ending ≡ ending_of supply → Steps separator old (Ok Broken) new
-Steps-breaks separator xs items start Open e old new is same_e same view some empty kept = absurd (some refl)
-Steps-breaks separator xs items start Ended e old new is same_e same view some empty kept =
-    let bytes_are : drop start items ≡ old.bytes = ap (λ (p : Pending). p.bytes) view in
+Steps-breaks separator held bytes Open e old new is same_e same view some empty kept = absurd (some refl)
+Steps-breaks separator held bytes Ended e old new is same_e same view some empty kept =
     let ending_is : Some AtEnd ≡ old.ending = ap (λ (p : Pending). p.ending) view in
-    let held : take (length xs - start) (drop start xs) ≡ old.bytes = held_is xs items start same ∙ bytes_are in
-    let cuts : cut_of separator old.bytes AtEnd ≡ BrokenOff = sym (is ∙ (ap (λ b. cut_of separator b e) held ∙ ap (cut_of separator old.bytes) same_e)) in
-    Steps-ended separator old new (Ok Broken) AtEnd BrokenOff (sym ending_is) cuts (refl, empty, kept)
-Steps-breaks separator xs items start Broke e old new is same_e same view some empty kept =
-    let bytes_are : drop start items ≡ old.bytes = ap (λ (p : Pending). p.bytes) view in
+    Steps-ended separator old new (Ok Broken) AtEnd BrokenOff (sym ending_is) (cuts_at separator held bytes Ended e old BrokenOff is same_e same view) (refl, empty, kept)
+Steps-breaks separator held bytes Broke e old new is same_e same view some empty kept =
     let ending_is : Some AtBreak ≡ old.ending = ap (λ (p : Pending). p.ending) view in
-    let held : take (length xs - start) (drop start xs) ≡ old.bytes = held_is xs items start same ∙ bytes_are in
-    let cuts : cut_of separator old.bytes AtBreak ≡ BrokenOff = sym (is ∙ (ap (λ b. cut_of separator b e) held ∙ ap (cut_of separator old.bytes) same_e)) in
-    Steps-ended separator old new (Ok Broken) AtBreak BrokenOff (sym ending_is) cuts (refl, empty, kept)
+    Steps-ended separator old new (Ok Broken) AtBreak BrokenOff (sym ending_is) (cuts_at separator held bytes Broke e old BrokenOff is same_e same view) (refl, empty, kept)
 
 pub found_unbroken : (first rest : List ℕ) → Found first rest ≡ BrokenOff → ⊥
 found_unbroken first rest bad = cc
-
-pub drop_behind : (items xs : List ℕ) (start next : ℕ) → xs ≡ items → drop (start + next) items ≡ drop next (take (length xs - start) (drop start xs))
-drop_behind items xs start next same = sym (ap (drop next) (held_is xs items start same) ∙ drop-drop next start items)
 
 pub something_met : (supply : Supply) → (supply ≡ Ended) ⊎ (supply ≡ Broke) → supply ≢ Open
 something_met supply (inl e) n = let bad : Open ≡ Ended = sym n ∙ e in cc

@@ -80,35 +80,32 @@ known_more [] progress bytes more skipped searched known = (
 )
 known_more (c ∷ separator) progress bytes more skipped searched known = no_word_more (c ∷ separator) bytes more 0 progress.searched searched known
 
-pub searched_more : (items more : List ℕ) (start : ℕ) (last : ResumedSearch) → IsSearched items start last → IsSearched (items ++ more) start last
-searched_more items more start last is =
-    let size : length (drop start items) ≡ length items - start = length-drop start items in
-    record {
-      skipped = omega (arith, is.skipped, length-append items more);
-      searched = omega (arith, is.searched, length-append items more);
-      known = subst (IsKnown last.separator.items last.progress) (sym (drop-append-le start items more (omega (arith, is.searched))))
-          (known_more last.separator.items last.progress (drop start items) more (omega (arith, is.skipped)) (omega (arith, is.searched)) is.known);
-    }
+pub searched_more : (bytes more : List ℕ) (last : ResumedSearch) → IsSearched bytes last → IsSearched (bytes ++ more) last
+searched_more bytes more last is = record {
+  skipped = omega (arith, is.skipped, length-append bytes more);
+  searched = omega (arith, is.searched, length-append bytes more);
+  known = known_more last.separator.items last.progress bytes more is.skipped is.searched is.known;
+}
 
-pub searched_nothing : (items : List ℕ) (start : ℕ) (last : ResumedSearch) → start ≤ length items → last.progress ≡ nothing_known → IsSearched items start last
-searched_nothing items start last le none =
+pub searched_nothing : (bytes : List ℕ) (last : ResumedSearch) → last.progress ≡ nothing_known → IsSearched bytes last
+searched_nothing bytes last none =
     let skipped : last.progress.skipped ≡ 0 = ap (λ (p : Progress). p.skipped) none in
     let searched : last.progress.searched ≡ 0 = ap (λ (p : Progress). p.searched) none in
     record {
       skipped = omega arith;
       searched = omega arith;
-      known = subst (λ (p : Progress). IsKnown last.separator.items p (drop start items)) (sym none) (known_nothing last.separator.items (drop start items));
+      known = subst (λ (p : Progress). IsKnown last.separator.items p bytes) (sym none) (known_nothing last.separator.items bytes);
     }
 
 -- how far the search has come is kept
-pub searched_kept : (items held separator : List ℕ) (start : ℕ) (progress : Progress) (last : ResumedSearch) → start ≤ length items → held ≡ drop start items → progress.skipped ≤ length held → progress.searched ≤ length held →
-    last.separator.items ≡ separator → last.progress ≡ progress → IsKnown separator progress held → IsSearched items start last
-searched_kept items held separator start progress last le is skipped searched same_separator same_progress known =
-    let size : length held ≡ length items - start = ap length is ∙ length-drop start items in
-    let known' : IsKnown separator progress (drop start items) = subst (IsKnown separator progress) is known in
-    let here : IsKnown last.separator.items progress (drop start items) = subst (λ (s : List ℕ). IsKnown s progress (drop start items)) (sym same_separator) known' in
+pub searched_kept : (bytes held separator : List ℕ) (progress : Progress) (last : ResumedSearch) → held ≡ bytes → progress.skipped ≤ length held → progress.searched ≤ length held →
+    last.separator.items ≡ separator → last.progress ≡ progress → IsKnown separator progress held → IsSearched bytes last
+searched_kept bytes held separator progress last is skipped searched same_separator same_progress known =
+    let size : length held ≡ length bytes = ap length is in
+    let known' : IsKnown separator progress bytes = subst (IsKnown separator progress) is known in
+    let here : IsKnown last.separator.items progress bytes = subst (λ (s : List ℕ). IsKnown s progress bytes) (sym same_separator) known' in
     record {
       skipped = omega (arith, ap (λ (p : Progress). p.skipped) same_progress);
       searched = omega (arith, ap (λ (p : Progress). p.searched) same_progress);
-      known = subst (λ (p : Progress). IsKnown last.separator.items p (drop start items)) (sym same_progress) here;
+      known = subst (λ (p : Progress). IsKnown last.separator.items p bytes) (sym same_progress) here;
     }

@@ -20,7 +20,7 @@ pub enum Boundary {
 }
 
 /// The most bytes of a record with what is skipped before it and its separator.
-const LONGEST: usize = 1_073_741_824;
+pub(crate) const LONGEST: usize = 1_073_741_824;
 
 /// What ends a paragraph.
 const BLANK_LINE: &[u8] = b"\n\n";

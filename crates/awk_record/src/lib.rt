@@ -11,7 +11,6 @@ mod boundary;
 mod buffer;
 mod fault;
 mod separator_search;
-mod spare_records;
 
 pub use buffer::{RecordBuffer, Step};
 pub use fault::BufferFault;

@@ -1,7 +1,7 @@
 // Where in the bytes at hand a separator stands first. A search is resumed: it goes on where the last one, over fewer
 // bytes, found none, so that each byte is looked at once however small the pieces are that come, and at the pieces' seams
 // only those once more with which the separator could begin.
-ghost use Rattle.std.specs.Prelude.{◌≡◌, ◌+◌, ◌<◌, ◌≤◌, ℕ, List, ◌∷◌, [], length, drop, IfSome, OnOk, OnErr};
+ghost use Rattle.std.specs.Prelude.{◌≡◌, ◌↔◌, ◌+◌, ◌<◌, ◌≤◌, ℕ, false, List, ◌∷◌, [], length, drop, IfSome, OnOk, OnErr};
 ghost use Rattle.awk_record.specs.Cut.{first_at, newlines};
 ghost use Rattle.awk_record.specs.Boundary.{IsKnown, AreNewlines, HasNoWord, nothing_known};
 
@@ -42,6 +42,14 @@ impl ResumedSearch {
             separator: Vec::new(alloc),
             progress: Progress::NONE,
         }
+    }
+
+    /// Whether a search has come past some bytes.
+    #[inline(always)]
+    pub fn is_begun(&self) -> bool
+        ensures { (result ≡ false) ↔ (self.now.progress ≡ nothing_known) }
+    {
+        self.progress.searched > 0 || self.progress.skipped > 0
     }
 
     /// How far the search for this separator has come: as far as this one, or it has still to begin.

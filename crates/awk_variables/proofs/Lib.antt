@@ -1,3 +1,3 @@
 mod Storage
-mod Numbering
-mod Placing
+mod Digits
+mod Counting

@@ -1,12 +1,10 @@
 -- What the kept variables are, name by name.
-use Rattle.std.proofs.Common.{◌≡◌, ◌≢◌, ◌↔◌, ℕ, ◌<◌, Bool, true, false, cond, List, [], ◌∷◌, ◌++◌, map, length, get_or, set, Option, Some, None, unwrap_or, if◌then◌else◌, refl, sym, ap, ◌∙◌, true≢false, arith, get_or-set_same, get_or-set_other}
-use Rattle.std.specs.Prelude.{Result, Ok, Err, OnOk, OnErr}
-use Rattle.std.specs.Global.{Vec}
+use Rattle.std.proofs.Common.{◌≡◌, ◌≢◌, ◌↔◌, ℕ, ◌<◌, Bool, true, false, cond, List, [], ◌∷◌, map, length, get_or, set, Option, Some, None, unwrap_or, if◌then◌else◌, refl, sym, ap, ◌∙◌, true≢false, arith, get_or-set_same, get_or-set_other, length-set}
 use Rattle.std.specs.Prelude.{pos}
 use Rattle.std.specs.List.{fold}
 use Rattle.std.specs.Str.{bytes_eq}
 use Rattle.std.specs.Option.{option_map}
-use Rattle.std.specs.Map.{lookup, KeepsOthers, IsKeyTest, AreApart}
+use Rattle.std.specs.Map.{lookup}
 use Rattle.std.proofs.lemmas.Bool.{false_from_ne_true}
 use Rattle.std.proofs.lemmas.List.{get_or_default}
 use Rattle.std.proofs.lemmas.Slice.Eq.{bytes_eq-Decides}
@@ -14,8 +12,8 @@ use Rattle.awk_value.specs.declared.value.Value.{Value}
 use Rattle.awk_value.specs.declared.value.Value.TheVariants.{Nothing, Number, Text}
 use Rattle.awk_variables.specs.declared.special.Special.{Special}
 use Rattle.awk_variables.specs.declared.special.Special.TheVariants.{Argc, Convfmt, Filename, Fnr, Fs, Nr, Ofmt, Ofs, Ors, Rlength, Rs, Rstart, Subsep}
-use Rattle.awk_variables.specs.definitions.Variables.{Pairs, value_of, name_of, with_value}
-use Rattle.awk_variables.specs.support.Storage.{all_specials, index_of, special_named, value_at, special_pairs, other_pairs, kept_at}
+use Rattle.awk_variables.specs.definitions.Variables.{value_of, name_of, with_value}
+use Rattle.awk_variables.specs.support.Storage.{all_specials, index_of, special_named, value_at, special_pairs}
 
 -- a choice that is mapped
 pub option_map-if : {A B : Type 0} (f : A → B) (b : Bool) (x y : Option A) → option_map f (if b then x else y) ≡ (if b then option_map f x else option_map f y)
@@ -41,14 +39,6 @@ none_or_some e = cc
 
 pub same_some : {A : Type 0} {x y : A} → Some x ≡ Some y → x ≡ y
 same_some e = cc
-
-pub on_ok : {T E P Q : Type 0} (r : Result T E) → OnOk r P → (P → Q) → OnOk r Q
-on_ok (Ok x) p f = f p
-on_ok (Err e) p f = p
-
-pub on_err : {T E P Q : Type 0} (r : Result T E) → OnErr r P → (P → Q) → OnErr r Q
-on_err (Ok x) p f = p
-on_err (Err e) p f = f p
 
 -- names of special variables
 
@@ -131,46 +121,22 @@ lookup_specials f name (t ∷ all) = by (bytes_eq name (name_of t)) (lookup_spec
     by true rest = refl
     by false rest = rest
 
-lookup_first : (name : List ℕ) (v : Value) (ps qs : Pairs) → lookup (bytes_eq name) ps ≡ Some v → lookup (bytes_eq name) (ps ++ qs) ≡ Some v
-lookup_first name v [] qs e = absurd (none_or_some e)
-lookup_first name v (p ∷ ps) qs e = by (bytes_eq name p.0) (lookup_first name v ps qs) e
-  where
-    by : (b : Bool) → (lookup (bytes_eq name) ps ≡ Some v → lookup (bytes_eq name) (ps ++ qs) ≡ Some v) → cond b (Some p.1) (lookup (bytes_eq name) ps) ≡ Some v → cond b (Some p.1) (lookup (bytes_eq name) (ps ++ qs)) ≡ Some v
-    by true rest f = f
-    by false rest f = rest f
+-- the values of names
 
-lookup_second : (name : List ℕ) (ps qs : Pairs) → lookup (bytes_eq name) ps ≡ None → lookup (bytes_eq name) (ps ++ qs) ≡ lookup (bytes_eq name) qs
-lookup_second name [] qs e = refl
-lookup_second name (p ∷ ps) qs e = by (bytes_eq name p.0) (lookup_second name ps qs) e
-  where
-    by : (b : Bool) → (lookup (bytes_eq name) ps ≡ None → lookup (bytes_eq name) (ps ++ qs) ≡ lookup (bytes_eq name) qs) → cond b (Some p.1) (lookup (bytes_eq name) ps) ≡ None → cond b (Some p.1) (lookup (bytes_eq name) (ps ++ qs)) ≡ lookup (bytes_eq name) qs
-    by true rest f = absurd (none_or_some (sym f))
-    by false rest f = rest f
+found_as : (values : List Value) (name : List ℕ) (r : Option Special) → special_named name ≡ r → lookup (bytes_eq name) (special_pairs values) ≡ option_map (value_at values) r
+found_as values name r is = lookup_specials (value_at values) name all_specials ∙ ap (option_map (value_at values)) is
 
-lookup_others : (name : List ℕ) (es : List (Vec ℕ × Value)) → lookup (bytes_eq name) (other_pairs es) ≡ kept_at es name
-lookup_others name [] = refl
-lookup_others name (e ∷ es) = ap (λ r. cond (bytes_eq name e.0.items) (Some e.1) r) (lookup_others name es)
+pub value_of-special : (values : List Value) (name : List ℕ) (s : Special) → special_named name ≡ Some s → value_of (special_pairs values) name ≡ value_at values s
+value_of-special values name s is = ap (λ r. unwrap_or r Nothing) (found_as values name (Some s) is)
 
--- the kept variables
-
-abbrev pub kept : List Value → List (Vec ℕ × Value) → Pairs
-kept values es = special_pairs values ++ other_pairs es
-
-pub value_of-special : (values : List Value) (es : List (Vec ℕ × Value)) (name : List ℕ) (s : Special) → special_named name ≡ Some s → value_of (kept values es) name ≡ value_at values s
-value_of-special values es name s is =
-    let found : lookup (bytes_eq name) (special_pairs values) ≡ Some (value_at values s) = lookup_specials (value_at values) name all_specials ∙ ap (option_map (value_at values)) is in
-    ap (λ r. unwrap_or r Nothing) (lookup_first name (value_at values s) (special_pairs values) (other_pairs es) found)
-
-pub value_of-other : (values : List Value) (es : List (Vec ℕ × Value)) (name : List ℕ) → special_named name ≡ None → value_of (kept values es) name ≡ unwrap_or (kept_at es name) Nothing
-value_of-other values es name is =
-    let missed : lookup (bytes_eq name) (special_pairs values) ≡ None = lookup_specials (value_at values) name all_specials ∙ ap (option_map (value_at values)) is in
-    ap (λ r. unwrap_or r Nothing) (lookup_second name (special_pairs values) (other_pairs es) missed ∙ lookup_others name es)
+value_of-other : (values : List Value) (name : List ℕ) → special_named name ≡ None → value_of (special_pairs values) name ≡ Nothing
+value_of-other values name is = ap (λ r. unwrap_or r Nothing) (found_as values name None is)
 
 -- what stands at the index of a special variable is its value
-pub value_of-at : (values : List Value) (es : List (Vec ℕ × Value)) (s : Special) (i : ℕ) (x : Value) → length values ≡ 13 → i ≡ index_of s → get_or values i x ≡ value_of (kept values es) (name_of s)
-value_of-at values es s i x len is =
+pub value_of-at : (values : List Value) (s : Special) (i : ℕ) (x : Value) → length values ≡ 13 → i ≡ index_of s → get_or values i x ≡ value_of (special_pairs values) (name_of s)
+value_of-at values s i x len is =
     let within : index_of s < length values = omega (arith, index_within s) in
-    ap (λ j. get_or values j x) is ∙ get_or_default values (index_of s) x Nothing within ∙ sym (value_of-special values es (name_of s) s (special_named-name_of s))
+    ap (λ j. get_or values j x) is ∙ get_or_default values (index_of s) x Nothing within ∙ sym (value_of-special values (name_of s) s (special_named-name_of s))
 
 -- changes
 
@@ -181,57 +147,31 @@ unchanged : (values : List ℕ → Value) (name : List ℕ) (v : Value) (x : Lis
 unchanged values name v x ne = ap (λ b. if b then v else values x) (other name x ne)
 
 -- a special variable takes a value
-pub value_of-set_special : (values : List Value) (es : List (Vec ℕ × Value)) (s : Special) (v : Value) → length values ≡ 13 → (x : List ℕ) → value_of (kept (set values (index_of s) v) es) x ≡ with_value (value_of (kept values es)) (name_of s) v x
-value_of-set_special values es s v len x = by (special_named x) refl
+pub value_of-set_special : (values : List Value) (s : Special) (v : Value) → length values ≡ 13 → (x : List ℕ) → value_of (special_pairs (set values (index_of s) v)) x ≡ with_value (value_of (special_pairs values)) (name_of s) v x
+value_of-set_special values s v len x = by (special_named x) refl
   where
-    by_name : (t : Special) → special_named x ≡ Some t → (b : Bool) → bytes_eq (name_of s) x ≡ b → value_at (set values (index_of s) v) t ≡ with_value (value_of (kept values es)) (name_of s) v x
+    by_name : (t : Special) → special_named x ≡ Some t → (b : Bool) → bytes_eq (name_of s) x ≡ b → value_at (set values (index_of s) v) t ≡ with_value (value_of (special_pairs values)) (name_of s) v x
     by_name t is true e =
         let here : name_of s ≡ x = same (name_of s) x e in
         let one : t ≡ s = same_some (sym is ∙ ap special_named (sym here) ∙ special_named-name_of s) in
         let within : index_of s < length values = omega (arith, index_within s) in
-        ap (λ r. get_or (set values (index_of s) v) (index_of r) Nothing) one ∙ get_or-set_same values (index_of s) v Nothing within ∙ sym (changed (value_of (kept values es)) (name_of s) v x here)
+        ap (λ r. get_or (set values (index_of s) v) (index_of r) Nothing) one ∙ get_or-set_same values (index_of s) v Nothing within ∙ sym (changed (value_of (special_pairs values)) (name_of s) v x here)
     by_name t is false e =
         let elsewhere : name_of s ≡ x → ⊥ = differs (name_of s) x e in
         let apart : index_of t ≢ index_of s = λ p. elsewhere (ap name_of (sym (same_special t s p)) ∙ sym (name_of_named x t is)) in
-        get_or-set_other values (index_of s) (index_of t) v Nothing apart ∙ sym (unchanged (value_of (kept values es)) (name_of s) v x elsewhere ∙ value_of-special values es x t is)
+        get_or-set_other values (index_of s) (index_of t) v Nothing apart ∙ sym (unchanged (value_of (special_pairs values)) (name_of s) v x elsewhere ∙ value_of-special values x t is)
 
-    by : (r : Option Special) → special_named x ≡ r → value_of (kept (set values (index_of s) v) es) x ≡ with_value (value_of (kept values es)) (name_of s) v x
+    by : (r : Option Special) → special_named x ≡ r → value_of (special_pairs (set values (index_of s) v)) x ≡ with_value (value_of (special_pairs values)) (name_of s) v x
     by None is =
         let elsewhere : name_of s ≡ x → ⊥ = λ e. none_or_some (sym is ∙ ap special_named (sym e) ∙ special_named-name_of s) in
-        value_of-other (set values (index_of s) v) es x is ∙ sym (unchanged (value_of (kept values es)) (name_of s) v x elsewhere ∙ value_of-other values es x is)
-    by (Some t) is = value_of-special (set values (index_of s) v) es x t is ∙ by_name t is (bytes_eq (name_of s) x) refl
+        value_of-other (set values (index_of s) v) x is ∙ sym (unchanged (value_of (special_pairs values)) (name_of s) v x elsewhere ∙ value_of-other values x is)
+    by (Some t) is = value_of-special (set values (index_of s) v) x t is ∙ by_name t is (bytes_eq (name_of s) x) refl
 
--- the map gives the name the value, and leaves all others
-abbrev pub Puts : List (Vec ℕ × Value) → List (Vec ℕ × Value) → List ℕ → Value → Type 0
-Puts old new name v = (x : List ℕ) → kept_at new x ≡ (if bytes_eq name x then Some v else kept_at old x)
-
--- another variable takes a value
-pub value_of-put : (values : List Value) (old new : List (Vec ℕ × Value)) (name : List ℕ) (v : Value) → special_named name ≡ None → Puts old new name v → (x : List ℕ) → value_of (kept values new) x ≡ with_value (value_of (kept values old)) name v x
-value_of-put values old new name v is_other puts x = by (special_named x) refl
-  where
-    by_name : special_named x ≡ None → (b : Bool) → bytes_eq name x ≡ b → unwrap_or (if b then Some v else kept_at old x) Nothing ≡ with_value (value_of (kept values old)) name v x
-    by_name is true e = sym (changed (value_of (kept values old)) name v x (same name x e))
-    by_name is false e = sym (unchanged (value_of (kept values old)) name v x (differs name x e) ∙ value_of-other values old x is)
-
-    by : (r : Option Special) → special_named x ≡ r → value_of (kept values new) x ≡ with_value (value_of (kept values old)) name v x
-    by None is = value_of-other values new x is ∙ ap (λ r. unwrap_or r Nothing) (puts x) ∙ by_name is (bytes_eq name x) refl
-    by (Some t) is =
-        let elsewhere : name ≡ x → ⊥ = λ e. none_or_some (sym is_other ∙ ap special_named e ∙ is) in
-        value_of-special values new x t is ∙ sym (unchanged (value_of (kept values old)) name v x elsewhere ∙ value_of-special values old x t is)
-
--- a map that keeps the others, where the name has the value, is so changed
-pub puts : (old new : List (Vec ℕ × Value)) (name : List ℕ) (v : Value) → KeepsOthers (λ k l. bytes_eq k.items l.items) (λ k. bytes_eq name k.items) old new → kept_at new name ≡ Some v → Puts old new name v
-unfolding KeepsOthers
-puts old new name v keeps has x = by (bytes_eq name x) refl
-  where
-    tests : IsKeyTest (λ k l. bytes_eq k.items l.items) (λ (k : Vec ℕ). bytes_eq x k.items)
-    tests k l e = ap (λ t. bytes_eq t l.items) (same x k.items e)
-
-    by : (b : Bool) → bytes_eq name x ≡ b → kept_at new x ≡ (if b then Some v else kept_at old x)
-    by true e = ap (kept_at new) (sym (same name x e)) ∙ has
-    by false e =
-        let apart : AreApart (λ (k : Vec ℕ). bytes_eq name k.items) (λ (k : Vec ℕ). bytes_eq x k.items) = λ k is. other x k.items (λ h. differs name x e (same name k.items is ∙ sym h)) in
-        keeps (λ (k : Vec ℕ). bytes_eq x k.items) tests apart
+-- NR and FNR take values
+pub value_of-set_counts : (values : List Value) (m n : Value) → length values ≡ 13 → (x : List ℕ) → value_of (special_pairs (set (set values (index_of Nr) m) (index_of Fnr) n)) x ≡ with_value (with_value (value_of (special_pairs values)) (name_of Nr) m) (name_of Fnr) n x
+value_of-set_counts values m n len x =
+    value_of-set_special (set values (index_of Nr) m) Fnr n (length-set values (index_of Nr) m ∙ len) x
+    ∙ ap (λ (r : Value). if bytes_eq (name_of Fnr) x then n else r) (value_of-set_special values Nr m len x)
 
 -- the special variables as the run begins
 

@@ -1,3 +1,2 @@
 pub mod Variables
 pub mod Names
-pub mod Updates

@@ -1,20 +1,17 @@
-// The variables of a run.
+// The special variables of a run.
 ghost use Rattle.std.specs.Result.{is_err};
-ghost use Rattle.std.specs.Prelude.{◌≡◌, ◌≢◌, ◌==◌, ℕ, length, List, true, false, IfOk};
-ghost use Rattle.std.specs.Prelude.{IfErr, OnOk, OnErr, Some, None, bytes_eq, if◌then◌else◌};
+ghost use Rattle.std.specs.Prelude.{◌≡◌, ◌≢◌, ◌==◌, ◌≤ℤ◌, ◌<ℤ◌, ◌^◌, ℕ, pos, length, List, [], ◌∷◌, true, false, IfOk, IfErr, IfSome, OnOk, OnErr};
 ghost use Rattle.awk_value.specs.Values.{str_of};
-ghost use Rattle.awk_value.specs.declared.value.Value.TheVariants.{Nothing};
 ghost use Rattle.awk_text.specs.Separators.{separator_of};
-ghost use Rattle.awk_variables.specs.support.Storage.{kept_at, initial_specials};
+ghost use Rattle.awk_variables.specs.support.Storage.{initial_specials};
 
 use crate::fault::VariableFault;
 use crate::special::Special;
 use awk_text::FieldSeparator;
 use awk_value::{Bytes, Value, text_of};
-use indexmap::IndexMap;
-use itoa::Buffer;
 use std::alloc::Global;
 use std::marker::Model;
+use std::mem;
 
 // The text of a value that FS is to have. One that is no field separator is refused.
 fn separator_text(alloc: Global, value: &Value) -> Result<Bytes, VariableFault>
@@ -31,37 +28,19 @@ fn separator_text(alloc: Global, value: &Value) -> Result<Bytes, VariableFault>
 }
 
 // Whether the text of a value is empty.
+#[inline(always)]
 fn is_empty(value: &Value) -> bool
     ensures { result ≡ (length (str_of value.now) == 0) }
 {
     match value {
         Value::Nothing => true,
-        Value::Number(n) => Buffer::new().format(*n).is_empty(),
+        Value::Number(_) => false,
         Value::Text(text) | Value::Input(text) => text.is_empty(),
     }
 }
 
-// Gives a name a value among the others. Only a new name takes memory.
-fn put(
-    others: &mut IndexMap<Vec<u8>, Value>,
-    alloc: Global,
-    name: &[u8],
-    value: Value,
-) -> Result<(), VariableFault>
-    ensures put { OnOk result ((x : List ℕ) → kept_at others.new.entries x
-        ≡ (if bytes_eq name.now x then Some value else kept_at others.old.entries x)) }
-    ensures err { OnErr result (others.new.entries ≡ others.old.entries) }
-    ensures absent { OnErr result (kept_at others.old.entries name.now ≡ None) }
-    ensures memory { IfErr result (λ e. e ≡ VariableFault.Memory) }
-{
-    if let Some(place) = others.get_mut(name) {
-        *place = value;
-        return Ok(());
-    }
-    let name = Vec::from_slice(alloc, name)?;
-    others.insert(name, value)?;
-    Ok(())
-}
+// Records are counted quickly while their counts are less.
+const MANY: i128 = 0x4000_0000_0000_0000;
 
 // The special variables that are texts as the run begins. (POSIX awk, Variables and Special Variables)
 const TEXTS: [(Special, &[u8]); 7] = [
@@ -100,32 +79,28 @@ fn initial_specials(alloc: Global, arguments: usize) -> Result<[Value; 13], Vari
     Ok(values)
 }
 
-/// The variables of a run: the values of all names, of which most were never
-/// assigned.
+/// The special variables of a run with their values. No other name has one.
 #[derive(Drop)]
 pub struct Variables {
     specials: [Value; 13],
-    pub(crate) others: IndexMap<Vec<u8>, Value>,
     // the text of FS, which is a field separator
     field_separator: Bytes,
-    pub(crate) alloc: Global,
+    alloc: Global,
 }
 
 impl Model for Variables {
-    ghost use Rattle.std.specs.Prelude.{◌++◌};
     ghost use Rattle.awk_variables.specs.definitions.Variables.{Pairs};
-    ghost use Rattle.awk_variables.specs.support.Storage.{special_pairs, other_pairs, IsSeparator, HasNoSpecial};
+    ghost use Rattle.awk_variables.specs.support.Storage.{special_pairs, IsSeparator};
 
     ghost Value = { Pairs };
 
-    ghost view = { λ v. special_pairs v.specials ++ other_pairs v.others.entries };
+    ghost view = { λ v. special_pairs v.specials };
 
-    ghost invariant = { λ v. IsSeparator v.specials v.field_separator × HasNoSpecial v.others.entries };
+    ghost invariant = { λ v. IsSeparator v.specials v.field_separator };
 }
 
 impl Variables {
-    ghost use Rattle.awk_variables.specs.support.Storage.{special_named};
-    ghost use Rattle.awk_variables.specs.definitions.Variables.{value_of, name_of, initial_value, with_value, is_refused};
+    ghost use Rattle.awk_variables.specs.definitions.Variables.{value_of, name_of, initial_value, with_value, is_refused, CountsRecords};
 
     /// The variables before the run, where ARGV has so many elements. The
     /// only fault is `Memory`.
@@ -136,61 +111,17 @@ impl Variables {
         let specials = initial_specials(alloc, arguments)?;
         Ok(Variables {
             specials,
-            others: IndexMap::new(alloc),
             field_separator: Bytes::from_slice(alloc, b" ")?,
             alloc,
         })
     }
 
-    /// The value of a name. The only fault is `Memory`.
-    pub fn get(&self, name: &[u8]) -> Result<Value, VariableFault>
-        ensures value { IfOk result (λ v. v ≡ value_of self.now name.now) }
-        ensures memory { IfErr result (λ e. e ≡ VariableFault.Memory) }
-    {
-        match Special::named(name) {
-            Some(special) => Ok(self.special(special).clone()?),
-            None => match self.others.get(name) {
-                Some(value) => Ok(value.clone()?),
-                None => Ok(Value::Nothing),
-            },
-        }
-    }
-
     /// The value of a special variable.
+    #[inline(always)]
     pub fn special(&self, special: Special) -> &Value
         ensures { result.now ≡ value_of self.now (name_of special) }
     {
         &self.specials[special.index()]
-    }
-
-    /// Gives a name a value. An `Err` changes nothing: it is `Pattern` where
-    /// the name is FS and the value's text is no separator, and else
-    /// `Memory`. Only FS and a name that was never assigned take memory.
-    pub fn set(&mut self, name: &[u8], value: Value) -> Result<(), VariableFault>
-        ensures set { OnOk result ((x : List ℕ) → value_of self.new x
-            ≡ with_value (value_of self.old) name.now value x) }
-        ensures accepted { OnOk result (is_refused name.now value ≡ false) }
-        ensures err { OnErr result (self.new ≡ self.old) }
-        ensures absent { result ≡ Err VariableFault.Memory → name.now ≢ name_of Special.Fs →
-            value_of self.old name.now ≡ Nothing }
-        ensures refused { result ≡ Err VariableFault.Pattern → is_refused name.now value ≡ true }
-    {
-        match Special::named(name) {
-            Some(special) => self.set_special(special, value),
-            None => self.set_other(name, value),
-        }
-    }
-
-    // Gives a name that isn't special a value.
-    pub(crate) fn set_other(&mut self, name: &[u8], value: Value) -> Result<(), VariableFault>
-        requires { special_named name.now ≡ None }
-        ensures set { OnOk result ((x : List ℕ) → value_of self.new x
-            ≡ with_value (value_of self.old) name.now value x) }
-        ensures err { OnErr result (self.new ≡ self.old) }
-        ensures absent { OnErr result (value_of self.old name.now ≡ Nothing) }
-        ensures memory { IfErr result (λ e. e ≡ VariableFault.Memory) }
-    {
-        put(&mut self.others, self.alloc, name, value)
     }
 
     /// Gives a special variable a value. An `Err` changes nothing: it is
@@ -205,13 +136,15 @@ impl Variables {
         ensures refused { result ≡ Err VariableFault.Pattern → is_refused (name_of special) value ≡ true }
     {
         if let Special::Fs = special {
-            self.field_separator = separator_text(self.alloc, &value)?;
+            let text = separator_text(self.alloc, &value)?;
+            drop(mem::replace(&mut self.field_separator, text));
         }
-        self.specials[special.index()] = value;
+        drop(mem::replace(&mut self.specials[special.index()], value));
         Ok(())
     }
 
     /// The text of FS, which is a field separator.
+    #[inline(always)]
     pub fn field_separator(&self) -> &[u8]
         ensures text { result.now ≡ str_of (value_of self.now (name_of Special.Fs)) }
         ensures accepted { is_err (separator_of result.now) ≡ false }
@@ -221,9 +154,79 @@ impl Variables {
 
     /// Whether newlines separate fields too: where RS is empty. (POSIX awk,
     /// Variables and Special Variables: RS)
+    #[inline(always)]
     pub fn newlines_separate(&self) -> bool
         ensures { result ≡ (length (str_of (value_of self.now (name_of Special.Rs))) == 0) }
     {
         is_empty(self.special(Special::Rs))
+    }
+
+    /// The byte that RS is, where it is one byte. (POSIX awk, Variables and Special Variables: RS)
+    #[inline(always)]
+    pub fn record_separator_byte(&self) -> Option<u8>
+        ensures { IfSome result (λ byte. str_of (value_of self.now (name_of Special.Rs)) ≡ byte ∷ []) }
+    {
+        match self.special(Special::Rs) {
+            Value::Text(text) | Value::Input(text) => match text.as_slice() {
+                [byte] => Some(*byte),
+                _ => None,
+            },
+            Value::Nothing | Value::Number(_) => None,
+        }
+    }
+
+    // NR and FNR, where both are counts that are not too large.
+    #[inline(always)]
+    fn counts(&self) -> Option<(i128, i128)>
+        ensures nr { IfSome result (λ counts. value_of self.now (name_of Special.Nr) ≡ Value.Number counts.0) }
+        ensures fnr { IfSome result (λ counts. value_of self.now (name_of Special.Fnr) ≡ Value.Number counts.1) }
+        ensures nr_small { IfSome result (λ counts. (pos 0 ≤ℤ counts.0) × (counts.0 <ℤ pos (2 ^ 62))) }
+        ensures fnr_small { IfSome result (λ counts. (pos 0 ≤ℤ counts.1) × (counts.1 <ℤ pos (2 ^ 62))) }
+    {
+        let Value::Number(all) = self.special(Special::Nr) else {
+            return None;
+        };
+        let Value::Number(in_file) = self.special(Special::Fnr) else {
+            return None;
+        };
+        let (all, in_file) = (*all, *in_file);
+        if 0 <= all && all < MANY && 0 <= in_file && in_file < MANY {
+            return Some((all, in_file));
+        }
+        None
+    }
+
+    // Makes numbers NR and FNR.
+    #[inline(always)]
+    fn set_counts(&mut self, all: i128, in_file: i128)
+        ensures { (x : List ℕ) → value_of self.new x ≡ with_value
+            (with_value (value_of self.old) (name_of Special.Nr) (Value.Number all)) (name_of Special.Fnr) (Value.Number in_file) x }
+    {
+        self.specials[Special::Nr.index()] = Value::Number(all);
+        self.specials[Special::Fnr.index()] = Value::Number(in_file);
+    }
+
+    /// Counts so many records in NR and FNR, where both are counts that are not too large; else
+    /// answers `false`, and nothing changes. Takes no memory. (POSIX awk, Variables and Special
+    /// Variables: NR, FNR)
+    #[inline(always)]
+    pub fn count_records(&mut self, count: usize) -> bool
+        ensures counted { result ≡ true → CountsRecords count (value_of self.old) (value_of self.new) }
+        ensures kept { result ≡ false → self.new ≡ self.old }
+    {
+        let Some((all, in_file)) = self.counts() else {
+            return false;
+        };
+        self.set_counts(all + count as i128, in_file + count as i128);
+        true
+    }
+
+    /// Counts a record, as `count_records` counts many.
+    #[inline(always)]
+    pub fn count_record(&mut self) -> bool
+        ensures counted { result ≡ true → CountsRecords 1 (value_of self.old) (value_of self.new) }
+        ensures kept { result ≡ false → self.new ≡ self.old }
+    {
+        self.count_records(1)
     }
 }

@@ -1,6 +1,7 @@
 -- What each call for the main input does (POSIX awk, INPUT FILES; Variables and Special Variables: RS).
-use Rattle.std.specs.Prelude.{◌≡◌, ◌≢◌, ◌⊎◌, ◌+◌, ℕ, ℤ, ◌&&◌, List, ◌∷◌, Option, Some, None, Result, Ok, Err, OnOk, bytes_eq}
-use Rattle.awk_record.specs.Cut.{cut_of}
+use Rattle.std.specs.Prelude.{◌≡◌, ◌≢◌, ◌⊎◌, ◌+◌, ◌<◌, ℕ, ℤ, true, ◌&&◌, List, [], ◌∷◌, ◌++◌, length, drop, Option, Some, None, is_some, Result, Ok, Err, OnOk, bytes_eq}
+use Rattle.std.specs.List.{All}
+use Rattle.awk_record.specs.Cut.{longest, cut_of}
 use Rattle.awk_world.specs.declared.world.InputKind.{InputKind}
 use Rattle.awk_world.specs.declared.world.OutputKind.{OutputKind}
 use Rattle.awk_world.specs.definitions.WorldState.{WorldState}
@@ -13,7 +14,7 @@ use Rattle.awk_channels.specs.declared.fault.StreamFault.TheVariants.{Memory, In
 use Rattle.awk_channels.specs.declared.input.Input.{Input}
 use Rattle.awk_channels.specs.definitions.Inputs.{ReadsAsNeeded, NextTold}
 use Rattle.awk_channels.specs.definitions.Named.{Stream}
-use Rattle.awk_channels.specs.definitions.Streams.{StreamsView, printed_openings, IsMainRest, StandFor, FailsAs}
+use Rattle.awk_channels.specs.definitions.Streams.{StreamsView, AreOpen, AreSound, IsSameMain, printed_openings, IsMainRest, StandFor, FailsAs}
 
 -- one more opening of this input was answered, and no other opening, no closing of a command and no run
 pub record CountsInput (kind : InputKind) (name : List ℕ) (old new : List Event) : Type 0 where
@@ -60,6 +61,41 @@ pub record AsksMain (separator : List ℕ) (before : WorldState) (old : StreamsV
       (left : List ℕ) × NextTold (cut_of separator whole.bytes whole.ending) result whole.bytes left × IsMainRest a after.log new.main (Some record { bytes = left; ending = whole.ending })
   pub named : (a : Oracle) (open_streams : List Stream) → StandFor a before.log old.named open_streams → StandFor a after.log new.named open_streams
   pub failure : FailsAs result before after
+
+-- Records at hand, of which many are taken at once.
+
+-- a record by a separator of this one byte
+pub record IsLineOf (separator : ℕ) (bytes : List ℕ) : Type 0 where
+  pub plain : All (λ b. b ≢ separator) bytes
+  pub short : length bytes < longest
+
+-- these lines, each with its separator behind it
+abbrev pub lines_of : (separator : ℕ) → List (List ℕ) → List ℕ
+lines_of separator [] = []
+lines_of separator (line ∷ lines) = line ++ separator ∷ lines_of separator lines
+
+-- this record is asked for, and was at hand
+pub record TakesMain (separator first : List ℕ) (world : WorldState) (old new : StreamsView) : Type 0 where
+  pub there : is_some old.main ≡ true
+  pub same : IsSameMain old.main new.main
+  pub open_as : AreOpen world new
+  pub sound : AreSound world new
+  pub asks : AsksMain separator world old (Ok (Some first)) world new
+
+-- so are these records, one after the other
+abbrev pub TakesEach : (separator : List ℕ) → List (List ℕ) → WorldState → (old new : StreamsView) → Type 0
+TakesEach separator [] world old new = new ≡ old
+TakesEach separator (first ∷ more) world old new = (mid : StreamsView) × TakesMain separator first world old mid × TakesEach separator more world mid new
+
+-- the bytes of the main input that are at hand
+abbrev pub main_bytes : Option Input → List ℕ
+main_bytes None = []
+main_bytes (Some input) = input.pending.bytes
+
+-- the main input without the first of them
+abbrev pub skipped_main : ℕ → Option Input → Option Input
+skipped_main count None = None
+skipped_main count (Some input) = Some record { id = input.id; pending = record { bytes = drop count input.pending.bytes; ending = input.pending.ending } }
 
 abbrev pub closed_main : Option Input → ℤ → List Event → List Event
 closed_main None answer log = log

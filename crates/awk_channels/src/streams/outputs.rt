@@ -1,8 +1,9 @@
 // Named outputs, and printing.
-ghost use Rattle.std.specs.Prelude.{◌≡◌, ◌<◌, List, ℕ, length, None, IsTrue, IfOk, IfErr};
+ghost use Rattle.std.specs.Prelude.{◌≡◌, ◌<◌, List, [], ◌++◌, ℕ, length, None, Ok, IsTrue, IfOk, IfErr, if◌then◌else◌};
 ghost use Rattle.std.specs.List.{position};
 ghost use Rattle.awk_world.specs.declared.world.OutputKind.TheVariants.{Command as OutputCommand};
 ghost use Rattle.awk_world.specs.declared.world.Mode.TheVariants.{Truncate};
+ghost use Rattle.awk_world.specs.definitions.WorldState.{WorldState};
 ghost use Rattle.awk_channels.specs.definitions.Outputs.{IsOutputFault};
 ghost use Rattle.awk_channels.specs.definitions.Streams.{AreOpen, AreSound, IsTarget};
 ghost use Rattle.awk_channels.specs.definitions.NamedOutputs.{OpensOutput, Prints};
@@ -72,6 +73,44 @@ impl Streams {
             Target::StandardError => self.error.print(world, STANDARD_ERROR, bytes),
             Target::Named(place) => self.named[place].print(world, bytes),
         }
+    }
+
+    /// Prints two texts to standard output, one behind the other, where a buffer of this size has room to
+    /// hold both back: what `print` does then, and nothing is asked of a world. `false` where it hasn't, and
+    /// then nothing changes. (POSIX awk, STDOUT)
+    #[inline]
+    pub fn hold(&mut self, size: usize, front: &[u8], behind: &[u8]) -> bool
+        ensures held { self.new ≡ (if result then record self.old { output = self.old.output ++ (front.now ++ behind.now) } else self.old) }
+        ensures open { (world : WorldState) → AreOpen world self.old → AreOpen world self.new }
+        ensures sound { (world : WorldState) → AreSound world self.old → AreSound world self.new }
+        ensures told { IsTrue result → (world : WorldState) → AreOpen world self.old → AreSound world self.old →
+            Prints Target.StandardOutput (front.now ++ behind.now) world self.old (Ok tt) world self.new }
+    {
+        self.output.hold_both(size, front, behind)
+    }
+
+    /// Lends what standard output holds back, to be printed on behind it, and how many bytes more a buffer
+    /// of this size has room for. `take_output_back` follows.
+    #[inline]
+    pub fn lend_output(&mut self, size: usize) -> (Vec<u8>, usize)
+        ensures lent { result.0.items ≡ self.old.output }
+        ensures rest { self.new ≡ record self.old { output = [] } }
+    {
+        self.output.lend(self.alloc, size)
+    }
+
+    /// Takes back what standard output holds back. The bytes that were put behind it are printed, and
+    /// nothing is asked of a world. (POSIX awk, STDOUT)
+    #[inline]
+    pub fn take_output_back(&mut self, held: Vec<u8>)
+        ensures back { self.new ≡ record self.old { output = held.items } }
+        ensures open { (world : WorldState) → AreOpen world self.old → AreOpen world self.new }
+        ensures sound { (world : WorldState) → AreSound world self.old → AreSound world self.new }
+        ensures told { (front bytes : List ℕ) → held.items ≡ front ++ bytes → (world : WorldState) →
+            AreOpen world (record self.old { output = front }) → AreSound world (record self.old { output = front }) →
+            Prints Target.StandardOutput bytes world (record self.old { output = front }) (Ok tt) world self.new }
+    {
+        self.output.take_back(held);
     }
 
     // Asks the world for an output. What takes memory comes first, so that no stream is lost that was

@@ -42,11 +42,11 @@ IsKnown (c ∷ separator) progress bytes = HasNoWord (c ∷ separator) 0 progres
 abbrev pub nothing_known : Progress
 nothing_known = record { skipped = 0; searched = 0 }
 
--- so many bytes were taken, and those behind them were searched as is kept
-pub record IsSearched (items : List ℕ) (start : ℕ) (search : ResumedSearch) : Type 0 where
-  pub skipped : start + search.progress.skipped ≤ length items
-  pub searched : start + search.progress.searched ≤ length items
-  pub known : IsKnown search.separator.items search.progress (drop start items)
+-- the bytes at hand were searched as is kept
+pub record IsSearched (bytes : List ℕ) (search : ResumedSearch) : Type 0 where
+  pub skipped : search.progress.skipped ≤ length bytes
+  pub searched : search.progress.searched ≤ length bytes
+  pub known : IsKnown search.separator.items search.progress bytes
 
 -- the cut of the bytes at a boundary
 abbrev pub cut_by : Boundary → List ℕ → Cut

@@ -1,10 +1,11 @@
 -- The variables of a run. POSIX awk, "Variables and Special Variables".
-use Rattle.std.specs.Prelude.{ℕ, Bool, ◌&&◌, if◌then◌else◌, pos, List, [], ◌∷◌, codes, bytes_eq, unwrap_or}
+use Rattle.std.specs.Prelude.{◌≡◌, ◌≤◌, ◌+ℤ◌, ℕ, ℤ, Ok, Bool, ◌&&◌, if◌then◌else◌, pos, List, [], ◌∷◌, codes, bytes_eq, unwrap_or}
 use Rattle.std.specs.Map.{lookup}
 use Rattle.std.specs.Result.{is_err}
 use Rattle.awk_value.specs.declared.value.Value.{Value}
 use Rattle.awk_value.specs.declared.value.Value.TheVariants.{Nothing, Number, Text}
 use Rattle.awk_value.specs.Values.{str_of}
+use Rattle.awk_value.specs.Arithmetic.{sum_of}
 use Rattle.awk_text.specs.Separators.{separator_of}
 use Rattle.awk_variables.specs.declared.special.Special.{Special}
 use Rattle.awk_variables.specs.declared.special.Special.TheVariants.{Argc, Convfmt, Filename, Fnr, Fs, Nr, Ofmt, Ofs, Ors, Rlength, Rs, Rstart, Subsep}
@@ -60,3 +61,13 @@ with_value values name value other = if bytes_eq name other then value else valu
 -- the name is FS, and the value's text is no separator: it is longer than a byte, and spells no ERE
 abbrev pub is_refused : List ℕ → Value → Bool
 is_refused name value = bytes_eq name (codes "FS") && is_err (separator_of (str_of value))
+
+-- so many records are counted in NR and FNR, which are numbers; so are their counts on the way
+pub record CountsRecords (count : ℕ) (old new : List ℕ → Value) : Type 0 where
+  pub all : ℤ
+  pub in_file : ℤ
+  pub nr : old (name_of Nr) ≡ Number all
+  pub fnr : old (name_of Fnr) ≡ Number in_file
+  pub nr_counts : (k : ℕ) → k ≤ count → sum_of all (pos k) ≡ Ok (all +ℤ pos k)
+  pub fnr_counts : (k : ℕ) → k ≤ count → sum_of in_file (pos k) ≡ Ok (in_file +ℤ pos k)
+  pub counted : (x : List ℕ) → new x ≡ with_value (with_value old (name_of Nr) (Number (all +ℤ pos count))) (name_of Fnr) (Number (in_file +ℤ pos count)) x

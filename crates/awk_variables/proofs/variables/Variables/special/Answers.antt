@@ -7,5 +7,5 @@ pub returns : goal.returns
 returns c =
     let inside = c.self.inside in
     let len : length inside.specials ≡ 13 = search rules in
-    value_of-at inside.specials inside.others.entries c.args.special _ _ len c.index.ensures
+    value_of-at inside.specials c.args.special _ _ len c.index.ensures
     ∙ ap (λ (p : Pairs). value_of p (name_of c.args.special)) c.self.view_is
