@@ -1,3 +1,4 @@
 mod Kept
 mod PatternFinds
 mod ReadsFor
+pub mod Orders

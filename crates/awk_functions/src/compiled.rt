@@ -55,6 +55,7 @@ impl Compiled {
     }
 
     /// Whether the pattern matches somewhere in the text. Takes no memory. (POSIX awk, Regular Expressions)
+    #[inline(always)]
     pub fn is_match(&mut self, text: &[u8]) -> bool
         ensures found { matched (pattern_in self.old.text) text.now ≡ Ok result }
         ensures text { self.new.text ≡ self.old.text }

@@ -9,10 +9,9 @@ ghost use Rattle.awk_semantics.specs.Primitives.{format_values};
 ghost use Rattle.awk_semantics.specs.Results.{IsWantOfMemory, Yields};
 ghost use Rattle.awk_functions.specs.support.Written.{Writes};
 
-use crate::texts::text_in;
 use awk_format::{Format, FormatFault};
 use awk_semantics::Halt;
-use awk_value::{Bytes, Value};
+use awk_value::{Bytes, Value, text_in};
 use itoa::Buffer;
 use std::alloc::Global;
 

@@ -1,6 +1,6 @@
 // The built-in functions of values alone.
 
-ghost use Rattle.std.specs.Prelude.{◌≡◌, pos, false, length, slice_get, unwrap_or, IfOk, IfErr};
+ghost use Rattle.std.specs.Prelude.{◌≡◌, pos, length, slice_get, unwrap_or, IfOk, IfErr};
 ghost use Rattle.std.specs.Option.{option_copied, option_map};
 ghost use Rattle.awk_value.specs.Values.{str_of};
 ghost use Rattle.awk_value.specs.declared.value.Value.TheVariants.{Nothing, Number, Text};
@@ -10,13 +10,13 @@ ghost use Rattle.awk_semantics.specs.Results.{IsWantOfMemory, Yields};
 ghost use Rattle.awk_semantics.specs.Texts.{position_of};
 
 use crate::formats::Formats;
-use crate::texts::text_in;
 use awk_lex::token::BuiltIn;
 use awk_semantics::{Halt, law_of_positions};
-use awk_text::{index, substr};
-use awk_value::{Bytes, Value, number_of, text_of, to_number};
+use awk_text::{index, lower, substr, upper};
+use awk_value::{Bytes, Value, number_of, text_in, text_of, to_number};
 use itoa::Buffer;
 use std::alloc::{AllocError, Global};
+use std::borrow::CowSlice;
 
 // The argument at a place, or the one that stands for a missing one.
 #[inline]
@@ -106,32 +106,16 @@ fn substring(
     }
 }
 
-// Whether a letter of the text has a small form of its own.
-fn has_capital(text: &[u8]) -> bool
-    ensures { result ≡ false → lower_of text.now ≡ text.now }
-{
-    text.iter().any(|byte| byte.is_ascii_uppercase())
-}
-
-// Whether a letter of the text has a capital form of its own.
-fn has_small(text: &[u8]) -> bool
-    ensures { result ≡ false → upper_of text.now ≡ text.now }
-{
-    text.iter().any(|byte| byte.is_ascii_lowercase())
-}
-
 // A value's text with its capital letters made small. A text without any is shared.
 fn in_lower_case(alloc: Global, value: &Value) -> Result<Value, Halt>
     ensures text { IfOk result (λ small. small ≡ Text (lower_of (str_of value.now))) }
     ensures fault { IfErr result IsWantOfMemory }
 {
     let mut digits = Buffer::new();
-    let text = text_in(value, &mut digits);
-    if !has_capital(text) {
-        return Ok(Value::Text(text_of(alloc, value)?));
+    match lower(alloc, text_in(value, &mut digits))? {
+        CowSlice::Borrowed(_) => Ok(Value::Text(text_of(alloc, value)?)),
+        CowSlice::Owned(small) => Ok(Value::Text(Bytes::from_vec(alloc, small)?)),
     }
-    let small = text.to_ascii_lowercase(alloc)?;
-    Ok(Value::Text(Bytes::from_vec(alloc, small)?))
 }
 
 // A value's text with its small letters made capital. A text without any is shared.
@@ -140,12 +124,10 @@ fn in_upper_case(alloc: Global, value: &Value) -> Result<Value, Halt>
     ensures fault { IfErr result IsWantOfMemory }
 {
     let mut digits = Buffer::new();
-    let text = text_in(value, &mut digits);
-    if !has_small(text) {
-        return Ok(Value::Text(text_of(alloc, value)?));
+    match upper(alloc, text_in(value, &mut digits))? {
+        CowSlice::Borrowed(_) => Ok(Value::Text(text_of(alloc, value)?)),
+        CowSlice::Owned(capital) => Ok(Value::Text(Bytes::from_vec(alloc, capital)?)),
     }
-    let capital = text.to_ascii_uppercase(alloc)?;
-    Ok(Value::Text(Bytes::from_vec(alloc, capital)?))
 }
 
 /// What a built-in function of values alone makes of them: `length` of an argument, `substr`, `index`, `sprintf`,

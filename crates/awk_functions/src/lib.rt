@@ -11,7 +11,6 @@ mod operators;
 mod patterns;
 mod separated;
 mod short;
-mod texts;
 
 pub use compiled::Compiled;
 pub use formats::Formats;

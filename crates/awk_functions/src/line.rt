@@ -6,14 +6,16 @@ ghost use Rattle.awk_value.specs.Values.{str_of};
 ghost use Rattle.awk_semantics.specs.Operators.{line_of, join, join_rest};
 ghost use Rattle.awk_semantics.specs.Results.{IsWantOfMemory};
 
-use crate::texts::text_in;
 use awk_semantics::Halt;
-use awk_value::{Bytes, Value, append_text};
+use awk_value::{Bytes, Value, append_text, text_in};
 use itoa::Buffer;
 use std::alloc::Global;
 
 /// Room for the digits of most numbers.
 const NUMBER_ROOM: usize = 20;
+
+/// Texts of so many bytes take no memory, so they are made where they stand.
+const SHORT: usize = 22;
 
 // Appends the text of each value behind the separator.
 fn append_rest(line: &mut Vec<u8>, values: &[Value], separator: &Value) -> Result<(), Halt>
@@ -82,7 +84,13 @@ pub fn concatenate(alloc: Global, left: &Value, right: &Value) -> Result<Value, 
     let mut right_digits = Buffer::new();
     let front = text_in(left, &mut left_digits);
     let behind = text_in(right, &mut right_digits);
-    let mut text = Vec::with_capacity(alloc, front.len().saturating_add(behind.len()))?;
+    let room = front.len().saturating_add(behind.len());
+    if room <= SHORT {
+        let mut text = Bytes::from_slice(alloc, front)?;
+        text.extend_from_slice(alloc, behind)?;
+        return Ok(Value::Text(text));
+    }
+    let mut text = Vec::with_capacity(alloc, room)?;
     text.extend_from_slice(front)?;
     text.extend_from_slice(behind)?;
     Ok(Value::Text(Bytes::from_vec(alloc, text)?))

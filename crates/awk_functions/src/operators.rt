@@ -1,8 +1,12 @@
 // What operators make of values.
 
-ghost use Rattle.std.specs.Prelude.{◌≡◌, Ok, IfSome};
+ghost use Rattle.std.specs.Prelude.{◌≡◌, Ok, IfSome, IfNone};
 ghost use Rattle.std.specs.declared.cmp.Ordering.{Ordering as Order};
-ghost use Rattle.awk_value.specs.Values.{num_of};
+ghost use Rattle.std.specs.Ordering.{nat_cmp};
+ghost use Rattle.std.specs.Cmp.Lexicographic.{slice_cmp};
+ghost use Rattle.awk_value.specs.declared.value.Value.{Value as AnyValue};
+ghost use Rattle.awk_value.specs.declared.value.Value.TheVariants.{Number};
+ghost use Rattle.awk_value.specs.Values.{num_of, str_of, order_of};
 ghost use Rattle.awk_semantics.specs.Operators.{applied, by_one, changed, exit_status, operator_of, raised};
 ghost use Rattle.awk_semantics.specs.Operators.{relates as related, truth_value};
 ghost use Rattle.awk_semantics.specs.Results.{Yields};
@@ -14,8 +18,9 @@ use awk_lex::token::{AssignmentOperator, IncrementOperator, Operator};
 use awk_semantics::Halt;
 use awk_value::{
     Value, ValueFault, add, compare, div, divide, is_true, minus, mul, multiply, negate, number_of,
-    numeric_of, plus, pow, power, rem, remainder, sub, to_number,
+    numeric_of, plus, pow, power, rem, remainder, sub, text_in, to_number,
 };
+use itoa::Buffer;
 use std::alloc::Global;
 use std::cmp::Ordering;
 
@@ -113,39 +118,81 @@ pub fn apply_to_numbers(operator: Operator, x: i128, y: i128) -> Option<i128>
     }
 }
 
+// The numbers by which two values are compared, if they are compared by numbers.
+#[inline(always)]
+fn numbers_of(x: &Value, y: &Value) -> Option<(i128, i128)>
+    ensures some { IfSome result (λ numbers. order_of x.now y.now ≡ order_of (Number numbers.0) (Number numbers.1)) }
+    ensures none { IfNone result (order_of x.now y.now ≡ slice_cmp nat_cmp (str_of x.now) (str_of y.now)) }
+{
+    let m = numeric_of(x)?;
+    let n = numeric_of(y)?;
+    Some((m, n))
+}
+
+// Whether two texts are so related by their bytes. `None` of an operator that is no relation.
+#[inline(always)]
+fn relate_bytes(operator: Operator, x: &[u8], y: &[u8]) -> Option<bool>
+    ensures holds { IfSome result (λ holds. holds ≡ related operator (slice_cmp nat_cmp x.now y.now)) }
+    ensures relation { IfSome result (λ holds. (u v : AnyValue) → applied operator u v ≡ Ok (truth_value (related operator (order_of u v)))) }
+{
+    match operator {
+        Operator::Equal => Some(x == y),
+        Operator::NotEqual => Some(x != y),
+        Operator::Less | Operator::LessEqual | Operator::Greater | Operator::GreaterEqual => {
+            Some(relates(operator, x.cmp(y)))
+        }
+        Operator::Power
+        | Operator::Times
+        | Operator::Divide
+        | Operator::Remainder
+        | Operator::Plus
+        | Operator::Minus
+        | Operator::Matches
+        | Operator::NotMatches
+        | Operator::And
+        | Operator::Or => None,
+    }
+}
+
 /// Whether two values are so related, by their numbers or by their texts. `None` of an operator that is no relation. (POSIX awk,
 /// Expressions in awk)
 #[inline(always)]
 pub fn relate(operator: Operator, x: &Value, y: &Value) -> Option<bool>
     ensures { IfSome result (λ holds. applied operator x.now y.now ≡ Ok (truth_value holds)) }
 {
-    if let Some(m) = numeric_of(x) {
-        if let Some(n) = numeric_of(y) {
-            return relate_numbers(operator, m, n);
-        }
+    match numbers_of(x, y) {
+        Some((m, n)) => relate_numbers(operator, m, n),
+        None => relate_texts(operator, x, y),
     }
-    relate_values(operator, x, y)
 }
 
-// The same of values of any kind.
-#[inline(never)]
-fn relate_values(operator: Operator, x: &Value, y: &Value) -> Option<bool>
+// The same of values that are compared by their texts.
+#[inline(always)]
+fn relate_texts(operator: Operator, x: &Value, y: &Value) -> Option<bool>
+    requires { order_of x.now y.now ≡ slice_cmp nat_cmp (str_of x.now) (str_of y.now) }
     ensures { IfSome result (λ holds. applied operator x.now y.now ≡ Ok (truth_value holds)) }
 {
-    match operator {
-        Operator::Less
-        | Operator::LessEqual
-        | Operator::Equal
-        | Operator::NotEqual
-        | Operator::Greater
-        | Operator::GreaterEqual => {
-            let Ok(order) = compare(x, y) else {
-                return None;
-            };
-            Some(relates(operator, order))
+    match (x, y) {
+        (Value::Text(a) | Value::Input(a), Value::Text(b) | Value::Input(b)) => {
+            relate_bytes(operator, a.as_slice(), b.as_slice())
         }
-        _ => None,
+        _ => relate_written(operator, x, y),
     }
+}
+
+// The same of values of which one is a number, whose decimal form is its text.
+#[inline(never)]
+fn relate_written(operator: Operator, x: &Value, y: &Value) -> Option<bool>
+    requires { order_of x.now y.now ≡ slice_cmp nat_cmp (str_of x.now) (str_of y.now) }
+    ensures { IfSome result (λ holds. applied operator x.now y.now ≡ Ok (truth_value holds)) }
+{
+    let mut left_digits = Buffer::new();
+    let mut right_digits = Buffer::new();
+    relate_bytes(
+        operator,
+        text_in(x, &mut left_digits),
+        text_in(y, &mut right_digits),
+    )
 }
 
 // What an operator makes of two values of any kind.

@@ -15,11 +15,10 @@ ghost use Rattle.awk_functions.specs.support.Written.{Writes};
 
 use crate::compiled::Compiled;
 use crate::found::Exchanged;
-use crate::texts::text_in;
 use awk_ere::Pattern;
 use awk_semantics::Halt;
 use awk_text::{FieldSeparator, Span, TextFault};
-use awk_value::{Bytes, Value};
+use awk_value::{Bytes, Value, text_in};
 use itoa::Buffer;
 use lru::LruCache;
 use std::alloc::{AllocFailed, Global};

@@ -74,6 +74,12 @@ pub fn relate_numbers(operator: Operator, x: i128, y: i128) -> Option<bool>
 pub fn apply_in_short(operator: Operator, x: i128, y: i128) -> Option<i128>
     ensures { IfSome result (λ n. applied operator (Number x) (Number y) ≡ Ok (Number n)) }
 {
+    if let Operator::Plus = operator {
+        return x.checked_add(y);
+    }
+    if let Operator::Minus = operator {
+        return x.checked_sub(y);
+    }
     match operator {
         Operator::Plus => x.checked_add(y),
         Operator::Minus => x.checked_sub(y),
