@@ -4,7 +4,6 @@ use Rattle.std.proofs.lemmas.Slice.Eq.{bytes_eq-Decides}
 use Rattle.awk_value.specs.declared.value.Value.{Value}
 use Rattle.awk_value.specs.declared.value.Value.TheVariants as value
 use Rattle.awk_value.specs.Values.{str_of}
-use Rattle.awk_lex.specs.declared.token.AssignmentOperator.{AssignmentOperator}
 use Rattle.awk_lex.specs.declared.token.AssignmentOperator.TheVariants as assignment
 use Rattle.awk_grammar.specs.declared.tree.BinaryOperator.TheVariants.{Concatenate, Infix}
 use Rattle.awk_grammar.specs.Tree.{Expr, Number, String, Ere, Name, Element, Field, Group, Call, BuiltIn, Length, PreIncrement, PostIncrement, Getline, PipedGetline, Unary, Binary, Membership, ListMembership, Conditional, Assign}
@@ -78,16 +77,6 @@ grouped functions x (ListMembership es y) b h s = absurd (cc)
 grouped functions x (Conditional c a e) b h s = absurd (cc)
 grouped functions x (Assign o p e) b h s = absurd (cc)
 
--- an operator that appends is a plain one
-pub plain_append : (o : AssignmentOperator) (p e : Expr) → is_append o p e ≡ true → o ≡ assignment.Plain
-plain_append assignment.Plain p e h = refl
-plain_append assignment.Add p e h = absurd (cc)
-plain_append assignment.Subtract p e h = absurd (cc)
-plain_append assignment.Multiply p e h = absurd (cc)
-plain_append assignment.Divide p e h = absurd (cc)
-plain_append assignment.Remainder p e h = absurd (cc)
-plain_append assignment.Power p e h = absurd (cc)
-
 concatenation_appended : {kinds : ProgramKinds} {parameters : List FormalParameter} {a b c d d' : Builder} {i j k next : ℕ} {variable : Variable} (x : List ℕ) (left right : Expr) → Stands next a → FindsVariable kinds parameters a b variable x → begins_with x left ≡ true
     → Pushes b c (n.Value (v.Append variable) next) j → Builds kinds parameters c d k (Evaluate (behind_first left right) j) → Builds kinds parameters d d' i (Evaluate (Name x) k)
     → Builds kinds parameters a d' i (Evaluate (Assign assignment.Plain (Name x) (Binary Concatenate left right)) next)
@@ -113,6 +102,10 @@ pub append_lowered : {kinds : ProgramKinds} {parameters : List FormalParameter} 
 append_lowered x (Binary Concatenate left right) h f begins q r r' = concatenation_appended x left right h f begins q r r'
 append_lowered x (Binary (Infix o) left right) h f begins q r r' = absurd (cc)
 append_lowered x e h f begins q r r' = absurd (cc)
+
+pub whole_left : (e : Expr) → is_concatenation e ≡ false → without_first e ≡ e
+whole_left (Binary Concatenate a b) h = absurd (cc)
+whole_left e h = refl
 
 -- what stands behind the first operand, where the left one is a concatenation, and where it is none
 pub behind_concatenation : (a e : Expr) → is_concatenation a ≡ true → behind_first a e ≡ Binary Concatenate (without_first a) e

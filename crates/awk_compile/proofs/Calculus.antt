@@ -29,7 +29,7 @@ pub assoc_at : {A B C : Type 0} (m : Run A) (f : A → Run B) (g : B → Run C) 
 unfolding ◌>>=◌
 assoc_at m f g s = go_assoc (m s).result (m s).state (m s).effects f g
 
-go_same : {A B : Type 0} (r : Result A Halt) (t : State) (es : List Effect) (f g : A → Run B) → ((a : A) → r ≡ Ok a → f a t ≡ g a t) → go_on r t es f ≡ go_on r t es g
+pub go_same : {A B : Type 0} (r : Result A Halt) (t : State) (es : List Effect) (f g : A → Run B) → ((a : A) → r ≡ Ok a → f a t ≡ g a t) → go_on r t es f ≡ go_on r t es g
 unfolding go_on
 go_same (Ok a) t es f g e = ap (λ (o : Out _). behind_effects es o) (e a refl)
 go_same (Err h) t es f g e = refl

@@ -3,7 +3,7 @@ use Rattle.std.proofs.Common.{◌≡◌, ℕ, zero, suc, ◌≤◌, Bool, true, 
 use Rattle.std.proofs.lemmas.Slice.Eq.{bytes_eq-Decides}
 use Rattle.awk_value.specs.declared.value.Value.{Value}
 use Rattle.awk_value.specs.declared.value.Value.TheVariants as value
-use Rattle.awk_grammar.specs.Tree.{Statements, Item}
+use Rattle.awk_grammar.specs.Tree.{Item}
 use Rattle.awk_grammar.specs.Height.{height_of_block}
 use Rattle.awk_variables.specs.Names.{has_name}
 use Rattle.awk_compile.proofs.Slots.{has_name-stands}
@@ -14,9 +14,8 @@ use Rattle.awk_semantics.specs.declared.local.Local.{Local}
 use Rattle.awk_semantics.specs.declared.local.Local.TheVariants as local
 use Rattle.awk_semantics.specs.definitions.State.{Frame, State, Out, Run, go_on, ◌>>=◌, ret}
 use Rattle.awk_semantics.specs.definitions.Primitives.{bound, enter, leave}
-use Rattle.awk_semantics.specs.definitions.Semantics.{Functions, exec_all}
+use Rattle.awk_semantics.specs.definitions.Semantics.{exec_all}
 use Rattle.awk_semantics.specs.definitions.Calls.{definition_of, role_of, parameter_roles, body_height, returned, call_by, call_within, functions_within}
-use Rattle.awk_semantics.specs.definitions.Items.{run_action, print_record}
 use Rattle.awk_semantics.proofs.KeepsForms.{law_of_keeping}
 use Rattle.awk_storage.specs.definitions.Positions.{newest_locals}
 use Rattle.awk_compile.specs.declared.plan.Function.{Function as PlannedFunction}
@@ -24,7 +23,7 @@ use Rattle.awk_compile.specs.declared.plan.Plan.{Plan}
 use Rattle.awk_compile.specs.definitions.Nodes.{Tables, local_by, behind_form, locals_by, is_array_form, FormsFit, cont_at}
 use Rattle.awk_compile.specs.declared.node.ArgumentForm.{ArgumentForm}
 use Rattle.awk_compile.specs.declared.node.ArgumentForm.TheVariants as form
-use Rattle.awk_compile.specs.definitions.Plans.{Meaning, body_run, print_run, IsFunction, AreFunctions, tables_of, IsPlanOf}
+use Rattle.awk_compile.specs.definitions.Plans.{Meaning, IsFunction, AreFunctions, tables_of, IsPlanOf}
 use Rattle.awk_compile.specs.definitions.States.{is_array_local, LocalsFit, IsIn, AreFor}
 use Rattle.awk_compile.specs.support.Builds.{arrays_among}
 use Rattle.awk_compile.proofs.Calculus.{assoc_at, later_same, first_same, given}
@@ -170,12 +169,3 @@ pub as_high : (items : List Item) (plan : Plan) → IsPlanOf items plan → has_
 as_high items plan is once i f d e k n =
     let made = function_in plan.functions.items (definitions_of items) i f d is.functions e k in
     ap body_height (found (definitions_of items) i d once k) ∙ sym made.height
-
--- actions
-
-pub acts : (functions : Functions) (all : Statements) (s : State) → (body_run all functions >>= λ _. ret tt) s ≡ run_action functions all s
-unfolding run_action
-acts functions all s = assoc_at (exec_all functions all) (λ f. ret (returned f)) (λ _. ret tt) s ∙ later_same (exec_all functions all) _ _ s (λ f t. given (returned f) (λ _. ret tt) t)
-
-pub prints : (functions : Functions) (s : State) → (print_run functions >>= λ _. ret tt) s ≡ (print_record functions >>= λ u. ret u) s
-prints functions s = assoc_at (print_record functions) (λ _. ret value.Nothing) (λ _. ret tt) s ∙ later_same (print_record functions) _ _ s (λ u t. given value.Nothing (λ _. ret tt) t)

@@ -8,7 +8,7 @@ use Rattle.awk_grammar.specs.declared.tree.UnaryOperator.{UnaryOperator}
 use Rattle.awk_grammar.specs.declared.tree.UnaryOperator.TheVariants as unary
 use Rattle.awk_grammar.specs.declared.tree.BinaryOperator.{BinaryOperator}
 use Rattle.awk_grammar.specs.declared.tree.BinaryOperator.TheVariants.{Concatenate, Infix}
-use Rattle.awk_grammar.specs.Tree.{Expr, Group, Unary, Binary, Conditional}
+use Rattle.awk_grammar.specs.Tree.{Expr, Ere, Group, Unary, Binary, Conditional}
 use Rattle.awk_kinds.specs.definitions.Kinds.{FormalParameter}
 use Rattle.awk_kinds.specs.definitions.Signatures.{ProgramKinds}
 use Rattle.awk_semantics.specs.definitions.State.{State, Run, ◌>>=◌, lift, ret}
@@ -17,11 +17,12 @@ use Rattle.awk_semantics.specs.definitions.Semantics.{tested, choose, combined, 
 use Rattle.awk_semantics.proofs.KeepsForms.{keeps_eval}
 use Rattle.awk_compile.specs.declared.builder.Builder.{Builder}
 use Rattle.awk_compile.specs.declared.node.Node.TheVariants as n
-use Rattle.awk_compile.specs.support.Builds.{Pushes, Evaluate, Decide, place_in, Builds, Stands}
+use Rattle.awk_compile.specs.support.Builds.{Pushes, AddsEre, Evaluate, Decide, place_in, Builds, Stands}
 use Rattle.awk_compile.specs.support.Operands.{is_not, is_and, is_or, PushesTruths}
 use Rattle.awk_compile.proofs.Calculus.{assoc_at, later_same, later_in, given}
 use Rattle.awk_compile.proofs.Building.{grows, extends, same, still, placed, at_once, both}
-use Rattle.awk_compile.proofs.Taking.{Takes, node, takes_stand, decided, evaluates}
+use Rattle.awk_compile.proofs.ExpressionForms.{ere_added, record_matched}
+use Rattle.awk_compile.proofs.Taking.{pushed, Takes, node, match_node, takes_stand, decided, decides, evaluates}
 
 pub tested_then : {B : Type 0} (m : Run Value) (f : Bool → Run B) (s : State) → (tested m >>= f) s ≡ (m >>= λ v. f (truth_of v)) s
 unfolding tested
@@ -116,6 +117,9 @@ test_lowered {e = e} h h' q r =
       is = λ p g m vs s l. r.is p g m vs s l ∙ later_in _ _ s m (keeps_eval p.functions p.calls.keep e) l (λ v u k. at_once (o.is p (grows r.extends.grows g) m) (v ∷ vs) u);
     }
 
+pub ere_tested : {kinds : ProgramKinds} {parameters : List FormalParameter} {a b c : Builder} {i here other number : ℕ} {text : List ℕ} → Stands here a → Stands other a → AddsEre a b number text → Pushes b c (n.MatchRecord number here other) i → Builds kinds parameters a c i (Decide (Ere text) here other)
+ere_tested {text = text} h h' adds q = let g = ere_added adds in decides (record_matched adds (match_node (still g h) (still g h') q)) (λ vs. refl) (Ere text) (λ p l m vs s i. refl)
+
 module _ {kinds : ProgramKinds} {parameters : List FormalParameter} {a b : Builder} {i here other : ℕ} {e : Expr} where
   pub group_tested : Builds kinds parameters a b i (Decide e here other) → Builds kinds parameters a b i (Decide (Group e) here other)
   unfolding eval
@@ -164,10 +168,10 @@ module _ {kinds : ProgramKinds} {parameters : List FormalParameter} {a b c : Bui
 -- what gives 1 or 0
 
 module _ (kinds : ProgramKinds) (parameters : List FormalParameter) {a b : Builder} {one none next : ℕ} (h : Stands next a) (t : PushesTruths a b one none next) where
-  one_taken : Takes kinds parameters a t.between one next (λ p vs. ret (value.Number (pos 1))) (λ vs. vs)
+  one_taken : Takes kinds parameters a t.between one (pushed next) (λ p vs. ret (value.Number (pos 1))) (λ vs. vs)
   one_taken = node h t.first
 
-  none_taken : Takes kinds parameters t.between b none next (λ p vs. ret (value.Number (pos 0))) (λ vs. vs)
+  none_taken : Takes kinds parameters t.between b none (pushed next) (λ p vs. ret (value.Number (pos 0))) (λ vs. vs)
   none_taken = node (still one_taken.extends h) t.second
 
   pub truths_stand : Stands one b × Stands none b
@@ -192,7 +196,7 @@ module _ {kinds : ProgramKinds} {parameters : List FormalParameter} {a b c d : B
       evaluates (decided at_one second (extends (extends at_one.extends at_none.extends) q.extends) (extends at_none.extends q.extends) same x r) (λ vs. refl) (Binary (Infix o.Or) x y)
       (λ p g m vs s l. or_by (eval p.functions x) (eval p.functions y) (λ z. ret (truth_value z)) s))
 
-evaluated : {kinds : ProgramKinds} {parameters : List FormalParameter} {a b : Builder} {i next : ℕ} {e : Expr} → Builds kinds parameters a b i (Evaluate e next) → Takes kinds parameters a b i next (λ p vs. eval p.functions e) (λ vs. vs)
+evaluated : {kinds : ProgramKinds} {parameters : List FormalParameter} {a b : Builder} {i next : ℕ} {e : Expr} → Builds kinds parameters a b i (Evaluate e next) → Takes kinds parameters a b i (pushed next) (λ p vs. eval p.functions e) (λ vs. vs)
 evaluated q = record { extends = q.extends; below = q.below; pos = q.pos; is = q.is }
 
 pub conditional_lowered : {kinds : ProgramKinds} {parameters : List FormalParameter} {a b c d : Builder} {i here other next : ℕ} {x y z : Expr} → Builds kinds parameters a b here (Evaluate y next) → Builds kinds parameters b c other (Evaluate z next) → Builds kinds parameters c d i (Decide x here other)

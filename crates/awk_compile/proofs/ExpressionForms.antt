@@ -26,7 +26,7 @@ use Rattle.awk_storage.specs.definitions.Forms.{contains_at}
 use Rattle.awk_compile.specs.declared.builder.Builder.{Builder}
 use Rattle.awk_compile.specs.declared.node.ValueNode.TheVariants as v
 use Rattle.awk_compile.specs.declared.node.Node.TheVariants as n
-use Rattle.awk_compile.specs.definitions.Nodes.{operands, operated, ere_at}
+use Rattle.awk_compile.specs.definitions.Nodes.{operands, operated, ere_at, value_of}
 use Rattle.awk_compile.specs.support.Builds.{AreScalars, Grows, Pushes, AddsEre, Extends, Program, Evaluate, EvaluateKey, EvaluateOperand, Builds, FindsVariable, IsArrayOf, FindsPlace, Stands}
 use Rattle.awk_compile.specs.support.Operands.{is_and, is_or, matching_operator, PushesEre}
 use Rattle.awk_compile.proofs.Calculus.{later_in, first_same}
@@ -35,7 +35,7 @@ use Rattle.awk_compile.proofs.Variables.{front_at}
 use Rattle.awk_compile.proofs.Elements.{reads_element, has_the_element}
 use Rattle.awk_compile.proofs.ValueLists.{keyed}
 use Rattle.awk_compile.proofs.Targets.{assigned_by, incremented}
-use Rattle.awk_compile.proofs.Taking.{Takes, node, value_first, key_first, place_first, evaluates}
+use Rattle.awk_compile.proofs.Taking.{Goal, Takes, node, value_first, key_first, place_first, alike, evaluates}
 
 module _ {kinds : ProgramKinds} {parameters : List FormalParameter} {a b : Builder} {i next : ℕ} where
   pub number_lowered : (k : ℤ) → Stands next a → Pushes a b (n.Value (v.Push (value.Number k)) next) i → Builds kinds parameters a b i (Evaluate (Number k) next)
@@ -51,7 +51,7 @@ module _ {kinds : ProgramKinds} {parameters : List FormalParameter} {a b : Build
   length_lowered h q = evaluates (node h q) (λ vs. refl) Length (λ p g m vs s l. refl)
 
 -- the same with a part before it
-pub takes_behind : {kinds : ProgramKinds} {parameters : List FormalParameter} {a b c : Builder} {i next : ℕ} {m : Program kinds → List Value → Run Value} {left : List Value → List Value} → Extends a b → Takes kinds parameters b c i next m left → Takes kinds parameters a c i next m left
+pub takes_behind : {kinds : ProgramKinds} {parameters : List FormalParameter} {a b c : Builder} {i : ℕ} {goal : Goal} {m : Program kinds → List Value → Run Value} {left : List Value → List Value} → Extends a b → Takes kinds parameters b c i goal m left → Takes kinds parameters a c i goal m left
 takes_behind g t = record { extends = extends g t.extends; below = t.below; pos = t.pos; is = t.is }
 
 pub name_lowered : {kinds : ProgramKinds} {parameters : List FormalParameter} {a b c : Builder} {i next : ℕ} {variable : Variable} {x : List ℕ} → Stands next a → FindsVariable kinds parameters a b variable x → Pushes b c (n.Value (v.Read variable) next) i → Builds kinds parameters a c i (Evaluate (Name x) next)
@@ -78,13 +78,15 @@ ere_there {a = a} {b = b} {number = number} {text = text} q p g =
     found (x ∷ xs) zero e = cc
     found (x ∷ xs) (suc k) e = found xs k e
 
-pub ere_lowered : {kinds : ProgramKinds} {parameters : List FormalParameter} {a c : Builder} {i next : ℕ} {text : List ℕ} → Stands next a → PushesEre a c (λ k. v.RecordMatches k) text i next → Builds kinds parameters a c i (Evaluate (Ere text) next)
+-- an ERE, wherever its value goes
+pub record_matched : {kinds : ProgramKinds} {parameters : List FormalParameter} {a b c : Builder} {i number : ℕ} {goal : Goal} {text : List ℕ} → AddsEre a b number text → Takes kinds parameters b c i goal (λ p vs. value_of p.tables p.functions (v.RecordMatches number) vs) (λ vs. vs)
+    → Takes kinds parameters a c i goal (λ p vs. eval p.functions (Ere text)) (λ vs. vs)
 unfolding eval
-ere_lowered {text = text} h q =
-    let g = ere_added q.adds in
-    let t = node (still g h) q.pushes in
-    evaluates (takes_behind g t) (λ vs. refl) (Ere text) (λ p g m vs s l.
-    ap (λ (x : List ℕ). (record_text >>= λ w. lift (applied o.Matches w (value.Text x))) s) (ere_there q.adds p (grows t.extends.grows g)))
+record_matched adds t = alike (takes_behind (ere_added adds) t) (λ p g m vs s l.
+    ap (λ (x : List ℕ). (record_text >>= λ w. lift (applied o.Matches w (value.Text x))) s) (ere_there adds p (grows t.extends.grows g)))
+
+pub ere_lowered : {kinds : ProgramKinds} {parameters : List FormalParameter} {a c : Builder} {i next : ℕ} {text : List ℕ} → Stands next a → PushesEre a c (λ k. v.RecordMatches k) text i next → Builds kinds parameters a c i (Evaluate (Ere text) next)
+ere_lowered {text = text} h q = evaluates (record_matched q.adds (node (still (ere_added q.adds) h) q.pushes)) (λ vs. refl) (Ere text) (λ p g m vs s l. refl)
 
 -- an operand, and then what is made of it
 
@@ -123,6 +125,20 @@ group_lowered q = record { extends = q.extends; below = q.below; pos = q.pos; is
 
 -- assignments
 
+-- what is done with a place, wherever its value goes
+module _ {kinds : ProgramKinds} {parameters : List FormalParameter} {a b c : Builder} {j : ℕ} {goal : Goal} {place : Place} {e : Expr} (f : FindsPlace kinds parameters a b place e) where
+  pub assign_taken : {d d' : Builder} {i k : ℕ} (o : AssignmentOperator) (x : Expr) → Takes kinds parameters b c j goal (λ p vs. value_of p.tables p.functions (v.Assign o place) vs) (λ vs. drop (suc (operands place)) vs) → Builds kinds parameters c d k (Evaluate x j)
+      → Builds kinds parameters d d' i (EvaluateOperand e k) → Takes kinds parameters a d' i goal (λ p vs. eval p.functions (Assign o e x)) (λ vs. vs)
+  unfolding eval
+  assign_taken o x t r r' =
+      place_first (λ vs. vs) (λ p vs t. eval p.functions x >>= λ w. assign_by (operator_of o) t w) f.extends f.is (value_first (λ ws. drop (operands place) ws) t x r (λ w ws. refl)) r' (λ ws. refl)
+      (λ p g m t ws vs u l at d. later_in _ _ u m (keeps_eval p.functions p.calls.keep x) l (λ w u' l'. sym (assigned_by at (operator_of o) m w u' l')))
+
+  pub post_increment_taken : {d : Builder} {i : ℕ} (o : IncrementOperator) → Takes kinds parameters b c j goal (λ p vs. value_of p.tables p.functions (v.PostIncrement o place) vs) (λ vs. drop (operands place) vs) → Builds kinds parameters c d i (EvaluateOperand e j)
+      → Takes kinds parameters a d i goal (λ p vs. eval p.functions (PostIncrement o e)) (λ vs. vs)
+  unfolding eval
+  post_increment_taken o t r = place_first (λ vs. vs) (λ p vs t. post_increment o t) f.extends f.is t r (λ ws. refl) (λ p g m t ws vs u l at d. sym (incremented at o m u l))
+
 module _ {kinds : ProgramKinds} {parameters : List FormalParameter} {a b c d : Builder} {i j next : ℕ} {place : Place} {e : Expr} (h : Stands next a) (f : FindsPlace kinds parameters a b place e) where
   pub pre_increment_lowered : (o : IncrementOperator) → Pushes b c (n.Value (v.PreIncrement o place) next) j → Builds kinds parameters c d i (EvaluateOperand e j) → Builds kinds parameters a d i (Evaluate (PreIncrement o e) next)
   unfolding eval
@@ -131,19 +147,11 @@ module _ {kinds : ProgramKinds} {parameters : List FormalParameter} {a b c d : B
       (PreIncrement o e) (λ p g m vs s l. refl)
 
   pub post_increment_lowered : (o : IncrementOperator) → Pushes b c (n.Value (v.PostIncrement o place) next) j → Builds kinds parameters c d i (EvaluateOperand e j) → Builds kinds parameters a d i (Evaluate (PostIncrement o e) next)
-  unfolding eval
-  post_increment_lowered o q r =
-      evaluates (place_first (λ vs. vs) (λ p vs t. post_increment o t) f.extends f.is (node (still f.extends h) q) r (λ ws. refl) (λ p g m t ws vs u l at d. sym (incremented at o m u l))) (λ vs. refl)
-      (PostIncrement o e) (λ p g m vs s l. refl)
+  post_increment_lowered o q r = evaluates (post_increment_taken f o (node (still f.extends h) q) r) (λ vs. refl) (PostIncrement o e) (λ p g m vs s l. refl)
 
 pub assign_lowered : {kinds : ProgramKinds} {parameters : List FormalParameter} {a b c d d' : Builder} {i j k next : ℕ} {place : Place} {e x : Expr} → Stands next a → FindsPlace kinds parameters a b place e → (o : AssignmentOperator) → Pushes b c (n.Value (v.Assign o place) next) j → Builds kinds parameters c d k (Evaluate x j)
     → Builds kinds parameters d d' i (EvaluateOperand e k) → Builds kinds parameters a d' i (Evaluate (Assign o e x) next)
-unfolding eval
-assign_lowered {place = place} {e = e} {x = x} h f o q r r' =
-    evaluates
-    (place_first (λ vs. vs) (λ p vs t. eval p.functions x >>= λ w. assign_by (operator_of o) t w) f.extends f.is (value_first (λ ws. drop (operands place) ws) (node (still f.extends h) q) x r (λ w ws. refl)) r' (λ ws. refl)
-    (λ p g m t ws vs u l at d. later_in _ _ u m (keeps_eval p.functions p.calls.keep x) l (λ w u' l'. sym (assigned_by at (operator_of o) m w u' l'))))
-    (λ vs. refl) (Assign o e x) (λ p g m vs s l. refl)
+assign_lowered {e = e} {x = x} h f o q r r' = evaluates (assign_taken f o x (node (still f.extends h) q) r r') (λ vs. refl) (Assign o e x) (λ p g m vs s l. refl)
 
 -- two operands
 

@@ -1,6 +1,7 @@
 -- No node raises the steps: a line for each.
 use Rattle.std.proofs.Math.Nat.{le_refl, le_trans}
-use Rattle.std.proofs.Common.{◌≡◌, ℕ, zero, suc, ◌≤◌, Bool, List, slice_get, codes, Option, Some, None, Result, Ok, Err, refl, sym, subst}
+use Rattle.std.proofs.Common.{◌≡◌, ℕ, zero, suc, ◌≤◌, Bool, List, [], ◌∷◌, ◌++◌, map, slice_get, codes, Option, Some, None, Result, Ok, Err, refl, sym, subst}
+use Rattle.std.specs.List.{concat}
 use Rattle.awk_value.specs.declared.value.Value.{Value}
 use Rattle.awk_value.specs.declared.value.Value.TheVariants as value
 use Rattle.awk_value.specs.Values.{str_of}
@@ -25,7 +26,7 @@ use Rattle.awk_semantics.specs.support.Keeps.{Keeps, CallsKeep}
 use Rattle.awk_semantics.proofs.Keeping.{keeps_lift, keeps_plain}
 use Rattle.awk_semantics.proofs.PlainRuns.{next_of_plain}
 use Rattle.awk_semantics.proofs.PlainParts.{count_of_plain}
-use Rattle.awk_semantics.proofs.KeepsForms.{keeps_spend, keeps_number_of, keeps_read_field, keeps_record_text, keeps_read_outside, keeps_set_field, keeps_put_outside, keeps_read_element_at, keeps_store_element_at, keeps_has_element_at, keeps_delete_element_at, keeps_clear_array_at, keeps_array_length_at, keeps_keys_at, keeps_fill_array_at, keeps_joined_key, keeps_field_separator, keeps_check_height, keeps_set_status, keeps_note_match, keeps_record_length, keeps_print_by, keeps_open_target, keeps_close_main, keeps_close_named, keeps_run_command, keeps_flush_outputs, keeps_flush_named, keeps_next_record, keeps_set_record, keeps_count_in}
+use Rattle.awk_semantics.proofs.KeepsForms.{keeps_spend, keeps_number_of, keeps_read_field, keeps_record_text, keeps_read_outside, keeps_set_field, keeps_put_outside, keeps_read_element_at, keeps_store_element_at, keeps_has_element_at, keeps_delete_element_at, keeps_clear_array_at, keeps_array_length_at, keeps_keys_at, keeps_fill_array_at, keeps_joined_key, keeps_field_separator, keeps_check_height, keeps_set_status, keeps_is_inside, keeps_set_inside, keeps_note_match, keeps_record_length, keeps_print_by, keeps_print_line, keeps_open_target, keeps_close_main, keeps_close_named, keeps_run_command, keeps_flush_outputs, keeps_flush_named, keeps_next_record, keeps_set_record, keeps_count_in}
 use Rattle.awk_storage.specs.declared.position.Array.{Array}
 use Rattle.awk_storage.specs.declared.position.Variable.{Variable}
 use Rattle.awk_storage.specs.declared.position.Variable.TheVariants as variable
@@ -45,7 +46,7 @@ use Rattle.awk_compile.specs.declared.node.ValueNode.{ValueNode}
 use Rattle.awk_compile.specs.declared.node.ValueNode.TheVariants as v
 use Rattle.awk_compile.specs.declared.node.EffectNode.{EffectNode}
 use Rattle.awk_compile.specs.declared.node.EffectNode.TheVariants as e
-use Rattle.awk_compile.specs.definitions.Nodes.{operand_value, operated_with, operated_on, field_at, assign_variable, update, increment, Tables, first, second, taken, given_by, call_at, substitute_by, substitute, getline_by, value_of, target_by, effect_of}
+use Rattle.awk_compile.specs.definitions.Nodes.{operand_value, operated_with, operated_on, field_at, assign_variable, append_to, print_field, update, increment, Tables, first, second, taken, given_by, call_at, substitute_by, substitute, getline_by, value_of, target_by, effect_of}
 
 pub record Falls {A : Type 0} (m : Run A) : Type 0 where
   pub falls : (s : State) → (m s).state.steps ≤ s.steps
@@ -175,8 +176,14 @@ module _ (names : List (List ℕ)) where
   pub field_at_falls : (a : Operand) → Falls (field_at names a)
   field_at_falls a = then_falls _ (operand_falls a) (λ x. then_falls _ (kept_falls (keeps_number_of x)) (λ k. kept_falls (keeps_read_field k)))
 
-  pub assign_variable_falls : (o : AssignmentOperator) (x : Variable) (w : Value) → Falls (assign_variable names o x w)
+  assign_variable_falls : (o : AssignmentOperator) (x : Variable) (w : Value) → Falls (assign_variable names o x w)
   assign_variable_falls o x w = assign_by_falls names (operator_of o) (place.Variable x) value.Nothing w
+
+  pub append_to_falls : (x : Variable) (ws : List Value) → Falls (append_to names x ws)
+  append_to_falls x ws = then_falls _ (read_variable_falls names x) (λ old. assign_by_falls names None (place.Variable x) value.Nothing (value.Text (str_of old ++ concat (map str_of ws))))
+
+  pub print_field_falls : (a : Operand) → Falls (print_field names a)
+  print_field_falls a = then_falls _ (field_at_falls a) (λ w. kept_falls (keeps_print_line 0 (w ∷ [])))
 
   pub update_falls : (o : AssignmentOperator) (x : Variable) (a : Operand) → Falls (update names o x a)
   update_falls o x a = then_falls _ (kept_falls keeps_spend) (λ _. then_falls _ (operand_falls a) (λ w. assign_variable_falls o x w))
@@ -282,6 +289,7 @@ module _ (tables : Tables) where
     value_falls v.System vs = then_falls _ (kept_falls (keeps_run_command (str_of (first vs)))) (λ k. lift_falls _)
     value_falls v.FlushAll vs = kept_falls keeps_flush_outputs
     value_falls v.Flush vs = then_falls _ (kept_falls (keeps_flush_named (str_of (first vs)))) (λ k. lift_falls _)
+    value_falls (v.IsInside i) vs = then_falls _ (kept_falls (keeps_is_inside i)) (λ b. lift_falls _)
     value_falls (v.Call f fs) vs = call_falls _ fs.items _
 
     pub effect_falls : (x : EffectNode) (vs : List Value) → Falls (effect_of functions x vs)
@@ -292,3 +300,4 @@ module _ (tables : Tables) where
     effect_falls e.EndInput vs = kept_falls keeps_close_main
     effect_falls (e.Print f k way) vs = then_falls _ (target_falls way vs) (λ n. kept_falls (keeps_print_by functions calls f n _))
     effect_falls e.SetStatus vs = kept_falls (keeps_set_status (first vs))
+    effect_falls (e.SetInside i b) vs = kept_falls (keeps_set_inside i b)

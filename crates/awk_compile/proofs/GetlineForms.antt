@@ -24,7 +24,7 @@ use Rattle.awk_compile.specs.support.Operands.{source_of}
 use Rattle.awk_compile.proofs.Calculus.{assoc_at, later_same, later_in, given}
 use Rattle.awk_compile.proofs.Building.{grows, extends, same, still}
 use Rattle.awk_compile.proofs.Targets.{received, main_got, named_got}
-use Rattle.awk_compile.proofs.Taking.{Takes, node, value_first, place_first, evaluates}
+use Rattle.awk_compile.proofs.Taking.{Goal, Takes, node, value_first, place_first, evaluates}
 
 -- what may be left out
 
@@ -47,10 +47,10 @@ module _ {kinds : ProgramKinds} {parameters : List FormalParameter} where
   its_operand : {a b : Builder} {i next : ℕ} {e : Expr} → Builds kinds parameters a b i (EvaluateOptionalOperand (AnExpr e) next) → Builds kinds parameters a b i (EvaluateOperand e next)
   its_operand q = record { extends = q.extends; below = q.below; pos = q.pos; is = q.is }
 
-  not_there : {a b c : Builder} {i j next : ℕ} {m : Program kinds → List Value → Run Value} {left : List Value → List Value} → Takes kinds parameters a b j next m left → Builds kinds parameters b c i (EvaluateOptional NoExpr j) → Takes kinds parameters a c i next m left
+  not_there : {a b c : Builder} {i j : ℕ} {goal : Goal} {m : Program kinds → List Value → Run Value} {left : List Value → List Value} → Takes kinds parameters a b j goal m left → Builds kinds parameters b c i (EvaluateOptional NoExpr j) → Takes kinds parameters a c i goal m left
   not_there t q = record { extends = extends t.extends q.extends; below = q.below; pos = q.pos; is = λ p g k vs s l. q.is p g k vs s l ∙ t.is p (grows q.extends.grows g) k vs s l }
 
-  no_operand_there : {a b c : Builder} {i j next : ℕ} {m : Program kinds → List Value → Run Value} {left : List Value → List Value} → Takes kinds parameters a b j next m left → Builds kinds parameters b c i (EvaluateOptionalOperand NoExpr j) → Takes kinds parameters a c i next m left
+  no_operand_there : {a b c : Builder} {i j : ℕ} {goal : Goal} {m : Program kinds → List Value → Run Value} {left : List Value → List Value} → Takes kinds parameters a b j goal m left → Builds kinds parameters b c i (EvaluateOptionalOperand NoExpr j) → Takes kinds parameters a c i goal m left
   no_operand_there t q = record { extends = extends t.extends q.extends; below = q.below; pos = q.pos; is = λ p g k vs s l. q.is p g k vs s l ∙ t.is p (grows q.extends.grows g) k vs s l }
 
 -- values below the operand of a place

@@ -1,8 +1,7 @@
 -- Operands that are read where they stand.
-use Rattle.std.proofs.Common.{◌≡◌, ℕ, ℤ, true, false, List, ◌∷◌, None, refl, sym, subst, ◌∙◌, arith}
+use Rattle.std.proofs.Common.{◌≡◌, ℕ, ℤ, true, false, not, ◌&&◌, is_none, List, drop, None, refl, sym, subst, ap, ◌∙◌}
 use Rattle.awk_value.specs.declared.value.Value.{Value}
 use Rattle.awk_value.specs.declared.value.Value.TheVariants as value
-use Rattle.awk_value.specs.Values.{truth_of}
 use Rattle.awk_lex.specs.declared.token.Operator.TheVariants as o
 use Rattle.awk_grammar.specs.declared.tree.BinaryOperator.{BinaryOperator}
 use Rattle.awk_grammar.specs.declared.tree.BinaryOperator.TheVariants.{Concatenate, Infix}
@@ -10,8 +9,7 @@ use Rattle.awk_grammar.specs.Tree.{Expr, Number, String, Name, Binary}
 use Rattle.awk_kinds.specs.definitions.Kinds.{FormalParameter}
 use Rattle.awk_kinds.specs.definitions.Signatures.{ProgramKinds}
 use Rattle.awk_semantics.specs.definitions.State.{State, ◌>>=◌, lift}
-use Rattle.awk_semantics.specs.definitions.Operators.{takes_pattern}
-use Rattle.awk_semantics.specs.definitions.Semantics.{right_operand, choose, combined, eval}
+use Rattle.awk_semantics.specs.definitions.Semantics.{eval}
 use Rattle.awk_semantics.proofs.KeepsForms.{keeps_eval}
 use Rattle.awk_storage.specs.declared.position.Variable.{Variable}
 use Rattle.awk_compile.specs.declared.builder.Builder.{Builder}
@@ -20,12 +18,12 @@ use Rattle.awk_compile.specs.declared.node.Operand.TheVariants as operand
 use Rattle.awk_compile.specs.declared.node.ValueNode.TheVariants as v
 use Rattle.awk_compile.specs.declared.node.Node.{Node}
 use Rattle.awk_compile.specs.declared.node.Node.TheVariants as n
-use Rattle.awk_compile.specs.definitions.Nodes.{operand_value, operated_with, operated_on, operated}
-use Rattle.awk_compile.specs.support.Builds.{Grows, Pushes, Extends, IsIn, Program, Evaluate, Decide, place_in, Builds, FindsVariable, IsOperandOf, FindsAnOperand, Stands}
+use Rattle.awk_compile.specs.definitions.Nodes.{operand_value, operated_with, operated_on, operated, value_of}
+use Rattle.awk_compile.specs.support.Builds.{Grows, Pushes, Extends, IsIn, Program, Evaluate, Decide, Builds, FindsVariable, IsOperandOf, FindsAnOperand, Stands}
 use Rattle.awk_compile.specs.support.Operands.{is_and, is_or, matching_operator, is_strict}
-use Rattle.awk_compile.proofs.Calculus.{assoc_at, later_in, first_same}
-use Rattle.awk_compile.proofs.Building.{grows, extends, same, still, placed, at_once}
-use Rattle.awk_compile.proofs.Taking.{node, value_first, evaluates}
+use Rattle.awk_compile.proofs.Calculus.{later_in, first_same}
+use Rattle.awk_compile.proofs.Building.{grows, extends, same, still}
+use Rattle.awk_compile.proofs.Taking.{Goal, Takes, node, compare_with_node, compare_node, value_first, alike, decides, evaluates}
 use Rattle.awk_compile.proofs.ExpressionForms.{takes_behind, applied_strictly}
 
 -- nothing was built before a node
@@ -46,12 +44,12 @@ module _ {kinds : ProgramKinds} {parameters : List FormalParameter} where
   name_operand f = record { extends = f.extends; is = record { is = λ p g m s l. sym (f.is.reads p g m s l) } }
 
 -- what an operator is that takes both values
-record Strict (w : BinaryOperator) : Type 0 where
-  no_and : is_and w ≡ false
-  no_or : is_or w ≡ false
-  no_match : matching_operator w ≡ None
+pub record Strict (w : BinaryOperator) : Type 0 where
+  pub no_and : is_and w ≡ false
+  pub no_or : is_or w ≡ false
+  pub no_match : matching_operator w ≡ None
 
-strict : (w : BinaryOperator) → is_strict w ≡ true → Strict w
+pub strict : (w : BinaryOperator) → is_strict w ≡ true → Strict w
 strict Concatenate e = record { no_and = refl; no_or = refl; no_match = refl }
 strict (Infix o.Power) e = record { no_and = refl; no_or = refl; no_match = refl }
 strict (Infix o.Times) e = record { no_and = refl; no_or = refl; no_match = refl }
@@ -85,57 +83,40 @@ module _ {kinds : ProgramKinds} {parameters : List FormalParameter} (p : Program
 still_operand : {kinds : ProgramKinds} {parameters : List FormalParameter} {b c : Builder} {a : Operand} {e : Expr} → Extends b c → IsOperandOf kinds parameters b a e → IsOperandOf kinds parameters c a e
 still_operand g is = record { is = λ p h n s i. is.is p (grows g.grows h) n s i }
 
-module _ {kinds : ProgramKinds} {parameters : List FormalParameter} {a b c d : Builder} {i next : ℕ} {x y : Expr} {right : Operand} (w : BinaryOperator) (no_and : is_and w ≡ false) (no_or : is_or w ≡ false) (no_match : matching_operator w ≡ None) (h : Stands next a) (f : FindsAnOperand kinds parameters a b right y) where
-  pub operated_with_lowered : {j : ℕ} → Pushes b c (n.Value (v.OperateWith w right) next) j → Builds kinds parameters c d i (Evaluate x j) → Builds kinds parameters a d i (Evaluate (Binary w x y) next)
+pub strictly_by : (w : BinaryOperator) → is_and w ≡ false → is_or w ≡ false → matching_operator w ≡ None → is_strict w ≡ true
+strictly_by w f g h = ap (λ b. not b && (not (is_or w) && is_none (matching_operator w))) f ∙ ap (λ b. not b && is_none (matching_operator w)) g ∙ ap is_none h
+
+-- what an operator makes of operands, wherever it goes
+module _ {kinds : ProgramKinds} {parameters : List FormalParameter} {a b c d : Builder} {i : ℕ} {goal : Goal} {x y : Expr} {right : Operand} (w : BinaryOperator) (strictly : Strict w) (f : FindsAnOperand kinds parameters a b right y) where
+  operated_with_taken : {j : ℕ} → Takes kinds parameters b c j goal (λ p vs. value_of p.tables p.functions (v.OperateWith w right) vs) (λ vs. drop 1 vs) → Builds kinds parameters c d i (Evaluate x j)
+      → Takes kinds parameters a d i goal (λ p vs. eval p.functions (Binary w x y)) (λ vs. vs)
   unfolding eval
-  operated_with_lowered q r =
-      let t = value_first (λ vs. vs) (node (still f.extends h) q) x r (λ u vs. refl) in
-      evaluates (takes_behind f.extends t) (λ vs. refl) (Binary w x y) (λ p g m vs s l.
-      later_in _ _ s m (keeps_eval p.functions p.calls.keep x) l (λ u s' k. with_same p (grows t.extends.grows g) w f.is u m s' k)
-      ∙ applied_strictly w no_and no_or no_match (eval p.functions x) (eval p.functions y) s y)
+  operated_with_taken t r =
+      let u = value_first (λ vs. vs) t x r (λ z vs. refl) in
+      alike (takes_behind f.extends u) (λ p g m vs s l.
+      later_in _ _ s m (keeps_eval p.functions p.calls.keep x) l (λ z s' k. with_same p (grows u.extends.grows g) w f.is z m s' k)
+      ∙ applied_strictly w strictly.no_and strictly.no_or strictly.no_match (eval p.functions x) (eval p.functions y) s y)
+
+  operated_on_taken : {left : Operand} (f' : FindsAnOperand kinds parameters b c left x) → Takes kinds parameters c d i goal (λ p vs. value_of p.tables p.functions (v.OperateOn w left right) vs) (λ vs. vs) → Takes kinds parameters a d i goal (λ p vs. eval p.functions (Binary w x y)) (λ vs. vs)
+  unfolding eval
+  operated_on_taken f' t =
+      alike (takes_behind (extends f.extends f'.extends) t) (λ p g m vs s l.
+      on_same p (grows t.extends.grows g) w f'.is (still_operand f'.extends f.is) m s l
+      ∙ applied_strictly w strictly.no_and strictly.no_or strictly.no_match (eval p.functions x) (eval p.functions y) s y)
+
+module _ {kinds : ProgramKinds} {parameters : List FormalParameter} {a b c d : Builder} {i next : ℕ} {x y : Expr} {right : Operand} (w : BinaryOperator) (strictly : is_strict w ≡ true) (h : Stands next a) (f : FindsAnOperand kinds parameters a b right y) where
+  pub operated_with_lowered : {j : ℕ} → Pushes b c (n.Value (v.OperateWith w right) next) j → Builds kinds parameters c d i (Evaluate x j) → Builds kinds parameters a d i (Evaluate (Binary w x y) next)
+  operated_with_lowered q r = evaluates (operated_with_taken w (strict w strictly) f (node (still f.extends h) q) r) (λ vs. refl) (Binary w x y) (λ p g m vs s l. refl)
 
   pub operated_on_lowered : {left : Operand} → FindsAnOperand kinds parameters b c left x → Pushes c d (n.Value (v.OperateOn w left right) next) i → Builds kinds parameters a d i (Evaluate (Binary w x y) next)
-  unfolding eval
-  operated_on_lowered f' q =
-      let before = extends f.extends f'.extends in
-      let t = node (still before h) q in
-      evaluates (takes_behind before t) (λ vs. refl) (Binary w x y) (λ p g m vs s l.
-      on_same p (grows t.extends.grows g) w f'.is (still_operand f'.extends f.is) m s l
-      ∙ applied_strictly w no_and no_or no_match (eval p.functions x) (eval p.functions y) s y)
+  operated_on_lowered f' q = evaluates (operated_on_taken w (strict w strictly) f f' (node (still (extends f.extends f'.extends) h) q)) (λ vs. refl) (Binary w x y) (λ p g m vs s l. refl)
 
 module _ {kinds : ProgramKinds} {parameters : List FormalParameter} {a b c d : Builder} {i here other : ℕ} {x y : Expr} {right : Operand} (w : BinaryOperator) (strictly : is_strict w ≡ true) (h : Stands here a) (h' : Stands other a) (f : FindsAnOperand kinds parameters a b right y) where
   pub compared_with_lowered : {j : ℕ} → Pushes b c (n.CompareWith w right here other) j → Builds kinds parameters c d i (Evaluate x j) → Builds kinds parameters a d i (Decide (Binary w x y) here other)
-  unfolding eval
   compared_with_lowered q r =
-      let k = strict w strictly in
-      let o = placed q ((still f.extends h).below, (still f.extends h').below) in
-      record {
-        extends = extends f.extends (extends o.extends r.extends);
-        below = r.below;
-        pos = r.pos;
-        is = λ p g m vs s l.
-            let goes = λ (z : Value). choose (truth_of z) (place_in p m here vs) (place_in p m other vs) in
-            r.is p g m vs s l
-            ∙ later_in _ _ s m (keeps_eval p.functions p.calls.keep x) l (λ u t e.
-            at_once (o.is p (grows r.extends.grows g) m) (u ∷ vs) t
-            ∙ first_same (operated_with p.tables.names w u right) (eval p.functions y >>= λ z. lift (operated w u z)) goes t (with_same p (grows o.extends.grows (grows r.extends.grows g)) w f.is u m t e))
-            ∙ sym (assoc_at (eval p.functions x) (λ u. eval p.functions y >>= λ z. lift (operated w u z)) goes s)
-            ∙ first_same _ (combined w (eval p.functions x) (right_operand (takes_pattern w) y (eval p.functions y))) goes s (applied_strictly w k.no_and k.no_or k.no_match (eval p.functions x) (eval p.functions y) s y);
-      }
+      decides (operated_with_taken w (strict w strictly) f (compare_with_node (still f.extends h) (still f.extends h') q) r) (λ vs. refl) (Binary w x y) (λ p g m vs s l. refl)
 
   pub compared_lowered : {left : Operand} → FindsAnOperand kinds parameters b c left x → Pushes c d (n.Compare w left right here other) i → Builds kinds parameters a d i (Decide (Binary w x y) here other)
-  unfolding eval
-  compared_lowered {left = left} f' q =
-      let k = strict w strictly in
+  compared_lowered f' q =
       let before = extends f.extends f'.extends in
-      let o = placed q ((still before h).below, (still before h').below) in
-      record {
-        extends = extends before o.extends;
-        below = o.below;
-        pos = (let fresh = o.fresh in let low = (still before h).below in omega (arith, fresh, low));
-        is = λ p g m vs s l.
-            let goes = λ (z : Value). choose (truth_of z) (place_in p m here vs) (place_in p m other vs) in
-            at_once (o.is p g m) vs s
-            ∙ first_same (operated_on p.tables.names w left right) (eval p.functions x >>= λ u. eval p.functions y >>= λ z. lift (operated w u z)) goes s (on_same p (grows o.extends.grows g) w f'.is (still_operand f'.extends f.is) m s l)
-            ∙ first_same _ (combined w (eval p.functions x) (right_operand (takes_pattern w) y (eval p.functions y))) goes s (applied_strictly w k.no_and k.no_or k.no_match (eval p.functions x) (eval p.functions y) s y);
-      }
+      decides (operated_on_taken w (strict w strictly) f f' (compare_node (still before h) (still before h') q)) (λ vs. refl) (Binary w x y) (λ p g m vs s l. refl)

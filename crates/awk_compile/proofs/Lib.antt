@@ -22,13 +22,17 @@ pub mod BuiltInForms
 pub mod GetlineForms
 pub mod SubstituteForms
 pub mod OperandForms
+pub mod ReadingForms
 pub mod Slots
 pub mod Passing
 pub mod SimpleStatements
 pub mod ChangeForms
+pub mod AppendStatements
 pub mod PrintStatements
 pub mod StatementForms
 pub mod LoopStatements
 pub mod WalkStatements
+pub mod Actions
+pub mod ItemForms
 pub mod Planning
 pub mod Calling

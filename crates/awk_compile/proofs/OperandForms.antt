@@ -1,15 +1,17 @@
 -- What a place needs on the stack.
-use Rattle.std.proofs.Common.{◌≡◌, ℕ, List, ◌∷◌, refl, ◌∙◌}
+use Rattle.std.proofs.Common.{◌≡◌, ℕ, ℤ, List, ◌∷◌, refl, sym, ◌∙◌, arith}
+use Rattle.awk_value.specs.declared.value.Value.{Value}
 use Rattle.awk_value.specs.declared.value.Value.TheVariants as value
 use Rattle.awk_grammar.specs.declared.tree.Expr.{Expr as Declared}
 use Rattle.awk_grammar.specs.declared.tree.Expr.TheVariants as form
 use Rattle.awk_grammar.specs.declared.tree.Ere.{Ere as DeclaredEre}
-use Rattle.awk_grammar.specs.Tree.{Expr, Ere, Name, Element, Field, Exprs}
+use Rattle.awk_grammar.specs.Tree.{Expr, Number, Ere, Name, Element, Field, Exprs}
 use Rattle.awk_grammar.specs.View.{expr_of}
 use Rattle.awk_kinds.specs.definitions.Kinds.{FormalParameter}
 use Rattle.awk_kinds.specs.definitions.Signatures.{ProgramKinds}
-use Rattle.awk_semantics.specs.definitions.State.{ret}
+use Rattle.awk_semantics.specs.definitions.State.{◌>>=◌, ret}
 use Rattle.awk_semantics.specs.definitions.Primitives.{number_of}
+use Rattle.awk_semantics.specs.definitions.Semantics.{eval}
 use Rattle.awk_semantics.proofs.KeepsForms.{keeps_eval}
 use Rattle.awk_compile.specs.declared.builder.Builder.{Builder}
 use Rattle.awk_compile.specs.declared.node.ValueNode.TheVariants as v
@@ -37,6 +39,22 @@ field_operand {next = next} {e = e} h q r =
           at_once (o.is p (grows r.extends.grows g) m) (w ∷ vs) u
           ∙ assoc_at (number_of w) (λ z. ret (value.Number z)) (λ x. place_in p m next (x ∷ vs)) u
           ∙ later_same (number_of w) _ _ u (λ z t. given (value.Number z) (λ x. place_in p m next (x ∷ vs)) t));
+    }
+
+-- a number is that of a field as it is
+pub number_field : {kinds : ProgramKinds} {parameters : List FormalParameter} {a b : Builder} {i next : ℕ} (k : ℤ) → Stands next a → Pushes a b (n.Value (v.Push (value.Number k)) next) i → Builds kinds parameters a b i (EvaluateOperand (Field (Number k)) next)
+unfolding eval
+number_field {next = next} k h q =
+    let o = placed q h.below in
+    record {
+      extends = o.extends;
+      below = o.below;
+      pos = (let f = o.fresh in let l = h.below in omega (arith, f, l));
+      is = λ p g m vs s l.
+          let number = λ (w : Value). number_of w >>= λ z. place_in p m next (value.Number z ∷ vs) in
+          at_once (o.is p g m) vs s
+          ∙ given (value.Number k) (λ w. place_in p m next (w ∷ vs)) s
+          ∙ sym (given (value.Number k) number s ∙ given k (λ z. place_in p m next (value.Number z ∷ vs)) s);
     }
 
 -- an expression that is none of the program's EREs

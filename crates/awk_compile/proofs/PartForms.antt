@@ -1,11 +1,10 @@
 -- What is lowered of the parts of a concatenation is the concatenation.
-use Rattle.std.proofs.Common.{◌≡◌, ℕ, suc, ◌<◌, false, List, [], ◌∷◌, ◌++◌, map, reverse, Ok, refl, sym, subst, ap, ◌∙◌, arith, append_assoc, append-nil}
+use Rattle.std.proofs.Common.{◌≡◌, ℕ, suc, false, List, [], ◌∷◌, ◌++◌, map, reverse, Ok, refl, sym, subst, ap, ◌∙◌, append_assoc, append-nil}
 use Rattle.std.specs.List.{concat}
 use Rattle.std.proofs.lemmas.List.{reverse-append}
 use Rattle.awk_value.specs.declared.value.Value.{Value}
 use Rattle.awk_value.specs.declared.value.Value.TheVariants as value
 use Rattle.awk_value.specs.Values.{str_of}
-use Rattle.awk_grammar.specs.declared.tree.BinaryOperator.{BinaryOperator}
 use Rattle.awk_grammar.specs.declared.tree.BinaryOperator.TheVariants.{Concatenate, Infix}
 use Rattle.awk_grammar.specs.Tree.{Expr, Number, String, Ere, Name, Element, Field, Group, Call, BuiltIn, Length, PreIncrement, PostIncrement, Getline, PipedGetline, Unary, Binary, Membership, ListMembership, Conditional, Assign, Exprs, Nil, Cons}
 use Rattle.awk_kinds.specs.definitions.Kinds.{FormalParameter}
@@ -21,7 +20,7 @@ use Rattle.awk_compile.specs.declared.node.ValueNode.TheVariants as v
 use Rattle.awk_compile.specs.declared.node.Node.TheVariants as n
 use Rattle.awk_compile.specs.definitions.Nodes.{operand_value}
 use Rattle.awk_compile.specs.support.Builds.{Pushes, Evaluate, EvaluateAll, place_in, Builds, FindsAnOperand, Stands}
-use Rattle.awk_compile.specs.support.Parts.{is_concatenation, with_last, parts_of}
+use Rattle.awk_compile.specs.support.Parts.{is_concatenation, with_last, parts_of, parts_behind}
 use Rattle.awk_compile.proofs.Calculus.{assoc_at, later_same, later_in, first_same, given}
 use Rattle.awk_compile.proofs.Building.{grows, extends, still}
 use Rattle.awk_compile.proofs.ValueLists.{taken_all, dropped_all, all_first, counted}
@@ -33,7 +32,7 @@ count_with_last Nil e = refl
 count_with_last (Cons x es) e = ap suc (count_with_last es e)
 
 -- the texts of values in a row
-abbrev texts : List Value → List ℕ
+abbrev pub texts : List Value → List ℕ
 texts vs = concat (map str_of vs)
 
 texts_with_last : (vs : List Value) (w : Value) → texts vs ++ str_of w ≡ texts (vs ++ w ∷ [])
@@ -100,7 +99,7 @@ module _ (functions : Functions) where
   parts_text (Assign o p e) k s = one_text (Assign o p e) k s
 
   -- a concatenation joins the texts of its parts
-  concatenated : (a b : Expr) (s : State) → eval functions (Binary Concatenate a b) s ≡ (eval_all functions [] (with_last (parts_of a) b) >>= λ vs. ret (value.Text (texts vs))) s
+  pub concatenated : (a b : Expr) (s : State) → eval functions (Binary Concatenate a b) s ≡ (eval_all functions [] (with_last (parts_of a) b) >>= λ vs. ret (value.Text (texts vs))) s
   unfolding eval
   concatenated a b s = two_texts a b (λ k t. parts_text a k t) (λ l. ret (value.Text l)) s
 
@@ -108,7 +107,7 @@ onto_last : (w : Value) (ws vs : List Value) → w ∷ (reverse ws ++ vs) ≡ re
 onto_last w ws vs = ap (λ l. l ++ vs) (sym (reverse-append ws (w ∷ [])))
 
 module _ {kinds : ProgramKinds} {parameters : List FormalParameter} {a b c : Builder} {i next : ℕ} where
-  pub concatenation_lowered : {j k : ℕ} {x y : Expr} → Stands next a → k ≡ count_of (parts_of (Binary Concatenate x y)) → Pushes a b (n.Value (v.ConcatenateAll k) next) j → Builds kinds parameters b c i (EvaluateAll (parts_of (Binary Concatenate x y)) j)
+  concatenation_lowered : {j k : ℕ} {x y : Expr} → Stands next a → k ≡ count_of (parts_of (Binary Concatenate x y)) → Pushes a b (n.Value (v.ConcatenateAll k) next) j → Builds kinds parameters b c i (EvaluateAll (parts_of (Binary Concatenate x y)) j)
       → Builds kinds parameters a c i (Evaluate (Binary Concatenate x y) next)
   concatenation_lowered {k = k} {x = x} {y = y} h e q r =
       let es = with_last (parts_of x) y in
@@ -155,11 +154,14 @@ parts_whole : (e : Expr) → is_concatenation e ≡ false → parts_of e ≡ Con
 parts_whole (Binary Concatenate a b) h = absurd (cc)
 parts_whole e h = refl
 
+pub no_parts_behind : (e : Expr) → is_concatenation e ≡ false → parts_behind e ≡ Nil
+no_parts_behind (Binary Concatenate a b) h = absurd (cc)
+no_parts_behind e h = refl
+
 pub whole_part_lowered : {kinds : ProgramKinds} {parameters : List FormalParameter} {a b : Builder} {i next : ℕ} (e : Expr) → is_concatenation e ≡ false → Builds kinds parameters a b i (Evaluate e next) → Builds kinds parameters a b i (EvaluateAll (parts_of e) next)
 whole_part_lowered {kinds = kinds} {parameters = parameters} {a = a} {b = b} {i = i} {next = next} e h q = subst (λ (es : Exprs). Builds kinds parameters a b i (EvaluateAll es next)) (sym (parts_whole e h)) (whole_lowered q)
 
--- what has more than two parts is a concatenation
-pub long_lowered : {kinds : ProgramKinds} {parameters : List FormalParameter} {a b c : Builder} {i j k next : ℕ} (w : BinaryOperator) (x y : Expr) → Stands next a → 2 < k → k ≡ count_of (parts_of (Binary w x y)) → Pushes a b (n.Value (v.ConcatenateAll k) next) j
-    → Builds kinds parameters b c i (EvaluateAll (parts_of (Binary w x y)) j) → Builds kinds parameters a c i (Evaluate (Binary w x y) next)
-long_lowered Concatenate x y h long e q r = concatenation_lowered h e q r
-long_lowered (Infix o) x y h long e q r = absurd (omega (arith, long, e))
+-- a concatenation of more than two parts
+pub joined_lowered : {kinds : ProgramKinds} {parameters : List FormalParameter} {a b c d : Builder} {i j k count next : ℕ} {x y : Expr} → Stands next a → count ≡ suc (count_of (parts_of x)) → Pushes a b (n.Value (v.ConcatenateAll count) next) j → Builds kinds parameters b c k (Evaluate y j)
+    → Builds kinds parameters c d i (EvaluateAll (parts_of x) k) → Builds kinds parameters a d i (Evaluate (Binary Concatenate x y) next)
+joined_lowered {x = x} {y = y} h many q r r' = concatenation_lowered h (many ∙ sym (count_with_last (parts_of x) y)) q (part_lowered r r')

@@ -20,7 +20,7 @@ use Rattle.awk_compile.specs.support.Builds.{Grows, Pushes, Extends, Program, Ev
 use Rattle.awk_compile.specs.support.Operands.{matching_operator, matching, FindsPattern}
 use Rattle.awk_compile.proofs.Calculus.{later_same, given}
 use Rattle.awk_compile.proofs.Building.{grows, extends, same, still}
-use Rattle.awk_compile.proofs.Taking.{Takes, node, value_first, evaluates}
+use Rattle.awk_compile.proofs.Taking.{Goal, Takes, node, value_first, evaluates}
 use Rattle.awk_compile.proofs.ExpressionForms.{takes_behind, ere_added, ere_there}
 
 pub record IsOther (e : Expr) : Type 0 where
@@ -72,8 +72,8 @@ pub ere_stays : {kinds : ProgramKinds} {parameters : List FormalParameter} {a : 
 ere_stays text h = record { extends = same; below = h.below; pos = h.pos; is = λ p g m vs s l. refl }
 
 -- an ERE needs nothing on the stack
-pub ere_first : {kinds : ProgramKinds} {parameters : List FormalParameter} {a b c : Builder} {i j next : ℕ} {m : Program kinds → List Value → Run Value} {left : List Value → List Value} {text : List ℕ}
-    → Takes kinds parameters a b j next m left → Builds kinds parameters b c i (EvaluateUnlessEre (Ere text) j) → Takes kinds parameters a c i next m left
+pub ere_first : {kinds : ProgramKinds} {parameters : List FormalParameter} {a b c : Builder} {i j : ℕ} {goal : Goal} {m : Program kinds → List Value → Run Value} {left : List Value → List Value} {text : List ℕ}
+    → Takes kinds parameters a b j goal m left → Builds kinds parameters b c i (EvaluateUnlessEre (Ere text) j) → Takes kinds parameters a c i goal m left
 ere_first t q = record { extends = extends t.extends q.extends; below = q.below; pos = q.pos; is = λ p g k vs s l. q.is p g k vs s l ∙ t.is p (grows q.extends.grows g) k vs s l }
 
 -- `~` and `!~`

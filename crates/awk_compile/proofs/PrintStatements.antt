@@ -4,27 +4,29 @@ use Rattle.awk_value.specs.declared.value.Value.{Value}
 use Rattle.awk_value.specs.Values.{str_of}
 use Rattle.awk_grammar.specs.declared.tree.PrintForm.{PrintForm}
 use Rattle.awk_grammar.specs.declared.tree.Redirection.{Redirection}
-use Rattle.awk_grammar.specs.Tree.{Expr, Exprs, PrintList, Bare, Parenthesized, Standard, Redirected, Print, Delete, DeleteAll, Simple}
+use Rattle.awk_grammar.specs.declared.tree.PrintForm.TheVariants as form
+use Rattle.awk_grammar.specs.Tree.{Expr, Field, Exprs, Nil, Cons, PrintList, Bare, Parenthesized, Standard, Redirected, Print, Delete, DeleteAll, Simple}
 use Rattle.awk_kinds.specs.definitions.Kinds.{FormalParameter}
 use Rattle.awk_kinds.specs.definitions.Signatures.{ProgramKinds}
 use Rattle.awk_kinds.specs.definitions.NameUses.{count_of}
 use Rattle.awk_semantics.specs.definitions.State.{State, Run, ◌>>=◌, ret}
-use Rattle.awk_semantics.specs.definitions.Primitives.{spend, delete_element, clear_array}
+use Rattle.awk_semantics.specs.definitions.Primitives.{spend, number_of, read_field, print_line, delete_element, clear_array}
 use Rattle.awk_semantics.specs.definitions.Streams.{open_target}
 use Rattle.awk_semantics.specs.definitions.Semantics.{Functions, eval, eval_all, key_of, printed_values, target_of, print_by}
 use Rattle.awk_storage.specs.declared.position.Array.{Array}
 use Rattle.awk_storage.specs.definitions.Forms.{delete_at, clear_at}
 use Rattle.awk_compile.specs.declared.node.Node.TheVariants as n
 use Rattle.awk_compile.specs.declared.node.EffectNode.TheVariants as e
+use Rattle.awk_compile.specs.declared.node.Operand.{Operand}
 use Rattle.awk_compile.specs.declared.builder.Builder.{Builder}
 use Rattle.awk_compile.specs.declared.builder.Exits.{Exits}
-use Rattle.awk_compile.specs.definitions.Nodes.{Cont, taken}
+use Rattle.awk_compile.specs.definitions.Nodes.{Cont, taken, operand_value, field_at}
 use Rattle.awk_compile.specs.support.Printed.{listed}
-use Rattle.awk_compile.specs.support.Builds.{Grows, Pushes, IsIn, Program, Evaluate, EvaluateAll, EvaluateKey, Execute, IsArrayOf, leave_by, place_in, Places, Builds, Stands}
-use Rattle.awk_compile.proofs.Calculus.{assoc_at, later_in, first_same}
-use Rattle.awk_compile.proofs.Building.{grows, extends, placed, at_once}
+use Rattle.awk_compile.specs.support.Builds.{Grows, Pushes, IsIn, Program, Evaluate, EvaluateAll, EvaluateKey, Execute, IsArrayOf, FindsAnOperand, leave_by, place_in, Places, Builds, Stands}
+use Rattle.awk_compile.proofs.Calculus.{assoc_at, later_same, later_in, first_same, given}
+use Rattle.awk_compile.proofs.Building.{grows, extends, still, placed, at_once}
 use Rattle.awk_compile.proofs.Elements.{deletes_element, clears_array}
-use Rattle.awk_compile.proofs.ValueLists.{taken_all, dropped_all, keyed, keeps_key_value, counted}
+use Rattle.awk_compile.proofs.ValueLists.{taken_all, dropped_all, all_first, keyed, keeps_key_value, counted}
 use Rattle.awk_compile.proofs.Passing.{print_then, delete_then, delete_all_then, simple_then}
 use Rattle.awk_compile.proofs.SimpleStatements.{evaluated, stepped}
 
@@ -56,6 +58,10 @@ unfolding printed_values
 same_values functions (Bare es) = refl
 same_values functions (Parenthesized es) = refl
 
+none_first : (functions : Functions) (k : List Value → Run Value) (s : State) → (eval_all functions [] Nil >>= k) s ≡ k [] s
+unfolding eval_all
+none_first functions k s = given [] k s
+
 -- a target that is evaluated, and then opened
 target_then : (functions : Functions) (way : Redirection) (x : Expr) (f : ℕ → Run Value) (s : State) → (target_of functions (Redirected way x) >>= f) s ≡ (eval functions x >>= λ w. open_target way (str_of w) >>= f) s
 unfolding target_of
@@ -82,6 +88,32 @@ module _ {kinds : ProgramKinds} {parameters : List FormalParameter} where
       simple_then functions (leave_by exits at vs) s (Print form list Standard)
       ∙ print_then functions (leave_by exits at vs) s form list Standard
       ∙ ap (λ (values : Run (List Value)). (spend >>= λ _. values >>= λ ws. target_of functions Standard >>= λ to. print_by functions form to ws >>= λ _. at exits.next vs) s) (same_values functions list))
+
+  -- a field whose number is read where it stands
+  pub field_print_built : {a b c d : Builder} {list : PrintList} {y : Expr} {operand : Operand} {exits : Exits} {i j : ℕ} → Stands exits.next a → listed list ≡ Cons (Field y) Nil → FindsAnOperand kinds parameters a b operand y → Pushes b c (n.PrintField operand exits.next) i
+      → Pushes c d (n.Effect e.Spend i) j → Builds kinds parameters a d j (Execute (Simple (Print form.Print list Standard)) exits)
+  unfolding eval target_of
+  field_print_built {list = list} {y = y} {operand = operand} {exits = exits} h is f q r =
+      let o = placed q (still f.extends h).below in
+      let print : Functions → (ℕ → Cont) → List Value → List Value → Run Value = λ functions at vs ws. target_of functions Standard >>= λ to. print_by functions form.Print to ws >>= λ _. at exits.next vs in
+      stepped (Execute (Simple (Print form.Print list Standard)) exits)
+      (λ functions at vs. eval_all functions [] (listed list) >>= print functions at vs)
+      (extends f.extends o.extends) r o.below
+      (λ p g m vs s i.
+      let field = λ (x : Value). number_of x >>= λ k. read_field k in
+      let line = λ (w : Value). print_line 0 (w ∷ []) in
+      let rest = λ (_ : Unit {0}). place_in p m exits.next vs in
+      at_once (o.is p g m) vs s
+      ∙ assoc_at (field_at p.tables.names operand) line rest s
+      ∙ first_same (field_at p.tables.names operand) (eval p.functions (Field y)) (λ w. line w >>= rest) s (first_same (operand_value p.tables.names operand) (eval p.functions y) field s (f.is.is p (grows o.extends.grows g) m s i))
+      ∙ later_same (eval p.functions (Field y)) (λ w. line w >>= rest) (λ w. eval_all p.functions [] Nil >>= λ ws. print p.functions (place_in p m) vs (w ∷ ws)) s
+      (λ w t. sym (given 0 (λ to. print_line to (w ∷ []) >>= rest) t) ∙ sym (none_first p.functions (λ ws. print p.functions (place_in p m) vs (w ∷ ws)) t))
+      ∙ sym (all_first p.functions (Field y) Nil (print p.functions (place_in p m) vs) s)
+      ∙ ap (λ es. (eval_all p.functions [] es >>= print p.functions (place_in p m) vs) s) (sym is))
+      (λ functions at vs s.
+      simple_then functions (leave_by exits at vs) s (Print form.Print list Standard)
+      ∙ print_then functions (leave_by exits at vs) s form.Print list Standard
+      ∙ ap (λ (values : Run (List Value)). (spend >>= λ _. values >>= print functions at vs) s) (same_values functions list))
 
   pub redirected_built : {a b c d f : Builder} {form : PrintForm} {list : PrintList} {way : Redirection} {x : Expr} {exits : Exits} {count i j k l : ℕ} → Stands exits.next a → count ≡ count_of (listed list)
       → Pushes a b (n.Effect (e.Print form count (Some way)) exits.next) l → Builds kinds parameters b c k (Evaluate x l) → Builds kinds parameters c d i (EvaluateAll (listed list) k) → Pushes d f (n.Effect e.Spend i) j

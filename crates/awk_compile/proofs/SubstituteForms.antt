@@ -34,7 +34,7 @@ use Rattle.awk_compile.specs.support.Operands.{FindsPattern, substitution}
 use Rattle.awk_compile.proofs.Calculus.{assoc_at, later_same, later_in, first_same, given}
 use Rattle.awk_compile.proofs.Building.{grows, same, still}
 use Rattle.awk_compile.proofs.Targets.{at_field, exchanged_in}
-use Rattle.awk_compile.proofs.Taking.{Takes, node, takes_stand, value_first, place_first, taken_first, evaluates}
+use Rattle.awk_compile.proofs.Taking.{pushed, Takes, node, takes_stand, value_first, place_first, taken_first, evaluates}
 use Rattle.awk_compile.proofs.ExpressionForms.{takes_behind, ere_added, ere_there}
 use Rattle.awk_compile.proofs.PatternForms.{evaluated_unless_ere, ere_first}
 use Rattle.awk_compile.proofs.BuiltInForms.{none_left, value_taken, ere_taken, pattern_taken, place_taken}
@@ -147,10 +147,10 @@ substituted p all None text there t q operand old vs at n s h = exchanged_place 
 module _ {kinds : ProgramKinds} {parameters : List FormalParameter} {a b c d e f : Builder} {i j k next : ℕ} {target : Expr} {q : Place} (all : Bool) (pattern : Option ℕ) (h : Stands next a) (found : FindsPlace kinds parameters a b q target) where
   -- the place is evaluated, and a match in its old value exchanged
   place_exchanged : (text : List ℕ) → Extends b c → ((p : Program kinds) → Grows c p.all → (m : ℕ) → pattern ≡ Some m → ere_at p.tables m ≡ text) → Pushes c d (n.Value (v.Substitute all pattern (Some q)) next) j → Pushes d e (n.Value (v.Load q) j) k → Builds kinds parameters e f i (EvaluateOperand target k)
-      → Takes kinds parameters a f i next (λ p vs. place_of p.functions target >>= λ t. read_place t >>= λ old. exchange all (pattern_below pattern text vs ∷ (OfValue (first vs) ∷ (OfPlace t old ∷ [])))) (λ vs. drop (suc (pattern_operands pattern)) vs)
+      → Takes kinds parameters a f i (pushed next) (λ p vs. place_of p.functions target >>= λ t. read_place t >>= λ old. exchange all (pattern_below pattern text vs ∷ (OfValue (first vs) ∷ (OfPlace t old ∷ [])))) (λ vs. drop (suc (pattern_operands pattern)) vs)
   place_exchanged text g there r r' r'' =
-      let substitutes : Takes kinds parameters c d j next _ _ = node (still g (still found.extends h)) r in
-      let loads : Takes kinds parameters d e k j _ _ = node (takes_stand substitutes) r' in
+      let substitutes : Takes kinds parameters c d j (pushed next) _ _ = node (still g (still found.extends h)) r in
+      let loads : Takes kinds parameters d e k (pushed j) _ _ = node (takes_stand substitutes) r' in
       let both = taken_first (λ ws. drop (suc (pattern_operands pattern)) (drop (operands q) ws)) substitutes loads (λ p ws. keeps_read_at p.tables.names q (first ws)) (λ old ws. left_below q pattern old ws) in
       place_first (λ vs. drop (suc (pattern_operands pattern)) vs) (λ p vs t. read_place t >>= λ old. exchange all (pattern_below pattern text vs ∷ (OfValue (first vs) ∷ (OfPlace t old ∷ [])))) found.extends found.is (takes_behind g both) r'' (λ ws. refl)
       (λ p l m t ws vs u z at dropped.

@@ -4,6 +4,7 @@ pub mod Builds
 pub mod Scopes
 pub mod Operands
 pub mod Parts
+pub mod Readings
 pub mod Calls
 pub mod Printed
 pub mod Holding

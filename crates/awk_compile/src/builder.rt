@@ -1,6 +1,6 @@
 // What is built of a program: nodes, and the places of loops' bodies; and the names and EREs that nodes tell by numbers.
 
-ghost use Rattle.std.specs.Prelude.{◌≡◌, ◌<◌, length, IfOk};
+ghost use Rattle.std.specs.Prelude.{◌≡◌, suc, ◌<◌, length, IfOk};
 ghost use Rattle.awk_compile.specs.definitions.Nodes.{CallsFit};
 ghost use Rattle.awk_compile.specs.support.Builds.{array_parameters_in, Pushes, Opens, Closes, AddsName, AddsEre};
 
@@ -37,6 +37,13 @@ pub(crate) fn next_number(length: usize) -> Result<u32, AllocError>
     ensures { IfOk result (λ number. number ≡ length) }
 {
     u32::try_from(length).map_err(|_| AllocError)
+}
+
+/// The number behind this one.
+pub(crate) fn one_more(number: u32) -> Result<u32, AllocError>
+    ensures { IfOk result (λ more. more ≡ suc number) }
+{
+    number.checked_add(1).ok_or(AllocError)
 }
 
 impl Builder {

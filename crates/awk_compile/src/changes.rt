@@ -1,4 +1,4 @@
-// Statements that change a variable by what is read where it stands, each as one node.
+// Statements that change a place, whose value is of no use.
 
 ghost use Rattle.std.specs.Prelude.{◌≡◌, IfOk};
 ghost use Rattle.awk_grammar.specs.Tree.{Assign, PreIncrement, PostIncrement};
@@ -7,9 +7,9 @@ ghost use Rattle.awk_compile.specs.support.Builds.{ExitsStand};
 ghost use Rattle.awk_compile.specs.support.Operands.{assigned_by_one};
 ghost use Rattle.awk_compile.specs.support.Scopes.{LowersChange};
 
-use crate::appends::is_append;
+use crate::appends::appended;
 use crate::builder::{Builder, Exits};
-use crate::node::{Node, Operand};
+use crate::node::{Node, Operand, ValueNode};
 use crate::scope::Scope;
 use awk_grammar::tree::Expr;
 use awk_lex::token::{AssignmentOperator, IncrementOperator};
@@ -27,7 +27,7 @@ fn assigned_by_one(o: IncrementOperator) -> AssignmentOperator
 }
 
 impl Builder {
-    /// An assignment of an operand to a variable.
+    /// An assignment; that of an operand to a variable is one node.
     fn lower_update(
         &mut self,
         scope: &Scope,
@@ -43,13 +43,13 @@ impl Builder {
             return self.lower_assignment(scope, o, place, right, exits);
         };
         let Some(variable) = self.name_of(scope, place)? else {
-            return Ok(None);
+            return self.lower_assignment(scope, o, place, right, exits);
         };
         let update = self.push(Node::Update(o, variable, operand, exits.next))?;
         Ok(Some(update))
     }
 
-    /// An assignment of any value to a variable; none where it appends to it.
+    /// An assignment of any value to any place; none where it appends parts that may change variables.
     fn lower_assignment(
         &mut self,
         scope: &Scope,
@@ -61,20 +61,19 @@ impl Builder {
         requires { ExitsStand exits self.old }
         ensures { IfOk result (λ place'. LowersChange scope.now self.old self.new place' (Assign o (expr_of place.now) (expr_of right.now)) exits) }
     {
-        if is_append(o, place, right) {
-            return Ok(None);
+        if let Some(name) = appended(o, place, right) {
+            return self.lower_append_to(scope, name, right, exits);
         }
-        let Some(variable) = self.name_of(scope, place)? else {
-            return Ok(None);
-        };
-        let assign = self.push(Node::Assign(o, variable, exits.next))?;
+        let target = self.place_of(scope, place)?;
+        let assign = self.push(Node::Assign(o, target, exits.next))?;
         let value = self.lower(scope, right, assign)?;
-        let step = self.step(value)?;
+        let operand = self.lower_operand(scope, place, value)?;
+        let step = self.step(operand)?;
         Ok(Some(step))
     }
 
-    /// A variable that is raised or lowered by 1.
-    fn lower_pre_increment(
+    /// A place that is raised or lowered by 1.
+    fn lower_pre_raise(
         &mut self,
         scope: &Scope,
         o: IncrementOperator,
@@ -84,16 +83,21 @@ impl Builder {
         requires { ExitsStand exits self.old }
         ensures { IfOk result (λ place'. LowersChange scope.now self.old self.new place' (PreIncrement o (expr_of place.now)) exits) }
     {
-        let Some(variable) = self.name_of(scope, place)? else {
-            return Ok(None);
-        };
-        let one = Operand::Constant(Value::Number(1));
-        let update = self.push(Node::Update(assigned_by_one(o), variable, one, exits.next))?;
-        Ok(Some(update))
+        if let Some(variable) = self.name_of(scope, place)? {
+            let one = Operand::Constant(Value::Number(1));
+            let update = self.push(Node::Update(assigned_by_one(o), variable, one, exits.next))?;
+            return Ok(Some(update));
+        }
+        let target = self.place_of(scope, place)?;
+        let assign = self.push(Node::Assign(assigned_by_one(o), target, exits.next))?;
+        let one = self.push_value(ValueNode::Push(Value::Number(1)), assign)?;
+        let operand = self.lower_operand(scope, place, one)?;
+        let step = self.step(operand)?;
+        Ok(Some(step))
     }
 
     /// The same where the number before is the value.
-    fn lower_post_increment(
+    fn lower_post_raise(
         &mut self,
         scope: &Scope,
         o: IncrementOperator,
@@ -103,14 +107,18 @@ impl Builder {
         requires { ExitsStand exits self.old }
         ensures { IfOk result (λ place'. LowersChange scope.now self.old self.new place' (PostIncrement o (expr_of place.now)) exits) }
     {
-        let Some(variable) = self.name_of(scope, place)? else {
-            return Ok(None);
-        };
-        let increment = self.push(Node::Increment(o, variable, exits.next))?;
-        Ok(Some(increment))
+        if let Some(variable) = self.name_of(scope, place)? {
+            let increment = self.push(Node::Increment(o, variable, exits.next))?;
+            return Ok(Some(increment));
+        }
+        let target = self.place_of(scope, place)?;
+        let raise = self.push(Node::Raise(o, target, exits.next))?;
+        let operand = self.lower_operand(scope, place, raise)?;
+        let step = self.step(operand)?;
+        Ok(Some(step))
     }
 
-    /// An expression whose value is of no use, where it changes a variable by what is read where it stands; none of any other one.
+    /// An expression whose value is of no use, where it changes a place; none of any other one, and of some appends.
     ///
     /// # Errors
     ///
@@ -126,8 +134,8 @@ impl Builder {
     {
         match e {
             Expr::Assign(o, place, right) => self.lower_update(scope, *o, place, right, exits),
-            Expr::PreIncrement(o, place) => self.lower_pre_increment(scope, *o, place, exits),
-            Expr::PostIncrement(o, place) => self.lower_post_increment(scope, *o, place, exits),
+            Expr::PreIncrement(o, place) => self.lower_pre_raise(scope, *o, place, exits),
+            Expr::PostIncrement(o, place) => self.lower_post_raise(scope, *o, place, exits),
             _ => Ok(None),
         }
     }

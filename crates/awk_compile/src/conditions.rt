@@ -1,16 +1,17 @@
 // Expressions that are tested, as nodes.
 
-ghost use Rattle.std.specs.Prelude.{◌≡◌, IfOk};
+ghost use Rattle.std.specs.Prelude.{◌≡◌, true, IfOk};
+ghost use Rattle.awk_grammar.specs.Tree.{Binary};
 ghost use Rattle.awk_grammar.specs.View.{expr_of};
 ghost use Rattle.awk_compile.specs.support.Builds.{Stands, Decide};
-ghost use Rattle.awk_compile.specs.support.Operands.{is_not};
+ghost use Rattle.awk_compile.specs.support.Operands.{is_not, is_strict};
 ghost use Rattle.awk_compile.specs.support.Scopes.{Builds};
 
 use crate::builder::Builder;
 use crate::expressions::{is_and, is_or, is_strict};
 use crate::node::Node;
 use crate::scope::Scope;
-use awk_grammar::tree::{Expr, UnaryOperator};
+use awk_grammar::tree::{BinaryOperator, Expr, UnaryOperator};
 use std::alloc::AllocError;
 
 fn is_not(o: UnaryOperator) -> bool
@@ -42,6 +43,10 @@ impl Builder {
     {
         match e {
             Expr::Group(e) => self.lower_test(scope, e, here, other),
+            Expr::Ere(ere) => {
+                let number = self.ere_of(&ere.text)?;
+                self.push(Node::MatchRecord(number, here, other))
+            }
             Expr::Unary(o, e) if is_not(*o) => self.lower_test(scope, e, other, here),
             Expr::Binary(o, a, b) if is_and(*o) => {
                 let second = self.lower_test(scope, b, here, other)?;
@@ -51,8 +56,8 @@ impl Builder {
                 let second = self.lower_test(scope, b, here, other)?;
                 self.lower_test(scope, a, here, second)
             }
-            Expr::Binary(o, _, _) if is_strict(*o) => {
-                self.lower_comparison(scope, e, here, other)
+            Expr::Binary(o, a, b) if is_strict(*o) => {
+                self.lower_comparison(scope, *o, a, b, here, other)
             }
             _ => {
                 let test = self.push(Node::Test(here, other))?;
@@ -66,29 +71,25 @@ impl Builder {
     fn lower_comparison(
         &mut self,
         scope: &Scope,
-        e: &Expr,
+        o: BinaryOperator,
+        a: &Expr,
+        b: &Expr,
         here: u32,
         other: u32,
     ) -> Result<u32, AllocError>
+        requires strict { is_strict o ≡ true }
         requires here { Stands here self.old }
         requires other { Stands other self.old }
-        ensures { IfOk result (λ place. Builds scope.now self.old self.new place (Decide (expr_of e.now) here other)) }
+        ensures { IfOk result (λ place. Builds scope.now self.old self.new place (Decide (Binary o (expr_of a.now) (expr_of b.now)) here other)) }
     {
-        // No other expression is tested here.
-        let Expr::Binary(o, a, b) = e else {
-            return Err(AllocError);
-        };
-        if !is_strict(*o) {
-            return Err(AllocError);
-        }
         let Some(right) = self.operand_of(scope, b)? else {
             let test = self.push(Node::Test(here, other))?;
-            return self.lower(scope, e, test);
+            return self.lower_binary(scope, o, a, b, test);
         };
         let Some(left) = self.operand_of(scope, a)? else {
-            let test = self.push(Node::CompareWith(*o, right, here, other))?;
+            let test = self.push(Node::CompareWith(o, right, here, other))?;
             return self.lower(scope, a, test);
         };
-        self.push(Node::Compare(*o, left, right, here, other))
+        self.push(Node::Compare(o, left, right, here, other))
     }
 }

@@ -1,8 +1,9 @@
 // Expressions as nodes.
 
-ghost use Rattle.std.specs.Prelude.{◌≡◌, IfOk};
-ghost use Rattle.awk_grammar.specs.Tree.{Field, Name};
-ghost use Rattle.awk_grammar.specs.View.{expr_of};
+ghost use Rattle.std.specs.Prelude.{◌≡◌, true, IfOk};
+ghost use Rattle.awk_grammar.specs.declared.tree.BinaryOperator.TheVariants.{Concatenate};
+ghost use Rattle.awk_grammar.specs.Tree.{Element, Field, Name, Unary, Binary, Membership, ListMembership, Conditional};
+ghost use Rattle.awk_grammar.specs.View.{expr_of, exprs_of};
 ghost use Rattle.awk_kinds.specs.definitions.NameUses.{count_of};
 ghost use Rattle.awk_compile.specs.definitions.Nodes.{CallsFit};
 ghost use Rattle.awk_compile.specs.support.Builds.{array_parameters_in, Pushes, Stands, Evaluate, EvaluateAll};
@@ -10,12 +11,10 @@ ghost use Rattle.awk_compile.specs.support.Operands.{is_and, is_or, is_strict, m
 ghost use Rattle.awk_compile.specs.support.Parts.{is_concatenation, parts_of};
 ghost use Rattle.awk_compile.specs.support.Scopes.{Builds};
 
-use crate::appends::is_append;
-use crate::builder::Builder;
-use crate::getlines::source_of;
-use crate::node::{Node, Source, ValueNode};
+use crate::builder::{Builder, one_more};
+use crate::node::{Node, ValueNode};
 use crate::scope::Scope;
-use awk_grammar::tree::{BinaryOperator, Expr};
+use awk_grammar::tree::{BinaryOperator, Expr, UnaryOperator};
 use awk_lex::token::Operator;
 use awk_value::{Bytes, Value};
 use std::alloc::AllocError;
@@ -71,9 +70,7 @@ fn part_count(e: &Expr) -> Result<u32, AllocError>
     ensures { IfOk result (λ count. count ≡ count_of (parts_of (expr_of e.now))) }
 {
     match e {
-        Expr::Binary(BinaryOperator::Concatenate, a, _) => {
-            part_count(a)?.checked_add(1).ok_or(AllocError)
-        }
+        Expr::Binary(BinaryOperator::Concatenate, a, _) => one_more(part_count(a)?),
         _ => Ok(1),
     }
 }
@@ -126,7 +123,7 @@ impl Builder {
         self.push_value(ValueNode::RecordMatches(number), next)
     }
 
-    /// The value of an expression is put on the stack.
+    /// The value of an expression is put on the stack. What it needs is built behind it, so nodes are pushed from the end.
     ///
     /// # Errors
     ///
@@ -144,80 +141,120 @@ impl Builder {
             Expr::Ere(ere) => self.push_ere(&ere.text, next),
             Expr::Name(x) => self.push_name(scope, x, next),
             Expr::Length => self.push_value(ValueNode::RecordLength, next),
-            Expr::Element(x, list) => {
-                let array = scope.array_of(x.as_slice())?;
-                let read = self.push_value(ValueNode::ReadElement(array), next)?;
-                self.lower_key(scope, list, read)
-            }
+            Expr::Element(x, list) => self.lower_element(scope, x, list, next),
             Expr::Field(e) => self.lower_field(scope, e, next),
             Expr::Group(e) => self.lower(scope, e, next),
-            Expr::Unary(o, e) => {
-                let change = self.push_value(ValueNode::Change(*o), next)?;
-                self.lower(scope, e, change)
-            }
-            Expr::Binary(_, _, _) => self.lower_binary(scope, e, next),
-            Expr::Membership(e, x) => {
-                let array = scope.array_of(x.as_slice())?;
-                let contains = self.push_value(ValueNode::Contains(array), next)?;
-                self.lower(scope, e, contains)
-            }
-            Expr::ListMembership(list, x) => {
-                let array = scope.array_of(x.as_slice())?;
-                let contains = self.push_value(ValueNode::Contains(array), next)?;
-                self.lower_key(scope, list, contains)
-            }
-            Expr::Conditional(c, a, b) => {
-                let here = self.lower(scope, a, next)?;
-                let other = self.lower(scope, b, next)?;
-                self.lower_test(scope, c, here, other)
-            }
-            Expr::Assign(o, place, e) => {
-                if is_append(*o, place, e) {
-                    return self.lower_append(scope, e, place, next);
-                }
-                let target = self.place_of(scope, place)?;
-                let assign = self.push_value(ValueNode::Assign(*o, target), next)?;
-                let right = self.lower(scope, e, assign)?;
-                self.lower_operand(scope, place, right)
-            }
-            Expr::PreIncrement(o, place) => {
-                let target = self.place_of(scope, place)?;
-                let increment = self.push_value(ValueNode::PreIncrement(*o, target), next)?;
-                self.lower_operand(scope, place, increment)
-            }
-            Expr::PostIncrement(o, place) => {
-                let target = self.place_of(scope, place)?;
-                let increment = self.push_value(ValueNode::PostIncrement(*o, target), next)?;
-                self.lower_operand(scope, place, increment)
-            }
+            Expr::Unary(o, e) => self.lower_unary(scope, *o, e, next),
+            Expr::Binary(o, a, b) => self.lower_binary(scope, *o, a, b, next),
+            Expr::Membership(e, x) => self.lower_membership(scope, e, x, next),
+            Expr::ListMembership(list, x) => self.lower_list_membership(scope, list, x, next),
+            Expr::Conditional(c, a, b) => self.lower_conditional(scope, c, a, b, next),
+            Expr::Assign(o, place, e) => self.lower_assign(scope, *o, place, e, next),
+            Expr::PreIncrement(o, place) => self.lower_pre_increment(scope, *o, place, next),
+            Expr::PostIncrement(o, place) => self.lower_post_increment(scope, *o, place, next),
             Expr::Call(function, list) => self.lower_call(scope, function, list, next),
             Expr::BuiltIn(function, list) => self.lower_built_in(scope, *function, list, next),
-            Expr::Getline(place, file) => {
-                let target = self.optional_place_of(scope, place)?;
-                let read = self.push_value(ValueNode::Getline(source_of(file), target), next)?;
-                let name = self.lower_optional(scope, file, read)?;
-                self.lower_optional_operand(scope, place, name)
-            }
+            Expr::Getline(place, file) => self.lower_getline(scope, place, file, next),
             Expr::PipedGetline(command, place) => {
-                let target = self.optional_place_of(scope, place)?;
-                let read = self.push_value(ValueNode::Getline(Source::Command, target), next)?;
-                let operand = self.lower_optional_operand(scope, place, read)?;
-                self.lower(scope, command, operand)
+                self.lower_piped_getline(scope, command, place, next)
             }
         }
     }
 
+    #[cycle(expressions)]
+    fn lower_element(
+        &mut self,
+        scope: &Scope,
+        array: &Bytes,
+        list: &[Expr],
+        next: u32,
+    ) -> Result<u32, AllocError>
+        requires { Stands next self.old }
+        ensures { IfOk result (λ place. Builds scope.now self.old self.new place (Evaluate (Element array.now (exprs_of list.now)) next)) }
+    {
+        let array = scope.array_of(array.as_slice())?;
+        let read = self.push_value(ValueNode::ReadElement(array), next)?;
+        self.lower_key(scope, list, read)
+    }
+
+    #[cycle(expressions)]
+    fn lower_unary(
+        &mut self,
+        scope: &Scope,
+        o: UnaryOperator,
+        e: &Expr,
+        next: u32,
+    ) -> Result<u32, AllocError>
+        requires { Stands next self.old }
+        ensures { IfOk result (λ place. Builds scope.now self.old self.new place (Evaluate (Unary o (expr_of e.now)) next)) }
+    {
+        let change = self.push_value(ValueNode::Change(o), next)?;
+        self.lower(scope, e, change)
+    }
+
+    #[cycle(expressions)]
+    fn lower_membership(
+        &mut self,
+        scope: &Scope,
+        e: &Expr,
+        array: &Bytes,
+        next: u32,
+    ) -> Result<u32, AllocError>
+        requires { Stands next self.old }
+        ensures { IfOk result (λ place. Builds scope.now self.old self.new place (Evaluate (Membership (expr_of e.now) array.now) next)) }
+    {
+        let array = scope.array_of(array.as_slice())?;
+        let contains = self.push_value(ValueNode::Contains(array), next)?;
+        self.lower(scope, e, contains)
+    }
+
+    /// The same with several subscripts.
+    #[cycle(expressions)]
+    fn lower_list_membership(
+        &mut self,
+        scope: &Scope,
+        list: &[Expr],
+        array: &Bytes,
+        next: u32,
+    ) -> Result<u32, AllocError>
+        requires { Stands next self.old }
+        ensures { IfOk result (λ place. Builds scope.now self.old self.new place (Evaluate (ListMembership (exprs_of list.now) array.now) next)) }
+    {
+        let array = scope.array_of(array.as_slice())?;
+        let contains = self.push_value(ValueNode::Contains(array), next)?;
+        self.lower_key(scope, list, contains)
+    }
+
+    #[cycle(expressions)]
+    fn lower_conditional(
+        &mut self,
+        scope: &Scope,
+        c: &Expr,
+        a: &Expr,
+        b: &Expr,
+        next: u32,
+    ) -> Result<u32, AllocError>
+        requires { Stands next self.old }
+        ensures { IfOk result (λ place. Builds scope.now self.old self.new place (Evaluate (Conditional (expr_of c.now) (expr_of a.now) (expr_of b.now)) next)) }
+    {
+        let here = self.lower(scope, a, next)?;
+        let other = self.lower(scope, b, next)?;
+        self.lower_test(scope, c, here, other)
+    }
+
     /// Two operands and what joins them.
     #[cycle(expressions)]
-    fn lower_binary(&mut self, scope: &Scope, e: &Expr, next: u32) -> Result<u32, AllocError>
+    pub(crate) fn lower_binary(
+        &mut self,
+        scope: &Scope,
+        o: BinaryOperator,
+        a: &Expr,
+        b: &Expr,
+        next: u32,
+    ) -> Result<u32, AllocError>
         requires { Stands next self.old }
-        ensures { IfOk result (λ place. Builds scope.now self.old self.new place (Evaluate (expr_of e.now) next)) }
+        ensures { IfOk result (λ place. Builds scope.now self.old self.new place (Evaluate (Binary o (expr_of a.now) (expr_of b.now)) next)) }
     {
-        // No other expression is lowered here.
-        let Expr::Binary(o, a, b) = e else {
-            return Err(AllocError);
-        };
-        let o = *o;
         if is_and(o) {
             let (yes, no) = self.push_truths(next)?;
             let second = self.lower_test(scope, b, yes, no)?;
@@ -234,11 +271,28 @@ impl Builder {
             let right = self.lower_unless_ere(scope, b, matches)?;
             return self.lower(scope, a, right);
         }
-        let count = part_count(e)?;
-        if count > 2 {
-            let join = self.push_value(ValueNode::ConcatenateAll(count), next)?;
-            return self.lower_parts(scope, e, join);
+        match o {
+            BinaryOperator::Concatenate if is_concatenation(a) => {
+                self.lower_joined(scope, a, b, next)
+            }
+            _ => self.lower_strict(scope, o, a, b, next),
         }
+    }
+
+    /// Two values and what joins them, of which each may be read where it stands.
+    #[cycle(expressions)]
+    fn lower_strict(
+        &mut self,
+        scope: &Scope,
+        o: BinaryOperator,
+        a: &Expr,
+        b: &Expr,
+        next: u32,
+    ) -> Result<u32, AllocError>
+        requires stands { Stands next self.old }
+        requires strict { is_strict o ≡ true }
+        ensures { IfOk result (λ place. Builds scope.now self.old self.new place (Evaluate (Binary o (expr_of a.now) (expr_of b.now)) next)) }
+    {
         let Some(right) = self.operand_of(scope, b)? else {
             let operate = self.push_value(ValueNode::Operate(o), next)?;
             let right = self.lower(scope, b, operate)?;
@@ -249,6 +303,24 @@ impl Builder {
             return self.lower(scope, a, operate);
         };
         self.push_value(ValueNode::OperateOn(o, left, right), next)
+    }
+
+    /// A concatenation of more than two parts.
+    #[cycle(expressions)]
+    fn lower_joined(
+        &mut self,
+        scope: &Scope,
+        a: &Expr,
+        b: &Expr,
+        next: u32,
+    ) -> Result<u32, AllocError>
+        requires { Stands next self.old }
+        ensures { IfOk result (λ place. Builds scope.now self.old self.new place (Evaluate (Binary Concatenate (expr_of a.now) (expr_of b.now)) next)) }
+    {
+        let count = one_more(part_count(a)?)?;
+        let join = self.push_value(ValueNode::ConcatenateAll(count), next)?;
+        let last = self.lower(scope, b, join)?;
+        self.lower_parts(scope, a, last)
     }
 
     /// The field of a number, which may be read where it stands.
@@ -264,21 +336,16 @@ impl Builder {
         self.push_value(ValueNode::ReadFieldAt(operand), next)
     }
 
-    /// The values of the parts of a concatenation are put on the stack.
+    /// The values of the parts of a concatenation are put on the stack, or that of another expression.
     #[cycle(expressions)]
     fn lower_parts(&mut self, scope: &Scope, e: &Expr, next: u32) -> Result<u32, AllocError>
         requires { Stands next self.old }
         ensures { IfOk result (λ place. Builds scope.now self.old self.new place (EvaluateAll (parts_of (expr_of e.now)) next)) }
     {
-        // No other expression has parts.
         let Expr::Binary(BinaryOperator::Concatenate, a, b) = e else {
-            return Err(AllocError);
+            return self.lower(scope, e, next);
         };
         let last = self.lower(scope, b, next)?;
-        if is_concatenation(a) {
-            self.lower_parts(scope, a, last)
-        } else {
-            self.lower(scope, a, last)
-        }
+        self.lower_parts(scope, a, last)
     }
 }

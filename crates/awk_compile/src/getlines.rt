@@ -1,19 +1,20 @@
 // `getline` as nodes.
 
 ghost use Rattle.std.specs.Prelude.{◌≡◌, IfOk};
-ghost use Rattle.awk_grammar.specs.View.{optional_expr_of};
-ghost use Rattle.awk_compile.specs.support.Builds.{Stands, EvaluateOptional};
+ghost use Rattle.awk_grammar.specs.Tree.{Getline, PipedGetline};
+ghost use Rattle.awk_grammar.specs.View.{expr_of, optional_expr_of};
+ghost use Rattle.awk_compile.specs.support.Builds.{Stands, Evaluate, EvaluateOptional};
 ghost use Rattle.awk_compile.specs.support.Operands.{source_of};
 ghost use Rattle.awk_compile.specs.support.Scopes.{Builds};
 
 use crate::builder::Builder;
-use crate::node::Source;
+use crate::node::{Source, ValueNode};
 use crate::scope::Scope;
 use awk_grammar::tree::Expr;
 use std::alloc::AllocError;
 
 /// Where `getline` reads from, with this file.
-pub(crate) fn source_of(file: &Option<Box<Expr>>) -> Source
+fn source_of(file: &Option<Box<Expr>>) -> Source
     ensures { result ≡ source_of (optional_expr_of file.now) }
 {
     match file {
@@ -23,6 +24,42 @@ pub(crate) fn source_of(file: &Option<Box<Expr>>) -> Source
 }
 
 impl Builder {
+    /// `getline`, with its place and its file.
+    #[cycle(expressions)]
+    pub(crate) fn lower_getline(
+        &mut self,
+        scope: &Scope,
+        place: &Option<Box<Expr>>,
+        file: &Option<Box<Expr>>,
+        next: u32,
+    ) -> Result<u32, AllocError>
+        requires { Stands next self.old }
+        ensures { IfOk result (λ place'. Builds scope.now self.old self.new place' (Evaluate (Getline (optional_expr_of place.now) (optional_expr_of file.now)) next)) }
+    {
+        let target = self.optional_place_of(scope, place)?;
+        let read = self.push_value(ValueNode::Getline(source_of(file), target), next)?;
+        let name = self.lower_optional(scope, file, read)?;
+        self.lower_optional_operand(scope, place, name)
+    }
+
+    /// `command | getline`
+    #[cycle(expressions)]
+    pub(crate) fn lower_piped_getline(
+        &mut self,
+        scope: &Scope,
+        command: &Expr,
+        place: &Option<Box<Expr>>,
+        next: u32,
+    ) -> Result<u32, AllocError>
+        requires { Stands next self.old }
+        ensures { IfOk result (λ place'. Builds scope.now self.old self.new place' (Evaluate (PipedGetline (expr_of command.now) (optional_expr_of place.now)) next)) }
+    {
+        let target = self.optional_place_of(scope, place)?;
+        let read = self.push_value(ValueNode::Getline(Source::Command, target), next)?;
+        let operand = self.lower_optional_operand(scope, place, read)?;
+        self.lower(scope, command, operand)
+    }
+
     /// The value of an expression is put on the stack, if there is one.
     #[cycle(expressions)]
     pub(crate) fn lower_optional(

@@ -2,6 +2,7 @@
 #![tactic(auto)]
 
 mod appends;
+mod assignments;
 pub mod builder;
 mod built_ins;
 mod calls;
@@ -10,6 +11,7 @@ mod conditions;
 mod expressions;
 mod getlines;
 mod heights;
+mod items;
 mod lists;
 pub mod names;
 pub mod node;
@@ -18,9 +20,10 @@ mod patterns;
 mod places;
 pub mod plan;
 mod program;
+mod readings;
 pub mod scope;
 mod simple_statements;
 mod statements;
 
-pub use plan::{Function, Plan, PlannedItem, PlannedPattern};
+pub use plan::{Function, Plan};
 pub use program::lower_program;

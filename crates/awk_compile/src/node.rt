@@ -85,6 +85,8 @@ pub enum ValueNode {
     FlushAll,
     /// Flushes each output whose name is a value.
     Flush,
+    /// Whether a range is inside, by the number of its item.
+    IsInside(u32),
     /// A call of a function of the program, by its number.
     Call(u32, Vec<ArgumentForm>),
 }
@@ -102,6 +104,8 @@ pub enum EffectNode {
     /// A print of so many values, to standard output or to a target whose name is the topmost value.
     Print(PrintForm, u32, Option<Redirection>),
     SetStatus,
+    /// Notes whether a range is inside, by the number of its item.
+    SetInside(u32, bool),
 }
 
 /// One node. Places are indices of the list of nodes, and heads numbers of loops.
@@ -115,12 +119,20 @@ pub enum Node {
     CompareWith(BinaryOperator, Operand, u32, u32),
     /// The same of what an operator makes of two operands.
     Compare(BinaryOperator, Operand, Operand, u32, u32),
-    /// Assigns the topmost value to a variable, and takes it off.
-    Assign(AssignmentOperator, Variable, u32),
+    /// The same of whether the record has a match of an ERE of the program.
+    MatchRecord(u32, u32, u32),
+    /// Assigns the topmost value to a place, whose operand lies below it; both are taken off.
+    Assign(AssignmentOperator, Place, u32),
+    /// Raises or lowers the number of a place by 1, and takes the operand of the place off.
+    Raise(IncrementOperator, Place, u32),
     /// Spends a step, and assigns an operand to a variable.
     Update(AssignmentOperator, Variable, Operand, u32),
     /// Spends a step, and raises or lowers a variable's number by 1.
     Increment(IncrementOperator, Variable, u32),
+    /// Assigns a variable its text with those of so many values behind it, and takes these off.
+    AppendTo(Variable, u32, u32),
+    /// Prints the field whose number is read where it stands, as a line to standard output.
+    PrintField(Operand, u32),
     /// A turn of a loop, whose body's place is known by the loop's number.
     Again(u32),
     /// Puts the keys of an array and their count on the stack.

@@ -1,6 +1,7 @@
 // Places as nodes: what can be assigned, and the operands that it needs.
 
 ghost use Rattle.std.specs.Prelude.{IfOk};
+ghost use Rattle.awk_grammar.specs.Tree.{Field};
 ghost use Rattle.awk_grammar.specs.View.{expr_of, optional_expr_of};
 ghost use Rattle.awk_compile.specs.support.Builds.{Stands, EvaluateOperand, EvaluateOptionalOperand};
 ghost use Rattle.awk_compile.specs.support.Scopes.{Builds, FindsPlace, FindsOptionalPlace};
@@ -10,6 +11,7 @@ use crate::node::ValueNode;
 use crate::scope::Scope;
 use awk_grammar::tree::Expr;
 use awk_storage::Place;
+use awk_value::Value;
 use std::alloc::AllocError;
 
 impl Builder {
@@ -57,13 +59,23 @@ impl Builder {
         match p {
             Expr::Name(_) => Ok(next),
             Expr::Element(_, list) => self.lower_key(scope, list, next),
-            Expr::Field(e) => {
-                let number = self.push_value(ValueNode::FieldNumber, next)?;
-                self.lower(scope, e, number)
-            }
+            Expr::Field(e) => self.lower_field_number(scope, e, next),
             // The grammar has no other places.
             _ => Err(AllocError),
         }
+    }
+
+    /// The number of a field that is a place. A number is it as it is.
+    #[cycle(expressions)]
+    fn lower_field_number(&mut self, scope: &Scope, e: &Expr, next: u32) -> Result<u32, AllocError>
+        requires { Stands next self.old }
+        ensures { IfOk result (λ place. Builds scope.now self.old self.new place (EvaluateOperand (Field (expr_of e.now)) next)) }
+    {
+        if let Expr::Number(n) = e {
+            return self.push_value(ValueNode::Push(Value::Number(*n)), next);
+        }
+        let number = self.push_value(ValueNode::FieldNumber, next)?;
+        self.lower(scope, e, number)
     }
 
     /// What a place needs is evaluated, if there is one.

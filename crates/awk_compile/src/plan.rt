@@ -15,26 +15,6 @@ pub struct Function {
     pub arrays: Vec<bool>,
 }
 
-/// What tells for which records a rule is, by the places of its expressions.
-#[derive(Clone, Copy)]
-pub enum PlannedPattern {
-    /// It is for every record.
-    Every,
-    Single(u32),
-    Range(u32, u32),
-}
-
-/// An item of a program, by the places of its parts.
-#[derive(Clone, Copy)]
-pub enum PlannedItem {
-    Begin(u32),
-    End(u32),
-    /// A pattern and an action; one that is left out prints the record.
-    Rule(PlannedPattern, u32),
-    /// A function is no action.
-    Function,
-}
-
 /// A program as nodes that name what follows them.
 #[derive(Drop)]
 pub struct Plan {
@@ -47,6 +27,12 @@ pub struct Plan {
     pub eres: Vec<Bytes>,
     /// The functions, in the order of their definitions.
     pub functions: Vec<Function>,
-    /// The items, in the order of the text.
-    pub items: Vec<PlannedItem>,
+    /// The place of the actions that come before all records.
+    pub begin: u32,
+    /// The place of the rules, which are tried on a record.
+    pub rules: u32,
+    /// The place of the actions that come behind all records.
+    pub end: u32,
+    /// Whether records are read at all: not where only BEGIN and functions stand.
+    pub reads_records: bool,
 }

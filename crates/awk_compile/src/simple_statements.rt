@@ -2,12 +2,12 @@
 
 ghost use Rattle.std.specs.Prelude.{◌≡◌, IfOk};
 ghost use Rattle.awk_grammar.specs.View.{expr_of, exprs_of, optional_expr_of, print_list_of, output_of, simple_of, optional_simple_of};
-ghost use Rattle.awk_grammar.specs.Tree.{Expression, Print, Delete, DeleteAll, NextFile, Exit, Return, Simple};
+ghost use Rattle.awk_grammar.specs.Tree.{Expression, Print, Standard, Delete, DeleteAll, NextFile, Exit, Return, Simple};
 ghost use Rattle.awk_compile.specs.declared.node.Node.TheVariants.{Effect};
 ghost use Rattle.awk_compile.specs.declared.node.EffectNode.TheVariants.{Spend};
 ghost use Rattle.awk_compile.specs.support.Builds.{Pushes, Stands, ExitsStand, Execute, ExecutePart};
 ghost use Rattle.awk_compile.specs.support.Printed.{listed};
-ghost use Rattle.awk_compile.specs.support.Scopes.{Builds};
+ghost use Rattle.awk_compile.specs.support.Scopes.{Builds, LowersPrint};
 
 use crate::builder::{Builder, Exits, next_number};
 use crate::node::{EffectNode, Node, ValueNode};
@@ -47,6 +47,56 @@ impl Builder {
         self.step(value)
     }
 
+    /// A print of a field whose number is read where it stands, to standard output; none of any other one.
+    fn lower_field_print(
+        &mut self,
+        scope: &Scope,
+        form: PrintForm,
+        list: &PrintList,
+        exits: Exits,
+    ) -> Result<Option<u32>, AllocError>
+        requires { ExitsStand exits self.old }
+        ensures { IfOk result (λ place. LowersPrint scope.now self.old self.new place form (print_list_of list.now) exits) }
+    {
+        let PrintForm::Print = form else {
+            return Ok(None);
+        };
+        let [e] = listed(list) else {
+            return Ok(None);
+        };
+        let Expr::Field(number) = e else {
+            return Ok(None);
+        };
+        let Some(operand) = self.operand_of(scope, number)? else {
+            return Ok(None);
+        };
+        let print = self.push(Node::PrintField(operand, exits.next))?;
+        let step = self.step(print)?;
+        Ok(Some(step))
+    }
+
+    /// A print to standard output.
+    fn lower_standard_print(
+        &mut self,
+        scope: &Scope,
+        form: PrintForm,
+        list: &PrintList,
+        exits: Exits,
+    ) -> Result<u32, AllocError>
+        requires { ExitsStand exits self.old }
+        ensures { IfOk result (λ place. Builds scope.now self.old self.new place (Execute (Simple (Print form (print_list_of list.now) Standard)) exits)) }
+    {
+        if let Some(place) = self.lower_field_print(scope, form, list, exits)? {
+            return Ok(place);
+        }
+        let list = listed(list);
+        let count = next_number(list.len())?;
+        let print = EffectNode::Print(form, count, None);
+        let print = self.push(Node::Effect(print, exits.next))?;
+        let values = self.lower_all(scope, list, print)?;
+        self.step(values)
+    }
+
     /// A print; its target is evaluated behind its list.
     fn lower_print(
         &mut self,
@@ -59,16 +109,11 @@ impl Builder {
         requires { ExitsStand exits self.old }
         ensures { IfOk result (λ place. Builds scope.now self.old self.new place (Execute (Simple (Print form (print_list_of list.now) (output_of output.now))) exits)) }
     {
-        let list = listed(list);
-        let count = next_number(list.len())?;
         match output {
-            Output::Standard => {
-                let print = EffectNode::Print(form, count, None);
-                let print = self.push(Node::Effect(print, exits.next))?;
-                let values = self.lower_all(scope, list, print)?;
-                self.step(values)
-            }
+            Output::Standard => self.lower_standard_print(scope, form, list, exits),
             Output::Redirected(way, target) => {
+                let list = listed(list);
+                let count = next_number(list.len())?;
                 let print = EffectNode::Print(form, count, Some(*way));
                 let print = self.push(Node::Effect(print, exits.next))?;
                 let target = self.lower(scope, target, print)?;

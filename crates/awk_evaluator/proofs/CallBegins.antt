@@ -67,17 +67,17 @@ module _ (f : PlannedFunction) (fs : List ArgumentForm) (next : ℕ) (m : Machin
     spend_ends s = failed (λ ps is. then_changes (λ _. spend >>= λ _. given_by fs (taken (values_among fs) m.operands.values) >>= λ given. enter ps f.height given) checked
         (ends_changes (λ _. given_by fs (taken (values_among fs) m.operands.values) >>= λ given. enter ps f.height given) s.changes))
 
-    module _ {b : Machine} (spent : Spends a b.runtime (Ok tt)) (operands : b.operands ≡ m.operands) (calls : b.calls ≡ m.calls) where
-      both : {e : Runtime} {r : Result (Unit {0}) Halt} (ps : List FormalParameter) → Changes (given_by fs (taken (values_among fs) m.operands.values) >>= λ given. enter ps f.height given) b.runtime e r → Changes (begin_call ps f.height fs m) m.runtime e r
-      both ps d = then_changes (λ _. spend >>= λ _. given_by fs (taken (values_among fs) m.operands.values) >>= λ given. enter ps f.height given) checked
-          (then_changes (λ _. given_by fs (taken (values_among fs) m.operands.values) >>= λ given. enter ps f.height given) spent.changes d)
+    both : {b e : Runtime} {r : Result (Unit {0}) Halt} → Spends a b (Ok tt) → (ps : List FormalParameter) → Changes (given_by fs (taken (values_among fs) m.operands.values) >>= λ given. enter ps f.height given) b e r → Changes (begin_call ps f.height fs m) m.runtime e r
+    both spent ps d = then_changes (λ _. spend >>= λ _. given_by fs (taken (values_among fs) m.operands.values) >>= λ given. enter ps f.height given) checked
+        (then_changes (λ _. given_by fs (taken (values_among fs) m.operands.values) >>= λ given. enter ps f.height given) spent.changes d)
 
+    module _ {b : Machine} (spent : Spends a b.runtime (Ok tt)) (operands : b.operands ≡ m.operands) (calls : b.calls ≡ m.calls) where
       pub give_ends : {m' : Machine} {h : Halt} → GivesAll fs b (Err h) m' → BeginsCall f fs next m (Err h) m'
-      give_ends {m' = m'} {h = h} g = failed (λ ps is. both ps (subst (λ (x : Halt). Changes (given_by fs (taken (values_among fs) m.operands.values) >>= λ given. enter ps f.height given) b.runtime m'.runtime (Err x)) (sym g.memory) (memory_changes _ g.streams g.names g.steps)))
+      give_ends {m' = m'} {h = h} g = failed (λ ps is. both spent ps (subst (λ (x : Halt). Changes (given_by fs (taken (values_among fs) m.operands.values) >>= λ given. enter ps f.height given) b.runtime m'.runtime (Err x)) (sym g.memory) (memory_changes _ g.streams g.names g.steps)))
 
       module _ {g : Machine} (given : GivesAll fs b (Ok tt) g) {kinds : List Bool} (are : kinds ≡ f.arrays.items) where
         entered_by : {e : Runtime} {r : Result (Unit {0}) Halt} → EntersCall kinds f.height g.runtime e r → (ps : List FormalParameter) → map (λ (p : FormalParameter). p.is_array) ps ≡ f.arrays.items → Changes (begin_call ps f.height fs m) m.runtime e r
-        entered_by x ps is = both ps (entered_given fs (taken (values_among fs) m.operands.values) ps f.height
+        entered_by x ps is = both spent ps (entered_given fs (taken (values_among fs) m.operands.values) ps f.height
             (given.given ∙ ap (λ (o : OperandsView). with_all (kept_all fs (taken (values_among fs) o.values) b.runtime.frames) b.runtime) operands)
             (x.enters ps (is ∙ sym are)))
 

@@ -32,7 +32,7 @@ use Rattle.awk_runtime.proofs.CallLemmas.{given_later}
 use Rattle.awk_evaluator.specs.declared.machine.Machine.{Machine}
 use Rattle.awk_evaluator.specs.declared.machine.Move.TheVariants as move
 use Rattle.awk_evaluator.specs.Rest.{StandsFor, tables_in, Entry, Bound, Bounds, IsAbove, AtPlace, AtNode, cont, begun, resume, Rest}
-use Rattle.awk_evaluator.specs.Moves.{stack_of, Moves}
+use Rattle.awk_evaluator.specs.Moves.{stack_of, Ends, Moves}
 use Rattle.awk_evaluator.specs.Calling.{begin_call, BeginsCall}
 use Rattle.awk_evaluator.proofs.Resting.{same_simulates, above_less}
 
@@ -209,7 +209,7 @@ module _ {is_logged : Type 0} {plan : Plan} {i next : ℕ} {fs : Vec ArgumentFor
               (λ s r. called_at t ds plan st fs.items (args_of fs.items m) (forms_fit plan.functions.items i fs.items at fits) c b bs (caller_of next fs.items m) (stack_of m) m'.operands.values s is (low_in r.steps turns) (r.array_names ∙ sym arrays))
               (ends_simulates (λ _. z) (change_simulates changes))
 
-  pub call_on : {m m' : Machine} {k : WorldState} {body : ℕ} → BeginsCall f fs.items next m (Ok body) m' → Moves is_logged plan (AtNode (n.Value (v.Call i fs) next)) m k (Ok (move.Up body)) m' k
+  pub call_on : {m m' : Machine} {k : WorldState} {body : ℕ} → BeginsCall f fs.items next m (Ok body) m' → Moves is_logged plan (AtNode (n.Value (v.Call i fs) next)) m k (move.Up body) m' k
   call_on {m = m} {m' = m'} {k = k} {body = body} x = record {
     moves = record {
       less = x.begins.1;
@@ -226,10 +226,8 @@ module _ {is_logged : Type 0} {plan : Plan} {i next : ℕ} {fs : Vec ArgumentFor
     };
   }
 
-  pub call_ends : {m m' : Machine} {k : WorldState} {h : Halt} → BeginsCall f fs.items next m (Err h) m' → Moves is_logged plan (AtNode (n.Value (v.Call i fs) next)) m k (Err h) m' k
+  pub call_ends : {m m' : Machine} {k : WorldState} {h : Halt} → BeginsCall f fs.items next m (Err h) m' → Ends is_logged plan (AtNode (n.Value (v.Call i fs) next)) m k (Err h) m' k
   call_ends {m = m} {m' = m'} {k = k} x = record {
-    moves = record {
-      idle = tt;
-      ends = λ tables ds stands. let st = stands.functions i f at in failed_rest m m' k (tables_in m.runtime.names tables) ds refl st (x.changes st.parameters st.kinds);
-    };
+    idle = tt;
+    ends = λ tables ds stands. let st = stands.functions i f at in failed_rest m m' k (tables_in m.runtime.names tables) ds refl st (x.changes st.parameters st.kinds);
   }

@@ -16,6 +16,7 @@ use Rattle.awk_semantics.specs.Operators.{operator_of}
 use Rattle.awk_semantics.specs.Semantics.{choose}
 use Rattle.awk_semantics.specs.Calls.{functions_within}
 use Rattle.awk_storage.specs.declared.position.Variable.{Variable}
+use Rattle.awk_storage.specs.declared.position.Place.{Place}
 use Rattle.awk_storage.specs.declared.position.Place.TheVariants as place
 use Rattle.awk_storage.specs.Positions.{assign_at, assign_by_at}
 use Rattle.awk_compile.specs.declared.node.Operand.{Operand}
@@ -24,26 +25,22 @@ use Rattle.awk_compile.specs.declared.node.Node.TheVariants as n
 use Rattle.awk_compile.specs.declared.node.ValueNode.{ValueNode}
 use Rattle.awk_compile.specs.declared.node.ValueNode.TheVariants as v
 use Rattle.awk_compile.specs.declared.plan.Plan.{Plan}
-use Rattle.awk_compile.specs.Nodes.{Tables, first, second, value_of, popped, assign_variable, update, increment, AreBelow}
+use Rattle.awk_compile.specs.Nodes.{Tables, first, second, taken, value_of, popped, assign_variable, append_to, print_field, update, increment, AreBelow}
 use Rattle.awk_runtime.specs.Simulation.{IsReady, Changes}
 use Rattle.awk_runtime.proofs.Composition.{change_simulates}
 use Rattle.awk_evaluator.specs.declared.machine.Machine.{Machine}
 use Rattle.awk_evaluator.specs.declared.machine.Move.TheVariants as move
 use Rattle.awk_evaluator.specs.Operands.{OperandsView}
 use Rattle.awk_evaluator.specs.Rest.{tables_in, Bound, AtNode, cont, begun}
-use Rattle.awk_evaluator.specs.Moves.{seen_of, Moves, Computes}
-use Rattle.awk_evaluator.specs.Reading.{ComparesBy, Compares, Updates, Increments}
+use Rattle.awk_evaluator.specs.Moves.{seen_of, Ends, Moves, Computes}
+use Rattle.awk_evaluator.specs.Reading.{ComparesBy, Compares, Updates, Increments, Appends, PrintsField}
 use Rattle.awk_evaluator.proofs.Moving.{no_tables, no_functions, leads_on, ends_on, chosen_below, chosen_cont, ready_computed}
 
 -- a variable has no operand
-variable_alike : (names : List (List ℕ)) (o : Option Operator) (x : Variable) (operand operand' w : Value) → assign_by_at names o (place.Variable x) operand w ≡ assign_by_at names o (place.Variable x) operand' w
+pub variable_alike : (names : List (List ℕ)) (o : Option Operator) (x : Variable) (operand operand' w : Value) → assign_by_at names o (place.Variable x) operand w ≡ assign_by_at names o (place.Variable x) operand' w
 unfolding assign_by_at assign_at
 variable_alike names None x operand operand' w = refl
 variable_alike names (Some o) x operand operand' w = refl
-
-pub assigned_changes : {o : AssignmentOperator} {x : Variable} {m m' : Machine} {r : Result Value Halt} → Computes (v.Assign o (place.Variable x)) m r m' → Changes (assign_variable m.runtime.names.scalars o x (first m.operands.values)) m.runtime m'.runtime r
-assigned_changes {o = o} {x = x} {m = m} {m' = m'} {r = r} c = subst (λ (run : Run Value). Changes run m.runtime m'.runtime r)
-    (variable_alike m.runtime.names.scalars (operator_of o) x (second m.operands.values) value.Nothing (first m.operands.values)) (c.changes no_tables no_functions)
 
 -- what is ready stays so behind a comparison
 pub ready_compared : {is_logged : Type 0} {x : ValueNode} {m m' : Machine} {k : WorldState} {r : Result Bool Halt} → Compares x m r m' → IsReady is_logged k m.runtime.streams → IsReady is_logged k m'.runtime.streams
@@ -58,10 +55,10 @@ module _ {is_logged : Type 0} {plan : Plan} where
 
   module _ {x : ValueNode} {node : Node} {here other : ℕ} (below : (at : ℕ) → AreBelow at node → (here < at) × (other < at))
       (is : (tables : Tables) (ds : List Definition) (b : Bound) (vs : List Value) → begun tables ds plan (AtNode node) b vs ≡ (value_of tables (functions_within ds b.calls) x vs >>= λ w. choose (truth_of w) (cont tables ds plan b here (drop (popped x) vs)) (cont tables ds plan b other (drop (popped x) vs)))) where
-    tested_on : {m m' : Machine} {k : WorldState} {t : Bool} {i : ℕ} {w : Value} → i ≡ (if t then here else other) → truth_of w ≡ t → Computes x m (Ok w) m' → Moves is_logged plan (AtNode node) m k (Ok (move.On i)) m' k
+    tested_on : {m m' : Machine} {k : WorldState} {t : Bool} {i : ℕ} {w : Value} → i ≡ (if t then here else other) → truth_of w ≡ t → Computes x m (Ok w) m' → Moves is_logged plan (AtNode node) m k (move.On i) m' k
     tested_on {m = m} {m' = m'} {k = k} {t = t} {w = w} at e c =
         let left = drop (popped x) m.operands.values in
-        subst (λ (j : ℕ). Moves is_logged plan (AtNode node) m k (Ok (move.On j)) m' k) (sym at) (record {
+        subst (λ (j : ℕ). Moves is_logged plan (AtNode node) m k (move.On j) m' k) (sym at) (record {
           moves = record {
             less = λ p low. chosen_below t (below p low);
             calls = c.calls;
@@ -75,30 +72,37 @@ module _ {is_logged : Type 0} {plan : Plan} where
           };
         })
 
-    tested_ends : {m m' : Machine} {k : WorldState} {h : Halt} → Computes x m (Err h) m' → Moves is_logged plan (AtNode node) m k (Err h) m' k
+    tested_ends : {m m' : Machine} {k : WorldState} {h : Halt} → Computes x m (Err h) m' → Ends is_logged plan (AtNode node) m k (Err h) m' k
     tested_ends {m = m} c =
         let left = drop (popped x) m.operands.values in
         ends_on (λ tables functions. value_of tables functions x m.operands.values) (λ tables ds b u. choose (truth_of u) (cont tables ds plan b here left) (cont tables ds plan b other left)) (λ tables ds b. is tables ds b m.operands.values)
         (λ tables functions. change_simulates (c.changes tables functions))
 
   module _ {o : BinaryOperator} {right : Operand} {here other : ℕ} {m m' : Machine} {k : WorldState} where
-    pub with_on : {t : Bool} {i : ℕ} {w : Value} → i ≡ (if t then here else other) → truth_of w ≡ t → Computes (v.OperateWith o right) m (Ok w) m' → Moves is_logged plan (AtNode (n.CompareWith o right here other)) m k (Ok (move.On i)) m' k
+    pub with_on : {t : Bool} {i : ℕ} {w : Value} → i ≡ (if t then here else other) → truth_of w ≡ t → Computes (v.OperateWith o right) m (Ok w) m' → Moves is_logged plan (AtNode (n.CompareWith o right here other)) m k (move.On i) m' k
     with_on at e c = tested_on {node = n.CompareWith o right here other} (λ p low. low) (λ tables ds b vs. refl) at e c
 
-    pub with_ends : {h : Halt} → Computes (v.OperateWith o right) m (Err h) m' → Moves is_logged plan (AtNode (n.CompareWith o right here other)) m k (Err h) m' k
+    pub with_ends : {h : Halt} → Computes (v.OperateWith o right) m (Err h) m' → Ends is_logged plan (AtNode (n.CompareWith o right here other)) m k (Err h) m' k
     with_ends c = tested_ends {node = n.CompareWith o right here other} (λ p low. low) (λ tables ds b vs. refl) c
 
-    pub compared_on : {left : Operand} {t : Bool} {i : ℕ} {w : Value} → i ≡ (if t then here else other) → truth_of w ≡ t → Computes (v.OperateOn o left right) m (Ok w) m' → Moves is_logged plan (AtNode (n.Compare o left right here other)) m k (Ok (move.On i)) m' k
+    pub compared_on : {left : Operand} {t : Bool} {i : ℕ} {w : Value} → i ≡ (if t then here else other) → truth_of w ≡ t → Computes (v.OperateOn o left right) m (Ok w) m' → Moves is_logged plan (AtNode (n.Compare o left right here other)) m k (move.On i) m' k
     compared_on {left = left} at e c = tested_on {node = n.Compare o left right here other} (λ p low. low) (λ tables ds b vs. refl) at e c
 
-    pub compared_ends : {left : Operand} {h : Halt} → Computes (v.OperateOn o left right) m (Err h) m' → Moves is_logged plan (AtNode (n.Compare o left right here other)) m k (Err h) m' k
+    pub compared_ends : {left : Operand} {h : Halt} → Computes (v.OperateOn o left right) m (Err h) m' → Ends is_logged plan (AtNode (n.Compare o left right here other)) m k (Err h) m' k
     compared_ends {left = left} c = tested_ends {node = n.Compare o left right here other} (λ p low. low) (λ tables ds b vs. refl) c
+
+  module _ {ere here other : ℕ} {m m' : Machine} {k : WorldState} where
+    pub matched_on : {t : Bool} {i : ℕ} {w : Value} → i ≡ (if t then here else other) → truth_of w ≡ t → Computes (v.RecordMatches ere) m (Ok w) m' → Moves is_logged plan (AtNode (n.MatchRecord ere here other)) m k (move.On i) m' k
+    matched_on at e c = tested_on {node = n.MatchRecord ere here other} (λ p low. low) (λ tables ds b vs. refl) at e c
+
+    pub matched_ends : {h : Halt} → Computes (v.RecordMatches ere) m (Err h) m' → Ends is_logged plan (AtNode (n.MatchRecord ere here other)) m k (Err h) m' k
+    matched_ends c = tested_ends {node = n.MatchRecord ere here other} (λ p low. low) (λ tables ds b vs. refl) c
 
   -- a node that takes no value off the stack, and puts none on it
 
   module _ {node : Node} {i : ℕ} (run : Tables → Run Value) (below : (at : ℕ) → AreBelow at node → i < at)
       (is : (tables : Tables) (ds : List Definition) (b : Bound) (vs : List Value) → begun tables ds plan (AtNode node) b vs ≡ (run tables >>= λ _. cont tables ds plan b i vs)) where
-    ran_on : {m m' : Machine} {k : WorldState} {w : Value} → m'.operands ≡ m.operands → m'.calls ≡ m.calls → ((tables : Tables) → Changes (run (tables_in m.runtime.names tables)) m.runtime m'.runtime (Ok w)) → Moves is_logged plan (AtNode node) m k (Ok (move.On i)) m' k
+    ran_on : {m m' : Machine} {k : WorldState} {w : Value} → m'.operands ≡ m.operands → m'.calls ≡ m.calls → ((tables : Tables) → Changes (run (tables_in m.runtime.names tables)) m.runtime m'.runtime (Ok w)) → Moves is_logged plan (AtNode node) m k (move.On i) m' k
     ran_on {m = m} {m' = m'} operands calls changes = record {
       moves = record {
         less = below;
@@ -110,34 +114,87 @@ module _ {is_logged : Type 0} {plan : Plan} where
       };
     }
 
-    ran_ends : {m m' : Machine} {k : WorldState} {h : Halt} → ((tables : Tables) → Changes (run (tables_in m.runtime.names tables)) m.runtime m'.runtime (Err h)) → Moves is_logged plan (AtNode node) m k (Err h) m' k
+    ran_ends : {m m' : Machine} {k : WorldState} {h : Halt} → ((tables : Tables) → Changes (run (tables_in m.runtime.names tables)) m.runtime m'.runtime (Err h)) → Ends is_logged plan (AtNode node) m k (Err h) m' k
     ran_ends {m = m} changes = ends_on (λ tables functions. run tables) (λ tables ds b _. cont tables ds plan b i m.operands.values) (λ tables ds b. is tables ds b m.operands.values) (λ tables functions. change_simulates (changes tables))
 
   module _ {variable : Variable} {i : ℕ} {m m' : Machine} {k : WorldState} where
-    pub update_on : {o : AssignmentOperator} {a : Operand} {w : Value} → Updates o variable a m (Ok w) m' → Moves is_logged plan (AtNode (n.Update o variable a i)) m k (Ok (move.On i)) m' k
+    pub update_on : {o : AssignmentOperator} {a : Operand} {w : Value} → Updates o variable a m (Ok w) m' → Moves is_logged plan (AtNode (n.Update o variable a i)) m k (move.On i) m' k
     update_on {o = o} {a = a} u = ran_on (λ tables. update tables.names o variable a) (λ at low. low) (λ tables ds b vs. refl) u.operands u.calls (λ tables. u.changes)
 
-    pub update_ends : {o : AssignmentOperator} {a : Operand} {h : Halt} → Updates o variable a m (Err h) m' → Moves is_logged plan (AtNode (n.Update o variable a i)) m k (Err h) m' k
+    pub update_ends : {o : AssignmentOperator} {a : Operand} {h : Halt} → Updates o variable a m (Err h) m' → Ends is_logged plan (AtNode (n.Update o variable a i)) m k (Err h) m' k
     update_ends {o = o} {a = a} u = ran_ends {node = n.Update o variable a i} (λ tables. update tables.names o variable a) (λ at low. low) (λ tables ds b vs. refl) (λ tables. u.changes)
 
-    pub increment_on : {o : IncrementOperator} {w : Value} → Increments o variable m (Ok w) m' → Moves is_logged plan (AtNode (n.Increment o variable i)) m k (Ok (move.On i)) m' k
+    pub increment_on : {o : IncrementOperator} {w : Value} → Increments o variable m (Ok w) m' → Moves is_logged plan (AtNode (n.Increment o variable i)) m k (move.On i) m' k
     increment_on {o = o} u = ran_on (λ tables. increment tables.names o variable) (λ at low. low) (λ tables ds b vs. refl) u.operands u.calls (λ tables. u.changes)
 
-    pub increment_ends : {o : IncrementOperator} {h : Halt} → Increments o variable m (Err h) m' → Moves is_logged plan (AtNode (n.Increment o variable i)) m k (Err h) m' k
+    pub increment_ends : {o : IncrementOperator} {h : Halt} → Increments o variable m (Err h) m' → Ends is_logged plan (AtNode (n.Increment o variable i)) m k (Err h) m' k
     increment_ends {o = o} u = ran_ends {node = n.Increment o variable i} (λ tables. increment tables.names o variable) (λ at low. low) (λ tables ds b vs. refl) (λ tables. u.changes)
 
-  module _ {o : AssignmentOperator} {x : Variable} {i : ℕ} {m m' : Machine} {k : WorldState} where
-    pub assign_on : {w : Value} → m'.operands ≡ record m.operands { values = drop 1 m.operands.values } → m'.calls ≡ m.calls → Changes (assign_variable m.runtime.names.scalars o x (first m.operands.values)) m.runtime m'.runtime (Ok w) → Moves is_logged plan (AtNode (n.Assign o x i)) m k (Ok (move.On i)) m' k
-    assign_on operands calls changes = record {
+  -- a node whose value is of no use
+
+  module _ {x : ValueNode} {node : Node} {i : ℕ} (below : (at : ℕ) → AreBelow at node → i < at)
+      (is : (tables : Tables) (ds : List Definition) (b : Bound) (vs : List Value) → begun tables ds plan (AtNode node) b vs ≡ (value_of tables (functions_within ds b.calls) x vs >>= λ _. cont tables ds plan b i (drop (popped x) vs))) where
+    computed_on : {m m' : Machine} {k : WorldState} {w : Value} → Computes x m (Ok w) m' → Moves is_logged plan (AtNode node) m k (move.On i) m' k
+    computed_on {m = m} {m' = m'} c = record {
       moves = record {
-        less = λ at low. low;
-        calls = calls;
-        leads = leads_on (λ tables functions. assign_variable tables.names o x (first m.operands.values)) (λ tables ds b _. cont tables ds plan b i (drop 1 m.operands.values)) (λ tables ds b. refl)
-            (λ tables functions. change_simulates changes)
-            (λ tables ds b. ap (λ (s : OperandsView). cont tables ds plan b i s.values) (sym operands))
-            (ap (λ es. seen_of m'.operands es) calls ∙ ap (λ (s : OperandsView). seen_of s m.calls) operands);
+        less = below;
+        calls = c.calls;
+        leads = leads_on (λ tables functions. value_of tables functions x m.operands.values) (λ tables ds b _. cont tables ds plan b i (drop (popped x) m.operands.values)) (λ tables ds b. is tables ds b m.operands.values)
+            (λ tables functions. change_simulates (c.changes tables functions))
+            (λ tables ds b. ap (λ (s : OperandsView). cont tables ds plan b i s.values) (sym c.operands))
+            (ap (λ es. seen_of m'.operands es) c.calls ∙ ap (λ (s : OperandsView). seen_of s m.calls) c.operands);
       };
     }
 
-    pub assign_ends : {h : Halt} → Changes (assign_variable m.runtime.names.scalars o x (first m.operands.values)) m.runtime m'.runtime (Err h) → Moves is_logged plan (AtNode (n.Assign o x i)) m k (Err h) m' k
-    assign_ends changes = ends_on (λ tables functions. assign_variable tables.names o x (first m.operands.values)) (λ tables ds b _. cont tables ds plan b i (drop 1 m.operands.values)) (λ tables ds b. refl) (λ tables functions. change_simulates changes)
+    computed_ends : {m m' : Machine} {k : WorldState} {h : Halt} → Computes x m (Err h) m' → Ends is_logged plan (AtNode node) m k (Err h) m' k
+    computed_ends {m = m} c = ends_on (λ tables functions. value_of tables functions x m.operands.values) (λ tables ds b _. cont tables ds plan b i (drop (popped x) m.operands.values)) (λ tables ds b. is tables ds b m.operands.values)
+        (λ tables functions. change_simulates (c.changes tables functions))
+
+  module _ {p : Place} {i : ℕ} {m m' : Machine} {k : WorldState} where
+    pub assign_on : {o : AssignmentOperator} {w : Value} → Computes (v.Assign o p) m (Ok w) m' → Moves is_logged plan (AtNode (n.Assign o p i)) m k (move.On i) m' k
+    assign_on {o = o} c = computed_on {node = n.Assign o p i} (λ at low. low) (λ tables ds b vs. refl) c
+
+    pub assign_ends : {o : AssignmentOperator} {h : Halt} → Computes (v.Assign o p) m (Err h) m' → Ends is_logged plan (AtNode (n.Assign o p i)) m k (Err h) m' k
+    assign_ends {o = o} c = computed_ends {node = n.Assign o p i} (λ at low. low) (λ tables ds b vs. refl) c
+
+    pub raise_on : {o : IncrementOperator} {w : Value} → Computes (v.PostIncrement o p) m (Ok w) m' → Moves is_logged plan (AtNode (n.Raise o p i)) m k (move.On i) m' k
+    raise_on {o = o} c = computed_on {node = n.Raise o p i} (λ at low. low) (λ tables ds b vs. refl) c
+
+    pub raise_ends : {o : IncrementOperator} {h : Halt} → Computes (v.PostIncrement o p) m (Err h) m' → Ends is_logged plan (AtNode (n.Raise o p i)) m k (Err h) m' k
+    raise_ends {o = o} c = computed_ends {node = n.Raise o p i} (λ at low. low) (λ tables ds b vs. refl) c
+
+  -- texts that are appended
+
+  module _ {x : Variable} {count i : ℕ} {m m' : Machine} {k : WorldState} where
+    pub append_on : {w : Value} → Appends x count m (Ok w) m' → Moves is_logged plan (AtNode (n.AppendTo x count i)) m k (move.On i) m' k
+    append_on c = record {
+      moves = record {
+        less = λ at low. low;
+        calls = c.calls;
+        leads = leads_on (λ tables functions. append_to tables.names x (taken count m.operands.values)) (λ tables ds b _. cont tables ds plan b i (drop count m.operands.values)) (λ tables ds b. refl)
+            (λ tables functions. change_simulates c.changes)
+            (λ tables ds b. ap (λ (s : OperandsView). cont tables ds plan b i s.values) (sym c.operands))
+            (ap (λ es. seen_of m'.operands es) c.calls ∙ ap (λ (s : OperandsView). seen_of s m.calls) c.operands);
+      };
+    }
+
+    pub append_ends : {h : Halt} → Appends x count m (Err h) m' → Ends is_logged plan (AtNode (n.AppendTo x count i)) m k (Err h) m' k
+    append_ends c = ends_on (λ tables functions. append_to tables.names x (taken count m.operands.values)) (λ tables ds b _. cont tables ds plan b i (drop count m.operands.values)) (λ tables ds b. refl) (λ tables functions. change_simulates c.changes)
+
+  -- a field that is printed
+
+  module _ {a : Operand} {i : ℕ} {m m' : Machine} {k k' : WorldState} where
+    pub print_on : PrintsField is_logged a m k (Ok tt) m' k' → Moves is_logged plan (AtNode (n.PrintField a i)) m k (move.On i) m' k'
+    print_on c = record {
+      moves = record {
+        less = λ at low. low;
+        calls = c.calls;
+        leads = leads_on (λ tables functions. print_field tables.names a) (λ tables ds b _. cont tables ds plan b i m.operands.values) (λ tables ds b. refl)
+            (λ tables functions. c.simulates)
+            (λ tables ds b. ap (λ (s : OperandsView). cont tables ds plan b i s.values) (sym c.operands))
+            (ap (λ es. seen_of m'.operands es) c.calls ∙ ap (λ (s : OperandsView). seen_of s m.calls) c.operands);
+      };
+    }
+
+    pub print_ends : {h : Halt} → PrintsField is_logged a m k (Err h) m' k' → Ends is_logged plan (AtNode (n.PrintField a i)) m k (Err h) m' k'
+    print_ends c = ends_on (λ tables functions. print_field tables.names a) (λ tables ds b _. cont tables ds plan b i m.operands.values) (λ tables ds b. refl) (λ tables functions. c.simulates)

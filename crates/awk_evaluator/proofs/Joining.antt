@@ -1,27 +1,30 @@
 -- What is done with operands that are read where they stand, in any way.
-use Rattle.std.proofs.Common.{◌≡◌, drop, Result, Ok, Err, ap, ◌∙◌, subst}
+use Rattle.std.proofs.Common.{◌≡◌, ℕ, List, ◌++◌, map, drop, None, Result, Ok, Err, refl, sym, ap, ◌∙◌, subst}
+use Rattle.std.specs.List.{concat}
 use Rattle.awk_lex.specs.declared.token.AssignmentOperator.{AssignmentOperator}
-use Rattle.awk_lex.specs.declared.token.IncrementOperator.{IncrementOperator}
 use Rattle.awk_grammar.specs.declared.tree.BinaryOperator.{BinaryOperator}
 use Rattle.awk_value.specs.declared.value.Value.{Value}
 use Rattle.awk_value.specs.declared.value.Value.TheVariants as value
+use Rattle.awk_value.specs.Values.{str_of}
 use Rattle.awk_semantics.specs.declared.halt.Halt.{Halt}
-use Rattle.awk_semantics.specs.State.{lift}
-use Rattle.awk_semantics.specs.Operators.{operator_of}
+use Rattle.awk_semantics.specs.State.{State, Run, ◌>>=◌, go_on, lift}
 use Rattle.awk_storage.specs.declared.position.Variable.{Variable}
 use Rattle.awk_storage.specs.declared.position.Place.TheVariants as place
-use Rattle.awk_storage.specs.Positions.{read_at, assign_by_at, post_increment_at}
+use Rattle.awk_storage.specs.Positions.{read_variable, read_at, assign_by_at}
 use Rattle.awk_compile.specs.declared.node.Operand.{Operand}
 use Rattle.awk_compile.specs.declared.node.ValueNode.TheVariants as v
-use Rattle.awk_compile.specs.Nodes.{first, operated, operand_value}
+use Rattle.awk_compile.specs.Nodes.{first, taken, operated, operand_value, assign_variable, append_to}
+use Rattle.awk_compile.proofs.Calculus.{later_same}
 use Rattle.awk_runtime.specs.declared.runtime.Runtime.{Runtime}
 use Rattle.awk_runtime.specs.Naming.{Naming}
-use Rattle.awk_runtime.specs.Simulation.{Changes, Spends}
+use Rattle.awk_runtime.specs.Appends.{appended}
+use Rattle.awk_runtime.specs.Simulation.{Changes}
 use Rattle.awk_runtime.proofs.Composition.{then_changes, ends_changes}
+use Rattle.awk_runtime.proofs.Steps.{same_changes}
 use Rattle.awk_evaluator.specs.declared.machine.Machine.{Machine}
 use Rattle.awk_evaluator.specs.Operands.{OperandsView}
 use Rattle.awk_evaluator.specs.Moves.{Computes}
-use Rattle.awk_evaluator.specs.Reading.{ReadsOperand, Updates, Increments}
+use Rattle.awk_evaluator.specs.Reading.{ReadsOperand, Runs}
 use Rattle.awk_evaluator.proofs.Computing.{computed, ended}
 
 -- the same run, by the names that are the same
@@ -31,14 +34,13 @@ read_in a {m = m} {m' = m'} {r = r} same u = subst (λ (n : Naming). Changes (op
 module _ {o : BinaryOperator} {b : Operand} where
   -- the topmost value and an operand
 
-  pub operated_with_operand : {m m1 m2 m3 : Machine} {x y : Value} {r : Result Value Halt} → ReadsOperand b m (Ok y) m1 → x ≡ first m1.operands.values → m2.operands ≡ record m1.operands { values = drop 1 m1.operands.values } → m2.calls ≡ m1.calls → m2.runtime ≡ m1.runtime
-      → m3.operands ≡ m2.operands → m3.calls ≡ m2.calls → Changes (lift (operated o x y)) m2.runtime m3.runtime r → Computes (v.OperateWith o b) m r m3
-  operated_with_operand {m = m} {m1 = m1} {m3 = m3} {x = x} {y = y} {r = r} u top popped calls same operands3 calls3 joined = computed r
+  pub operated_with_operand : {m m1 m3 : Machine} {o2 : OperandsView} {x y : Value} {r : Result Value Halt} → ReadsOperand b m (Ok y) m1 → x ≡ first m1.operands.values → o2 ≡ record m1.operands { values = drop 1 m1.operands.values }
+      → m3.operands ≡ o2 → m3.calls ≡ m1.calls → Changes (lift (operated o x y)) m1.runtime m3.runtime r → Computes (v.OperateWith o b) m r m3
+  operated_with_operand {m = m} {m1 = m1} {m3 = m3} {x = x} {y = y} {r = r} u top popped operands3 calls3 joined = computed r
       (operands3 ∙ popped ∙ ap (λ (s : OperandsView). record s { values = drop 1 s.values }) u.operands)
-      (calls3 ∙ calls ∙ u.calls)
+      (calls3 ∙ u.calls)
       (λ tables functions. then_changes _ u.changes
-      (subst (λ (z : Value). Changes (lift (operated o z y)) m1.runtime m3.runtime r) (top ∙ ap (λ (s : OperandsView). first s.values) u.operands)
-      (subst (λ (n : Runtime). Changes (lift (operated o x y)) n m3.runtime r) same joined)))
+      (subst (λ (z : Value). Changes (lift (operated o z y)) m1.runtime m3.runtime r) (top ∙ ap (λ (s : OperandsView). first s.values) u.operands) joined))
 
   pub operated_with_none : {m m' : Machine} {h : Halt} → ReadsOperand b m (Err h) m' → Computes (v.OperateWith o b) m (Err h) m'
   operated_with_none u = ended _ (λ tables functions. ends_changes _ u.changes)
@@ -68,38 +70,38 @@ module _ {a : Operand} {m m1 : Machine} where
   pub field_not_read : {h : Halt} → ReadsOperand a m (Err h) m1 → Computes (v.ReadFieldAt a) m (Err h) m1
   field_not_read u = ended _ (λ tables functions. ends_changes _ u.changes)
 
--- a variable that is changed, behind a step that was spent
+-- an operand that is assigned to a variable
 
-module _ (x : Variable) {m m1 : Machine} (operands : m1.operands ≡ m.operands) (calls : m1.calls ≡ m.calls) where
-  module _ (o : AssignmentOperator) (a : Operand) where
-    pub updated : {m2 m3 : Machine} {w : Value} {r : Result Value Halt} → Spends m.runtime m1.runtime (Ok tt) → ReadsOperand a m1 (Ok w) m2
-        → m3.operands ≡ m2.operands → m3.calls ≡ m2.calls → Changes (assign_by_at m2.runtime.names.scalars (operator_of o) (place.Variable x) value.Nothing w) m2.runtime m3.runtime r → Updates o x a m r m3
-    updated {m2 = m2} {m3 = m3} {w = w} {r = r} spent read operands3 calls3 assigned = record {
-      operands = operands3 ∙ read.operands ∙ operands;
-      calls = calls3 ∙ read.calls ∙ calls;
-      changes = then_changes _ spent.changes (then_changes _ (read_in a spent.changes.names read)
-          (subst (λ (n : Naming). Changes (assign_by_at n.scalars (operator_of o) (place.Variable x) value.Nothing w) m2.runtime m3.runtime r) (read.changes.names ∙ spent.changes.names) assigned));
-    }
+module _ (x : Variable) (o : AssignmentOperator) (a : Operand) {m m1 : Machine} where
+  pub assigned_read : {m2 : Machine} {w : Value} {r : Result Value Halt} → ReadsOperand a m (Ok w) m1 → m2.operands ≡ m1.operands → m2.calls ≡ m1.calls
+      → Changes (assign_variable m1.runtime.names.scalars o x w) m1.runtime m2.runtime r → Runs (operand_value m.runtime.names.scalars a >>= λ u. assign_variable m.runtime.names.scalars o x u) m r m2
+  assigned_read {m2 = m2} {w = w} {r = r} read operands calls assigned = record {
+    operands = operands ∙ read.operands;
+    calls = calls ∙ read.calls;
+    changes = then_changes _ read.changes (subst (λ (n : Naming). Changes (assign_variable n.scalars o x w) m1.runtime m2.runtime r) read.changes.names assigned);
+  }
 
-    pub not_read : {m2 : Machine} {h : Halt} → Spends m.runtime m1.runtime (Ok tt) → ReadsOperand a m1 (Err h) m2 → Updates o x a m (Err h) m2
-    not_read spent read = record {
-      operands = read.operands ∙ operands;
-      calls = read.calls ∙ calls;
-      changes = then_changes _ spent.changes (ends_changes _ (read_in a spent.changes.names read));
-    }
+  pub not_read : {h : Halt} → ReadsOperand a m (Err h) m1 → Runs (operand_value m.runtime.names.scalars a >>= λ u. assign_variable m.runtime.names.scalars o x u) m (Err h) m1
+  not_read read = record { operands = read.operands; calls = read.calls; changes = ends_changes _ read.changes }
 
-    pub not_updated : {h : Halt} → Spends m.runtime m1.runtime (Err h) → Updates o x a m (Err h) m1
-    not_updated spent = record { operands = operands; calls = calls; changes = ends_changes _ spent.changes }
+-- texts that are appended to a variable
 
-  module _ (o : IncrementOperator) where
-    pub incremented : {m2 : Machine} {r : Result Value Halt} → Spends m.runtime m1.runtime (Ok tt) → m2.operands ≡ m1.operands → m2.calls ≡ m1.calls
-        → Changes (post_increment_at m1.runtime.names.scalars o (place.Variable x) value.Nothing) m1.runtime m2.runtime r → Increments o x m r m2
-    incremented {m2 = m2} {r = r} spent operands2 calls2 raised = record {
-      operands = operands2 ∙ operands;
-      calls = calls2 ∙ calls;
-      changes = then_changes _ spent.changes
-          (subst (λ (n : Naming). Changes (post_increment_at n.scalars o (place.Variable x) value.Nothing) m1.runtime m2.runtime r) spent.changes.names raised);
-    }
+lifted_at : {A B : Type 0} (a : A) (f : A → Run B) (s : State) → (lift (Ok a) >>= f) s ≡ f a s
+unfolding lift ◌>>=◌ go_on
+lifted_at a f s = refl
 
-    pub not_incremented : {h : Halt} → Spends m.runtime m1.runtime (Err h) → Increments o x m (Err h) m1
-    not_incremented spent = record { operands = operands; calls = calls; changes = ends_changes _ spent.changes }
+append_as : (names : List (List ℕ)) (x : Variable) (ws : List Value) (s : State) → append_to names x ws s ≡ (read_variable names x >>= λ old. lift (Ok (value.Text (concat (map str_of ws)))) >>= λ b. appended names x old b) s
+append_as names x ws s =
+    let text : List ℕ = concat (map str_of ws) in
+    let put : Value → Run Value = λ w. assign_by_at names None (place.Variable x) value.Nothing w in
+    later_same (read_variable names x) (λ old. put (value.Text (str_of old ++ text))) (λ old. lift (Ok (value.Text text)) >>= λ b. appended names x old b) s
+    (λ old t. sym (lifted_at (value.Text text) (λ b. appended names x old b) t ∙ lifted_at (value.Text (str_of old ++ text)) put t))
+
+module _ (x : Variable) (ws : List Value) {m m1 : Runtime} {old : Value} (read : Changes (read_variable m.names.scalars x) m m1 (Ok old)) where
+  pub texts_appended : {m2 : Runtime} {b : Value} {r : Result Value Halt} → Changes (lift (Ok (value.Text (concat (map str_of ws))))) m1 m1 (Ok b) → Changes (appended m1.names.scalars x old b) m1 m2 r → Changes (append_to m.names.scalars x ws) m m2 r
+  texts_appended {m2 = m2} {b = b} {r = r} text put =
+      same_changes _ _ (λ s holds. append_as m.names.scalars x ws s)
+      (then_changes _ read (then_changes _ text (subst (λ (n : Naming). Changes (appended n.scalars x old b) m1 m2 r) read.names put)))
+
+  pub texts_not_joined : {h : Halt} → Changes (lift (Ok (value.Text (concat (map str_of ws))))) m1 m1 (Err h) → Changes (append_to m.names.scalars x ws) m m1 (Err h)
+  texts_not_joined text = same_changes _ _ (λ s holds. append_as m.names.scalars x ws s) (then_changes _ read (ends_changes _ text))

@@ -3,6 +3,9 @@ pub mod Heights
 pub mod Resting
 pub mod Moving
 pub mod Changing
+pub mod NodeMoves
+pub mod Parts
+pub mod FieldPrints
 pub mod QuickValues
 pub mod Joining
 pub mod Quickly

@@ -86,15 +86,15 @@ module _ {is_logged : Type 0} {plan : Plan} (sound : IsSound plan) {at : ℕ} {n
   place_ends x = record { idle = x.idle; ends = λ tables ds stands. place_rest (x.ends tables ds stands) }
 
   -- by what a move comes to
-  pub by_place : {m m' : Machine} {k k' : WorldState} {r : Result Move Halt} → Moves is_logged plan (AtNode node) m k r m' k' → Moves is_logged plan (AtPlace at) m k r m' k'
-  by_place {m = m} {m' = m'} {k = k} {k' = k'} {r = r} x = record { moves = by r x.moves }
+  pub by_place : {m m' : Machine} {k k' : WorldState} {to : Move} → Moves is_logged plan (AtNode node) m k to m' k' → Moves is_logged plan (AtPlace at) m k to m' k'
+  by_place {m = m} {m' = m'} {k = k} {k' = k'} {to = to} x = record { moves = by to x.moves }
     where
-      by : (q : Result Move Halt) → MovesBy is_logged plan (AtNode node) m k q m' k' → MovesBy is_logged plan (AtPlace at) m k q m' k'
-      by (Ok (move.On i)) x = record { leads = place_leads x.leads; less = x.less at (sound.ordered at node is); calls = x.calls }
-      by (Ok (move.Up i)) x = record { leads = place_leads x.leads; less = x.less }
-      by (Ok (move.Back i)) x = record { leads = place_leads x.leads; less = x.less }
-      by (Ok move.Over) x = record { calls = x.calls; ends = λ tables ds stands. place_rest (x.ends tables ds stands) }
-      by (Err h) x = place_ends x
+      by : (q : Move) → MovesBy is_logged plan (AtNode node) m k q m' k' → MovesBy is_logged plan (AtPlace at) m k q m' k'
+      by (move.On i) x = record { leads = place_leads x.leads; less = x.less at (sound.ordered at node is); calls = x.calls }
+      by (move.Up i) x = record { leads = place_leads x.leads; less = x.less }
+      by (move.Back i) x = record { leads = place_leads x.leads; less = x.less }
+      by move.Over x = record { calls = x.calls; ends = λ tables ds stands. place_rest (x.ends tables ds stands) }
+      by move.Halted x = place_ends x
 
 module _ {is_logged : Type 0} {plan : Plan} {from : Start} where
   -- a part is done, and then a place is next
@@ -113,14 +113,12 @@ module _ {is_logged : Type 0} {plan : Plan} {from : Start} where
           (subst (λ (es : List Entry). Simulates is_logged m'.runtime k' new after r (cont t ds plan b i m'.operands.values >>= λ w. resume t ds plan bs es w)) stack (d.does b bs p q)));
     }
 
-    pub ends_on : {m' : Machine} {k k' : WorldState} {h : Halt} → ((tables : Tables) (functions : Functions) → Simulates is_logged m.runtime k m'.runtime k' (Err h) (run (tables_in m.runtime.names tables) functions)) → Moves is_logged plan from m k (Err h) m' k'
+    pub ends_on : {m' : Machine} {k k' : WorldState} {h : Halt} → ((tables : Tables) (functions : Functions) → Simulates is_logged m.runtime k m'.runtime k' (Err h) (run (tables_in m.runtime.names tables) functions)) → Ends is_logged plan from m k (Err h) m' k'
     ends_on done = record {
-      moves = record {
-        idle = tt;
-        ends = λ tables ds stands.
-            let t = tables_in m.runtime.names tables in
-            ends_rest t ds plan is_logged (λ b. run t (functions_within ds b.calls)) (λ b. f t ds b) (λ b. is t ds b) (λ b. done tables (functions_within ds b.calls));
-      };
+      idle = tt;
+      ends = λ tables ds stands.
+          let t = tables_in m.runtime.names tables in
+          ends_rest t ds plan is_logged (λ b. run t (functions_within ds b.calls)) (λ b. f t ds b) (λ b. is t ds b) (λ b. done tables (functions_within ds b.calls));
     }
 
   -- a place is next at once
@@ -138,7 +136,7 @@ module _ {is_logged : Type 0} {plan : Plan} {from : Start} where
 
   -- a turn of a loop
   module _ {m m' : Machine} {k : WorldState} (i : ℕ) (is : (tables : Tables) (ds : List Definition) (b : Bound) → begun tables ds plan from b m.operands.values ≡ turn tables ds plan b i m.operands.values) where
-    pub turns_on : {j : ℕ} → j ≡ get_or plan.heads.items i 0 → m'.operands ≡ m.operands → m'.calls ≡ m.calls → Spends m.runtime m'.runtime (Ok tt) → Moves is_logged plan from m k (Ok (move.Up j)) m' k
+    pub turns_on : {j : ℕ} → j ≡ get_or plan.heads.items i 0 → m'.operands ≡ m.operands → m'.calls ≡ m.calls → Spends m.runtime m'.runtime (Ok tt) → Moves is_logged plan from m k (move.Up j) m' k
     turns_on {j = j} at operands calls s = record {
       moves = record {
         less = s.falls;
@@ -155,27 +153,25 @@ module _ {is_logged : Type 0} {plan : Plan} {from : Start} where
       };
     }
 
-    pub turns_stuck : {h : Halt} → Spends m.runtime m'.runtime (Err h) → Moves is_logged plan from m k (Err h) m' k
+    pub turns_stuck : {h : Halt} → Spends m.runtime m'.runtime (Err h) → Ends is_logged plan from m k (Err h) m' k
     turns_stuck s = record {
-      moves = record {
-        idle = tt;
-        ends = λ tables ds stands. turn_stuck (tables_in m.runtime.names tables) ds plan is_logged i (λ b. is (tables_in m.runtime.names tables) ds b) (change_simulates s.changes);
-      };
+      idle = tt;
+      ends = λ tables ds stands. turn_stuck (tables_in m.runtime.names tables) ds plan is_logged i (λ b. is (tables_in m.runtime.names tables) ds b) (change_simulates s.changes);
     }
 
   -- a value is returned
   module _ {m m1 : Machine} {k : WorldState} {w : Value} (stack : stack_of m1 ≡ stack_of m) (calls : m1.calls ≡ m.calls) (same : m1.runtime ≡ m.runtime)
       (is : (tables : Tables) (ds : List Definition) (b : Bound) → begun tables ds plan from b m.operands.values ≡ ret w) where
-    pub gives_back : {m' : Machine} {r : Result Move Halt} → GivesBack w m1 r m' → Moves is_logged plan from m k r m' k
-    gives_back {m' = m'} {r = r} g = record { moves = by r g.gives }
+    pub gives_back : {m' : Machine} {to : Move} → GivesBack w m1 to m' → Moves is_logged plan from m k to m' k
+    gives_back {m' = m'} {to = to} g = record { moves = by to g.gives }
       where
         to_left : Changes leave m1.runtime m'.runtime (Ok tt) → Changes leave m.runtime m'.runtime (Ok tt)
         to_left x = subst (λ (y : Runtime). Changes leave y m'.runtime (Ok tt)) same x
 
-        by : (q : Result Move Halt) → GivesBackBy w m1 q m' → MovesBy is_logged plan from m k q m' k
-        by (Ok (move.On i)) g = absurd g
-        by (Ok (move.Up i)) g = absurd g
-        by (Ok (move.Back i)) g = record {
+        by : (q : Move) → GivesBackBy w m1 q m' → MovesBy is_logged plan from m k q m' k
+        by (move.On i) g = absurd g
+        by (move.Up i) g = absurd g
+        by (move.Back i) g = record {
           less = (let e = g.4 in let f = ap length calls in omega (arith, e, f));
           leads = record {
             names = (to_left g.3).names;
@@ -188,7 +184,7 @@ module _ {is_logged : Type 0} {plan : Plan} {from : Start} where
                 (subst (λ (vs : List Value). Rest t ds plan is_logged (AtPlace i) vs (stack_of m') m'.runtime k new after r) g.2 d));
           };
         }
-        by (Ok move.Over) g = record {
+        by move.Over g = record {
           calls = g.2;
           ends = λ tables ds stands.
               let t = tables_in m.runtime.names tables in
@@ -198,7 +194,7 @@ module _ {is_logged : Type 0} {plan : Plan} {from : Start} where
               (subst (λ (es : List Entry). Rest t ds plan is_logged from m.operands.values es m.runtime k m.runtime k (Ok v)) (sym none)
               (over_rest t ds plan is_logged w (λ b. is t ds b) (lift_simulates {c = Ok v} (Ok w) m.runtime k (ap (λ x. Ok x) (sym g.0)))));
         }
-        by (Err h) g = record {
+        by move.Halted g = record {
           idle = tt;
           ends = λ tables ds stands.
               let t = tables_in m.runtime.names tables in
@@ -206,6 +202,18 @@ module _ {is_logged : Type 0} {plan : Plan} {from : Start} where
               (subst (λ (es : List Entry). Rest t ds plan is_logged from m.operands.values es m.runtime k m'.runtime k (Err (halt.Fault OutOfMemory))) (sym g.2 ∙ stack)
               (return_stuck t ds plan is_logged {e = g.0} w (λ b. is t ds b) (memory_behind (change_simulates (to_left g.3)))));
         }
+
+-- a part that ended halts the machine, which keeps why
+pub halts : {is_logged : Type 0} {plan : Plan} {from : Start} {m m1 m' : Machine} {k k' : WorldState} {h : Halt} → Ends is_logged plan from m k (Err h) m1 k' → m'.runtime ≡ m1.runtime → m'.halt ≡ h → Moves is_logged plan from m k move.Halted m' k'
+halts {is_logged = is_logged} {plan = plan} {from = from} {m = m} {m1 = m1} {m' = m'} {k = k} {k' = k'} {h = h} e same why = record {
+  moves = record {
+    idle = tt;
+    ends = λ tables ds stands.
+        let t = tables_in m.runtime.names tables in
+        subst (λ (x : Runtime). RestOf t ds plan is_logged from m k x k' (Err m'.halt)) (sym same)
+        (subst (λ (x : Halt). RestOf t ds plan is_logged from m k m1.runtime k' (Err x)) (sym why) (e.ends tables ds stands));
+  };
+}
 
 -- a value that needs no world
 pub evaluated : {is_logged : Type 0} {x : ValueNode} {m m' : Machine} {k : WorldState} {r : Result Value Halt} → Computes x m r m' → Evaluates is_logged x m k r m' k
@@ -234,7 +242,7 @@ module _ {is_logged : Type 0} {plan : Plan} where
   -- a node that gives a value
 
   module _ {x : ValueNode} {i : ℕ} where
-    pub value_on : {m m1 m2 : Machine} {k k' : WorldState} {w : Value} → Evaluates is_logged x m k (Ok w) m1 k' → m2.operands ≡ record m1.operands { values = w ∷ m1.operands.values } → m2.calls ≡ m1.calls → m2.runtime ≡ m1.runtime → Moves is_logged plan (AtNode (n.Value x i)) m k (Ok (move.On i)) m2 k'
+    pub value_on : {m m1 m2 : Machine} {k k' : WorldState} {w : Value} → Evaluates is_logged x m k (Ok w) m1 k' → m2.operands ≡ record m1.operands { values = w ∷ m1.operands.values } → m2.calls ≡ m1.calls → m2.runtime ≡ m1.runtime → Moves is_logged plan (AtNode (n.Value x i)) m k (move.On i) m2 k'
     value_on {m = m} {m1 = m1} {m2 = m2} {k = k} {k' = k'} {w = w} e operands calls same = record {
       moves = record {
         less = λ at low. low;
@@ -246,17 +254,17 @@ module _ {is_logged : Type 0} {plan : Plan} where
       };
     }
 
-    pub value_ends : {m m' : Machine} {k k' : WorldState} {h : Halt} → Evaluates is_logged x m k (Err h) m' k' → Moves is_logged plan (AtNode (n.Value x i)) m k (Err h) m' k'
+    pub value_ends : {m m' : Machine} {k k' : WorldState} {h : Halt} → Evaluates is_logged x m k (Err h) m' k' → Ends is_logged plan (AtNode (n.Value x i)) m k (Err h) m' k'
     value_ends {m = m} e = ends_on (λ tables functions. value_of tables functions x m.operands.values) (λ tables ds b u. cont tables ds plan b i (u ∷ drop (popped x) m.operands.values)) (λ tables ds b. refl) e.simulates
 
-    pub value_memory : {m m1 m2 : Machine} {k k' : WorldState} {w : Value} → Evaluates is_logged x m k (Ok w) m1 k' → m2.runtime ≡ m1.runtime → Moves is_logged plan (AtNode (n.Value x i)) m k (Err (halt.Fault OutOfMemory)) m2 k'
+    pub value_memory : {m m1 m2 : Machine} {k k' : WorldState} {w : Value} → Evaluates is_logged x m k (Ok w) m1 k' → m2.runtime ≡ m1.runtime → Ends is_logged plan (AtNode (n.Value x i)) m k (Err (halt.Fault OutOfMemory)) m2 k'
     value_memory {m = m} {k = k} {k' = k'} e same = ends_on (λ tables functions. value_of tables functions x m.operands.values) (λ tables ds b u. cont tables ds plan b i (u ∷ drop (popped x) m.operands.values)) (λ tables ds b. refl)
         (λ tables functions. subst (λ (y : Runtime). Simulates is_logged m.runtime k y k' (Err (halt.Fault OutOfMemory)) (value_of (tables_in m.runtime.names tables) functions x m.operands.values)) (sym same) (memory_behind (e.simulates tables functions)))
 
   -- a node that gives none
 
   module _ {x : EffectNode} {i : ℕ} where
-    pub effect_on : {m m' : Machine} {k k' : WorldState} → Performs is_logged x m k (Ok tt) m' k' → Moves is_logged plan (AtNode (n.Effect x i)) m k (Ok (move.On i)) m' k'
+    pub effect_on : {m m' : Machine} {k k' : WorldState} → Performs is_logged x m k (Ok tt) m' k' → Moves is_logged plan (AtNode (n.Effect x i)) m k (move.On i) m' k'
     effect_on {m = m} {m' = m'} e = record {
       moves = record {
         less = λ at low. low;
@@ -268,7 +276,7 @@ module _ {is_logged : Type 0} {plan : Plan} where
       };
     }
 
-    pub effect_ends : {m m' : Machine} {k k' : WorldState} {h : Halt} → Performs is_logged x m k (Err h) m' k' → Moves is_logged plan (AtNode (n.Effect x i)) m k (Err h) m' k'
+    pub effect_ends : {m m' : Machine} {k k' : WorldState} {h : Halt} → Performs is_logged x m k (Err h) m' k' → Ends is_logged plan (AtNode (n.Effect x i)) m k (Err h) m' k'
     effect_ends {m = m} e = ends_on (λ tables functions. effect_of functions x m.operands.values) (λ tables ds b u. cont tables ds plan b i (drop (dropped x) m.operands.values)) (λ tables ds b. refl) (λ tables functions. e.simulates functions)
 
   -- tests
@@ -281,8 +289,8 @@ module _ {is_logged : Type 0} {plan : Plan} where
         (λ tables ds b. ap (λ x. choose x (cont tables ds plan b here (drop 1 m.operands.values)) (cont tables ds plan b other (drop 1 m.operands.values))) e ∙ chosen tables ds b ∙ ap (λ (o : OperandsView). cont tables ds plan b i o.values) (sym operands))
         same (ap (λ es. seen_of m'.operands es) calls ∙ ap (λ (o : OperandsView). seen_of o m.calls) operands)
 
-    pub test_on : {m m' : Machine} {k : WorldState} {t : Bool} {i : ℕ} → i ≡ (if t then here else other) → truth_of (first m.operands.values) ≡ t → m'.operands ≡ record m.operands { values = drop 1 m.operands.values } → m'.calls ≡ m.calls → m'.runtime ≡ m.runtime → Moves is_logged plan (AtNode (n.Test here other)) m k (Ok (move.On i)) m' k
-    test_on {m = m} {m' = m'} {k = k} {t = t} is e operands calls same = subst (λ (j : ℕ). Moves is_logged plan (AtNode (n.Test here other)) m k (Ok (move.On j)) m' k) (sym is) (record {
+    pub test_on : {m m' : Machine} {k : WorldState} {t : Bool} {i : ℕ} → i ≡ (if t then here else other) → truth_of (first m.operands.values) ≡ t → m'.operands ≡ record m.operands { values = drop 1 m.operands.values } → m'.calls ≡ m.calls → m'.runtime ≡ m.runtime → Moves is_logged plan (AtNode (n.Test here other)) m k (move.On i) m' k
+    test_on {m = m} {m' = m'} {k = k} {t = t} is e operands calls same = subst (λ (j : ℕ). Moves is_logged plan (AtNode (n.Test here other)) m k (move.On j) m' k) (sym is) (record {
       moves = record {
         less = λ at low. chosen_below t low;
         calls = calls;
@@ -292,21 +300,21 @@ module _ {is_logged : Type 0} {plan : Plan} where
 
   -- turns
 
-  pub again_on : {i j : ℕ} {m m' : Machine} {k : WorldState} → j ≡ get_or plan.heads.items i 0 → m'.operands ≡ m.operands → m'.calls ≡ m.calls → Spends m.runtime m'.runtime (Ok tt) → Moves is_logged plan (AtNode (n.Again i)) m k (Ok (move.Up j)) m' k
+  pub again_on : {i j : ℕ} {m m' : Machine} {k : WorldState} → j ≡ get_or plan.heads.items i 0 → m'.operands ≡ m.operands → m'.calls ≡ m.calls → Spends m.runtime m'.runtime (Ok tt) → Moves is_logged plan (AtNode (n.Again i)) m k (move.Up j) m' k
   again_on {i = i} = turns_on i (λ tables ds b. refl)
 
-  pub again_stuck : {i : ℕ} {m m' : Machine} {k : WorldState} {h : Halt} → Spends m.runtime m'.runtime (Err h) → Moves is_logged plan (AtNode (n.Again i)) m k (Err h) m' k
+  pub again_stuck : {i : ℕ} {m m' : Machine} {k : WorldState} {h : Halt} → Spends m.runtime m'.runtime (Err h) → Ends is_logged plan (AtNode (n.Again i)) m k (Err h) m' k
   again_stuck {i = i} = turns_stuck i (λ tables ds b. refl)
 
   -- walks
 
-  pub key_on : {i exit j : ℕ} {m m' : Machine} {k : WorldState} → keys_left (first m.operands.values) ≢ 0 → j ≡ get_or plan.heads.items i 0 → m'.operands ≡ m.operands → m'.calls ≡ m.calls → Spends m.runtime m'.runtime (Ok tt) → Moves is_logged plan (AtNode (n.NextKey i exit)) m k (Ok (move.Up j)) m' k
+  pub key_on : {i exit j : ℕ} {m m' : Machine} {k : WorldState} → keys_left (first m.operands.values) ≢ 0 → j ≡ get_or plan.heads.items i 0 → m'.operands ≡ m.operands → m'.calls ≡ m.calls → Spends m.runtime m'.runtime (Ok tt) → Moves is_logged plan (AtNode (n.NextKey i exit)) m k (move.Up j) m' k
   key_on {i = i} {exit = exit} {m = m} h = turns_on i (λ tables ds b. next_turn (keys_left (first m.operands.values)) _ _ h)
 
-  pub key_stuck : {i exit : ℕ} {m m' : Machine} {k : WorldState} {h : Halt} → keys_left (first m.operands.values) ≢ 0 → Spends m.runtime m'.runtime (Err h) → Moves is_logged plan (AtNode (n.NextKey i exit)) m k (Err h) m' k
+  pub key_stuck : {i exit : ℕ} {m m' : Machine} {k : WorldState} {h : Halt} → keys_left (first m.operands.values) ≢ 0 → Spends m.runtime m'.runtime (Err h) → Ends is_logged plan (AtNode (n.NextKey i exit)) m k (Err h) m' k
   key_stuck {i = i} {exit = exit} {m = m} h = turns_stuck i (λ tables ds b. next_turn (keys_left (first m.operands.values)) _ _ h)
 
-  pub key_exit : {i exit : ℕ} {m m' : Machine} {k : WorldState} → keys_left (first m.operands.values) ≡ 0 → m'.operands ≡ record m.operands { values = drop 1 m.operands.values } → m'.calls ≡ m.calls → m'.runtime ≡ m.runtime → Moves is_logged plan (AtNode (n.NextKey i exit)) m k (Ok (move.On exit)) m' k
+  pub key_exit : {i exit : ℕ} {m m' : Machine} {k : WorldState} → keys_left (first m.operands.values) ≡ 0 → m'.operands ≡ record m.operands { values = drop 1 m.operands.values } → m'.calls ≡ m.calls → m'.runtime ≡ m.runtime → Moves is_logged plan (AtNode (n.NextKey i exit)) m k (move.On exit) m' k
   key_exit {i = i} {exit = exit} {m = m} {m' = m'} e operands calls same = record {
     moves = record {
       less = λ at low. low;
@@ -316,7 +324,7 @@ module _ {is_logged : Type 0} {plan : Plan} where
     };
   }
 
-  pub walk_on : {a : Array} {i : ℕ} {m m' : Machine} {k : WorldState} → PutsKeys a m (Ok tt) m' → Moves is_logged plan (AtNode (n.Walk a i)) m k (Ok (move.On i)) m' k
+  pub walk_on : {a : Array} {i : ℕ} {m m' : Machine} {k : WorldState} → PutsKeys a m (Ok tt) m' → Moves is_logged plan (AtNode (n.Walk a i)) m k (move.On i) m' k
   walk_on {a = a} {i = i} {m = m} {m' = m'} p = record {
     moves = record {
       less = λ at low. low;
@@ -328,10 +336,10 @@ module _ {is_logged : Type 0} {plan : Plan} where
     };
   }
 
-  pub walk_ends : {a : Array} {i : ℕ} {m m' : Machine} {k : WorldState} {h : Halt} → PutsKeys a m (Err h) m' → Moves is_logged plan (AtNode (n.Walk a i)) m k (Err h) m' k
+  pub walk_ends : {a : Array} {i : ℕ} {m m' : Machine} {k : WorldState} {h : Halt} → PutsKeys a m (Err h) m' → Ends is_logged plan (AtNode (n.Walk a i)) m k (Err h) m' k
   walk_ends {a = a} {i = i} {m = m} p = ends_on (λ tables functions. keys_of_array a) (λ tables ds b keys. cont tables ds plan b i (walk_values keys ++ m.operands.values)) (λ tables ds b. refl) (λ tables functions. change_simulates p.puts)
 
-  pub key_taken : {x : Variable} {i : ℕ} {m m' : Machine} {k : WorldState} → TakesKey x m (Ok tt) m' → Moves is_logged plan (AtNode (n.TakeKey x i)) m k (Ok (move.On i)) m' k
+  pub key_taken : {x : Variable} {i : ℕ} {m m' : Machine} {k : WorldState} → TakesKey x m (Ok tt) m' → Moves is_logged plan (AtNode (n.TakeKey x i)) m k (move.On i) m' k
   key_taken {x = x} {i = i} {m = m} {m' = m'} p = record {
     moves = record {
       less = λ at low. low;
@@ -343,10 +351,10 @@ module _ {is_logged : Type 0} {plan : Plan} where
     };
   }
 
-  pub key_ends : {x : Variable} {i : ℕ} {m m' : Machine} {k : WorldState} {h : Halt} → TakesKey x m (Err h) m' → Moves is_logged plan (AtNode (n.TakeKey x i)) m k (Err h) m' k
+  pub key_ends : {x : Variable} {i : ℕ} {m m' : Machine} {k : WorldState} {h : Halt} → TakesKey x m (Err h) m' → Ends is_logged plan (AtNode (n.TakeKey x i)) m k (Err h) m' k
   key_ends {x = x} {i = i} {m = m} p = ends_on (λ tables functions. put_variable tables.names x (second m.operands.values)) (λ tables ds b u. cont tables ds plan b i (value.Number (pos (keys_left (first m.operands.values) - 1)) ∷ drop 2 m.operands.values)) (λ tables ds b. refl) (λ tables functions. change_simulates p.changes)
 
-  pub walk_left : {i : ℕ} {m m' : Machine} {k : WorldState} → m'.operands ≡ record m.operands { values = drop (suc (keys_left (first m.operands.values))) m.operands.values } → m'.calls ≡ m.calls → m'.runtime ≡ m.runtime → Moves is_logged plan (AtNode (n.LeaveWalk i)) m k (Ok (move.On i)) m' k
+  pub walk_left : {i : ℕ} {m m' : Machine} {k : WorldState} → m'.operands ≡ record m.operands { values = drop (suc (keys_left (first m.operands.values))) m.operands.values } → m'.calls ≡ m.calls → m'.runtime ≡ m.runtime → Moves is_logged plan (AtNode (n.LeaveWalk i)) m k (move.On i) m' k
   walk_left {i = i} {m = m} {m' = m'} operands calls same = record {
     moves = record {
       less = λ at low. low;
@@ -357,32 +365,30 @@ module _ {is_logged : Type 0} {plan : Plan} where
 
   -- ends
 
-  stops : {m : Machine} {k : WorldState} (h : Halt) (node : Node) → ((tables : Tables) (ds : List Definition) (b : Bound) (vs : List Value) → begun tables ds plan (AtNode node) b vs ≡ lift (Err h)) → Yields {A = Value} (Err h) (Err h) → Moves is_logged plan (AtNode node) m k (Err h) m k
-  stops {m = m} {k = k} h node is e = record {
-    moves = record {
-      idle = tt;
-      ends = λ tables ds stands. record {
-        does = λ b bs p q.
-            let t = tables_in m.runtime.names tables in
-            let later : Value → Run Value = λ w. resume t ds plan bs (stack_of m) w in
-            subst (λ (run : Run Value). Simulates is_logged m.runtime k m.runtime k (Err h) (run >>= later)) (sym (is t ds b m.operands.values)) (ends_simulates later (lift_simulates (Err h) m.runtime k e));
-      };
+  stops : {m m' : Machine} {k : WorldState} (h : Halt) (node : Node) → ((tables : Tables) (ds : List Definition) (b : Bound) (vs : List Value) → begun tables ds plan (AtNode node) b vs ≡ lift (Err h)) → Yields {A = Value} (Err h) (Err h) → m'.runtime ≡ m.runtime → m'.halt ≡ h → Moves is_logged plan (AtNode node) m k move.Halted m' k
+  stops {m = m} {k = k} h node is e same why = halts {m1 = m} (record {
+    idle = tt;
+    ends = λ tables ds stands. record {
+      does = λ b bs p q.
+          let t = tables_in m.runtime.names tables in
+          let later : Value → Run Value = λ w. resume t ds plan bs (stack_of m) w in
+          subst (λ (run : Run Value). Simulates is_logged m.runtime k m.runtime k (Err h) (run >>= later)) (sym (is t ds b m.operands.values)) (ends_simulates later (lift_simulates (Err h) m.runtime k e));
     };
-  }
+  }) same why
 
-  pub next_stops : {m : Machine} {k : WorldState} → Moves is_logged plan (AtNode n.Next) m k (Err halt.Next) m k
-  next_stops = stops halt.Next n.Next (λ tables ds b vs. refl) refl
+  pub next_stops : {m m' : Machine} {k : WorldState} → m'.runtime ≡ m.runtime → m'.halt ≡ halt.Next → Moves is_logged plan (AtNode n.Next) m k move.Halted m' k
+  next_stops same why = stops halt.Next n.Next (λ tables ds b vs. refl) refl same why
 
-  pub exit_stops : {m : Machine} {k : WorldState} → Moves is_logged plan (AtNode n.Exit) m k (Err halt.Exit) m k
-  exit_stops = stops halt.Exit n.Exit (λ tables ds b vs. refl) refl
+  pub exit_stops : {m m' : Machine} {k : WorldState} → m'.runtime ≡ m.runtime → m'.halt ≡ halt.Exit → Moves is_logged plan (AtNode n.Exit) m k move.Halted m' k
+  exit_stops same why = stops halt.Exit n.Exit (λ tables ds b vs. refl) refl same why
 
-  pub returns_value : {m m' : Machine} {k : WorldState} {r : Result Move Halt} → GivesBack (first m.operands.values) m r m' → Moves is_logged plan (AtNode n.Return) m k r m' k
+  pub returns_value : {m m' : Machine} {k : WorldState} {to : Move} → GivesBack (first m.operands.values) m to m' → Moves is_logged plan (AtNode n.Return) m k to m' k
   returns_value g = gives_back refl refl refl (λ tables ds b. refl) g
 
-  pub returns_nothing : {m m' : Machine} {k : WorldState} {r : Result Move Halt} → GivesBack value.Nothing m r m' → Moves is_logged plan (AtNode n.End) m k r m' k
+  pub returns_nothing : {m m' : Machine} {k : WorldState} {to : Move} → GivesBack value.Nothing m to m' → Moves is_logged plan (AtNode n.End) m k to m' k
   returns_nothing g = gives_back refl refl refl (λ tables ds b. refl) g
 
-  pub past_end : {at : ℕ} {m m' : Machine} {k : WorldState} {r : Result Move Halt} → None ≡ slice_get plan.nodes.items at → GivesBack value.Nothing m r m' → Moves is_logged plan (AtPlace at) m k r m' k
+  pub past_end : {at : ℕ} {m m' : Machine} {k : WorldState} {to : Move} → None ≡ slice_get plan.nodes.items at → GivesBack value.Nothing m to m' → Moves is_logged plan (AtPlace at) m k to m' k
   past_end {at = at} {m = m} none g = gives_back refl refl refl (λ tables ds b. ap (λ (c : Cont). c m.operands.values) (no_node_at tables (functions_within ds b.calls) plan.heads.items plan.nodes.items b.turns at (beyond plan.nodes.items at none))) g
     where
       beyond : (xs : List Node) (i : ℕ) → None ≡ slice_get xs i → length xs ≤ i

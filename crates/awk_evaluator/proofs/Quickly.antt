@@ -22,9 +22,8 @@ use Rattle.awk_evaluator.specs.declared.machine.Move.TheVariants as move
 use Rattle.awk_evaluator.specs.Operands.{OperandsView}
 use Rattle.awk_evaluator.specs.Rest.{AtNode, cont}
 use Rattle.awk_evaluator.specs.Moves.{seen_of, Moves}
-use Rattle.awk_evaluator.specs.Quick.{Puts, Relates, RelatesWith, Finds}
+use Rattle.awk_evaluator.specs.Quick.{Puts}
 use Rattle.awk_evaluator.proofs.Moving.{leads_on}
-use Rattle.awk_evaluator.proofs.Changing.{with_on, compared_on, update_on, increment_on}
 
 pub truth_is : (b : Bool) → truth_of (truth_value b) ≡ b
 truth_is true = refl
@@ -33,7 +32,7 @@ truth_is false = refl
 -- values that are put on the stack
 
 module _ {is_logged : Type 0} {plan : Plan} {m m' : Machine} {k : WorldState} {i : ℕ} where
-  pub put_on : {x : ValueNode} → Puts x m m' → Moves is_logged plan (AtNode (n.Value x i)) m k (Ok (move.On i)) m' k
+  pub put_on : {x : ValueNode} → Puts x m m' → Moves is_logged plan (AtNode (n.Value x i)) m k (move.On i) m' k
   put_on {x = x} p = record {
     moves = record {
       less = λ at low. low;
@@ -44,20 +43,3 @@ module _ {is_logged : Type 0} {plan : Plan} {m m' : Machine} {k : WorldState} {i
           (ap (λ es. seen_of m'.operands es) p.calls ∙ ap (λ (o : OperandsView). seen_of o m.calls) p.operands);
     };
   }
-
-  pub updated_on : {o : AssignmentOperator} {x : Variable} {a : Operand} → Finds (update m.runtime.names.scalars o x a) m m' → Moves is_logged plan (AtNode (n.Update o x a i)) m k (Ok (move.On i)) m' k
-  updated_on f = update_on (record { operands = f.operands; calls = f.calls; changes = f.changes })
-
-  pub incremented_on : {o : IncrementOperator} {x : Variable} → Finds (increment m.runtime.names.scalars o x) m m' → Moves is_logged plan (AtNode (n.Increment o x i)) m k (Ok (move.On i)) m' k
-  incremented_on f = increment_on (record { operands = f.operands; calls = f.calls; changes = f.changes })
-
-module _ {is_logged : Type 0} {plan : Plan} {k : WorldState} {here other i : ℕ} {o : Operator} {right : Operand} where
-  pub related_on : {m : Machine} {left : Operand} {holds : Bool} → i ≡ (if holds then here else other) → Relates o left right holds m → Moves is_logged plan (AtNode (n.Compare (Infix o) left right here other)) m k (Ok (move.On i)) m k
-  related_on {holds = holds} at r = compared_on at (truth_is holds) (record { operands = refl; calls = refl; changes = λ tables functions. r.changes })
-
-  pub related_with_on : {m m' : Machine} {holds : Bool} → i ≡ (if holds then here else other) → RelatesWith o right holds m m' → Moves is_logged plan (AtNode (n.CompareWith (Infix o) right here other)) m k (Ok (move.On i)) m' k
-  related_with_on {m = m} {m' = m'} {holds = holds} at r = with_on at (truth_is holds) (record {
-    operands = r.popped.operands;
-    calls = r.popped.calls;
-    changes = λ tables functions. subst (λ (x : Runtime). Changes (operated_with m.runtime.names.scalars (Infix o) (first m.operands.values) right) m.runtime x (Ok (truth_value holds))) (sym r.popped.runtime) r.changes;
-  })

@@ -21,7 +21,7 @@ pub newest_seen : (o : OperandsView) (calls more : List CodeEntry) (e : CodeEntr
 newest_seen o calls more e is = ap (λ (es : List CodeEntry). seen o.below (reverse es)) is ∙ ap (λ (es : List CodeEntry). seen o.below es) (reverse-append more (e ∷ []))
 
 pub given_back : {m m' : Machine} (e : CodeEntry) {w : Value} → m.calls ≡ m'.calls ++ e ∷ [] → Changes leave m.runtime m'.runtime (Ok tt)
-    → m'.operands ≡ record { values = w ∷ reverse (drop e.base m.operands.below); below = take e.base m.operands.below } → GivesBack w m (Ok (move.Back e.next)) m'
+    → m'.operands ≡ record { values = w ∷ reverse (drop e.base m.operands.below); below = take e.base m.operands.below } → GivesBack w m (move.Back e.next) m'
 given_back {m = m} {m' = m'} e is left operands = record {
   gives = (
     reverse (drop e.base m.operands.below),
@@ -32,16 +32,16 @@ given_back {m = m} {m' = m'} e is left operands = record {
   );
 }
 
-pub not_given : {m m' : Machine} (e : CodeEntry) {w : Value} → m.calls ≡ m'.calls ++ e ∷ [] → Changes leave m.runtime m'.runtime (Ok tt) → GivesBack w m (Err (halt.Fault OutOfMemory)) m'
-not_given {m = m} {m' = m'} e is left = record { gives = (record { next = e.next; values = reverse (drop e.base m.operands.below) }, seen (take e.base m.operands.below) (reverse m'.calls), newest_seen m.operands m.calls m'.calls e is, left, refl) }
+pub not_given : {m m' : Machine} (e : CodeEntry) {w : Value} → m.calls ≡ m'.calls ++ e ∷ [] → Changes leave m.runtime m'.runtime (Ok tt) → m'.halt ≡ halt.Fault OutOfMemory → GivesBack w m move.Halted m'
+not_given {m = m} {m' = m'} e is left halted = record { gives = (record { next = e.next; values = reverse (drop e.base m.operands.below) }, seen (take e.base m.operands.below) (reverse m'.calls), newest_seen m.operands m.calls m'.calls e is, left, halted) }
 
 -- where the newest call has no operand, there is no value
-pub nothing_given : (m : Machine) {m' : Machine} {o : OperandsView} (r : Result Move Halt) → o ≡ record m.operands { values = [] } → GivesBack (first o.values) (record m { operands = o }) r m' → GivesBack value.Nothing m r m'
-nothing_given m {m' = m'} {o = o} r is g = record { gives = by r (subst (λ (x : OperandsView). GivesBackBy (first x.values) (record m { operands = x }) r m') is g.gives) }
+pub nothing_given : (m : Machine) {m' : Machine} {o : OperandsView} (to : Move) → o ≡ record m.operands { values = [] } → GivesBack (first o.values) (record m { operands = o }) to m' → GivesBack value.Nothing m to m'
+nothing_given m {m' = m'} {o = o} to is g = record { gives = by to (subst (λ (x : OperandsView). GivesBackBy (first x.values) (record m { operands = x }) to m') is g.gives) }
   where
-    by : (q : Result Move Halt) → GivesBackBy value.Nothing (record m { operands = record m.operands { values = [] } }) q m' → GivesBackBy value.Nothing m q m'
-    by (Ok (move.On i)) g = g
-    by (Ok (move.Up i)) g = g
-    by (Ok (move.Back i)) g = g
-    by (Ok move.Over) g = g
-    by (Err h) g = g
+    by : (q : Move) → GivesBackBy value.Nothing (record m { operands = record m.operands { values = [] } }) q m' → GivesBackBy value.Nothing m q m'
+    by (move.On i) g = g
+    by (move.Up i) g = g
+    by (move.Back i) g = g
+    by move.Over g = g
+    by move.Halted g = g

@@ -3,19 +3,47 @@
 ghost use Rattle.std.specs.Prelude.{None as NoneOf, Some as SomeOf};
 ghost use Rattle.awk_runtime.specs.Simulation.{IsReady};
 ghost use Rattle.awk_compile.specs.declared.node.EffectNode.TheVariants.{Delete, Print, SetStatus};
-ghost use Rattle.awk_evaluator.specs.Moves.{Acts, Performs};
+ghost use Rattle.awk_evaluator.specs.Moves.{Acts, Performs, came};
+ghost use Rattle.awk_evaluator.specs.Reading.{PrintsField};
 
 use crate::machine::Machine;
 use awk_channels::World;
-use awk_compile::node::EffectNode;
+use awk_compile::node::{EffectNode, Operand};
 use awk_grammar::tree::{PrintForm, Redirection};
 use awk_semantics::Halt;
 use awk_storage::Array;
 
 impl Machine {
     /// Does what a node does.
+    #[inline(always)]
+    pub(crate) fn perform<W: World>(&mut self, world: &mut W, node: &EffectNode) -> bool
+        requires ready { IsReady W.is_logged (W.state world.old) self.old.runtime.streams }
+        ensures ready { IsReady W.is_logged (W.state world.new) self.new.runtime.streams }
+        ensures performs { Performs W.is_logged node.now self.old (W.state world.old) (came result self.new) self.new (W.state world.new) }
+    {
+        match node {
+            EffectNode::Spend => self.spend(),
+            EffectNode::Drop(1) => {
+                self.operands.pop();
+                true
+            }
+            _ => self.perform_other(world, node),
+        }
+    }
+
+    /// The same of what isn't done in line.
     #[inline(never)]
-    pub(crate) fn perform<W: World>(&mut self, world: &mut W, node: EffectNode) -> Result<(), Halt>
+    fn perform_other<W: World>(&mut self, world: &mut W, node: &EffectNode) -> bool
+        requires ready { IsReady W.is_logged (W.state world.old) self.old.runtime.streams }
+        ensures ready { IsReady W.is_logged (W.state world.new) self.new.runtime.streams }
+        ensures performs { Performs W.is_logged node.now self.old (W.state world.old) (came result self.new) self.new (W.state world.new) }
+    {
+        let performed = self.act(world, *node);
+        self.is_done(performed)
+    }
+
+    /// Does what a node does; an `Err` is what it came to.
+    fn act<W: World>(&mut self, world: &mut W, node: EffectNode) -> Result<(), Halt>
         requires ready { IsReady W.is_logged (W.state world.old) self.old.runtime.streams }
         ensures ready { IsReady W.is_logged (W.state world.new) self.new.runtime.streams }
         ensures performs { Performs W.is_logged node self.old (W.state world.old) result self.new (W.state world.new) }
@@ -38,6 +66,9 @@ impl Machine {
             EffectNode::Print(form, count, None) => self.print(world, form, count),
             EffectNode::Print(form, count, Some(way)) => self.print_to(world, form, count, way),
             EffectNode::SetStatus => self.set_status(),
+            EffectNode::SetInside(number, is_inside) => {
+                self.runtime.set_inside(number as usize, is_inside)
+            }
         }
     }
 
@@ -67,6 +98,27 @@ impl Machine {
         self.runtime.print(world, form, values)?;
         self.operands.drop(count as usize);
         Ok(())
+    }
+
+    /// Prints the field whose number an operand is as a line to standard output.
+    #[inline(never)]
+    pub(crate) fn print_field<W: World>(&mut self, world: &mut W, number: &Operand) -> bool
+        requires ready { IsReady W.is_logged (W.state world.old) self.old.runtime.streams }
+        ensures ready { IsReady W.is_logged (W.state world.new) self.new.runtime.streams }
+        ensures prints { PrintsField W.is_logged number.now self.old (W.state world.old) (came result self.new) self.new (W.state world.new) }
+    {
+        let printed = self.print_any_field(world, number);
+        self.is_done(printed)
+    }
+
+    /// The same; an `Err` is what it came to.
+    fn print_any_field<W: World>(&mut self, world: &mut W, number: &Operand) -> Result<(), Halt>
+        requires ready { IsReady W.is_logged (W.state world.old) self.old.runtime.streams }
+        ensures ready { IsReady W.is_logged (W.state world.new) self.new.runtime.streams }
+        ensures prints { PrintsField W.is_logged number.now self.old (W.state world.old) result self.new (W.state world.new) }
+    {
+        let value = self.field_at(number)?;
+        self.runtime.print(world, PrintForm::Print, &[value])
     }
 
     // Prints so many operands to the target whose name is the topmost one.

@@ -1,15 +1,81 @@
 // The value of a node that calls no function of the program.
 
 ghost use Rattle.awk_runtime.specs.Simulation.{IsReady};
-ghost use Rattle.awk_evaluator.specs.Moves.{IsStrict, Evaluates};
+ghost use Rattle.awk_compile.specs.declared.node.Node.TheVariants.{Value as ValueAt};
+ghost use Rattle.awk_compile.specs.Nodes.{CallsFit};
+ghost use Rattle.awk_compile.specs.Plans.{array_parameters};
+ghost use Rattle.awk_evaluator.specs.Rest.{IsSound, AtNode};
+ghost use Rattle.awk_evaluator.specs.Moves.{IsStrict, Evaluates, Moves, PutsFound};
 
-use crate::machine::Machine;
+use crate::machine::{Machine, Move};
+use crate::moves::function_of;
 use awk_channels::World;
+use awk_compile::Plan;
 use awk_compile::node::ValueNode;
 use awk_semantics::Halt;
 use awk_value::Value;
 
 impl Machine {
+    /// Puts the value of a node on the stack, and goes on; or begins a call.
+    #[inline(always)]
+    pub(crate) fn put_value<W: World>(
+        &mut self,
+        world: &mut W,
+        plan: &Plan,
+        node: &ValueNode,
+        next: u32,
+    ) -> Move
+        requires sound { IsSound plan.now }
+        requires calls { CallsFit (array_parameters plan.now.functions.items) (ValueAt node.now next) }
+        requires ready { IsReady W.is_logged (W.state world.old) self.old.runtime.streams }
+        ensures ready { IsReady W.is_logged (W.state world.new) self.new.runtime.streams }
+        ensures moves { Moves W.is_logged plan.now (AtNode (ValueAt node.now next)) self.old (W.state world.old) result self.new (W.state world.new) }
+    {
+        if self.put_quickly(node) {
+            return Move::On(next);
+        }
+        self.put_any_value(world, plan, node, next)
+    }
+
+    /// The same of a value that isn't at hand.
+    #[inline(never)]
+    fn put_any_value<W: World>(
+        &mut self,
+        world: &mut W,
+        plan: &Plan,
+        node: &ValueNode,
+        next: u32,
+    ) -> Move
+        requires sound { IsSound plan.now }
+        requires calls { CallsFit (array_parameters plan.now.functions.items) (ValueAt node.now next) }
+        requires ready { IsReady W.is_logged (W.state world.old) self.old.runtime.streams }
+        ensures ready { IsReady W.is_logged (W.state world.new) self.new.runtime.streams }
+        ensures moves { Moves W.is_logged plan.now (AtNode (ValueAt node.now next)) self.old (W.state world.old) result self.new (W.state world.new) }
+    {
+        match node {
+            ValueNode::Call(function, forms) => {
+                match self.call(function_of(plan, *function), forms.as_slice(), next) {
+                    Ok(body) => Move::Up(body),
+                    Err(halt) => self.halt_by(halt),
+                }
+            }
+            node => match self.evaluate(world, node) {
+                Ok(value) => self.put_found(value, next),
+                Err(halt) => self.halt_by(halt),
+            },
+        }
+    }
+
+    /// Puts a value that was found on the stack, and goes on.
+    fn put_found(&mut self, value: Value, next: u32) -> Move
+        ensures { PutsFound value next self.old result self.new }
+    {
+        match self.operands.push(value) {
+            Ok(()) => Move::On(next),
+            Err(refused) => self.halt_by(Halt::from(refused)),
+        }
+    }
+
     /// The value of a node, whose operands are taken off the stack.
     #[inline(always)]
     pub(crate) fn evaluate<W: World>(
@@ -54,6 +120,7 @@ impl Machine {
             ValueNode::System => self.system(world),
             ValueNode::FlushAll => self.flush_all(world),
             ValueNode::Flush => self.flush(world),
+            ValueNode::IsInside(number) => self.is_inside(*number),
             ValueNode::Call(_, _) => unreachable!(),
         }
     }

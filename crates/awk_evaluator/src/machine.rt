@@ -6,7 +6,7 @@ ghost use Rattle.awk_runtime.specs.Calling.{EndsCalls};
 ghost use Rattle.awk_compile.specs.declared.node.Node.TheVariants.{Value as NodeValue};
 ghost use Rattle.awk_compile.specs.Nodes.{first};
 ghost use Rattle.awk_evaluator.specs.Rest.{IsSound, AtPlace};
-ghost use Rattle.awk_evaluator.specs.Moves.{IsIdle, Turns, Steps, Ends, Executes};
+ghost use Rattle.awk_evaluator.specs.Moves.{IsIdle, Turns, Steps, Ends, Executes, Keeps, came, told, without_value, truth_in};
 
 use crate::calls::Calls;
 use crate::operands::Operands;
@@ -14,7 +14,7 @@ use awk_channels::World;
 use awk_compile::Plan;
 use awk_runtime::Runtime;
 use awk_semantics::Halt;
-use awk_value::Value;
+use awk_value::{Value, is_true};
 
 /// A run: its state, the operands of the active calls, and where their callers go on.
 #[derive(Drop)]
@@ -22,6 +22,8 @@ pub struct Machine {
     pub runtime: Runtime,
     pub operands: Operands,
     pub calls: Calls,
+    /// Why the run ended, where a move says that it is halted.
+    pub halt: Halt,
 }
 
 /// Where a move leads.
@@ -35,6 +37,8 @@ pub enum Move {
     Back(u32),
     /// Nowhere: the topmost operand is the last value.
     Over,
+    /// Nowhere: the machine keeps why.
+    Halted,
 }
 
 impl Machine {
@@ -48,6 +52,7 @@ impl Machine {
             runtime,
             operands: Operands::new(alloc),
             calls: Calls::new(alloc),
+            halt: Halt::Exit,
         }
     }
 
@@ -87,9 +92,10 @@ impl Machine {
     {
         let mut at = start;
         'steps: loop {
-            match self.to_step(world, plan, at)? {
+            match self.to_step(world, plan, at) {
                 Move::Up(next) => at = next,
                 Move::Over => return Ok(self.last_value()),
+                Move::Halted => return Err(self.halt),
                 Move::On(_) | Move::Back(_) => unreachable!(),
             }
         }
@@ -109,7 +115,7 @@ impl Machine {
 
     /// Goes on to the next step or the end.
     #[inline(always)]
-    fn to_step<W: World>(&mut self, world: &mut W, plan: &Plan, start: u32) -> Result<Move, Halt>
+    fn to_step<W: World>(&mut self, world: &mut W, plan: &Plan, start: u32) -> Move
         requires sound { IsSound plan.now }
         requires ready { IsReady W.is_logged (W.state world.old) self.old.runtime.streams }
         ensures ready { IsReady W.is_logged (W.state world.new) self.new.runtime.streams }
@@ -117,16 +123,16 @@ impl Machine {
     {
         let mut at = start;
         'returns: loop {
-            match self.to_turn(world, plan, at)? {
+            match self.to_turn(world, plan, at) {
                 Move::Back(next) => at = next,
-                other => return Ok(other),
+                other => return other,
             }
         }
     }
 
     /// Goes on to the next step, return or end.
     #[inline(always)]
-    fn to_turn<W: World>(&mut self, world: &mut W, plan: &Plan, start: u32) -> Result<Move, Halt>
+    fn to_turn<W: World>(&mut self, world: &mut W, plan: &Plan, start: u32) -> Move
         requires sound { IsSound plan.now }
         requires ready { IsReady W.is_logged (W.state world.old) self.old.runtime.streams }
         ensures ready { IsReady W.is_logged (W.state world.new) self.new.runtime.streams }
@@ -134,13 +140,48 @@ impl Machine {
     {
         let mut at = start;
         'moves: loop {
-            if let Some(next) = self.move_quickly::<W>(plan, at) {
-                at = next;
-                continue;
-            }
-            match self.go_on(world, plan, at)? {
+            match self.make_move(world, plan, at) {
                 Move::On(next) => at = next,
-                other => return Ok(other),
+                other => return other,
+            }
+        }
+    }
+
+    /// The run ends by this.
+    #[inline(never)]
+    pub(crate) fn halt_by(&mut self, halt: Halt) -> Move
+        ensures halted { result ≡ Move.Halted }
+        ensures kept { self.new ≡ record self.old { halt = halt } }
+    {
+        self.halt = halt;
+        Move::Halted
+    }
+
+    /// Whether a part was done; else the run ends by what it came to.
+    #[inline(always)]
+    pub(crate) fn is_done<T: Drop>(&mut self, part: Result<T, Halt>) -> bool
+        ensures came { came result self.new ≡ without_value part }
+        ensures kept { Keeps self.old self.new }
+    {
+        match part {
+            Ok(_) => true,
+            Err(halt) => {
+                self.halt = halt;
+                false
+            }
+        }
+    }
+
+    /// Whether the value of a part is true; else the run ends by what it came to.
+    pub(crate) fn truth_of(&mut self, part: Result<Value, Halt>) -> Option<bool>
+        ensures told { told result self.new ≡ truth_in part }
+        ensures kept { Keeps self.old self.new }
+    {
+        match part {
+            Ok(value) => Some(is_true(&value)),
+            Err(halt) => {
+                self.halt = halt;
+                None
             }
         }
     }

@@ -1,21 +1,21 @@
 // What nodes do with operands that are read where they stand.
 
-ghost use Rattle.std.specs.Prelude.{◌≡◌, OnOk};
+ghost use Rattle.std.specs.Prelude.{◌≡◌};
 ghost use Rattle.awk_semantics.specs.State.{lift};
 ghost use Rattle.awk_compile.specs.Nodes.{operated};
 ghost use Rattle.awk_compile.specs.declared.node.ValueNode.TheVariants.{OperateWith, OperateOn, ReadFieldAt};
 ghost use Rattle.awk_runtime.specs.Simulation.{Changes};
 ghost use Rattle.awk_evaluator.specs.Moves.{Computes};
-ghost use Rattle.awk_evaluator.specs.Reading.{ReadsOperand, Compares, Updates, Increments};
+ghost use Rattle.awk_evaluator.specs.Reading.{ReadsOperand, AssignsOperand};
 
 use crate::machine::Machine;
 use awk_compile::node::Operand;
 use awk_functions::operator_of;
 use awk_grammar::tree::BinaryOperator;
-use awk_lex::token::{AssignmentOperator, IncrementOperator};
+use awk_lex::token::AssignmentOperator;
 use awk_semantics::Halt;
 use awk_storage::{Place, Variable};
-use awk_value::{Value, is_true};
+use awk_value::Value;
 
 impl Machine {
     /// The value of an operand.
@@ -78,60 +78,18 @@ impl Machine {
         self.runtime.read_at(Place::Field, &number)
     }
 
-    /// Whether what an operator makes of the topmost value and an operand is true.
-    pub(crate) fn compare_with(
-        &mut self,
-        operator: BinaryOperator,
-        right: &Operand,
-    ) -> Result<bool, Halt>
-        ensures { Compares (OperateWith operator right.now) self.old result self.new }
-    {
-        let value = self.operate_with(operator, right)?;
-        Ok(is_true(&value))
-    }
-
-    /// Whether what an operator makes of two operands is true.
-    pub(crate) fn compare(
-        &mut self,
-        operator: BinaryOperator,
-        left: &Operand,
-        right: &Operand,
-    ) -> Result<bool, Halt>
-        ensures { Compares (OperateOn operator left.now right.now) self.old result self.new }
-    {
-        let value = self.operate_on(operator, left, right)?;
-        Ok(is_true(&value))
-    }
-
-    /// Spends a step, and assigns an operand to a variable; gives what it then holds.
-    #[inline(never)]
-    pub(crate) fn update(
+    /// Assigns an operand to a variable.
+    pub(crate) fn assign_read(
         &mut self,
         operator: AssignmentOperator,
         variable: Variable,
         operand: &Operand,
     ) -> Result<Value, Halt>
-        ensures { Updates operator variable operand.now self.old result self.new }
+        ensures { AssignsOperand operator variable operand.now self.old result self.new }
     {
-        self.runtime.spend()?;
         let value = self.read_operand(operand)?;
         let place = Place::Variable(variable);
         self.runtime
             .assign_by_at(operator_of(operator), place, &Value::Nothing, value)
-    }
-
-    /// Spends a step, and raises or lowers a variable's number by 1; gives the number that it had.
-    #[inline(never)]
-    pub(crate) fn increment(
-        &mut self,
-        operator: IncrementOperator,
-        variable: Variable,
-    ) -> Result<Value, Halt>
-        ensures { Increments operator variable self.old result self.new }
-    {
-        self.runtime.spend()?;
-        let place = Place::Variable(variable);
-        self.runtime
-            .post_increment_at(operator, place, &Value::Nothing)
     }
 }

@@ -1,223 +1,346 @@
-// Moves over what is at hand: they reach no world and have no fault. Where one can't be made so, nothing changes, and it is
-// made in the other way.
+// The moves of nodes that test, and of those that change variables: numbers at hand are taken where they stand, and all else by
+// functions that aren't inlined.
 
-ghost use Rattle.std.specs.Prelude.{◌≡◌, IfSome, IfNone, true, false};
-ghost use Rattle.awk_channels.specs.WorldState.{WorldState};
+ghost use Rattle.std.specs.Prelude.{◌≡◌, Ok, IfSome, true, false};
 ghost use Rattle.awk_value.specs.Values.{truth_of};
 ghost use Rattle.awk_value.specs.declared.value.Value.TheVariants.{Number};
-ghost use Rattle.awk_compile.specs.Nodes.{first, update, increment};
-ghost use Rattle.awk_evaluator.specs.Rest.{IsSound, AtPlace};
-ghost use Rattle.awk_evaluator.specs.Moves.{Onward};
-ghost use Rattle.awk_evaluator.specs.Quick.{Popped, Relates, RelatesWith, Finds, AssignsAlike, Assigns};
+ghost use Rattle.awk_runtime.specs.Simulation.{Spends};
+ghost use Rattle.awk_compile.specs.declared.node.ValueNode.TheVariants.{Assign, PostIncrement, OperateWith, OperateOn, RecordMatches};
+ghost use Rattle.awk_compile.specs.Nodes.{first};
+ghost use Rattle.awk_evaluator.specs.Moves.{Computes, Done, came, told};
+ghost use Rattle.awk_evaluator.specs.Reading.{Compares, Updates, Increments, AssignsOperand, Raises};
+ghost use Rattle.awk_evaluator.specs.Quick.{Popped, Relates, RelatesWith, AssignsAlike};
 
 use crate::machine::Machine;
-use crate::steps::{chosen, node_at};
-use awk_channels::World;
-use awk_compile::Plan;
-use awk_compile::node::{EffectNode, Node, Operand};
+use awk_compile::node::Operand;
 use awk_functions::{operator_of, relate, relate_numbers};
 use awk_grammar::tree::BinaryOperator;
-use awk_lex::token::{AssignmentOperator, IncrementOperator, Operator};
-use awk_storage::Variable;
-use awk_value::number_of;
+use awk_lex::token::{AssignmentOperator, IncrementOperator};
+use awk_storage::{Place, Variable};
+use awk_value::{Value, is_true, number_of};
 
 impl Machine {
-    /// A quick move onward: the place that it leads to.
+    /// Whether the topmost operand is true, which is taken off.
     #[inline(always)]
-    pub(crate) fn move_quickly<W: World>(&mut self, plan: &Plan, at: u32) -> Option<u32>
-        requires sound { IsSound plan.now }
-        ensures some { IfSome result (λ next. (k : WorldState) → Onward W.is_logged plan.now (AtPlace at) self.old k next self.new k) }
-        ensures streams { self.new.runtime.streams ≡ self.old.runtime.streams }
-        ensures none { IfNone result (self.new ≡ self.old) }
+    pub(crate) fn test(&mut self) -> bool
+        ensures truth { truth_of (first self.old.operands.values) ≡ result }
+        ensures popped { Popped self.old self.new }
     {
-        match node_at(plan, at)? {
-            Node::Value(value, next) => {
-                if self.put_quickly(value) {
-                    return Some(*next);
-                }
-                None
-            }
-            Node::Compare(BinaryOperator::Infix(operator), left, right, here, other) => {
-                let holds = self.relate_operands(*operator, left, right)?;
-                Some(chosen(holds, *here, *other))
-            }
-            Node::CompareWith(BinaryOperator::Infix(operator), right, here, other) => {
-                let holds = self.relate_with(*operator, right)?;
-                Some(chosen(holds, *here, *other))
-            }
-            Node::Update(operator, variable, operand, next) => {
-                if self.update_quickly(*operator, *variable, operand) {
-                    return Some(*next);
-                }
-                None
-            }
-            Node::Assign(operator, variable, next) => {
-                if self.assign_quickly(*operator, *variable) {
-                    return Some(*next);
-                }
-                None
-            }
-            Node::Increment(operator, variable, next) => {
-                if self.increment_quickly(*operator, *variable) {
-                    return Some(*next);
-                }
-                None
-            }
-            Node::Test(here, other) => {
-                let holds = self.test_quickly()?;
-                Some(chosen(holds, *here, *other))
-            }
-            Node::Effect(EffectNode::Spend, next) => {
-                if self.runtime.take_step() {
-                    return Some(*next);
-                }
-                None
-            }
-            Node::Effect(EffectNode::Drop(1), next) => {
-                self.operands.pop();
-                Some(*next)
-            }
-            _ => None,
+        if let Some(n) = self.operands.number() {
+            self.operands.pop();
+            return n != 0;
         }
+        self.test_value()
     }
 
-    /// Whether the topmost value is true, where it is a number; it is taken off.
-    #[inline(always)]
-    fn test_quickly(&mut self) -> Option<bool>
-        ensures truth { IfSome result (λ holds. truth_of (first self.old.operands.values) ≡ holds) }
-        ensures popped { IfSome result (λ holds. Popped self.old self.new) }
-        ensures none { IfNone result (self.new ≡ self.old) }
+    /// The same of a value of any kind.
+    #[inline(never)]
+    fn test_value(&mut self) -> bool
+        ensures truth { truth_of (first self.old.operands.values) ≡ result }
+        ensures popped { Popped self.old self.new }
     {
-        let n = self.operands.number()?;
-        self.operands.pop();
-        Some(n != 0)
+        let nothing = Value::Nothing;
+        let holds = is_true(self.operands.top_or(&nothing));
+        self.operands.drop(1);
+        holds
     }
 
-    /// Whether two operands are so related.
+    /// Whether what an operator makes of two operands is true.
     #[inline(always)]
-    fn relate_operands(
+    pub(crate) fn compare(
         &mut self,
-        operator: Operator,
+        operator: BinaryOperator,
         left: &Operand,
         right: &Operand,
     ) -> Option<bool>
-        ensures holds { IfSome result (λ holds. Relates operator left.now right.now holds self.old) }
-        ensures same { self.new ≡ self.old }
+        ensures { Compares (OperateOn operator left.now right.now) self.old (told result self.new) self.new }
     {
-        if let Some(m) = self.number_at(left) {
-            if let Some(n) = self.number_at(right) {
-                return relate_numbers(operator, m, n);
-            }
+        if let Some(holds) = self.relate_numbers(operator, left, right) {
+            return Some(holds);
         }
-        self.relate_values(operator, left, right)
+        self.compare_values(operator, left, right)
     }
 
-    /// The same of values of any kind.
-    #[inline(never)]
-    fn relate_values(&self, operator: Operator, left: &Operand, right: &Operand) -> Option<bool>
+    /// Whether two numbers at hand are so related.
+    #[inline(always)]
+    fn relate_numbers(
+        &self,
+        operator: BinaryOperator,
+        left: &Operand,
+        right: &Operand,
+    ) -> Option<bool>
         ensures { IfSome result (λ holds. Relates operator left.now right.now holds self.now) }
     {
-        relate(operator, self.value_at(left)?, self.value_at(right)?)
+        let BinaryOperator::Infix(infix) = operator else {
+            return None;
+        };
+        let m = self.number_at(left)?;
+        let n = self.number_at(right)?;
+        relate_numbers(infix, m, n)
     }
 
-    /// Whether the topmost value and an operand are so related; the value is taken off.
-    #[inline(always)]
-    fn relate_with(&mut self, operator: Operator, right: &Operand) -> Option<bool>
-        ensures some { IfSome result (λ holds. RelatesWith operator right.now holds self.old self.new) }
-        ensures none { IfNone result (self.new ≡ self.old) }
-    {
-        if let Some(m) = self.operands.number() {
-            if let Some(n) = self.number_at(right) {
-                let holds = relate_numbers(operator, m, n)?;
-                self.operands.pop();
-                return Some(holds);
-            }
-        }
-        self.relate_value_with(operator, right)
-    }
-
-    /// The same of values of any kind.
+    /// The same as `compare` of values of any kind.
     #[inline(never)]
-    fn relate_value_with(&mut self, operator: Operator, right: &Operand) -> Option<bool>
-        ensures some { IfSome result (λ holds. RelatesWith operator right.now holds self.old self.new) }
-        ensures none { IfNone result (self.new ≡ self.old) }
+    fn compare_values(
+        &mut self,
+        operator: BinaryOperator,
+        left: &Operand,
+        right: &Operand,
+    ) -> Option<bool>
+        ensures { Compares (OperateOn operator left.now right.now) self.old (told result self.new) self.new }
     {
-        let holds = relate(operator, self.operands.top()?, self.value_at(right)?)?;
-        self.operands.drop(1);
-        Some(holds)
+        if let Some(holds) = self.relate_values(operator, left, right) {
+            return Some(holds);
+        }
+        let value = self.operate_on(operator, left, right);
+        self.truth_of(value)
     }
 
-    /// Spends a step, and assigns an operand's number to a variable.
+    /// Whether two values at hand are so related.
     #[inline(always)]
-    fn update_quickly(
+    fn relate_values(
+        &self,
+        operator: BinaryOperator,
+        left: &Operand,
+        right: &Operand,
+    ) -> Option<bool>
+        ensures { IfSome result (λ holds. Relates operator left.now right.now holds self.now) }
+    {
+        let BinaryOperator::Infix(infix) = operator else {
+            return None;
+        };
+        relate(infix, self.value_at(left)?, self.value_at(right)?)
+    }
+
+    /// Whether what an operator makes of the topmost value, which is taken off, and an operand is true.
+    #[inline(always)]
+    pub(crate) fn compare_with(&mut self, operator: BinaryOperator, right: &Operand) -> Option<bool>
+        ensures { Compares (OperateWith operator right.now) self.old (told result self.new) self.new }
+    {
+        if let Some(holds) = self.relate_number_with(operator, right) {
+            self.operands.pop();
+            return Some(holds);
+        }
+        self.compare_value_with(operator, right)
+    }
+
+    /// Whether the topmost number and a number at hand are so related.
+    #[inline(always)]
+    fn relate_number_with(&self, operator: BinaryOperator, right: &Operand) -> Option<bool>
+        ensures { IfSome result (λ holds. RelatesWith operator right.now holds self.now) }
+    {
+        let BinaryOperator::Infix(infix) = operator else {
+            return None;
+        };
+        let m = self.operands.number()?;
+        let n = self.number_at(right)?;
+        relate_numbers(infix, m, n)
+    }
+
+    /// The same as `compare_with` of values of any kind.
+    #[inline(never)]
+    fn compare_value_with(&mut self, operator: BinaryOperator, right: &Operand) -> Option<bool>
+        ensures { Compares (OperateWith operator right.now) self.old (told result self.new) self.new }
+    {
+        if let Some(holds) = self.relate_value_with(operator, right) {
+            self.operands.drop(1);
+            return Some(holds);
+        }
+        let value = self.operate_with(operator, right);
+        self.truth_of(value)
+    }
+
+    /// Whether the topmost value and a value at hand are so related.
+    #[inline(always)]
+    fn relate_value_with(&self, operator: BinaryOperator, right: &Operand) -> Option<bool>
+        ensures { IfSome result (λ holds. RelatesWith operator right.now holds self.now) }
+    {
+        let BinaryOperator::Infix(infix) = operator else {
+            return None;
+        };
+        relate(infix, self.operands.top()?, self.value_at(right)?)
+    }
+
+    /// Spends a step.
+    #[inline(always)]
+    pub(crate) fn spend(&mut self) -> bool
+        ensures spends { Spends self.old.runtime self.new.runtime (came result self.new) }
+        ensures operands { self.new.operands ≡ self.old.operands }
+        ensures calls { self.new.calls ≡ self.old.calls }
+    {
+        let spent = self.runtime.spend();
+        self.is_done(spent)
+    }
+
+    /// Spends a step, and assigns an operand to a variable.
+    #[inline(always)]
+    pub(crate) fn update(
         &mut self,
         operator: AssignmentOperator,
-        variable: Variable,
+        variable: &Variable,
         operand: &Operand,
     ) -> bool
-        ensures updated { result ≡ true → Finds (update self.old.runtime.names.scalars operator variable operand.now) self.old self.new }
-        ensures kept { result ≡ false → self.new ≡ self.old }
+        ensures { Done (λ r. Updates operator variable.now operand.now self.old r self.new) (came result self.new) }
     {
-        let steps = self.runtime.steps;
-        if !self.runtime.take_step() {
+        if !self.spend() {
             return false;
         }
-        if let Some(n) = self.number_at(operand) {
-            if let Some(_) = self
-                .runtime
-                .assign_number(operator_of(operator), variable, n)
-            {
-                return true;
-            }
+        if self.assign_number_at(operator, variable, operand) {
+            return true;
         }
-        self.runtime.steps = steps;
-        false
+        self.assign_operand(operator, variable, operand)
+    }
+
+    /// Assigns an operand that is a number at hand to a variable, where that changes where it stands.
+    #[inline(always)]
+    fn assign_number_at(
+        &mut self,
+        operator: AssignmentOperator,
+        variable: &Variable,
+        operand: &Operand,
+    ) -> bool
+        ensures assigned { result ≡ true → Done (λ r. AssignsOperand operator variable.now operand.now self.old r self.new) (Ok tt) }
+        ensures kept { result ≡ false → self.new ≡ self.old }
+    {
+        let Some(n) = self.number_at(operand) else {
+            return false;
+        };
+        self.runtime.change_number(operator, variable, n)
+    }
+
+    /// Assigns an operand of any kind to a variable.
+    #[inline(never)]
+    fn assign_operand(
+        &mut self,
+        operator: AssignmentOperator,
+        variable: &Variable,
+        operand: &Operand,
+    ) -> bool
+        ensures { Done (λ r. AssignsOperand operator variable.now operand.now self.old r self.new) (came result self.new) }
+    {
+        let assigned = self.assign_read(operator, *variable, operand);
+        self.is_done(assigned)
     }
 
     /// Spends a step, and raises or lowers a variable's number by 1.
     #[inline(always)]
-    fn increment_quickly(&mut self, operator: IncrementOperator, variable: Variable) -> bool
-        ensures incremented { result ≡ true → Finds (increment self.old.runtime.names.scalars operator variable) self.old self.new }
-        ensures kept { result ≡ false → self.new ≡ self.old }
+    pub(crate) fn increment(&mut self, operator: IncrementOperator, variable: &Variable) -> bool
+        ensures { Done (λ r. Increments operator variable.now self.old r self.new) (came result self.new) }
     {
-        let steps = self.runtime.steps;
-        if !self.runtime.take_step() {
+        if !self.spend() {
             return false;
         }
-        if let Some(_) = self.runtime.raise_number(operator, variable) {
+        if self.runtime.raise_in_place(operator, variable) {
             return true;
         }
-        self.runtime.steps = steps;
-        false
+        self.increment_value(operator, variable)
     }
 
-    /// Gives a variable the topmost number, or what an operator makes of its number and the topmost value, which is taken off.
+    /// Raises or lowers what a variable holds, of any kind, by 1.
+    #[inline(never)]
+    fn increment_value(&mut self, operator: IncrementOperator, variable: &Variable) -> bool
+        ensures { Done (λ r. Raises operator variable.now self.old r self.new) (came result self.new) }
+    {
+        let place = Place::Variable(*variable);
+        let raised = self
+            .runtime
+            .post_increment_at(operator, place, &Value::Nothing);
+        self.is_done(raised)
+    }
+
+    /// Gives a place the topmost value, or what an operator makes of its own and this one; both operands are taken off.
     #[inline(always)]
-    fn assign_quickly(&mut self, operator: AssignmentOperator, variable: Variable) -> bool
-        ensures assigned { result ≡ true → Assigns operator variable self.old self.new }
+    pub(crate) fn assign_to(&mut self, operator: AssignmentOperator, place: &Place) -> bool
+        ensures { Done (λ r. Computes (Assign operator place.now) self.old r self.new) (came result self.new) }
+    {
+        if self.assign_number(operator, place) {
+            return true;
+        }
+        self.assign_value(operator, place)
+    }
+
+    /// Assigns the topmost number to a variable, where that changes where it stands.
+    #[inline(always)]
+    fn assign_number(&mut self, operator: AssignmentOperator, place: &Place) -> bool
+        ensures assigned { result ≡ true → Done (λ r. Computes (Assign operator place.now) self.old r self.new) (Ok tt) }
         ensures kept { result ≡ false → self.new ≡ self.old }
     {
-        let Some(n) = self.number_for(operator) else {
+        let Place::Variable(variable) = place else {
             return false;
         };
-        let Some(_) = self
-            .runtime
-            .assign_number(operator_of(operator), variable, n)
-        else {
+        let Some(n) = self.operands.number() else {
             return false;
         };
+        if !self.runtime.change_number(operator, variable, n) {
+            return false;
+        }
         self.operands.pop();
         true
     }
 
-    /// The number that is as good to assign as the topmost value: `=` takes none but a number.
-    #[inline(always)]
+    /// The same as `assign_to` of values of any kind.
+    #[inline(never)]
+    fn assign_value(&mut self, operator: AssignmentOperator, place: &Place) -> bool
+        ensures { Done (λ r. Computes (Assign operator place.now) self.old r self.new) (came result self.new) }
+    {
+        if self.assign_as_number(operator, place) {
+            return true;
+        }
+        let assigned = self.assign(operator, *place);
+        self.is_done(assigned)
+    }
+
+    /// Assigns the number of the topmost value to a variable, where an operator is applied, and that changes where it stands.
+    fn assign_as_number(&mut self, operator: AssignmentOperator, place: &Place) -> bool
+        ensures assigned { result ≡ true → Done (λ r. Computes (Assign operator place.now) self.old r self.new) (Ok tt) }
+        ensures kept { result ≡ false → self.new ≡ self.old }
+    {
+        let Place::Variable(variable) = place else {
+            return false;
+        };
+        let Some(n) = self.number_for(operator) else {
+            return false;
+        };
+        if !self.runtime.change_number(operator, variable, n) {
+            return false;
+        }
+        self.operands.pop();
+        true
+    }
+
+    /// The number that is as good to assign as the topmost value, where an operator is applied.
     fn number_for(&self, operator: AssignmentOperator) -> Option<i128>
         ensures { IfSome result (λ n. AssignsAlike operator (first self.now.operands.values) (Number n)) }
     {
         match operator {
-            AssignmentOperator::Plain => self.operands.number(),
+            AssignmentOperator::Plain => None,
             _ => number_of(self.operands.top()?).ok(),
         }
+    }
+
+    /// Raises or lowers the number of a place by 1, and takes the operand of the place off.
+    #[inline(always)]
+    pub(crate) fn raise(&mut self, operator: IncrementOperator, place: &Place) -> bool
+        ensures { Done (λ r. Computes (PostIncrement operator place.now) self.old r self.new) (came result self.new) }
+    {
+        self.raise_value(operator, place)
+    }
+
+    /// The same of what a place holds of any kind.
+    #[inline(never)]
+    fn raise_value(&mut self, operator: IncrementOperator, place: &Place) -> bool
+        ensures { Done (λ r. Computes (PostIncrement operator place.now) self.old r self.new) (came result self.new) }
+    {
+        let raised = self.post_increment(operator, *place);
+        self.is_done(raised)
+    }
+
+    /// Whether the record has a match of an ERE of the program.
+    #[inline(never)]
+    pub(crate) fn match_record(&mut self, ere: u32) -> Option<bool>
+        ensures { Compares (RecordMatches ere) self.old (told result self.new) self.new }
+    {
+        let matches = self.record_matches(ere);
+        self.truth_of(matches)
     }
 }

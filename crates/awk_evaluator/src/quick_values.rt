@@ -4,7 +4,7 @@ ghost use Rattle.std.specs.Prelude.{◌≡◌, IfSome, true, false};
 ghost use Rattle.awk_value.specs.declared.value.Value.TheVariants.{Number};
 ghost use Rattle.awk_grammar.specs.declared.tree.BinaryOperator.TheVariants.{Infix};
 ghost use Rattle.awk_grammar.specs.declared.tree.UnaryOperator.TheVariants.{Minus as Negative};
-ghost use Rattle.awk_compile.specs.declared.node.ValueNode.TheVariants.{Push, Read, Operate, OperateWith, OperateOn, Change, ReadField, ReadFieldAt, ReadElement};
+ghost use Rattle.awk_compile.specs.declared.node.ValueNode.TheVariants.{Push, Read, Operate, OperateWith, OperateOn, Change, ReadField, ReadFieldAt, ReadElement, IsInside};
 ghost use Rattle.awk_evaluator.specs.Quick.{IsAtHand, Puts, Pushed};
 
 use crate::machine::Machine;
@@ -24,7 +24,7 @@ impl Machine {
     {
         match node {
             ValueNode::Push(value) => self.put_constant(value),
-            ValueNode::Read(variable) => self.put_variable(*variable),
+            ValueNode::Read(variable) => self.put_variable(variable),
             ValueNode::Operate(BinaryOperator::Infix(operator)) => self.put_operated(*operator),
             ValueNode::OperateWith(BinaryOperator::Infix(operator), right) => {
                 self.put_operated_with(*operator, right)
@@ -36,21 +36,32 @@ impl Machine {
             ValueNode::ReadField => self.put_field(),
             ValueNode::ReadFieldAt(number) => self.put_field_at(number),
             ValueNode::ReadElement(array) => self.put_element(*array),
+            ValueNode::IsInside(number) => self.put_inside(*number),
             _ => false,
         }
     }
 
     /// The number that an operand is, if it is one.
     #[inline(always)]
-    pub(crate) fn number_at(&mut self, operand: &Operand) -> Option<i128>
-        ensures some { IfSome result (λ n. IsAtHand operand.now (Number n) self.old) }
-        ensures same { self.new ≡ self.old }
+    pub(crate) fn number_at(&self, operand: &Operand) -> Option<i128>
+        ensures { IfSome result (λ n. IsAtHand operand.now (Number n) self.now) }
     {
-        match operand {
-            Operand::Constant(Value::Number(n)) => Some(*n),
-            Operand::Constant(_) => None,
-            Operand::Variable(variable) => self.runtime.number_in(*variable),
+        if let Operand::Variable(Variable::Global(slot)) = operand {
+            return self.runtime.number_in_slot(*slot);
         }
+        if let Operand::Constant(Value::Number(n)) = operand {
+            return Some(*n);
+        }
+        if let Operand::Variable(Variable::Local(index)) = operand {
+            return self.runtime.number_of_parameter(*index);
+        }
+        if let Operand::Variable(Variable::FieldCount) = operand {
+            return self.runtime.known_count();
+        }
+        if let Operand::Variable(Variable::Special(special)) = operand {
+            return self.runtime.number_of_special(*special);
+        }
+        None
     }
 
     /// The value that an operand is, where one is kept.
@@ -99,11 +110,11 @@ impl Machine {
 
     /// Puts the value of a variable on the stack.
     #[inline(always)]
-    fn put_variable(&mut self, variable: Variable) -> bool
-        ensures puts { result ≡ true → Puts (Read variable) self.old self.new }
+    fn put_variable(&mut self, variable: &Variable) -> bool
+        ensures puts { result ≡ true → Puts (Read variable.now) self.old self.new }
         ensures kept { result ≡ false → self.new ≡ self.old }
     {
-        if let Some(n) = self.runtime.number_in(variable) {
+        if let Some(n) = self.runtime.number_in(*variable) {
             return self.put(n);
         }
         self.put_copy_of(variable)
@@ -111,11 +122,11 @@ impl Machine {
 
     /// Puts a copy of the value of a variable on the stack.
     #[inline(never)]
-    fn put_copy_of(&mut self, variable: Variable) -> bool
-        ensures puts { result ≡ true → Puts (Read variable) self.old self.new }
+    fn put_copy_of(&mut self, variable: &Variable) -> bool
+        ensures puts { result ≡ true → Puts (Read variable.now) self.old self.new }
         ensures kept { result ≡ false → self.new ≡ self.old }
     {
-        let Some(value) = self.runtime.value_in(variable) else {
+        let Some(value) = self.runtime.value_in(*variable) else {
             return false;
         };
         match value.clone() {
@@ -242,5 +253,17 @@ impl Machine {
         };
         self.operands.replace(value);
         true
+    }
+
+    /// Puts whether a range is inside on the stack.
+    #[inline(always)]
+    fn put_inside(&mut self, number: u32) -> bool
+        ensures puts { result ≡ true → Puts (IsInside number) self.old self.new }
+        ensures kept { result ≡ false → self.new ≡ self.old }
+    {
+        if self.runtime.is_inside(number as usize) {
+            return self.put(1);
+        }
+        self.put(0)
     }
 }

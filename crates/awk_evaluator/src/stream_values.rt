@@ -61,8 +61,10 @@ impl Machine {
         ensures evaluates { Evaluates W.is_logged (Getline Main place) self.old (W.state world.old) result self.new (W.state world.new) }
     {
         let nothing = Value::Nothing;
-        let operand = self.operands.top().unwrap_or(&nothing);
-        let answer = self.runtime.main_getline_at(world, place, operand)?;
+        let operand = self.operands.top_or(&nothing);
+        let answer = self.runtime.main_getline_at(world, place, operand);
+        drop(nothing);
+        let answer = answer?;
         self.operands.drop(place_operand_count(place));
         Ok(answer)
     }
@@ -100,9 +102,12 @@ impl Machine {
             (first self.old.operands.values)) self.old.runtime (W.state world.old) self.new.runtime (W.state world.new) result }
     {
         let nothing = Value::Nothing;
-        let operand = self.operands.top().unwrap_or(&nothing);
-        self.runtime
-            .named_getline_at(world, kind, name, place, operand)
+        let operand = self.operands.top_or(&nothing);
+        let answer = self
+            .runtime
+            .named_getline_at(world, kind, name, place, operand);
+        drop(nothing);
+        answer
     }
 
     // From the command that lies below the operand of the place.

@@ -2,8 +2,9 @@
 
 ghost use Rattle.std.specs.Prelude.{◌≡◌};
 ghost use Rattle.awk_compile.specs.Nodes.{operands};
-ghost use Rattle.awk_compile.specs.declared.node.ValueNode.TheVariants.{Push, Read, RecordMatches, Operate, ConcatenateAll, MatchesEre, Change, ReadField, ReadElement, Contains, Key, FieldNumber, Assign, Append, PreIncrement, PostIncrement, Load, RecordLength, CountElements, Apply};
-ghost use Rattle.awk_evaluator.specs.Moves.{Computes};
+ghost use Rattle.awk_compile.specs.declared.node.ValueNode.TheVariants.{Push, Read, RecordMatches, Operate, ConcatenateAll, MatchesEre, Change, ReadField, ReadElement, Contains, Key, FieldNumber, Assign, Append, PreIncrement, PostIncrement, Load, RecordLength, CountElements, IsInside, Apply};
+ghost use Rattle.awk_evaluator.specs.Moves.{Computes, Done, came};
+ghost use Rattle.awk_evaluator.specs.Reading.{Appends};
 
 use crate::machine::Machine;
 use awk_functions::{operator_of, truth_value};
@@ -143,10 +144,12 @@ impl Machine {
     {
         let value = self.operands.pop();
         let nothing = Value::Nothing;
-        let operand = self.operands.top().unwrap_or(&nothing);
+        let operand = self.operands.top_or(&nothing);
         let assigned = self
             .runtime
-            .assign_by_at(operator_of(operator), place, operand, value)?;
+            .assign_by_at(operator_of(operator), place, operand, value);
+        drop(nothing);
+        let assigned = assigned?;
         self.operands.drop(operand_count(place));
         Ok(assigned)
     }
@@ -159,6 +162,26 @@ impl Machine {
         self.runtime.append_to(variable, text, &behind)
     }
 
+    /// Gives a variable its text with those of so many operands behind it.
+    pub(crate) fn append_texts(&mut self, variable: &Variable, count: u32) -> bool
+        ensures { Done (λ r. Appends variable.now count self.old r self.new) (came result self.new) }
+    {
+        let appended = self.append_all(*variable, count as usize);
+        self.is_done(appended)
+    }
+
+    /// The same; gives what the variable then holds.
+    fn append_all(&mut self, variable: Variable, count: usize) -> Result<Value, Halt>
+        ensures { Appends variable count self.old result self.new }
+    {
+        let text = self.runtime.read_variable(variable)?;
+        let parts = self.operands.newest(count);
+        let behind = self.runtime.concatenate_all(parts)?;
+        let appended = self.runtime.append_to(variable, text, &behind)?;
+        self.operands.drop(count);
+        Ok(appended)
+    }
+
     /// Raises or lowers what a place holds by 1; gives what it then holds.
     #[inline(never)]
     pub(crate) fn pre_increment(
@@ -169,8 +192,10 @@ impl Machine {
         ensures { Computes (PreIncrement operator place) self.old result self.new }
     {
         let nothing = Value::Nothing;
-        let operand = self.operands.top().unwrap_or(&nothing);
-        let raised = self.runtime.pre_increment_at(operator, place, operand)?;
+        let operand = self.operands.top_or(&nothing);
+        let raised = self.runtime.pre_increment_at(operator, place, operand);
+        drop(nothing);
+        let raised = raised?;
         self.operands.drop(operand_count(place));
         Ok(raised)
     }
@@ -185,8 +210,10 @@ impl Machine {
         ensures { Computes (PostIncrement operator place) self.old result self.new }
     {
         let nothing = Value::Nothing;
-        let operand = self.operands.top().unwrap_or(&nothing);
-        let old = self.runtime.post_increment_at(operator, place, operand)?;
+        let operand = self.operands.top_or(&nothing);
+        let old = self.runtime.post_increment_at(operator, place, operand);
+        drop(nothing);
+        let old = old?;
         self.operands.drop(operand_count(place));
         Ok(old)
     }
@@ -196,8 +223,10 @@ impl Machine {
         ensures { Computes (Load place) self.old result self.new }
     {
         let nothing = Value::Nothing;
-        let operand = self.operands.top().unwrap_or(&nothing);
-        self.runtime.read_at(place, operand)
+        let operand = self.operands.top_or(&nothing);
+        let value = self.runtime.read_at(place, operand);
+        drop(nothing);
+        value
     }
 
     /// The length of the record's text.
@@ -212,6 +241,13 @@ impl Machine {
         ensures { Computes (CountElements array) self.old result self.new }
     {
         Ok(self.runtime.count_elements_at(array))
+    }
+
+    /// Whether a range is inside, by the number of its item.
+    pub(crate) fn is_inside(&mut self, number: u32) -> Result<Value, Halt>
+        ensures { Computes (IsInside number) self.old result self.new }
+    {
+        Ok(truth_value(self.runtime.is_inside(number as usize)))
     }
 
     /// What a built-in function makes of so many operands.

@@ -2,6 +2,7 @@
 
 ghost use Rattle.std.specs.Prelude.{◌≡◌, ◌==◌, suc, drop, OnOk};
 ghost use Rattle.awk_compile.specs.Nodes.{first, keys_left};
+ghost use Rattle.awk_evaluator.specs.Moves.{came};
 ghost use Rattle.awk_evaluator.specs.Walks.{PutsKeys, TakesKey};
 
 use crate::machine::Machine;
@@ -22,7 +23,15 @@ fn keys_left(count: &Value) -> u128
 impl Machine {
     /// Puts the keys of an array on the stack, the first one on top, and their count.
     #[inline(never)]
-    pub(crate) fn begin_walk(&mut self, array: Array) -> Result<(), Halt>
+    pub(crate) fn begin_walk(&mut self, array: Array) -> bool
+        ensures { PutsKeys array self.old (came result self.new) self.new }
+    {
+        let laid = self.lay_keys(array);
+        self.is_done(laid)
+    }
+
+    /// The same; an `Err` is what it came to.
+    fn lay_keys(&mut self, array: Array) -> Result<(), Halt>
         ensures { PutsKeys array self.old result self.new }
     {
         let mut keys = self.runtime.keys_of_array(array)?;
@@ -46,7 +55,15 @@ impl Machine {
     }
 
     /// Gives the next key to the variable of a walk.
-    pub(crate) fn take_key(&mut self, variable: Variable) -> Result<(), Halt>
+    pub(crate) fn take_key(&mut self, variable: Variable) -> bool
+        ensures { TakesKey variable self.old (came result self.new) self.new }
+    {
+        let given = self.give_key(variable);
+        self.is_done(given)
+    }
+
+    /// The same; an `Err` is what it came to.
+    fn give_key(&mut self, variable: Variable) -> Result<(), Halt>
         ensures { TakesKey variable self.old result self.new }
     {
         let count = self.operands.pop();

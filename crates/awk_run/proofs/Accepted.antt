@@ -1,5 +1,5 @@
 -- From a text's tokens and their tree to its program.
-use Rattle.std.proofs.Common.{◌≡◌, ◌⊎◌, inl, inr, ℕ, ◌≤◌, true, false, List, [], ◌∷◌, length, Option, Some, None, Result, Ok, Err, IfOk, IfErr, refl, sym, ap, ◌∙◌, subst}
+use Rattle.std.proofs.Common.{◌≡◌, ◌⊎◌, inl, inr, ℕ, ◌≤◌, Bool, true, false, not, List, [], ◌∷◌, length, Option, Some, None, Result, Ok, Err, IfOk, IfErr, refl, sym, ap, ◌∙◌, subst}
 use Rattle.std.proofs.lemmas.Bool.{cases_Bool}
 use Rattle.awk_lex.specs.declared.token.Kind.{Kind}
 use Rattle.awk_lex.specs.declared.token.Token.{Token}
@@ -17,6 +17,7 @@ use Rattle.awk_grammar.specs.declared.tree.Tree.{Tree}
 use Rattle.awk_syntax.specs.Outcome.{Reads, IsProgramWithinHeight, RefusesPattern, Justifies}
 use Rattle.awk_syntax.specs.Patterns.{AreReadable}
 use Rattle.awk_kinds.specs.definitions.Fits.{holds, first_of, in_order, first_refusal, Fits, LawOfRefusals}
+use Rattle.awk_kinds.specs.definitions.Placed.{are_in_place}
 use Rattle.awk_kinds.specs.definitions.Signatures.{ProgramKinds, kinds_of, Resolves}
 use Rattle.awk_compile.specs.declared.plan.Plan.{Plan}
 use Rattle.awk_compile.specs.definitions.Plans.{IsPlanOf}
@@ -165,3 +166,11 @@ justified code line text tokens h why = absurd why
 
 pub parsing_refused : (refusal : Refusal) (text : List ℕ) (tokens : List Token) → length text ≤ longest_text → Lexes (token_kinds_of tokens) text → Justifies refusal.code refusal.line tokens → RefusedFor refusal.code text
 parsing_refused refusal text tokens short lexes why = justified refusal.code refusal.line text tokens (short, lexes) why
+
+-- where the statements of a program stand
+not_false : (b : Bool) → not b ≡ false → b ≡ true
+not_false true e = refl
+not_false false e = absurd (cc)
+
+pub in_place : {text : List ℕ} {items : List Item} → Accepted text items → are_in_place items ≡ true
+in_place {items = items} accepted = not_false (are_in_place items) (accepted.fits StatementOutOfPlace)

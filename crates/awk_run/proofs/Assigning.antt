@@ -2,7 +2,6 @@
 use Rattle.std.proofs.Common.{◌≡◌, ℕ, ◌≤◌, ◌<◌, ◌+◌, suc, List, [], ◌∷◌, Result, Ok, Err, length, map, drop, get_or, add-one, drop-cons, refl, sym, ap, subst}
 use Rattle.std.proofs.lemmas.List.{drop_all}
 use Rattle.awk_channels.specs.WorldState.{WorldState}
-use Rattle.awk_compile.specs.declared.plan.PlannedItem.{PlannedItem}
 use Rattle.awk_compile.specs.declared.plan.Plan.{Plan}
 use Rattle.awk_semantics.specs.declared.halt.Halt.{Halt}
 use Rattle.awk_semantics.specs.definitions.State.{◌>>=◌, ret}
@@ -30,13 +29,13 @@ pub assigns_step : {a : List ℕ × List ℕ} {all : List (List ℕ × List ℕ)
 unfolding assign_all
 assigns_step {all = all} p q = record { changes = then_changes (λ _. assign_all all) p q.changes }
 
-pub assigned_halts : (xs : List PlannedItem) (pre : List (List ℕ × List ℕ)) {is_logged : Type 0} {plan : Plan} {m m1 : Runtime} {k : WorldState} {h : Halt} → Assigns pre m m1 (Err h) → FollowsPlan is_logged plan (λ at. assign_and_run_at at xs pre) m k m1 k (Err h)
+pub assigned_halts : (pre : List (List ℕ × List ℕ)) {is_logged : Type 0} {plan : Plan} {m m1 : Runtime} {k : WorldState} {h : Halt} → Assigns pre m m1 (Err h) → FollowsPlan is_logged plan (λ at. assign_and_run_at at plan pre) m k m1 k (Err h)
 unfolding assign_and_run_at
-assigned_halts xs pre p = ends_follows (λ at _. run_items_at at xs) (change_follows p.changes)
+assigned_halts pre {plan = plan} p = ends_follows (λ at _. run_items_at at plan) (change_follows p.changes)
 
-pub assigned_runs : (xs : List PlannedItem) (pre : List (List ℕ × List ℕ)) {is_logged : Type 0} {plan : Plan} {m m1 m2 : Runtime} {k k2 : WorldState} {r : Result (Unit {0}) Halt} → Assigns pre m m1 (Ok tt) → FollowsPlan is_logged plan (λ at. run_items_at at xs) m1 k m2 k2 r → FollowsPlan is_logged plan (λ at. assign_and_run_at at xs pre) m k m2 k2 r
+pub assigned_runs : (pre : List (List ℕ × List ℕ)) {is_logged : Type 0} {plan : Plan} {m m1 m2 : Runtime} {k k2 : WorldState} {r : Result (Unit {0}) Halt} → Assigns pre m m1 (Ok tt) → FollowsPlan is_logged plan (λ at. run_items_at at plan) m1 k m2 k2 r → FollowsPlan is_logged plan (λ at. assign_and_run_at at plan pre) m k m2 k2 r
 unfolding assign_and_run_at
-assigned_runs xs pre p q = then_follows (λ at _. run_items_at at xs) (change_follows p.changes) q
+assigned_runs pre {plan = plan} p q = then_follows (λ at _. run_items_at at plan) (change_follows p.changes) q
 
 -- assignments, from a place on
 

@@ -5,7 +5,6 @@ use Rattle.awk_channels.specs.Oracle.{Oracle}
 use Rattle.awk_channels.specs.Openings.{Begins}
 use Rattle.awk_semantics.specs.definitions.Meaning.{outputs_after}
 use Rattle.awk_channels.specs.Streams.{StreamsView, printed_openings}
-use Rattle.awk_compile.specs.declared.plan.PlannedItem.{PlannedItem}
 use Rattle.awk_compile.specs.declared.plan.Plan.{Plan}
 use Rattle.awk_semantics.specs.declared.halt.Halt.{Halt}
 use Rattle.awk_semantics.specs.declared.halt.Halt.TheVariants as halt
@@ -17,7 +16,7 @@ use Rattle.awk_runtime.specs.declared.runtime.Runtime.{Runtime}
 use Rattle.awk_runtime.specs.support.Naming.{Naming}
 use Rattle.awk_runtime.specs.support.Simulation.{IsReady, StateRelation, StreamsRelation, FailureRelation, ResultRelation, SimulatesLogged, Simulates}
 use Rattle.awk_runtime.proofs.Composition.{OwnPart, same_part, streams_own, ready_same}
-use Rattle.awk_run.specs.support.Planned.{IsPlanFor, try_items_at, run_before_end_at, end_items_at, run_items_at}
+use Rattle.awk_run.specs.support.Planned.{IsPlanFor, part_at, run_before_end_at, run_items_at}
 use Rattle.awk_run.specs.support.Follows.{Part, FollowsPlan, IsSet}
 use Rattle.awk_runtime.specs.Calling.{EndsCalls}
 use Rattle.awk_run.proofs.PlanParts.{then_follows, ends_follows}
@@ -78,8 +77,8 @@ pub ended_set : {is_logged : Type 0} {plan : Plan} {m m1 : Runtime} {k : WorldSt
 ended_set {plan = plan} ends set = record { ready = ready_same ends.streams set.ready; items = set.items; planned = subst (λ (names : Naming). IsPlanFor set.items plan names) (sym ends.names) set.planned }
 
 -- `next` ends the items on a record
-pub until_next_follows : (xs : List PlannedItem) {is_logged : Type 0} {plan : Plan} {m m1 m2 : Runtime} {k k1 : WorldState} {r r' : Result (Unit {0}) Halt} → r' ≡ unless_next r → EndsCalls m1 m2 → FollowsPlan is_logged plan (λ at. try_items_at at 0 xs) m k m1 k1 r → FollowsPlan is_logged plan (λ at. until_next (try_items_at at 0 xs)) m k m2 k1 r'
-until_next_follows xs {m = m} e ends p = rw e (record {
+pub until_next_follows : {is_logged : Type 0} {plan : Plan} {m m1 m2 : Runtime} {k k1 : WorldState} {r r' : Result (Unit {0}) Halt} → r' ≡ unless_next r → EndsCalls m1 m2 → FollowsPlan is_logged plan (λ at. part_at at plan.rules) m k m1 k1 r → FollowsPlan is_logged plan (λ at. until_next (part_at at plan.rules)) m k m2 k1 r'
+until_next_follows {m = m} e ends p = rw e (record {
   steps = subst (λ n. n ≤ m.steps) (sym ends.steps) p.steps;
   names = ends.names ∙ p.names;
   told = λ items is n low. record {
@@ -90,8 +89,8 @@ until_next_follows xs {m = m} e ends p = rw e (record {
 })
 
 -- `exit` ends what comes before the END actions
-pub until_exit_follows : (xs : List PlannedItem) {is_logged : Type 0} {plan : Plan} {m m1 m2 : Runtime} {k k1 : WorldState} {r r' : Result (Unit {0}) Halt} → r' ≡ unless_exit r → EndsCalls m1 m2 → FollowsPlan is_logged plan (λ at. run_before_end_at at xs) m k m1 k1 r → FollowsPlan is_logged plan (λ at. until_exit (run_before_end_at at xs)) m k m2 k1 r'
-until_exit_follows xs {m = m} e ends p = rw e (record {
+pub until_exit_follows : {is_logged : Type 0} {plan : Plan} {m m1 m2 : Runtime} {k k1 : WorldState} {r r' : Result (Unit {0}) Halt} → r' ≡ unless_exit r → EndsCalls m1 m2 → FollowsPlan is_logged plan (λ at. run_before_end_at at plan) m k m1 k1 r → FollowsPlan is_logged plan (λ at. until_exit (run_before_end_at at plan)) m k m2 k1 r'
+until_exit_follows {m = m} e ends p = rw e (record {
   steps = subst (λ n. n ≤ m.steps) (sym ends.steps) p.steps;
   names = ends.names ∙ p.names;
   told = λ items is n low. record {
@@ -103,10 +102,10 @@ until_exit_follows xs {m = m} e ends p = rw e (record {
 
 -- the whole of the items
 
-pub run_halts : (xs : List PlannedItem) {is_logged : Type 0} {plan : Plan} {m m1 : Runtime} {k k1 : WorldState} {h : Halt} → FollowsPlan is_logged plan (λ at. until_exit (run_before_end_at at xs)) m k m1 k1 (Err h) → FollowsPlan is_logged plan (λ at. run_items_at at xs) m k m1 k1 (Err h)
+pub run_halts : {is_logged : Type 0} {plan : Plan} {m m1 : Runtime} {k k1 : WorldState} {h : Halt} → FollowsPlan is_logged plan (λ at. until_exit (run_before_end_at at plan)) m k m1 k1 (Err h) → FollowsPlan is_logged plan (λ at. run_items_at at plan) m k m1 k1 (Err h)
 unfolding run_items_at
-run_halts xs p = ends_follows (λ at _. end_items_at at xs) p
+run_halts {plan = plan} p = ends_follows (λ at _. part_at at plan.end) p
 
-pub run_goes : (xs : List PlannedItem) {is_logged : Type 0} {plan : Plan} {m m1 m2 : Runtime} {k k1 k2 : WorldState} {r : Result (Unit {0}) Halt} → FollowsPlan is_logged plan (λ at. until_exit (run_before_end_at at xs)) m k m1 k1 (Ok tt) → FollowsPlan is_logged plan (λ at. end_items_at at xs) m1 k1 m2 k2 r → FollowsPlan is_logged plan (λ at. run_items_at at xs) m k m2 k2 r
+pub run_goes : {is_logged : Type 0} {plan : Plan} {m m1 m2 : Runtime} {k k1 k2 : WorldState} {r : Result (Unit {0}) Halt} → FollowsPlan is_logged plan (λ at. until_exit (run_before_end_at at plan)) m k m1 k1 (Ok tt) → FollowsPlan is_logged plan (λ at. part_at at plan.end) m1 k1 m2 k2 r → FollowsPlan is_logged plan (λ at. run_items_at at plan) m k m2 k2 r
 unfolding run_items_at
-run_goes xs p q = then_follows (λ at _. end_items_at at xs) p q
+run_goes {plan = plan} p q = then_follows (λ at _. part_at at plan.end) p q

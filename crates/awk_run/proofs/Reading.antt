@@ -2,7 +2,6 @@
 use Rattle.std.proofs.Common.{◌≡◌, ℕ, ◌≤◌, ◌<◌, zero, suc, List, Some, None, Result, Ok, Err, refl, ◌∙◌, arith}
 use Rattle.awk_value.specs.declared.value.Value.{Value}
 use Rattle.awk_channels.specs.WorldState.{WorldState}
-use Rattle.awk_compile.specs.declared.plan.PlannedItem.{PlannedItem}
 use Rattle.awk_compile.specs.declared.plan.Plan.{Plan}
 use Rattle.awk_semantics.specs.declared.halt.Halt.{Halt}
 use Rattle.awk_semantics.specs.definitions.State.{Run, ◌>>=◌, ret}
@@ -11,61 +10,61 @@ use Rattle.awk_semantics.specs.definitions.Inputs.{next_record}
 use Rattle.awk_semantics.specs.definitions.Items.{until_next, begin_record, on_record, each_record, run_records}
 use Rattle.awk_runtime.specs.declared.runtime.Runtime.{Runtime}
 use Rattle.awk_runtime.specs.support.Simulation.{Simulates, Changes, Spends, Follows}
-use Rattle.awk_run.specs.support.Planned.{place_in, try_items_at}
+use Rattle.awk_run.specs.support.Planned.{place_in, part_at}
 use Rattle.awk_run.specs.support.Follows.{Part, FollowsPlan, ReadsOn, IsSet}
 use Rattle.awk_run.proofs.PlanParts.{then_follows, ends_follows, lift_follows, change_follows, world_follows, set_behind}
 
 -- what is done with a record, and then with the others
-abbrev rest_of : List PlannedItem → ℕ → (ℕ → Run Value) → List ℕ → Run (Unit {0})
-rest_of xs n at text = spend >>= λ _. begin_record text >>= λ _. until_next (try_items_at at 0 xs) >>= λ _. each_record n (until_next (try_items_at at 0 xs))
+abbrev rest_of : Plan → ℕ → (ℕ → Run Value) → List ℕ → Run (Unit {0})
+rest_of plan n at text = spend >>= λ _. begin_record text >>= λ _. until_next (part_at at plan.rules) >>= λ _. each_record n (until_next (part_at at plan.rules))
 
-module _ {is_logged : Type 0} {plan : Plan} {xs : List PlannedItem} where
-  pub reading_ends : {m m1 : Runtime} {k k1 : WorldState} {h : Halt} → Follows is_logged next_record m k m1 k1 (Err h) → ReadsOn is_logged plan xs m k m1 k1 (Err h)
+module _ {is_logged : Type 0} {plan : Plan} where
+  pub reading_ends : {m m1 : Runtime} {k k1 : WorldState} {h : Halt} → Follows is_logged next_record m k m1 k1 (Err h) → ReadsOn is_logged plan m k m1 k1 (Err h)
   unfolding each_record
-  reading_ends p = record { bounded = λ n low. ends_follows (λ at found. on_record found (rest_of xs n at)) (world_follows p) }
+  reading_ends p = record { bounded = λ n low. ends_follows (λ at found. on_record found (rest_of plan n at)) (world_follows p) }
 
-  pub reading_over : {m m1 : Runtime} {k k1 : WorldState} → Follows is_logged next_record m k m1 k1 (Ok None) → ReadsOn is_logged plan xs m k m1 k1 (Ok tt)
+  pub reading_over : {m m1 : Runtime} {k k1 : WorldState} → Follows is_logged next_record m k m1 k1 (Ok None) → ReadsOn is_logged plan m k m1 k1 (Ok tt)
   unfolding each_record
-  reading_over {m1 = m1} {k1 = k1} p = record { bounded = λ n low. then_follows (λ at found. on_record found (rest_of xs n at)) (world_follows p) (lift_follows (Ok tt) m1 k1 refl) }
+  reading_over {m1 = m1} {k1 = k1} p = record { bounded = λ n low. then_follows (λ at found. on_record found (rest_of plan n at)) (world_follows p) (lift_follows (Ok tt) m1 k1 refl) }
 
-  pub reading_stops : {text : List ℕ} {m m1 m2 : Runtime} {k k1 : WorldState} {h : Halt} → Follows is_logged next_record m k m1 k1 (Ok (Some text)) → Spends m1 m2 (Err h) → ReadsOn is_logged plan xs m k m2 k1 (Err h)
+  pub reading_stops : {text : List ℕ} {m m1 m2 : Runtime} {k k1 : WorldState} {h : Halt} → Follows is_logged next_record m k m1 k1 (Ok (Some text)) → Spends m1 m2 (Err h) → ReadsOn is_logged plan m k m2 k1 (Err h)
   unfolding each_record
   reading_stops {text = text} p q = record {
-    bounded = λ n low. then_follows (λ at found. on_record found (rest_of xs n at)) (world_follows p)
-        (ends_follows (λ at _. begin_record text >>= λ _. until_next (try_items_at at 0 xs) >>= λ _. each_record n (until_next (try_items_at at 0 xs))) (change_follows q.changes));
+    bounded = λ n low. then_follows (λ at found. on_record found (rest_of plan n at)) (world_follows p)
+        (ends_follows (λ at _. begin_record text >>= λ _. until_next (part_at at plan.rules) >>= λ _. each_record n (until_next (part_at at plan.rules))) (change_follows q.changes));
   }
 
-  pub reading_unset : {text : List ℕ} {m m1 m2 m3 : Runtime} {k k1 : WorldState} {h : Halt} → Follows is_logged next_record m k m1 k1 (Ok (Some text)) → Spends m1 m2 (Ok tt) → Changes (begin_record text) m2 m3 (Err h) → ReadsOn is_logged plan xs m k m3 k1 (Err h)
+  pub reading_unset : {text : List ℕ} {m m1 m2 m3 : Runtime} {k k1 : WorldState} {h : Halt} → Follows is_logged next_record m k m1 k1 (Ok (Some text)) → Spends m1 m2 (Ok tt) → Changes (begin_record text) m2 m3 (Err h) → ReadsOn is_logged plan m k m3 k1 (Err h)
   unfolding each_record
   reading_unset {text = text} p q r = record {
-    bounded = λ n low. then_follows (λ at found. on_record found (rest_of xs n at)) (world_follows p)
-        (then_follows (λ at _. begin_record text >>= λ _. until_next (try_items_at at 0 xs) >>= λ _. each_record n (until_next (try_items_at at 0 xs))) (change_follows q.changes)
-        (ends_follows (λ at _. until_next (try_items_at at 0 xs) >>= λ _. each_record n (until_next (try_items_at at 0 xs))) (change_follows r)));
+    bounded = λ n low. then_follows (λ at found. on_record found (rest_of plan n at)) (world_follows p)
+        (then_follows (λ at _. begin_record text >>= λ _. until_next (part_at at plan.rules) >>= λ _. each_record n (until_next (part_at at plan.rules))) (change_follows q.changes)
+        (ends_follows (λ at _. until_next (part_at at plan.rules) >>= λ _. each_record n (until_next (part_at at plan.rules))) (change_follows r)));
   }
 
-  pub reading_halts : {text : List ℕ} {m m1 m2 m3 m4 : Runtime} {k k1 k4 : WorldState} {h : Halt} → Follows is_logged next_record m k m1 k1 (Ok (Some text)) → Spends m1 m2 (Ok tt) → Changes (begin_record text) m2 m3 (Ok tt) → FollowsPlan is_logged plan (λ at. until_next (try_items_at at 0 xs)) m3 k1 m4 k4 (Err h) → ReadsOn is_logged plan xs m k m4 k4 (Err h)
+  pub reading_halts : {text : List ℕ} {m m1 m2 m3 m4 : Runtime} {k k1 k4 : WorldState} {h : Halt} → Follows is_logged next_record m k m1 k1 (Ok (Some text)) → Spends m1 m2 (Ok tt) → Changes (begin_record text) m2 m3 (Ok tt) → FollowsPlan is_logged plan (λ at. until_next (part_at at plan.rules)) m3 k1 m4 k4 (Err h) → ReadsOn is_logged plan m k m4 k4 (Err h)
   unfolding each_record
   reading_halts {text = text} p q r s = record {
-    bounded = λ n low. then_follows (λ at found. on_record found (rest_of xs n at)) (world_follows p)
-        (then_follows (λ at _. begin_record text >>= λ _. until_next (try_items_at at 0 xs) >>= λ _. each_record n (until_next (try_items_at at 0 xs))) (change_follows q.changes)
-        (then_follows (λ at _. until_next (try_items_at at 0 xs) >>= λ _. each_record n (until_next (try_items_at at 0 xs))) (change_follows r)
-        (ends_follows (λ at _. each_record n (until_next (try_items_at at 0 xs))) s)));
+    bounded = λ n low. then_follows (λ at found. on_record found (rest_of plan n at)) (world_follows p)
+        (then_follows (λ at _. begin_record text >>= λ _. until_next (part_at at plan.rules) >>= λ _. each_record n (until_next (part_at at plan.rules))) (change_follows q.changes)
+        (then_follows (λ at _. until_next (part_at at plan.rules) >>= λ _. each_record n (until_next (part_at at plan.rules))) (change_follows r)
+        (ends_follows (λ at _. each_record n (until_next (part_at at plan.rules))) s)));
   }
 
-  goes_at : (n : ℕ) {text : List ℕ} {m m1 m2 m3 m4 new : Runtime} {k k1 k4 after : WorldState} {x : Result (Unit {0}) Halt} → Follows is_logged next_record m k m1 k1 (Ok (Some text)) → Spends m1 m2 (Ok tt) → Changes (begin_record text) m2 m3 (Ok tt) → FollowsPlan is_logged plan (λ at. until_next (try_items_at at 0 xs)) m3 k1 m4 k4 (Ok tt) → ReadsOn is_logged plan xs m4 k4 new after x → m.steps ≤ n
-      → FollowsPlan is_logged plan (λ at. each_record (suc n) (until_next (try_items_at at 0 xs))) m k new after x
+  goes_at : (n : ℕ) {text : List ℕ} {m m1 m2 m3 m4 new : Runtime} {k k1 k4 after : WorldState} {x : Result (Unit {0}) Halt} → Follows is_logged next_record m k m1 k1 (Ok (Some text)) → Spends m1 m2 (Ok tt) → Changes (begin_record text) m2 m3 (Ok tt) → FollowsPlan is_logged plan (λ at. until_next (part_at at plan.rules)) m3 k1 m4 k4 (Ok tt) → ReadsOn is_logged plan m4 k4 new after x → m.steps ≤ n
+      → FollowsPlan is_logged plan (λ at. each_record (suc n) (until_next (part_at at plan.rules))) m k new after x
   unfolding each_record
   goes_at zero p q r s t low = absurd (omega (arith, p.simulates.steps, q.falls))
-  goes_at (suc n) {text = text} p q r s t low = then_follows (λ at found. on_record found (rest_of xs (suc n) at)) (world_follows p)
-      (then_follows (λ at _. begin_record text >>= λ _. until_next (try_items_at at 0 xs) >>= λ _. each_record (suc n) (until_next (try_items_at at 0 xs))) (change_follows q.changes)
-      (then_follows (λ at _. until_next (try_items_at at 0 xs) >>= λ _. each_record (suc n) (until_next (try_items_at at 0 xs))) (change_follows r)
-      (then_follows (λ at _. each_record (suc n) (until_next (try_items_at at 0 xs))) s (t.bounded n (omega (arith, p.simulates.steps, q.falls, r.steps, s.steps, low))))))
+  goes_at (suc n) {text = text} p q r s t low = then_follows (λ at found. on_record found (rest_of plan (suc n) at)) (world_follows p)
+      (then_follows (λ at _. begin_record text >>= λ _. until_next (part_at at plan.rules) >>= λ _. each_record (suc n) (until_next (part_at at plan.rules))) (change_follows q.changes)
+      (then_follows (λ at _. until_next (part_at at plan.rules) >>= λ _. each_record (suc n) (until_next (part_at at plan.rules))) (change_follows r)
+      (then_follows (λ at _. each_record (suc n) (until_next (part_at at plan.rules))) s (t.bounded n (omega (arith, p.simulates.steps, q.falls, r.steps, s.steps, low))))))
 
-  pub reading_goes : {text : List ℕ} {m m1 m2 m3 m4 new : Runtime} {k k1 k4 after : WorldState} {x : Result (Unit {0}) Halt} → Follows is_logged next_record m k m1 k1 (Ok (Some text)) → Spends m1 m2 (Ok tt) → Changes (begin_record text) m2 m3 (Ok tt) → FollowsPlan is_logged plan (λ at. until_next (try_items_at at 0 xs)) m3 k1 m4 k4 (Ok tt) → ReadsOn is_logged plan xs m4 k4 new after x → ReadsOn is_logged plan xs m k new after x
+  pub reading_goes : {text : List ℕ} {m m1 m2 m3 m4 new : Runtime} {k k1 k4 after : WorldState} {x : Result (Unit {0}) Halt} → Follows is_logged next_record m k m1 k1 (Ok (Some text)) → Spends m1 m2 (Ok tt) → Changes (begin_record text) m2 m3 (Ok tt) → FollowsPlan is_logged plan (λ at. until_next (part_at at plan.rules)) m3 k1 m4 k4 (Ok tt) → ReadsOn is_logged plan m4 k4 new after x → ReadsOn is_logged plan m k new after x
   reading_goes p q r s t = record { bounded = λ n low. goes_at n p q r s t low }
 
   -- all records, no more than there are steps
-  pub reads_all : {m new : Runtime} {k after : WorldState} {r : Result (Unit {0}) Halt} → ReadsOn is_logged plan xs m k new after r → FollowsPlan is_logged plan (λ at. run_records (until_next (try_items_at at 0 xs))) m k new after r
+  pub reads_all : {m new : Runtime} {k after : WorldState} {r : Result (Unit {0}) Halt} → ReadsOn is_logged plan m k new after r → FollowsPlan is_logged plan (λ at. run_records (until_next (part_at at plan.rules))) m k new after r
   unfolding run_records
   reads_all {m = m} p = record {
     steps = (p.bounded m.steps (omega arith)).steps;

@@ -85,7 +85,7 @@ runs_by items start limit k1 k2 streams last ended f law unended orderly told fa
 
 -- the body of a run, for each oracle
 body_came : (items : List Item) (plan : Plan) (start : StartValues) (limit : ℕ) {is_logged : Type 0} {m m1 : Runtime} {k k1 : WorldState} {r : Result (Unit {0}) Halt} → IsPlanFor items plan m.names → AreFor (tables_of items plan) (functions_of items limit) → Begins items start limit m → IsUntouched k → is_logged
-    → FollowsPlan is_logged plan (λ at. assign_and_run_at at plan.items.items start.pre) m k m1 k1 r → (oracle : Oracle) → IsConsistent oracle k1.log → Came oracle k1 m1.streams (outcome_of r m1.status) (assign_and_run items limit start.pre (start_state items start oracle limit))
+    → FollowsPlan is_logged plan (λ at. assign_and_run_at at plan start.pre) m k m1 k1 r → (oracle : Oracle) → IsConsistent oracle k1.log → Came oracle k1 m1.streams (outcome_of r m1.status) (assign_and_run items limit start.pre (start_state items start oracle limit))
 body_came items plan start limit {m = m} {m1 = m1} {k = k} {k1 = k1} {r = r} is for began fresh t ran oracle consistent =
     let s : State = start_state items start oracle limit in
     let low : m.steps ≤ limit = (let e = began.steps in omega (arith, e)) in
@@ -105,7 +105,7 @@ untouched_sound k order fresh = record {
 }
 
 pub runs_from : (items : List Item) (plan : Plan) (start : StartValues) (limit : ℕ) {is_logged : Type 0} {m m1 : Runtime} {k k1 k2 : WorldState} {r : Result (Unit {0}) Halt} {f : Result (Unit {0}) StreamFault} {last : StreamsView} {result : Outcome} → SomeIsConsistent → LawOfEnds → IsPlanFor items plan m.names → AreFor (tables_of items plan) (functions_of items limit) → Begins items start limit m
-    → FollowsPlan is_logged plan (λ at. assign_and_run_at at plan.items.items start.pre) m k m1 k1 r → (is_logged → AreSound k2 last) → (is_logged → Finishes k1 m1.streams f k2 last) → IfErr f IsOutputFault → result ≡ outcome_after (outcome_of r m1.status) f
+    → FollowsPlan is_logged plan (λ at. assign_and_run_at at plan start.pre) m k m1 k1 r → (is_logged → AreSound k2 last) → (is_logged → Finishes k1 m1.streams f k2 last) → IfErr f IsOutputFault → result ≡ outcome_after (outcome_of r m1.status) f
     → RunsFrom is_logged items start limit k k2 result
 runs_from items plan start limit {m1 = m1} {k = k} {k1 = k1} {k2 = k2} {r = r} {f = f} {last = last} law unended is for began ran sound told fault result = record {
   runs = λ t fresh.

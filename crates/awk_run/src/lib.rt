@@ -3,7 +3,6 @@
 
 mod items;
 mod names;
-mod places;
 mod program;
 mod records;
 mod run;

@@ -82,7 +82,7 @@ fn assign_and_run<W: World>(
     requires set { IsSet W.is_logged plan.now machine.old.runtime (W.state world.old) }
     requires idle { IsIdle machine.old }
     ensures set { IsSet W.is_logged plan.now machine.new.runtime (W.state world.new) }
-    ensures follows { FollowsPlan W.is_logged plan.now (λ at. assign_and_run_at at plan.now.items.items (map pair_of assignments.now))
+    ensures follows { FollowsPlan W.is_logged plan.now (λ at. assign_and_run_at at plan.now (map pair_of assignments.now))
         machine.old.runtime (W.state world.old) machine.new.runtime (W.state world.new) result }
 {
     assign_all(assignments, &mut machine.runtime)?;

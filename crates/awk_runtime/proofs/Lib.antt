@@ -5,12 +5,15 @@ pub mod TextChanges
 pub mod ArrayWords
 pub mod NameNumbers
 pub mod ArgumentWords
+pub mod OperandForms
 pub mod CallWords
 pub mod Words
 pub mod VariableWords
+pub mod CountWords
 pub mod NameWords
 pub mod EndWords
 pub mod PlaceWords
+pub mod NumberWords
 pub mod AppendWords
 pub mod Turns
 pub mod Flushes

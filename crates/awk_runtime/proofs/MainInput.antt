@@ -1,6 +1,6 @@
 -- What the calls of the streams for the main input do to the state of a run.
 use Rattle.std.proofs.Common.{◌≡◌, ◌≢◌, ℕ, ℤ, ◌+◌, true, false, ◌&&◌, List, [], ◌∷◌, ◌++◌, length, Option, Some, None, is_some, Result, Ok, Err, IfErr, ◌⊎◌, inl, inr, refl, sym, ap, ◌∙◌, subst, append-nil, arith}
-use Rattle.std.specs.Prelude.{bytes_eq}
+use Rattle.std.specs.Prelude.{bytes_eq, IsTrue, IfSome, IfNone}
 use Rattle.awk_value.specs.Values.{str_of}
 use Rattle.awk_record.specs.Cut.{Cut, Found, NoMore, BrokenOff, TooLong, cut_of}
 use Rattle.awk_record.specs.Buffer.{Pending}
@@ -14,7 +14,7 @@ use Rattle.awk_channels.specs.Oracle.{Oracle, Source, IsConsistent, one_if, same
 use Rattle.awk_channels.specs.Orderly.{IsReadable}
 use Rattle.awk_channels.specs.Openings.{Opening}
 use Rattle.awk_channels.specs.Inputs.{Reaches, Rest, NextTold, IsInputFault}
-use Rattle.awk_channels.specs.Streams.{StreamsView, IsMainRest, IsSameMain, IsFreshMain, numbered, printed_openings}
+use Rattle.awk_channels.specs.Streams.{StreamsView, AreOpen, AreSound, IsMainRest, IsSameMain, IsFreshMain, numbered, printed_openings}
 use Rattle.awk_channels.specs.MainInput.{main_opening, OpensMain, ReadsMain, AsksMain, closed_main, EndsMain}
 use Rattle.awk_channels.proofs.GrowsLemmas.{Grows-self}
 use Rattle.awk_semantics.specs.declared.halt.Halt.TheVariants as halt
@@ -26,7 +26,7 @@ use Rattle.awk_semantics.specs.Order.{GoesBetween, ReadsAsRequested, ReadsFrom, 
 use Rattle.awk_variables.specs.declared.special.Special.TheVariants.{Rs}
 use Rattle.awk_variables.specs.Variables.{value_of, name_of}
 use Rattle.awk_runtime.specs.declared.runtime.Runtime.{Runtime}
-use Rattle.awk_runtime.specs.support.Simulation.{OwnRelation, main_number, stage_of, StreamsRelation, StateRelation, ResultRelation, SimulatesLogged, Simulates, Follows, Beside, halted}
+use Rattle.awk_runtime.specs.support.Simulation.{OwnRelation, main_number, stage_of, StreamsRelation, StateRelation, ResultRelation, SimulatesLogged, Simulates, IsReady, Follows, Beside, halted}
 use Rattle.awk_runtime.proofs.Effects.{turn_between, turn_requested, begins_still}
 use Rattle.awk_runtime.proofs.Steps.{beside_holds}
 use Rattle.awk_runtime.proofs.Turns.{own_at, outputs_requested, stage_same}
@@ -285,6 +285,20 @@ asks_simulates separator r rs beside there same_main told unwritten = record {
   steps = omega (arith, beside.steps);
   names = beside.names;
   told = λ t. asks_by separator r rs beside there same_main (told t) unwritten;
+}
+
+-- where none is at hand all is as it was
+pub kept_at_hand : {X : Type 0} (found : Option X) (old : Runtime) (streams : StreamsView) → IfNone found (streams ≡ old.streams) → IfNone found (record old { streams = streams } ≡ old)
+kept_at_hand None old streams same = ap (λ (s : StreamsView). record old { streams = s }) same
+kept_at_hand (Some x) old streams same = tt
+
+-- a record that is at hand is taken, in every world
+pub at_hand_taken : (is_logged : Type 0) (byte : ℕ) (found : Option (List ℕ)) {old new : Runtime} → str_of (value_of old.specials (name_of Rs)) ≡ byte ∷ [] → Beside old new → IfSome found (λ first. IsTrue (is_some old.streams.main)) → IsSameMain old.streams.main new.streams.main
+    → IfSome found (λ first. (world : WorldState) → AreOpen world old.streams → AreSound world old.streams → AsksMain (byte ∷ []) world old.streams (Ok (Some first)) world new.streams)
+    → IfSome found (λ text. (k : WorldState) → IsReady is_logged k old.streams → Follows is_logged take_record old k new k (Ok (Some text)))
+at_hand_taken is_logged byte None rs beside there same_main told = tt
+at_hand_taken is_logged byte (Some first) rs beside there same_main told = λ k ready. record {
+  simulates = asks_simulates (byte ∷ []) (Ok (Some first)) (sym rs) beside there same_main (λ t. told k ready.are_open (ready.are_sound t)) (λ (e : Ok (Some first) ≡ Err WriteFailed). absurd (cc));
 }
 
 -- where no main input is open, none is taken

@@ -1,5 +1,5 @@
 -- What printing does to the state of a run.
-use Rattle.std.proofs.Common.{rules, ◌≡◌, ◌==◌, true, ℕ, List, [], ◌∷◌, ◌++◌, length, Option, Some, Result, Ok, Err, IfErr, inl, inr, refl, sym, ap, ◌∙◌, subst, arith}
+use Rattle.std.proofs.Common.{rules, map, ◌≡◌, ◌==◌, true, ℕ, List, [], ◌∷◌, ◌++◌, length, Option, Some, Result, Ok, Err, IfErr, inl, inr, refl, sym, ap, ◌∙◌, subst, arith}
 use Rattle.awk_value.specs.declared.value.Value.{Value}
 use Rattle.awk_value.specs.Values.{str_of}
 use Rattle.awk_channels.specs.declared.fault.StreamFault.{StreamFault}
@@ -20,7 +20,7 @@ use Rattle.awk_semantics.specs.declared.halt.Halt.TheVariants as halt
 use Rattle.awk_semantics.specs.declared.fault.Fault.TheVariants as faults
 use Rattle.awk_semantics.specs.State.{Effect, Printed, State, Run, ◌>>=◌, lift, ret}
 use Rattle.awk_semantics.specs.Results.{sort_of, YieldsBy}
-use Rattle.awk_semantics.specs.Operators.{line_of}
+use Rattle.awk_semantics.specs.Operators.{line_of, join}
 use Rattle.awk_semantics.specs.Primitives.{print_bytes, print_line, format_values}
 use Rattle.awk_semantics.specs.Meaning.{with_bytes, outputs_after}
 use Rattle.awk_semantics.specs.Order.{AreBetween, GoesBetween, first_stage}
@@ -128,6 +128,10 @@ values_printed r to vs bytes {old = old} {new = new} {before = before} {after = 
   told = λ t n place. same_logged (print_line n vs) (print_bytes n (line_in old vs)) (λ s h. line_as n vs old s h)
       (print_logged r to (line_in old vs) n beside place (subst (λ (l : List ℕ). Prints to l before old.streams r after new.streams) line (told t)) fault);
 }
+
+-- the line of one text
+pub line_of_text : (between behind text end : List ℕ) (vs : List Value) → join between (map str_of vs) ≡ text → behind ≡ end → text ++ end ≡ line_of between behind vs
+line_of_text between behind text end vs is ends = rw (is, ends) refl
 
 -- want of memory before a print
 pub unprinted : {is_logged : Type 0} (to : Target) (run : ℕ → Run (Unit {0})) {old new : Runtime} {k : WorldState} → SameState old new → PrintsTo is_logged to run old k new k (Err (halt.Fault faults.OutOfMemory))

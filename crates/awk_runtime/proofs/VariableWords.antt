@@ -60,12 +60,12 @@ pub record SameButVariables (old new : Runtime) : Type 0 where
   pub steps : new.steps ≡ old.steps
 
 -- the values of a state that the code knows are those of its variables
-record AreValues (m : Runtime) (variables : List ℕ → Value) : Type 0 where
-  specials : (x : Special) → variables (name_of x) ≡ value_of m.specials (name_of x)
-  globals : (i : ℕ) (x : List ℕ) → slice_get m.names.scalars i ≡ Some x → variables x ≡ get_or m.globals.items i value.Nothing
-  slots : length m.globals.items ≡ length m.names.scalars
+pub record AreValues (m : Runtime) (variables : List ℕ → Value) : Type 0 where
+  pub specials : (x : Special) → variables (name_of x) ≡ value_of m.specials (name_of x)
+  pub globals : (i : ℕ) (x : List ℕ) → slice_get m.names.scalars i ≡ Some x → variables x ≡ get_or m.globals.items i value.Nothing
+  pub slots : length m.globals.items ≡ length m.names.scalars
 
-variables_hold : {old new : Runtime} (s : State) (variables : List ℕ → Value) → SameButVariables old new → AreValues new variables → OwnRelation old s → OwnRelation new (record s { variables = variables })
+pub variables_hold : {old new : Runtime} (s : State) (variables : List ℕ → Value) → SameButVariables old new → AreValues new variables → OwnRelation old s → OwnRelation new (record s { variables = variables })
 variables_hold {old = old} {new = new} s variables same are h = record {
   current = h.current ∙ sym same.current;
   specials = are.specials;
@@ -127,6 +127,17 @@ special_values x v {old = old} {new = new} own put names globals s h = record {
   globals = λ i z at.
       let at_old : slice_get old.names.scalars i ≡ Some z = subst (λ (n : Naming). slice_get n.scalars i ≡ Some z) names at in
       kept s.variables (name_of x) v z ((own i z at_old).1 x) ∙ h.globals i z at_old ∙ ap (λ (g : Vec Value). get_or g.items i value.Nothing) (sym globals);
+  slots = ap (λ (g : Vec Value). length g.items) globals ∙ h.slots ∙ ap (λ (n : Naming). length n.scalars) (sym names);
+}
+
+-- two of them, one after the other
+pub special_values_twice : (x : Special) (v : Value) (y : Special) (w : Value) {old new : Runtime} → AreOwn old.names.scalars → ((z : List ℕ) → value_of new.specials z ≡ with_value (with_value (value_of old.specials) (name_of x) v) (name_of y) w z) → new.names ≡ old.names → new.globals ≡ old.globals → (s : State) → OwnRelation old s → AreValues new (with_value (with_value s.variables (name_of x) v) (name_of y) w)
+special_values_twice x v y w {old = old} {new = new} own put names globals s h = record {
+  specials = λ z.
+      chosen (bytes_eq (name_of y) (name_of z)) w _ _ (chosen (bytes_eq (name_of x) (name_of z)) v _ _ (h.specials z)) ∙ sym (put (name_of z));
+  globals = λ i z at.
+      let at_old : slice_get old.names.scalars i ≡ Some z = subst (λ (n : Naming). slice_get n.scalars i ≡ Some z) names at in
+      kept (with_value s.variables (name_of x) v) (name_of y) w z ((own i z at_old).1 y) ∙ kept s.variables (name_of x) v z ((own i z at_old).1 x) ∙ h.globals i z at_old ∙ ap (λ (g : Vec Value). get_or g.items i value.Nothing) (sym globals);
   slots = ap (λ (g : Vec Value). length g.items) globals ∙ h.slots ∙ ap (λ (n : Naming). length n.scalars) (sym names);
 }
 

@@ -201,6 +201,10 @@ pub record_ends_later : (text : List ℕ) {old mid new : Runtime} {h : Halt} →
 unfolding begin_record
 record_ends_later text p q = then_changes _ p (ends_changes _ q)
 
+pub record_counted : (text : List ℕ) {old mid new : Runtime} {r : Result (Unit {0}) Halt} → Changes (set_record text) old mid (Ok tt) → Changes (count_in Nr >>= λ _. count_in Fnr) mid new r → Changes (begin_record text) old new r
+unfolding begin_record
+record_counted text p q = then_changes _ p q
+
 pub record_begins : (text : List ℕ) {old mid later new : Runtime} {r : Result (Unit {0}) Halt} → Changes (set_record text) old mid (Ok tt) → Changes (count_in Nr) mid later (Ok tt) → Changes (count_in Fnr) later new r → Changes (begin_record text) old new r
 unfolding begin_record
 record_begins text p q r = then_changes _ p (then_changes _ q r)

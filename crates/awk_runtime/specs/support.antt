@@ -4,6 +4,7 @@ pub mod Simulation
 pub mod Calling
 pub mod Beginning
 pub mod Updates
+pub mod Counting
 pub mod Printing
 pub mod Appends
 pub mod Operands

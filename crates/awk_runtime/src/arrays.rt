@@ -46,6 +46,7 @@ impl Runtime {
         ensures { Changes (store_element_of array (str_of key.now) value) self.old self.new result }
     {
         let number = self.number_at(array);
+        let value = value.settled(self.alloc)?;
         self.arrays.put(number as usize, key, value)?;
         Ok(())
     }

@@ -1,20 +1,23 @@
 // Values that are at hand: variables and fields that are read where they stand, and numbers that are put and changed there.
 
-ghost use Rattle.std.specs.Prelude.{◌≡◌, ◌<◌, ◌-◌, Ok, IfSome, IfNone, slice_get, true, false};
+ghost use Rattle.std.specs.Prelude.{◌≡◌, ◌<◌, ◌-◌, pos, Ok, Some, IfSome, IfNone, slice_get, true, false};
 ghost use Rattle.awk_value.specs.Values.{str_of};
 ghost use Rattle.awk_value.specs.declared.value.Value.TheVariants.{Number, Nothing};
 ghost use Rattle.awk_runtime.specs.support.Simulation.{Changes, Spends};
 ghost use Rattle.awk_storage.specs.declared.position.Place.TheVariants.{Variable as VariablePlace};
 ghost use Rattle.awk_semantics.specs.Primitives.{read_field};
 ghost use Rattle.awk_storage.specs.Positions.{read_element_of, read_variable, read_slot, read_local, assign_by_at, post_increment_at};
-ghost use Rattle.awk_runtime.specs.support.Updates.{PutsNumber};
+ghost use Rattle.awk_semantics.specs.Operators.{operator_of as assigned_by, by_one as raised_by};
+ghost use Rattle.awk_runtime.specs.support.Updates.{PutsNumber, GivesNumber, ChangesValue};
 
 use crate::runtime::Runtime;
-use awk_functions::by_one;
-use awk_lex::token::{IncrementOperator, Operator};
+use awk_functions::{apply_in_short, by_one, operator_of};
+use awk_lex::token::{AssignmentOperator, IncrementOperator, Operator};
 use awk_semantics::Local;
 use awk_storage::{Array, Variable};
 use awk_value::Value;
+use awk_variables::Special;
+use std::mem;
 
 impl Runtime {
     /// The value that a variable holds, where one is kept: NF is counted, and an array has none.
@@ -189,5 +192,199 @@ impl Runtime {
         }
         self.steps -= 1;
         true
+    }
+
+    /// The number in a slot, if it holds one.
+    #[inline(always)]
+    pub fn number_in_slot(&self, slot: u32) -> Option<i128>
+        ensures { IfSome result (λ n. Changes (read_variable self.now.names.scalars (Variable.Global slot)) self.now self.now (Ok (Number n))) }
+    {
+        match self.value_in_slot(slot) {
+            Some(Value::Number(n)) => Some(*n),
+            _ => None,
+        }
+    }
+
+    /// The number that a parameter is, if it is one.
+    #[inline(always)]
+    pub fn number_of_parameter(&self, index: u32) -> Option<i128>
+        ensures { IfSome result (λ n. Changes (read_variable self.now.names.scalars (Variable.Local index)) self.now self.now (Ok (Number n))) }
+    {
+        match self.value_of_parameter(index) {
+            Some(Value::Number(n)) => Some(*n),
+            _ => None,
+        }
+    }
+
+    /// The number that a special variable is, if it is one.
+    #[inline(always)]
+    pub fn number_of_special(&self, special: Special) -> Option<i128>
+        ensures { IfSome result (λ n. Changes (read_variable self.now.names.scalars (Variable.Special special)) self.now self.now (Ok (Number n))) }
+    {
+        match self.specials.special(special) {
+            Value::Number(n) => Some(*n),
+            _ => None,
+        }
+    }
+
+    /// The number of fields, where it is known without a search.
+    #[inline(always)]
+    pub fn known_count(&self) -> Option<i128>
+        ensures { IfSome result (λ n. Changes (read_variable self.now.names.scalars Variable.FieldCount) self.now self.now (Ok (Number n))) }
+    {
+        match self.current.known_count() {
+            Some(count) => Some(count as i128),
+            None => None,
+        }
+    }
+
+    /// Gives a variable a number, or what an operator makes of its number and of this one. `false`, and nothing changes, where
+    /// that isn't done where it stands.
+    #[inline(always)]
+    pub fn change_number(
+        &mut self,
+        operator: AssignmentOperator,
+        variable: &Variable,
+        n: i128,
+    ) -> bool
+        ensures changes { result ≡ true → GivesNumber (assign_by_at self.old.names.scalars (assigned_by operator) (VariablePlace variable.now) Nothing (Number n)) self.old self.new }
+        ensures kept { result ≡ false → self.new ≡ self.old }
+    {
+        if let Variable::Global(slot) = variable {
+            return self.change_slot(operator, *slot, n);
+        }
+        self.change_other(operator, variable, n)
+    }
+
+    /// The same of a slot.
+    #[inline(always)]
+    fn change_slot(&mut self, operator: AssignmentOperator, slot: u32, n: i128) -> bool
+        ensures changes { result ≡ true → GivesNumber (assign_by_at self.old.names.scalars (assigned_by operator) (VariablePlace (Variable.Global slot)) Nothing (Number n)) self.old self.new }
+        ensures kept { result ≡ false → self.new ≡ self.old }
+    {
+        self.names.law_of_slots();
+        let Some(old) = self.globals.get(slot as usize) else {
+            return false;
+        };
+        let Some(new) = number_assigned(operator, old, n) else {
+            return false;
+        };
+        set_number(&mut self.globals[slot as usize], new);
+        true
+    }
+
+    /// The same of a variable that has no slot.
+    #[inline(never)]
+    fn change_other(&mut self, operator: AssignmentOperator, variable: &Variable, n: i128) -> bool
+        ensures changes { result ≡ true → GivesNumber (assign_by_at self.old.names.scalars (assigned_by operator) (VariablePlace variable.now) Nothing (Number n)) self.old self.new }
+        ensures kept { result ≡ false → self.new ≡ self.old }
+    {
+        match self.assign_number(operator_of(operator), *variable, n) {
+            Some(_) => true,
+            None => false,
+        }
+    }
+
+    /// Raises or lowers a variable's number by 1. `false`, and nothing changes, where that isn't done where it stands.
+    #[inline(always)]
+    pub fn raise_in_place(&mut self, operator: IncrementOperator, variable: &Variable) -> bool
+        ensures raises { result ≡ true → GivesNumber (post_increment_at self.old.names.scalars operator (VariablePlace variable.now) Nothing) self.old self.new }
+        ensures kept { result ≡ false → self.new ≡ self.old }
+    {
+        if let Variable::Global(slot) = variable {
+            return self.raise_slot(operator, *slot);
+        }
+        self.raise_other(operator, variable)
+    }
+
+    /// The same of a slot.
+    #[inline(always)]
+    fn raise_slot(&mut self, operator: IncrementOperator, slot: u32) -> bool
+        ensures raises { result ≡ true → GivesNumber (post_increment_at self.old.names.scalars operator (VariablePlace (Variable.Global slot)) Nothing) self.old self.new }
+        ensures kept { result ≡ false → self.new ≡ self.old }
+    {
+        self.names.law_of_slots();
+        let Some(old) = self.globals.get(slot as usize) else {
+            return false;
+        };
+        let Some(new) = number_raised(operator, old) else {
+            return false;
+        };
+        set_number(&mut self.globals[slot as usize], new);
+        true
+    }
+
+    /// The same of a variable that has no slot.
+    #[inline(never)]
+    fn raise_other(&mut self, operator: IncrementOperator, variable: &Variable) -> bool
+        ensures raises { result ≡ true → GivesNumber (post_increment_at self.old.names.scalars operator (VariablePlace variable.now) Nothing) self.old self.new }
+        ensures kept { result ≡ false → self.new ≡ self.old }
+    {
+        match self.raise_number(operator, *variable) {
+            Some(_) => true,
+            None => false,
+        }
+    }
+}
+
+/// Makes a value a number. One that is a number is no more than overwritten.
+#[inline(always)]
+fn set_number(place: &mut Value, n: i128)
+    ensures { place.new ≡ Number n }
+{
+    if let Value::Number(old) = place {
+        *old = n;
+        return;
+    }
+    replace_by_number(place, n);
+}
+
+/// Puts a number in the place of any value.
+#[inline(never)]
+fn replace_by_number(place: &mut Value, n: i128)
+    ensures { place.new ≡ Number n }
+{
+    drop(mem::replace(place, Value::Number(n)));
+}
+
+/// A number raised or lowered by 1. `None` where the value is none, or the next one is too far.
+#[inline(always)]
+fn number_raised(operator: IncrementOperator, old: &Value) -> Option<i128>
+    ensures { IfSome result (λ new. ChangesValue (Some (raised_by operator)) (pos 1) old.now (Number new)) }
+{
+    let Value::Number(old) = old else {
+        return None;
+    };
+    apply_in_short(by_one(operator), *old, 1)
+}
+
+/// The number that is assigned to what holds this value: another one, or what an operator makes of its number and of the other
+/// one. `None` where it has none, or that isn't found in a few steps.
+#[inline(always)]
+fn number_assigned(operator: AssignmentOperator, old: &Value, n: i128) -> Option<i128>
+    ensures { IfSome result (λ new. ChangesValue (assigned_by operator) n old.now (Number new)) }
+{
+    if let Value::Number(old) = old {
+        return number_by(operator, *old, n);
+    }
+    match operator {
+        AssignmentOperator::Plain => Some(n),
+        _ => None,
+    }
+}
+
+/// The number that is assigned where there is an old one.
+#[inline(always)]
+fn number_by(operator: AssignmentOperator, old: i128, n: i128) -> Option<i128>
+    ensures { IfSome result (λ new. ChangesValue (assigned_by operator) n (Number old) (Number new)) }
+{
+    match operator {
+        AssignmentOperator::Plain => Some(n),
+        AssignmentOperator::Add => old.checked_add(n),
+        AssignmentOperator::Subtract => old.checked_sub(n),
+        _ => match operator_of(operator) {
+            Some(operator) => apply_in_short(operator, old, n),
+            None => None,
+        },
     }
 }

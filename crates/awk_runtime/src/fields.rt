@@ -4,7 +4,8 @@ ghost use Rattle.awk_runtime.specs.support.Simulation.{Changes};
 ghost use Rattle.awk_semantics.specs.Primitives.{read_field, read_outside, put_outside, set_count, set_field, set_record, record_text};
 ghost use Rattle.awk_semantics.specs.Items.{begin_record};
 ghost use Rattle.awk_semantics.specs.BuiltIns.{record_length};
-ghost use Rattle.std.specs.Prelude.{◌≡◌, pos, codes};
+ghost use Rattle.std.specs.Prelude.{◌≡◌, pos, codes, true, false, Ok};
+ghost use Rattle.awk_runtime.specs.support.Counting.{count_both};
 ghost use Rattle.awk_value.specs.declared.value.Value.TheVariants.{Number};
 
 use crate::runtime::Runtime;
@@ -43,6 +44,7 @@ impl Runtime {
 
     /// Makes the text the record at hand, with the fields that FS and RS of this moment separate. The fault is F1. (POSIX awk,
     /// Regular Expressions; Variables and Special Variables)
+    #[inline(always)]
     pub fn set_record(&mut self, text: Bytes) -> Result<(), Halt>
         ensures { Changes (set_record text) self.old self.new result }
     {
@@ -68,12 +70,26 @@ impl Runtime {
 
     /// Makes the text the record at hand, and counts it in NR and FNR. The faults are F1 and F3. (POSIX awk, Variables and
     /// Special Variables)
+    #[inline(always)]
     pub fn begin_record(&mut self, text: Bytes) -> Result<(), Halt>
         ensures { Changes (begin_record text) self.old self.new result }
     {
         self.set_record(text)?;
+        if self.count_in_place() {
+            return Ok(());
+        }
         self.count_in(Special::Nr)?;
         self.count_in(Special::Fnr)
+    }
+
+    /// Counts a record in NR and FNR where they stand. `false`, and nothing changes, where they are no counts, or too large.
+    #[inline(always)]
+    fn count_in_place(&mut self) -> bool
+        ensures counted { result ≡ true → Changes count_both self.old self.new (Ok tt) }
+        ensures kept { result ≡ false → self.new ≡ self.old }
+    {
+        self.names.law_of_slots();
+        self.specials.count_record()
     }
 
     /// The number of fields, as a value. The fault is F1. (POSIX awk, Variables and Special Variables: NF)

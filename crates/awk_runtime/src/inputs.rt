@@ -1,10 +1,11 @@
 // Where the main records come from.
 
-ghost use Rattle.std.specs.Prelude.{◌≡◌, ◌≢◌, [], None, Ok};
+ghost use Rattle.std.specs.Prelude.{◌≡◌, ◌≢◌, ◌<◌, suc, [], length, take, drop, None, Some, Ok, IfSome, IfNone};
+ghost use Rattle.awk_channels.specs.WorldState.{WorldState};
 ghost use Rattle.awk_semantics.specs.Streams.{take_record, close_main};
-ghost use Rattle.awk_semantics.specs.Inputs.{path_of, main_record, first_record};
+ghost use Rattle.awk_semantics.specs.Inputs.{path_of, assign_text, main_record, first_record};
 ghost use Rattle.awk_semantics.specs.Inputs.{operand_record, standard_record, search_operands, next_record};
-ghost use Rattle.awk_runtime.specs.support.Simulation.{IsReady, Follows};
+ghost use Rattle.awk_runtime.specs.support.Simulation.{IsReady, Changes, Follows};
 ghost use Rattle.awk_runtime.specs.support.Inputs.{OpensMainInput, Seeks};
 
 use crate::operands::{OperandForm, form_of};
@@ -29,7 +30,33 @@ impl Runtime {
     /// The next main record, from the elements of ARGV in turn, or from standard input for want of a file operand. `None`
     /// where no record is left. The faults are F1, F9 and F16, and those of an operand that assigns. (POSIX awk, OPERANDS and
     /// INPUT FILES)
+    #[inline(always)]
     pub fn next_record<W: World>(&mut self, world: &mut W) -> Result<Option<Bytes>, Halt>
+        requires ready { IsReady W.is_logged (W.state world.old) self.old.streams }
+        ensures ready { IsReady W.is_logged (W.state world.new) self.new.streams }
+        ensures follows { Follows W.is_logged next_record self.old (W.state world.old) self.new (W.state world.new) result }
+    {
+        match self.record_at_hand::<W>() {
+            Some(text) => Ok(Some(text)),
+            None => self.search_record(world),
+        }
+    }
+
+    // The next record of the main input, where it is at hand: nothing is asked of a world then.
+    #[inline(always)]
+    fn record_at_hand<W: World>(&mut self) -> Option<Bytes>
+        ensures none { IfNone result (self.new ≡ self.old) }
+        ensures ready { (k : WorldState) → IsReady W.is_logged k self.old.streams → IsReady W.is_logged k self.new.streams }
+        ensures taken { IfSome result (λ text. (k : WorldState) → IsReady W.is_logged k self.old.streams →
+            Follows W.is_logged take_record self.old k self.new k (Ok (Some text))) }
+    {
+        let separator = self.specials.record_separator_byte()?;
+        self.streams.main_record_at_hand(separator)
+    }
+
+    // The next main record, which may have to be read, or to be looked for behind the main input.
+    #[inline(never)]
+    fn search_record<W: World>(&mut self, world: &mut W) -> Result<Option<Bytes>, Halt>
         requires ready { IsReady W.is_logged (W.state world.old) self.old.streams }
         ensures ready { IsReady W.is_logged (W.state world.new) self.new.streams }
         ensures follows { Follows W.is_logged next_record self.old (W.state world.old) self.new (W.state world.new) result }
@@ -95,12 +122,20 @@ impl Runtime {
         match form_of(bytes) {
             OperandForm::Nothing => Ok(None),
             OperandForm::Assignment(len) => {
-                self.assign_text(&bytes[..len], &bytes[len + 1..])?;
+                self.assign_operand(bytes, len)?;
                 Ok(None)
             }
             OperandForm::StandardInput => self.first_record(world, InputKind::Standard, word),
             OperandForm::File => self.first_record(world, InputKind::File, word),
         }
+    }
+
+    // Assigns what an element of ARGV does, in which so many bytes of a name stand before the `=`.
+    fn assign_operand(&mut self, word: &[u8], len: usize) -> Result<(), Halt>
+        requires { len < length word.now }
+        ensures { Changes (assign_text (take len word.now) (drop (suc len) word.now)) self.old self.new result }
+    {
+        self.assign_text(&word[..len], &word[len + 1..])
     }
 
     // Opens a main input under a name, and takes its first record.

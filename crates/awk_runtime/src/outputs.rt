@@ -1,11 +1,12 @@
 // Printing.
 
-ghost use Rattle.std.specs.Prelude.{◌≡◌, [], IfOk};
+ghost use Rattle.std.specs.Prelude.{◌≡◌, ℕ, List, [], map, true, false, Ok, IfOk, IfSome};
 ghost use Rattle.awk_value.specs.Values.{str_of};
 ghost use Rattle.awk_world.specs.declared.world.OutputKind.TheVariants.{Command as OutputCommand};
 ghost use Rattle.awk_world.specs.declared.world.Mode.TheVariants.{Truncate as ModeTruncate};
 ghost use Rattle.awk_channels.specs.Streams.{IsTarget};
 ghost use Rattle.awk_semantics.specs.State.{ret};
+ghost use Rattle.awk_semantics.specs.Operators.{join};
 ghost use Rattle.awk_semantics.specs.Primitives.{print_line};
 ghost use Rattle.awk_semantics.specs.Streams.{open_output, open_file, open_target};
 ghost use Rattle.awk_semantics.specs.Semantics.{Functions, print_by};
@@ -30,6 +31,28 @@ fn standard_named(name: &[u8]) -> Option<Target>
         Some(Target::StandardError)
     } else {
         None
+    }
+}
+
+// The text of a value that is one.
+#[inline(always)]
+fn text_at_hand(value: &Value) -> Option<&Bytes>
+    ensures { IfSome result (λ text. str_of value.now ≡ text.now) }
+{
+    match value {
+        Value::Text(text) | Value::Input(text) => Some(text),
+        Value::Nothing | Value::Number(_) => None,
+    }
+}
+
+// The text of the only value, if it is one.
+#[inline(always)]
+fn only_text(values: &[Value]) -> Option<&Bytes>
+    ensures { IfSome result (λ text. (separator : List ℕ) → join separator (map str_of values.now) ≡ text.now) }
+{
+    match values {
+        [value] => text_at_hand(value),
+        _ => None,
     }
 }
 
@@ -169,6 +192,49 @@ impl Runtime {
 
     // Prints the values as a line, by OFS and ORS.
     fn print_values<W: World>(
+        &mut self,
+        world: &mut W,
+        target: Target,
+        values: &[Value],
+    ) -> Result<(), Halt>
+        requires target { IsTarget target self.old.streams }
+        requires ready { IsReady W.is_logged (W.state world.old) self.old.streams }
+        ensures ready { IsReady W.is_logged (W.state world.new) self.new.streams }
+        ensures prints { PrintsTo W.is_logged target (λ n. print_line n values.now) self.old (W.state world.old) self.new
+            (W.state world.new) result }
+    {
+        if self.hold_text(world, target, values) {
+            return Ok(());
+        }
+        self.print_line(world, target, values)
+    }
+
+    // Prints one text as a line to standard output, where it can be held back as it stands: nothing is asked of the world then.
+    // `false`, and nothing changes, elsewhere.
+    #[inline(always)]
+    fn hold_text<W: World>(&mut self, world: &W, target: Target, values: &[Value]) -> bool
+        requires ready { IsReady W.is_logged (W.state world.now) self.old.streams }
+        ensures ready { IsReady W.is_logged (W.state world.now) self.new.streams }
+        ensures target { IsTarget target self.old.streams → IsTarget target self.new.streams }
+        ensures kept { result ≡ false → self.new ≡ self.old }
+        ensures prints { result ≡ true → PrintsTo W.is_logged target (λ n. print_line n values.now) self.old (W.state world.now)
+            self.new (W.state world.now) (Ok tt) }
+    {
+        let Target::StandardOutput = target else {
+            return false;
+        };
+        let Some(text) = only_text(values) else {
+            return false;
+        };
+        let Some(end) = text_at_hand(self.specials.special(Special::Ors)) else {
+            return false;
+        };
+        let size = world.output_buffer_size();
+        self.streams.hold(size, text.as_slice(), end.as_slice())
+    }
+
+    // Makes the line of the values, and prints it.
+    fn print_line<W: World>(
         &mut self,
         world: &mut W,
         target: Target,

@@ -104,7 +104,7 @@ impl Runtime {
     {
         self.names.law_of_slots();
         if slot < self.globals.len() {
-            self.globals[slot] = value;
+            self.globals[slot].receive(value, self.alloc)?;
         }
         Ok(())
     }
@@ -114,6 +114,7 @@ impl Runtime {
     fn put_local(&mut self, index: u32, value: Value) -> Result<(), Halt>
         ensures { Changes (put_local index value) self.old self.new result }
     {
+        let value = value.settled(self.alloc)?;
         self.frames.set_value(index as usize, value);
         Ok(())
     }
@@ -124,6 +125,7 @@ impl Runtime {
         ensures { Changes (put_special special value) self.old self.new result }
     {
         self.names.law_of_slots();
+        let value = value.settled(self.alloc)?;
         Ok(self.specials.set_special(special, value)?)
     }
 

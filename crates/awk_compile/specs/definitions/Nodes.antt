@@ -20,7 +20,7 @@ use Rattle.awk_semantics.specs.declared.local.Local.TheVariants as local
 use Rattle.awk_semantics.specs.definitions.State.{State, Run, ◌>>=◌, lift, ret, gives}
 use Rattle.awk_semantics.specs.definitions.Operators.{truth_value, changed, applied, by_one, one, operator_of, pattern_in}
 use Rattle.awk_semantics.specs.definitions.Texts.{separator_in, ere_separator}
-use Rattle.awk_semantics.specs.definitions.Primitives.{spend, number_of, record_text, read_field, field_separator, joined_key, check_height, set_status}
+use Rattle.awk_semantics.specs.definitions.Primitives.{spend, number_of, record_text, read_field, field_separator, joined_key, check_height, print_line, set_status, is_inside, set_inside}
 use Rattle.awk_semantics.specs.definitions.BuiltIns.{applied_all, record_length, flush_outputs}
 use Rattle.awk_semantics.specs.definitions.Streams.{open_target, close_main, close_named, run_command, flush_named}
 use Rattle.awk_semantics.specs.definitions.Semantics.{Functions, choose, print_by}
@@ -110,6 +110,14 @@ module _ (names : List (List ℕ)) where
   abbrev pub assign_variable : AssignmentOperator → Variable → Value → Run Value
   assign_variable o x w = assign_by_at names (operator_of o) (place.Variable x) value.Nothing w
 
+  -- a variable gets its text with those of values behind it
+  abbrev pub append_to : Variable → List Value → Run Value
+  append_to x ws = read_variable names x >>= λ old. assign_by_at names None (place.Variable x) value.Nothing (value.Text (str_of old ++ concat (map str_of ws)))
+
+  -- the field whose number an operand is, as a line to standard output
+  abbrev pub print_field : Operand → Run (Unit {0})
+  print_field a = field_at a >>= λ w. print_line 0 (w ∷ [])
+
   -- a step is spent, and a variable gets an operand, or its number and 1, or less 1
   abbrev pub update : AssignmentOperator → Variable → Operand → Run Value
   update o x a = spend >>= λ _. operand_value a >>= λ w. assign_variable o x w
@@ -196,6 +204,7 @@ module _ (tables : Tables) where
   value_of functions v.System vs = run_command (str_of (first vs)) >>= λ k. ret (value.Number k)
   value_of functions v.FlushAll vs = flush_outputs
   value_of functions v.Flush vs = flush_named (str_of (first vs)) >>= λ k. ret (value.Number k)
+  value_of functions (v.IsInside i) vs = is_inside i >>= λ b. ret (truth_value b)
   value_of functions (v.Call f fs) vs = call_at functions (function_at tables f) fs.items (taken (values_among fs.items) vs)
 
 -- how many values a substitution takes
@@ -248,6 +257,7 @@ popped v.Close = 1
 popped v.System = 1
 popped v.FlushAll = 0
 popped v.Flush = 1
+popped (v.IsInside i) = 0
 popped (v.Call f fs) = values_among fs.items
 
 -- the opening that a print prints to; the name of a redirection's target is the topmost value
@@ -268,6 +278,7 @@ effect_of functions (e.Clear a) vs = clear_at a
 effect_of functions e.EndInput vs = close_main
 effect_of functions (e.Print f k way) vs = target_by way vs >>= λ n. print_by functions f n (taken k (drop (way_operands way) vs))
 effect_of functions e.SetStatus vs = set_status (first vs)
+effect_of functions (e.SetInside i b) vs = set_inside i b
 
 abbrev pub dropped : EffectNode → ℕ
 dropped e.Spend = 0
@@ -277,6 +288,7 @@ dropped (e.Clear a) = 0
 dropped e.EndInput = 0
 dropped (e.Print f k way) = way_operands way + k
 dropped e.SetStatus = 1
+dropped (e.SetInside i b) = 0
 
 -- walks: the count of the keys that are left is the topmost value, and the keys lie below it, the next one first
 
@@ -299,9 +311,13 @@ module _ (tables : Tables) (functions : Functions) (again : ℕ → Cont) where
   made at (n.Test here other) = λ vs. choose (truth_of (first vs)) (at here (drop 1 vs)) (at other (drop 1 vs))
   made at (n.CompareWith o b here other) = λ vs. operated_with tables.names o (first vs) b >>= λ x. choose (truth_of x) (at here (drop 1 vs)) (at other (drop 1 vs))
   made at (n.Compare o a b here other) = λ vs. operated_on tables.names o a b >>= λ x. choose (truth_of x) (at here vs) (at other vs)
-  made at (n.Assign o x k) = λ vs. assign_variable tables.names o x (first vs) >>= λ _. at k (drop 1 vs)
+  made at (n.MatchRecord i here other) = λ vs. value_of tables functions (v.RecordMatches i) vs >>= λ x. choose (truth_of x) (at here vs) (at other vs)
+  made at (n.Assign o p k) = λ vs. value_of tables functions (v.Assign o p) vs >>= λ _. at k (drop (popped (v.Assign o p)) vs)
+  made at (n.Raise o p k) = λ vs. value_of tables functions (v.PostIncrement o p) vs >>= λ _. at k (drop (popped (v.PostIncrement o p)) vs)
   made at (n.Update o x a k) = λ vs. update tables.names o x a >>= λ _. at k vs
   made at (n.Increment o x k) = λ vs. increment tables.names o x >>= λ _. at k vs
+  made at (n.AppendTo x count k) = λ vs. append_to tables.names x (taken count vs) >>= λ _. at k (drop count vs)
+  made at (n.PrintField a k) = λ vs. print_field tables.names a >>= λ _. at k vs
   made at (n.Again i) = again i
   made at (n.Walk a k) = λ vs. keys_of_array a >>= λ keys. at k (walk_values keys ++ vs)
   made at (n.NextKey i exit) = λ vs. next_key_by (keys_left (first vs)) (again i vs) (at exit (drop 1 vs))
@@ -332,9 +348,13 @@ AreBelow at (n.Effect x k) = k < at
 AreBelow at (n.Test here other) = (here < at) × (other < at)
 AreBelow at (n.CompareWith o b here other) = (here < at) × (other < at)
 AreBelow at (n.Compare o a b here other) = (here < at) × (other < at)
-AreBelow at (n.Assign o x k) = k < at
+AreBelow at (n.MatchRecord i here other) = (here < at) × (other < at)
+AreBelow at (n.Assign o p k) = k < at
+AreBelow at (n.Raise o p k) = k < at
 AreBelow at (n.Update o x a k) = k < at
 AreBelow at (n.Increment o x k) = k < at
+AreBelow at (n.AppendTo x count k) = k < at
+AreBelow at (n.PrintField a k) = k < at
 AreBelow at (n.Again i) = Unit {0}
 AreBelow at (n.Walk a k) = k < at
 AreBelow at (n.NextKey i exit) = exit < at

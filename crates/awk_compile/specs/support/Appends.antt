@@ -1,5 +1,5 @@
 -- Assignments that append to a variable.
-use Rattle.std.specs.Prelude.{ℕ, Bool, false, List, bytes_eq}
+use Rattle.std.specs.Prelude.{◌≡◌, ℕ, Bool, true, false, List, bytes_eq}
 use Rattle.awk_lex.specs.declared.token.AssignmentOperator.{AssignmentOperator}
 use Rattle.awk_lex.specs.declared.token.AssignmentOperator.TheVariants.{Plain}
 use Rattle.awk_grammar.specs.declared.tree.BinaryOperator.TheVariants.{Concatenate}
@@ -15,6 +15,12 @@ begins_with x e = false
 abbrev pub is_append : AssignmentOperator → (place e : Expr) → Bool
 is_append Plain (Name x) (Binary Concatenate a b) = begins_with x a
 is_append o place e = false
+
+-- an assignment appends to the variable of this name
+pub record AppendsTo (o : AssignmentOperator) (place e : Expr) (x : List ℕ) : Type 0 where
+  pub operator : o ≡ Plain
+  pub named : place ≡ Name x
+  pub begins : is_append Plain (Name x) e ≡ true
 
 -- a concatenation of two operands without the one that it begins with
 abbrev pub behind_first : (left right : Expr) → Expr

@@ -16,3 +16,8 @@ with_last (Cons first rest) e = Cons first (with_last rest e)
 abbrev pub parts_of : Expr → Exprs
 parts_of (Binary Concatenate a b) = with_last (parts_of a) b
 parts_of e = Cons e Nil
+
+-- those behind the first
+abbrev pub parts_behind : Expr → Exprs
+parts_behind (Binary Concatenate a b) = with_last (parts_behind a) b
+parts_behind e = Nil

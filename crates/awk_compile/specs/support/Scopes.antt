@@ -5,7 +5,8 @@ use Rattle.awk_kinds.specs.definitions.Kinds.{FormalParameter}
 use Rattle.awk_kinds.specs.definitions.Signatures.{ProgramKinds}
 use Rattle.awk_compile.specs.declared.builder.Builder.{Builder}
 use Rattle.awk_compile.specs.declared.scope.Scope.{Scope}
-use Rattle.awk_grammar.specs.Tree.{Expr, OptionalExpr, Expression, Simple}
+use Rattle.awk_grammar.specs.declared.tree.PrintForm.{PrintForm}
+use Rattle.awk_grammar.specs.Tree.{Expr, OptionalExpr, PrintList, Standard, Expression, Print, Simple}
 use Rattle.awk_semantics.specs.definitions.BuiltIns.{bare_name}
 use Rattle.awk_storage.specs.declared.position.Array.{Array}
 use Rattle.awk_storage.specs.declared.position.Place.{Place}
@@ -55,3 +56,8 @@ FindsOperand scope old new (Some a) e = FindsAnOperand scope.kinds.now (paramete
 abbrev pub LowersChange : Scope → (old new : Builder) → Option ℕ → Expr → Exits → Type 0
 LowersChange scope old new None e exits = Extends old new
 LowersChange scope old new (Some place) e exits = Builds scope old new place (Execute (Simple (Expression e)) exits)
+
+-- a print to standard output is one node there, if it is built
+abbrev pub LowersPrint : Scope → (old new : Builder) → Option ℕ → PrintForm → PrintList → Exits → Type 0
+LowersPrint scope old new None form list exits = new ≡ old
+LowersPrint scope old new (Some place) form list exits = Builds scope old new place (Execute (Simple (Print form list Standard)) exits)

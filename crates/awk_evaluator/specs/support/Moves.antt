@@ -1,7 +1,8 @@
 -- Where the moves of the machine lead.
-use Rattle.std.specs.Prelude.{◌≡◌, ◌≢◌, ◌≤◌, ◌<◌, ℕ, List, [], ◌∷◌, drop, reverse, length, Result, Ok, Err, OnOk}
+use Rattle.std.specs.Prelude.{◌≡◌, ◌≢◌, ◌≤◌, ◌<◌, if◌then◌else◌, ℕ, Bool, true, false, Option, Some, None, List, [], ◌∷◌, drop, reverse, length, Result, Ok, Err, OnOk}
 use Rattle.std.specs.Global.{Vec}
 use Rattle.awk_value.specs.declared.value.Value.{Value}
+use Rattle.awk_value.specs.Values.{truth_of}
 use Rattle.awk_channels.specs.WorldState.{WorldState}
 use Rattle.awk_kinds.specs.Kinds.{Definition}
 use Rattle.awk_semantics.specs.declared.halt.Halt.{Halt}
@@ -77,44 +78,106 @@ pub record Backward (is_logged : Type 0) (plan : Plan) (at : Start) (m : Machine
   pub leads : Leads is_logged plan at m k at' m' k'
   pub less : length m'.calls < length m.calls
 
-abbrev pub MovesBy : Type 0 → Plan → Start → Machine → WorldState → Result Move Halt → Machine → WorldState → Type 0
-MovesBy is_logged plan at m k (Ok (move.On i)) m' k' = Onward is_logged plan at m k i m' k'
-MovesBy is_logged plan at m k (Ok (move.Up i)) m' k' = Upward is_logged plan at m k i m' k'
-MovesBy is_logged plan at m k (Ok (move.Back i)) m' k' = Backward is_logged plan at m k i m' k'
-MovesBy is_logged plan at m k (Ok move.Over) m' k' = Finishes is_logged plan at m k m' k'
-MovesBy is_logged plan at m k (Err h) m' k' = Ends is_logged plan at m k (Err h) m' k'
+abbrev pub MovesBy : Type 0 → Plan → Start → Machine → WorldState → Move → Machine → WorldState → Type 0
+MovesBy is_logged plan at m k (move.On i) m' k' = Onward is_logged plan at m k i m' k'
+MovesBy is_logged plan at m k (move.Up i) m' k' = Upward is_logged plan at m k i m' k'
+MovesBy is_logged plan at m k (move.Back i) m' k' = Backward is_logged plan at m k i m' k'
+MovesBy is_logged plan at m k move.Over m' k' = Finishes is_logged plan at m k m' k'
+MovesBy is_logged plan at m k move.Halted m' k' = Ends is_logged plan at m k (Err m'.halt) m' k'
 
-pub record Moves (is_logged : Type 0) (plan : Plan) (at : Start) (m : Machine) (k : WorldState) (r : Result Move Halt) (m' : Machine) (k' : WorldState) : Type 0 where
-  pub moves : MovesBy is_logged plan at m k r m' k'
+pub record Moves (is_logged : Type 0) (plan : Plan) (at : Start) (m : Machine) (k : WorldState) (to : Move) (m' : Machine) (k' : WorldState) : Type 0 where
+  pub moves : MovesBy is_logged plan at m k to m' k'
 
-abbrev pub TurnsBy : Type 0 → Plan → Start → Machine → WorldState → Result Move Halt → Machine → WorldState → Type 0
-TurnsBy is_logged plan at m k (Ok (move.On i)) m' k' = ⊥
-TurnsBy is_logged plan at m k (Ok (move.Up i)) m' k' = Upward is_logged plan at m k i m' k'
-TurnsBy is_logged plan at m k (Ok (move.Back i)) m' k' = Backward is_logged plan at m k i m' k'
-TurnsBy is_logged plan at m k (Ok move.Over) m' k' = Finishes is_logged plan at m k m' k'
-TurnsBy is_logged plan at m k (Err h) m' k' = Ends is_logged plan at m k (Err h) m' k'
+abbrev pub TurnsBy : Type 0 → Plan → Start → Machine → WorldState → Move → Machine → WorldState → Type 0
+TurnsBy is_logged plan at m k (move.On i) m' k' = ⊥
+TurnsBy is_logged plan at m k (move.Up i) m' k' = Upward is_logged plan at m k i m' k'
+TurnsBy is_logged plan at m k (move.Back i) m' k' = Backward is_logged plan at m k i m' k'
+TurnsBy is_logged plan at m k move.Over m' k' = Finishes is_logged plan at m k m' k'
+TurnsBy is_logged plan at m k move.Halted m' k' = Ends is_logged plan at m k (Err m'.halt) m' k'
 
-pub record Turns (is_logged : Type 0) (plan : Plan) (at : Start) (m : Machine) (k : WorldState) (r : Result Move Halt) (m' : Machine) (k' : WorldState) : Type 0 where
-  pub turns : TurnsBy is_logged plan at m k r m' k'
+pub record Turns (is_logged : Type 0) (plan : Plan) (at : Start) (m : Machine) (k : WorldState) (to : Move) (m' : Machine) (k' : WorldState) : Type 0 where
+  pub turns : TurnsBy is_logged plan at m k to m' k'
 
-abbrev pub StepsBy : Type 0 → Plan → Start → Machine → WorldState → Result Move Halt → Machine → WorldState → Type 0
-StepsBy is_logged plan at m k (Ok (move.On i)) m' k' = ⊥
-StepsBy is_logged plan at m k (Ok (move.Up i)) m' k' = Upward is_logged plan at m k i m' k'
-StepsBy is_logged plan at m k (Ok (move.Back i)) m' k' = ⊥
-StepsBy is_logged plan at m k (Ok move.Over) m' k' = Finishes is_logged plan at m k m' k'
-StepsBy is_logged plan at m k (Err h) m' k' = Ends is_logged plan at m k (Err h) m' k'
+abbrev pub StepsBy : Type 0 → Plan → Start → Machine → WorldState → Move → Machine → WorldState → Type 0
+StepsBy is_logged plan at m k (move.On i) m' k' = ⊥
+StepsBy is_logged plan at m k (move.Up i) m' k' = Upward is_logged plan at m k i m' k'
+StepsBy is_logged plan at m k (move.Back i) m' k' = ⊥
+StepsBy is_logged plan at m k move.Over m' k' = Finishes is_logged plan at m k m' k'
+StepsBy is_logged plan at m k move.Halted m' k' = Ends is_logged plan at m k (Err m'.halt) m' k'
 
-pub record Steps (is_logged : Type 0) (plan : Plan) (at : Start) (m : Machine) (k : WorldState) (r : Result Move Halt) (m' : Machine) (k' : WorldState) : Type 0 where
-  pub steps : StepsBy is_logged plan at m k r m' k'
+pub record Steps (is_logged : Type 0) (plan : Plan) (at : Start) (m : Machine) (k : WorldState) (to : Move) (m' : Machine) (k' : WorldState) : Type 0 where
+  pub steps : StepsBy is_logged plan at m k to m' k'
 
--- nodes that test, change a variable, walk over keys or end all calls
-abbrev pub IsOther : Node → Type 0
-IsOther (n.Again i) = ⊥
-IsOther (n.Value x k) = ⊥
-IsOther (n.Effect x k) = ⊥
-IsOther n.Return = ⊥
-IsOther n.End = ⊥
-IsOther x = Unit {0}
+-- nothing is changed but why the machine is halted
+pub record Keeps (m m' : Machine) : Type 0 where
+  pub operands : m'.operands ≡ m.operands
+  pub calls : m'.calls ≡ m.calls
+  pub runtime : m'.runtime ≡ m.runtime
+
+-- what a part came to, where the machine keeps why one that isn't done ended
+
+abbrev pub came : Bool → Machine → Result (Unit {0}) Halt
+came true m = Ok tt
+came false m = Err m.halt
+
+abbrev pub told : Option Bool → Machine → Result Bool Halt
+told (Some holds) m = Ok holds
+told None m = Err m.halt
+
+abbrev pub without_value : {A : Type 0} → Result A Halt → Result (Unit {0}) Halt
+without_value (Ok a) = Ok tt
+without_value (Err h) = Err h
+
+abbrev pub truth_in : Result Value Halt → Result Bool Halt
+truth_in (Ok w) = Ok (truth_of w)
+truth_in (Err h) = Err h
+
+-- a part is done, whatever value it gives
+
+abbrev pub DoneBy : (Result Value Halt → Type 0) → Result (Unit {0}) Halt → Type 0
+DoneBy P (Ok u) = (w : Value) × P (Ok w)
+DoneBy P (Err h) = P (Err h)
+
+pub record Done (P : Result Value Halt → Type 0) (r : Result (Unit {0}) Halt) : Type 0 where
+  pub done : DoneBy P r
+
+-- the moves behind a part, behind a step, and behind a test
+
+abbrev pub onward : Bool → ℕ → Move
+onward true i = move.On i
+onward false i = move.Halted
+
+abbrev pub upward : Bool → ℕ → Move
+upward true i = move.Up i
+upward false i = move.Halted
+
+abbrev pub toward : Option Bool → (here other : ℕ) → Move
+toward (Some holds) here other = move.On (if holds then here else other)
+toward None here other = move.Halted
+
+-- nodes that append texts, print a field, walk over keys or end all calls
+abbrev pub IsRare : Node → Type 0
+IsRare (n.AppendTo x count k) = Unit {0}
+IsRare (n.PrintField a k) = Unit {0}
+IsRare (n.Walk a k) = Unit {0}
+IsRare (n.NextKey i exit) = Unit {0}
+IsRare (n.TakeKey x k) = Unit {0}
+IsRare (n.LeaveWalk k) = Unit {0}
+IsRare n.Next = Unit {0}
+IsRare n.Exit = Unit {0}
+IsRare x = ⊥
+
+-- a value that was found is put on the stack
+
+abbrev pub PutsFoundBy : Value → (next : ℕ) → Machine → Move → Machine → Type 0
+PutsFoundBy w next m (move.On i) m' = (i ≡ next) × (m'.operands ≡ record m.operands { values = w ∷ m.operands.values })
+PutsFoundBy w next m move.Halted m' = m'.halt ≡ halt.Fault OutOfMemory
+PutsFoundBy w next m to m' = ⊥
+
+pub record PutsFound (w : Value) (next : ℕ) (m : Machine) (to : Move) (m' : Machine) : Type 0 where
+  pub puts : PutsFoundBy w next m to m'
+  pub calls : m'.calls ≡ m.calls
+  pub runtime : m'.runtime ≡ m.runtime
 
 -- a node that is no call
 abbrev pub IsStrict : ValueNode → Type 0
@@ -145,15 +208,15 @@ pub record Acts (x : EffectNode) (m : Machine) (r : Result (Unit {0}) Halt) (m' 
   pub changes : (functions : Functions) → Changes (effect_of functions x m.operands.values) m.runtime m'.runtime r
 
 -- a value is returned to the newest entry, or is the last one
-abbrev pub GivesBackBy : Value → Machine → Result Move Halt → Machine → Type 0
-GivesBackBy v m (Ok (move.On i)) m' = ⊥
-GivesBackBy v m (Ok (move.Up i)) m' = ⊥
-GivesBackBy v m (Ok (move.Back i)) m' = (vs : List Value) × (stack_of m ≡ record { next = i; values = vs } ∷ stack_of m') × (m'.operands.values ≡ v ∷ vs) × Changes leave m.runtime m'.runtime (Ok tt) × (length m'.calls < length m.calls)
-GivesBackBy v m (Ok move.Over) m' = (first m'.operands.values ≡ v) × (m.calls ≡ []) × (m'.calls ≡ []) × (m'.runtime ≡ m.runtime)
-GivesBackBy v m (Err h) m' = (e : Entry) × (es : List Entry) × (stack_of m ≡ e ∷ es) × Changes leave m.runtime m'.runtime (Ok tt) × (h ≡ halt.Fault OutOfMemory)
+abbrev pub GivesBackBy : Value → Machine → Move → Machine → Type 0
+GivesBackBy v m (move.On i) m' = ⊥
+GivesBackBy v m (move.Up i) m' = ⊥
+GivesBackBy v m (move.Back i) m' = (vs : List Value) × (stack_of m ≡ record { next = i; values = vs } ∷ stack_of m') × (m'.operands.values ≡ v ∷ vs) × Changes leave m.runtime m'.runtime (Ok tt) × (length m'.calls < length m.calls)
+GivesBackBy v m move.Over m' = (first m'.operands.values ≡ v) × (m.calls ≡ []) × (m'.calls ≡ []) × (m'.runtime ≡ m.runtime)
+GivesBackBy v m move.Halted m' = (e : Entry) × (es : List Entry) × (stack_of m ≡ e ∷ es) × Changes leave m.runtime m'.runtime (Ok tt) × (m'.halt ≡ halt.Fault OutOfMemory)
 
-pub record GivesBack (v : Value) (m : Machine) (r : Result Move Halt) (m' : Machine) : Type 0 where
-  pub gives : GivesBackBy v m r m'
+pub record GivesBack (v : Value) (m : Machine) (to : Move) (m' : Machine) : Type 0 where
+  pub gives : GivesBackBy v m to m'
 
 -- what a run from a place does, whatever the bound of its calls and turns
 pub record Executes (is_logged : Type 0) (plan : Plan) (at : ℕ) (m : Machine) (k : WorldState) (r : Result Value Halt) (m' : Machine) (k' : WorldState) : Type 0 where

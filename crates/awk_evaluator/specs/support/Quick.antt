@@ -1,8 +1,7 @@
 -- What is done with what is at hand: no world is reached, and there is no fault.
 use Rattle.std.specs.Prelude.{◌≡◌, ℕ, Bool, List, ◌∷◌, drop, Ok}
 use Rattle.awk_lex.specs.declared.token.AssignmentOperator.{AssignmentOperator}
-use Rattle.awk_lex.specs.declared.token.Operator.{Operator}
-use Rattle.awk_grammar.specs.declared.tree.BinaryOperator.TheVariants.{Infix}
+use Rattle.awk_grammar.specs.declared.tree.BinaryOperator.{BinaryOperator}
 use Rattle.awk_value.specs.declared.value.Value.{Value}
 use Rattle.awk_semantics.specs.Operators.{truth_value}
 use Rattle.awk_semantics.specs.State.{Run}
@@ -39,28 +38,13 @@ pub record Popped (m m' : Machine) : Type 0 where
   pub runtime : m'.runtime ≡ m.runtime
 
 -- whether two operands are so related
-pub record Relates (o : Operator) (a b : Operand) (holds : Bool) (m : Machine) : Type 0 where
-  pub changes : Changes (operated_on m.runtime.names.scalars (Infix o) a b) m.runtime m.runtime (Ok (truth_value holds))
+pub record Relates (o : BinaryOperator) (a b : Operand) (holds : Bool) (m : Machine) : Type 0 where
+  pub changes : Changes (operated_on m.runtime.names.scalars o a b) m.runtime m.runtime (Ok (truth_value holds))
 
 -- whether the topmost value and an operand are so related
-pub record RelatesWith (o : Operator) (b : Operand) (holds : Bool) (m m' : Machine) : Type 0 where
-  pub popped : Popped m m'
-  pub changes : Changes (operated_with m.runtime.names.scalars (Infix o) (first m.operands.values) b) m.runtime m.runtime (Ok (truth_value holds))
-
--- a run that takes nothing off the stack gives a value, which is of no use
-pub record Finds (run : Run Value) (m m' : Machine) : Type 0 where
-  pub value : Value
-  pub operands : m'.operands ≡ m.operands
-  pub calls : m'.calls ≡ m.calls
-  pub changes : Changes run m.runtime m'.runtime (Ok value)
+pub record RelatesWith (o : BinaryOperator) (b : Operand) (holds : Bool) (m : Machine) : Type 0 where
+  pub changes : Changes (operated_with m.runtime.names.scalars o (first m.operands.values) b) m.runtime m.runtime (Ok (truth_value holds))
 
 -- a value may be assigned in the place of another one
 abbrev pub AssignsAlike : AssignmentOperator → (v w : Value) → Type 0
 AssignsAlike o v w = (names : List (List ℕ)) (x : Variable) → assign_variable names o x v ≡ assign_variable names o x w
-
--- the topmost value is assigned to a variable, and taken off
-pub record Assigns (o : AssignmentOperator) (x : Variable) (m m' : Machine) : Type 0 where
-  pub value : Value
-  pub operands : m'.operands ≡ record m.operands { values = drop 1 m.operands.values }
-  pub calls : m'.calls ≡ m.calls
-  pub changes : Changes (assign_variable m.runtime.names.scalars o x (first m.operands.values)) m.runtime m'.runtime (Ok value)

@@ -1,16 +1,20 @@
 -- What is done with operands that are read where they stand, in any way.
-use Rattle.std.specs.Prelude.{◌≡◌, Bool, Result, Ok, Err}
+use Rattle.std.specs.Prelude.{◌≡◌, ℕ, Bool, drop, Result, Ok, Err, OnOk}
 use Rattle.awk_lex.specs.declared.token.AssignmentOperator.{AssignmentOperator}
 use Rattle.awk_lex.specs.declared.token.IncrementOperator.{IncrementOperator}
 use Rattle.awk_value.specs.declared.value.Value.{Value}
+use Rattle.awk_value.specs.declared.value.Value.TheVariants as value
 use Rattle.awk_value.specs.Values.{truth_of}
 use Rattle.awk_semantics.specs.declared.halt.Halt.{Halt}
-use Rattle.awk_semantics.specs.State.{Run}
+use Rattle.awk_semantics.specs.State.{Run, ◌>>=◌}
 use Rattle.awk_storage.specs.declared.position.Variable.{Variable}
+use Rattle.awk_storage.specs.declared.position.Place.TheVariants as place
+use Rattle.awk_storage.specs.Positions.{post_increment_at}
 use Rattle.awk_compile.specs.declared.node.Operand.{Operand}
 use Rattle.awk_compile.specs.declared.node.ValueNode.{ValueNode}
-use Rattle.awk_compile.specs.Nodes.{operand_value, update, increment}
-use Rattle.awk_runtime.specs.Simulation.{Changes}
+use Rattle.awk_compile.specs.Nodes.{operand_value, assign_variable, update, increment, taken, append_to, print_field}
+use Rattle.awk_channels.specs.WorldState.{WorldState}
+use Rattle.awk_runtime.specs.Simulation.{Simulates, Changes}
 use Rattle.awk_evaluator.specs.declared.machine.Machine.{Machine}
 use Rattle.awk_evaluator.specs.support.Moves.{Computes}
 
@@ -39,3 +43,23 @@ Updates o x a m r m' = Runs (update m.runtime.names.scalars o x a) m r m'
 
 abbrev pub Increments : IncrementOperator → Variable → Machine → Result Value Halt → Machine → Type 0
 Increments o x m r m' = Runs (increment m.runtime.names.scalars o x) m r m'
+
+-- an operand is assigned to a variable, or the variable's number raised or lowered by 1
+
+abbrev pub AssignsOperand : AssignmentOperator → Variable → Operand → Machine → Result Value Halt → Machine → Type 0
+AssignsOperand o x a m r m' = Runs (operand_value m.runtime.names.scalars a >>= λ w. assign_variable m.runtime.names.scalars o x w) m r m'
+
+abbrev pub Raises : IncrementOperator → Variable → Machine → Result Value Halt → Machine → Type 0
+Raises o x m r m' = Runs (post_increment_at m.runtime.names.scalars o (place.Variable x) value.Nothing) m r m'
+
+-- a variable gets its text with those of so many values behind it, which are taken off the stack
+pub record Appends (x : Variable) (count : ℕ) (m : Machine) (r : Result Value Halt) (m' : Machine) : Type 0 where
+  pub operands : OnOk r (m'.operands ≡ record m.operands { values = drop count m.operands.values })
+  pub calls : OnOk r (m'.calls ≡ m.calls)
+  pub changes : Changes (append_to m.runtime.names.scalars x (taken count m.operands.values)) m.runtime m'.runtime r
+
+-- the field whose number an operand is is printed as a line
+pub record PrintsField (is_logged : Type 0) (a : Operand) (m : Machine) (k : WorldState) (r : Result (Unit {0}) Halt) (m' : Machine) (k' : WorldState) : Type 0 where
+  pub operands : OnOk r (m'.operands ≡ m.operands)
+  pub calls : OnOk r (m'.calls ≡ m.calls)
+  pub simulates : Simulates is_logged m.runtime k m'.runtime k' r (print_field m.runtime.names.scalars a)

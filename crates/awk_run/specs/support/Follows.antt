@@ -7,11 +7,10 @@ use Rattle.awk_grammar.specs.Tree.{Item}
 use Rattle.awk_semantics.specs.declared.halt.Halt.{Halt}
 use Rattle.awk_semantics.specs.definitions.State.{State, Run}
 use Rattle.awk_semantics.specs.definitions.Items.{until_next, each_record}
-use Rattle.awk_compile.specs.declared.plan.PlannedItem.{PlannedItem}
 use Rattle.awk_compile.specs.declared.plan.Plan.{Plan}
 use Rattle.awk_runtime.specs.declared.runtime.Runtime.{Runtime}
 use Rattle.awk_runtime.specs.support.Simulation.{IsReady, Simulates}
-use Rattle.awk_run.specs.support.Planned.{IsPlanFor, place_in, try_items_at}
+use Rattle.awk_run.specs.support.Planned.{IsPlanFor, place_in, part_at}
 
 -- a part of a run that is made of what the places of a plan do
 abbrev pub Part : Type 0 → Type 0
@@ -24,8 +23,8 @@ pub record FollowsPlan {A : Type 0} (is_logged : Type 0) (plan : Plan) (part : P
   pub told : (items : List Item) → IsPlanFor items plan old.names → (n : ℕ) → old.steps ≤ n → Simulates is_logged old before new after r (part (place_in items plan n))
 
 -- the records that are left, at any bound above the steps
-pub record ReadsOn (is_logged : Type 0) (plan : Plan) (xs : List PlannedItem) (old : Runtime) (before : WorldState) (new : Runtime) (after : WorldState) (r : Result (Unit {0}) Halt) : Type 0 where
-  pub bounded : (m : ℕ) → old.steps ≤ m → FollowsPlan is_logged plan (λ at. each_record (suc m) (until_next (try_items_at at 0 xs))) old before new after r
+pub record ReadsOn (is_logged : Type 0) (plan : Plan) (old : Runtime) (before : WorldState) (new : Runtime) (after : WorldState) (r : Result (Unit {0}) Halt) : Type 0 where
+  pub bounded : (m : ℕ) → old.steps ≤ m → FollowsPlan is_logged plan (λ at. each_record (suc m) (until_next (part_at at plan.rules))) old before new after r
 
 -- what is known of the state whenever the plan is run
 pub record IsSet (is_logged : Type 0) (plan : Plan) (m : Runtime) (k : WorldState) : Type 0 where

@@ -1,8 +1,9 @@
 -- Numbers that are changed where they stand.
-use Rattle.std.specs.Prelude.{◌≡◌, ℤ, Ok}
+use Rattle.std.specs.Prelude.{◌≡◌, ℤ, Option, Some, None, Ok}
 use Rattle.awk_value.specs.declared.value.Value.{Value}
 use Rattle.awk_value.specs.declared.value.Value.TheVariants.{Number}
 use Rattle.awk_lex.specs.declared.token.Operator.{Operator}
+use Rattle.awk_semantics.specs.State.{Run}
 use Rattle.awk_semantics.specs.Operators.{applied}
 use Rattle.awk_storage.specs.declared.position.Variable.{Variable}
 use Rattle.awk_storage.specs.declared.position.Place.{Place}
@@ -29,3 +30,17 @@ pub record Updates (operator : Operator) (p : Place) (v : Value) (old new : Runt
 pub record PutsNumber (x : Variable) (n : ℤ) (old new : Runtime) : Type 0 where
   pub put : Changes (put_variable old.names.scalars x (Number n)) old new (Ok tt)
   pub again : Changes (read_variable old.names.scalars x) new new (Ok (Number n))
+
+-- a run gives a number
+pub record GivesNumber (run : Run Value) (old new : Runtime) : Type 0 where
+  pub number : ℤ
+  pub changes : Changes run old new (Ok (Number number))
+
+-- a value becomes a number, or what an operator makes of its number and of this one
+
+abbrev pub ChangesValueBy : Option Operator → ℤ → (old new : Value) → Type 0
+ChangesValueBy None n old new = new ≡ Number n
+ChangesValueBy (Some o) n old new = (x : ℤ) × (y : ℤ) × (old ≡ Number x) × (new ≡ Number y) × (applied o (Number x) (Number n) ≡ Ok (Number y))
+
+pub record ChangesValue (o : Option Operator) (n : ℤ) (old new : Value) : Type 0 where
+  pub changes : ChangesValueBy o n old new

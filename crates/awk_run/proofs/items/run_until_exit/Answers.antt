@@ -5,4 +5,4 @@ pub returns-clause-set : goal.returns-clause-set
 returns-clause-set g c = ended_set c.end_calls.ensures.ends c.run_before_end-before.ensures.set
 
 pub returns-clause-follows : goal.returns-clause-follows
-returns-clause-follows g c = until_exit_follows _ c.unless_exit.ensures c.end_calls.ensures.ends c.run_before_end-before.ensures.follows
+returns-clause-follows g c = until_exit_follows c.unless_exit.ensures c.end_calls.ensures.ends c.run_before_end-before.ensures.follows

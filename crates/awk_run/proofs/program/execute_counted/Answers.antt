@@ -3,7 +3,7 @@ use Rattle.std.proofs.lemmas.Result.{err_from_is_err_and}
 use Rattle.awk_grammar.specs.View.{items_of, tree_of}
 use Rattle.awk_kinds.specs.Signatures.{kinds_of}
 use Rattle.awk_run.specs.definitions.Accepted.{RefusedFor}
-use Rattle.awk_run.proofs.Accepted.{program_of}
+use Rattle.awk_run.proofs.Accepted.{program_of, in_place}
 use Rattle.awk_run.proofs.program.execute_counted.Goals as goal
 
 pub returns-in_err-program-clause-executed : goal.returns-in_err-program-clause-executed
@@ -36,4 +36,7 @@ returns-clause-executed g c =
     }
 
 pub lower_program-requires : goal.lower_program-requires
-lower_program-requires g c = c.in_ok-program.ensures.kinds ∙ ap (λ l. kinds_of (items_of l)) (sym c.deref.ensures.value)
+lower_program-requires g c = record {
+  kinds = c.in_ok-program.ensures.kinds ∙ ap (λ l. kinds_of (items_of l)) (sym c.deref.ensures.value);
+  in_place = rw c.deref.ensures.value (in_place c.in_ok-program.ensures.accepted);
+}

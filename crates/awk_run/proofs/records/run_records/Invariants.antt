@@ -10,8 +10,8 @@ use Rattle.awk_run.proofs.records.run_records.Given as goal
 abbrev pub invariant-loop-text : goal.invariant-loop-text
 invariant-loop-text g l = record {
   on : (new : Runtime) (after : WorldState) (r : Result (Unit {0}) Halt) →
-      ReadsOn g.W.World.is_logged l.plan l.plan.items.items l.machine.runtime (g.W.World.state l.world) new after r →
-      ReadsOn g.W.World.is_logged l.plan l.plan.items.items l.fn.machine.runtime (g.W.World.state l.fn.world) new after r;
+      ReadsOn g.W.World.is_logged l.plan l.machine.runtime (g.W.World.state l.world) new after r →
+      ReadsOn g.W.World.is_logged l.plan l.fn.machine.runtime (g.W.World.state l.fn.world) new after r;
   set : IsSet g.W.World.is_logged l.plan l.machine.runtime (g.W.World.state l.world);
   idle : IsIdle l.machine;
 }

@@ -19,19 +19,19 @@ use Rattle.awk_compile.specs.support.Calls.{arrays_of, is_array_at, roles_from}
 use Rattle.awk_compile.specs.support.Scopes.{Builds}
 use Rattle.awk_compile.proofs.Building.{ok_map, stands, arrays_same}
 use Rattle.awk_compile.proofs.ExpressionForms.{number_lowered, strict_lowered, string_lowered, ere_lowered, length_lowered, element_lowered, field_lowered, group_lowered, unary_lowered, membership_lowered, list_membership_lowered, assign_lowered, pre_increment_lowered, post_increment_lowered}
-use Rattle.awk_compile.proofs.InPlaceForms.{nothing_before, operated_with_lowered, operated_on_lowered, compared_with_lowered, compared_lowered}
-use Rattle.awk_compile.proofs.AppendForms.{plain_append, append_lowered, behind_concatenation, behind_other}
-use Rattle.awk_compile.proofs.PartForms.{field_at_lowered, part_lowered, whole_part_lowered, long_lowered}
+use Rattle.awk_compile.proofs.InPlaceForms.{nothing_before, strict, strictly_by, operated_with_lowered, operated_on_lowered, compared_with_lowered, compared_lowered}
+use Rattle.awk_compile.proofs.AppendForms.{append_lowered, whole_left, behind_concatenation, behind_other}
+use Rattle.awk_compile.proofs.PartForms.{field_at_lowered, part_lowered, whole_part_lowered, joined_lowered}
 use Rattle.awk_compile.proofs.PatternForms.{matched, unless_ere_lowered, ere_stays}
-use Rattle.awk_compile.proofs.ConditionForms.{test_lowered, group_tested, not_tested, and_tested, or_tested, and_lowered, or_lowered, conditional_lowered}
+use Rattle.awk_compile.proofs.ConditionForms.{test_lowered, ere_tested, group_tested, not_tested, and_tested, or_tested, and_lowered, or_lowered, conditional_lowered}
 use Rattle.awk_compile.proofs.ListForms.{none_lowered, more_lowered, count_exprs, exprs_over, exprs_at, some_expr, one_expr, two_exprs, three_exprs, key_lowered}
-use Rattle.awk_compile.proofs.OperandForms.{name_operand, element_operand, field_operand, not_an_ere}
+use Rattle.awk_compile.proofs.OperandForms.{name_operand, element_operand, field_operand, number_field, not_an_ere}
 use Rattle.awk_compile.proofs.CallForms.{call_fits, call_lowered, no_arguments, array_argument, value_argument}
 use Rattle.awk_compile.proofs.BuiltInForms.{IsPlain, strict_applied, record_length_lowered, count_lowered, length_of_lowered, flush_all_lowered, flush_lowered, match_lowered, fields_split, split_lowered}
 use Rattle.awk_compile.proofs.SubstituteForms.{substitute_lowered, substitute_place_lowered}
 use Rattle.awk_compile.proofs.GetlineForms.{nothing_stays, something_lowered, no_operand_stays, operand_there, getline_lowered, piped_getline_lowered}
 use Rattle.awk_compile.proofs.builder.Builder.+expressions.Goals as goal
-use Rattle.awk_compile.proofs.builder.Builder.+expressions.Goals.{lower_built_in-else-takes_one-via-then-takes_one+else-list-ne1, lower_built_in-else-takes_one-via-else-takes_one}
+use Rattle.awk_compile.proofs.builder.Builder.+expressions.Goals.{lower_parts-in_default-via-in-Binary+in_default, lower_parts-in_default-via-in_default, lower_behind_first-in_default-via-in-Binary+in_default, lower_behind_first-in_default-via-in_default, lower_built_in-else-takes_one-via-then-takes_one+else-list-ne1, lower_built_in-else-takes_one-via-else-takes_one}
 
 pub lower-returns-in-Number : goal.lower-returns-in-Number
 lower-returns-in-Number t c =
@@ -47,10 +47,10 @@ lower-returns-in-Ere t c = rw (ap expr_of c.in-Ere.is) (ok_map _ (λ i p. ere_lo
 pub lower-returns-in-Length : goal.lower-returns-in-Length
 lower-returns-in-Length t c = rw (ap expr_of c.in-Length.is) (ok_map _ (λ i p. length_lowered c.requires p) c.push_value-in-Length.ensures)
 
-pub lower-returns-in_ok-read-in-Element : goal.lower-returns-in_ok-read-in-Element
-lower-returns-in_ok-read-in-Element t c =
+pub lower-returns-in-Element : goal.lower-returns-in-Element
+lower-returns-in-Element t c =
     let is : expr_of c.args.e.now ≡ tree.Element c.in-Element.x (exprs_of c.in-Element.list.items) = search (rules, the_lemmas, row_is_list) in
-    rw is (ok_map _ (λ i q. element_lowered c.requires (rw c.as_slice.ensures at c.in_ok-array-in-Element.ensures) c.in_ok-read-in-Element.ensures q) (rw c.deref.ensures.value at c.lower_key.ensures))
+    rw is (rw c.deref.ensures.value at c.lower_element.ensures)
 
 pub lower-returns-in-Field : goal.lower-returns-in-Field
 lower-returns-in-Field t c = rw (ap expr_of c.in-Field.is) (rw c.deref-in-Field.ensures at c.lower_field.ensures)
@@ -58,68 +58,47 @@ lower-returns-in-Field t c = rw (ap expr_of c.in-Field.is) (rw c.deref-in-Field.
 pub lower-returns-in-Group : goal.lower-returns-in-Group
 lower-returns-in-Group t c = rw (ap expr_of c.in-Group.is) (ok_map _ (λ i q. group_lowered q) (rw c.deref-in-Group.ensures at c.lower.ensures))
 
-pub lower-returns-in_ok-change-in-Unary : goal.lower-returns-in_ok-change-in-Unary
-lower-returns-in_ok-change-in-Unary t c = rw (ap expr_of c.in-Unary.is) (ok_map _ (λ i q. unary_lowered c.in-Unary.o c.requires c.in_ok-change-in-Unary.ensures q) (rw c.deref-in-Unary.ensures at c.lower-in-Unary.ensures))
+pub lower-returns-in-Unary : goal.lower-returns-in-Unary
+lower-returns-in-Unary t c = rw (ap expr_of c.in-Unary.is) (rw c.deref-in-Unary.ensures at c.lower_unary.ensures)
 
-pub lower-returns-in_ok-contains-in-Membership : goal.lower-returns-in_ok-contains-in-Membership
-lower-returns-in_ok-contains-in-Membership t c =
-    rw (ap expr_of c.in-Membership.is) (ok_map _ (λ i q. membership_lowered c.requires (rw c.as_slice-in-Membership.ensures at c.in_ok-array-in-Membership.ensures) c.in_ok-contains-in-Membership.ensures q) (rw c.deref-in-Membership.ensures at c.lower-in-Membership.ensures))
+pub lower-returns-in-Binary : goal.lower-returns-in-Binary
+lower-returns-in-Binary t c = rw (ap expr_of c.in-Binary.is) (rw (c.deref-in-Binary.ensures, c.deref-in-Binary-2.ensures) at c.lower_binary.ensures)
 
-pub lower-returns-in_ok-contains-in-ListMembership : goal.lower-returns-in_ok-contains-in-ListMembership
-lower-returns-in_ok-contains-in-ListMembership t c =
+pub lower-returns-in-Membership : goal.lower-returns-in-Membership
+lower-returns-in-Membership t c = rw (ap expr_of c.in-Membership.is) (rw c.deref-in-Membership.ensures at c.lower_membership.ensures)
+
+pub lower-returns-in-ListMembership : goal.lower-returns-in-ListMembership
+lower-returns-in-ListMembership t c =
     let is : expr_of c.args.e.now ≡ tree.ListMembership (exprs_of c.in-ListMembership.list.items) c.in-ListMembership.x = search (rules, the_lemmas, row_is_list) in
-    rw is (ok_map _ (λ i q. list_membership_lowered c.requires (rw c.as_slice-in-ListMembership.ensures at c.in_ok-array-in-ListMembership.ensures) c.in_ok-contains-in-ListMembership.ensures q) (rw c.deref-in-ListMembership.ensures.value at c.lower_key-in-ListMembership.ensures))
+    rw is (rw c.deref-in-ListMembership.ensures.value at c.lower_list_membership.ensures)
 
-pub lower-returns-in_ok-other-in-Conditional : goal.lower-returns-in_ok-other-in-Conditional
-lower-returns-in_ok-other-in-Conditional t c =
-    rw (ap expr_of c.in-Conditional.is)
-    (ok_map _ (λ i q. conditional_lowered (rw c.deref-in-Conditional.ensures at c.in_ok-here-in-Conditional.ensures) (rw c.deref-in-Conditional-2.ensures at c.in_ok-other-in-Conditional.ensures) q) (rw c.deref-in-Conditional-3.ensures at c.lower_test.ensures))
+pub lower-returns-in-Conditional : goal.lower-returns-in-Conditional
+lower-returns-in-Conditional t c = rw (ap expr_of c.in-Conditional.is) (rw (c.deref-in-Conditional.ensures, c.deref-in-Conditional-2.ensures, c.deref-in-Conditional-3.ensures) at c.lower_conditional.ensures)
 
-pub lower-returns-in_ok-right-in-Assign : goal.lower-returns-in_ok-right-in-Assign
-lower-returns-in_ok-right-in-Assign t c =
-    rw (ap expr_of c.in-Assign.is)
-    (ok_map _ (λ i q. assign_lowered c.requires (rw c.deref-in-Assign-3.ensures at c.in_ok-target-in-Assign.ensures) c.in-Assign.o c.in_ok-assign-in-Assign.ensures (rw c.deref-in-Assign-4.ensures at c.in_ok-right-in-Assign.ensures) q) (rw c.deref-in-Assign-5.ensures at c.lower_operand.ensures))
+pub lower-returns-in-Assign : goal.lower-returns-in-Assign
+lower-returns-in-Assign t c = rw (ap expr_of c.in-Assign.is) (rw (c.deref-in-Assign.ensures, c.deref-in-Assign-2.ensures) at c.lower_assign.ensures)
 
-pub lower-returns-then-is_append : goal.lower-returns-then-is_append
-lower-returns-then-is_append t c =
-    let is = rw (c.deref-in-Assign.ensures, c.deref-in-Assign-2.ensures) at (c.is_append.ensures c.if-is_append.true) in
-    rw (ap expr_of c.in-Assign.is, plain_append c.in-Assign.o _ _ is) (rw (c.deref-then-is_append.ensures, c.deref-then-is_append-2.ensures) at c.lower_append.ensures)
+pub lower-returns-in-PreIncrement : goal.lower-returns-in-PreIncrement
+lower-returns-in-PreIncrement t c = rw (ap expr_of c.in-PreIncrement.is) (rw c.deref-in-PreIncrement.ensures at c.lower_pre_increment.ensures)
 
-pub lower_append-returns : goal.lower_append-returns
-lower_append-returns t c =
-    let place : expr_of c.args.place.now ≡ tree.Name c.in-Name.x = ap expr_of c.in-Name.is in
-    rw place (ok_map _ (λ i q. append_lowered c.in-Name.x (expr_of c.args.e.now) c.requires.stands (rw c.as_slice.ensures at c.in_ok-variable.ensures) (rw place at c.requires.append) c.in_ok-append.ensures c.in_ok-right.ensures q) c.push_name.ensures)
-
-pub lower_behind_first-returns-then-not-is_concatenation : goal.lower_behind_first-returns-then-not-is_concatenation
-lower_behind_first-returns-then-not-is_concatenation t c =
-    let x = c.in-Binary-Concatenate-default-default in
-    let is : expr_of c.args.e.now ≡ tree.Binary Concatenate (expr_of x.a.value) (expr_of x.b.value) = search (rules, the_lemmas) in
-    let other : is_concatenation (expr_of x.a.value) ≡ false = sym (rw c.deref.ensures at c.is_concatenation.ensures) ∙ c.if-not-is_concatenation.true in
-    let whole : without_first (expr_of c.args.e.now) ≡ expr_of x.b.value = ap without_first is ∙ behind_other (expr_of x.a.value) (expr_of x.b.value) other in
-    rw whole (rw c.deref-then-not-is_concatenation.ensures at c.lower.ensures)
-
-pub lower_behind_first-returns : goal.lower_behind_first-returns
-lower_behind_first-returns t c =
-    let x = c.in-Binary-Concatenate-default-default in
-    let is : expr_of c.args.e.now ≡ tree.Binary Concatenate (expr_of x.a.value) (expr_of x.b.value) = search (rules, the_lemmas) in
-    let more : is_concatenation (expr_of x.a.value) ≡ true = sym (rw c.deref.ensures at c.is_concatenation.ensures) ∙ c.if-not-is_concatenation.false in
-    let whole : without_first (expr_of c.args.e.now) ≡ tree.Binary Concatenate (without_first (expr_of x.a.value)) (expr_of x.b.value) = ap without_first is ∙ behind_concatenation (expr_of x.a.value) (expr_of x.b.value) more in
-    rw whole (ok_map _ (λ i q. strict_lowered Concatenate refl refl refl c.requires c.in_ok-operate.ensures (rw c.deref-2.ensures at c.in_ok-last.ensures) q) (rw c.deref-3.ensures at c.lower_behind_first.ensures))
+pub lower-returns-in-PostIncrement : goal.lower-returns-in-PostIncrement
+lower-returns-in-PostIncrement t c = rw (ap expr_of c.in-PostIncrement.is) (rw c.deref-in-PostIncrement.ensures at c.lower_post_increment.ensures)
 
 -- the parts of a concatenation
 
-pub lower_parts-returns-then-is_concatenation : goal.lower_parts-returns-then-is_concatenation
-lower_parts-returns-then-is_concatenation t c =
-    let x = c.in-Binary-Concatenate-default-default in
-    let is : expr_of c.args.e.now ≡ tree.Binary Concatenate (expr_of x.a.value) (expr_of x.b.value) = search (rules, the_lemmas) in
-    rw (ap parts_of is) (ok_map _ (λ i q. part_lowered (rw c.deref.ensures at c.in_ok-last.ensures) q) (rw c.deref-then-is_concatenation.ensures at c.lower_parts.ensures))
+pub lower_parts-returns-in_default : goal.lower_parts-returns-in_default
+lower_parts-returns-in_default t c =
+    let other : is_concatenation (expr_of c.args.e.now) ≡ false = elim c.in_default.branch [
+      | lower_parts-in_default-via-in-Binary+in_default w ↦ search (rules, the_lemmas)
+      | lower_parts-in_default-via-in_default w ↦ search (rules, the_lemmas)
+    ] in
+    ok_map _ (λ i q. whole_part_lowered (expr_of c.args.e.now) other q) c.lower.ensures
 
-pub lower_parts-returns-else-is_concatenation : goal.lower_parts-returns-else-is_concatenation
-lower_parts-returns-else-is_concatenation t c =
+pub lower_parts-returns : goal.lower_parts-returns
+lower_parts-returns t c =
     let x = c.in-Binary-Concatenate-default-default in
     let is : expr_of c.args.e.now ≡ tree.Binary Concatenate (expr_of x.a.value) (expr_of x.b.value) = search (rules, the_lemmas) in
-    let other : is_concatenation (expr_of x.a.value) ≡ false = sym (rw c.deref-2.ensures at c.is_concatenation.ensures) ∙ c.if-is_concatenation.false in
-    rw (ap parts_of is) (ok_map _ (λ i q. part_lowered (rw c.deref.ensures at c.in_ok-last.ensures) (whole_part_lowered (expr_of x.a.value) other q)) (rw c.deref-else-is_concatenation.ensures at c.lower-else-is_concatenation.ensures))
+    rw (ap parts_of is) (ok_map _ (λ i q. part_lowered (rw c.deref.ensures at c.in_ok-last.ensures) q) (rw c.deref-2.ensures at c.lower_parts.ensures))
 
 pub lower_field-returns-in_default : goal.lower_field-returns-in_default
 lower_field-returns-in_default t c =
@@ -128,16 +107,6 @@ lower_field-returns-in_default t c =
 
 pub lower_field-returns : goal.lower_field-returns
 lower_field-returns t c = ok_map _ (λ i q. field_at_lowered c.requires (rw c.in-Some.is at c.in_ok-operand.ensures) q) c.push_value-2.ensures
-
-pub lower-returns-in_ok-increment-in-PreIncrement : goal.lower-returns-in_ok-increment-in-PreIncrement
-lower-returns-in_ok-increment-in-PreIncrement t c =
-    rw (ap expr_of c.in-PreIncrement.is)
-    (ok_map _ (λ i q. pre_increment_lowered c.requires (rw c.deref-in-PreIncrement.ensures at c.in_ok-target-in-PreIncrement.ensures) c.in-PreIncrement.o c.in_ok-increment-in-PreIncrement.ensures q) (rw c.deref-in-PreIncrement-2.ensures at c.lower_operand-in-PreIncrement.ensures))
-
-pub lower-returns-in_ok-increment-in-PostIncrement : goal.lower-returns-in_ok-increment-in-PostIncrement
-lower-returns-in_ok-increment-in-PostIncrement t c =
-    rw (ap expr_of c.in-PostIncrement.is)
-    (ok_map _ (λ i q. post_increment_lowered c.requires (rw c.deref-in-PostIncrement.ensures at c.in_ok-target-in-PostIncrement.ensures) c.in-PostIncrement.o c.in_ok-increment-in-PostIncrement.ensures q) (rw c.deref-in-PostIncrement-2.ensures at c.lower_operand-in-PostIncrement.ensures))
 
 pub lower-returns-in-Call : goal.lower-returns-in-Call
 lower-returns-in-Call t c =
@@ -152,18 +121,79 @@ lower-returns-in-BuiltIn t c =
 getline_is : (e : CodeExpr) (place file : Option (Box CodeExpr)) → e ≡ code.Getline place file → expr_of e ≡ tree.Getline (optional_expr_of place) (optional_expr_of file)
 getline_is e place file is = search (rules, the_lemmas)
 
-pub lower-returns-in_ok-name-in-Getline : goal.lower-returns-in_ok-name-in-Getline
-lower-returns-in_ok-name-in-Getline t c =
-    let is : expr_of c.args.e.now ≡ tree.Getline (optional_expr_of c.in-Getline.place) (optional_expr_of c.in-Getline.file) = getline_is c.args.e.now c.in-Getline.place c.in-Getline.file c.in-Getline.is in
-    rw is (ok_map _ (λ i q. getline_lowered c.in_ok-target-in-Getline.target (optional_expr_of c.in-Getline.place) (optional_expr_of c.in-Getline.file) c.requires c.in_ok-target-in-Getline.ensures (rw c.source_of.ensures at c.in_ok-read-in-Getline.ensures) c.in_ok-name-in-Getline.ensures q) c.lower_optional_operand.ensures)
-
 piped_is : (e : CodeExpr) (command : Box CodeExpr) (place : Option (Box CodeExpr)) → e ≡ code.PipedGetline command place → expr_of e ≡ tree.PipedGetline (expr_of command.value) (optional_expr_of place)
 piped_is e command place is = search (rules, the_lemmas)
 
-pub lower-returns-in_ok-operand-in-PipedGetline : goal.lower-returns-in_ok-operand-in-PipedGetline
-lower-returns-in_ok-operand-in-PipedGetline t c =
-    let is = piped_is c.args.e.now c.in-PipedGetline.command c.in-PipedGetline.place c.in-PipedGetline.is in
-    rw is (ok_map _ (λ i q. piped_getline_lowered c.in_ok-target-in-PipedGetline.target (optional_expr_of c.in-PipedGetline.place) c.requires c.in_ok-target-in-PipedGetline.ensures c.in_ok-read-in-PipedGetline.ensures c.in_ok-operand-in-PipedGetline.ensures q) (rw c.deref-in-PipedGetline.ensures at c.lower-in-PipedGetline.ensures))
+pub lower-returns-in-Getline : goal.lower-returns-in-Getline
+lower-returns-in-Getline t c = rw (getline_is c.args.e.now c.in-Getline.place c.in-Getline.file c.in-Getline.is) c.lower_getline.ensures
+
+pub lower-returns-in-PipedGetline : goal.lower-returns-in-PipedGetline
+lower-returns-in-PipedGetline t c = rw (piped_is c.args.e.now c.in-PipedGetline.command c.in-PipedGetline.place c.in-PipedGetline.is) (rw c.deref-in-PipedGetline.ensures at c.lower_piped_getline.ensures)
+
+pub lower_getline-returns : goal.lower_getline-returns
+lower_getline-returns t c =
+    ok_map _ (λ i q. getline_lowered c.in_ok-target.target (optional_expr_of c.args.place.now) (optional_expr_of c.args.file.now) c.requires c.in_ok-target.ensures (rw c.source_of.ensures at c.in_ok-read.ensures) c.in_ok-name.ensures q) c.lower_optional_operand.ensures
+
+pub lower_piped_getline-returns : goal.lower_piped_getline-returns
+lower_piped_getline-returns t c = ok_map _ (λ i q. piped_getline_lowered c.in_ok-target.target (optional_expr_of c.args.place.now) c.requires c.in_ok-target.ensures c.in_ok-read.ensures c.in_ok-operand.ensures q) c.lower.ensures
+
+pub lower_element-returns : goal.lower_element-returns
+lower_element-returns t c = ok_map _ (λ i q. element_lowered c.requires (rw c.as_slice.ensures at c.in_ok-array.ensures) c.in_ok-read.ensures q) c.lower_key.ensures
+
+pub lower_unary-returns : goal.lower_unary-returns
+lower_unary-returns t c = ok_map _ (λ i q. unary_lowered c.args.o c.requires c.in_ok-change.ensures q) c.lower.ensures
+
+pub lower_membership-returns : goal.lower_membership-returns
+lower_membership-returns t c = ok_map _ (λ i q. membership_lowered c.requires (rw c.as_slice.ensures at c.in_ok-array.ensures) c.in_ok-contains.ensures q) c.lower.ensures
+
+pub lower_list_membership-returns : goal.lower_list_membership-returns
+lower_list_membership-returns t c = ok_map _ (λ i q. list_membership_lowered c.requires (rw c.as_slice.ensures at c.in_ok-array.ensures) c.in_ok-contains.ensures q) c.lower_key.ensures
+
+pub lower_conditional-returns : goal.lower_conditional-returns
+lower_conditional-returns t c = ok_map _ (λ i q. conditional_lowered c.in_ok-here.ensures c.in_ok-other.ensures q) c.lower_test.ensures
+
+-- assignments
+
+pub lower_assign-returns-in-Some : goal.lower_assign-returns-in-Some
+lower_assign-returns-in-Some t c =
+    let appends = rw c.in-Some.is at c.appended.ensures in
+    rw (appends.operator, appends.named) c.lower_append.ensures
+
+pub lower_assign-returns : goal.lower_assign-returns
+lower_assign-returns t c = ok_map _ (λ i q. assign_lowered c.requires c.in_ok-target.ensures c.args.o c.in_ok-assign.ensures c.in_ok-right.ensures q) c.lower_operand.ensures
+
+pub lower_pre_increment-returns : goal.lower_pre_increment-returns
+lower_pre_increment-returns t c = ok_map _ (λ i q. pre_increment_lowered c.requires c.in_ok-target.ensures c.args.o c.in_ok-increment.ensures q) c.lower_operand.ensures
+
+pub lower_post_increment-returns : goal.lower_post_increment-returns
+lower_post_increment-returns t c = ok_map _ (λ i q. post_increment_lowered c.requires c.in_ok-target.ensures c.args.o c.in_ok-increment.ensures q) c.lower_operand.ensures
+
+pub lower_append-returns : goal.lower_append-returns
+lower_append-returns t c = ok_map _ (λ i q. append_lowered c.args.name.now (expr_of c.args.e.now) c.requires.stands (rw c.as_slice.ensures at c.in_ok-variable.ensures) c.requires.append c.in_ok-append.ensures c.in_ok-right.ensures q) c.push_name.ensures
+
+pub lower_behind_first-returns-in_default : goal.lower_behind_first-returns-in_default
+lower_behind_first-returns-in_default t c =
+    let other : is_concatenation (expr_of c.args.e.now) ≡ false = elim c.in_default.branch [
+      | lower_behind_first-in_default-via-in-Binary+in_default w ↦ search (rules, the_lemmas)
+      | lower_behind_first-in_default-via-in_default w ↦ search (rules, the_lemmas)
+    ] in
+    rw (whole_left (expr_of c.args.e.now) other) c.lower.ensures
+
+pub lower_behind_first-returns-then-not-is_concatenation : goal.lower_behind_first-returns-then-not-is_concatenation
+lower_behind_first-returns-then-not-is_concatenation t c =
+    let x = c.in-Binary-Concatenate-default-default in
+    let is : expr_of c.args.e.now ≡ tree.Binary Concatenate (expr_of x.a.value) (expr_of x.b.value) = search (rules, the_lemmas) in
+    let other : is_concatenation (expr_of x.a.value) ≡ false = sym (rw c.deref.ensures at c.is_concatenation.ensures) ∙ c.if-not-is_concatenation.true in
+    let whole : without_first (expr_of c.args.e.now) ≡ expr_of x.b.value = ap without_first is ∙ behind_other (expr_of x.a.value) (expr_of x.b.value) other in
+    rw whole (rw c.deref-then-not-is_concatenation.ensures at c.lower-then-not-is_concatenation.ensures)
+
+pub lower_behind_first-returns : goal.lower_behind_first-returns
+lower_behind_first-returns t c =
+    let x = c.in-Binary-Concatenate-default-default in
+    let is : expr_of c.args.e.now ≡ tree.Binary Concatenate (expr_of x.a.value) (expr_of x.b.value) = search (rules, the_lemmas) in
+    let more : is_concatenation (expr_of x.a.value) ≡ true = sym (rw c.deref.ensures at c.is_concatenation.ensures) ∙ c.if-not-is_concatenation.false in
+    let whole : without_first (expr_of c.args.e.now) ≡ tree.Binary Concatenate (without_first (expr_of x.a.value)) (expr_of x.b.value) = ap without_first is ∙ behind_concatenation (expr_of x.a.value) (expr_of x.b.value) more in
+    rw whole (ok_map _ (λ i q. strict_lowered Concatenate refl refl refl c.requires c.in_ok-operate.ensures (rw c.deref-2.ensures at c.in_ok-last.ensures) q) (rw c.deref-3.ensures at c.lower_behind_first.ensures))
 
 -- lists
 
@@ -227,8 +257,16 @@ lower_operand-returns-in-Element t c =
     let is : expr_of c.args.p.now ≡ tree.Element c.in-Element.field-0 (exprs_of c.in-Element.list.items) = search (rules, the_lemmas, row_is_list) in
     rw is (ok_map _ (λ i q. element_operand _ q) (rw c.deref.ensures.value at c.lower_key.ensures))
 
-pub lower_operand-returns-in_ok-number-in-Field : goal.lower_operand-returns-in_ok-number-in-Field
-lower_operand-returns-in_ok-number-in-Field t c = rw (ap expr_of c.in-Field.is) (ok_map _ (λ i q. field_operand c.requires c.in_ok-number-in-Field.ensures q) (rw c.deref-in-Field.ensures at c.lower.ensures))
+pub lower_operand-returns-in-Field : goal.lower_operand-returns-in-Field
+lower_operand-returns-in-Field t c = rw (ap expr_of c.in-Field.is) (rw c.deref-in-Field.ensures at c.lower_field_number.ensures)
+
+pub lower_field_number-returns-in-Number : goal.lower_field_number-returns-in-Number
+lower_field_number-returns-in-Number t c =
+    let number : to_z w128 (of_z w128 c.in-Number.n) ≡ c.in-Number.n = search rules in
+    rw (ap expr_of c.in-Number.is) (ok_map _ (λ i q. number_field _ c.requires q) (rw number at c.push_value.ensures))
+
+pub lower_field_number-returns : goal.lower_field_number-returns
+lower_field_number-returns t c = ok_map _ (λ i q. field_operand c.requires c.in_ok-number.ensures q) c.lower.ensures
 
 pub lower_optional-returns-in-None : goal.lower_optional-returns-in-None
 lower_optional-returns-in-None t c = rw (ap optional_expr_of c.in-None.is) (nothing_stays c.requires)
@@ -253,6 +291,9 @@ lower_unless_ere-returns-in_default t c = ok_map _ (λ i q. unless_ere_lowered (
 pub lower_test-returns-in-Group : goal.lower_test-returns-in-Group
 lower_test-returns-in-Group t c = rw (ap expr_of c.in-Group.is) (ok_map _ (λ i q. group_tested q) (rw c.deref.ensures at c.lower_test.ensures))
 
+pub lower_test-returns-in_ok-number-in-Ere : goal.lower_test-returns-in_ok-number-in-Ere
+lower_test-returns-in_ok-number-in-Ere t c = rw (ap expr_of c.in-Ere.is) (ok_map _ (λ i q. ere_tested c.requires.here c.requires.other c.in_ok-number-in-Ere.ensures q) c.push.ensures)
+
 pub lower_test-returns-in-Unary : goal.lower_test-returns-in-Unary
 lower_test-returns-in-Unary t c = rw (ap expr_of c.in-Unary.is) (ok_map _ (λ i q. not_tested c.in-Unary.o (sym c.is_not.ensures ∙ c.if-is_not.true) q) (rw c.deref-in-Unary.ensures at c.lower_test-in-Unary.ensures))
 
@@ -272,66 +313,59 @@ lower_test-returns-in_ok-test-in_default t c = ok_map _ (λ i q. test_lowered c.
 -- operators
 
 pub lower_binary-returns-then-is_and : goal.lower_binary-returns-then-is_and
-lower_binary-returns-then-is_and t c =
-    rw (ap expr_of c.in-Binary.is)
-    (ok_map _ (λ i q. and_lowered c.in-Binary.o c.requires c.in_ok-yes.ensures (sym c.is_and.ensures ∙ c.if-is_and.true) (rw c.deref.ensures at c.in_ok-second.ensures) q) (rw c.deref-then-is_and.ensures at c.lower_test-then-is_and.ensures))
+lower_binary-returns-then-is_and t c = ok_map _ (λ i q. and_lowered c.args.o c.requires c.in_ok-yes.ensures (sym c.is_and.ensures ∙ c.if-is_and.true) c.in_ok-second.ensures q) c.lower_test-then-is_and.ensures
 
 pub lower_binary-returns-then-is_or : goal.lower_binary-returns-then-is_or
-lower_binary-returns-then-is_or t c =
-    rw (ap expr_of c.in-Binary.is)
-    (ok_map _ (λ i q. or_lowered c.in-Binary.o c.requires c.in_ok-yes-2.ensures (sym c.is_or.ensures ∙ c.if-is_or.true) (rw c.deref-then-is_or.ensures at c.in_ok-second-2.ensures) q) (rw c.deref-then-is_or-2.ensures at c.lower_test-then-is_or-2.ensures))
+lower_binary-returns-then-is_or t c = ok_map _ (λ i q. or_lowered c.args.o c.requires c.in_ok-yes-2.ensures (sym c.is_or.ensures ∙ c.if-is_or.true) c.in_ok-second-2.ensures q) c.lower_test-then-is_or-2.ensures
 
 pub lower_binary-returns-in-Some : goal.lower_binary-returns-in-Some
 lower_binary-returns-in-Some t c =
-    rw (ap expr_of c.in-Binary.is)
-    (ok_map _ (λ i q. matched c.in-Binary.o c.in-Some.o c.in_ok-pattern.pattern (sym c.in-Some.ensures) c.requires (rw c.deref-in-Some.ensures at c.in_ok-pattern.ensures) (rw c.matching.ensures at c.in_ok-matches.ensures) (rw c.deref-in-Some-2.ensures at c.in_ok-right.ensures) q) (rw c.deref-in-Some-3.ensures at c.lower.ensures))
+    ok_map _ (λ i q. matched c.args.o c.in-Some.o c.in_ok-pattern.pattern (sym c.in-Some.ensures) c.requires c.in_ok-pattern.ensures (rw c.matching.ensures at c.in_ok-matches.ensures) c.in_ok-right.ensures q) c.lower.ensures
+
+pub lower_binary-lower_strict-requires : goal.lower_binary-lower_strict-requires
+lower_binary-lower_strict-requires t c = (search rules, (c.requires, strictly_by c.args.o (sym c.is_and.ensures ∙ c.if-is_and.false) (sym c.is_or.ensures ∙ c.if-is_or.false) (sym c.in_default.ensures)))
 
 -- two operands
 
-pub lower_binary-returns-then-count-gt2 : goal.lower_binary-returns-then-count-gt2
-lower_binary-returns-then-count-gt2 t c =
-    let is : expr_of c.args.e.now ≡ tree.Binary c.in-Binary.o (expr_of c.in-Binary.a.value) (expr_of c.in-Binary.b.value) = ap expr_of c.in-Binary.is in
-    rw is (ok_map _ (λ i q. long_lowered c.in-Binary.o (expr_of c.in-Binary.a.value) (expr_of c.in-Binary.b.value) c.requires c.if-count-gt2.true (rw is at c.in_ok-count.ensures) c.in_ok-join.ensures q) (rw is at c.lower_parts.ensures))
+pub lower_strict-returns-in_default : goal.lower_strict-returns-in_default
+lower_strict-returns-in_default t c =
+    let none = rw c.in_default.is at c.in_ok-right.ensures in
+    let is = strict c.args.o c.requires.strict in
+    ok_map _ (λ i q. strict_lowered c.args.o is.no_and is.no_or is.no_match c.requires.stands (nothing_before none c.in_ok-operate.ensures) c.in_ok-right-2.ensures q) c.lower-in_default.ensures
 
-pub lower_binary-returns-in_default-2 : goal.lower_binary-returns-in_default-2
-lower_binary-returns-in_default-2 t c =
-    let none = rw c.in_default-2.is at c.in_ok-right-2.ensures in
-    rw (ap expr_of c.in-Binary.is)
-    (ok_map _ (λ i q. strict_lowered c.in-Binary.o (sym c.is_and.ensures ∙ c.if-is_and.false) (sym c.is_or.ensures ∙ c.if-is_or.false) (sym c.in_default-matching_operator.ensures) c.requires (nothing_before none c.in_ok-operate.ensures) (rw c.deref-in_default-2.ensures at c.in_ok-right-3.ensures) q) (rw c.deref-in_default-2-2.ensures at c.lower-in_default-2-2.ensures))
+pub lower_strict-returns-in_default-2 : goal.lower_strict-returns-in_default-2
+lower_strict-returns-in_default-2 t c =
+    let none = rw c.in_default-2.is at c.in_ok-left.ensures in
+    let right = rw c.in-Some.is at c.in_ok-right.ensures in
+    ok_map _ (λ i q. operated_with_lowered c.args.o c.requires.strict c.requires.stands right (nothing_before none c.in_ok-operate-2.ensures) q) c.lower-in_default-2.ensures
 
-pub lower_binary-returns-in_default-3 : goal.lower_binary-returns-in_default-3
-lower_binary-returns-in_default-3 t c =
-    let none = rw c.in_default-3.is at c.in_ok-left.ensures in
-    let right = rw (c.in-Some-2.is, c.deref-2.ensures) at c.in_ok-right-2.ensures in
-    rw (ap expr_of c.in-Binary.is)
-    (ok_map _ (λ i q. operated_with_lowered c.in-Binary.o (sym c.is_and.ensures ∙ c.if-is_and.false) (sym c.is_or.ensures ∙ c.if-is_or.false) (sym c.in_default-matching_operator.ensures) c.requires right (nothing_before none c.in_ok-operate-2.ensures) q) (rw c.deref-in_default-3.ensures at c.lower-in_default-3.ensures))
+pub lower_strict-returns : goal.lower_strict-returns
+lower_strict-returns t c =
+    let right = rw c.in-Some.is at c.in_ok-right.ensures in
+    let left = rw c.in-Some-2.is at c.in_ok-left.ensures in
+    ok_map _ (λ i q. operated_on_lowered c.args.o c.requires.strict c.requires.stands right left q) c.push_value-2.ensures
 
-pub lower_binary-returns : goal.lower_binary-returns
-lower_binary-returns t c =
-    let right = rw (c.in-Some-2.is, c.deref-2.ensures) at c.in_ok-right-2.ensures in
-    let left = rw (c.in-Some-3.is, c.deref-3.ensures) at c.in_ok-left.ensures in
-    rw (ap expr_of c.in-Binary.is)
-    (ok_map _ (λ i q. operated_on_lowered c.in-Binary.o (sym c.is_and.ensures ∙ c.if-is_and.false) (sym c.is_or.ensures ∙ c.if-is_or.false) (sym c.in_default-matching_operator.ensures) c.requires right left q) c.push_value-2.ensures)
+pub lower_joined-returns : goal.lower_joined-returns
+lower_joined-returns t c = ok_map _ (λ i q. joined_lowered c.requires (c.in_ok-count.ensures ∙ ap suc c.in_ok-part_count.ensures) c.in_ok-join.ensures c.in_ok-last.ensures q) c.lower_parts.ensures
 
 -- the test of what an operator makes
 
+pub lower_comparison-returns-in_default : goal.lower_comparison-returns-in_default
+lower_comparison-returns-in_default t c =
+    let none = rw c.in_default.is at c.in_ok-right.ensures in
+    ok_map _ (λ i q. test_lowered c.requires.here c.requires.other (nothing_before none c.in_ok-test.ensures) q) c.lower_binary.ensures
+
 pub lower_comparison-returns-in_default-2 : goal.lower_comparison-returns-in_default-2
 lower_comparison-returns-in_default-2 t c =
-    let none = rw c.in_default-2.is at c.in_ok-right.ensures in
-    ok_map _ (λ i q. test_lowered c.requires.here c.requires.other (nothing_before none c.in_ok-test.ensures) q) c.lower.ensures
-
-pub lower_comparison-returns-in_default-3 : goal.lower_comparison-returns-in_default-3
-lower_comparison-returns-in_default-3 t c =
-    let none = rw c.in_default-3.is at c.in_ok-left.ensures in
-    let right = rw (c.in-Some.is, c.deref.ensures) at c.in_ok-right.ensures in
-    rw (ap expr_of c.in-Binary.is)
-    (ok_map _ (λ i q. compared_with_lowered c.in-Binary.o (sym c.is_strict.ensures ∙ c.if-not-is_strict.false) c.requires.here c.requires.other right (nothing_before none c.in_ok-test-2.ensures) q) (rw c.deref-in_default-3.ensures at c.lower-in_default-3.ensures))
+    let none = rw c.in_default-2.is at c.in_ok-left.ensures in
+    let right = rw c.in-Some.is at c.in_ok-right.ensures in
+    ok_map _ (λ i q. compared_with_lowered c.args.o c.requires.strict c.requires.here c.requires.other right (nothing_before none c.in_ok-test-2.ensures) q) c.lower.ensures
 
 pub lower_comparison-returns : goal.lower_comparison-returns
 lower_comparison-returns t c =
-    let right = rw (c.in-Some.is, c.deref.ensures) at c.in_ok-right.ensures in
-    let left = rw (c.in-Some-2.is, c.deref-2.ensures) at c.in_ok-left.ensures in
-    rw (ap expr_of c.in-Binary.is) (ok_map _ (λ i q. compared_lowered c.in-Binary.o (sym c.is_strict.ensures ∙ c.if-not-is_strict.false) c.requires.here c.requires.other right left q) c.push-2.ensures)
+    let right = rw c.in-Some.is at c.in_ok-right.ensures in
+    let left = rw c.in-Some-2.is at c.in_ok-left.ensures in
+    ok_map _ (λ i q. compared_lowered c.args.o c.requires.strict c.requires.here c.requires.other right left q) c.push-2.ensures
 
 -- calls
 

@@ -5,7 +5,7 @@ use Rattle.awk_grammar.specs.View.{item_of, items_of, statements_of}
 use Rattle.awk_kinds.specs.definitions.Kinds.{arrays_of, parameter_by}
 use Rattle.awk_kinds.specs.definitions.Signatures.{Signature}
 use Rattle.awk_kinds.proofs.KindsMade.{items_to}
-use Rattle.awk_compile.proofs.Planning.{no_functions_added, next_function_added, other_item_added, no_definition, signature_at, ends_later}
+use Rattle.awk_compile.proofs.Planning.{no_functions_added, next_function_added, other_item_added, no_definition, signature_at, over_later}
 use Rattle.awk_compile.proofs.builder.Builder.lower_functions.Goals as goal
 use Rattle.awk_compile.proofs.builder.Builder.lower_functions.Goals.{in-Function+in_ok-number+in-Some+in_ok-lower_function+in_ok-push, in_default}
 
@@ -24,7 +24,7 @@ unreachable-requires c =
     cc
 
 pub lower_function-requires : goal.lower_function-requires
-lower_function-requires c = ends_later c.loop-item.invariant.grows c.requires.stand
+lower_function-requires c = over_later c.loop-item.invariant.grows c.requires.over
 
 pub loop-item-preserved : goal.loop-item-preserved
 loop-item-preserved c =

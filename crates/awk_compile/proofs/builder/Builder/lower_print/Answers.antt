@@ -4,19 +4,15 @@ use Rattle.awk_kinds.specs.definitions.NameUses.{count_of}
 use Rattle.awk_kinds.proofs.Adding.{count_is}
 use Rattle.awk_compile.specs.support.Printed.{listed}
 use Rattle.awk_compile.proofs.Building.{ok_map}
-use Rattle.awk_compile.proofs.PrintStatements.{print_built, redirected_built}
+use Rattle.awk_compile.proofs.PrintStatements.{redirected_built}
 use Rattle.awk_compile.proofs.builder.Builder.lower_print.Goals as goal
 
-pub returns-in_ok-values-in-Standard : goal.returns-in_ok-values-in-Standard
-returns-in_ok-values-in-Standard c =
-    let list = c.listed-list.result.now in
-    let count : c.in_ok-count.count ≡ count_of (listed (print_list_of c.args.list.now)) = c.in_ok-count.ensures ∙ sym (count_is list) ∙ ap count_of c.listed-list.ensures in
-    rw (ap output_of c.in-Standard.is)
-    (ok_map _ (λ i r. print_built c.requires.next count c.in_ok-print-in-Standard.ensures (rw c.listed-list.ensures at c.in_ok-values-in-Standard.ensures) r) c.step.ensures)
+pub returns-in-Standard : goal.returns-in-Standard
+returns-in-Standard c = rw (ap output_of c.in-Standard.is) c.lower_standard_print.ensures
 
 pub returns-in_ok-values-in-Redirected : goal.returns-in_ok-values-in-Redirected
 returns-in_ok-values-in-Redirected c =
     let list = c.listed-list.result.now in
-    let count : c.in_ok-count.count ≡ count_of (listed (print_list_of c.args.list.now)) = c.in_ok-count.ensures ∙ sym (count_is list) ∙ ap count_of c.listed-list.ensures in
+    let count : c.in_ok-count-in-Redirected.count ≡ count_of (listed (print_list_of c.args.list.now)) = c.in_ok-count-in-Redirected.ensures ∙ sym (count_is list) ∙ ap count_of c.listed-list.ensures in
     rw (ap output_of c.in-Redirected.is)
-    (ok_map _ (λ i r. redirected_built c.requires.next count c.in_ok-print-in-Redirected.ensures (rw c.deref.ensures at c.in_ok-target-in-Redirected.ensures) (rw c.listed-list.ensures at c.in_ok-values-in-Redirected.ensures) r) c.step-in-Redirected.ensures)
+    (ok_map _ (λ i r. redirected_built c.requires.next count c.in_ok-print-in-Redirected.ensures (rw c.deref.ensures at c.in_ok-target-in-Redirected.ensures) (rw c.listed-list.ensures at c.in_ok-values-in-Redirected.ensures) r) c.step.ensures)

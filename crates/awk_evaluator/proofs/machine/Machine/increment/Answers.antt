@@ -1,12 +1,19 @@
 use Rattle.std.proofs.Common.{refl}
-use Rattle.std.proofs.lemmas.Result.{err_from_is_err_and}
-use Rattle.awk_evaluator.proofs.Joining.{incremented, not_incremented}
+use Rattle.awk_evaluator.proofs.Parts.{not_incremented, number_raised, increments_behind}
 use Rattle.awk_evaluator.proofs.machine.Machine.increment.Goals as goal
 
-pub returns-in_err-spend : goal.returns-in_err-spend
-returns-in_err-spend c =
-    let p = err_from_is_err_and c.from_residual.result c.from_residual.ensures.1 in
-    rw (p.1, p.2) (not_incremented c.args.variable refl refl c.args.operator c.in_err-spend.ensures)
+pub returns-then-not-spend : goal.returns-then-not-spend
+returns-then-not-spend c =
+    let e = c.if-not-spend.ensures {u = tt} in
+    not_incremented e.operands e.calls e.spends c.args.operator c.args.variable.now
+
+pub returns-then-raise_in_place : goal.returns-then-raise_in_place
+returns-then-raise_in_place c =
+    let e = c.if-not-spend.ensures {u = tt} in
+    number_raised c.args.operator c.args.variable.now e.spends ((c.if-raise_in_place.ensures {u = tt}).raises refl) e.operands e.calls
 
 pub returns : goal.returns
-returns c = incremented c.args.variable refl refl c.args.operator c.in_ok-spend.ensures refl refl c.post_increment_at.ensures
+returns c =
+    let e = c.if-not-spend.ensures {u = tt} in
+    let kept = (c.if-raise_in_place.ensures {u = tt}).kept refl in
+    increments_behind e.spends e.operands e.calls c.args.operator c.args.variable.now _ (rw kept at c.increment_value.ensures)

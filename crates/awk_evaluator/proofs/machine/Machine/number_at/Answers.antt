@@ -5,8 +5,8 @@ use Rattle.awk_compile.specs.declared.node.Operand.TheVariants.{Constant}
 use Rattle.awk_evaluator.proofs.QuickValues.{constant_at_hand}
 use Rattle.awk_evaluator.proofs.machine.Machine.number_at.Goals as goal
 
-pub returns-in-Constant-Number-clause-some : goal.returns-in-Constant-Number-clause-some
-returns-in-Constant-Number-clause-some c =
+pub returns-in-Constant-Number : goal.returns-in-Constant-Number
+returns-in-Constant-Number c =
     let number : to_z w128 (of_z w128 c.in-Constant-Number.n) ≡ c.in-Constant-Number.n = search rules in
     let is = c.in-Constant-Number.is in
     let inner = c.in-Constant-Number.field-0-is in

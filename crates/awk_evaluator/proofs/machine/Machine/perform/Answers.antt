@@ -1,31 +1,13 @@
 use Rattle.std.proofs.Common.{refl, Ok}
 use Rattle.awk_runtime.proofs.Composition.{change_simulates, lift_simulates, ready_behind}
-use Rattle.awk_evaluator.proofs.Computing.{performed, acted, acted_ready}
+use Rattle.awk_evaluator.specs.Moves.{came}
+use Rattle.awk_evaluator.proofs.Computing.{performed}
 use Rattle.awk_evaluator.proofs.machine.Machine.perform.Goals as goal
 
-pub returns-in-Spend-clause-performs : goal.returns-in-Spend-clause-performs
-returns-in-Spend-clause-performs g c = rw c.in-Spend.is (performed c.spend.result refl refl (λ functions. change_simulates c.spend.ensures.changes))
+pub returns-in-Spend : goal.returns-in-Spend
+returns-in-Spend g c = record { ready = ready_behind c.spend.ensures.spends.changes c.requires.ready; performs = rw c.in-Spend.is (performed (came c.spend.result c.spend.new.self) c.spend.ensures.operands c.spend.ensures.calls (λ functions. change_simulates c.spend.ensures.spends.changes)) }
 
-pub returns-in-Drop-clause-performs : goal.returns-in-Drop-clause-performs
-returns-in-Drop-clause-performs g c = rw c.in-Drop.is (performed (Ok tt) c.drop.ensures refl (λ functions. lift_simulates (Ok tt) _ _ refl))
-
-pub returns-in-Delete-clause-ready : goal.returns-in-Delete-clause-ready
-returns-in-Delete-clause-ready g c = acted_ready c.delete.ensures c.requires.ready
-
-pub returns-in-Delete-clause-performs : goal.returns-in-Delete-clause-performs
-returns-in-Delete-clause-performs g c = rw c.in-Delete.is (acted c.delete.ensures)
-
-pub returns-in-Clear-clause-ready : goal.returns-in-Clear-clause-ready
-returns-in-Clear-clause-ready g c = ready_behind c.clear_at.ensures c.requires.ready
-
-pub returns-in-Clear-clause-performs : goal.returns-in-Clear-clause-performs
-returns-in-Clear-clause-performs g c = rw c.in-Clear.is (performed (Ok tt) refl refl (λ functions. change_simulates c.clear_at.ensures))
-
-pub returns-in-EndInput-clause-performs : goal.returns-in-EndInput-clause-performs
-returns-in-EndInput-clause-performs g c = rw c.in-EndInput.is (performed (Ok tt) refl refl (λ functions. c.close_main_input.ensures.follows.simulates))
-
-pub returns-in-SetStatus-clause-ready : goal.returns-in-SetStatus-clause-ready
-returns-in-SetStatus-clause-ready g c = acted_ready c.set_status.ensures c.requires.ready
-
-pub returns-in-SetStatus-clause-performs : goal.returns-in-SetStatus-clause-performs
-returns-in-SetStatus-clause-performs g c = rw c.in-SetStatus.is (acted c.set_status.ensures)
+pub returns-in-Drop-eq1-clause-performs : goal.returns-in-Drop-eq1-clause-performs
+returns-in-Drop-eq1-clause-performs g c =
+    let one = rw c.in-Drop-eq1.is at c.in-Drop-eq1.field-0-test in
+    rw (c.in-Drop-eq1.is, one) (performed (Ok tt) c.pop.ensures.rest refl (λ functions. lift_simulates (Ok tt) _ _ refl))

@@ -7,4 +7,4 @@ pub returns-clause-puts : goal.returns-clause-puts
 returns-clause-puts c = λ ok.
     let number : to_z w128 (of_z w128 c.in-Some.n) ≡ c.in-Some.n = search rules in
     let found = c.in-Some-field_at_hand.ensures.some in
-    field_at_puts c.number_at.ensures.same c.in-Some.n c.in-Some.ensures.some c.field_at_hand.ensures.same (rw number at found) (pushed_by c.push.result (sym c.is_ok.ensures.value ∙ ok) c.push.ensures.pushed refl c.field_at_hand.ensures.same)
+    field_at_puts refl c.in-Some.n c.in-Some.ensures c.field_at_hand.ensures.same (rw number at found) (pushed_by c.push.result (sym c.is_ok.ensures.value ∙ ok) c.push.ensures.pushed refl c.field_at_hand.ensures.same)

@@ -1,4 +1,4 @@
-use Rattle.std.proofs.Common.{rules, ◌≡◌, to_z, of_z}
+use Rattle.std.proofs.Common.{rules, ◌≡◌, refl, to_z, of_z}
 use mir.Syntax.{w128}
 use Rattle.awk_evaluator.proofs.QuickValues.{operated_on_puts}
 use Rattle.awk_evaluator.proofs.machine.Machine.put_operated_on.Goals as goal
@@ -10,4 +10,4 @@ returns-clause-puts c = λ ok.
     let made : to_z w128 (of_z w128 c.in-Some-apply_in_short.z) ≡ c.in-Some-apply_in_short.z = search rules in
     let applied = c.in-Some-apply_in_short.ensures in
     let pushed = c.put.ensures.pushed ok in
-    operated_on_puts c.number_at.ensures.same c.number_at-2.ensures.same c.in-Some.ensures.some c.in-Some-number_at.ensures.some (rw (left, right) at applied) (rw made at pushed)
+    operated_on_puts refl refl c.in-Some.ensures c.in-Some-number_at.ensures (rw (left, right) at applied) (rw made at pushed)

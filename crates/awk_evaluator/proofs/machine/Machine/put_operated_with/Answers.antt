@@ -10,4 +10,4 @@ returns-clause-puts c = λ _.
     let made : to_z w128 (of_z w128 c.in-Some-apply_in_short.z) ≡ c.in-Some-apply_in_short.z = search rules in
     let applied = c.in-Some-apply_in_short.ensures in
     let replaced = c.replace.ensures in
-    operated_with_puts c.number_at.ensures.same c.in-Some.ensures c.in-Some-number_at.ensures.some (rw (left, right) at applied) (rw made at replaced) refl refl
+    operated_with_puts refl c.in-Some.ensures c.in-Some-number_at.ensures (rw (left, right) at applied) (rw made at replaced) refl refl

@@ -1,17 +1,19 @@
 use Rattle.std.proofs.Common.{refl}
-use Rattle.std.proofs.lemmas.Result.{err_from_is_err_and}
-use Rattle.awk_evaluator.proofs.Joining.{updated, not_read, not_updated}
+use Rattle.awk_evaluator.proofs.Parts.{not_updated, updates_behind}
 use Rattle.awk_evaluator.proofs.machine.Machine.update.Goals as goal
 
-pub returns-in_err-spend : goal.returns-in_err-spend
-returns-in_err-spend c =
-    let p = err_from_is_err_and c.from_residual.result c.from_residual.ensures.1 in
-    rw (p.1, p.2) (not_updated c.args.variable refl refl c.args.operator c.args.operand.now c.in_err-spend.ensures)
+pub returns-then-not-spend : goal.returns-then-not-spend
+returns-then-not-spend c =
+    let e = c.if-not-spend.ensures {u = tt} in
+    not_updated e.operands e.calls e.spends c.args.operator c.args.variable.now c.args.operand.now
 
-pub returns-in_err-value : goal.returns-in_err-value
-returns-in_err-value c =
-    let p = err_from_is_err_and c.from_residual-in_err-value.result c.from_residual-in_err-value.ensures.1 in
-    rw (p.1, p.2) (not_read c.args.variable refl refl c.args.operator c.args.operand.now c.in_ok-spend.ensures c.in_err-value.ensures)
+pub returns-then-assign_number_at : goal.returns-then-assign_number_at
+returns-then-assign_number_at c =
+    let e = c.if-not-spend.ensures {u = tt} in
+    updates_behind e.spends e.operands e.calls c.args.operator c.args.variable.now c.args.operand.now _ ((c.if-assign_number_at.ensures {u = tt}).assigned refl)
 
 pub returns : goal.returns
-returns c = updated c.args.variable refl refl c.args.operator c.args.operand.now c.in_ok-spend.ensures c.in_ok-value.ensures refl refl (rw c.operator_of.ensures at c.assign_by_at.ensures)
+returns c =
+    let e = c.if-not-spend.ensures {u = tt} in
+    let kept = (c.if-assign_number_at.ensures {u = tt}).kept refl in
+    updates_behind e.spends e.operands e.calls c.args.operator c.args.variable.now c.args.operand.now _ (rw kept at c.assign_operand.ensures)

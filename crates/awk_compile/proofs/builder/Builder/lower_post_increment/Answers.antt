@@ -1,9 +1,0 @@
-use Rattle.awk_compile.proofs.Building.{same}
-use Rattle.awk_compile.proofs.ChangeForms.{post_increment_built}
-use Rattle.awk_compile.proofs.builder.Builder.lower_post_increment.Goals as goal
-
-pub returns-in_default : goal.returns-in_default
-returns-in_default c = let e = rw c.in_default.is at c.in_ok-variable.ensures in rw e same
-
-pub returns : goal.returns
-returns c = post_increment_built c.requires.next (rw c.in-Some.is at c.in_ok-variable.ensures) c.args.o c.in_ok-increment.ensures

@@ -1,0 +1,200 @@
+-- Parts of moves whose value is of no use, and which may halt the machine.
+use Rattle.std.proofs.Common.{◌≡◌, ℕ, ℤ, Bool, true, false, Option, Some, None, ◌∷◌, drop, Result, Ok, Err, refl, sym, ap, ◌∙◌, subst}
+use Rattle.awk_value.specs.declared.value.Value.{Value}
+use Rattle.awk_value.specs.declared.value.Value.TheVariants as value
+use Rattle.awk_value.specs.Values.{truth_of}
+use Rattle.awk_lex.specs.declared.token.AssignmentOperator.{AssignmentOperator}
+use Rattle.awk_lex.specs.declared.token.IncrementOperator.{IncrementOperator}
+use Rattle.awk_grammar.specs.declared.tree.BinaryOperator.{BinaryOperator}
+use Rattle.awk_channels.specs.WorldState.{WorldState}
+use Rattle.awk_semantics.specs.declared.halt.Halt.{Halt}
+use Rattle.awk_semantics.specs.Operators.{operator_of, truth_value}
+use Rattle.awk_semantics.specs.State.{Run, ◌>>=◌}
+use Rattle.awk_storage.specs.declared.position.Array.{Array}
+use Rattle.awk_storage.specs.declared.position.Variable.{Variable}
+use Rattle.awk_storage.specs.declared.position.Place.TheVariants as place
+use Rattle.awk_storage.specs.Positions.{put_variable, post_increment_at}
+use Rattle.awk_storage.specs.Forms.{keys_of_array}
+use Rattle.awk_compile.specs.declared.node.Operand.{Operand}
+use Rattle.awk_compile.specs.declared.node.ValueNode.{ValueNode}
+use Rattle.awk_compile.specs.declared.node.ValueNode.TheVariants as v
+use Rattle.awk_compile.specs.declared.node.EffectNode.{EffectNode}
+use Rattle.awk_compile.specs.Nodes.{first, second, taken, value_of, effect_of, operand_value, operated_with, assign_variable, append_to, print_field, update, increment}
+use Rattle.awk_runtime.specs.declared.runtime.Runtime.{Runtime}
+use Rattle.awk_runtime.specs.Naming.{Naming}
+use Rattle.awk_runtime.specs.Simulation.{Simulates, Changes, Spends}
+use Rattle.awk_runtime.proofs.Composition.{then_changes, ends_changes}
+use Rattle.awk_runtime.specs.support.Updates.{GivesNumber}
+use Rattle.awk_evaluator.specs.declared.machine.Machine.{Machine}
+use Rattle.awk_evaluator.specs.Rest.{tables_in}
+use Rattle.awk_evaluator.specs.Moves.{Computes, Performs, Keeps, DoneBy, Done, came, told, without_value, truth_in}
+use Rattle.awk_evaluator.specs.Reading.{Runs, AssignsOperand, Raises, ComparesBy, Compares, Updates, Increments, Appends, PrintsField}
+use Rattle.awk_evaluator.specs.Walks.{PutsKeysBy, PutsKeys, TakesKey}
+use Rattle.awk_evaluator.specs.Quick.{IsAtHand, Popped, Relates, RelatesWith, AssignsAlike}
+use Rattle.awk_evaluator.proofs.Changing.{variable_alike}
+use Rattle.awk_evaluator.proofs.Quickly.{truth_is}
+
+-- a part whose value is let go
+
+done_by : (P : Result Value Halt → Type 0) (r : Result Value Halt) → P r → DoneBy P (without_value r)
+done_by P (Ok w) p = (w, p)
+done_by P (Err h) p = p
+
+pub part_done : {P : Result Value Halt → Type 0} (r : Result Value Halt) {s : Result (Unit {0}) Halt} → s ≡ without_value r → P r → Done P s
+part_done {P = P} r is p = subst (λ (q : Result (Unit {0}) Halt). Done P q) (sym is) (record { done = done_by P r p })
+
+truth_by : {x : ValueNode} {m m' : Machine} (r : Result Value Halt) → Computes x m r m' → ComparesBy x m (truth_in r) m'
+truth_by (Ok w) c = (w, refl, c)
+truth_by (Err h) c = c
+
+pub part_told : {x : ValueNode} {m m' : Machine} {r : Result Value Halt} {s : Result Bool Halt} → s ≡ truth_in r → Computes x m r m' → Compares x m s m'
+part_told {x = x} {m = m} {m' = m'} {r = r} is c = subst (λ (q : Result Bool Halt). Compares x m q m') (sym is) (record { compares = truth_by r c })
+
+-- a step, where the machine keeps why it was halted
+pub spent_kept : {m m' : Machine} → Keeps m m' → {n : Runtime} {r s : Result (Unit {0}) Halt} → s ≡ without_value r → Spends n m.runtime r → Spends n m'.runtime s
+spent_kept {m = m} {m' = m'} kept {n = n} {r = r} is p = subst (λ (q : Result (Unit {0}) Halt). Spends n m'.runtime q) (sym is) (subst (λ (y : Runtime). Spends n y (without_value r)) (sym kept.runtime) (by r p))
+  where
+    by : (q : Result (Unit {0}) Halt) → Spends n m.runtime q → Spends n m.runtime (without_value q)
+    by (Ok u) p = p
+    by (Err h) p = p
+
+-- where the machine keeps why it was halted
+
+module _ {m m1 m' : Machine} (kept : Keeps m1 m') where
+  pub runs_kept : {run : Run Value} {r : Result Value Halt} → Runs run m r m1 → Runs run m r m'
+  runs_kept {run = run} {r = r} u = record {
+    operands = kept.operands ∙ u.operands;
+    calls = kept.calls ∙ u.calls;
+    changes = subst (λ (x : Runtime). Changes run m.runtime x r) (sym kept.runtime) u.changes;
+  }
+
+  pub computes_kept : {x : ValueNode} {r : Result Value Halt} → Computes x m r m1 → Computes x m r m'
+  computes_kept {x = x} {r = r} u = by r u
+    where
+      by : (q : Result Value Halt) → Computes x m q m1 → Computes x m q m'
+      by (Ok w) u = record { operands = kept.operands ∙ u.operands; calls = kept.calls ∙ u.calls; changes = λ tables functions. subst (λ (y : Runtime). Changes (value_of (tables_in m.runtime.names tables) functions x m.operands.values) m.runtime y (Ok w)) (sym kept.runtime) (u.changes tables functions) }
+      by (Err h) u = record { operands = tt; calls = tt; changes = λ tables functions. subst (λ (y : Runtime). Changes (value_of (tables_in m.runtime.names tables) functions x m.operands.values) m.runtime y (Err h)) (sym kept.runtime) (u.changes tables functions) }
+
+  performs_by : {is_logged : Type 0} {x : EffectNode} {k k' : WorldState} (r : Result (Unit {0}) Halt) → Performs is_logged x m k r m1 k' → Performs is_logged x m k (without_value r) m' k'
+  performs_by {is_logged = is_logged} {x = x} {k = k} {k' = k'} (Ok u) p = record { operands = kept.operands ∙ p.operands; calls = kept.calls ∙ p.calls; simulates = λ functions. subst (λ (y : Runtime). Simulates is_logged m.runtime k y k' (Ok tt) (effect_of functions x m.operands.values)) (sym kept.runtime) (p.simulates functions) }
+  performs_by {is_logged = is_logged} {x = x} {k = k} {k' = k'} (Err h) p = record { operands = tt; calls = tt; simulates = λ functions. subst (λ (y : Runtime). Simulates is_logged m.runtime k y k' (Err h) (effect_of functions x m.operands.values)) (sym kept.runtime) (p.simulates functions) }
+
+  pub performs_kept : {is_logged : Type 0} {x : EffectNode} {k k' : WorldState} {r s : Result (Unit {0}) Halt} → s ≡ without_value r → Performs is_logged x m k r m1 k' → Performs is_logged x m k s m' k'
+  performs_kept {is_logged = is_logged} {x = x} {k = k} {k' = k'} {r = r} is p = subst (λ (q : Result (Unit {0}) Halt). Performs is_logged x m k q m' k') (sym is) (performs_by r p)
+
+  pub puts_kept : {a : Array} {r s : Result (Unit {0}) Halt} → s ≡ without_value r → PutsKeys a m r m1 → PutsKeys a m s m'
+  puts_kept {a = a} {r = r} is p = subst (λ (q : Result (Unit {0}) Halt). PutsKeys a m q m') (sym is) (record { puts = by r p.puts })
+    where
+      by : (q : Result (Unit {0}) Halt) → PutsKeysBy a m q m1 → PutsKeysBy a m (without_value q) m'
+      by (Ok u) p = (p.0, subst (λ (y : Runtime). Changes (keys_of_array a) m.runtime y (Ok p.0)) (sym kept.runtime) p.1, kept.operands ∙ p.2, kept.calls ∙ p.3)
+      by (Err h) p = subst (λ (y : Runtime). Changes (keys_of_array a) m.runtime y (Err h)) (sym kept.runtime) p
+
+  takes_by : {x : Variable} (r : Result (Unit {0}) Halt) → TakesKey x m r m1 → TakesKey x m (without_value r) m'
+  takes_by {x = x} (Ok u) p = record { changes = subst (λ (y : Runtime). Changes (put_variable m.runtime.names.scalars x (second m.operands.values)) m.runtime y (Ok tt)) (sym kept.runtime) p.changes; operands = kept.operands ∙ p.operands; calls = kept.calls ∙ p.calls }
+  takes_by {x = x} (Err h) p = record { changes = subst (λ (y : Runtime). Changes (put_variable m.runtime.names.scalars x (second m.operands.values)) m.runtime y (Err h)) (sym kept.runtime) p.changes; operands = tt; calls = tt }
+
+  pub takes_kept : {x : Variable} {r s : Result (Unit {0}) Halt} → s ≡ without_value r → TakesKey x m r m1 → TakesKey x m s m'
+  takes_kept {x = x} {r = r} is p = subst (λ (q : Result (Unit {0}) Halt). TakesKey x m q m') (sym is) (takes_by r p)
+
+  appends_by : {x : Variable} {count : ℕ} (r : Result Value Halt) → Appends x count m r m1 → Appends x count m r m'
+  appends_by {x = x} {count = count} (Ok w) p = record { operands = kept.operands ∙ p.operands; calls = kept.calls ∙ p.calls; changes = subst (λ (y : Runtime). Changes (append_to m.runtime.names.scalars x (taken count m.operands.values)) m.runtime y (Ok w)) (sym kept.runtime) p.changes }
+  appends_by {x = x} {count = count} (Err h) p = record { operands = tt; calls = tt; changes = subst (λ (y : Runtime). Changes (append_to m.runtime.names.scalars x (taken count m.operands.values)) m.runtime y (Err h)) (sym kept.runtime) p.changes }
+
+  pub appends_kept : {x : Variable} {count : ℕ} {r : Result Value Halt} → Appends x count m r m1 → Appends x count m r m'
+  appends_kept {r = r} p = appends_by r p
+
+  prints_by : {is_logged : Type 0} {a : Operand} {k k' : WorldState} (r : Result (Unit {0}) Halt) → PrintsField is_logged a m k r m1 k' → PrintsField is_logged a m k (without_value r) m' k'
+  prints_by {is_logged = is_logged} {a = a} {k = k} {k' = k'} (Ok u) p = record { operands = kept.operands ∙ p.operands; calls = kept.calls ∙ p.calls; simulates = subst (λ (y : Runtime). Simulates is_logged m.runtime k y k' (Ok tt) (print_field m.runtime.names.scalars a)) (sym kept.runtime) p.simulates }
+  prints_by {is_logged = is_logged} {a = a} {k = k} {k' = k'} (Err h) p = record { operands = tt; calls = tt; simulates = subst (λ (y : Runtime). Simulates is_logged m.runtime k y k' (Err h) (print_field m.runtime.names.scalars a)) (sym kept.runtime) p.simulates }
+
+  pub prints_kept : {is_logged : Type 0} {a : Operand} {k k' : WorldState} {r s : Result (Unit {0}) Halt} → s ≡ without_value r → PrintsField is_logged a m k r m1 k' → PrintsField is_logged a m k s m' k'
+  prints_kept {is_logged = is_logged} {a = a} {k = k} {k' = k'} {r = r} is p = subst (λ (q : Result (Unit {0}) Halt). PrintsField is_logged a m k q m' k') (sym is) (prints_by r p)
+
+-- tests of what is at hand
+
+pub related_compares : {o : BinaryOperator} {a b : Operand} {holds : Bool} {m : Machine} → Relates o a b holds m → Compares (v.OperateOn o a b) m (Ok holds) m
+related_compares {holds = holds} r = record { compares = (truth_value holds, truth_is holds, record { operands = refl; calls = refl; changes = λ tables functions. r.changes }) }
+
+pub related_with_compares : {o : BinaryOperator} {b : Operand} {holds : Bool} {m m' : Machine} → RelatesWith o b holds m → Popped m m' → Compares (v.OperateWith o b) m (Ok holds) m'
+related_with_compares {o = o} {b = b} {holds = holds} {m = m} {m' = m'} r p = record {
+  compares = (
+    truth_value holds,
+    truth_is holds,
+    record {
+      operands = p.operands;
+      calls = p.calls;
+      changes = λ tables functions. subst (λ (y : Runtime). Changes (operated_with m.runtime.names.scalars o (first m.operands.values) b) m.runtime y (Ok (truth_value holds))) (sym p.runtime) r.changes;
+    },
+  );
+}
+
+-- assignments
+
+-- a number is assigned in the place of the topmost value
+pub number_assigned : (n : ℤ) {o : AssignmentOperator} {x : Variable} {m m' : Machine} → AssignsAlike o (first m.operands.values) (value.Number n) → GivesNumber (assign_variable m.runtime.names.scalars o x (value.Number n)) m.runtime m'.runtime → m'.operands ≡ record m.operands { values = drop 1 m.operands.values } → m'.calls ≡ m.calls → Done (λ r. Computes (v.Assign o (place.Variable x)) m r m') (Ok tt)
+number_assigned n {o = o} {x = x} {m = m} {m' = m'} alike g operands calls = record {
+  done = (
+    value.Number g.number,
+    record {
+      operands = operands;
+      calls = calls;
+      changes = λ tables functions. subst (λ (run : Run Value). Changes run m.runtime m'.runtime (Ok (value.Number g.number)))
+          (sym (alike m.runtime.names.scalars x) ∙ variable_alike m.runtime.names.scalars (operator_of o) x value.Nothing (second m.operands.values) (first m.operands.values)) g.changes;
+    },
+  );
+}
+
+-- itself
+pub alike_itself : (o : AssignmentOperator) {v w : Value} → v ≡ w → AssignsAlike o v w
+alike_itself o e = λ names x. ap (λ u. assign_variable names o x u) e
+
+-- a number at hand is assigned
+pub number_read : (o : AssignmentOperator) (x : Variable) {a : Operand} {n : ℤ} {m m' : Machine} → IsAtHand a (value.Number n) m → GivesNumber (assign_variable m.runtime.names.scalars o x (value.Number n)) m.runtime m'.runtime → m'.operands ≡ m.operands → m'.calls ≡ m.calls → Done (λ r. AssignsOperand o x a m r m') (Ok tt)
+number_read o x at g operands calls = record { done = (value.Number g.number, record { operands = operands; calls = calls; changes = then_changes _ at.changes g.changes }) }
+
+-- behind a step that was spent
+
+module _ {m m1 : Machine} (s : Spends m.runtime m1.runtime (Ok tt)) (operands : m1.operands ≡ m.operands) (calls : m1.calls ≡ m.calls) (o : AssignmentOperator) (x : Variable) (a : Operand) where
+  spent_update : {m' : Machine} (r : Result Value Halt) → AssignsOperand o x a m1 r m' → Updates o x a m r m'
+  spent_update {m' = m'} r u = record {
+    operands = u.operands ∙ operands;
+    calls = u.calls ∙ calls;
+    changes = then_changes _ s.changes (subst (λ (names : Naming). Changes (operand_value names.scalars a >>= λ w. assign_variable names.scalars o x w) m1.runtime m'.runtime r) s.changes.names u.changes);
+  }
+
+  pub updates_behind : {m' : Machine} (r : Result (Unit {0}) Halt) → Done (λ q. AssignsOperand o x a m1 q m') r → Done (λ q. Updates o x a m q m') r
+  updates_behind (Ok u) d = record { done = (d.done.0, spent_update (Ok d.done.0) d.done.1) }
+  updates_behind (Err h) d = record { done = spent_update (Err h) d.done }
+
+module _ {m m1 : Machine} (s : Spends m.runtime m1.runtime (Ok tt)) (operands : m1.operands ≡ m.operands) (calls : m1.calls ≡ m.calls) (o : IncrementOperator) (x : Variable) where
+  spent_increment : {m' : Machine} (r : Result Value Halt) → Raises o x m1 r m' → Increments o x m r m'
+  spent_increment {m' = m'} r u = record {
+    operands = u.operands ∙ operands;
+    calls = u.calls ∙ calls;
+    changes = then_changes _ s.changes (subst (λ (names : Naming). Changes (post_increment_at names.scalars o (place.Variable x) value.Nothing) m1.runtime m'.runtime r) s.changes.names u.changes);
+  }
+
+  pub increments_behind : {m' : Machine} (r : Result (Unit {0}) Halt) → Done (λ q. Raises o x m1 q m') r → Done (λ q. Increments o x m q m') r
+  increments_behind (Ok u) d = record { done = (d.done.0, spent_increment (Ok d.done.0) d.done.1) }
+  increments_behind (Err h) d = record { done = spent_increment (Err h) d.done }
+
+pub number_raised : {m m' : Machine} {mid : Runtime} (o : IncrementOperator) (x : Variable) → Spends m.runtime mid (Ok tt) → GivesNumber (post_increment_at mid.names.scalars o (place.Variable x) value.Nothing) mid m'.runtime → m'.operands ≡ m.operands → m'.calls ≡ m.calls → Done (λ q. Increments o x m q m') (Ok tt)
+number_raised {m' = m'} {mid = mid} o x s g operands calls = record {
+  done = (
+    value.Number g.number,
+    record {
+      operands = operands;
+      calls = calls;
+      changes = then_changes _ s.changes (subst (λ (names : Naming). Changes (post_increment_at names.scalars o (place.Variable x) value.Nothing) mid m'.runtime (Ok (value.Number g.number))) s.changes.names g.changes);
+    },
+  );
+}
+
+-- no step is left
+
+module _ {m m' : Machine} (operands : m'.operands ≡ m.operands) (calls : m'.calls ≡ m.calls) {h : Halt} (s : Spends m.runtime m'.runtime (Err h)) where
+  pub not_updated : (o : AssignmentOperator) (x : Variable) (a : Operand) → Done (λ q. Updates o x a m q m') (Err h)
+  not_updated o x a = record { done = record { operands = operands; calls = calls; changes = ends_changes _ s.changes } }
+
+  pub not_incremented : (o : IncrementOperator) (x : Variable) → Done (λ q. Increments o x m q m') (Err h)
+  not_incremented o x = record { done = record { operands = operands; calls = calls; changes = ends_changes _ s.changes } }

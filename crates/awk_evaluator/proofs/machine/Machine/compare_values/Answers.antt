@@ -1,0 +1,8 @@
+use Rattle.awk_evaluator.proofs.Parts.{related_compares, part_told, computes_kept}
+use Rattle.awk_evaluator.proofs.machine.Machine.compare_values.Goals as goal
+
+pub returns-in-Some : goal.returns-in-Some
+returns-in-Some c = related_compares (c.in-Some.ensures {u = tt})
+
+pub returns : goal.returns
+returns c = part_told c.truth_of.ensures.told (computes_kept c.truth_of.ensures.kept c.operate_on-value.ensures)

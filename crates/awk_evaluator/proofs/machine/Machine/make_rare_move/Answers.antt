@@ -1,0 +1,32 @@
+use Rattle.std.proofs.Common.{refl, sym, ap, ◌∙◌}
+use Rattle.awk_runtime.proofs.Composition.{ready_behind}
+use Rattle.awk_evaluator.proofs.Moving.{key_exit, walk_left, next_stops, exit_stops, zero_test, no_zero_test}
+use Rattle.awk_evaluator.proofs.NodeMoves.{append_moves, print_moves, walk_moves, key_moves, turn_moves, ready_appended, ready_put}
+use Rattle.awk_evaluator.proofs.machine.Machine.make_rare_move.Goals as goal
+
+pub returns-in-AppendTo : goal.returns-in-AppendTo
+returns-in-AppendTo g c = rw (c.onward.ensures, c.in-AppendTo.is) (record { ready = ready_appended c.append_texts.result c.append_texts.ensures c.requires.ready; moves = append_moves c.append_texts.result c.append_texts.ensures })
+
+pub returns-in-PrintField : goal.returns-in-PrintField
+returns-in-PrintField g c = rw (c.onward-in-PrintField.ensures, c.in-PrintField.is) (record { ready = c.print_field.ensures.ready; moves = print_moves c.print_field.result c.print_field.ensures.prints })
+
+pub returns-in-Walk : goal.returns-in-Walk
+returns-in-Walk g c = rw (c.onward-in-Walk.ensures, c.in-Walk.is) (record { ready = ready_put c.begin_walk.result c.begin_walk.ensures c.requires.ready; moves = walk_moves c.begin_walk.result c.begin_walk.ensures })
+
+pub returns-then-has_no_key-clause-moves : goal.returns-then-has_no_key-clause-moves
+returns-then-has_no_key-clause-moves g c = rw c.in-NextKey.is (key_exit (zero_test _ (sym c.has_no_key.ensures ∙ c.if-has_no_key.true)) c.drop.ensures refl refl)
+
+pub returns-in-TakeKey : goal.returns-in-TakeKey
+returns-in-TakeKey g c = rw (c.onward-in-TakeKey.ensures, c.in-TakeKey.is) (record { ready = ready_behind c.take_key.ensures.changes c.requires.ready; moves = key_moves c.take_key.result c.take_key.ensures })
+
+pub returns-in-LeaveWalk-clause-moves : goal.returns-in-LeaveWalk-clause-moves
+returns-in-LeaveWalk-clause-moves g c = rw c.in-LeaveWalk.is (walk_left c.leave_walk.ensures.operands c.leave_walk.ensures.calls c.leave_walk.ensures.runtime)
+
+pub returns-in-Next-clause-moves : goal.returns-in-Next-clause-moves
+returns-in-Next-clause-moves g c = rw (c.halt_by.ensures.halted, c.halt_by.ensures.kept, c.in-Next.is) (next_stops refl refl)
+
+pub returns-in-Exit-clause-moves : goal.returns-in-Exit-clause-moves
+returns-in-Exit-clause-moves g c = rw (c.halt_by-in-Exit.ensures.halted, c.halt_by-in-Exit.ensures.kept, c.in-Exit.is) (exit_stops refl refl)
+
+pub returns-else-has_no_key-clause-moves : goal.returns-else-has_no_key-clause-moves
+returns-else-has_no_key-clause-moves g c = rw (c.upward.ensures, c.in-NextKey.is) (turn_moves c.spend.result (no_zero_test _ (sym c.has_no_key.ensures ∙ c.if-has_no_key.false)) c.head_of-head.ensures c.spend.ensures.operands c.spend.ensures.calls c.spend.ensures.spends)

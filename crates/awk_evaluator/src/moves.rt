@@ -1,0 +1,188 @@
+// The moves: one for each node.
+
+ghost use Rattle.std.specs.Prelude.{◌≡◌, ◌<◌, if◌then◌else◌, Some, slice_get, get_or, length};
+ghost use Rattle.std.specs.Option.{option_map};
+ghost use Rattle.awk_runtime.specs.Simulation.{IsReady};
+ghost use Rattle.awk_value.specs.declared.value.Value.TheVariants.{Nothing};
+ghost use Rattle.awk_compile.specs.Nodes.{first};
+ghost use Rattle.awk_evaluator.specs.Rest.{IsSound, AtPlace, AtNode};
+ghost use Rattle.awk_evaluator.specs.Moves.{IsRare, Moves, GivesBack, onward, upward, toward};
+
+use crate::machine::{Machine, Move};
+use awk_channels::World;
+use awk_compile::node::Node;
+use awk_compile::{Function, Plan};
+use awk_semantics::Halt;
+
+/// The node at a place, if there is one.
+#[inline(always)]
+pub(crate) fn node_at(plan: &Plan, at: u32) -> Option<&Node>
+    ensures { option_map (λ node. node.now) result ≡ slice_get plan.now.nodes.items at }
+{
+    plan.nodes.get(at as usize)
+}
+
+/// A function of the plan.
+#[inline(always)]
+pub(crate) fn function_of(plan: &Plan, number: u32) -> &Function
+    requires { number < length plan.now.functions.items }
+    ensures { slice_get plan.now.functions.items number ≡ Some result.now }
+{
+    &plan.functions[number as usize]
+}
+
+/// The place of a loop's body.
+#[inline(always)]
+fn head_of(plan: &Plan, number: u32) -> u32
+    ensures { result ≡ get_or plan.now.heads.items number 0 }
+{
+    match plan.heads.get(number as usize) {
+        Some(place) => *place,
+        None => 0,
+    }
+}
+
+/// The place that a test leads to.
+#[inline(always)]
+fn chosen(holds: bool, here: u32, other: u32) -> u32
+    ensures { result ≡ (if holds then here else other) }
+{
+    if holds { here } else { other }
+}
+
+/// The move behind a part of it that was done, or that a run ends.
+#[inline(always)]
+fn onward(done: bool, next: u32) -> Move
+    ensures { result ≡ onward done next }
+{
+    if done { Move::On(next) } else { Move::Halted }
+}
+
+/// The move to a place behind a step that was spent, or that a run ends.
+#[inline(always)]
+fn upward(spent: bool, next: u32) -> Move
+    ensures { result ≡ upward spent next }
+{
+    if spent { Move::Up(next) } else { Move::Halted }
+}
+
+/// The move to the place that a test leads to, or that a run ends.
+#[inline(always)]
+fn toward(holds: Option<bool>, here: u32, other: u32) -> Move
+    ensures { result ≡ toward holds here other }
+{
+    match holds {
+        Some(holds) => Move::On(chosen(holds, here, other)),
+        None => Move::Halted,
+    }
+}
+
+impl Machine {
+    /// One move. What a node does is decided here, once: what is at hand is done in line, and all else by functions of their own.
+    #[inline(always)]
+    pub(crate) fn make_move<W: World>(&mut self, world: &mut W, plan: &Plan, at: u32) -> Move
+        requires sound { IsSound plan.now }
+        requires ready { IsReady W.is_logged (W.state world.old) self.old.runtime.streams }
+        ensures ready { IsReady W.is_logged (W.state world.new) self.new.runtime.streams }
+        ensures moves { Moves W.is_logged plan.now (AtPlace at) self.old (W.state world.old) result self.new (W.state world.new) }
+    {
+        match node_at(plan, at) {
+            Some(Node::Value(value, next)) => self.put_value(world, plan, value, *next),
+            Some(Node::Effect(effect, next)) => onward(self.perform(world, effect), *next),
+            Some(Node::Test(here, other)) => Move::On(chosen(self.test(), *here, *other)),
+            Some(Node::CompareWith(operator, right, here, other)) => {
+                toward(self.compare_with(*operator, right), *here, *other)
+            }
+            Some(Node::Compare(operator, left, right, here, other)) => {
+                toward(self.compare(*operator, left, right), *here, *other)
+            }
+            Some(Node::MatchRecord(ere, here, other)) => {
+                toward(self.match_record(*ere), *here, *other)
+            }
+            Some(Node::Assign(operator, place, next)) => {
+                onward(self.assign_to(*operator, place), *next)
+            }
+            Some(Node::Raise(operator, place, next)) => {
+                onward(self.raise(*operator, place), *next)
+            }
+            Some(Node::Update(operator, variable, operand, next)) => {
+                onward(self.update(*operator, variable, operand), *next)
+            }
+            Some(Node::Increment(operator, variable, next)) => {
+                onward(self.increment(*operator, variable), *next)
+            }
+            Some(Node::Again(number)) => {
+                let head = head_of(plan, *number);
+                upward(self.spend(), head)
+            }
+            Some(Node::Return) => self.give_back(),
+            Some(Node::End) => self.give_nothing(),
+            None => self.give_nothing(),
+            Some(node) => self.make_rare_move(world, plan, node),
+        }
+    }
+
+    /// The move of a node that appends texts, prints a field, walks over keys or ends all calls.
+    #[inline(never)]
+    fn make_rare_move<W: World>(&mut self, world: &mut W, plan: &Plan, node: &Node) -> Move
+        requires rare { IsRare node.now }
+        requires ready { IsReady W.is_logged (W.state world.old) self.old.runtime.streams }
+        ensures ready { IsReady W.is_logged (W.state world.new) self.new.runtime.streams }
+        ensures moves { Moves W.is_logged plan.now (AtNode node.now) self.old (W.state world.old) result self.new (W.state world.new) }
+    {
+        match node {
+            Node::AppendTo(variable, count, next) => {
+                onward(self.append_texts(variable, *count), *next)
+            }
+            Node::PrintField(number, next) => onward(self.print_field(world, number), *next),
+            Node::Walk(array, next) => onward(self.begin_walk(*array), *next),
+            Node::NextKey(number, exit) => {
+                if self.has_no_key() {
+                    self.operands.drop(1);
+                    return Move::On(*exit);
+                }
+                let head = head_of(plan, *number);
+                upward(self.spend(), head)
+            }
+            Node::TakeKey(variable, next) => onward(self.take_key(*variable), *next),
+            Node::LeaveWalk(next) => {
+                self.leave_walk();
+                Move::On(*next)
+            }
+            Node::Next => self.halt_by(Halt::Next),
+            Node::Exit => self.halt_by(Halt::Exit),
+            Node::Value(_, _) | Node::Effect(_, _) | Node::Test(_, _) => unreachable!(),
+            Node::CompareWith(_, _, _, _) | Node::Compare(_, _, _, _, _) => unreachable!(),
+            Node::MatchRecord(_, _, _) | Node::Assign(_, _, _) => unreachable!(),
+            Node::Raise(_, _, _) | Node::Update(_, _, _, _) => unreachable!(),
+            Node::Increment(_, _, _) | Node::Again(_) => unreachable!(),
+            Node::Return | Node::End => unreachable!(),
+        }
+    }
+
+    /// Gives the newest caller the topmost operand, which stays where no call is active.
+    #[inline(always)]
+    fn give_back(&mut self) -> Move
+        ensures { GivesBack (first self.old.operands.values) self.old result self.new }
+    {
+        let Some(entry) = self.calls.leave() else {
+            return Move::Over;
+        };
+        self.runtime.leave_call();
+        let value = self.operands.pop();
+        self.operands.leave(entry.base);
+        match self.operands.push(value) {
+            Ok(()) => Move::Back(entry.next),
+            Err(refused) => self.halt_by(Halt::from(refused)),
+        }
+    }
+
+    /// Gives back that there is no value.
+    #[inline(never)]
+    fn give_nothing(&mut self) -> Move
+        ensures { GivesBack Nothing self.old result self.new }
+    {
+        self.operands.drop_all();
+        self.give_back()
+    }
+}
