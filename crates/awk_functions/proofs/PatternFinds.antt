@@ -2,11 +2,11 @@
 use Rattle.std.proofs.Common.{◌≡◌, ℕ, zero, suc, ◌<◌, Bool, List, Option, Some, None, Result, Ok, Err, refl, sym, ap, ◌∙◌, subst, arith}
 use Rattle.std.proofs.Math.Logic.{∥∥₁_elim}
 use Rattle.std.proofs.Props.{props}
-use Rattle.std.specs.Prelude.{◌↔◌, IfErr, OnOk}
-use Rattle.std.specs.Coded.{Coded, Coded-set, code_by, coded×, coded_option, coded_list, coded_ℕ}
+use Rattle.std.specs.Prelude.{◌↔◌, false, IfSome, IfErr, OnOk}
+use Rattle.std.specs.Coded.{Coded, Coded-set, code_by, coded×, coded_option, coded_list, coded_ℕ, coded_bool}
 use Rattle.awk_ere.specs.Tree.{Tree}
 use Rattle.awk_ere_compile.specs.definitions.Desugared.{IsOrdered}
-use Rattle.awk_ere.specs.Means.{Means, pattern_of}
+use Rattle.awk_ere.specs.Means.{Means, pattern_of, occurs, HasNoneUpTo}
 use Rattle.awk_ere.specs.declared.pattern.Pattern.{Pattern}
 use Rattle.awk_text.specs.declared.span.Span.{Span}
 use Rattle.awk_text.specs.declared.substitution.Substitution.{Substitution}
@@ -18,7 +18,7 @@ use Rattle.awk_semantics.specs.Operators.{pattern_or_fault, pattern_in}
 use Rattle.awk_semantics.specs.Results.{sort_of, YieldsBy, IsWantOfMemory}
 use Rattle.awk_semantics.specs.Texts.{find_from, exchanged, ere_separator}
 use Rattle.awk_functions.specs.declared.found.Exchanged.{Exchanged}
-use Rattle.awk_functions.specs.definitions.Matched.{found, some_exchanged, exchanged_by, split_by}
+use Rattle.awk_functions.specs.definitions.Matched.{matched, HasNoMatchUpTo, found, some_exchanged, exchanged_by, split_by}
 use Rattle.awk_functions.specs.support.Compiled.{MeansOf}
 use Rattle.awk_functions.specs.support.Written.{Writes}
 
@@ -34,6 +34,15 @@ kept_tree text p means = by (pattern_of text) refl means
     by : (o : Option Tree) → pattern_of text ≡ o → ∥ MeansOf o p ∥₁ → Kept text p
     by None is m = absurd (∥∥₁_elim m (λ x y. absurd x) (λ h. h))
     by (Some t) is m = record { tree = t; spelled = is; means = m }
+
+-- no match
+
+pub none_matched : (text s : List ℕ) (p : Pattern) (r : Option ℕ) → ∥ MeansOf (pattern_of text) p ∥₁ → IfSome r (λ place. (t : Tree) → Means t p → HasNoneUpTo t s place) → IfSome r (HasNoMatchUpTo (pattern_in text) s)
+none_matched text s p None means none = tt
+none_matched text s p (Some place) means none = λ before part after is within.
+    let kept = kept_tree text p means in
+    let absent : occurs kept.tree part ≡ false = ∥∥₁_elim kept.means (Coded-set coded_bool (occurs kept.tree part) false) (λ m. none kept.tree m before part after is within) in
+    ap (λ o. matched (pattern_or_fault o) part) kept.spelled ∙ ap Ok absent
 
 -- the first match
 

@@ -1,13 +1,13 @@
 // A pattern with the text that spells it, and what it finds.
 
-ghost use Rattle.std.specs.Prelude.{◌≡◌, Ok, IfSome, OnOk};
+ghost use Rattle.std.specs.Prelude.{◌≡◌, ◌≤◌, length, Ok, IfSome, OnOk};
 ghost use Rattle.awk_ere.specs.Means.{pattern_of};
 ghost use Rattle.awk_ere.specs.Table.{IsFor};
 ghost use Rattle.awk_text.specs.Pieces.{stretches_at, AreSpansOf, IsSpanOf};
 ghost use Rattle.awk_semantics.specs.Operators.{pattern_in};
 ghost use Rattle.awk_semantics.specs.Results.{Yields};
 ghost use Rattle.awk_semantics.specs.Texts.{ere_separator};
-ghost use Rattle.awk_functions.specs.definitions.Matched.{matched, found, exchanged_by, split_by};
+ghost use Rattle.awk_functions.specs.definitions.Matched.{matched, HasNoMatchUpTo, found, exchanged_by, split_by};
 ghost use Rattle.awk_functions.specs.support.Compiled.{MeansOf, ReadsFor};
 ghost use Rattle.awk_functions.specs.support.Written.{Writes};
 
@@ -61,6 +61,22 @@ impl Compiled {
         ensures text { self.new.text ≡ self.old.text }
     {
         self.pattern.is_match(text, &mut self.scratch)
+    }
+
+    /// Whether a text is known that stands in each match.
+    #[inline]
+    pub(crate) fn has_required(&self) -> bool {
+        self.scratch.has_required()
+    }
+
+    /// How far the text can be passed over: no part of it that ends at or before this place has a match. Nothing is answered
+    /// where no text is known that stands in each match. Takes no memory. (POSIX awk, Regular Expressions)
+    #[inline]
+    pub fn skippable(&self, text: &[u8]) -> Option<usize>
+        ensures within { IfSome result (λ place. place ≤ length text.now) }
+        ensures none { IfSome result (HasNoMatchUpTo (pattern_in self.now.text) text.now) }
+    {
+        self.pattern.skippable(text, &self.scratch)
     }
 
     /// The first match of the pattern in the text, and of those that begin there the longest. Takes no memory. (POSIX awk,

@@ -1,13 +1,13 @@
 // The patterns of a run, each of which is read once.
 
-ghost use Rattle.std.specs.Prelude.{◌≡◌, ◌<◌, length, vec_len, false, Ok, IfOk, IfErr, OnOk};
+ghost use Rattle.std.specs.Prelude.{◌≡◌, ◌<◌, ◌≤◌, length, vec_len, false, Ok, IfSome, IfOk, IfErr, OnOk};
 ghost use Rattle.awk_value.specs.Values.{str_of};
 ghost use Rattle.awk_ere.specs.Means.{pattern_of};
 ghost use Rattle.awk_text.specs.Pieces.{stretches_at, AreSpansOf};
 ghost use Rattle.awk_semantics.specs.Operators.{pattern_in};
 ghost use Rattle.awk_semantics.specs.Results.{IsWantOfMemory, Yields};
 ghost use Rattle.awk_semantics.specs.Texts.{separator_in};
-ghost use Rattle.awk_functions.specs.definitions.Matched.{matched, found, exchanged_by, split_by};
+ghost use Rattle.awk_functions.specs.definitions.Matched.{matched, HasNoMatchUpTo, found, exchanged_by, split_by};
 ghost use Rattle.awk_functions.specs.definitions.Spelling.{spelling_of, separator_for};
 ghost use Rattle.awk_functions.specs.support.Compiled.{IsRefusal, MeansOf, ReadsFor};
 ghost use Rattle.awk_functions.specs.support.Kept.{KeepsNothing};
@@ -160,6 +160,31 @@ impl Patterns {
     {
         let pattern = self.pattern_for(operand)?;
         Ok(pattern.is_match(text))
+    }
+
+    /// How far a text can be passed over by an ERE of the program, by its number and the text between its slashes: no part of it
+    /// that ends at or before this place has a match. Nothing is answered where the ERE was not read yet, or no text is known
+    /// that stands in each match. Takes no memory. (POSIX awk, Regular Expressions)
+    #[inline]
+    pub fn skippable(&self, number: usize, spelling: &[u8], text: &[u8]) -> Option<usize>
+        ensures within { IfSome result (λ place. place ≤ length text.now) }
+        ensures none { IfSome result (HasNoMatchUpTo (pattern_in spelling.now) text.now) }
+    {
+        let Some(Some(kept)) = self.fixed.get(number) else {
+            return None;
+        };
+        if !kept.has_required() || kept.text.as_slice() != spelling {
+            return None;
+        }
+        kept.skippable(text)
+    }
+
+    /// Whether `skippable` may answer of an ERE of the program: it was not read yet, or a text is known that stands in each match.
+    pub fn may_skip(&self, number: usize) -> bool {
+        match self.fixed.get(number) {
+            Some(Some(kept)) => kept.has_required(),
+            _ => true,
+        }
     }
 
     /// Whether the pattern of an operand matches somewhere in a value's text. One that spells none is the fault F6; the

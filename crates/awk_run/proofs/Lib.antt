@@ -2,6 +2,7 @@ pub mod PlanParts
 pub mod ItemLemmas
 pub mod EarlyEnds
 pub mod Reading
+pub mod Passing
 pub mod PlanMeans
 pub mod Closings
 pub mod RunEnds

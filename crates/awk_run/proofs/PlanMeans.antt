@@ -128,9 +128,9 @@ functions_of items limit = functions_within (definitions_of items) limit
 
 module _ (items : List Item) (plan : Plan) (limit : ℕ) (for : AreFor (tables_of items plan) (functions_of items limit)) where
   -- a place that does this, and then has nothing left to be done
-  part_same : {k : ℕ} {part : Functions → Run (Unit {0})} {s : State} → DoesIn items plan [] k (λ functions. part functions >>= λ _. ret value.Nothing) → IsOutside items limit s → part_at (place_in items plan limit) k s ≡ part (functions_of items limit) s
+  part_same : {k : ℕ} (part : Functions → Run (Unit {0})) {s : State} → DoesIn items plan [] k (λ functions. part functions >>= λ _. ret value.Nothing) → IsOutside items limit s → part_at (place_in items plan limit) k s ≡ part (functions_of items limit) s
   unfolding part_at
-  part_same {k = k} {part = part} {s = s} does o =
+  part_same {k = k} part {s = s} does o =
       first_same (place_in items plan limit k) (part (functions_of items limit) >>= λ _. ret value.Nothing) (λ v. ret tt) s (does.is (functions_of items limit) for limit [] s (outside_in (tables_of items plan) limit s o.frames o.low o.arrays))
       ∙ (then_dropped (part (functions_of items limit)) (λ _. value.Nothing) tt s ∙ then_unit (part (functions_of items limit)) s)
 
@@ -138,13 +138,13 @@ module _ (items : List Item) (plan : Plan) (limit : ℕ) (for : AreFor (tables_o
   calls = law_of_keeping.calls (definitions_of items) limit
 
   begins_same : IsPlanOf items plan → (s : State) → IsOutside items limit s → part_at (place_in items plan limit) plan.begin s ≡ begin_items (functions_of items limit) items s
-  begins_same is s o = part_same {part = λ functions. begin_items functions items} is.begin o
+  begins_same is s o = part_same (λ functions. begin_items functions items) is.begin o
 
   rules_same : IsPlanOf items plan → (s : State) → IsOutside items limit s → part_at (place_in items plan limit) plan.rules s ≡ try_items (functions_of items limit) 0 items s
-  rules_same is s o = part_same {part = λ functions. try_items functions 0 items} is.rules o
+  rules_same is s o = part_same (λ functions. try_items functions 0 items) is.rules o
 
   ends_same : IsPlanOf items plan → (s : State) → IsOutside items limit s → part_at (place_in items plan limit) plan.end s ≡ end_items (functions_of items limit) items s
-  ends_same is s o = part_same {part = λ functions. end_items functions items} is.end o
+  ends_same is s o = part_same (λ functions. end_items functions items) is.end o
 
   -- the whole
 

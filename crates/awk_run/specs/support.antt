@@ -2,3 +2,4 @@ pub mod Planned
 pub mod Follows
 pub mod Verdict
 pub mod Assigned
+pub mod Passing

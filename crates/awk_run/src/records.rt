@@ -1,16 +1,54 @@
 // The main records.
 
-ghost use Rattle.std.specs.Prelude.{◌≡◌, OnOk};
+ghost use Rattle.std.specs.Prelude.{◌≡◌, true, Some, IfSome};
 ghost use Rattle.awk_semantics.specs.Items.{until_next, run_records};
 ghost use Rattle.awk_run.specs.support.Planned.{part_at};
 ghost use Rattle.awk_run.specs.support.Follows.{FollowsPlan, IsSet};
+ghost use Rattle.awk_run.specs.support.Passing.{IsEnd, RulesIgnore, PassesFor};
 ghost use Rattle.awk_evaluator.specs.Moves.{IsIdle};
 
 use crate::items::try_until_next;
 use awk_channels::World;
 use awk_compile::Plan;
+use awk_compile::node::Node;
 use awk_evaluator::Machine;
+use awk_runtime::Unwanted;
 use awk_semantics::Halt;
+
+/// The records that no rule wants, where the rules are none, or one whose pattern is an ERE.
+fn unwanted_by(plan: &Plan) -> Option<Unwanted>
+    ensures { IfSome result (RulesIgnore plan.now) }
+{
+    match plan.nodes.get(plan.rules as usize)? {
+        Node::End => Some(Unwanted::All),
+        Node::MatchRecord(ere, _, other) if is_end(plan, *other) => Some(Unwanted::Unmatched(*ere)),
+        _ => None,
+    }
+}
+
+/// Whether nothing is done at a place.
+fn is_end(plan: &Plan, place: u32) -> bool
+    ensures { result ≡ true → IsEnd plan.now place }
+{
+    matches!(plan.nodes.get(place as usize), Some(Node::End))
+}
+
+/// Passes over records at hand that no rule wants; gives what may be passed over behind them.
+fn pass_over<W: World>(
+    unwanted: Option<Unwanted>,
+    machine: &mut Machine,
+    world: &W,
+) -> Option<Unwanted>
+    ensures passes { PassesFor W.is_logged unwanted machine.old.runtime (W.state world.now) machine.new.runtime }
+    ensures idle { IsIdle machine.old → IsIdle machine.new }
+    ensures goes_on { IfSome result (λ u. unwanted ≡ Some u) }
+{
+    let unwanted = unwanted?;
+    if machine.runtime.pass_over::<W>(unwanted) {
+        return Some(unwanted);
+    }
+    None
+}
 
 /// Reads the main records to their end, and tries the rules on each (POSIX awk, Overall Program
 /// Structure).
@@ -25,10 +63,14 @@ pub(crate) fn run_records<W: World>(
     ensures follows { FollowsPlan W.is_logged plan.now (λ at. run_records (until_next (part_at at plan.now.rules)))
         machine.old.runtime (W.state world.old) machine.new.runtime (W.state world.new) result }
 {
-    while let Some(text) = machine.runtime.next_record(world)? {
+    let mut unwanted = unwanted_by(plan);
+    loop {
+        unwanted = pass_over(unwanted, machine, world);
+        let Some(text) = machine.runtime.next_record(world)? else {
+            return Ok(());
+        };
         machine.runtime.spend()?;
         machine.runtime.begin_record(text)?;
         try_until_next(plan, machine, world)?;
     }
-    Ok(())
 }

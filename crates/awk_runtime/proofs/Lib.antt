@@ -28,3 +28,7 @@ pub mod Seeks
 pub mod NamedInputs
 pub mod Received
 pub mod Closings
+pub mod PassedLines
+pub mod PassedRecords
+pub mod CountSteps
+pub mod FirstRecord

@@ -226,7 +226,7 @@ asked_comes TooLong oracle new after r separator whole left s past told stands =
     subst (λ x. ResultRelation oracle new after (halted x) (taken TooLong separator whole s) past) (sym told.0)
     (refl, subst (λ l. StateRelation oracle new after (with_rest s l whole.ending) (past ++ Requested (RecordOfMain separator whole.bytes) ∷ [])) told.1 stands)
 
-some_rest : (oracle : Oracle) (log : List Event) (main : Option Input) (rest : Option Source) → is_some main ≡ true → IsMainRest oracle log main rest → (whole : Source) × (rest ≡ Some whole)
+pub some_rest : (oracle : Oracle) (log : List Event) (main : Option Input) (rest : Option Source) → is_some main ≡ true → IsMainRest oracle log main rest → (whole : Source) × (rest ≡ Some whole)
 some_rest oracle log None rest there stands = absurd (cc)
 some_rest oracle log (Some v) None there stands = absurd stands
 some_rest oracle log (Some v) (Some whole) there stands = (whole, refl)

@@ -5,3 +5,4 @@ pub use Rattle.awk_runtime.specs.support.Simulation
 pub use Rattle.awk_runtime.specs.support.Calling
 pub use Rattle.awk_runtime.specs.support.Beginning
 pub use Rattle.awk_runtime.specs.support.Appends
+pub use Rattle.awk_runtime.specs.support.Passing

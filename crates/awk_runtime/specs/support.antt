@@ -11,3 +11,4 @@ pub mod Operands
 pub mod Inputs
 pub mod NamedInputs
 pub mod Endings
+pub mod Passing

@@ -13,6 +13,7 @@ mod names;
 mod operands;
 mod operators;
 mod outputs;
+mod passing;
 mod places;
 mod runtime;
 mod start;
@@ -20,6 +21,7 @@ mod texts;
 mod variables;
 
 pub use names::{ProgramNames, add_name, array_names, function_names};
+pub use passing::Unwanted;
 pub use runtime::Runtime;
 pub use start::Assignment;
 pub use texts::PatternSource;

@@ -1,5 +1,5 @@
 -- What patterns find in texts (POSIX awk, Regular Expressions; String Functions).
-use Rattle.std.specs.Prelude.{ℕ, zero, suc, Bool, false, List, Option, Some, None, Result, Ok, Err}
+use Rattle.std.specs.Prelude.{◌≡◌, ℕ, zero, suc, ◌+◌, ◌≤◌, Bool, false, List, ◌++◌, length, Option, Some, None, Result, Ok, Err}
 use Rattle.awk_ere.specs.Tree.{Tree}
 use Rattle.awk_ere.specs.Means.{occurs}
 use Rattle.awk_text.specs.declared.span.Span.{Span}
@@ -13,6 +13,11 @@ use Rattle.awk_functions.specs.declared.found.Exchanged.{Exchanged}
 abbrev pub matched : Result Tree Halt → (text : List ℕ) → Result Bool Halt
 matched (Ok t) text = Ok (occurs t text)
 matched (Err reason) text = Err reason
+
+-- no part of a text that ends at or before a place has a match
+abbrev pub HasNoMatchUpTo : Result Tree Halt → (text : List ℕ) → (place : ℕ) → Type 0
+HasNoMatchUpTo pattern text place =
+    (before part after : List ℕ) → text ≡ before ++ (part ++ after) → length before + length part ≤ place → matched pattern part ≡ Ok false
 
 -- the first match of a pattern in a text, and of those the longest
 abbrev pub found : Result Tree Halt → (text : List ℕ) → Result (Option Span) Halt

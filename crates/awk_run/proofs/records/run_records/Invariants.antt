@@ -1,8 +1,9 @@
-use Rattle.std.proofs.Common.{Result}
+use Rattle.std.proofs.Common.{Result, IfSome}
 use Rattle.awk_channels.specs.WorldState.{WorldState}
 use Rattle.awk_semantics.specs.declared.halt.Halt.{Halt}
 use Rattle.awk_runtime.specs.declared.runtime.Runtime.{Runtime}
 use Rattle.awk_run.specs.support.Follows.{ReadsOn, IsSet}
+use Rattle.awk_run.specs.support.Passing.{RulesIgnore}
 use Rattle.awk_evaluator.specs.Moves.{IsIdle}
 use Rattle.awk_run.proofs.records.run_records.Given as goal
 
@@ -14,6 +15,7 @@ invariant-loop-text g l = record {
       ReadsOn g.W.World.is_logged l.plan l.fn.machine.runtime (g.W.World.state l.fn.world) new after r;
   set : IsSet g.W.World.is_logged l.plan l.machine.runtime (g.W.World.state l.world);
   idle : IsIdle l.machine;
+  ignored : IfSome l.unwanted (RulesIgnore l.plan);
 }
 
 abbrev pub decreases-loop-text : goal.decreases-loop-text
