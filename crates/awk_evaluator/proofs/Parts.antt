@@ -1,9 +1,9 @@
 -- Parts of moves whose value is of no use, and which may halt the machine.
-use Rattle.std.proofs.Common.{◌≡◌, ℕ, ℤ, Bool, true, false, Option, Some, None, ◌∷◌, drop, Result, Ok, Err, refl, sym, ap, ◌∙◌, subst}
+use Rattle.std.proofs.Common.{◌≡◌, ℕ, ℤ, Bool, None, drop, Result, Ok, Err, refl, sym, ap, ◌∙◌, subst}
 use Rattle.awk_value.specs.declared.value.Value.{Value}
 use Rattle.awk_value.specs.declared.value.Value.TheVariants as value
-use Rattle.awk_value.specs.Values.{truth_of}
 use Rattle.awk_lex.specs.declared.token.AssignmentOperator.{AssignmentOperator}
+use Rattle.awk_lex.specs.declared.token.AssignmentOperator.TheVariants as assignment
 use Rattle.awk_lex.specs.declared.token.IncrementOperator.{IncrementOperator}
 use Rattle.awk_grammar.specs.declared.tree.BinaryOperator.{BinaryOperator}
 use Rattle.awk_channels.specs.WorldState.{WorldState}
@@ -13,21 +13,21 @@ use Rattle.awk_semantics.specs.State.{Run, ◌>>=◌}
 use Rattle.awk_storage.specs.declared.position.Array.{Array}
 use Rattle.awk_storage.specs.declared.position.Variable.{Variable}
 use Rattle.awk_storage.specs.declared.position.Place.TheVariants as place
-use Rattle.awk_storage.specs.Positions.{put_variable, post_increment_at}
+use Rattle.awk_storage.specs.Positions.{put_variable, assign_by_at, post_increment_at}
 use Rattle.awk_storage.specs.Forms.{keys_of_array}
 use Rattle.awk_compile.specs.declared.node.Operand.{Operand}
 use Rattle.awk_compile.specs.declared.node.ValueNode.{ValueNode}
 use Rattle.awk_compile.specs.declared.node.ValueNode.TheVariants as v
 use Rattle.awk_compile.specs.declared.node.EffectNode.{EffectNode}
-use Rattle.awk_compile.specs.Nodes.{first, second, taken, value_of, effect_of, operand_value, operated_with, assign_variable, append_to, print_field, update, increment}
+use Rattle.awk_compile.specs.Nodes.{first, second, taken, value_of, effect_of, operand_value, operated_with, assign_variable, append_to, print_field}
 use Rattle.awk_runtime.specs.declared.runtime.Runtime.{Runtime}
 use Rattle.awk_runtime.specs.Naming.{Naming}
 use Rattle.awk_runtime.specs.Simulation.{Simulates, Changes, Spends}
 use Rattle.awk_runtime.proofs.Composition.{then_changes, ends_changes}
-use Rattle.awk_runtime.specs.support.Updates.{GivesNumber}
+use Rattle.awk_runtime.specs.support.Updates.{GivesNumber, Gives}
 use Rattle.awk_evaluator.specs.declared.machine.Machine.{Machine}
 use Rattle.awk_evaluator.specs.Rest.{tables_in}
-use Rattle.awk_evaluator.specs.Moves.{Computes, Performs, Keeps, DoneBy, Done, came, told, without_value, truth_in}
+use Rattle.awk_evaluator.specs.Moves.{Computes, Performs, Keeps, DoneBy, Done, without_value, truth_in}
 use Rattle.awk_evaluator.specs.Reading.{Runs, AssignsOperand, Raises, ComparesBy, Compares, Updates, Increments, Appends, PrintsField}
 use Rattle.awk_evaluator.specs.Walks.{PutsKeysBy, PutsKeys, TakesKey}
 use Rattle.awk_evaluator.specs.Quick.{IsAtHand, Popped, Relates, RelatesWith, AssignsAlike}
@@ -139,14 +139,46 @@ number_assigned n {o = o} {x = x} {m = m} {m' = m'} alike g operands calls = rec
       operands = operands;
       calls = calls;
       changes = λ tables functions. subst (λ (run : Run Value). Changes run m.runtime m'.runtime (Ok (value.Number g.number)))
-          (sym (alike m.runtime.names.scalars x) ∙ variable_alike m.runtime.names.scalars (operator_of o) x value.Nothing (second m.operands.values) (first m.operands.values)) g.changes;
+          (sym (alike m.runtime.names.scalars (place.Variable x) value.Nothing) ∙ variable_alike m.runtime.names.scalars (operator_of o) x value.Nothing (second m.operands.values) (first m.operands.values)) g.changes;
     },
   );
 }
 
 -- itself
 pub alike_itself : (o : AssignmentOperator) {v w : Value} → v ≡ w → AssignsAlike o v w
-alike_itself o e = λ names x. ap (λ u. assign_variable names o x u) e
+alike_itself o e = λ names p operand. ap (λ u. assign_by_at names (operator_of o) p operand u) e
+
+-- a value is assigned to an element in the place of the topmost one
+pub element_assigned : (w : Value) {o : AssignmentOperator} {a : Array} {m m' : Machine} → AssignsAlike o (first m.operands.values) w → Gives (assign_by_at m.runtime.names.scalars (operator_of o) (place.Element a) (second m.operands.values) w) m.runtime (Ok tt) m'.runtime → m'.operands ≡ record m.operands { values = drop 2 m.operands.values } → m'.calls ≡ m.calls → Done (λ r. Computes (v.Assign o (place.Element a)) m r m') (Ok tt)
+element_assigned w {a = a} {m = m} {m' = m'} alike g operands calls = record {
+  done = (
+    g.gives.0,
+    record {
+      operands = operands;
+      calls = calls;
+      changes = λ tables functions. subst (λ (run : Run Value). Changes run m.runtime m'.runtime (Ok g.gives.0)) (sym (alike m.runtime.names.scalars (place.Element a) (second m.operands.values))) g.gives.1;
+    },
+  );
+}
+
+-- an element's number is raised
+pub element_raised : {o : IncrementOperator} {a : Array} {m m' : Machine} → Gives (post_increment_at m.runtime.names.scalars o (place.Element a) (first m.operands.values)) m.runtime (Ok tt) m'.runtime → m'.operands ≡ record m.operands { values = drop 1 m.operands.values } → m'.calls ≡ m.calls → Done (λ r. Computes (v.PostIncrement o (place.Element a)) m r m') (Ok tt)
+element_raised g operands calls = record { done = (g.gives.0, record { operands = operands; calls = calls; changes = λ tables functions. g.gives.1 }) }
+
+-- what became of an element that is given the topmost value
+given_by : {a : Array} {m mid m' : Machine} (r : Result (Unit {0}) Halt) → Keeps mid m' → Gives (assign_by_at m.runtime.names.scalars None (place.Element a) (second m.operands.values) (first m.operands.values)) m.runtime r mid.runtime → mid.operands ≡ record m.operands { values = drop 2 m.operands.values } → mid.calls ≡ m.calls → Done (λ q. Computes (v.Assign assignment.Plain (place.Element a)) m q m') (without_value r)
+given_by {a = a} {m = m} {mid = mid} {m' = m'} (Ok u) kept g operands calls = record {
+  done = (
+    g.gives.0,
+    computes_kept {m = m} {m1 = mid} {m' = m'} kept {x = v.Assign assignment.Plain (place.Element a)} {r = Ok g.gives.0} (record { operands = operands; calls = calls; changes = λ tables functions. g.gives.1 }),
+  );
+}
+given_by {a = a} {m = m} {mid = mid} {m' = m'} (Err h) kept g operands calls = record {
+  done = computes_kept {m = m} {m1 = mid} {m' = m'} kept {x = v.Assign assignment.Plain (place.Element a)} {r = Err h} (record { operands = tt; calls = tt; changes = λ tables functions. g.gives });
+}
+
+pub element_given : {a : Array} {m mid m' : Machine} (r : Result (Unit {0}) Halt) {s : Result (Unit {0}) Halt} → s ≡ without_value r → Keeps mid m' → Gives (assign_by_at m.runtime.names.scalars None (place.Element a) (second m.operands.values) (first m.operands.values)) m.runtime r mid.runtime → mid.operands ≡ record m.operands { values = drop 2 m.operands.values } → mid.calls ≡ m.calls → Done (λ q. Computes (v.Assign assignment.Plain (place.Element a)) m q m') s
+element_given {a = a} {m = m} {mid = mid} {m' = m'} r is kept g operands calls = subst (λ (s : Result (Unit {0}) Halt). Done (λ q. Computes (v.Assign assignment.Plain (place.Element a)) m q m') s) (sym is) (given_by {a = a} {m = m} {mid = mid} {m' = m'} r kept g operands calls)
 
 -- a number at hand is assigned
 pub number_read : (o : AssignmentOperator) (x : Variable) {a : Operand} {n : ℤ} {m m' : Machine} → IsAtHand a (value.Number n) m → GivesNumber (assign_variable m.runtime.names.scalars o x (value.Number n)) m.runtime m'.runtime → m'.operands ≡ m.operands → m'.calls ≡ m.calls → Done (λ r. AssignsOperand o x a m r m') (Ok tt)

@@ -1,5 +1,5 @@
 -- Values that are put on the stack quickly.
-use Rattle.std.proofs.Common.{◌≡◌, ◌≢◌, ℕ, ℤ, true, List, ◌∷◌, drop, Option, Some, Result, Ok, Err, refl, sym, ap, ◌∙◌, subst}
+use Rattle.std.proofs.Common.{◌≡◌, ◌≢◌, ℕ, ℤ, Bool, true, List, ◌∷◌, drop, Option, Some, Result, Ok, Err, refl, sym, ap, ◌∙◌, subst}
 use Rattle.std.proofs.Math.Path.{fun_ext}
 use Rattle.std.specs.Prelude.{OnOk, IfSome, is_ok}
 use Rattle.std.specs.Result.{result_ok}
@@ -7,7 +7,7 @@ use Rattle.awk_value.specs.declared.value.Value.{Value}
 use Rattle.awk_value.specs.declared.value.Value.TheVariants as value
 use Rattle.awk_value.specs.declared.fault.ValueFault.{ValueFault}
 use Rattle.awk_value.specs.Arithmetic.{product_of, sum_of, difference_of, quotient_of, remainder_of, negative_of, power_of}
-use Rattle.awk_value.specs.Values.{num_of, number_value, from_numbers}
+use Rattle.awk_value.specs.Values.{str_of, num_of, number_value, from_numbers}
 use Rattle.awk_lex.specs.declared.token.AssignmentOperator.{AssignmentOperator}
 use Rattle.awk_lex.specs.declared.token.AssignmentOperator.TheVariants as assignment
 use Rattle.awk_lex.specs.declared.token.Operator.{Operator}
@@ -17,12 +17,13 @@ use Rattle.awk_grammar.specs.declared.tree.UnaryOperator.TheVariants as unary
 use Rattle.awk_semantics.specs.declared.halt.Halt.{Halt}
 use Rattle.awk_semantics.specs.State.{Run, ◌>>=◌, lift}
 use Rattle.awk_semantics.specs.Faults.{of_values}
-use Rattle.awk_semantics.specs.Operators.{applied}
+use Rattle.awk_semantics.specs.Operators.{applied, truth_value}
 use Rattle.awk_semantics.specs.Primitives.{read_field, number_of}
 use Rattle.awk_semantics.specs.Semantics.{Functions}
-use Rattle.awk_storage.specs.declared.position.Variable.{Variable}
-use Rattle.awk_storage.specs.declared.position.Place.TheVariants as place
-use Rattle.awk_storage.specs.Positions.{read_variable, assign_at, assign_by_at}
+use Rattle.awk_storage.specs.declared.position.Array.{Array}
+use Rattle.awk_storage.specs.declared.position.Place.{Place}
+use Rattle.awk_storage.specs.Forms.{contains_at}
+use Rattle.awk_storage.specs.Positions.{read_at, assign_at, assign_by_at}
 use Rattle.awk_compile.specs.declared.node.Operand.{Operand}
 use Rattle.awk_compile.specs.declared.node.Operand.TheVariants as operand
 use Rattle.awk_compile.specs.declared.node.ValueNode.{ValueNode}
@@ -34,7 +35,7 @@ use Rattle.awk_runtime.proofs.Composition.{then_changes, lift_changes}
 use Rattle.awk_evaluator.specs.declared.machine.Machine.{Machine}
 use Rattle.awk_evaluator.specs.Rest.{tables_in}
 use Rattle.awk_evaluator.specs.Quick.{IsAtHand, Puts, Pushed, AssignsAlike}
-use Rattle.awk_evaluator.proofs.Computing.{drop_two}
+use Rattle.awk_evaluator.proofs.Computing.{drop_two, made_of}
 
 -- operands that are at hand
 
@@ -114,26 +115,35 @@ field_puts {m = m} n {w = w} top h operands calls = record {
   changes = λ tables functions. rw top (field_of n h);
 }
 
--- assignments to variables
+-- whether there is an element at the topmost value
+pub contains_puts : {m m' : Machine} {a : Array} {key : Value} {found : Bool} → key ≡ first m.operands.values → Changes (contains_at a (str_of key)) m.runtime m.runtime (Ok found) → m'.operands ≡ record m.operands { values = truth_value found ∷ drop 1 m.operands.values } → m'.calls ≡ m.calls → m'.runtime ≡ m.runtime → Puts (v.Contains a) m m'
+contains_puts {m = m} {a = a} {found = found} top h operands calls runtime = record {
+  value = truth_value found;
+  operands = operands;
+  calls = calls;
+  changes = λ tables functions. rw runtime (made_of truth_value found (subst (λ (key : Value). Changes (contains_at a (str_of key)) m.runtime m.runtime (Ok found)) top h));
+}
+
+-- assignments
 
 -- a value is seen by an operator alone
-updated_alike : (names : List (List ℕ)) (o : Operator) (x : Variable) (v w : Value) → ((old : Value) → applied o old v ≡ applied o old w) → assign_by_at names (Some o) (place.Variable x) value.Nothing v ≡ assign_by_at names (Some o) (place.Variable x) value.Nothing w
+updated_alike : (names : List (List ℕ)) (o : Operator) (p : Place) (operand v w : Value) → ((old : Value) → applied o old v ≡ applied o old w) → assign_by_at names (Some o) p operand v ≡ assign_by_at names (Some o) p operand w
 unfolding assign_by_at
-updated_alike names o x v w alike =
-    let before : Value → Run Value = λ old. lift (applied o old v) >>= λ z. assign_at names (place.Variable x) value.Nothing z in
-    let after : Value → Run Value = λ old. lift (applied o old w) >>= λ z. assign_at names (place.Variable x) value.Nothing z in
-    let same : before ≡ after = fun_ext (λ old. ap (λ (r : Result Value Halt). lift r >>= λ z. assign_at names (place.Variable x) value.Nothing z) (alike old)) in
-    ap (λ (f : Value → Run Value). read_variable names x >>= f) same
+updated_alike names o p operand v w alike =
+    let before : Value → Run Value = λ old. lift (applied o old v) >>= λ z. assign_at names p operand z in
+    let after : Value → Run Value = λ old. lift (applied o old w) >>= λ z. assign_at names p operand z in
+    let same : before ≡ after = fun_ext (λ old. ap (λ (r : Result Value Halt). lift r >>= λ z. assign_at names p operand z) (alike old)) in
+    ap (λ (f : Value → Run Value). read_at names p operand >>= f) same
 
 -- by its number alone
 numbers_alike : (a : AssignmentOperator) (v w : Value) → a ≢ assignment.Plain → num_of v ≡ num_of w → AssignsAlike a v w
 numbers_alike assignment.Plain v w other e = absurd (other refl)
-numbers_alike assignment.Add v w other e = λ names x. updated_alike names operator.Plus x v w (λ old. ap (λ r. of_values (from_numbers sum_of (num_of old) r)) e)
-numbers_alike assignment.Subtract v w other e = λ names x. updated_alike names operator.Minus x v w (λ old. ap (λ r. of_values (from_numbers difference_of (num_of old) r)) e)
-numbers_alike assignment.Multiply v w other e = λ names x. updated_alike names operator.Times x v w (λ old. ap (λ r. of_values (from_numbers product_of (num_of old) r)) e)
-numbers_alike assignment.Divide v w other e = λ names x. updated_alike names operator.Divide x v w (λ old. ap (λ r. of_values (from_numbers quotient_of (num_of old) r)) e)
-numbers_alike assignment.Remainder v w other e = λ names x. updated_alike names operator.Remainder x v w (λ old. ap (λ r. of_values (from_numbers remainder_of (num_of old) r)) e)
-numbers_alike assignment.Power v w other e = λ names x. updated_alike names operator.Power x v w (λ old. ap (λ r. of_values (from_numbers power_of (num_of old) r)) e)
+numbers_alike assignment.Add v w other e = λ names p operand. updated_alike names operator.Plus p operand v w (λ old. ap (λ r. of_values (from_numbers sum_of (num_of old) r)) e)
+numbers_alike assignment.Subtract v w other e = λ names p operand. updated_alike names operator.Minus p operand v w (λ old. ap (λ r. of_values (from_numbers difference_of (num_of old) r)) e)
+numbers_alike assignment.Multiply v w other e = λ names p operand. updated_alike names operator.Times p operand v w (λ old. ap (λ r. of_values (from_numbers product_of (num_of old) r)) e)
+numbers_alike assignment.Divide v w other e = λ names p operand. updated_alike names operator.Divide p operand v w (λ old. ap (λ r. of_values (from_numbers quotient_of (num_of old) r)) e)
+numbers_alike assignment.Remainder v w other e = λ names p operand. updated_alike names operator.Remainder p operand v w (λ old. ap (λ r. of_values (from_numbers remainder_of (num_of old) r)) e)
+numbers_alike assignment.Power v w other e = λ names p operand. updated_alike names operator.Power p operand v w (λ old. ap (λ r. of_values (from_numbers power_of (num_of old) r)) e)
 
 alike_by : (a : AssignmentOperator) (v : Value) (r : Result ℤ ValueFault) → a ≢ assignment.Plain → num_of v ≡ r → IfSome (result_ok r) (λ n. AssignsAlike a v (value.Number n))
 alike_by a v (Ok n) other e = numbers_alike a v (value.Number n) other e

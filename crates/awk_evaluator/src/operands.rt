@@ -166,6 +166,18 @@ impl Operands {
         }
     }
 
+    /// The value below the topmost one, if there is one.
+    #[inline(always)]
+    pub fn below(&self) -> Option<&Value>
+        ensures { IfSome result (λ value. second self.now.values ≡ value.now) }
+    {
+        let length = self.values.len();
+        if length - self.base < 2 {
+            return None;
+        }
+        Some(&self.values[length - 2])
+    }
+
     /// Puts a value in the place of the topmost one.
     #[inline(always)]
     pub fn replace(&mut self, value: Value)

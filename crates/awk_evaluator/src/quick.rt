@@ -4,6 +4,7 @@
 ghost use Rattle.std.specs.Prelude.{◌≡◌, Ok, IfSome, true, false};
 ghost use Rattle.awk_value.specs.Values.{truth_of};
 ghost use Rattle.awk_value.specs.declared.value.Value.TheVariants.{Number};
+ghost use Rattle.awk_storage.specs.declared.position.Place.TheVariants.{Element};
 ghost use Rattle.awk_runtime.specs.Simulation.{Spends};
 ghost use Rattle.awk_compile.specs.declared.node.ValueNode.TheVariants.{Assign, PostIncrement, OperateWith, OperateOn, RecordMatches};
 ghost use Rattle.awk_compile.specs.Nodes.{first};
@@ -16,7 +17,7 @@ use awk_compile::node::Operand;
 use awk_functions::{operator_of, relate, relate_numbers};
 use awk_grammar::tree::BinaryOperator;
 use awk_lex::token::{AssignmentOperator, IncrementOperator};
-use awk_storage::{Place, Variable};
+use awk_storage::{Array, Place, Variable};
 use awk_value::{Value, is_true, number_of};
 
 impl Machine {
@@ -256,7 +257,32 @@ impl Machine {
         if self.assign_number(operator, place) {
             return true;
         }
+        if self.assign_number_in(operator, place) {
+            return true;
+        }
         self.assign_value(operator, place)
+    }
+
+    /// Assigns the topmost number to an element, where that changes where it stands.
+    #[inline(always)]
+    fn assign_number_in(&mut self, operator: AssignmentOperator, place: &Place) -> bool
+        ensures assigned { result ≡ true → Done (λ r. Computes (Assign operator place.now) self.old r self.new) (Ok tt) }
+        ensures kept { result ≡ false → self.new ≡ self.old }
+    {
+        let Place::Element(array) = place else {
+            return false;
+        };
+        let Some(n) = self.operands.number() else {
+            return false;
+        };
+        let Some(key) = self.operands.below() else {
+            return false;
+        };
+        if !self.runtime.change_element(operator, *array, key, n) {
+            return false;
+        }
+        self.operands.drop(2);
+        true
     }
 
     /// Assigns the topmost number to a variable, where that changes where it stands.
@@ -286,8 +312,50 @@ impl Machine {
         if self.assign_as_number(operator, place) {
             return true;
         }
+        if self.assign_as_number_in(operator, place) {
+            return true;
+        }
+        if let Place::Element(array) = place {
+            if let AssignmentOperator::Plain = operator {
+                return self.assign_in(*array);
+            }
+        }
         let assigned = self.assign(operator, *place);
         self.is_done(assigned)
+    }
+
+    /// Assigns the topmost value to an element, which isn't read again.
+    fn assign_in(&mut self, array: Array) -> bool
+        ensures { Done (λ r. Computes (Assign AssignmentOperator.Plain (Element array)) self.old r self.new) (came result self.new) }
+    {
+        let value = self.operands.pop();
+        let nothing = Value::Nothing;
+        let key = self.operands.top_or(&nothing);
+        let assigned = self.runtime.assign_element(array, key, value);
+        drop(nothing);
+        self.operands.drop(1);
+        self.is_done(assigned)
+    }
+
+    /// Assigns the number of the topmost value to an element, where an operator is applied, and that changes where it stands.
+    fn assign_as_number_in(&mut self, operator: AssignmentOperator, place: &Place) -> bool
+        ensures assigned { result ≡ true → Done (λ r. Computes (Assign operator place.now) self.old r self.new) (Ok tt) }
+        ensures kept { result ≡ false → self.new ≡ self.old }
+    {
+        let Place::Element(array) = place else {
+            return false;
+        };
+        let Some(n) = self.number_for(operator) else {
+            return false;
+        };
+        let Some(key) = self.operands.below() else {
+            return false;
+        };
+        if !self.runtime.change_element(operator, *array, key, n) {
+            return false;
+        }
+        self.operands.drop(2);
+        true
     }
 
     /// Assigns the number of the topmost value to a variable, where an operator is applied, and that changes where it stands.
@@ -323,7 +391,29 @@ impl Machine {
     pub(crate) fn raise(&mut self, operator: IncrementOperator, place: &Place) -> bool
         ensures { Done (λ r. Computes (PostIncrement operator place.now) self.old r self.new) (came result self.new) }
     {
+        if self.raise_in(operator, place) {
+            return true;
+        }
         self.raise_value(operator, place)
+    }
+
+    /// Raises or lowers an element's number by 1, where that changes where it stands.
+    #[inline(always)]
+    fn raise_in(&mut self, operator: IncrementOperator, place: &Place) -> bool
+        ensures raised { result ≡ true → Done (λ r. Computes (PostIncrement operator place.now) self.old r self.new) (Ok tt) }
+        ensures kept { result ≡ false → self.new ≡ self.old }
+    {
+        let Place::Element(array) = place else {
+            return false;
+        };
+        let Some(key) = self.operands.top() else {
+            return false;
+        };
+        if !self.runtime.raise_element(operator, *array, key) {
+            return false;
+        }
+        self.operands.drop(1);
+        true
     }
 
     /// The same of what a place holds of any kind.

@@ -4,12 +4,12 @@ ghost use Rattle.std.specs.Prelude.{◌≡◌, IfSome, true, false};
 ghost use Rattle.awk_value.specs.declared.value.Value.TheVariants.{Number};
 ghost use Rattle.awk_grammar.specs.declared.tree.BinaryOperator.TheVariants.{Infix};
 ghost use Rattle.awk_grammar.specs.declared.tree.UnaryOperator.TheVariants.{Minus as Negative};
-ghost use Rattle.awk_compile.specs.declared.node.ValueNode.TheVariants.{Push, Read, Operate, OperateWith, OperateOn, Change, ReadField, ReadFieldAt, ReadElement, IsInside};
+ghost use Rattle.awk_compile.specs.declared.node.ValueNode.TheVariants.{Push, Read, Operate, OperateWith, OperateOn, Change, ReadField, ReadFieldAt, ReadElement, Contains, IsInside};
 ghost use Rattle.awk_evaluator.specs.Quick.{IsAtHand, Puts, Pushed};
 
 use crate::machine::Machine;
 use awk_compile::node::{Operand, ValueNode};
-use awk_functions::apply_in_short;
+use awk_functions::{apply_in_short, truth_value};
 use awk_grammar::tree::{BinaryOperator, UnaryOperator};
 use awk_lex::token::Operator;
 use awk_storage::{Array, Variable};
@@ -36,6 +36,7 @@ impl Machine {
             ValueNode::ReadField => self.put_field(),
             ValueNode::ReadFieldAt(number) => self.put_field_at(number),
             ValueNode::ReadElement(array) => self.put_element(*array),
+            ValueNode::Contains(array) => self.put_contains(*array),
             ValueNode::IsInside(number) => self.put_inside(*number),
             _ => false,
         }
@@ -252,6 +253,20 @@ impl Machine {
             return false;
         };
         self.operands.replace(value);
+        true
+    }
+
+    /// Puts whether there is an element at the key on top in its place.
+    #[inline(always)]
+    fn put_contains(&mut self, array: Array) -> bool
+        ensures puts { result ≡ true → Puts (Contains array) self.old self.new }
+        ensures kept { result ≡ false → self.new ≡ self.old }
+    {
+        let Some(key) = self.operands.top() else {
+            return false;
+        };
+        let is_there = self.runtime.has_element(array, key);
+        self.operands.replace(truth_value(is_there));
         true
     }
 

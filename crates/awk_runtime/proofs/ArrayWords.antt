@@ -78,11 +78,11 @@ array_changes m run a give change n {r = r} {xs = xs} is number given made = own
     })
 
 -- an array that is put where it stands
-set_itself : (arrays : List Elements) (n : ℕ) → slice_set arrays n (array_of arrays n) ≡ arrays
+pub set_itself : (arrays : List Elements) (n : ℕ) → slice_set arrays n (array_of arrays n) ≡ arrays
 set_itself arrays n = ap (slice_set arrays n) (unwrap_or-slice_get arrays n []) ∙ set-get_or arrays n []
 
 -- an array with a key that is there
-key_there : (array : Elements) (key : List ℕ) {v : Value} → Some v ≡ value_at array key → with_key array key ≡ array
+pub key_there : (array : Elements) (key : List ℕ) {v : Value} → Some v ≡ value_at array key → with_key array key ≡ array
 key_there array key at = ap (λ o. if is_some o then array else array ++ (key, value.Nothing) ∷ []) (sym at)
 
 module _ (m : Runtime) (a : Array) (key : List ℕ) (n : ℕ) (number : n ≡ kept_number a m.frames) where

@@ -11,7 +11,8 @@ pub mod Words
 pub mod VariableWords
 pub mod CountWords
 pub mod NameWords
-pub mod EndWords
+pub mod ElementWords
+mod EndWords
 pub mod PlaceWords
 pub mod NumberWords
 pub mod AppendWords

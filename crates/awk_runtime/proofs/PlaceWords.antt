@@ -87,9 +87,9 @@ pub by_assigned : (o : Operator) (p : Place) (operand v : Value) {before w : Val
 unfolding assign_by_at
 by_assigned o p operand v {old = old} {later = later} x y z = then_changes _ x (then_changes _ y (still_assigned old p operand _ {mid = later} (y.names ∙ x.names) z))
 
-pub by_updated : (o : Operator) (p : Place) (operand v : Value) {old new : Runtime} {u : Updated} → Updates o p v old new u → Changes (assign_by_at old.names.scalars (Some o) p operand v) old new (Ok (value.Number u.after))
+pub by_updated : (o : Operator) (p : Place) (operand v : Value) {old new : Runtime} {u : Updated} → Updates o p operand v old new u → Changes (assign_by_at old.names.scalars (Some o) p operand v) old new (Ok (value.Number u.after))
 unfolding assign_by_at assign_at
-by_updated o p operand v {old = old} x = then_changes _ (x.read operand) (then_changes _ (lift_changes _ old x.made) (then_changes _ (x.put operand) (x.again operand)))
+by_updated o p operand v {old = old} x = then_changes _ x.read (then_changes _ (lift_changes _ old x.made) (then_changes _ x.put x.again))
 
 -- increments that give the number before
 
@@ -113,14 +113,14 @@ pub post_stored : (o : IncrementOperator) (p : Place) (operand : Value) {v w : V
 unfolding post_increment_at
 post_stored o p operand {v = v} {w = w} n {old = old} {mid = mid} {later = later} {new = new} x is y z = then_changes _ x (then_changes _ (number_had v mid is) (then_changes _ y (then_changes _ (still_stored old p operand w {mid = later} (y.names ∙ x.names) z) (lift_changes _ new refl))))
 
-pub post_updated : (o : IncrementOperator) (p : Place) (operand : Value) {old new : Runtime} {u : Updated} → Updates (by_one o) p one old new u → Changes (post_increment_at old.names.scalars o p operand) old new (Ok (value.Number u.before))
+pub post_updated : (o : IncrementOperator) (p : Place) (operand : Value) {old new : Runtime} {u : Updated} → Updates (by_one o) p operand one old new u → Changes (post_increment_at old.names.scalars o p operand) old new (Ok (value.Number u.before))
 unfolding post_increment_at
-post_updated o p operand {old = old} {new = new} {u = u} x = then_changes _ (x.read operand) (then_changes _ (number_had (value.Number u.before) old refl) (then_changes _ (lift_changes _ old x.made) (then_changes _ (x.put operand) (lift_changes _ new refl))))
+post_updated o p operand {old = old} {new = new} {u = u} x = then_changes _ x.read (then_changes _ (number_had (value.Number u.before) old refl) (then_changes _ (lift_changes _ old x.made) (then_changes _ x.put (lift_changes _ new refl))))
 
 -- numbers that are changed where they stand
 
-pub of_variable : (o : Operator) (x : Variable) (n : ℤ) {old new : Runtime} {u : Updated} → UpdatesVariable o x n old new u → Updates o (place.Variable x) (value.Number n) old new u
-of_variable o x n h = record { read = λ operand. h.read; made = h.made; put = λ operand. h.put; again = λ operand. h.again }
+pub of_variable : (o : Operator) (x : Variable) (operand : Value) (n : ℤ) {old new : Runtime} {u : Updated} → UpdatesVariable o x n old new u → Updates o (place.Variable x) operand (value.Number n) old new u
+of_variable o x operand n h = record { read = h.read; made = h.made; put = h.put; again = h.again }
 
 pub get-set : {A : Type 0} (xs : List A) (i : ℕ) (x : A) → i < length xs → slice_get (set xs i x) i ≡ Some x
 get-set [] i x low = absurd (omega arith)
@@ -182,7 +182,7 @@ unfolding assign_by_at assign_at
 plainly_numbered x n p = then_changes _ p.put p.again
 
 pub by_numbered : (o : Operator) (x : Variable) (n : ℤ) {old new : Runtime} {u : Updated} → UpdatesVariable o x n old new u → Changes (assign_by_at old.names.scalars (Some o) (place.Variable x) value.Nothing (value.Number n)) old new (Ok (value.Number u.after))
-by_numbered o x n h = by_updated o (place.Variable x) value.Nothing (value.Number n) (of_variable o x n h)
+by_numbered o x n h = by_updated o (place.Variable x) value.Nothing (value.Number n) (of_variable o x value.Nothing n h)
 
 pub post_numbered : (o : IncrementOperator) (x : Variable) {old new : Runtime} {u : Updated} → UpdatesVariable (by_one o) x (pos 1) old new u → Changes (post_increment_at old.names.scalars o (place.Variable x) value.Nothing) old new (Ok (value.Number u.before))
-post_numbered o x h = post_updated o (place.Variable x) value.Nothing (of_variable (by_one o) x (pos 1) h)
+post_numbered o x h = post_updated o (place.Variable x) value.Nothing (of_variable (by_one o) x value.Nothing (pos 1) h)

@@ -1,12 +1,11 @@
 // Values that are at hand: variables and fields that are read where they stand, and numbers that are put and changed there.
 
 ghost use Rattle.std.specs.Prelude.{◌≡◌, ◌<◌, ◌-◌, pos, Ok, Some, IfSome, IfNone, slice_get, true, false};
-ghost use Rattle.awk_value.specs.Values.{str_of};
 ghost use Rattle.awk_value.specs.declared.value.Value.TheVariants.{Number, Nothing};
 ghost use Rattle.awk_runtime.specs.support.Simulation.{Changes, Spends};
 ghost use Rattle.awk_storage.specs.declared.position.Place.TheVariants.{Variable as VariablePlace};
 ghost use Rattle.awk_semantics.specs.Primitives.{read_field};
-ghost use Rattle.awk_storage.specs.Positions.{read_element_of, read_variable, read_slot, read_local, assign_by_at, post_increment_at};
+ghost use Rattle.awk_storage.specs.Positions.{read_variable, read_slot, read_local, assign_by_at, post_increment_at};
 ghost use Rattle.awk_semantics.specs.Operators.{operator_of as assigned_by, by_one as raised_by};
 ghost use Rattle.awk_runtime.specs.support.Updates.{PutsNumber, GivesNumber, ChangesValue};
 
@@ -14,7 +13,7 @@ use crate::runtime::Runtime;
 use awk_functions::{apply_in_short, by_one, operator_of};
 use awk_lex::token::{AssignmentOperator, IncrementOperator, Operator};
 use awk_semantics::Local;
-use awk_storage::{Array, Variable};
+use awk_storage::Variable;
 use awk_value::Value;
 use awk_variables::Special;
 use std::mem;
@@ -93,16 +92,6 @@ impl Runtime {
             Ok(value) => Some(value),
             Err(_) => None,
         }
-    }
-
-    /// The element at the text of a key; `None` where it isn't there.
-    #[inline(never)]
-    pub fn element_at_hand(&self, array: Array, key: &Value) -> Option<Value>
-        ensures { IfSome result (λ value. Changes (read_element_of array (str_of key.now)) self.now self.now (Ok value)) }
-    {
-        let number = self.number_at(array);
-        let value = self.arrays.get(number as usize, key)?;
-        value.clone().ok()
     }
 
     /// Gives a variable of the program or a parameter a number. `false`, and nothing changes, where it is another one, isn't
@@ -329,7 +318,7 @@ impl Runtime {
 
 /// Makes a value a number. One that is a number is no more than overwritten.
 #[inline(always)]
-fn set_number(place: &mut Value, n: i128)
+pub(crate) fn set_number(place: &mut Value, n: i128)
     ensures { place.new ≡ Number n }
 {
     if let Value::Number(old) = place {
@@ -349,7 +338,7 @@ fn replace_by_number(place: &mut Value, n: i128)
 
 /// A number raised or lowered by 1. `None` where the value is none, or the next one is too far.
 #[inline(always)]
-fn number_raised(operator: IncrementOperator, old: &Value) -> Option<i128>
+pub(crate) fn number_raised(operator: IncrementOperator, old: &Value) -> Option<i128>
     ensures { IfSome result (λ new. ChangesValue (Some (raised_by operator)) (pos 1) old.now (Number new)) }
 {
     let Value::Number(old) = old else {
@@ -361,7 +350,7 @@ fn number_raised(operator: IncrementOperator, old: &Value) -> Option<i128>
 /// The number that is assigned to what holds this value: another one, or what an operator makes of its number and of the other
 /// one. `None` where it has none, or that isn't found in a few steps.
 #[inline(always)]
-fn number_assigned(operator: AssignmentOperator, old: &Value, n: i128) -> Option<i128>
+pub(crate) fn number_assigned(operator: AssignmentOperator, old: &Value, n: i128) -> Option<i128>
     ensures { IfSome result (λ new. ChangesValue (assigned_by operator) n old.now (Number new)) }
 {
     if let Value::Number(old) = old {
@@ -375,7 +364,7 @@ fn number_assigned(operator: AssignmentOperator, old: &Value, n: i128) -> Option
 
 /// The number that is assigned where there is an old one.
 #[inline(always)]
-fn number_by(operator: AssignmentOperator, old: i128, n: i128) -> Option<i128>
+pub(crate) fn number_by(operator: AssignmentOperator, old: i128, n: i128) -> Option<i128>
     ensures { IfSome result (λ new. ChangesValue (assigned_by operator) n (Number old) (Number new)) }
 {
     match operator {

@@ -6,6 +6,7 @@ mod arrays;
 mod at_hand;
 mod calls;
 mod commands;
+mod elements;
 mod fields;
 mod getlines;
 mod inputs;

@@ -1,16 +1,19 @@
 // Places: what can be assigned.
 
-ghost use Rattle.std.specs.Prelude.{◌≡◌, IfSome, IfNone};
+ghost use Rattle.std.specs.Prelude.{◌≡◌, Ok, IfSome, IfNone};
 ghost use Rattle.awk_runtime.specs.support.Simulation.{Changes};
 ghost use Rattle.awk_runtime.specs.support.Updates.{Updates, UpdatesVariable};
-ghost use Rattle.awk_semantics.specs.Operators.{by_one, one};
+ghost use Rattle.awk_semantics.specs.Operators.{applied, by_one, one};
+ghost use Rattle.awk_value.specs.declared.value.Value.TheVariants.{Number};
+ghost use Rattle.awk_storage.specs.declared.position.Place.TheVariants.{Element};
 ghost use Rattle.awk_storage.specs.Positions.{read_at, store_at, assign_at, assign_by_at, post_increment_at};
 
+use crate::at_hand::set_number;
 use crate::runtime::Runtime;
 use awk_functions::{apply_in_short, by_one};
 use awk_lex::token::{IncrementOperator, Operator};
 use awk_semantics::{Halt, Local};
-use awk_storage::{Place, Variable};
+use awk_storage::{Array, Place, Variable};
 use awk_value::{Value, number_of};
 use awk_variables::Special;
 
@@ -19,6 +22,21 @@ use awk_variables::Special;
 pub(crate) struct Updated {
     pub(crate) before: i128,
     pub(crate) after: i128,
+}
+
+/// A value's number, and what an operator makes of it and of another one. `None` where the value is none, or that isn't found in a
+/// few steps.
+#[inline(always)]
+fn update_of(operator: Operator, old: &Value, n: i128) -> Option<Updated>
+    ensures before { IfSome result (λ u. old.now ≡ Number u.before) }
+    ensures after { IfSome result (λ u. applied operator (Number u.before) (Number n) ≡ Ok (Number u.after)) }
+{
+    let Value::Number(before) = old else {
+        return None;
+    };
+    let before = *before;
+    let after = apply_in_short(operator, before, n)?;
+    Some(Updated { before, after })
 }
 
 impl Runtime {
@@ -55,8 +73,8 @@ impl Runtime {
         self.read_at(place, operand)
     }
 
-    /// Gives a place a value, or what an operator makes of its old value and of this one; gives what it then holds. A variable's
-    /// number changes where it stands. (POSIX awk, Expressions in awk)
+    /// Gives a place a value, or what an operator makes of its old value and of this one; gives what it then holds. The number of a
+    /// variable or an element changes where it stands. (POSIX awk, Expressions in awk)
     #[inline(always)]
     pub fn assign_by_at(
         &mut self,
@@ -70,7 +88,7 @@ impl Runtime {
         let Some(operator) = operator else {
             return self.assign_at(place, operand, value);
         };
-        if let Some(updated) = self.update_by(operator, place, &value) {
+        if let Some(updated) = self.update_by(operator, place, operand, &value) {
             return Ok(Value::Number(updated.after));
         }
         self.assign_applied(operator, place, operand, &value)
@@ -115,13 +133,13 @@ impl Runtime {
     ) -> Result<Value, Halt>
         ensures { Changes (post_increment_at self.old.names.scalars operator place operand.now) self.old self.new result }
     {
-        if let Some(updated) = self.update_by(by_one(operator), place, &Value::Number(1)) {
+        if let Some(updated) = self.update_by(by_one(operator), place, operand, &Value::Number(1)) {
             return Ok(Value::Number(updated.before));
         }
         self.post_increment_any(operator, place, operand)
     }
 
-    /// The same of a place that holds no number, or that is no variable.
+    /// The same of a place that holds no number, or that is a field.
     #[inline(never)]
     fn post_increment_any(
         &mut self,
@@ -138,20 +156,50 @@ impl Runtime {
         Ok(Value::Number(number))
     }
 
-    /// Changes a variable's number where it stands. `None`, and nothing changes, where the place is no variable, or one of the
-    /// values no number.
+    /// Changes the number of a variable or an element where it stands. `None`, and nothing changes, where the place is a field, or
+    /// one of the values no number.
     #[inline(always)]
-    fn update_by(&mut self, operator: Operator, place: Place, value: &Value) -> Option<Updated>
-        ensures updated { IfSome result (λ u. Updates operator place value.now self.old self.new u) }
+    fn update_by(
+        &mut self,
+        operator: Operator,
+        place: Place,
+        operand: &Value,
+        value: &Value,
+    ) -> Option<Updated>
+        ensures updated { IfSome result (λ u. Updates operator place operand.now value.now self.old self.new u) }
         ensures kept { IfNone result (self.new ≡ self.old) }
     {
-        let Place::Variable(variable) = place else {
-            return None;
-        };
         let Value::Number(n) = value else {
             return None;
         };
-        self.update_number(operator, variable, *n)
+        match place {
+            Place::Variable(variable) => self.update_number(operator, variable, *n),
+            Place::Element(array) => self.update_element(operator, array, operand, *n),
+            Place::Field => None,
+        }
+    }
+
+    /// The same of an element and a number.
+    #[inline(never)]
+    fn update_element(
+        &mut self,
+        operator: Operator,
+        array: Array,
+        key: &Value,
+        n: i128,
+    ) -> Option<Updated>
+        ensures updated { IfSome result (λ u. Updates operator (Element array) key.now (Number n) self.old self.new u) }
+        ensures kept { IfNone result (self.new ≡ self.old) }
+    {
+        let number = self.number_at(array);
+        let Some(place) = self.arrays.value_mut(number as usize, key) else {
+            return None;
+        };
+        let Some(updated) = update_of(operator, place, n) else {
+            return None;
+        };
+        set_number(place, updated.after);
+        Some(updated)
     }
 
     /// The same of a variable and a number.

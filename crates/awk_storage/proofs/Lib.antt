@@ -1,4 +1,5 @@
 mod Filling
 mod FrameLemmas
+mod Lent
 pub mod ItemLemmas
 mod TableLemmas

@@ -1,16 +1,23 @@
 -- Arrays by number: the first ones of a list, and empty ones behind them.
 use Rattle.std.proofs.Common.{◌≡◌, ◌+◌, ◌<◌, ◌≤◌, ℕ, zero, suc, List, [], ◌∷◌, ◌++◌, length, take, drop, set, get_or, refl, sym, ap, ◌∙◌, subst, arith, length-append}
-use Rattle.std.proofs.lemmas.List.{get_or-take, drop-set, take_all, take_more}
+use Rattle.std.proofs.lemmas.List.{get_or-take, drop-set, set-get_or, take_all, take_more}
 use Rattle.std.proofs.lemmas.Option.{unwrap_or-slice_get}
 use Rattle.awk_table.specs.Arrays.{Array}
 use Rattle.awk_storage.specs.support.Tables.{array_of, AreEmpty}
 use Rattle.awk_storage.proofs.ItemLemmas.{take-set}
 
+-- one that is there, and one that is left as it was
+
+pub there : (tables : List Array) (live n : ℕ) (old : Array) → n < live → old ≡ get_or tables n [] → old ≡ array_of (take live tables) n
+there tables live n old low at = at ∙ (sym (get_or-take live tables n [] low) ∙ sym (unwrap_or-slice_get (take live tables) n []))
+
+pub unchanged : (tables : List Array) (live n : ℕ) (old : Array) → old ≡ get_or tables n [] → take live (set tables n old) ≡ take live tables
+unchanged tables live n old at = ap (λ a. take live (set tables n a)) at ∙ ap (take live) (set-get_or tables n [])
+
 -- an array that is there, and is changed
 pub changed : (tables : List Array) (live n : ℕ) (old : Array) (f : Array → Array) → n < live → old ≡ get_or tables n [] → take live (set tables n (f old)) ≡ set (take live tables) n (f (array_of (take live tables) n))
 changed tables live n old f low at =
-    let same : old ≡ array_of (take live tables) n = at ∙ (sym (get_or-take live tables n [] low) ∙ sym (unwrap_or-slice_get (take live tables) n [])) in
-    take-set tables live n (f old) ∙ ap (λ a. set (take live tables) n (f a)) same
+    take-set tables live n (f old) ∙ ap (λ a. set (take live tables) n (f a)) (there tables live n old low at)
 
 pub first-empty : (tables : List Array) (live : ℕ) → live < length tables → AreEmpty (drop live tables) → get_or tables live [] ≡ []
 first-empty [] live low empty = absurd (omega arith)

@@ -2,7 +2,8 @@
 
 ghost use Rattle.std.specs.Prelude.{◌≡◌, ◌++◌, ◌∷◌, [], length, take, is_some, unwrap_or, slice_set, IfOk, IfErr, OnOk, OnErr};
 ghost use Rattle.std.specs.Map.{keys_of};
-ghost use Rattle.std.specs.Option.{option_copied};
+ghost use Rattle.std.specs.Option.{option_copied, option_copied_mut};
+ghost use Rattle.std.specs.Borrow.{sem};
 ghost use Rattle.awk_value.specs.Values.{str_of};
 ghost use Rattle.awk_value.specs.declared.value.Value.TheVariants.{Nothing};
 ghost use Rattle.awk_value.specs.declared.fault.ValueFault.TheVariants.{Memory};
@@ -38,6 +39,7 @@ impl Model for Arrays {
 
 impl Arrays {
     ghost use Rattle.awk_storage.specs.support.Tables.{array_of};
+    ghost use Rattle.awk_storage.specs.support.Lending.{LendsElement};
 
     /// There are none. Takes no memory.
     pub fn new(alloc: Global) -> Arrays
@@ -91,6 +93,21 @@ impl Arrays {
         key::get(&self.tables[number], key)
     }
 
+    /// The element at the text of a key, if it is there, to be changed.
+    #[inline]
+    pub fn value_mut(&mut self, number: usize, key: &Value) -> Option<&mut Value>
+        ensures* writes_back { sem 𝓛 (LendsElement self.entry number (str_of key.now) result) }
+        ensures value { option_copied_mut result ≡ value_at (array_of self.old number) (str_of key.now) }
+    {
+        if number >= self.live {
+            return None;
+        }
+        match key::value_mut(&mut self.tables[number], key) {
+            Some(value) => Some(value),
+            None => None,
+        }
+    }
+
     /// A copy of the element at the text of a key, which is made where it isn't there. The fault is `Memory`.
     pub fn get_or_make(&mut self, number: usize, key: &Value) -> Result<Value, ValueFault>
         ensures value { IfOk result (λ v. v ≡ unwrap_or (value_at (array_of self.old number) (str_of key.now)) Nothing) }
@@ -104,9 +121,10 @@ impl Arrays {
         Ok(value)
     }
 
-    /// Gives the element at the text of a key a value. The fault is `Memory`.
+    /// Gives the element at the text of a key a value. The fault is `Memory`, and changes nothing.
     pub fn put(&mut self, number: usize, key: &Value, value: Value) -> Result<(), ValueFault>
         ensures put { OnOk result (self.new ≡ slice_set self.old number (with_pair (array_of self.old number) (str_of key.now) value)) }
+        ensures unchanged { OnErr result (self.new ≡ self.old) }
         ensures fault { IfErr result (λ fault. fault ≡ Memory) }
     {
         if number >= self.live {

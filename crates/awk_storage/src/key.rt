@@ -1,12 +1,14 @@
 // Keys of arrays: a value stands for its text. A whole number of 64 bits is looked for without writing it.
 
-ghost use Rattle.std.specs.Prelude.{◌≡◌, [], IfSome, IfOk, IfErr, OnOk, is_some, unwrap_or};
+ghost use Rattle.std.specs.Prelude.{◌≡◌, [], IfSome, IfOk, IfErr, OnOk, OnErr, is_some, unwrap_or};
+ghost use Rattle.std.specs.Borrow.{sem};
 ghost use Rattle.std.specs.Fmt.{signed_decimal};
-ghost use Rattle.std.specs.Option.{option_copied};
+ghost use Rattle.std.specs.Option.{option_copied, option_copied_mut};
 ghost use Rattle.awk_value.specs.Values.{str_of};
 ghost use Rattle.awk_value.specs.declared.value.Value.TheVariants.{Nothing};
 ghost use Rattle.awk_value.specs.declared.fault.ValueFault.TheVariants.{Memory};
 ghost use Rattle.awk_table.specs.Arrays.{value_at, with_pair, with_key, without};
+ghost use Rattle.awk_table.specs.Lending.{LendsValue};
 ghost use Rattle.awk_semantics.specs.definitions.Primitives.{elements_from};
 
 use awk_table::Table;
@@ -46,6 +48,18 @@ pub(crate) fn get<'a>(table: &'a Table, key: &Value) -> Option<&'a Value>
     }
 }
 
+/// The value at a key, if it is there, to be changed.
+#[inline]
+pub(crate) fn value_mut<'a>(table: &'a mut Table, key: &Value) -> Option<&'a mut Value>
+    ensures* writes_back { sem 𝓛 (LendsValue table.entry (str_of key.now) result) }
+    ensures value { option_copied_mut result ≡ value_at table.old (str_of key.now) }
+{
+    match whole_number(key) {
+        Some(number) => table.get_number_mut(number),
+        None => table.get_mut(key_text(key, &mut Buffer::new())),
+    }
+}
+
 /// A copy of the value at a key, which is made where it isn't there.
 pub(crate) fn get_or_make(
     table: &mut Table,
@@ -62,7 +76,7 @@ pub(crate) fn get_or_make(
     }
 }
 
-/// Gives a key a value.
+/// Gives a key a value. An `Err` changes nothing.
 pub(crate) fn put(
     table: &mut Table,
     alloc: Global,
@@ -70,6 +84,7 @@ pub(crate) fn put(
     value: Value,
 ) -> Result<(), ValueFault>
     ensures put { OnOk result (table.new ≡ with_pair table.old (str_of key.now) value) }
+    ensures unchanged { OnErr result (table.new ≡ table.old) }
     ensures fault { IfErr result (λ fault. fault ≡ Memory) }
 {
     match whole_number(key) {
@@ -109,7 +124,7 @@ pub(crate) fn fill(table: &mut Table, first: u32, texts: Vec<Bytes>) -> Result<(
         let Some(next) = key.checked_add(1) else {
             return Err(ValueFault::Memory);
         };
-        table.put_number(key as i64, Value::Input(text))?;
+        table.add_number(key as i64, Value::Input(text))?;
         key = next;
     }
     Ok(())

@@ -3,13 +3,13 @@ use Rattle.std.specs.Prelude.{◌≡◌, ℕ, Bool, List, ◌∷◌, drop, Ok}
 use Rattle.awk_lex.specs.declared.token.AssignmentOperator.{AssignmentOperator}
 use Rattle.awk_grammar.specs.declared.tree.BinaryOperator.{BinaryOperator}
 use Rattle.awk_value.specs.declared.value.Value.{Value}
-use Rattle.awk_semantics.specs.Operators.{truth_value}
-use Rattle.awk_semantics.specs.State.{Run}
+use Rattle.awk_semantics.specs.Operators.{operator_of, truth_value}
 use Rattle.awk_semantics.specs.Semantics.{Functions}
-use Rattle.awk_storage.specs.declared.position.Variable.{Variable}
+use Rattle.awk_storage.specs.declared.position.Place.{Place}
+use Rattle.awk_storage.specs.Positions.{assign_by_at}
 use Rattle.awk_compile.specs.declared.node.Operand.{Operand}
 use Rattle.awk_compile.specs.declared.node.ValueNode.{ValueNode}
-use Rattle.awk_compile.specs.Nodes.{Tables, first, popped, value_of, operand_value, operated_with, operated_on, assign_variable}
+use Rattle.awk_compile.specs.Nodes.{Tables, first, popped, value_of, operand_value, operated_with, operated_on}
 use Rattle.awk_runtime.specs.Simulation.{Changes}
 use Rattle.awk_evaluator.specs.declared.machine.Machine.{Machine}
 use Rattle.awk_evaluator.specs.support.Rest.{tables_in}
@@ -47,4 +47,4 @@ pub record RelatesWith (o : BinaryOperator) (b : Operand) (holds : Bool) (m : Ma
 
 -- a value may be assigned in the place of another one
 abbrev pub AssignsAlike : AssignmentOperator → (v w : Value) → Type 0
-AssignsAlike o v w = (names : List (List ℕ)) (x : Variable) → assign_variable names o x v ≡ assign_variable names o x w
+AssignsAlike o v w = (names : List (List ℕ)) (p : Place) (operand : Value) → assign_by_at names (operator_of o) p operand v ≡ assign_by_at names (operator_of o) p operand w

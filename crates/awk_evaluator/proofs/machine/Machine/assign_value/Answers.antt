@@ -8,4 +8,5 @@ returns-then-assign_as_number c = (c.if-assign_as_number.ensures {u = tt}).assig
 pub returns : goal.returns
 returns c =
     let kept = (c.if-assign_as_number.ensures {u = tt}).kept refl in
-    part_done _ c.is_done.ensures.came (computes_kept c.is_done.ensures.kept (rw kept at c.assign-assigned.ensures))
+    let still = (c.if-assign_as_number_in.ensures {u = tt}).kept refl in
+    part_done _ c.is_done.ensures.came (computes_kept c.is_done.ensures.kept (rw kept at (rw still at c.assign-assigned.ensures)))

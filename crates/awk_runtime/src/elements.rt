@@ -1,0 +1,161 @@
+// Elements that are at hand: they are read, tested and changed where they stand, and found once.
+
+ghost use Rattle.std.specs.Prelude.{◌≡◌, None, Ok, IfSome, true, false};
+ghost use Rattle.awk_value.specs.Values.{str_of};
+ghost use Rattle.awk_value.specs.declared.value.Value.TheVariants.{Number};
+ghost use Rattle.awk_runtime.specs.support.Simulation.{Changes};
+ghost use Rattle.awk_storage.specs.declared.position.Place.TheVariants.{Element};
+ghost use Rattle.awk_storage.specs.Positions.{read_element_of, assign_by_at, post_increment_at};
+ghost use Rattle.awk_storage.specs.Forms.{contains_at};
+ghost use Rattle.awk_semantics.specs.Operators.{operator_of as assigned_by};
+ghost use Rattle.awk_runtime.specs.support.Updates.{Gives};
+ghost use Rattle.awk_runtime.specs.support.Calling.{kept_number};
+ghost use Rattle.awk_table.specs.Arrays.{value_at};
+ghost use Rattle.awk_storage.specs.support.Tables.{array_of};
+
+use crate::at_hand::{number_assigned, number_by, number_raised, set_number};
+use crate::runtime::Runtime;
+use awk_lex::token::{AssignmentOperator, IncrementOperator};
+use awk_semantics::Halt;
+use awk_storage::Array;
+use awk_value::Value;
+
+impl Runtime {
+    /// The element at the text of a key; `None` where it isn't there.
+    #[inline(never)]
+    pub fn element_at_hand(&self, array: Array, key: &Value) -> Option<Value>
+        ensures { IfSome result (λ value. Changes (read_element_of array (str_of key.now)) self.now self.now (Ok value)) }
+    {
+        let number = self.number_at(array);
+        let value = self.arrays.get(number as usize, key)?;
+        value.clone().ok()
+    }
+
+    /// Whether there is an element at the text of a key.
+    #[inline(always)]
+    pub fn has_element(&self, array: Array, key: &Value) -> bool
+        ensures { Changes (contains_at array (str_of key.now)) self.now self.now (Ok result) }
+    {
+        let number = self.number_at(array);
+        self.arrays.has(number as usize, key)
+    }
+
+    /// Gives an element a number, or what an operator makes of its number and of this one. `false`, and nothing changes, where that
+    /// isn't done where it stands.
+    #[inline(always)]
+    pub fn change_element(
+        &mut self,
+        operator: AssignmentOperator,
+        array: Array,
+        key: &Value,
+        n: i128,
+    ) -> bool
+        ensures changes { result ≡ true → Gives (assign_by_at self.old.names.scalars (assigned_by operator) (Element array) key.now (Number n)) self.old (Ok tt) self.new }
+        ensures kept { result ≡ false → self.new ≡ self.old }
+    {
+        match operator {
+            AssignmentOperator::Plain => self.put_number_in(array, key, n),
+            _ => self.change_number_in(operator, array, key, n),
+        }
+    }
+
+    /// Gives an element a number.
+    #[inline(never)]
+    fn put_number_in(&mut self, array: Array, key: &Value, n: i128) -> bool
+        ensures changes { result ≡ true → Gives (assign_by_at self.old.names.scalars (assigned_by AssignmentOperator.Plain) (Element array) key.now (Number n)) self.old (Ok tt) self.new }
+        ensures kept { result ≡ false → self.new ≡ self.old }
+    {
+        let number = self.number_at(array);
+        self.arrays
+            .put(number as usize, key, Value::Number(n))
+            .is_ok()
+    }
+
+    /// Gives an element that is there a number, or what an operator makes of its number and of this one.
+    #[inline(never)]
+    fn change_number_in(
+        &mut self,
+        operator: AssignmentOperator,
+        array: Array,
+        key: &Value,
+        n: i128,
+    ) -> bool
+        ensures changes { result ≡ true → Gives (assign_by_at self.old.names.scalars (assigned_by operator) (Element array) key.now (Number n)) self.old (Ok tt) self.new }
+        ensures kept { result ≡ false → self.new ≡ self.old }
+    {
+        let number = self.number_at(array);
+        let Some(place) = self.arrays.value_mut(number as usize, key) else {
+            return self.begin_number(operator, array, key, n);
+        };
+        let Some(new) = number_assigned(operator, place, n) else {
+            return false;
+        };
+        set_number(place, new);
+        true
+    }
+
+    /// Makes an element, which gets what an operator makes of no value and a number.
+    #[inline(never)]
+    fn begin_number(
+        &mut self,
+        operator: AssignmentOperator,
+        array: Array,
+        key: &Value,
+        n: i128,
+    ) -> bool
+        requires absent { value_at (array_of self.old.arrays (kept_number array self.old.frames)) (str_of key.now) ≡ None }
+        ensures changes { result ≡ true → Gives (assign_by_at self.old.names.scalars (assigned_by operator) (Element array) key.now (Number n)) self.old (Ok tt) self.new }
+        ensures kept { result ≡ false → self.new ≡ self.old }
+    {
+        let Some(new) = number_by(operator, 0, n) else {
+            return false;
+        };
+        let number = self.number_at(array);
+        self.arrays
+            .put(number as usize, key, Value::Number(new))
+            .is_ok()
+    }
+
+    /// Raises or lowers an element's number by 1. `false`, and nothing changes, where that isn't done where it stands.
+    #[inline(never)]
+    pub fn raise_element(&mut self, operator: IncrementOperator, array: Array, key: &Value) -> bool
+        ensures raises { result ≡ true → Gives (post_increment_at self.old.names.scalars operator (Element array) key.now) self.old (Ok tt) self.new }
+        ensures kept { result ≡ false → self.new ≡ self.old }
+    {
+        let number = self.number_at(array);
+        let Some(place) = self.arrays.value_mut(number as usize, key) else {
+            return self.begin_raised(operator, array, key);
+        };
+        let Some(new) = number_raised(operator, place) else {
+            return false;
+        };
+        set_number(place, new);
+        true
+    }
+
+    /// Makes an element, which gets the number that follows 0, or that stands before it.
+    #[inline(never)]
+    fn begin_raised(&mut self, operator: IncrementOperator, array: Array, key: &Value) -> bool
+        requires absent { value_at (array_of self.old.arrays (kept_number array self.old.frames)) (str_of key.now) ≡ None }
+        ensures raises { result ≡ true → Gives (post_increment_at self.old.names.scalars operator (Element array) key.now) self.old (Ok tt) self.new }
+        ensures kept { result ≡ false → self.new ≡ self.old }
+    {
+        let Some(new) = number_raised(operator, &Value::Number(0)) else {
+            return false;
+        };
+        let number = self.number_at(array);
+        self.arrays
+            .put(number as usize, key, Value::Number(new))
+            .is_ok()
+    }
+
+    /// Gives an element a value, which isn't read again.
+    pub fn assign_element(&mut self, array: Array, key: &Value, value: Value) -> Result<(), Halt>
+        ensures { Gives (assign_by_at self.old.names.scalars (assigned_by AssignmentOperator.Plain) (Element array) key.now value) self.old result self.new }
+    {
+        let number = self.number_at(array);
+        let value = value.settled(self.alloc)?;
+        self.arrays.put(number as usize, key, value)?;
+        Ok(())
+    }
+}
