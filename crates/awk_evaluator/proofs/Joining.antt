@@ -1,30 +1,34 @@
 -- What is done with operands that are read where they stand, in any way.
-use Rattle.std.proofs.Common.{◌≡◌, ℕ, List, ◌++◌, map, drop, None, Result, Ok, Err, refl, sym, ap, ◌∙◌, subst}
+use Rattle.std.proofs.Common.{◌≡◌, ◌<◌, ◌≤◌, ℕ, get_or, arith, List, [], ◌∷◌, ◌++◌, length, map, drop, None, Result, Ok, Err, refl, sym, ap, ◌∙◌, subst}
 use Rattle.std.specs.List.{concat}
+use Rattle.std.proofs.lemmas.List.{append-nil}
 use Rattle.awk_lex.specs.declared.token.AssignmentOperator.{AssignmentOperator}
+use Rattle.awk_lex.specs.declared.token.Operator.TheVariants.{Matches}
 use Rattle.awk_grammar.specs.declared.tree.BinaryOperator.{BinaryOperator}
+use Rattle.awk_grammar.specs.declared.tree.BinaryOperator.TheVariants.{Infix}
 use Rattle.awk_value.specs.declared.value.Value.{Value}
 use Rattle.awk_value.specs.declared.value.Value.TheVariants as value
 use Rattle.awk_value.specs.Values.{str_of}
 use Rattle.awk_semantics.specs.declared.halt.Halt.{Halt}
 use Rattle.awk_semantics.specs.State.{State, Run, ◌>>=◌, go_on, lift}
+use Rattle.awk_semantics.specs.Operators.{applied}
 use Rattle.awk_storage.specs.declared.position.Variable.{Variable}
 use Rattle.awk_storage.specs.declared.position.Place.TheVariants as place
 use Rattle.awk_storage.specs.Positions.{read_variable, read_at, assign_by_at}
 use Rattle.awk_compile.specs.declared.node.Operand.{Operand}
 use Rattle.awk_compile.specs.declared.node.ValueNode.TheVariants as v
-use Rattle.awk_compile.specs.Nodes.{first, taken, operated, operand_value, assign_variable, append_to}
+use Rattle.awk_compile.specs.Nodes.{first, second, taken, operated, operand_value, assign_variable, append_to}
 use Rattle.awk_compile.proofs.Calculus.{later_same}
 use Rattle.awk_runtime.specs.declared.runtime.Runtime.{Runtime}
 use Rattle.awk_runtime.specs.Naming.{Naming}
-use Rattle.awk_runtime.specs.Appends.{appended}
+use Rattle.awk_runtime.specs.Appends.{AppendsText, appended}
 use Rattle.awk_runtime.specs.Simulation.{Changes}
-use Rattle.awk_runtime.proofs.Composition.{then_changes, ends_changes}
+use Rattle.awk_runtime.proofs.Composition.{then_changes, ends_changes, lift_changes}
 use Rattle.awk_runtime.proofs.Steps.{same_changes}
 use Rattle.awk_evaluator.specs.declared.machine.Machine.{Machine}
 use Rattle.awk_evaluator.specs.Operands.{OperandsView}
-use Rattle.awk_evaluator.specs.Moves.{Computes}
-use Rattle.awk_evaluator.specs.Reading.{ReadsOperand, Runs}
+use Rattle.awk_evaluator.specs.Moves.{Computes, Done}
+use Rattle.awk_evaluator.specs.Reading.{ReadsOperand, Runs, Appends}
 use Rattle.awk_evaluator.proofs.Computing.{computed, ended}
 
 -- the same run, by the names that are the same
@@ -105,3 +109,49 @@ module _ (x : Variable) (ws : List Value) {m m1 : Runtime} {old : Value} (read :
 
   pub texts_not_joined : {h : Halt} → Changes (lift (Ok (value.Text (concat (map str_of ws))))) m1 m1 (Err h) → Changes (append_to m.names.scalars x ws) m m1 (Err h)
   texts_not_joined text = same_changes _ _ (λ s holds. append_as m.names.scalars x ws s) (then_changes _ read (ends_changes _ text))
+
+-- one text, where the variable's stands
+
+appended_alike : (names : List (List ℕ)) (x : Variable) (left v w : Value) → str_of v ≡ str_of w → appended names x left v ≡ appended names x left w
+appended_alike names x left v w e = ap (λ (t : List ℕ). lift (Ok (value.Text (str_of left ++ t))) >>= λ u. assign_by_at names None (place.Variable x) value.Nothing u) e
+
+one_appended : (x : Variable) (ws : List Value) {behind : Value} {m m' : Runtime} → ws ≡ behind ∷ [] → (a : AppendsText x behind m m') → Changes (append_to m.names.scalars x ws) m m' (Ok a.after)
+one_appended x ws {behind = behind} {m = m} {m' = m'} is a =
+    let text : Value = value.Text (concat (map str_of (behind ∷ []))) in
+    let put : Changes (appended m.names.scalars x a.before text) m m' (Ok a.after) = subst (λ (run : Run Value). Changes run m m' (Ok a.after)) (appended_alike m.names.scalars x a.before behind text (sym (append-nil (str_of behind)))) a.appends in
+    subst (λ (l : List Value). Changes (append_to m.names.scalars x l) m m' (Ok a.after)) (sym is) (texts_appended x (behind ∷ []) a.read (lift_changes (Ok text) m refl) put)
+
+taken_one : (vs : List Value) → 0 < length vs → taken 1 vs ≡ first vs ∷ []
+taken_one [] there = absurd (omega arith)
+taken_one (v ∷ vs) there = refl
+
+pub one_done : (x : Variable) (count : ℕ) {behind : Value} {m m' : Machine} → count ≡ 1 → behind ≡ first m.operands.values → 0 < length m.operands.values → AppendsText x behind m.runtime m'.runtime
+    → m'.operands ≡ record m.operands { values = drop 1 m.operands.values } → m'.calls ≡ m.calls → Done (λ r. Appends x count m r m') (Ok tt)
+one_done x count {m = m} {m' = m'} one top there a operands calls = record {
+  done = (
+    a.after,
+    subst (λ (n : ℕ). Appends x n m (Ok a.after) m') (sym one) record {
+      operands = operands;
+      calls = calls;
+      changes = one_appended x (taken 1 m.operands.values) (taken_one m.operands.values there ∙ ap (λ v. v ∷ []) (sym top)) a;
+    },
+  );
+}
+
+-- two operands that are read where they stand
+taken_two : (vs : List Value) (x y : Value) → taken 2 vs ≡ x ∷ (y ∷ []) → (second vs ≡ x) × (first vs ≡ y)
+taken_two [] x y e = absurd (cc)
+taken_two (a ∷ []) x y e = absurd (cc)
+taken_two (a ∷ (b ∷ vs)) x y e = (cc, cc)
+
+pub two_items : (vs : List Value) (x y : Value) → 2 ≤ length vs → length vs < 3 → x ≡ get_or vs 0 x → y ≡ get_or vs 1 y → vs ≡ x ∷ (y ∷ [])
+two_items [] x y low high e f = absurd (omega arith)
+two_items (a ∷ []) x y low high e f = absurd (omega arith)
+two_items (a ∷ (b ∷ [])) x y low high e f = cc
+two_items (a ∷ (b ∷ (d ∷ vs))) x y low high e f = absurd (omega arith)
+
+module _ {m m' : Machine} {text pattern : Value} (two : taken 2 m.operands.values ≡ text ∷ (pattern ∷ [])) where
+  pub match_ends : {h : Halt} → Changes (lift (applied Matches text pattern)) m.runtime m'.runtime (Err h) → Computes (v.Operate (Infix Matches)) m (Err h) m'
+  match_ends e =
+      let both = taken_two m.operands.values text pattern two in
+      ended _ (λ tables functions. rw (both.0, both.1) e)

@@ -1,6 +1,6 @@
 // What nodes do that give no value: what a node takes is taken off the operands.
 
-ghost use Rattle.std.specs.Prelude.{None as NoneOf, Some as SomeOf};
+ghost use Rattle.std.specs.Prelude.{◌≡◌, None as NoneOf, Some as SomeOf};
 ghost use Rattle.awk_runtime.specs.Simulation.{IsReady};
 ghost use Rattle.awk_compile.specs.declared.node.EffectNode.TheVariants.{Delete, Print, SetStatus};
 ghost use Rattle.awk_evaluator.specs.Moves.{Acts, Performs, came};
@@ -27,8 +27,42 @@ impl Machine {
                 self.operands.pop();
                 true
             }
+            EffectNode::Print(PrintForm::Print, 0, None) => self.print_record(world, node),
+            EffectNode::Print(PrintForm::Print, count, None) => {
+                self.print_values(world, node, *count)
+            }
             _ => self.perform_other(world, node),
         }
+    }
+
+    // Prints the record to standard output.
+    #[inline(always)]
+    fn print_record<W: World>(&mut self, world: &mut W, node: &EffectNode) -> bool
+        requires print { node.now ≡ Print PrintForm.Print 0 NoneOf }
+        requires ready { IsReady W.is_logged (W.state world.old) self.old.runtime.streams }
+        ensures ready { IsReady W.is_logged (W.state world.new) self.new.runtime.streams }
+        ensures performs { Performs W.is_logged node.now self.old (W.state world.old) (came result self.new) self.new (W.state world.new) }
+    {
+        if self.runtime.hold_record(world) {
+            return true;
+        }
+        self.perform_other(world, node)
+    }
+
+    // Prints so many operands as a line to standard output.
+    #[inline(never)]
+    fn print_values<W: World>(&mut self, world: &mut W, node: &EffectNode, count: u32) -> bool
+        requires print { node.now ≡ Print PrintForm.Print count NoneOf }
+        requires ready { IsReady W.is_logged (W.state world.old) self.old.runtime.streams }
+        ensures ready { IsReady W.is_logged (W.state world.new) self.new.runtime.streams }
+        ensures performs { Performs W.is_logged node.now self.old (W.state world.old) (came result self.new) self.new (W.state world.new) }
+    {
+        let values = self.operands.newest(count as usize);
+        if !self.runtime.hold_values(world, values) {
+            return self.perform_other(world, node);
+        }
+        self.operands.drop(count as usize);
+        true
     }
 
     /// The same of what isn't done in line.

@@ -1,7 +1,11 @@
 // The value of a node that calls no function of the program.
 
+ghost use Rattle.std.specs.Prelude.{◌≡◌};
+ghost use Rattle.awk_lex.specs.declared.token.Operator.TheVariants.{Matches};
+ghost use Rattle.awk_grammar.specs.declared.tree.BinaryOperator.TheVariants.{Infix};
 ghost use Rattle.awk_runtime.specs.Simulation.{IsReady};
 ghost use Rattle.awk_compile.specs.declared.node.Node.TheVariants.{Value as ValueAt};
+ghost use Rattle.awk_compile.specs.declared.node.ValueNode.TheVariants.{Operate};
 ghost use Rattle.awk_compile.specs.Nodes.{CallsFit};
 ghost use Rattle.awk_compile.specs.Plans.{array_parameters};
 ghost use Rattle.awk_evaluator.specs.Rest.{IsSound, AtNode};
@@ -12,6 +16,8 @@ use crate::moves::function_of;
 use awk_channels::World;
 use awk_compile::Plan;
 use awk_compile::node::ValueNode;
+use awk_grammar::tree::BinaryOperator;
+use awk_lex::token::Operator;
 use awk_semantics::Halt;
 use awk_value::Value;
 
@@ -34,7 +40,33 @@ impl Machine {
         if self.put_quickly(node) {
             return Move::On(next);
         }
+        if let ValueNode::Operate(BinaryOperator::Infix(Operator::Matches)) = node {
+            return self.put_match(world, plan, node, next);
+        }
         self.put_any_value(world, plan, node, next)
+    }
+
+    /// The same of whether an operand matches a pattern.
+    #[inline(never)]
+    fn put_match<W: World>(
+        &mut self,
+        world: &mut W,
+        plan: &Plan,
+        node: &ValueNode,
+        next: u32,
+    ) -> Move
+        requires is_match { node.now ≡ Operate (Infix Matches) }
+        requires sound { IsSound plan.now }
+        requires calls { CallsFit (array_parameters plan.now.functions.items) (ValueAt node.now next) }
+        requires ready { IsReady W.is_logged (W.state world.old) self.old.runtime.streams }
+        ensures ready { IsReady W.is_logged (W.state world.new) self.new.runtime.streams }
+        ensures moves { Moves W.is_logged plan.now (AtNode (ValueAt node.now next)) self.old (W.state world.old) result self.new (W.state world.new) }
+    {
+        match self.match_operands() {
+            Ok(true) => Move::On(next),
+            Ok(false) => self.put_any_value(world, plan, node, next),
+            Err(halt) => self.halt_by(halt),
+        }
     }
 
     /// The same of a value that isn't at hand.

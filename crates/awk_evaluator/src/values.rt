@@ -1,10 +1,13 @@
 // The values of nodes over the state alone: what a node takes is taken off the operands, and its value is given.
 
-ghost use Rattle.std.specs.Prelude.{◌≡◌};
+ghost use Rattle.std.specs.Prelude.{◌≡◌, true, false, Ok, Err, IfErr};
 ghost use Rattle.awk_compile.specs.Nodes.{operands};
 ghost use Rattle.awk_compile.specs.declared.node.ValueNode.TheVariants.{Push, Read, RecordMatches, Operate, ConcatenateAll, MatchesEre, Change, ReadField, ReadElement, Contains, Key, FieldNumber, Assign, Append, PreIncrement, PostIncrement, Load, RecordLength, CountElements, IsInside, Apply};
 ghost use Rattle.awk_evaluator.specs.Moves.{Computes, Done, came};
 ghost use Rattle.awk_evaluator.specs.Reading.{Appends};
+ghost use Rattle.awk_evaluator.specs.Quick.{Puts};
+ghost use Rattle.awk_grammar.specs.declared.tree.BinaryOperator.TheVariants.{Infix};
+ghost use Rattle.awk_lex.specs.declared.token.Operator.TheVariants.{Matches};
 
 use crate::machine::Machine;
 use awk_functions::{operator_of, truth_value};
@@ -59,6 +62,23 @@ impl Machine {
             BinaryOperator::Concatenate => self.runtime.concatenate(left, &right),
             BinaryOperator::Infix(operator) => self.runtime.apply(operator, &left, &right),
         }
+    }
+
+    /// Puts whether an operand matches the pattern that the one above it spells in the place of both. They are read where they stand.
+    /// `false`, and nothing changes, where there aren't two.
+    #[inline(always)]
+    pub(crate) fn match_operands(&mut self) -> Result<bool, Halt>
+        ensures puts { result ≡ Ok true → Puts (Operate (Infix Matches)) self.old self.new }
+        ensures kept { result ≡ Ok false → self.new ≡ self.old }
+        ensures ended { IfErr result (λ halt. Computes (Operate (Infix Matches)) self.old (Err halt) self.new) }
+    {
+        let [text, pattern] = self.operands.newest(2) else {
+            return Ok(false);
+        };
+        let holds = self.runtime.matches(text, pattern)?;
+        drop(self.operands.pop());
+        self.operands.replace(truth_value(holds));
+        Ok(true)
     }
 
     /// Whether an operand matches an ERE of the program, or doesn't.
@@ -164,6 +184,41 @@ impl Machine {
 
     /// Gives a variable its text with those of so many operands behind it.
     pub(crate) fn append_texts(&mut self, variable: &Variable, count: u32) -> bool
+        ensures { Done (λ r. Appends variable.now count self.old r self.new) (came result self.new) }
+    {
+        match self.append_one(variable, count) {
+            Ok(true) => true,
+            Ok(false) => self.append_any(variable, count),
+            Err(halt) => {
+                self.halt = halt;
+                false
+            }
+        }
+    }
+
+    /// The same of one operand, where the variable's text grows where it stands: whether it does, and else nothing changes.
+    #[inline(always)]
+    fn append_one(&mut self, variable: &Variable, count: u32) -> Result<bool, Halt>
+        ensures appended { result ≡ Ok true → Done (λ r. Appends variable.now count self.old r self.new) (Ok tt) }
+        ensures kept { result ≡ Ok false → self.new ≡ self.old }
+        ensures refused { IfErr result (λ halt. Appends variable.now count self.old (Err halt) self.new) }
+    {
+        if count != 1 {
+            return Ok(false);
+        }
+        let Some(behind) = self.operands.top() else {
+            return Ok(false);
+        };
+        if !self.runtime.append_in_place(variable, behind)? {
+            return Ok(false);
+        }
+        self.operands.pop();
+        Ok(true)
+    }
+
+    /// The same of any operands, and of any variable.
+    #[inline(never)]
+    fn append_any(&mut self, variable: &Variable, count: u32) -> bool
         ensures { Done (λ r. Appends variable.now count self.old r self.new) (came result self.new) }
     {
         let appended = self.append_all(*variable, count as usize);

@@ -1,4 +1,3 @@
-mod Kept
 mod PatternFinds
 mod ReadsFor
 pub mod Orders

@@ -1,7 +1,8 @@
 // The texts of several values as one.
 
-ghost use Rattle.std.specs.Prelude.{◌≡◌, ◌++◌, map, OnOk, IfOk, IfErr};
+ghost use Rattle.std.specs.Prelude.{◌≡◌, ◌++◌, map, length, take, false, true, OnOk, IfOk, IfErr, if◌then◌else◌};
 ghost use Rattle.std.specs.List.{concat};
+ghost use Rattle.std.specs.Fmt.{signed_decimal};
 ghost use Rattle.awk_value.specs.Values.{str_of};
 ghost use Rattle.awk_semantics.specs.Operators.{line_of, join, join_rest};
 ghost use Rattle.awk_semantics.specs.Results.{IsWantOfMemory};
@@ -72,6 +73,100 @@ pub fn make_line(
     join(line, values, between)?;
     append_text(behind, line)?;
     Ok(())
+}
+
+// Appends bytes, which often are but one, to a line that may grow up to this length in its memory: whether they have room there.
+#[inline(always)]
+fn put_bytes(line: &mut Vec<u8>, end: usize, bytes: &[u8]) -> bool
+    ensures { line.new.items ≡ (if result then line.old.items ++ bytes.now else line.old.items) }
+{
+    let room = end.min(line.capacity()).saturating_sub(line.len());
+    if bytes.len() > room {
+        return false;
+    }
+    match bytes {
+        [byte] => line.push_reserved(*byte),
+        bytes => return line.extend_from_slice(bytes).is_ok(),
+    }
+    true
+}
+
+// The same of the decimal form of a number.
+#[inline(never)]
+fn put_number(line: &mut Vec<u8>, end: usize, number: i128) -> bool
+    ensures { line.new.items ≡ (if result then line.old.items ++ signed_decimal number else line.old.items) }
+{
+    let mut digits = Buffer::new();
+    put_bytes(line, end, digits.format(number).as_bytes())
+}
+
+// The same of the text of a value.
+#[inline(always)]
+fn put_text(line: &mut Vec<u8>, end: usize, value: &Value) -> bool
+    ensures { line.new.items ≡ (if result then line.old.items ++ str_of value.now else line.old.items) }
+{
+    match value {
+        Value::Nothing => true,
+        Value::Number(number) => put_number(line, end, *number),
+        Value::Text(text) | Value::Input(text) => put_bytes(line, end, text.as_slice()),
+    }
+}
+
+// Appends the text of each value behind the separator, as far as they have room: whether all have.
+#[inline(always)]
+fn put_rest(line: &mut Vec<u8>, end: usize, values: &[Value], between: &[u8]) -> bool
+    ensures text { result ≡ true → line.new.items ≡ line.old.items ++ join_rest between.now (map str_of values.now) }
+    ensures front { take (length line.old.items) line.new.items ≡ line.old.items }
+{
+    for value in values {
+        if !put_bytes(line, end, between) {
+            return false;
+        }
+        if !put_text(line, end, value) {
+            return false;
+        }
+    }
+    true
+}
+
+// Appends the texts of the values, each but the first behind the separator, as far as they have room: whether all have.
+#[inline(always)]
+fn put_all(line: &mut Vec<u8>, end: usize, values: &[Value], between: &[u8]) -> bool
+    ensures text { result ≡ true → line.new.items ≡ line.old.items ++ join between.now (map str_of values.now) }
+    ensures front { take (length line.old.items) line.new.items ≡ line.old.items }
+{
+    match values {
+        [] => true,
+        [first, others @ ..] => {
+            if !put_text(line, end, first) {
+                return false;
+            }
+            put_rest(line, end, others, between)
+        }
+    }
+}
+
+/// Appends the line that a print of the values prints, by these separators, where it takes no more than so many bytes, and no
+/// memory. `false` where it does, and then nothing changes. (POSIX awk, Output Statements)
+#[inline]
+pub fn append_line(
+    line: &mut Vec<u8>,
+    room: usize,
+    values: &[Value],
+    between: &[u8],
+    behind: &[u8],
+) -> bool
+    ensures { line.new.items ≡ (if result then line.old.items ++ line_of between.now behind.now values.now else line.old.items) }
+{
+    let start = line.len();
+    let end = start.saturating_add(room);
+    if put_all(line, end, values, between) {
+        if put_bytes(line, end, behind) {
+            return true;
+        }
+    }
+    line.truncate(start);
+    false
 }
 
 /// The texts of two values, one behind the other, as a text that was made, which is written once. The only fault is want of

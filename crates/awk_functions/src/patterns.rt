@@ -1,6 +1,6 @@
 // The patterns of a run, each of which is read once.
 
-ghost use Rattle.std.specs.Prelude.{◌≡◌, ◌<◌, ◌≤◌, length, vec_len, false, Ok, IfSome, IfOk, IfErr, OnOk};
+ghost use Rattle.std.specs.Prelude.{◌≡◌, ◌<◌, ◌≤◌, length, get_or, vec_len, false, Ok, IfSome, IfOk, IfErr, OnOk};
 ghost use Rattle.awk_value.specs.Values.{str_of};
 ghost use Rattle.awk_ere.specs.Means.{pattern_of};
 ghost use Rattle.awk_text.specs.Pieces.{stretches_at, AreSpansOf};
@@ -24,8 +24,11 @@ use lru::LruCache;
 use std::alloc::{AllocFailed, Global};
 use std::num::NonZeroUsize;
 
-/// How many patterns are kept that don't stand in the program.
+/// How many patterns are kept that don't stand in the program, besides the newest.
 const CACHED: usize = 64;
+
+/// How many of the newest are kept, which are found without a hash.
+const NEWEST: usize = 8;
 
 /// What spells a pattern: an ERE of the program, by its number and the text between its slashes, or a value by its text
 /// (POSIX awk, Regular Expressions).
@@ -48,13 +51,42 @@ fn reserve_place<T: Drop>(
     Ok(())
 }
 
+// The bytes of a value's text. Those of a number are written into the buffer.
+#[inline(always)]
+fn bytes_in<'a>(value: &'a Value, buffer: &'a mut Buffer) -> &'a [u8]
+    ensures { result.now ≡ str_of value.now }
+{
+    match value {
+        Value::Text(text) | Value::Input(text) => text.as_slice(),
+        value => text_in(value, buffer),
+    }
+}
+
+// The place of the pattern that a text spells, where it is among these.
+#[inline]
+fn place_of(patterns: &[Compiled], text: &[u8]) -> Option<usize>
+    ensures place { IfSome result (λ place. place < length patterns.now) }
+    ensures text { IfSome result (λ place. (other : Compiled) → (get_or patterns.now place other).text ≡ text.now) }
+{
+    let length = text.len();
+    for place in 0..patterns.len() {
+        let kept = &patterns[place].text;
+        if kept.len() == length && kept.as_slice() == text {
+            return Some(place);
+        }
+    }
+    None
+}
+
 /// The patterns that were read in a run.
 #[derive(Drop)]
 pub struct Patterns {
     alloc: Global,
     // those that stand in the program, by their numbers
     fixed: Vec<Option<Compiled>>,
-    // the last that were used of the others, by their texts
+    // the last that were read of the others, in the order in which they were
+    newest: Vec<Compiled>,
+    // those that were read before, and of them the last that were used, by their texts
     cached: LruCache<Vec<u8>, Compiled>,
     // the last separator that is no pattern
     separator: FieldSeparator,
@@ -72,6 +104,7 @@ impl Patterns {
         Ok(Patterns {
             alloc,
             fixed: Vec::new(alloc),
+            newest: Vec::new(alloc),
             cached: LruCache::new(alloc, room)?,
             separator,
             reads: 0,
@@ -108,7 +141,19 @@ impl Patterns {
     }
 
     // The pattern that a text spells. It is read where it isn't among those that were used last.
+    #[inline(always)]
     fn cached_pattern(&mut self, text: &[u8]) -> Result<&mut Compiled, Halt>
+        ensures { ReadsFor text.now (λ c. c.now.text) result }
+    {
+        match place_of(self.newest.as_slice(), text) {
+            Some(place) => Ok(&mut self.newest[place]),
+            None => self.older_pattern(text),
+        }
+    }
+
+    // The same of a text that spells none of the newest.
+    #[inline(never)]
+    fn older_pattern(&mut self, text: &[u8]) -> Result<&mut Compiled, Halt>
         ensures { ReadsFor text.now (λ c. c.now.text) result }
     {
         if let Some(kept) = self.cached.get_mut(text) {
@@ -117,12 +162,27 @@ impl Patterns {
             }
         }
         let compiled = self.read(Bytes::from_slice(self.alloc, text)?)?;
-        let key = Vec::from_slice(self.alloc, text)?;
-        self.cached.put(key, compiled)?;
-        Ok(self.cached.get_mut(text).unwrap())
+        self.make_room()?;
+        let place = self.newest.len();
+        self.newest.push(compiled)?;
+        Ok(&mut self.newest[place])
+    }
+
+    // Puts the oldest of the newest among those that were read before, where there are as many as are kept.
+    fn make_room(&mut self) -> Result<(), Halt>
+        ensures { IfErr result IsWantOfMemory }
+    {
+        if self.newest.len() < NEWEST {
+            return Ok(());
+        }
+        let oldest = self.newest.remove(0);
+        let key = Vec::from_slice(self.alloc, oldest.text.as_slice())?;
+        self.cached.put(key, oldest)?;
+        Ok(())
     }
 
     /// The pattern that an operand spells.
+    #[inline(always)]
     pub fn pattern_for(&mut self, operand: PatternOperand) -> Result<&mut Compiled, Halt>
         ensures { ReadsFor (spelling_of operand.entry) (λ c. c.now.text) result }
     {
@@ -130,7 +190,7 @@ impl Patterns {
             PatternOperand::Ere(number, text) => self.fixed_pattern(number, text),
             PatternOperand::Value(value) => {
                 let mut digits = Buffer::new();
-                self.cached_pattern(text_in(value, &mut digits))
+                self.cached_pattern(bytes_in(value, &mut digits))
             }
         }
     }
@@ -194,7 +254,7 @@ impl Patterns {
     {
         let pattern = self.pattern_for(operand)?;
         let mut digits = Buffer::new();
-        Ok(pattern.is_match(text_in(text, &mut digits)))
+        Ok(pattern.is_match(bytes_in(text, &mut digits)))
     }
 
     /// The first match of the pattern of an operand in a value's text, and of those that begin there the longest. The faults

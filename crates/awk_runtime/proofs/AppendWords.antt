@@ -23,10 +23,10 @@ use Rattle.awk_storage.specs.Positions.{newest_locals, put_local, put_slot, put_
 use Rattle.awk_runtime.specs.declared.runtime.Runtime.{Runtime}
 use Rattle.awk_runtime.specs.support.Simulation.{OwnRelation, StreamsRelation, StateRelation, ResultRelationBy, ResultRelation, Changes}
 use Rattle.awk_runtime.specs.support.Naming.{Naming, AreOwn}
-use Rattle.awk_runtime.specs.support.Appends.{appended, LetsGo}
+use Rattle.awk_runtime.specs.support.Appends.{appended, LetsGo, AppendsText}
 use Rattle.awk_runtime.proofs.Composition.{then_changes, ends_changes, lift_changes}
 use Rattle.awk_runtime.proofs.Steps.{same_changes}
-use Rattle.awk_runtime.proofs.VariableWords.{SameButVariables, SameButFrames, plain, slot_given, frames_after, with_local-is, local_given}
+use Rattle.awk_runtime.proofs.VariableWords.{SameButVariables, SameButFrames, plain, slot_read, slot_given, frames_after, with_local-is, local_given}
 use Rattle.awk_runtime.proofs.PlaceWords.{get-set}
 
 -- the same, with values of variables that are spelled in another way
@@ -188,3 +188,17 @@ module _ (x : Variable) (left right : Value) {old mid : Runtime} (free : LetsGo 
   is_appended {later = later} {new = new} {r = r} put read =
       let put' = free.puts text put in
       then_changes _ (lift_changes (Ok text) old refl) (then_changes _ put' (subst (λ (n : Naming). Changes (read_variable n.scalars x) later new r) put'.names read))
+
+-- a text that grows where it stands
+pub slot_appended : (i : ℕ) (before behind : Value) {old new : Runtime} → slice_get old.globals.items i ≡ Some before → AreOwn old.names.scalars → AreDistinct old.names.scalars → new.globals.items ≡ set old.globals.items i (value.Text (str_of before ++ str_of behind)) → new.specials ≡ old.specials → SameButVariables old new → AppendsText (variable.Global i) behind old new
+slot_appended i before behind {old = old} {new = new} at own distinct put specials same =
+    let after : Value = value.Text (str_of before ++ str_of behind) in
+    let within = slice_get_within old.globals.items i before at in
+    record {
+      before = before;
+      read = slot_read i old own at;
+      after = after;
+      appends = is_appended (variable.Global i) before behind (keeps_hold (variable.Global i) old)
+          (slot_given i after within own distinct put specials same)
+          (slot_read i new (subst (λ (n : Naming). AreOwn n.scalars) (sym same.names) own) (ap (λ l. slice_get l i) put ∙ get-set old.globals.items i after within));
+    }

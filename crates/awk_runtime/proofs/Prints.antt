@@ -1,5 +1,6 @@
 -- What printing does to the state of a run.
-use Rattle.std.proofs.Common.{rules, map, ◌≡◌, ◌==◌, true, ℕ, List, [], ◌∷◌, ◌++◌, length, Option, Some, Result, Ok, Err, IfErr, inl, inr, refl, sym, ap, ◌∙◌, subst, arith}
+use Rattle.std.proofs.Common.{rules, map, ◌≡◌, ◌==◌, Bool, true, false, ℕ, List, [], ◌∷◌, ◌++◌, length, Option, Some, Result, Ok, Err, IfErr, inl, inr, refl, sym, ap, ◌∙◌, subst, arith}
+use Rattle.std.specs.Prelude.{if◌then◌else◌}
 use Rattle.awk_value.specs.declared.value.Value.{Value}
 use Rattle.awk_value.specs.Values.{str_of}
 use Rattle.awk_channels.specs.declared.fault.StreamFault.{StreamFault}
@@ -13,7 +14,7 @@ use Rattle.awk_channels.specs.Oracle.{Oracle}
 use Rattle.awk_channels.specs.Writes.{Writes}
 use Rattle.awk_channels.specs.Openings.{Opening, Begins}
 use Rattle.awk_channels.specs.Outputs.{IsOutputFault}
-use Rattle.awk_channels.specs.Streams.{StreamsView, printed_openings, opening_at}
+use Rattle.awk_channels.specs.Streams.{StreamsView, AreOpen, AreSound, printed_openings, opening_at}
 use Rattle.awk_channels.specs.NamedOutputs.{Prints}
 use Rattle.awk_semantics.specs.declared.halt.Halt.{Halt}
 use Rattle.awk_semantics.specs.declared.halt.Halt.TheVariants as halt
@@ -22,6 +23,8 @@ use Rattle.awk_semantics.specs.State.{Effect, Printed, State, Run, ◌>>=◌, li
 use Rattle.awk_semantics.specs.Results.{sort_of, YieldsBy}
 use Rattle.awk_semantics.specs.Operators.{line_of, join}
 use Rattle.awk_semantics.specs.Primitives.{print_bytes, print_line, format_values}
+use Rattle.awk_semantics.specs.Semantics.{Functions, print_by}
+use Rattle.awk_grammar.specs.declared.tree.PrintForm.TheVariants as form
 use Rattle.awk_semantics.specs.Meaning.{with_bytes, outputs_after}
 use Rattle.awk_semantics.specs.Order.{AreBetween, GoesBetween, first_stage}
 use Rattle.awk_variables.specs.declared.special.Special.TheVariants.{Ofs, Ors}
@@ -133,6 +136,23 @@ values_printed r to vs bytes {old = old} {new = new} {before = before} {after = 
 pub line_of_text : (between behind text end : List ℕ) (vs : List Value) → join between (map str_of vs) ≡ text → behind ≡ end → text ++ end ≡ line_of between behind vs
 line_of_text between behind text end vs is ends = rw (is, ends) refl
 
+pub line_between : (between between' behind behind' : List ℕ) (vs : List Value) → between ≡ between' → behind ≡ behind' → line_of between behind vs ≡ line_of between' behind' vs
+line_between between between' behind behind' vs e f = ap (λ l. line_of l behind vs) e ∙ ap (λ l. line_of between' l vs) f
+
+-- what was put behind what was held back
+pub held_behind : (b : Bool) (held line front new : List ℕ) → b ≡ true → held ≡ front → new ≡ (if b then held ++ line else held) → new ≡ front ++ line
+held_behind true held line front new holds lent is = is ∙ ap (λ l. l ++ line) lent
+held_behind false held line front new holds lent is = absurd (cc)
+
+-- a print behind what was held back, which was lent
+pub lent_printed : (k : WorldState) (s lent new : StreamsView) (bytes : List ℕ) → lent ≡ record s { output = [] }
+    → (AreOpen k record lent { output = s.output } → AreSound k record lent { output = s.output } → Prints target.StandardOutput bytes k record lent { output = s.output } (Ok tt) k new)
+    → AreOpen k s → AreSound k s → Prints target.StandardOutput bytes k s (Ok tt) k new
+lent_printed k s lent new bytes rest told open' sound =
+    let back : record lent { output = s.output } ≡ s = ap (λ (v : StreamsView). record v { output = s.output }) rest in
+    subst (λ (v : StreamsView). Prints target.StandardOutput bytes k v (Ok tt) k new) back
+    (told (subst (λ (v : StreamsView). AreOpen k v) (sym back) open') (subst (λ (v : StreamsView). AreSound k v) (sym back) sound))
+
 -- want of memory before a print
 pub unprinted : {is_logged : Type 0} (to : Target) (run : ℕ → Run (Unit {0})) {old new : Runtime} {k : WorldState} → SameState old new → PrintsTo is_logged to run old k new k (Err (halt.Fault faults.OutOfMemory))
 unprinted to run {old = old} {new = new} {k = k} same = record {
@@ -199,3 +219,9 @@ not_opened run p = record { simulates = record { steps = p.steps; names = p.name
 pub no_values : (vs : List Value) → (length vs == 0) ≡ true → vs ≡ []
 no_values [] e = refl
 no_values (v ∷ vs) e = absurd (search (rules, e))
+
+-- and else they are the line
+pub some_values : {is_logged : Type 0} (to : Target) (functions : Functions) (vs : List Value) {old new : Runtime} {before after : WorldState} {r : Result (Unit {0}) Halt} → (length vs == 0) ≡ false
+    → PrintsTo is_logged to (λ n. print_line n vs) old before new after r → PrintsTo is_logged to (λ n. print_by functions form.Print n vs) old before new after r
+some_values to functions [] e p = absurd (search (rules, e))
+some_values to functions (v ∷ vs) e p = p

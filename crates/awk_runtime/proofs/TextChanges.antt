@@ -103,6 +103,15 @@ text_read same e =
 pub match_test : {old new : Runtime} (v : Value) {spelling ere : List ℕ} (c : Result Bool Halt) → spelling ≡ ere → SameState old new → Yields c (matched (pattern_in spelling) (str_of v)) → Changes (lift (applied Matches v (value.Text ere))) old new (mapped truth_value c)
 match_test v c is same e = lift_spelled (λ p. applied Matches v (value.Text p)) is same (test_yields (λ b. b) _ (str_of v) c e)
 
+-- whether it gives 1, and a fault
+pub match_holds : {run : Run Value} {old new : Runtime} (c : Result Bool Halt) → Changes run old new (mapped truth_value c) → IfOk c (λ b. Changes run old new (Ok (truth_value b)))
+match_holds (Ok b) h = h
+match_holds (Err reason) h = tt
+
+pub match_refused : {run : Run Value} {old new : Runtime} (c : Result Bool Halt) → Changes run old new (mapped truth_value c) → IfErr c (λ reason. Changes run old new (Err reason))
+match_refused (Ok b) h = tt
+match_refused (Err reason) h = h
+
 pub mismatch_test : {old new : Runtime} (v : Value) {spelling ere : List ℕ} (c : Result Bool Halt) → spelling ≡ ere → SameState old new → Yields c (matched (pattern_in spelling) (str_of v)) → Changes (lift (applied NotMatches v (value.Text ere))) old new (mapped (λ b. truth_value (not b)) c)
 mismatch_test v c is same e = lift_spelled (λ p. applied NotMatches v (value.Text p)) is same (test_yields not _ (str_of v) c e)
 

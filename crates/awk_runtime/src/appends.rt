@@ -1,13 +1,16 @@
 // Texts that are appended to variables.
 
-ghost use Rattle.awk_runtime.specs.support.Appends.{LetsGo, appended};
+ghost use Rattle.std.specs.Prelude.{◌≡◌, true, false, Ok, Err, IfErr};
+ghost use Rattle.awk_value.specs.declared.value.Value.{Value as AnyValue};
+ghost use Rattle.awk_semantics.specs.State.{Run};
+ghost use Rattle.awk_runtime.specs.support.Appends.{LetsGo, AppendsText, appended};
 ghost use Rattle.awk_runtime.specs.support.Simulation.{Changes};
 
 use crate::runtime::Runtime;
 use awk_functions::append;
 use awk_semantics::Halt;
 use awk_storage::Variable;
-use awk_value::Value;
+use awk_value::{Value, concatenate_in_place};
 
 impl Runtime {
     /// Gives a variable the text of a value that it held, with that of another one behind it; gives what it then holds. The text
@@ -25,6 +28,27 @@ impl Runtime {
         let text = append(self.alloc, left, right)?;
         self.put_variable(variable, text)?;
         self.read_variable(variable)
+    }
+
+    /// Appends the text of a value to that of what a variable of the program holds, where it stands: whether it is such a variable,
+    /// and else nothing changes. A text that was made grows in its own memory, where nothing shares it. The fault is F1. (POSIX awk,
+    /// Expressions in awk: string concatenation)
+    #[inline(always)]
+    pub fn append_in_place(&mut self, variable: &Variable, behind: &Value) -> Result<bool, Halt>
+        ensures appends { result ≡ Ok true → AppendsText variable.now behind.now self.old self.new }
+        ensures kept { result ≡ Ok false → self.new ≡ self.old }
+        ensures refused { IfErr result (λ halt. (run : Run AnyValue) → Changes run self.old self.new (Err halt)) }
+    {
+        let Variable::Global(slot) = variable else {
+            return Ok(false);
+        };
+        self.names.law_of_slots();
+        let slot = *slot as usize;
+        if slot >= self.globals.len() {
+            return Ok(false);
+        }
+        concatenate_in_place(self.alloc, &mut self.globals[slot], behind)?;
+        Ok(true)
     }
 
     /// Lets go of what a variable of the program or a parameter holds, before it is given a value.

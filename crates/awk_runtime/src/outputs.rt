@@ -15,7 +15,7 @@ ghost use Rattle.awk_runtime.specs.support.Printing.{standard_named, print_at, P
 
 use crate::runtime::Runtime;
 use awk_channels::{Mode, OutputKind, Target, World};
-use awk_functions::make_line;
+use awk_functions::{append_line, make_line};
 use awk_grammar::tree::{PrintForm, Redirection};
 use awk_semantics::Halt;
 use awk_value::{Bytes, Value, text_of};
@@ -71,6 +71,61 @@ impl Runtime {
             (W.state world.old) self.new (W.state world.new) result }
     {
         self.print_by(world, Target::StandardOutput, form, values)
+    }
+
+    /// Prints the record as a line to standard output, where its text and that of ORS are at hand and can be held back as they stand:
+    /// what `print` does then, and nothing is asked of the world. `false`, and nothing changes, elsewhere. (POSIX awk, Output
+    /// Statements)
+    #[inline(always)]
+    pub fn hold_record<W: World>(&mut self, world: &W) -> bool
+        requires ready { IsReady W.is_logged (W.state world.now) self.old.streams }
+        ensures ready { IsReady W.is_logged (W.state world.now) self.new.streams }
+        ensures kept { result ≡ false → self.new ≡ self.old }
+        ensures follows { result ≡ true → (functions : Functions) → Follows W.is_logged (print_at functions (ret 0) PrintForm.Print []) self.old
+            (W.state world.now) self.new (W.state world.now) (Ok tt) }
+    {
+        let Some(text) = self.current.text_at_hand() else {
+            return false;
+        };
+        let Some(end) = text_at_hand(self.specials.special(Special::Ors)) else {
+            return false;
+        };
+        let size = world.output_buffer_size();
+        self.streams.hold(size, text.as_slice(), end.as_slice())
+    }
+
+    /// Prints the values as a line to standard output, where it can be held back with no memory: what `print` does then, and nothing
+    /// is asked of the world. `false`, and nothing changes, elsewhere. (POSIX awk, Output Statements)
+    #[inline(always)]
+    pub fn hold_values<W: World>(&mut self, world: &W, values: &[Value]) -> bool
+        requires ready { IsReady W.is_logged (W.state world.now) self.old.streams }
+        ensures ready { IsReady W.is_logged (W.state world.now) self.new.streams }
+        ensures kept { result ≡ false → self.new ≡ self.old }
+        ensures follows { result ≡ true → (functions : Functions) → Follows W.is_logged (print_at functions (ret 0) PrintForm.Print values.now) self.old
+            (W.state world.now) self.new (W.state world.now) (Ok tt) }
+    {
+        !values.is_empty() && self.hold_line(world, values)
+    }
+
+    // The same of a line of the values, of which there may be none.
+    #[inline(always)]
+    fn hold_line<W: World>(&mut self, world: &W, values: &[Value]) -> bool
+        requires ready { IsReady W.is_logged (W.state world.now) self.old.streams }
+        ensures ready { IsReady W.is_logged (W.state world.now) self.new.streams }
+        ensures kept { result ≡ false → self.new ≡ self.old }
+        ensures prints { result ≡ true → PrintsTo W.is_logged Target.StandardOutput (λ n. print_line n values.now) self.old (W.state world.now)
+            self.new (W.state world.now) (Ok tt) }
+    {
+        let Some(between) = text_at_hand(self.specials.special(Special::Ofs)) else {
+            return false;
+        };
+        let Some(end) = text_at_hand(self.specials.special(Special::Ors)) else {
+            return false;
+        };
+        let (mut held, room) = self.streams.lend_output(world.output_buffer_size());
+        let holds = append_line(&mut held, room, values, between.as_slice(), end.as_slice());
+        self.streams.take_output_back(held);
+        holds
     }
 
     /// Prints to the file or the command of a name, which is opened unless it is open; two names are the standard outputs.

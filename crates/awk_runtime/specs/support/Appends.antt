@@ -7,7 +7,7 @@ use Rattle.awk_semantics.specs.declared.halt.Halt.{Halt}
 use Rattle.awk_semantics.specs.State.{Run, ◌>>=◌, lift}
 use Rattle.awk_storage.specs.declared.position.Variable.{Variable}
 use Rattle.awk_storage.specs.declared.position.Place.TheVariants as place
-use Rattle.awk_storage.specs.Positions.{put_variable, assign_by_at}
+use Rattle.awk_storage.specs.Positions.{read_variable, put_variable, assign_by_at}
 use Rattle.awk_runtime.specs.declared.runtime.Runtime.{Runtime}
 use Rattle.awk_runtime.specs.support.Simulation.{Changes}
 
@@ -21,3 +21,10 @@ pub record LetsGo (x : Variable) (old new : Runtime) : Type 0 where
   pub streams : new.streams ≡ old.streams
   pub steps : new.steps ≡ old.steps
   pub puts : (w : Value) {after : Runtime} {r : Result (Unit {0}) Halt} → Changes (put_variable new.names.scalars x w) new after r → Changes (put_variable old.names.scalars x w) old after r
+
+-- a variable gets its text with that of a value behind it
+pub record AppendsText (x : Variable) (behind : Value) (old new : Runtime) : Type 0 where
+  pub before : Value
+  pub read : Changes (read_variable old.names.scalars x) old old (Ok before)
+  pub after : Value
+  pub appends : Changes (appended old.names.scalars x before behind) old new (Ok after)

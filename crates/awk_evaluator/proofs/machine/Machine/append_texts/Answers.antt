@@ -1,5 +1,4 @@
-use Rattle.awk_evaluator.proofs.Parts.{part_done, appends_kept}
 use Rattle.awk_evaluator.proofs.machine.Machine.append_texts.Goals as goal
 
-pub returns : goal.returns
-returns c = part_done _ c.is_done.ensures.came (appends_kept c.is_done.ensures.kept c.append_all-appended.ensures)
+pub returns-in-Err : goal.returns-in-Err
+returns-in-Err c = record { done = record { operands = tt; calls = tt; changes = ((c.in-Err.ensures {u = tt}).refused).changes } }

@@ -17,5 +17,6 @@ returns-clause-nothing c =
     let room : non_zero_usize_get c.unwrap_or-room.result ≡ CACHED = given_room CACHED c.new.result _ _ (lit< tt) c.new.ensures c.unwrap_or-room.ensures in
     record {
       fixed = c.new-2.ensures.items;
+      newest = c.new-3.ensures.items;
       cached = c.in_ok-new.ensures ∙ ap (lru_cache _) room;
     }
