@@ -4,7 +4,7 @@
 pub use awk_command::main_words;
 use awk_command::{given_environment, given_words};
 use awk_run::{Fault, fault_line};
-use awk_system::SysWorld;
+use awk_system::{HeldDescriptors, SysWorld};
 use std::env::Env;
 use std::fs::{File, Files};
 use std::io::{self, Stderr, Stdin, Stdout};
@@ -21,10 +21,13 @@ fn serve<R: Env + Files<File = File> + Processes + AllocGlobal>(
     stderr: Stderr,
 ) -> io::Result<u8> {
     let alloc = rt.alloc();
+    let held = HeldDescriptors::new(rt);
     let words = given_words(rt, alloc)?;
     let environ = given_environment(rt, alloc)?;
     let mut world = SysWorld::new(alloc, rt, stdin, stdout, stderr);
-    Ok(main_words(alloc, &words, environ, &mut world))
+    let status = main_words(alloc, &words, environ, &mut world);
+    drop(held);
+    Ok(status)
 }
 
 fn main(rt: HostRuntime) -> ExitCode {

@@ -3,7 +3,9 @@
 
 mod calls;
 mod commands;
+mod descriptors;
 mod opened;
 mod system_world;
 
+pub use descriptors::HeldDescriptors;
 pub use system_world::SysWorld;
