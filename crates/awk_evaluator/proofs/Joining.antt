@@ -1,7 +1,6 @@
 -- What is done with operands that are read where they stand, in any way.
 use Rattle.std.proofs.Common.{◌≡◌, ◌<◌, ◌≤◌, ℕ, get_or, arith, List, [], ◌∷◌, ◌++◌, length, map, drop, None, Result, Ok, Err, refl, sym, ap, ◌∙◌, subst}
 use Rattle.std.specs.List.{concat}
-use Rattle.std.proofs.lemmas.List.{append-nil}
 use Rattle.awk_lex.specs.declared.token.AssignmentOperator.{AssignmentOperator}
 use Rattle.awk_lex.specs.declared.token.Operator.TheVariants.{Matches}
 use Rattle.awk_grammar.specs.declared.tree.BinaryOperator.{BinaryOperator}
@@ -110,30 +109,20 @@ module _ (x : Variable) (ws : List Value) {m m1 : Runtime} {old : Value} (read :
   pub texts_not_joined : {h : Halt} → Changes (lift (Ok (value.Text (concat (map str_of ws))))) m1 m1 (Err h) → Changes (append_to m.names.scalars x ws) m m1 (Err h)
   texts_not_joined text = same_changes _ _ (λ s holds. append_as m.names.scalars x ws s) (then_changes _ read (ends_changes _ text))
 
--- one text, where the variable's stands
+-- where the variable's text stands
 
-appended_alike : (names : List (List ℕ)) (x : Variable) (left v w : Value) → str_of v ≡ str_of w → appended names x left v ≡ appended names x left w
-appended_alike names x left v w e = ap (λ (t : List ℕ). lift (Ok (value.Text (str_of left ++ t))) >>= λ u. assign_by_at names None (place.Variable x) value.Nothing u) e
+each_appended : (x : Variable) (ws : List Value) {m m' : Runtime} → (a : AppendsText x (value.Text (concat (map str_of ws))) m m') → Changes (append_to m.names.scalars x ws) m m' (Ok a.after)
+each_appended x ws {m = m} a = texts_appended x ws a.read (lift_changes (Ok (value.Text (concat (map str_of ws)))) m refl) a.appends
 
-one_appended : (x : Variable) (ws : List Value) {behind : Value} {m m' : Runtime} → ws ≡ behind ∷ [] → (a : AppendsText x behind m m') → Changes (append_to m.names.scalars x ws) m m' (Ok a.after)
-one_appended x ws {behind = behind} {m = m} {m' = m'} is a =
-    let text : Value = value.Text (concat (map str_of (behind ∷ []))) in
-    let put : Changes (appended m.names.scalars x a.before text) m m' (Ok a.after) = subst (λ (run : Run Value). Changes run m m' (Ok a.after)) (appended_alike m.names.scalars x a.before behind text (sym (append-nil (str_of behind)))) a.appends in
-    subst (λ (l : List Value). Changes (append_to m.names.scalars x l) m m' (Ok a.after)) (sym is) (texts_appended x (behind ∷ []) a.read (lift_changes (Ok text) m refl) put)
-
-taken_one : (vs : List Value) → 0 < length vs → taken 1 vs ≡ first vs ∷ []
-taken_one [] there = absurd (omega arith)
-taken_one (v ∷ vs) there = refl
-
-pub one_done : (x : Variable) (count : ℕ) {behind : Value} {m m' : Machine} → count ≡ 1 → behind ≡ first m.operands.values → 0 < length m.operands.values → AppendsText x behind m.runtime m'.runtime
-    → m'.operands ≡ record m.operands { values = drop 1 m.operands.values } → m'.calls ≡ m.calls → Done (λ r. Appends x count m r m') (Ok tt)
-one_done x count {m = m} {m' = m'} one top there a operands calls = record {
+pub each_done : (x : Variable) (count : ℕ) {ws : List Value} {m m' : Machine} → ws ≡ taken count m.operands.values → AppendsText x (value.Text (concat (map str_of ws))) m.runtime m'.runtime
+    → m'.operands ≡ record m.operands { values = drop count m.operands.values } → m'.calls ≡ m.calls → Done (λ r. Appends x count m r m') (Ok tt)
+each_done x count {ws = ws} {m = m} {m' = m'} is a operands calls = record {
   done = (
     a.after,
-    subst (λ (n : ℕ). Appends x n m (Ok a.after) m') (sym one) record {
+    record {
       operands = operands;
       calls = calls;
-      changes = one_appended x (taken 1 m.operands.values) (taken_one m.operands.values there ∙ ap (λ v. v ∷ []) (sym top)) a;
+      changes = subst (λ (l : List Value). Changes (append_to m.runtime.names.scalars x l) m.runtime m'.runtime (Ok a.after)) is (each_appended x ws a);
     },
   );
 }

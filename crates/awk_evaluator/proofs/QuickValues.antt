@@ -1,5 +1,5 @@
 -- Values that are put on the stack quickly.
-use Rattle.std.proofs.Common.{◌≡◌, ◌≢◌, ℕ, ℤ, Bool, true, List, ◌∷◌, drop, Option, Some, Result, Ok, Err, refl, sym, ap, ◌∙◌, subst}
+use Rattle.std.proofs.Common.{◌≡◌, ◌≢◌, ◌<◌, ℕ, ℤ, pos, Bool, true, List, [], ◌∷◌, drop, length, arith, Option, Some, Result, Ok, Err, refl, sym, ap, ◌∙◌, subst}
 use Rattle.std.proofs.Math.Path.{fun_ext}
 use Rattle.std.specs.Prelude.{OnOk, IfSome, is_ok}
 use Rattle.std.specs.Result.{result_ok}
@@ -9,6 +9,7 @@ use Rattle.awk_value.specs.declared.fault.ValueFault.{ValueFault}
 use Rattle.awk_value.specs.Arithmetic.{product_of, sum_of, difference_of, quotient_of, remainder_of, negative_of, power_of}
 use Rattle.awk_value.specs.Values.{str_of, num_of, number_value, from_numbers}
 use Rattle.awk_lex.specs.declared.token.AssignmentOperator.{AssignmentOperator}
+use Rattle.awk_lex.specs.declared.token.BuiltIn.TheVariants.{Length}
 use Rattle.awk_lex.specs.declared.token.AssignmentOperator.TheVariants as assignment
 use Rattle.awk_lex.specs.declared.token.Operator.{Operator}
 use Rattle.awk_lex.specs.declared.token.Operator.TheVariants as operator
@@ -28,7 +29,7 @@ use Rattle.awk_compile.specs.declared.node.Operand.{Operand}
 use Rattle.awk_compile.specs.declared.node.Operand.TheVariants as operand
 use Rattle.awk_compile.specs.declared.node.ValueNode.{ValueNode}
 use Rattle.awk_compile.specs.declared.node.ValueNode.TheVariants as v
-use Rattle.awk_compile.specs.Nodes.{Tables, first, second, value_of, popped, operated_with, operated_on}
+use Rattle.awk_compile.specs.Nodes.{Tables, first, second, taken, value_of, popped, operated_with, operated_on}
 use Rattle.awk_runtime.specs.declared.runtime.Runtime.{Runtime}
 use Rattle.awk_runtime.specs.Simulation.{Changes}
 use Rattle.awk_runtime.proofs.Composition.{then_changes, lift_changes}
@@ -122,6 +123,21 @@ contains_puts {m = m} {a = a} {found = found} top h operands calls runtime = rec
   operands = operands;
   calls = calls;
   changes = λ tables functions. rw runtime (made_of truth_value found (subst (λ (key : Value). Changes (contains_at a (str_of key)) m.runtime m.runtime (Ok found)) top h));
+}
+
+-- the length of the topmost value
+
+first_taken : (vs : List Value) → 0 < length vs → taken 1 vs ≡ first vs ∷ []
+first_taken [] there = absurd (omega arith)
+first_taken (v ∷ vs) there = refl
+
+pub length_puts : {m m' : Machine} (count : ℕ) {w : Value} (n : ℤ) → count ≡ 1 → w ≡ first m.operands.values → 0 < length m.operands.values → n ≡ pos (length (str_of w)) → m'.operands ≡ record m.operands { values = value.Number n ∷ drop 1 m.operands.values } → m'.calls ≡ m.calls → m'.runtime ≡ m.runtime → Puts (v.Apply Length count) m m'
+length_puts {m = m} {m' = m'} count {w = w} n one top there is operands calls runtime = subst (λ (k : ℕ). Puts (v.Apply Length k) m m') (sym one) record {
+  value = value.Number n;
+  operands = operands;
+  calls = calls;
+  changes = λ tables functions.
+      rw (runtime, first_taken m.operands.values there, is, top) (lift_changes (Ok (value.Number (pos (length (str_of (first m.operands.values)))))) m.runtime refl);
 }
 
 -- assignments

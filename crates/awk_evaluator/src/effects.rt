@@ -2,7 +2,7 @@
 
 ghost use Rattle.std.specs.Prelude.{◌≡◌, None as NoneOf, Some as SomeOf};
 ghost use Rattle.awk_runtime.specs.Simulation.{IsReady};
-ghost use Rattle.awk_compile.specs.declared.node.EffectNode.TheVariants.{Delete, Print, SetStatus};
+ghost use Rattle.awk_compile.specs.declared.node.EffectNode.TheVariants.{Delete, Print, SetInside, SetStatus};
 ghost use Rattle.awk_evaluator.specs.Moves.{Acts, Performs, came};
 ghost use Rattle.awk_evaluator.specs.Reading.{PrintsField};
 
@@ -30,6 +30,9 @@ impl Machine {
             EffectNode::Print(PrintForm::Print, 0, None) => self.print_record(world, node),
             EffectNode::Print(PrintForm::Print, count, None) => {
                 self.print_values(world, node, *count)
+            }
+            EffectNode::SetInside(number, is_inside) => {
+                self.set_inside(world, node, *number, *is_inside)
             }
             _ => self.perform_other(world, node),
         }
@@ -63,6 +66,26 @@ impl Machine {
         }
         self.operands.drop(count as usize);
         true
+    }
+
+    // Notes whether a range is inside.
+    #[inline(always)]
+    fn set_inside<W: World>(
+        &mut self,
+        world: &mut W,
+        node: &EffectNode,
+        number: u32,
+        is_inside: bool,
+    ) -> bool
+        requires range { node.now ≡ SetInside number is_inside }
+        requires ready { IsReady W.is_logged (W.state world.old) self.old.runtime.streams }
+        ensures ready { IsReady W.is_logged (W.state world.new) self.new.runtime.streams }
+        ensures performs { Performs W.is_logged node.now self.old (W.state world.old) (came result self.new) self.new (W.state world.new) }
+    {
+        if self.runtime.put_inside(number as usize, is_inside) {
+            return true;
+        }
+        self.perform_other(world, node)
     }
 
     /// The same of what isn't done in line.

@@ -1,19 +1,33 @@
 // Values that are at hand, put on the stack. Where one can't be put there so, nothing changes.
 
-ghost use Rattle.std.specs.Prelude.{◌≡◌, IfSome, true, false};
+ghost use Rattle.std.specs.Prelude.{◌≡◌, pos, length, IfSome, true, false};
+ghost use Rattle.awk_value.specs.Values.{str_of};
 ghost use Rattle.awk_value.specs.declared.value.Value.TheVariants.{Number};
+ghost use Rattle.awk_lex.specs.declared.token.BuiltIn.TheVariants.{Length};
 ghost use Rattle.awk_grammar.specs.declared.tree.BinaryOperator.TheVariants.{Infix};
 ghost use Rattle.awk_grammar.specs.declared.tree.UnaryOperator.TheVariants.{Minus as Negative};
-ghost use Rattle.awk_compile.specs.declared.node.ValueNode.TheVariants.{Push, Read, Operate, OperateWith, OperateOn, Change, ReadField, ReadFieldAt, ReadElement, Contains, IsInside};
+ghost use Rattle.awk_compile.specs.declared.node.ValueNode.TheVariants.{Push, Read, Operate, OperateWith, OperateOn, Change, ReadField, ReadFieldAt, ReadElement, Contains, IsInside, Apply};
 ghost use Rattle.awk_evaluator.specs.Quick.{IsAtHand, Puts, Pushed};
 
 use crate::machine::Machine;
 use awk_compile::node::{Operand, ValueNode};
 use awk_functions::{apply_in_short, truth_value};
 use awk_grammar::tree::{BinaryOperator, UnaryOperator};
-use awk_lex::token::Operator;
+use awk_lex::token::{BuiltIn, Operator};
 use awk_storage::{Array, Variable};
 use awk_value::Value;
+
+/// The length of a value that is a text.
+#[inline(always)]
+fn length_at_hand(value: &Value) -> Option<i128>
+    ensures { IfSome result (λ n. n ≡ pos (length (str_of value.now))) }
+{
+    match value {
+        Value::Text(text) => Some(text.len() as i128),
+        Value::Input(text) => Some(text.len() as i128),
+        Value::Nothing | Value::Number(_) => None,
+    }
+}
 
 impl Machine {
     /// Puts the value of a node on the stack.
@@ -38,6 +52,7 @@ impl Machine {
             ValueNode::ReadElement(array) => self.put_element(*array),
             ValueNode::Contains(array) => self.put_contains(*array),
             ValueNode::IsInside(number) => self.put_inside(*number),
+            ValueNode::Apply(BuiltIn::Length, count) => self.put_length(*count),
             _ => false,
         }
     }
@@ -267,6 +282,25 @@ impl Machine {
         };
         let is_there = self.runtime.has_element(array, key);
         self.operands.replace(truth_value(is_there));
+        true
+    }
+
+    /// Puts the length of a value that is a text in its place.
+    #[inline(always)]
+    fn put_length(&mut self, count: u32) -> bool
+        ensures puts { result ≡ true → Puts (Apply Length count) self.old self.new }
+        ensures kept { result ≡ false → self.new ≡ self.old }
+    {
+        if count != 1 {
+            return false;
+        }
+        let Some(value) = self.operands.top() else {
+            return false;
+        };
+        let Some(length) = length_at_hand(value) else {
+            return false;
+        };
+        self.operands.replace(Value::Number(length));
         true
     }
 

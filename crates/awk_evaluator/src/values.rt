@@ -186,7 +186,7 @@ impl Machine {
     pub(crate) fn append_texts(&mut self, variable: &Variable, count: u32) -> bool
         ensures { Done (λ r. Appends variable.now count self.old r self.new) (came result self.new) }
     {
-        match self.append_one(variable, count) {
+        match self.append_each(variable, count as usize) {
             Ok(true) => true,
             Ok(false) => self.append_any(variable, count),
             Err(halt) => {
@@ -196,27 +196,22 @@ impl Machine {
         }
     }
 
-    /// The same of one operand, where the variable's text grows where it stands: whether it does, and else nothing changes.
+    /// The same, where the variable's text grows where it stands: whether it does, and else nothing changes.
     #[inline(always)]
-    fn append_one(&mut self, variable: &Variable, count: u32) -> Result<bool, Halt>
+    fn append_each(&mut self, variable: &Variable, count: usize) -> Result<bool, Halt>
         ensures appended { result ≡ Ok true → Done (λ r. Appends variable.now count self.old r self.new) (Ok tt) }
         ensures kept { result ≡ Ok false → self.new ≡ self.old }
         ensures refused { IfErr result (λ halt. Appends variable.now count self.old (Err halt) self.new) }
     {
-        if count != 1 {
+        let parts = self.operands.newest(count);
+        if !self.runtime.append_in_place(variable, parts)? {
             return Ok(false);
         }
-        let Some(behind) = self.operands.top() else {
-            return Ok(false);
-        };
-        if !self.runtime.append_in_place(variable, behind)? {
-            return Ok(false);
-        }
-        self.operands.pop();
+        self.operands.drop(count);
         Ok(true)
     }
 
-    /// The same of any operands, and of any variable.
+    /// The same of any variable.
     #[inline(never)]
     fn append_any(&mut self, variable: &Variable, count: u32) -> bool
         ensures { Done (λ r. Appends variable.now count self.old r self.new) (came result self.new) }

@@ -16,7 +16,9 @@ pub use compiled::Compiled;
 pub use formats::Formats;
 pub use found::{Exchanged, length_of, start_of};
 pub use functions::apply_function;
-pub use line::{append, append_line, concatenate, concatenate_all, join, joined_key, make_line};
+pub use line::{
+    append, append_each, append_line, concatenate, concatenate_all, join, joined_key, make_line,
+};
 pub use operators::{
     apply, apply_to_numbers, by_one, change, exit_status, operator_of, raise, relate, truth_value,
 };

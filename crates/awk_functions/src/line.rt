@@ -8,7 +8,7 @@ ghost use Rattle.awk_semantics.specs.Operators.{line_of, join, join_rest};
 ghost use Rattle.awk_semantics.specs.Results.{IsWantOfMemory};
 
 use awk_semantics::Halt;
-use awk_value::{Bytes, Value, append_text, text_in};
+use awk_value::{Bytes, Value, ValueFault, append_text, concatenate_in_place, text_in};
 use itoa::Buffer;
 use std::alloc::Global;
 
@@ -204,6 +204,34 @@ pub fn append(alloc: Global, left: Value, right: &Value) -> Result<Value, Halt>
             Ok(Value::Text(text))
         }
         left => concatenate(alloc, &left, right),
+    }
+}
+
+// Appends the text of each value to a text that was made.
+fn append_others(alloc: Global, text: &mut Value, values: &[Value]) -> Result<(), ValueFault>
+    requires { text.old ≡ Value.Text (str_of text.old) }
+    ensures text { OnOk result (text.new ≡ Value.Text (str_of text.old ++ concat (map str_of values.now))) }
+    ensures fault { IfErr result (λ fault. fault ≡ ValueFault.Memory) }
+{
+    for value in values {
+        concatenate_in_place(alloc, text, value)?;
+    }
+    Ok(())
+}
+
+/// Appends the texts of the values, one behind the other, to that of a value, which so becomes a text that was made. It grows in
+/// its own memory, where nothing else shares that. The fault is `Memory`, and may leave some of them appended. (POSIX awk,
+/// Expressions in awk: string concatenation)
+pub fn append_each(alloc: Global, left: &mut Value, values: &[Value]) -> Result<(), ValueFault>
+    ensures text { OnOk result (left.new ≡ Value.Text (str_of left.old ++ concat (map str_of values.now))) }
+    ensures fault { IfErr result (λ fault. fault ≡ ValueFault.Memory) }
+{
+    match values {
+        [] => concatenate_in_place(alloc, left, &Value::Nothing),
+        [first, others @ ..] => {
+            concatenate_in_place(alloc, left, first)?;
+            append_others(alloc, left, others)
+        }
     }
 }
 

@@ -1,19 +1,16 @@
 -- Joined keys, and the elements of ARGV.
-use Rattle.std.proofs.Common.{◌≡◌, ℕ, suc, ℤ, pos, Bool, true, false, List, map, Option, Some, None, Result, Ok, Err, refl, sym, ap, ◌∙◌, subst, arith}
-use Rattle.std.specs.Prelude.{int_lt, codes, unwrap_or, IfOk, IfErr}
-use Rattle.std.specs.Fmt.{signed_decimal}
+use Rattle.std.proofs.Common.{◌≡◌, ℕ, suc, ℤ, pos, Bool, true, false, List, map, Option, Some, None, Result, Ok, Err, refl, sym, ap, ◌∙◌, arith}
+use Rattle.std.specs.Prelude.{int_lt, codes, IfOk, IfErr}
 use Rattle.awk_value.specs.declared.value.Value.{Value}
-use Rattle.awk_value.specs.declared.value.Value.TheVariants as value
 use Rattle.awk_value.specs.declared.fault.ValueFault.{ValueFault}
 use Rattle.awk_value.specs.declared.fault.ValueFault.TheVariants as values
 use Rattle.awk_value.specs.Values.{num_of, str_of}
-use Rattle.awk_table.specs.Arrays.{Array, value_at}
 use Rattle.awk_variables.specs.declared.special.Special.TheVariants.{Argc, Subsep}
 use Rattle.awk_variables.specs.Variables.{value_of, name_of}
 use Rattle.awk_semantics.specs.declared.halt.Halt.{Halt}
 use Rattle.awk_semantics.specs.declared.halt.Halt.TheVariants as halt
 use Rattle.awk_semantics.specs.Faults.{value_fault, of_values}
-use Rattle.awk_semantics.specs.State.{State, Out, Run, go_on, ◌>>=◌, lift}
+use Rattle.awk_semantics.specs.State.{State, Out, go_on, ◌>>=◌, lift}
 use Rattle.awk_semantics.specs.Operators.{join}
 use Rattle.awk_semantics.specs.Results.{IsWantOfMemory, Yields}
 use Rattle.awk_semantics.specs.Primitives.{number_in, joined_key, argument_if, take_argument}

@@ -1,28 +1,22 @@
 -- Calls of functions.
-use Rattle.std.proofs.Common.{get_or, ◌≡◌, ◌≤◌, ◌<◌, ◌+◌, ◌-◌, ℕ, zero, suc, Bool, true, false, List, [], ◌∷◌, ◌++◌, map, length, take, drop, min, Option, Some, None, Result, Ok, Err, refl, sym, ap, ◌∙◌, subst, arith, append_assoc, append-nil, length-append}
-use Rattle.std.specs.Prelude.{nat_lt, slice_get, if◌then◌else◌}
+use Rattle.std.proofs.Common.{get_or, ◌≡◌, ◌≤◌, ◌<◌, ◌+◌, ℕ, suc, Bool, true, false, List, [], ◌∷◌, ◌++◌, map, length, take, drop, Some, None, Result, Ok, Err, refl, sym, ap, ◌∙◌, subst, arith, append_assoc, append-nil, length-append}
+use Rattle.std.specs.Prelude.{nat_lt, if◌then◌else◌}
 use Rattle.std.proofs.lemmas.List.{take_more}
 use Rattle.std.proofs.lemmas.Bool.Decides.{nat_tests}
-use Rattle.awk_value.specs.declared.value.Value.{Value}
 use Rattle.awk_value.specs.declared.value.Value.TheVariants as value
-use Rattle.awk_table.specs.Arrays.{Array as Elements}
-use Rattle.awk_channels.specs.WorldState.{WorldState}
-use Rattle.awk_channels.specs.Oracle.{Oracle}
-use Rattle.awk_channels.specs.Streams.{printed_openings}
 use Rattle.awk_semantics.specs.declared.fault.Fault.TheVariants.{CallsTooDeep, OutOfMemory}
 use Rattle.awk_semantics.specs.declared.halt.Halt.{Halt}
 use Rattle.awk_semantics.specs.declared.halt.Halt.TheVariants as halt
 use Rattle.awk_semantics.specs.declared.local.Local.{Local}
 use Rattle.awk_semantics.specs.declared.local.Local.TheVariants as local
-use Rattle.awk_semantics.specs.State.{Effect, Frame, State, Out, Run, go_on, ◌>>=◌}
-use Rattle.awk_semantics.specs.Results.{Sort, WantOfMemory, FailedWrite, OfLanguage, sort_of, IsWantOfMemory}
-use Rattle.awk_semantics.specs.Primitives.{most_height, height_in, fault_if, check_height, spend, bound, made, enter, without_call, leave, without_calls, outside_calls}
+use Rattle.awk_semantics.specs.State.{Frame, State, Run}
+use Rattle.awk_semantics.specs.Primitives.{most_height, height_in, fault_if, check_height, bound, made, enter, without_call, leave, without_calls, outside_calls}
 use Rattle.awk_kinds.specs.Kinds.{FormalParameter}
 use Rattle.awk_storage.specs.support.Frames.{FrameView, FramesView, heights_of, older_of, arrays_before_of}
 use Rattle.awk_runtime.specs.declared.runtime.Runtime.{Runtime}
-use Rattle.awk_runtime.specs.support.Simulation.{frame_view, OwnRelation, StateRelation, FailureRelation, ResultRelationBy, ResultRelation, Changes}
+use Rattle.awk_runtime.specs.support.Simulation.{frame_view, OwnRelation, Changes}
 use Rattle.awk_runtime.specs.support.Calling.{with_given, without_given, Refused, missing_locals, missing_arrays, with_missing, completed, EntersCall, EndsCalls}
-use Rattle.awk_runtime.proofs.Composition.{OwnPart, own_changes, same_part, memory_changes, streams_own}
+use Rattle.awk_runtime.proofs.Composition.{OwnPart, own_changes, same_part, memory_changes}
 
 -- the height of the bodies
 

@@ -1,20 +1,18 @@
 -- How what the parts of the code do is put together.
-use Rattle.std.proofs.Common.{◌≡◌, ◌≢◌, ◌⊎◌, inl, inr, ◌≤◌, ℕ, Bool, List, [], ◌∷◌, ◌++◌, Option, None, Result, Ok, Err, refl, sym, ap, ◌∙◌, subst, arith, append_assoc, append-nil}
+use Rattle.std.proofs.Common.{◌≡◌, inl, ◌≤◌, ℕ, List, [], ◌++◌, None, Result, Ok, Err, refl, sym, ap, ◌∙◌, subst, arith, append_assoc, append-nil}
 use Rattle.awk_world.specs.declared.world.InputKind.{InputKind}
 use Rattle.awk_world.specs.declared.world.OutputKind.{OutputKind}
 use Rattle.awk_channels.specs.WorldState.{WorldState}
 use Rattle.awk_channels.specs.Oracle.{Oracle}
-use Rattle.awk_channels.specs.Streams.{StreamsView, AreOpen, AreSound, AreAs, printed_openings}
+use Rattle.awk_channels.specs.Streams.{StreamsView, AreAs, printed_openings}
 use Rattle.awk_channels.proofs.GrowsLemmas.{Grows-self, Grows-then}
 use Rattle.awk_semantics.specs.declared.halt.Halt.{Halt}
 use Rattle.awk_semantics.specs.declared.halt.Halt.TheVariants as halt
 use Rattle.awk_semantics.specs.declared.fault.Fault.TheVariants.{OutOfMemory}
 use Rattle.awk_semantics.specs.State.{Effect, State, Out, Run, go_on, ◌>>=◌, lift}
 use Rattle.awk_semantics.specs.Results.{Sort, WantOfMemory, FailedWrite, OfLanguage, sort_of, YieldsBy, Yields}
-use Rattle.awk_semantics.specs.Meaning.{first_outputs, outputs_after, requests_from}
-use Rattle.awk_semantics.specs.Order.{MeetsAll, first_stage}
 use Rattle.awk_runtime.specs.declared.runtime.Runtime.{Runtime}
-use Rattle.awk_runtime.specs.support.Simulation.{OwnRelation, stage_of, StreamsRelation, StateRelation, IsReady, FailureRelation, ResultRelationBy, ResultRelation, SimulatesLogged, Simulates, Changes, Follows, Beside, SameState}
+use Rattle.awk_runtime.specs.support.Simulation.{OwnRelation, StreamsRelation, StateRelation, IsReady, FailureRelation, ResultRelationBy, ResultRelation, SimulatesLogged, Simulates, Changes}
 use Rattle.awk_runtime.proofs.Effects.{begins-longer, begins_still, begins_same}
 
 -- what a failure left still begins with what is printed, and with more

@@ -1,16 +1,15 @@
 -- A record that is counted in NR and FNR where they stand.
-use Rattle.std.proofs.Common.{◌≡◌, ◌≤◌, ℕ, ℤ, pos, Bool, true, false, List, Option, Some, Result, Ok, refl, sym, ap, ◌∙◌, arith}
-use Rattle.std.specs.Prelude.{◌+ℤ◌, slice_get, get_or, bytes_eq}
-use Rattle.awk_value.specs.declared.value.Value.{Value}
+use Rattle.std.proofs.Common.{◌≡◌, ℤ, pos, false, Ok, refl, ◌∙◌, arith}
+use Rattle.std.specs.Prelude.{◌+ℤ◌}
 use Rattle.awk_value.specs.declared.value.Value.TheVariants as value
 use Rattle.awk_value.specs.Arithmetic.{sum_of}
 use Rattle.awk_variables.specs.declared.special.Special.{Special}
 use Rattle.awk_variables.specs.declared.special.Special.TheVariants.{Fnr, Nr}
-use Rattle.awk_variables.specs.Variables.{value_of, name_of, with_value, is_refused, CountsRecords}
-use Rattle.awk_semantics.specs.State.{State, Run, Out, ◌>>=◌, go_on, lift, gives}
+use Rattle.awk_variables.specs.Variables.{value_of, name_of, is_refused, CountsRecords}
+use Rattle.awk_semantics.specs.State.{State, ◌>>=◌, go_on, lift, gives}
 use Rattle.awk_semantics.specs.Primitives.{put_special, count_in, with_variable}
 use Rattle.awk_runtime.specs.declared.runtime.Runtime.{Runtime}
-use Rattle.awk_runtime.specs.support.Simulation.{OwnRelation, Changes}
+use Rattle.awk_runtime.specs.support.Simulation.{Changes}
 use Rattle.awk_runtime.specs.support.Naming.{AreOwn}
 use Rattle.awk_runtime.proofs.Composition.{own_changes}
 use Rattle.awk_runtime.proofs.VariableWords.{SameButVariables, special_values_twice, variables_hold}

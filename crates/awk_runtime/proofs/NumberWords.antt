@@ -1,5 +1,5 @@
 -- Numbers that are changed in their place.
-use Rattle.std.proofs.Common.{◌≡◌, ℕ, ℤ, pos, List, set, slice_get, Option, Some, None, Ok, ap, ◌∙◌}
+use Rattle.std.proofs.Common.{◌≡◌, ℕ, ℤ, pos, set, slice_get, Option, Some, None, ap, ◌∙◌}
 use Rattle.std.proofs.lemmas.Option.{slice_get_within}
 use Rattle.awk_value.specs.declared.value.Value.{Value}
 use Rattle.awk_value.specs.declared.value.Value.TheVariants as value

@@ -4,7 +4,7 @@ use Rattle.std.specs.List.{prefix_len}
 use Rattle.std.specs.Prelude.{bytes_eq, codes}
 use Rattle.std.proofs.lemmas.List.{length-take, length-drop}
 use Rattle.awk_lex.specs.Words.{is_word, is_word_byte}
-use Rattle.awk_semantics.specs.Inputs.{Operand, Nothing, Assignment, StandardInput, AFile, input_named, split_name, operand_of}
+use Rattle.awk_semantics.specs.Inputs.{Nothing, Assignment, StandardInput, AFile, input_named, split_name, operand_of}
 
 not_named : (x text : List ℕ) (b : Bool) → Assignment x text ≡ (if b then StandardInput else AFile) → ⊥
 not_named x text true e = let f : Assignment x text ≡ StandardInput = e in absurd (cc)

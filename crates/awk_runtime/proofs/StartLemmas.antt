@@ -1,20 +1,15 @@
 -- The state before a run.
-use Rattle.std.proofs.Common.{◌≡◌, ◌<◌, ◌≤◌, ◌+◌, ℕ, zero, suc, pos, Bool, true, false, cond, List, [], ◌∷◌, ◌++◌, map, length, take, set, get_or, Option, Some, None, Result, Ok, Err, OnOk, refl, sym, ap, ◌∙◌, subst, true≢false, arith, length-append}
-use Rattle.std.specs.Prelude.{slice_get, unwrap_or, codes, bytes_eq, if◌then◌else◌}
-use Rattle.std.specs.Map.{lookup}
-use Rattle.std.specs.Option.{option_map}
-use Rattle.std.specs.Global.{Vec}
+use Rattle.std.proofs.Common.{◌≡◌, ◌<◌, ◌+◌, ℕ, zero, suc, Bool, true, false, List, [], ◌∷◌, ◌++◌, map, length, take, set, get_or, Some, None, Result, Ok, Err, OnOk, refl, sym, ap, ◌∙◌, arith, length-append}
+use Rattle.std.specs.Prelude.{slice_get, codes, bytes_eq, if◌then◌else◌}
 use Rattle.std.proofs.lemmas.List.{take_more, set-get_or, get_or-set_same}
 use Rattle.std.proofs.lemmas.Option.{unwrap_or-slice_get, slice_get-get_or}
-use Rattle.std.proofs.lemmas.Slice.Eq.{bytes_eq-Decides}
-use Rattle.awk_value.specs.declared.value.Value.{Value}
-use Rattle.awk_value.specs.declared.value.Value.TheVariants.{Nothing, Input}
+use Rattle.awk_value.specs.declared.value.Value.TheVariants.{Input}
 use Rattle.awk_table.specs.Arrays.{Array, with_pair}
 use Rattle.awk_semantics.specs.Primitives.{elements_from}
 use Rattle.awk_semantics.specs.Meaning.{StartValues, argv_of, environ_from, first_array, first_arrays}
 use Rattle.awk_storage.specs.support.Tables.{array_of}
 use Rattle.awk_runtime.specs.declared.start.Assignment.{Assignment}
-use Rattle.awk_runtime.specs.support.Beginning.{pair_of, texts_of, start_of, IsStart}
+use Rattle.awk_runtime.specs.support.Beginning.{pair_of}
 
 -- the array of a number
 

@@ -1,5 +1,5 @@
 -- The state before a run stands for the one of the definitions.
-use Rattle.std.proofs.Common.{◌≡◌, ◌≤◌, ℕ, suc, pos, Bool, true, false, cond, List, [], ◌∷◌, length, Some, None, refl, sym, ap, ◌∙◌, subst, true≢false, arith}
+use Rattle.std.proofs.Common.{◌≡◌, ℕ, suc, Bool, true, false, cond, List, [], ◌∷◌, length, Some, None, refl, sym, ap, ◌∙◌, subst, true≢false, arith}
 use Rattle.std.specs.Prelude.{slice_get, unwrap_or, bytes_eq}
 use Rattle.std.specs.Map.{lookup}
 use Rattle.std.proofs.lemmas.Slice.Eq.{bytes_eq-Decides}
@@ -10,16 +10,16 @@ use Rattle.awk_channels.specs.Log.{Event}
 use Rattle.awk_channels.specs.Oracle.{Oracle, how_many, opens_input, opens_output, closes_command, runs}
 use Rattle.awk_channels.specs.Orderly.{IsInOrder}
 use Rattle.awk_channels.specs.Openings.{openings, in_order, is_flushed}
-use Rattle.awk_channels.specs.Streams.{StreamsView, AreOpen, AreSound, AreAs, with_held, printed_openings, numbered}
+use Rattle.awk_channels.specs.Streams.{StreamsView, AreOpen, AreSound, with_held}
 use Rattle.awk_grammar.specs.Tree.{Item}
 use Rattle.awk_kinds.specs.Kinds.{array_names_of, function_names_of}
 use Rattle.awk_variables.specs.declared.special.Special.{Special}
 use Rattle.awk_variables.specs.declared.special.Special.TheVariants.{Argc, Convfmt, Filename, Fnr, Fs, Nr, Ofmt, Ofs, Ors, Rlength, Rs, Rstart, Subsep}
 use Rattle.awk_variables.specs.Variables.{Pairs, value_of, name_of, initial_values, initial_value}
-use Rattle.awk_semantics.specs.Meaning.{StartValues, first_arrays, start_state, outputs_after}
+use Rattle.awk_semantics.specs.Meaning.{StartValues, first_arrays, start_state}
 use Rattle.awk_runtime.specs.declared.runtime.Runtime.{Runtime}
 use Rattle.awk_runtime.specs.support.Naming.{Naming}
-use Rattle.awk_runtime.specs.support.Simulation.{OwnRelation, StreamsRelation, StateRelation, main_number}
+use Rattle.awk_runtime.specs.support.Simulation.{OwnRelation, StreamsRelation, StateRelation}
 use Rattle.awk_runtime.specs.support.Beginning.{IsStart}
 
 -- a variable of the program was never assigned

@@ -1,5 +1,5 @@
 -- Steps, and states that the definitions see as the same.
-use Rattle.std.proofs.Common.{◌≡◌, ◌≤◌, ◌<◌, ◌-◌, ℕ, suc, Bool, false, List, [], ◌++◌, append_assoc, Result, Ok, Err, length, unwrap_or, slice_get, Some, refl, sym, ap, ◌∙◌, subst, arith}
+use Rattle.std.proofs.Common.{◌≡◌, ℕ, suc, Bool, false, List, [], ◌++◌, append_assoc, Result, Ok, Err, length, unwrap_or, slice_get, Some, refl, sym, ap, ◌∙◌, subst, arith}
 use Rattle.std.specs.Prelude.{get_or}
 use Rattle.std.specs.Global.{Vec}
 use Rattle.awk_value.specs.declared.value.Value.{Value}
@@ -11,9 +11,9 @@ use Rattle.awk_semantics.specs.State.{State, Out, Run, ◌>>=◌, go_on}
 use Rattle.awk_semantics.specs.Results.{Yields}
 use Rattle.awk_semantics.specs.Primitives.{spend_of, spend}
 use Rattle.awk_runtime.specs.declared.runtime.Runtime.{Runtime}
-use Rattle.awk_runtime.specs.support.Simulation.{inside_of, OwnRelation, ResultRelation, Changes, Spends, Beside, SameState}
+use Rattle.awk_runtime.specs.support.Simulation.{OwnRelation, ResultRelation, Changes, Spends, Beside, SameState}
 use Rattle.awk_runtime.specs.support.Naming.{Naming}
-use Rattle.awk_runtime.proofs.Composition.{Own, own_changes, same_part}
+use Rattle.awk_runtime.proofs.Composition.{own_changes, same_part}
 
 -- nothing changes
 pub beside_self : (m : Runtime) → Beside m m

@@ -19,7 +19,7 @@ use Rattle.awk_variables.specs.Variables.{value_of, name_of}
 use Rattle.awk_semantics.specs.declared.halt.Halt.{Halt}
 use Rattle.awk_semantics.specs.declared.halt.Halt.TheVariants as halt
 use Rattle.awk_semantics.specs.declared.fault.Fault.TheVariants.{OutOfMemory}
-use Rattle.awk_semantics.specs.State.{Effect, State, Out, Run, ◌>>=◌, go_on, lift, ret}
+use Rattle.awk_semantics.specs.State.{Effect, State, Run, ◌>>=◌, go_on, lift, ret}
 use Rattle.awk_semantics.specs.Results.{Sort, WantOfMemory, FailedWrite, OfLanguage, sort_of, YieldsBy, Yields, IsWantOfMemory}
 use Rattle.awk_semantics.specs.Operators.{truth_value, of_match, applied, pattern_in}
 use Rattle.awk_semantics.specs.Texts.{find_from, exchanged, of_separator, separator_in, start_of, length_of}
@@ -36,7 +36,7 @@ use Rattle.awk_functions.specs.declared.patterns.Patterns.{Patterns}
 use Rattle.awk_functions.specs.definitions.Matched.{matched, found, some_exchanged, exchanged_by, split_by}
 use Rattle.awk_functions.specs.support.Written.{Writes}
 use Rattle.awk_runtime.specs.declared.runtime.Runtime.{Runtime}
-use Rattle.awk_runtime.specs.support.Simulation.{OwnRelation, Changes, SameState}
+use Rattle.awk_runtime.specs.support.Simulation.{Changes, SameState}
 use Rattle.awk_runtime.specs.support.Naming.{Naming}
 use Rattle.awk_runtime.specs.support.Spelled.{spelled, record_tested, substitute_in_record, pieces_by, with_pieces}
 use Rattle.awk_runtime.specs.declared.texts.PatternSource.{PatternSource}

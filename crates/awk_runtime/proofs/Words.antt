@@ -1,6 +1,6 @@
 -- What the words on the code's own state do to it.
-use Rattle.std.proofs.Common.{◌≡◌, ◌≢◌, true≢false, ℕ, zero, suc, ℤ, pos, negsuc, Bool, true, false, List, [], length, unwrap_or, slice_get, Some, Result, Ok, Err, refl, sym, ap, ◌∙◌, subst, arith}
-use Rattle.std.specs.Prelude.{◌==◌, codes, get_or}
+use Rattle.std.proofs.Common.{◌≡◌, ◌≢◌, true≢false, ℕ, zero, suc, ℤ, pos, negsuc, Bool, true, false, List, [], length, unwrap_or, slice_get, Option, Some, None, Result, Ok, Err, refl, sym, ap, ◌∙◌, subst, arith}
+use Rattle.std.specs.Prelude.{◌==◌, codes, get_or, IfSome}
 use Rattle.std.specs.Global.{Vec}
 use Rattle.awk_text.specs.Separators.{Rule}
 use Rattle.awk_value.specs.declared.value.Value.{Value}
@@ -25,7 +25,7 @@ use Rattle.awk_runtime.specs.declared.runtime.Runtime.{Runtime}
 use Rattle.awk_runtime.specs.support.Simulation.{OwnRelation, Changes, SameState}
 use Rattle.awk_runtime.specs.support.Naming.{Naming}
 use Rattle.awk_runtime.proofs.Composition.{own_changes, same_part, then_changes, ends_changes, lift_changes, memory_changes}
-use Rattle.awk_runtime.proofs.Steps.{beside_holds, reads_changes, same_changes}
+use Rattle.awk_runtime.proofs.Steps.{still, beside_holds, reads_changes, same_changes}
 
 -- The record and its fields.
 
@@ -39,6 +39,13 @@ pub field_changes : (n : ℤ) {old new : Runtime} {c : Result Value Halt} → Sa
 unfolding read_field
 field_changes n {c = c} same e =
     reads_changes _ (λ s. of_record (field_of s.current n)) (λ s. refl) same (λ s h. subst (λ (r : RecordPair). Yields c (of_record (field_of r n))) (sym h.current) e)
+
+-- field 0, where the text of the record is at hand
+pub record_read : (n : ℤ) (m : Runtime) (text : List ℕ) (found : Option Value) → n ≡ pos 0 → text ≡ m.current.text → IfSome found (λ v. v ≡ value.Input text) → IfSome found (λ v. Changes (read_field n) m m (Ok v))
+record_read n m text (Some v) whole is e =
+    let input : v ≡ value.Input m.current.text = e ∙ ap (λ t. value.Input t) is in
+    field_changes n (still m) (rw (whole, input) refl)
+record_read n m text None whole is e = tt
 
 abbrev pub failed_field : RecordFault → Result Value RecordFault
 failed_field e = Err e

@@ -1,16 +1,18 @@
 // Texts that are appended to variables.
 
-ghost use Rattle.std.specs.Prelude.{◌≡◌, true, false, Ok, Err, IfErr};
+ghost use Rattle.std.specs.Prelude.{◌≡◌, map, true, false, Ok, Err, IfErr};
+ghost use Rattle.std.specs.List.{concat};
+ghost use Rattle.awk_value.specs.Values.{str_of};
 ghost use Rattle.awk_value.specs.declared.value.Value.{Value as AnyValue};
 ghost use Rattle.awk_semantics.specs.State.{Run};
 ghost use Rattle.awk_runtime.specs.support.Appends.{LetsGo, AppendsText, appended};
 ghost use Rattle.awk_runtime.specs.support.Simulation.{Changes};
 
 use crate::runtime::Runtime;
-use awk_functions::append;
+use awk_functions::{append, append_each};
 use awk_semantics::Halt;
 use awk_storage::Variable;
-use awk_value::{Value, concatenate_in_place};
+use awk_value::Value;
 
 impl Runtime {
     /// Gives a variable the text of a value that it held, with that of another one behind it; gives what it then holds. The text
@@ -30,12 +32,12 @@ impl Runtime {
         self.read_variable(variable)
     }
 
-    /// Appends the text of a value to that of what a variable of the program holds, where it stands: whether it is such a variable,
-    /// and else nothing changes. A text that was made grows in its own memory, where nothing shares it. The fault is F1. (POSIX awk,
-    /// Expressions in awk: string concatenation)
+    /// Appends the texts of values, one behind the other, to that of what a variable of the program holds, where it stands: whether it
+    /// is such a variable, and else nothing changes. A text that was made grows in its own memory, where nothing shares it. The fault
+    /// is F1, and may leave some of them appended. (POSIX awk, Expressions in awk: string concatenation)
     #[inline(always)]
-    pub fn append_in_place(&mut self, variable: &Variable, behind: &Value) -> Result<bool, Halt>
-        ensures appends { result ≡ Ok true → AppendsText variable.now behind.now self.old self.new }
+    pub fn append_in_place(&mut self, variable: &Variable, parts: &[Value]) -> Result<bool, Halt>
+        ensures appends { result ≡ Ok true → AppendsText variable.now (AnyValue.Text (concat (map str_of parts.now))) self.old self.new }
         ensures kept { result ≡ Ok false → self.new ≡ self.old }
         ensures refused { IfErr result (λ halt. (run : Run AnyValue) → Changes run self.old self.new (Err halt)) }
     {
@@ -47,7 +49,7 @@ impl Runtime {
         if slot >= self.globals.len() {
             return Ok(false);
         }
-        concatenate_in_place(self.alloc, &mut self.globals[slot], behind)?;
+        append_each(self.alloc, &mut self.globals[slot], parts)?;
         Ok(true)
     }
 

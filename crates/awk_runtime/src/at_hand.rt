@@ -1,10 +1,10 @@
 // Values that are at hand: variables and fields that are read where they stand, and numbers that are put and changed there.
 
 ghost use Rattle.std.specs.Prelude.{◌≡◌, ◌<◌, ◌-◌, pos, Ok, Some, IfSome, IfNone, slice_get, true, false};
-ghost use Rattle.awk_value.specs.declared.value.Value.TheVariants.{Number, Nothing};
+ghost use Rattle.awk_value.specs.declared.value.Value.TheVariants.{Number, Input, Nothing};
 ghost use Rattle.awk_runtime.specs.support.Simulation.{Changes, Spends};
 ghost use Rattle.awk_storage.specs.declared.position.Place.TheVariants.{Variable as VariablePlace};
-ghost use Rattle.awk_semantics.specs.Primitives.{read_field};
+ghost use Rattle.awk_semantics.specs.Primitives.{read_field, set_inside};
 ghost use Rattle.awk_storage.specs.Positions.{read_variable, read_slot, read_local, assign_by_at, post_increment_at};
 ghost use Rattle.awk_semantics.specs.Operators.{operator_of as assigned_by, by_one as raised_by};
 ghost use Rattle.awk_runtime.specs.support.Updates.{PutsNumber, GivesNumber, ChangesValue};
@@ -14,9 +14,20 @@ use awk_functions::{apply_in_short, by_one, operator_of};
 use awk_lex::token::{AssignmentOperator, IncrementOperator, Operator};
 use awk_semantics::Local;
 use awk_storage::Variable;
-use awk_value::Value;
+use awk_value::{Bytes, Value};
 use awk_variables::Special;
 use std::mem;
+
+/// A text that came from outside; `None` where memory is refused.
+#[inline(always)]
+fn input_of(text: &Bytes) -> Option<Value>
+    ensures { IfSome result (λ value. value ≡ Input text.now) }
+{
+    match text.clone() {
+        Ok(text) => Some(Value::Input(text)),
+        Err(_) => None,
+    }
+}
 
 impl Runtime {
     /// The value that a variable holds, where one is kept: NF is counted, and an array has none.
@@ -88,10 +99,29 @@ impl Runtime {
         ensures some { IfSome result (λ value. Changes (read_field number) self.old self.new (Ok value)) }
         ensures same { self.new ≡ self.old }
     {
+        if number == 0 {
+            if let Some(text) = self.current.text_at_hand() {
+                return input_of(text);
+            }
+        }
         match self.current.field(number) {
             Ok(value) => Some(value),
             Err(_) => None,
         }
+    }
+
+    /// Notes whether a range is inside, by the number of its item, where there is room for that: whether there is, and else nothing
+    /// changes.
+    #[inline(always)]
+    pub fn put_inside(&mut self, number: usize, is_inside: bool) -> bool
+        ensures puts { result ≡ true → Changes (set_inside number is_inside) self.old self.new (Ok tt) }
+        ensures kept { result ≡ false → self.new ≡ self.old }
+    {
+        if number >= self.inside.len() {
+            return false;
+        }
+        self.inside[number] = is_inside;
+        true
     }
 
     /// Gives a variable of the program or a parameter a number. `false`, and nothing changes, where it is another one, isn't

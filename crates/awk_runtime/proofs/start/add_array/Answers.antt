@@ -1,6 +1,6 @@
-use Rattle.std.proofs.Common.{◌≡◌, true, false, sym, ◌∙◌, length}
+use Rattle.std.proofs.Common.{sym, ◌∙◌}
 use Rattle.awk_runtime.specs.support.Beginning.{start_of}
-use Rattle.awk_runtime.proofs.StartLemmas.{last_low, argv_added, environ_added, empty_added, where_ok}
+use Rattle.awk_runtime.proofs.StartLemmas.{argv_added, environ_added, empty_added, where_ok}
 use Rattle.awk_runtime.proofs.start.add_array.Goals as goal
 
 pub returns-then-is_argv-clause-added : goal.returns-then-is_argv-clause-added

@@ -1,4 +1,4 @@
-use Rattle.std.proofs.Common.{sym, ◌∙◌, ap, arith}
+use Rattle.std.proofs.Common.{◌∙◌, arith}
 use Rattle.awk_runtime.specs.support.Beginning.{start_of}
 use Rattle.awk_runtime.proofs.StartLemmas.{arrays_next, name_there}
 use Rattle.awk_runtime.proofs.start.first_arrays.Goals as goal

@@ -1,4 +1,4 @@
-use Rattle.std.proofs.Common.{sym, ◌∙◌}
+use Rattle.std.proofs.Common.{◌∙◌}
 use Rattle.awk_runtime.proofs.StartLemmas.{array_same, environ_next}
 use Rattle.awk_runtime.proofs.start.put_environ.Goals as goal
 

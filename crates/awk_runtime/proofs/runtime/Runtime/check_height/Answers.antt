@@ -1,6 +1,4 @@
-use Rattle.std.proofs.Common.{◌≡◌, ◌<◌, ◌≤◌, ◌+◌, arith, rules}
-use Rattle.awk_semantics.specs.Primitives.{most_height}
-use Rattle.awk_storage.specs.support.Frames.{heights_of}
+use Rattle.std.proofs.Common.{arith}
 use Rattle.awk_runtime.proofs.CallWords.{height_low, height_high}
 use Rattle.awk_runtime.proofs.runtime.Runtime.check_height.Goals as goal
 

@@ -1,4 +1,4 @@
-use Rattle.std.proofs.Common.{◌≡◌, true, false, get_or, ◌∙◌}
+use Rattle.std.proofs.Common.{true, false, ◌∙◌}
 use Rattle.awk_runtime.proofs.CallWords.{missing_next, missing_value}
 use Rattle.awk_runtime.proofs.runtime.Runtime.give_missing.Goals as goal
 use Rattle.awk_runtime.proofs.runtime.Runtime.give_missing.Goals.{then-is_array+in_ok-give_new_array, else-is_array+in_ok-give_value}

@@ -1,4 +1,4 @@
-use Rattle.std.proofs.Common.{ℕ, suc, List, length, ap, sym, ◌∙◌}
+use Rattle.std.proofs.Common.{ℕ, suc, length, ap, sym, ◌∙◌}
 use Rattle.std.proofs.lemmas.List.{length-map}
 use Rattle.std.specs.Prelude.{get_or}
 use Rattle.std.specs.Global.{Vec}

@@ -1,8 +1,7 @@
-use Rattle.std.proofs.Common.{◌≡◌, to_z, of_z, ◌∙◌, arith}
+use Rattle.std.proofs.Common.{◌≡◌, to_z, of_z, arith}
 use Rattle.std.proofs.lemmas.Int.{ints}
 use Rattle.std.proofs.lemmas.Result.{err_from_is_err_and}
 use mir.Syntax.{w128}
-use Rattle.awk_semantics.specs.Texts.{start_of, length_of}
 use Rattle.awk_runtime.proofs.TextChanges.{note_ends, note_ends_later, note_gives}
 use Rattle.awk_runtime.proofs.runtime.Runtime.note_match.Goals as goal
 

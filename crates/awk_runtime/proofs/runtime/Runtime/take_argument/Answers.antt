@@ -1,4 +1,4 @@
-use Rattle.std.proofs.Common.{◌≡◌, ℕ, suc, pos, true, false, Ok, Err, rules, refl, sym, ap, ◌∙◌, arith, to_z}
+use Rattle.std.proofs.Common.{◌≡◌, pos, true, false, rules, refl, sym, ap, ◌∙◌, arith}
 use Rattle.std.specs.Prelude.{int_lt}
 use Rattle.std.proofs.lemmas.Result.{err_from_is_err_and}
 use Rattle.awk_value.specs.Values.{num_of}

@@ -1,7 +1,7 @@
-use Rattle.std.proofs.Common.{refl, ap, Ok, arith}
+use Rattle.std.proofs.Common.{refl, ap, Ok}
 use Rattle.std.proofs.lemmas.Result.{err_from_is_err_and}
-use Rattle.awk_evaluator.proofs.Joining.{one_done}
-use Rattle.awk_evaluator.proofs.machine.Machine.append_one.Goals as goal
+use Rattle.awk_evaluator.proofs.Joining.{each_done}
+use Rattle.awk_evaluator.proofs.machine.Machine.append_each.Goals as goal
 
 pub returns-in_err-append_in_place-clause-refused : goal.returns-in_err-append_in_place-clause-refused
 returns-in_err-append_in_place-clause-refused c =
@@ -9,4 +9,4 @@ returns-in_err-append_in_place-clause-refused c =
     rw (p.1, p.2) (record { operands = tt; calls = tt; changes = (c.in_err-append_in_place.ensures {u = tt}).refused _ })
 
 pub returns-clause-appended : goal.returns-clause-appended
-returns-clause-appended c = λ _. one_done c.args.variable.now c.args.count {behind = c.in-Some.behind.now} (omega arith) (c.in-Some.ensures {u = tt}).top (c.in-Some.ensures {u = tt}).there ((c.in_ok-append_in_place.ensures {u = tt}).appends (ap Ok c.if-not-branch.false)) c.pop.ensures.rest refl
+returns-clause-appended c = λ _. each_done c.args.variable.now c.args.count {ws = c.newest-parts.result.now} c.newest-parts.ensures ((c.in_ok-append_in_place.ensures {u = tt}).appends (ap Ok c.if-not-branch.false)) c.drop.ensures refl
