@@ -40,7 +40,7 @@ each='for (i = 0; i < 1000000; i++)'
 key='a["key" (1000000 + i)]'
 texts="$each $key = i"
 numbers="$each a[i] = i"
-sum='printf "%d\n", s'
+sum='print s % 1000'
 count='for (k in a) n++; print n + 0'
 walk='for (k in a) n += length(k); print n'
 both="for (i = 0; i < 500000; i++) { a[i] = i; $key = i }"
