@@ -6,7 +6,7 @@ use Rattle.std.proofs.lemmas.Option.{unwrap_or-slice_get}
 use Rattle.std.specs.Map.{keys_of}
 use Rattle.awk_value.specs.declared.value.Value.{Value}
 use Rattle.awk_value.specs.declared.value.Value.TheVariants as value
-use Rattle.awk_table.specs.Arrays.{Array as Elements, value_at, with_pair, with_key, without}
+use Rattle.awk_value.specs.Arrays.{Array as Elements, value_at, with_pair, with_key, without}
 use Rattle.awk_semantics.specs.declared.local.Local.{Local}
 use Rattle.awk_semantics.specs.declared.local.Local.TheVariants as local
 use Rattle.awk_semantics.specs.State.{Frame, State, Run, ◌>>=◌, go_on, lift}

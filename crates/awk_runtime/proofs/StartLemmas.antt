@@ -4,7 +4,7 @@ use Rattle.std.specs.Prelude.{slice_get, codes, bytes_eq, if◌then◌else◌}
 use Rattle.std.proofs.lemmas.List.{take_more, set-get_or, get_or-set_same}
 use Rattle.std.proofs.lemmas.Option.{unwrap_or-slice_get, slice_get-get_or}
 use Rattle.awk_value.specs.declared.value.Value.TheVariants.{Input}
-use Rattle.awk_table.specs.Arrays.{Array, with_pair}
+use Rattle.awk_value.specs.Arrays.{Array, with_pair}
 use Rattle.awk_semantics.specs.Primitives.{elements_from}
 use Rattle.awk_semantics.specs.Meaning.{StartValues, argv_of, environ_from, first_array, first_arrays}
 use Rattle.awk_storage.specs.support.Tables.{array_of}

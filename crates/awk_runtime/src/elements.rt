@@ -10,7 +10,7 @@ ghost use Rattle.awk_storage.specs.Forms.{contains_at};
 ghost use Rattle.awk_semantics.specs.Operators.{operator_of as assigned_by};
 ghost use Rattle.awk_runtime.specs.support.Updates.{Gives};
 ghost use Rattle.awk_runtime.specs.support.Calling.{kept_number};
-ghost use Rattle.awk_table.specs.Arrays.{value_at};
+ghost use Rattle.awk_value.specs.Arrays.{value_at};
 ghost use Rattle.awk_storage.specs.support.Tables.{array_of};
 
 use crate::at_hand::{number_assigned, number_by, number_raised, set_number};

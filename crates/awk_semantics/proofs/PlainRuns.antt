@@ -31,7 +31,7 @@ use Rattle.awk_semantics.specs.definitions.Primitives.{text_in, spend, spend_of,
 use Rattle.awk_semantics.specs.definitions.Streams.{rest_in, opened, open_main, note_input, is_input_seen, begin_input, taken, taken_of, take_record, close_main, check_streams, NotReadable, input_granted, ask_input, open_input_unless, open_input, named_taken, named_taken_of, take_named, take_if, next_of, output_granted, ask_output, open_output_unless, open_output, open_file, open_target, is_command, closed_by, close_stream, named_of, streams_named, close_each, close_named, flush_all, flush_named, run_command}
 use Rattle.awk_semantics.specs.definitions.BuiltIns.{Argument, locals_of}
 use Rattle.awk_value.specs.Values.{num_of}
-use Rattle.awk_table.specs.Arrays.{Array, with_pair, with_key, without}
+use Rattle.awk_value.specs.Arrays.{Array, with_pair, with_key, without}
 use Rattle.awk_variables.specs.declared.special.Special.TheVariants.{Ofs}
 use Rattle.awk_fields.specs.Record.{assignable, with_field}
 use Rattle.awk_semantics.specs.definitions.Faults.{of_values, of_record}

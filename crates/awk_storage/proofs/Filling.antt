@@ -5,7 +5,7 @@ use Rattle.std.specs.Fmt.{signed_decimal}
 use Rattle.std.proofs.lemmas.Fmt.{signed_decimal_injective}
 use Rattle.std.proofs.lemmas.Slice.Eq.{bytes_eq-Decides}
 use Rattle.awk_value.specs.declared.value.Value.TheVariants.{Input}
-use Rattle.awk_table.specs.Arrays.{value_at}
+use Rattle.awk_value.specs.Arrays.{value_at}
 use Rattle.awk_semantics.specs.definitions.Primitives.{elements_from}
 
 -- different numbers have different texts

@@ -2,7 +2,7 @@
 use Rattle.std.proofs.Common.{◌≡◌, ◌+◌, ◌<◌, ◌≤◌, ℕ, zero, suc, List, [], ◌∷◌, ◌++◌, length, take, drop, set, get_or, refl, sym, ap, ◌∙◌, subst, arith, length-append}
 use Rattle.std.proofs.lemmas.List.{get_or-take, drop-set, set-get_or, take_all, take_more}
 use Rattle.std.proofs.lemmas.Option.{unwrap_or-slice_get}
-use Rattle.awk_table.specs.Arrays.{Array}
+use Rattle.awk_value.specs.Arrays.{Array}
 use Rattle.awk_storage.specs.support.Tables.{array_of, AreEmpty}
 use Rattle.awk_storage.proofs.ItemLemmas.{take-set}
 

@@ -7,11 +7,11 @@ ghost use Rattle.std.specs.Borrow.{sem};
 ghost use Rattle.awk_value.specs.Values.{str_of};
 ghost use Rattle.awk_value.specs.declared.value.Value.TheVariants.{Nothing};
 ghost use Rattle.awk_value.specs.declared.fault.ValueFault.TheVariants.{Memory};
-ghost use Rattle.awk_table.specs.Arrays.{value_at, with_pair, with_key, without};
+ghost use Rattle.awk_value.specs.Arrays.{value_at, with_pair, with_key, without};
 ghost use Rattle.awk_semantics.specs.definitions.Primitives.{elements_from};
 
 use crate::key;
-use awk_table::Table;
+use awk_value::Table;
 use awk_value::{Bytes, Value, ValueFault};
 use std::alloc::{AllocFailed, Global};
 use std::marker::Model;
@@ -27,7 +27,7 @@ pub struct Arrays {
 
 impl Model for Arrays {
     ghost use Rattle.std.specs.Prelude.{List, ◌≤◌, take, drop, length, All};
-    ghost use Rattle.awk_table.specs.Arrays.{Array};
+    ghost use Rattle.awk_value.specs.Arrays.{Array};
     ghost use Rattle.awk_storage.specs.support.Tables.{AreEmpty};
 
     ghost Value = { List Array };

@@ -7,11 +7,11 @@ ghost use Rattle.std.specs.Option.{option_copied, option_copied_mut};
 ghost use Rattle.awk_value.specs.Values.{str_of};
 ghost use Rattle.awk_value.specs.declared.value.Value.TheVariants.{Nothing};
 ghost use Rattle.awk_value.specs.declared.fault.ValueFault.TheVariants.{Memory};
-ghost use Rattle.awk_table.specs.Arrays.{value_at, with_pair, with_key, without};
-ghost use Rattle.awk_table.specs.Lending.{LendsValue};
+ghost use Rattle.awk_value.specs.Arrays.{value_at, with_pair, with_key, without};
+ghost use Rattle.awk_value.specs.Lending.{LendsValue};
 ghost use Rattle.awk_semantics.specs.definitions.Primitives.{elements_from};
 
-use awk_table::Table;
+use awk_value::Table;
 use awk_value::{Bytes, Value, ValueFault};
 use itoa::Buffer;
 use std::alloc::Global;

@@ -1,6 +1,6 @@
 use Rattle.std.proofs.Common.{◌≡◌, ℕ, ◌+◌, ◌-◌, ◌*◌, ◌^◌, ◌<◌, ◌≤◌, true, List, [], ◌∷◌, arith}
 use Rattle.std.specs.Char.{is_ascii_digit}
-use Rattle.awk_value.specs.Numbers.{digits_value}
+use Rattle.awk_value.specs.definitions.Numbers.{digits_value}
 
 -- More digits make no smaller number.
 digits_value_grows : (n : ℕ) (bs : List ℕ) → n ≤ digits_value n bs

@@ -3,8 +3,8 @@ use Rattle.std.specs.Prelude.{pos, neg_ℤ, Ok, Some, None, ◌==◌}
 use Rattle.std.specs.Char.{is_ascii_digit}
 use Rattle.std.proofs.lemmas.Bool.Decides.{nat_tests}
 use Rattle.std.proofs.Math.Nat.{pow-suc, pow-le-pow_right}
-use Rattle.awk_value.specs.Arithmetic.{is_in_range}
-use Rattle.awk_value.specs.Numbers.{is_blank_or_newline, is_sign, has_digit, digits_value, after_digits, text_number, numeric_text}
+use Rattle.awk_value.specs.definitions.Arithmetic.{is_in_range}
+use Rattle.awk_value.specs.definitions.Numbers.{is_blank_or_newline, is_sign, has_digit, digits_value, after_digits, text_number, numeric_text}
 
 -- One more digit.
 pub more_digits : (i n digit : ℕ) → n < 10 ^ i → digit < 10 → n * 10 + digit < 10 ^ (i + 1)

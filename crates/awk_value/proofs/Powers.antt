@@ -3,7 +3,7 @@ use Rattle.std.specs.Prelude.{ℤ, pos, negsuc, Ok, Err, neg_ℤ, unsigned_abs}
 use Rattle.std.specs.Int.{int_pow}
 use Rattle.std.proofs.Math.Nat.{pow-zero, pow-suc, mul-le-mul}
 use Rattle.std.proofs.Math.Pow.{pow_mono}
-use Rattle.awk_value.specs.Arithmetic.{range_checked}
+use Rattle.awk_value.specs.definitions.Arithmetic.{range_checked}
 use Rattle.awk_value.specs.declared.fault.ValueFault.TheVariants.{Range}
 use Rattle.awk_value.proofs.RangeIsInt128.{far_out_of_range}
 

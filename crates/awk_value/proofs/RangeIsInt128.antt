@@ -2,8 +2,8 @@ use Rattle.std.proofs.Common.{◌≡◌, ℕ, zero, suc, ◌^◌, ◌<◌, Bool,
 use Rattle.std.specs.Prelude.{ℤ, pos, negsuc, Ok, Err, FitsSigned, nat_lt}
 use Rattle.std.specs.Int.{w128}
 use Rattle.std.proofs.lemmas.Bool.Decides.{nat_tests}
-use Rattle.awk_value.specs.Arithmetic.{is_in_range, range_checked}
-use Rattle.awk_value.specs.Numbers.{signed_number}
+use Rattle.awk_value.specs.definitions.Arithmetic.{is_in_range, range_checked}
+use Rattle.awk_value.specs.definitions.Numbers.{signed_number}
 use Rattle.awk_value.specs.declared.fault.ValueFault.TheVariants.{Range}
 
 -- The range of the language is that of the machine's 128 bits.

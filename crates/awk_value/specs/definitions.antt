@@ -2,3 +2,5 @@
 pub mod Arithmetic
 pub mod Numbers
 pub mod Values
+pub mod Arrays
+pub mod Lending

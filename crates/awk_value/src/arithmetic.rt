@@ -1,9 +1,9 @@
 // Arithmetic on numbers and on values.
 
 ghost use Rattle.std.specs.Prelude.{◌≡◌};
-ghost use Rattle.awk_value.specs.Arithmetic.{product_of, sum_of, difference_of, negative_of};
-ghost use Rattle.awk_value.specs.Arithmetic.{quotient_of, remainder_of, power_of};
-ghost use Rattle.awk_value.specs.Values.{num_of, number_value, from_numbers, from_number};
+ghost use Rattle.awk_value.specs.definitions.Arithmetic.{product_of, sum_of, difference_of, negative_of};
+ghost use Rattle.awk_value.specs.definitions.Arithmetic.{quotient_of, remainder_of, power_of};
+ghost use Rattle.awk_value.specs.definitions.Values.{num_of, number_value, from_numbers, from_number};
 
 use crate::convert::number_of;
 use crate::fault::ValueFault;

@@ -35,7 +35,7 @@ impl Model for Bytes {
 
     ghost Value = { List ℕ };
 
-    ghost use Rattle.awk_value.specs.Forms.{bytes_of, IsWithin};
+    ghost use Rattle.awk_value.specs.support.Forms.{bytes_of, IsWithin};
 
     ghost view = { λ b. bytes_of b.form };
 

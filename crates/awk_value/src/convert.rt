@@ -2,7 +2,7 @@
 
 ghost use Rattle.std.specs.Prelude.{◌≡◌, ◌++◌, Ok, IfSome, IfOk, IfErr, OnOk, OnErr};
 ghost use Rattle.std.specs.Fmt.{signed_decimal};
-ghost use Rattle.awk_value.specs.Values.{num_of, str_of, numeric_of, truth_of};
+ghost use Rattle.awk_value.specs.definitions.Values.{num_of, str_of, numeric_of, truth_of};
 ghost use Rattle.awk_value.specs.declared.fault.ValueFault.TheVariants.{Memory};
 ghost use Rattle.awk_value.specs.declared.value.Value.TheVariants.{Text};
 

@@ -1,15 +1,25 @@
-//! The values of the language: byte texts, whole numbers, their conversions, their order and
-//! their arithmetic.
+//! The values of the language: byte texts, whole numbers, their conversions, their order and their arithmetic; and arrays of values by keys that are texts.
 #![tactic(auto)]
 
 mod arithmetic;
 mod bytes;
 mod convert;
+mod decimal;
+mod dense;
+mod entry;
 mod fault;
+mod long_keys;
 mod number;
+mod number_keys;
+mod numbers;
 mod order;
 mod short;
+mod short_keys;
+mod short_text;
+mod table;
+mod text_entry;
 mod value;
+mod walk;
 
 pub use crate::arithmetic::{
     add, div, divide, minus, mul, multiply, neg, negate, plus, pow, power, rem, remainder, sub,
@@ -23,3 +33,4 @@ pub use crate::convert::{
 pub use crate::fault::ValueFault;
 pub use crate::order::compare;
 pub use crate::value::Value;
+pub use crate::table::Table;

@@ -1,10 +1,10 @@
 // The number that a text spells.
 
 ghost use Rattle.std.specs.Prelude.{◌≡◌, ℕ, ◌+◌, ◌*◌, ◌^◌, ◌<◌, ◌≤◌, length, MatchOption, true, pos, [], Ok, Some, None, IfSome, OnSome};
-ghost use Rattle.awk_value.specs.Arithmetic.{range_checked};
-ghost use Rattle.awk_value.specs.Numbers.{after_blanks, has_minus, after_sign, has_digit, digits_value};
-ghost use Rattle.awk_value.specs.Numbers.{after_digits, signed_number, text_number, numeric_text};
-ghost use Rattle.awk_value.specs.Numbers.{is_blank_or_newline as blank_or_newline};
+ghost use Rattle.awk_value.specs.definitions.Arithmetic.{range_checked};
+ghost use Rattle.awk_value.specs.definitions.Numbers.{after_blanks, has_minus, after_sign, has_digit, digits_value};
+ghost use Rattle.awk_value.specs.definitions.Numbers.{after_digits, signed_number, text_number, numeric_text};
+ghost use Rattle.awk_value.specs.definitions.Numbers.{is_blank_or_newline as blank_or_newline};
 
 use crate::fault::ValueFault;
 

@@ -1,7 +1,7 @@
 // The order of two values.
 
 ghost use Rattle.std.specs.Prelude.{◌≡◌, Ok};
-ghost use Rattle.awk_value.specs.Values.{order_of};
+ghost use Rattle.awk_value.specs.definitions.Values.{order_of};
 
 use crate::convert::{numeric_of, text_in};
 use crate::fault::ValueFault;

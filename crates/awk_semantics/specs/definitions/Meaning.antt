@@ -1,7 +1,7 @@
 -- The meaning of a program: its outcome, the bytes of each opening of an output, and what it requests of the outside.
 use Rattle.std.specs.Prelude.{◌≡◌, ◌≢◌, ℕ, ◌+◌, suc, true, false, List, [], ◌∷◌, ◌++◌, length, codes, bytes_eq, None, Result, Ok, Err, if◌then◌else◌}
 use Rattle.awk_value.specs.declared.value.Value.TheVariants as value
-use Rattle.awk_table.specs.Arrays.{Array, with_pair}
+use Rattle.awk_value.specs.Arrays.{Array, with_pair}
 use Rattle.awk_channels.specs.Oracle.{Oracle}
 pub use Rattle.awk_channels.specs.Named.{with_bytes}
 use Rattle.awk_channels.specs.Openings.{StandardOutput, StandardError, Named as NamedOutput, Opening, Begins}

@@ -1,7 +1,7 @@
 -- The state of a run, and what a part of a run does: a result, the state after it, and what it shows.
 use Rattle.std.specs.Prelude.{ℕ, Bool, List, [], ◌++◌, Option, Result, Ok, Err}
 use Rattle.awk_value.specs.declared.value.Value.{Value}
-use Rattle.awk_table.specs.Arrays.{Array}
+use Rattle.awk_value.specs.Arrays.{Array}
 use Rattle.awk_fields.specs.Record.{RecordPair}
 use Rattle.awk_world.specs.declared.world.InputKind.{InputKind}
 use Rattle.awk_world.specs.declared.world.OutputKind.{OutputKind}

@@ -3,7 +3,7 @@ use Rattle.std.specs.Prelude.{ℕ, List, Option, slice_set}
 use Rattle.std.specs.Borrow.{Fml, LendsIf, MutBor}
 use Rattle.awk_value.specs.declared.value.Value.{Value}
 use Rattle.awk_value.specs.contracts.value.Value.{the_row as value_row}
-use Rattle.awk_table.specs.Arrays.{Array, with_pair}
+use Rattle.awk_value.specs.Arrays.{Array, with_pair}
 use Rattle.awk_storage.specs.contracts.arrays.Arrays.{the_row}
 use Rattle.awk_storage.specs.support.Tables.{array_of}
 

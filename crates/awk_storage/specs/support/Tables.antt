@@ -1,6 +1,6 @@
 -- The arrays by number.
 use Rattle.std.specs.Prelude.{◌≡◌, ℕ, List, [], ◌∷◌, unwrap_or, slice_get}
-use Rattle.awk_table.specs.Arrays.{Array}
+use Rattle.awk_value.specs.Arrays.{Array}
 
 -- the array of a number; one that isn't there is empty
 abbrev pub array_of : List Array → ℕ → Array

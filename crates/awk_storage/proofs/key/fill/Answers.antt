@@ -2,7 +2,7 @@ use Rattle.std.proofs.Common.{◌<◌, ◌^◌, ◌++◌, ◌∷◌, [], ap, sym
 use Rattle.std.specs.Fmt.{signed_decimal}
 use Rattle.std.proofs.Math.Facts.{to_z_pos}
 use Rattle.awk_value.specs.declared.value.Value.TheVariants.{Input}
-use Rattle.awk_table.specs.Arrays.{Array, value_at}
+use Rattle.awk_value.specs.Arrays.{Array, value_at}
 use Rattle.awk_storage.proofs.Filling.{absent, longer}
 use Rattle.awk_storage.proofs.key.fill.Goals as goal
 

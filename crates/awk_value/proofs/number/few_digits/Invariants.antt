@@ -1,5 +1,5 @@
 use Rattle.std.proofs.Common.{◌≡◌, ◌<◌, ◌^◌, drop}
-use Rattle.awk_value.specs.Numbers.{digits_value, after_digits}
+use Rattle.awk_value.specs.definitions.Numbers.{digits_value, after_digits}
 use Rattle.awk_value.proofs.number.few_digits.Given as goal
 
 abbrev pub invariant-loop-byte : goal.invariant-loop-byte

@@ -1,5 +1,5 @@
 use Rattle.std.proofs.Common.{◌≡◌, ◌<◌, ◌^◌, length}
-use Rattle.awk_value.specs.Numbers.{digits_value, after_digits}
+use Rattle.awk_value.specs.definitions.Numbers.{digits_value, after_digits}
 use Rattle.awk_value.proofs.number.read_short.Given as goal
 
 abbrev pub invariant-loop-first : goal.invariant-loop-first

@@ -1,5 +1,5 @@
 use Rattle.std.proofs.Common.{◌≡◌, length}
-use Rattle.awk_value.specs.Numbers.{after_blanks}
+use Rattle.awk_value.specs.definitions.Numbers.{after_blanks}
 use Rattle.awk_value.proofs.number.skip_blanks.Given as goal
 
 abbrev pub invariant-loop-first : goal.invariant-loop-first

@@ -2,7 +2,7 @@ use Rattle.std.proofs.Common.{◌≡◌, ◌∙◌, ap, to_z, of_z, arith}
 use Rattle.std.specs.Int.{w128}
 use Rattle.std.proofs.lemmas.Int.{ints}
 use Rattle.awk_value.specs.Values.{str_of}
-use Rattle.awk_table.specs.Arrays.{value_at}
+use Rattle.awk_value.specs.Arrays.{value_at}
 use Rattle.awk_storage.specs.support.Tables.{array_of}
 use Rattle.awk_runtime.proofs.ElementWords.{raise_begun, put_of}
 use Rattle.awk_runtime.proofs.runtime.Runtime.begin_raised.Goals as goal

@@ -1,5 +1,5 @@
 use Rattle.std.proofs.Common.{[], ◌∷◌, ◌++◌, ap, ◌∙◌, List, length, ◌<◌, ◌+◌, ◌≤◌, arith}
-use Rattle.awk_table.specs.Arrays.{Array}
+use Rattle.awk_value.specs.Arrays.{Array}
 use Rattle.awk_storage.proofs.TableLemmas.{rest_empty, one_more}
 use Rattle.awk_storage.proofs.arrays.Arrays.add.Goals as goal
 

@@ -1,6 +1,6 @@
 use Rattle.std.proofs.Common.{[], ap, ◌∙◌, List, length, ◌<◌, ◌≡◌, set, take, get_or, arith}
 use Rattle.std.proofs.lemmas.List.{get_or_read}
-use Rattle.awk_table.specs.Arrays.{Array}
+use Rattle.awk_value.specs.Arrays.{Array}
 use Rattle.awk_storage.proofs.TableLemmas.{changed}
 use Rattle.awk_storage.proofs.arrays.Arrays.clear.Goals as goal
 

@@ -1,6 +1,6 @@
 use Rattle.std.proofs.Common.{[], ap, ◌∙◌, List, length, ◌<◌, ◌≡◌, set, take, get_or, arith}
 use Rattle.std.proofs.lemmas.List.{get_or_read}
-use Rattle.awk_table.specs.Arrays.{Array, without}
+use Rattle.awk_value.specs.Arrays.{Array, without}
 use Rattle.awk_value.specs.Values.{str_of}
 use Rattle.awk_storage.specs.support.Tables.{array_of}
 use Rattle.awk_storage.proofs.TableLemmas.{changed}

@@ -2,7 +2,7 @@ use Rattle.std.proofs.Common.{◌≡◌, ◌∙◌, ◌<◌, [], List, length, s
 use Rattle.std.proofs.lemmas.List.{get_or_read}
 use Rattle.awk_value.specs.Values.{str_of}
 use Rattle.awk_value.specs.declared.value.Value.{Value}
-use Rattle.awk_table.specs.Arrays.{Array, value_at, with_pair}
+use Rattle.awk_value.specs.Arrays.{Array, value_at, with_pair}
 use Rattle.awk_storage.specs.support.Tables.{array_of}
 use Rattle.awk_storage.proofs.Lent.{lent_as}
 use Rattle.awk_storage.proofs.TableLemmas.{changed, there, unchanged}

@@ -1,5 +1,0 @@
-use Rattle.std.proofs.Common.{rules}
-use Rattle.awk_table.proofs.entry.set_entry.Goals as goal
-
-pub returns-in-Some-clause-set : goal.returns-in-Some-clause-set
-returns-in-Some-clause-set c = search rules

@@ -1,4 +1,0 @@
-pub mod definitions
-pub mod support
-pub use Rattle.awk_table.specs.definitions.Arrays
-pub use Rattle.awk_table.specs.definitions.Lending

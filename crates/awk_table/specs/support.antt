@@ -1,7 +1,0 @@
--- What serves the proofs: how the code keeps an array, its keys and what is kept at them.
-pub mod Texts
-pub mod Rows
-pub mod StampOrder
-pub mod Entries
-pub mod Numbers
-pub mod Lending

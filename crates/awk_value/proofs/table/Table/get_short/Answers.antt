@@ -1,0 +1,15 @@
+use Rattle.std.proofs.Common.{sym}
+use Rattle.awk_value.proofs.Calls.{keeps, short-hit, short-miss}
+use Rattle.awk_value.proofs.table.Table.get_short.Goals as goal
+
+pub returns-in-Some : goal.returns-in-Some
+returns-in-Some c =
+    let b = c.self.inside in
+    let now = keeps b.next b.numbers b.shorts.entries b.longs.entries _ c.self.invariant c.self.view_is in
+    sym (short-hit now c.args.key c.requires.text c.requires.padded _ c.in-Some.ensures.value)
+
+pub returns-in-None : goal.returns-in-None
+returns-in-None c =
+    let b = c.self.inside in
+    let now = keeps b.next b.numbers b.shorts.entries b.longs.entries _ c.self.invariant c.self.view_is in
+    sym (short-miss now c.args.key c.requires.text c.requires.padded c.in-None.ensures.value)

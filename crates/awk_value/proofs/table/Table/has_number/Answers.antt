@@ -1,0 +1,5 @@
+use Rattle.std.proofs.Common.{rules}
+use Rattle.awk_value.proofs.table.Table.has_number.Goals as goal
+
+pub returns : goal.returns
+returns c = search rules

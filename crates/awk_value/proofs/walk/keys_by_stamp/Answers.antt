@@ -1,0 +1,14 @@
+use Rattle.std.proofs.Common.{subst}
+use Rattle.std.specs.List.Sorted.{IsPermutation}
+use Rattle.awk_value.proofs.Rows.{joined-3}
+use Rattle.awk_value.proofs.walk.keys_by_stamp.Goals as goal
+
+pub returns-clause-keys : goal.returns-clause-keys
+returns-clause-keys c =
+    let rows = joined-3 _ _ _ _ _ _ _ c.in_ok-list_longs.ensures c.in_ok-list_shorts.ensures c.in_ok-list_numbers.ensures c.in_ok-rows.ensures.items in
+    record {
+      sorted = c.sort_rows.new.rows.items;
+      moved = subst (λ l. IsPermutation l c.sort_rows.new.rows.items) rows c.sort_rows.ensures.moved;
+      ordered = c.in_ok-sort_rows.ensures.ordered;
+      are = c.in_ok-texts_of.ensures;
+    }
