@@ -4,7 +4,7 @@ use Rattle.std.specs.Prelude.{nat_eq, IsSome, if◌then◌else◌}
 use Rattle.std.proofs.lemmas.Bool.{cases_lt, false≢true, leb-true, le-leb, and_parts, and_from}
 use Rattle.std.proofs.lemmas.List.{get_or-replicate, length-replicate}
 use Rattle.std.proofs.Math.ListN.{get_or-eq_default}
-use Rattle.awk_ere_syntax.specs.definitions.Tree.{Tree, Matches, NoneFrom}
+use Rattle.awk_ere.specs.definitions.Tree.{Tree, Matches, NoneFrom}
 use Rattle.awk_ere.specs.support.Layout.{byte_count, stride, start_state, dead_state, first_state, match_flag}
 use Rattle.awk_ere.specs.definitions.Means.{Means}
 use Rattle.awk_ere.specs.support.SimulationStep.{count_of, leaves, behind, dead_positions, IsStillAt, IsStill}

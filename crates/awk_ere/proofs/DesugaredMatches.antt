@@ -1,7 +1,7 @@
 -- The pattern without counts matches what the tree matches.
 use Rattle.std.proofs.Common.{◌≡◌, ℕ, zero, suc, ◌+◌, ◌-◌, ◌≤◌, ◌⊎◌, List, refl, sym, subst, inl, inr, ⊎_elim, arith}
-use Rattle.awk_ere_syntax.specs.definitions.Tree.{Count, star, some, option, exactly, at_least, between, Tree, empty, class, start, end, pieces, branches, repeat, Row, none, next, Allowed, Times, Matches, MatchesAll, MatchesOne}
-use Rattle.awk_ere_compile.specs.definitions.Desugared.{Re, eps, alt, plus, Many, MatchesRe, copies, up_to, repeated, desugar, desugar_all, desugar_one, IsCount, IsOrdered, AreOrdered}
+use Rattle.awk_ere.specs.definitions.Tree.{Count, star, some, option, exactly, at_least, between, Tree, empty, class, start, end, pieces, branches, repeat, Row, none, next, Allowed, Times, Matches, MatchesAll, MatchesOne}
+use Rattle.awk_ere.specs.definitions.Desugared.{Re, eps, alt, plus, Many, MatchesRe, copies, up_to, repeated, desugar, desugar_all, desugar_one, IsCount, IsOrdered, AreOrdered}
 
 times_map : (R Q : ℕ → ℕ → Type 0) → ((i j : ℕ) → R i j → Q i j) → (n i j : ℕ) → Times R n i j → Times Q n i j
 times_map R Q f zero i j e = e

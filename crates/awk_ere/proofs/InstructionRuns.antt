@@ -2,8 +2,8 @@
 use Rattle.std.proofs.Common.{◌≡◌, ℕ, zero, suc, ◌+◌, ◌<◌, List, [], ◌∷◌, ◌++◌, Bool, map, length, take, drop, get_or, set, refl, sym, ap, ◌∙◌, append_assoc, arith}
 use Rattle.std.proofs.lemmas.List.{drop-set-lt}
 use Rattle.std.proofs.Math.Seq.{drop-cons, take-suc-set}
-use Rattle.awk_ere_compile.specs.declared.program.Instruction.{Instruction}
-use Rattle.awk_ere_compile.specs.definitions.Program.{ResolvedInstruction}
+use Rattle.awk_ere.specs.declared.program.Instruction.{Instruction}
+use Rattle.awk_ere.specs.definitions.Program.{ResolvedInstruction}
 use Rattle.awk_ere.specs.support.Simulation.{Registers, rest_of, act, exec}
 
 rest_drop : (i : ℕ) (cs : List Bool) → rest_of (drop i cs) ≡ drop (suc i) cs

@@ -2,10 +2,10 @@
 use Rattle.std.proofs.Common.{◌≡◌, ℕ, suc, ◌+◌, ◌<◌, ◌≤◌, List, [], ◌∷◌, length, Bool, true, false, Option, Some, None, ◌&&◌, min, sym, ap, ◌∙◌, subst, ⊎_elim, arith, get_or}
 use Rattle.std.specs.Prelude.{nat_eq, nat_le}
 use Rattle.std.proofs.lemmas.Bool.{cases_lt, cases_eq, cases_Bool, false≢true, leb-true, le-leb, eq-eqb, ne_eqb, and_parts, and_from}
-use Rattle.awk_ere_syntax.specs.definitions.Tree.{Tree, Matches}
+use Rattle.awk_ere.specs.definitions.Tree.{Tree, Matches}
 use Rattle.awk_ere.specs.definitions.Means.{Means}
 use Rattle.awk_ere.specs.support.Marked.{Marked, meps, mone, mfirst, mlast, mcat, malt, mplus, bare, Rest}
-use Rattle.awk_ere_compile.specs.definitions.Program.{code_size}
+use Rattle.awk_ere.specs.definitions.Program.{code_size}
 use Rattle.awk_ere.specs.support.Simulation.{positions}
 use Rattle.awk_ere.specs.support.SimulationStep.{leaves}
 use Rattle.awk_ere.specs.support.CursorState.{Starts, Runs, Enters}

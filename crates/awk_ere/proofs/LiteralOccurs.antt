@@ -9,16 +9,16 @@ use Rattle.std.proofs.Math.ListN.{get_or-append}
 use Rattle.std.proofs.Math.Seq.{take-suc, get_or-append_seam}
 use Rattle.std.proofs.lemmas.List.FromFn.{length-map-range_with_len}
 use Rattle.memchr.specs.Find.{OccursAt, FindsNeedle, Nowhere}
-use Rattle.awk_ere_syntax.specs.definitions.Tree.{Class, has, class_of, Tree, Matches, Finds}
-use Rattle.awk_ere_compile.specs.definitions.Desugared.{Re, eps, one, first, last, cat, alt, plus, MatchesRe, desugar}
-use Rattle.awk_ere_compile.specs.definitions.Program.{ResolvedInstruction, read, resolve, code}
+use Rattle.awk_ere.specs.definitions.Tree.{Class, has, class_of, Tree, Matches, Finds}
+use Rattle.awk_ere.specs.definitions.Desugared.{Re, eps, one, first, last, cat, alt, plus, MatchesRe, desugar}
+use Rattle.awk_ere.specs.definitions.Program.{ResolvedInstruction, read, resolve, code}
 use Rattle.awk_ere.specs.support.Layout.{byte_count}
 use Rattle.awk_ere.specs.support.Found.{EndsAt}
 use Rattle.awk_ere.specs.definitions.Means.{Means, occurs}
 use Rattle.awk_ere.specs.support.Table.{ReadsBytes}
 use Rattle.awk_ere.specs.declared.pattern.Pattern.{Pattern}
-use Rattle.awk_ere_compile.specs.declared.program.Instruction.{Instruction}
-use Rattle.awk_ere_compile.specs.declared.program.Instruction.TheVariants as instructions
+use Rattle.awk_ere.specs.declared.program.Instruction.{Instruction}
+use Rattle.awk_ere.specs.declared.program.Instruction.TheVariants as instructions
 use Rattle.awk_ere.proofs.ClassMembership.{has-class_of}
 use Rattle.awk_ere.proofs.StandingText.{Stands, stands_append, stands_split, Small, small_bytes, small_left, small_right, stands_occurs, occurs_stands, occurs_behind, occurs_before, rest_finds}
 use Rattle.awk_ere.proofs.OccursDecided.{tells_ends}

@@ -3,8 +3,8 @@ use Rattle.std.proofs.Common.{◌≡◌, ℕ, zero, suc, ◌<◌, ◌≤◌, Lis
 use Rattle.std.specs.Prelude.{slice_get}
 use Rattle.std.proofs.lemmas.Option.{same_Some}
 use Rattle.std.proofs.lemmas.Bool.{cases_lt, and_parts, and_from, or_cases, or_left, or_right, false≢true}
-use Rattle.awk_ere_syntax.specs.definitions.Tree.{has, Times}
-use Rattle.awk_ere_compile.specs.definitions.Desugared.{Re, eps, one, first, last, cat, alt, plus, Many, MatchesRe}
+use Rattle.awk_ere.specs.definitions.Tree.{has, Times}
+use Rattle.awk_ere.specs.definitions.Desugared.{Re, eps, one, first, last, cat, alt, plus, Many, MatchesRe}
 use Rattle.awk_ere.specs.support.Marked.{Marked, meps, mone, mfirst, mlast, mcat, malt, mplus, bare, flow, step, fresh, IsFlagged, Rest}
 
 -- a match doesn't go back

@@ -2,7 +2,7 @@
 use Rattle.std.proofs.Common.{◌≡◌, ℕ, suc, ◌<◌, ◌≤◌, List, length, Bool, true, false, Some, refl, sym, ◌∙◌, subst, ⊎_elim, arith}
 use Rattle.std.specs.Prelude.{slice_get}
 use Rattle.std.proofs.lemmas.Bool.{cases_lt, false≢true}
-use Rattle.awk_ere_compile.specs.definitions.Desugared.{Re, MatchesRe}
+use Rattle.awk_ere.specs.definitions.Desugared.{Re, MatchesRe}
 use Rattle.awk_ere.specs.support.Marked.{Marked, flow, step, fresh, IsFlagged}
 use Rattle.awk_ere.specs.support.CursorState.{Starts, Tracks}
 use Rattle.awk_ere.proofs.MarkedStep.{bare_step, flow_sound, flow_enters, flow_position_set, step_sound, step_enters, step_moves, flagged_step, flagged_fresh, bare_fresh, rest_fresh}

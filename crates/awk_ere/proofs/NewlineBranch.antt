@@ -2,11 +2,11 @@
 use Rattle.std.proofs.Common.{◌≡◌, suc, List, [], ◌∷◌, ◌++◌, map, refl, ap, ◌∙◌}
 use Rattle.std.specs.Prelude.{◌==◌}
 use Rattle.std.proofs.lemmas.List.{map-append}
-use Rattle.awk_ere_syntax.specs.definitions.Tree.{Class, class_of, Tree, class, branches, none, next}
-use Rattle.awk_ere_compile.specs.definitions.Desugared.{Re, eps, one, first, last, cat, alt, plus, desugar}
-use Rattle.awk_ere_compile.specs.definitions.Program.{ResolvedInstruction, read, fork, swap, join, enter, leave, resolve, code_size, code}
-use Rattle.awk_ere_compile.specs.declared.program.Instruction.{Instruction}
-use Rattle.awk_ere_compile.specs.declared.program.Instruction.TheVariants as instructions
+use Rattle.awk_ere.specs.definitions.Tree.{Class, class_of, Tree, class, branches, none, next}
+use Rattle.awk_ere.specs.definitions.Desugared.{Re, eps, one, first, last, cat, alt, plus, desugar}
+use Rattle.awk_ere.specs.definitions.Program.{ResolvedInstruction, read, fork, swap, join, enter, leave, resolve, code_size, code}
+use Rattle.awk_ere.specs.declared.program.Instruction.{Instruction}
+use Rattle.awk_ere.specs.declared.program.Instruction.TheVariants as instructions
 
 code_behind : (r : Re) (a b : List ResolvedInstruction) → code r a ++ b ≡ code r (a ++ b)
 code_behind eps a b = refl

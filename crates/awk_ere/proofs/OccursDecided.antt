@@ -4,9 +4,9 @@ use Rattle.std.specs.Prelude.{◌↔◌, nat_eq, slice_get}
 use Rattle.std.specs.Option.{is_some}
 use Rattle.std.proofs.lemmas.List.{length-append}
 use Rattle.std.proofs.lemmas.Bool.{or_cases, or_right, or_left, eqb-true, eq-eqb, cases_lt, false≢true}
-use Rattle.awk_ere_syntax.specs.definitions.Tree.{Tree, Occurs}
+use Rattle.awk_ere.specs.definitions.Tree.{Tree, Occurs}
 use Rattle.awk_ere.specs.support.Found.{EndsAt}
-use Rattle.awk_ere_compile.specs.definitions.Desugared.{Re, MatchesRe, desugar, IsOrdered}
+use Rattle.awk_ere.specs.definitions.Desugared.{Re, MatchesRe, desugar, IsOrdered}
 use Rattle.awk_ere.specs.support.Marked.{Marked, flow, step, fresh}
 use Rattle.awk_ere.specs.support.CursorState.{Starts, Tracks}
 use Rattle.awk_ere.specs.definitions.Means.{occurs_from, occurs}

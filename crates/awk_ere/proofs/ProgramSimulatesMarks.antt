@@ -3,7 +3,7 @@ use Rattle.std.proofs.Common.{◌≡◌, ℕ, suc, ◌+◌, List, [], ◌∷◌,
 use Rattle.std.proofs.lemmas.Bool.{or_left, false≢true}
 use Rattle.std.proofs.Math.Bool.{or-false}
 use Rattle.awk_ere.specs.support.Marked.{Marked, meps, mone, mfirst, mlast, mcat, malt, mplus, bare, flow, step, IsFlagged}
-use Rattle.awk_ere_compile.specs.definitions.Program.{ResolvedInstruction, swap, join, leave, code_size, code}
+use Rattle.awk_ere.specs.definitions.Program.{ResolvedInstruction, swap, join, leave, code_size, code}
 use Rattle.awk_ere.specs.support.Simulation.{registers, signal, exec, positions}
 use Rattle.awk_ere.specs.declared.simulation.Signal.{Signal}
 use Rattle.awk_ere.proofs.MarkedStep.{flow_mono}

@@ -1,12 +1,12 @@
 -- What reading a text answers is decided by the pattern that the text spells.
 use Rattle.std.proofs.Common.{◌≡◌, ℕ, List, Option, Some, None, Result, Ok, Err, refl, sym, subst}
 use Rattle.std.specs.Prelude.{IfOk, IfErr}
-use Rattle.awk_ere_syntax.specs.definitions.Tree.{Tree}
-use Rattle.awk_ere_syntax.specs.definitions.Limits.{Refused, SpellsWithin}
-use Rattle.awk_ere_syntax.specs.support.PatternOf.{pattern_of}
-use Rattle.awk_ere_syntax.specs.declared.fault.PatternFault.{PatternFault}
-use Rattle.awk_ere_syntax.proofs.PatternDecided.{pattern_sound, pattern_complete}
-use Rattle.awk_ere_syntax.proofs.RefusalsExclusive.{read_exactly}
+use Rattle.awk_ere.specs.definitions.Tree.{Tree}
+use Rattle.awk_ere.specs.definitions.Limits.{Refused, SpellsWithin}
+use Rattle.awk_ere.specs.support.PatternOf.{pattern_of}
+use Rattle.awk_ere.specs.declared.fault.PatternFault.{PatternFault}
+use Rattle.awk_ere.proofs.PatternDecided.{pattern_sound, pattern_complete}
+use Rattle.awk_ere.proofs.RefusalsExclusive.{read_exactly}
 use Rattle.awk_ere.specs.definitions.Means.{Means, ReadsAs}
 use Rattle.awk_ere.specs.declared.pattern.Pattern.{Pattern}
 

@@ -5,7 +5,7 @@ use Rattle.std.proofs.Math.Logic.{∥∥₁_elim}
 use Rattle.std.proofs.lemmas.List.{length-append, get_or-append-add}
 use Rattle.std.proofs.Math.ListN.{get_or-append}
 use Rattle.memchr.specs.Find.{OccursAt, FindsNeedle}
-use Rattle.awk_ere_syntax.specs.definitions.Tree.{Tree, Finds}
+use Rattle.awk_ere.specs.definitions.Tree.{Tree, Finds}
 use Rattle.awk_ere.specs.definitions.Means.{Means, occurs, HasNoneUpTo}
 use Rattle.awk_ere.specs.support.Found.{EndsAt}
 use Rattle.awk_ere.specs.support.Required.{StandsInEach}

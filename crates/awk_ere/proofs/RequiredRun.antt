@@ -3,11 +3,11 @@ use Rattle.std.proofs.Common.{◌≡◌, ℕ, suc, ◌+◌, ◌-◌, ◌<◌, �
 use Rattle.std.specs.Prelude.{◌==◌, nat_lt, if◌then◌else◌}
 use Rattle.std.proofs.lemmas.Bool.{false≢true, le-ltb}
 use Rattle.std.proofs.lemmas.Option.{same_Some, none-some}
-use Rattle.awk_ere_syntax.specs.definitions.Tree.{Class, class_of, has}
-use Rattle.awk_ere_compile.specs.declared.program.Instruction.{Instruction}
-use Rattle.awk_ere_compile.specs.declared.program.Instruction.TheVariants as instructions
-use Rattle.awk_ere_compile.specs.definitions.Desugared.{Re, eps, one, first, last, cat, alt, plus, MatchesRe, desugar}
-use Rattle.awk_ere_compile.specs.definitions.Program.{ResolvedInstruction, read, at_start, at_end, fork, swap, join, enter, leave, resolve, code, code_size}
+use Rattle.awk_ere.specs.definitions.Tree.{Class, class_of, has}
+use Rattle.awk_ere.specs.declared.program.Instruction.{Instruction}
+use Rattle.awk_ere.specs.declared.program.Instruction.TheVariants as instructions
+use Rattle.awk_ere.specs.definitions.Desugared.{Re, eps, one, first, last, cat, alt, plus, MatchesRe, desugar}
+use Rattle.awk_ere.specs.definitions.Program.{ResolvedInstruction, read, at_start, at_end, fork, swap, join, enter, leave, resolve, code, code_size}
 use Rattle.awk_ere.specs.support.Required.{StandsInEach}
 use Rattle.awk_ere.specs.support.RequiredRun.{depth_behind, byte_of, byte_at, longer, run_behind, longest_behind, longest_run}
 use Rattle.awk_ere.specs.declared.pattern.Pattern.{Pattern}

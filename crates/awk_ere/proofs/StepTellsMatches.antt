@@ -5,9 +5,9 @@ use Rattle.std.proofs.Math.ListN.{replicate}
 use Rattle.std.proofs.lemmas.Option.{slice_get-get_or, slice_get_within}
 use Rattle.std.proofs.lemmas.Bool.{false≢true, eqb-true, eq-eqb}
 use Rattle.std.proofs.lemmas.List.{length-map}
-use Rattle.awk_ere_syntax.specs.definitions.Tree.{Tree, Times, Matches}
-use Rattle.awk_ere_compile.specs.definitions.Desugared.{Re, eps, one, first, last, cat, alt, plus, MatchesRe, desugar}
-use Rattle.awk_ere_compile.specs.definitions.Program.{ResolvedInstruction, resolve, swap, join, leave, code_size, code}
+use Rattle.awk_ere.specs.definitions.Tree.{Tree, Times, Matches}
+use Rattle.awk_ere.specs.definitions.Desugared.{Re, eps, one, first, last, cat, alt, plus, MatchesRe, desugar}
+use Rattle.awk_ere.specs.definitions.Program.{ResolvedInstruction, resolve, swap, join, leave, code_size, code}
 use Rattle.awk_ere.specs.definitions.Means.{Means}
 use Rattle.awk_ere.specs.support.Marked.{bare, flow, step, fresh}
 use Rattle.awk_ere.specs.support.Simulation.{registers, exec, positions}

@@ -1,1 +1,9 @@
+pub mod Brackets
+pub mod Escapes
+pub mod Limits
+pub mod Tokens
+pub mod Tree
+pub mod Written
+pub mod Desugared
+pub mod Program
 pub mod Means

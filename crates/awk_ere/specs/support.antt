@@ -1,3 +1,11 @@
+pub mod Checks
+pub mod Lexer
+pub mod Parser
+pub mod PatternOf
+pub mod TokenValues
+pub mod CompilerResult
+pub mod CompilerState
+pub mod RepeatInstructions
 pub mod CursorState
 pub mod Found
 pub mod Layout

@@ -1,15 +1,15 @@
 // Laws of reading and of matching.
 
 ghost use Rattle.std.specs.Prelude.{◌≡◌, ◌↔◌, ℕ, List, true, Result, IfOk, IfErr};
-ghost use Rattle.awk_ere_syntax.specs.definitions.Tree.{Tree, Occurs};
-ghost use Rattle.awk_ere_syntax.specs.definitions.Limits.{SpellsWithin, Refused};
-ghost use Rattle.awk_ere_syntax.specs.support.PatternOf.{pattern_of};
-ghost use Rattle.awk_ere_syntax.specs.declared.fault.PatternFault.{PatternFault};
-ghost use Rattle.awk_ere_compile.specs.definitions.Desugared.{IsOrdered};
+ghost use Rattle.awk_ere.specs.definitions.Tree.{Tree, Occurs};
+ghost use Rattle.awk_ere.specs.definitions.Limits.{SpellsWithin, Refused};
+ghost use Rattle.awk_ere.specs.support.PatternOf.{pattern_of};
+ghost use Rattle.awk_ere.specs.declared.fault.PatternFault.{PatternFault};
+ghost use Rattle.awk_ere.specs.definitions.Desugared.{IsOrdered};
 ghost use Rattle.awk_ere.specs.definitions.Means.{occurs, Means, ReadsAs};
 ghost use Rattle.awk_ere.specs.declared.pattern.Pattern.{Pattern};
 
-pub use awk_ere_syntax::laws::{one_pattern, pattern_law, read_exactly};
+pub use crate::spelling_laws::{one_pattern, pattern_law, read_exactly};
 
 /// Whether a pattern whose counts are in order matches somewhere in a text is decided by `occurs`.
 pub fn occurs_law()

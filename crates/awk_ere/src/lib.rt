@@ -1,3 +1,12 @@
+//! Extended regular expressions as they are written (XBD 9.4): the tokens of a text, and the check of a whole text.
+//!
+//! A token is read from the front of a text, in the order in which its bytes stand. The check follows the grammar by what
+//! stands before a token and how many groups are open, so it keeps no tree and takes no memory that grows with the text.
+//! A compiler of extended regular expressions to straight programs.
+//!
+//! Each token of a text is compiled as it is read (Thompson, "Regular expression search algorithm", 1968), but to no
+//! automaton with jumps: the program is run from its first to its last instruction once for each byte, and its positions
+//! are those of Glushkov ("The abstract theory of automata", 1961). A repeat copies the program of its body.
 //! Extended regular expressions over bytes: reading a pattern, and the leftmost, then longest match (XBD 9).
 //!
 //! - A pattern is a straight program (`awk_ere_compile`), and its positions are those of Glushkov ("The abstract theory
@@ -11,17 +20,29 @@
 //!   first end of a match and the stretch in which the leftmost one begins.
 #![tactic(auto)]
 
+mod check;
+mod class_name;
+mod compile;
+mod compiler;
 mod dfa;
+pub mod fault;
 mod first_bytes;
 pub mod laws;
-pub mod newline;
+mod newline;
 pub mod pattern;
 mod prefilter;
+mod program;
+mod reading;
+mod repeat;
 mod required;
-pub mod scratch;
-pub mod search;
+mod scratch;
+mod search;
 mod simulation;
+mod spelling_laws;
+mod token;
 
-pub use awk_ere_syntax::{ClassName, PatternFault, fault};
+pub use class_name::ClassName;
+pub use fault::PatternFault;
+pub use program::{Instruction, Program};
 pub use pattern::Pattern;
 pub use scratch::Scratch;

@@ -1,12 +1,12 @@
 // A pattern with a newline as one more branch.
 
 ghost use Rattle.std.specs.Prelude.{◌≡◌, ◌==◌, MatchResult};
-ghost use Rattle.awk_ere_syntax.specs.definitions.Tree.{class_of, Tree, class, branches, none, next};
+ghost use Rattle.awk_ere.specs.definitions.Tree.{class_of, Tree, class, branches, none, next};
 ghost use Rattle.awk_ere.specs.definitions.Means.{Means};
 
 use crate::pattern::Pattern;
-use awk_ere_compile::program::{Instruction, Program};
-use awk_ere_syntax::fault::PatternFault;
+use crate::program::{Instruction, Program};
+use crate::fault::PatternFault;
 use std::alloc::Global;
 
 impl Pattern {

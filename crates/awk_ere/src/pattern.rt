@@ -1,13 +1,13 @@
 // A pattern that was read.
 
 ghost use Rattle.std.specs.Prelude.{◌≡◌, IfOk, IfErr};
-ghost use Rattle.awk_ere_syntax.specs.definitions.Tree.{Tree};
-ghost use Rattle.awk_ere_syntax.specs.definitions.Limits.{Refused, SpellsWithin};
+ghost use Rattle.awk_ere.specs.definitions.Tree.{Tree};
+ghost use Rattle.awk_ere.specs.definitions.Limits.{Refused, SpellsWithin};
 ghost use Rattle.awk_ere.specs.definitions.Means.{Means};
 
-use awk_ere_compile::compile::compile;
-use awk_ere_compile::program::Program;
-use awk_ere_syntax::fault::PatternFault;
+use crate::compile::compile;
+use crate::program::Program;
+use crate::fault::PatternFault;
 use std::alloc::Global;
 
 /// A pattern, ready to be searched for.

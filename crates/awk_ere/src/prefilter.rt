@@ -3,7 +3,7 @@
 
 ghost use Rattle.std.specs.Prelude.{◌≡◌, ◌≤◌, length, IfOk, IfErr};
 ghost use Rattle.std.specs.Option.{option_map};
-ghost use Rattle.awk_ere_syntax.specs.definitions.Tree.{Tree, NoneFrom};
+ghost use Rattle.awk_ere.specs.definitions.Tree.{Tree, NoneFrom};
 ghost use Rattle.awk_ere.specs.definitions.Means.{Means};
 ghost use Rattle.awk_ere.specs.support.Table.{IsFor, IsLiteral};
 
@@ -11,8 +11,8 @@ use crate::dfa::cursor::first_state;
 use crate::dfa::table::DEAD;
 use crate::pattern::Pattern;
 use crate::scratch::Scratch;
-use awk_ere_compile::program::Instruction;
-use awk_ere_syntax::fault::PatternFault;
+use crate::program::Instruction;
+use crate::fault::PatternFault;
 use memchr::memmem::Finder;
 use std::alloc::Global;
 

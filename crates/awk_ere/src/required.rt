@@ -2,7 +2,7 @@
 // that may come again.
 
 ghost use Rattle.std.specs.Prelude.{◌≡◌, ◌+◌, ◌<◌, ◌≤◌, ◌^◌, true, [], length, None, IfOk, IfErr};
-ghost use Rattle.awk_ere_syntax.specs.definitions.Tree.{Tree, Finds};
+ghost use Rattle.awk_ere.specs.definitions.Tree.{Tree, Finds};
 ghost use Rattle.awk_ere.specs.definitions.Means.{Means};
 ghost use Rattle.awk_ere.specs.support.Table.{IsFor};
 ghost use Rattle.awk_ere.specs.support.Required.{IsRequired};
@@ -10,8 +10,8 @@ ghost use Rattle.awk_ere.specs.support.RequiredRun as spec;
 
 use crate::pattern::Pattern;
 use crate::scratch::Scratch;
-use awk_ere_compile::program::Instruction;
-use awk_ere_syntax::fault::PatternFault;
+use crate::program::Instruction;
+use crate::fault::PatternFault;
 use memchr::memmem::Finder;
 use std::alloc::Global;
 use std::mem::swap;

@@ -8,8 +8,8 @@ use crate::dfa::table::Table;
 use crate::first_bytes::FirstBytes;
 use crate::pattern::Pattern;
 use crate::simulation::{Input, PositionSet};
-use awk_ere_compile::program::Instruction;
-use awk_ere_syntax::fault::PatternFault;
+use crate::program::Instruction;
+use crate::fault::PatternFault;
 use memchr::memmem::Finder;
 use std::alloc::Global;
 

@@ -2,7 +2,7 @@
 // the first stretch of places where one is known to begin: at the first of them, and by halving.
 
 ghost use Rattle.std.specs.Prelude.{◌≡◌, ◌↔◌, ℕ, ◌≤◌, true, false, length, IfSome, OnSome};
-ghost use Rattle.awk_ere_syntax.specs.definitions.Tree.{Tree, NoneFrom, Finds, Occurs};
+ghost use Rattle.awk_ere.specs.definitions.Tree.{Tree, NoneFrom, Finds, Occurs};
 ghost use Rattle.awk_ere.specs.definitions.Means.{Means, occurs, HasNoneUpTo};
 ghost use Rattle.awk_ere.specs.support.Table.{IsFor};
 ghost use Rattle.awk_ere.specs.support.Required.{PassesOver};

@@ -4,15 +4,15 @@
 
 ghost use Rattle.std.specs.Prelude.{◌≡◌, ℕ, ◌+◌, ◌<◌, ◌≤◌, ◌&&◌, ◌||◌, false, true, [], ◌∷◌, length};
 ghost use Rattle.std.specs.Prelude.{drop, replicate, slice_set, slice_index_or, MatchResult};
-ghost use Rattle.awk_ere_syntax.specs.definitions.Tree.{has};
-ghost use Rattle.awk_ere_compile.specs.definitions.Program.{resolve};
+ghost use Rattle.awk_ere.specs.definitions.Tree.{has};
+ghost use Rattle.awk_ere.specs.definitions.Program.{resolve};
 ghost use Rattle.awk_ere.specs.support.Simulation.{swapped, joined, act, read_off};
 ghost use Rattle.awk_ere.specs.support.SimulationStep.{AreFor, leaves, behind};
 
 use crate::pattern::Pattern;
-use awk_ere_compile::program::Instruction;
-use awk_ere_syntax::fault::PatternFault;
-use awk_ere_syntax::token::BYTE_COUNT;
+use crate::program::Instruction;
+use crate::fault::PatternFault;
+use crate::token::BYTE_COUNT;
 use std::alloc::Global;
 
 /// Whether a match has come to a point of the program: before the byte that is read, and after it.

@@ -5,7 +5,7 @@ use Rattle.std.proofs.Props.{props}
 use Rattle.std.specs.Prelude.{◌↔◌, false, IfSome, IfErr, OnOk}
 use Rattle.std.specs.Coded.{Coded, Coded-set, code_by, coded×, coded_option, coded_list, coded_ℕ, coded_bool}
 use Rattle.awk_ere.specs.Tree.{Tree}
-use Rattle.awk_ere_compile.specs.definitions.Desugared.{IsOrdered}
+use Rattle.awk_ere.specs.definitions.Desugared.{IsOrdered}
 use Rattle.awk_ere.specs.Means.{Means, pattern_of, occurs, HasNoneUpTo}
 use Rattle.awk_ere.specs.declared.pattern.Pattern.{Pattern}
 use Rattle.awk_text.specs.declared.span.Span.{Span}

@@ -3,8 +3,8 @@ use Rattle.std.proofs.Common.{◌≡◌, ℕ, inl, inr, List, Option, Some, None
 use Rattle.awk_ere.specs.Tree.{Tree}
 use Rattle.awk_ere.specs.Means.{pattern_of, ReadsAs}
 use Rattle.awk_ere.specs.declared.pattern.Pattern.{Pattern}
-use Rattle.awk_ere_syntax.specs.declared.fault.PatternFault.{PatternFault}
-use Rattle.awk_ere_syntax.specs.declared.fault.PatternFault.TheVariants.{Memory, IllFormed, BadCount, TooLarge}
+use Rattle.awk_ere.specs.declared.fault.PatternFault.{PatternFault}
+use Rattle.awk_ere.specs.declared.fault.PatternFault.TheVariants.{Memory, IllFormed, BadCount, TooLarge}
 use Rattle.awk_semantics.specs.declared.halt.Halt.{Halt}
 use Rattle.awk_semantics.specs.declared.halt.Halt.TheVariants as halt
 use Rattle.awk_semantics.specs.Faults.{pattern_fault}

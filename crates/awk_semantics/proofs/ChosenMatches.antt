@@ -3,7 +3,7 @@ use Rattle.std.proofs.Common.{◌≡◌, ℕ, zero, suc, ◌+◌, ◌-◌, ◌�
 use Rattle.std.specs.Prelude.{◌↔◌}
 use Rattle.std.proofs.lemmas.Bool.{cases_lt, cond-true, cond-false, lt-ltb, le-ltb}
 use Rattle.awk_ere.specs.Tree.{Tree, Matches}
-use Rattle.awk_ere_compile.specs.definitions.Desugared.{IsOrdered}
+use Rattle.awk_ere.specs.definitions.Desugared.{IsOrdered}
 use Rattle.awk_ere.specs.support.Found.{Longest}
 use Rattle.awk_ere.proofs.StepTellsMatches.{match_within, match_le}
 use Rattle.awk_text.specs.declared.span.Span.{Span}

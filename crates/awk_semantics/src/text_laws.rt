@@ -2,7 +2,7 @@
 
 ghost use Rattle.std.specs.Prelude.{◌≡◌, ◌↔◌, ℕ, Bool, List, Option, None};
 ghost use Rattle.awk_ere.specs.Tree.{Tree};
-ghost use Rattle.awk_ere_compile.specs.definitions.Desugared.{IsOrdered};
+ghost use Rattle.awk_ere.specs.definitions.Desugared.{IsOrdered};
 ghost use Rattle.awk_text.specs.declared.span.Span.{Span};
 ghost use Rattle.awk_text.specs.definitions.Chosen.{IsNextMatch};
 ghost use Rattle.awk_text.specs.definitions.Functions.{IsPositionOf};

@@ -2,8 +2,8 @@
 use Rattle.std.proofs.Common.{◌≡◌, ◌⊎◌, ℕ, zero, suc, ◌+◌, ◌<◌, inl, inr, List, [], ◌∷◌, ◌++◌, length, take, drop, get_or, add-one, refl, sym, ap, ◌∙◌, subst, arith}
 use Rattle.awk_ere.specs.Tree.{Tree}
 use Rattle.awk_ere.specs.Limits.{SpellsWithin}
-use Rattle.awk_ere_syntax.specs.declared.fault.PatternFault.TheVariants.{IllFormed, BadCount, TooLarge}
-use Rattle.awk_ere_syntax.proofs.RefusalsExclusive.{read_exactly}
+use Rattle.awk_ere.specs.declared.fault.PatternFault.TheVariants.{IllFormed, BadCount, TooLarge}
+use Rattle.awk_ere.proofs.RefusalsExclusive.{read_exactly}
 use Rattle.awk_lex.specs.Told.{kinds_of}
 use Rattle.awk_lex.specs.declared.token.Kind.{Kind}
 use Rattle.awk_lex.specs.declared.token.Kind.TheVariants.{Ere}

@@ -2,8 +2,8 @@
 use Rattle.std.proofs.Common.{◌≡◌, ℕ, zero, suc, ◌+◌, ◌-◌, ◌≤◌, List, [], ◌∷◌, length, Option, Some, None, refl, sym, ap, subst, ◌∙◌, arith, inl, inr}
 use Rattle.std.specs.Prelude.{◌↔◌}
 use Rattle.std.proofs.lemmas.Bool.{cases_lt, cond-true, cond-false, lt-ltb, le-ltb}
-use Rattle.awk_ere_syntax.specs.definitions.Tree.{Tree, Matches}
-use Rattle.awk_ere_compile.specs.definitions.Desugared.{IsOrdered}
+use Rattle.awk_ere.specs.definitions.Tree.{Tree, Matches}
+use Rattle.awk_ere.specs.definitions.Desugared.{IsOrdered}
 use Rattle.awk_ere.specs.support.Found.{Longest}
 use Rattle.awk_ere.proofs.StepTellsMatches.{match_within}
 use Rattle.awk_text.specs.declared.span.Span.{Span}

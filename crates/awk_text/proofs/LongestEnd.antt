@@ -3,8 +3,8 @@ use Rattle.std.proofs.Common.{◌≡◌, ℕ, suc, ◌+◌, ◌≤◌, Bool, tru
 use Rattle.std.specs.Prelude.{nat_eq, slice_get}
 use Rattle.std.proofs.lemmas.List.{length-append, length-take-le, take-append-drop}
 use Rattle.std.proofs.lemmas.Bool.{eqb-true, eq-eqb, cases_lt, false≢true}
-use Rattle.awk_ere_syntax.specs.definitions.Tree.{Tree}
-use Rattle.awk_ere_compile.specs.definitions.Desugared.{Re, MatchesRe, desugar, IsOrdered}
+use Rattle.awk_ere.specs.definitions.Tree.{Tree}
+use Rattle.awk_ere.specs.definitions.Desugared.{Re, MatchesRe, desugar, IsOrdered}
 use Rattle.awk_ere.specs.support.Found.{Longest}
 use Rattle.awk_ere.specs.support.Marked.{Marked, flow, step, fresh}
 use Rattle.awk_ere.specs.support.CursorState.{Starts, Tracks}

@@ -1,7 +1,7 @@
 -- A match that begins within the text stays there, and doesn't go back.
 use Rattle.std.proofs.Common.{ℕ, zero, suc, ◌≤◌, List, length, ⊎_elim, arith}
 use Rattle.std.proofs.lemmas.Option.{slice_get_within}
-use Rattle.awk_ere_syntax.specs.definitions.Tree.{Tree, empty, class, start, end, pieces, branches, repeat, Row, none, next, Times, Matches, MatchesAll, MatchesOne}
+use Rattle.awk_ere.specs.definitions.Tree.{Tree, empty, class, start, end, pieces, branches, repeat, Row, none, next, Times, Matches, MatchesAll, MatchesOne}
 
 -- from a place up to n it leads to one that isn't before it, up to n
 abbrev pub Stays : ℕ → (ℕ → ℕ → Type 0) → Type 0

@@ -3,8 +3,8 @@ use Rattle.std.proofs.Common.{◌≡◌, ℕ, ◌+◌, ◌-◌, ◌<◌, ◌≤�
 use Rattle.std.specs.Prelude.{slice_range}
 use Rattle.std.proofs.lemmas.Bool.{cond-true, cond-false, lt-ltb, le-ltb}
 use Rattle.std.proofs.lemmas.List.{at_drop_more, drop_all, take_rest}
-use Rattle.awk_ere_syntax.specs.definitions.Tree.{Tree}
-use Rattle.awk_ere_compile.specs.definitions.Desugared.{IsOrdered}
+use Rattle.awk_ere.specs.definitions.Tree.{Tree}
+use Rattle.awk_ere.specs.definitions.Desugared.{IsOrdered}
 use Rattle.awk_text.specs.definitions.Pieces.{blank_pieces}
 use Rattle.awk_text.specs.support.Stretch.{IsStretchEnd}
 use Rattle.awk_text.specs.declared.span.Span.{Span}

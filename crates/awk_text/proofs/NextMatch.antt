@@ -2,7 +2,7 @@
 use Rattle.std.proofs.Common.{◌≡◌, ℕ, ◌+◌, ◌<◌, ◌≤◌, List, length, Option, Some, None, refl, subst, arith, inl, inr}
 use Rattle.std.specs.Prelude.{IfSome}
 use Rattle.std.proofs.lemmas.Bool.{cases_lt}
-use Rattle.awk_ere_syntax.specs.definitions.Tree.{Tree, Matches, Finds}
+use Rattle.awk_ere.specs.definitions.Tree.{Tree, Matches, Finds}
 use Rattle.awk_text.specs.declared.span.Span.{Span}
 use Rattle.awk_text.specs.definitions.Pieces.{IsSpanOf}
 use Rattle.awk_text.specs.definitions.Chosen.{IsMatch, Follows, IsNextMatch}

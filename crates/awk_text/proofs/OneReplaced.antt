@@ -1,6 +1,6 @@
 -- The chosen matches are the only ones.
 use Rattle.std.proofs.Common.{◌≡◌, ℕ, ◌≤◌, List, [], ◌∷◌, length, Option, Some, None, Bool, true, false, refl, sym, ap, ◌∙◌, subst, arith}
-use Rattle.awk_ere_syntax.specs.definitions.Tree.{Tree}
+use Rattle.awk_ere.specs.definitions.Tree.{Tree}
 use Rattle.awk_text.specs.declared.span.Span.{Span}
 use Rattle.awk_text.specs.definitions.Chosen.{IsMatch, IsLeftmostLongest, Follows, AreMatches, AreChosen}
 use Rattle.awk_text.specs.definitions.Replaced.{replaced_from, Replaced}

@@ -4,11 +4,11 @@ use Rattle.std.specs.Prelude.{is_ok, IfOk, IfErr, OnOk, MatchResult}
 use Rattle.std.specs.Result.{IsErrAnd}
 use Rattle.std.proofs.Math.Logic.{∥∥₁_elim, ∥∥₁_prop}
 use Rattle.std.specs.Coded.{Coded-set, coded_list, coded_ℕ}
-use Rattle.awk_ere_syntax.specs.definitions.Tree.{Tree}
+use Rattle.awk_ere.specs.definitions.Tree.{Tree}
 use Rattle.awk_ere.specs.definitions.Means.{Means, ReadsAs, pattern_of}
 use Rattle.awk_ere.specs.declared.pattern.Pattern.{Pattern}
-use Rattle.awk_ere_syntax.specs.declared.fault.PatternFault.{PatternFault}
-use Rattle.awk_ere_syntax.specs.declared.fault.PatternFault.TheVariants as patterns
+use Rattle.awk_ere.specs.declared.fault.PatternFault.{PatternFault}
+use Rattle.awk_ere.specs.declared.fault.PatternFault.TheVariants as patterns
 use Rattle.awk_text.specs.declared.fault.TextFault.{TextFault}
 use Rattle.awk_text.specs.declared.fault.TextFault.TheVariants.{Memory, Pattern as NoPattern}
 use Rattle.awk_text.specs.declared.span.FoundField.{FoundField}

@@ -10,4 +10,4 @@ pub use Rattle.awk_text.specs.definitions.Replaced
 pub use Rattle.awk_text.specs.definitions.Replacement
 pub use Rattle.awk_ere.specs.definitions.Means
 pub use Rattle.awk_ere.specs.support.Table
-pub use Rattle.awk_ere_syntax.specs.definitions.Tree
+pub use Rattle.awk_ere.specs.definitions.Tree

@@ -2,7 +2,7 @@
 ghost use Rattle.std.specs.Prelude.{◌≡◌, ◌+◌, ◌≤◌, ◌<◌, None, Some, length, IfSome};
 ghost use Rattle.awk_ere.specs.definitions.Means.{Means};
 ghost use Rattle.awk_ere.specs.support.Table.{IsFor};
-ghost use Rattle.awk_ere_syntax.specs.definitions.Tree.{Tree};
+ghost use Rattle.awk_ere.specs.definitions.Tree.{Tree};
 ghost use Rattle.awk_text.specs.definitions.Pieces.{IsSpanOf};
 ghost use Rattle.awk_text.specs.definitions.Chosen.{IsNextMatch};
 ghost use Rattle.awk_text.specs.support.Search.{FindsFrom, IsLongest, LiesBehind};

@@ -1,6 +1,6 @@
 // Laws of replacing.
 ghost use Rattle.std.specs.Prelude.{◌≡◌, ℕ, Bool, List};
-ghost use Rattle.awk_ere_syntax.specs.definitions.Tree.{Tree};
+ghost use Rattle.awk_ere.specs.definitions.Tree.{Tree};
 ghost use Rattle.awk_text.specs.definitions.Replaced.{Replaced};
 
 /// There is one way to replace the matches of a pattern in a text: one number of them, and one text.

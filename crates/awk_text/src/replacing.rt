@@ -2,7 +2,7 @@
 ghost use Rattle.std.specs.Prelude.{◌≡◌, ◌++◌, true, slice_range, OnOk, IfOk, IfErr};
 ghost use Rattle.awk_ere.specs.definitions.Means.{Means};
 ghost use Rattle.awk_ere.specs.support.Table.{IsFor};
-ghost use Rattle.awk_ere_syntax.specs.definitions.Tree.{Tree};
+ghost use Rattle.awk_ere.specs.definitions.Tree.{Tree};
 ghost use Rattle.awk_text.specs.definitions.Pieces.{stretch_at};
 ghost use Rattle.awk_text.specs.definitions.Replaced.{Replaces, Substitutes};
 ghost use Rattle.awk_text.specs.definitions.Replacement.{replacement_for};

@@ -1,7 +1,7 @@
 // Laws of separators and of the pieces that they leave.
 ghost use Rattle.std.specs.Prelude.{◌≡◌, ◌≢◌, ◌↔◌, ◌<◌, ℕ, Bool, true, List, [], ◌∷◌, ◌++◌, length};
-ghost use Rattle.awk_ere_syntax.specs.definitions.Tree.{Tree};
-ghost use Rattle.awk_ere_compile.specs.definitions.Desugared.{IsOrdered};
+ghost use Rattle.awk_ere.specs.definitions.Tree.{Tree};
+ghost use Rattle.awk_ere.specs.definitions.Desugared.{IsOrdered};
 ghost use Rattle.awk_text.specs.declared.span.Span.{Span};
 ghost use Rattle.awk_text.specs.definitions.Pieces.{AreBlank, IsPiece, is_blank_or_newline};
 ghost use Rattle.awk_text.specs.definitions.Separators.{Separator, blanks, byte, AreSeparators};

@@ -1,14 +1,14 @@
 -- Which pattern a compiled pattern stands for, what reading a text answers, and whether a text has a match.
 use Rattle.std.specs.Prelude.{◌≡◌, ℕ, suc, ◌+◌, ◌≤◌, Bool, true, false, ◌||◌, nat_eq, List, [], ◌∷◌, ◌++◌, length, Option, Some, None, Result, Ok, Err}
-use Rattle.awk_ere_syntax.specs.definitions.Tree.{Tree}
-use Rattle.awk_ere_syntax.specs.declared.fault.PatternFault.{PatternFault}
-use Rattle.awk_ere_syntax.specs.declared.fault.PatternFault.TheVariants.{Memory}
-use Rattle.awk_ere_compile.specs.definitions.Desugared.{desugar}
-use Rattle.awk_ere_compile.specs.definitions.Program.{Compiles}
+use Rattle.awk_ere.specs.definitions.Tree.{Tree}
+use Rattle.awk_ere.specs.declared.fault.PatternFault.{PatternFault}
+use Rattle.awk_ere.specs.declared.fault.PatternFault.TheVariants.{Memory}
+use Rattle.awk_ere.specs.definitions.Desugared.{desugar}
+use Rattle.awk_ere.specs.definitions.Program.{Compiles}
 use Rattle.awk_ere.specs.support.Marked.{Marked, flow, step, fresh}
 use Rattle.awk_ere.specs.declared.pattern.Pattern.{Pattern}
-pub use Rattle.awk_ere_syntax.specs.definitions.Limits.{Refused}
-pub use Rattle.awk_ere_syntax.specs.support.PatternOf.{pattern_of}
+pub use Rattle.awk_ere.specs.definitions.Limits.{Refused}
+pub use Rattle.awk_ere.specs.support.PatternOf.{pattern_of}
 
 -- the compiled pattern's program is that of the tree
 abbrev pub Means : Tree → Pattern → Type 0

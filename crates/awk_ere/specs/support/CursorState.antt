@@ -1,7 +1,7 @@
 -- What the positions tell of a text that was read up to a place.
 use Rattle.std.specs.Prelude.{◌≡◌, ℕ, ◌<◌, ◌≤◌, Bool, true, false, List, []}
-use Rattle.awk_ere_syntax.specs.definitions.Tree.{Tree}
-use Rattle.awk_ere_compile.specs.definitions.Desugared.{Re, MatchesRe, desugar}
+use Rattle.awk_ere.specs.definitions.Tree.{Tree}
+use Rattle.awk_ere.specs.definitions.Desugared.{Re, MatchesRe, desugar}
 use Rattle.awk_ere.specs.support.Marked.{Marked, bare, IsFlagged, Rest}
 use Rattle.awk_ere.specs.support.Simulation.{positions}
 use Rattle.awk_ere.specs.support.Table.{IsState}

@@ -1,6 +1,6 @@
 -- What the parts of a search find.
 use Rattle.std.specs.Prelude.{◌≡◌, ℕ, ◌<◌, ◌≤◌, Bool, true, ◌&&◌, nat_le, List, length, Option, Some, None, IsSome, IfSome}
-use Rattle.awk_ere_syntax.specs.definitions.Tree.{Tree, Matches, NoneFrom}
+use Rattle.awk_ere.specs.definitions.Tree.{Tree, Matches, NoneFrom}
 
 -- a place from one up to another
 abbrev pub between : ℕ → ℕ → ℕ → Bool

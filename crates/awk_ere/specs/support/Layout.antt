@@ -1,7 +1,7 @@
 -- How the transition table is laid out. A state is named by the place where its entries begin, and an entry is the name
 -- of the state that it leads to, or 0 where it is unknown.
 use Rattle.std.specs.Prelude.{ℕ, suc, ◌*◌, ◌^◌, nat_eq, if◌then◌else◌}
-pub use Rattle.awk_ere_syntax.specs.definitions.Tree.{byte_count}
+pub use Rattle.awk_ere.specs.definitions.Tree.{byte_count}
 
 -- the entry for the end of the text, behind those for the bytes
 abbrev pub end_of_text : ℕ

@@ -1,7 +1,7 @@
 -- A pattern with a mark at each byte that was just read, and at each repeat whether its body is complete.
 use Rattle.std.specs.Prelude.{◌≡◌, ℕ, Bool, true, false, ◌&&◌, ◌||◌, ◌⊎◌, List}
-use Rattle.awk_ere_syntax.specs.definitions.Tree.{Class, has}
-use Rattle.awk_ere_compile.specs.definitions.Desugared.{Re, eps, one, first, last, cat, alt, plus, Many, MatchesRe}
+use Rattle.awk_ere.specs.definitions.Tree.{Class, has}
+use Rattle.awk_ere.specs.definitions.Desugared.{Re, eps, one, first, last, cat, alt, plus, Many, MatchesRe}
 
 pub data Marked : Type 0 where
   meps : Marked

@@ -1,7 +1,7 @@
 -- A text that stands in each match of a pattern, and how far another text is passed over for want of it.
 use Rattle.std.specs.Prelude.{◌≡◌, ℕ, ◌+◌, ◌<◌, ◌≤◌, List, length, Option, Some, None, MatchOption, unwrap_or}
 use Rattle.memchr.specs.Find.{OccursAt, FindsNeedle}
-use Rattle.awk_ere_syntax.specs.definitions.Tree.{Tree, Matches}
+use Rattle.awk_ere.specs.definitions.Tree.{Tree, Matches}
 use Rattle.awk_ere.specs.definitions.Means.{Means}
 use Rattle.awk_ere.specs.declared.pattern.Pattern.{Pattern}
 

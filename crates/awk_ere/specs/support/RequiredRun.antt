@@ -1,7 +1,7 @@
 -- The longest run of bytes that a program reads one behind another, in no branch and no body that may come again.
 use Rattle.std.specs.Prelude.{ℕ, zero, suc, ◌+◌, ◌-◌, List, [], ◌∷◌, ◌++◌, length, nat_lt, Option, Some, None, if◌then◌else◌}
-use Rattle.awk_ere_compile.specs.declared.program.Instruction.{Instruction}
-use Rattle.awk_ere_compile.specs.declared.program.Instruction.TheVariants as instructions
+use Rattle.awk_ere.specs.declared.program.Instruction.{Instruction}
+use Rattle.awk_ere.specs.declared.program.Instruction.TheVariants as instructions
 
 -- how many branches and bodies are open behind an instruction
 abbrev pub depth_behind : Instruction → ℕ → ℕ

@@ -1,7 +1,7 @@
 -- What one step of the simulation does, instruction by instruction.
 use Rattle.std.specs.Prelude.{ℕ, Bool, false, ◌&&◌, ◌||◌, List, [], ◌∷◌, slice_index_or, drop}
-use Rattle.awk_ere_syntax.specs.definitions.Tree.{has}
-use Rattle.awk_ere_compile.specs.definitions.Program.{ResolvedInstruction, read, at_start, at_end, fork, swap, join, enter, leave}
+use Rattle.awk_ere.specs.definitions.Tree.{has}
+use Rattle.awk_ere.specs.definitions.Program.{ResolvedInstruction, read, at_start, at_end, fork, swap, join, enter, leave}
 use Rattle.awk_ere.specs.support.Marked.{Marked, meps, mone, mfirst, mlast, mcat, malt, mplus}
 use Rattle.awk_ere.specs.declared.simulation.Signal.{Signal}
 use Rattle.awk_ere.specs.declared.simulation.Flow.{Flow}

@@ -1,6 +1,6 @@
 -- One step over the program of a compiled pattern, at the start of the text or not.
 use Rattle.std.specs.Prelude.{◌≡◌, ℕ, ◌<◌, Bool, false, List, [], map, length, replicate}
-use Rattle.awk_ere_compile.specs.definitions.Program.{ResolvedInstruction, resolve}
+use Rattle.awk_ere.specs.definitions.Program.{ResolvedInstruction, resolve}
 use Rattle.awk_ere.specs.support.Layout.{byte_count}
 use Rattle.awk_ere.specs.support.Simulation.{registers, exec}
 use Rattle.awk_ere.specs.declared.pattern.Pattern.{Pattern}

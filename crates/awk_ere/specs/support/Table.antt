@@ -4,7 +4,7 @@ use Rattle.std.specs.Prelude.{◌≡◌, ℕ, suc, ◌*◌, ◌<◌, List, map, 
 use Rattle.awk_ere.specs.support.Layout.{byte_count, end_of_text, stride, match_flag, state_bound, fixed_states, least_limit}
 use Rattle.awk_ere.specs.declared.dfa.table.Table.{Table}
 use Rattle.std.specs.List.{All}
-use Rattle.awk_ere_compile.specs.declared.program.Instruction.TheVariants as instructions
+use Rattle.awk_ere.specs.declared.program.Instruction.TheVariants as instructions
 use Rattle.awk_ere.specs.declared.pattern.Pattern.{Pattern}
 use Rattle.awk_ere.specs.support.SimulationStep.{count_of, leaves, behind, dead_positions, IsStillAt, IsStill, AreFor}
 use Rattle.awk_ere.specs.support.Required.{IsRequired}

@@ -2,7 +2,7 @@
 
 ghost use Rattle.std.specs.Prelude.{◌≡◌, ◌⊎◌, ℕ, ◌+◌, ◌<◌, ◌≤◌, Bool, List, true, false};
 ghost use Rattle.std.specs.Prelude.{length, Option, None, Some, IsSome, ◌-◌, ◌^◌};
-ghost use Rattle.awk_ere_syntax.specs.definitions.Tree.{Tree};
+ghost use Rattle.awk_ere.specs.definitions.Tree.{Tree};
 ghost use Rattle.awk_ere.specs.definitions.Means.{Means};
 ghost use Rattle.awk_ere.specs.support.Layout.{first_state, dead_state, match_flag};
 ghost use Rattle.awk_ere.specs.support.Table.{IsKnown, IsState, IsEntry, IsTable, IsFor};

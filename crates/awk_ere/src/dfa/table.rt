@@ -7,8 +7,8 @@ ghost use Rattle.awk_ere.specs.support.SimulationStep.{count_of};
 ghost use Rattle.awk_ere.specs.support.Table.{Grows, IsTable, positions_at};
 
 use crate::pattern::Pattern;
-use awk_ere_syntax::fault::PatternFault;
-use awk_ere_syntax::token::BYTE_COUNT;
+use crate::fault::PatternFault;
+use crate::token::BYTE_COUNT;
 use std::alloc::{AllocError, Global};
 
 /// The states that are known, and where each byte leads from them.

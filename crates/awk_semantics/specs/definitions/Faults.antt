@@ -2,8 +2,8 @@
 use Rattle.std.specs.Prelude.{Result, Ok, Err}
 use Rattle.awk_value.specs.declared.fault.ValueFault.{ValueFault}
 use Rattle.awk_value.specs.declared.fault.ValueFault.TheVariants as value
-use Rattle.awk_ere_syntax.specs.declared.fault.PatternFault.{PatternFault}
-use Rattle.awk_ere_syntax.specs.declared.fault.PatternFault.TheVariants as patterns
+use Rattle.awk_ere.specs.declared.fault.PatternFault.{PatternFault}
+use Rattle.awk_ere.specs.declared.fault.PatternFault.TheVariants as patterns
 use Rattle.awk_fields.specs.declared.fault.RecordFault.{RecordFault}
 use Rattle.awk_fields.specs.declared.fault.RecordFault.TheVariants as fields
 use Rattle.awk_format.specs.declared.fault.FormatFault.{FormatFault}

@@ -2,7 +2,7 @@
 -- overlap; XBD 9.1: of several the one that begins first, and of those the longest.
 use Rattle.std.specs.Prelude.{◌≡◌, ◌≢◌, ℕ, ◌≤◌, Bool, true, false, List, [], ◌∷◌, length, Option, None, Some}
 use Rattle.awk_text.specs.declared.span.Span.{Span}
-use Rattle.awk_ere_syntax.specs.definitions.Tree.{Tree, Matches}
+use Rattle.awk_ere.specs.definitions.Tree.{Tree, Matches}
 
 -- the pattern matches this stretch of the text
 abbrev pub IsMatch : Tree → (text : List ℕ) → Span → Type 0

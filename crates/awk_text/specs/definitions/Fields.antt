@@ -2,7 +2,7 @@
 -- Special Variables", RS: where it is empty, a newline separates fields too, whatever FS is. An empty text has no fields.
 use Rattle.std.specs.Prelude.{◌≡◌, ◌+◌, ◌<◌, ◌≤◌, ℕ, Bool, true, false, ◌||◌, not, ◌==◌, nat_lt, if◌then◌else◌, List, [], ◌∷◌, length, map, drop, slice_range, Option, None, Some}
 use Rattle.std.specs.List.{filter, slice_split, All}
-use Rattle.awk_ere_syntax.specs.definitions.Tree.{Tree}
+use Rattle.awk_ere.specs.definitions.Tree.{Tree}
 use Rattle.awk_text.specs.definitions.Pieces.{blank_pieces, stretch_at, IsSpanOf}
 use Rattle.awk_text.specs.declared.span.Span.{Span}
 use Rattle.awk_text.specs.declared.span.FoundField.{FoundField}

@@ -2,7 +2,7 @@
 use Rattle.std.specs.Prelude.{◌≡◌, ◌<◌, ℕ, Bool, List, [], ◌∷◌, ◌++◌, length, drop, slice_range, Option, None, Some}
 use Rattle.awk_text.specs.declared.span.Span.{Span}
 use Rattle.awk_text.specs.definitions.Pieces.{stretch_at}
-use Rattle.awk_ere_syntax.specs.definitions.Tree.{Tree}
+use Rattle.awk_ere.specs.definitions.Tree.{Tree}
 use Rattle.awk_text.specs.declared.substitution.Substitution.{Substitution}
 use Rattle.awk_text.specs.definitions.Chosen.{AreChosen}
 use Rattle.awk_text.specs.definitions.Replacement.{replacement_for}

@@ -2,7 +2,7 @@
 -- the rules on FS: a space stands for blanks, any other single character for itself, and a longer text for the ERE that it
 -- spells. The standard leaves the empty text open.
 use Rattle.std.specs.Prelude.{◌≡◌, ◌<◌, ◌≤◌, ℕ, Bool, true, false, ◌==◌, if◌then◌else◌, List, [], ◌∷◌, length, Option, None, Some, Result, Ok, Err}
-use Rattle.awk_ere_syntax.specs.definitions.Tree.{Tree, class, class_of, branches, none, next, Matches}
+use Rattle.awk_ere.specs.definitions.Tree.{Tree, class, class_of, branches, none, next, Matches}
 use Rattle.awk_ere.specs.definitions.Means.{Means, pattern_of}
 use Rattle.awk_text.specs.declared.fault.TextFault.{TextFault}
 use Rattle.awk_text.specs.declared.fault.TextFault.TheVariants.{Pattern}

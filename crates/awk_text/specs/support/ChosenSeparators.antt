@@ -1,7 +1,7 @@
 -- The separators that an ERE chooses, as a function. What it decides is told by a law, `AreSeparators`.
 use Rattle.std.specs.Prelude.{ℕ, zero, suc, ◌-◌, Bool, true, false, nat_eq, nat_lt, if◌then◌else◌, List, [], ◌∷◌, length, drop, Option, None, Some}
-use Rattle.awk_ere_syntax.specs.definitions.Tree.{Tree}
-use Rattle.awk_ere_compile.specs.definitions.Desugared.{desugar}
+use Rattle.awk_ere.specs.definitions.Tree.{Tree}
+use Rattle.awk_ere.specs.definitions.Desugared.{desugar}
 use Rattle.awk_ere.specs.support.Marked.{Marked, flow, step, fresh}
 use Rattle.awk_text.specs.declared.span.Span.{Span}
 

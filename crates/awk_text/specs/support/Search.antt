@@ -1,7 +1,7 @@
 -- What a search from a place finds, and where it lies.
 use Rattle.std.specs.Prelude.{ℕ, ◌≤◌, List, length, Option}
 use Rattle.awk_text.specs.declared.span.Span.{Span}
-use Rattle.awk_ere_syntax.specs.definitions.Tree.{Tree, Matches}
+use Rattle.awk_ere.specs.definitions.Tree.{Tree, Matches}
 use Rattle.awk_text.specs.definitions.Chosen.{IsMatch, IsLeftmostLongest}
 
 -- the leftmost, then longest match that begins at a place or behind it

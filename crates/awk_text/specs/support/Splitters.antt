@@ -1,6 +1,6 @@
 -- What the code keeps of a separator.
 use Rattle.std.specs.Prelude.{◌≡◌, ℕ, ◌≤◌, Bool, List, Result, Ok, Err}
-use Rattle.awk_ere_syntax.specs.definitions.Tree.{Tree}
+use Rattle.awk_ere.specs.definitions.Tree.{Tree}
 use Rattle.awk_ere.specs.definitions.Means.{Means}
 use Rattle.awk_text.specs.declared.fault.TextFault.{TextFault}
 use Rattle.awk_text.specs.declared.span.Span.{Span}

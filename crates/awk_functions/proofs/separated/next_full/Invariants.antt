@@ -1,7 +1,7 @@
 use Rattle.std.proofs.Common.{◌≤◌, ◌+◌, ◌-◌, length}
 use Rattle.awk_ere.specs.definitions.Means.{Means}
 use Rattle.awk_ere.specs.support.Table.{IsFor}
-use Rattle.awk_ere_syntax.specs.definitions.Tree.{Tree}
+use Rattle.awk_ere.specs.definitions.Tree.{Tree}
 use Rattle.awk_text.specs.support.Splitters.{NoneBefore}
 use Rattle.awk_functions.proofs.separated.next_full.Given as goal
 

@@ -1,5 +1,5 @@
 use Rattle.std.proofs.Common.{Bool, sym, subst}
-use Rattle.awk_ere_syntax.specs.definitions.Tree.{Tree}
+use Rattle.awk_ere.specs.definitions.Tree.{Tree}
 use Rattle.awk_ere.specs.definitions.Means.{Means}
 use Rattle.std.specs.Prelude.{IfOk}
 use Rattle.awk_text.specs.definitions.Separators.{or_newline}

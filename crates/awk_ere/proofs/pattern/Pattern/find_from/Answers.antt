@@ -1,6 +1,6 @@
 use Rattle.std.proofs.Common.{◌≡◌, ◌+◌, length, Some, None, sym, subst, ◌∙◌, ⊎_elim, arith, rules}
 use Rattle.std.proofs.lemmas.Bool.{cases_lt}
-use Rattle.awk_ere_syntax.specs.definitions.Tree.{Matches, Finds}
+use Rattle.awk_ere.specs.definitions.Tree.{Matches, Finds}
 use Rattle.awk_ere.proofs.StandingText.{occurs_before, rest_finds}
 use Rattle.awk_ere.proofs.LiteralOccurs.{literal_finds, literal_length}
 use Rattle.awk_ere.proofs.pattern.Pattern.find_from.Goals as goal

@@ -1,6 +1,6 @@
 use Rattle.std.proofs.Common.{◌≡◌, ◌+◌, subst, ⊎_elim, arith}
 use Rattle.std.proofs.lemmas.Bool.{cases_lt}
-use Rattle.awk_ere_syntax.specs.definitions.Tree.{Matches}
+use Rattle.awk_ere.specs.definitions.Tree.{Matches}
 use Rattle.awk_ere.proofs.StepTellsMatches.{match_le}
 use Rattle.awk_ere.proofs.pattern.Pattern.first_between.Goals as goal
 

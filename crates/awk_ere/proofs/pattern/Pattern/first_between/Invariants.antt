@@ -1,5 +1,5 @@
 use Rattle.std.proofs.Common.{◌≤◌, ◌-◌, length}
-use Rattle.awk_ere_syntax.specs.definitions.Tree.{Tree, NoneFrom}
+use Rattle.awk_ere.specs.definitions.Tree.{Tree, NoneFrom}
 use Rattle.awk_ere.specs.definitions.Means.{Means}
 use Rattle.awk_ere.specs.support.Table.{IsFor}
 use Rattle.awk_ere.specs.support.Found.{OccursBetween}

@@ -1,7 +1,7 @@
 -- What was read so far are the bytes.
 use Rattle.std.proofs.Common.{◌≡◌, ◌<◌, take, map}
 use Rattle.std.specs.List.{All}
-use Rattle.awk_ere_compile.specs.declared.program.Instruction.TheVariants as instructions
+use Rattle.awk_ere.specs.declared.program.Instruction.TheVariants as instructions
 use Rattle.awk_ere.specs.support.Layout.{byte_count}
 use Rattle.awk_ere.proofs.pattern.Pattern.literal_bytes.Given as goal
 

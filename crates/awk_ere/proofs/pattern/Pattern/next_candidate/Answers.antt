@@ -1,6 +1,6 @@
 use Rattle.std.proofs.Common.{◌≡◌, ◌+◌, sym, ap, ◌∙◌, subst, ⊎_elim, arith, get_or}
 use Rattle.std.proofs.lemmas.Bool.{cases_lt}
-use Rattle.awk_ere_syntax.specs.definitions.Tree.{Matches}
+use Rattle.awk_ere.specs.definitions.Tree.{Matches}
 use Rattle.awk_ere.proofs.CursorKept.{none_at}
 use Rattle.awk_ere.proofs.pattern.Pattern.next_candidate.Goals as goal
 

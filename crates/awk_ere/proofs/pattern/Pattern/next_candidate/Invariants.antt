@@ -1,4 +1,4 @@
-use Rattle.awk_ere_syntax.specs.definitions.Tree.{Tree, NoneFrom}
+use Rattle.awk_ere.specs.definitions.Tree.{Tree, NoneFrom}
 use Rattle.awk_ere.specs.definitions.Means.{Means}
 use Rattle.awk_ere.proofs.pattern.Pattern.next_candidate.Given as goal
 

@@ -1,7 +1,7 @@
 use Rattle.std.proofs.Common.{◌<◌, ◌∙◌, List, length, drop, get_or, set, ap, arith}
-use Rattle.awk_ere_compile.specs.definitions.Program.{resolve}
-use Rattle.awk_ere_compile.specs.declared.program.Instruction.{Instruction}
-use Rattle.awk_ere_compile.specs.declared.program.Instruction.TheVariants as instructions
+use Rattle.awk_ere.specs.definitions.Program.{resolve}
+use Rattle.awk_ere.specs.declared.program.Instruction.{Instruction}
+use Rattle.awk_ere.specs.declared.program.Instruction.TheVariants as instructions
 use Rattle.awk_ere.specs.support.Simulation.{act, read_off}
 use Rattle.awk_ere.proofs.InstructionRuns.{registers_next, positions_next}
 use Rattle.awk_ere.proofs.pattern.Pattern.step.Goals as goal

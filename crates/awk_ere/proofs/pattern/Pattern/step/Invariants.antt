@@ -1,5 +1,5 @@
 use Rattle.std.proofs.Common.{◌≡◌, ◌+◌, ◌≤◌, ◌++◌, [], map, take, drop, length, false}
-use Rattle.awk_ere_compile.specs.definitions.Program.{resolve}
+use Rattle.awk_ere.specs.definitions.Program.{resolve}
 use Rattle.awk_ere.specs.support.Simulation.{registers, exec, read_off}
 use Rattle.awk_ere.specs.support.SimulationStep.{program}
 use Rattle.awk_ere.proofs.pattern.Pattern.step.Given as goal

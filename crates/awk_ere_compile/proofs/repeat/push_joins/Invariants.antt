@@ -1,6 +1,0 @@
-use Rattle.std.proofs.Common.{◌≡◌, ◌-◌, ◌++◌}
-use Rattle.awk_ere_compile.specs.support.RepeatInstructions.{joins}
-use Rattle.awk_ere_compile.proofs.repeat.push_joins.Given as goal
-
-abbrev pub invariant-loop : goal.invariant-loop
-invariant-loop l = l.instructions.items ++ joins (l.count - l.counter) ≡ l.fn.instructions.items ++ joins l.count

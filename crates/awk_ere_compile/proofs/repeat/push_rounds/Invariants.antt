@@ -1,6 +1,0 @@
-use Rattle.std.proofs.Common.{◌≡◌, ◌-◌, ◌++◌}
-use Rattle.awk_ere_compile.specs.support.RepeatInstructions.{rounds}
-use Rattle.awk_ere_compile.proofs.repeat.push_rounds.Given as goal
-
-abbrev pub invariant-loop : goal.invariant-loop
-invariant-loop l = l.instructions.items ++ rounds (l.count - l.counter) l.body ≡ l.fn.instructions.items ++ rounds l.count l.body

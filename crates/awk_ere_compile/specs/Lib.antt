@@ -1,2 +1,0 @@
-pub mod definitions
-pub mod support

@@ -1,2 +1,0 @@
-pub mod Desugared
-pub mod Program

@@ -1,3 +1,0 @@
-pub mod CompilerResult
-pub mod CompilerState
-pub mod RepeatInstructions

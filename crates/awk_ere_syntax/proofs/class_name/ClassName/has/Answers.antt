@@ -1,5 +1,0 @@
-use Rattle.std.proofs.Common.{rules}
-use Rattle.awk_ere_syntax.proofs.class_name.ClassName.has.Goals as goal
-
-pub returns-in-Digit : goal.returns-in-Digit
-returns-in-Digit c = search rules
