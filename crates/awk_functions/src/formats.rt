@@ -1,15 +1,15 @@
 // The texts of formats with values.
 
 ghost use Rattle.std.specs.Prelude.{◌≡◌, Ok, IfOk, IfErr, OnOk};
-ghost use Rattle.awk_format.specs.Formatted.{IsFaultOf, formatted, joined};
-ghost use Rattle.awk_format.specs.Reading.{parts_of};
-ghost use Rattle.awk_format.specs.declared.fault.FormatFault.TheVariants.{Memory};
+ghost use Rattle.awk_text.specs.Formatted.{IsFaultOf, formatted, joined};
+ghost use Rattle.awk_text.specs.Reading.{parts_of};
+ghost use Rattle.awk_text.specs.declared.format_fault.FormatFault.TheVariants.{Memory};
 ghost use Rattle.awk_semantics.specs.BuiltIns.{as_text};
 ghost use Rattle.awk_semantics.specs.Primitives.{format_values};
 ghost use Rattle.awk_semantics.specs.Results.{IsWantOfMemory, Yields};
 ghost use Rattle.awk_functions.specs.support.Written.{Writes};
 
-use awk_format::{Format, FormatFault};
+use awk_text::{Format, FormatFault};
 use awk_semantics::Halt;
 use awk_value::{Bytes, Value, text_in};
 use itoa::Buffer;

@@ -17,17 +17,17 @@ use Rattle.awk_ere.specs.Tree.{Tree}
 use Rattle.awk_ere.specs.Means.{pattern_of}
 use Rattle.awk_text.specs.definitions.Separators.{Separator}
 use Rattle.awk_text.specs.declared.fault.TextFault.{TextFault}
-use Rattle.awk_format.specs.declared.fault.FormatFault.{FormatFault}
-use Rattle.awk_format.specs.declared.fault.FormatFault.TheVariants as format
-use Rattle.awk_format.specs.declared.directive.Conversion.{Conversion}
-use Rattle.awk_format.specs.declared.directive.Conversion.TheVariants.{Integer, Character, Text}
-use Rattle.awk_format.specs.declared.directive.Notation.{Notation}
-use Rattle.awk_format.specs.declared.directive.Directive.{Directive}
-use Rattle.awk_format.specs.declared.part.Part.{Part}
-use Rattle.awk_format.specs.declared.part.Part.TheVariants.{Plain, Directed, Refused}
-use Rattle.awk_format.specs.definitions.Directives.{character_text, number_text, converted}
-use Rattle.awk_format.specs.definitions.Formatted.{joined, next_value, part_text, values_after, written, formatted}
-use Rattle.awk_format.specs.definitions.Reading.{parts_of}
+use Rattle.awk_text.specs.declared.format_fault.FormatFault.{FormatFault}
+use Rattle.awk_text.specs.declared.format_fault.FormatFault.TheVariants as format
+use Rattle.awk_text.specs.declared.directive.Conversion.{Conversion}
+use Rattle.awk_text.specs.declared.directive.Conversion.TheVariants.{Integer, Character, Text}
+use Rattle.awk_text.specs.declared.directive.Notation.{Notation}
+use Rattle.awk_text.specs.declared.directive.Directive.{Directive}
+use Rattle.awk_text.specs.declared.part.Part.{Part}
+use Rattle.awk_text.specs.declared.part.Part.TheVariants.{Plain, Directed, Refused}
+use Rattle.awk_text.specs.definitions.Directives.{character_text, number_text, converted}
+use Rattle.awk_text.specs.definitions.Formatted.{joined, next_value, part_text, values_after, written, formatted}
+use Rattle.awk_text.specs.definitions.Reading.{parts_of}
 use Rattle.awk_lex.specs.declared.token.BuiltIn.{BuiltIn as BuiltInName}
 use Rattle.awk_lex.specs.declared.token.BuiltIn.TheVariants as built_in
 use Rattle.awk_grammar.specs.declared.tree.UnaryOperator.{UnaryOperator}

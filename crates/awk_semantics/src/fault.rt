@@ -7,7 +7,7 @@ ghost use Rattle.awk_semantics.specs.definitions.Outcome.{fault_text};
 use awk_channels::StreamFault;
 use awk_ere::PatternFault;
 use awk_fields::RecordFault;
-use awk_format::FormatFault;
+use awk_text::FormatFault;
 use awk_text::TextFault;
 use awk_value::ValueFault;
 use awk_variables::VariableFault;

@@ -9,7 +9,7 @@ use crate::fault::Fault;
 use awk_channels::StreamFault;
 use awk_ere::PatternFault;
 use awk_fields::RecordFault;
-use awk_format::FormatFault;
+use awk_text::FormatFault;
 use awk_text::TextFault;
 use awk_value::ValueFault;
 use awk_variables::VariableFault;

@@ -11,3 +11,7 @@ pub use Rattle.awk_text.specs.definitions.Replacement
 pub use Rattle.awk_ere.specs.definitions.Means
 pub use Rattle.awk_ere.specs.support.Table
 pub use Rattle.awk_ere.specs.definitions.Tree
+pub use Rattle.awk_text.specs.definitions.Directives
+pub use Rattle.awk_text.specs.definitions.Formatted
+pub use Rattle.awk_text.specs.definitions.Reading
+pub use Rattle.awk_text.specs.support.Begun

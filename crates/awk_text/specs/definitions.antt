@@ -6,3 +6,6 @@ pub mod Separators
 pub mod Chosen
 pub mod Replaced
 pub mod Replacement
+pub mod Directives
+pub mod Formatted
+pub mod Reading

@@ -5,3 +5,5 @@ pub mod Faults
 pub mod Splitters
 pub mod Escapes
 pub mod Search
+-- What the proofs need beside.
+pub mod Begun

@@ -1,12 +1,19 @@
-//! Texts: split by separators of every kind, cut, searched, and with matches replaced.
+//! Texts: split by separators of every kind, cut, searched, with matches replaced, and the formats of printf.
 #![tactic(auto)]
 
 mod blanks;
+mod digits;
+mod directive;
 mod fault;
+mod field;
 mod field_separator;
+mod format_fault;
 mod functions;
 mod matcher;
 mod matching;
+mod part;
+mod prepared;
+mod read;
 mod replacement;
 mod replacement_laws;
 mod replacing;
@@ -16,6 +23,8 @@ mod span;
 mod split;
 mod splitter;
 mod substitution;
+mod whole;
+mod write;
 
 pub use fault::TextFault;
 pub use field_separator::FieldSeparator;
@@ -28,3 +37,6 @@ pub use separator_laws::{byte_pieces_law, pieces_from_law, pieces_law, separator
 pub use span::{FoundField, Span};
 pub use split::split_text;
 pub use substitution::Substitution;
+pub use format_fault::FormatFault;
+pub use prepared::Format;
+pub use whole::{format, format_into};

@@ -6,8 +6,8 @@ use Rattle.awk_ere.specs.declared.fault.PatternFault.{PatternFault}
 use Rattle.awk_ere.specs.declared.fault.PatternFault.TheVariants as patterns
 use Rattle.awk_fields.specs.declared.fault.RecordFault.{RecordFault}
 use Rattle.awk_fields.specs.declared.fault.RecordFault.TheVariants as fields
-use Rattle.awk_format.specs.declared.fault.FormatFault.{FormatFault}
-use Rattle.awk_format.specs.declared.fault.FormatFault.TheVariants as format
+use Rattle.awk_text.specs.declared.format_fault.FormatFault.{FormatFault}
+use Rattle.awk_text.specs.declared.format_fault.FormatFault.TheVariants as format
 use Rattle.awk_text.specs.declared.fault.TextFault.{TextFault}
 use Rattle.awk_text.specs.declared.fault.TextFault.TheVariants as texts
 use Rattle.awk_channels.specs.declared.fault.StreamFault.{StreamFault}

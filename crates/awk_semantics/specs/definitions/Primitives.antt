@@ -12,7 +12,7 @@ use Rattle.awk_variables.specs.declared.special.Special.{Special}
 use Rattle.awk_variables.specs.declared.special.Special.TheVariants.{Argc, Fs, Ofs, Ors, Rs, Subsep}
 use Rattle.awk_variables.specs.Names.{has_name}
 use Rattle.awk_variables.specs.Variables.{name_of, with_value, is_refused}
-use Rattle.awk_format.specs.Formatted.{formatted}
+use Rattle.awk_text.specs.Formatted.{formatted}
 use Rattle.awk_semantics.specs.declared.fault.Fault.{Fault}
 use Rattle.awk_semantics.specs.declared.fault.Fault.TheVariants as fault
 use Rattle.awk_semantics.specs.declared.halt.Halt.{Halt}

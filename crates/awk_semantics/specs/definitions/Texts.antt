@@ -9,7 +9,7 @@ use Rattle.awk_record.specs.Cut.{first_at}
 use Rattle.awk_text.specs.definitions.Separators.{Separator, ere, separator_of}
 use Rattle.awk_text.specs.support.ChosenSeparators.{longest_end, if_full, or_later}
 use Rattle.awk_text.specs.definitions.Replaced.{replaced_from}
-use Rattle.awk_format.specs.declared.fault.FormatFault.{FormatFault}
+use Rattle.awk_text.specs.declared.format_fault.FormatFault.{FormatFault}
 use Rattle.awk_semantics.specs.declared.fault.Fault.TheVariants as fault
 use Rattle.awk_semantics.specs.declared.halt.Halt.{Halt}
 use Rattle.awk_semantics.specs.declared.halt.Halt.TheVariants as halt

@@ -1,3 +1,0 @@
-pub mod FieldLemmas
-pub mod ReadingLemmas
-pub mod WrittenLemmas

@@ -1,2 +1,0 @@
--- What the proofs need beside.
-pub mod Begun
