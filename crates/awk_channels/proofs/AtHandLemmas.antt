@@ -3,7 +3,7 @@ use Rattle.std.proofs.Common.{◌≡◌, inl, ℕ, true, List, Option, Some, Non
 use Rattle.std.specs.Prelude.{is_some, IfSome, IfNone}
 use Rattle.awk_record.specs.Buffer.{Pending, Steps}
 use Rattle.awk_record.specs.declared.buffer.Step.TheVariants.{Record, NeedMore}
-use Rattle.awk_record.specs.declared.fault.BufferFault.TheVariants.{Memory as BufferMemory}
+use Rattle.awk_record.specs.declared.buffer_fault.BufferFault.TheVariants.{Memory as BufferMemory}
 use Rattle.awk_world.specs.definitions.Oracle.{standing}
 use Rattle.awk_world.specs.definitions.Orderly.{IsReadable}
 use Rattle.awk_world.specs.definitions.WorldState.{WorldState}

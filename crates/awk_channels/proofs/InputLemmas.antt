@@ -8,8 +8,8 @@ use Rattle.awk_channels.specs.support.Pulls.{Brings, Pulls}
 use Rattle.awk_record.specs.Cut.{Cut, Found, NoMore, BrokenOff, TooLong, cut_of}
 use Rattle.awk_record.specs.Buffer.{Steps, IsAnswerOf}
 use Rattle.awk_record.specs.declared.buffer.Step.{Step}
-use Rattle.awk_record.specs.declared.fault.BufferFault.{BufferFault}
-use Rattle.awk_record.specs.declared.fault.BufferFault.TheVariants.{Memory, RecordTooLong}
+use Rattle.awk_record.specs.declared.buffer_fault.BufferFault.{BufferFault}
+use Rattle.awk_record.specs.declared.buffer_fault.BufferFault.TheVariants.{Memory, RecordTooLong}
 
 with_events-push : (es : List Event) (e : Event) (log : List Event) → with_events (es ++ e ∷ []) log ≡ e ∷ with_events es log
 with_events-push [] e log = refl

@@ -6,7 +6,7 @@ use Rattle.std.proofs.lemmas.Option.{get_or_from_slice_get}
 use Rattle.awk_record.specs.Cut.{cut_of}
 use Rattle.awk_record.specs.declared.buffer.Step.{Step}
 use Rattle.awk_record.specs.declared.buffer.Step.TheVariants.{NeedMore}
-use Rattle.awk_record.specs.declared.fault.BufferFault.{BufferFault}
+use Rattle.awk_record.specs.declared.buffer_fault.BufferFault.{BufferFault}
 use Rattle.awk_world.specs.declared.world.InputKind.{InputKind}
 use Rattle.awk_world.specs.definitions.Log.{Event}
 use Rattle.awk_world.specs.definitions.Oracle.{Source}

@@ -6,8 +6,8 @@ use Rattle.awk_record.specs.Cut.{Ending, AtBreak, Cut, Found, NoMore, BrokenOff,
 use Rattle.awk_record.specs.Buffer.{Pending, Steps, IsAnswerOf}
 use Rattle.awk_record.specs.declared.buffer.Step.{Step}
 use Rattle.awk_record.specs.declared.buffer.Step.TheVariants.{NeedMore}
-use Rattle.awk_record.specs.declared.fault.BufferFault.{BufferFault}
-use Rattle.awk_record.specs.declared.fault.BufferFault.TheVariants.{Memory}
+use Rattle.awk_record.specs.declared.buffer_fault.BufferFault.{BufferFault}
+use Rattle.awk_record.specs.declared.buffer_fault.BufferFault.TheVariants.{Memory}
 use Rattle.awk_record.proofs.CutIsDecided.{IsDecided_law}
 use Rattle.awk_world.specs.definitions.Oracle.{Oracle, Source, IsConsistent}
 use Rattle.awk_channels.specs.definitions.Inputs.{Reaches}

@@ -2,8 +2,8 @@
 use Rattle.std.proofs.Common.{◌≡◌, inl, inr, ℕ, zero, suc, ◌+◌, ◌<◌, ◌≤◌, true, false, ◌==◌, List, [], ◌∷◌, length, drop, get_or, sym, ◌∙◌, ap, arith}
 use Rattle.std.proofs.lemmas.Bool.{cases_Bool, cond-true, cond-false, eqb-true, eq-eqb}
 use Rattle.std.proofs.lemmas.List.{get_or-drop}
-use Rattle.awk_record.specs.Cut.{begins_with, newlines}
-use Rattle.awk_record.specs.Boundary.{AreNewlines}
+use Rattle.awk_record.specs.definitions.Cut.{begins_with, newlines}
+use Rattle.awk_record.specs.support.Boundary.{AreNewlines}
 use Rattle.awk_record.proofs.SearchFindsFirst.{begins_reads}
 
 -- ---- newlines in front

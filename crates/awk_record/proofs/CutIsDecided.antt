@@ -3,7 +3,7 @@ use Rattle.std.proofs.Common.{◌≡◌, ◌≢◌, ◌↔◌, inl, inr, ℕ, su
 use Rattle.std.proofs.lemmas.Bool.{cases_Bool, cases_lt, cond-true, cond-false, lt-ltb, ltb-true}
 use Rattle.std.proofs.lemmas.Bool.Decides.{nat_tests}
 use Rattle.std.proofs.lemmas.List.{take-append-le, drop-append-le, drop_all, drop-drop}
-use Rattle.awk_record.specs.Cut.{Ending, AtBreak, Cut, Found, NoMore, BrokenOff, TooLong, longest, begins_with, one_later, first_at, limited, cut_at, cut_behind, newlines, without_newline, cut_of, IsDecided}
+use Rattle.awk_record.specs.definitions.Cut.{Ending, AtBreak, Cut, Found, NoMore, BrokenOff, TooLong, longest, begins_with, one_later, first_at, limited, cut_at, cut_behind, newlines, without_newline, cut_of, IsDecided}
 
 pub begins_with-append : (w xs ys : List ℕ) → begins_with w xs ≡ true → begins_with w (xs ++ ys) ≡ true
 begins_with-append [] xs ys e = refl

@@ -6,7 +6,7 @@ use Rattle.std.proofs.Math.Seq.{take-append_seam, drop-append_seam, get_or-appen
 use Rattle.std.proofs.lemmas.Bool.{cond-false, le-ltb}
 use Rattle.std.proofs.lemmas.List.{drop-drop}
 use Rattle.std.proofs.lemmas.List.Elements.{All-get_or}
-use Rattle.awk_record.specs.Cut.{Ending, AtEnd, AtBreak, Cut, Found, BrokenOff, longest, first_at, limited, unfinished, cut_at, cut_of}
+use Rattle.awk_record.specs.definitions.Cut.{Ending, AtEnd, AtBreak, Cut, Found, BrokenOff, longest, first_at, limited, unfinished, cut_at, cut_of}
 use Rattle.awk_record.proofs.SearchFindsFirst.{first_at_some, first_byte_none, byte_fails, byte_holds}
 
 pub limited-within : (stretch : ℕ) (cut : Cut) → stretch ≤ longest → limited stretch cut ≡ cut

@@ -4,8 +4,8 @@ use Rattle.std.proofs.Math.Seq.{take-append_seam, drop-append_seam}
 use Rattle.std.proofs.lemmas.Bool.Decides.{nat_tests}
 use Rattle.std.proofs.lemmas.List.{drop-drop}
 use Rattle.memchr.specs.Find.{OccursAt}
-use Rattle.awk_record.specs.Cut.{Ending, AtEnd, AtBreak, Found, BrokenOff, longest, begins_with, unfinished, cut_at, cut_behind, cut_of}
-use Rattle.awk_record.specs.Literal.{StandsAt}
+use Rattle.awk_record.specs.definitions.Cut.{Ending, AtEnd, AtBreak, Found, BrokenOff, longest, begins_with, unfinished, cut_at, cut_behind, cut_of}
+use Rattle.awk_record.specs.definitions.Literal.{StandsAt}
 use Rattle.awk_record.proofs.SearchFindsFirst.{first_at_some, first_at_none, word_fails}
 use Rattle.awk_record.proofs.CutOfLine.{limited-within}
 

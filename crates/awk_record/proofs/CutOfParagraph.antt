@@ -4,7 +4,7 @@ use Rattle.std.proofs.Math.Seq.{take-append_seam, drop-append_seam, get_or-appen
 use Rattle.std.proofs.lemmas.Bool.{cases_Bool, cases_lt, cond-true, cond-false, eqb-true, eq-eqb}
 use Rattle.std.proofs.lemmas.List.{drop-drop, get_or_append_left, get_or_past}
 use Rattle.std.proofs.lemmas.List.Elements.{All-head, All-tail}
-use Rattle.awk_record.specs.Cut.{Ending, AtEnd, AtBreak, Found, NoMore, BrokenOff, longest, begins_with, unfinished, cut_at, cut_behind, newlines, without_newline, cut_of}
+use Rattle.awk_record.specs.definitions.Cut.{Ending, AtEnd, AtBreak, Found, NoMore, BrokenOff, longest, begins_with, unfinished, cut_at, cut_behind, newlines, without_newline, cut_of}
 use Rattle.awk_record.specs.definitions.Paragraph.{AreNewline, IsParagraph}
 use Rattle.awk_record.proofs.SearchFindsFirst.{first_at_some, first_at_none}
 use Rattle.awk_record.proofs.BlankLines.{two_fail}

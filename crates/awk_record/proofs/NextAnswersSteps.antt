@@ -1,13 +1,13 @@
 -- An answer of the buffer, from the cut that it looked at.
 use Rattle.std.proofs.Common.{◌≡◌, ◌≢◌, ◌⊎◌, inl, inr, ℕ, List, [], Option, Some, None, Result, Ok, refl, sym, ◌∙◌, ap, subst, append-nil}
-use Rattle.awk_record.specs.Cut.{Ending, AtEnd, AtBreak, Cut, Found, NoMore, BrokenOff, TooLong, cut_of}
-use Rattle.awk_record.specs.Buffer.{Pending, IsAnswerOf, Steps}
-use Rattle.awk_record.specs.Boundary.{ending_of, ending_or_break}
+use Rattle.awk_record.specs.definitions.Cut.{Ending, AtEnd, AtBreak, Cut, Found, NoMore, BrokenOff, TooLong, cut_of}
+use Rattle.awk_record.specs.definitions.Buffer.{Pending, IsAnswerOf, Steps}
+use Rattle.awk_record.specs.support.Boundary.{ending_of, ending_or_break}
 use Rattle.awk_record.specs.declared.buffer.Step.{Step}
 use Rattle.awk_record.specs.declared.buffer.Step.TheVariants.{NeedMore, Broken}
 use Rattle.awk_record.specs.declared.buffer.Supply.{Supply}
 use Rattle.awk_record.specs.declared.buffer.Supply.TheVariants.{Open, Ended, Broke}
-use Rattle.awk_record.specs.declared.fault.BufferFault.{BufferFault}
+use Rattle.awk_record.specs.declared.buffer_fault.BufferFault.{BufferFault}
 use Rattle.awk_record.proofs.CutIsDecided.{IsDecided_law, cut-found, cut-too_long, cut-never_none}
 
 -- what is settled is so for each ending

@@ -4,9 +4,9 @@ use Rattle.std.specs.Prelude.{slice_range}
 use Rattle.std.proofs.Math.Seq.{take-add, take-append_seam}
 use Rattle.std.proofs.lemmas.List.{drop-take, take-take}
 use Rattle.memchr.specs.Find.{IsFirstByte, is_byte}
-use Rattle.awk_record.specs.Cut.{Ending, Found, longest, first_at, cut_at, cut_of}
-use Rattle.awk_record.specs.Buffer.{Pending, Steps}
-use Rattle.awk_record.specs.Boundary.{ending_of, ending_or_break}
+use Rattle.awk_record.specs.definitions.Cut.{Ending, Found, longest, first_at, cut_at, cut_of}
+use Rattle.awk_record.specs.definitions.Buffer.{Pending, Steps}
+use Rattle.awk_record.specs.support.Boundary.{ending_of, ending_or_break}
 use Rattle.awk_record.specs.declared.buffer.Step.TheVariants.{Record}
 use Rattle.awk_record.specs.declared.buffer.Supply.{Supply}
 use Rattle.awk_record.proofs.SearchFindsFirst.{first_byte_some}

@@ -3,8 +3,8 @@ use Rattle.std.proofs.Common.{◌≡◌, ℕ, zero, suc, ◌+◌, ◌-◌, ◌<�
 use Rattle.std.proofs.lemmas.Bool.{cond-false}
 use Rattle.std.proofs.lemmas.List.{drop-drop, length-drop, drop-append-le, get_or_append_left}
 use Rattle.memchr.specs.Find.{FindsNeedle}
-use Rattle.awk_record.specs.Cut.{Ending, BrokenOff, begins_with, one_later, first_at, newlines, without_newline, cut_of}
-use Rattle.awk_record.specs.Boundary.{HasNoWord, IsKnown, IsSkipped, nothing_known, IsSearched}
+use Rattle.awk_record.specs.definitions.Cut.{Ending, BrokenOff, begins_with, one_later, first_at, newlines, without_newline, cut_of}
+use Rattle.awk_record.specs.support.Boundary.{HasNoWord, IsKnown, IsSkipped, nothing_known, IsSearched}
 use Rattle.awk_record.specs.declared.separator_search.Progress.{Progress}
 use Rattle.awk_record.specs.declared.separator_search.ResumedSearch.{ResumedSearch}
 use Rattle.awk_record.proofs.CutIsDecided.{begins_with-front}

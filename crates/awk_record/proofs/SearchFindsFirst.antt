@@ -4,8 +4,8 @@ use Rattle.std.proofs.lemmas.Bool.{cases_Bool, cases_lt, cond-true, cond-false, 
 use Rattle.std.proofs.lemmas.Bool.Decides.{nat_tests}
 use Rattle.std.proofs.lemmas.List.{at_drop_more, get_or-drop, length-drop}
 use Rattle.memchr.specs.Find.{IsFirstByte, FindsNeedle, OccursAt, is_byte}
-use Rattle.awk_record.specs.Cut.{Ending, Found, BrokenOff, TooLong, longest, begins_with, one_later, first_at, cut_at}
-use Rattle.awk_record.specs.Boundary.{HasNoWord}
+use Rattle.awk_record.specs.definitions.Cut.{Ending, Found, BrokenOff, TooLong, longest, begins_with, one_later, first_at, cut_at}
+use Rattle.awk_record.specs.support.Boundary.{HasNoWord}
 use Rattle.awk_record.proofs.CutIsDecided.{begins_with-length, one_later-none}
 
 -- the byte doesn't stand among the first n bytes

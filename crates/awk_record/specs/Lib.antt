@@ -5,3 +5,6 @@ pub use Rattle.awk_record.specs.definitions.Cut
 pub use Rattle.awk_record.specs.definitions.Literal
 pub use Rattle.awk_record.specs.definitions.Paragraph
 pub use Rattle.awk_record.specs.support.Boundary
+pub use Rattle.awk_record.specs.definitions.Record
+pub use Rattle.awk_record.specs.support.Found
+pub use Rattle.awk_record.specs.support.Viewed

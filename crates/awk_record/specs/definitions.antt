@@ -3,3 +3,4 @@ pub mod Buffer
 pub mod Cut
 pub mod Literal
 pub mod Paragraph
+pub mod Record

@@ -1,8 +1,8 @@
 // Where the first record of the bytes at hand ends: at a separator, or at a blank line.
 ghost use Rattle.std.specs.Prelude.{◌≡◌, ℕ, List, ◌≤◌, ◌<◌, ◌∷◌, [], length, take, drop};
-ghost use Rattle.awk_record.specs.Cut.{without_newline, cut_of, cut_behind, limited, unfinished};
-ghost use Rattle.awk_record.specs.Boundary.{cut_by, trim_if, end_if, IsWithin, AreNewlines, HasNoWord};
-ghost use Rattle.awk_record.specs.Boundary.{IsKnown, IsSkipped, Skips, IsShort};
+ghost use Rattle.awk_record.specs.definitions.Cut.{without_newline, cut_of, cut_behind, limited, unfinished};
+ghost use Rattle.awk_record.specs.support.Boundary.{cut_by, trim_if, end_if, IsWithin, AreNewlines, HasNoWord};
+ghost use Rattle.awk_record.specs.support.Boundary.{IsKnown, IsSkipped, Skips, IsShort};
 
 use crate::separator_search::{Progress, first_separator, first_word, leading_newlines};
 

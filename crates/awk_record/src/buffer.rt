@@ -1,11 +1,11 @@
 // The bytes of an input that were read and not yet taken, cut into records.
 ghost use Rattle.std.specs.Prelude.{◌≡◌, ◌≢◌, ◌+◌, ◌<◌, ◌≤◌, [], ◌∷◌, ◌++◌, length, take, drop, slice_range, vec_len};
 ghost use Rattle.std.specs.Prelude.{Some, None, IfSome, IfNone, OnOk, OnErr, IfOk, IfErr, Err, Ok};
-ghost use Rattle.awk_record.specs.Cut.{AtEnd, AtBreak, longest};
-ghost use Rattle.awk_record.specs.Boundary.{end_if, ending_or_break};
+ghost use Rattle.awk_record.specs.definitions.Cut.{AtEnd, AtBreak, longest};
+ghost use Rattle.awk_record.specs.support.Boundary.{end_if, ending_or_break};
 
 use crate::boundary::{Boundary, LONGEST, first_boundary};
-use crate::fault::BufferFault;
+use crate::buffer_fault::BufferFault;
 use crate::separator_search::{Progress, ResumedSearch};
 use awk_value::Bytes;
 use memchr::memchr;
@@ -68,8 +68,8 @@ pub struct RecordBuffer {
 }
 
 impl Model for RecordBuffer {
-    ghost use Rattle.awk_record.specs.Buffer.{Pending};
-    ghost use Rattle.awk_record.specs.Boundary.{ending_of, IsSearched};
+    ghost use Rattle.awk_record.specs.definitions.Buffer.{Pending};
+    ghost use Rattle.awk_record.specs.support.Boundary.{ending_of, IsSearched};
 
     ghost Value = { Pending };
 
@@ -79,7 +79,7 @@ impl Model for RecordBuffer {
 }
 
 impl RecordBuffer {
-    ghost use Rattle.awk_record.specs.Buffer.{Steps};
+    ghost use Rattle.awk_record.specs.definitions.Buffer.{Steps};
 
     /// An empty buffer of an input that is still open.
     pub fn new(alloc: Global) -> Self

@@ -1,19 +1,27 @@
-//! Cutting an input into records.
+//! Records: how an input is cut into them, and the record at hand with its fields.
 #![tactic(auto)]
 
-ghost use Rattle.std.specs.Prelude.{◌≡◌, ◌≢◌, ◌↔◌, ℕ, ◌+◌, ◌<◌, ◌≤◌, List, [], ◌∷◌, ◌++◌, length};
-ghost use Rattle.std.specs.List.{All};
-ghost use Rattle.awk_record.specs.Cut.{Ending, AtEnd, AtBreak, Found, NoMore, BrokenOff, longest, cut_of, IsDecided};
-ghost use Rattle.awk_record.specs.Literal.{StandsAt};
-ghost use Rattle.awk_record.specs.Paragraph.{AreNewline, IsParagraph};
-
+mod assigned;
 mod boundary;
 mod buffer;
-mod fault;
+mod buffer_fault;
+mod fields;
+mod record;
+mod record_fault;
 mod separator_search;
 
 pub use buffer::{RecordBuffer, Step};
-pub use fault::BufferFault;
+pub use buffer_fault::BufferFault;
+pub use record_fault::RecordFault;
+pub use record::Record;
+
+ghost use Rattle.std.specs.Prelude.{◌≡◌, ◌≢◌, ◌↔◌, ℕ, ◌+◌, ◌<◌, ◌≤◌, List, [], ◌∷◌, ◌++◌, length};
+ghost use Rattle.std.specs.List.{All};
+ghost use Rattle.awk_record.specs.definitions.Cut.{Ending, AtEnd, AtBreak, Found, NoMore, BrokenOff, longest, cut_of, IsDecided};
+ghost use Rattle.awk_record.specs.definitions.Literal.{StandsAt};
+ghost use Rattle.awk_record.specs.definitions.Paragraph.{AreNewline, IsParagraph};
+
+
 
 /// Bytes decide the first record exactly where their cut would find one, or
 /// refuse it, even if the input broke behind them.

@@ -2,8 +2,8 @@
 // bytes, found none, so that each byte is looked at once however small the pieces are that come, and at the pieces' seams
 // only those once more with which the separator could begin.
 ghost use Rattle.std.specs.Prelude.{◌≡◌, ◌↔◌, ◌+◌, ◌<◌, ◌≤◌, ℕ, false, List, ◌∷◌, [], length, drop, IfSome, OnOk, OnErr};
-ghost use Rattle.awk_record.specs.Cut.{first_at, newlines};
-ghost use Rattle.awk_record.specs.Boundary.{IsKnown, AreNewlines, HasNoWord, nothing_known};
+ghost use Rattle.awk_record.specs.definitions.Cut.{first_at, newlines};
+ghost use Rattle.awk_record.specs.support.Boundary.{IsKnown, AreNewlines, HasNoWord, nothing_known};
 
 use memchr::{memchr, memmem};
 use std::alloc::{AllocError, Global};

@@ -1,6 +1,6 @@
 -- What reading records does where one is at hand: the record before it is of no account.
 use Rattle.std.proofs.Common.{◌≡◌, ℕ, suc, List, [], ◌∷◌, ◌++◌, Option, Some, None, Result, Ok, Err, refl, sym, ap, ◌∙◌}
-use Rattle.awk_fields.specs.Record.{RecordPair}
+use Rattle.awk_record.specs.Record.{RecordPair}
 use Rattle.awk_record.specs.Cut.{Cut, Found, NoMore, BrokenOff, TooLong, cut_of}
 use Rattle.awk_channels.specs.declared.fault.StreamFault.{StreamFault}
 use Rattle.awk_channels.specs.declared.fault.StreamFault.TheVariants.{InputNotReadable, RecordTooLong}

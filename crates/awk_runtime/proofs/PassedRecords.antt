@@ -5,7 +5,7 @@ use Rattle.std.proofs.lemmas.List.{take-append-drop, take_at}
 use Rattle.std.proofs.lemmas.List.Elements.{All-nil, All-cons, All-head, All-tail}
 use Rattle.awk_value.specs.declared.value.Value.{Value}
 use Rattle.awk_value.specs.Values.{str_of}
-use Rattle.awk_fields.specs.Record.{RecordPair, split_by}
+use Rattle.awk_record.specs.Record.{RecordPair, split_by}
 use Rattle.awk_record.specs.Cut.{cut_of}
 use Rattle.awk_channels.specs.declared.fault.StreamFault.{StreamFault}
 use Rattle.awk_channels.specs.declared.fault.StreamFault.TheVariants.{Memory, WriteFailed}

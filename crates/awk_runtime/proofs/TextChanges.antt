@@ -12,7 +12,7 @@ use Rattle.awk_text.specs.declared.fault.TextFault.{TextFault}
 use Rattle.awk_text.specs.Pieces.{stretch_at, stretches_at, IsSpanOf}
 use Rattle.awk_text.specs.Separators.{Separator, separator_of, separator_made, separator_by}
 use Rattle.awk_text.specs.Fields.{pieces_of}
-use Rattle.awk_fields.proofs.FieldOfPieces.{cut_stretch}
+use Rattle.awk_record.proofs.FieldOfPieces.{cut_stretch}
 use Rattle.awk_lex.specs.declared.token.Operator.TheVariants.{Matches, NotMatches}
 use Rattle.awk_variables.specs.declared.special.Special.TheVariants.{Fs, Rstart, Rlength}
 use Rattle.awk_variables.specs.Variables.{value_of, name_of}

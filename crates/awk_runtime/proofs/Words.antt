@@ -8,9 +8,9 @@ use Rattle.awk_value.specs.declared.value.Value.TheVariants as value
 use Rattle.awk_value.specs.declared.fault.ValueFault.{ValueFault}
 use Rattle.awk_value.specs.declared.fault.ValueFault.TheVariants as value_faults
 use Rattle.awk_value.specs.Values.{num_of, str_of}
-use Rattle.awk_fields.specs.declared.fault.RecordFault.{RecordFault}
-use Rattle.awk_fields.specs.declared.fault.RecordFault.TheVariants as record_faults
-use Rattle.awk_fields.specs.Record.{RecordPair, split_by, field_of, assignable, with_count, with_field}
+use Rattle.awk_record.specs.declared.record_fault.RecordFault.{RecordFault}
+use Rattle.awk_record.specs.declared.record_fault.RecordFault.TheVariants as record_faults
+use Rattle.awk_record.specs.Record.{RecordPair, split_by, field_of, assignable, with_count, with_field}
 use Rattle.awk_variables.specs.declared.special.Special.TheVariants.{Fnr, Fs, Nr, Ofs, Rs}
 use Rattle.awk_variables.specs.Variables.{Pairs, value_of, name_of}
 use Rattle.awk_semantics.specs.declared.halt.Halt.{Halt}

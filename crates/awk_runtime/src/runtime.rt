@@ -5,7 +5,7 @@ ghost use Rattle.awk_runtime.specs.support.Simulation.{Spends};
 
 use crate::names::ProgramNames;
 use awk_channels::Streams;
-use awk_fields::Record;
+use awk_record::Record;
 use awk_functions::{Formats, Patterns};
 use awk_semantics::Halt;
 use awk_storage::{Arrays, Frames};

@@ -11,7 +11,7 @@ ghost use Rattle.awk_runtime.specs.support.Beginning.{pair_of, texts_of, start_o
 use crate::names::ProgramNames;
 use crate::runtime::Runtime;
 use awk_channels::Streams;
-use awk_fields::Record;
+use awk_record::Record;
 use awk_functions::{Formats, Patterns};
 use awk_semantics::{Fault, Halt};
 use awk_storage::{Arrays, Frames};

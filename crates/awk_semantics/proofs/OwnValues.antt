@@ -10,9 +10,9 @@ use Rattle.awk_value.specs.declared.fault.ValueFault.TheVariants as values
 use Rattle.awk_value.specs.Values.{num_of, str_of, number_value, from_numbers, from_number}
 use Rattle.awk_value.specs.Arithmetic.{is_in_range, is_zero, range_checked, product_of, sum_of, difference_of, quotient_of, remainder_of, negative_of, power_of}
 use Rattle.awk_value.specs.Numbers.{spelled_number}
-use Rattle.awk_fields.specs.Record.{RecordPair, field_of, assignable, with_count, with_field, most_fields}
-use Rattle.awk_fields.specs.declared.fault.RecordFault.{RecordFault}
-use Rattle.awk_fields.specs.declared.fault.RecordFault.TheVariants as fields
+use Rattle.awk_record.specs.Record.{RecordPair, field_of, assignable, with_count, with_field, most_fields}
+use Rattle.awk_record.specs.declared.record_fault.RecordFault.{RecordFault}
+use Rattle.awk_record.specs.declared.record_fault.RecordFault.TheVariants as fields
 use Rattle.awk_ere.specs.Tree.{Tree}
 use Rattle.awk_ere.specs.Means.{pattern_of}
 use Rattle.awk_text.specs.definitions.Separators.{Separator}

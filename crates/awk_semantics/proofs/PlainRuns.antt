@@ -7,7 +7,7 @@ use Rattle.std.proofs.Common.{map, ◌≡◌, ℕ, zero, suc, ◌≤◌, Bool, t
 use Rattle.awk_value.specs.declared.value.Value.{Value}
 use Rattle.awk_value.specs.declared.value.Value.TheVariants as value
 use Rattle.awk_record.specs.Cut.{Cut, Found, NoMore, BrokenOff, TooLong}
-use Rattle.awk_fields.specs.Record.{RecordPair}
+use Rattle.awk_record.specs.Record.{RecordPair}
 use Rattle.awk_world.specs.declared.world.InputKind.{InputKind}
 use Rattle.awk_world.specs.declared.world.OutputKind.{OutputKind}
 use Rattle.awk_world.specs.declared.world.OutputKind.TheVariants as output
@@ -33,7 +33,7 @@ use Rattle.awk_semantics.specs.definitions.BuiltIns.{Argument, locals_of}
 use Rattle.awk_value.specs.Values.{num_of}
 use Rattle.awk_value.specs.Arrays.{Array, with_pair, with_key, without}
 use Rattle.awk_variables.specs.declared.special.Special.TheVariants.{Ofs}
-use Rattle.awk_fields.specs.Record.{assignable, with_field}
+use Rattle.awk_record.specs.Record.{assignable, with_field}
 use Rattle.awk_semantics.specs.definitions.Faults.{of_values, of_record}
 use Rattle.awk_semantics.specs.definitions.Primitives.{local_in, with_local, array_in, with_array, elements_from}
 use Rattle.awk_semantics.specs.support.Keeps.{kind_of, parameter_of, frame_scope, scope_of}

@@ -6,7 +6,7 @@ ghost use Rattle.awk_semantics.specs.definitions.Outcome.{fault_text};
 
 use awk_channels::StreamFault;
 use awk_ere::PatternFault;
-use awk_fields::RecordFault;
+use awk_record::RecordFault;
 use awk_text::FormatFault;
 use awk_text::TextFault;
 use awk_value::ValueFault;

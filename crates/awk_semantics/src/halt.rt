@@ -8,7 +8,7 @@ ghost use Rattle.awk_semantics.specs.declared.fault.Fault.TheVariants.{OutOfMemo
 use crate::fault::Fault;
 use awk_channels::StreamFault;
 use awk_ere::PatternFault;
-use awk_fields::RecordFault;
+use awk_record::RecordFault;
 use awk_text::FormatFault;
 use awk_text::TextFault;
 use awk_value::ValueFault;

@@ -3,8 +3,8 @@
 use Rattle.std.specs.Prelude.{◌≡◌, ◌⊎◌, ℕ, List, [], ◌∷◌, ◌++◌, Option, Some, None, Result, Ok, Err}
 use Rattle.awk_record.specs.Cut.{Ending, AtEnd, AtBreak, IsDecided, Cut, Found, NoMore, BrokenOff, TooLong}
 use Rattle.awk_record.specs.Buffer.{Pending}
-use Rattle.awk_record.specs.declared.fault.BufferFault.{BufferFault}
-use Rattle.awk_record.specs.declared.fault.BufferFault.TheVariants as buffer
+use Rattle.awk_record.specs.declared.buffer_fault.BufferFault.{BufferFault}
+use Rattle.awk_record.specs.declared.buffer_fault.BufferFault.TheVariants as buffer
 use Rattle.awk_channels.specs.declared.fault.StreamFault.{StreamFault}
 use Rattle.awk_channels.specs.declared.fault.StreamFault.TheVariants.{Memory, InputNotReadable, RecordTooLong}
 use Rattle.awk_world.specs.definitions.Log.{Event, Read, Ended, Broke}

@@ -4,8 +4,8 @@ use Rattle.awk_record.specs.Buffer.{Pending, Steps}
 use Rattle.awk_record.specs.Cut.{Ending, AtEnd, AtBreak, longest, cut_of, Cut, Found, NoMore, BrokenOff, TooLong}
 use Rattle.awk_record.specs.declared.buffer.Step.{Step}
 use Rattle.awk_record.specs.declared.buffer.Step.TheVariants.{Record, NeedMore, End, Broken}
-use Rattle.awk_record.specs.declared.fault.BufferFault.{BufferFault}
-use Rattle.awk_record.specs.declared.fault.BufferFault.TheVariants.{Memory as BufferMemory, RecordTooLong as BufferRecordTooLong}
+use Rattle.awk_record.specs.declared.buffer_fault.BufferFault.{BufferFault}
+use Rattle.awk_record.specs.declared.buffer_fault.BufferFault.TheVariants.{Memory as BufferMemory, RecordTooLong as BufferRecordTooLong}
 use Rattle.awk_channels.specs.declared.fault.StreamFault.{StreamFault}
 use Rattle.awk_channels.specs.declared.fault.StreamFault.TheVariants.{InputNotReadable}
 use Rattle.awk_channels.specs.definitions.Inputs.{Reaches, Rest, input_fault_of}

@@ -3,8 +3,8 @@ use Rattle.std.specs.Prelude.{◌≡◌, ℕ, List, [], Option, Some, None, Resu
 use Rattle.awk_record.specs.definitions.Cut.{Ending, Cut, Found, NoMore, BrokenOff, TooLong, cut_of, IsDecided}
 use Rattle.awk_record.specs.declared.buffer.Step.{Step}
 use Rattle.awk_record.specs.declared.buffer.Step.TheVariants.{Record, NeedMore, End, Broken}
-use Rattle.awk_record.specs.declared.fault.BufferFault.{BufferFault}
-use Rattle.awk_record.specs.declared.fault.BufferFault.TheVariants.{RecordTooLong}
+use Rattle.awk_record.specs.declared.buffer_fault.BufferFault.{BufferFault}
+use Rattle.awk_record.specs.declared.buffer_fault.BufferFault.TheVariants.{RecordTooLong}
 
 -- the bytes that were fed and not yet taken, and the ending that was met behind them
 pub record Pending : Type 0 where

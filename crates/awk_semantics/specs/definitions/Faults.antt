@@ -4,8 +4,8 @@ use Rattle.awk_value.specs.declared.fault.ValueFault.{ValueFault}
 use Rattle.awk_value.specs.declared.fault.ValueFault.TheVariants as value
 use Rattle.awk_ere.specs.declared.fault.PatternFault.{PatternFault}
 use Rattle.awk_ere.specs.declared.fault.PatternFault.TheVariants as patterns
-use Rattle.awk_fields.specs.declared.fault.RecordFault.{RecordFault}
-use Rattle.awk_fields.specs.declared.fault.RecordFault.TheVariants as fields
+use Rattle.awk_record.specs.declared.record_fault.RecordFault.{RecordFault}
+use Rattle.awk_record.specs.declared.record_fault.RecordFault.TheVariants as fields
 use Rattle.awk_text.specs.declared.format_fault.FormatFault.{FormatFault}
 use Rattle.awk_text.specs.declared.format_fault.FormatFault.TheVariants as format
 use Rattle.awk_text.specs.declared.fault.TextFault.{TextFault}

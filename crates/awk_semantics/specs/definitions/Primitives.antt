@@ -7,7 +7,7 @@ use Rattle.awk_value.specs.declared.value.Value.{Value}
 use Rattle.awk_value.specs.declared.value.Value.TheVariants as value
 use Rattle.awk_value.specs.Values.{num_of, str_of}
 use Rattle.awk_value.specs.Arrays.{Array, value_at, with_pair, with_key, without}
-use Rattle.awk_fields.specs.Record.{RecordPair, split_by, field_of, assignable, with_count, with_field}
+use Rattle.awk_record.specs.Record.{RecordPair, split_by, field_of, assignable, with_count, with_field}
 use Rattle.awk_variables.specs.declared.special.Special.{Special}
 use Rattle.awk_variables.specs.declared.special.Special.TheVariants.{Argc, Fs, Ofs, Ors, Rs, Subsep}
 use Rattle.awk_variables.specs.Names.{has_name}

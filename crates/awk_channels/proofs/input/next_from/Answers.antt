@@ -2,7 +2,7 @@ use Rattle.std.proofs.Common.{◌≡◌, sym, ap, subst, Result, ◌∙◌, rule
 use Rattle.awk_record.specs.Buffer.{Pending}
 use Rattle.awk_record.specs.declared.buffer.Step.{Step}
 use Rattle.awk_record.specs.declared.buffer.Step.TheVariants.{NeedMore}
-use Rattle.awk_record.specs.declared.fault.BufferFault.{BufferFault}
+use Rattle.awk_record.specs.declared.buffer_fault.BufferFault.{BufferFault}
 use Rattle.awk_channels.specs.support.Pulls.{Brings, Pulls}
 use Rattle.awk_channels.proofs.InputLemmas.{Reaches-more, ok_err, step_ending, pulls_lost}
 use Rattle.awk_channels.proofs.GrowsLemmas.{Grows-then, not_failing, may_fail_later}

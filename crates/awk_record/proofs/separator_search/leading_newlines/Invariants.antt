@@ -1,5 +1,5 @@
 use Rattle.std.proofs.Common.{◌≡◌, ◌+◌, drop}
-use Rattle.awk_record.specs.Cut.{newlines}
+use Rattle.awk_record.specs.definitions.Cut.{newlines}
 use Rattle.awk_record.proofs.separator_search.leading_newlines.Given as goal
 
 abbrev pub invariant-loop-i : goal.invariant-loop-i

@@ -1,5 +1,5 @@
 use Rattle.std.proofs.Common.{sym, subst, List, ℕ}
-use Rattle.awk_record.specs.Boundary.{IsSearched}
+use Rattle.awk_record.specs.support.Boundary.{IsSearched}
 use Rattle.awk_record.proofs.ResumedSearches.{searched_more}
 use Rattle.awk_record.proofs.buffer.RecordBuffer.feed.Goals as goal
 

@@ -1,5 +1,5 @@
 use Rattle.std.proofs.Common.{◌≡◌, length, sym, ap, ◌∙◌, arith}
-use Rattle.awk_record.specs.Buffer.{Pending}
+use Rattle.awk_record.specs.definitions.Buffer.{Pending}
 use Rattle.awk_record.proofs.RecordAtHand.{front_written}
 use Rattle.awk_record.proofs.buffer.RecordBuffer.lend_memory.Goals as goal
 

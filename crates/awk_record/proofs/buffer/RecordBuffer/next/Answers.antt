@@ -1,6 +1,6 @@
 use Rattle.std.proofs.Common.{◌≡◌, ◌∙◌, Ok, refl, sym, ap, subst, List, ℕ, ◌-◌, take, drop, length, arith}
-use Rattle.awk_record.specs.Buffer.{Pending, Steps}
-use Rattle.awk_record.specs.Cut.{BrokenOff, NoMore, TooLong}
+use Rattle.awk_record.specs.definitions.Buffer.{Pending, Steps}
+use Rattle.awk_record.specs.definitions.Cut.{BrokenOff, NoMore, TooLong}
 use Rattle.awk_record.specs.declared.buffer.Step.TheVariants.{Record, NeedMore}
 use Rattle.awk_record.proofs.NextAnswersSteps.{Steps-seen, Steps-waits, Steps-breaks, found_unbroken, something_met}
 use Rattle.awk_record.proofs.RecordAtHand.{cut_is}

@@ -1,7 +1,7 @@
 use Rattle.std.proofs.Common.{◌≡◌, ◌++◌, List, ℕ, length, sym, ◌∙◌, ap, subst}
 use Rattle.std.specs.Prelude.{slice_range}
-use Rattle.awk_record.specs.Boundary.{IsSearched}
-use Rattle.awk_record.specs.Buffer.{Pending}
+use Rattle.awk_record.specs.support.Boundary.{IsSearched}
+use Rattle.awk_record.specs.definitions.Buffer.{Pending}
 use Rattle.awk_record.proofs.RecordAtHand.{taken_back}
 use Rattle.awk_record.proofs.ResumedSearches.{searched_more}
 use Rattle.awk_record.proofs.buffer.RecordBuffer.take_memory.Goals as goal

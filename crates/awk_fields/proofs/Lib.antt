@@ -1,3 +1,0 @@
-pub mod AssignedFields
-pub mod FieldOfPieces
-pub mod FoundFields

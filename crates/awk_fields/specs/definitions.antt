@@ -1,2 +1,0 @@
--- What a reader has to believe.
-pub mod Record

@@ -1,3 +1,0 @@
--- What serves the proofs.
-pub mod Found
-pub mod Viewed
