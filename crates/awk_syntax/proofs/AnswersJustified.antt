@@ -14,7 +14,7 @@ use Rattle.awk_grammar.specs.Spelling.{IsProgram}
 use Rattle.awk_grammar.specs.Answer.{Says}
 use Rattle.awk_grammar.specs.View.{tree_of}
 use Rattle.awk_grammar.specs.declared.tree.Tree.{Tree}
-use Rattle.awk_parser.specs.support.Answered.{Gives, Fails}
+use Rattle.awk_syntax.specs.support.Answered.{Gives, Fails}
 use Rattle.awk_syntax.specs.definitions.Patterns.{AreReadable, IsLeftmostRefused}
 use Rattle.awk_syntax.specs.definitions.Outcome.{IsProgramWithinHeight, Reads, Justifies}
 use Rattle.awk_syntax.proofs.LeftmostRefused.{leftmost_unreadable}

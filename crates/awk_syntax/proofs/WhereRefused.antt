@@ -11,7 +11,7 @@ use Rattle.awk_grammar.specs.Height.{max_height}
 use Rattle.awk_grammar.specs.Answer.{Says}
 use Rattle.awk_grammar.specs.support.Parser.{ParserState, Failed, step, answer}
 use Rattle.awk_grammar.specs.support.Parser as parser
-use Rattle.awk_parser.specs.support.Stopped.{state_behind, reached, Stops}
+use Rattle.awk_syntax.specs.support.Stopped.{state_behind, reached, Stops}
 use Rattle.awk_syntax.specs.definitions.Patterns.{IsLeftmostRefused}
 use Rattle.awk_syntax.specs.definitions.Lines.{NoProgramBegins, TellsLine}
 

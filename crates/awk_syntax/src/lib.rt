@@ -1,7 +1,26 @@
-//! Reading the tokens of a program as its syntax tree, with its EREs checked.
+//! The parser: from the tokens of a program to its syntax tree, one token at a time, with its EREs checked.
 #![tactic(auto)]
 
+mod ended_nodes;
+mod endings;
+mod expressions;
+mod for_part_beginnings;
+mod for_part_ends;
+mod item_nodes;
+mod items;
+mod lists;
+mod nodes;
+mod operands;
 pub mod parse;
+mod parser;
 mod patterns;
+mod prints;
+mod read;
+mod simple;
+mod simple_nodes;
+mod statement_nodes;
+mod statements;
+mod step;
+mod taken;
 
 pub use awk_grammar::tree;

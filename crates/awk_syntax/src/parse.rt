@@ -14,7 +14,7 @@ use awk_grammar::laws::parser_law;
 use awk_grammar::tree::Tree;
 use awk_lex::refusal::Refusal;
 use awk_lex::token::Token;
-use awk_parser::read::read;
+use crate::read::read;
 use std::alloc::Global;
 
 /// The tree that the tokens spell (POSIX awk, Grammar).

@@ -7,7 +7,7 @@ use Rattle.awk_lex.specs.declared.refusal.RefusalCode.{RefusalCode}
 use Rattle.awk_lex.specs.declared.refusal.RefusalCode.TheVariants.{NotAProgram, NestedTooDeep}
 use Rattle.awk_grammar.specs.Tree.{Item}
 use Rattle.awk_grammar.specs.Spelling.{IsProgram}
-use Rattle.awk_parser.specs.support.Stopped.{StopsAtToken, StopsAtEnd}
+use Rattle.awk_syntax.specs.support.Stopped.{StopsAtToken, StopsAtEnd}
 
 -- no program begins with these tokens, whatever follows them
 abbrev pub NoProgramBegins : List Kind → Type 0

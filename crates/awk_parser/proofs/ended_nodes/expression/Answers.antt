@@ -1,5 +1,0 @@
-use Rattle.std.proofs.Common.{rules}
-use Rattle.awk_parser.proofs.ended_nodes.expression.Goals as goal
-
-pub of-requires : goal.of-requires
-of-requires c = search rules

@@ -1,5 +1,0 @@
-use Rattle.std.proofs.Common.{arith}
-use Rattle.awk_parser.proofs.ended_nodes.group.Goals as goal
-
-pub of-requires : goal.of-requires
-of-requires c = omega (arith, c.in-Some.inside.counted)

@@ -1,5 +1,0 @@
-use Rattle.std.proofs.Common.{rules}
-use Rattle.awk_parser.proofs.item_nodes.action.Goals as goal
-
-pub returns : goal.returns
-returns c = search rules

@@ -1,5 +1,0 @@
-use Rattle.std.proofs.Common.{rules}
-use Rattle.awk_parser.proofs.item_nodes.function.Goals as goal
-
-pub node-requires : goal.node-requires
-node-requires c = search rules

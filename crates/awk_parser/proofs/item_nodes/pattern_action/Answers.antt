@@ -1,5 +1,0 @@
-use Rattle.std.proofs.Common.{arith}
-use Rattle.awk_parser.proofs.item_nodes.pattern_action.Goals as goal
-
-pub node-requires : goal.node-requires
-node-requires c = omega (arith, c.in-Some.pattern.counted, c.in-Some-statements.statements.counted)

@@ -1,5 +1,0 @@
-use Rattle.std.proofs.Common.{rules}
-use Rattle.awk_parser.proofs.items.after_parameter.Goals as goal
-
-pub returns-in-Comma : goal.returns-in-Comma
-returns-in-Comma c = search rules

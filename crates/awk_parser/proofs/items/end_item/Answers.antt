@@ -1,5 +1,0 @@
-use Rattle.std.proofs.Common.{rules}
-use Rattle.awk_parser.proofs.items.end_item.Goals as goal
-
-pub returns-in_ok-push-in-Some-Program : goal.returns-in_ok-push-in-Some-Program
-returns-in_ok-push-in-Some-Program c = search rules

@@ -1,5 +1,0 @@
-use Rattle.std.proofs.Common.{arith}
-use Rattle.awk_parser.proofs.nodes.membership.Goals as goal
-
-pub of-requires : goal.of-requires
-of-requires c = omega (arith, c.in-Some.subscript.counted)

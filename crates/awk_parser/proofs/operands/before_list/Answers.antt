@@ -1,4 +1,0 @@
-use Rattle.awk_parser.proofs.operands.before_list.Goals as goal
-
-pub returns : goal.returns
-returns c = λ frames. rw (c.in_ok-frame.ensures, c.new.ensures) at c.before_parenthesis.ensures frames

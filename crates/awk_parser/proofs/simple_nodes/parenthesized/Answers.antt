@@ -1,5 +1,0 @@
-use Rattle.std.proofs.Common.{rules}
-use Rattle.awk_parser.proofs.simple_nodes.parenthesized.Goals as goal
-
-pub returns : goal.returns
-returns c = search rules

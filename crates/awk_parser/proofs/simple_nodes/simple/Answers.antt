@@ -1,5 +1,0 @@
-use Rattle.std.proofs.Common.{rules}
-use Rattle.awk_parser.proofs.simple_nodes.simple.Goals as goal
-
-pub of-requires : goal.of-requires
-of-requires c = search rules

@@ -1,5 +1,0 @@
-use Rattle.std.proofs.Common.{rules}
-use Rattle.awk_parser.proofs.statement_nodes.if_else.Goals as goal
-
-pub of-requires : goal.of-requires
-of-requires c = search rules

@@ -1,5 +1,0 @@
-use Rattle.std.proofs.Common.{rules}
-use Rattle.awk_parser.proofs.statements.end_simple_statement.Goals as goal
-
-pub returns-in-Semicolon : goal.returns-in-Semicolon
-returns-in-Semicolon c = search rules

@@ -1,5 +1,0 @@
-use Rattle.std.proofs.Common.{refl}
-use Rattle.awk_parser.proofs.taken.operand.Goals as goal
-
-pub returns : goal.returns
-returns c = λ frames. refl

@@ -1,0 +1,4 @@
+use Rattle.awk_syntax.proofs.operands.close_empty_list.Goals as goal
+
+pub returns-in-Some-List : goal.returns-in-Some-List
+returns-in-Some-List c = rw (c.in-Some-List.ensures, c.in-Some-List.field-0-is) (rw c.into_inner.ensures at c.close_empty.ensures c.pop.new.stack.items)

@@ -1,0 +1,5 @@
+use Rattle.std.proofs.Common.{rules}
+use Rattle.awk_syntax.proofs.statement_nodes.while_loop.Goals as goal
+
+pub returns : goal.returns
+returns c = search rules
