@@ -3,7 +3,7 @@ use Rattle.std.proofs.Common.{◌≡◌, ◌≢◌, ◌⊎◌, inl, inr, ℕ, ze
 use Rattle.std.specs.Global.{Vec}
 use Rattle.awk_value.specs.declared.value.Value.{Value}
 use Rattle.awk_grammar.specs.Tree.{Expr}
-use Rattle.awk_variables.specs.Names.{IsFront}
+use Rattle.awk_kinds.specs.Names.{IsFront}
 use Rattle.awk_kinds.specs.definitions.Kinds.{FormalParameter}
 use Rattle.awk_kinds.specs.definitions.Signatures.{ProgramKinds}
 use Rattle.awk_semantics.specs.definitions.State.{State, Run, ◌>>=◌}

@@ -5,7 +5,7 @@ use Rattle.awk_value.specs.declared.value.Value.{Value}
 use Rattle.awk_value.specs.declared.value.Value.TheVariants as value
 use Rattle.awk_grammar.specs.Tree.{Item}
 use Rattle.awk_grammar.specs.Height.{height_of_block}
-use Rattle.awk_variables.specs.Names.{has_name}
+use Rattle.awk_kinds.specs.Names.{has_name}
 use Rattle.awk_compile.proofs.Slots.{has_name-stands}
 use Rattle.awk_kinds.specs.definitions.Kinds.{FormalParameter, Definition, definitions_of, function_names_of}
 use Rattle.awk_kinds.specs.definitions.Signatures.{Signature, signature_by, kinds_of}

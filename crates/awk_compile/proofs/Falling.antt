@@ -11,8 +11,8 @@ use Rattle.awk_text.specs.definitions.Separators.{Separator}
 use Rattle.awk_grammar.specs.declared.tree.Redirection.{Redirection}
 use Rattle.awk_world.specs.declared.world.InputKind.{InputKind}
 use Rattle.awk_world.specs.declared.world.InputKind.TheVariants as input
-use Rattle.awk_variables.specs.declared.special.Special.TheVariants.{Nr, Fnr}
-use Rattle.awk_variables.specs.Variables.{name_of}
+use Rattle.awk_kinds.specs.declared.special.Special.TheVariants.{Nr, Fnr}
+use Rattle.awk_kinds.specs.Variables.{name_of}
 use Rattle.awk_semantics.specs.declared.halt.Halt.{Halt}
 use Rattle.awk_semantics.specs.declared.local.Local.{Local}
 use Rattle.awk_semantics.specs.declared.local.Local.TheVariants as local

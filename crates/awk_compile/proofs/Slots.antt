@@ -8,7 +8,7 @@ use Rattle.std.proofs.lemmas.Bool.{cases_order}
 use Rattle.std.proofs.lemmas.Option.{slice_get_cases, slice_get-map, get_or_from_slice_get}
 use Rattle.std.proofs.lemmas.Map.Keys.{apart_from_distinct}
 use Rattle.std.proofs.lemmas.Slice.Eq.{bytes_eq-Decides}
-use Rattle.awk_variables.specs.definitions.Names.{has_name, with_name, AreDistinct, Numbers}
+use Rattle.awk_kinds.specs.definitions.Names.{has_name, with_name, AreDistinct, Numbers}
 use Rattle.awk_kinds.specs.definitions.Signatures.{place_of}
 
 abbrev names_of : List (Vec ℕ) → List (List ℕ)

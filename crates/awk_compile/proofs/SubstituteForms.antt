@@ -4,7 +4,7 @@ use Rattle.std.proofs.Common.{◌≡◌, ℕ, suc, ◌+◌, pos, Bool, true, fal
 use Rattle.awk_value.specs.declared.value.Value.{Value}
 use Rattle.awk_value.specs.declared.value.Value.TheVariants as value
 use Rattle.awk_value.specs.Values.{str_of}
-use Rattle.awk_variables.specs.Variables.{name_of}
+use Rattle.awk_kinds.specs.Variables.{name_of}
 use Rattle.awk_grammar.specs.Tree.{Expr, Ere, BuiltIn, Exprs, Nil, Cons}
 use Rattle.awk_kinds.specs.definitions.Kinds.{FormalParameter}
 use Rattle.awk_kinds.specs.definitions.Signatures.{ProgramKinds}

@@ -4,9 +4,9 @@ use Rattle.std.specs.Option.{option_map}
 use Rattle.std.specs.Map.{lookup, set_value}
 use Rattle.std.specs.Prelude.{codes}
 use Rattle.awk_value.specs.declared.value.Value.{Value}
-use Rattle.awk_variables.specs.declared.special.Special.{Special}
-use Rattle.awk_variables.specs.Variables.{name_of}
-use Rattle.awk_variables.specs.Names.{IsFront, has_name, with_name}
+use Rattle.awk_kinds.specs.declared.special.Special.{Special}
+use Rattle.awk_kinds.specs.Variables.{name_of}
+use Rattle.awk_kinds.specs.Names.{IsFront, has_name, with_name}
 use Rattle.awk_compile.proofs.Slots.{has_name-stands, stands_at}
 use Rattle.awk_kinds.specs.definitions.Kinds.{FormalParameter}
 use Rattle.awk_kinds.specs.definitions.Signatures.{ProgramKinds, place_of, parameter_names}

@@ -2,7 +2,7 @@
 
 ghost use Rattle.std.specs.Prelude.{◌≡◌, ◌==◌, [], length, IfOk, OnOk, slice_get};
 ghost use Rattle.std.specs.Option.{option_map};
-ghost use Rattle.awk_variables.specs.definitions.Names.{with_name, AreDistinct, Numbers};
+ghost use Rattle.awk_kinds.specs.definitions.Names.{with_name, AreDistinct, Numbers};
 
 use crate::builder::next_number;
 use indexmap::IndexSet;

@@ -3,7 +3,7 @@ use Rattle.std.proofs.Common.{◌≡◌, ◌⊎◌, inl, inr, ℕ, Bool, true, f
 use Rattle.std.proofs.lemmas.List.Folds.{list_any-append}
 use Rattle.std.proofs.lemmas.Bool.{or_cases, or_left, or_right}
 use Rattle.std.proofs.lemmas.Slice.Eq.{bytes_eq-Decides}
-use Rattle.awk_variables.specs.Names.{has_name}
+use Rattle.awk_kinds.specs.definitions.Names.{has_name}
 use Rattle.awk_grammar.specs.Tree.{Item}
 use Rattle.awk_kinds.specs.declared.variable.Variable.{Variable}
 use Rattle.awk_kinds.specs.declared.variable.Variable.TheVariants.{Global, Parameter}

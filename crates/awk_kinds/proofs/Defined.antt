@@ -7,7 +7,7 @@ use Rattle.std.proofs.Math.Bool.{or-true}
 use Rattle.std.proofs.lemmas.List.{append-nil}
 use Rattle.std.proofs.lemmas.List.Folds.{list_any-append}
 use Rattle.std.specs.Cmp.Lexicographic.{nat_list_eq_equiv}
-use Rattle.awk_variables.specs.Names.{has_name}
+use Rattle.awk_kinds.specs.definitions.Names.{has_name}
 use Rattle.awk_grammar.specs.declared.tree.Statement.{Statement as CodeStatement}
 use Rattle.awk_grammar.specs.declared.tree.Item.{Item as CodeItem}
 use Rattle.awk_grammar.specs.declared.tree.Item.TheVariants as code

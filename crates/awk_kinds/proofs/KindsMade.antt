@@ -4,7 +4,7 @@ use Rattle.std.specs.Global.{Vec}
 use Rattle.std.specs.List.{list_any}
 use Rattle.std.proofs.lemmas.List.{take_more, map-append}
 use Rattle.std.proofs.lemmas.List.Elements.{filter-append}
-use Rattle.awk_variables.specs.Names.{has_name, with_name}
+use Rattle.awk_kinds.specs.definitions.Names.{has_name, with_name}
 use Rattle.awk_lex.specs.declared.refusal.RefusalCode.TheVariants.{DefinedTwice, ParameterRefused}
 use Rattle.awk_grammar.specs.declared.tree.Statement.{Statement as CodeStatement}
 use Rattle.awk_grammar.specs.declared.tree.Item.{Item as CodeItem}

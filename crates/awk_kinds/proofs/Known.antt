@@ -6,7 +6,7 @@ use Rattle.std.proofs.Math.Bool.{or-false, or-true}
 use Rattle.std.proofs.lemmas.List.Folds.{list_any-append}
 use Rattle.std.proofs.lemmas.Slice.Eq.{bytes_eq-Decides}
 use Rattle.indexmap.specs.IndexSet.{insert_key}
-use Rattle.awk_variables.specs.Names.{has_name}
+use Rattle.awk_kinds.specs.definitions.Names.{has_name}
 
 -- the name is a key
 abbrev pub is_key : List (Vec ℕ) → List ℕ → Bool

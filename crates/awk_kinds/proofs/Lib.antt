@@ -1,3 +1,6 @@
+mod Storage
+mod Digits
+mod Counting
 pub mod FitsLaw
 pub mod LeastArrays
 pub mod Known

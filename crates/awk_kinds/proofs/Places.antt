@@ -7,7 +7,7 @@ use Rattle.std.proofs.lemmas.Bool.{lt-ltb}
 use Rattle.std.proofs.lemmas.Bool.Decides.{nat_tests}
 use Rattle.std.proofs.lemmas.List.{map-append}
 use Rattle.indexmap.specs.IndexSet.{insert_key}
-use Rattle.awk_variables.specs.Names.{with_name}
+use Rattle.awk_kinds.specs.definitions.Names.{with_name}
 use Rattle.awk_kinds.specs.definitions.Signatures.{place_of}
 use Rattle.awk_kinds.proofs.Told.{any_map}
 

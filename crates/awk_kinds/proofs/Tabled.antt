@@ -7,7 +7,7 @@ use Rattle.std.proofs.lemmas.List.{take_more, take-append-drop}
 use Rattle.std.proofs.lemmas.List.Folds.{list_any-append}
 use Rattle.std.proofs.lemmas.Option.{slice_get_cases, slice_get_past, get_or_from_slice_get}
 use Rattle.std.proofs.Math.Bool.{or-true}
-use Rattle.awk_variables.specs.Names.{has_name, with_name}
+use Rattle.awk_kinds.specs.definitions.Names.{has_name, with_name}
 use Rattle.awk_kinds.specs.definitions.Kinds.{FormalParameter}
 use Rattle.awk_kinds.specs.definitions.Fits.{has_repeat}
 use Rattle.awk_kinds.specs.definitions.Signatures.{Signature}

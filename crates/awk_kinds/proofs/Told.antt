@@ -3,7 +3,7 @@ use Rattle.std.proofs.Common.{◌≡◌, ℕ, nat_lt, Bool, true, false, ◌&&�
 use Rattle.std.specs.List.{list_any}
 use Rattle.std.proofs.Math.Bool.{or-false, and-false, and-true}
 use Rattle.std.proofs.lemmas.List.Folds.{list_any-append}
-use Rattle.awk_variables.specs.Names.{has_name}
+use Rattle.awk_kinds.specs.definitions.Names.{has_name}
 use Rattle.awk_lex.specs.Words.{is_left_out}
 use Rattle.awk_grammar.specs.Tree.{Item, Function}
 use Rattle.awk_kinds.specs.declared.variable.Variable.{Variable}

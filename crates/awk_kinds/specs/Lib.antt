@@ -1,7 +1,9 @@
--- What a reader believes: which names are arrays, where statements may stand, and which programs fit.
 pub mod definitions
--- What serves the proofs.
 pub mod support
+pub use Rattle.awk_kinds.specs.definitions.Variables
+pub use Rattle.awk_kinds.specs.definitions.Names
+pub use Rattle.awk_kinds.specs.support.Storage
+-- What serves the proofs.
 pub use Rattle.awk_kinds.specs.definitions.SpecialNames
 pub use Rattle.awk_kinds.specs.definitions.Placed
 pub use Rattle.awk_kinds.specs.definitions.Kinds

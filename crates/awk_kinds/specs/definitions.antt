@@ -1,3 +1,5 @@
+pub mod Variables
+pub mod Names
 pub mod SpecialNames
 pub mod Placed
 pub mod Kinds

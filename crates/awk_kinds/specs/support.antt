@@ -1,3 +1,4 @@
+pub mod Storage
 pub mod Place
 pub mod Hashed
 pub mod SameVariable

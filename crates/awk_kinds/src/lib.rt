@@ -1,12 +1,14 @@
+//! The special variables of a run, each at its index.
 //! Which names of a program are arrays, and which programs fit: where statements stand, and how names are used.
 #![tactic(auto)]
 
 mod arrays;
 mod expression_uses;
+mod fault;
 mod functions;
 mod graph;
 mod kinds;
-pub mod laws;
+mod laws;
 mod misuses;
 mod mixed;
 mod name_table;
@@ -15,11 +17,16 @@ mod placed;
 mod reach;
 mod refusal;
 mod scope;
+mod special;
 mod special_names;
 mod statement_uses;
-pub mod uses;
+mod uses;
 pub mod variable;
+mod variables;
 
+pub use fault::VariableFault;
+pub use special::Special;
+pub use variables::Variables;
 pub use kinds::Kinds;
 pub use laws::{law_of_array_names, law_of_kinds, law_of_refusals};
 pub use parameters::Parameters;

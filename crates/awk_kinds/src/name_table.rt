@@ -2,7 +2,7 @@
 
 ghost use Rattle.std.specs.Prelude.{◌≡◌, [], length, slice_get, OnOk};
 ghost use Rattle.std.specs.Option.{option_map};
-ghost use Rattle.awk_variables.specs.Names.{with_name};
+ghost use Rattle.awk_kinds.specs.definitions.Names.{with_name};
 ghost use Rattle.awk_kinds.specs.definitions.Kinds.{with_global};
 ghost use Rattle.awk_kinds.specs.definitions.Signatures.{place_of};
 

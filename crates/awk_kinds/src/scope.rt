@@ -21,7 +21,7 @@ pub(crate) struct Scope {
 impl Model for Scope {
     ghost use Rattle.std.specs.Prelude.{◌≡◌, ℕ, List, bytes_eq};
     ghost use Rattle.std.specs.List.{list_any};
-    ghost use Rattle.awk_variables.specs.Names.{has_name};
+    ghost use Rattle.awk_kinds.specs.definitions.Names.{has_name};
     ghost use Rattle.awk_kinds.specs.definitions.Kinds as kinds;
 
     ghost Value = { kinds.Scope };

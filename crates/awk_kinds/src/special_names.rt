@@ -2,7 +2,7 @@
 
 ghost use Rattle.std.specs.Prelude.{◌≡◌, bytes_eq};
 ghost use Rattle.std.specs.List.{list_any};
-ghost use Rattle.awk_variables.specs.Names.{has_name};
+ghost use Rattle.awk_kinds.specs.definitions.Names.{has_name};
 ghost use Rattle.awk_kinds.specs.definitions.SpecialNames.{special_arrays, special_scalars};
 ghost use Rattle.awk_kinds.specs.definitions.Fits.{is_special};
 

@@ -7,8 +7,8 @@ use Rattle.awk_channels.specs.Streams.{StreamsView, AreOpen, AreSound}
 use Rattle.awk_channels.specs.WorldState.{WorldState}
 use Rattle.awk_grammar.specs.Tree.{Item}
 use Rattle.awk_lex.specs.declared.refusal.RefusalCode.TheVariants.{DefinedTwice}
-use Rattle.awk_variables.specs.Variables.{name_of}
-use Rattle.awk_variables.specs.Names.{has_name, AreDistinct}
+use Rattle.awk_kinds.specs.Variables.{name_of}
+use Rattle.awk_kinds.specs.Names.{has_name, AreDistinct}
 use Rattle.awk_kinds.specs.definitions.Fits.{has_repeat, Fits}
 use Rattle.awk_kinds.specs.definitions.Kinds.{Definition, array_names_of, definitions_of, function_names_of}
 use Rattle.awk_kinds.specs.definitions.Signatures.{Signature, ProgramKinds, signature_by, signature_names, kinds_of}

@@ -1,7 +1,7 @@
 // The names of a plan, as a run has them.
 
 ghost use Rattle.std.specs.Prelude.{◌≡◌, slice_get, Some, IfOk};
-ghost use Rattle.awk_variables.specs.Names.{AreDistinct};
+ghost use Rattle.awk_kinds.specs.Names.{AreDistinct};
 ghost use Rattle.awk_kinds.specs.Signatures.{signature_names};
 ghost use Rattle.awk_compile.specs.States.{AreScalars};
 ghost use Rattle.awk_runtime.specs.support.Naming.{names_of};

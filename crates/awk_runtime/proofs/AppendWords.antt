@@ -8,8 +8,8 @@ use Rattle.awk_channels.specs.Streams.{StreamsView}
 use Rattle.awk_value.specs.declared.value.Value.{Value}
 use Rattle.awk_value.specs.declared.value.Value.TheVariants as value
 use Rattle.awk_value.specs.Values.{str_of}
-use Rattle.awk_variables.specs.Variables.{name_of, with_value}
-use Rattle.awk_variables.specs.Names.{AreDistinct}
+use Rattle.awk_kinds.specs.Variables.{name_of, with_value}
+use Rattle.awk_kinds.specs.Names.{AreDistinct}
 use Rattle.awk_semantics.specs.declared.halt.Halt.{Halt}
 use Rattle.awk_semantics.specs.declared.local.Local.{Local}
 use Rattle.awk_semantics.specs.declared.local.Local.TheVariants as local

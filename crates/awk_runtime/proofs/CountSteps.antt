@@ -6,8 +6,8 @@ use Rattle.std.proofs.lemmas.Slice.Eq.{bytes_eq-Decides}
 use Rattle.awk_value.specs.declared.value.Value.{Value}
 use Rattle.awk_value.specs.declared.value.Value.TheVariants as value
 use Rattle.awk_value.specs.Arithmetic.{range_checked, sum_of}
-use Rattle.awk_variables.specs.declared.special.Special.TheVariants.{Fnr, Nr}
-use Rattle.awk_variables.specs.Variables.{Pairs, value_of, name_of, with_value, CountsRecords}
+use Rattle.awk_kinds.specs.declared.special.Special.TheVariants.{Fnr, Nr}
+use Rattle.awk_kinds.specs.Variables.{Pairs, value_of, name_of, with_value, CountsRecords}
 use Rattle.awk_runtime.proofs.VariableWords.{turned}
 
 -- NR and FNR put before all others

@@ -3,9 +3,9 @@ use Rattle.std.proofs.Common.{◌≡◌, ℤ, pos, false, Ok, refl, ◌∙◌, a
 use Rattle.std.specs.Prelude.{◌+ℤ◌}
 use Rattle.awk_value.specs.declared.value.Value.TheVariants as value
 use Rattle.awk_value.specs.Arithmetic.{sum_of}
-use Rattle.awk_variables.specs.declared.special.Special.{Special}
-use Rattle.awk_variables.specs.declared.special.Special.TheVariants.{Fnr, Nr}
-use Rattle.awk_variables.specs.Variables.{value_of, name_of, is_refused, CountsRecords}
+use Rattle.awk_kinds.specs.declared.special.Special.{Special}
+use Rattle.awk_kinds.specs.declared.special.Special.TheVariants.{Fnr, Nr}
+use Rattle.awk_kinds.specs.Variables.{value_of, name_of, is_refused, CountsRecords}
 use Rattle.awk_semantics.specs.State.{State, ◌>>=◌, go_on, lift, gives}
 use Rattle.awk_semantics.specs.Primitives.{put_special, count_in, with_variable}
 use Rattle.awk_runtime.specs.declared.runtime.Runtime.{Runtime}

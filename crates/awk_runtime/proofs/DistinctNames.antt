@@ -7,7 +7,7 @@ use Rattle.awk_kinds.specs.declared.variable.Variable.{Variable}
 use Rattle.awk_kinds.specs.declared.variable.Variable.TheVariants.{Global, Parameter}
 use Rattle.awk_kinds.specs.SpecialNames.{special_arrays}
 use Rattle.awk_kinds.specs.Kinds.{globals_among, array_names_of, in_array_use, uses_in, is_member, arrays_of}
-use Rattle.awk_variables.specs.Names.{has_name, with_name, AreDistinct}
+use Rattle.awk_kinds.specs.Names.{has_name, with_name, AreDistinct}
 
 get-snoc : (names : List (List ℕ)) (x : List ℕ) (i : ℕ) (n : List ℕ) → slice_get (names ++ x ∷ []) i ≡ Some n → (slice_get names i ≡ Some n) ⊎ ((i ≡ length names) × (x ≡ n))
 get-snoc [] x zero n e = inr (refl, cc)

@@ -7,8 +7,8 @@ use Rattle.awk_value.specs.declared.value.Value.{Value}
 use Rattle.awk_value.specs.declared.value.Value.TheVariants as value
 use Rattle.awk_value.specs.declared.fault.ValueFault.{ValueFault}
 use Rattle.awk_value.specs.Values.{num_of}
-use Rattle.awk_variables.specs.Variables.{value_of, name_of}
-use Rattle.awk_variables.specs.declared.special.Special.TheVariants.{Filename, Fnr}
+use Rattle.awk_kinds.specs.Variables.{value_of, name_of}
+use Rattle.awk_kinds.specs.declared.special.Special.TheVariants.{Filename, Fnr}
 use Rattle.awk_semantics.specs.declared.halt.Halt.{Halt}
 use Rattle.awk_semantics.specs.declared.halt.Halt.TheVariants as halt
 use Rattle.awk_semantics.specs.State.{State}

@@ -6,7 +6,7 @@ use Rattle.awk_channels.specs.declared.fault.StreamFault.{StreamFault}
 use Rattle.awk_channels.specs.declared.fault.StreamFault.TheVariants.{InputNotReadable, RecordTooLong}
 use Rattle.awk_channels.specs.Inputs.{NextTold}
 use Rattle.awk_channels.specs.Oracle.{Source}
-use Rattle.awk_variables.specs.declared.special.Special.TheVariants.{Rs}
+use Rattle.awk_kinds.specs.declared.special.Special.TheVariants.{Rs}
 use Rattle.awk_semantics.specs.State.{Effect, Requested, RecordOfMain, State, Out, Run, go_on, ◌>>=◌, lift, gives}
 use Rattle.awk_semantics.specs.Streams.{asking, with_rest, taken, taken_of, take_record}
 use Rattle.awk_semantics.specs.Primitives.{text_in, spend_of, spend, set_record}

@@ -23,8 +23,8 @@ use Rattle.awk_semantics.specs.State.{OpensMain as AsksForMain, RecordOfMain, Ef
 use Rattle.awk_semantics.specs.Streams.{counted, opened, open_main, with_rest, taken, taken_of, take_record, close_main}
 use Rattle.awk_semantics.specs.Meaning.{outputs_after}
 use Rattle.awk_semantics.specs.Order.{GoesBetween, ReadsAsRequested, ReadsFrom, Meets, first_stage}
-use Rattle.awk_variables.specs.declared.special.Special.TheVariants.{Rs}
-use Rattle.awk_variables.specs.Variables.{value_of, name_of}
+use Rattle.awk_kinds.specs.declared.special.Special.TheVariants.{Rs}
+use Rattle.awk_kinds.specs.Variables.{value_of, name_of}
 use Rattle.awk_runtime.specs.declared.runtime.Runtime.{Runtime}
 use Rattle.awk_runtime.specs.support.Simulation.{OwnRelation, main_number, stage_of, StreamsRelation, StateRelation, ResultRelation, SimulatesLogged, Simulates, IsReady, Follows, Beside, halted}
 use Rattle.awk_runtime.proofs.Effects.{turn_between, turn_requested, begins_still}

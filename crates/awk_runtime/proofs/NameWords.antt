@@ -11,9 +11,9 @@ use Rattle.std.proofs.lemmas.List.Quantifiers.{position-Some}
 use Rattle.std.proofs.lemmas.Option.{slice_get_cases, slice_get-map}
 use Rattle.std.proofs.lemmas.Slice.Eq.{bytes_eq-Decides}
 use Rattle.awk_value.specs.declared.value.Value.TheVariants.{Input}
-use Rattle.awk_variables.specs.declared.special.Special.{Special}
-use Rattle.awk_variables.specs.Variables.{name_of}
-use Rattle.awk_variables.specs.Names.{has_name, with_name, AreDistinct}
+use Rattle.awk_kinds.specs.declared.special.Special.{Special}
+use Rattle.awk_kinds.specs.Variables.{name_of}
+use Rattle.awk_kinds.specs.Names.{has_name, with_name, AreDistinct}
 use Rattle.awk_semantics.specs.declared.halt.Halt.{Halt}
 use Rattle.awk_semantics.specs.State.{State, go_on, ◌>>=◌, lift}
 use Rattle.awk_semantics.specs.Results.{Yields}

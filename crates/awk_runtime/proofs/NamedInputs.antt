@@ -30,8 +30,8 @@ use Rattle.awk_semantics.specs.Primitives.{fault_if}
 use Rattle.awk_semantics.specs.Streams.{rest_in, with_rest_of, check_streams, counted, input_granted, ask_input, open_input_unless, open_input, Answer, with_left, named_taken, named_taken_of, take_named, take_if, next_of}
 use Rattle.awk_semantics.specs.Meaning.{outputs_after}
 use Rattle.awk_semantics.specs.Order.{InputBrought, ReadsFrom, Meets, first_stage}
-use Rattle.awk_variables.specs.declared.special.Special.TheVariants.{Rs}
-use Rattle.awk_variables.specs.Variables.{value_of, name_of}
+use Rattle.awk_kinds.specs.declared.special.Special.TheVariants.{Rs}
+use Rattle.awk_kinds.specs.Variables.{value_of, name_of}
 use Rattle.awk_runtime.specs.declared.runtime.Runtime.{Runtime}
 use Rattle.awk_runtime.specs.support.Simulation.{OwnRelation, main_number, stage_of, StreamsRelation, StateRelation, ResultRelation, SimulatesLogged, Follows, IsReady, Beside, halted}
 use Rattle.awk_runtime.specs.support.NamedInputs.{answers_of}

@@ -15,8 +15,8 @@ use Rattle.awk_channels.specs.Oracle.{Oracle, Source}
 use Rattle.awk_channels.specs.Streams.{StreamsView, AreOpen, AreSound, IsMainRest}
 use Rattle.awk_channels.specs.MainInput.{IsLineOf, lines_of, TakesMain, TakesEach, main_bytes, skipped_main}
 use Rattle.awk_channels.proofs.SkipLemmas.{skip_told}
-use Rattle.awk_variables.specs.declared.special.Special.TheVariants.{Rs}
-use Rattle.awk_variables.specs.Variables.{Pairs, value_of, name_of, CountsRecords}
+use Rattle.awk_kinds.specs.declared.special.Special.TheVariants.{Rs}
+use Rattle.awk_kinds.specs.Variables.{Pairs, value_of, name_of, CountsRecords}
 use Rattle.awk_semantics.specs.declared.halt.Halt.{Halt}
 use Rattle.awk_semantics.specs.State.{Effect, Frame, State, Out, Run}
 use Rattle.awk_semantics.specs.Primitives.{spend}

@@ -9,9 +9,9 @@ use Rattle.awk_value.specs.declared.fault.ValueFault.{ValueFault}
 use Rattle.awk_value.specs.Values.{num_of}
 use Rattle.awk_lex.specs.declared.token.IncrementOperator.{IncrementOperator}
 use Rattle.awk_lex.specs.declared.token.Operator.{Operator}
-use Rattle.awk_variables.specs.declared.special.Special.{Special}
-use Rattle.awk_variables.specs.Variables.{value_of, name_of, with_value, is_refused}
-use Rattle.awk_variables.specs.Names.{AreDistinct}
+use Rattle.awk_kinds.specs.declared.special.Special.{Special}
+use Rattle.awk_kinds.specs.Variables.{value_of, name_of, with_value, is_refused}
+use Rattle.awk_kinds.specs.Names.{AreDistinct}
 use Rattle.awk_semantics.specs.declared.halt.Halt.{Halt}
 use Rattle.awk_semantics.specs.declared.halt.Halt.TheVariants as halt
 use Rattle.awk_semantics.specs.declared.local.Local.{Local}

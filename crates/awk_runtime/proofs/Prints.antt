@@ -27,8 +27,8 @@ use Rattle.awk_semantics.specs.Semantics.{Functions, print_by}
 use Rattle.awk_grammar.specs.declared.tree.PrintForm.TheVariants as form
 use Rattle.awk_semantics.specs.Meaning.{with_bytes, outputs_after}
 use Rattle.awk_semantics.specs.Order.{AreBetween, GoesBetween, first_stage}
-use Rattle.awk_variables.specs.declared.special.Special.TheVariants.{Ofs, Ors}
-use Rattle.awk_variables.specs.Variables.{value_of, name_of}
+use Rattle.awk_kinds.specs.declared.special.Special.TheVariants.{Ofs, Ors}
+use Rattle.awk_kinds.specs.Variables.{value_of, name_of}
 use Rattle.awk_runtime.specs.declared.runtime.Runtime.{Runtime}
 use Rattle.awk_runtime.specs.support.Simulation.{OwnRelation, main_number, stage_of, StreamsRelation, StateRelation, FailureRelation, ResultRelation, SimulatesLogged, Changes, Follows, Beside, SameState, halted}
 use Rattle.awk_runtime.specs.support.Printing.{PrintsTo, OpensTarget}

@@ -12,7 +12,7 @@ use Rattle.awk_semantics.specs.Streams.{Answer, ARecord, next_of}
 use Rattle.awk_semantics.specs.Inputs.{next_record}
 use Rattle.awk_storage.specs.declared.position.Place.{Place}
 use Rattle.awk_storage.specs.Forms.{receive_at, receive_main_at, main_getline_at, receive_named_at, named_getline_at}
-use Rattle.awk_variables.specs.declared.special.Special.TheVariants.{Nr, Fnr}
+use Rattle.awk_kinds.specs.declared.special.Special.TheVariants.{Nr, Fnr}
 use Rattle.awk_runtime.specs.declared.runtime.Runtime.{Runtime}
 use Rattle.awk_runtime.specs.support.Naming.{Naming}
 use Rattle.awk_runtime.specs.support.Simulation.{Changes, Spends, Follows}

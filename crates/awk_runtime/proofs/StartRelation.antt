@@ -13,9 +13,9 @@ use Rattle.awk_channels.specs.Openings.{openings, in_order, is_flushed}
 use Rattle.awk_channels.specs.Streams.{StreamsView, AreOpen, AreSound, with_held}
 use Rattle.awk_grammar.specs.Tree.{Item}
 use Rattle.awk_kinds.specs.Kinds.{array_names_of, function_names_of}
-use Rattle.awk_variables.specs.declared.special.Special.{Special}
-use Rattle.awk_variables.specs.declared.special.Special.TheVariants.{Argc, Convfmt, Filename, Fnr, Fs, Nr, Ofmt, Ofs, Ors, Rlength, Rs, Rstart, Subsep}
-use Rattle.awk_variables.specs.Variables.{Pairs, value_of, name_of, initial_values, initial_value}
+use Rattle.awk_kinds.specs.declared.special.Special.{Special}
+use Rattle.awk_kinds.specs.declared.special.Special.TheVariants.{Argc, Convfmt, Filename, Fnr, Fs, Nr, Ofmt, Ofs, Ors, Rlength, Rs, Rstart, Subsep}
+use Rattle.awk_kinds.specs.Variables.{Pairs, value_of, name_of, initial_values, initial_value}
 use Rattle.awk_semantics.specs.Meaning.{StartValues, first_arrays, start_state}
 use Rattle.awk_runtime.specs.declared.runtime.Runtime.{Runtime}
 use Rattle.awk_runtime.specs.support.Naming.{Naming}

@@ -14,8 +14,8 @@ use Rattle.awk_text.specs.Separators.{Separator, separator_of, separator_made, s
 use Rattle.awk_text.specs.Fields.{pieces_of}
 use Rattle.awk_record.proofs.FieldOfPieces.{cut_stretch}
 use Rattle.awk_lex.specs.declared.token.Operator.TheVariants.{Matches, NotMatches}
-use Rattle.awk_variables.specs.declared.special.Special.TheVariants.{Fs, Rstart, Rlength}
-use Rattle.awk_variables.specs.Variables.{value_of, name_of}
+use Rattle.awk_kinds.specs.declared.special.Special.TheVariants.{Fs, Rstart, Rlength}
+use Rattle.awk_kinds.specs.Variables.{value_of, name_of}
 use Rattle.awk_semantics.specs.declared.halt.Halt.{Halt}
 use Rattle.awk_semantics.specs.declared.halt.Halt.TheVariants as halt
 use Rattle.awk_semantics.specs.declared.fault.Fault.TheVariants.{OutOfMemory}

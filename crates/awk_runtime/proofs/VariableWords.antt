@@ -11,12 +11,12 @@ use Rattle.awk_value.specs.declared.value.Value.TheVariants as value
 use Rattle.awk_value.specs.Values.{str_of}
 use Rattle.awk_text.specs.Separators.{separator_of}
 use Rattle.std.specs.Result.{is_err}
-use Rattle.awk_variables.specs.declared.special.Special.{Special}
-use Rattle.awk_variables.specs.declared.special.Special.TheVariants.{Argc, Convfmt, Filename, Fnr, Fs, Nr, Ofmt, Ofs, Ors, Rlength, Rs, Rstart, Subsep}
-use Rattle.awk_variables.specs.declared.fault.VariableFault.{VariableFault}
-use Rattle.awk_variables.specs.declared.fault.VariableFault.TheVariants.{Memory, Pattern}
-use Rattle.awk_variables.specs.Variables.{value_of, name_of, with_value, is_refused}
-use Rattle.awk_variables.specs.Names.{AreDistinct}
+use Rattle.awk_kinds.specs.declared.special.Special.{Special}
+use Rattle.awk_kinds.specs.declared.special.Special.TheVariants.{Argc, Convfmt, Filename, Fnr, Fs, Nr, Ofmt, Ofs, Ors, Rlength, Rs, Rstart, Subsep}
+use Rattle.awk_kinds.specs.declared.fault.VariableFault.{VariableFault}
+use Rattle.awk_kinds.specs.declared.fault.VariableFault.TheVariants.{Memory, Pattern}
+use Rattle.awk_kinds.specs.Variables.{value_of, name_of, with_value, is_refused}
+use Rattle.awk_kinds.specs.Names.{AreDistinct}
 use Rattle.awk_semantics.specs.declared.halt.Halt.{Halt}
 use Rattle.awk_semantics.specs.declared.halt.Halt.TheVariants as halt
 use Rattle.awk_semantics.specs.declared.fault.Fault.TheVariants.{PatternRefused}

@@ -11,8 +11,8 @@ use Rattle.awk_value.specs.Values.{num_of, str_of}
 use Rattle.awk_record.specs.declared.record_fault.RecordFault.{RecordFault}
 use Rattle.awk_record.specs.declared.record_fault.RecordFault.TheVariants as record_faults
 use Rattle.awk_record.specs.Record.{RecordPair, split_by, field_of, assignable, with_count, with_field}
-use Rattle.awk_variables.specs.declared.special.Special.TheVariants.{Fnr, Fs, Nr, Ofs, Rs}
-use Rattle.awk_variables.specs.Variables.{Pairs, value_of, name_of}
+use Rattle.awk_kinds.specs.declared.special.Special.TheVariants.{Fnr, Fs, Nr, Ofs, Rs}
+use Rattle.awk_kinds.specs.Variables.{Pairs, value_of, name_of}
 use Rattle.awk_semantics.specs.declared.halt.Halt.{Halt}
 use Rattle.awk_semantics.specs.declared.halt.Halt.TheVariants as halt
 use Rattle.awk_semantics.specs.State.{State, Out, Run, go_on, ◌>>=◌, lift}

@@ -15,7 +15,7 @@ use awk_functions::joined_key;
 use awk_semantics::{Halt, Local};
 use awk_storage::Array;
 use awk_value::{Bytes, Value, number_of, text_of};
-use awk_variables::Special;
+use awk_kinds::Special;
 
 impl Runtime {
     /// The number of an array; 0 of a parameter that is none.

@@ -15,7 +15,7 @@ use awk_lex::token::{AssignmentOperator, IncrementOperator, Operator};
 use awk_semantics::Local;
 use awk_storage::Variable;
 use awk_value::{Bytes, Value};
-use awk_variables::Special;
+use awk_kinds::Special;
 use std::mem;
 
 /// A text that came from outside; `None` where memory is refused.

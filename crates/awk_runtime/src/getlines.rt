@@ -13,7 +13,7 @@ use awk_channels::{InputKind, NextNamed, World};
 use awk_semantics::Halt;
 use awk_storage::Place;
 use awk_value::{Bytes, Value, text_of};
-use awk_variables::Special;
+use awk_kinds::Special;
 
 impl Runtime {
     /// Reads the next main record into a place, or for want of one makes it the record at hand, and counts it in NR and FNR.

@@ -13,7 +13,7 @@ use crate::runtime::Runtime;
 use awk_channels::{InputKind, World};
 use awk_semantics::Halt;
 use awk_value::{Bytes, text_of};
-use awk_variables::Special;
+use awk_kinds::Special;
 
 // The path of an input; standard input has none.
 fn path_of(kind: InputKind, name: &Bytes) -> &[u8]

@@ -1,7 +1,7 @@
 // The names of a program and the texts of its EREs, by their places.
 
 ghost use Rattle.std.specs.Prelude.{◌≡◌, slice_get, Some, IfSome, IfNone, false, codes, bytes_eq};
-ghost use Rattle.awk_variables.specs.Names.{has_name, AreDistinct};
+ghost use Rattle.awk_kinds.specs.Names.{has_name, AreDistinct};
 ghost use Rattle.awk_semantics.specs.Inputs.{is_among};
 ghost use Rattle.awk_runtime.specs.support.Naming.{AreOwn, ere_at, names_of};
 
@@ -34,7 +34,7 @@ pub struct ProgramNames {
 impl Model for ProgramNames {
     ghost use Rattle.std.specs.Prelude.{map};
     ghost use Rattle.awk_runtime.specs.support.Naming.{Naming, AreOwn};
-    ghost use Rattle.awk_variables.specs.Names.{AreDistinct};
+    ghost use Rattle.awk_kinds.specs.Names.{AreDistinct};
 
     ghost Value = { Naming };
 

@@ -19,7 +19,7 @@ use awk_functions::{append_line, make_line};
 use awk_grammar::tree::{PrintForm, Redirection};
 use awk_semantics::Halt;
 use awk_value::{Bytes, Value, text_of};
-use awk_variables::Special;
+use awk_kinds::Special;
 
 // The standard output of a name.
 fn standard_named(name: &[u8]) -> Option<Target>

@@ -15,7 +15,7 @@ use awk_lex::token::{IncrementOperator, Operator};
 use awk_semantics::{Halt, Local};
 use awk_storage::{Array, Place, Variable};
 use awk_value::{Value, number_of};
-use awk_variables::Special;
+use awk_kinds::Special;
 
 /// A number that was changed where it stands.
 #[derive(Clone, Copy)]

@@ -11,7 +11,7 @@ use awk_semantics::Halt;
 use awk_storage::{Arrays, Frames};
 use awk_text::Span;
 use awk_value::Value;
-use awk_variables::Variables;
+use awk_kinds::Variables;
 use std::alloc::Global;
 
 /// The state of a run.

@@ -2,7 +2,7 @@
 
 ghost use Rattle.std.specs.Prelude.{◌≡◌, ℕ, List, ◌<◌, ◌∷◌, ◌++◌, [], map, suc, length, None, IfOk, IfErr, OnOk, codes, bytes_eq, get_or, slice_set};
 ghost use Rattle.awk_value.specs.declared.value.Value.TheVariants.{Nothing};
-ghost use Rattle.awk_variables.specs.Variables.{value_of, initial_value};
+ghost use Rattle.awk_kinds.specs.Variables.{value_of, initial_value};
 ghost use Rattle.awk_semantics.specs.Results.{IsWantOfMemory};
 ghost use Rattle.awk_semantics.specs.Meaning.{environ_from, first_array, first_arrays};
 ghost use Rattle.awk_storage.specs.support.Tables.{array_of};
@@ -16,7 +16,7 @@ use awk_functions::{Formats, Patterns};
 use awk_semantics::{Fault, Halt};
 use awk_storage::{Arrays, Frames};
 use awk_value::{Bytes, Value};
-use awk_variables::Variables;
+use awk_kinds::Variables;
 use std::alloc::{AllocError, Global};
 
 /// A name with its text: of the environment, or of an assignment before a run.

@@ -27,7 +27,7 @@ use awk_semantics::Halt;
 use awk_storage::{Array, Place};
 use awk_text::Span;
 use awk_value::{Bytes, Value, text_of};
-use awk_variables::Special;
+use awk_kinds::Special;
 use std::alloc::{AllocError, Global};
 
 /// What spells a pattern: an ERE of the program, by its number, or a value, by its text. (POSIX awk, Regular Expressions)

@@ -18,7 +18,7 @@ use awk_lex::words::{is_left_out, is_reserved};
 use awk_semantics::{Fault, Halt, Local};
 use awk_storage::Variable;
 use awk_value::{Bytes, Value, number_of};
-use awk_variables::Special;
+use awk_kinds::Special;
 use std::alloc::{AllocFailed, Global};
 
 /// Adds ranges that aren't inside, until there is one of this number.

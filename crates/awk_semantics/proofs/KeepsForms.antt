@@ -10,7 +10,7 @@ use Rattle.awk_grammar.specs.declared.tree.PrintForm.{PrintForm}
 use Rattle.awk_grammar.specs.declared.tree.Redirection.{Redirection}
 use Rattle.awk_grammar.specs.Tree.{Expr, Exprs, OptionalExpr, PrintList, Output, SimpleStatement, OptionalSimple, Statement, Statements, Pattern, Item}
 use Rattle.awk_world.specs.declared.world.InputKind.{InputKind}
-use Rattle.awk_variables.specs.declared.special.Special.{Special}
+use Rattle.awk_kinds.specs.declared.special.Special.{Special}
 use Rattle.awk_semantics.specs.declared.flow.Flow.{Flow}
 use Rattle.awk_semantics.specs.definitions.State.{Run}
 use Rattle.awk_semantics.specs.definitions.Primitives.{spend, number_of, read_field, record_text, set_record, read_outside, read_name, set_field, put_outside, put, put_special, count_in, read_element_at, store_element_at, has_element_at, delete_element_at, clear_array_at, array_length_at, keys_at, fill_array_at, read_element, store_element, has_element, delete_element, clear_array, array_length, is_array, keys_in, fill_array, joined_key, field_separator, check_height, print_bytes, print_line, is_inside, set_inside, set_status}
@@ -21,7 +21,7 @@ use Rattle.awk_semantics.specs.definitions.BuiltIns.{Role, Argument, taken_as, l
 use Rattle.awk_semantics.specs.definitions.Semantics.{Functions, right_operand, tested, choose, combined, call_with, getline_from, eval, place_of, key_of, take_arguments, optional_place, optional_value, eval_all, printed_values, target_of, print_by, print, begin_test, exit_with, returned_value, exec_simple, exec_part, goes_on, turn, unless_ended, repeat_within, repeat, walk, pass_on, exec, exec_all}
 use Rattle.awk_semantics.specs.definitions.Items.{begin_record, run_action, in_range, go_through, selects, print_record, try_item, try_items, begin_items, end_items}
 use Rattle.awk_world.specs.declared.world.InputKind.TheVariants as input
-use Rattle.awk_variables.specs.declared.special.Special.TheVariants.{Nr, Fnr}
+use Rattle.awk_kinds.specs.declared.special.Special.TheVariants.{Nr, Fnr}
 use Rattle.awk_value.specs.Values.{str_of}
 use Rattle.awk_semantics.specs.support.Keeps.{Keeps, CallsKeep}
 use Rattle.awk_semantics.specs.support.LawOfKeeping.{SequenceKeeps, ResultKeeps, ChoiceKeeps, LawOfKeeping}

@@ -15,9 +15,9 @@ use Rattle.awk_grammar.specs.declared.tree.Redirection.TheVariants as to
 use Rattle.awk_semantics.specs.declared.fault.Fault.{Fault}
 use Rattle.awk_semantics.specs.declared.halt.Halt.{Halt}
 use Rattle.awk_semantics.specs.declared.halt.Halt.TheVariants as halt
-use Rattle.awk_variables.specs.declared.special.Special.{Special}
-use Rattle.awk_variables.specs.declared.special.Special.TheVariants.{Argc, Rs, Filename, Fnr}
-use Rattle.awk_variables.specs.Variables.{name_of, is_refused}
+use Rattle.awk_kinds.specs.declared.special.Special.{Special}
+use Rattle.awk_kinds.specs.declared.special.Special.TheVariants.{Argc, Rs, Filename, Fnr}
+use Rattle.awk_kinds.specs.Variables.{name_of, is_refused}
 use Rattle.awk_semantics.specs.declared.local.Local.{Local}
 use Rattle.awk_semantics.specs.declared.local.Local.TheVariants as local
 use Rattle.awk_semantics.specs.definitions.State.{Named, Effect, Frame, Stream, State, Out, Run, go_on, ◌>>=◌, lift}

@@ -8,7 +8,7 @@ use Rattle.awk_lex.specs.declared.token.Operator.{Operator}
 use Rattle.awk_lex.specs.declared.token.IncrementOperator.{IncrementOperator}
 use Rattle.awk_lex.specs.declared.token.BuiltIn.{BuiltIn as BuiltInName}
 use Rattle.awk_lex.specs.declared.token.BuiltIn.TheVariants as built_in
-use Rattle.awk_variables.specs.declared.special.Special.TheVariants.{Fnr, Nr, Rstart, Rlength}
+use Rattle.awk_kinds.specs.declared.special.Special.TheVariants.{Fnr, Nr, Rstart, Rlength}
 use Rattle.awk_text.specs.declared.span.Span.{Span}
 use Rattle.awk_semantics.specs.definitions.State.{Run}
 use Rattle.awk_semantics.specs.definitions.Operators.{applied, by_one, one, pattern_in}

@@ -13,7 +13,7 @@ use Rattle.awk_semantics.specs.declared.local.Local.{Local}
 use Rattle.awk_semantics.specs.declared.halt.Halt.{Halt}
 use Rattle.awk_semantics.specs.declared.halt.Halt.TheVariants as halt
 use Rattle.awk_semantics.specs.definitions.Meaning.{StartValues, outcome_of}
-use Rattle.awk_variables.specs.declared.special.Special.TheVariants.{Nr, Fnr}
+use Rattle.awk_kinds.specs.declared.special.Special.TheVariants.{Nr, Fnr}
 use Rattle.awk_semantics.specs.definitions.State.{Request, OpensMain, OpensInput, OpensOutput, RecordOfMain, RecordOf, Closes, Runs, Ends, Effect, Printed, Requested, Frame, Stream, State, Out, Run}
 use Rattle.awk_kinds.specs.definitions.Kinds.{Definition, definitions_of}
 use Rattle.awk_semantics.specs.definitions.Primitives.{without_call, without_calls, outside_calls}

@@ -5,7 +5,7 @@ use Rattle.awk_channels.specs.Oracle.{Oracle}
 use Rattle.awk_grammar.specs.Height.{height_of_block}
 use Rattle.awk_grammar.specs.Tree.{Item}
 use Rattle.awk_kinds.specs.definitions.Kinds.{FormalParameter, Definition, definitions_of}
-use Rattle.awk_variables.specs.declared.special.Special.TheVariants.{Nr, Fnr}
+use Rattle.awk_kinds.specs.declared.special.Special.TheVariants.{Nr, Fnr}
 use Rattle.awk_semantics.specs.declared.outcome.Outcome.TheVariants.{Fault}
 use Rattle.awk_semantics.specs.declared.fault.Fault.TheVariants as faults
 use Rattle.awk_semantics.specs.declared.flow.Flow.{Flow}

@@ -11,7 +11,7 @@ use Rattle.awk_lex.specs.declared.token.BuiltIn.{BuiltIn as BuiltInName}
 use Rattle.awk_lex.specs.declared.token.BuiltIn.TheVariants as built_in
 use Rattle.awk_semantics.specs.declared.fault.Fault.TheVariants as fault
 use Rattle.awk_semantics.specs.declared.halt.Halt.TheVariants as halt
-use Rattle.awk_variables.specs.declared.special.Special.TheVariants.{Fnr, Nr, Rstart, Rlength}
+use Rattle.awk_kinds.specs.declared.special.Special.TheVariants.{Fnr, Nr, Rstart, Rlength}
 use Rattle.awk_text.specs.declared.span.Span.{Span}
 use Rattle.awk_semantics.specs.definitions.State.{Run}
 use Rattle.awk_semantics.specs.definitions.Operators.{applied, by_one, one, pattern_in}

@@ -19,9 +19,9 @@ use Rattle.awk_grammar.specs.declared.tree.Redirection.TheVariants as to
 use Rattle.awk_semantics.specs.declared.fault.Fault.{Fault}
 use Rattle.awk_semantics.specs.declared.halt.Halt.{Halt}
 use Rattle.awk_semantics.specs.declared.halt.Halt.TheVariants as halt
-use Rattle.awk_variables.specs.declared.special.Special.{Special}
-use Rattle.awk_variables.specs.declared.special.Special.TheVariants.{Argc, Rs, Filename, Fnr}
-use Rattle.awk_variables.specs.Variables.{name_of, is_refused}
+use Rattle.awk_kinds.specs.declared.special.Special.{Special}
+use Rattle.awk_kinds.specs.declared.special.Special.TheVariants.{Argc, Rs, Filename, Fnr}
+use Rattle.awk_kinds.specs.Variables.{name_of, is_refused}
 use Rattle.awk_semantics.specs.declared.local.Local.{Local}
 use Rattle.awk_semantics.specs.declared.local.Local.TheVariants as local
 use Rattle.awk_semantics.specs.definitions.State.{Named, OpensMain, OpensInput, OpensOutput, RecordOfMain, RecordOf, Closes, Runs, Ends, Effect, Printed, Requested, Frame, Stream, State, Out, Run, go_on, ◌>>=◌, lift}
@@ -32,7 +32,7 @@ use Rattle.awk_semantics.specs.definitions.Streams.{rest_in, opened, open_main, 
 use Rattle.awk_semantics.specs.definitions.BuiltIns.{Argument, locals_of}
 use Rattle.awk_value.specs.Values.{num_of}
 use Rattle.awk_value.specs.Arrays.{Array, with_pair, with_key, without}
-use Rattle.awk_variables.specs.declared.special.Special.TheVariants.{Ofs}
+use Rattle.awk_kinds.specs.declared.special.Special.TheVariants.{Ofs}
 use Rattle.awk_record.specs.Record.{assignable, with_field}
 use Rattle.awk_semantics.specs.definitions.Faults.{of_values, of_record}
 use Rattle.awk_semantics.specs.definitions.Primitives.{local_in, with_local, array_in, with_array, elements_from}

@@ -10,7 +10,7 @@ use awk_record::RecordFault;
 use awk_text::FormatFault;
 use awk_text::TextFault;
 use awk_value::ValueFault;
-use awk_variables::VariableFault;
+use awk_kinds::VariableFault;
 
 /// A fault of a run, by its number.
 #[derive(Clone, Copy, Debug, PartialEq, Eq)]

@@ -12,7 +12,7 @@ use awk_record::RecordFault;
 use awk_text::FormatFault;
 use awk_text::TextFault;
 use awk_value::ValueFault;
-use awk_variables::VariableFault;
+use awk_kinds::VariableFault;
 use std::alloc::{AllocError, AllocFailed};
 
 /// Why a part of a run ends early.

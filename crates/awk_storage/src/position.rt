@@ -1,6 +1,6 @@
 // Where variables, arrays and places of a program stand.
 
-use awk_variables::Special;
+use awk_kinds::Special;
 
 /// A variable, by its position: one of awk's own, one of the whole program by its slot, or a parameter of the call that is
 /// run, by its index.

@@ -4,7 +4,7 @@ use Rattle.awk_value.specs.declared.value.Value.{Value}
 use Rattle.awk_value.specs.declared.value.Value.TheVariants as value
 use Rattle.awk_grammar.specs.Tree.{Statements, Item}
 use Rattle.awk_grammar.specs.Height.{height_of_block}
-use Rattle.awk_variables.specs.Names.{AreDistinct}
+use Rattle.awk_kinds.specs.Names.{AreDistinct}
 use Rattle.awk_kinds.specs.definitions.Kinds.{FormalParameter, Definition, definitions_of}
 use Rattle.awk_kinds.specs.definitions.Signatures.{kinds_of}
 use Rattle.awk_semantics.specs.definitions.State.{State, Run, ◌>>=◌, ret}

@@ -1,8 +1,8 @@
 -- What nodes are asked of: the states in which the parts of a program run, the functions that it calls, and its scalars.
 use Rattle.std.specs.Prelude.{◌≡◌, ◌≢◌, ℕ, ◌≤◌, Bool, true, false, List, [], ◌∷◌, codes, map, slice_get, Some}
-use Rattle.awk_variables.specs.declared.special.Special.{Special}
-use Rattle.awk_variables.specs.Variables.{name_of}
-use Rattle.awk_variables.specs.Names.{AreDistinct}
+use Rattle.awk_kinds.specs.declared.special.Special.{Special}
+use Rattle.awk_kinds.specs.Variables.{name_of}
+use Rattle.awk_kinds.specs.Names.{AreDistinct}
 use Rattle.awk_kinds.specs.definitions.Kinds.{FormalParameter}
 use Rattle.awk_kinds.specs.definitions.Signatures.{Signature}
 use Rattle.awk_semantics.specs.declared.local.Local.{Local}

@@ -5,7 +5,7 @@ use Rattle.awk_value.specs.declared.value.Value.{Value}
 use Rattle.awk_value.specs.declared.value.Value.TheVariants as value
 use Rattle.awk_value.specs.Values.{truth_of}
 use Rattle.awk_grammar.specs.Tree.{Expr, Ere, Name, Element, Field, Exprs, Nil, Cons, OptionalExpr, NoExpr, AnExpr, Statement, Statements, OptionalSimple}
-use Rattle.awk_variables.specs.Names.{IsFront, with_name, Numbers}
+use Rattle.awk_kinds.specs.Names.{IsFront, with_name, Numbers}
 use Rattle.awk_kinds.specs.definitions.Kinds.{FormalParameter}
 use Rattle.awk_kinds.specs.definitions.Signatures.{Signature, ProgramKinds}
 use Rattle.awk_semantics.specs.declared.flow.Flow.{Flow}

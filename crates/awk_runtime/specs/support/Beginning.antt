@@ -2,8 +2,8 @@
 use Rattle.std.specs.Prelude.{◌≡◌, ℕ, suc, pos, false, List, [], length, map, get_or, None}
 use Rattle.std.specs.Global.{Vec}
 use Rattle.awk_value.specs.declared.value.Value.TheVariants.{Nothing}
-use Rattle.awk_variables.specs.declared.special.Special.{Special}
-use Rattle.awk_variables.specs.Variables.{value_of, name_of, initial_value}
+use Rattle.awk_kinds.specs.declared.special.Special.{Special}
+use Rattle.awk_kinds.specs.Variables.{value_of, name_of, initial_value}
 use Rattle.awk_semantics.specs.Meaning.{StartValues, first_arrays}
 use Rattle.awk_runtime.specs.declared.start.Assignment.{Assignment}
 use Rattle.awk_runtime.specs.declared.start.Parts.{Parts}

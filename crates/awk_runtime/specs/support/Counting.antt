@@ -1,5 +1,5 @@
 -- How a record is counted.
-use Rattle.awk_variables.specs.declared.special.Special.TheVariants.{Fnr, Nr}
+use Rattle.awk_kinds.specs.declared.special.Special.TheVariants.{Fnr, Nr}
 use Rattle.awk_semantics.specs.State.{Run, ◌>>=◌}
 use Rattle.awk_semantics.specs.Primitives.{count_in}
 

@@ -2,8 +2,8 @@
 use Rattle.std.specs.Prelude.{◌≡◌, ℕ, Bool, false, ◌||◌, List, [], map, slice_get, get_or, Some, codes, bytes_eq}
 use Rattle.std.specs.Global.{Vec}
 use Rattle.awk_lex.specs.Words.{is_reserved, is_left_out}
-use Rattle.awk_variables.specs.declared.special.Special.{Special}
-use Rattle.awk_variables.specs.Variables.{name_of}
+use Rattle.awk_kinds.specs.declared.special.Special.{Special}
+use Rattle.awk_kinds.specs.Variables.{name_of}
 use Rattle.awk_semantics.specs.Inputs.{is_among}
 
 abbrev pub names_of : List (Vec ℕ) → List (List ℕ)

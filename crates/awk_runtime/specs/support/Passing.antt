@@ -4,8 +4,8 @@ use Rattle.std.specs.List.{All}
 use Rattle.awk_value.specs.Values.{str_of}
 use Rattle.awk_channels.specs.WorldState.{WorldState}
 use Rattle.awk_channels.specs.MainInput.{IsLineOf, lines_of, main_bytes}
-use Rattle.awk_variables.specs.declared.special.Special.TheVariants.{Rs}
-use Rattle.awk_variables.specs.Variables.{value_of, name_of}
+use Rattle.awk_kinds.specs.declared.special.Special.TheVariants.{Rs}
+use Rattle.awk_kinds.specs.Variables.{value_of, name_of}
 use Rattle.awk_semantics.specs.declared.halt.Halt.{Halt}
 use Rattle.awk_semantics.specs.State.{State, Run, gives}
 use Rattle.awk_semantics.specs.Operators.{pattern_in}

@@ -11,8 +11,8 @@ use Rattle.awk_channels.specs.Log.{Event}
 use Rattle.awk_channels.specs.Openings.{Begins}
 use Rattle.awk_channels.specs.Grows.{Grows}
 use Rattle.awk_channels.specs.Streams.{StreamsView, AreOpen, AreSound, AreAs, numbered, printed_openings}
-use Rattle.awk_variables.specs.declared.special.Special.{Special}
-use Rattle.awk_variables.specs.Variables.{value_of, name_of}
+use Rattle.awk_kinds.specs.declared.special.Special.{Special}
+use Rattle.awk_kinds.specs.Variables.{value_of, name_of}
 use Rattle.awk_semantics.specs.declared.halt.Halt.{Halt}
 use Rattle.awk_semantics.specs.declared.halt.Halt.TheVariants as halt
 use Rattle.awk_semantics.specs.declared.local.Local.{Local}

@@ -1,7 +1,7 @@
 // Names that are put at their places, one behind the other.
 
 ghost use Rattle.std.specs.Prelude.{◌≡◌, IfOk, OnOk, slice_get};
-ghost use Rattle.awk_variables.specs.Names.{with_name, AreDistinct};
+ghost use Rattle.awk_kinds.specs.Names.{with_name, AreDistinct};
 ghost use Rattle.awk_kinds.specs.Signatures.{signature_names};
 ghost use Rattle.awk_runtime.specs.support.Naming.{names_of};
 

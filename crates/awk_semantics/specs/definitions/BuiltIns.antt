@@ -12,7 +12,7 @@ use Rattle.awk_text.specs.definitions.Functions.{substr_of, lower_of, upper_of}
 use Rattle.awk_lex.specs.declared.token.BuiltIn.{BuiltIn as BuiltInName}
 use Rattle.awk_lex.specs.declared.token.BuiltIn.TheVariants.{Length, Substr, Index, Split, Sub, Gsub, Match, Sprintf, ToLower, ToUpper, Int, System, Close, Fflush}
 use Rattle.awk_grammar.specs.Tree.{Expr, Ere, Name}
-use Rattle.awk_variables.specs.declared.special.Special.TheVariants.{Rstart, Rlength}
+use Rattle.awk_kinds.specs.declared.special.Special.TheVariants.{Rstart, Rlength}
 use Rattle.awk_semantics.specs.declared.local.Local.{Local}
 use Rattle.awk_semantics.specs.declared.local.Local.TheVariants as local
 use Rattle.awk_semantics.specs.definitions.State.{State, Run, ◌>>=◌, lift, ret, gives}

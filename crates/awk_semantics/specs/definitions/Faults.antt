@@ -12,8 +12,8 @@ use Rattle.awk_text.specs.declared.fault.TextFault.{TextFault}
 use Rattle.awk_text.specs.declared.fault.TextFault.TheVariants as texts
 use Rattle.awk_channels.specs.declared.fault.StreamFault.{StreamFault}
 use Rattle.awk_channels.specs.declared.fault.StreamFault.TheVariants as streams
-use Rattle.awk_variables.specs.declared.fault.VariableFault.{VariableFault}
-use Rattle.awk_variables.specs.declared.fault.VariableFault.TheVariants as variables
+use Rattle.awk_kinds.specs.declared.fault.VariableFault.{VariableFault}
+use Rattle.awk_kinds.specs.declared.fault.VariableFault.TheVariants as variables
 use Rattle.awk_semantics.specs.declared.fault.Fault.{Fault}
 use Rattle.awk_semantics.specs.declared.fault.Fault.TheVariants as fault
 use Rattle.awk_semantics.specs.declared.halt.Halt.{Halt}

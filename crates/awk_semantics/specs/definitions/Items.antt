@@ -5,7 +5,7 @@ use Rattle.awk_grammar.specs.Tree.{Expr, Bare, Nil, Standard, Statements, Patter
 use Rattle.awk_grammar.specs.declared.tree.PrintForm.TheVariants as form
 use Rattle.awk_semantics.specs.declared.halt.Halt.{Halt}
 use Rattle.awk_semantics.specs.declared.halt.Halt.TheVariants as halt
-use Rattle.awk_variables.specs.declared.special.Special.TheVariants.{Nr, Fnr}
+use Rattle.awk_kinds.specs.declared.special.Special.TheVariants.{Nr, Fnr}
 use Rattle.awk_semantics.specs.definitions.State.{Run, ◌>>=◌, lift, ret}
 use Rattle.awk_semantics.specs.definitions.Primitives.{spend, set_record, count_in, is_inside, set_inside, outside_calls}
 use Rattle.awk_semantics.specs.definitions.Inputs.{next_record}

@@ -11,7 +11,7 @@ use Rattle.awk_semantics.specs.declared.outcome.Outcome.TheVariants.{Ended, Faul
 use Rattle.awk_semantics.specs.declared.halt.Halt.{Halt}
 use Rattle.awk_semantics.specs.declared.halt.Halt.TheVariants as halt
 use Rattle.awk_semantics.specs.declared.fault.Fault.TheVariants.{NextWithoutRecord}
-use Rattle.awk_variables.specs.Variables.{initial_value}
+use Rattle.awk_kinds.specs.Variables.{initial_value}
 use Rattle.awk_semantics.specs.definitions.State.{Request, OpensOutput, Closes, Ends, Effect, Printed, Requested, Stream, State, Out, Run, ◌>>=◌, ret}
 use Rattle.awk_kinds.specs.definitions.Kinds.{array_names_of, function_names_of, definitions_of}
 use Rattle.awk_semantics.specs.definitions.Primitives.{elements_from}

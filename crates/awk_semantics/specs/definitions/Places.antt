@@ -4,7 +4,7 @@ use Rattle.awk_value.specs.declared.value.Value.{Value}
 use Rattle.awk_value.specs.declared.value.Value.TheVariants as value
 use Rattle.awk_lex.specs.declared.token.IncrementOperator.{IncrementOperator}
 use Rattle.awk_lex.specs.declared.token.Operator.{Operator}
-use Rattle.awk_variables.specs.declared.special.Special.TheVariants.{Nr, Fnr}
+use Rattle.awk_kinds.specs.declared.special.Special.TheVariants.{Nr, Fnr}
 use Rattle.awk_world.specs.declared.world.InputKind.{InputKind}
 use Rattle.awk_world.specs.declared.world.InputKind.TheVariants as input
 use Rattle.awk_semantics.specs.definitions.State.{Run, ◌>>=◌, lift, ret}

@@ -8,10 +8,10 @@ use Rattle.awk_value.specs.declared.value.Value.TheVariants as value
 use Rattle.awk_value.specs.Values.{num_of, str_of}
 use Rattle.awk_value.specs.Arrays.{Array, value_at, with_pair, with_key, without}
 use Rattle.awk_record.specs.Record.{RecordPair, split_by, field_of, assignable, with_count, with_field}
-use Rattle.awk_variables.specs.declared.special.Special.{Special}
-use Rattle.awk_variables.specs.declared.special.Special.TheVariants.{Argc, Fs, Ofs, Ors, Rs, Subsep}
-use Rattle.awk_variables.specs.Names.{has_name}
-use Rattle.awk_variables.specs.Variables.{name_of, with_value, is_refused}
+use Rattle.awk_kinds.specs.declared.special.Special.{Special}
+use Rattle.awk_kinds.specs.declared.special.Special.TheVariants.{Argc, Fs, Ofs, Ors, Rs, Subsep}
+use Rattle.awk_kinds.specs.Names.{has_name}
+use Rattle.awk_kinds.specs.Variables.{name_of, with_value, is_refused}
 use Rattle.awk_text.specs.Formatted.{formatted}
 use Rattle.awk_semantics.specs.declared.fault.Fault.{Fault}
 use Rattle.awk_semantics.specs.declared.fault.Fault.TheVariants as fault

@@ -12,7 +12,7 @@ use Rattle.awk_channels.specs.Oracle.{Source, same_input_kind, same_output_kind,
 pub use Rattle.awk_channels.specs.Named.{same_named, named_of, is_command, rest_in, with_rest_of, opening_in, is_output, is_other, has_the_name}
 use Rattle.awk_grammar.specs.declared.tree.Redirection.{Redirection}
 use Rattle.awk_grammar.specs.declared.tree.Redirection.TheVariants as to
-use Rattle.awk_variables.specs.declared.special.Special.TheVariants.{Filename, Fnr, Rs}
+use Rattle.awk_kinds.specs.declared.special.Special.TheVariants.{Filename, Fnr, Rs}
 use Rattle.awk_semantics.specs.declared.fault.Fault.{Fault}
 use Rattle.awk_semantics.specs.declared.fault.Fault.TheVariants as fault
 use Rattle.awk_semantics.specs.declared.halt.Halt.TheVariants as halt

@@ -10,7 +10,7 @@ use Rattle.awk_grammar.specs.declared.tree.PrintForm.{PrintForm}
 use Rattle.awk_grammar.specs.declared.tree.Redirection.{Redirection}
 use Rattle.awk_grammar.specs.Tree.{Expr, Exprs, OptionalExpr, PrintList, Output, SimpleStatement, OptionalSimple, Statement, Statements, Pattern, Item}
 use Rattle.awk_world.specs.declared.world.InputKind.{InputKind}
-use Rattle.awk_variables.specs.declared.special.Special.{Special}
+use Rattle.awk_kinds.specs.declared.special.Special.{Special}
 use Rattle.awk_kinds.specs.definitions.Kinds.{Definition}
 use Rattle.awk_semantics.specs.declared.flow.Flow.{Flow}
 use Rattle.awk_semantics.specs.declared.halt.Halt.{Halt}

@@ -7,7 +7,7 @@ use Rattle.awk_value.specs.Values.{str_of}
 use Rattle.awk_text.specs.definitions.Separators.{Separator}
 use Rattle.awk_text.specs.definitions.Fields.{pieces_of}
 use Rattle.awk_world.specs.declared.world.InputKind.{InputKind}
-use Rattle.awk_variables.specs.declared.special.Special.TheVariants.{Nr, Fnr}
+use Rattle.awk_kinds.specs.declared.special.Special.TheVariants.{Nr, Fnr}
 use Rattle.awk_semantics.specs.definitions.State.{Run, ◌>>=◌, lift}
 use Rattle.awk_semantics.specs.definitions.Operators.{pattern_in}
 use Rattle.awk_semantics.specs.definitions.Texts.{find_from, exchanged}

@@ -1,7 +1,7 @@
 use Rattle.std.proofs.Common.{◌≡◌, ◌+◌, ◌||◌, ◌∷◌, [], ◌++◌, true, false, take, drop, sym, ap, ◌∙◌}
 use Rattle.std.proofs.lemmas.List.{take_more, take-append-drop}
 use Rattle.std.proofs.Math.Bool.{or-true}
-use Rattle.awk_variables.specs.Names.{has_name}
+use Rattle.awk_kinds.specs.definitions.Names.{has_name}
 use Rattle.awk_kinds.specs.definitions.Fits.{has_repeat}
 use Rattle.awk_kinds.proofs.Known.{is_key, one_more}
 use Rattle.awk_kinds.proofs.Defined.{has_repeat-left, has_repeat-push}

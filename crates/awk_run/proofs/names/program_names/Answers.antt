@@ -1,5 +1,5 @@
 use Rattle.std.proofs.Common.{sym, subst}
-use Rattle.awk_variables.specs.Names.{AreDistinct}
+use Rattle.awk_kinds.specs.Names.{AreDistinct}
 use Rattle.awk_runtime.specs.support.Naming.{AreOwn}
 use Rattle.awk_run.proofs.Starting.{own_names}
 use Rattle.awk_run.proofs.names.program_names.Goals as goal

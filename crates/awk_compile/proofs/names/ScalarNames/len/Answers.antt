@@ -1,5 +1,5 @@
 use Rattle.std.proofs.Common.{subst}
-use Rattle.awk_variables.specs.definitions.Names.{AreDistinct}
+use Rattle.awk_kinds.specs.definitions.Names.{AreDistinct}
 use Rattle.awk_compile.proofs.Slots.{are_distinct}
 use Rattle.awk_compile.proofs.names.ScalarNames.len.Goals as goal
 

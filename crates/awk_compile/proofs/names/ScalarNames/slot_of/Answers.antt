@@ -1,7 +1,7 @@
 use Rattle.std.proofs.Common.{ℕ, ◌++◌, ◌∷◌, [], map, length, bytes_eq, if◌then◌else◌, append-nil, sym, ap, ◌∙◌}
 use Rattle.std.specs.Global.{Vec}
 use Rattle.std.proofs.lemmas.List.{length-map}
-use Rattle.awk_variables.specs.definitions.Names.{has_name, with_name}
+use Rattle.awk_kinds.specs.definitions.Names.{has_name, with_name}
 use Rattle.awk_kinds.specs.definitions.Signatures.{place_of}
 use Rattle.awk_kinds.proofs.Places.{position_place, key_added}
 use Rattle.awk_kinds.proofs.Told.{any_map}

@@ -1,6 +1,6 @@
 use Rattle.std.proofs.Common.{◌≡◌, ℕ, List, ◌+◌, ◌∷◌, [], ◌++◌, false, length, map, filter, take, drop, sym, ap, ◌∙◌}
 use Rattle.std.proofs.lemmas.List.{take_all, append-nil}
-use Rattle.awk_variables.specs.Names.{has_name, with_name}
+use Rattle.awk_kinds.specs.definitions.Names.{has_name, with_name}
 use Rattle.awk_grammar.specs.Tree.{Function}
 use Rattle.awk_grammar.specs.View.{item_of, items_of, statements_of}
 use Rattle.awk_kinds.specs.definitions.SpecialNames.{special_arrays}

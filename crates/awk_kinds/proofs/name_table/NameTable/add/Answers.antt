@@ -1,6 +1,6 @@
 use Rattle.std.proofs.Common.{ℕ, map, sym, ap, ◌∙◌}
 use Rattle.std.specs.Global.{Vec}
-use Rattle.awk_variables.specs.Names.{with_name}
+use Rattle.awk_kinds.specs.definitions.Names.{with_name}
 use Rattle.awk_kinds.proofs.Places.{key_added, name_there}
 use Rattle.awk_kinds.proofs.name_table.NameTable.add.Goals as goal
 

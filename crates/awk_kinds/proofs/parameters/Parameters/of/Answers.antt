@@ -1,6 +1,6 @@
 use Rattle.std.proofs.Common.{◌≡◌, ◌+◌, ◌∷◌, [], ◌++◌, false, map, take, drop, sym, ap, ◌∙◌}
 use Rattle.std.proofs.lemmas.List.{take_more, take_all, map-append}
-use Rattle.awk_variables.specs.Names.{has_name, with_name}
+use Rattle.awk_kinds.specs.definitions.Names.{has_name, with_name}
 use Rattle.awk_kinds.specs.declared.variable.Variable.TheVariants.{Parameter}
 use Rattle.awk_kinds.specs.definitions.Fits.{has_repeat}
 use Rattle.awk_kinds.specs.support.Arrays.{is_marked}

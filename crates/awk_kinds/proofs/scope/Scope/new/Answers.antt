@@ -1,7 +1,7 @@
 use Rattle.std.proofs.Common.{◌≡◌, ◌+◌, ◌∷◌, [], ◌++◌, take, sym, ap, ◌∙◌}
 use Rattle.std.proofs.lemmas.List.{take_more}
 use Rattle.awk_kinds.proofs.Known.{is_key, one_more}
-use Rattle.awk_variables.specs.Names.{has_name}
+use Rattle.awk_kinds.specs.definitions.Names.{has_name}
 use Rattle.awk_kinds.proofs.scope.Scope.new.Goals as goal
 
 pub loop-parameter-preserved : goal.loop-parameter-preserved

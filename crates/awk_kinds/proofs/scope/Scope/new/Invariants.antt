@@ -1,6 +1,6 @@
 use Rattle.std.proofs.Common.{◌≡◌, ℕ, List, take, bytes_eq}
 use Rattle.std.specs.List.{list_any}
-use Rattle.awk_variables.specs.Names.{has_name}
+use Rattle.awk_kinds.specs.definitions.Names.{has_name}
 use Rattle.awk_kinds.proofs.scope.Scope.new.Given as goal
 
 abbrev pub invariant-loop-parameter : goal.invariant-loop-parameter

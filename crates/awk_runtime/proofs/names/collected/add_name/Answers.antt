@@ -1,5 +1,5 @@
 use Rattle.std.proofs.Common.{ap, ◌∙◌}
-use Rattle.awk_variables.specs.Names.{with_name}
+use Rattle.awk_kinds.specs.Names.{with_name}
 use Rattle.awk_runtime.specs.support.Naming.{names_of}
 use Rattle.awk_runtime.proofs.NameWords.{names-insert_key}
 use Rattle.awk_runtime.proofs.names.collected.add_name.Goals as goal

@@ -1,6 +1,6 @@
 use Rattle.std.proofs.Common.{◌≡◌, ◌+◌, suc, take, ap, ◌∙◌, arith}
 use Rattle.awk_kinds.specs.Signatures.{signature_names}
-use Rattle.awk_variables.specs.Names.{with_name}
+use Rattle.awk_kinds.specs.Names.{with_name}
 use Rattle.awk_runtime.proofs.NameWords.{next_added}
 use Rattle.awk_runtime.proofs.names.collected.function_names.Goals as goal
 

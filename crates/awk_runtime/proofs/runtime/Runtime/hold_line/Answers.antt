@@ -1,8 +1,8 @@
 use Rattle.std.proofs.Common.{Ok, sym, ap, ◌∙◌}
 use Rattle.awk_value.specs.Values.{str_of}
 use Rattle.awk_semantics.specs.Operators.{line_of}
-use Rattle.awk_variables.specs.declared.special.Special.TheVariants.{Ofs, Ors}
-use Rattle.awk_variables.specs.Variables.{value_of, name_of}
+use Rattle.awk_kinds.specs.declared.special.Special.TheVariants.{Ofs, Ors}
+use Rattle.awk_kinds.specs.Variables.{value_of, name_of}
 use Rattle.awk_channels.specs.declared.streams.Target.TheVariants as target
 use Rattle.awk_channels.specs.Streams.{StreamsView}
 use Rattle.awk_runtime.proofs.Prints.{values_printed, line_between, held_behind, lent_printed}

@@ -4,7 +4,7 @@ use Rattle.std.specs.Prelude.{get_or}
 use Rattle.std.specs.Global.{Vec}
 use Rattle.awk_value.specs.declared.value.Value.{Value}
 use Rattle.awk_value.specs.declared.value.Value.TheVariants.{Nothing}
-use Rattle.awk_variables.specs.Variables.{value_of, name_of, initial_value}
+use Rattle.awk_kinds.specs.Variables.{value_of, name_of, initial_value}
 use Rattle.awk_runtime.proofs.runtime.Runtime.new.Goals as goal
 
 pub returns-clause-start : goal.returns-clause-start

@@ -1,0 +1,19 @@
+use Rattle.std.proofs.Common.{◌≡◌, ap, ◌∙◌, rules, length, set}
+use Rattle.std.proofs.lemmas.Int.{to_z-of_z}
+use mir.Syntax.{w128}
+use Rattle.awk_value.specs.declared.value.Value.TheVariants.{Number}
+use Rattle.awk_kinds.specs.definitions.Variables.{value_of, with_value, name_of, Pairs}
+use Rattle.awk_kinds.specs.declared.special.Special.TheVariants.{Nr, Fnr}
+use Rattle.awk_kinds.specs.support.Storage.{special_pairs}
+use Rattle.awk_kinds.proofs.Storage.{value_of-set_counts}
+use Rattle.awk_kinds.proofs.variables.Variables.set_counts.Goals as goal
+
+pub returns : goal.returns
+returns c = λ x.
+    let inside = c.self.inside in
+    let m = Number c.args.all in
+    let n = Number c.args.in_file in
+    let len : length inside.specials ≡ 13 = search rules in
+    (λ j. value_of (special_pairs (set (set inside.specials (c.index.ensures j) (Number (to_z-of_z w128 c.args.all c.ranges.all j))) (c.index-2.ensures j) (Number (to_z-of_z w128 c.args.in_file c.ranges.in_file j)))) x)
+    ∙ value_of-set_counts inside.specials m n len x
+    ∙ ap (λ (p : Pairs). with_value (with_value (value_of p) (name_of Nr) m) (name_of Fnr) n x) c.self.view_is

@@ -1,0 +1,232 @@
+// The special variables of a run.
+ghost use Rattle.std.specs.Result.{is_err};
+ghost use Rattle.std.specs.Prelude.{◌≡◌, ◌≢◌, ◌==◌, ◌≤ℤ◌, ◌<ℤ◌, ◌^◌, ℕ, pos, length, List, [], ◌∷◌, true, false, IfOk, IfErr, IfSome, OnOk, OnErr};
+ghost use Rattle.awk_value.specs.Values.{str_of};
+ghost use Rattle.awk_text.specs.Separators.{separator_of};
+ghost use Rattle.awk_kinds.specs.support.Storage.{initial_specials};
+
+use crate::fault::VariableFault;
+use crate::special::Special;
+use awk_text::FieldSeparator;
+use awk_value::{Bytes, Value, text_of};
+use std::alloc::Global;
+use std::marker::Model;
+use std::mem;
+
+// The text of a value that FS is to have. One that is no field separator is refused.
+fn separator_text(alloc: Global, value: &Value) -> Result<Bytes, VariableFault>
+    ensures text { IfOk result (λ text. text ≡ str_of value.now) }
+    ensures accepted { OnOk result (is_err (separator_of (str_of value.now)) ≡ false) }
+    ensures refused { IfErr result (λ e. e ≢ VariableFault.Memory →
+        (e ≡ VariableFault.Pattern) × (is_err (separator_of (str_of value.now)) ≡ true)) }
+{
+    let Ok(text) = text_of(alloc, value) else {
+        return Err(VariableFault::Memory);
+    };
+    FieldSeparator::of(alloc, text.as_slice(), false)?;
+    Ok(text)
+}
+
+// Whether the text of a value is empty.
+#[inline(always)]
+fn is_empty(value: &Value) -> bool
+    ensures { result ≡ (length (str_of value.now) == 0) }
+{
+    match value {
+        Value::Nothing => true,
+        Value::Number(_) => false,
+        Value::Text(text) | Value::Input(text) => text.is_empty(),
+    }
+}
+
+// Records are counted quickly while their counts are less.
+const MANY: i128 = 0x4000_0000_0000_0000;
+
+// The special variables that are texts as the run begins. (POSIX awk, Variables and Special Variables)
+const TEXTS: [(Special, &[u8]); 7] = [
+    (Special::Convfmt, b"%.6g"),
+    (Special::Fs, b" "),
+    (Special::Ofmt, b"%.6g"),
+    (Special::Ofs, b" "),
+    (Special::Ors, b"\n"),
+    (Special::Rs, b"\n"),
+    (Special::Subsep, b"\x1c"),
+];
+
+// The values of the special variables as the run begins, each at its index.
+fn initial_specials(alloc: Global, arguments: usize) -> Result<[Value; 13], VariableFault>
+    ensures specials { IfOk result (λ values. values ≡ initial_specials arguments) }
+    ensures memory { IfErr result (λ e. e ≡ VariableFault.Memory) }
+{
+    let mut values = [
+        Value::Number(arguments as i128), // ARGC
+        Value::Nothing,
+        Value::Nothing,
+        Value::Number(0), // FNR
+        Value::Nothing,
+        Value::Number(0), // NR
+        Value::Nothing,
+        Value::Nothing,
+        Value::Nothing,
+        Value::Nothing,
+        Value::Nothing,
+        Value::Nothing,
+        Value::Nothing,
+    ];
+    for (special, text) in &TEXTS {
+        values[special.index()] = Value::Text(Bytes::from_slice(alloc, text)?);
+    }
+    Ok(values)
+}
+
+/// The special variables of a run with their values. No other name has one.
+#[derive(Drop)]
+pub struct Variables {
+    specials: [Value; 13],
+    // the text of FS, which is a field separator
+    field_separator: Bytes,
+    alloc: Global,
+}
+
+impl Model for Variables {
+    ghost use Rattle.awk_kinds.specs.definitions.Variables.{Pairs};
+    ghost use Rattle.awk_kinds.specs.support.Storage.{special_pairs, IsSeparator};
+
+    ghost Value = { Pairs };
+
+    ghost view = { λ v. special_pairs v.specials };
+
+    ghost invariant = { λ v. IsSeparator v.specials v.field_separator };
+}
+
+impl Variables {
+    ghost use Rattle.awk_kinds.specs.definitions.Variables.{value_of, name_of, initial_value, with_value, is_refused, CountsRecords};
+
+    /// The variables before the run, where ARGV has so many elements. The
+    /// only fault is `Memory`.
+    pub fn new(alloc: Global, arguments: usize) -> Result<Variables, VariableFault>
+        ensures start { IfOk result (λ v. (x : List ℕ) → value_of v x ≡ initial_value arguments x) }
+        ensures memory { IfErr result (λ e. e ≡ VariableFault.Memory) }
+    {
+        let specials = initial_specials(alloc, arguments)?;
+        Ok(Variables {
+            specials,
+            field_separator: Bytes::from_slice(alloc, b" ")?,
+            alloc,
+        })
+    }
+
+    /// The value of a special variable.
+    #[inline(always)]
+    pub fn special(&self, special: Special) -> &Value
+        ensures { result.now ≡ value_of self.now (name_of special) }
+    {
+        &self.specials[special.index()]
+    }
+
+    /// Gives a special variable a value. An `Err` changes nothing: it is
+    /// `Pattern`, where the variable is FS and the value's text is no
+    /// separator, or `Memory`. Only FS takes memory.
+    pub fn set_special(&mut self, special: Special, value: Value) -> Result<(), VariableFault>
+        ensures set { OnOk result ((x : List ℕ) → value_of self.new x
+            ≡ with_value (value_of self.old) (name_of special) value x) }
+        ensures accepted { OnOk result (is_refused (name_of special) value ≡ false) }
+        ensures err { OnErr result (self.new ≡ self.old) }
+        ensures absent { OnErr result (special ≡ Special.Fs) }
+        ensures refused { result ≡ Err VariableFault.Pattern → is_refused (name_of special) value ≡ true }
+    {
+        if let Special::Fs = special {
+            let text = separator_text(self.alloc, &value)?;
+            drop(mem::replace(&mut self.field_separator, text));
+        }
+        drop(mem::replace(&mut self.specials[special.index()], value));
+        Ok(())
+    }
+
+    /// The text of FS, which is a field separator.
+    #[inline(always)]
+    pub fn field_separator(&self) -> &[u8]
+        ensures text { result.now ≡ str_of (value_of self.now (name_of Special.Fs)) }
+        ensures accepted { is_err (separator_of result.now) ≡ false }
+    {
+        self.field_separator.as_slice()
+    }
+
+    /// Whether newlines separate fields too: where RS is empty. (POSIX awk,
+    /// Variables and Special Variables: RS)
+    #[inline(always)]
+    pub fn newlines_separate(&self) -> bool
+        ensures { result ≡ (length (str_of (value_of self.now (name_of Special.Rs))) == 0) }
+    {
+        is_empty(self.special(Special::Rs))
+    }
+
+    /// The byte that RS is, where it is one byte. (POSIX awk, Variables and Special Variables: RS)
+    #[inline(always)]
+    pub fn record_separator_byte(&self) -> Option<u8>
+        ensures { IfSome result (λ byte. str_of (value_of self.now (name_of Special.Rs)) ≡ byte ∷ []) }
+    {
+        match self.special(Special::Rs) {
+            Value::Text(text) | Value::Input(text) => match text.as_slice() {
+                [byte] => Some(*byte),
+                _ => None,
+            },
+            Value::Nothing | Value::Number(_) => None,
+        }
+    }
+
+    // NR and FNR, where both are counts that are not too large.
+    #[inline(always)]
+    fn counts(&self) -> Option<(i128, i128)>
+        ensures nr { IfSome result (λ counts. value_of self.now (name_of Special.Nr) ≡ Value.Number counts.0) }
+        ensures fnr { IfSome result (λ counts. value_of self.now (name_of Special.Fnr) ≡ Value.Number counts.1) }
+        ensures nr_small { IfSome result (λ counts. (pos 0 ≤ℤ counts.0) × (counts.0 <ℤ pos (2 ^ 62))) }
+        ensures fnr_small { IfSome result (λ counts. (pos 0 ≤ℤ counts.1) × (counts.1 <ℤ pos (2 ^ 62))) }
+    {
+        let Value::Number(all) = self.special(Special::Nr) else {
+            return None;
+        };
+        let Value::Number(in_file) = self.special(Special::Fnr) else {
+            return None;
+        };
+        let (all, in_file) = (*all, *in_file);
+        if 0 <= all && all < MANY && 0 <= in_file && in_file < MANY {
+            return Some((all, in_file));
+        }
+        None
+    }
+
+    // Makes numbers NR and FNR.
+    #[inline(always)]
+    fn set_counts(&mut self, all: i128, in_file: i128)
+        ensures { (x : List ℕ) → value_of self.new x ≡ with_value
+            (with_value (value_of self.old) (name_of Special.Nr) (Value.Number all)) (name_of Special.Fnr) (Value.Number in_file) x }
+    {
+        self.specials[Special::Nr.index()] = Value::Number(all);
+        self.specials[Special::Fnr.index()] = Value::Number(in_file);
+    }
+
+    /// Counts so many records in NR and FNR, where both are counts that are not too large; else
+    /// answers `false`, and nothing changes. Takes no memory. (POSIX awk, Variables and Special
+    /// Variables: NR, FNR)
+    #[inline(always)]
+    pub fn count_records(&mut self, count: usize) -> bool
+        ensures counted { result ≡ true → CountsRecords count (value_of self.old) (value_of self.new) }
+        ensures kept { result ≡ false → self.new ≡ self.old }
+    {
+        let Some((all, in_file)) = self.counts() else {
+            return false;
+        };
+        self.set_counts(all + count as i128, in_file + count as i128);
+        true
+    }
+
+    /// Counts a record, as `count_records` counts many.
+    #[inline(always)]
+    pub fn count_record(&mut self) -> bool
+        ensures counted { result ≡ true → CountsRecords 1 (value_of self.old) (value_of self.new) }
+        ensures kept { result ≡ false → self.new ≡ self.old }
+    {
+        self.count_records(1)
+    }
+}

@@ -1,3 +1,0 @@
-mod Storage
-mod Digits
-mod Counting
