@@ -1,10 +1,10 @@
 -- What follows from how the words are served.
 use Rattle.std.proofs.Common.{◌≡◌, ◌⊎◌, inl, inr, ℕ, List, Result, Ok, Err, Vec, refl, ◌∙◌, ap, subst}
 use Rattle.std.specs.Global.{Global}
-use Rattle.awk_channels.specs.Writes.{OnlyWritesTo}
+use Rattle.awk_streams.specs.Writes.{OnlyWritesTo}
 use Rattle.awk_grammar.specs.Tree.{Item}
 use Rattle.awk_run.specs.Accepted.{Accepted}
-use Rattle.awk_channels.specs.WorldState.{WorldState}
+use Rattle.awk_streams.specs.WorldState.{WorldState}
 use Rattle.awk_run.specs.Meaning.{StartValues}
 use Rattle.awk_semantics.specs.declared.outcome.Outcome.{Outcome}
 use Rattle.awk_runtime.specs.declared.start.Assignment.{Assignment}

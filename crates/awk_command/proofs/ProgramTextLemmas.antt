@@ -1,8 +1,8 @@
 -- Lemmas on reading the files of a program.
 use Rattle.std.proofs.Common.{◌≡◌, ◌<◌, ℕ, Bool, true, false, inl, inr, List, [], ◌∷◌, ◌++◌, length, refl, sym, ◌∙◌, ap, subst, append_assoc, append-nil}
-use Rattle.awk_channels.specs.Log.{Event, Read}
-use Rattle.awk_channels.specs.Writes.{GoesOn}
-use Rattle.awk_channels.proofs.WritesLemmas.{with_events-push}
+use Rattle.awk_streams.specs.Log.{Event, Read}
+use Rattle.awk_streams.specs.Writes.{GoesOn}
+use Rattle.awk_streams.proofs.WritesLemmas.{with_events-push}
 use Rattle.awk_run.specs.Accepted.{longest_text}
 use Rattle.awk_command.specs.ProgramText.{ReadsBytes, ReadsInput, ReadsFile, ReadsFiles, with_newline}
 use Rattle.awk_command.specs.Parts.{ReadsChunk}

@@ -4,11 +4,11 @@ use Rattle.std.specs.Prelude.{is_some}
 use Rattle.std.specs.Result.{is_err}
 use Rattle.std.proofs.lemmas.List.{take-append-le}
 use Rattle.std.proofs.Math.Seq.{take-length, take-append-add}
-use Rattle.awk_channels.specs.declared.fault.StreamFault.{StreamFault}
-use Rattle.awk_channels.specs.Log.{Event, Wrote}
-use Rattle.awk_channels.specs.Writes.{with_events, GoesOn, Writes}
-use Rattle.awk_channels.specs.Outputs.{WritesAll}
-use Rattle.awk_channels.specs.WorldState.{WorldState}
+use Rattle.awk_streams.specs.declared.fault.StreamFault.{StreamFault}
+use Rattle.awk_streams.specs.Log.{Event, Wrote}
+use Rattle.awk_streams.specs.Writes.{with_events, GoesOn, Writes}
+use Rattle.awk_streams.specs.Outputs.{WritesAll}
+use Rattle.awk_streams.specs.WorldState.{WorldState}
 use Rattle.awk_command.specs.Report.{ReportsLine}
 
 pub with_events-append : (es fs : List Event) (log : List Event) → with_events (es ++ fs) log ≡ with_events fs (with_events es log)

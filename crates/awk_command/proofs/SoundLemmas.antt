@@ -4,15 +4,15 @@ use Rattle.std.specs.Global.{Global}
 use Rattle.std.specs.Prelude.{is_some}
 use Rattle.std.proofs.lemmas.Bool.{cond-true, eq-eqb}
 use Rattle.awk_world.specs.declared.world.InputKind.{InputKind}
-use Rattle.awk_channels.specs.Log.{Event, OpenedInput, Read, Ended, Closed}
-use Rattle.awk_channels.specs.Oracle.{standing, read_on}
-use Rattle.awk_channels.specs.Orderly.{IsReadable, IsInOrder}
-use Rattle.awk_channels.specs.Openings.{is_flushed}
-use Rattle.awk_channels.specs.Streams.{held_of, is_output_among, AreSound}
-use Rattle.awk_channels.specs.WorldState.{WorldState, IsFresh, Opens, Closes, SameOpen}
-use Rattle.awk_channels.specs.Writes.{with_events}
-use Rattle.awk_channels.proofs.OpenLemmas.{grants_input, granted_order, new_input_sound}
-use Rattle.awk_channels.proofs.MainLemmas.{closed_known, closed_flushed}
+use Rattle.awk_streams.specs.Log.{Event, OpenedInput, Read, Ended, Closed}
+use Rattle.awk_streams.specs.Oracle.{standing, read_on}
+use Rattle.awk_streams.specs.Orderly.{IsReadable, IsInOrder}
+use Rattle.awk_streams.specs.Openings.{is_flushed}
+use Rattle.awk_streams.specs.Streams.{held_of, is_output_among, AreSound}
+use Rattle.awk_streams.specs.WorldState.{WorldState, IsFresh, Opens, Closes, SameOpen}
+use Rattle.awk_streams.specs.Writes.{with_events}
+use Rattle.awk_streams.proofs.OpenLemmas.{grants_input, granted_order, new_input_sound}
+use Rattle.awk_streams.proofs.MainLemmas.{closed_known, closed_flushed}
 use Rattle.awk_run.specs.support.Verdict.{no_streams}
 use Rattle.awk_command.specs.Parts.{StaysSound}
 use Rattle.awk_command.specs.ProgramText.{ReadsBytes, ReadsInput}

@@ -2,7 +2,7 @@
 
 ghost use Rattle.std.specs.Prelude.{◌≡◌, ◌&&◌, IfOk, map, filter};
 ghost use Rattle.std.specs.Str.{is_utf8};
-ghost use Rattle.awk_channels.specs.Streams.{AreSound};
+ghost use Rattle.awk_streams.specs.Streams.{AreSound};
 ghost use Rattle.awk_run.specs.Start.{pair_of};
 ghost use Rattle.awk_run.specs.support.Verdict.{no_streams};
 ghost use Rattle.awk_command.specs.CommandLine.{texts, view_of};
@@ -12,7 +12,7 @@ use crate::command_line::{CommandLine, is_utf8, read_command_line};
 use crate::options::CommandFault;
 use crate::program_text::program_text;
 use crate::report::{NotRun, report_not_run, report_outcome};
-use awk_channels::World;
+use awk_streams::World;
 use awk_run::{Assignment, Outcome, Start, execute, status};
 use std::alloc::{AllocError, Global};
 

@@ -1,8 +1,8 @@
 // The program's text: a word, or files that are joined.
 
 ghost use Rattle.std.specs.Prelude.{◌≡◌, ◌<◌, ◌++◌, true, IsTrue, IfErr, IfOk, OnOk, Ok, Err, length};
-ghost use Rattle.awk_channels.specs.WorldState.{IsFresh, Opens, SameOpen};
-ghost use Rattle.awk_channels.specs.Log.{logged, input_opening};
+ghost use Rattle.awk_streams.specs.WorldState.{IsFresh, Opens, SameOpen};
+ghost use Rattle.awk_streams.specs.Log.{logged, input_opening};
 ghost use Rattle.awk_command.specs.CommandLine.{texts, source_of};
 ghost use Rattle.awk_command.specs.ProgramText.{kind_of, opened_name, with_newline, ReadsInput, ReadsFile};
 ghost use Rattle.awk_command.specs.ProgramText.{ReadsFiles, IsNotRead, IsBroken, IsUnreadable, ProvidesText};
@@ -10,7 +10,7 @@ ghost use Rattle.awk_command.specs.Parts.{ReadsChunk, StaysSound, reason_of};
 
 use crate::command_line::ProgramSource;
 use crate::report::NotRun;
-use awk_channels::{InputKind, World, WorldFault};
+use awk_streams::{InputKind, World, WorldFault};
 use awk_lex::lexer::LIMIT;
 use std::alloc::{AllocError, Global};
 

@@ -7,9 +7,9 @@ use Rattle.awk_semantics.specs.declared.local.Local.TheVariants as local
 use Rattle.awk_storage.specs.declared.position.Array.{Array}
 use Rattle.awk_storage.specs.declared.position.Array.TheVariants as array
 use Rattle.awk_storage.specs.support.Frames.{FramesView, newest_of}
-use Rattle.awk_compile.specs.declared.node.ArgumentForm.{ArgumentForm}
-use Rattle.awk_compile.specs.declared.node.ArgumentForm.TheVariants as form
-use Rattle.awk_compile.specs.Nodes.{behind_form, taken, values_among}
+use Rattle.awk_resolve.specs.declared.node.ArgumentForm.{ArgumentForm}
+use Rattle.awk_resolve.specs.declared.node.ArgumentForm.TheVariants as form
+use Rattle.awk_resolve.specs.Nodes.{behind_form, taken, values_among}
 use Rattle.awk_runtime.specs.declared.runtime.Runtime.{Runtime}
 use Rattle.awk_runtime.specs.Calling.{number_of_kept, kept_number, with_given}
 use Rattle.awk_evaluator.specs.declared.machine.Machine.{Machine}

@@ -10,10 +10,10 @@ use Rattle.awk_semantics.specs.declared.local.Local.TheVariants as local
 use Rattle.awk_semantics.specs.State.{State, ◌>>=◌}
 use Rattle.awk_semantics.specs.Primitives.{check_height, spend, enter}
 use Rattle.awk_storage.specs.support.Frames.{FramesView}
-use Rattle.awk_compile.specs.declared.node.ArgumentForm.{ArgumentForm}
-use Rattle.awk_compile.specs.declared.node.ArgumentForm.TheVariants as form
-use Rattle.awk_compile.specs.declared.plan.Function.{Function as PlannedFunction}
-use Rattle.awk_compile.specs.Nodes.{given_by, locals_by, taken, values_among}
+use Rattle.awk_resolve.specs.declared.node.ArgumentForm.{ArgumentForm}
+use Rattle.awk_resolve.specs.declared.node.ArgumentForm.TheVariants as form
+use Rattle.awk_resolve.specs.declared.plan.Function.{Function as PlannedFunction}
+use Rattle.awk_resolve.specs.Nodes.{given_by, locals_by, taken, values_among}
 use Rattle.awk_runtime.specs.declared.runtime.Runtime.{Runtime}
 use Rattle.awk_runtime.specs.Simulation.{OwnRelation, Changes, Spends}
 use Rattle.awk_runtime.specs.Calling.{without_given, EntersCall}

@@ -5,7 +5,7 @@ use Rattle.std.specs.Option.{option_map}
 use Rattle.std.proofs.lemmas.Option.{slice_get-map}
 use Rattle.awk_value.specs.declared.value.Value.{Value}
 use Rattle.awk_value.specs.declared.value.Value.TheVariants as value
-use Rattle.awk_channels.specs.WorldState.{WorldState}
+use Rattle.awk_streams.specs.WorldState.{WorldState}
 use Rattle.awk_kinds.specs.Kinds.{Definition}
 use Rattle.awk_semantics.specs.declared.halt.Halt.{Halt}
 use Rattle.awk_semantics.specs.declared.local.Local.{Local}
@@ -14,17 +14,17 @@ use Rattle.awk_semantics.specs.Keeps.{Scope}
 use Rattle.awk_semantics.specs.Primitives.{check_height, spend_of, spend, enter, leave}
 use Rattle.awk_semantics.specs.Calls.{call_within, functions_within}
 use Rattle.awk_semantics.proofs.KeepsForms.{keeps_check_height, keeps_spend}
-use Rattle.awk_compile.specs.declared.node.ArgumentForm.{ArgumentForm}
-use Rattle.awk_compile.specs.declared.node.ArgumentForm.TheVariants as form
+use Rattle.awk_resolve.specs.declared.node.ArgumentForm.{ArgumentForm}
+use Rattle.awk_resolve.specs.declared.node.ArgumentForm.TheVariants as form
 use Rattle.awk_storage.specs.declared.position.Array.TheVariants as array
-use Rattle.awk_compile.specs.declared.node.Node.TheVariants as n
-use Rattle.awk_compile.specs.declared.node.ValueNode.TheVariants as v
-use Rattle.awk_compile.specs.declared.plan.Function.{Function as PlannedFunction}
-use Rattle.awk_compile.specs.declared.plan.Plan.{Plan}
-use Rattle.awk_compile.specs.Nodes.{Tables, function_at, given_by, local_by, behind_form, locals_by, call_at, taken, values_among, FormsFit, CallFits}
-use Rattle.awk_compile.specs.Plans.{array_parameters}
-use Rattle.awk_compile.proofs.Calculus.{assoc_at, given, later_same, later_kept, first_same}
-use Rattle.awk_compile.proofs.Calling.{locals_fit}
+use Rattle.awk_resolve.specs.declared.node.Node.TheVariants as n
+use Rattle.awk_resolve.specs.declared.node.ValueNode.TheVariants as v
+use Rattle.awk_resolve.specs.declared.plan.Function.{Function as PlannedFunction}
+use Rattle.awk_resolve.specs.declared.plan.Plan.{Plan}
+use Rattle.awk_resolve.specs.Nodes.{Tables, function_at, given_by, local_by, behind_form, locals_by, call_at, taken, values_among, FormsFit, CallFits}
+use Rattle.awk_resolve.specs.Plans.{array_parameters}
+use Rattle.awk_resolve.proofs.Calculus.{assoc_at, given, later_same, later_kept, first_same}
+use Rattle.awk_resolve.proofs.Calling.{locals_fit}
 use Rattle.awk_runtime.specs.declared.runtime.Runtime.{Runtime}
 use Rattle.awk_runtime.specs.Simulation.{Simulates, Changes}
 use Rattle.awk_runtime.proofs.Composition.{then_simulates, ends_simulates, change_simulates}

@@ -8,7 +8,7 @@ use Rattle.awk_lex.specs.declared.token.AssignmentOperator.{AssignmentOperator}
 use Rattle.awk_lex.specs.declared.token.IncrementOperator.{IncrementOperator}
 use Rattle.awk_lex.specs.declared.token.Operator.{Operator}
 use Rattle.awk_grammar.specs.declared.tree.BinaryOperator.{BinaryOperator}
-use Rattle.awk_channels.specs.WorldState.{WorldState}
+use Rattle.awk_streams.specs.WorldState.{WorldState}
 use Rattle.awk_kinds.specs.Kinds.{Definition}
 use Rattle.awk_semantics.specs.declared.halt.Halt.{Halt}
 use Rattle.awk_semantics.specs.State.{Run, ◌>>=◌}
@@ -19,13 +19,13 @@ use Rattle.awk_storage.specs.declared.position.Variable.{Variable}
 use Rattle.awk_storage.specs.declared.position.Place.{Place}
 use Rattle.awk_storage.specs.declared.position.Place.TheVariants as place
 use Rattle.awk_storage.specs.Positions.{assign_at, assign_by_at}
-use Rattle.awk_compile.specs.declared.node.Operand.{Operand}
-use Rattle.awk_compile.specs.declared.node.Node.{Node}
-use Rattle.awk_compile.specs.declared.node.Node.TheVariants as n
-use Rattle.awk_compile.specs.declared.node.ValueNode.{ValueNode}
-use Rattle.awk_compile.specs.declared.node.ValueNode.TheVariants as v
-use Rattle.awk_compile.specs.declared.plan.Plan.{Plan}
-use Rattle.awk_compile.specs.Nodes.{Tables, first, second, taken, value_of, popped, assign_variable, append_to, print_field, update, increment, AreBelow}
+use Rattle.awk_resolve.specs.declared.node.Operand.{Operand}
+use Rattle.awk_resolve.specs.declared.node.Node.{Node}
+use Rattle.awk_resolve.specs.declared.node.Node.TheVariants as n
+use Rattle.awk_resolve.specs.declared.node.ValueNode.{ValueNode}
+use Rattle.awk_resolve.specs.declared.node.ValueNode.TheVariants as v
+use Rattle.awk_resolve.specs.declared.plan.Plan.{Plan}
+use Rattle.awk_resolve.specs.Nodes.{Tables, first, second, taken, value_of, popped, assign_variable, append_to, print_field, update, increment, AreBelow}
 use Rattle.awk_runtime.specs.Simulation.{IsReady, Changes}
 use Rattle.awk_runtime.proofs.Composition.{change_simulates}
 use Rattle.awk_evaluator.specs.declared.machine.Machine.{Machine}

@@ -17,11 +17,11 @@ use Rattle.awk_runtime.specs.declared.runtime.Runtime.{Runtime}
 use Rattle.awk_runtime.proofs.Composition.{then_changes, lift_changes, change_simulates, ready_same}
 use Rattle.awk_semantics.specs.declared.halt.Halt.{Halt}
 use Rattle.awk_semantics.specs.Semantics.{Functions}
-use Rattle.awk_compile.specs.declared.node.ValueNode.{ValueNode}
-use Rattle.awk_compile.specs.declared.node.EffectNode.{EffectNode}
-use Rattle.awk_compile.specs.Nodes.{Tables, value_of, popped, first, second, operands, place_operands, pattern_operands, substitute_by, effect_of, dropped}
+use Rattle.awk_resolve.specs.declared.node.ValueNode.{ValueNode}
+use Rattle.awk_resolve.specs.declared.node.EffectNode.{EffectNode}
+use Rattle.awk_resolve.specs.Nodes.{Tables, value_of, popped, first, second, operands, place_operands, pattern_operands, substitute_by, effect_of, dropped}
 use Rattle.awk_runtime.specs.support.Simulation.{IsReady, Simulates, Changes}
-use Rattle.awk_channels.specs.WorldState.{WorldState}
+use Rattle.awk_streams.specs.WorldState.{WorldState}
 use Rattle.awk_evaluator.specs.declared.machine.Machine.{Machine}
 use Rattle.awk_evaluator.specs.support.Rest.{tables_in}
 use Rattle.awk_evaluator.specs.support.Moves.{Computes, Evaluates, Acts, Performs}

@@ -1,15 +1,15 @@
 -- A field that is printed.
 use Rattle.std.proofs.Common.{◌≡◌, [], ◌∷◌, Result, Ok, Err, refl, sym, ◌∙◌}
 use Rattle.awk_value.specs.declared.value.Value.{Value}
-use Rattle.awk_channels.specs.WorldState.{WorldState}
+use Rattle.awk_streams.specs.WorldState.{WorldState}
 use Rattle.awk_grammar.specs.declared.tree.PrintForm.TheVariants.{Print}
 use Rattle.awk_semantics.specs.declared.halt.Halt.{Halt}
 use Rattle.awk_semantics.specs.State.{Run, ◌>>=◌, ret}
 use Rattle.awk_semantics.specs.Semantics.{Functions, print_by}
-use Rattle.awk_compile.specs.declared.node.Operand.{Operand}
-use Rattle.awk_compile.specs.declared.node.ValueNode.TheVariants as v
-use Rattle.awk_compile.specs.Nodes.{print_field}
-use Rattle.awk_compile.proofs.Calculus.{given}
+use Rattle.awk_resolve.specs.declared.node.Operand.{Operand}
+use Rattle.awk_resolve.specs.declared.node.ValueNode.TheVariants as v
+use Rattle.awk_resolve.specs.Nodes.{print_field}
+use Rattle.awk_resolve.proofs.Calculus.{given}
 use Rattle.awk_runtime.specs.declared.runtime.Runtime.{Runtime}
 use Rattle.awk_runtime.specs.Simulation.{Simulates}
 use Rattle.awk_runtime.proofs.Composition.{then_simulates, change_simulates}

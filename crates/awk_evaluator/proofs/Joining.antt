@@ -14,10 +14,10 @@ use Rattle.awk_semantics.specs.Operators.{applied}
 use Rattle.awk_storage.specs.declared.position.Variable.{Variable}
 use Rattle.awk_storage.specs.declared.position.Place.TheVariants as place
 use Rattle.awk_storage.specs.Positions.{read_variable, read_at, assign_by_at}
-use Rattle.awk_compile.specs.declared.node.Operand.{Operand}
-use Rattle.awk_compile.specs.declared.node.ValueNode.TheVariants as v
-use Rattle.awk_compile.specs.Nodes.{first, second, taken, operated, operand_value, assign_variable, append_to}
-use Rattle.awk_compile.proofs.Calculus.{later_same}
+use Rattle.awk_resolve.specs.declared.node.Operand.{Operand}
+use Rattle.awk_resolve.specs.declared.node.ValueNode.TheVariants as v
+use Rattle.awk_resolve.specs.Nodes.{first, second, taken, operated, operand_value, assign_variable, append_to}
+use Rattle.awk_resolve.proofs.Calculus.{later_same}
 use Rattle.awk_runtime.specs.declared.runtime.Runtime.{Runtime}
 use Rattle.awk_runtime.specs.Naming.{Naming}
 use Rattle.awk_runtime.specs.Appends.{AppendsText, appended}

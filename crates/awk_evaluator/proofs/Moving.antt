@@ -5,8 +5,8 @@ use Rattle.std.proofs.Common.{◌≡◌, ◌≢◌, ℕ, zero, suc, ◌-◌, ◌
 use Rattle.awk_value.specs.declared.value.Value.{Value}
 use Rattle.awk_value.specs.declared.value.Value.TheVariants as value
 use Rattle.awk_value.specs.Values.{truth_of}
-use Rattle.awk_channels.specs.WorldState.{WorldState}
-use Rattle.awk_channels.specs.Streams.{printed_openings}
+use Rattle.awk_streams.specs.WorldState.{WorldState}
+use Rattle.awk_streams.specs.Streams.{printed_openings}
 use Rattle.awk_kinds.specs.Kinds.{Definition}
 use Rattle.awk_semantics.specs.declared.halt.Halt.{Halt}
 use Rattle.awk_semantics.specs.declared.halt.Halt.TheVariants as halt
@@ -20,13 +20,13 @@ use Rattle.awk_storage.specs.declared.position.Array.{Array}
 use Rattle.awk_storage.specs.declared.position.Variable.{Variable}
 use Rattle.awk_storage.specs.Positions.{put_variable}
 use Rattle.awk_storage.specs.Forms.{keys_of_array}
-use Rattle.awk_compile.specs.declared.node.Node.{Node}
-use Rattle.awk_compile.specs.declared.node.Node.TheVariants as n
-use Rattle.awk_compile.specs.declared.node.ValueNode.{ValueNode}
-use Rattle.awk_compile.specs.declared.node.EffectNode.{EffectNode}
-use Rattle.awk_compile.specs.declared.plan.Plan.{Plan}
-use Rattle.awk_compile.specs.Nodes.{Tables, Cont, first, second, value_of, popped, effect_of, dropped, walk_values, keys_left, next_key_by}
-use Rattle.awk_compile.proofs.Listed.{node_at, no_node_at}
+use Rattle.awk_resolve.specs.declared.node.Node.{Node}
+use Rattle.awk_resolve.specs.declared.node.Node.TheVariants as n
+use Rattle.awk_resolve.specs.declared.node.ValueNode.{ValueNode}
+use Rattle.awk_resolve.specs.declared.node.EffectNode.{EffectNode}
+use Rattle.awk_resolve.specs.declared.plan.Plan.{Plan}
+use Rattle.awk_resolve.specs.Nodes.{Tables, Cont, first, second, value_of, popped, effect_of, dropped, walk_values, keys_left, next_key_by}
+use Rattle.awk_resolve.proofs.Listed.{node_at, no_node_at}
 use Rattle.awk_runtime.specs.declared.runtime.Runtime.{Runtime}
 use Rattle.awk_runtime.specs.Simulation.{IsReady, SimulatesLogged, Simulates, Changes, Spends}
 use Rattle.awk_runtime.proofs.Composition.{ready_same, ends_simulates, change_simulates, lift_simulates}

@@ -5,19 +5,19 @@ use Rattle.awk_value.specs.declared.value.Value.{Value}
 use Rattle.awk_lex.specs.declared.token.AssignmentOperator.{AssignmentOperator}
 use Rattle.awk_lex.specs.declared.token.IncrementOperator.{IncrementOperator}
 use Rattle.awk_grammar.specs.declared.tree.BinaryOperator.{BinaryOperator}
-use Rattle.awk_channels.specs.WorldState.{WorldState}
+use Rattle.awk_streams.specs.WorldState.{WorldState}
 use Rattle.awk_semantics.specs.declared.halt.Halt.{Halt}
 use Rattle.awk_semantics.specs.State.{Run}
 use Rattle.awk_storage.specs.declared.position.Array.{Array}
 use Rattle.awk_storage.specs.declared.position.Variable.{Variable}
 use Rattle.awk_storage.specs.declared.position.Place.{Place}
-use Rattle.awk_compile.specs.declared.node.Operand.{Operand}
-use Rattle.awk_compile.specs.declared.node.Node.TheVariants as n
-use Rattle.awk_compile.specs.declared.node.ValueNode.{ValueNode}
-use Rattle.awk_compile.specs.declared.node.ValueNode.TheVariants as v
-use Rattle.awk_compile.specs.declared.node.EffectNode.{EffectNode}
-use Rattle.awk_compile.specs.declared.plan.Plan.{Plan}
-use Rattle.awk_compile.specs.Nodes.{first, keys_left}
+use Rattle.awk_resolve.specs.declared.node.Operand.{Operand}
+use Rattle.awk_resolve.specs.declared.node.Node.TheVariants as n
+use Rattle.awk_resolve.specs.declared.node.ValueNode.{ValueNode}
+use Rattle.awk_resolve.specs.declared.node.ValueNode.TheVariants as v
+use Rattle.awk_resolve.specs.declared.node.EffectNode.{EffectNode}
+use Rattle.awk_resolve.specs.declared.plan.Plan.{Plan}
+use Rattle.awk_resolve.specs.Nodes.{first, keys_left}
 use Rattle.awk_runtime.specs.Naming.{Naming}
 use Rattle.awk_runtime.specs.Simulation.{IsReady, Spends}
 use Rattle.awk_runtime.specs.declared.runtime.Runtime.{Runtime}

@@ -6,7 +6,7 @@ use Rattle.awk_lex.specs.declared.token.AssignmentOperator.{AssignmentOperator}
 use Rattle.awk_lex.specs.declared.token.AssignmentOperator.TheVariants as assignment
 use Rattle.awk_lex.specs.declared.token.IncrementOperator.{IncrementOperator}
 use Rattle.awk_grammar.specs.declared.tree.BinaryOperator.{BinaryOperator}
-use Rattle.awk_channels.specs.WorldState.{WorldState}
+use Rattle.awk_streams.specs.WorldState.{WorldState}
 use Rattle.awk_semantics.specs.declared.halt.Halt.{Halt}
 use Rattle.awk_semantics.specs.Operators.{operator_of, truth_value}
 use Rattle.awk_semantics.specs.State.{Run, ◌>>=◌}
@@ -15,11 +15,11 @@ use Rattle.awk_storage.specs.declared.position.Variable.{Variable}
 use Rattle.awk_storage.specs.declared.position.Place.TheVariants as place
 use Rattle.awk_storage.specs.Positions.{put_variable, assign_by_at, post_increment_at}
 use Rattle.awk_storage.specs.Forms.{keys_of_array}
-use Rattle.awk_compile.specs.declared.node.Operand.{Operand}
-use Rattle.awk_compile.specs.declared.node.ValueNode.{ValueNode}
-use Rattle.awk_compile.specs.declared.node.ValueNode.TheVariants as v
-use Rattle.awk_compile.specs.declared.node.EffectNode.{EffectNode}
-use Rattle.awk_compile.specs.Nodes.{first, second, taken, value_of, effect_of, operand_value, operated_with, assign_variable, append_to, print_field}
+use Rattle.awk_resolve.specs.declared.node.Operand.{Operand}
+use Rattle.awk_resolve.specs.declared.node.ValueNode.{ValueNode}
+use Rattle.awk_resolve.specs.declared.node.ValueNode.TheVariants as v
+use Rattle.awk_resolve.specs.declared.node.EffectNode.{EffectNode}
+use Rattle.awk_resolve.specs.Nodes.{first, second, taken, value_of, effect_of, operand_value, operated_with, assign_variable, append_to, print_field}
 use Rattle.awk_runtime.specs.declared.runtime.Runtime.{Runtime}
 use Rattle.awk_runtime.specs.Naming.{Naming}
 use Rattle.awk_runtime.specs.Simulation.{Simulates, Changes, Spends}

@@ -8,19 +8,19 @@ use Rattle.awk_lex.specs.declared.token.AssignmentOperator.{AssignmentOperator}
 use Rattle.awk_lex.specs.declared.token.IncrementOperator.{IncrementOperator}
 use Rattle.awk_lex.specs.declared.token.Operator.{Operator}
 use Rattle.awk_grammar.specs.declared.tree.BinaryOperator.TheVariants.{Infix}
-use Rattle.awk_channels.specs.WorldState.{WorldState}
+use Rattle.awk_streams.specs.WorldState.{WorldState}
 use Rattle.awk_semantics.specs.State.{◌>>=◌, ret}
 use Rattle.awk_semantics.specs.Operators.{applied, truth_value, operator_of}
 use Rattle.awk_storage.specs.declared.position.Variable.{Variable}
 use Rattle.awk_storage.specs.declared.position.Place.TheVariants as place
 use Rattle.awk_storage.specs.Positions.{assign_by_at, post_increment_at}
-use Rattle.awk_compile.specs.declared.node.Operand.{Operand}
-use Rattle.awk_compile.specs.declared.node.Node.{Node}
-use Rattle.awk_compile.specs.declared.node.Node.TheVariants as n
-use Rattle.awk_compile.specs.declared.node.ValueNode.{ValueNode}
-use Rattle.awk_compile.specs.declared.node.EffectNode.TheVariants as e
-use Rattle.awk_compile.specs.declared.plan.Plan.{Plan}
-use Rattle.awk_compile.specs.Nodes.{first, operand_value, operated_with, update, increment}
+use Rattle.awk_resolve.specs.declared.node.Operand.{Operand}
+use Rattle.awk_resolve.specs.declared.node.Node.{Node}
+use Rattle.awk_resolve.specs.declared.node.Node.TheVariants as n
+use Rattle.awk_resolve.specs.declared.node.ValueNode.{ValueNode}
+use Rattle.awk_resolve.specs.declared.node.EffectNode.TheVariants as e
+use Rattle.awk_resolve.specs.declared.plan.Plan.{Plan}
+use Rattle.awk_resolve.specs.Nodes.{first, operand_value, operated_with, update, increment}
 use Rattle.awk_runtime.specs.declared.runtime.Runtime.{Runtime}
 use Rattle.awk_runtime.specs.Naming.{Naming}
 use Rattle.awk_runtime.specs.Simulation.{Simulates, Changes, Spends}

@@ -25,11 +25,11 @@ use Rattle.awk_storage.specs.declared.position.Array.{Array}
 use Rattle.awk_storage.specs.declared.position.Place.{Place}
 use Rattle.awk_storage.specs.Forms.{contains_at}
 use Rattle.awk_storage.specs.Positions.{read_at, assign_at, assign_by_at}
-use Rattle.awk_compile.specs.declared.node.Operand.{Operand}
-use Rattle.awk_compile.specs.declared.node.Operand.TheVariants as operand
-use Rattle.awk_compile.specs.declared.node.ValueNode.{ValueNode}
-use Rattle.awk_compile.specs.declared.node.ValueNode.TheVariants as v
-use Rattle.awk_compile.specs.Nodes.{Tables, first, second, taken, value_of, popped, operated_with, operated_on}
+use Rattle.awk_resolve.specs.declared.node.Operand.{Operand}
+use Rattle.awk_resolve.specs.declared.node.Operand.TheVariants as operand
+use Rattle.awk_resolve.specs.declared.node.ValueNode.{ValueNode}
+use Rattle.awk_resolve.specs.declared.node.ValueNode.TheVariants as v
+use Rattle.awk_resolve.specs.Nodes.{Tables, first, second, taken, value_of, popped, operated_with, operated_on}
 use Rattle.awk_runtime.specs.declared.runtime.Runtime.{Runtime}
 use Rattle.awk_runtime.specs.Simulation.{Changes}
 use Rattle.awk_runtime.proofs.Composition.{then_changes, lift_changes}

@@ -1,15 +1,15 @@
 -- What is done first, and then what is left.
 use Rattle.std.proofs.Common.{◌≡◌, ℕ, zero, suc, ◌<◌, ◌≤◌, List, [], ◌∷◌, Result, Ok, Err, refl, sym, ap, ◌∙◌, subst, arith, append-nil, get_or}
 use Rattle.awk_value.specs.declared.value.Value.{Value}
-use Rattle.awk_channels.specs.WorldState.{WorldState}
+use Rattle.awk_streams.specs.WorldState.{WorldState}
 use Rattle.awk_kinds.specs.Kinds.{Definition}
 use Rattle.awk_semantics.specs.declared.halt.Halt.{Halt}
 use Rattle.awk_semantics.specs.State.{Effect, State, Out, Run, go_on, ◌>>=◌, lift, ret}
 use Rattle.awk_semantics.specs.declared.halt.Halt.TheVariants as halt
 use Rattle.awk_semantics.specs.Primitives.{spend, leave}
-use Rattle.awk_compile.specs.declared.plan.Plan.{Plan}
-use Rattle.awk_compile.specs.Nodes.{Tables, Cont}
-use Rattle.awk_compile.proofs.Calculus.{assoc_at, given}
+use Rattle.awk_resolve.specs.declared.plan.Plan.{Plan}
+use Rattle.awk_resolve.specs.Nodes.{Tables, Cont}
+use Rattle.awk_resolve.proofs.Calculus.{assoc_at, given}
 use Rattle.awk_runtime.specs.declared.runtime.Runtime.{Runtime}
 use Rattle.awk_runtime.specs.support.Simulation.{OwnRelation, ResultRelation, Simulates}
 use Rattle.awk_runtime.proofs.Composition.{then_simulates, ends_simulates}

@@ -2,9 +2,9 @@
 use Rattle.std.proofs.Common.{◌≡◌, ℕ, zero, suc, ◌<◌, List, [], ◌∷◌, slice_get, Some, subst, arith}
 use Rattle.awk_grammar.specs.Tree.{Item}
 use Rattle.awk_kinds.specs.Kinds.{FormalParameter, Definition, definitions_of}
-use Rattle.awk_compile.specs.declared.plan.Function.{Function as PlannedFunction}
-use Rattle.awk_compile.specs.declared.plan.Plan.{Plan}
-use Rattle.awk_compile.specs.Plans.{Meaning, AreFunctions, DoesIn, IsPlanOf}
+use Rattle.awk_resolve.specs.declared.plan.Function.{Function as PlannedFunction}
+use Rattle.awk_resolve.specs.declared.plan.Plan.{Plan}
+use Rattle.awk_resolve.specs.Plans.{Meaning, AreFunctions, DoesIn, IsPlanOf}
 use Rattle.awk_evaluator.specs.Rest.{IsSound}
 
 -- a body is a node above its statements

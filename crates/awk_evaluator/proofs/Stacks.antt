@@ -6,7 +6,7 @@ use Rattle.std.proofs.Common.{length-drop}
 use Rattle.std.proofs.lemmas.List.{length-take}
 use Rattle.std.proofs.Math.ListN.{drop_of_length-le, set}
 use Rattle.awk_value.specs.declared.value.Value.{Value}
-use Rattle.awk_compile.specs.Nodes.{taken}
+use Rattle.awk_resolve.specs.Nodes.{taken}
 use Rattle.awk_evaluator.specs.support.Operands.{OperandsView}
 
 -- all but the last ones, from the end

@@ -1,14 +1,14 @@
 // Calls of functions.
 
 ghost use Rattle.std.specs.Prelude.{◌≡◌, ◌<◌, ◌≤◌, [], ◌∷◌, drop, slice_get};
-ghost use Rattle.awk_compile.specs.Nodes.{taken, values_among};
+ghost use Rattle.awk_resolve.specs.Nodes.{taken, values_among};
 ghost use Rattle.awk_runtime.specs.Calling.{Gives};
 ghost use Rattle.awk_evaluator.specs.Calling.{kept_by, BeginsCall, GivesAll};
 
 use crate::entry::Entry;
 use crate::machine::Machine;
-use awk_compile::Function;
-use awk_compile::node::ArgumentForm;
+use awk_resolve::Function;
+use awk_resolve::node::ArgumentForm;
 use awk_semantics::Halt;
 
 /// How an argument is given.

@@ -2,13 +2,13 @@
 
 ghost use Rattle.std.specs.Prelude.{◌≡◌, None as NoneOf, Some as SomeOf};
 ghost use Rattle.awk_runtime.specs.Simulation.{IsReady};
-ghost use Rattle.awk_compile.specs.declared.node.EffectNode.TheVariants.{Delete, Print, SetInside, SetStatus};
+ghost use Rattle.awk_resolve.specs.declared.node.EffectNode.TheVariants.{Delete, Print, SetInside, SetStatus};
 ghost use Rattle.awk_evaluator.specs.Moves.{Acts, Performs, came};
 ghost use Rattle.awk_evaluator.specs.Reading.{PrintsField};
 
 use crate::machine::Machine;
-use awk_channels::World;
-use awk_compile::node::{EffectNode, Operand};
+use awk_streams::World;
+use awk_resolve::node::{EffectNode, Operand};
 use awk_grammar::tree::{PrintForm, Redirection};
 use awk_semantics::Halt;
 use awk_storage::Array;

@@ -2,8 +2,8 @@
 
 ghost use Rattle.std.specs.Prelude.{List};
 ghost use Rattle.awk_grammar.specs.Tree.{Item};
-ghost use Rattle.awk_compile.specs.declared.plan.Plan.{Plan};
-ghost use Rattle.awk_compile.specs.Plans.{IsPlanOf};
+ghost use Rattle.awk_resolve.specs.declared.plan.Plan.{Plan};
+ghost use Rattle.awk_resolve.specs.Plans.{IsPlanOf};
 ghost use Rattle.awk_evaluator.specs.Rest.{IsSound};
 
 /// The plan of a program is one that a machine can run.

@@ -3,15 +3,15 @@
 ghost use Rattle.std.specs.Prelude.{◌≡◌, [], OnOk};
 ghost use Rattle.awk_runtime.specs.Simulation.{IsReady};
 ghost use Rattle.awk_runtime.specs.Calling.{EndsCalls};
-ghost use Rattle.awk_compile.specs.declared.node.Node.TheVariants.{Value as NodeValue};
-ghost use Rattle.awk_compile.specs.Nodes.{first};
+ghost use Rattle.awk_resolve.specs.declared.node.Node.TheVariants.{Value as NodeValue};
+ghost use Rattle.awk_resolve.specs.Nodes.{first};
 ghost use Rattle.awk_evaluator.specs.Rest.{IsSound, AtPlace};
 ghost use Rattle.awk_evaluator.specs.Moves.{IsIdle, Turns, Steps, Ends, Executes, Keeps, came, told, without_value, truth_in};
 
 use crate::calls::Calls;
 use crate::operands::Operands;
-use awk_channels::World;
-use awk_compile::Plan;
+use awk_streams::World;
+use awk_resolve::Plan;
 use awk_runtime::Runtime;
 use awk_semantics::Halt;
 use awk_value::{Value, is_true};

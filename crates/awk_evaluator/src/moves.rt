@@ -4,14 +4,14 @@ ghost use Rattle.std.specs.Prelude.{◌≡◌, ◌<◌, if◌then◌else◌, Som
 ghost use Rattle.std.specs.Option.{option_map};
 ghost use Rattle.awk_runtime.specs.Simulation.{IsReady};
 ghost use Rattle.awk_value.specs.declared.value.Value.TheVariants.{Nothing};
-ghost use Rattle.awk_compile.specs.Nodes.{first};
+ghost use Rattle.awk_resolve.specs.Nodes.{first};
 ghost use Rattle.awk_evaluator.specs.Rest.{IsSound, AtPlace, AtNode};
 ghost use Rattle.awk_evaluator.specs.Moves.{IsRare, Moves, GivesBack, onward, upward, toward};
 
 use crate::machine::{Machine, Move};
-use awk_channels::World;
-use awk_compile::node::Node;
-use awk_compile::{Function, Plan};
+use awk_streams::World;
+use awk_resolve::node::Node;
+use awk_resolve::{Function, Plan};
 use awk_semantics::Halt;
 
 /// The node at a place, if there is one.

@@ -3,7 +3,7 @@
 ghost use Rattle.std.specs.Prelude.{◌≡◌, ◌≤◌, ◌<◌, ◌-◌, IfSome, max, [], ◌∷◌, length, drop, take, reverse, get_or, unwrap_or, IfOk, OnOk, OnErr};
 ghost use Rattle.std.specs.Option.{option_map};
 ghost use Rattle.awk_value.specs.declared.value.Value.TheVariants.{Nothing, Number};
-ghost use Rattle.awk_compile.specs.Nodes.{first, second, taken};
+ghost use Rattle.awk_resolve.specs.Nodes.{first, second, taken};
 ghost use Rattle.awk_evaluator.specs.support.Operands.{all_of};
 
 use awk_value::Value;

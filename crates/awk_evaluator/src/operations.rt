@@ -2,14 +2,14 @@
 
 ghost use Rattle.std.specs.Prelude.{◌≡◌};
 ghost use Rattle.awk_semantics.specs.State.{lift};
-ghost use Rattle.awk_compile.specs.Nodes.{operated};
-ghost use Rattle.awk_compile.specs.declared.node.ValueNode.TheVariants.{OperateWith, OperateOn, ReadFieldAt};
+ghost use Rattle.awk_resolve.specs.Nodes.{operated};
+ghost use Rattle.awk_resolve.specs.declared.node.ValueNode.TheVariants.{OperateWith, OperateOn, ReadFieldAt};
 ghost use Rattle.awk_runtime.specs.Simulation.{Changes};
 ghost use Rattle.awk_evaluator.specs.Moves.{Computes};
 ghost use Rattle.awk_evaluator.specs.Reading.{ReadsOperand, AssignsOperand};
 
 use crate::machine::Machine;
-use awk_compile::node::Operand;
+use awk_resolve::node::Operand;
 use awk_functions::operator_of;
 use awk_grammar::tree::BinaryOperator;
 use awk_lex::token::AssignmentOperator;

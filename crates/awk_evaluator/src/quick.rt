@@ -6,14 +6,14 @@ ghost use Rattle.awk_value.specs.Values.{truth_of};
 ghost use Rattle.awk_value.specs.declared.value.Value.TheVariants.{Number};
 ghost use Rattle.awk_storage.specs.declared.position.Place.TheVariants.{Element};
 ghost use Rattle.awk_runtime.specs.Simulation.{Spends};
-ghost use Rattle.awk_compile.specs.declared.node.ValueNode.TheVariants.{Assign, PostIncrement, OperateWith, OperateOn, RecordMatches};
-ghost use Rattle.awk_compile.specs.Nodes.{first};
+ghost use Rattle.awk_resolve.specs.declared.node.ValueNode.TheVariants.{Assign, PostIncrement, OperateWith, OperateOn, RecordMatches};
+ghost use Rattle.awk_resolve.specs.Nodes.{first};
 ghost use Rattle.awk_evaluator.specs.Moves.{Computes, Done, came, told};
 ghost use Rattle.awk_evaluator.specs.Reading.{Compares, Updates, Increments, AssignsOperand, Raises};
 ghost use Rattle.awk_evaluator.specs.Quick.{Popped, Relates, RelatesWith, AssignsAlike};
 
 use crate::machine::Machine;
-use awk_compile::node::Operand;
+use awk_resolve::node::Operand;
 use awk_functions::{operator_of, relate, relate_numbers};
 use awk_grammar::tree::BinaryOperator;
 use awk_lex::token::{AssignmentOperator, IncrementOperator};

@@ -6,11 +6,11 @@ ghost use Rattle.awk_value.specs.declared.value.Value.TheVariants.{Number};
 ghost use Rattle.awk_lex.specs.declared.token.BuiltIn.TheVariants.{Length};
 ghost use Rattle.awk_grammar.specs.declared.tree.BinaryOperator.TheVariants.{Infix};
 ghost use Rattle.awk_grammar.specs.declared.tree.UnaryOperator.TheVariants.{Minus as Negative};
-ghost use Rattle.awk_compile.specs.declared.node.ValueNode.TheVariants.{Push, Read, Operate, OperateWith, OperateOn, Change, ReadField, ReadFieldAt, ReadElement, Contains, IsInside, Apply};
+ghost use Rattle.awk_resolve.specs.declared.node.ValueNode.TheVariants.{Push, Read, Operate, OperateWith, OperateOn, Change, ReadField, ReadFieldAt, ReadElement, Contains, IsInside, Apply};
 ghost use Rattle.awk_evaluator.specs.Quick.{IsAtHand, Puts, Pushed};
 
 use crate::machine::Machine;
-use awk_compile::node::{Operand, ValueNode};
+use awk_resolve::node::{Operand, ValueNode};
 use awk_functions::{apply_in_short, truth_value};
 use awk_grammar::tree::{BinaryOperator, UnaryOperator};
 use awk_lex::token::{BuiltIn, Operator};

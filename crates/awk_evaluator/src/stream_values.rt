@@ -3,19 +3,19 @@
 ghost use Rattle.std.specs.Prelude.{◌≡◌, ◌≢◌, Bool, OnOk};
 ghost use Rattle.awk_world.specs.declared.world.InputKind.TheVariants.{Standard};
 ghost use Rattle.awk_value.specs.Values.{str_of};
-ghost use Rattle.awk_channels.specs.Commands.{BringsAll};
-ghost use Rattle.awk_channels.specs.Flushes.{FlushesCalled};
+ghost use Rattle.awk_streams.specs.Commands.{BringsAll};
+ghost use Rattle.awk_streams.specs.Flushes.{FlushesCalled};
 ghost use Rattle.awk_storage.specs.Forms.{named_getline_at};
 ghost use Rattle.awk_runtime.specs.Simulation.{IsReady, Follows};
-ghost use Rattle.awk_compile.specs.Nodes.{first, place_operands};
-ghost use Rattle.awk_compile.specs.declared.node.ValueNode.TheVariants.{Getline, Close, System, FlushAll, Flush};
-ghost use Rattle.awk_compile.specs.declared.node.Source.TheVariants.{Main, File, Command};
+ghost use Rattle.awk_resolve.specs.Nodes.{first, place_operands};
+ghost use Rattle.awk_resolve.specs.declared.node.ValueNode.TheVariants.{Getline, Close, System, FlushAll, Flush};
+ghost use Rattle.awk_resolve.specs.declared.node.Source.TheVariants.{Main, File, Command};
 ghost use Rattle.awk_evaluator.specs.Moves.{Evaluates};
 
 use crate::machine::Machine;
 use crate::values::operand_count;
-use awk_channels::{InputKind, World};
-use awk_compile::node::Source;
+use awk_streams::{InputKind, World};
+use awk_resolve::node::Source;
 use awk_semantics::Halt;
 use awk_storage::Place;
 use awk_value::Value;

@@ -2,14 +2,14 @@
 
 ghost use Rattle.std.specs.Prelude.{◌≡◌, ◌∷◌, drop, None as NoneOf, Some as SomeOf};
 ghost use Rattle.awk_runtime.specs.Simulation.{Changes};
-ghost use Rattle.awk_compile.specs.Nodes.{Tables, pattern_operands, substitute_by};
-ghost use Rattle.awk_compile.specs.declared.node.ValueNode.TheVariants.{Match, Split, Substitute};
+ghost use Rattle.awk_resolve.specs.Nodes.{Tables, pattern_operands, substitute_by};
+ghost use Rattle.awk_resolve.specs.declared.node.ValueNode.TheVariants.{Match, Split, Substitute};
 ghost use Rattle.awk_evaluator.specs.Rest.{tables_in};
 ghost use Rattle.awk_evaluator.specs.Moves.{Computes};
 
 use crate::machine::Machine;
 use crate::values::operand_count;
-use awk_compile::node::SplitBy;
+use awk_resolve::node::SplitBy;
 use awk_runtime::PatternSource;
 use awk_semantics::Halt;
 use awk_storage::{Array, Place};

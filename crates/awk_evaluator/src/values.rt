@@ -1,8 +1,8 @@
 // The values of nodes over the state alone: what a node takes is taken off the operands, and its value is given.
 
 ghost use Rattle.std.specs.Prelude.{◌≡◌, true, false, Ok, Err, IfErr};
-ghost use Rattle.awk_compile.specs.Nodes.{operands};
-ghost use Rattle.awk_compile.specs.declared.node.ValueNode.TheVariants.{Push, Read, RecordMatches, Operate, ConcatenateAll, MatchesEre, Change, ReadField, ReadElement, Contains, Key, FieldNumber, Assign, Append, PreIncrement, PostIncrement, Load, RecordLength, CountElements, IsInside, Apply};
+ghost use Rattle.awk_resolve.specs.Nodes.{operands};
+ghost use Rattle.awk_resolve.specs.declared.node.ValueNode.TheVariants.{Push, Read, RecordMatches, Operate, ConcatenateAll, MatchesEre, Change, ReadField, ReadElement, Contains, Key, FieldNumber, Assign, Append, PreIncrement, PostIncrement, Load, RecordLength, CountElements, IsInside, Apply};
 ghost use Rattle.awk_evaluator.specs.Moves.{Computes, Done, came};
 ghost use Rattle.awk_evaluator.specs.Reading.{Appends};
 ghost use Rattle.awk_evaluator.specs.Quick.{Puts};

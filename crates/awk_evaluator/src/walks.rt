@@ -1,7 +1,7 @@
 // Walks over the keys of an array.
 
 ghost use Rattle.std.specs.Prelude.{◌≡◌, ◌==◌, suc, drop, OnOk};
-ghost use Rattle.awk_compile.specs.Nodes.{first, keys_left};
+ghost use Rattle.awk_resolve.specs.Nodes.{first, keys_left};
 ghost use Rattle.awk_evaluator.specs.Moves.{came};
 ghost use Rattle.awk_evaluator.specs.Walks.{PutsKeys, TakesKey};
 

@@ -19,8 +19,8 @@ use Rattle.awk_syntax.specs.Patterns.{AreReadable}
 use Rattle.awk_kinds.specs.definitions.Fits.{holds, first_of, in_order, first_refusal, Fits, LawOfRefusals}
 use Rattle.awk_kinds.specs.definitions.Placed.{are_in_place}
 use Rattle.awk_kinds.specs.definitions.Signatures.{ProgramKinds, kinds_of, Resolves}
-use Rattle.awk_compile.specs.declared.plan.Plan.{Plan}
-use Rattle.awk_compile.specs.definitions.Plans.{IsPlanOf}
+use Rattle.awk_resolve.specs.declared.plan.Plan.{Plan}
+use Rattle.awk_resolve.specs.definitions.Plans.{IsPlanOf}
 use Rattle.awk_run.specs.support.Planned.{IsProgramOf}
 use Rattle.awk_run.specs.definitions.Accepted.{longest_text, IsSpelled, HasBadEre, DoesNotFit, Accepted, RefusedFor}
 

@@ -1,8 +1,8 @@
 -- The assignments before a run, and the run behind them.
 use Rattle.std.proofs.Common.{◌≡◌, ℕ, ◌≤◌, ◌<◌, ◌+◌, suc, List, [], ◌∷◌, Result, Ok, Err, length, map, drop, get_or, add-one, drop-cons, refl, sym, ap, subst}
 use Rattle.std.proofs.lemmas.List.{drop_all}
-use Rattle.awk_channels.specs.WorldState.{WorldState}
-use Rattle.awk_compile.specs.declared.plan.Plan.{Plan}
+use Rattle.awk_streams.specs.WorldState.{WorldState}
+use Rattle.awk_resolve.specs.declared.plan.Plan.{Plan}
 use Rattle.awk_semantics.specs.declared.halt.Halt.{Halt}
 use Rattle.awk_semantics.specs.definitions.State.{◌>>=◌, ret}
 use Rattle.awk_semantics.specs.definitions.Inputs.{assign_text}

@@ -1,11 +1,11 @@
 -- What ends early ends the calls that are active.
 use Rattle.std.proofs.Common.{◌≡◌, ℕ, ◌≤◌, List, [], ◌∷◌, ◌++◌, append-nil, Result, Ok, Err, refl, sym, ap, ◌∙◌, subst, arith}
-use Rattle.awk_channels.specs.WorldState.{WorldState}
-use Rattle.awk_channels.specs.Oracle.{Oracle}
-use Rattle.awk_channels.specs.Openings.{Begins}
+use Rattle.awk_streams.specs.WorldState.{WorldState}
+use Rattle.awk_streams.specs.Oracle.{Oracle}
+use Rattle.awk_streams.specs.Openings.{Begins}
 use Rattle.awk_semantics.specs.definitions.Meaning.{outputs_after}
-use Rattle.awk_channels.specs.Streams.{StreamsView, printed_openings}
-use Rattle.awk_compile.specs.declared.plan.Plan.{Plan}
+use Rattle.awk_streams.specs.Streams.{StreamsView, printed_openings}
+use Rattle.awk_resolve.specs.declared.plan.Plan.{Plan}
 use Rattle.awk_semantics.specs.declared.halt.Halt.{Halt}
 use Rattle.awk_semantics.specs.declared.halt.Halt.TheVariants as halt
 use Rattle.awk_semantics.specs.declared.fault.Fault.TheVariants.{OutOfMemory, WriteFailed}

@@ -1,8 +1,8 @@
 -- Parts of a program, by what their places do.
 use Rattle.std.proofs.Common.{◌≡◌, ℕ, Bool, true, false, Result, Ok, Err, refl, sym, subst}
 use Rattle.awk_value.specs.declared.value.Value.{Value}
-use Rattle.awk_channels.specs.WorldState.{WorldState}
-use Rattle.awk_compile.specs.declared.plan.Plan.{Plan}
+use Rattle.awk_streams.specs.WorldState.{WorldState}
+use Rattle.awk_resolve.specs.declared.plan.Plan.{Plan}
 use Rattle.awk_semantics.specs.declared.halt.Halt.{Halt}
 use Rattle.awk_semantics.specs.definitions.State.{◌>>=◌, ret}
 use Rattle.awk_semantics.specs.definitions.Semantics.{choose}

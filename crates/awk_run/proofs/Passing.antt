@@ -5,7 +5,7 @@ use Rattle.awk_value.specs.declared.value.Value.TheVariants as value
 use Rattle.awk_value.specs.Values.{truth_of}
 use Rattle.awk_lex.specs.declared.token.Operator.TheVariants.{Matches}
 use Rattle.awk_ere.specs.Tree.{Tree}
-use Rattle.awk_channels.specs.WorldState.{WorldState}
+use Rattle.awk_streams.specs.WorldState.{WorldState}
 use Rattle.awk_grammar.specs.Tree.{Item}
 use Rattle.awk_kinds.specs.definitions.Kinds.{definitions_of}
 use Rattle.awk_semantics.specs.declared.halt.Halt.{Halt}
@@ -16,12 +16,12 @@ use Rattle.awk_semantics.specs.definitions.Semantics.{choose}
 use Rattle.awk_semantics.specs.definitions.Calls.{functions_within}
 use Rattle.awk_semantics.specs.definitions.Items.{unless_next, until_next}
 use Rattle.awk_functions.specs.Matched.{matched}
-use Rattle.awk_compile.specs.declared.plan.Plan.{Plan}
-use Rattle.awk_compile.specs.declared.node.Node.TheVariants as node
-use Rattle.awk_compile.specs.declared.node.ValueNode.TheVariants as v
-use Rattle.awk_compile.specs.definitions.Nodes.{Cont, IsOrdered, value_of, ere_at as ere_in}
-use Rattle.awk_compile.specs.definitions.Plans.{tables_of}
-use Rattle.awk_compile.proofs.Listed.{node_at}
+use Rattle.awk_resolve.specs.declared.plan.Plan.{Plan}
+use Rattle.awk_resolve.specs.declared.node.Node.TheVariants as node
+use Rattle.awk_resolve.specs.declared.node.ValueNode.TheVariants as v
+use Rattle.awk_resolve.specs.definitions.Nodes.{Cont, IsOrdered, value_of, ere_at as ere_in}
+use Rattle.awk_resolve.specs.definitions.Plans.{tables_of}
+use Rattle.awk_resolve.proofs.Listed.{node_at}
 use Rattle.awk_runtime.specs.declared.passing.Unwanted.{Unwanted}
 use Rattle.awk_runtime.specs.declared.passing.Unwanted.TheVariants.{All as Every, Unmatched}
 use Rattle.awk_runtime.specs.declared.runtime.Runtime.{Runtime}

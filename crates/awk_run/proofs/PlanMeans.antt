@@ -3,9 +3,9 @@ use Rattle.std.proofs.Common.{◌≡◌, ℕ, zero, suc, ◌≤◌, Bool, true, 
 use Rattle.awk_value.specs.declared.value.Value.TheVariants as value
 use Rattle.awk_grammar.specs.Tree.{Item}
 use Rattle.awk_kinds.specs.definitions.Kinds.{definitions_of, array_names_of}
-use Rattle.awk_compile.specs.declared.plan.Plan.{Plan}
-use Rattle.awk_compile.specs.definitions.States.{AreFor}
-use Rattle.awk_compile.specs.definitions.Plans.{tables_of, DoesIn, IsPlanOf}
+use Rattle.awk_resolve.specs.declared.plan.Plan.{Plan}
+use Rattle.awk_resolve.specs.definitions.States.{AreFor}
+use Rattle.awk_resolve.specs.definitions.Plans.{tables_of, DoesIn, IsPlanOf}
 use Rattle.awk_semantics.specs.declared.halt.Halt.{Halt}
 use Rattle.awk_semantics.specs.definitions.State.{Effect, Frame, State, Out, Run, go_on, ◌>>=◌, lift, ret}
 use Rattle.awk_semantics.specs.definitions.Primitives.{spend, outside_calls}
@@ -19,7 +19,7 @@ use Rattle.awk_semantics.proofs.PlainParts.{assign_plain}
 use Rattle.awk_semantics.proofs.Keeping.{keeps_plain, keeps_bind, keeps_lift}
 use Rattle.awk_semantics.proofs.KeepsForms.{law_of_keeping}
 use Rattle.awk_semantics.proofs.KeepsOutside.{law_of_items}
-use Rattle.awk_compile.proofs.Calling.{outside_in}
+use Rattle.awk_resolve.proofs.Calling.{outside_in}
 use Rattle.awk_run.specs.support.Planned.{place_in, part_at, run_before_end_at, run_items_at, assign_and_run_at}
 
 -- one run after another, from one state

@@ -1,7 +1,7 @@
 -- Parts of a run over a plan, one after the other.
 use Rattle.std.proofs.Common.{◌≡◌, ℕ, ◌≤◌, Result, Ok, Err, arith, refl, sym, subst, ◌∙◌}
-use Rattle.awk_channels.specs.WorldState.{WorldState}
-use Rattle.awk_compile.specs.declared.plan.Plan.{Plan}
+use Rattle.awk_streams.specs.WorldState.{WorldState}
+use Rattle.awk_resolve.specs.declared.plan.Plan.{Plan}
 use Rattle.awk_semantics.specs.declared.halt.Halt.{Halt}
 use Rattle.awk_semantics.specs.definitions.State.{Run, ◌>>=◌, lift}
 use Rattle.awk_semantics.specs.support.Results.{Yields}

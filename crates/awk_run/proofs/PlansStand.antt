@@ -11,12 +11,12 @@ use Rattle.awk_semantics.specs.declared.local.Local.{Local}
 use Rattle.awk_semantics.specs.definitions.State.{State, Run, ◌>>=◌, ret}
 use Rattle.awk_semantics.specs.definitions.Primitives.{enter, leave}
 use Rattle.awk_semantics.specs.definitions.Calls.{definition_of, body_height, call_within, functions_within}
-use Rattle.awk_compile.specs.declared.plan.Function.{Function as PlannedFunction}
-use Rattle.awk_compile.specs.declared.plan.Plan.{Plan}
-use Rattle.awk_compile.specs.definitions.Nodes.{cont_at, function_at}
-use Rattle.awk_compile.specs.definitions.States.{LocalsFit}
-use Rattle.awk_compile.specs.definitions.Plans.{Meaning, IsFunction, AreFunctions, tables_of, DoesIn, IsPlanOf}
-use Rattle.awk_compile.proofs.Calling.{found, called}
+use Rattle.awk_resolve.specs.declared.plan.Function.{Function as PlannedFunction}
+use Rattle.awk_resolve.specs.declared.plan.Plan.{Plan}
+use Rattle.awk_resolve.specs.definitions.Nodes.{cont_at, function_at}
+use Rattle.awk_resolve.specs.definitions.States.{LocalsFit}
+use Rattle.awk_resolve.specs.definitions.Plans.{Meaning, IsFunction, AreFunctions, tables_of, DoesIn, IsPlanOf}
+use Rattle.awk_resolve.proofs.Calling.{found, called}
 use Rattle.awk_evaluator.specs.Rest.{StandsFor, PlanStands}
 use Rattle.awk_runtime.specs.support.Naming.{Naming}
 use Rattle.awk_run.specs.support.Planned.{IsPlanFor}

@@ -1,8 +1,8 @@
 -- The main records, by what their parts do.
 use Rattle.std.proofs.Common.{◌≡◌, ℕ, ◌≤◌, ◌<◌, zero, suc, List, Some, None, Result, Ok, Err, refl, ◌∙◌, arith}
 use Rattle.awk_value.specs.declared.value.Value.{Value}
-use Rattle.awk_channels.specs.WorldState.{WorldState}
-use Rattle.awk_compile.specs.declared.plan.Plan.{Plan}
+use Rattle.awk_streams.specs.WorldState.{WorldState}
+use Rattle.awk_resolve.specs.declared.plan.Plan.{Plan}
 use Rattle.awk_semantics.specs.declared.halt.Halt.{Halt}
 use Rattle.awk_semantics.specs.definitions.State.{Run, ◌>>=◌, ret}
 use Rattle.awk_semantics.specs.definitions.Primitives.{spend}

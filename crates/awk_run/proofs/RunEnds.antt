@@ -3,17 +3,17 @@ use Rattle.std.proofs.Common.{◌≡◌, ◌⊎◌, inl, inr, ℕ, zero, suc, �
 use Rattle.std.specs.Prelude.{IfErr}
 use Rattle.std.proofs.lemmas.List.{take-append-drop, length-take-le}
 use Rattle.std.proofs.lemmas.Option.{same_Some}
-use Rattle.awk_channels.specs.declared.fault.StreamFault.{StreamFault}
-use Rattle.awk_channels.specs.Log.{Event, Wrote, Flushed, Closed}
-use Rattle.awk_channels.specs.Oracle.{Oracle, IsConsistent}
-use Rattle.awk_channels.specs.Writes.{with_events}
-use Rattle.awk_channels.specs.Openings.{Opening, outputs_of, AreBrought, Begins}
-use Rattle.awk_channels.specs.Outputs.{IsOutputFault}
-use Rattle.awk_channels.specs.Grows.{Grows}
-use Rattle.awk_channels.specs.WorldState.{WorldState}
-use Rattle.awk_channels.specs.Streams.{StreamsView, printed_openings, numbered, AreBringing}
-use Rattle.awk_channels.specs.Commands.{Finishes, AreOfTheEnd as AreOfTheEnding}
-use Rattle.awk_channels.proofs.GrowsLemmas.{with_events-append}
+use Rattle.awk_streams.specs.declared.fault.StreamFault.{StreamFault}
+use Rattle.awk_streams.specs.Log.{Event, Wrote, Flushed, Closed}
+use Rattle.awk_streams.specs.Oracle.{Oracle, IsConsistent}
+use Rattle.awk_streams.specs.Writes.{with_events}
+use Rattle.awk_streams.specs.Openings.{Opening, outputs_of, AreBrought, Begins}
+use Rattle.awk_streams.specs.Outputs.{IsOutputFault}
+use Rattle.awk_streams.specs.Grows.{Grows}
+use Rattle.awk_streams.specs.WorldState.{WorldState}
+use Rattle.awk_streams.specs.Streams.{StreamsView, printed_openings, numbered, AreBringing}
+use Rattle.awk_streams.specs.Commands.{Finishes, AreOfTheEnd as AreOfTheEnding}
+use Rattle.awk_streams.proofs.GrowsLemmas.{with_events-append}
 use Rattle.awk_semantics.specs.declared.halt.Halt.{Halt}
 use Rattle.awk_semantics.specs.declared.halt.Halt.TheVariants as halt
 use Rattle.awk_semantics.specs.declared.outcome.Outcome.{Outcome}

@@ -1,20 +1,20 @@
 -- From the parts of a run to the whole.
 use Rattle.std.proofs.Common.{◌≡◌, ℕ, ◌≤◌, Bool, false, List, [], length, None, Some, inl, inr, Result, Ok, refl, sym, ap, ◌∙◌, subst, arith}
 use Rattle.std.specs.Prelude.{IfErr}
-use Rattle.awk_channels.specs.declared.fault.StreamFault.{StreamFault}
-use Rattle.awk_channels.specs.Outputs.{IsOutputFault}
-use Rattle.awk_channels.specs.Log as log
-use Rattle.awk_channels.specs.Oracle.{Oracle, IsConsistent}
-use Rattle.awk_channels.specs.Orderly.{IsOrderly, IsInOrder}
-use Rattle.awk_channels.specs.Openings.{Begins as BeginsOutputs, outputs_of, is_flushed}
-use Rattle.awk_channels.specs.Streams.{StreamsView, AreOpen, AreSound, printed_openings}
-use Rattle.awk_channels.specs.Commands.{Finishes}
-use Rattle.awk_channels.specs.WorldState.{WorldState}
+use Rattle.awk_streams.specs.declared.fault.StreamFault.{StreamFault}
+use Rattle.awk_streams.specs.Outputs.{IsOutputFault}
+use Rattle.awk_streams.specs.Log as log
+use Rattle.awk_streams.specs.Oracle.{Oracle, IsConsistent}
+use Rattle.awk_streams.specs.Orderly.{IsOrderly, IsInOrder}
+use Rattle.awk_streams.specs.Openings.{Begins as BeginsOutputs, outputs_of, is_flushed}
+use Rattle.awk_streams.specs.Streams.{StreamsView, AreOpen, AreSound, printed_openings}
+use Rattle.awk_streams.specs.Commands.{Finishes}
+use Rattle.awk_streams.specs.WorldState.{WorldState}
 use Rattle.awk_grammar.specs.Tree.{Item}
 use Rattle.awk_kinds.specs.definitions.Kinds.{array_names_of}
-use Rattle.awk_compile.specs.declared.plan.Plan.{Plan}
-use Rattle.awk_compile.specs.definitions.States.{AreFor}
-use Rattle.awk_compile.specs.definitions.Plans.{tables_of}
+use Rattle.awk_resolve.specs.declared.plan.Plan.{Plan}
+use Rattle.awk_resolve.specs.definitions.States.{AreFor}
+use Rattle.awk_resolve.specs.definitions.Plans.{tables_of}
 use Rattle.awk_semantics.specs.declared.halt.Halt.{Halt}
 use Rattle.awk_semantics.specs.declared.outcome.Outcome.{Outcome}
 use Rattle.awk_semantics.specs.declared.outcome.Outcome.TheVariants.{Fault}

@@ -2,9 +2,9 @@
 use Rattle.std.proofs.Common.{◌≡◌, ◌≢◌, codes, ℕ, zero, suc, Bool, true, false, ◌||◌, List, [], ◌∷◌, map, slice_get, Some, bytes_eq, Result, refl, sym, ap, ◌∙◌, subst}
 use Rattle.std.specs.Global.{Vec}
 use Rattle.std.proofs.lemmas.Slice.Eq.{bytes_eq-Decides}
-use Rattle.awk_channels.specs.Oracle.{Oracle}
-use Rattle.awk_channels.specs.Streams.{StreamsView, AreOpen, AreSound}
-use Rattle.awk_channels.specs.WorldState.{WorldState}
+use Rattle.awk_streams.specs.Oracle.{Oracle}
+use Rattle.awk_streams.specs.Streams.{StreamsView, AreOpen, AreSound}
+use Rattle.awk_streams.specs.WorldState.{WorldState}
 use Rattle.awk_grammar.specs.Tree.{Item}
 use Rattle.awk_lex.specs.declared.refusal.RefusalCode.TheVariants.{DefinedTwice}
 use Rattle.awk_kinds.specs.Variables.{name_of}
@@ -13,10 +13,10 @@ use Rattle.awk_kinds.specs.definitions.Fits.{has_repeat, Fits}
 use Rattle.awk_kinds.specs.definitions.Kinds.{Definition, array_names_of, definitions_of, function_names_of}
 use Rattle.awk_kinds.specs.definitions.Signatures.{Signature, ProgramKinds, signature_by, signature_names, kinds_of}
 use Rattle.awk_kinds.proofs.ArrayNames.{array_names_are}
-use Rattle.awk_compile.specs.declared.plan.Plan.{Plan}
-use Rattle.awk_compile.proofs.Calling.{are_for}
-use Rattle.awk_compile.specs.definitions.States.{AreScalars, AreFor}
-use Rattle.awk_compile.specs.definitions.Plans.{tables_of}
+use Rattle.awk_resolve.specs.declared.plan.Plan.{Plan}
+use Rattle.awk_resolve.proofs.Calling.{are_for}
+use Rattle.awk_resolve.specs.definitions.States.{AreScalars, AreFor}
+use Rattle.awk_resolve.specs.definitions.Plans.{tables_of}
 use Rattle.awk_semantics.specs.definitions.Meaning.{StartValues}
 use Rattle.awk_runtime.specs.declared.runtime.Runtime.{Runtime}
 use Rattle.awk_runtime.specs.declared.start.Assignment.{Assignment}

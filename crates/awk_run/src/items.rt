@@ -7,8 +7,8 @@ ghost use Rattle.awk_run.specs.support.Follows.{FollowsPlan, IsSet};
 ghost use Rattle.awk_evaluator.specs.Moves.{IsIdle};
 
 use crate::records::run_records;
-use awk_channels::World;
-use awk_compile::Plan;
+use awk_streams::World;
+use awk_resolve::Plan;
 use awk_evaluator::Machine;
 use awk_semantics::Halt;
 

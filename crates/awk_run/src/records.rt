@@ -8,9 +8,9 @@ ghost use Rattle.awk_run.specs.support.Passing.{IsEnd, RulesIgnore, PassesFor};
 ghost use Rattle.awk_evaluator.specs.Moves.{IsIdle};
 
 use crate::items::try_until_next;
-use awk_channels::World;
-use awk_compile::Plan;
-use awk_compile::node::Node;
+use awk_streams::World;
+use awk_resolve::Plan;
+use awk_resolve::node::Node;
 use awk_evaluator::Machine;
 use awk_runtime::Unwanted;
 use awk_semantics::Halt;

@@ -1,9 +1,9 @@
 // A whole run of a plan.
 
 ghost use Rattle.std.specs.Prelude.{◌≡◌, List, map, IfOk, IfErr, OnOk};
-ghost use Rattle.awk_channels.specs.Orderly.{IsOrderly};
-ghost use Rattle.awk_channels.specs.Outputs.{IsOutputFault};
-ghost use Rattle.awk_channels.specs.Streams.{AreSound};
+ghost use Rattle.awk_streams.specs.Orderly.{IsOrderly};
+ghost use Rattle.awk_streams.specs.Outputs.{IsOutputFault};
+ghost use Rattle.awk_streams.specs.Streams.{AreSound};
 ghost use Rattle.awk_grammar.specs.Tree.{Item};
 ghost use Rattle.awk_semantics.specs.Meaning.{outcome_of};
 ghost use Rattle.awk_runtime.specs.Beginning.{pair_of};
@@ -18,8 +18,8 @@ ghost use Rattle.awk_run.specs.support.Verdict.{outcome_after, no_streams, EndsW
 use crate::items::run_items;
 use crate::names::program_names;
 use crate::start::{Assignment, Start};
-use awk_channels::{StreamFault, Streams, World, some_oracle_is_consistent};
-use awk_compile::Plan;
+use awk_streams::{StreamFault, Streams, World, some_oracle_is_consistent};
+use awk_resolve::Plan;
 use awk_evaluator::Machine;
 use awk_kinds::Kinds;
 use awk_runtime::Runtime;

@@ -1,8 +1,8 @@
 -- What those who call a program's functions put together.
 use Rattle.std.proofs.Common.{◌≡◌, ◌+◌, ℕ, zero, suc, Bool, true, false, List, [], ◌∷◌, ◌++◌, Result, Ok, Err, refl, sym, ap, subst, append-nil}
 use Rattle.std.specs.Prelude.{nat_lt}
-use Rattle.awk_channels.specs.WorldState.{WorldState}
-use Rattle.awk_channels.specs.Oracle.{Oracle}
+use Rattle.awk_streams.specs.WorldState.{WorldState}
+use Rattle.awk_streams.specs.Oracle.{Oracle}
 use Rattle.awk_semantics.specs.declared.fault.Fault.TheVariants.{CallsTooDeep}
 use Rattle.awk_semantics.specs.declared.halt.Halt.{Halt}
 use Rattle.awk_semantics.specs.declared.local.Local.{Local}

@@ -3,20 +3,20 @@ use Rattle.std.proofs.Common.{◌≡◌, ◌+◌, ◌==◌, ℕ, suc, ℤ, pos, 
 use Rattle.std.specs.Prelude.{filter, bytes_eq}
 use Rattle.awk_world.specs.declared.world.InputKind.{InputKind}
 use Rattle.awk_world.specs.declared.world.OutputKind.{OutputKind}
-use Rattle.awk_channels.specs.declared.fault.StreamFault.{StreamFault}
-use Rattle.awk_channels.specs.declared.fault.StreamFault.TheVariants.{Memory, WriteFailed, InputNotReadable, OutputNotOpened, TooManyStreams, RecordTooLong}
-use Rattle.awk_channels.specs.declared.input.Input.{Input}
-use Rattle.awk_channels.specs.declared.named.NamedStream.{NamedStream}
-use Rattle.awk_channels.specs.declared.named.NamedStream.TheVariants as named
-use Rattle.awk_channels.specs.WorldState.{WorldState}
-use Rattle.awk_channels.specs.Log.{Event, Closed, Ran}
-use Rattle.awk_channels.specs.Oracle.{Oracle, IsConsistent, one_if, how_many, closes_command}
-use Rattle.awk_channels.specs.Openings.{Opening, AreFlushed, AreBrought, is_flushed, openings}
-use Rattle.awk_channels.specs.Grows.{Grows}
-use Rattle.awk_channels.specs.Named as words
-use Rattle.awk_channels.specs.Streams.{StreamsView, StandFor, numbered, printed_openings}
-use Rattle.awk_channels.specs.MainInput.{closed_main}
-use Rattle.awk_channels.specs.Commands.{closing_answer, ClosesStream, ClosesEach, names_called, all_names, ClosesNames, ClosesText, RanCommand, RunsCommand, EndsAll, Finishes}
+use Rattle.awk_streams.specs.declared.fault.StreamFault.{StreamFault}
+use Rattle.awk_streams.specs.declared.fault.StreamFault.TheVariants.{Memory, WriteFailed, InputNotReadable, OutputNotOpened, TooManyStreams, RecordTooLong}
+use Rattle.awk_streams.specs.declared.input.Input.{Input}
+use Rattle.awk_streams.specs.declared.named.NamedStream.{NamedStream}
+use Rattle.awk_streams.specs.declared.named.NamedStream.TheVariants as named
+use Rattle.awk_streams.specs.WorldState.{WorldState}
+use Rattle.awk_streams.specs.Log.{Event, Closed, Ran}
+use Rattle.awk_streams.specs.Oracle.{Oracle, IsConsistent, one_if, how_many, closes_command}
+use Rattle.awk_streams.specs.Openings.{Opening, AreFlushed, AreBrought, is_flushed, openings}
+use Rattle.awk_streams.specs.Grows.{Grows}
+use Rattle.awk_streams.specs.Named as words
+use Rattle.awk_streams.specs.Streams.{StreamsView, StandFor, numbered, printed_openings}
+use Rattle.awk_streams.specs.MainInput.{closed_main}
+use Rattle.awk_streams.specs.Commands.{closing_answer, ClosesStream, ClosesEach, names_called, all_names, ClosesNames, ClosesText, RanCommand, RunsCommand, EndsAll, Finishes}
 use Rattle.awk_semantics.specs.State.{Closes, Runs, Ends, Effect, Requested, State, Out, ◌>>=◌, go_on, ret}
 use Rattle.awk_semantics.specs.Streams.{has_the_name, without_stream, closed_by, close_stream, streams_named, close_each, close_named, run_command}
 use Rattle.awk_semantics.specs.Meaning.{closings_of, outputs_from, first_outputs, outputs_after}

@@ -2,10 +2,10 @@
 use Rattle.std.proofs.Common.{◌≡◌, inl, ◌≤◌, ℕ, List, [], ◌++◌, None, Result, Ok, Err, refl, sym, ap, ◌∙◌, subst, arith, append_assoc, append-nil}
 use Rattle.awk_world.specs.declared.world.InputKind.{InputKind}
 use Rattle.awk_world.specs.declared.world.OutputKind.{OutputKind}
-use Rattle.awk_channels.specs.WorldState.{WorldState}
-use Rattle.awk_channels.specs.Oracle.{Oracle}
-use Rattle.awk_channels.specs.Streams.{StreamsView, AreAs, printed_openings}
-use Rattle.awk_channels.proofs.GrowsLemmas.{Grows-self, Grows-then}
+use Rattle.awk_streams.specs.WorldState.{WorldState}
+use Rattle.awk_streams.specs.Oracle.{Oracle}
+use Rattle.awk_streams.specs.Streams.{StreamsView, AreAs, printed_openings}
+use Rattle.awk_streams.proofs.GrowsLemmas.{Grows-self, Grows-then}
 use Rattle.awk_semantics.specs.declared.halt.Halt.{Halt}
 use Rattle.awk_semantics.specs.declared.halt.Halt.TheVariants as halt
 use Rattle.awk_semantics.specs.declared.fault.Fault.TheVariants.{OutOfMemory}

@@ -1,7 +1,7 @@
 -- Requests that are met one after the other, and outputs that begin with what is printed.
 use Rattle.std.proofs.Common.{◌≡◌, ℕ, zero, suc, true, false, List, [], ◌∷◌, ◌++◌, refl, sym, ap, ◌∙◌, subst, append_assoc, append-nil}
-use Rattle.awk_channels.specs.Oracle.{Oracle}
-use Rattle.awk_channels.specs.Openings.{Opening, IsBeginning, Begins}
+use Rattle.awk_streams.specs.Oracle.{Oracle}
+use Rattle.awk_streams.specs.Openings.{Opening, IsBeginning, Begins}
 use Rattle.awk_semantics.specs.State.{Request, Effect, Printed, Requested, OpensMain, OpensInput, OpensOutput, RecordOfMain, RecordOf, Closes, Runs, Ends}
 use Rattle.awk_semantics.specs.Meaning.{with_bytes, outputs_asked, outputs_from, first_outputs, outputs_after, Asked, requests_from}
 use Rattle.awk_semantics.specs.Order.{Stage, GoesBetween, Meets, MeetsAll}

@@ -2,10 +2,10 @@
 use Rattle.std.proofs.Common.{◌≡◌, ℕ, suc, List, [], ◌∷◌, ◌++◌, Option, Some, None, Result, Ok, Err, refl, sym, ap, ◌∙◌}
 use Rattle.awk_record.specs.Record.{RecordPair}
 use Rattle.awk_record.specs.Cut.{Cut, Found, NoMore, BrokenOff, TooLong, cut_of}
-use Rattle.awk_channels.specs.declared.fault.StreamFault.{StreamFault}
-use Rattle.awk_channels.specs.declared.fault.StreamFault.TheVariants.{InputNotReadable, RecordTooLong}
-use Rattle.awk_channels.specs.Inputs.{NextTold}
-use Rattle.awk_channels.specs.Oracle.{Source}
+use Rattle.awk_streams.specs.declared.fault.StreamFault.{StreamFault}
+use Rattle.awk_streams.specs.declared.fault.StreamFault.TheVariants.{InputNotReadable, RecordTooLong}
+use Rattle.awk_streams.specs.Inputs.{NextTold}
+use Rattle.awk_streams.specs.Oracle.{Source}
 use Rattle.awk_kinds.specs.declared.special.Special.TheVariants.{Rs}
 use Rattle.awk_semantics.specs.State.{Effect, Requested, RecordOfMain, State, Out, Run, go_on, ◌>>=◌, lift, gives}
 use Rattle.awk_semantics.specs.Streams.{asking, with_rest, taken, taken_of, take_record}

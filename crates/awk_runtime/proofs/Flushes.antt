@@ -1,16 +1,16 @@
 -- What bringing outputs does to the state of a run, and so what flushes do: nothing that the definitions know.
 use Rattle.std.proofs.Common.{◌≡◌, ℕ, ℤ, pos, negsuc, Bool, List, [], ◌++◌, length, Option, Result, Ok, Err, if◌then◌else◌, refl, sym, ap, ◌∙◌, subst, arith, append-nil}
-use Rattle.awk_channels.specs.declared.fault.StreamFault.{StreamFault}
-use Rattle.awk_channels.specs.declared.fault.StreamFault.TheVariants.{Memory, WriteFailed, InputNotReadable, OutputNotOpened, TooManyStreams, RecordTooLong}
-use Rattle.awk_channels.specs.declared.input.Input.{Input}
-use Rattle.awk_channels.specs.WorldState.{WorldState}
-use Rattle.awk_channels.specs.Oracle.{Oracle, Source, SameCounts}
-use Rattle.awk_channels.specs.Writes.{GoesOn}
-use Rattle.awk_channels.specs.Named as words
-use Rattle.awk_channels.specs.Streams.{StreamsView, AreAs, AreBringing, numbered, printed_openings}
-use Rattle.awk_channels.specs.Commands.{BringsAll}
-use Rattle.awk_channels.specs.Flushes.{AreBringingTo, FlushesAll, FlushesCalled, FlushesText, is_number_of}
-use Rattle.awk_channels.proofs.FlushLemmas.{to_some_bringing}
+use Rattle.awk_streams.specs.declared.fault.StreamFault.{StreamFault}
+use Rattle.awk_streams.specs.declared.fault.StreamFault.TheVariants.{Memory, WriteFailed, InputNotReadable, OutputNotOpened, TooManyStreams, RecordTooLong}
+use Rattle.awk_streams.specs.declared.input.Input.{Input}
+use Rattle.awk_streams.specs.WorldState.{WorldState}
+use Rattle.awk_streams.specs.Oracle.{Oracle, Source, SameCounts}
+use Rattle.awk_streams.specs.Writes.{GoesOn}
+use Rattle.awk_streams.specs.Named as words
+use Rattle.awk_streams.specs.Streams.{StreamsView, AreAs, AreBringing, numbered, printed_openings}
+use Rattle.awk_streams.specs.Commands.{BringsAll}
+use Rattle.awk_streams.specs.Flushes.{AreBringingTo, FlushesAll, FlushesCalled, FlushesText, is_number_of}
+use Rattle.awk_streams.proofs.FlushLemmas.{to_some_bringing}
 use Rattle.awk_semantics.specs.declared.halt.Halt.TheVariants as halt
 use Rattle.awk_semantics.specs.Faults.{stream_fault}
 use Rattle.awk_semantics.specs.State.{Effect, State}

@@ -5,18 +5,18 @@ use Rattle.awk_value.specs.Values.{str_of}
 use Rattle.awk_record.specs.Cut.{Cut, Found, NoMore, BrokenOff, TooLong, cut_of}
 use Rattle.awk_record.specs.Buffer.{Pending}
 use Rattle.awk_world.specs.declared.world.InputKind.{InputKind}
-use Rattle.awk_channels.specs.declared.fault.StreamFault.{StreamFault}
-use Rattle.awk_channels.specs.declared.fault.StreamFault.TheVariants.{Memory, WriteFailed, InputNotReadable, OutputNotOpened, TooManyStreams, RecordTooLong}
-use Rattle.awk_channels.specs.declared.input.Input.{Input}
-use Rattle.awk_channels.specs.Log.{Event, OpenedInput, Closed, logged}
-use Rattle.awk_channels.specs.WorldState.{WorldState}
-use Rattle.awk_channels.specs.Oracle.{Oracle, Source, IsConsistent, one_if, same_input_kind, how_many, opens_input}
-use Rattle.awk_channels.specs.Orderly.{IsReadable}
-use Rattle.awk_channels.specs.Openings.{Opening}
-use Rattle.awk_channels.specs.Inputs.{Reaches, Rest, NextTold, IsInputFault}
-use Rattle.awk_channels.specs.Streams.{StreamsView, AreOpen, AreSound, IsMainRest, IsSameMain, IsFreshMain, numbered, printed_openings}
-use Rattle.awk_channels.specs.MainInput.{main_opening, OpensMain, ReadsMain, AsksMain, closed_main, EndsMain}
-use Rattle.awk_channels.proofs.GrowsLemmas.{Grows-self}
+use Rattle.awk_streams.specs.declared.fault.StreamFault.{StreamFault}
+use Rattle.awk_streams.specs.declared.fault.StreamFault.TheVariants.{Memory, WriteFailed, InputNotReadable, OutputNotOpened, TooManyStreams, RecordTooLong}
+use Rattle.awk_streams.specs.declared.input.Input.{Input}
+use Rattle.awk_streams.specs.Log.{Event, OpenedInput, Closed, logged}
+use Rattle.awk_streams.specs.WorldState.{WorldState}
+use Rattle.awk_streams.specs.Oracle.{Oracle, Source, IsConsistent, one_if, same_input_kind, how_many, opens_input}
+use Rattle.awk_streams.specs.Orderly.{IsReadable}
+use Rattle.awk_streams.specs.Openings.{Opening}
+use Rattle.awk_streams.specs.Inputs.{Reaches, Rest, NextTold, IsInputFault}
+use Rattle.awk_streams.specs.Streams.{StreamsView, AreOpen, AreSound, IsMainRest, IsSameMain, IsFreshMain, numbered, printed_openings}
+use Rattle.awk_streams.specs.MainInput.{main_opening, OpensMain, ReadsMain, AsksMain, closed_main, EndsMain}
+use Rattle.awk_streams.proofs.GrowsLemmas.{Grows-self}
 use Rattle.awk_semantics.specs.declared.halt.Halt.TheVariants as halt
 use Rattle.awk_semantics.specs.declared.fault.Fault.TheVariants as faults
 use Rattle.awk_semantics.specs.State.{OpensMain as AsksForMain, RecordOfMain, Effect, Requested, State, Out, lift}

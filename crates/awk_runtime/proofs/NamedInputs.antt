@@ -6,23 +6,23 @@ use Rattle.awk_value.specs.Values.{str_of}
 use Rattle.awk_record.specs.Cut.{Cut, Found, NoMore, BrokenOff, TooLong, cut_of}
 use Rattle.awk_world.specs.declared.world.InputKind.{InputKind}
 use Rattle.awk_world.specs.declared.world.InputKind.TheVariants as input
-use Rattle.awk_channels.specs.declared.fault.StreamFault.{StreamFault}
-use Rattle.awk_channels.specs.declared.fault.StreamFault.TheVariants.{Memory, WriteFailed, InputNotReadable, OutputNotOpened, TooManyStreams, RecordTooLong}
-use Rattle.awk_channels.specs.declared.input.NextNamed.{NextNamed}
-use Rattle.awk_channels.specs.declared.named.NamedStream.{NamedStream}
-use Rattle.awk_channels.specs.declared.named.NamedStream.TheVariants as named
-use Rattle.awk_channels.specs.WorldState.{WorldState}
-use Rattle.awk_channels.specs.Log.{Event, OpenedInput}
-use Rattle.awk_channels.specs.Oracle.{Oracle, Source, one_if, same_input_kind}
-use Rattle.awk_channels.specs.Openings.{Opening}
-use Rattle.awk_channels.specs.Grows.{Grows}
-use Rattle.awk_channels.specs.Named as words
-use Rattle.awk_channels.specs.MainInput.{input_answer}
-use Rattle.awk_channels.specs.Streams.{StreamsView, StandFor, HaveOtherNames, AreOnce, IsMainRest, most_streams, numbered, printed_openings, BringsIf}
-use Rattle.awk_channels.specs.NamedInputs.{FindsInput, IsFullOfInputs, GrantsInput, RefusesInput, OpensInput, NamedTold, IsNamedAnswer, AsksNamed, AsksIfOpen, AsksInput}
-use Rattle.awk_channels.proofs.GrowsLemmas.{Grows-self}
-use Rattle.awk_channels.proofs.NamesLemmas.{input_swap}
-use Rattle.awk_channels.proofs.InputCallLemmas.{same_input}
+use Rattle.awk_streams.specs.declared.fault.StreamFault.{StreamFault}
+use Rattle.awk_streams.specs.declared.fault.StreamFault.TheVariants.{Memory, WriteFailed, InputNotReadable, OutputNotOpened, TooManyStreams, RecordTooLong}
+use Rattle.awk_streams.specs.declared.input.NextNamed.{NextNamed}
+use Rattle.awk_streams.specs.declared.named.NamedStream.{NamedStream}
+use Rattle.awk_streams.specs.declared.named.NamedStream.TheVariants as named
+use Rattle.awk_streams.specs.WorldState.{WorldState}
+use Rattle.awk_streams.specs.Log.{Event, OpenedInput}
+use Rattle.awk_streams.specs.Oracle.{Oracle, Source, one_if, same_input_kind}
+use Rattle.awk_streams.specs.Openings.{Opening}
+use Rattle.awk_streams.specs.Grows.{Grows}
+use Rattle.awk_streams.specs.Named as words
+use Rattle.awk_streams.specs.MainInput.{input_answer}
+use Rattle.awk_streams.specs.Streams.{StreamsView, StandFor, HaveOtherNames, AreOnce, IsMainRest, most_streams, numbered, printed_openings, BringsIf}
+use Rattle.awk_streams.specs.NamedInputs.{FindsInput, IsFullOfInputs, GrantsInput, RefusesInput, OpensInput, NamedTold, IsNamedAnswer, AsksNamed, AsksIfOpen, AsksInput}
+use Rattle.awk_streams.proofs.GrowsLemmas.{Grows-self}
+use Rattle.awk_streams.proofs.NamesLemmas.{input_swap}
+use Rattle.awk_streams.proofs.InputCallLemmas.{same_input}
 use Rattle.awk_semantics.specs.declared.halt.Halt.TheVariants as halt
 use Rattle.awk_semantics.specs.declared.fault.Fault.TheVariants as faults
 use Rattle.awk_semantics.specs.State.{OpensInput as AsksForInput, RecordOf, Effect, Requested, State, Out, ◌>>=◌, go_on, lift, ret, ends}

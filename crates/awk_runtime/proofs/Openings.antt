@@ -5,18 +5,18 @@ use Rattle.std.proofs.lemmas.Bool.{le-leb, lt-leb}
 use Rattle.awk_world.specs.declared.world.OutputKind.{OutputKind}
 use Rattle.awk_world.specs.declared.world.OutputKind.TheVariants as output
 use Rattle.awk_world.specs.declared.world.Mode.{Mode}
-use Rattle.awk_channels.specs.declared.fault.StreamFault.{StreamFault}
-use Rattle.awk_channels.specs.declared.fault.StreamFault.TheVariants.{Memory, WriteFailed, InputNotReadable, OutputNotOpened, TooManyStreams, RecordTooLong}
-use Rattle.awk_channels.specs.declared.streams.Target.{Target}
-use Rattle.awk_channels.specs.declared.streams.Target.TheVariants as target
-use Rattle.awk_channels.specs.WorldState.{WorldState}
-use Rattle.awk_channels.specs.Log.{Event, OpenedOutput}
-use Rattle.awk_channels.specs.Oracle.{Oracle, one_if, same_output_kind}
-use Rattle.awk_channels.specs.Openings.{Opening, Named as NamedOutput}
-use Rattle.awk_channels.specs.Grows.{Grows}
-use Rattle.awk_channels.specs.Named as words
-use Rattle.awk_channels.specs.Streams.{StreamsView, StandFor, IsMainRest, most_streams, numbered, printed_openings, opening_at, BringsIf}
-use Rattle.awk_channels.specs.NamedOutputs.{FindsOutput, IsFullOfOutputs, GrantsOutput, RefusesOutput, OpensOutput}
+use Rattle.awk_streams.specs.declared.fault.StreamFault.{StreamFault}
+use Rattle.awk_streams.specs.declared.fault.StreamFault.TheVariants.{Memory, WriteFailed, InputNotReadable, OutputNotOpened, TooManyStreams, RecordTooLong}
+use Rattle.awk_streams.specs.declared.streams.Target.{Target}
+use Rattle.awk_streams.specs.declared.streams.Target.TheVariants as target
+use Rattle.awk_streams.specs.WorldState.{WorldState}
+use Rattle.awk_streams.specs.Log.{Event, OpenedOutput}
+use Rattle.awk_streams.specs.Oracle.{Oracle, one_if, same_output_kind}
+use Rattle.awk_streams.specs.Openings.{Opening, Named as NamedOutput}
+use Rattle.awk_streams.specs.Grows.{Grows}
+use Rattle.awk_streams.specs.Named as words
+use Rattle.awk_streams.specs.Streams.{StreamsView, StandFor, IsMainRest, most_streams, numbered, printed_openings, opening_at, BringsIf}
+use Rattle.awk_streams.specs.NamedOutputs.{FindsOutput, IsFullOfOutputs, GrantsOutput, RefusesOutput, OpensOutput}
 use Rattle.awk_semantics.specs.declared.halt.Halt.TheVariants as halt
 use Rattle.awk_semantics.specs.declared.fault.Fault.TheVariants as faults
 use Rattle.awk_semantics.specs.State.{OpensOutput as AsksOutput, Effect, Requested, State, Out, Run, ◌>>=◌, go_on, lift, ret, ends}

@@ -6,7 +6,7 @@ use Rattle.std.proofs.lemmas.List.{take-append-drop, drop_more, take_more, take_
 use Rattle.std.proofs.lemmas.List.Elements.{All-nil, All-push, All-from_get_or}
 use Rattle.memchr.specs.Find.{IsFirstByte, is_byte}
 use Rattle.awk_record.specs.Cut.{longest}
-use Rattle.awk_channels.specs.MainInput.{IsLineOf, lines_of}
+use Rattle.awk_streams.specs.MainInput.{IsLineOf, lines_of}
 use Rattle.awk_runtime.specs.declared.passing.Passed.{Passed}
 use Rattle.awk_runtime.specs.support.Passing.{IsPassed}
 

@@ -7,14 +7,14 @@ use Rattle.awk_value.specs.declared.value.Value.{Value}
 use Rattle.awk_value.specs.Values.{str_of}
 use Rattle.awk_record.specs.Record.{RecordPair, split_by}
 use Rattle.awk_record.specs.Cut.{cut_of}
-use Rattle.awk_channels.specs.declared.fault.StreamFault.{StreamFault}
-use Rattle.awk_channels.specs.declared.fault.StreamFault.TheVariants.{Memory, WriteFailed}
-use Rattle.awk_channels.specs.declared.input.Input.{Input}
-use Rattle.awk_channels.specs.WorldState.{WorldState}
-use Rattle.awk_channels.specs.Oracle.{Oracle, Source}
-use Rattle.awk_channels.specs.Streams.{StreamsView, AreOpen, AreSound, IsMainRest}
-use Rattle.awk_channels.specs.MainInput.{IsLineOf, lines_of, TakesMain, TakesEach, main_bytes, skipped_main}
-use Rattle.awk_channels.proofs.SkipLemmas.{skip_told}
+use Rattle.awk_streams.specs.declared.fault.StreamFault.{StreamFault}
+use Rattle.awk_streams.specs.declared.fault.StreamFault.TheVariants.{Memory, WriteFailed}
+use Rattle.awk_streams.specs.declared.input.Input.{Input}
+use Rattle.awk_streams.specs.WorldState.{WorldState}
+use Rattle.awk_streams.specs.Oracle.{Oracle, Source}
+use Rattle.awk_streams.specs.Streams.{StreamsView, AreOpen, AreSound, IsMainRest}
+use Rattle.awk_streams.specs.MainInput.{IsLineOf, lines_of, TakesMain, TakesEach, main_bytes, skipped_main}
+use Rattle.awk_streams.proofs.SkipLemmas.{skip_told}
 use Rattle.awk_kinds.specs.declared.special.Special.TheVariants.{Rs}
 use Rattle.awk_kinds.specs.Variables.{Pairs, value_of, name_of, CountsRecords}
 use Rattle.awk_semantics.specs.declared.halt.Halt.{Halt}

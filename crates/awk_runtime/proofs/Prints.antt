@@ -3,19 +3,19 @@ use Rattle.std.proofs.Common.{rules, map, ◌≡◌, ◌==◌, Bool, true, false
 use Rattle.std.specs.Prelude.{if◌then◌else◌}
 use Rattle.awk_value.specs.declared.value.Value.{Value}
 use Rattle.awk_value.specs.Values.{str_of}
-use Rattle.awk_channels.specs.declared.fault.StreamFault.{StreamFault}
-use Rattle.awk_channels.specs.declared.fault.StreamFault.TheVariants.{Memory, WriteFailed, InputNotReadable, OutputNotOpened, TooManyStreams, RecordTooLong}
-use Rattle.awk_channels.specs.declared.input.Input.{Input}
-use Rattle.awk_channels.specs.declared.streams.Target.{Target}
-use Rattle.awk_channels.specs.declared.streams.Target.TheVariants as target
-use Rattle.awk_channels.specs.WorldState.{WorldState}
-use Rattle.awk_channels.specs.Log.{Event, Wrote}
-use Rattle.awk_channels.specs.Oracle.{Oracle}
-use Rattle.awk_channels.specs.Writes.{Writes}
-use Rattle.awk_channels.specs.Openings.{Opening, Begins}
-use Rattle.awk_channels.specs.Outputs.{IsOutputFault}
-use Rattle.awk_channels.specs.Streams.{StreamsView, AreOpen, AreSound, printed_openings, opening_at}
-use Rattle.awk_channels.specs.NamedOutputs.{Prints}
+use Rattle.awk_streams.specs.declared.fault.StreamFault.{StreamFault}
+use Rattle.awk_streams.specs.declared.fault.StreamFault.TheVariants.{Memory, WriteFailed, InputNotReadable, OutputNotOpened, TooManyStreams, RecordTooLong}
+use Rattle.awk_streams.specs.declared.input.Input.{Input}
+use Rattle.awk_streams.specs.declared.streams.Target.{Target}
+use Rattle.awk_streams.specs.declared.streams.Target.TheVariants as target
+use Rattle.awk_streams.specs.WorldState.{WorldState}
+use Rattle.awk_streams.specs.Log.{Event, Wrote}
+use Rattle.awk_streams.specs.Oracle.{Oracle}
+use Rattle.awk_streams.specs.Writes.{Writes}
+use Rattle.awk_streams.specs.Openings.{Opening, Begins}
+use Rattle.awk_streams.specs.Outputs.{IsOutputFault}
+use Rattle.awk_streams.specs.Streams.{StreamsView, AreOpen, AreSound, printed_openings, opening_at}
+use Rattle.awk_streams.specs.NamedOutputs.{Prints}
 use Rattle.awk_semantics.specs.declared.halt.Halt.{Halt}
 use Rattle.awk_semantics.specs.declared.halt.Halt.TheVariants as halt
 use Rattle.awk_semantics.specs.declared.fault.Fault.TheVariants as faults

@@ -5,12 +5,12 @@ use Rattle.std.specs.Map.{lookup}
 use Rattle.std.proofs.lemmas.Slice.Eq.{bytes_eq-Decides}
 use Rattle.awk_value.specs.declared.value.Value.{Value}
 use Rattle.awk_value.specs.declared.value.Value.TheVariants.{Nothing}
-use Rattle.awk_channels.specs.WorldState.{WorldState}
-use Rattle.awk_channels.specs.Log.{Event}
-use Rattle.awk_channels.specs.Oracle.{Oracle, how_many, opens_input, opens_output, closes_command, runs}
-use Rattle.awk_channels.specs.Orderly.{IsInOrder}
-use Rattle.awk_channels.specs.Openings.{openings, in_order, is_flushed}
-use Rattle.awk_channels.specs.Streams.{StreamsView, AreOpen, AreSound, with_held}
+use Rattle.awk_streams.specs.WorldState.{WorldState}
+use Rattle.awk_streams.specs.Log.{Event}
+use Rattle.awk_streams.specs.Oracle.{Oracle, how_many, opens_input, opens_output, closes_command, runs}
+use Rattle.awk_streams.specs.Orderly.{IsInOrder}
+use Rattle.awk_streams.specs.Openings.{openings, in_order, is_flushed}
+use Rattle.awk_streams.specs.Streams.{StreamsView, AreOpen, AreSound, with_held}
 use Rattle.awk_grammar.specs.Tree.{Item}
 use Rattle.awk_kinds.specs.Kinds.{array_names_of, function_names_of}
 use Rattle.awk_kinds.specs.declared.special.Special.{Special}

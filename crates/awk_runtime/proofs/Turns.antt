@@ -3,15 +3,15 @@ use Rattle.std.proofs.Common.{◌≡◌, ℕ, zero, suc, Bool, true, false, List
 use Rattle.std.specs.Global.{Vec}
 use Rattle.awk_world.specs.declared.world.InputKind.{InputKind}
 use Rattle.awk_world.specs.declared.world.OutputKind.{OutputKind}
-use Rattle.awk_channels.specs.declared.named.NamedStream.{NamedStream}
-use Rattle.awk_channels.specs.Log.{Event, OpenedInput, OpenedOutput, Read, Ended, Broke, Wrote, Flushed, Closed, Ran}
-use Rattle.awk_channels.specs.WorldState.{WorldState, FailsNow, MayFailNow}
-use Rattle.awk_channels.specs.Oracle.{Oracle, Source}
-use Rattle.awk_channels.specs.Writes.{GoesOn}
-use Rattle.awk_channels.specs.Openings.{Opening, Begins, AreBrought}
-use Rattle.awk_channels.specs.Grows.{Grows}
-use Rattle.awk_channels.specs.Named as words
-use Rattle.awk_channels.specs.Streams.{StreamsView, StandFor, printed_openings, AreBringing, BringsIf}
+use Rattle.awk_streams.specs.declared.named.NamedStream.{NamedStream}
+use Rattle.awk_streams.specs.Log.{Event, OpenedInput, OpenedOutput, Read, Ended, Broke, Wrote, Flushed, Closed, Ran}
+use Rattle.awk_streams.specs.WorldState.{WorldState, FailsNow, MayFailNow}
+use Rattle.awk_streams.specs.Oracle.{Oracle, Source}
+use Rattle.awk_streams.specs.Writes.{GoesOn}
+use Rattle.awk_streams.specs.Openings.{Opening, Begins, AreBrought}
+use Rattle.awk_streams.specs.Grows.{Grows}
+use Rattle.awk_streams.specs.Named as words
+use Rattle.awk_streams.specs.Streams.{StreamsView, StandFor, printed_openings, AreBringing, BringsIf}
 use Rattle.awk_functions.specs.declared.formats.Formats.{Formats}
 use Rattle.awk_semantics.specs.declared.halt.Halt.{Halt}
 use Rattle.awk_semantics.specs.declared.halt.Halt.TheVariants as halt

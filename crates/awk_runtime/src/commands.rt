@@ -2,15 +2,15 @@
 
 ghost use Rattle.std.specs.Prelude.{Bool, IfErr, OnOk};
 ghost use Rattle.awk_value.specs.Values.{str_of};
-ghost use Rattle.awk_channels.specs.Outputs.{IsOutputFault};
-ghost use Rattle.awk_channels.specs.Commands.{BringsAll};
-ghost use Rattle.awk_channels.specs.Flushes.{FlushesCalled};
+ghost use Rattle.awk_streams.specs.Outputs.{IsOutputFault};
+ghost use Rattle.awk_streams.specs.Commands.{BringsAll};
+ghost use Rattle.awk_streams.specs.Flushes.{FlushesCalled};
 ghost use Rattle.awk_semantics.specs.Streams.{close_named, flush_all, flush_named, run_command};
 ghost use Rattle.awk_runtime.specs.support.Simulation.{IsReady, Follows};
 ghost use Rattle.awk_runtime.specs.support.Endings.{EndsRun};
 
 use crate::runtime::Runtime;
-use awk_channels::{StreamFault, World};
+use awk_streams::{StreamFault, World};
 use awk_semantics::Halt;
 use awk_value::{Value, text_of};
 

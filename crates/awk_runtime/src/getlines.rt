@@ -9,7 +9,7 @@ ghost use Rattle.awk_runtime.specs.support.Simulation.{IsReady, Changes, Follows
 ghost use Rattle.awk_runtime.specs.support.NamedInputs.{answers_of};
 
 use crate::runtime::Runtime;
-use awk_channels::{InputKind, NextNamed, World};
+use awk_streams::{InputKind, NextNamed, World};
 use awk_semantics::Halt;
 use awk_storage::Place;
 use awk_value::{Bytes, Value, text_of};

@@ -1,7 +1,7 @@
 // Where the main records come from.
 
 ghost use Rattle.std.specs.Prelude.{◌≡◌, ◌≢◌, ◌<◌, suc, [], length, take, drop, None, Some, Ok, IfSome, IfNone};
-ghost use Rattle.awk_channels.specs.WorldState.{WorldState};
+ghost use Rattle.awk_streams.specs.WorldState.{WorldState};
 ghost use Rattle.awk_semantics.specs.Streams.{take_record, close_main};
 ghost use Rattle.awk_semantics.specs.Inputs.{path_of, assign_text, main_record, first_record};
 ghost use Rattle.awk_semantics.specs.Inputs.{operand_record, standard_record, search_operands, next_record};
@@ -10,7 +10,7 @@ ghost use Rattle.awk_runtime.specs.support.Inputs.{OpensMainInput, Seeks};
 
 use crate::operands::{OperandForm, form_of};
 use crate::runtime::Runtime;
-use awk_channels::{InputKind, World};
+use awk_streams::{InputKind, World};
 use awk_semantics::Halt;
 use awk_value::{Bytes, text_of};
 use awk_kinds::Special;

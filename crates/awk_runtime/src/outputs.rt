@@ -4,7 +4,7 @@ ghost use Rattle.std.specs.Prelude.{◌≡◌, ℕ, List, [], map, true, false, 
 ghost use Rattle.awk_value.specs.Values.{str_of};
 ghost use Rattle.awk_world.specs.declared.world.OutputKind.TheVariants.{Command as OutputCommand};
 ghost use Rattle.awk_world.specs.declared.world.Mode.TheVariants.{Truncate as ModeTruncate};
-ghost use Rattle.awk_channels.specs.Streams.{IsTarget};
+ghost use Rattle.awk_streams.specs.Streams.{IsTarget};
 ghost use Rattle.awk_semantics.specs.State.{ret};
 ghost use Rattle.awk_semantics.specs.Operators.{join};
 ghost use Rattle.awk_semantics.specs.Primitives.{print_line};
@@ -14,7 +14,7 @@ ghost use Rattle.awk_runtime.specs.support.Simulation.{IsReady, Follows};
 ghost use Rattle.awk_runtime.specs.support.Printing.{standard_named, print_at, PrintsTo, OpensTarget};
 
 use crate::runtime::Runtime;
-use awk_channels::{Mode, OutputKind, Target, World};
+use awk_streams::{Mode, OutputKind, Target, World};
 use awk_functions::{append_line, make_line};
 use awk_grammar::tree::{PrintForm, Redirection};
 use awk_semantics::Halt;

@@ -2,12 +2,12 @@
 
 ghost use Rattle.std.specs.Prelude.{◌≤◌, ◌<◌, length, IfSome};
 ghost use Rattle.awk_record.specs.Cut.{longest};
-ghost use Rattle.awk_channels.specs.WorldState.{WorldState};
+ghost use Rattle.awk_streams.specs.WorldState.{WorldState};
 ghost use Rattle.awk_runtime.specs.support.Simulation.{IsReady};
 ghost use Rattle.awk_runtime.specs.support.Passing.{IsUnwanted, AreUnwantedUpTo, IsPassed, MayPass, PassesOver};
 
 use crate::runtime::Runtime;
-use awk_channels::World;
+use awk_streams::World;
 use memchr::memchr;
 
 /// The records that no rule of a program wants: each, or each in which an ERE of the program, by its number, has no match.

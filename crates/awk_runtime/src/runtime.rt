@@ -4,7 +4,7 @@ ghost use Rattle.std.specs.Prelude.{◌≡◌, ◌<◌, ◌-◌, true, false, Ok
 ghost use Rattle.awk_runtime.specs.support.Simulation.{Spends};
 
 use crate::names::ProgramNames;
-use awk_channels::Streams;
+use awk_streams::Streams;
 use awk_record::Record;
 use awk_functions::{Formats, Patterns};
 use awk_semantics::Halt;

@@ -10,7 +10,7 @@ ghost use Rattle.awk_runtime.specs.support.Beginning.{pair_of, texts_of, start_o
 
 use crate::names::ProgramNames;
 use crate::runtime::Runtime;
-use awk_channels::Streams;
+use awk_streams::Streams;
 use awk_record::Record;
 use awk_functions::{Formats, Patterns};
 use awk_semantics::{Fault, Halt};

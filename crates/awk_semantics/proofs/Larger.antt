@@ -9,7 +9,7 @@ use Rattle.awk_world.specs.declared.world.OutputKind.{OutputKind}
 use Rattle.awk_world.specs.declared.world.OutputKind.TheVariants as output
 use Rattle.awk_world.specs.declared.world.Mode.{Mode}
 use Rattle.awk_world.specs.declared.world.Mode.TheVariants as mode
-use Rattle.awk_channels.specs.Oracle.{Source}
+use Rattle.awk_streams.specs.Oracle.{Source}
 use Rattle.awk_grammar.specs.declared.tree.Redirection.{Redirection}
 use Rattle.awk_grammar.specs.declared.tree.Redirection.TheVariants as to
 use Rattle.awk_semantics.specs.declared.fault.Fault.{Fault}

@@ -2,8 +2,8 @@
 use Rattle.std.proofs.Common.{◌≡◌, ◌≢◌, ℕ, zero, suc, ◌+◌, ◌≤◌, true, false, List, [], ◌∷◌, ◌++◌, Option, Some, None, Result, Ok, Err, refl, sym, ap, ◌∙◌, append_assoc, append-nil, arith}
 use Rattle.awk_value.specs.declared.value.Value.{Value}
 use Rattle.awk_value.specs.declared.value.Value.TheVariants as value
-use Rattle.awk_channels.specs.Oracle.{Oracle}
-use Rattle.awk_channels.specs.Openings.{Opening, IsBeginning, Begins}
+use Rattle.awk_streams.specs.Oracle.{Oracle}
+use Rattle.awk_streams.specs.Openings.{Opening, IsBeginning, Begins}
 use Rattle.awk_grammar.specs.Height.{height_of_block}
 use Rattle.awk_grammar.specs.Tree.{Item}
 use Rattle.awk_semantics.specs.declared.fault.Fault.TheVariants.{NextWithoutRecord}

@@ -1,7 +1,7 @@
 -- The meaning of a program is never want of memory nor a failed write: these come from a run of the code alone.
 use Rattle.std.proofs.Common.{◌≡◌, ◌≢◌, ℕ, zero, suc, List, [], ◌∷◌, Option, Some, None, Result, Ok, Err, subst, sym}
 use Rattle.awk_value.specs.declared.value.Value.TheVariants as value
-use Rattle.awk_channels.specs.Oracle.{Oracle}
+use Rattle.awk_streams.specs.Oracle.{Oracle}
 use Rattle.awk_grammar.specs.Height.{height_of_block}
 use Rattle.awk_grammar.specs.Tree.{Item}
 use Rattle.awk_kinds.specs.definitions.Kinds.{FormalParameter, Definition, definitions_of}

@@ -1,10 +1,10 @@
 -- Requests that are met one after the other.
 use Rattle.std.proofs.Common.{◌≡◌, ℕ, List, [], ◌∷◌, ◌++◌, Option, Some, None, refl, sym, ap, ◌∙◌, subst}
-use Rattle.awk_channels.specs.Log.{Event, OpenedInput, OpenedOutput, Read, Ended, Broke, Wrote, Flushed, Closed, Ran}
-use Rattle.awk_channels.specs.Oracle.{Oracle}
-use Rattle.awk_channels.specs.Writes.{with_events}
-use Rattle.awk_channels.proofs.GrowsLemmas.{with_events-append}
-use Rattle.awk_channels.specs.Openings.{Opening}
+use Rattle.awk_streams.specs.Log.{Event, OpenedInput, OpenedOutput, Read, Ended, Broke, Wrote, Flushed, Closed, Ran}
+use Rattle.awk_streams.specs.Oracle.{Oracle}
+use Rattle.awk_streams.specs.Writes.{with_events}
+use Rattle.awk_streams.proofs.GrowsLemmas.{with_events-append}
+use Rattle.awk_streams.specs.Openings.{Opening}
 use Rattle.awk_semantics.specs.definitions.State.{Effect, Printed, Requested}
 use Rattle.awk_semantics.specs.definitions.Meaning.{Asked, with_bytes, outputs_asked, outputs_from, requests_from}
 use Rattle.awk_semantics.specs.definitions.Order.{Stage, AreBetween, GoesBetween, MeetsAll}

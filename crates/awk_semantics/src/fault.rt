@@ -4,7 +4,7 @@ ghost use Rattle.std.specs.Prelude.{◌≡◌};
 ghost use Rattle.awk_semantics.specs.definitions.Faults.{value_fault, record_fault, stream_fault, pattern_fault, variable_fault, format_fault, text_fault};
 ghost use Rattle.awk_semantics.specs.definitions.Outcome.{fault_text};
 
-use awk_channels::StreamFault;
+use awk_streams::StreamFault;
 use awk_ere::PatternFault;
 use awk_record::RecordFault;
 use awk_text::FormatFault;

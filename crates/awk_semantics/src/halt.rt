@@ -6,7 +6,7 @@ ghost use Rattle.awk_semantics.specs.declared.halt.Halt.TheVariants.{Fault as Fa
 ghost use Rattle.awk_semantics.specs.declared.fault.Fault.TheVariants.{OutOfMemory};
 
 use crate::fault::Fault;
-use awk_channels::StreamFault;
+use awk_streams::StreamFault;
 use awk_ere::PatternFault;
 use awk_record::RecordFault;
 use awk_text::FormatFault;

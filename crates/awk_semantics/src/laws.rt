@@ -1,7 +1,7 @@
 // Laws of the language.
 
 ghost use Rattle.std.specs.Prelude.{◌≢◌, ℕ, List, ◌++◌};
-ghost use Rattle.awk_channels.specs.Oracle.{Oracle};
+ghost use Rattle.awk_streams.specs.Oracle.{Oracle};
 ghost use Rattle.awk_grammar.specs.Tree.{Item};
 ghost use Rattle.awk_semantics.specs.declared.outcome.Outcome.TheVariants.{Fault};
 ghost use Rattle.awk_semantics.specs.declared.fault.Fault.TheVariants.{OutOfMemory, WriteFailed};

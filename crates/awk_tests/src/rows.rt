@@ -13,7 +13,7 @@
 ghost use Rattle.std.specs.Prelude.{◌≡◌, [], None};
 
 use crate::worlds::{answer, call, was_given};
-use awk_channels::{Answer, InputKind, ScriptWorld, World};
+use awk_streams::{Answer, InputKind, ScriptWorld, World};
 use std::alloc::{AllocError, Global};
 use std::mem;
 use std::process::Abort;

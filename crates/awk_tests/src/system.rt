@@ -1,6 +1,6 @@
 // The system as the outside of a run, with a screen and an input of the tests' own.
 
-use awk_channels::{InputKind, Mode, OutputKind, World, WorldFault};
+use awk_streams::{InputKind, Mode, OutputKind, World, WorldFault};
 use awk_system::SysWorld;
 use std::alloc::Global;
 use std::io::{self, IsTerminal, Write};

@@ -1,7 +1,7 @@
 // Worlds in memory in which nothing was done, and calls of the program in them.
 ghost use Rattle.std.specs.Prelude.{◌≡◌, [], None};
 
-use awk_channels::{Answer, InputKind, ScriptWorld, World};
+use awk_streams::{Answer, InputKind, ScriptWorld, World};
 use awk_command::main_words;
 use awk_run::{Assignment, law_of_untouched};
 use std::alloc::{AllocError, Global};

@@ -4,10 +4,10 @@ use Rattle.std.specs.Prelude.{◌≡◌, ◌⊎◌, ℕ, ◌+◌, ◌&&◌, ◌=
 use Rattle.std.specs.Global.{Global}
 use Rattle.std.specs.Option.{option_map}
 use Rattle.std.specs.Str.{is_utf8}
-use Rattle.awk_channels.specs.Writes.{OnlyWritesTo}
+use Rattle.awk_streams.specs.Writes.{OnlyWritesTo}
 use Rattle.awk_grammar.specs.Tree.{Item}
 use Rattle.awk_run.specs.Accepted.{Accepted}
-use Rattle.awk_channels.specs.WorldState.{WorldState}
+use Rattle.awk_streams.specs.WorldState.{WorldState}
 use Rattle.awk_run.specs.Headline.{Executed}
 use Rattle.awk_run.specs.Meaning.{StartValues}
 use Rattle.awk_run.specs.Outcome.{status_of}

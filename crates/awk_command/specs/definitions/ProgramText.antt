@@ -4,10 +4,10 @@ use Rattle.std.specs.Global.{Global}
 use Rattle.std.specs.List.{ends_with}
 use Rattle.awk_world.specs.declared.world.InputKind.{InputKind}
 use Rattle.awk_world.specs.declared.world.InputKind.TheVariants.{Standard, File}
-use Rattle.awk_channels.specs.Log.{Event, OpenedInput, Read, Ended, Broke, Closed}
-use Rattle.awk_channels.specs.Writes.{GoesOn}
+use Rattle.awk_streams.specs.Log.{Event, OpenedInput, Read, Ended, Broke, Closed}
+use Rattle.awk_streams.specs.Writes.{GoesOn}
 use Rattle.awk_run.specs.Accepted.{longest_text}
-use Rattle.awk_channels.specs.WorldState.{WorldState}
+use Rattle.awk_streams.specs.WorldState.{WorldState}
 use Rattle.awk_command.specs.definitions.CommandLine.{ProgramSource, Text, Files}
 use Rattle.awk_command.specs.declared.report.NotRun.{NotRun}
 use Rattle.awk_command.specs.declared.report.NotRun.TheVariants.{NotReadable, Memory}

@@ -1,8 +1,8 @@
 -- What the program says of itself on standard error (POSIX awk, STDERR).
 use Rattle.std.specs.Prelude.{◌≡◌, ◌⊎◌, ℕ, List, [], ◌∷◌, ◌++◌, length, take, Option, Some, None, codes}
 use Rattle.awk_lex.specs.Refused.{refusal_text}
-use Rattle.awk_channels.specs.Writes.{GoesOn, Writes}
-use Rattle.awk_channels.specs.WorldState.{WorldState}
+use Rattle.awk_streams.specs.Writes.{GoesOn, Writes}
+use Rattle.awk_streams.specs.WorldState.{WorldState}
 use Rattle.awk_run.specs.Outcome.{fault_text}
 use Rattle.awk_semantics.specs.declared.fault.Fault.TheVariants.{OutOfMemory}
 use Rattle.awk_semantics.specs.declared.outcome.Outcome.{Outcome}

@@ -2,9 +2,9 @@
 use Rattle.std.specs.Prelude.{◌≡◌, ℕ, Bool, true, false, List, ◌∷◌, ◌++◌, map}
 use Rattle.awk_world.specs.declared.world.WorldFault.{WorldFault}
 use Rattle.awk_world.specs.declared.world.WorldFault.TheVariants as fault
-use Rattle.awk_channels.specs.Log.{Event, Read, Ended}
-use Rattle.awk_channels.specs.Streams.{AreSound}
-use Rattle.awk_channels.specs.WorldState.{WorldState}
+use Rattle.awk_streams.specs.Log.{Event, Read, Ended}
+use Rattle.awk_streams.specs.Streams.{AreSound}
+use Rattle.awk_streams.specs.WorldState.{WorldState}
 use Rattle.awk_run.specs.Start.{pair_of}
 use Rattle.awk_run.specs.support.Verdict.{no_streams}
 use Rattle.awk_command.specs.declared.options.Settings.{Settings as CodeSettings}

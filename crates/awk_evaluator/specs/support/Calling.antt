@@ -8,10 +8,10 @@ use Rattle.awk_semantics.specs.declared.local.Local.{Local}
 use Rattle.awk_semantics.specs.declared.local.Local.TheVariants as local
 use Rattle.awk_semantics.specs.State.{Run, ◌>>=◌}
 use Rattle.awk_semantics.specs.Primitives.{check_height, spend, enter}
-use Rattle.awk_compile.specs.declared.node.ArgumentForm.{ArgumentForm}
-use Rattle.awk_compile.specs.declared.plan.Function.{Function}
-use Rattle.awk_compile.specs.Nodes.{first, behind_form, given_by, taken, values_among}
-use Rattle.awk_compile.specs.declared.node.ArgumentForm.TheVariants as form
+use Rattle.awk_resolve.specs.declared.node.ArgumentForm.{ArgumentForm}
+use Rattle.awk_resolve.specs.declared.plan.Function.{Function}
+use Rattle.awk_resolve.specs.Nodes.{first, behind_form, given_by, taken, values_among}
+use Rattle.awk_resolve.specs.declared.node.ArgumentForm.TheVariants as form
 use Rattle.awk_storage.specs.support.Frames.{FramesView}
 use Rattle.awk_runtime.specs.declared.runtime.Runtime.{Runtime}
 use Rattle.awk_runtime.specs.Calling.{kept_number}

@@ -7,9 +7,9 @@ use Rattle.awk_semantics.specs.Operators.{operator_of, truth_value}
 use Rattle.awk_semantics.specs.Semantics.{Functions}
 use Rattle.awk_storage.specs.declared.position.Place.{Place}
 use Rattle.awk_storage.specs.Positions.{assign_by_at}
-use Rattle.awk_compile.specs.declared.node.Operand.{Operand}
-use Rattle.awk_compile.specs.declared.node.ValueNode.{ValueNode}
-use Rattle.awk_compile.specs.Nodes.{Tables, first, popped, value_of, operand_value, operated_with, operated_on}
+use Rattle.awk_resolve.specs.declared.node.Operand.{Operand}
+use Rattle.awk_resolve.specs.declared.node.ValueNode.{ValueNode}
+use Rattle.awk_resolve.specs.Nodes.{Tables, first, popped, value_of, operand_value, operated_with, operated_on}
 use Rattle.awk_runtime.specs.Simulation.{Changes}
 use Rattle.awk_evaluator.specs.declared.machine.Machine.{Machine}
 use Rattle.awk_evaluator.specs.support.Rest.{tables_in}

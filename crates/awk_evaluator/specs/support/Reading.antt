@@ -10,10 +10,10 @@ use Rattle.awk_semantics.specs.State.{Run, ◌>>=◌}
 use Rattle.awk_storage.specs.declared.position.Variable.{Variable}
 use Rattle.awk_storage.specs.declared.position.Place.TheVariants as place
 use Rattle.awk_storage.specs.Positions.{post_increment_at}
-use Rattle.awk_compile.specs.declared.node.Operand.{Operand}
-use Rattle.awk_compile.specs.declared.node.ValueNode.{ValueNode}
-use Rattle.awk_compile.specs.Nodes.{operand_value, assign_variable, update, increment, taken, append_to, print_field}
-use Rattle.awk_channels.specs.WorldState.{WorldState}
+use Rattle.awk_resolve.specs.declared.node.Operand.{Operand}
+use Rattle.awk_resolve.specs.declared.node.ValueNode.{ValueNode}
+use Rattle.awk_resolve.specs.Nodes.{operand_value, assign_variable, update, increment, taken, append_to, print_field}
+use Rattle.awk_streams.specs.WorldState.{WorldState}
 use Rattle.awk_runtime.specs.Simulation.{Simulates, Changes}
 use Rattle.awk_evaluator.specs.declared.machine.Machine.{Machine}
 use Rattle.awk_evaluator.specs.support.Moves.{Computes}

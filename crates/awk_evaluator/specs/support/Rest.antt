@@ -2,19 +2,19 @@
 -- own: how many calls may be within one another, and how many turns of loops may follow.
 use Rattle.std.specs.Prelude.{◌≡◌, ◌≤◌, ◌<◌, ℕ, suc, List, [], ◌∷◌, drop, take, reverse, map, slice_get, Some, Result}
 use Rattle.awk_value.specs.declared.value.Value.{Value}
-use Rattle.awk_channels.specs.WorldState.{WorldState}
+use Rattle.awk_streams.specs.WorldState.{WorldState}
 use Rattle.awk_kinds.specs.Kinds.{FormalParameter, Definition}
 use Rattle.awk_semantics.specs.declared.halt.Halt.{Halt}
 use Rattle.awk_semantics.specs.declared.local.Local.{Local}
 use Rattle.awk_semantics.specs.State.{State, Run, ◌>>=◌, ret}
 use Rattle.awk_semantics.specs.Primitives.{enter, leave}
 use Rattle.awk_semantics.specs.Calls.{definition_of, body_height, call_within, functions_within}
-use Rattle.awk_compile.specs.declared.node.Node.{Node}
-use Rattle.awk_compile.specs.declared.plan.Function.{Function as PlannedFunction}
-use Rattle.awk_compile.specs.declared.plan.Plan.{Plan}
-use Rattle.awk_compile.specs.Nodes.{Tables, Cont, function_at, made, level, cont_at, AreBelow, IsOrdered, AllCallsFit}
-use Rattle.awk_compile.specs.States.{LocalsFit}
-use Rattle.awk_compile.specs.Plans.{array_parameters}
+use Rattle.awk_resolve.specs.declared.node.Node.{Node}
+use Rattle.awk_resolve.specs.declared.plan.Function.{Function as PlannedFunction}
+use Rattle.awk_resolve.specs.declared.plan.Plan.{Plan}
+use Rattle.awk_resolve.specs.Nodes.{Tables, Cont, function_at, made, level, cont_at, AreBelow, IsOrdered, AllCallsFit}
+use Rattle.awk_resolve.specs.States.{LocalsFit}
+use Rattle.awk_resolve.specs.Plans.{array_parameters}
 use Rattle.awk_runtime.specs.support.Naming.{Naming}
 use Rattle.awk_runtime.specs.declared.runtime.Runtime.{Runtime}
 use Rattle.awk_runtime.specs.support.Simulation.{Simulates}

@@ -6,7 +6,7 @@ use Rattle.awk_storage.specs.declared.position.Array.{Array}
 use Rattle.awk_storage.specs.declared.position.Variable.{Variable}
 use Rattle.awk_storage.specs.Positions.{put_variable}
 use Rattle.awk_storage.specs.Forms.{keys_of_array}
-use Rattle.awk_compile.specs.Nodes.{first, second, walk_values, keys_left}
+use Rattle.awk_resolve.specs.Nodes.{first, second, walk_values, keys_left}
 use Rattle.awk_runtime.specs.Simulation.{Changes}
 use Rattle.awk_evaluator.specs.support.Operands.{OperandsView}
 use Rattle.awk_evaluator.specs.declared.machine.Machine.{Machine}

@@ -1,9 +1,9 @@
 -- What a run of a program leaves in the world: what the program means.
 use Rattle.std.specs.Prelude.{◌≡◌, ◌≢◌, ℕ, List, [], None}
-use Rattle.awk_channels.specs.Oracle.{Oracle, IsConsistent}
-use Rattle.awk_channels.specs.Openings.{outputs_of}
-use Rattle.awk_channels.specs.Orderly.{IsOrderly}
-use Rattle.awk_channels.specs.WorldState.{WorldState}
+use Rattle.awk_streams.specs.Oracle.{Oracle, IsConsistent}
+use Rattle.awk_streams.specs.Openings.{outputs_of}
+use Rattle.awk_streams.specs.Orderly.{IsOrderly}
+use Rattle.awk_streams.specs.WorldState.{WorldState}
 use Rattle.awk_grammar.specs.Tree.{Item}
 use Rattle.awk_semantics.specs.declared.outcome.Outcome.{Outcome}
 use Rattle.awk_semantics.specs.declared.outcome.Outcome.TheVariants.{Fault}

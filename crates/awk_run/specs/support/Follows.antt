@@ -1,13 +1,13 @@
 -- What the parts of a run over a plan do.
 use Rattle.std.specs.Prelude.{◌≡◌, ℕ, ◌≤◌, suc, List, Result}
 use Rattle.awk_value.specs.declared.value.Value.{Value}
-use Rattle.awk_channels.specs.WorldState.{WorldState}
-use Rattle.awk_channels.specs.Streams.{StreamsView}
+use Rattle.awk_streams.specs.WorldState.{WorldState}
+use Rattle.awk_streams.specs.Streams.{StreamsView}
 use Rattle.awk_grammar.specs.Tree.{Item}
 use Rattle.awk_semantics.specs.declared.halt.Halt.{Halt}
 use Rattle.awk_semantics.specs.definitions.State.{State, Run}
 use Rattle.awk_semantics.specs.definitions.Items.{until_next, each_record}
-use Rattle.awk_compile.specs.declared.plan.Plan.{Plan}
+use Rattle.awk_resolve.specs.declared.plan.Plan.{Plan}
 use Rattle.awk_runtime.specs.declared.runtime.Runtime.{Runtime}
 use Rattle.awk_runtime.specs.support.Simulation.{IsReady, Simulates}
 use Rattle.awk_run.specs.support.Planned.{IsPlanFor, place_in, part_at}

@@ -1,11 +1,11 @@
 -- Records that the rules of a plan do nothing on, and that are passed over.
 use Rattle.std.specs.Prelude.{◌≡◌, ℕ, ◌≤◌, List, slice_get, Option, Some, Result, IfSome}
-use Rattle.awk_channels.specs.WorldState.{WorldState}
+use Rattle.awk_streams.specs.WorldState.{WorldState}
 use Rattle.awk_grammar.specs.Tree.{Item}
 use Rattle.awk_semantics.specs.declared.halt.Halt.{Halt}
 use Rattle.awk_semantics.specs.definitions.Items.{until_next}
-use Rattle.awk_compile.specs.declared.plan.Plan.{Plan}
-use Rattle.awk_compile.specs.declared.node.Node.TheVariants as node
+use Rattle.awk_resolve.specs.declared.plan.Plan.{Plan}
+use Rattle.awk_resolve.specs.declared.node.Node.TheVariants as node
 use Rattle.awk_runtime.specs.declared.passing.Unwanted.{Unwanted}
 use Rattle.awk_runtime.specs.declared.runtime.Runtime.{Runtime}
 use Rattle.awk_runtime.specs.support.Naming.{Naming}

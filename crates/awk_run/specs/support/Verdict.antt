@@ -2,11 +2,11 @@
 use Rattle.std.specs.Prelude.{◌≡◌, ◌≤◌, ℕ, List, [], None, Result, Ok, Err}
 use Rattle.awk_lex.specs.declared.refusal.Refusal.{Refusal}
 use Rattle.awk_lex.specs.Refused.{IsOutOfMemory}
-use Rattle.awk_channels.specs.declared.fault.StreamFault.{StreamFault}
-use Rattle.awk_channels.specs.WorldState.{WorldState}
-use Rattle.awk_channels.specs.Oracle.{Oracle}
-use Rattle.awk_channels.specs.Streams.{StreamsView}
-use Rattle.awk_channels.specs.Commands.{Finishes}
+use Rattle.awk_streams.specs.declared.fault.StreamFault.{StreamFault}
+use Rattle.awk_streams.specs.WorldState.{WorldState}
+use Rattle.awk_streams.specs.Oracle.{Oracle}
+use Rattle.awk_streams.specs.Streams.{StreamsView}
+use Rattle.awk_streams.specs.Commands.{Finishes}
 use Rattle.awk_semantics.specs.declared.outcome.Outcome.{Outcome}
 use Rattle.awk_semantics.specs.declared.outcome.Outcome.TheVariants.{Fault}
 use Rattle.awk_semantics.specs.definitions.Faults.{stream_fault}

@@ -1,12 +1,12 @@
 -- What the end of a run leaves.
 use Rattle.std.specs.Prelude.{◌≡◌, List, ◌∷◌, ◌++◌, Result, OnOk}
-use Rattle.awk_channels.specs.declared.fault.StreamFault.{StreamFault}
-use Rattle.awk_channels.specs.WorldState.{WorldState}
-use Rattle.awk_channels.specs.Log.{Event}
-use Rattle.awk_channels.specs.Oracle.{Oracle, IsConsistent}
-use Rattle.awk_channels.specs.Openings.{AreBrought}
-use Rattle.awk_channels.specs.Streams.{StreamsView}
-use Rattle.awk_channels.specs.Commands.{Finishes}
+use Rattle.awk_streams.specs.declared.fault.StreamFault.{StreamFault}
+use Rattle.awk_streams.specs.WorldState.{WorldState}
+use Rattle.awk_streams.specs.Log.{Event}
+use Rattle.awk_streams.specs.Oracle.{Oracle, IsConsistent}
+use Rattle.awk_streams.specs.Openings.{AreBrought}
+use Rattle.awk_streams.specs.Streams.{StreamsView}
+use Rattle.awk_streams.specs.Commands.{Finishes}
 use Rattle.awk_semantics.specs.State.{Effect, Requested, Ends, State}
 use Rattle.awk_semantics.specs.Meaning.{closings_of, first_outputs, outputs_after, requests_from}
 use Rattle.awk_semantics.specs.Order.{Stage, MeetsAll, first_stage}

@@ -1,7 +1,7 @@
 -- How the main input is looked for and opened.
 use Rattle.std.specs.Prelude.{◌≡◌, ℕ, ◌≤◌, suc, true, List, Option, Some, None, is_some, Result, Ok, Err, OnOk}
 use Rattle.awk_world.specs.declared.world.InputKind.{InputKind}
-use Rattle.awk_channels.specs.WorldState.{WorldState}
+use Rattle.awk_streams.specs.WorldState.{WorldState}
 use Rattle.awk_semantics.specs.declared.halt.Halt.{Halt}
 use Rattle.awk_semantics.specs.State.{Run}
 use Rattle.awk_semantics.specs.Streams.{open_main}

@@ -1,7 +1,7 @@
 -- What the code answers where a named input is asked for a record, in the words of the definitions.
 use Rattle.std.specs.Prelude.{Result, Ok, Err}
-use Rattle.awk_channels.specs.declared.input.NextNamed.{NextNamed}
-use Rattle.awk_channels.specs.declared.input.NextNamed.TheVariants as next
+use Rattle.awk_streams.specs.declared.input.NextNamed.{NextNamed}
+use Rattle.awk_streams.specs.declared.input.NextNamed.TheVariants as next
 use Rattle.awk_semantics.specs.declared.halt.Halt.{Halt}
 use Rattle.awk_semantics.specs.Streams.{Answer, ARecord, NoRecord, NotReadable}
 

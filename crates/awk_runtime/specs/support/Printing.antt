@@ -1,9 +1,9 @@
 -- What printing and opening an output do, where the outputs of the code stand for those of the definitions.
 use Rattle.std.specs.Prelude.{◌≡◌, ◌≤◌, ℕ, List, Option, Some, None, Result, Ok, Err, bytes_eq, codes, if◌then◌else◌}
-use Rattle.awk_channels.specs.WorldState.{WorldState}
-use Rattle.awk_channels.specs.declared.streams.Target.{Target}
-use Rattle.awk_channels.specs.declared.streams.Target.TheVariants as target
-use Rattle.awk_channels.specs.Streams.{opening_at}
+use Rattle.awk_streams.specs.WorldState.{WorldState}
+use Rattle.awk_streams.specs.declared.streams.Target.{Target}
+use Rattle.awk_streams.specs.declared.streams.Target.TheVariants as target
+use Rattle.awk_streams.specs.Streams.{opening_at}
 use Rattle.awk_semantics.specs.declared.halt.Halt.{Halt}
 use Rattle.awk_value.specs.declared.value.Value.{Value}
 use Rattle.awk_grammar.specs.declared.tree.PrintForm.{PrintForm}

@@ -3,14 +3,14 @@ use Rattle.std.specs.Prelude.{◌≡◌, ◌⊎◌, ℕ, pos, ◌≤◌, ◌<◌
 use Rattle.awk_value.specs.declared.value.Value.TheVariants.{Nothing}
 use Rattle.awk_world.specs.declared.world.InputKind.{InputKind}
 use Rattle.awk_world.specs.declared.world.OutputKind.{OutputKind}
-use Rattle.awk_channels.specs.declared.fault.StreamFault.{StreamFault}
-use Rattle.awk_channels.specs.declared.input.Input.{Input}
-use Rattle.awk_channels.specs.WorldState.{WorldState}
-use Rattle.awk_channels.specs.Oracle.{Oracle, IsConsistent, how_many, opens_input, opens_output, closes_command, runs}
-use Rattle.awk_channels.specs.Log.{Event}
-use Rattle.awk_channels.specs.Openings.{Begins}
-use Rattle.awk_channels.specs.Grows.{Grows}
-use Rattle.awk_channels.specs.Streams.{StreamsView, AreOpen, AreSound, AreAs, numbered, printed_openings}
+use Rattle.awk_streams.specs.declared.fault.StreamFault.{StreamFault}
+use Rattle.awk_streams.specs.declared.input.Input.{Input}
+use Rattle.awk_streams.specs.WorldState.{WorldState}
+use Rattle.awk_streams.specs.Oracle.{Oracle, IsConsistent, how_many, opens_input, opens_output, closes_command, runs}
+use Rattle.awk_streams.specs.Log.{Event}
+use Rattle.awk_streams.specs.Openings.{Begins}
+use Rattle.awk_streams.specs.Grows.{Grows}
+use Rattle.awk_streams.specs.Streams.{StreamsView, AreOpen, AreSound, AreAs, numbered, printed_openings}
 use Rattle.awk_kinds.specs.declared.special.Special.{Special}
 use Rattle.awk_kinds.specs.Variables.{value_of, name_of}
 use Rattle.awk_semantics.specs.declared.halt.Halt.{Halt}

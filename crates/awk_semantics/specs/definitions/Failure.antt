@@ -1,10 +1,10 @@
 -- What a failure of the outside, or want of memory, leaves of a run (POSIX awk, EXIT STATUS; CONSEQUENCES OF ERRORS).
 use Rattle.std.specs.Prelude.{◌≡◌, ◌⊎◌, ℕ, true, List, [], ◌∷◌, length, Some, is_some}
-use Rattle.awk_channels.specs.Log.{Event, Wrote, Flushed, Closed}
-use Rattle.awk_channels.specs.Oracle.{Oracle, IsConsistent}
-use Rattle.awk_channels.specs.Writes.{with_events}
-use Rattle.awk_channels.specs.Openings.{outputs_of, Begins}
-use Rattle.awk_channels.specs.WorldState.{WorldState}
+use Rattle.awk_streams.specs.Log.{Event, Wrote, Flushed, Closed}
+use Rattle.awk_streams.specs.Oracle.{Oracle, IsConsistent}
+use Rattle.awk_streams.specs.Writes.{with_events}
+use Rattle.awk_streams.specs.Openings.{outputs_of, Begins}
+use Rattle.awk_streams.specs.WorldState.{WorldState}
 use Rattle.awk_semantics.specs.declared.fault as declared
 use Rattle.awk_semantics.specs.declared.fault.Fault.TheVariants.{OutOfMemory, WriteFailed}
 use Rattle.awk_semantics.specs.declared.outcome.Outcome.{Outcome}

@@ -10,8 +10,8 @@ use Rattle.awk_text.specs.declared.format_fault.FormatFault.{FormatFault}
 use Rattle.awk_text.specs.declared.format_fault.FormatFault.TheVariants as format
 use Rattle.awk_text.specs.declared.fault.TextFault.{TextFault}
 use Rattle.awk_text.specs.declared.fault.TextFault.TheVariants as texts
-use Rattle.awk_channels.specs.declared.fault.StreamFault.{StreamFault}
-use Rattle.awk_channels.specs.declared.fault.StreamFault.TheVariants as streams
+use Rattle.awk_streams.specs.declared.fault.StreamFault.{StreamFault}
+use Rattle.awk_streams.specs.declared.fault.StreamFault.TheVariants as streams
 use Rattle.awk_kinds.specs.declared.fault.VariableFault.{VariableFault}
 use Rattle.awk_kinds.specs.declared.fault.VariableFault.TheVariants as variables
 use Rattle.awk_semantics.specs.declared.fault.Fault.{Fault}

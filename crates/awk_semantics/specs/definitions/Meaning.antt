@@ -2,9 +2,9 @@
 use Rattle.std.specs.Prelude.{◌≡◌, ◌≢◌, ℕ, ◌+◌, suc, true, false, List, [], ◌∷◌, ◌++◌, length, codes, bytes_eq, None, Result, Ok, Err, if◌then◌else◌}
 use Rattle.awk_value.specs.declared.value.Value.TheVariants as value
 use Rattle.awk_value.specs.Arrays.{Array, with_pair}
-use Rattle.awk_channels.specs.Oracle.{Oracle}
-pub use Rattle.awk_channels.specs.Named.{with_bytes}
-use Rattle.awk_channels.specs.Openings.{StandardOutput, StandardError, Named as NamedOutput, Opening, Begins}
+use Rattle.awk_streams.specs.Oracle.{Oracle}
+pub use Rattle.awk_streams.specs.Named.{with_bytes}
+use Rattle.awk_streams.specs.Openings.{StandardOutput, StandardError, Named as NamedOutput, Opening, Begins}
 use Rattle.awk_grammar.specs.Tree.{Item}
 use Rattle.awk_semantics.specs.declared.outcome.Outcome.{Outcome}
 use Rattle.awk_semantics.specs.declared.outcome.Outcome.TheVariants.{Ended, Fault, Stopped}

@@ -6,13 +6,13 @@ use Rattle.awk_world.specs.declared.world.InputKind.{InputKind}
 use Rattle.awk_world.specs.declared.world.InputKind.TheVariants as input
 use Rattle.awk_world.specs.declared.world.OutputKind.{OutputKind}
 use Rattle.awk_world.specs.declared.world.OutputKind.TheVariants as output
-use Rattle.awk_channels.specs.Log.{Event, OpenedInput, OpenedOutput, Wrote, Flushed, Closed, Ran}
-use Rattle.awk_channels.specs.Oracle.{Oracle, Source}
-use Rattle.awk_channels.specs.Orderly.{IsReadable}
-use Rattle.awk_channels.specs.Writes.{with_events, GoesOn}
-use Rattle.awk_channels.specs.Openings.{Opening, AreBrought}
-use Rattle.awk_channels.specs.Inputs.{NeededReads, Rest}
-pub use Rattle.awk_channels.specs.Named.{number_among, without_number}
+use Rattle.awk_streams.specs.Log.{Event, OpenedInput, OpenedOutput, Wrote, Flushed, Closed, Ran}
+use Rattle.awk_streams.specs.Oracle.{Oracle, Source}
+use Rattle.awk_streams.specs.Orderly.{IsReadable}
+use Rattle.awk_streams.specs.Writes.{with_events, GoesOn}
+use Rattle.awk_streams.specs.Openings.{Opening, AreBrought}
+use Rattle.awk_streams.specs.Inputs.{NeededReads, Rest}
+pub use Rattle.awk_streams.specs.Named.{number_among, without_number}
 use Rattle.awk_semantics.specs.definitions.State.{Named, Input, Output, Request, OpensMain, OpensInput, OpensOutput, RecordOfMain, RecordOf, Closes, Runs, Ends}
 use Rattle.awk_semantics.specs.definitions.Meaning.{Asked, Meaning}
 

@@ -6,8 +6,8 @@ use Rattle.awk_record.specs.Record.{RecordPair}
 use Rattle.awk_world.specs.declared.world.InputKind.{InputKind}
 use Rattle.awk_world.specs.declared.world.OutputKind.{OutputKind}
 use Rattle.awk_world.specs.declared.world.Mode.{Mode}
-use Rattle.awk_channels.specs.Oracle.{Source, Oracle}
-pub use Rattle.awk_channels.specs.Named.{Named, Input, Output, Stream, AnInput, AnOutput}
+use Rattle.awk_streams.specs.Oracle.{Source, Oracle}
+pub use Rattle.awk_streams.specs.Named.{Named, Input, Output, Stream, AnInput, AnOutput}
 use Rattle.awk_semantics.specs.declared.halt.Halt.{Halt}
 use Rattle.awk_semantics.specs.declared.local.Local.{Local}
 

@@ -8,8 +8,8 @@ use Rattle.awk_world.specs.declared.world.OutputKind.{OutputKind}
 use Rattle.awk_world.specs.declared.world.OutputKind.TheVariants as output
 use Rattle.awk_world.specs.declared.world.Mode.{Mode}
 use Rattle.awk_world.specs.declared.world.Mode.TheVariants as mode
-use Rattle.awk_channels.specs.Oracle.{Source, same_input_kind, same_output_kind, one_if}
-pub use Rattle.awk_channels.specs.Named.{same_named, named_of, is_command, rest_in, with_rest_of, opening_in, is_output, is_other, has_the_name}
+use Rattle.awk_streams.specs.Oracle.{Source, same_input_kind, same_output_kind, one_if}
+pub use Rattle.awk_streams.specs.Named.{same_named, named_of, is_command, rest_in, with_rest_of, opening_in, is_output, is_other, has_the_name}
 use Rattle.awk_grammar.specs.declared.tree.Redirection.{Redirection}
 use Rattle.awk_grammar.specs.declared.tree.Redirection.TheVariants as to
 use Rattle.awk_kinds.specs.declared.special.Special.TheVariants.{Filename, Fnr, Rs}

@@ -1,7 +1,7 @@
 // The entries of the environment.
 
 use crate::worlds::{answer, call, was_given};
-use awk_channels::{InputKind, ScriptWorld};
+use awk_streams::{InputKind, ScriptWorld};
 use awk_run::Assignment;
 use std::alloc::{AllocError, Global};
 use std::test::Fail;

@@ -1,7 +1,7 @@
 // What no row of text can say of program files: that one breaks, or is long.
 
 use crate::worlds::{answer, call, was_given};
-use awk_channels::{Entry, InputKind, ScriptWorld};
+use awk_streams::{Entry, InputKind, ScriptWorld};
 use std::alloc::{AllocError, Global};
 use std::test::Fail;
 

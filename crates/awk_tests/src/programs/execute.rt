@@ -2,7 +2,7 @@
 
 use crate::programs::witness::{Run, run_in_memory};
 use crate::worlds::{answer, was_given};
-use awk_channels::InputKind;
+use awk_streams::InputKind;
 use awk_lex::refusal::{Refusal, RefusalCode};
 use awk_run::{
     Assignment, Fault, Outcome, Start, fault_line, law_of_limits, law_of_outcomes, law_of_turns,

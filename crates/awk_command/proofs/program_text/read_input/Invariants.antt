@@ -1,6 +1,6 @@
 use Rattle.std.proofs.Common.{◌<◌, ◌-◌, ◌+◌, length}
-use Rattle.awk_channels.specs.WorldState.{SameOpen}
-use Rattle.awk_channels.specs.Writes.{GoesOn}
+use Rattle.awk_streams.specs.WorldState.{SameOpen}
+use Rattle.awk_streams.specs.Writes.{GoesOn}
 use Rattle.awk_run.specs.Accepted.{longest_text}
 use Rattle.awk_command.specs.ProgramText.{ReadsBytes}
 use Rattle.awk_command.proofs.program_text.read_input.Given as goal

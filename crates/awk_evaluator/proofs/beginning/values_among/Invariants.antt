@@ -1,5 +1,5 @@
 use Rattle.std.proofs.Common.{◌≡◌, ◌≤◌, ◌+◌, ◌-◌, length, drop}
-use Rattle.awk_compile.specs.Nodes.{values_among}
+use Rattle.awk_resolve.specs.Nodes.{values_among}
 use Rattle.awk_evaluator.proofs.beginning.values_among.Given as goal
 
 abbrev pub invariant-forms : goal.invariant-forms

@@ -1,5 +1,5 @@
 use Rattle.std.proofs.Common.{Result, IfSome}
-use Rattle.awk_channels.specs.WorldState.{WorldState}
+use Rattle.awk_streams.specs.WorldState.{WorldState}
 use Rattle.awk_semantics.specs.declared.halt.Halt.{Halt}
 use Rattle.awk_runtime.specs.declared.runtime.Runtime.{Runtime}
 use Rattle.awk_run.specs.support.Follows.{ReadsOn, IsSet}

@@ -1,6 +1,6 @@
 use Rattle.std.proofs.Common.{sym, subst}
-use Rattle.awk_channels.specs.Streams.{StreamsView, AreSound}
-use Rattle.awk_channels.specs.Commands.{Finishes}
+use Rattle.awk_streams.specs.Streams.{StreamsView, AreSound}
+use Rattle.awk_streams.specs.Commands.{Finishes}
 use Rattle.awk_runtime.proofs.StartRelation.{start_open}
 use Rattle.awk_run.proofs.run.end_without_streams.Goals as goal
 

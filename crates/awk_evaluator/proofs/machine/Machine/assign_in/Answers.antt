@@ -1,6 +1,6 @@
 use Rattle.std.proofs.Common.{List, ap, ◌∙◌, refl, drop}
 use Rattle.awk_value.specs.declared.value.Value.{Value}
-use Rattle.awk_compile.specs.Nodes.{first}
+use Rattle.awk_resolve.specs.Nodes.{first}
 use Rattle.awk_evaluator.specs.Operands.{OperandsView}
 use Rattle.awk_evaluator.proofs.Computing.{drop_two, second_is}
 use Rattle.awk_evaluator.proofs.Parts.{element_given}

@@ -2,7 +2,7 @@ use Rattle.std.proofs.Common.{◌≡◌, ◌+◌, List, drop, refl, ap, sym, ◌
 use Rattle.std.specs.Prelude.{get_or}
 use Rattle.awk_value.specs.declared.value.Value.{Value}
 use Rattle.awk_value.specs.declared.value.Value.TheVariants.{Nothing}
-use Rattle.awk_compile.specs.Nodes.{first, second, place_operands}
+use Rattle.awk_resolve.specs.Nodes.{first, second, place_operands}
 use Rattle.awk_evaluator.specs.support.Operands.{OperandsView}
 use Rattle.awk_evaluator.proofs.Computing.{evaluated, second_is, drop_two, one_place_operand}
 use Rattle.awk_evaluator.proofs.machine.Machine.getline_from_command.Goals as goal

@@ -1,7 +1,7 @@
 use Rattle.std.proofs.Common.{List, drop, drop-drop, Ok, ap, ◌∙◌}
 use Rattle.std.proofs.lemmas.Result.{err_from_is_err_and}
 use Rattle.awk_value.specs.declared.value.Value.{Value}
-use Rattle.awk_compile.specs.Nodes.{first, place_operands}
+use Rattle.awk_resolve.specs.Nodes.{first, place_operands}
 use Rattle.awk_evaluator.specs.support.Operands.{OperandsView}
 use Rattle.awk_evaluator.proofs.Computing.{evaluated, value_ended, second_is}
 use Rattle.awk_evaluator.proofs.machine.Machine.getline_from_file.Goals as goal

@@ -1,5 +1,5 @@
 use Rattle.std.proofs.Common.{arith, sym, ap, ◌∙◌, drop}
-use Rattle.awk_compile.specs.Nodes.{taken}
+use Rattle.awk_resolve.specs.Nodes.{taken}
 use Rattle.awk_runtime.specs.declared.runtime.Runtime.{Runtime}
 use Rattle.awk_runtime.specs.Calling.{with_given}
 use Rattle.awk_evaluator.specs.Operands.{OperandsView}

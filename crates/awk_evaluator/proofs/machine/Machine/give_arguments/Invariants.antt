@@ -1,5 +1,5 @@
 use Rattle.std.proofs.Common.{◌≡◌, ◌≤◌, ◌-◌, length, drop}
-use Rattle.awk_compile.specs.Nodes.{taken}
+use Rattle.awk_resolve.specs.Nodes.{taken}
 use Rattle.awk_evaluator.specs.Calling.{kept_all, with_all}
 use Rattle.awk_evaluator.proofs.machine.Machine.give_arguments.Given as goal
 

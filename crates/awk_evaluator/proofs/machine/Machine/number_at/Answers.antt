@@ -1,7 +1,7 @@
 use Rattle.std.proofs.Common.{rules, ◌≡◌, ap, ◌∙◌, to_z, of_z}
 use mir.Syntax.{w128}
 use Rattle.awk_value.specs.declared.value.Value.TheVariants.{Number}
-use Rattle.awk_compile.specs.declared.node.Operand.TheVariants.{Constant}
+use Rattle.awk_resolve.specs.declared.node.Operand.TheVariants.{Constant}
 use Rattle.awk_evaluator.proofs.QuickValues.{constant_at_hand}
 use Rattle.awk_evaluator.proofs.machine.Machine.number_at.Goals as goal
 

@@ -1,6 +1,6 @@
 use Rattle.std.proofs.Common.{◌≡◌, ◌+◌, suc, List, drop, ap, sym, ◌∙◌}
 use Rattle.awk_value.specs.declared.value.Value.{Value}
-use Rattle.awk_compile.specs.Nodes.{first, operands, pattern_operands}
+use Rattle.awk_resolve.specs.Nodes.{first, operands, pattern_operands}
 use Rattle.awk_evaluator.specs.support.Rest.{tables_in}
 use Rattle.awk_evaluator.specs.support.Operands.{OperandsView}
 use Rattle.awk_evaluator.proofs.Computing.{computed, second_is, drop_two, substitute_drop, one_operand, in_place}

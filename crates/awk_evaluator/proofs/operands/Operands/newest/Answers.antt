@@ -1,6 +1,6 @@
 use Rattle.std.proofs.Common.{rules, ◌≡◌, ◌-◌, max, length, drop, ap, ◌∙◌}
 use Rattle.std.proofs.lemmas.List.{take_rest}
-use Rattle.awk_compile.specs.Nodes.{taken}
+use Rattle.awk_resolve.specs.Nodes.{taken}
 use Rattle.awk_evaluator.specs.support.Operands.{OperandsView}
 use Rattle.awk_evaluator.proofs.Stacks.{newest_values}
 use Rattle.awk_evaluator.proofs.operands.Operands.newest.Goals as goal

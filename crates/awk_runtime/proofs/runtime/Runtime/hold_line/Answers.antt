@@ -3,8 +3,8 @@ use Rattle.awk_value.specs.Values.{str_of}
 use Rattle.awk_semantics.specs.Operators.{line_of}
 use Rattle.awk_kinds.specs.declared.special.Special.TheVariants.{Ofs, Ors}
 use Rattle.awk_kinds.specs.Variables.{value_of, name_of}
-use Rattle.awk_channels.specs.declared.streams.Target.TheVariants as target
-use Rattle.awk_channels.specs.Streams.{StreamsView}
+use Rattle.awk_streams.specs.declared.streams.Target.TheVariants as target
+use Rattle.awk_streams.specs.Streams.{StreamsView}
 use Rattle.awk_runtime.proofs.Prints.{values_printed, line_between, held_behind, lent_printed}
 use Rattle.awk_runtime.proofs.Turns.{written}
 use Rattle.awk_runtime.proofs.runtime.Runtime.hold_line.Goals as goal

@@ -5,7 +5,7 @@ use Rattle.awk_value.specs.declared.value.Value.TheVariants.{Input}
 use Rattle.awk_semantics.specs.Primitives.{print_line}
 use Rattle.awk_kinds.specs.declared.special.Special.TheVariants.{Ofs}
 use Rattle.awk_kinds.specs.Variables.{value_of, name_of}
-use Rattle.awk_channels.specs.declared.streams.Target.TheVariants as target
+use Rattle.awk_streams.specs.declared.streams.Target.TheVariants as target
 use Rattle.awk_runtime.proofs.Prints.{values_printed, line_of_text, changed_and_printed, printed_to_output}
 use Rattle.awk_runtime.proofs.Steps.{still}
 use Rattle.awk_runtime.proofs.Turns.{written}

@@ -1,7 +1,7 @@
 use Rattle.std.proofs.Common.{Ok, refl, sym, ap, ◌∙◌}
 use Rattle.awk_value.specs.Values.{str_of}
-use Rattle.awk_channels.specs.declared.streams.Target.TheVariants as target
-use Rattle.awk_channels.specs.Streams.{StreamsView}
+use Rattle.awk_streams.specs.declared.streams.Target.TheVariants as target
+use Rattle.awk_streams.specs.Streams.{StreamsView}
 use Rattle.awk_runtime.proofs.Prints.{values_printed, line_of_text}
 use Rattle.awk_runtime.proofs.Turns.{written}
 use Rattle.awk_runtime.proofs.runtime.Runtime.hold_text.Goals as goal

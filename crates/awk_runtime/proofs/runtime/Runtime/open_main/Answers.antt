@@ -1,5 +1,5 @@
 use Rattle.std.proofs.Common.{◌≡◌, Ok, Err}
-use Rattle.awk_channels.specs.declared.fault.StreamFault.TheVariants.{InputNotReadable}
+use Rattle.awk_streams.specs.declared.fault.StreamFault.TheVariants.{InputNotReadable}
 use Rattle.std.proofs.lemmas.Result.{err_from_is_err_and}
 use Rattle.awk_runtime.proofs.Turns.{written}
 use Rattle.awk_runtime.proofs.MainInput.{opens_simulates, fresh_some}

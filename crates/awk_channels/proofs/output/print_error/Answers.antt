@@ -1,4 +1,0 @@
-use Rattle.awk_channels.proofs.output.print_error.Goals as goal
-
-pub returns-clause-told : goal.returns-clause-told
-returns-clause-told g c = c.write_all.ensures.told

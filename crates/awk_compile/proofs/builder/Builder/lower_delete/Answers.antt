@@ -1,6 +1,0 @@
-use Rattle.awk_compile.proofs.Building.{ok_map}
-use Rattle.awk_compile.proofs.PrintStatements.{delete_built}
-use Rattle.awk_compile.proofs.builder.Builder.lower_delete.Goals as goal
-
-pub returns : goal.returns
-returns c = ok_map _ (λ i r. delete_built c.requires.next (rw c.as_slice.ensures at c.in_ok-array.ensures) c.in_ok-delete.ensures c.in_ok-key.ensures r) c.step.ensures

@@ -1,0 +1,159 @@
+-- What is built of prints and deletions does what they mean.
+use Rattle.std.proofs.Common.{◌≡◌, ℕ, ◌+◌, List, [], ◌∷◌, ◌++◌, reverse, drop, suc, Some, None, length, refl, sym, ap, ◌∙◌, arith}
+use Rattle.awk_value.specs.declared.value.Value.{Value}
+use Rattle.awk_value.specs.Values.{str_of}
+use Rattle.awk_grammar.specs.declared.tree.PrintForm.{PrintForm}
+use Rattle.awk_grammar.specs.declared.tree.Redirection.{Redirection}
+use Rattle.awk_grammar.specs.declared.tree.PrintForm.TheVariants as form
+use Rattle.awk_grammar.specs.Tree.{Expr, Field, Exprs, Nil, Cons, PrintList, Bare, Parenthesized, Standard, Redirected, Print, Delete, DeleteAll, Simple}
+use Rattle.awk_kinds.specs.definitions.Kinds.{FormalParameter}
+use Rattle.awk_kinds.specs.definitions.Signatures.{ProgramKinds}
+use Rattle.awk_kinds.specs.definitions.NameUses.{count_of}
+use Rattle.awk_semantics.specs.definitions.State.{State, Run, ◌>>=◌, ret}
+use Rattle.awk_semantics.specs.definitions.Primitives.{spend, number_of, read_field, print_line, delete_element, clear_array}
+use Rattle.awk_semantics.specs.definitions.Streams.{open_target}
+use Rattle.awk_semantics.specs.definitions.Semantics.{Functions, eval, eval_all, key_of, printed_values, target_of, print_by}
+use Rattle.awk_storage.specs.declared.position.Array.{Array}
+use Rattle.awk_storage.specs.definitions.Forms.{delete_at, clear_at}
+use Rattle.awk_resolve.specs.declared.node.Node.TheVariants as n
+use Rattle.awk_resolve.specs.declared.node.EffectNode.TheVariants as e
+use Rattle.awk_resolve.specs.declared.node.Operand.{Operand}
+use Rattle.awk_resolve.specs.declared.builder.Builder.{Builder}
+use Rattle.awk_resolve.specs.declared.builder.Exits.{Exits}
+use Rattle.awk_resolve.specs.definitions.Nodes.{Cont, taken, operand_value, field_at}
+use Rattle.awk_resolve.specs.support.Printed.{listed}
+use Rattle.awk_resolve.specs.support.Builds.{Grows, Pushes, IsIn, Program, Evaluate, EvaluateAll, EvaluateKey, Execute, IsArrayOf, FindsAnOperand, leave_by, place_in, Places, Builds, Stands}
+use Rattle.awk_resolve.proofs.Calculus.{assoc_at, later_same, later_in, first_same, given}
+use Rattle.awk_resolve.proofs.Building.{grows, extends, still, placed, at_once}
+use Rattle.awk_resolve.proofs.Elements.{deletes_element, clears_array}
+use Rattle.awk_resolve.proofs.ValueLists.{taken_all, dropped_all, all_first, keyed, keeps_key_value, counted}
+use Rattle.awk_resolve.proofs.Passing.{print_then, delete_then, delete_all_then, simple_then}
+use Rattle.awk_resolve.proofs.SimpleStatements.{evaluated, stepped}
+
+-- a print node, with the values of the list on the stack
+
+standard_at : {kinds : ProgramKinds} {a b : Builder} {form : PrintForm} {count k l : ℕ} → Places kinds a b l (n.Effect (e.Print form count None) k) → (p : Program kinds) → Grows b p.all → (m : ℕ) (ws vs : List Value) (t : State) → length ws ≡ count
+    → place_in p m l (reverse ws ++ vs) t ≡ (target_of p.functions Standard >>= λ to. print_by p.functions form to ws >>= λ _. place_in p m k vs) t
+unfolding target_of
+standard_at {form = form} {count = count} {k = k} o p g m ws vs t h =
+    let xs : List Value = reverse ws ++ vs in
+    let all : 0 + count ≡ count = omega arith in
+    at_once (o.is p g m) xs t
+    ∙ assoc_at (ret 0) (λ to. print_by p.functions form to (taken count xs)) (λ _. place_in p m k (drop (0 + count) xs)) t
+    ∙ ap (λ (ys : List Value). (ret 0 >>= λ to. print_by p.functions form to ys >>= λ _. place_in p m k (drop (0 + count) xs)) t) (taken_all ws vs count h)
+    ∙ ap (λ (ys : List Value). (ret 0 >>= λ to. print_by p.functions form to ws >>= λ _. place_in p m k ys) t) (ap (λ c. drop c xs) all ∙ dropped_all ws vs count h)
+
+redirected_at : {kinds : ProgramKinds} {a b : Builder} {form : PrintForm} {way : Redirection} {count k l : ℕ} → Places kinds a b l (n.Effect (e.Print form count (Some way)) k) → (p : Program kinds) → Grows b p.all → (m : ℕ) (w : Value) (ws vs : List Value) (t : State) → length ws ≡ count
+    → place_in p m l (w ∷ (reverse ws ++ vs)) t ≡ (open_target way (str_of w) >>= λ to. print_by p.functions form to ws >>= λ _. place_in p m k vs) t
+redirected_at {form = form} {way = way} {count = count} {k = k} o p g m w ws vs t h =
+    let xs : List Value = reverse ws ++ vs in
+    let all : 1 + count ≡ suc count = omega arith in
+    at_once (o.is p g m) (w ∷ xs) t
+    ∙ assoc_at (open_target way (str_of w)) (λ to. print_by p.functions form to (taken count xs)) (λ _. place_in p m k (drop (1 + count) (w ∷ xs))) t
+    ∙ ap (λ (ys : List Value). (open_target way (str_of w) >>= λ to. print_by p.functions form to ys >>= λ _. place_in p m k (drop (1 + count) (w ∷ xs))) t) (taken_all ws vs count h)
+    ∙ ap (λ (ys : List Value). (open_target way (str_of w) >>= λ to. print_by p.functions form to ws >>= λ _. place_in p m k ys) t) (ap (λ c. drop c (w ∷ xs)) all ∙ dropped_all ws vs count h)
+
+same_values : (functions : Functions) (list : PrintList) → printed_values functions list ≡ eval_all functions [] (listed list)
+unfolding printed_values
+same_values functions (Bare es) = refl
+same_values functions (Parenthesized es) = refl
+
+none_first : (functions : Functions) (k : List Value → Run Value) (s : State) → (eval_all functions [] Nil >>= k) s ≡ k [] s
+unfolding eval_all
+none_first functions k s = given [] k s
+
+-- a target that is evaluated, and then opened
+target_then : (functions : Functions) (way : Redirection) (x : Expr) (f : ℕ → Run Value) (s : State) → (target_of functions (Redirected way x) >>= f) s ≡ (eval functions x >>= λ w. open_target way (str_of w) >>= f) s
+unfolding target_of
+target_then functions way x f s = assoc_at (eval functions x) (λ w. open_target way (str_of w)) f s
+
+module _ {kinds : ProgramKinds} {parameters : List FormalParameter} where
+  -- the values of a list, and what they go to
+  pub all_evaluated : {b c : Builder} {es : Exprs} {i j : ℕ} → Builds kinds parameters b c i (EvaluateAll es j) → (p : Program kinds) → Grows c p.all → (m : ℕ) (vs : List Value) (s : State) → IsIn p.tables parameters m s
+      → (rest : List Value → Run Value) → ((ws : List Value) (t : State) → length ws ≡ count_of es → IsIn p.tables parameters m t → place_in p m j (reverse ws ++ vs) t ≡ rest ws t) → place_in p m i vs s ≡ (eval_all p.functions [] es >>= rest) s
+  all_evaluated {es = es} q p g m vs s i rest h = q.is p g m vs s i ∙ counted p.functions p.calls.keep es _ rest m s i h
+
+  -- prints
+
+  pub print_built : {a b c d : Builder} {form : PrintForm} {list : PrintList} {exits : Exits} {count i j l : ℕ} → Stands exits.next a → count ≡ count_of (listed list) → Pushes a b (n.Effect (e.Print form count None) exits.next) l
+      → Builds kinds parameters b c i (EvaluateAll (listed list) l) → Pushes c d (n.Effect e.Spend i) j → Builds kinds parameters a d j (Execute (Simple (Print form list Standard)) exits)
+  print_built {form = form} {list = list} {exits = exits} h is p q r =
+      let o = placed p h.below in
+      stepped (Execute (Simple (Print form list Standard)) exits)
+      (λ functions at vs. eval_all functions [] (listed list) >>= λ ws. target_of functions Standard >>= λ to. print_by functions form to ws >>= λ _. at exits.next vs)
+      (extends o.extends q.extends) r q.below
+      (λ y g m vs s i. all_evaluated q y g m vs s i (λ ws. target_of y.functions Standard >>= λ to. print_by y.functions form to ws >>= λ _. place_in y m exits.next vs)
+      (λ ws t many k. standard_at o y (grows q.extends.grows g) m ws vs t (many ∙ sym is)))
+      (λ functions at vs s.
+      simple_then functions (leave_by exits at vs) s (Print form list Standard)
+      ∙ print_then functions (leave_by exits at vs) s form list Standard
+      ∙ ap (λ (values : Run (List Value)). (spend >>= λ _. values >>= λ ws. target_of functions Standard >>= λ to. print_by functions form to ws >>= λ _. at exits.next vs) s) (same_values functions list))
+
+  -- a field whose number is read where it stands
+  pub field_print_built : {a b c d : Builder} {list : PrintList} {y : Expr} {operand : Operand} {exits : Exits} {i j : ℕ} → Stands exits.next a → listed list ≡ Cons (Field y) Nil → FindsAnOperand kinds parameters a b operand y → Pushes b c (n.PrintField operand exits.next) i
+      → Pushes c d (n.Effect e.Spend i) j → Builds kinds parameters a d j (Execute (Simple (Print form.Print list Standard)) exits)
+  unfolding eval target_of
+  field_print_built {list = list} {y = y} {operand = operand} {exits = exits} h is f q r =
+      let o = placed q (still f.extends h).below in
+      let print : Functions → (ℕ → Cont) → List Value → List Value → Run Value = λ functions at vs ws. target_of functions Standard >>= λ to. print_by functions form.Print to ws >>= λ _. at exits.next vs in
+      stepped (Execute (Simple (Print form.Print list Standard)) exits)
+      (λ functions at vs. eval_all functions [] (listed list) >>= print functions at vs)
+      (extends f.extends o.extends) r o.below
+      (λ p g m vs s i.
+      let field = λ (x : Value). number_of x >>= λ k. read_field k in
+      let line = λ (w : Value). print_line 0 (w ∷ []) in
+      let rest = λ (_ : Unit {0}). place_in p m exits.next vs in
+      at_once (o.is p g m) vs s
+      ∙ assoc_at (field_at p.tables.names operand) line rest s
+      ∙ first_same (field_at p.tables.names operand) (eval p.functions (Field y)) (λ w. line w >>= rest) s (first_same (operand_value p.tables.names operand) (eval p.functions y) field s (f.is.is p (grows o.extends.grows g) m s i))
+      ∙ later_same (eval p.functions (Field y)) (λ w. line w >>= rest) (λ w. eval_all p.functions [] Nil >>= λ ws. print p.functions (place_in p m) vs (w ∷ ws)) s
+      (λ w t. sym (given 0 (λ to. print_line to (w ∷ []) >>= rest) t) ∙ sym (none_first p.functions (λ ws. print p.functions (place_in p m) vs (w ∷ ws)) t))
+      ∙ sym (all_first p.functions (Field y) Nil (print p.functions (place_in p m) vs) s)
+      ∙ ap (λ es. (eval_all p.functions [] es >>= print p.functions (place_in p m) vs) s) (sym is))
+      (λ functions at vs s.
+      simple_then functions (leave_by exits at vs) s (Print form.Print list Standard)
+      ∙ print_then functions (leave_by exits at vs) s form.Print list Standard
+      ∙ ap (λ (values : Run (List Value)). (spend >>= λ _. values >>= print functions at vs) s) (same_values functions list))
+
+  pub redirected_built : {a b c d f : Builder} {form : PrintForm} {list : PrintList} {way : Redirection} {x : Expr} {exits : Exits} {count i j k l : ℕ} → Stands exits.next a → count ≡ count_of (listed list)
+      → Pushes a b (n.Effect (e.Print form count (Some way)) exits.next) l → Builds kinds parameters b c k (Evaluate x l) → Builds kinds parameters c d i (EvaluateAll (listed list) k) → Pushes d f (n.Effect e.Spend i) j
+      → Builds kinds parameters a f j (Execute (Simple (Print form list (Redirected way x))) exits)
+  redirected_built {form = form} {list = list} {way = way} {x = x} {exits = exits} h is p t q r =
+      let o = placed p h.below in
+      let print : Functions → (ℕ → Cont) → List Value → List Value → ℕ → Run Value = λ functions at vs ws to. print_by functions form to ws >>= λ _. at exits.next vs in
+      stepped (Execute (Simple (Print form list (Redirected way x))) exits)
+      (λ functions at vs. eval_all functions [] (listed list) >>= λ ws. target_of functions (Redirected way x) >>= λ to. print functions at vs ws to)
+      (extends o.extends (extends t.extends q.extends)) r q.below
+      (λ y g m vs s i. all_evaluated q y g m vs s i (λ ws. target_of y.functions (Redirected way x) >>= λ to. print y.functions (place_in y m) vs ws to)
+      (λ ws u many k.
+      evaluated t y (grows q.extends.grows g) m (reverse ws ++ vs) u k (λ w. open_target way (str_of w) >>= λ to. print y.functions (place_in y m) vs ws to)
+      (λ w u' _. redirected_at o y (grows t.extends.grows (grows q.extends.grows g)) m w ws vs u' (many ∙ sym is))
+      ∙ sym (target_then y.functions way x (print y.functions (place_in y m) vs ws) u)))
+      (λ functions at vs s.
+      simple_then functions (leave_by exits at vs) s (Print form list (Redirected way x))
+      ∙ print_then functions (leave_by exits at vs) s form list (Redirected way x)
+      ∙ ap (λ (values : Run (List Value)). (spend >>= λ _. values >>= λ ws. target_of functions (Redirected way x) >>= λ to. print functions at vs ws to) s) (same_values functions list))
+
+  -- deletions
+
+  pub delete_built : {a b c d : Builder} {x : List ℕ} {es : Exprs} {position : Array} {exits : Exits} {i j l : ℕ} → Stands exits.next a → IsArrayOf kinds parameters position x → Pushes a b (n.Effect (e.Delete position) exits.next) l
+      → Builds kinds parameters b c i (EvaluateKey es l) → Pushes c d (n.Effect e.Spend i) j → Builds kinds parameters a d j (Execute (Simple (Delete x es)) exits)
+  delete_built {x = x} {es = es} {position = position} {exits = exits} h is p q r =
+      let o = placed p h.below in
+      stepped (Execute (Simple (Delete x es)) exits) (λ functions at vs. key_of functions [] es >>= λ key. delete_element x key >>= λ _. at exits.next vs) (extends o.extends q.extends) r q.below
+      (λ y g m vs s i.
+      let rest : List ℕ → Run Value = λ key. delete_element x key >>= λ _. place_in y m exits.next vs in
+      q.is y g m vs s i
+      ∙ later_in _ _ s m (keeps_key_value y.functions y.calls.keep es) i (λ w t j.
+      at_once (o.is y (grows q.extends.grows g) m) (w ∷ vs) t
+      ∙ first_same (delete_at position (str_of w)) (delete_element x (str_of w)) (λ _. place_in y m exits.next vs) t (sym (deletes_element position x t (is.is y m t j) (str_of w))))
+      ∙ keyed y.functions es rest s)
+      (λ functions at vs s. simple_then functions (leave_by exits at vs) s (Delete x es) ∙ delete_then functions (leave_by exits at vs) s x es)
+
+  pub delete_all_built : {a b c : Builder} {x : List ℕ} {position : Array} {exits : Exits} {i j : ℕ} → Stands exits.next a → IsArrayOf kinds parameters position x → Pushes a b (n.Effect (e.Clear position) exits.next) i → Pushes b c (n.Effect e.Spend i) j
+      → Builds kinds parameters a c j (Execute (Simple (DeleteAll x)) exits)
+  delete_all_built {x = x} {position = position} {exits = exits} h is p r =
+      let o = placed p h.below in
+      stepped (Execute (Simple (DeleteAll x)) exits) (λ functions at vs. clear_array x >>= λ _. at exits.next vs) o.extends r o.below
+      (λ y g m vs s i. at_once (o.is y g m) vs s ∙ first_same (clear_at position) (clear_array x) (λ _. place_in y m exits.next vs) s (sym (clears_array position x s (is.is y m s i))))
+      (λ functions at vs s. simple_then functions (leave_by exits at vs) s (DeleteAll x) ∙ delete_all_then functions (leave_by exits at vs) s x)

@@ -1,0 +1,44 @@
+-- Expressions that only read.
+use Rattle.std.specs.Prelude.{Bool, true, false, ◌&&◌}
+use Rattle.awk_lex.specs.declared.token.BuiltIn.{BuiltIn as BuiltInName}
+use Rattle.awk_lex.specs.declared.token.BuiltIn.TheVariants as f
+use Rattle.awk_grammar.specs.declared.tree.BinaryOperator.TheVariants.{Concatenate}
+use Rattle.awk_grammar.specs.Tree.{Expr, Number, String, Ere, Name, Element, Field, Group, BuiltIn, Length, Unary, Binary, Membership, ListMembership, Conditional, Exprs, Nil, Cons}
+use Rattle.awk_resolve.specs.support.Operands.{is_strict}
+
+abbrev pub is_of_values : BuiltInName → Bool
+is_of_values f.Substr = true
+is_of_values f.Index = true
+is_of_values f.Sprintf = true
+is_of_values f.ToLower = true
+is_of_values f.ToUpper = true
+is_of_values f.Int = true
+is_of_values g = false
+
+-- they change no variable and no record; they may make elements
+abbrev mutual
+  pub only_reads : Expr → Bool
+  only_reads (Number n) = true
+  only_reads (String text) = true
+  only_reads (Ere text) = true
+  only_reads (Name x) = true
+  only_reads Length = true
+  only_reads (Field e) = only_reads e
+  only_reads (Group e) = only_reads e
+  only_reads (Unary o e) = only_reads e
+  only_reads (Membership e x) = only_reads e
+  only_reads (Element x es) = all_read es
+  only_reads (ListMembership es x) = all_read es
+  only_reads (BuiltIn g es) = is_of_values g && all_read es
+  only_reads (Binary o a b) = is_strict o && (only_reads a && only_reads b)
+  only_reads (Conditional c a b) = only_reads c && (only_reads a && only_reads b)
+  only_reads e = false
+
+  pub all_read : Exprs → Bool
+  all_read Nil = true
+  all_read (Cons e es) = only_reads e && all_read es
+
+-- so do the parts of a concatenation behind its first
+abbrev pub parts_read : Expr → Bool
+parts_read (Binary Concatenate a b) = only_reads b && parts_read a
+parts_read e = true

@@ -1,0 +1,188 @@
+// Built-in functions as nodes.
+
+ghost use Rattle.std.specs.Prelude.{◌≡◌, IfOk};
+ghost use Rattle.awk_grammar.specs.Tree as tree;
+ghost use Rattle.awk_grammar.specs.View.{exprs_of};
+ghost use Rattle.awk_resolve.specs.support.Builds.{Stands, Evaluate};
+ghost use Rattle.awk_resolve.specs.support.Operands.{split_by, takes_one, strict_node, substitution};
+ghost use Rattle.awk_resolve.specs.support.Scopes.{Builds};
+
+use crate::builder::{Builder, next_number};
+use crate::calls::name_in;
+use crate::node::{SplitBy, ValueNode};
+use crate::scope::Scope;
+use awk_grammar::tree::Expr;
+use awk_lex::token::BuiltIn;
+use std::alloc::AllocError;
+
+/// What separates the pieces, by the ERE that stands there, or by a value.
+fn split_by(pattern: Option<u32>) -> SplitBy
+    ensures { result ≡ split_by pattern }
+{
+    match pattern {
+        Some(number) => SplitBy::Ere(number),
+        None => SplitBy::Value,
+    }
+}
+
+/// Whether the function takes one value, as `close` and `system` do.
+fn takes_one(function: BuiltIn) -> bool
+    ensures { result ≡ takes_one function }
+{
+    match function {
+        BuiltIn::Close => true,
+        BuiltIn::System => true,
+        _ => false,
+    }
+}
+
+/// What a function makes of so many values.
+fn strict_node(function: BuiltIn, count: u32) -> ValueNode
+    ensures { result ≡ strict_node function count }
+{
+    match function {
+        BuiltIn::Close => ValueNode::Close,
+        BuiltIn::System => ValueNode::System,
+        _ => ValueNode::Apply(function, count),
+    }
+}
+
+// The functions below know the numbers of arguments that the grammar has; a call with another one is never parsed.
+impl Builder {
+    /// `length`
+    #[cycle(expressions)]
+    fn lower_length(&mut self, scope: &Scope, list: &[Expr], next: u32) -> Result<u32, AllocError>
+        requires { Stands next self.old }
+        ensures { IfOk result (λ place. Builds scope.now self.old self.new place (Evaluate (tree.BuiltIn BuiltIn.Length (exprs_of list.now)) next)) }
+    {
+        match list {
+            [] => self.push_value(ValueNode::RecordLength, next),
+            [e] => {
+                if let Some(array) = scope.measured(e) {
+                    return self.push_value(ValueNode::CountElements(array), next);
+                }
+                let length = self.push_value(ValueNode::Apply(BuiltIn::Length, 1), next)?;
+                self.lower(scope, e, length)
+            }
+            _ => Err(AllocError),
+        }
+    }
+
+    /// `fflush`
+    #[cycle(expressions)]
+    fn lower_flush(&mut self, scope: &Scope, list: &[Expr], next: u32) -> Result<u32, AllocError>
+        requires { Stands next self.old }
+        ensures { IfOk result (λ place. Builds scope.now self.old self.new place (Evaluate (tree.BuiltIn BuiltIn.Fflush (exprs_of list.now)) next)) }
+    {
+        match list {
+            [] => self.push_value(ValueNode::FlushAll, next),
+            [name] => {
+                let flush = self.push_value(ValueNode::Flush, next)?;
+                self.lower(scope, name, flush)
+            }
+            _ => Err(AllocError),
+        }
+    }
+
+    /// `match`
+    #[cycle(expressions)]
+    fn lower_match(&mut self, scope: &Scope, list: &[Expr], next: u32) -> Result<u32, AllocError>
+        requires { Stands next self.old }
+        ensures { IfOk result (λ place. Builds scope.now self.old self.new place (Evaluate (tree.BuiltIn BuiltIn.Match (exprs_of list.now)) next)) }
+    {
+        let [text, pattern] = list else {
+            return Err(AllocError);
+        };
+        let number = self.pattern_of(pattern)?;
+        let found = self.push_value(ValueNode::Match(number), next)?;
+        let right = self.lower_unless_ere(scope, pattern, found)?;
+        self.lower(scope, text, right)
+    }
+
+    /// `split`
+    #[cycle(expressions)]
+    fn lower_split(&mut self, scope: &Scope, list: &[Expr], next: u32) -> Result<u32, AllocError>
+        requires { Stands next self.old }
+        ensures { IfOk result (λ place. Builds scope.now self.old self.new place (Evaluate (tree.BuiltIn BuiltIn.Split (exprs_of list.now)) next)) }
+    {
+        match list {
+            [text, array] => {
+                let array = scope.array_of(name_in(array))?;
+                let by = SplitBy::FieldSeparator;
+                let split = self.push_value(ValueNode::Split(array, by), next)?;
+                self.lower(scope, text, split)
+            }
+            [text, array, separator] => {
+                let array = scope.array_of(name_in(array))?;
+                let by = split_by(self.pattern_of(separator)?);
+                let split = self.push_value(ValueNode::Split(array, by), next)?;
+                let right = self.lower_unless_ere(scope, separator, split)?;
+                self.lower(scope, text, right)
+            }
+            _ => Err(AllocError),
+        }
+    }
+
+    /// `sub` and `gsub`
+    #[cycle(expressions)]
+    fn lower_substitute(
+        &mut self,
+        scope: &Scope,
+        all: bool,
+        list: &[Expr],
+        next: u32,
+    ) -> Result<u32, AllocError>
+        requires { Stands next self.old }
+        ensures { IfOk result (λ place. Builds scope.now self.old self.new place (Evaluate (tree.BuiltIn (substitution all) (exprs_of list.now)) next)) }
+    {
+        match list {
+            [pattern, replacement] => {
+                let number = self.pattern_of(pattern)?;
+                let substitute = self.push_value(ValueNode::Substitute(all, number, None), next)?;
+                let right = self.lower(scope, replacement, substitute)?;
+                self.lower_unless_ere(scope, pattern, right)
+            }
+            [pattern, replacement, place] => {
+                let target = self.place_of(scope, place)?;
+                let number = self.pattern_of(pattern)?;
+                let node = ValueNode::Substitute(all, number, Some(target));
+                let substitute = self.push_value(node, next)?;
+                let old = self.push_value(ValueNode::Load(target), substitute)?;
+                let operand = self.lower_operand(scope, place, old)?;
+                let right = self.lower(scope, replacement, operand)?;
+                self.lower_unless_ere(scope, pattern, right)
+            }
+            _ => Err(AllocError),
+        }
+    }
+
+    /// A call of a built-in function.
+    #[cycle(expressions)]
+    pub(crate) fn lower_built_in(
+        &mut self,
+        scope: &Scope,
+        function: BuiltIn,
+        list: &[Expr],
+        next: u32,
+    ) -> Result<u32, AllocError>
+        requires { Stands next self.old }
+        ensures { IfOk result (λ place. Builds scope.now self.old self.new place (Evaluate (tree.BuiltIn function (exprs_of list.now)) next)) }
+    {
+        match function {
+            BuiltIn::Length => self.lower_length(scope, list, next),
+            BuiltIn::Fflush => self.lower_flush(scope, list, next),
+            BuiltIn::Match => self.lower_match(scope, list, next),
+            BuiltIn::Split => self.lower_split(scope, list, next),
+            BuiltIn::Sub => self.lower_substitute(scope, false, list, next),
+            BuiltIn::Gsub => self.lower_substitute(scope, true, list, next),
+            _ => {
+                if takes_one(function) && list.len() != 1 {
+                    return Err(AllocError);
+                }
+                let count = next_number(list.len())?;
+                let last = self.push_value(strict_node(function, count), next)?;
+                self.lower_all(scope, list, last)
+            }
+        }
+    }
+}

@@ -1,0 +1,95 @@
+// Expressions that are tested, as nodes.
+
+ghost use Rattle.std.specs.Prelude.{◌≡◌, true, IfOk};
+ghost use Rattle.awk_grammar.specs.Tree.{Binary};
+ghost use Rattle.awk_grammar.specs.View.{expr_of};
+ghost use Rattle.awk_resolve.specs.support.Builds.{Stands, Decide};
+ghost use Rattle.awk_resolve.specs.support.Operands.{is_not, is_strict};
+ghost use Rattle.awk_resolve.specs.support.Scopes.{Builds};
+
+use crate::builder::Builder;
+use crate::expressions::{is_and, is_or, is_strict};
+use crate::node::Node;
+use crate::scope::Scope;
+use awk_grammar::tree::{BinaryOperator, Expr, UnaryOperator};
+use std::alloc::AllocError;
+
+fn is_not(o: UnaryOperator) -> bool
+    ensures { result ≡ is_not o }
+{
+    match o {
+        UnaryOperator::Not => true,
+        _ => false,
+    }
+}
+
+impl Builder {
+    /// An expression is tested: at one place it goes on where it is true, and at the other one where it isn't.
+    ///
+    /// # Errors
+    ///
+    /// Where memory is refused, or places or numbers run out.
+    #[cycle(expressions)]
+    pub fn lower_test(
+        &mut self,
+        scope: &Scope,
+        e: &Expr,
+        here: u32,
+        other: u32,
+    ) -> Result<u32, AllocError>
+        requires here { Stands here self.old }
+        requires other { Stands other self.old }
+        ensures { IfOk result (λ place. Builds scope.now self.old self.new place (Decide (expr_of e.now) here other)) }
+    {
+        match e {
+            Expr::Group(e) => self.lower_test(scope, e, here, other),
+            Expr::Ere(ere) => {
+                let number = self.ere_of(&ere.text)?;
+                self.push(Node::MatchRecord(number, here, other))
+            }
+            Expr::Unary(o, e) if is_not(*o) => self.lower_test(scope, e, other, here),
+            Expr::Binary(o, a, b) if is_and(*o) => {
+                let second = self.lower_test(scope, b, here, other)?;
+                self.lower_test(scope, a, second, other)
+            }
+            Expr::Binary(o, a, b) if is_or(*o) => {
+                let second = self.lower_test(scope, b, here, other)?;
+                self.lower_test(scope, a, here, second)
+            }
+            Expr::Binary(o, a, b) if is_strict(*o) => {
+                self.lower_comparison(scope, *o, a, b, here, other)
+            }
+            _ => {
+                let test = self.push(Node::Test(here, other))?;
+                self.lower(scope, e, test)
+            }
+        }
+    }
+
+    /// What an operator makes of two values is tested.
+    #[cycle(expressions)]
+    fn lower_comparison(
+        &mut self,
+        scope: &Scope,
+        o: BinaryOperator,
+        a: &Expr,
+        b: &Expr,
+        here: u32,
+        other: u32,
+    ) -> Result<u32, AllocError>
+        requires strict { is_strict o ≡ true }
+        requires here { Stands here self.old }
+        requires other { Stands other self.old }
+        ensures { IfOk result (λ place. Builds scope.now self.old self.new place (Decide (Binary o (expr_of a.now) (expr_of b.now)) here other)) }
+    {
+        let Some(right) = self.operand_of(scope, b)? else {
+            let test = self.push(Node::Test(here, other))?;
+            return self.lower_binary(scope, o, a, b, test);
+        };
+        let Some(left) = self.operand_of(scope, a)? else {
+            let test = self.push(Node::CompareWith(o, right, here, other))?;
+            return self.lower(scope, a, test);
+        };
+        self.push(Node::Compare(o, left, right, here, other))
+    }
+}

@@ -1,0 +1,64 @@
+// Expressions that only read: no variable and no record is another one behind them.
+
+ghost use Rattle.std.specs.Prelude.{◌≡◌, true};
+ghost use Rattle.awk_grammar.specs.View.{expr_of, exprs_of};
+ghost use Rattle.awk_resolve.specs.support.Readings.{is_of_values, only_reads, all_read, parts_read};
+
+use crate::expressions::is_strict;
+use awk_grammar::tree::{BinaryOperator, Expr};
+use awk_lex::token::BuiltIn;
+
+/// Whether a built-in function is one of values alone.
+fn is_of_values(function: BuiltIn) -> bool
+    ensures { result ≡ is_of_values function }
+{
+    match function {
+        BuiltIn::Substr
+        | BuiltIn::Index
+        | BuiltIn::Sprintf
+        | BuiltIn::ToLower
+        | BuiltIn::ToUpper
+        | BuiltIn::Int => true,
+        _ => false,
+    }
+}
+
+/// Whether an expression only reads, as far as its form tells. It may make elements.
+#[cycle(readings)]
+fn only_reads(e: &Expr) -> bool
+    ensures { result ≡ true → only_reads (expr_of e.now) ≡ true }
+{
+    match e {
+        Expr::Number(_) | Expr::String(_) | Expr::Ere(_) | Expr::Name(_) | Expr::Length => true,
+        Expr::Field(e) | Expr::Group(e) => only_reads(e),
+        Expr::Unary(_, e) | Expr::Membership(e, _) => only_reads(e),
+        Expr::Element(_, list) | Expr::ListMembership(list, _) => all_read(list),
+        Expr::BuiltIn(function, list) => is_of_values(*function) && all_read(list),
+        Expr::Binary(o, a, b) => is_strict(*o) && only_reads(a) && only_reads(b),
+        Expr::Conditional(c, a, b) => only_reads(c) && only_reads(a) && only_reads(b),
+        _ => false,
+    }
+}
+
+/// Whether each expression of a list only reads.
+#[cycle(readings)]
+fn all_read(list: &[Expr]) -> bool
+    ensures { result ≡ true → all_read (exprs_of list.now) ≡ true }
+{
+    for e in list {
+        if !only_reads(e) {
+            return false;
+        }
+    }
+    true
+}
+
+/// Whether the parts of a concatenation behind its first only read.
+pub(crate) fn parts_read(e: &Expr) -> bool
+    ensures { result ≡ true → parts_read (expr_of e.now) ≡ true }
+{
+    match e {
+        Expr::Binary(BinaryOperator::Concatenate, a, b) => only_reads(b) && parts_read(a),
+        _ => true,
+    }
+}

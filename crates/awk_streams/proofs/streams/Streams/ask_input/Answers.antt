@@ -1,0 +1,57 @@
+use Rattle.std.proofs.Common.{◌≡◌, [], ◌∷◌, ◌++◌, Some, None, refl, ap, ◌∙◌}
+use Rattle.awk_world.specs.definitions.Log.{OpenedInput}
+use Rattle.awk_world.proofs.Exist.{opens_input-self}
+use Rattle.awk_streams.specs.definitions.Streams.{StreamsView}
+use Rattle.awk_streams.specs.support.Asks.{new_input, is_input_open}
+use Rattle.awk_streams.specs.support.Places.{is_named_input}
+use Rattle.awk_streams.proofs.NamesLemmas.{not_found, is_found}
+use Rattle.awk_streams.proofs.OpenLemmas.{asked_open, asked_sound, input_items, grants_input, new_input_sound, no_input, refused_open, refused_sound, refuses_input, empty_pending}
+use Rattle.awk_streams.proofs.streams.Streams.ask_input.Goals as goal
+
+pub returns-in-Ok-clause-is_open : goal.returns-in-Ok-clause-is_open
+returns-in-Ok-clause-is_open g c =
+    let w = g.W.World in
+    let s : StreamsView = record { main = c.self.inside.main; output = c.self.inside.output; error = c.self.inside.error; named = c.self.inside.named.items } in
+    let items : c.add.new.named.items ≡ c.args.self.now.named ++ new_input c.args.kind c.args.name.now c.in-Ok.id ∷ [] =
+    input_items c.reserve.new.self.items c.args.self.now.named c.add.new.named.items c.args.kind c.args.name.now c.in_ok-name_copy.name_copy c.in-Ok.id c.new-pending.result c.add.ensures (c.in_ok-reserve.ensures.items ∙ ap (λ (v : StreamsView). v.named) c.self.view_is) c.in_ok-name_copy.ensures.cases
+    (empty_pending c.new-pending.result c.new-pending.ensures.bytes c.new-pending.ensures.ending) in
+    λ _. ap (is_input_open c.args.kind c.args.name.now) items ∙ is_found (is_named_input c.args.kind c.args.name.now) c.args.self.now.named [] (new_input c.args.kind c.args.name.now c.in-Ok.id) (opens_input-self c.args.kind c.args.name.now)
+
+pub returns-in-Ok-clause-open : goal.returns-in-Ok-clause-open
+returns-in-Ok-clause-open g c =
+    let w = g.W.World in
+    let s : StreamsView = record { main = c.self.inside.main; output = c.self.inside.output; error = c.self.inside.error; named = c.self.inside.named.items } in
+    let items : c.add.new.named.items ≡ c.args.self.now.named ++ new_input c.args.kind c.args.name.now c.in-Ok.id ∷ [] =
+    input_items c.reserve.new.self.items c.args.self.now.named c.add.new.named.items c.args.kind c.args.name.now c.in_ok-name_copy.name_copy c.in-Ok.id c.new-pending.result c.add.ensures (c.in_ok-reserve.ensures.items ∙ ap (λ (v : StreamsView). v.named) c.self.view_is) c.in_ok-name_copy.ensures.cases
+    (empty_pending c.new-pending.result c.new-pending.ensures.bytes c.new-pending.ensures.ending) in
+    asked_open (w.state c.args.world.now) (w.state c.open_input.new.self) c.args.self.now s c.add.new.named.items c.in-Ok.id (new_input c.args.kind c.args.name.now c.in-Ok.id) c.self.view_is items c.requires.open c.in-Ok.ensures.fresh c.in-Ok.ensures.opens refl
+
+pub returns-in-Ok-clause-sound : goal.returns-in-Ok-clause-sound
+returns-in-Ok-clause-sound g c = λ t.
+    let w = g.W.World in
+    let s : StreamsView = record { main = c.self.inside.main; output = c.self.inside.output; error = c.self.inside.error; named = c.self.inside.named.items } in
+    let items : c.add.new.named.items ≡ c.args.self.now.named ++ new_input c.args.kind c.args.name.now c.in-Ok.id ∷ [] =
+    input_items c.reserve.new.self.items c.args.self.now.named c.add.new.named.items c.args.kind c.args.name.now c.in_ok-name_copy.name_copy c.in-Ok.id c.new-pending.result c.add.ensures (c.in_ok-reserve.ensures.items ∙ ap (λ (v : StreamsView). v.named) c.self.view_is) c.in_ok-name_copy.ensures.cases
+    (empty_pending c.new-pending.result c.new-pending.ensures.bytes c.new-pending.ensures.ending) in
+    asked_sound (w.state c.args.world.now) (w.state c.open_input.new.self) c.args.self.now s c.add.new.named.items c.in-Ok.id (OpenedInput c.args.kind c.args.name.now (Some c.in-Ok.id)) (new_input c.args.kind c.args.name.now c.in-Ok.id) c.self.view_is items c.requires.open (c.requires.sound t)
+    (grants_input c.in-Ok.id c.args.kind c.args.name.now (w.state c.args.world.now).log) c.in-Ok.ensures.fresh c.in-Ok.ensures.opens (rw c.as_slice.ensures at (c.in-Ok.ensures.logs t).0) (new_input_sound c.args.kind c.args.name.now c.in-Ok.id (w.state c.args.world.now).log)
+    (no_input c.args.kind c.args.name.now c.args.self.now.named (not_found _ c.args.self.now.named c.requires.lacks)) c.requires.few
+
+pub returns-in-Err-Failed-clause-open : goal.returns-in-Err-Failed-clause-open
+returns-in-Err-Failed-clause-open g c =
+    let w = g.W.World in
+    let s : StreamsView = record { main = c.self.inside.main; output = c.self.inside.output; error = c.self.inside.error; named = c.self.inside.named.items } in
+    refused_open (w.state c.args.world.now) (w.state c.open_input.new.self) c.args.self.now s c.reserve.new.self.items c.self.view_is c.in_ok-reserve.ensures.items c.requires.open c.in-Err-Failed.ensures.err
+
+pub returns-in-Err-Failed-clause-sound : goal.returns-in-Err-Failed-clause-sound
+returns-in-Err-Failed-clause-sound g c = λ t.
+    let w = g.W.World in
+    let s : StreamsView = record { main = c.self.inside.main; output = c.self.inside.output; error = c.self.inside.error; named = c.self.inside.named.items } in
+    refused_sound (w.state c.args.world.now) (w.state c.open_input.new.self) c.args.self.now s c.reserve.new.self.items (OpenedInput c.args.kind c.args.name.now None) c.self.view_is c.in_ok-reserve.ensures.items (c.requires.sound t)
+    (refuses_input c.args.kind c.args.name.now (w.state c.args.world.now).log) c.in-Err-Failed.ensures.err (rw (c.in-Err-Failed.field-0-is, c.as_slice.ensures) at (c.in-Err-Failed.ensures.logs t)).0
+
+pub returns-clause-open : goal.returns-clause-open
+returns-clause-open g c =
+    let w = g.W.World in
+    let s : StreamsView = record { main = c.self.inside.main; output = c.self.inside.output; error = c.self.inside.error; named = c.self.inside.named.items } in
+    refused_open (w.state c.args.world.now) (w.state c.open_input.new.self) c.args.self.now s c.reserve.new.self.items c.self.view_is c.in_ok-reserve.ensures.items c.requires.open c.in-Err-Memory.ensures.err

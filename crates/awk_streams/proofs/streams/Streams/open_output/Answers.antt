@@ -1,0 +1,45 @@
+use Rattle.std.proofs.Common.{◌≡◌, ◌∙◌, ◌<◌, Some, None, ℕ, sym, ap, subst}
+use Rattle.std.specs.List.{position}
+use Rattle.std.proofs.lemmas.Result.{err_from_is_err_and}
+use Rattle.awk_streams.specs.definitions.Streams.{StreamsView}
+use Rattle.awk_streams.specs.support.Places.{is_named_output}
+use Rattle.awk_streams.proofs.StreamsLemmas.{but_held_numbered, but_held_length}
+use Rattle.awk_streams.proofs.OutputCallLemmas.{output_found, output_target, output_full, output_asked, output_place}
+use Rattle.awk_streams.proofs.OpensLemmas.{same_output_place}
+use Rattle.awk_streams.proofs.streams.Streams.open_output.Goals as goal
+
+pub returns-in-Some-clause-target : goal.returns-in-Some-clause-target
+returns-in-Some-clause-target g c =
+    let place : position (is_named_output c.args.kind c.args.name.now) c.args.self.now.named ≡ Some c.in-Some.place =
+    output_place c.args.kind c.args.name.now c.as_slice.result.now c.args.self.now.named c.deref.result.now c.as_slice.ensures (c.deref.ensures.value ∙ ap (λ (v : StreamsView). v.named) c.self.view_is) ∙ (sym c.find_output.ensures ∙ c.in-Some.is) in
+    output_target c.args.kind c.args.name.now c.args.self.now c.in-Some.place place
+
+pub returns-in-Some-clause-told : goal.returns-in-Some-clause-told
+returns-in-Some-clause-told g c = λ t.
+    let place : position (is_named_output c.args.kind c.args.name.now) c.args.self.now.named ≡ Some c.in-Some.place =
+    output_place c.args.kind c.args.name.now c.as_slice.result.now c.args.self.now.named c.deref.result.now c.as_slice.ensures (c.deref.ensures.value ∙ ap (λ (v : StreamsView). v.named) c.self.view_is) ∙ (sym c.find_output.ensures ∙ c.in-Some.is) in
+    output_found c.args.kind c.args.name.now c.args.mode (g.W.World.state c.args.world.now) c.args.self.now c.in-Some.place (c.requires.sound t) place
+
+pub returns-in_err-check_count-in-None-clause-told : goal.returns-in_err-check_count-in-None-clause-told
+returns-in_err-check_count-in-None-clause-told g c = λ t.
+    let none : position (is_named_output c.args.kind c.args.name.now) c.args.self.now.named ≡ None =
+    output_place c.args.kind c.args.name.now c.as_slice.result.now c.args.self.now.named c.deref.result.now c.as_slice.ensures (c.deref.ensures.value ∙ ap (λ (v : StreamsView). v.named) c.self.view_is) ∙ (sym c.find_output.ensures ∙ c.in-None.is) in
+    let p = err_from_is_err_and c.from_residual.result c.from_residual.ensures.1 in
+    rw (p.1, p.2)
+    (output_full c.args.kind c.args.name.now c.args.mode (g.W.World.state c.args.world.now) c.args.self.now c.in_err-check_count-in-None.field-0.0 none c.in_err-check_count-in-None.ensures.full c.in_err-check_count-in-None.ensures.fault)
+
+pub ask_output-requires-clause-lacks : goal.ask_output-requires-clause-lacks
+ask_output-requires-clause-lacks g c =
+    same_output_place c.args.kind c.args.name.now c.args.self.now.named c.bring_before.new.self.named (but_held_numbered c.args.self.now.named c.bring_before.new.self.named c.in_ok-bring_before-in-None.ensures.same)
+    ∙ (output_place c.args.kind c.args.name.now c.as_slice.result.now c.args.self.now.named c.deref.result.now c.as_slice.ensures (c.deref.ensures.value ∙ ap (λ (v : StreamsView). v.named) c.self.view_is) ∙ (sym c.find_output.ensures ∙ c.in-None.is))
+
+pub ask_output-requires-clause-few : goal.ask_output-requires-clause-few
+ask_output-requires-clause-few g c = subst (λ (n : ℕ). n < 200) (sym (but_held_length c.args.self.now.named c.bring_before.new.self.named c.in_ok-bring_before-in-None.ensures.same)) c.in_ok-check_count-in-None.ensures.few
+
+pub returns-in_ok-bring_before-in-None-clause-told : goal.returns-in_ok-bring_before-in-None-clause-told
+returns-in_ok-bring_before-in-None-clause-told g c = λ t.
+    let none : position (is_named_output c.args.kind c.args.name.now) c.args.self.now.named ≡ None =
+    output_place c.args.kind c.args.name.now c.as_slice.result.now c.args.self.now.named c.deref.result.now c.as_slice.ensures (c.deref.ensures.value ∙ ap (λ (v : StreamsView). v.named) c.self.view_is) ∙ (sym c.find_output.ensures ∙ c.in-None.is) in
+    let w = g.W.World in
+    output_asked c.args.kind c.args.name.now c.args.mode c.is_output_command.result (w.state c.args.world.now) (w.state c.bring_before.new.world) (w.state c.ask_output.new.world) c.args.self.now c.bring_before.new.self c.ask_output.new.self c.in_ok-bring_before-in-None.field-0 c.ask_output.result c.is_output_command.ensures none
+    c.in_ok-check_count-in-None.ensures.few c.in_ok-bring_before-in-None.ensures.open c.in_ok-bring_before-in-None.ensures.main c.in_ok-bring_before-in-None.ensures.same (c.in_ok-bring_before-in-None.ensures.told t) (c.ask_output.ensures.told t)

@@ -1,0 +1,36 @@
+-- What writing and flushing an output comes to.
+use Rattle.std.specs.Prelude.{◌≡◌, ◌⊎◌, ◌≤◌, ℕ, true, List, length, take, is_some, Result, OnOk, OnErr}
+use Rattle.std.specs.Result.{is_ok}
+use Rattle.awk_streams.specs.declared.fault.StreamFault.{StreamFault}
+use Rattle.awk_streams.specs.declared.fault.StreamFault.TheVariants.{Memory, WriteFailed}
+use Rattle.awk_world.specs.declared.world.WorldFault.{WorldFault}
+use Rattle.awk_world.specs.declared.world.WorldFault.TheVariants.{Memory as WorldMemory, Failed}
+use Rattle.awk_world.specs.definitions.WorldState.{WorldState, FailsNow}
+use Rattle.awk_world.specs.definitions.Writes.{GoesOn, Writes, flushed_if}
+use Rattle.awk_world.specs.definitions.Grows.{Grows}
+
+abbrev pub output_fault_of : WorldFault → StreamFault
+output_fault_of WorldMemory = Memory
+output_fault_of Failed = WriteFailed
+
+abbrev pub IsOutputFault : StreamFault → Type 0
+IsOutputFault fault = (fault ≡ Memory) ⊎ (fault ≡ WriteFailed)
+
+-- the bytes were written, or a beginning of them, and then there was a failure
+pub record WritesAll (id : ℕ) (bytes : List ℕ) (before : WorldState) (result : Result (Unit {0}) StreamFault) (after : WorldState) : Type 0 where
+  pub count : ℕ
+  pub within : count ≤ length bytes
+  pub writes : GoesOn (Writes id (take count bytes)) before.log after.log
+  pub all : OnOk result (count ≡ length bytes)
+  pub no_failure : OnOk result (after.first_failure ≡ before.first_failure)
+  pub failure : OnErr result (is_some after.first_failure ≡ true)
+  pub fails : OnErr result (FailsNow before after)
+  pub grows : Grows before after
+
+-- the output was flushed, or there was a failure
+pub record Flushes (id : ℕ) (before : WorldState) (result : Result (Unit {0}) StreamFault) (after : WorldState) : Type 0 where
+  pub adds : after.log ≡ flushed_if (is_ok result) id before.log
+  pub no_failure : OnOk result (after.first_failure ≡ before.first_failure)
+  pub failure : OnErr result (is_some after.first_failure ≡ true)
+  pub fails : OnErr result (FailsNow before after)
+  pub grows : Grows before after

@@ -1,0 +1,32 @@
+-- What printing to an output that holds back comes to.
+use Rattle.std.specs.Prelude.{◌≡◌, ◌≤◌, ℕ, List, [], ◌++◌, length, take, true, is_some, Result, OnOk, OnErr}
+use Rattle.std.specs.Result.{is_ok}
+use Rattle.awk_streams.specs.declared.fault.StreamFault.{StreamFault}
+use Rattle.awk_world.specs.definitions.Log.{Event}
+use Rattle.awk_world.specs.definitions.WorldState.{WorldState, FailsNow}
+use Rattle.awk_world.specs.definitions.Writes.{GoesOn, Writes, flushed_if}
+use Rattle.awk_world.specs.definitions.Grows.{Grows}
+use Rattle.awk_streams.specs.definitions.Outputs.{WritesAll}
+
+-- these bytes were printed behind those that were held back: what is written of both is a beginning, and the rest is held back,
+-- or there was a failure and nothing is
+pub record PrintsOrHolds (id : ℕ) (held bytes : List ℕ) (before : WorldState) (result : Result (Unit {0}) StreamFault) (held' : List ℕ) (after : WorldState) : Type 0 where
+  pub written : List ℕ
+  pub more : List ℕ
+  pub parts : held ++ bytes ≡ written ++ more
+  pub writes : WritesAll id written before result after
+  pub holds : OnOk result (held' ≡ more)
+  pub empty : OnErr result (held' ≡ [])
+
+-- the bytes that were held back are written, or a beginning of them; then the output is flushed, or there was a failure
+pub record WritesAndFlushes (id : ℕ) (held : List ℕ) (before : WorldState) (result : Result (Unit {0}) StreamFault) (after : WorldState) : Type 0 where
+  pub count : ℕ
+  pub within : count ≤ length held
+  pub written : List Event
+  pub writes : GoesOn (Writes id (take count held)) before.log written
+  pub adds : after.log ≡ flushed_if (is_ok result) id written
+  pub all : OnOk result (count ≡ length held)
+  pub no_failure : OnOk result (after.first_failure ≡ before.first_failure)
+  pub failure : OnErr result (is_some after.first_failure ≡ true)
+  pub fails : OnErr result (FailsNow before after)
+  pub grows : Grows before after

@@ -1,0 +1,28 @@
+// Runs of commands.
+ghost use Rattle.std.specs.Prelude.{◌≡◌, IfErr};
+ghost use Rattle.awk_streams.specs.definitions.Outputs.{IsOutputFault};
+ghost use Rattle.awk_streams.specs.definitions.Streams.{AreOpen, AreSound};
+ghost use Rattle.awk_streams.specs.definitions.Commands.{RunsCommand};
+
+use super::Streams;
+use crate::fault::StreamFault;
+use crate::output::run_answer;
+use awk_world::World;
+
+impl Streams {
+    /// Runs a command to its end, once all outputs are flushed, and answers the world's number. Fails
+    /// with `Memory` (F1), or `WriteFailed` (F2) where a flush fails; then nothing is run. (POSIX awk,
+    /// Input/Output and General Functions: system)
+    pub fn run<W: World>(&mut self, world: &mut W, command: &[u8]) -> Result<i128, StreamFault>
+        requires open { AreOpen (W.state world.old) self.old }
+        requires sound { W.is_logged → AreSound (W.state world.old) self.old }
+        ensures main { self.new.main ≡ self.old.main }
+        ensures fault { IfErr result IsOutputFault }
+        ensures open { AreOpen (W.state world.new) self.new }
+        ensures sound { W.is_logged → AreSound (W.state world.new) self.new }
+        ensures told { W.is_logged → RunsCommand command.now (W.state world.old) self.old result (W.state world.new) self.new }
+    {
+        self.bring(world)?;
+        run_answer(world.run(command))
+    }
+}
