@@ -12,8 +12,8 @@ use crate::command_line::{CommandLine, is_utf8, read_command_line};
 use crate::options::CommandFault;
 use crate::program_text::program_text;
 use crate::report::{NotRun, report_not_run, report_outcome};
-use awk_streams::World;
 use awk_run::{Assignment, Outcome, Start, execute, status};
+use awk_streams::World;
 use std::alloc::{AllocError, Global};
 
 /// The status where nothing was run.

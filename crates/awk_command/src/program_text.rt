@@ -10,8 +10,8 @@ ghost use Rattle.awk_command.specs.Parts.{ReadsChunk, StaysSound, reason_of};
 
 use crate::command_line::ProgramSource;
 use crate::report::NotRun;
-use awk_streams::{InputKind, World, WorldFault};
 use awk_lex::lexer::LIMIT;
+use awk_streams::{InputKind, World, WorldFault};
 use std::alloc::{AllocError, Global};
 
 /// The most bytes of one reading.

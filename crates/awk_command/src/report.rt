@@ -5,9 +5,9 @@ ghost use Rattle.std.specs.Option.{option_map};
 ghost use Rattle.awk_command.specs.declared.report.NotRun.TheVariants.{Memory, Refused as RefusedFor};
 ghost use Rattle.awk_command.specs.Report.{line_of, ReportsLine, ReportsOutcome, ReportsNotRun};
 
-use awk_streams::{World, print_error};
 use awk_lex::refusal::Refusal;
 use awk_run::{Fault, Outcome, fault_line};
+use awk_streams::{World, print_error};
 use std::alloc::{AllocError, AllocFailed, Global};
 
 const USAGE: &str =

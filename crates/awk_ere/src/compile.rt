@@ -6,10 +6,10 @@ ghost use Rattle.awk_ere.specs.definitions.Limits.{Refused, SpellsWithin};
 ghost use Rattle.awk_ere.specs.definitions.Program.{Compiles};
 ghost use Rattle.awk_ere.specs.support.CompilerResult.{IsCleanText, Builds};
 
-use crate::compiler::Compiler;
-use crate::program::Program;
 use crate::check::check;
+use crate::compiler::Compiler;
 use crate::fault::PatternFault;
+use crate::program::Program;
 use crate::reading::lexer::token_at;
 use crate::token::BYTE_COUNT;
 use std::alloc::Global;

@@ -11,9 +11,9 @@ ghost use Rattle.awk_ere.specs.support.CompilerResult.{Finishes};
 pub mod checkpoint;
 
 use crate::compiler::checkpoint::{Checkpoint, Group, Last};
+use crate::fault::PatternFault;
 use crate::program::{Instruction, Program};
 use crate::repeat::repeat_from;
-use crate::fault::PatternFault;
 use crate::token::{BYTE_COUNT, Repeat, Token};
 use std::alloc::{AllocError, Global};
 

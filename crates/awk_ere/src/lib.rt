@@ -43,6 +43,6 @@ mod token;
 
 pub use class_name::ClassName;
 pub use fault::PatternFault;
-pub use program::{Instruction, Program};
 pub use pattern::Pattern;
+pub use program::{Instruction, Program};
 pub use scratch::Scratch;

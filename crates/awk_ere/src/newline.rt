@@ -4,9 +4,9 @@ ghost use Rattle.std.specs.Prelude.{◌≡◌, ◌==◌, MatchResult};
 ghost use Rattle.awk_ere.specs.definitions.Tree.{class_of, Tree, class, branches, none, next};
 ghost use Rattle.awk_ere.specs.definitions.Means.{Means};
 
+use crate::fault::PatternFault;
 use crate::pattern::Pattern;
 use crate::program::{Instruction, Program};
-use crate::fault::PatternFault;
 use std::alloc::Global;
 
 impl Pattern {

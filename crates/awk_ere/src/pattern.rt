@@ -6,8 +6,8 @@ ghost use Rattle.awk_ere.specs.definitions.Limits.{Refused, SpellsWithin};
 ghost use Rattle.awk_ere.specs.definitions.Means.{Means};
 
 use crate::compile::compile;
-use crate::program::Program;
 use crate::fault::PatternFault;
+use crate::program::Program;
 use std::alloc::Global;
 
 /// A pattern, ready to be searched for.

@@ -9,10 +9,10 @@ ghost use Rattle.awk_ere.specs.support.Table.{IsFor, IsLiteral};
 
 use crate::dfa::cursor::first_state;
 use crate::dfa::table::DEAD;
-use crate::pattern::Pattern;
-use crate::scratch::Scratch;
-use crate::program::Instruction;
 use crate::fault::PatternFault;
+use crate::pattern::Pattern;
+use crate::program::Instruction;
+use crate::scratch::Scratch;
 use memchr::memmem::Finder;
 use std::alloc::Global;
 

@@ -8,10 +8,10 @@ ghost use Rattle.awk_ere.specs.support.Table.{IsFor};
 ghost use Rattle.awk_ere.specs.support.Required.{IsRequired};
 ghost use Rattle.awk_ere.specs.support.RequiredRun as spec;
 
-use crate::pattern::Pattern;
-use crate::scratch::Scratch;
-use crate::program::Instruction;
 use crate::fault::PatternFault;
+use crate::pattern::Pattern;
+use crate::program::Instruction;
+use crate::scratch::Scratch;
 use memchr::memmem::Finder;
 use std::alloc::Global;
 use std::mem::swap;

@@ -5,11 +5,11 @@ ghost use Rattle.awk_ere.specs.support.SimulationStep.{IsStill, AreFor};
 ghost use Rattle.awk_ere.specs.support.Table.{IsFor};
 
 use crate::dfa::table::Table;
+use crate::fault::PatternFault;
 use crate::first_bytes::FirstBytes;
 use crate::pattern::Pattern;
-use crate::simulation::{Input, PositionSet};
 use crate::program::Instruction;
-use crate::fault::PatternFault;
+use crate::simulation::{Input, PositionSet};
 use memchr::memmem::Finder;
 use std::alloc::Global;
 

@@ -9,9 +9,9 @@ ghost use Rattle.awk_ere.specs.definitions.Program.{resolve};
 ghost use Rattle.awk_ere.specs.support.Simulation.{swapped, joined, act, read_off};
 ghost use Rattle.awk_ere.specs.support.SimulationStep.{AreFor, leaves, behind};
 
+use crate::fault::PatternFault;
 use crate::pattern::Pattern;
 use crate::program::Instruction;
-use crate::fault::PatternFault;
 use crate::token::BYTE_COUNT;
 use std::alloc::Global;
 

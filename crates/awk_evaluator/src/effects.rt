@@ -7,11 +7,11 @@ ghost use Rattle.awk_evaluator.specs.Moves.{Acts, Performs, came};
 ghost use Rattle.awk_evaluator.specs.Reading.{PrintsField};
 
 use crate::machine::Machine;
-use awk_streams::World;
-use awk_resolve::node::{EffectNode, Operand};
 use awk_grammar::tree::{PrintForm, Redirection};
+use awk_resolve::node::{EffectNode, Operand};
 use awk_semantics::Halt;
 use awk_storage::Array;
+use awk_streams::World;
 
 impl Machine {
     /// Does what a node does.

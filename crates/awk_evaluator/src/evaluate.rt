@@ -13,12 +13,12 @@ ghost use Rattle.awk_evaluator.specs.Moves.{IsStrict, Evaluates, Moves, PutsFoun
 
 use crate::machine::{Machine, Move};
 use crate::moves::function_of;
-use awk_streams::World;
-use awk_resolve::Plan;
-use awk_resolve::node::ValueNode;
 use awk_grammar::tree::BinaryOperator;
 use awk_lex::token::Operator;
+use awk_resolve::Plan;
+use awk_resolve::node::ValueNode;
 use awk_semantics::Halt;
+use awk_streams::World;
 use awk_value::Value;
 
 impl Machine {

@@ -10,10 +10,10 @@ ghost use Rattle.awk_evaluator.specs.Moves.{IsIdle, Turns, Steps, Ends, Executes
 
 use crate::calls::Calls;
 use crate::operands::Operands;
-use awk_streams::World;
 use awk_resolve::Plan;
 use awk_runtime::Runtime;
 use awk_semantics::Halt;
+use awk_streams::World;
 use awk_value::{Value, is_true};
 
 /// A run: its state, the operands of the active calls, and where their callers go on.

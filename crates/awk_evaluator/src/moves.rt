@@ -9,10 +9,10 @@ ghost use Rattle.awk_evaluator.specs.Rest.{IsSound, AtPlace, AtNode};
 ghost use Rattle.awk_evaluator.specs.Moves.{IsRare, Moves, GivesBack, onward, upward, toward};
 
 use crate::machine::{Machine, Move};
-use awk_streams::World;
 use awk_resolve::node::Node;
 use awk_resolve::{Function, Plan};
 use awk_semantics::Halt;
+use awk_streams::World;
 
 /// The node at a place, if there is one.
 #[inline(always)]

@@ -9,10 +9,10 @@ ghost use Rattle.awk_evaluator.specs.Moves.{Computes};
 ghost use Rattle.awk_evaluator.specs.Reading.{ReadsOperand, AssignsOperand};
 
 use crate::machine::Machine;
-use awk_resolve::node::Operand;
 use awk_functions::operator_of;
 use awk_grammar::tree::BinaryOperator;
 use awk_lex::token::AssignmentOperator;
+use awk_resolve::node::Operand;
 use awk_semantics::Halt;
 use awk_storage::{Place, Variable};
 use awk_value::Value;

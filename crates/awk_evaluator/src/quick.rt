@@ -13,10 +13,10 @@ ghost use Rattle.awk_evaluator.specs.Reading.{Compares, Updates, Increments, Ass
 ghost use Rattle.awk_evaluator.specs.Quick.{Popped, Relates, RelatesWith, AssignsAlike};
 
 use crate::machine::Machine;
-use awk_resolve::node::Operand;
 use awk_functions::{operator_of, relate, relate_numbers};
 use awk_grammar::tree::BinaryOperator;
 use awk_lex::token::{AssignmentOperator, IncrementOperator};
+use awk_resolve::node::Operand;
 use awk_storage::{Array, Place, Variable};
 use awk_value::{Value, is_true, number_of};
 

@@ -10,10 +10,10 @@ ghost use Rattle.awk_resolve.specs.declared.node.ValueNode.TheVariants.{Push, Re
 ghost use Rattle.awk_evaluator.specs.Quick.{IsAtHand, Puts, Pushed};
 
 use crate::machine::Machine;
-use awk_resolve::node::{Operand, ValueNode};
 use awk_functions::{apply_in_short, truth_value};
 use awk_grammar::tree::{BinaryOperator, UnaryOperator};
 use awk_lex::token::{BuiltIn, Operator};
+use awk_resolve::node::{Operand, ValueNode};
 use awk_storage::{Array, Variable};
 use awk_value::Value;
 

@@ -14,10 +14,10 @@ ghost use Rattle.awk_evaluator.specs.Moves.{Evaluates};
 
 use crate::machine::Machine;
 use crate::values::operand_count;
-use awk_streams::{InputKind, World};
 use awk_resolve::node::Source;
 use awk_semantics::Halt;
 use awk_storage::Place;
+use awk_streams::{InputKind, World};
 use awk_value::Value;
 
 /// How many values lie on the stack for a place, if there is one.

@@ -9,8 +9,8 @@ ghost use Rattle.awk_semantics.specs.Primitives.{format_values};
 ghost use Rattle.awk_semantics.specs.Results.{IsWantOfMemory, Yields};
 ghost use Rattle.awk_functions.specs.support.Written.{Writes};
 
-use awk_text::{Format, FormatFault};
 use awk_semantics::Halt;
+use awk_text::{Format, FormatFault};
 use awk_value::{Bytes, Value, text_in};
 use itoa::Buffer;
 use std::alloc::Global;

@@ -25,9 +25,9 @@ pub mod variable;
 mod variables;
 
 pub use fault::VariableFault;
-pub use special::Special;
-pub use variables::Variables;
 pub use kinds::Kinds;
 pub use laws::{law_of_array_names, law_of_kinds, law_of_refusals};
 pub use parameters::Parameters;
 pub use refusal::{first_refusal, resolve};
+pub use special::Special;
+pub use variables::Variables;

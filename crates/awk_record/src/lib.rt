@@ -10,18 +10,16 @@ mod record;
 mod record_fault;
 mod separator_search;
 
-pub use buffer::{RecordBuffer, Step};
-pub use buffer_fault::BufferFault;
-pub use record_fault::RecordFault;
-pub use record::Record;
-
 ghost use Rattle.std.specs.Prelude.{◌≡◌, ◌≢◌, ◌↔◌, ℕ, ◌+◌, ◌<◌, ◌≤◌, List, [], ◌∷◌, ◌++◌, length};
 ghost use Rattle.std.specs.List.{All};
 ghost use Rattle.awk_record.specs.definitions.Cut.{Ending, AtEnd, AtBreak, Found, NoMore, BrokenOff, longest, cut_of, IsDecided};
 ghost use Rattle.awk_record.specs.definitions.Literal.{StandsAt};
 ghost use Rattle.awk_record.specs.definitions.Paragraph.{AreNewline, IsParagraph};
 
-
+pub use buffer::{RecordBuffer, Step};
+pub use buffer_fault::BufferFault;
+pub use record::Record;
+pub use record_fault::RecordFault;
 
 /// Bytes decide the first record exactly where their cut would find one, or
 /// refuse it, even if the input broke behind them.

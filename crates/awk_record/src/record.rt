@@ -10,8 +10,8 @@ ghost use Rattle.awk_record.specs.definitions.Record.{inputs_of};
 ghost use Rattle.awk_record.specs.support.Viewed.{pair_of};
 
 use crate::assigned::{assigned_number, join, resize, set_value};
-use crate::record_fault::RecordFault;
 use crate::fields::Fields;
+use crate::record_fault::RecordFault;
 use awk_text::{FieldSeparator, Span, pieces_from_law};
 use awk_value::{Bytes, Value};
 use std::alloc::Global;

@@ -9,9 +9,8 @@ ghost use Rattle.awk_resolve.specs.support.Scopes.{parameters_of, Measures};
 
 use crate::builder::{Builder, next_number};
 use awk_grammar::tree::Expr;
-use awk_kinds::{Kinds, Parameters};
+use awk_kinds::{Kinds, Parameters, Special};
 use awk_storage::{Array, Variable};
-use awk_kinds::Special;
 use std::alloc::AllocError;
 
 /// The names of the program that a part stands in, and the parameters of the function that it stands in, if it does.

@@ -7,10 +7,10 @@ ghost use Rattle.awk_run.specs.support.Follows.{FollowsPlan, IsSet};
 ghost use Rattle.awk_evaluator.specs.Moves.{IsIdle};
 
 use crate::records::run_records;
-use awk_streams::World;
-use awk_resolve::Plan;
 use awk_evaluator::Machine;
+use awk_resolve::Plan;
 use awk_semantics::Halt;
+use awk_streams::World;
 
 /// Runs a part of the program, from its place in the plan. Behind an `Err` calls may be active still.
 #[inline(always)]

@@ -6,8 +6,8 @@ ghost use Rattle.awk_kinds.specs.Signatures.{signature_names};
 ghost use Rattle.awk_resolve.specs.States.{AreScalars};
 ghost use Rattle.awk_runtime.specs.support.Naming.{names_of};
 
-use awk_resolve::Plan;
 use awk_kinds::Kinds;
+use awk_resolve::Plan;
 use awk_runtime::{ProgramNames, add_name, array_names, function_names};
 use awk_value::Bytes;
 use indexmap::IndexSet;

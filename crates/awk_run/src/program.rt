@@ -15,13 +15,13 @@ ghost use Rattle.awk_run.specs.support.Verdict.{no_streams, outcome_in};
 
 use crate::run::{CountedRun, run};
 use crate::start::Start;
-use awk_streams::{World, some_oracle_is_consistent};
-use awk_resolve::lower_program;
 use awk_grammar::tree::Tree;
 use awk_kinds::{Kinds, law_of_refusals, resolve};
 use awk_lex::lexer::tokens;
 use awk_lex::refusal::Refusal;
+use awk_resolve::lower_program;
 use awk_semantics::Outcome;
+use awk_streams::{World, some_oracle_is_consistent};
 use awk_syntax::parse::parse;
 use std::alloc::Global;
 

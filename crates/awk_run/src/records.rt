@@ -8,12 +8,12 @@ ghost use Rattle.awk_run.specs.support.Passing.{IsEnd, RulesIgnore, PassesFor};
 ghost use Rattle.awk_evaluator.specs.Moves.{IsIdle};
 
 use crate::items::try_until_next;
-use awk_streams::World;
+use awk_evaluator::Machine;
 use awk_resolve::Plan;
 use awk_resolve::node::Node;
-use awk_evaluator::Machine;
 use awk_runtime::Unwanted;
 use awk_semantics::Halt;
+use awk_streams::World;
 
 /// The records that no rule wants, where the rules are none, or one whose pattern is an ERE.
 fn unwanted_by(plan: &Plan) -> Option<Unwanted>

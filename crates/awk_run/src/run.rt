@@ -18,12 +18,12 @@ ghost use Rattle.awk_run.specs.support.Verdict.{outcome_after, no_streams, EndsW
 use crate::items::run_items;
 use crate::names::program_names;
 use crate::start::{Assignment, Start};
-use awk_streams::{StreamFault, Streams, World, some_oracle_is_consistent};
-use awk_resolve::Plan;
 use awk_evaluator::Machine;
 use awk_kinds::Kinds;
+use awk_resolve::Plan;
 use awk_runtime::Runtime;
 use awk_semantics::{Fault, Halt, Outcome, law_of_ends};
+use awk_streams::{StreamFault, Streams, World, some_oracle_is_consistent};
 use std::alloc::Global;
 
 /// How a run ended, and how often the texts of its records were split and made anew.

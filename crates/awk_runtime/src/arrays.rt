@@ -12,10 +12,10 @@ ghost use Rattle.awk_storage.specs.Forms.{contains_at, delete_at, clear_at, coun
 use crate::fields::count_value;
 use crate::runtime::Runtime;
 use awk_functions::joined_key;
+use awk_kinds::Special;
 use awk_semantics::{Halt, Local};
 use awk_storage::Array;
 use awk_value::{Bytes, Value, number_of, text_of};
-use awk_kinds::Special;
 
 impl Runtime {
     /// The number of an array; 0 of a parameter that is none.

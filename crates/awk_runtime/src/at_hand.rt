@@ -11,11 +11,11 @@ ghost use Rattle.awk_runtime.specs.support.Updates.{PutsNumber, GivesNumber, Cha
 
 use crate::runtime::Runtime;
 use awk_functions::{apply_in_short, by_one, operator_of};
+use awk_kinds::Special;
 use awk_lex::token::{AssignmentOperator, IncrementOperator, Operator};
 use awk_semantics::Local;
 use awk_storage::Variable;
 use awk_value::{Bytes, Value};
-use awk_kinds::Special;
 use std::mem;
 
 /// A text that came from outside; `None` where memory is refused.

@@ -10,8 +10,8 @@ ghost use Rattle.awk_runtime.specs.support.Simulation.{IsReady, Follows};
 ghost use Rattle.awk_runtime.specs.support.Endings.{EndsRun};
 
 use crate::runtime::Runtime;
-use awk_streams::{StreamFault, World};
 use awk_semantics::Halt;
+use awk_streams::{StreamFault, World};
 use awk_value::{Value, text_of};
 
 impl Runtime {

@@ -9,9 +9,9 @@ ghost use Rattle.awk_runtime.specs.support.Counting.{count_both};
 ghost use Rattle.awk_value.specs.declared.value.Value.TheVariants.{Number};
 
 use crate::runtime::Runtime;
+use awk_kinds::Special;
 use awk_semantics::Halt;
 use awk_value::{Bytes, Value, number_of, text_of};
-use awk_kinds::Special;
 
 /// A count, as a value.
 pub(crate) fn count_value(count: usize) -> Value

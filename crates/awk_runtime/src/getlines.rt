@@ -9,11 +9,11 @@ ghost use Rattle.awk_runtime.specs.support.Simulation.{IsReady, Changes, Follows
 ghost use Rattle.awk_runtime.specs.support.NamedInputs.{answers_of};
 
 use crate::runtime::Runtime;
-use awk_streams::{InputKind, NextNamed, World};
+use awk_kinds::Special;
 use awk_semantics::Halt;
 use awk_storage::Place;
+use awk_streams::{InputKind, NextNamed, World};
 use awk_value::{Bytes, Value, text_of};
-use awk_kinds::Special;
 
 impl Runtime {
     /// Reads the next main record into a place, or for want of one makes it the record at hand, and counts it in NR and FNR.

@@ -10,10 +10,10 @@ ghost use Rattle.awk_runtime.specs.support.Inputs.{OpensMainInput, Seeks};
 
 use crate::operands::{OperandForm, form_of};
 use crate::runtime::Runtime;
-use awk_streams::{InputKind, World};
-use awk_semantics::Halt;
-use awk_value::{Bytes, text_of};
 use awk_kinds::Special;
+use awk_semantics::Halt;
+use awk_streams::{InputKind, World};
+use awk_value::{Bytes, text_of};
 
 // The path of an input; standard input has none.
 fn path_of(kind: InputKind, name: &Bytes) -> &[u8]

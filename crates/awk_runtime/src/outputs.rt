@@ -14,12 +14,12 @@ ghost use Rattle.awk_runtime.specs.support.Simulation.{IsReady, Follows};
 ghost use Rattle.awk_runtime.specs.support.Printing.{standard_named, print_at, PrintsTo, OpensTarget};
 
 use crate::runtime::Runtime;
-use awk_streams::{Mode, OutputKind, Target, World};
 use awk_functions::{append_line, make_line};
 use awk_grammar::tree::{PrintForm, Redirection};
-use awk_semantics::Halt;
-use awk_value::{Bytes, Value, text_of};
 use awk_kinds::Special;
+use awk_semantics::Halt;
+use awk_streams::{Mode, OutputKind, Target, World};
+use awk_value::{Bytes, Value, text_of};
 
 // The standard output of a name.
 fn standard_named(name: &[u8]) -> Option<Target>

@@ -11,11 +11,11 @@ ghost use Rattle.awk_storage.specs.Positions.{read_at, store_at, assign_at, assi
 use crate::at_hand::set_number;
 use crate::runtime::Runtime;
 use awk_functions::{apply_in_short, by_one};
+use awk_kinds::Special;
 use awk_lex::token::{IncrementOperator, Operator};
 use awk_semantics::{Halt, Local};
 use awk_storage::{Array, Place, Variable};
 use awk_value::{Value, number_of};
-use awk_kinds::Special;
 
 /// A number that was changed where it stands.
 #[derive(Clone, Copy)]

@@ -10,13 +10,13 @@ ghost use Rattle.awk_runtime.specs.support.Beginning.{pair_of, texts_of, start_o
 
 use crate::names::ProgramNames;
 use crate::runtime::Runtime;
-use awk_streams::Streams;
-use awk_record::Record;
 use awk_functions::{Formats, Patterns};
+use awk_kinds::Variables;
+use awk_record::Record;
 use awk_semantics::{Fault, Halt};
 use awk_storage::{Arrays, Frames};
+use awk_streams::Streams;
 use awk_value::{Bytes, Value};
-use awk_kinds::Variables;
 use std::alloc::{AllocError, Global};
 
 /// A name with its text: of the environment, or of an assignment before a run.

@@ -22,12 +22,12 @@ use awk_functions::{
     Exchanged, PatternOperand, append, apply, apply_function, concatenate_all, length_of, start_of,
     truth_value,
 };
+use awk_kinds::Special;
 use awk_lex::token::{BuiltIn, Operator};
 use awk_semantics::Halt;
 use awk_storage::{Array, Place};
 use awk_text::Span;
 use awk_value::{Bytes, Value, text_of};
-use awk_kinds::Special;
 use std::alloc::{AllocError, Global};
 
 /// What spells a pattern: an ERE of the program, by its number, or a value, by its text. (POSIX awk, Regular Expressions)

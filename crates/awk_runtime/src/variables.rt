@@ -13,12 +13,12 @@ ghost use Rattle.awk_lex.specs.Escapes.{unescaped};
 use crate::names::is_field_count;
 use crate::runtime::Runtime;
 use awk_functions::{exit_status, raise};
+use awk_kinds::Special;
 use awk_lex::escapes::{EscapeFault, unescape};
 use awk_lex::words::{is_left_out, is_reserved};
 use awk_semantics::{Fault, Halt, Local};
 use awk_storage::Variable;
 use awk_value::{Bytes, Value, number_of};
-use awk_kinds::Special;
 use std::alloc::{AllocFailed, Global};
 
 /// Adds ranges that aren't inside, until there is one of this number.

@@ -4,13 +4,12 @@ ghost use Rattle.std.specs.Prelude.{◌≡◌};
 ghost use Rattle.awk_semantics.specs.definitions.Faults.{value_fault, record_fault, stream_fault, pattern_fault, variable_fault, format_fault, text_fault};
 ghost use Rattle.awk_semantics.specs.definitions.Outcome.{fault_text};
 
-use awk_streams::StreamFault;
 use awk_ere::PatternFault;
-use awk_record::RecordFault;
-use awk_text::FormatFault;
-use awk_text::TextFault;
-use awk_value::ValueFault;
 use awk_kinds::VariableFault;
+use awk_record::RecordFault;
+use awk_streams::StreamFault;
+use awk_text::{FormatFault, TextFault};
+use awk_value::ValueFault;
 
 /// A fault of a run, by its number.
 #[derive(Clone, Copy, Debug, PartialEq, Eq)]

@@ -6,13 +6,12 @@ ghost use Rattle.awk_semantics.specs.declared.halt.Halt.TheVariants.{Fault as Fa
 ghost use Rattle.awk_semantics.specs.declared.fault.Fault.TheVariants.{OutOfMemory};
 
 use crate::fault::Fault;
-use awk_streams::StreamFault;
 use awk_ere::PatternFault;
-use awk_record::RecordFault;
-use awk_text::FormatFault;
-use awk_text::TextFault;
-use awk_value::ValueFault;
 use awk_kinds::VariableFault;
+use awk_record::RecordFault;
+use awk_streams::StreamFault;
+use awk_text::{FormatFault, TextFault};
+use awk_value::ValueFault;
 use std::alloc::{AllocError, AllocFailed};
 
 /// Why a part of a run ends early.

@@ -11,8 +11,7 @@ ghost use Rattle.awk_value.specs.Arrays.{value_at, with_pair, with_key, without}
 ghost use Rattle.awk_semantics.specs.definitions.Primitives.{elements_from};
 
 use crate::key;
-use awk_value::Table;
-use awk_value::{Bytes, Value, ValueFault};
+use awk_value::{Bytes, Table, Value, ValueFault};
 use std::alloc::{AllocFailed, Global};
 use std::marker::Model;
 

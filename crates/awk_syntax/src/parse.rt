@@ -10,11 +10,11 @@ ghost use Rattle.awk_syntax.specs.definitions.Outcome.{IsProgramWithinHeight, Re
 ghost use Rattle.awk_syntax.specs.definitions.Lines.{TellsLine};
 
 use crate::patterns::check_patterns;
+use crate::read::read;
 use awk_grammar::laws::parser_law;
 use awk_grammar::tree::Tree;
 use awk_lex::refusal::Refusal;
 use awk_lex::token::Token;
-use crate::read::read;
 use std::alloc::Global;
 
 /// The tree that the tokens spell (POSIX awk, Grammar).

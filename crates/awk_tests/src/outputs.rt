@@ -1,8 +1,8 @@
 // Runs that write to files and to commands, in a world that takes what is written and gives a number for each command.
 
 use crate::worlds::was_given;
-use awk_streams::{InputKind, Mode, OutputKind, ScriptWorld, World, WorldFault};
 use awk_command::main_words;
+use awk_streams::{InputKind, Mode, OutputKind, ScriptWorld, World, WorldFault};
 use std::alloc::{AllocError, Global};
 use std::process::Abort;
 use std::test::Fail;

@@ -1,9 +1,9 @@
 // Worlds in memory in which nothing was done, and calls of the program in them.
 ghost use Rattle.std.specs.Prelude.{◌≡◌, [], None};
 
-use awk_streams::{Answer, InputKind, ScriptWorld, World};
 use awk_command::main_words;
 use awk_run::{Assignment, law_of_untouched};
+use awk_streams::{Answer, InputKind, ScriptWorld, World};
 use std::alloc::{AllocError, Global};
 
 /// The answer of an input that is granted, and ends or breaks behind these bytes.

@@ -28,8 +28,10 @@ mod write;
 
 pub use fault::TextFault;
 pub use field_separator::FieldSeparator;
+pub use format_fault::FormatFault;
 pub use functions::{index, lower, substr, upper};
 pub use matching::match_at;
+pub use prepared::Format;
 pub use replacement_laws::one_replaced;
 pub use replacing::{substitute, substitute_into};
 pub use separator::Separator;
@@ -37,6 +39,4 @@ pub use separator_laws::{byte_pieces_law, pieces_from_law, pieces_law, separator
 pub use span::{FoundField, Span};
 pub use split::split_text;
 pub use substitution::Substitution;
-pub use format_fault::FormatFault;
-pub use prepared::Format;
 pub use whole::{format, format_into};

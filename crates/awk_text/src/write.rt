@@ -9,8 +9,8 @@ ghost use Rattle.awk_text.specs.declared.format_fault.FormatFault.TheVariants.{M
 ghost use Rattle.awk_text.specs.definitions.Formatted.{IsFaultOf, joined, next_value, part_text, values_after, written};
 
 use crate::directive::{Conversion, Directive, Notation};
-use crate::format_fault::FormatFault;
 use crate::field::{add_integer, add_text, cut};
+use crate::format_fault::FormatFault;
 use crate::part::Part;
 use awk_value::{Value, number_of};
 use itoa::Buffer;

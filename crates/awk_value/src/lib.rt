@@ -32,5 +32,5 @@ pub use crate::convert::{
 };
 pub use crate::fault::ValueFault;
 pub use crate::order::compare;
-pub use crate::value::Value;
 pub use crate::table::Table;
+pub use crate::value::Value;

@@ -6,8 +6,8 @@ ghost use Rattle.awk_ere.specs.support.Layout.{stride, match_flag, state_bound, 
 ghost use Rattle.awk_ere.specs.support.SimulationStep.{count_of};
 ghost use Rattle.awk_ere.specs.support.Table.{Grows, IsTable, positions_at};
 
-use crate::pattern::Pattern;
 use crate::fault::PatternFault;
+use crate::pattern::Pattern;
 use crate::token::BYTE_COUNT;
 use std::alloc::{AllocError, Global};
 

@@ -1,8 +1,8 @@
 // The entries of the environment.
 
 use crate::worlds::{answer, call, was_given};
-use awk_streams::{InputKind, ScriptWorld};
 use awk_run::Assignment;
+use awk_streams::{InputKind, ScriptWorld};
 use std::alloc::{AllocError, Global};
 use std::test::Fail;
 

@@ -4,9 +4,9 @@ ghost use Rattle.std.specs.Prelude.{◌≡◌, ◌≤◌, [], None, IfOk};
 
 use crate::rows::{Row, expect_rows, rows_of};
 use crate::worlds::answer;
-use awk_streams::{Answer, Entry, OUTPUT_BUFFER_SIZE, ScriptWorld, World};
 use awk_command::{CommandLine, ProgramSource, read_command_line};
 use awk_run::{Fault, Outcome, Start, execute, law_of_untouched};
+use awk_streams::{Answer, Entry, OUTPUT_BUFFER_SIZE, ScriptWorld, World};
 use std::alloc::{AllocError, Global};
 use std::process::Abort;
 use std::test::Fail;

@@ -2,12 +2,12 @@
 
 use crate::programs::witness::{Run, run_in_memory};
 use crate::worlds::{answer, was_given};
-use awk_streams::InputKind;
 use awk_lex::refusal::{Refusal, RefusalCode};
 use awk_run::{
     Assignment, Fault, Outcome, Start, fault_line, law_of_limits, law_of_outcomes, law_of_turns,
     one_program, status,
 };
+use awk_streams::InputKind;
 use std::alloc::{AllocError, Global};
 use std::process::Abort;
 use std::test::Fail;

@@ -8,9 +8,9 @@ ghost use Rattle.awk_run.specs.Start.{start_values};
 ghost use Rattle.awk_run.specs.Runs.{Runs};
 
 use crate::worlds::answer;
-use awk_streams::{Answer, InputKind, ScriptWorld, World};
 use awk_lex::refusal::Refusal;
 use awk_run::{Outcome, Start, execute, execute_counted, law_of_untouched};
+use awk_streams::{Answer, InputKind, ScriptWorld, World};
 use std::alloc::{AllocError, Global};
 use std::process::Abort;
 use std::test::Fail;
