@@ -23,8 +23,9 @@ enum Form {
     Large(Rc<Vec<u8>>, usize, Global),
 }
 
-/// A text of bytes. Its clones and cuts share its memory, and none of them ever sees another
-/// change. A text of up to 20 bytes may stand in the value itself, with no memory.
+/// A text of bytes. One of up to 20 bytes may stand in the value itself, with no memory, and is
+/// copied; the clones and cuts of another share its memory, where they don't stand in the value
+/// themselves. None of them ever sees another change.
 #[derive(Debug, Drop)]
 pub struct Bytes {
     form: Form,
@@ -203,7 +204,7 @@ impl Bytes {
 
     /// Whether the text holds no memory that is much larger than the text.
     #[inline]
-    pub fn is_settled(&self) -> bool {
+    pub(crate) fn is_settled(&self) -> bool {
         match &self.form {
             Form::Short(..) => true,
             Form::Shared(memory, ..) | Form::Large(memory, ..) => {
@@ -274,41 +275,6 @@ impl Bytes {
                 extend_unshared(memory, end, bytes)
             }
         }
-    }
-
-    /// Makes the text empty and keeps its memory, where nothing else shares that: whether it could.
-    #[inline]
-    pub fn try_empty(&mut self) -> bool
-        ensures emptied { result ≡ true → self.new ≡ [] }
-        ensures unchanged { result ≡ false → self.new ≡ self.old }
-    {
-        match &mut self.form {
-            Form::Short(text) => {
-                text.clear();
-                true
-            }
-            Form::Shared(memory, start, end) => {
-                let emptied = empty_unshared(memory);
-                if emptied {
-                    *start = 0;
-                    *end = 0;
-                }
-                emptied
-            }
-            Form::Large(..) => false,
-        }
-    }
-
-    /// Makes the text a copy of these bytes. Its memory is written anew in place where nothing else
-    /// shares it. Fails only where memory is refused, and then leaves the empty text.
-    pub fn overwrite(&mut self, alloc: Global, bytes: &[u8]) -> Result<(), AllocError>
-        ensures bytes { OnOk result (self.new ≡ bytes.now) }
-        ensures empty { OnErr result (self.new ≡ []) }
-    {
-        if !self.try_empty() {
-            *self = Bytes::empty();
-        }
-        self.extend_from_slice(alloc, bytes)
     }
 }
 
@@ -387,19 +353,6 @@ fn move_to_front(shared: &mut Rc<Vec<u8>>, from: usize, to: usize) -> bool
         Some(memory) => {
             memory.copy_within(from..to, 0);
             memory.truncate(to - from);
-            true
-        }
-        None => false,
-    }
-}
-
-/// Empties memory that has no other owner: whether it is such memory.
-fn empty_unshared(shared: &mut Rc<Vec<u8>>) -> bool
-    ensures { shared.new.value.items ≡ (if result then [] else shared.old.value.items) }
-{
-    match Rc::get_mut(shared) {
-        Some(memory) => {
-            memory.clear();
             true
         }
         None => false,

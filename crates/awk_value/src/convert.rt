@@ -112,8 +112,7 @@ fn append_number(n: i128, buffer: &mut Vec<u8>) -> Result<(), ValueFault>
 }
 
 /// The texts of two values, one behind the other, as a text that was made. The fault is `Memory`.
-/// (POSIX awk, Expressions in awk: string concatenation.)
-pub fn concatenate(alloc: Global, left: &Value, right: &Value) -> Result<Value, ValueFault>
+fn concatenate(alloc: Global, left: &Value, right: &Value) -> Result<Value, ValueFault>
     ensures text { IfOk result (λ value. value ≡ Text (str_of left.now ++ str_of right.now)) }
     ensures fault { IfErr result (λ fault. fault ≡ Memory) }
 {
@@ -123,8 +122,8 @@ pub fn concatenate(alloc: Global, left: &Value, right: &Value) -> Result<Value, 
     Ok(Value::Text(Bytes::from_vec(alloc, bytes)?))
 }
 
-/// Appends the text of the right value to that of the left one, which so becomes the text that
-/// `concatenate` makes. A left text that was made grows in place where `Bytes::extend_from_slice`
+/// Appends the text of the right value to that of the left one, which so becomes a text that was
+/// made. A left text that was made grows in place where `Bytes::extend_from_slice`
 /// does. The fault is `Memory`, and leaves the left value as it was. (POSIX awk, Expressions in
 /// awk: string concatenation.)
 pub fn concatenate_in_place(

@@ -7,6 +7,7 @@ ghost use Rattle.awk_value.specs.support.DenseKeys.{is_gone};
 ghost use Rattle.awk_value.specs.support.Rows.{IsSet};
 ghost use Rattle.awk_value.specs.declared.fault.ValueFault.TheVariants.{Memory};
 
+use crate::hashing::Secret;
 use crate::{Value, ValueFault};
 use indexmap::IndexMap;
 use std::hash::Hash;
@@ -17,6 +18,9 @@ pub(crate) struct Entry {
     pub(crate) stamp: u64,
     pub(crate) value: Value,
 }
+
+/// Entries by keys, hashed with a secret.
+pub(crate) type Entries<K> = IndexMap<K, Entry, Secret>;
 
 /// The stamp of an entry at a place without a key.
 pub(crate) const GONE: u64 = u64::MAX;
@@ -33,7 +37,7 @@ impl Entry {
 
 /// Adds an entry to a map, where a new key goes last. The fault is `Memory`, and changes nothing.
 pub(crate) fn add_entry<K: Eq + Hash + Drop>(
-    entries: &mut IndexMap<K, Entry>,
+    entries: &mut Entries<K>,
     key: K,
     entry: Entry,
 ) -> Result<(), ValueFault>
@@ -47,7 +51,7 @@ pub(crate) fn add_entry<K: Eq + Hash + Drop>(
 
 /// Gives a key of a map the value. Where the key isn't there, the value comes back.
 pub(crate) fn set_entry<K: Eq + Hash>(
-    entries: &mut IndexMap<K, Entry>,
+    entries: &mut Entries<K>,
     key: &K,
     value: Value,
 ) -> Option<Value>
@@ -66,7 +70,7 @@ pub(crate) fn set_entry<K: Eq + Hash>(
 }
 
 /// Takes a key's entry out of a map, whose last entry moves to its place.
-pub(crate) fn take_entry<K: Eq + Hash + Drop>(entries: &mut IndexMap<K, Entry>, key: &K)
+pub(crate) fn take_entry<K: Eq + Hash + Drop>(entries: &mut Entries<K>, key: &K)
     ensures { entries.new.entries ≡ swap_remove_entry (K.eq key.now) entries.old.entries }
 {
     let _ = entries.swap_remove(key);

@@ -1,4 +1,12 @@
-//! The values of the language: byte texts, whole numbers, their conversions, their order and their arithmetic; and arrays of values by keys that are texts.
+//! The values of the language, with their arithmetic, and arrays of them.
+//!
+//! - `Bytes`: a text of bytes that doesn't change; `Value`: nothing, a number, a text, or a text from outside.
+//! - `number_of`, `numeric_of`, `text_of`, `append_text`, `is_true`: the number, the text and the truth of a value; `text_in`
+//!   is the text where a value has one; `compare` orders two values.
+//! - `add`, `sub`, `mul`, `div`, `rem`, `pow`, `neg`: arithmetic over numbers of 128 bits, whose faults are `ValueFault`s;
+//!   `plus`, `minus`, `multiply`, `divide`, `remainder`, `power`, `negate`, `to_number` do the same to values.
+//! - `Table`: an array, values by keys that are texts, in the order in which the keys were made: `new`, `has`, `get`,
+//!   `get_or_make`, `put`, `remove`, `keys`, `clear`, `len`.
 #![tactic(auto)]
 
 mod arithmetic;
@@ -8,6 +16,7 @@ mod decimal;
 mod dense;
 mod entry;
 mod fault;
+mod hashing;
 mod long_keys;
 mod number;
 mod number_keys;
@@ -27,8 +36,7 @@ pub use crate::arithmetic::{
 };
 pub use crate::bytes::Bytes;
 pub use crate::convert::{
-    append_text, concatenate, concatenate_in_place, is_true, number_of, numeric_of, text_in,
-    text_of,
+    append_text, concatenate_in_place, is_true, number_of, numeric_of, text_in, text_of,
 };
 pub use crate::fault::ValueFault;
 pub use crate::order::compare;

@@ -11,7 +11,8 @@ ghost use Rattle.awk_value.specs.support.Lending.{LendsNumber};
 ghost use Rattle.awk_value.specs.declared.fault.ValueFault.TheVariants.{Memory};
 
 use crate::dense::Dense;
-use crate::entry::{Entry, add_entry, take_entry};
+use crate::entry::{Entries, Entry, add_entry, take_entry};
+use crate::hashing::Secret;
 use crate::{Value, ValueFault};
 use indexmap::IndexMap;
 use std::alloc::Global;
@@ -21,7 +22,7 @@ use std::marker::Model;
 #[derive(Drop)]
 pub(crate) struct Numbers {
     pub(crate) dense: Dense,
-    pub(crate) sparse: IndexMap<i64, Entry>,
+    pub(crate) sparse: Entries<i64>,
 }
 
 impl Model for Numbers {
@@ -36,12 +37,12 @@ impl Model for Numbers {
 
 impl Numbers {
     /// No number is a key. Takes no memory.
-    pub(crate) fn new(alloc: Global) -> Numbers
+    pub(crate) fn new(alloc: Global, secret: Secret) -> Numbers
         ensures { result ≡ [] }
     {
         Numbers {
             dense: Dense::new(alloc),
-            sparse: IndexMap::new(alloc),
+            sparse: IndexMap::with_hasher(alloc, secret),
         }
     }
 

@@ -96,14 +96,6 @@ impl ShortBytes {
         self.len as usize
     }
 
-    /// Makes the text empty.
-    #[inline(always)]
-    pub(crate) fn clear(&mut self)
-        ensures { self.new ≡ [] }
-    {
-        self.len = 0;
-    }
-
     /// Appends a copy of these bytes where there is room for them: whether there is.
     #[inline]
     pub(crate) fn try_extend(&mut self, bytes: &[u8]) -> bool

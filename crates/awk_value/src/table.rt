@@ -11,7 +11,8 @@ ghost use Rattle.awk_value.specs.declared.fault.ValueFault.TheVariants.{Memory};
 ghost use Rattle.awk_value.specs.definitions.Arrays.{Array, value_at, with_pair, with_key, without, HasDistinctKeys};
 
 use crate::decimal::decimal_number;
-use crate::entry::Entry;
+use crate::entry::Entries;
+use crate::hashing::Secret;
 use crate::numbers::Numbers;
 use crate::short_text::ShortText;
 use crate::walk::keys_by_stamp;
@@ -34,8 +35,8 @@ pub(crate) fn copy_of(value: &Value) -> Result<Value, ValueFault>
 #[derive(Drop)]
 pub struct Table {
     pub(crate) numbers: Numbers,
-    pub(crate) shorts: IndexMap<ShortText, Entry>,
-    pub(crate) longs: IndexMap<Vec<u8>, Entry>,
+    pub(crate) shorts: Entries<ShortText>,
+    pub(crate) longs: Entries<Vec<u8>>,
     // above all stamps
     pub(crate) next: u64,
 }
@@ -67,10 +68,11 @@ impl Table {
     pub fn new(alloc: Global) -> Table
         ensures { result ≡ [] }
     {
+        let secret = Secret::new();
         Table {
-            numbers: Numbers::new(alloc),
-            shorts: IndexMap::new(alloc),
-            longs: IndexMap::new(alloc),
+            numbers: Numbers::new(alloc, secret),
+            shorts: IndexMap::with_hasher(alloc, secret),
+            longs: IndexMap::with_hasher(alloc, secret),
             next: 0,
         }
     }

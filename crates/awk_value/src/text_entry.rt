@@ -6,15 +6,14 @@ ghost use Rattle.indexmap.specs.IndexMap.{swap_remove_entry, IsUnchanged};
 ghost use Rattle.awk_value.specs.support.Rows.{IsAdded, IsSet};
 ghost use Rattle.awk_value.specs.declared.fault.ValueFault.TheVariants.{Memory};
 
-use crate::entry::{Entry, add_entry};
+use crate::entry::{Entries, Entry, add_entry};
 use crate::{Value, ValueFault};
-use indexmap::IndexMap;
 use std::alloc::Global;
 
 /// As `add_entry`, at a copy of a text.
 pub(crate) fn add_text(
     alloc: Global,
-    entries: &mut IndexMap<Vec<u8>, Entry>,
+    entries: &mut Entries<Vec<u8>>,
     key: &[u8],
     entry: Entry,
 ) -> Result<(), ValueFault>
@@ -27,11 +26,7 @@ pub(crate) fn add_text(
 }
 
 /// As `set_entry`, at a text.
-pub(crate) fn set_text(
-    entries: &mut IndexMap<Vec<u8>, Entry>,
-    key: &[u8],
-    value: Value,
-) -> Option<Value>
+pub(crate) fn set_text(entries: &mut Entries<Vec<u8>>, key: &[u8], value: Value) -> Option<Value>
     ensures set { IfNone result (IsSet (λ k. bytes_eq key.now k.items) entries.old.entries entries.new.entries value) }
     ensures absent { IfSome result (λ v. lookup (λ k. bytes_eq key.now k.items) entries.old.entries ≡ None) }
     ensures unchanged { IfSome result (λ v. entries.new.entries ≡ entries.old.entries) }
@@ -47,7 +42,7 @@ pub(crate) fn set_text(
 }
 
 /// As `take_entry`, at a text.
-pub(crate) fn take_text(entries: &mut IndexMap<Vec<u8>, Entry>, key: &[u8])
+pub(crate) fn take_text(entries: &mut Entries<Vec<u8>>, key: &[u8])
     ensures { entries.new.entries ≡ swap_remove_entry (λ k. bytes_eq key.now k.items) entries.old.entries }
 {
     let _ = entries.swap_remove(key);

@@ -8,11 +8,10 @@ ghost use Rattle.awk_value.specs.support.DenseKeys.{numbered};
 ghost use Rattle.awk_value.specs.support.Rows.{AreByStamp};
 ghost use Rattle.awk_value.specs.declared.fault.ValueFault.TheVariants.{Memory};
 
-use crate::entry::Entry;
+use crate::entry::{Entries, Entry};
 use crate::numbers::Numbers;
 use crate::short_text::ShortText;
 use crate::{Bytes, ValueFault};
-use indexmap::IndexMap;
 use itoa::Buffer;
 use std::alloc::{AllocError, Global};
 
@@ -22,8 +21,8 @@ pub(crate) fn keys_by_stamp(
     alloc: Global,
     count: usize,
     numbers: &Numbers,
-    shorts: &IndexMap<ShortText, Entry>,
-    longs: &IndexMap<Vec<u8>, Entry>,
+    shorts: &Entries<ShortText>,
+    longs: &Entries<Vec<u8>>,
 ) -> Result<Vec<Bytes>, ValueFault>
     ensures keys { IfOk result (λ texts. AreByStamp texts.items
         (map (λ e. (e.1.stamp, signed_decimal e.0)) numbers.now
@@ -90,7 +89,7 @@ fn list_place(
 /// Adds the decimal forms of numbers with their stamps, in the map's order.
 fn list_sparse(
     alloc: Global,
-    entries: &IndexMap<i64, Entry>,
+    entries: &Entries<i64>,
     rows: &mut Vec<(u64, Bytes)>,
 ) -> Result<(), AllocError>
     ensures { OnOk result (rows.new.items
@@ -106,7 +105,7 @@ fn list_sparse(
 /// Adds the short texts with their stamps, in the map's order.
 fn list_shorts(
     alloc: Global,
-    entries: &IndexMap<ShortText, Entry>,
+    entries: &Entries<ShortText>,
     rows: &mut Vec<(u64, Bytes)>,
 ) -> Result<(), AllocError>
     ensures { OnOk result (rows.new.items
@@ -122,7 +121,7 @@ fn list_shorts(
 /// Adds the long texts with their stamps, in the map's order.
 fn list_longs(
     alloc: Global,
-    entries: &IndexMap<Vec<u8>, Entry>,
+    entries: &Entries<Vec<u8>>,
     rows: &mut Vec<(u64, Bytes)>,
 ) -> Result<(), AllocError>
     ensures { OnOk result (rows.new.items
