@@ -182,6 +182,17 @@ module _ (first : Bool) (p : Pattern) (tb : Table) (s : List ℕ) (t : Tree) (me
   pub end_first : first ≡ true → IsSome w.end → EndsBetween first t s low high w.end
   end_first f e = (w.place, h.last, λ _. (f, e))
 
+  -- nothing that began goes on, and nothing more begins
+  pub end_idle : IsTable p tb → high < w.place → w.state ≡ dead_state → EndsBetween first t s low high w.end
+  end_idle table past dead =
+      let one : state_number w.state ≡ 1 = omega (arith, dead) in
+      let idle = sym h.state.positions ∙ ap (positions_at p tb.rows.items) one ∙ table.idle in (
+        length s + 1,
+        last_idle s t p means (between low high) w.place h.positions h.runs (length s + 1) w.end (λ n. ap (λ l. get_or l n false) idle ∙ zeros (count_of p) n)
+            (λ i f. let le = leb-true i high (and_parts _ _ f).1 in omega (arith, le, past)) h.last,
+        (λ le. absurd (omega (arith, le))),
+      )
+
   module _ (end : w.place ≡ length s) (m left : Bool) (enters : m ≡ between low high w.place) (left_is : left ≡ leaves p h.positions h.start m true 0) where
     pub end_hit : left ≡ true → EndsBetween first t s low high (Some (length s))
     end_hit f =

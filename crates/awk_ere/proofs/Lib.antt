@@ -40,6 +40,7 @@ pub mod ProgramSimulatesMarks
 pub mod ReadDecided
 pub mod RequiredOccurs
 pub mod RequiredRun
+pub mod RunOccurs
 pub mod StandingText
 pub mod StepTellsMatches
 pub mod TableKept

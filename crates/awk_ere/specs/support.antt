@@ -12,6 +12,7 @@ pub mod Layout
 pub mod Marked
 pub mod Required
 pub mod RequiredRun
+pub mod Run
 pub mod Simulation
 pub mod SimulationStep
 pub mod Table

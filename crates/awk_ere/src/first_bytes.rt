@@ -1,7 +1,7 @@
 // The bytes with which a match may begin behind the text's start.
 
 ghost use Rattle.std.specs.Prelude.{◌≡◌, ℕ, ◌≤◌, ◌<◌, true, false, length, slice_index, IfSome};
-ghost use Rattle.awk_ere.specs.support.Table.{IsFor, is_first};
+ghost use Rattle.awk_ere.specs.support.Table.{Serves, is_first};
 
 use crate::dfa::table::DEAD;
 use crate::pattern::Pattern;
@@ -59,8 +59,8 @@ impl Pattern {
     #[cold]
     #[inline(never)]
     pub(crate) fn learn_first_bytes(&self, scratch: &mut Scratch)
-        requires same { IsFor scratch.old self.now }
-        ensures same { IsFor scratch.new self.now }
+        requires same { Serves scratch.old self.now }
+        ensures same { Serves scratch.new self.now }
     {
         let mut first = FirstBytes::Never;
         for byte in 0..=255 {
@@ -77,8 +77,8 @@ impl Pattern {
     /// Counts a search of a long text. After some of them it is worth to know the first bytes.
     #[inline]
     pub(crate) fn count_search(&self, scratch: &mut Scratch)
-        requires same { IsFor scratch.old self.now }
-        ensures same { IsFor scratch.new self.now }
+        requires same { Serves scratch.old self.now }
+        ensures same { Serves scratch.new self.now }
     {
         if scratch.searches < LEARNED {
             scratch.searches += 1;

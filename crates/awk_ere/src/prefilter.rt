@@ -5,7 +5,7 @@ ghost use Rattle.std.specs.Prelude.{◌≡◌, ◌≤◌, length, IfOk, IfErr};
 ghost use Rattle.std.specs.Option.{option_map};
 ghost use Rattle.awk_ere.specs.definitions.Tree.{Tree, NoneFrom};
 ghost use Rattle.awk_ere.specs.definitions.Means.{Means};
-ghost use Rattle.awk_ere.specs.support.Table.{IsFor, IsLiteral};
+ghost use Rattle.awk_ere.specs.support.Table.{Serves, IsLiteral};
 
 use crate::dfa::cursor::first_state;
 use crate::dfa::table::DEAD;
@@ -48,15 +48,21 @@ impl Pattern {
 
     // The first place at or behind `from` where a match may begin, or the text's end.
     pub(crate) fn next_candidate(&self, text: &[u8], from: usize, scratch: &Scratch) -> usize
-        requires same { IsFor scratch.now self.now }
+        requires same { Serves scratch.now self.now }
         requires within { from ≤ length text.now }
         ensures order { from ≤ result }
         ensures within { result ≤ length text.now }
         ensures none { (t : Tree) → Means t self.now → NoneFrom t text.now from result }
     {
+        if from == text.len() {
+            return from;
+        }
         let transitions = scratch.table.unanchored.as_slice();
-        for k in from..text.len() {
-            if transitions[first_state(k) as usize + text[k] as usize] != DEAD {
+        if transitions[first_state(from) as usize + text[from] as usize] != DEAD {
+            return from;
+        }
+        for k in from + 1..text.len() {
+            if transitions[DEAD as usize + text[k] as usize] != DEAD {
                 return k;
             }
         }

@@ -4,7 +4,7 @@
 ghost use Rattle.std.specs.Prelude.{◌≡◌, ◌+◌, ◌<◌, ◌≤◌, ◌^◌, true, [], length, None, IfOk, IfErr};
 ghost use Rattle.awk_ere.specs.definitions.Tree.{Tree, Finds};
 ghost use Rattle.awk_ere.specs.definitions.Means.{Means};
-ghost use Rattle.awk_ere.specs.support.Table.{IsFor};
+ghost use Rattle.awk_ere.specs.support.Table.{Serves};
 ghost use Rattle.awk_ere.specs.support.Required.{IsRequired};
 ghost use Rattle.awk_ere.specs.support.RequiredRun as spec;
 
@@ -96,7 +96,7 @@ impl Pattern {
     /// Whether a long text, from a place on, is known to have no match, since the text that stands in each match is missing.
     #[inline]
     pub(crate) fn lacks_required(&self, text: &[u8], from: usize, scratch: &Scratch) -> bool
-        requires same { IsFor scratch.now self.now }
+        requires same { Serves scratch.now self.now }
         requires within { from ≤ length text.now }
         ensures { result ≡ true → (t : Tree) → Means t self.now → Finds t text.now from None }
     {

@@ -16,6 +16,7 @@ use std::alloc::Global;
 /// The memory that searches for one pattern use, and use again.
 #[derive(Drop)]
 pub struct Scratch {
+    /// Empty where the pattern is a text, as the table.
     pub(crate) position_set: PositionSet,
     pub(crate) table: Table,
     /// Whether it is known that no match begins behind the text's start.
@@ -31,17 +32,28 @@ pub struct Scratch {
 }
 
 impl Scratch {
-    /// The memory for searches for this pattern: some kilobytes for a small pattern. It grows with the texts that it meets,
-    /// to at most some megabyte.
+    /// The memory for searches for this pattern: some kilobytes for a small pattern, and much less for one that is a text. It
+    /// grows with the texts that it meets, to at most some megabyte.
     pub fn for_pattern(alloc: Global, pattern: &Pattern) -> Result<Scratch, PatternFault>
         ensures { MatchResult result (λ scratch. IsFor scratch pattern.now) (λ fault. fault ≡ PatternFault.Memory) }
     {
+        let literal = pattern.literal_finder(alloc)?;
+        let required = pattern.required_finder(alloc)?;
+        if literal.is_some() {
+            return Ok(Scratch {
+                position_set: PositionSet::for_count(alloc, 0)?,
+                table: Table::empty(alloc),
+                anchored_at_start: false,
+                literal,
+                first_bytes: FirstBytes::Any,
+                searches: 0,
+                required,
+            });
+        }
         let count = pattern.program.instructions.len();
         let mut position_set = PositionSet::for_count(alloc, count)?;
         let table = Table::for_count(alloc, count)?;
         let anchored_at_start = pattern.is_anchored_at_start(&mut position_set);
-        let literal = pattern.literal_finder(alloc)?;
-        let required = pattern.required_finder(alloc)?;
         Ok(Scratch {
             position_set,
             table,

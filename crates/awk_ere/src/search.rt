@@ -4,13 +4,15 @@
 ghost use Rattle.std.specs.Prelude.{◌≡◌, ◌↔◌, ℕ, ◌≤◌, true, false, length, IfSome, OnSome};
 ghost use Rattle.awk_ere.specs.definitions.Tree.{Tree, NoneFrom, Finds, Occurs};
 ghost use Rattle.awk_ere.specs.definitions.Means.{Means, occurs, HasNoneUpTo};
-ghost use Rattle.awk_ere.specs.support.Table.{IsFor};
+ghost use Rattle.awk_ere.specs.support.Table.{IsFor, Serves};
 ghost use Rattle.awk_ere.specs.support.Required.{PassesOver};
 ghost use Rattle.awk_ere.specs.support.Found.{EndsWithin, Longest, OccursBetween, EndsAt, Begins, BeginsWithin};
 
 use crate::dfa::cursor::Cursor;
+use crate::dfa::table::DEAD;
 use crate::pattern::Pattern;
 use crate::required::LONG;
+use crate::run::first_run;
 use crate::scratch::Scratch;
 
 impl Pattern {
@@ -18,17 +20,20 @@ impl Pattern {
     // does.
     #[inline(always)]
     fn longest_from(&self, text: &[u8], from: usize, scratch: &mut Scratch) -> Option<usize>
-        requires same { IsFor scratch.old self.now }
+        requires same { Serves scratch.old self.now }
         requires within { from ≤ length text.now }
         ensures within { EndsWithin from (length text.now) result }
         ensures found { (t : Tree) → Means t self.now → Longest t text.now from result }
-        ensures same { IsFor scratch.new self.now }
+        ensures same { Serves scratch.new self.now }
     {
         let len = text.len();
         let mut cursor = Cursor::begin(from);
         'bytes: while cursor.place < len {
             cursor = self.advance(scratch, cursor.place == from, text, cursor);
             cursor = self.last_loop(&scratch.table, text, cursor);
+        }
+        if from < len && cursor.state == DEAD {
+            return cursor.end;
         }
         if self.leaves_at_end(scratch, cursor.state, from == len) {
             return Some(len);
@@ -45,11 +50,11 @@ impl Pattern {
         high: usize,
         scratch: &mut Scratch,
     ) -> Option<usize>
-        requires same { IsFor scratch.old self.now }
+        requires same { Serves scratch.old self.now }
         requires order { low ≤ high }
         requires within { high ≤ length text.now }
         ensures found { (t : Tree) → Means t self.now → EndsAt t text.now low high result }
-        ensures same { IsFor scratch.new self.now }
+        ensures same { Serves scratch.new self.now }
     {
         let len = text.len();
         let stop = len.min(high + 1);
@@ -72,11 +77,11 @@ impl Pattern {
     // first has begun, and that end.
     #[inline(never)]
     fn window(&self, text: &[u8], from: usize, scratch: &mut Scratch) -> Option<(usize, usize)>
-        requires same { IsFor scratch.old self.now }
+        requires same { Serves scratch.old self.now }
         requires within { from ≤ length text.now }
         ensures within { IfSome result (λ w. (from ≤ w.0) × ((w.0 ≤ length text.now) × (w.1 ≤ length text.now))) }
         ensures found { (t : Tree) → Means t self.now → BeginsWithin t text.now from result }
-        ensures same { IsFor scratch.new self.now }
+        ensures same { Serves scratch.new self.now }
     {
         let len = text.len();
         let mut low = from;
@@ -102,14 +107,14 @@ impl Pattern {
     // that are tried first are `low` alone, and then further on by a width that doubles.
     #[inline(never)]
     fn first_between(&self, text: &[u8], low: usize, high: usize, scratch: &mut Scratch) -> usize
-        requires same { IsFor scratch.old self.now }
+        requires same { Serves scratch.old self.now }
         requires low { low ≤ length text.now }
         requires high { high ≤ length text.now }
         ensures order { low ≤ result }
         ensures within { result ≤ length text.now }
         ensures found { (t : Tree) → Means t self.now → OccursBetween t text.now low high →
             Begins t text.now low (Some result) }
-        ensures same { IsFor scratch.new self.now }
+        ensures same { Serves scratch.new self.now }
     {
         let mut first = low;
         let mut last = high;
@@ -127,6 +132,53 @@ impl Pattern {
 }
 
 impl Pattern {
+    // Whether the pattern matches somewhere in the text, by the table.
+    #[inline]
+    fn is_match_by_table(&self, text: &[u8], scratch: &mut Scratch) -> bool
+        requires { Serves scratch.old self.now }
+        ensures found { (t : Tree) → Means t self.now → (result ≡ true) ↔ Occurs t text.now }
+        ensures decided { (t : Tree) → Means t self.now → result ≡ occurs t text.now }
+        ensures same { Serves scratch.new self.now }
+    {
+        if text.len() >= LONG {
+            self.count_search(scratch);
+        }
+        if !scratch.anchored_at_start && self.lacks_required(text, 0, scratch) {
+            return false;
+        }
+        self.end_between(text, 0, text.len(), scratch).is_some()
+    }
+
+    // The leftmost match at or behind a place, and of those the longest, by the table.
+    #[inline]
+    fn find_by_table(
+        &self,
+        text: &[u8],
+        from: usize,
+        scratch: &mut Scratch,
+    ) -> Option<(usize, usize)>
+        requires same { Serves scratch.old self.now }
+        requires within { from ≤ length text.now }
+        ensures within { IfSome result (λ m. (from ≤ m.0) × ((m.0 ≤ m.1) × (m.1 ≤ length text.now))) }
+        ensures found { (t : Tree) → Means t self.now → Finds t text.now from result }
+        ensures same { Serves scratch.new self.now }
+    {
+        if self.lacks_required(text, from, scratch) {
+            return None;
+        }
+        let start = self.next_candidate(text, from, scratch);
+        if let Some(end) = self.longest_from(text, start, scratch) {
+            return Some((start, end));
+        }
+        if start == text.len() {
+            return None;
+        }
+        let (low, high) = self.window(text, start + 1, scratch)?;
+        let start = self.first_between(text, low, high, scratch);
+        let end = self.longest_from(text, start, scratch)?;
+        Some((start, end))
+    }
+
     /// Whether the pattern matches somewhere in the text. The time grows with the text. The scratch may take memory, within
     /// its bounds, and does without where memory is refused.
     pub fn is_match(&self, text: &[u8], scratch: &mut Scratch) -> bool
@@ -138,13 +190,7 @@ impl Pattern {
         if let Some(finder) = &scratch.literal {
             return finder.find(text).is_some();
         }
-        if text.len() >= LONG {
-            self.count_search(scratch);
-        }
-        if !scratch.anchored_at_start && self.lacks_required(text, 0, scratch) {
-            return false;
-        }
-        self.end_between(text, 0, text.len(), scratch).is_some()
+        self.is_match_by_table(text, scratch)
     }
 
     /// The leftmost match at or behind a place of the text, and of those the longest: where it begins and
@@ -166,20 +212,10 @@ impl Pattern {
             let start = from + finder.find(&text[from..])?;
             return Some((start, start + self.program.instructions.len()));
         }
-        if self.lacks_required(text, from, scratch) {
-            return None;
+        if let Some(class) = self.run_class() {
+            return first_run(class, text, from);
         }
-        let start = self.next_candidate(text, from, scratch);
-        if let Some(end) = self.longest_from(text, start, scratch) {
-            return Some((start, end));
-        }
-        if start == text.len() {
-            return None;
-        }
-        let (low, high) = self.window(text, start + 1, scratch)?;
-        let start = self.first_between(text, low, high, scratch);
-        let end = self.longest_from(text, start, scratch)?;
-        Some((start, end))
+        self.find_by_table(text, from, scratch)
     }
 
     /// How far a text can be passed over: no part of it that ends at or before this place has a match. It is the first

@@ -15,7 +15,7 @@ two_more r i lt =
 at_escape : (byte next : ℕ) (rest m : List ℕ) → is_escape byte next ≡ true → replacement_for (byte ∷ next ∷ rest) m ≡ next ∷ replacement_for rest m
 at_escape byte next rest m h = ap (λ v. cond v (next ∷ replacement_for rest m) (bytes_for byte m ++ replacement_for (next ∷ rest) m)) h
 
-at_byte : (byte : ℕ) (rest m : List ℕ) → escapes (byte ∷ rest) ≡ false → replacement_for (byte ∷ rest) m ≡ bytes_for byte m ++ replacement_for rest m
+pub at_byte : (byte : ℕ) (rest m : List ℕ) → escapes (byte ∷ rest) ≡ false → replacement_for (byte ∷ rest) m ≡ bytes_for byte m ++ replacement_for rest m
 at_byte byte [] m h = sym (append-nil (bytes_for byte m))
 at_byte byte (next ∷ rest) m h = ap (λ v. cond v (next ∷ replacement_for rest m) (bytes_for byte m ++ replacement_for (next ∷ rest) m)) h
 

@@ -1,4 +1,12 @@
-//! Texts: split by separators of every kind, cut, searched, with matches replaced, and the formats of printf.
+//! Texts: split by separators of every kind, searched, changed, and formatted.
+//!
+//! - `Separator::of` tells what a text is as a separator, `split_text` the pieces that one leaves; `FieldSeparator` is a
+//!   value of FS with the rule on newlines, and splits all at once or field by field. Faults are `TextFault`s.
+//! - `substr`, `index`, `lower`, `upper`, `match_at`: the functions of the language over texts and numbers.
+//! - `substitute`, `substitute_into`, over a `Substitution`: sub and gsub.
+//! - `format`, `format_into`, and `Format::{read, write_into}` for one that is used again: the formats of printf, whose
+//!   faults are `FormatFault`s.
+//! - `pieces_law`, `byte_pieces_law`, `pieces_from_law`, `separators_law`, `one_replaced`: what the definitions say in words.
 #![tactic(auto)]
 
 mod blanks;

@@ -1,16 +1,41 @@
 // The text that stands in the place of a match.
 ghost use Rattle.std.specs.Prelude.{◌≡◌, ◌+◌, ◌<◌, ◌++◌, ℕ, List, true, length, drop, OnOk, IfErr};
 ghost use Rattle.awk_text.specs.definitions.Replacement.{bytes_for, replacement_for};
-ghost use Rattle.awk_text.specs.support.Escapes.{escapes, IsPlain};
+ghost use Rattle.awk_text.specs.support.Escapes.{escapes, IsPlain, IsOfShape};
 
 use crate::TextFault;
 use memchr::memchr2;
 
+/// What a replacement is made of.
+#[derive(Clone, Copy)]
+pub(crate) enum Shape {
+    /// It stands for itself, whatever was matched.
+    Plain,
+    /// The matched text stands for the byte at this place, and each other byte for itself.
+    Around(usize),
+    /// It has escapes, or the matched text stands in more places than one.
+    Written,
+}
+
 // Whether the replacement stands for itself, whatever was matched.
-pub(crate) fn is_plain(replacement: &[u8]) -> bool
+fn is_plain(replacement: &[u8]) -> bool
     ensures { result ≡ true → IsPlain replacement.now }
 {
     memchr2(b'&', b'\\', replacement).is_none()
+}
+
+// What the replacement is made of.
+pub(crate) fn shape_of(replacement: &[u8]) -> Shape
+    ensures { IsOfShape replacement.now result }
+{
+    let Some(place) = memchr2(b'&', b'\\', replacement) else {
+        return Shape::Plain;
+    };
+    if replacement[place] == b'&' && is_plain(&replacement[place + 1..]) {
+        Shape::Around(place)
+    } else {
+        Shape::Written
+    }
 }
 
 // Whether a backslash before an ampersand or a backslash stands at `i`.
@@ -26,15 +51,21 @@ fn is_escaped(replacement: &[u8], i: usize) -> bool
     }
 }
 
-// Adds a piece of text. Many are of one byte, or of none.
+// So many bytes are added one by one.
+const FEW: usize = 8;
+
+// Adds a piece of text. Most are short.
+#[inline(always)]
 pub(crate) fn add_piece(out: &mut Vec<u8>, piece: &[u8]) -> Result<(), TextFault>
     ensures added { OnOk result (out.new.items ≡ out.old.items ++ piece.now) }
     ensures memory { IfErr result (λ e. e ≡ TextFault.Memory) }
 {
-    if piece.len() == 1 {
-        out.push(piece[0])?;
-    } else {
+    if piece.len() > FEW {
         out.extend_from_slice(piece)?;
+        return Ok(());
+    }
+    for i in 0..piece.len() {
+        out.push(piece[i])?;
     }
     Ok(())
 }

@@ -6,36 +6,43 @@ ghost use Rattle.awk_ere.specs.definitions.Tree.{Tree};
 ghost use Rattle.awk_text.specs.definitions.Pieces.{stretch_at};
 ghost use Rattle.awk_text.specs.definitions.Replaced.{Replaces, Substitutes};
 ghost use Rattle.awk_text.specs.definitions.Replacement.{replacement_for};
-ghost use Rattle.awk_text.specs.support.Escapes.{IsPlain};
+ghost use Rattle.awk_text.specs.support.Escapes.{IsOfShape};
 ghost use Rattle.awk_text.specs.support.Search.{LiesBehind};
 
 use crate::matching::{match_at, next_match};
-use crate::replacement::{add_piece, add_replacement, is_plain};
+use crate::replacement::{Shape, add_piece, add_replacement, shape_of};
 use crate::substitution::Substitution;
 use crate::{Span, TextFault};
 use awk_ere::{Pattern, Scratch};
 use std::alloc::Global;
 
-// Adds what stands from a place up to a match, and what replaces the match. A plain replacement stands for itself.
+// Adds what stands from a place up to a match, and what replaces the match.
+#[inline(always)]
 fn add_replaced(
     out: &mut Vec<u8>,
     replacement: &[u8],
-    plain: bool,
+    shape: Shape,
     text: &[u8],
     place: usize,
     found: Span,
 ) -> Result<(), TextFault>
-    requires plain { plain ≡ true → IsPlain replacement.now }
+    requires shape { IsOfShape replacement.now shape }
     requires lies { LiesBehind place text.now found }
     ensures added { OnOk result (out.new.items ≡ out.old.items
         ++ (slice_range text.now place found.start ++ replacement_for replacement.now (stretch_at text.now found))) }
     ensures memory { IfErr result (λ e. e ≡ TextFault.Memory) }
 {
     add_piece(out, &text[place..found.start])?;
-    if plain {
-        return add_piece(out, replacement);
+    let matched = &text[found.start..found.end];
+    match shape {
+        Shape::Plain => add_piece(out, replacement),
+        Shape::Around(place) => {
+            add_piece(out, &replacement[..place])?;
+            add_piece(out, matched)?;
+            add_piece(out, &replacement[place + 1..])
+        }
+        Shape::Written => add_replacement(out, replacement, matched),
     }
-    add_replacement(out, replacement, &text[found.start..found.end])
 }
 
 /// Writes into `out` the text with its first match replaced, or with `all` each match, and answers how many that
@@ -64,8 +71,8 @@ pub fn substitute_into(
         return Ok(None);
     };
     out.reserve(text.len().saturating_add(replacement.len()))?;
-    let plain = is_plain(replacement);
-    add_replaced(out, replacement, plain, text, 0, first)?;
+    let shape = shape_of(replacement);
+    add_replaced(out, replacement, shape, text, 0, first)?;
     if !all {
         out.extend_from_slice(&text[first.end..])?;
         return Ok(Some(1));
@@ -73,7 +80,7 @@ pub fn substitute_into(
     let mut count = 1;
     let mut last = first;
     while let Some(next) = next_match(pattern, text, last, scratch) {
-        add_replaced(out, replacement, plain, text, last.end, next)?;
+        add_replaced(out, replacement, shape, text, last.end, next)?;
         count += 1;
         last = next;
     }

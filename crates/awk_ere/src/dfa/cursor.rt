@@ -5,7 +5,7 @@ ghost use Rattle.std.specs.Prelude.{length, Option, None, Some, IsSome, ◌-◌,
 ghost use Rattle.awk_ere.specs.definitions.Tree.{Tree};
 ghost use Rattle.awk_ere.specs.definitions.Means.{Means};
 ghost use Rattle.awk_ere.specs.support.Layout.{first_state, dead_state, match_flag};
-ghost use Rattle.awk_ere.specs.support.Table.{IsKnown, IsState, IsEntry, IsTable, IsFor};
+ghost use Rattle.awk_ere.specs.support.Table.{IsKnown, IsState, IsEntry, IsTable, Serves};
 ghost use Rattle.awk_ere.specs.support.CursorState.{Stood, Enters};
 ghost use Rattle.awk_ere.specs.support.Found.{EndsWithin};
 
@@ -75,12 +75,12 @@ impl Cursor {
 impl Pattern {
     /// Where a byte leads from a state.
     pub(crate) fn entry(&self, scratch: &mut Scratch, state: u32, entering: bool, byte: u8) -> u32
-        requires same { IsFor scratch.old self.now }
+        requires same { Serves scratch.old self.now }
         requires known { IsKnown scratch.old.table state }
         ensures some { 0 < result }
         ensures entry { (st : Bool) (cs : List Bool) → IsState self.now scratch.old.table state st cs →
             IsEntry self.now scratch.new.table st entering cs byte result }
-        ensures same { IsFor scratch.new self.now }
+        ensures same { Serves scratch.new self.now }
     {
         let known = scratch.table.transitions(entering)[state as usize + byte as usize];
         if known != UNKNOWN {
@@ -97,7 +97,7 @@ impl Pattern {
         text: &[u8],
         cursor: Cursor,
     ) -> Cursor
-        requires same { IsFor scratch.old self.now }
+        requires same { Serves scratch.old self.now }
         requires known { IsKnown scratch.old.table cursor.state }
         requires within { cursor.place < length text.now }
         ensures place { result.place ≡ cursor.place + 1 }
@@ -106,7 +106,7 @@ impl Pattern {
         ensures known { IsKnown scratch.new.table result.state }
         ensures stood { (t : Tree) (from : ℕ → Bool) → Means t self.now → entering ≡ from cursor.place →
             Stood self.now scratch.old.table text.now t from cursor → Stood self.now scratch.new.table text.now t from result }
-        ensures same { IsFor scratch.new self.now }
+        ensures same { Serves scratch.new self.now }
     {
         let entry = self.entry(scratch, cursor.state, entering, text[cursor.place]);
         cursor.onto(entry)
@@ -121,7 +121,7 @@ impl Pattern {
         to: usize,
         cursor: Cursor,
     ) -> Cursor
-        requires same { IsFor scratch.now self.now }
+        requires same { Serves scratch.now self.now }
         requires known { IsKnown scratch.now.table cursor.state }
         requires order { cursor.place ≤ to }
         requires within { to ≤ length text.now }
@@ -212,7 +212,7 @@ impl Pattern {
         to: usize,
         cursor: Cursor,
     ) -> Cursor
-        requires same { IsFor scratch.old self.now }
+        requires same { Serves scratch.old self.now }
         requires known { IsKnown scratch.old.table cursor.state }
         requires order { cursor.place ≤ to }
         requires within { to ≤ length text.now }
@@ -222,7 +222,7 @@ impl Pattern {
         ensures known { IsKnown scratch.new.table result.state }
         ensures stood { (t : Tree) (from : ℕ → Bool) → Means t self.now → Enters from entering cursor.place to →
             Stood self.now scratch.old.table text.now t from cursor → Stood self.now scratch.new.table text.now t from result }
-        ensures same { IsFor scratch.new self.now }
+        ensures same { Serves scratch.new self.now }
     {
         let stops = !entering || scratch.anchored_at_start;
         let mut cursor = cursor;
@@ -241,7 +241,7 @@ impl Pattern {
     // Reads on, where matches may begin, up to the first end of a match, to where none that has begun goes on, or to the
     // text's end.
     pub(crate) fn run(&self, scratch: &mut Scratch, text: &[u8], cursor: Cursor) -> Cursor
-        requires same { IsFor scratch.old self.now }
+        requires same { Serves scratch.old self.now }
         requires known { IsKnown scratch.old.table cursor.state }
         requires within { cursor.place ≤ length text.now }
         ensures order { cursor.place ≤ result.place }
@@ -251,7 +251,7 @@ impl Pattern {
         ensures known { IsKnown scratch.new.table result.state }
         ensures stood { (t : Tree) (from : ℕ → Bool) → Means t self.now → Enters from true cursor.place result.place →
             Stood self.now scratch.old.table text.now t from cursor → Stood self.now scratch.new.table text.now t from result }
-        ensures same { IsFor scratch.new self.now }
+        ensures same { Serves scratch.new self.now }
     {
         let len = text.len();
         let mut cursor = cursor;

@@ -152,6 +152,18 @@ pub(crate) fn entry_to(number: usize, hit: bool) -> u32
 }
 
 impl Table {
+    /// A table of no state, for no search.
+    pub(crate) fn empty(alloc: Global) -> Table {
+        Table {
+            rows: Vec::new(alloc),
+            unanchored: Vec::new(alloc),
+            anchored: Vec::new(alloc),
+            count: 0,
+            limit: 0,
+            slots: Vec::new(alloc),
+        }
+    }
+
     /// A table of the first two states, with room for one more, for a program of this length.
     pub(crate) fn for_count(alloc: Global, count: usize) -> Result<Table, PatternFault>
         ensures limit { IfOk result (λ tb. tb.limit ≡ least_limit) }

@@ -2,7 +2,7 @@
 
 ghost use Rattle.std.specs.Prelude.{◌≡◌, ◌≤◌, ◌+◌, ◌*◌, Bool, List, true, length, take, drop, ◌<◌};
 ghost use Rattle.awk_ere.specs.support.SimulationStep.{AreFor, leaves, behind};
-ghost use Rattle.awk_ere.specs.support.Table.{IsKnown, IsState, IsEntry, IsFor};
+ghost use Rattle.awk_ere.specs.support.Table.{IsKnown, IsState, IsEntry, Serves};
 
 use crate::dfa::table::{DEAD, END_OF_TEXT, MATCH_FLAG, STRIDE, Table, UNKNOWN, entry_to};
 use crate::pattern::Pattern;
@@ -21,14 +21,14 @@ impl Pattern {
         byte: u8,
         end: bool,
     ) -> bool
-        requires same { IsFor scratch.old self.now }
+        requires same { Serves scratch.old self.now }
         requires known { IsKnown scratch.old.table state }
         ensures leaves { (st : Bool) (cs : List Bool) → IsState self.now scratch.old.table state st cs →
             result ≡ leaves self.now cs st entering end byte }
         ensures positions { (st : Bool) (cs : List Bool) → IsState self.now scratch.old.table state st cs →
             scratch.new.position_set.positions.items ≡ behind self.now cs st entering end byte }
         ensures table { scratch.new.table ≡ scratch.old.table }
-        ensures same { IsFor scratch.new self.now }
+        ensures same { Serves scratch.new self.now }
     {
         let number = state as usize / STRIDE - 1;
         scratch.position_set.load(&scratch.table, number);
@@ -50,12 +50,12 @@ impl Pattern {
         entering: bool,
         byte: u8,
     ) -> u32
-        requires same { IsFor scratch.old self.now }
+        requires same { Serves scratch.old self.now }
         requires known { IsKnown scratch.old.table state }
         ensures some { 0 < result }
         ensures entry { (st : Bool) (cs : List Bool) → IsState self.now scratch.old.table state st cs →
             IsEntry self.now scratch.new.table st entering cs byte result }
-        ensures same { IsFor scratch.new self.now }
+        ensures same { Serves scratch.new self.now }
     {
         let hit = self.step_from(scratch, state, entering, byte, false);
         let table = &mut scratch.table;
@@ -75,11 +75,11 @@ impl Pattern {
 
     /// Whether the flow leaves from a state at the text's end.
     pub(crate) fn leaves_at_end(&self, scratch: &mut Scratch, state: u32, entering: bool) -> bool
-        requires same { IsFor scratch.old self.now }
+        requires same { Serves scratch.old self.now }
         requires known { IsKnown scratch.old.table state }
         ensures leaves { (st : Bool) (cs : List Bool) → IsState self.now scratch.old.table state st cs →
             result ≡ leaves self.now cs st entering true 0 }
-        ensures same { IsFor scratch.new self.now }
+        ensures same { Serves scratch.new self.now }
     {
         let at = state as usize + END_OF_TEXT;
         let known = scratch.table.transitions(entering)[at];

@@ -1,6 +1,6 @@
 -- A match is found where one is decided to be.
-use Rattle.std.proofs.Common.{None, sym, ◌∙◌, arith}
-use Rattle.awk_ere.proofs.OccursDecided.{occurs_sound, occurs_complete, tells_ends}
+use Rattle.std.proofs.Common.{sym, ◌∙◌}
+use Rattle.awk_ere.proofs.OccursDecided.{occurs_sound, occurs_complete}
 use Rattle.awk_ere.proofs.LiteralOccurs.{literal_tells}
 use Rattle.awk_ere.proofs.pattern.Pattern.is_match.Goals as goal
 
@@ -13,10 +13,3 @@ pub returns-in-Some-clause-found : goal.returns-in-Some-clause-found
 returns-in-Some-clause-found c t means =
     let decided = returns-in-Some-clause-decided c t means in
     (λ e. occurs_sound t _ means.0 (sym decided ∙ e), λ o. decided ∙ occurs_complete t _ o)
-
-pub returns-clause-decided : goal.returns-clause-decided
-returns-clause-decided c t means = c.is_some-2.ensures ∙ tells_ends t _ _ means.0 (c.end_between.ensures.found t means)
-
-pub returns-then-lacks_required-clause-decided : goal.returns-then-lacks_required-clause-decided
-returns-then-lacks_required-clause-decided c t means =
-    tells_ends t c.args.text.now None means.0 (λ m. c.lacks_required.ensures c.if-lacks_required.true t means m.0 m.1 (omega arith) m.3 m.4)

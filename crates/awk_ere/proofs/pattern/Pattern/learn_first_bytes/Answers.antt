@@ -2,7 +2,7 @@ use Rattle.std.proofs.Common.{◌≡◌, ℕ, ◌+◌, ◌<◌, ◌≤◌, true,
 use Rattle.std.proofs.lemmas.Bool.{cases_lt, false≢true}
 use Rattle.awk_ere.specs.support.Layout.{byte_count}
 use Rattle.awk_ere.specs.support.SimulationStep.{IsStillAt}
-use Rattle.awk_ere.specs.support.Table.{IsFor, is_first, AreFirst}
+use Rattle.awk_ere.specs.support.Table.{Serves, is_first, AreFirst}
 use Rattle.awk_ere.specs.declared.pattern.Pattern.{Pattern}
 use Rattle.awk_ere.specs.declared.scratch.Scratch.{Scratch}
 use Rattle.awk_ere.specs.declared.first_bytes.FirstBytes.{FirstBytes}
@@ -20,7 +20,7 @@ one_more p old new byte n le still same here x lt none =
     (λ ge. let e : byte ≡ x = omega (arith, ge, lt, le) in subst (λ y. is_first new y ≡ false → IsStillAt p true y) e here none)
     (cases_lt x byte)
 
-learned : (p : Pattern) (s : Scratch) (f : FirstBytes) → IsFor s p → AreFirst f p → IsFor (record s { first_bytes = f }) p
+learned : (p : Pattern) (s : Scratch) (f : FirstBytes) → Serves s p → AreFirst f p → Serves (record s { first_bytes = f }) p
 learned p s f h first = record {
   position_set = h.position_set;
   table = h.table;
@@ -60,11 +60,11 @@ returns c =
       same =
           elim c.loop-byte-test.branch [
             | else-loop-byte-test w ↦ learned p c.loop-byte-test.scratch c.loop-byte-test.first
-                (subst (λ s. IsFor s p) (sym w.scratch-is) c.loop-byte.invariant.same)
+                (subst (λ s. Serves s p) (sym w.scratch-is) c.loop-byte.invariant.same)
                 (subst (λ f. AreFirst f p) (sym w.first-is)
                 (λ x lt none. c.loop-byte.invariant.still x (omega (arith, lt, w.loop-byte-test.false)) none))
             | then-loop-byte-test+else-byte-lt255 w ↦ learned p c.loop-byte-test.scratch c.loop-byte-test.first
-                (subst (λ s. IsFor s p) (sym w.scratch-is) w.entry.ensures.same)
+                (subst (λ s. Serves s p) (sym w.scratch-is) w.entry.ensures.same)
                 (subst (λ f. AreFirst f p) (sym w.first-is)
                 (elim w.if-entry-ne-DEAD.branch [
                   | then-entry-ne-DEAD+in_default v ↦ subst (λ f. AreFirst f p) (sym v.first-is)

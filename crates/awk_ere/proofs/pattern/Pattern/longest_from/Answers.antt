@@ -4,7 +4,7 @@ use Rattle.std.proofs.lemmas.Bool.{leb-true, and_parts}
 use Rattle.awk_ere.specs.support.Layout.{first_state}
 use Rattle.awk_ere.specs.support.Found.{EndsWithin, between}
 use Rattle.awk_ere.proofs.LastEnd.{enters_once, between_past, enters_end, ends_longest, ends_within}
-use Rattle.awk_ere.proofs.CursorKept.{known_first, stood_begin, end_hit, end_miss}
+use Rattle.awk_ere.proofs.CursorKept.{known_first, stood_begin, end_idle, end_hit, end_miss}
 use Rattle.awk_ere.proofs.pattern.Pattern.longest_from.Goals as goal
 
 pub bytes-init : goal.bytes-init
@@ -39,6 +39,16 @@ bytes-preserved c =
           c.last_loop-cursor.ensures.stood t (between from from) means
           (λ k a b. between_past from from k (omega (arith, c.bytes.invariant.order, a, c.advance-cursor.ensures.place)) (omega (arith, c.bytes.invariant.order, a, c.advance-cursor.ensures.place))) one;
     }
+
+pub returns-then-cursor-eq-DEAD-clause-found : goal.returns-then-cursor-eq-DEAD-clause-found
+returns-then-cursor-eq-DEAD-clause-found c = λ t means.
+    let p = c.args.self.now in
+    let s = c.args.text.now in
+    let from = c.args.from in
+    let end : c.bytes.cursor.place ≡ length s = omega (arith, c.bytes.invariant.within, c.bytes-test.false) in
+    ends_longest t s from _ c.requires.within
+    (end_idle false p c.bytes.scratch.table s t means from from c.bytes.cursor (c.bytes.invariant.stood t means) c.bytes.invariant.same.table
+    (omega (arith, end, c.if-from-len.true)) c.if-cursor-eq-DEAD.true)
 
 pub returns-then-leaves_at_end-clause-found : goal.returns-then-leaves_at_end-clause-found
 returns-then-leaves_at_end-clause-found c = λ t means.

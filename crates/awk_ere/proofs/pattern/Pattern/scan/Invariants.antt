@@ -1,13 +1,13 @@
 use Rattle.std.proofs.Common.{ℕ, ◌≤◌, ◌-◌, Bool}
 use Rattle.awk_ere.specs.definitions.Tree.{Tree}
 use Rattle.awk_ere.specs.definitions.Means.{Means}
-use Rattle.awk_ere.specs.support.Table.{IsKnown, IsFor}
+use Rattle.awk_ere.specs.support.Table.{IsKnown, Serves}
 use Rattle.awk_ere.specs.support.CursorState.{Stood, Enters}
 use Rattle.awk_ere.proofs.pattern.Pattern.scan.Given as goal
 
 abbrev pub invariant-bytes : goal.invariant-bytes
 invariant-bytes l = record {
-  same : IsFor l.scratch l.self;
+  same : Serves l.scratch l.self;
   known : IsKnown l.scratch.table l.cursor.state;
   order : l.fn.cursor.place ≤ l.cursor.place;
   within : l.cursor.place ≤ l.to;
