@@ -4,6 +4,8 @@
 #[cfg(test)]
 mod command;
 #[cfg(test)]
+mod inputs;
+#[cfg(test)]
 mod outputs;
 #[cfg(test)]
 mod programs;

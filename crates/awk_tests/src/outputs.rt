@@ -1,140 +1,124 @@
-// Runs that write to files and to commands, in a world that takes what is written and gives a number for each command.
+// Runs that write to files and to commands, in a world in memory that grants them and gives numbers for commands.
 
-use crate::worlds::was_given;
-use awk_command::main_words;
-use awk_streams::{InputKind, Mode, OutputKind, ScriptWorld, World, WorldFault};
+use crate::worlds::{call, grant, was_given};
+use awk_streams::{Answer, Entry, OutputKind, ScriptWorld};
 use std::alloc::{AllocError, Global};
 use std::process::Abort;
 use std::test::Fail;
 
-/// What a command's closing and its run give.
-const NUMBER: i128 = 3;
-
-/// A named output that was opened, and what it received.
-#[derive(Drop)]
-struct Opened {
-    id: u64,
-    name: Vec<u8>,
-    bytes: Vec<u8>,
-}
-
-/// A world that grants each output, over one that gives the inputs. It is not logged.
-#[derive(Drop)]
-struct Outside<W: Drop> {
-    alloc: Global,
-    // Each output stands there as a standard input.
-    inputs: W,
-    outputs: Vec<Opened>,
-}
-
-impl<W: Drop> Outside<W> {
-    fn new(alloc: Global, inputs: W) -> Self {
-        Outside {
-            alloc,
-            inputs,
-            outputs: Vec::new(alloc),
-        }
+// Grants the files x, f0 and f1 once, and the command c twice.
+fn answers(alloc: Global) -> Result<Vec<Answer>, AllocError> {
+    let mut answers = vec![in alloc;
+        Answer::Closing(3),
+        Answer::Run(256),
+        Answer::Closing(4),
+        Answer::Run(5),
+    ]?;
+    for name in ["x", "f0", "f1"] {
+        answers.push(grant(alloc, OutputKind::File, name.as_bytes())?)?;
     }
+    for _ in 0..2 {
+        answers.push(grant(alloc, OutputKind::Command, b"c")?)?;
+    }
+    Ok(answers)
+}
 
-    // The names of all openings of outputs, with what each received, one behind the other.
-    fn written(&self) -> Result<Vec<u8>, AllocError> {
-        let mut written = Vec::new(self.alloc);
-        for opened in &self.outputs {
-            written.extend_from_slice(&opened.name)?;
+// The names of all openings of outputs that were granted, with what each received, one behind the other.
+fn written(alloc: Global, world: &ScriptWorld) -> Result<Vec<u8>, AllocError> {
+    let mut written = Vec::new(alloc);
+    for entry in world.entries() {
+        if let Entry::OpenedOutput(_, name, _, Some(id)) = entry {
+            written.extend_from_slice(name)?;
             written.push(b':')?;
-            written.extend_from_slice(&opened.bytes)?;
+            written.extend_from_slice(&world.received(*id)?)?;
         }
-        Ok(written)
     }
+    Ok(written)
 }
 
-impl<W: World + Drop> World for Outside<W> {
-    ghost is_logged = { ⊥ };
-
-    ghost state = { λ world. W.state world.inputs };
-
-    ghost standard_open = { λ world id small. W.standard_open world.inputs id small };
-
-    fn open_input(&mut self, kind: InputKind, name: &[u8]) -> Result<u64, WorldFault> {
-        self.inputs.open_input(kind, name)
-    }
-
-    fn read(&mut self, id: u64, into: &mut [u8]) -> Result<usize, WorldFault> {
-        self.inputs.read(id, into)
-    }
-
-    fn open_output(
-        &mut self,
-        _kind: OutputKind,
-        name: &[u8],
-        _mode: Mode,
-    ) -> Result<u64, WorldFault> {
-        let name = name.to_vec(self.alloc)?;
-        self.outputs.reserve(1)?;
-        let id = self.inputs.open_input(InputKind::Standard, b"")?;
-        let bytes = Vec::new(self.alloc);
-        let _pushed = self.outputs.push(Opened { id, name, bytes });
-        Ok(id)
-    }
-
-    fn write(&mut self, id: u64, bytes: &[u8]) -> Result<usize, WorldFault> {
-        let Some(opened) = self.outputs.iter_mut().rfind(|opened| opened.id == id) else {
-            return self.inputs.write(id, bytes);
-        };
-        opened.bytes.extend_from_slice(bytes)?;
-        Ok(bytes.len())
-    }
-
-    fn flush(&mut self, id: u64) -> Result<(), WorldFault> {
-        self.inputs.flush(id)
-    }
-
-    fn close(&mut self, id: u64) -> i128 {
-        let _ = self.inputs.close(id);
-        NUMBER
-    }
-
-    fn run(&mut self, command: &[u8]) -> Result<i128, WorldFault> {
-        self.inputs.run(command)?;
-        Ok(NUMBER)
-    }
-}
-
-// Whether a program leaves this on standard output, and this on the named ones.
-fn leaves(alloc: Global, program: &str, output: &str, written: &str) -> Result<bool, AllocError> {
+// Whether a program ends with this status, and leaves this on standard output, and this on the named ones.
+fn leaves(
+    alloc: Global,
+    program: &str,
+    status: u8,
+    output: &str,
+    named: &str,
+) -> Result<bool, AllocError> {
     let words = vec![in alloc; program.as_bytes().to_vec(alloc)?]?;
-    let mut world = Outside::new(alloc, ScriptWorld::new(alloc, Vec::new(alloc)));
-    let status = main_words(alloc, &words, Vec::new(alloc), &mut world);
+    let mut world = ScriptWorld::new(alloc, answers(alloc)?);
+    let ended = call(alloc, &words, Vec::new(alloc), &mut world);
     Ok(
-        status == 0
-            && was_given(&world.inputs, 0, output.as_bytes())?
-            && world.written()?.as_slice() == written.as_bytes(),
+        ended == status
+            && was_given(&world, 0, output.as_bytes())?
+            && written(alloc, &world)?.as_slice() == named.as_bytes(),
     )
 }
 
 #[test]
 fn named_outputs(rt: HostRuntime) -> Result<(), Fail> {
     let alloc = rt.alloc();
-    for (program, output, written) in [
+    for (program, status, output, named) in [
         (
             r#"BEGIN { print "a" > "x"; print close("x"), close("x") }"#,
+            0,
             "0 -1\n",
             "x:a\n",
         ),
-        (r#"BEGIN { print 1 >> "x"; print 2 > "x" }"#, "", "x:1\n2\n"),
         (
-            r#"BEGIN { print "a" | "c"; print close("c"); print | "c" }"#,
-            "3\n",
+            r#"BEGIN { print 1 >> "x"; print 2 > "x" }"#,
+            0,
+            "",
+            "x:1\n2\n",
+        ),
+        (
+            r#"BEGIN { print 1 > "x"; close("x"); print 2 > "x" }"#,
+            2,
+            "",
+            "x:1\n",
+        ),
+        (
+            r#"BEGIN { print "a" | "c"; print close("c"); print | "c"; print close("c"), close("c") }"#,
+            0,
+            "3\n4 -1\n",
             "c:a\nc:\n",
         ),
-        (r#"BEGIN { print 1; print system("c") }"#, "1\n3\n", ""),
+        (
+            r#"BEGIN { print 1; print system("a"), system("c"), system("c") }"#,
+            0,
+            "1\n256 5 0\n",
+            "",
+        ),
         (
             r#"BEGIN { for (i = 1; i < 4; i++) print i > ("f" i % 2) }"#,
+            0,
             "",
             "f1:1\n3\nf0:2\n",
         ),
     ] {
-        assert!(rt; leaves(alloc, program, output, written)?, "{program}");
+        assert!(rt; leaves(alloc, program, status, output, named)?, "{program}");
     }
+    Ok(())
+}
+
+// Grants the files of the numbers from 1 on.
+fn numbered_files(alloc: Global, count: u64) -> Result<Vec<Answer>, AllocError> {
+    let mut answers = Vec::new(alloc);
+    for number in 1..=count {
+        let name = number.to_string(alloc)?;
+        answers.push(grant(alloc, OutputKind::File, name.as_bytes())?)?;
+    }
+    Ok(answers)
+}
+
+#[test]
+fn too_many_outputs(rt: HostRuntime) -> Result<(), Fail> {
+    let alloc = rt.alloc();
+    let program = "BEGIN { for (i = 1; i < 202; i++) print i > i }";
+    let words = vec![in alloc; program.as_bytes().to_vec(alloc)?]?;
+    let mut world = ScriptWorld::new(alloc, numbered_files(alloc, 201)?);
+    let status = call(alloc, &words, Vec::new(alloc), &mut world);
+    assert!(rt; status == 2);
+    assert!(rt; was_given(&world, 1, b"awk: fault 13: too many streams\n")?);
+    assert!(rt; was_given(&world, 201, b"200\n")?);
     Ok(())
 }

@@ -6,14 +6,19 @@
 //   | TEXT      the same, and then standard input breaks
 //   [f] TEXT    a line of the file f; the lines of one opening stand together
 //   (c) TEXT    a line that the command c gives; the lines of one opening stand together
+//   +[f]        an opening of the file f as an output is granted
+//   +(c)        the same of the command c
+//   ? N         a closing of a command gives this digit
+//   % N         a run of a command gives this digit
 //   *           the first write fails
 //   > TEXT      a line that is left on standard output
 //   ! TEXT      a line that is left on standard error
 //   = N         the status, and the end of the row
 ghost use Rattle.std.specs.Prelude.{◌≡◌, [], None};
 
-use crate::worlds::{answer, call, was_given};
-use awk_streams::{Answer, InputKind, ScriptWorld, World};
+use crate::worlds::{answer, call, grant, was_given};
+use awk_streams::{Answer, InputKind, OutputKind, ScriptWorld, World};
+use awk_world::Ending;
 use std::alloc::{AllocError, Global};
 use std::mem;
 use std::process::Abort;
@@ -60,6 +65,12 @@ impl Row {
             [b'(', name, b')', b' ', text @ ..] => {
                 return self.give(alloc, InputKind::Command, &[*name], text, b"\n");
             }
+            [b'+', b'[', name, b']'] => {
+                return self.list(grant(alloc, OutputKind::File, &[*name])?);
+            }
+            [b'+', b'(', name, b')'] => {
+                return self.list(grant(alloc, OutputKind::Command, &[*name])?);
+            }
             [mark, b' ', text @ ..] => (*mark, text),
             [mark] => (*mark, b"".as_slice()),
             _ => return Ok(()),
@@ -73,6 +84,8 @@ impl Row {
                 self.give(alloc, InputKind::Standard, b"", text, b"")?;
                 self.break_off();
             }
+            b'?' => self.list(Answer::Closing(number_of(text)))?,
+            b'%' => self.list(Answer::Run(number_of(text)))?,
             b'*' => self.is_full = true,
             b'>' => add_line(&mut self.output, text)?,
             b'!' => add_line(&mut self.errors, text)?,
@@ -81,10 +94,15 @@ impl Row {
         Ok(())
     }
 
+    fn list(&mut self, answer: Answer) -> Result<(), AllocError> {
+        self.answers.push(answer)?;
+        Ok(())
+    }
+
     // The input that stands last breaks behind its bytes.
     fn break_off(&mut self) {
-        if let Some(answer) = self.answers.last_mut() {
-            answer.breaks = true;
+        if let Some(Answer::Input(input)) = self.answers.last_mut() {
+            input.ending = Ending::Break;
         }
     }
 
@@ -98,18 +116,26 @@ impl Row {
         end: &[u8],
     ) -> Result<(), AllocError> {
         let is_same = match self.answers.last() {
-            Some(answer) => answer.kind == kind && answer.name.as_slice() == name,
-            None => false,
+            Some(Answer::Input(input)) => input.kind == kind && input.name.as_slice() == name,
+            Some(_) | None => false,
         };
         if !is_same {
-            self.answers
-                .push(answer(alloc, kind, name, Vec::new(alloc), false)?)?;
+            let input = answer(alloc, kind, name, Vec::new(alloc), false)?;
+            self.list(Answer::Input(input))?;
         }
-        if let Some(answer) = self.answers.last_mut() {
-            answer.bytes.extend_from_slice(text)?;
-            answer.bytes.extend_from_slice(end)?;
+        if let Some(Answer::Input(input)) = self.answers.last_mut() {
+            input.bytes.extend_from_slice(text)?;
+            input.bytes.extend_from_slice(end)?;
         }
         Ok(())
+    }
+}
+
+// The number of a digit.
+fn number_of(text: &[u8]) -> i128 {
+    match text {
+        [digit] => i128::from(digit.saturating_sub(b'0')),
+        _ => 0,
     }
 }
 

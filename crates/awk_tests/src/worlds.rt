@@ -3,7 +3,8 @@ ghost use Rattle.std.specs.Prelude.{◌≡◌, [], None};
 
 use awk_command::main_words;
 use awk_run::{Assignment, law_of_untouched};
-use awk_streams::{Answer, InputKind, ScriptWorld, World};
+use awk_streams::{Answer, Entry, InputKind, OutputKind, ScriptWorld, World};
+use awk_world::{Ending, InputAnswer, OutputAnswer};
 use std::alloc::{AllocError, Global};
 
 /// The answer of an input that is granted, and ends or breaks behind these bytes.
@@ -13,14 +14,75 @@ pub fn answer(
     name: &[u8],
     bytes: Vec<u8>,
     breaks: bool,
-) -> Result<Answer, AllocError> {
-    Ok(Answer {
+) -> Result<InputAnswer, AllocError> {
+    Ok(InputAnswer {
         kind,
         name: name.to_vec(alloc)?,
         refused: false,
         bytes,
-        breaks,
+        piece_ends: Vec::new(alloc),
+        ending: if breaks { Ending::Break } else { Ending::End },
     })
+}
+
+/// The answer of an output that is granted.
+pub fn grant(alloc: Global, kind: OutputKind, name: &[u8]) -> Result<Answer, AllocError> {
+    Ok(Answer::Output(OutputAnswer {
+        kind,
+        name: name.to_vec(alloc)?,
+        refused: false,
+    }))
+}
+
+/// The same answer once more.
+pub fn copy_of(alloc: Global, given: &Answer) -> Result<Answer, AllocError> {
+    Ok(match given {
+        Answer::Input(input) => {
+            let bytes = input.bytes.to_vec(alloc)?;
+            let breaks = input.ending == Ending::Break;
+            Answer::Input(answer(alloc, input.kind, &input.name, bytes, breaks)?)
+        }
+        Answer::Output(output) => grant(alloc, output.kind, &output.name)?,
+        Answer::Closing(number) => Answer::Closing(*number),
+        Answer::Run(number) => Answer::Run(*number),
+    })
+}
+
+/// An input breaks behind so many bytes.
+pub fn break_off(answer: &mut Answer, bytes: usize) {
+    if let Answer::Input(input) = answer {
+        input.bytes.truncate(bytes);
+        input.ending = Ending::Break;
+    }
+}
+
+/// An input is given in single bytes.
+pub fn cut_up(answer: &mut Answer) -> Result<(), AllocError> {
+    if let Answer::Input(input) = answer {
+        for end in 1..input.bytes.len() {
+            input.piece_ends.push(end)?;
+        }
+    }
+    Ok(())
+}
+
+/// How many bytes an input gives; other answers give none.
+pub fn len_of(answer: &Answer) -> usize {
+    match answer {
+        Answer::Input(input) => input.bytes.len(),
+        Answer::Output(_) | Answer::Closing(_) | Answer::Run(_) => 0,
+    }
+}
+
+/// What each opening of an output received, of which standard output is the first.
+pub fn outputs_of(alloc: Global, world: &ScriptWorld) -> Result<Vec<Vec<u8>>, AllocError> {
+    let mut outputs = vec![in alloc; world.received(0)?]?;
+    for entry in world.entries() {
+        if let Entry::OpenedOutput(_, _, _, Some(id)) = entry {
+            outputs.push(world.received(*id)?)?;
+        }
+    }
+    Ok(outputs)
 }
 
 /// Calls the program in a world in which nothing was done, and answers its status.

@@ -7,8 +7,8 @@ use Rattle.std.proofs.lemmas.List.Sums.{sum_by-set}
 use Rattle.std.proofs.lemmas.Option.{slice_get-map, slice_get_read}
 use Rattle.awk_world.specs.declared.script_stream.ScriptStream.{ScriptStream}
 use Rattle.awk_world.specs.declared.script_stream.Portion.TheVariants.{Bytes}
-use Rattle.awk_world.specs.definitions.Script.{GrantedInput, input_of, inputs_of}
-use Rattle.awk_world.specs.definitions.ScriptAnswers.{advanced, advanced_input}
+use Rattle.awk_world.specs.definitions.Script.{GrantedStream, stream_of, streams_of}
+use Rattle.awk_world.specs.definitions.ScriptAnswers.{advanced, advanced_stream, place_after}
 use Rattle.awk_world.specs.support.ScriptStreams.{open_at, open_count, CanAdvance}
 
 open_read : (xs : List ScriptStream) (i : ℕ) (d : ScriptStream) → IsTrue (open_at (slice_get xs i)) → (i < length xs) × ((get_or xs i d).open ≡ true)
@@ -32,9 +32,9 @@ open_at-set (z ∷ xs) zero (suc k) x y is same = refl
 open_at-set (z ∷ xs) (suc i) zero x y is same = refl
 open_at-set (z ∷ xs) (suc i) (suc k) x y is same = open_at-set xs i k x y is same
 
--- the input of a place
-pub input_at_place : (xs : List ScriptStream) (i : ℕ) (x : ScriptStream) → i < length xs → x ≡ get_or xs i x → slice_get (inputs_of xs) i ≡ Some (input_of x)
-input_at_place xs i x within is = slice_get-map input_of xs i ∙ ap (option_map input_of) (slice_get_read xs (length xs) i x refl within is)
+-- the stream of a place
+pub stream_at_place : (xs : List ScriptStream) (i : ℕ) (x : ScriptStream) → i < length xs → x ≡ get_or xs i x → slice_get (streams_of xs) i ≡ Some (stream_of x)
+stream_at_place xs i x within is = slice_get-map stream_of xs i ∙ ap (option_map stream_of) (slice_get_read xs (length xs) i x refl within is)
 
 pub same_bytes : (m n : ℕ) → Bytes m ≡ Bytes n → m ≡ n
 same_bytes m n e = cc
@@ -51,7 +51,7 @@ can_advance xs id i n x named within is fits =
     }
 
 -- so many more bytes of a stream were read
-pub inputs_of-advanced : (xs : List ScriptStream) (i n : ℕ) (x y : ScriptStream) → i < length xs → x ≡ get_or xs i x → input_of y ≡ record (input_of x) { at = x.at + n } → inputs_of (slice_set xs i y) ≡ advanced i n (inputs_of xs)
-inputs_of-advanced xs i n x y within is made =
-    let found = input_at_place xs i x within is in
-    map-set input_of xs i y ∙ (ap (λ (v : GrantedInput). slice_set (inputs_of xs) i v) made ∙ sym (ap (λ (o : Option GrantedInput). advanced_input o i n (inputs_of xs)) found))
+pub streams_of-advanced : (xs : List ScriptStream) (i n : ℕ) (x y : ScriptStream) → i < length xs → x ≡ get_or xs i x → stream_of y ≡ record (stream_of x) { at = place_after x.ending (length x.bytes.items) (x.at + n) } → streams_of (slice_set xs i y) ≡ advanced i n (streams_of xs)
+streams_of-advanced xs i n x y within is made =
+    let found = stream_at_place xs i x within is in
+    map-set stream_of xs i y ∙ (ap (λ (v : GrantedStream). slice_set (streams_of xs) i v) made ∙ sym (ap (λ (o : Option GrantedStream). advanced_stream o i n (streams_of xs)) found))

@@ -30,6 +30,17 @@ pub fn push_entry(log: &mut Vec<Entry>, entry: Entry)
     let _pushed = log.push(entry);
 }
 
+// Makes room for one more entry, and for so many closings.
+pub fn reserve_entry(log: &mut Vec<Entry>, closings: usize) -> Result<(), AllocError>
+    ensures items { log.new.items ≡ log.old.items }
+    ensures room { OnOk result (vec_len log.new + (closings + 1) ≤ vec_capacity log.new) }
+    ensures kept { vec_capacity log.old ≤ vec_capacity log.new }
+{
+    let room = closings.checked_add(1).ok_or(AllocError)?;
+    log.reserve(room)?;
+    Ok(())
+}
+
 // Adds an entry, and keeps room for so many closings.
 pub fn add_entry(log: &mut Vec<Entry>, closings: usize, entry: Entry) -> Result<(), AllocError>
     requires { vec_len log.old + closings ≤ vec_capacity log.old }
@@ -37,8 +48,7 @@ pub fn add_entry(log: &mut Vec<Entry>, closings: usize, entry: Entry) -> Result<
     ensures err { OnErr result (log.new.items ≡ log.old.items) }
     ensures room { vec_len log.new + closings ≤ vec_capacity log.new }
 {
-    let room = closings.checked_add(1).ok_or(AllocError)?;
-    log.reserve(room)?;
+    reserve_entry(log, closings)?;
     push_entry(log, entry);
     Ok(())
 }

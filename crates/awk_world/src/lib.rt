@@ -9,7 +9,7 @@ mod script_stream;
 mod script_world;
 mod world;
 
-pub use answer::Answer;
+pub use answer::{Answer, Ending, InputAnswer, OutputAnswer};
 pub use entry::Entry;
 pub use laws::{is_consistent_with_less, some_oracle_is_consistent};
 pub use script_world::ScriptWorld;

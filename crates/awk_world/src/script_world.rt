@@ -1,35 +1,35 @@
 // A world in memory that follows a script and stores its log.
 ghost use Rattle.std.specs.Prelude.{◌≡◌, ◌≤◌, ◌<◌, ◌+◌, [], ◌∷◌, vec_len, vec_capacity, OnOk, OnErr, IfErr};
-ghost use Rattle.std.specs.Prelude.{Some, None, IsTrue, IfOk, Ok, Err, length, take, slice_get, pos};
+ghost use Rattle.std.specs.Prelude.{Some, None, IsTrue, IfOk, Ok, Err, length, take, slice_get};
 ghost use Rattle.awk_world.specs.definitions.WorldState.{Logs, IsFresh, Opens, Closes, SameOpen};
 ghost use Rattle.awk_world.specs.definitions.Log.{Event, Closed, failure_after, logged, input_opening};
 ghost use Rattle.awk_world.specs.definitions.Log.{output_opening, reading, writing, flushing, running};
 ghost use Rattle.awk_world.specs.definitions.Writes.{received};
 ghost use Rattle.awk_world.specs.definitions.Script.{event_of, events};
 ghost use Rattle.awk_world.specs.definitions.ScriptAnswers.{IsAnswer, no_faults, refusing_memory, failing_write};
-ghost use Rattle.awk_world.specs.definitions.ScriptAnswers.{failing_flush, writing_at_most, with_plan, in_pieces, buffering};
-ghost use Rattle.awk_world.specs.definitions.ScriptAnswers.{after_call, after_write, after_flush, unless_refused};
-ghost use Rattle.awk_world.specs.definitions.ScriptAnswers.{write_answer, flush_answer, opening_answer, after_opening};
-ghost use Rattle.awk_world.specs.definitions.ScriptAnswers.{reading_answer, after_reading, input_under, unread};
+ghost use Rattle.awk_world.specs.definitions.ScriptAnswers.{failing_flush, writing_at_most, with_plan, buffering};
+ghost use Rattle.awk_world.specs.definitions.ScriptAnswers.{after_write, after_flush, write_answer, flush_answer};
+ghost use Rattle.awk_world.specs.definitions.ScriptAnswers.{input_answer, after_input, output_answer, after_output};
+ghost use Rattle.awk_world.specs.definitions.ScriptAnswers.{reading_answer, after_reading, stream_under, unread};
+ghost use Rattle.awk_world.specs.definitions.ScriptAnswers.{closing_answer, after_closing, run_answer, after_run};
 ghost use Rattle.awk_world.specs.support.ScriptStreams.{is_open_in, open_at, open_count, standard_outputs_open};
 
-use crate::answer::{Answer, take_answer};
-use crate::entry::{Entry, add_entry, push_entry, receive};
+use crate::answer::{Answer, take_closing, take_input, take_output, take_run};
+use crate::entry::{Entry, add_entry, push_entry, receive, reserve_entry};
 use crate::planned_faults::PlannedFaults;
-use crate::script_stream::{Portion, ScriptStream, add, advance, read_next, shut};
+use crate::script_stream::{Portion, ScriptStream, add, advance, is_of_command, read_next, shut};
 use crate::world::{InputKind, Mode, OUTPUT_BUFFER_SIZE, OutputKind, World, WorldFault};
 use std::alloc::{AllocError, Global};
 
-/// A world in memory. An opening of an input takes the first answer that is listed for its kind
-/// and name. Where none is listed, standard input is empty, and any other opening is refused; a
-/// closing and a run give 0. Calls fail where that was planned, and a reading gives all the bytes
-/// that it has room for, unless an input is handed over in pieces.
+/// A world in memory. Each opening, each closing of a command and each run takes the first answer that
+/// is listed for it. Where none is listed, standard input is empty, any other opening is refused, and
+/// a closing and a run give 0, as does the closing of a file. Calls fail where that was planned, and a
+/// reading gives all the bytes of a piece that it has room for.
 #[derive(Drop)]
 pub struct ScriptWorld {
     alloc: Global,
     answers: Vec<Answer>,
     streams: Vec<ScriptStream>,
-    piece_ends: Vec<usize>,
     buffer_size: usize,
     still_open: usize,
     faults: PlannedFaults,
@@ -70,13 +70,12 @@ impl ScriptWorld {
         ensures log { (⟦<ScriptWorld as World>⟧.state result).log ≡ [] }
         ensures first_failure { (⟦<ScriptWorld as World>⟧.state result).first_failure ≡ None }
         ensures script { script_of result
-            ≡ record { answers = answers.items; inputs = []; piece_ends = []; buffer_size = 65536; faults = no_faults } }
+            ≡ record { answers = answers.items; streams = []; buffer_size = 65536; faults = no_faults } }
     {
         ScriptWorld {
             alloc,
             answers,
             streams: Vec::new(alloc),
-            piece_ends: Vec::new(alloc),
             buffer_size: OUTPUT_BUFFER_SIZE,
             still_open: 0,
             faults: PlannedFaults::none(),
@@ -102,15 +101,6 @@ impl ScriptWorld {
             receive(&mut bytes, entry, output)?;
         }
         Ok(bytes)
-    }
-
-    /// Inputs are handed over in pieces from now on: no reading goes on behind one of these numbers
-    /// of bytes from the start of its input.
-    pub fn give_in_pieces(&mut self, piece_ends: Vec<usize>)
-        ensures script { script_of self.new ≡ in_pieces piece_ends.items (script_of self.old) }
-        ensures state { ⟦<ScriptWorld as World>⟧.state self.new ≡ ⟦<ScriptWorld as World>⟧.state self.old }
-    {
-        self.piece_ends = piece_ends;
     }
 
     /// A run may hold back so many bytes of an output from now on.
@@ -193,8 +183,8 @@ impl ScriptWorld {
         ensures opens { IfOk result
             (Opens (⟦<ScriptWorld as World>⟧.state self.old) (⟦<ScriptWorld as World>⟧.state self.new)) }
         ensures refused { OnErr result (self.new.streams.items ≡ self.old.streams.items) }
-        ensures answer { IsAnswer (opening_answer kind name.now (script_of self.old)) result }
-        ensures script { script_of self.new ≡ after_opening kind name.now result (script_of self.old) }
+        ensures answer { IsAnswer (input_answer kind name.now (script_of self.old)) result }
+        ensures script { script_of self.new ≡ after_input kind name.now result (script_of self.old) }
         ensures first_failure { self.new.first_failure ≡ self.old.first_failure }
     {
         if self.faults.refuses_call() {
@@ -202,7 +192,7 @@ impl ScriptWorld {
         }
         let name_copy = name.to_vec(self.alloc)?;
         let id = make_room(&mut self.streams, &mut self.log, self.still_open)?;
-        let Some(stream) = take_answer(self.alloc, &mut self.answers, kind, name) else {
+        let Some(stream) = take_input(self.alloc, &mut self.answers, kind, name) else {
             push_entry(&mut self.log, Entry::OpenedInput(kind, name_copy, None));
             return Err(WorldFault::Failed);
         };
@@ -218,14 +208,14 @@ impl ScriptWorld {
         ensures count { IfOk result (λ n. n ≤ length into.old) }
         ensures open { SameOpen (⟦<ScriptWorld as World>⟧.state self.old) (⟦<ScriptWorld as World>⟧.state self.new) }
         ensures answer { IsAnswer (reading_answer id (length into.old) (script_of self.old)) result }
-        ensures bytes { IfOk result (λ n. take n into.new ≡ take n (unread (input_under id (script_of self.old).inputs))) }
+        ensures bytes { IfOk result (λ n. take n into.new ≡ take n (unread (stream_under id (script_of self.old).streams))) }
         ensures script { script_of self.new ≡ after_reading id (length into.old) result (script_of self.old) }
         ensures first_failure { self.new.first_failure ≡ self.old.first_failure }
     {
         if self.faults.refuses_call() {
             return Err(WorldFault::Memory);
         }
-        match read_next(&self.streams, &self.piece_ends, id, into) {
+        match read_next(&self.streams, id, into) {
             Portion::Bytes(count) => {
                 let copy = into[..count].to_vec(self.alloc)?;
                 self.note_entry(Entry::Read(id, copy))?;
@@ -243,7 +233,6 @@ impl ScriptWorld {
         }
     }
 
-    // No answer is listed for an output, so that its opening is refused.
     fn try_open_output(
         &mut self,
         kind: OutputKind,
@@ -252,17 +241,33 @@ impl ScriptWorld {
     ) -> Result<u64, WorldFault>
         ensures log { events self.new.log.items
             ≡ logged (output_opening kind name.now mode result) (events self.old.log.items) }
-        ensures answer { IsAnswer (unless_refused self.old.faults (Err WorldFault.Failed)) result }
-        ensures script { script_of self.new ≡ with_plan (after_call self.old.faults) (script_of self.old) }
-        ensures streams { self.new.streams.items ≡ self.old.streams.items }
+        ensures fresh { IfOk result (IsFresh (⟦<ScriptWorld as World>⟧.state self.old)) }
+        ensures opens { IfOk result
+            (Opens (⟦<ScriptWorld as World>⟧.state self.old) (⟦<ScriptWorld as World>⟧.state self.new)) }
+        ensures refused { OnErr result (self.new.streams.items ≡ self.old.streams.items) }
+        ensures answer { IsAnswer (output_answer kind name.now (script_of self.old)) result }
+        ensures script { script_of self.new ≡ after_output kind name.now result (script_of self.old) }
         ensures first_failure { self.new.first_failure ≡ self.old.first_failure }
     {
         if self.faults.refuses_call() {
             return Err(WorldFault::Memory);
         }
-        let copy = name.to_vec(self.alloc)?;
-        self.note_entry(Entry::OpenedOutput(kind, copy, mode, None))?;
-        Err(WorldFault::Failed)
+        let name_copy = name.to_vec(self.alloc)?;
+        let id = make_room(&mut self.streams, &mut self.log, self.still_open)?;
+        let Some(stream) = take_output(self.alloc, &mut self.answers, kind, name) else {
+            push_entry(
+                &mut self.log,
+                Entry::OpenedOutput(kind, name_copy, mode, None),
+            );
+            return Err(WorldFault::Failed);
+        };
+        push_entry(
+            &mut self.log,
+            Entry::OpenedOutput(kind, name_copy, mode, Some(id)),
+        );
+        self.still_open += 1;
+        add(&mut self.streams, stream);
+        Ok(id)
     }
 
     fn try_write(&mut self, id: u64, bytes: &[u8]) -> Result<usize, WorldFault>
@@ -296,8 +301,8 @@ impl ScriptWorld {
     fn try_run(&mut self, command: &[u8]) -> Result<i128, WorldFault>
         ensures log { events self.new.log.items ≡ logged (running command.now result) (events self.old.log.items) }
         ensures never_failed { result ≡ Err WorldFault.Failed → ⊥ }
-        ensures answer { IsAnswer (unless_refused self.old.faults (Ok (pos 0))) result }
-        ensures script { script_of self.new ≡ with_plan (after_call self.old.faults) (script_of self.old) }
+        ensures answer { IsAnswer (run_answer (script_of self.old)) result }
+        ensures script { script_of self.new ≡ after_run result (script_of self.old) }
         ensures streams { self.new.streams.items ≡ self.old.streams.items }
         ensures first_failure { self.new.first_failure ≡ self.old.first_failure }
     {
@@ -305,22 +310,43 @@ impl ScriptWorld {
             return Err(WorldFault::Memory);
         }
         let copy = command.to_vec(self.alloc)?;
-        self.note_entry(Entry::Ran(copy, 0))?;
-        Ok(0)
+        reserve_entry(&mut self.log, self.still_open)?;
+        let number = take_run(&mut self.answers);
+        push_entry(&mut self.log, Entry::Ran(copy, number));
+        Ok(number)
+    }
+
+    // The number that the closing of a stream gives.
+    fn closing_number(&mut self, id: u64) -> i128
+        ensures answer { result ≡ closing_answer id (script_of self.old) }
+        ensures script { script_of self.new ≡ after_closing id (script_of self.old) }
+        ensures log { self.new.log.items ≡ self.old.log.items }
+        ensures streams { self.new.streams.items ≡ self.old.streams.items }
+        ensures first_failure { self.new.first_failure ≡ self.old.first_failure }
+    {
+        if is_of_command(&self.streams, id) {
+            take_closing(&mut self.answers)
+        } else {
+            0
+        }
     }
 
     // The stream's opening made the room for this entry.
-    fn note_closing(&mut self, place: usize)
+    fn note_closing(&mut self, place: usize) -> i128
         requires { IsTrue (open_at (slice_get self.old.streams.items place)) }
-        ensures log { events self.new.log.items ≡ Event.Closed (place + 2) (pos 0) ∷ events self.old.log.items }
+        ensures log { events self.new.log.items ≡ Event.Closed (place + 2) result ∷ events self.old.log.items }
         ensures closes { Closes (⟦<ScriptWorld as World>⟧.state self.old) (⟦<ScriptWorld as World>⟧.state self.new)
             (place + 2) }
-        ensures script { script_of self.new ≡ script_of self.old }
+        ensures answer { result ≡ closing_answer (place + 2) (script_of self.old) }
+        ensures script { script_of self.new ≡ after_closing (place + 2) (script_of self.old) }
         ensures first_failure { self.new.first_failure ≡ self.old.first_failure }
     {
+        let id = place as u64 + 2;
+        let number = self.closing_number(id);
         shut(&mut self.streams, place);
-        push_entry(&mut self.log, Entry::Closed(place as u64 + 2, 0));
+        push_entry(&mut self.log, Entry::Closed(id, number));
         self.still_open -= 1;
+        number
     }
 }
 
@@ -342,8 +368,8 @@ impl World for ScriptWorld {
             (SameOpen (⟦<ScriptWorld as World>⟧.state self.old) (⟦<ScriptWorld as World>⟧.state self.new)) }
         ensures logs { Logs (input_opening kind name.now result) (⟦<ScriptWorld as World>⟧.state self.old)
             (⟦<ScriptWorld as World>⟧.state self.new) }
-        ensures answer { IsAnswer (opening_answer kind name.now (script_of self.old)) result }
-        ensures script { script_of self.new ≡ after_opening kind name.now result (script_of self.old) }
+        ensures answer { IsAnswer (input_answer kind name.now (script_of self.old)) result }
+        ensures script { script_of self.new ≡ after_input kind name.now result (script_of self.old) }
     {
         match self.try_open_input(kind, name) {
             Ok(id) => Ok(id),
@@ -361,7 +387,7 @@ impl World for ScriptWorld {
         ensures logs { Logs (reading id result into.new) (⟦<ScriptWorld as World>⟧.state self.old)
             (⟦<ScriptWorld as World>⟧.state self.new) }
         ensures answer { IsAnswer (reading_answer id (length into.old) (script_of self.old)) result }
-        ensures bytes { IfOk result (λ n. take n into.new ≡ take n (unread (input_under id (script_of self.old).inputs))) }
+        ensures bytes { IfOk result (λ n. take n into.new ≡ take n (unread (stream_under id (script_of self.old).streams))) }
         ensures script { script_of self.new ≡ after_reading id (length into.old) result (script_of self.old) }
     {
         match self.try_read(id, into) {
@@ -382,8 +408,8 @@ impl World for ScriptWorld {
             (SameOpen (⟦<ScriptWorld as World>⟧.state self.old) (⟦<ScriptWorld as World>⟧.state self.new)) }
         ensures logs { Logs (output_opening kind name.now mode result) (⟦<ScriptWorld as World>⟧.state self.old)
             (⟦<ScriptWorld as World>⟧.state self.new) }
-        ensures answer { IsAnswer (unless_refused (script_of self.old).faults (Err WorldFault.Failed)) result }
-        ensures script { script_of self.new ≡ with_plan (after_call (script_of self.old).faults) (script_of self.old) }
+        ensures answer { IsAnswer (output_answer kind name.now (script_of self.old)) result }
+        ensures script { script_of self.new ≡ after_output kind name.now result (script_of self.old) }
     {
         match self.try_open_output(kind, name, mode) {
             Ok(id) => Ok(id),
@@ -416,7 +442,7 @@ impl World for ScriptWorld {
         }
     }
 
-    fn output_buffer_size(&self) -> usize
+    fn output_buffer_size(&self, _id: u64) -> usize
         ensures { result ≡ (script_of self.now).buffer_size }
     {
         self.buffer_size
@@ -444,11 +470,10 @@ impl World for ScriptWorld {
         ensures closes { Closes (⟦<ScriptWorld as World>⟧.state self.old) (⟦<ScriptWorld as World>⟧.state self.new) id }
         ensures logs { Logs (Some (Closed id result)) (⟦<ScriptWorld as World>⟧.state self.old)
             (⟦<ScriptWorld as World>⟧.state self.new) }
-        ensures answer { result ≡ pos 0 }
-        ensures script { script_of self.new ≡ script_of self.old }
+        ensures answer { result ≡ closing_answer id (script_of self.old) }
+        ensures script { script_of self.new ≡ after_closing id (script_of self.old) }
     {
-        self.note_closing(id as usize - 2);
-        0
+        self.note_closing(id as usize - 2)
     }
 
     fn run(&mut self, command: &[u8]) -> Result<i128, WorldFault>
@@ -456,8 +481,8 @@ impl World for ScriptWorld {
         ensures never_failed { result ≡ Err WorldFault.Failed → ⊥ }
         ensures logs { Logs (running command.now result) (⟦<ScriptWorld as World>⟧.state self.old)
             (⟦<ScriptWorld as World>⟧.state self.new) }
-        ensures answer { IsAnswer (unless_refused (script_of self.old).faults (Ok (pos 0))) result }
-        ensures script { script_of self.new ≡ with_plan (after_call (script_of self.old).faults) (script_of self.old) }
+        ensures answer { IsAnswer (run_answer (script_of self.old)) result }
+        ensures script { script_of self.new ≡ after_run result (script_of self.old) }
     {
         match self.try_run(command) {
             Ok(answer) => Ok(answer),

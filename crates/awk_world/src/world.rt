@@ -95,10 +95,11 @@ pub trait World {
         ensures open { SameOpen (state self.old) (state self.new) }
         ensures logs { is_logged → Logs (writing id result bytes.now) (state self.old) (state self.new) };
 
-    /// How many bytes of an output a run may hold back before it writes them: less than
+    /// How many bytes of this output a run may hold back before it writes them: less than
     /// `OUTPUT_BUFFER_SIZE` where what is printed is to be seen sooner, as on a terminal. It is a wish,
-    /// on which no clause rests.
-    fn output_buffer_size(&self) -> usize {
+    /// on which no clause rests. A run asks for it where it prints to an output that holds nothing back
+    /// and has no room, and not at each print.
+    fn output_buffer_size(&self, _id: u64) -> usize {
         OUTPUT_BUFFER_SIZE
     }
 

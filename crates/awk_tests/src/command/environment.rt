@@ -2,7 +2,7 @@
 
 use crate::worlds::{answer, call, was_given};
 use awk_run::Assignment;
-use awk_streams::{InputKind, ScriptWorld};
+use awk_streams::{Answer, InputKind, ScriptWorld};
 use std::alloc::{AllocError, Global};
 use std::test::Fail;
 
@@ -32,7 +32,7 @@ fn copy_line(alloc: Global) -> Result<(u8, bool), AllocError> {
     )?;
     let words = vec![in alloc; b"{print}".to_vec(alloc)?]?;
     let environ = environ(alloc)?;
-    let mut world = ScriptWorld::new(alloc, vec![in alloc; line]?);
+    let mut world = ScriptWorld::new(alloc, vec![in alloc; Answer::Input(line)]?);
     let status = call(alloc, &words, environ, &mut world);
     Ok((status, was_given(&world, 0, b"a\n")?))
 }

@@ -1,7 +1,7 @@
 // What no row of text can say of program files: that one breaks, or is long.
 
 use crate::worlds::{answer, call, was_given};
-use awk_streams::{Entry, InputKind, ScriptWorld};
+use awk_streams::{Answer, Entry, InputKind, ScriptWorld};
 use std::alloc::{AllocError, Global};
 use std::test::Fail;
 
@@ -9,7 +9,7 @@ use std::test::Fail;
 fn run_file(alloc: Global, bytes: Vec<u8>) -> Result<(u8, ScriptWorld), AllocError> {
     let file = answer(alloc, InputKind::File, b"p", bytes, true)?;
     let words = vec![in alloc; b"-f".to_vec(alloc)?, b"p".to_vec(alloc)?]?;
-    let mut world = ScriptWorld::new(alloc, vec![in alloc; file]?);
+    let mut world = ScriptWorld::new(alloc, vec![in alloc; Answer::Input(file)]?);
     let status = call(alloc, &words, Vec::new(alloc), &mut world);
     Ok((status, world))
 }

@@ -3,7 +3,7 @@
 ghost use Rattle.std.specs.Prelude.{◌≡◌, ◌≤◌, [], None, IfOk};
 
 use crate::rows::{Row, expect_rows, rows_of};
-use crate::worlds::answer;
+use crate::worlds::{break_off, copy_of, cut_up, len_of, outputs_of};
 use awk_command::{CommandLine, ProgramSource, read_command_line};
 use awk_run::{Fault, Outcome, Start, execute, law_of_untouched};
 use awk_streams::{Answer, Entry, OUTPUT_BUFFER_SIZE, ScriptWorld, World};
@@ -150,6 +150,16 @@ $ BEGIN { print 1; printf "2" | "c" }
 > 1
 ! awk: fault 10: output not opened
 = 2
+$ BEGIN { print 1; print 2 > "x"; print 3 | "c"; print close("x"), close("c"), system("c"); print 4 | "c"; print 5 }
++[x]
++(c)
++(c)
+? 7
+% 6
+> 1
+> 0 7 6
+> 5
+= 0
 "#;
 
 // A program with all that its run depends on, and where its row ends.
@@ -168,7 +178,8 @@ struct Program {
 #[derive(Drop)]
 struct Left {
     outcome: Outcome,
-    output: Vec<u8>,
+    // What each opening of an output received, of which standard output is the first.
+    outputs: Vec<Vec<u8>>,
     world: ScriptWorld,
 }
 
@@ -213,14 +224,27 @@ impl Program {
     ) -> Result<Vec<Answer>, AllocError> {
         let mut answers = Vec::new(alloc);
         for (i, given) in self.answers.iter().enumerate() {
-            let breaks = given.breaks || i == place;
-            let mut copy = given.bytes.to_vec(alloc)?;
+            let mut copy = copy_of(alloc, given)?;
             if i == place {
-                copy.truncate(bytes);
+                break_off(&mut copy, bytes);
             }
-            answers.push(answer(alloc, given.kind, &given.name, copy, breaks)?)?;
+            answers.push(copy)?;
         }
         Ok(answers)
+    }
+
+    // A fresh world of its answers, in which each input is given in single bytes.
+    fn world_in_pieces(&self, alloc: Global) -> Result<ScriptWorld, AllocError>
+        ensures log { IfOk result (λ world. (⟦<ScriptWorld as World>⟧.state world).log ≡ []) }
+        ensures first_failure { IfOk result (λ world. (⟦<ScriptWorld as World>⟧.state world).first_failure ≡ None) }
+    {
+        let mut answers = self.answers_that_break(alloc, self.answers.len(), 0)?;
+        for answer in &mut answers {
+            cut_up(answer)?;
+        }
+        let mut world = ScriptWorld::new(alloc, answers);
+        world.buffer_outputs(self.buffer);
+        Ok(world)
     }
 
     // A fresh world of its answers.
@@ -256,10 +280,10 @@ impl Program {
         let Ok(outcome) = execute(alloc, &self.text, &self.start, limit, &mut world) else {
             return Err(Fail::new("no program"));
         };
-        let output = world.received(0)?;
+        let outputs = outputs_of(alloc, &world)?;
         Ok(Left {
             outcome,
-            output,
+            outputs,
             world,
         })
     }
@@ -267,12 +291,18 @@ impl Program {
 
 impl Left {
     fn is_same(&self, whole: &Left) -> bool {
-        self.outcome == whole.outcome && self.output.as_slice() == whole.output.as_slice()
+        self.outcome == whole.outcome && self.outputs == whole.outputs
     }
 
     // Whether it ended so, and printed a beginning of what the undisturbed run prints.
     fn broke_off(&self, outcome: Outcome, whole: &Left) -> bool {
-        self.outcome == outcome && whole.output.starts_with(&self.output)
+        self.outcome == outcome
+            && self.outputs.len() <= whole.outputs.len()
+            && self
+                .outputs
+                .iter()
+                .zip(&whole.outputs)
+                .all(|(part, all)| all.starts_with(part))
     }
 }
 
@@ -352,7 +382,7 @@ fn expect_breaks(
 ) -> Result<(), Fail> {
     let broken = Outcome::Fault(Fault::InputNotReadable);
     for (place, answer) in program.answers.iter().enumerate() {
-        for bytes in 0..=answer.bytes.len() {
+        for bytes in 0..=len_of(answer) {
             let world = program.world_that_breaks(alloc, place, bytes)?;
             let left = program.run(alloc, program.limit, world)?;
             let line = program.line;
@@ -372,14 +402,7 @@ fn expect_pieces(
     program: &Program,
     whole: &Left,
 ) -> Result<(), Fail> {
-    let mut ends = Vec::new(alloc);
-    for answer in &program.answers {
-        for end in 1..answer.bytes.len() {
-            ends.push(end)?;
-        }
-    }
-    let mut world = program.world(alloc)?;
-    world.give_in_pieces(ends);
+    let mut world = program.world_in_pieces(alloc)?;
     world.short_writes(1);
     let left = program.run(alloc, program.limit, world)?;
     let line = program.line;

@@ -7,7 +7,7 @@ use awk_run::{
     Assignment, Fault, Outcome, Start, fault_line, law_of_limits, law_of_outcomes, law_of_turns,
     one_program, status,
 };
-use awk_streams::InputKind;
+use awk_streams::{Answer, InputKind};
 use std::alloc::{AllocError, Global};
 use std::process::Abort;
 use std::test::Fail;
@@ -23,7 +23,7 @@ fn run(
     let bytes = input.to_vec(alloc)?;
     let mut input = answer(alloc, InputKind::Standard, b"", bytes, false)?;
     input.refused = refused;
-    let answers = vec![in alloc; input]?;
+    let answers = vec![in alloc; Answer::Input(input)]?;
     Ok(run_in_memory(alloc, answers, text, start, 9))
 }
 

@@ -9,7 +9,7 @@ ghost use Rattle.awk_run.specs.Runs.{Runs};
 
 use crate::worlds::answer;
 use awk_lex::refusal::Refusal;
-use awk_run::{Outcome, Start, execute, execute_counted, law_of_untouched};
+use awk_run::{Outcome, Start, execute, law_of_untouched, read_program, run_counted};
 use awk_streams::{Answer, InputKind, ScriptWorld, World};
 use std::alloc::{AllocError, Global};
 use std::process::Abort;
@@ -64,13 +64,14 @@ fn counts(alloc: Global, text: &[u8]) -> Result<Option<(u64, u64)>, AllocError> 
         bytes.extend_from_slice(b"a b c\n")?;
     }
     let input = answer(alloc, InputKind::Standard, b"", bytes, false)?;
-    let answers = vec![in alloc; input]?;
+    let answers = vec![in alloc; Answer::Input(input)]?;
     law_of_untouched();
     let mut world = ScriptWorld::new(alloc, answers);
-    match execute_counted(alloc, text, &Start::new(alloc), 99, &mut world) {
-        Ok(run) => Ok(Some((run.splits, run.joins))),
-        Err(_) => Ok(None),
-    }
+    let Ok(program) = read_program(alloc, text) else {
+        return Ok(None);
+    };
+    let (_, splits, joins) = run_counted(alloc, &program, &Start::new(alloc), 99, &mut world);
+    Ok(Some((splits, joins)))
 }
 
 #[test]

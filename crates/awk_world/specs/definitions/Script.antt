@@ -1,6 +1,7 @@
 -- What the stored log of a world in memory says, and its script: what it is still to answer.
 use Rattle.std.specs.Prelude.{ℕ, Bool, List, map, reverse}
 use Rattle.awk_world.specs.declared.answer.Answer.{Answer}
+use Rattle.awk_world.specs.declared.answer.Ending.{Ending}
 use Rattle.awk_world.specs.declared.entry.Entry.{Entry}
 use Rattle.awk_world.specs.declared.entry.Entry.TheVariants.{OpenedInput, OpenedOutput, Read, Ended, Broke, Wrote, Flushed, Closed, Ran}
 use Rattle.awk_world.specs.declared.planned_faults.PlannedFaults.{PlannedFaults}
@@ -23,23 +24,25 @@ event_of (Ran command answer) = log.Ran command.items answer
 abbrev pub events : List Entry → List Event
 events entries = reverse (map event_of entries)
 
--- an input that was granted: its bytes, whether it breaks behind them, and how many were read
-pub record GrantedInput : Type 0 where
+-- a stream that was granted: whether it is a command's, the bytes of an input, where its pieces end, what comes behind its
+-- bytes, and the place up to which it was read; an output is one that breaks when it is read
+pub record GrantedStream : Type 0 where
+  pub is_command : Bool
   pub bytes : List ℕ
-  pub breaks : Bool
+  pub piece_ends : List ℕ
+  pub ending : Ending
   pub at : ℕ
 
--- the answers that no opening took yet; the inputs that were granted, the first of them under the number 2; where the
--- pieces end in which each input is handed over; the size of an output's buffer; and the failures that are planned
+-- the answers that no call took yet; the streams that were granted, the first of them under the number 2; the size of an
+-- output's buffer; and the failures that are planned
 pub record Script : Type 0 where
   pub answers : List Answer
-  pub inputs : List GrantedInput
-  pub piece_ends : List ℕ
+  pub streams : List GrantedStream
   pub buffer_size : ℕ
   pub faults : PlannedFaults
 
-abbrev pub input_of : ScriptStream → GrantedInput
-input_of s = record { bytes = s.bytes.items; breaks = s.breaks; at = s.at }
+abbrev pub stream_of : ScriptStream → GrantedStream
+stream_of s = record { is_command = s.is_command; bytes = s.bytes.items; piece_ends = s.piece_ends.items; ending = s.ending; at = s.at }
 
-abbrev pub inputs_of : List ScriptStream → List GrantedInput
-inputs_of streams = map input_of streams
+abbrev pub streams_of : List ScriptStream → List GrantedStream
+streams_of streams = map stream_of streams

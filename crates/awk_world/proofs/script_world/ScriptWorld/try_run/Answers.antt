@@ -1,5 +1,6 @@
-use Rattle.std.proofs.Common.{rules}
+use Rattle.std.proofs.Common.{arith}
+use Rattle.std.proofs.lemmas.Grind.{common_steps}
 use Rattle.awk_world.proofs.script_world.ScriptWorld.try_run.Goals as goal
 
 pub returns-clause-log : goal.returns-clause-log
-returns-clause-log c = search rules
+returns-clause-log c = grind (arith, common_steps)

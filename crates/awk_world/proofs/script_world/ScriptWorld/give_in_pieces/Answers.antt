@@ -1,5 +1,0 @@
-use Rattle.std.proofs.Common.{refl}
-use Rattle.awk_world.proofs.script_world.ScriptWorld.give_in_pieces.Goals as goal
-
-pub returns-clause-script : goal.returns-clause-script
-returns-clause-script c = refl
