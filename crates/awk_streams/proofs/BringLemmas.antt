@@ -13,7 +13,7 @@ use Rattle.awk_world.specs.definitions.Openings.{Opening, openings, in_order, re
 use Rattle.awk_world.specs.definitions.Grows.{Grows}
 use Rattle.awk_streams.specs.declared.fault.StreamFault.{StreamFault}
 use Rattle.awk_streams.specs.definitions.Streams.{with_held, is_output_among, AreBringing}
-use Rattle.awk_streams.specs.support.Buffered.{WritesAndFlushes}
+use Rattle.awk_streams.specs.definitions.Outputs.{WritesAndFlushes}
 use Rattle.awk_streams.specs.support.Kept.{SameAt, AreOfOutput}
 use Rattle.awk_streams.specs.support.Held.{ChangesHeld}
 use Rattle.awk_streams.specs.support.Brings.{Touches, BringsHeld, AreFlushedBut}

@@ -7,8 +7,8 @@ use Rattle.awk_streams.specs.declared.fault.StreamFault.{StreamFault}
 use Rattle.awk_world.specs.definitions.Log.{Event, Wrote}
 use Rattle.awk_world.specs.definitions.WorldState.{WorldState}
 use Rattle.awk_world.specs.definitions.Writes.{GoesOn, Writes, with_events}
-use Rattle.awk_streams.specs.definitions.Outputs.{WritesAll, Flushes}
-use Rattle.awk_streams.specs.support.Buffered.{PrintsOrHolds, WritesAndFlushes}
+use Rattle.awk_streams.specs.definitions.Outputs.{WritesAll, Flushes, WritesAndFlushes}
+use Rattle.awk_streams.specs.support.Buffered.{PrintsOrHolds}
 use Rattle.awk_streams.proofs.GrowsLemmas.{Grows-self, Grows-then, fails_later, with_events-append}
 
 on_ok : {P Q : Type 0} (r : Result (Unit {0}) StreamFault) → (P → Q) → OnOk r P → OnOk r Q

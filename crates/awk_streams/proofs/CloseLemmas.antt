@@ -130,7 +130,7 @@ same_self : (n : words.Named) → words.same_named n n ≡ true
 same_self (words.Input kind name) = opens_input-self kind name
 same_self (words.Output kind name) = output_self kind name
 
-number_here : (front back : List NamedStream) (x : NamedStream) → HaveOtherNames (name_of x) front → words.number_among (numbered (front ++ x ∷ back)) (name_of x) ≡ Some (number_of x)
+pub number_here : (front back : List NamedStream) (x : NamedStream) → HaveOtherNames (name_of x) front → words.number_among (numbered (front ++ x ∷ back)) (name_of x) ≡ Some (number_of x)
 number_here [] back x h = cond-true _ _ _ (same_self (name_of x))
 number_here (y ∷ front) back x h = cond-false _ _ _ h.0 ∙ number_here front back x h.1
 
@@ -138,7 +138,7 @@ without_others : (n : words.Named) (xs : List NamedStream) → HaveOtherNames n 
 without_others n [] h = refl
 without_others n (y ∷ ys) h = cond-true _ _ _ (ap not h.0) ∙ ap (λ l. (name_of y, number_of y) ∷ l) (without_others n ys h.1)
 
-numbers_without : (front back : List NamedStream) (x : NamedStream) → HaveOtherNames (name_of x) front → HaveOtherNames (name_of x) back → numbered (front ++ back) ≡ words.without_number (name_of x) (numbered (front ++ x ∷ back))
+pub numbers_without : (front back : List NamedStream) (x : NamedStream) → HaveOtherNames (name_of x) front → HaveOtherNames (name_of x) back → numbered (front ++ back) ≡ words.without_number (name_of x) (numbered (front ++ x ∷ back))
 numbers_without [] back x f b = sym (cond-false _ _ _ (ap not (same_self (name_of x))) ∙ without_others (name_of x) back b)
 numbers_without (y ∷ front) back x f b = sym (cond-true _ _ _ (ap not f.0) ∙ ap (λ l. (name_of y, number_of y) ∷ l) (sym (numbers_without front back x f.1 b)))
 

@@ -10,7 +10,7 @@ use Rattle.awk_streams.specs.declared.input.Input.{Input}
 use Rattle.awk_streams.specs.definitions.Named.{Named}
 use Rattle.awk_streams.specs.definitions.Streams.{StreamsView, held_of, with_held, printed_openings, AreBringing, all_unheld}
 use Rattle.awk_streams.specs.definitions.MainInput.{EndsMain, closed_main}
-use Rattle.awk_streams.specs.definitions.Commands.{ClosesEach, BringsAll, all_names, AreOfTheEnd, EndsAll, Finishes}
+use Rattle.awk_streams.specs.definitions.Commands.{ClosesEach, BringsAll, all_names, AreOfTheEnd, EndsAll, BringsAndCloses, Finishes}
 use Rattle.awk_streams.specs.support.Held.{HoldsNothing}
 use Rattle.awk_streams.specs.support.Brings.{BringsHeld, AreFlushedBut}
 use Rattle.awk_streams.proofs.GrowsLemmas.{Grows-then, with_events-append}
@@ -121,9 +121,9 @@ err_same : (result : Result (Unit {0}) StreamFault) (y z : Option ℕ) → OnErr
 err_same (Ok u) y z p q = tt
 err_same (Err e) y z p q = ap is_some q ∙ p
 
-pub finishes : (before mid later after : WorldState) (old s v new : StreamsView) (result : Result (Unit {0}) StreamFault) (answer : ℤ) → BringsHeld before (held_of old) result mid (held_of s) → s.main ≡ old.main → all_unheld s.named ≡ all_unheld old.named → HoldsNothing s → OnOk result (AreFlushedBut [] mid.log) →
+pub finishes : (before mid later after : WorldState) (old s v new : StreamsView) (result : Result (Unit {0}) StreamFault) (answer : ℤ) → BringsAndCloses before old result after → BringsHeld before (held_of old) result mid (held_of s) → s.main ≡ old.main → all_unheld s.named ≡ all_unheld old.named → HoldsNothing s → OnOk result (AreFlushedBut [] mid.log) →
     v ≡ record s { main = None } → EndsMain mid s later v → ClosesEach (all_names v.named) (pos 0) later v answer after new → Finishes before old result after new
-finishes before mid later after old s v new result answer b main same empty flushed is ends closes =
+finishes before mid later after old s v new result answer each b main same empty flushed is ends closes =
     let both = finishes_ends before mid later after old s v new result answer b main same empty flushed is ends closes in
     let later_failure : later.first_failure ≡ mid.first_failure = ends.no_failure in
     let last_failure : after.first_failure ≡ mid.first_failure = each_no_failure (all_names v.named) (pos 0) answer later after v new closes ∙ later_failure in
@@ -139,6 +139,7 @@ finishes before mid later after old s v new result answer b main same empty flus
         closes = closed;
         failure = λ n none some. (b.touches.grows.met none n (sym last_failure ∙ some)).1;
       };
+      each = each;
       ends = both.0;
       brought = both.1;
       begins = subst (λ l. Begins l (printed_openings before old)) (sym received) b.begins;

@@ -17,7 +17,7 @@ use Rattle.awk_streams.specs.declared.named.NamedStream.{NamedStream}
 use Rattle.awk_streams.specs.declared.named.NamedStream.TheVariants as named
 use Rattle.awk_streams.specs.definitions.Streams.{StreamsView, AreOpen, AreSound, number_of, held_of, is_output_among, AreBringing, unheld, all_unheld}
 use Rattle.awk_streams.specs.definitions.Flushes.{is_standard_output, is_standard_error, is_output_called, is_number_among, is_standard_number, AreBringingTo}
-use Rattle.awk_streams.specs.support.Buffered.{WritesAndFlushes}
+use Rattle.awk_streams.specs.definitions.Outputs.{WritesAndFlushes}
 use Rattle.awk_streams.specs.support.Kept.{AreOfOutput}
 use Rattle.awk_streams.specs.support.Held.{ChangesHeld, held_by}
 use Rattle.awk_streams.specs.support.Brings.{FlushesNamed, BringsHeld}

@@ -30,6 +30,7 @@ pub mod NextLemmas
 pub mod RunLemmas
 pub mod CloseLemmas
 pub mod ClosesLemmas
+pub mod EachLemmas
 pub mod FinishLemmas
 pub mod EmptiedLemmas
 pub mod FlushLemmas

@@ -1,10 +1,11 @@
 -- What a run of a command tells.
 use Rattle.std.proofs.Common.{◌≡◌, ◌+◌, inl, inr, ℕ, ℤ, List, [], ◌∷◌, None, Result, Ok, Err, refl, sym, ◌∙◌, ap, subst, arith}
+use Rattle.std.specs.Prelude.{OnErr}
 use Rattle.awk_world.specs.declared.world.WorldFault.{WorldFault}
 use Rattle.awk_world.specs.declared.world.WorldFault.TheVariants.{Memory as WorldMemory, Failed}
 use Rattle.awk_world.specs.definitions.Log.{Event, Ran, running}
 use Rattle.awk_world.specs.definitions.Writes.{GoesOn}
-use Rattle.awk_world.specs.definitions.WorldState.{WorldState, Logs, SameOpen}
+use Rattle.awk_world.specs.definitions.WorldState.{WorldState, Logs, SameOpen, FailsNow}
 use Rattle.awk_world.specs.definitions.Openings.{openings, in_order, Begins}
 use Rattle.awk_streams.specs.declared.fault.StreamFault.{StreamFault}
 use Rattle.awk_streams.specs.declared.fault.StreamFault.TheVariants as fault
@@ -87,3 +88,8 @@ run_unbrought command before mid old s e (inr failed) brings fails =
       ran = loses_bytes before mid old s (Err e) brings;
       failure = subst (λ (f : StreamFault). FailsBy f before mid) failed fails;
     }
+
+-- a run that fails is the world's failure
+pub run_fails : (command : List ℕ) (before mid after : WorldState) (r : Result ℤ WorldFault) → mid.first_failure ≡ before.first_failure → Logs (running command r) mid after → OnErr (run_answer_of r) (FailsNow before after)
+run_fails command before mid after (Ok n) same logs = tt
+run_fails command before mid after (Err fault) same logs = fails_later before mid after same (fails_now mid after logs)

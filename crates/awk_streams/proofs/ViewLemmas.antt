@@ -15,7 +15,7 @@ use Rattle.awk_streams.specs.definitions.Named as words
 use Rattle.awk_streams.specs.definitions.Streams.{StreamsView, numbered, IsOpenMain, AreOpenNamed, AreOthers, IsApartFrom, AreApart, AreOpen, number_of, held_in, held_of, with_held, is_output_among, IsSoundMain, AreSoundNamed, AreSound, IsMainRest, StandFor, AreAs, FailsBy, Brings, all_unheld}
 use Rattle.awk_streams.specs.definitions.NamedOutputs.{LosesBytes}
 use Rattle.awk_streams.specs.definitions.Commands.{BringsAll}
-use Rattle.awk_streams.specs.support.Buffered.{WritesAndFlushes}
+use Rattle.awk_streams.specs.definitions.Outputs.{WritesAndFlushes}
 use Rattle.awk_streams.specs.support.Kept.{SameAt}
 use Rattle.awk_streams.specs.support.Held.{ChangesHeld, AreEmpty, HoldsNothing}
 use Rattle.awk_streams.specs.support.Brings.{Touches, BringsHeld, BringsTo, AreFlushedBut}

@@ -1,5 +1,12 @@
-//! The streams of a run over any world: its main input, its standard outputs, and named files and
-//! commands.
+//! The streams of a run over any world, and the world.
+//!
+//! - `World`: the outside as a trait: openings, readings, writings, flushes, closings and runs of commands, with the log of
+//!   them; `InputKind`, `OutputKind`, `Mode`, `WorldFault` are its words. `ScriptWorld` is a world in memory made from a
+//!   list of `Answer`s, which stores its log as `Entry`s.
+//! - `Streams`: the main input, the standard outputs, and files and commands by name: `open_main`, `next_main`,
+//!   `next_named`, `open_output`, `print`, `flush`, `flush_all`, `close`, `run`, `finish`; `Target` is where a print goes,
+//!   and its faults are `StreamFault`s. `print_error` writes a line to standard error.
+//! - `some_oracle_is_consistent`, `is_consistent_with_less`: laws of logs and what an oracle would answer.
 #![tactic(auto)]
 
 mod fault;

@@ -9,6 +9,7 @@ ghost use Rattle.std.specs.List.{position, list_any};
 ghost use Rattle.awk_world.specs.definitions.WorldState.{SameOpen, FailsNow};
 ghost use Rattle.awk_streams.specs.definitions.Outputs.{IsOutputFault};
 ghost use Rattle.awk_streams.specs.definitions.Streams.{AreOpenNamed, AreApart, AreSoundNamed, held_in};
+ghost use Rattle.awk_streams.specs.definitions.Commands.{BringsEach};
 ghost use Rattle.awk_streams.specs.definitions.Flushes.{is_output_called as is_output_called_so};
 ghost use Rattle.awk_streams.specs.support.Places.{is_named_input, is_named_output};
 ghost use Rattle.awk_streams.specs.support.Buffered.{PrintsOrHolds};
@@ -229,6 +230,7 @@ pub fn bring_each<W: World>(named: &mut [NamedStream], world: &mut W) -> Result<
         BringsHeld (W.state world.old) (held_in named.old) result (W.state world.new) (held_in named.new) }
     ensures flushed { OnOk result (W.is_logged → AreFlushedBut (held_in named.old) (W.state world.old).log →
         AreFlushedBut [] (W.state world.new).log) }
+    ensures each { W.is_logged → BringsEach (held_in named.old) (W.state world.old) result (W.state world.new) }
 {
     let mut brought = Ok(());
     for stream in named.iter_mut() {

@@ -2,8 +2,8 @@
 // buffer of the size that the world asks for has room.
 ghost use Rattle.std.specs.Prelude.{◌≡◌, ◌++◌, [], IsTrue, IfErr, if◌then◌else◌};
 ghost use Rattle.awk_world.specs.definitions.WorldState.{SameOpen};
-ghost use Rattle.awk_streams.specs.definitions.Outputs.{output_fault_of, IsOutputFault, WritesAll, Flushes};
-ghost use Rattle.awk_streams.specs.support.Buffered.{PrintsOrHolds, WritesAndFlushes};
+ghost use Rattle.awk_streams.specs.definitions.Outputs.{output_fault_of, IsOutputFault, WritesAll, Flushes, WritesAndFlushes};
+ghost use Rattle.awk_streams.specs.support.Buffered.{PrintsOrHolds};
 ghost use Rattle.awk_streams.specs.support.Closes.{run_answer_of};
 
 use crate::fault::StreamFault;
@@ -123,30 +123,6 @@ fn write_held<W: World>(world: &mut W, id: u64, held: &mut Vec<u8>) -> Result<()
     written
 }
 
-// Prints the bytes: holds them back, or writes what is held and then holds back or writes them.
-fn print_held<W: World>(
-    world: &mut W,
-    id: u64,
-    held: &mut Vec<u8>,
-    bytes: &[u8],
-) -> Result<(), StreamFault>
-    requires { IsTrue ((W.state world.old).is_open id) }
-    ensures open { SameOpen (W.state world.old) (W.state world.new) }
-    ensures fault { IfErr result IsOutputFault }
-    ensures told { W.is_logged →
-        PrintsOrHolds id held.old.items bytes.now (W.state world.old) result held.new.items (W.state world.new) }
-{
-    let size = world.output_buffer_size();
-    if hold(held, size, bytes) {
-        return Ok(());
-    }
-    write_held(world, id, held)?;
-    if hold(held, size, bytes) {
-        return Ok(());
-    }
-    write_all(world, id, bytes)
-}
-
 // Writes what is held back, and flushes the output.
 fn flush_held<W: World>(world: &mut W, id: u64, held: &mut Vec<u8>) -> Result<(), StreamFault>
     requires { IsTrue ((W.state world.old).is_open id) }
@@ -163,6 +139,8 @@ fn flush_held<W: World>(world: &mut W, id: u64, held: &mut Vec<u8>) -> Result<()
 #[derive(Drop)]
 pub struct OutputBuffer {
     bytes: Vec<u8>,
+    // How many bytes it may hold back, as the world answered when it was asked last.
+    size: usize,
 }
 
 impl Model for OutputBuffer {
@@ -180,6 +158,7 @@ impl OutputBuffer {
     {
         OutputBuffer {
             bytes: Vec::new(alloc),
+            size: 0,
         }
     }
 
@@ -190,6 +169,8 @@ impl OutputBuffer {
         self.bytes.reserve(OUTPUT_BUFFER_SIZE)
     }
 
+    // Prints the bytes: holds them back, or writes what is held and then holds back or writes them.
+    // The world is asked how much is to be held back only where there is no room.
     pub fn print<W: World>(
         &mut self,
         world: &mut W,
@@ -202,25 +183,33 @@ impl OutputBuffer {
         ensures told { W.is_logged →
             PrintsOrHolds id self.old bytes.now (W.state world.old) result self.new (W.state world.new) }
     {
-        print_held(world, id, &mut self.bytes, bytes)
+        if hold(&mut self.bytes, self.size, bytes) {
+            return Ok(());
+        }
+        write_held(world, id, &mut self.bytes)?;
+        self.size = world.output_buffer_size(id);
+        if hold(&mut self.bytes, self.size, bytes) {
+            return Ok(());
+        }
+        write_all(world, id, bytes)
     }
 
-    // Holds two texts back, where a buffer of this size has room for both.
+    // Holds two texts back, where there is room for both.
     #[inline]
-    pub fn hold_both(&mut self, size: usize, front: &[u8], behind: &[u8]) -> bool
+    pub fn hold_both(&mut self, front: &[u8], behind: &[u8]) -> bool
         ensures { self.new ≡ (if result then self.old ++ (front.now ++ behind.now) else self.old) }
     {
-        hold_both(&mut self.bytes, size, front, behind)
+        hold_both(&mut self.bytes, self.size, front, behind)
     }
 
-    // Gives away what is held back, and how many bytes more a buffer of this size has room for.
+    // Gives away what is held back, and how many bytes more there is room for.
     #[inline]
-    pub fn lend(&mut self, alloc: Global, size: usize) -> (Vec<u8>, usize)
+    pub fn lend(&mut self, alloc: Global) -> (Vec<u8>, usize)
         ensures lent { result.0.items ≡ self.old }
         ensures empty { self.new ≡ [] }
     {
         let bytes = mem::replace(&mut self.bytes, Vec::new(alloc));
-        let room = size.min(bytes.capacity()).saturating_sub(bytes.len());
+        let room = self.size.min(bytes.capacity()).saturating_sub(bytes.len());
         (bytes, room)
     }
 

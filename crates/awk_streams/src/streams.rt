@@ -95,8 +95,8 @@ impl Streams {
     }
 
     /// Opens the main input: standard input, or the file of a name. Fails with `Memory` (F1), or
-    /// with `InputNotReadable` (F9) where the world refuses; an `Err` changes nothing here.
-    /// (POSIX awk, INPUT FILES)
+    /// with `InputNotReadable` (F9) where the world refuses; an `Err` changes nothing here. Takes no
+    /// memory of its own. (POSIX awk, INPUT FILES)
     pub fn open_main<W: World>(
         &mut self,
         world: &mut W,
@@ -114,6 +114,7 @@ impl Streams {
         ensures open { AreOpen (W.state world.new) self.new }
         ensures sound { W.is_logged → AreSound (W.state world.new) self.new }
         ensures told { W.is_logged → OpensMain kind name.now (W.state world.old) self.old result (W.state world.new) self.new }
+        ensures memory { W.is_logged → result ≡ Err StreamFault.Memory → FailsNow (W.state world.old) (W.state world.new) }
     {
         match world.open_input(kind, name) {
             Ok(id) => {

@@ -1,5 +1,5 @@
 // What stands open under a number.
-ghost use Rattle.std.specs.Prelude.{◌≡◌, ◌≤◌, IfOk, false, length, pos};
+ghost use Rattle.std.specs.Prelude.{◌≡◌, ◌≤◌, IfOk, true, false, length, pos};
 ghost use Rattle.std.specs.Io.KnownBytes.{ReadConsumes};
 ghost use Rattle.awk_system.specs.definitions.Commands.{IsCommandNumber};
 ghost use Rattle.awk_system.specs.definitions.Opened.{is_command};
@@ -8,7 +8,7 @@ use crate::calls::{read_from, write_to};
 use crate::commands::{read_output, wait_for, write_input};
 use awk_world::WorldFault;
 use std::fs::File;
-use std::io::Read;
+use std::io::{IsTerminal, Read};
 use std::process::{Child, OpenProcess};
 
 /// What stands open under a number.
@@ -45,6 +45,17 @@ impl<P: OpenProcess + Drop> Opened<P> {
             Opened::Output(file) => write_to(file, bytes),
             Opened::Command(child) => write_input(child, bytes),
             Opened::StandardInput | Opened::Input(_) | Opened::Unstarted => Err(WorldFault::Failed),
+        }
+    }
+
+    /// Whether it is an output on a terminal.
+    pub fn is_terminal(&self) -> bool
+        ensures { is_command self.now ≡ true → result ≡ false }
+    {
+        match self {
+            Opened::Output(file) => file.is_terminal(),
+            Opened::StandardInput | Opened::Input(_) | Opened::Unstarted | Opened::Command(_) =>
+                false,
         }
     }
 

@@ -35,8 +35,8 @@ const STANDARD_INPUT_NAME: &str = "/dev/stdin";
 
 /// The system as the outside of a run: its standard streams, its files, and its commands, which
 /// `sh -c` runs (POSIX awk, Input/Output and General Functions). Each call is one of the system's,
-/// begun again where a signal interrupts it: nothing is held back here, and nothing read ahead. Where
-/// standard output is a terminal, the world asks that what is printed be written at once. It is not
+/// begun again where a signal interrupts it: nothing is held back here, and nothing read ahead. The
+/// world asks that what is printed to standard error or to a terminal be written at once. It is not
 /// logged.
 ///
 /// A name or a command to be opened is refused (`Failed`) where it is not UTF-8 or holds a NUL, and
@@ -167,6 +167,22 @@ impl<
         Ok(Opened::Input(file))
     }
 
+    /// Whether what is printed to an output is to be seen at once: standard error, and what is a terminal.
+    fn is_seen_at_once(&self, id: u64) -> bool
+        ensures output { id ≡ 0 → result ≡ self.now.is_terminal }
+        ensures error { id ≡ 1 → result ≡ true }
+        ensures command { 2 ≤ id → is_command_at id self.now.opened ≡ true → result ≡ false }
+    {
+        match id {
+            STANDARD_OUTPUT => self.is_terminal,
+            STANDARD_ERROR => true,
+            _ => match self.opened.get(&id) {
+                Some(opened) => opened.is_terminal(),
+                None => false,
+            },
+        }
+    }
+
     /// Opens a file to be written.
     fn open_writer(&self, name: &[u8], mode: Mode) -> Result<File, WorldFault>
         ensures { ¬ (IsUtf8 name.now) → result ≡ Err WorldFault.Failed }
@@ -267,10 +283,12 @@ impl<
         }
     }
 
-    fn output_buffer_size(&self) -> usize
-        ensures { result ≡ (if self.now.is_terminal then 0 else 65536) }
+    fn output_buffer_size(&self, id: u64) -> usize
+        ensures output { id ≡ 0 → result ≡ (if self.now.is_terminal then 0 else 65536) }
+        ensures error { id ≡ 1 → result ≡ 0 }
+        ensures command { 2 ≤ id → is_command_at id self.now.opened ≡ true → result ≡ 65536 }
     {
-        if self.is_terminal {
+        if self.is_seen_at_once(id) {
             0
         } else {
             OUTPUT_BUFFER_SIZE

@@ -1,5 +1,6 @@
 -- What closings, runs of commands and the end of a run do (POSIX awk, Input/Output and General Functions: close, system).
-use Rattle.std.specs.Prelude.{◌≡◌, ◌+◌, ◌≤◌, ℕ, ℤ, pos, negsuc, Bool, true, false, List, [], ◌∷◌, length, Option, None, Some, is_some, filter, Result, Ok, Err, OnOk, OnErr, if◌then◌else◌}
+use Rattle.std.specs.Prelude.{◌≡◌, ◌+◌, ◌≤◌, ℕ, ℤ, pos, negsuc, Bool, true, false, List, [], ◌∷◌, ◌++◌, map, length, Option, None, Some, is_some, filter, Result, Ok, Err, OnOk, OnErr, if◌then◌else◌}
+use Rattle.std.specs.Result.{result_and}
 use Rattle.awk_world.specs.declared.world.InputKind.{InputKind}
 use Rattle.awk_world.specs.declared.world.OutputKind.{OutputKind}
 use Rattle.awk_world.specs.definitions.WorldState.{WorldState}
@@ -10,9 +11,11 @@ use Rattle.awk_world.specs.definitions.Openings.{outputs_of, AreBrought, Begins}
 use Rattle.awk_world.specs.definitions.Grows.{Grows}
 use Rattle.awk_streams.specs.declared.fault.StreamFault.{StreamFault}
 use Rattle.awk_streams.specs.declared.fault.StreamFault.TheVariants.{Memory, WriteFailed}
+use Rattle.awk_streams.specs.declared.input.Input.{Input}
 use Rattle.awk_streams.specs.declared.named.NamedStream.{NamedStream}
 use Rattle.awk_streams.specs.definitions.Named.{Named, Stream, is_command, is_other, number_among, without_number}
-use Rattle.awk_streams.specs.definitions.Streams.{StreamsView, name_of, numbered, is_called, printed_openings, AreAs, FailsAs, AreBringing, Brings}
+use Rattle.awk_streams.specs.definitions.Outputs.{WritesAndFlushes}
+use Rattle.awk_streams.specs.definitions.Streams.{StreamsView, number_of, name_of, numbered, is_called, held_of, printed_openings, AreAs, FailsAs, AreBringing, Brings}
 use Rattle.awk_streams.specs.definitions.MainInput.{EndsMain}
 use Rattle.awk_streams.specs.definitions.NamedOutputs.{LosesBytes}
 
@@ -151,11 +154,40 @@ pub record BringsFirst (before after : WorldState) : Type 0 where
   pub closes : GoesOn AreOfTheEnd log after.log
   pub failure : (n : ℕ) → before.first_failure ≡ None → after.first_failure ≡ Some n → n ≤ length log
 
+-- these outputs are brought in turn, each of them whether or not one before it failed, and an output that fails gets no more
+-- bytes; the first failure is the result
+abbrev pub BringsEach : List (ℕ × List ℕ) → WorldState → Result (Unit {0}) StreamFault → WorldState → Type 0
+BringsEach [] before result after = (result ≡ Ok tt) × (after ≡ before)
+BringsEach (h ∷ hs) before result after =
+    (first : Result (Unit {0}) StreamFault) × (rest : Result (Unit {0}) StreamFault) × (world : WorldState) × (result ≡ result_and first rest) × WritesAndFlushes h.0 h.1 before first world × BringsEach hs world rest after
+
+-- what stands open under these numbers is closed in this order, whatever the closings answer, and nothing else is done
+abbrev pub AreClosings : List ℕ → List Event → Type 0
+AreClosings [] [] = Unit {0}
+AreClosings (id ∷ ids) (Closed i answer ∷ es) = (i ≡ id) × AreClosings ids es
+AreClosings ids es = ⊥
+
+abbrev pub main_number : Option Input → List ℕ
+main_number None = []
+main_number (Some input) = input.id ∷ []
+
+-- the number of the main input, if it is open, and those of the named streams in the order of their openings
+abbrev pub numbers_open : StreamsView → List ℕ
+numbers_open streams = main_number streams.main ++ map number_of streams.named
+
+-- on every result standard output, standard error and the named outputs are brought in this order, and then all is closed
+pub record BringsAndCloses (before : WorldState) (old : StreamsView) (result : Result (Unit {0}) StreamFault) (after : WorldState) : Type 0 where
+  pub world : WorldState
+  pub brings : BringsEach (held_of old) before result world
+  pub closes : GoesOn (AreClosings (numbers_open old)) world.log after.log
+  pub no_failure : after.first_failure ≡ world.first_failure
+
 -- the end of a run
 pub record Finishes (before : WorldState) (old : StreamsView) (result : Result (Unit {0}) StreamFault) (after : WorldState) (new : StreamsView) : Type 0 where
   pub grows : Grows before after
   pub only : GoesOn AreOfTheEnd before.log after.log
   pub first : BringsFirst before after
+  pub each : BringsAndCloses before old result after
   pub ends : OnOk result (EndsAll before old after new)
   pub brought : OnOk result (AreBrought (printed_openings before old) after.log)
   pub begins : Begins (outputs_of after.log) (printed_openings before old)

@@ -5,6 +5,7 @@ use Rattle.awk_streams.specs.declared.fault.StreamFault.{StreamFault}
 use Rattle.awk_streams.specs.declared.fault.StreamFault.TheVariants.{Memory, WriteFailed}
 use Rattle.awk_world.specs.declared.world.WorldFault.{WorldFault}
 use Rattle.awk_world.specs.declared.world.WorldFault.TheVariants.{Memory as WorldMemory, Failed}
+use Rattle.awk_world.specs.definitions.Log.{Event}
 use Rattle.awk_world.specs.definitions.WorldState.{WorldState, FailsNow}
 use Rattle.awk_world.specs.definitions.Writes.{GoesOn, Writes, flushed_if}
 use Rattle.awk_world.specs.definitions.Grows.{Grows}
@@ -30,6 +31,19 @@ pub record WritesAll (id : ℕ) (bytes : List ℕ) (before : WorldState) (result
 -- the output was flushed, or there was a failure
 pub record Flushes (id : ℕ) (before : WorldState) (result : Result (Unit {0}) StreamFault) (after : WorldState) : Type 0 where
   pub adds : after.log ≡ flushed_if (is_ok result) id before.log
+  pub no_failure : OnOk result (after.first_failure ≡ before.first_failure)
+  pub failure : OnErr result (is_some after.first_failure ≡ true)
+  pub fails : OnErr result (FailsNow before after)
+  pub grows : Grows before after
+
+-- the bytes that were held back are written, or a beginning of them; then the output is flushed, or there was a failure
+pub record WritesAndFlushes (id : ℕ) (held : List ℕ) (before : WorldState) (result : Result (Unit {0}) StreamFault) (after : WorldState) : Type 0 where
+  pub count : ℕ
+  pub within : count ≤ length held
+  pub written : List Event
+  pub writes : GoesOn (Writes id (take count held)) before.log written
+  pub adds : after.log ≡ flushed_if (is_ok result) id written
+  pub all : OnOk result (count ≡ length held)
   pub no_failure : OnOk result (after.first_failure ≡ before.first_failure)
   pub failure : OnErr result (is_some after.first_failure ≡ true)
   pub fails : OnErr result (FailsNow before after)

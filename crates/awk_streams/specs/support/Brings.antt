@@ -11,7 +11,7 @@ use Rattle.awk_streams.specs.declared.fault.StreamFault.{StreamFault}
 use Rattle.awk_streams.specs.declared.named.NamedStream.{NamedStream}
 use Rattle.awk_streams.specs.declared.named.NamedStream.TheVariants as named
 use Rattle.awk_streams.specs.definitions.Streams.{StreamsView, AreOpen, AreSound, held_of, with_held, is_output_among, AreBringing}
-use Rattle.awk_streams.specs.support.Buffered.{WritesAndFlushes}
+use Rattle.awk_streams.specs.definitions.Outputs.{WritesAndFlushes}
 use Rattle.awk_streams.specs.support.Kept.{SameAt}
 
 -- bytes were brought to some of these outputs, or some of them flushed; nothing else was done

@@ -17,16 +17,3 @@ pub record PrintsOrHolds (id : ℕ) (held bytes : List ℕ) (before : WorldState
   pub writes : WritesAll id written before result after
   pub holds : OnOk result (held' ≡ more)
   pub empty : OnErr result (held' ≡ [])
-
--- the bytes that were held back are written, or a beginning of them; then the output is flushed, or there was a failure
-pub record WritesAndFlushes (id : ℕ) (held : List ℕ) (before : WorldState) (result : Result (Unit {0}) StreamFault) (after : WorldState) : Type 0 where
-  pub count : ℕ
-  pub within : count ≤ length held
-  pub written : List Event
-  pub writes : GoesOn (Writes id (take count held)) before.log written
-  pub adds : after.log ≡ flushed_if (is_ok result) id written
-  pub all : OnOk result (count ≡ length held)
-  pub no_failure : OnOk result (after.first_failure ≡ before.first_failure)
-  pub failure : OnErr result (is_some after.first_failure ≡ true)
-  pub fails : OnErr result (FailsNow before after)
-  pub grows : Grows before after

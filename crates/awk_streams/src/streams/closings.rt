@@ -1,9 +1,9 @@
 // Closings, and the end of a run.
 ghost use Rattle.std.specs.Prelude.{◌≡◌, ◌<◌, ◌≤◌, List, ℕ, ℤ, [], length, None, IsTrue, IfErr, OnOk, OnErr, pos, negsuc, if◌then◌else◌};
-ghost use Rattle.awk_world.specs.definitions.WorldState.{SameOpen};
+ghost use Rattle.awk_world.specs.definitions.WorldState.{FailsNow};
 ghost use Rattle.awk_streams.specs.definitions.Outputs.{IsOutputFault};
 ghost use Rattle.awk_streams.specs.definitions.Streams.{AreOpen, AreSound, held_of, name_of};
-ghost use Rattle.awk_streams.specs.definitions.Commands.{ClosesStream, ClosesEach, ClosesText, Finishes, names_called, all_names};
+ghost use Rattle.awk_streams.specs.definitions.Commands.{ClosesStream, ClosesEach, ClosesText, BringsEach, Finishes, names_called, all_names};
 ghost use Rattle.awk_streams.specs.definitions.Streams.{all_unheld};
 ghost use Rattle.awk_streams.specs.support.Held.{HoldsNothing};
 ghost use Rattle.awk_streams.specs.support.Brings.{BringsHeld, AreFlushedBut};
@@ -26,7 +26,7 @@ impl Streams {
     /// Closes each named stream of this text, in the order of their openings, once all outputs are
     /// flushed. Answers for the last one: 0 for a file, the world's number for a command; -1 where none
     /// is open. Fails with `Memory` (F1) or `WriteFailed` (F2) where a flush fails; then nothing is
-    /// closed. (POSIX awk, Input/Output and General Functions: close)
+    /// closed. Takes no memory of its own. (POSIX awk, Input/Output and General Functions: close)
     pub fn close<W: World>(&mut self, world: &mut W, text: &[u8]) -> Result<i128, StreamFault>
         requires open { AreOpen (W.state world.old) self.old }
         requires sound { W.is_logged → AreSound (W.state world.old) self.old }
@@ -35,6 +35,7 @@ impl Streams {
         ensures open { AreOpen (W.state world.new) self.new }
         ensures sound { W.is_logged → AreSound (W.state world.new) self.new }
         ensures told { W.is_logged → ClosesText text.now (W.state world.old) self.old result (W.state world.new) self.new }
+        ensures fails { W.is_logged → OnErr result (FailsNow (W.state world.old) (W.state world.new)) }
     {
         if find_called(&self.named, text).is_none() {
             return Ok(-1);
@@ -43,10 +44,11 @@ impl Streams {
         Ok(self.close_called(world, text))
     }
 
-    /// Ends a run: flushes all outputs, going on behind a failure, though an output whose write failed
-    /// gets no more bytes; then closes the main input and the named streams, in the order of their
-    /// openings. The first failure is answered, `Memory` (F1) or `WriteFailed` (F2). Takes no memory
-    /// of its own.
+    /// Ends a run: flushes all outputs, standard output, standard error and the named ones in the order
+    /// of their openings, going on behind a failure, though an output whose write failed gets no more
+    /// bytes; then closes the main input and the named streams, in the order of their openings, also
+    /// behind a failure. The first failure is answered, `Memory` (F1) or `WriteFailed` (F2). Takes no
+    /// memory of its own.
     pub fn finish<W: World>(&mut self, world: &mut W) -> Result<(), StreamFault>
         requires open { AreOpen (W.state world.old) self.old }
         requires sound { W.is_logged → AreSound (W.state world.old) self.old }
@@ -75,6 +77,7 @@ impl Streams {
         ensures sound { W.is_logged → AreSound (W.state world.new) self.new }
         ensures told { W.is_logged → BringsHeld (W.state world.old) (held_of self.old) result (W.state world.new) (held_of self.new) }
         ensures flushed { OnOk result (W.is_logged → AreFlushedBut [] (W.state world.new).log) }
+        ensures each { W.is_logged → BringsEach (held_of self.old) (W.state world.old) result (W.state world.new) }
     {
         let output = self.output.flush(world, STANDARD_OUTPUT);
         let error = self.error.flush(world, STANDARD_ERROR);

@@ -1,5 +1,6 @@
 // Runs of commands.
-ghost use Rattle.std.specs.Prelude.{◌≡◌, IfErr};
+ghost use Rattle.std.specs.Prelude.{◌≡◌, IfErr, OnErr};
+ghost use Rattle.awk_world.specs.definitions.WorldState.{FailsNow};
 ghost use Rattle.awk_streams.specs.definitions.Outputs.{IsOutputFault};
 ghost use Rattle.awk_streams.specs.definitions.Streams.{AreOpen, AreSound};
 ghost use Rattle.awk_streams.specs.definitions.Commands.{RunsCommand};
@@ -11,8 +12,8 @@ use awk_world::World;
 
 impl Streams {
     /// Runs a command to its end, once all outputs are flushed, and answers the world's number. Fails
-    /// with `Memory` (F1), or `WriteFailed` (F2) where a flush fails; then nothing is run. (POSIX awk,
-    /// Input/Output and General Functions: system)
+    /// with `Memory` (F1), or `WriteFailed` (F2) where a flush fails; then nothing is run. Takes no
+    /// memory of its own. (POSIX awk, Input/Output and General Functions: system)
     pub fn run<W: World>(&mut self, world: &mut W, command: &[u8]) -> Result<i128, StreamFault>
         requires open { AreOpen (W.state world.old) self.old }
         requires sound { W.is_logged → AreSound (W.state world.old) self.old }
@@ -21,6 +22,7 @@ impl Streams {
         ensures open { AreOpen (W.state world.new) self.new }
         ensures sound { W.is_logged → AreSound (W.state world.new) self.new }
         ensures told { W.is_logged → RunsCommand command.now (W.state world.old) self.old result (W.state world.new) self.new }
+        ensures fails { W.is_logged → OnErr result (FailsNow (W.state world.old) (W.state world.new)) }
     {
         self.bring(world)?;
         run_answer(world.run(command))

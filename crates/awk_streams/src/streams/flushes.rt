@@ -1,5 +1,6 @@
 // Flushes that a program asks for: of all outputs, and of those of a text.
-ghost use Rattle.std.specs.Prelude.{◌≡◌, ◌<◌, [], length, IfOk, IfErr, OnOk, slice_get};
+ghost use Rattle.std.specs.Prelude.{◌≡◌, ◌<◌, [], length, IfOk, IfErr, OnOk, OnErr, slice_get};
+ghost use Rattle.awk_world.specs.definitions.WorldState.{FailsNow};
 ghost use Rattle.awk_streams.specs.definitions.Outputs.{IsOutputFault};
 ghost use Rattle.awk_streams.specs.definitions.Streams.{AreOpen, AreSound};
 ghost use Rattle.awk_streams.specs.definitions.Flushes.{FlushesAll, FlushesText, has_output_called as has_output_called_so, is_standard_number};
@@ -21,7 +22,8 @@ const STANDARD_ERROR_TEXT: &[u8] = b"/dev/stderr";
 impl Streams {
     /// Flushes all outputs, writing first what is held back: standard output, standard error, and the
     /// others in the order of their openings. Fails with `Memory` (F1) or `WriteFailed` (F2) where one
-    /// can't be flushed; then nothing more is. (POSIX awk, STDOUT; STDERR; OUTPUT FILES)
+    /// can't be flushed; then nothing more is. Takes no memory of its own. (POSIX awk, STDOUT; STDERR;
+    /// OUTPUT FILES)
     pub fn flush_all<W: World>(&mut self, world: &mut W) -> Result<(), StreamFault>
         requires open { AreOpen (W.state world.old) self.old }
         requires sound { W.is_logged → AreSound (W.state world.old) self.old }
@@ -32,6 +34,7 @@ impl Streams {
         ensures open { AreOpen (W.state world.new) self.new }
         ensures sound { W.is_logged → AreSound (W.state world.new) self.new }
         ensures told { W.is_logged → FlushesAll (W.state world.old) self.old result (W.state world.new) self.new }
+        ensures fails { W.is_logged → OnErr result (FailsNow (W.state world.old) (W.state world.new)) }
     {
         self.bring(world)
     }
@@ -39,8 +42,8 @@ impl Streams {
     /// Flushes each output of this text that is open, writing first what it holds back, in the order
     /// of their openings: the files and commands of this name, and for `/dev/stdout` and `/dev/stderr`
     /// the standard outputs, which are always open. Answers whether there is one. Fails with `Memory`
-    /// (F1) or `WriteFailed` (F2) where one can't be flushed; then nothing more is. (POSIX awk, STDOUT;
-    /// STDERR; OUTPUT FILES)
+    /// (F1) or `WriteFailed` (F2) where one can't be flushed; then nothing more is. Takes no memory of
+    /// its own. (POSIX awk, STDOUT; STDERR; OUTPUT FILES)
     pub fn flush<W: World>(&mut self, world: &mut W, text: &[u8]) -> Result<bool, StreamFault>
         requires open { AreOpen (W.state world.old) self.old }
         requires sound { W.is_logged → AreSound (W.state world.old) self.old }
@@ -51,6 +54,7 @@ impl Streams {
         ensures open { AreOpen (W.state world.new) self.new }
         ensures sound { W.is_logged → AreSound (W.state world.new) self.new }
         ensures told { W.is_logged → FlushesText text.now (W.state world.old) self.old result (W.state world.new) self.new }
+        ensures fails { W.is_logged → OnErr result (FailsNow (W.state world.old) (W.state world.new)) }
     {
         let is_open = self.has_output_called(text);
         self.bring_standard(world, text)?;

@@ -1,9 +1,9 @@
 // Named outputs, and printing.
-ghost use Rattle.std.specs.Prelude.{◌≡◌, ◌<◌, List, [], ◌++◌, ℕ, length, None, Ok, IsTrue, IfOk, IfErr, if◌then◌else◌};
+ghost use Rattle.std.specs.Prelude.{◌≡◌, ◌<◌, List, [], ◌++◌, ℕ, length, None, Ok, IsTrue, IfOk, IfErr, OnErr, if◌then◌else◌};
 ghost use Rattle.std.specs.List.{position};
 ghost use Rattle.awk_world.specs.declared.world.OutputKind.TheVariants.{Command as OutputCommand};
 ghost use Rattle.awk_world.specs.declared.world.Mode.TheVariants.{Truncate};
-ghost use Rattle.awk_world.specs.definitions.WorldState.{WorldState};
+ghost use Rattle.awk_world.specs.definitions.WorldState.{WorldState, FailsNow};
 ghost use Rattle.awk_streams.specs.definitions.Outputs.{IsOutputFault};
 ghost use Rattle.awk_streams.specs.definitions.Streams.{AreOpen, AreSound, IsTarget};
 ghost use Rattle.awk_streams.specs.definitions.NamedOutputs.{OpensOutput, Prints};
@@ -51,7 +51,8 @@ impl Streams {
 
     /// Prints the bytes to a target: holds them back while there is room for them, and else writes what
     /// is held. Fails with `Memory` (F1) or `WriteFailed` (F2); then a beginning of what was held and
-    /// of the bytes was written, and nothing is held. (POSIX awk, STDOUT; STDERR; OUTPUT FILES)
+    /// of the bytes was written, and nothing is held. Takes no memory of its own. (POSIX awk, STDOUT;
+    /// STDERR; OUTPUT FILES)
     pub fn print<W: World>(
         &mut self,
         world: &mut W,
@@ -67,6 +68,7 @@ impl Streams {
         ensures open { AreOpen (W.state world.new) self.new }
         ensures sound { W.is_logged → AreSound (W.state world.new) self.new }
         ensures told { W.is_logged → Prints target bytes.now (W.state world.old) self.old result (W.state world.new) self.new }
+        ensures fails { W.is_logged → OnErr result (FailsNow (W.state world.old) (W.state world.new)) }
     {
         match target {
             Target::StandardOutput => self.output.print(world, STANDARD_OUTPUT, bytes),
@@ -75,28 +77,28 @@ impl Streams {
         }
     }
 
-    /// Prints two texts to standard output, one behind the other, where a buffer of this size has room to
-    /// hold both back: what `print` does then, and nothing is asked of a world. `false` where it hasn't, and
-    /// then nothing changes. (POSIX awk, STDOUT)
+    /// Prints two texts to standard output, one behind the other, where there is room to hold both back:
+    /// what `print` does then, and nothing is asked of a world. `false` where there isn't, as before the
+    /// first `print` to it, and then nothing changes. (POSIX awk, STDOUT)
     #[inline]
-    pub fn hold(&mut self, size: usize, front: &[u8], behind: &[u8]) -> bool
+    pub fn hold(&mut self, front: &[u8], behind: &[u8]) -> bool
         ensures held { self.new ≡ (if result then record self.old { output = self.old.output ++ (front.now ++ behind.now) } else self.old) }
         ensures open { (world : WorldState) → AreOpen world self.old → AreOpen world self.new }
         ensures sound { (world : WorldState) → AreSound world self.old → AreSound world self.new }
         ensures told { IsTrue result → (world : WorldState) → AreOpen world self.old → AreSound world self.old →
             Prints Target.StandardOutput (front.now ++ behind.now) world self.old (Ok tt) world self.new }
     {
-        self.output.hold_both(size, front, behind)
+        self.output.hold_both(front, behind)
     }
 
-    /// Lends what standard output holds back, to be printed on behind it, and how many bytes more a buffer
-    /// of this size has room for. `take_output_back` follows.
+    /// Lends what standard output holds back, to be printed on behind it, and how many bytes more there is
+    /// room for: none before the first `print` to it. `take_output_back` follows.
     #[inline]
-    pub fn lend_output(&mut self, size: usize) -> (Vec<u8>, usize)
+    pub fn lend_output(&mut self) -> (Vec<u8>, usize)
         ensures lent { result.0.items ≡ self.old.output }
         ensures rest { self.new ≡ record self.old { output = [] } }
     {
-        self.output.lend(self.alloc, size)
+        self.output.lend(self.alloc)
     }
 
     /// Takes back what standard output holds back. The bytes that were put behind it are printed, and

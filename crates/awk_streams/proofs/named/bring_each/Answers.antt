@@ -1,5 +1,6 @@
-use Rattle.std.proofs.Common.{◌≡◌, ◌+◌, ℕ, suc, List, take, drop, set, get_or, Some, Result, refl, sym, ◌∙◌, subst, arith}
+use Rattle.std.proofs.Common.{◌≡◌, ◌+◌, ℕ, suc, List, take, drop, set, get_or, Some, Ok, Result, refl, sym, ◌∙◌, subst, arith}
 use Rattle.std.specs.Prelude.{slice_get, OnOk}
+use Rattle.std.specs.Result.{result_and}
 use Rattle.std.proofs.Math.Numerals.{add-one}
 use Rattle.std.proofs.lemmas.List.{take_all, drop_all}
 use Rattle.std.proofs.lemmas.Option.{slice_get-get_or}
@@ -7,11 +8,13 @@ use Rattle.awk_streams.specs.declared.fault.StreamFault.{StreamFault}
 use Rattle.awk_streams.specs.declared.named.NamedStream.{NamedStream}
 use Rattle.awk_streams.specs.definitions.Streams.{held_in}
 use Rattle.awk_streams.specs.definitions.Outputs.{IsOutputFault}
+use Rattle.awk_streams.specs.definitions.Commands.{BringsEach}
 use Rattle.awk_streams.specs.support.Held.{AreEmpty}
 use Rattle.awk_streams.specs.support.Brings.{AreFlushedBut, FlushesNamed}
 use Rattle.awk_streams.proofs.StreamsLemmas.{but_held_numbered, open_named_by}
 use Rattle.awk_streams.proofs.BringLemmas.{brings-self}
 use Rattle.awk_streams.proofs.NamedLemmas.{open_at, unheld_set, empty_set, flush_each, flushed_each, and_then_ok, ok_under, err_and}
+use Rattle.awk_streams.proofs.EachLemmas.{and_then, and_nothing, each_next}
 use Rattle.awk_streams.proofs.named.bring_each.Goals as goal
 
 pub loop-stream-init : goal.loop-stream-init
@@ -22,6 +25,7 @@ loop-stream-init g c = record {
   fault = tt;
   brings = λ t apart sound. brings-self (g.W.World.state c.args.world.now) (held_in c.args.named.now) tt;
   flushed = λ t flushed. flushed;
+  each = λ t rest after brings. brings;
 }
 
 pub flush-flushed-requires : goal.flush-flushed-requires
@@ -55,6 +59,11 @@ loop-stream-preserved g c =
           (λ u ok flushed. subst (λ (n : ℕ). AreFlushedBut (held_in (drop n (set now i y))) (w.state c.flush-flushed.new.world).log) (sym next)
           (flushed_each (w.state c.loop-stream.world) (w.state c.flush-flushed.new.world) now i x y u at
           (subst (λ (r : Result (Unit {0}) StreamFault). FlushesNamed x (w.state c.loop-stream.world) r (w.state c.flush-flushed.new.world)) ok (c.flush-flushed.ensures.told t)) flushed)));
+      each = λ t rest after brings.
+          let brings' : BringsEach (held_in (drop (suc i) (set now i y))) (w.state c.flush-flushed.new.world) rest after = subst (λ (n : ℕ). BringsEach (held_in (drop n (set now i y))) (w.state c.flush-flushed.new.world) rest after) next brings in
+          let here = c.loop-stream.invariant.each t (result_and c.flush-flushed.result rest) after (each_next (w.state c.loop-stream.world) (w.state c.flush-flushed.new.world) after now i x y c.flush-flushed.result rest at (c.flush-flushed.ensures.told t) brings') in
+          rw c.and-brought.ensures
+          (subst (λ (r : Result (Unit {0}) StreamFault). BringsEach (held_in c.args.named.now) (w.state c.args.world.now) r after) (sym (and_then c.loop-stream.brought c.flush-flushed.result rest)) here);
     }
 
 -- all were flushed
@@ -70,3 +79,10 @@ returns-clause-flushed g c =
     ok_under _ _ _ c.loop-stream.brought (λ t.
     subst (λ l. OnOk c.loop-stream.brought (AreFlushedBut (held_in c.args.named.now) (g.W.World.state c.args.world.now).log → AreFlushedBut (held_in l) (g.W.World.state c.loop-stream.world).log))
     (drop_all c.loop-stream.stream-index c.loop-stream.named (omega arith)) (c.loop-stream.invariant.flushed t))
+
+pub returns-clause-each : goal.returns-clause-each
+returns-clause-each g c = λ t.
+    let now = g.W.World.state c.loop-stream.world in
+    let none = drop_all c.loop-stream.stream-index c.loop-stream.named (omega arith) in
+    let behind : BringsEach (held_in (drop c.loop-stream.stream-index c.loop-stream.named)) now (Ok tt) now = subst (λ l. BringsEach (held_in l) now (Ok tt) now) (sym none) (refl, refl) in
+    subst (λ (r : Result (Unit {0}) StreamFault). BringsEach (held_in c.args.named.now) (g.W.World.state c.args.world.now) r now) (and_nothing c.loop-stream.brought) (c.loop-stream.invariant.each t (Ok tt) now behind)

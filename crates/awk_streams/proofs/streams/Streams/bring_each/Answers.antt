@@ -6,9 +6,11 @@ use Rattle.std.proofs.lemmas.List.{with_items_is}
 use Rattle.awk_streams.specs.declared.fault.StreamFault.{StreamFault}
 use Rattle.awk_streams.specs.declared.named.NamedStream.{NamedStream}
 use Rattle.awk_streams.specs.definitions.Streams.{StreamsView, AreOpen, AreOpenNamed, AreApart, AreSoundNamed, AreSound, held_of, held_in, all_unheld}
+use Rattle.awk_streams.specs.definitions.Commands.{BringsEach}
 use Rattle.awk_streams.specs.support.Brings.{BringsHeld, AreFlushedBut}
 use Rattle.awk_streams.proofs.StreamsLemmas.{but_held_length}
 use Rattle.awk_streams.proofs.ViewLemmas.{bring_two, bring_three, flushed_each_three}
+use Rattle.awk_streams.proofs.EachLemmas.{each_of_all}
 use Rattle.awk_streams.proofs.streams.Streams.bring_each.Goals as goal
 
 -- both results are as the code joins them
@@ -70,3 +72,14 @@ returns-clause-flushed g c =
     (flushed_each_three w.is_logged (w.state c.args.world.now) (w.state c.flush-output.new.world) (w.state c.flush-error.new.world) (w.state c.bring_each-named.new.world) c.args.self.now s c.flush-output.result c.flush-error.result c.bring_each-named.result c.self.view_is c.requires.sound
     c.flush-output.ensures.told c.flush-error.ensures.told
     (subst (λ (xs : List NamedStream). OnOk c.bring_each-named.result (w.is_logged → AreFlushedBut (held_in xs) (w.state c.flush-error.new.world).log → AreFlushedBut [] (w.state c.bring_each-named.new.world).log)) c.deref_mut.ensures.value c.bring_each-named.ensures.flushed))
+
+pub returns-clause-each : goal.returns-clause-each
+returns-clause-each g c = λ t.
+    let w = g.W.World in
+    let s : StreamsView = record { main = c.self.inside.main; output = c.self.inside.output; error = c.self.inside.error; named = c.self.inside.named.items } in
+    let is = joined c.flush-output.result c.flush-error.result c.bring_each-named.result c.and.result c.and-2.result c.and.ensures c.and-2.ensures in
+    let named : BringsEach (held_in s.named) (w.state c.flush-error.new.world) c.bring_each-named.result (w.state c.bring_each-named.new.world) =
+    subst (λ (xs : List NamedStream). BringsEach (held_in xs) (w.state c.flush-error.new.world) c.bring_each-named.result (w.state c.bring_each-named.new.world)) c.deref_mut.ensures.value (c.bring_each-named.ensures.each t) in
+    subst (λ (r : Result (Unit {0}) StreamFault). BringsEach (held_of c.args.self.now) (w.state c.args.world.now) r (w.state c.bring_each-named.new.world)) (sym is)
+    (each_of_all (w.state c.args.world.now) (w.state c.flush-output.new.world) (w.state c.flush-error.new.world) (w.state c.bring_each-named.new.world) c.args.self.now s c.flush-output.result c.flush-error.result c.bring_each-named.result c.self.view_is
+    (c.flush-output.ensures.told t) (c.flush-error.ensures.told t) named)

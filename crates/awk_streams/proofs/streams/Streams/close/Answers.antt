@@ -27,3 +27,8 @@ returns-in_err-bring-clause-told g c = λ t.
     let p = err_from_is_err_and c.from_residual.result c.from_residual.ensures.1 in
     rw (p.1, p.2)
     (closes_unbrought c.args.text.now (w.state c.args.world.now) (w.state c.bring.new.world) c.args.self.now c.bring.new.self c.in_err-bring.field-0.0 c.in_err-bring.ensures.fault (c.in_err-bring.ensures.told t) (fails_as (w.state c.args.world.now) (w.state c.bring.new.world) c.in_err-bring.field-0.0 c.in_err-bring.ensures.fault (c.in_err-bring.ensures.fails t)))
+
+pub returns-in_err-bring-clause-fails : goal.returns-in_err-bring-clause-fails
+returns-in_err-bring-clause-fails g c = λ t.
+    let p = err_from_is_err_and c.from_residual.result c.from_residual.ensures.1 in
+    rw p.1 (c.in_err-bring.ensures.fails t)

@@ -9,3 +9,6 @@ pub returns-clause-told : goal.returns-clause-told
 returns-clause-told g c = λ t.
     let w = g.W.World in
     all_flushed (w.state c.args.world.now) (w.state c.bring.new.world) c.args.self.now c.bring.new.self c.bring.result c.bring.ensures.main c.bring.ensures.same (c.bring.ensures.told t) c.bring.ensures.empty (ok_given _ _ c.bring.result c.bring.ensures.flushed t) (err_given _ _ c.bring.result c.bring.ensures.fails t) c.bring.ensures.fault
+
+pub returns-clause-fails : goal.returns-clause-fails
+returns-clause-fails g c = λ t. err_given _ _ c.bring.result c.bring.ensures.fails t

@@ -1,6 +1,7 @@
 use Rattle.std.proofs.Common.{refl}
 use Rattle.awk_streams.specs.definitions.Streams.{StreamsView}
 use Rattle.awk_streams.proofs.ViewLemmas.{keeps_open}
+use Rattle.awk_streams.proofs.GrowsLemmas.{fails_now}
 use Rattle.awk_streams.proofs.OpenLemmas.{empty_pending, left_sound, refuses_input, same_sound}
 use Rattle.awk_streams.proofs.MainLemmas.{open_main_open, open_main_sound, open_main_told, open_main_refused, open_main_unasked}
 use Rattle.awk_streams.proofs.streams.Streams.open_main.Goals as goal
@@ -51,3 +52,9 @@ pub returns-in-Err-Memory-clause-told : goal.returns-in-Err-Memory-clause-told
 returns-in-Err-Memory-clause-told g c = λ t.
     let w = g.W.World in
     open_main_unasked c.args.kind c.args.name.now (w.state c.args.world.now) (w.state c.open_input.new.self) c.args.self.now (rw c.in-Err-Memory.field-0-is at (c.in-Err-Memory.ensures.logs t))
+
+-- want of memory is the world's
+pub returns-in-Err-Memory-clause-memory : goal.returns-in-Err-Memory-clause-memory
+returns-in-Err-Memory-clause-memory g c = λ t memory.
+    let w = g.W.World in
+    fails_now (w.state c.args.world.now) (w.state c.open_input.new.self) (rw c.in-Err-Memory.field-0-is at (c.in-Err-Memory.ensures.logs t))

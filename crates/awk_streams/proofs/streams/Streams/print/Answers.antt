@@ -79,3 +79,14 @@ returns-in-Named-clause-told g c =
     rw c.in-Named.is
     (print_named w.is_logged (w.state c.args.world.now) (w.state c.print-in-Named.new.world) c.args.self.now s c.in-Named.place c.index_mut.result.now c.print-in-Named.new.self c.args.bytes.now c.print-in-Named.result c.self.view_is (rw c.in-Named.is at c.requires.target) c.index_mut.ensures.value
     c.requires.open c.requires.sound c.print-in-Named.ensures.open c.print-in-Named.ensures.same c.print-in-Named.ensures.fault c.print-in-Named.ensures.told).told
+
+-- a failure is the world's
+
+pub returns-in-StandardOutput-clause-fails : goal.returns-in-StandardOutput-clause-fails
+returns-in-StandardOutput-clause-fails g c = λ t. (c.print.ensures.told t).writes.fails
+
+pub returns-in-StandardError-clause-fails : goal.returns-in-StandardError-clause-fails
+returns-in-StandardError-clause-fails g c = λ t. (c.print-in-StandardError.ensures.told t).writes.fails
+
+pub returns-in-Named-clause-fails : goal.returns-in-Named-clause-fails
+returns-in-Named-clause-fails g c = λ t. (c.print-in-Named.ensures.told t).writes.fails

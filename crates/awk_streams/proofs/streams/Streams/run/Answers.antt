@@ -1,7 +1,7 @@
 use Rattle.std.proofs.Common.{refl}
 use Rattle.std.proofs.lemmas.Result.{err_from_is_err_and}
 use Rattle.awk_streams.proofs.ViewLemmas.{brings_all, keeps_open, fails_as}
-use Rattle.awk_streams.proofs.RunLemmas.{run_sound, run_told, run_unbrought}
+use Rattle.awk_streams.proofs.RunLemmas.{run_sound, run_told, run_unbrought, run_fails}
 use Rattle.awk_streams.proofs.streams.Streams.run.Goals as goal
 
 pub returns-clause-open : goal.returns-clause-open
@@ -22,3 +22,13 @@ returns-in_err-bring-clause-told g c = λ t.
     let p = err_from_is_err_and c.from_residual.result c.from_residual.ensures.1 in
     rw (p.1, p.2)
     (run_unbrought c.args.command.now (w.state c.args.world.now) (w.state c.bring.new.world) c.args.self.now c.bring.new.self c.in_err-bring.field-0.0 c.in_err-bring.ensures.fault (c.in_err-bring.ensures.told t) (fails_as (w.state c.args.world.now) (w.state c.bring.new.world) c.in_err-bring.field-0.0 c.in_err-bring.ensures.fault (c.in_err-bring.ensures.fails t)))
+
+pub returns-clause-fails : goal.returns-clause-fails
+returns-clause-fails g c = λ t.
+    let w = g.W.World in
+    rw c.run_answer.ensures (run_fails c.args.command.now (w.state c.args.world.now) (w.state c.bring.new.world) (w.state c.run.new.self) c.run.result (c.in_ok-bring.ensures.told t).no_failure (c.run.ensures.logs t))
+
+pub returns-in_err-bring-clause-fails : goal.returns-in_err-bring-clause-fails
+returns-in_err-bring-clause-fails g c = λ t.
+    let p = err_from_is_err_and c.from_residual.result c.from_residual.ensures.1 in
+    rw p.1 (c.in_err-bring.ensures.fails t)
