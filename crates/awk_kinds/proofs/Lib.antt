@@ -1,6 +1,4 @@
-mod Storage
-mod Digits
-mod Counting
+pub mod SpecialNaming
 pub mod FitsLaw
 pub mod LeastArrays
 pub mod Known

@@ -2,7 +2,6 @@ pub mod definitions
 pub mod support
 pub use Rattle.awk_kinds.specs.definitions.Variables
 pub use Rattle.awk_kinds.specs.definitions.Names
-pub use Rattle.awk_kinds.specs.support.Storage
 -- What serves the proofs.
 pub use Rattle.awk_kinds.specs.definitions.SpecialNames
 pub use Rattle.awk_kinds.specs.definitions.Placed

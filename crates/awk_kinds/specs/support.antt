@@ -1,4 +1,4 @@
-pub mod Storage
+pub mod SpecialIndices
 pub mod Place
 pub mod Hashed
 pub mod SameVariable

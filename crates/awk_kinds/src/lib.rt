@@ -4,7 +4,6 @@
 
 mod arrays;
 mod expression_uses;
-mod fault;
 mod functions;
 mod graph;
 mod kinds;
@@ -22,12 +21,9 @@ mod special_names;
 mod statement_uses;
 mod uses;
 pub mod variable;
-mod variables;
 
-pub use fault::VariableFault;
 pub use kinds::Kinds;
 pub use laws::{law_of_array_names, law_of_kinds, law_of_refusals};
 pub use parameters::Parameters;
 pub use refusal::{first_refusal, resolve};
 pub use special::Special;
-pub use variables::Variables;

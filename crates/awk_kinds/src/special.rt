@@ -47,7 +47,7 @@ fn look_up<T: Copy>(table: &[(&[u8], T)], name: &[u8]) -> Option<T>
 
 impl Special {
     ghost use Rattle.awk_kinds.specs.definitions.Variables.{name_of};
-    ghost use Rattle.awk_kinds.specs.support.Storage.{index_of, special_named};
+    ghost use Rattle.awk_kinds.specs.support.SpecialIndices.{index_of, special_named};
 
     /// The special variable of a name.
     pub fn named(name: &[u8]) -> Option<Special>
@@ -59,7 +59,7 @@ impl Special {
 
     /// Where it stands among them.
     #[inline(always)]
-    pub(crate) fn index(self) -> usize
+    pub fn index(self) -> usize
         ensures { result ≡ index_of self }
     {
         self as usize

@@ -1,11 +1,10 @@
 // The faults of a run, and those of its parts as such.
 
 ghost use Rattle.std.specs.Prelude.{◌≡◌};
-ghost use Rattle.awk_semantics.specs.definitions.Faults.{value_fault, record_fault, stream_fault, pattern_fault, variable_fault, format_fault, text_fault};
+ghost use Rattle.awk_semantics.specs.definitions.Faults.{value_fault, record_fault, stream_fault, pattern_fault, format_fault, text_fault};
 ghost use Rattle.awk_semantics.specs.definitions.Outcome.{fault_text};
 
 use awk_ere::PatternFault;
-use awk_kinds::VariableFault;
 use awk_record::RecordFault;
 use awk_streams::StreamFault;
 use awk_text::{FormatFault, TextFault};
@@ -103,17 +102,6 @@ impl From<PatternFault> for Fault {
             PatternFault::IllFormed | PatternFault::BadCount | PatternFault::TooLarge => {
                 Fault::PatternRefused
             }
-        }
-    }
-}
-
-impl From<VariableFault> for Fault {
-    ghost from_gives = { λ fault f. f ≡ variable_fault fault };
-
-    fn from(fault: VariableFault) -> Fault {
-        match fault {
-            VariableFault::Memory => Fault::OutOfMemory,
-            VariableFault::Pattern => Fault::PatternRefused,
         }
     }
 }

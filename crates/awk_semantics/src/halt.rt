@@ -1,13 +1,12 @@
 // Why a part of a run ends early.
 
 ghost use Rattle.std.specs.Prelude.{◌≡◌};
-ghost use Rattle.awk_semantics.specs.definitions.Faults.{value_fault, record_fault, stream_fault, pattern_fault, variable_fault, format_fault, text_fault};
+ghost use Rattle.awk_semantics.specs.definitions.Faults.{value_fault, record_fault, stream_fault, pattern_fault, format_fault, text_fault};
 ghost use Rattle.awk_semantics.specs.declared.halt.Halt.TheVariants.{Fault as FaultHalt};
 ghost use Rattle.awk_semantics.specs.declared.fault.Fault.TheVariants.{OutOfMemory};
 
 use crate::fault::Fault;
 use awk_ere::PatternFault;
-use awk_kinds::VariableFault;
 use awk_record::RecordFault;
 use awk_streams::StreamFault;
 use awk_text::{FormatFault, TextFault};
@@ -61,14 +60,6 @@ impl From<PatternFault> for Halt {
     ghost from_gives = { λ fault h. h ≡ FaultHalt (pattern_fault fault) };
 
     fn from(fault: PatternFault) -> Halt {
-        Halt::Fault(Fault::from(fault))
-    }
-}
-
-impl From<VariableFault> for Halt {
-    ghost from_gives = { λ fault h. h ≡ FaultHalt (variable_fault fault) };
-
-    fn from(fault: VariableFault) -> Halt {
         Halt::Fault(Fault::from(fault))
     }
 }

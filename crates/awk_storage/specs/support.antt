@@ -1,4 +1,5 @@
--- What serves the proofs: how the code keeps the parameters of the active calls, and the arrays.
+-- What serves the proofs: how the code keeps the special variables, the parameters of the active calls, and the arrays.
 pub mod Frames
+pub mod SpecialValues
 pub mod Tables
 pub mod Lending

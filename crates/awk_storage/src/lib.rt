@@ -5,7 +5,9 @@ mod arrays;
 mod frames;
 mod key;
 mod position;
+mod variables;
 
 pub use arrays::Arrays;
 pub use frames::Frames;
 pub use position::{Array, Place, Variable};
+pub use variables::Variables;

@@ -12,8 +12,6 @@ use Rattle.awk_text.specs.declared.fault.TextFault.{TextFault}
 use Rattle.awk_text.specs.declared.fault.TextFault.TheVariants as texts
 use Rattle.awk_streams.specs.declared.fault.StreamFault.{StreamFault}
 use Rattle.awk_streams.specs.declared.fault.StreamFault.TheVariants as streams
-use Rattle.awk_kinds.specs.declared.fault.VariableFault.{VariableFault}
-use Rattle.awk_kinds.specs.declared.fault.VariableFault.TheVariants as variables
 use Rattle.awk_semantics.specs.declared.fault.Fault.{Fault}
 use Rattle.awk_semantics.specs.declared.fault.Fault.TheVariants as fault
 use Rattle.awk_semantics.specs.declared.halt.Halt.{Halt}
@@ -37,10 +35,6 @@ stream_fault streams.InputNotReadable = fault.InputNotReadable
 stream_fault streams.OutputNotOpened = fault.OutputNotOpened
 stream_fault streams.TooManyStreams = fault.TooManyStreams
 stream_fault streams.RecordTooLong = fault.RecordTooLong
-
-abbrev pub variable_fault : VariableFault → Fault
-variable_fault variables.Memory = fault.OutOfMemory
-variable_fault variables.Pattern = fault.PatternRefused
 
 abbrev pub pattern_fault : PatternFault → Fault
 pattern_fault patterns.Memory = fault.OutOfMemory

@@ -1,4 +1,4 @@
-use Rattle.awk_kinds.proofs.Storage.{option_map-if, named-names}
+use Rattle.awk_kinds.proofs.SpecialNaming.{option_map-if, named-names}
 use Rattle.awk_kinds.proofs.special.Special.named.Goals as goal
 
 pub returns-clause-named : goal.returns-clause-named

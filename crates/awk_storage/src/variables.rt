@@ -3,25 +3,24 @@ ghost use Rattle.std.specs.Result.{is_err};
 ghost use Rattle.std.specs.Prelude.{◌≡◌, ◌≢◌, ◌==◌, ◌≤ℤ◌, ◌<ℤ◌, ◌^◌, ℕ, pos, length, List, [], ◌∷◌, true, false, IfOk, IfErr, IfSome, OnOk, OnErr};
 ghost use Rattle.awk_value.specs.Values.{str_of};
 ghost use Rattle.awk_text.specs.Separators.{separator_of};
-ghost use Rattle.awk_kinds.specs.support.Storage.{initial_specials};
+ghost use Rattle.awk_storage.specs.support.SpecialValues.{initial_specials};
 
-use crate::fault::VariableFault;
-use crate::special::Special;
-use awk_text::FieldSeparator;
+use awk_kinds::Special;
+use awk_text::{FieldSeparator, TextFault};
 use awk_value::{Bytes, Value, text_of};
 use std::alloc::Global;
 use std::marker::Model;
 use std::mem;
 
 // The text of a value that FS is to have. One that is no field separator is refused.
-fn separator_text(alloc: Global, value: &Value) -> Result<Bytes, VariableFault>
+fn separator_text(alloc: Global, value: &Value) -> Result<Bytes, TextFault>
     ensures text { IfOk result (λ text. text ≡ str_of value.now) }
     ensures accepted { OnOk result (is_err (separator_of (str_of value.now)) ≡ false) }
-    ensures refused { IfErr result (λ e. e ≢ VariableFault.Memory →
-        (e ≡ VariableFault.Pattern) × (is_err (separator_of (str_of value.now)) ≡ true)) }
+    ensures refused { IfErr result (λ e. e ≢ TextFault.Memory →
+        (e ≡ TextFault.Pattern) × (is_err (separator_of (str_of value.now)) ≡ true)) }
 {
     let Ok(text) = text_of(alloc, value) else {
-        return Err(VariableFault::Memory);
+        return Err(TextFault::Memory);
     };
     FieldSeparator::of(alloc, text.as_slice(), false)?;
     Ok(text)
@@ -54,9 +53,9 @@ const TEXTS: [(Special, &[u8]); 7] = [
 ];
 
 // The values of the special variables as the run begins, each at its index.
-fn initial_specials(alloc: Global, arguments: usize) -> Result<[Value; 13], VariableFault>
+fn initial_specials(alloc: Global, arguments: usize) -> Result<[Value; 13], TextFault>
     ensures specials { IfOk result (λ values. values ≡ initial_specials arguments) }
-    ensures memory { IfErr result (λ e. e ≡ VariableFault.Memory) }
+    ensures memory { IfErr result (λ e. e ≡ TextFault.Memory) }
 {
     let mut values = [
         Value::Number(arguments as i128), // ARGC
@@ -90,7 +89,7 @@ pub struct Variables {
 
 impl Model for Variables {
     ghost use Rattle.awk_kinds.specs.definitions.Variables.{Pairs};
-    ghost use Rattle.awk_kinds.specs.support.Storage.{special_pairs, IsSeparator};
+    ghost use Rattle.awk_storage.specs.support.SpecialValues.{special_pairs, IsSeparator};
 
     ghost Value = { Pairs };
 
@@ -104,9 +103,9 @@ impl Variables {
 
     /// The variables before the run, where ARGV has so many elements. The
     /// only fault is `Memory`.
-    pub fn new(alloc: Global, arguments: usize) -> Result<Variables, VariableFault>
+    pub fn new(alloc: Global, arguments: usize) -> Result<Variables, TextFault>
         ensures start { IfOk result (λ v. (x : List ℕ) → value_of v x ≡ initial_value arguments x) }
-        ensures memory { IfErr result (λ e. e ≡ VariableFault.Memory) }
+        ensures memory { IfErr result (λ e. e ≡ TextFault.Memory) }
     {
         let specials = initial_specials(alloc, arguments)?;
         Ok(Variables {
@@ -127,13 +126,13 @@ impl Variables {
     /// Gives a special variable a value. An `Err` changes nothing: it is
     /// `Pattern`, where the variable is FS and the value's text is no
     /// separator, or `Memory`. Only FS takes memory.
-    pub fn set_special(&mut self, special: Special, value: Value) -> Result<(), VariableFault>
+    pub fn set_special(&mut self, special: Special, value: Value) -> Result<(), TextFault>
         ensures set { OnOk result ((x : List ℕ) → value_of self.new x
             ≡ with_value (value_of self.old) (name_of special) value x) }
         ensures accepted { OnOk result (is_refused (name_of special) value ≡ false) }
         ensures err { OnErr result (self.new ≡ self.old) }
         ensures absent { OnErr result (special ≡ Special.Fs) }
-        ensures refused { result ≡ Err VariableFault.Pattern → is_refused (name_of special) value ≡ true }
+        ensures refused { result ≡ Err TextFault.Pattern → is_refused (name_of special) value ≡ true }
     {
         if let Special::Fs = special {
             let text = separator_text(self.alloc, &value)?;

@@ -1,7 +1,7 @@
 use Rattle.std.proofs.Common.{◌≡◌, ap, ◌∙◌, rules, length}
 use Rattle.awk_kinds.specs.definitions.Variables.{value_of, name_of, Pairs}
-use Rattle.awk_kinds.proofs.Storage.{value_of-at}
-use Rattle.awk_kinds.proofs.variables.Variables.special.Goals as goal
+use Rattle.awk_storage.proofs.SpecialLemmas.{value_of-at}
+use Rattle.awk_storage.proofs.variables.Variables.special.Goals as goal
 
 pub returns : goal.returns
 returns c =

@@ -4,9 +4,9 @@ use mir.Syntax.{w128}
 use Rattle.awk_value.specs.declared.value.Value.TheVariants.{Number}
 use Rattle.awk_kinds.specs.definitions.Variables.{value_of, with_value, name_of, Pairs}
 use Rattle.awk_kinds.specs.declared.special.Special.TheVariants.{Nr, Fnr}
-use Rattle.awk_kinds.specs.support.Storage.{special_pairs}
-use Rattle.awk_kinds.proofs.Storage.{value_of-set_counts}
-use Rattle.awk_kinds.proofs.variables.Variables.set_counts.Goals as goal
+use Rattle.awk_storage.specs.support.SpecialValues.{special_pairs}
+use Rattle.awk_storage.proofs.SpecialLemmas.{value_of-set_counts}
+use Rattle.awk_storage.proofs.variables.Variables.set_counts.Goals as goal
 
 pub returns : goal.returns
 returns c = λ x.

@@ -1,6 +1,6 @@
 use Rattle.std.proofs.Common.{rules}
-use Rattle.awk_kinds.proofs.Counting.{counts_on}
-use Rattle.awk_kinds.proofs.variables.Variables.count_records.Goals as goal
+use Rattle.awk_storage.proofs.Counting.{counts_on}
+use Rattle.awk_storage.proofs.variables.Variables.count_records.Goals as goal
 
 pub returns-clause-counted : goal.returns-clause-counted
 returns-clause-counted c = λ yes.

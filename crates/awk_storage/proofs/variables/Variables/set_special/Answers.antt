@@ -1,9 +1,9 @@
 use Rattle.std.proofs.Common.{◌≡◌, ap, ◌∙◌, rules, length, set}
 use Rattle.awk_kinds.specs.definitions.Variables.{value_of, with_value, name_of, Pairs}
-use Rattle.awk_kinds.specs.support.Storage.{special_pairs}
-use Rattle.awk_kinds.proofs.Storage.{value_of-set_special}
-use Rattle.awk_kinds.proofs.variables.Variables.set_special.Goals as goal
-use Rattle.awk_kinds.proofs.variables.Variables.set_special.Goals.{in-Fs+in_ok-text, in_default}
+use Rattle.awk_storage.specs.support.SpecialValues.{special_pairs}
+use Rattle.awk_storage.proofs.SpecialLemmas.{value_of-set_special}
+use Rattle.awk_storage.proofs.variables.Variables.set_special.Goals as goal
+use Rattle.awk_storage.proofs.variables.Variables.set_special.Goals.{in-Fs+in_ok-text, in_default}
 
 pub returns-clause-set : goal.returns-clause-set
 returns-clause-set c = λ x.
