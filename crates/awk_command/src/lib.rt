@@ -1,5 +1,9 @@
-//! The command line of awk: options and operands, program files, what a process is started with, and the
-//! run of the program that the words after `awk` ask for, in any world.
+//! The command line of awk: options and operands, program files, what a process is started with, and the run of the
+//! program that the words after `awk` ask for, in any world.
+//!
+//! - `main_words` does all that the utility does, and answers its exit status.
+//! - `read_command_line` reads the words, as a `CommandLine` or a `CommandFault`.
+//! - `given_words`, `given_environment`: what the process was started with.
 #![tactic(auto)]
 
 mod command_line;

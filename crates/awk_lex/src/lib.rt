@@ -1,7 +1,8 @@
 //! Tokens, and reading them from a program text (POSIX awk, Lexical Conventions).
 //!
-//! `lexer` reads all tokens of a text or says where and why it has none; `token` has their kinds and `refusal` the
-//! reasons. `words` says which names have a meaning of their own, and `escapes` what a text with escapes stands for.
+//! - `tokens` reads all tokens of a text, each with its line, or answers a `Refusal` with its code and line.
+//! - `token` has the kinds of tokens, `words` says which names have a meaning of their own, and `escapes` what a text with
+//!   escapes stands for.
 #![tactic(auto)]
 
 mod delimited;
@@ -13,3 +14,7 @@ pub mod refusal;
 mod scanner;
 pub mod token;
 pub mod words;
+
+pub use lexer::tokens;
+pub use refusal::{Refusal, RefusalCode};
+pub use token::Token;

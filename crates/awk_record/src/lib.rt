@@ -1,4 +1,10 @@
 //! Records: how an input is cut into them, and the record at hand with its fields.
+//!
+//! - `RecordBuffer`: the bytes of an input that aren't taken yet: `feed`, `end` and `broken` hand in what is read, and `next`
+//!   answers a record, that it needs more, or the end (`Step`); its faults are `BufferFault`s.
+//! - `Record`: a text with its complete fields, which are found as far as they are asked: `set_text`, `text`, `count`,
+//!   `field`, `set_field`, `set_count`; its faults are `RecordFault`s.
+//! - `decided_law`, `line_law`, `literal_law`, `paragraph_law`: what the cut of an input is, in words.
 #![tactic(auto)]
 
 mod assigned;

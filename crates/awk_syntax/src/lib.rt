@@ -1,4 +1,8 @@
-//! The parser: from the tokens of a program to its syntax tree, one token at a time, with its EREs checked.
+//! The parser: from the tokens of a program to its syntax tree, one token at a time, with its EREs checked (POSIX awk,
+//! Grammar).
+//!
+//! - `parse` reads a list of tokens as a `Tree`, or answers a `Refusal` with its code and line.
+//! - `tree` has the types of the tree (`awk_grammar`).
 #![tactic(auto)]
 
 mod ended_nodes;
@@ -11,8 +15,8 @@ mod items;
 mod lists;
 mod nodes;
 mod operands;
-pub mod parse;
 mod parser;
+mod parsing;
 mod patterns;
 mod prints;
 mod read;
@@ -24,3 +28,5 @@ mod step;
 mod taken;
 
 pub use awk_grammar::tree;
+pub use awk_grammar::tree::Tree;
+pub use parsing::{one_tree, parse};

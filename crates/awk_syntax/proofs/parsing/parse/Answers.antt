@@ -5,7 +5,7 @@ use Rattle.awk_grammar.specs.Height.{max_height}
 use Rattle.awk_grammar.specs.View.{tree_of}
 use Rattle.awk_syntax.proofs.AnswersJustified.{found, only, refused, pattern_only, pattern_refused}
 use Rattle.awk_syntax.proofs.WhereRefused.{tells_line, pattern_line}
-use Rattle.awk_syntax.proofs.parse.parse.Goals as goal
+use Rattle.awk_syntax.proofs.parsing.parse.Goals as goal
 
 -- the limit is one that the law takes
 enough : 3 ≤ max_height
