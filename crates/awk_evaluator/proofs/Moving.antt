@@ -1,5 +1,5 @@
 -- The moves.
-use Rattle.std.specs.Prelude.{◌==◌, ◌<◌, if◌then◌else◌}
+use Rattle.std.specs.Prelude.{◌==◌, ◌<◌, if◌then◌else◌, OnOk}
 use Rattle.std.proofs.lemmas.Bool.{eqb-true}
 use Rattle.std.proofs.Common.{◌≡◌, ◌≢◌, ℕ, zero, suc, ◌-◌, ◌≤◌, Bool, true, false, List, [], ◌∷◌, ◌++◌, length, drop, slice_get, Some, None, Result, Ok, Err, refl, sym, ap, ◌∙◌, subst, arith, get_or, inl, pos}
 use Rattle.awk_value.specs.declared.value.Value.{Value}
@@ -37,7 +37,7 @@ use Rattle.awk_evaluator.specs.declared.machine.Move.TheVariants as move
 use Rattle.awk_evaluator.specs.Operands.{OperandsView}
 use Rattle.awk_runtime.specs.Naming.{Naming}
 use Rattle.awk_evaluator.specs.Rest.{IsSound, PlanStands, tables_in, Entry, Bound, Start, AtPlace, AtNode, cont, turn, begun, resume, Rest}
-use Rattle.awk_evaluator.specs.Moves.{seen_of, stack_of, IsIdle, RestOf, Leads, Ends, Finishes, MovesBy, Moves, Evaluates, Computes, Performs, GivesBackBy, GivesBack, Executes}
+use Rattle.awk_evaluator.specs.Moves.{seen_of, stack_of, IsIdle, RestOf, Leads, Ends, Finishes, MovesBy, Moves, Evaluates, Computes, Performs, GivesBackBy, GivesBack, Done, Executes}
 use Rattle.awk_evaluator.specs.Walks.{PutsKeys, TakesKey}
 use Rattle.awk_evaluator.proofs.Resting.{then_rest, ends_rest, same_rest, return_rest, return_stuck, over_rest, whole, turn_rest, turn_stuck}
 
@@ -435,3 +435,13 @@ module _ {is_logged : Type 0} {plan : Plan} where
         (subst (λ (o : OperandsView). Rest t ds plan is_logged (AtPlace at) o.values [] m.runtime k m'.runtime k' r) idle.operands
         (subst (λ (es : List Entry). Rest t ds plan is_logged (AtPlace at) m.operands.values es m.runtime k m'.runtime k' r) none (e.ends tables ds stands))) steps low;
   }
+
+  -- the same of a run whose last value is of no use
+
+  pub executes_done : {at : ℕ} {m m' : Machine} {k k' : WorldState} (r : Result (Unit {0}) Halt) → IsIdle m → Done (λ q. Ends is_logged plan (AtPlace at) m k q m' k') r → Done (λ q. Executes is_logged plan at m k q m' k') r
+  executes_done (Ok u) idle d = record { done = (d.done.0, executes idle d.done.1) }
+  executes_done (Err h) idle d = record { done = executes idle d.done }
+
+  pub idle_done : {from : Start} {m m' : Machine} {k k' : WorldState} (r : Result (Unit {0}) Halt) → Done (λ q. Ends is_logged plan from m k q m' k') r → OnOk r (IsIdle m')
+  idle_done (Ok u) d = d.done.1.idle
+  idle_done (Err h) d = tt

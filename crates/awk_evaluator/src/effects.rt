@@ -1,6 +1,6 @@
 // What nodes do that give no value: what a node takes is taken off the operands.
 
-ghost use Rattle.std.specs.Prelude.{◌≡◌, None as NoneOf, Some as SomeOf};
+ghost use Rattle.std.specs.Prelude.{◌≡◌, None as NoneOf, Some as SomeOf, Ok, true, false};
 ghost use Rattle.awk_runtime.specs.Simulation.{IsReady};
 ghost use Rattle.awk_resolve.specs.declared.node.EffectNode.TheVariants.{Delete, Print, SetInside, SetStatus};
 ghost use Rattle.awk_evaluator.specs.Moves.{Acts, Performs, came};
@@ -164,8 +164,25 @@ impl Machine {
         ensures ready { IsReady W.is_logged (W.state world.new) self.new.runtime.streams }
         ensures prints { PrintsField W.is_logged number.now self.old (W.state world.old) (came result self.new) self.new (W.state world.new) }
     {
+        if self.hold_field(world, number) {
+            return true;
+        }
         let printed = self.print_any_field(world, number);
         self.is_done(printed)
+    }
+
+    /// The same, where the field can be held back as it stands; elsewhere nothing changes.
+    #[inline(always)]
+    fn hold_field<W: World>(&mut self, world: &W, number: &Operand) -> bool
+        requires ready { IsReady W.is_logged (W.state world.now) self.old.runtime.streams }
+        ensures ready { IsReady W.is_logged (W.state world.now) self.new.runtime.streams }
+        ensures kept { result ≡ false → self.new ≡ self.old }
+        ensures prints { result ≡ true → PrintsField W.is_logged number.now self.old (W.state world.now) (Ok tt) self.new (W.state world.now) }
+    {
+        let Some(n) = self.number_at(number) else {
+            return false;
+        };
+        self.runtime.hold_field(world, n)
     }
 
     /// The same; an `Err` is what it came to.

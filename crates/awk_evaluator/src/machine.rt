@@ -1,12 +1,10 @@
 // The machine: it moves from place to place, until nothing is left. No function of it calls itself.
 
-ghost use Rattle.std.specs.Prelude.{◌≡◌, [], OnOk};
+ghost use Rattle.std.specs.Prelude.{◌≡◌, OnOk};
 ghost use Rattle.awk_runtime.specs.Simulation.{IsReady};
 ghost use Rattle.awk_runtime.specs.Calling.{EndsCalls};
-ghost use Rattle.awk_resolve.specs.declared.node.Node.TheVariants.{Value as NodeValue};
-ghost use Rattle.awk_resolve.specs.Nodes.{first};
 ghost use Rattle.awk_evaluator.specs.Rest.{IsSound, AtPlace};
-ghost use Rattle.awk_evaluator.specs.Moves.{IsIdle, Turns, Steps, Ends, Executes, Keeps, came, told, without_value, truth_in};
+ghost use Rattle.awk_evaluator.specs.Moves.{IsIdle, Turns, Steps, Ends, Done, Executes, Keeps, came, told, without_value, truth_in};
 
 use crate::calls::Calls;
 use crate::operands::Operands;
@@ -56,24 +54,20 @@ impl Machine {
         }
     }
 
-    /// Runs what stands at a place of the plan. Behind an `Err` calls may be active still.
-    pub fn execute<W: World>(
-        &mut self,
-        world: &mut W,
-        plan: &Plan,
-        place: u32,
-    ) -> Result<Value, Halt>
+    /// Runs what stands at a place of the plan, whose value is of no use. Behind an `Err` calls may be active still.
+    pub fn execute<W: World>(&mut self, world: &mut W, plan: &Plan, place: u32) -> Result<(), Halt>
         requires sound { IsSound plan.now }
         requires idle { IsIdle self.old }
         requires ready { IsReady W.is_logged (W.state world.old) self.old.runtime.streams }
         ensures ready { IsReady W.is_logged (W.state world.new) self.new.runtime.streams }
         ensures idle { OnOk result (IsIdle self.new) }
-        ensures executes { Executes W.is_logged plan.now place self.old (W.state world.old) result self.new (W.state world.new) }
+        ensures executes { Done (λ r. Executes W.is_logged plan.now place self.old (W.state world.old) r self.new (W.state world.new)) result }
     {
         self.run(world, plan, place)
     }
 
     /// Behind a `next` or an `exit`: no call is active any more.
+    #[inline(always)]
     pub fn end_calls(&mut self)
         ensures idle { IsIdle self.new }
         ensures ends { EndsCalls self.old.runtime self.new.runtime }
@@ -84,33 +78,24 @@ impl Machine {
     }
 
     /// Goes on from a place to the end.
-    fn run<W: World>(&mut self, world: &mut W, plan: &Plan, start: u32) -> Result<Value, Halt>
+    fn run<W: World>(&mut self, world: &mut W, plan: &Plan, start: u32) -> Result<(), Halt>
         requires sound { IsSound plan.now }
         requires ready { IsReady W.is_logged (W.state world.old) self.old.runtime.streams }
         ensures ready { IsReady W.is_logged (W.state world.new) self.new.runtime.streams }
-        ensures ends { Ends W.is_logged plan.now (AtPlace start) self.old (W.state world.old) result self.new (W.state world.new) }
+        ensures ends { Done (λ r. Ends W.is_logged plan.now (AtPlace start) self.old (W.state world.old) r self.new (W.state world.new)) result }
     {
         let mut at = start;
         'steps: loop {
             match self.to_step(world, plan, at) {
                 Move::Up(next) => at = next,
-                Move::Over => return Ok(self.last_value()),
+                Move::Over => {
+                    self.operands.clear();
+                    return Ok(());
+                }
                 Move::Halted => return Err(self.halt),
                 Move::On(_) | Move::Back(_) => unreachable!(),
             }
         }
-    }
-
-    /// Takes the last value off, and whatever lies below it.
-    fn last_value(&mut self) -> Value
-        ensures top { result ≡ first self.old.operands.values }
-        ensures rest { self.new.operands ≡ record { values = []; below = [] } }
-        ensures calls { self.new.calls ≡ self.old.calls }
-        ensures runtime { self.new.runtime ≡ self.old.runtime }
-    {
-        let value = self.operands.pop();
-        self.operands.clear();
-        value
     }
 
     /// Goes on to the next step or the end.

@@ -430,7 +430,12 @@ impl Machine {
     pub(crate) fn match_record(&mut self, ere: u32) -> Option<bool>
         ensures { Compares (RecordMatches ere) self.old (told result self.new) self.new }
     {
-        let matches = self.record_matches(ere);
-        self.truth_of(matches)
+        match self.runtime.record_has_match(ere) {
+            Ok(holds) => Some(holds),
+            Err(halt) => {
+                self.halt = halt;
+                None
+            }
+        }
     }
 }

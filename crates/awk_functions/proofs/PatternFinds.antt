@@ -35,6 +35,14 @@ kept_tree text p means = by (pattern_of text) refl means
     by None is m = absurd (∥∥₁_elim m (λ x y. absurd x) (λ h. h))
     by (Some t) is m = record { tree = t; spelled = is; means = m }
 
+-- whether there is a match
+
+pub matched_is : (text s : List ℕ) (p : Pattern) (r : Bool) → ∥ MeansOf (pattern_of text) p ∥₁ → ((t : Tree) → Means t p → r ≡ occurs t s) → matched (pattern_in text) s ≡ Ok r
+matched_is text s p r means decided =
+    let kept = kept_tree text p means in
+    let same : r ≡ occurs kept.tree s = ∥∥₁_elim kept.means (Coded-set coded_bool r (occurs kept.tree s)) (λ m. decided kept.tree m) in
+    ap (λ o. matched (pattern_or_fault o) s) kept.spelled ∙ ap Ok (sym same)
+
 -- no match
 
 pub none_matched : (text s : List ℕ) (p : Pattern) (r : Option ℕ) → ∥ MeansOf (pattern_of text) p ∥₁ → IfSome r (λ place. (t : Tree) → Means t p → HasNoneUpTo t s place) → IfSome r (HasNoMatchUpTo (pattern_in text) s)

@@ -38,7 +38,7 @@ use Rattle.awk_functions.specs.support.Written.{Writes}
 use Rattle.awk_runtime.specs.declared.runtime.Runtime.{Runtime}
 use Rattle.awk_runtime.specs.support.Simulation.{Changes, SameState}
 use Rattle.awk_runtime.specs.support.Naming.{Naming}
-use Rattle.awk_runtime.specs.support.Spelled.{spelled, record_tested, substitute_in_record, pieces_by, with_pieces}
+use Rattle.awk_runtime.specs.support.Spelled.{spelled, record_tested, as_truth, substitute_in_record, pieces_by, with_pieces}
 use Rattle.awk_runtime.specs.declared.texts.PatternSource.{PatternSource}
 use Rattle.awk_runtime.proofs.Composition.{then_changes, ends_changes, lift_changes, memory_changes}
 use Rattle.awk_runtime.proofs.Steps.{still, reads_changes, same_changes}
@@ -118,6 +118,10 @@ mismatch_test v c is same e = lift_spelled (λ p. applied NotMatches v (value.Te
 pub record_test : {old new : Runtime} {spelling ere text : List ℕ} (c : Result Bool Halt) → spelling ≡ ere → SameState old new → text ≡ old.current.text → Yields c (matched (pattern_in spelling) text) → Changes (record_tested ere) old new (mapped truth_value c)
 record_test {old = old} {ere = ere} {text = text} c is same e yields =
     then_changes (λ x. lift (applied Matches x (value.Text ere))) (text_read (still old) e) (match_test (value.Input text) c is same yields)
+
+pub record_tests : {old new : Runtime} {spelling ere text : List ℕ} (c : Result Bool Halt) → spelling ≡ ere → SameState old new → text ≡ old.current.text → Yields c (matched (pattern_in spelling) text) → Changes (record_tested ere) old new (as_truth c)
+record_tests (Ok holds) is same e yields = record_test (Ok holds) is same e yields
+record_tests (Err h) is same e yields = record_test (Err h) is same e yields
 
 -- runs that are equal
 

@@ -13,8 +13,8 @@ use Rattle.awk_text.specs.Separators.{separator_of}
 use Rattle.std.specs.Result.{is_err}
 use Rattle.awk_kinds.specs.declared.special.Special.{Special}
 use Rattle.awk_kinds.specs.declared.special.Special.TheVariants.{Argc, Convfmt, Filename, Fnr, Fs, Nr, Ofmt, Ofs, Ors, Rlength, Rs, Rstart, Subsep}
-use Rattle.awk_kinds.specs.declared.fault.VariableFault.{VariableFault}
-use Rattle.awk_kinds.specs.declared.fault.VariableFault.TheVariants.{Memory, Pattern}
+use Rattle.awk_text.specs.declared.fault.TextFault.{TextFault}
+use Rattle.awk_text.specs.declared.fault.TextFault.TheVariants.{Memory, Pattern}
 use Rattle.awk_kinds.specs.Variables.{value_of, name_of, with_value, is_refused}
 use Rattle.awk_kinds.specs.Names.{AreDistinct}
 use Rattle.awk_semantics.specs.declared.halt.Halt.{Halt}
@@ -24,7 +24,7 @@ use Rattle.awk_semantics.specs.declared.local.Local.{Local}
 use Rattle.awk_semantics.specs.declared.local.Local.TheVariants as local
 use Rattle.awk_semantics.specs.State.{State, Frame, Run, ◌>>=◌, lift, gives}
 use Rattle.awk_semantics.specs.Results.{Yields}
-use Rattle.awk_semantics.specs.Faults.{variable_fault}
+use Rattle.awk_semantics.specs.Faults.{text_fault}
 use Rattle.awk_semantics.specs.Operators.{raised}
 use Rattle.awk_semantics.specs.Primitives.{read_outside, put_unless, put_global, put_outside, put_special, count_in, with_variable}
 use Rattle.awk_storage.specs.support.Frames.{FramesView, newest_of, with_value_at}
@@ -151,10 +151,10 @@ unfolding put_special
 special_refused x v refused same =
     reads_changes _ (λ s. Err (halt.Fault PatternRefused)) (λ s. ap (λ b. put_unless b (name_of x) v s) refused) same (λ s h. refl)
 
-abbrev pub failed : VariableFault → Result (Unit {0}) VariableFault
+abbrev pub failed : TextFault → Result (Unit {0}) TextFault
 failed e = Err e
 
-pub special_fails : (x : Special) (v : Value) (e : VariableFault) {old new : Runtime} → (e ≡ Pattern → is_refused (name_of x) v ≡ true) → SameState old new → Changes (put_special x v) old new (Err (halt.Fault (variable_fault e)))
+pub special_fails : (x : Special) (v : Value) (e : TextFault) {old new : Runtime} → (e ≡ Pattern → is_refused (name_of x) v ≡ true) → SameState old new → Changes (put_special x v) old new (Err (halt.Fault (text_fault e)))
 special_fails x v Memory why same = memory_changes _ same.streams same.beside.names (omega (arith, same.beside.steps))
 special_fails x v Pattern why same = special_refused x v (why refl) same
 

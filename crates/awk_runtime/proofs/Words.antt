@@ -47,6 +47,11 @@ record_read n m text (Some v) whole is e =
     field_changes n (still m) (rw (whole, input) refl)
 record_read n m text None whole is e = tt
 
+-- a field that was cut from the text of the record
+pub field_cut : (n : ℤ) (m : Runtime) (v : Value) (found : Option Value) → field_of m.current n ≡ Ok v → IfSome found (λ w. w ≡ v) → IfSome found (λ w. Changes (read_field n) m m (Ok w))
+field_cut n m v (Some w) is e = field_changes n (still m) (ap of_record is ∙ ap (λ x. Ok x) (sym e))
+field_cut n m v None is e = tt
+
 abbrev pub failed_field : RecordFault → Result Value RecordFault
 failed_field e = Err e
 

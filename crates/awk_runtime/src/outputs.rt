@@ -11,7 +11,7 @@ ghost use Rattle.awk_semantics.specs.Primitives.{print_line};
 ghost use Rattle.awk_semantics.specs.Streams.{open_output, open_file, open_target};
 ghost use Rattle.awk_semantics.specs.Semantics.{Functions, print_by};
 ghost use Rattle.awk_runtime.specs.support.Simulation.{IsReady, Follows};
-ghost use Rattle.awk_runtime.specs.support.Printing.{standard_named, print_at, PrintsTo, OpensTarget};
+ghost use Rattle.awk_runtime.specs.support.Printing.{standard_named, print_at, print_field_at, PrintsTo, OpensTarget};
 
 use crate::runtime::Runtime;
 use awk_functions::{append_line, make_line};
@@ -90,8 +90,31 @@ impl Runtime {
         let Some(end) = text_at_hand(self.specials.special(Special::Ors)) else {
             return false;
         };
-        let size = world.output_buffer_size();
-        self.streams.hold(size, text.as_slice(), end.as_slice())
+        self.streams.hold(text.as_slice(), end.as_slice())
+    }
+
+    /// Prints the field of a number as a line to standard output, where it is a stretch of the record, the text of ORS is at hand, and
+    /// both can be held back as they stand: nothing is asked of the world then. `false`, and nothing changes, elsewhere. (POSIX awk,
+    /// Output Statements)
+    #[inline(always)]
+    pub fn hold_field<W: World>(&mut self, world: &W, number: i128) -> bool
+        requires ready { IsReady W.is_logged (W.state world.now) self.old.streams }
+        ensures ready { IsReady W.is_logged (W.state world.now) self.new.streams }
+        ensures kept { result ≡ false → self.new ≡ self.old }
+        ensures follows { result ≡ true → (functions : Functions) → Follows W.is_logged (print_field_at functions number) self.old
+            (W.state world.now) self.new (W.state world.now) (Ok tt) }
+    {
+        let Some(span) = self.current.stretch(number) else {
+            return false;
+        };
+        let Some(text) = self.current.text_at_hand() else {
+            return false;
+        };
+        let Some(end) = text_at_hand(self.specials.special(Special::Ors)) else {
+            return false;
+        };
+        let field = &text.as_slice()[span.start..span.end];
+        self.streams.hold(field, end.as_slice())
     }
 
     /// Prints the values as a line to standard output, where it can be held back with no memory: what `print` does then, and nothing
@@ -122,7 +145,7 @@ impl Runtime {
         let Some(end) = text_at_hand(self.specials.special(Special::Ors)) else {
             return false;
         };
-        let (mut held, room) = self.streams.lend_output(world.output_buffer_size());
+        let (mut held, room) = self.streams.lend_output();
         let holds = append_line(&mut held, room, values, between.as_slice(), end.as_slice());
         self.streams.take_output_back(held);
         holds
@@ -284,8 +307,7 @@ impl Runtime {
         let Some(end) = text_at_hand(self.specials.special(Special::Ors)) else {
             return false;
         };
-        let size = world.output_buffer_size();
-        self.streams.hold(size, text.as_slice(), end.as_slice())
+        self.streams.hold(text.as_slice(), end.as_slice())
     }
 
     // Makes the line of the values, and prints it.

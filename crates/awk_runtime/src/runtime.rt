@@ -5,10 +5,9 @@ ghost use Rattle.awk_runtime.specs.support.Simulation.{Spends};
 
 use crate::names::ProgramNames;
 use awk_functions::{Formats, Patterns};
-use awk_kinds::Variables;
 use awk_record::Record;
 use awk_semantics::Halt;
-use awk_storage::{Arrays, Frames};
+use awk_storage::{Arrays, Frames, Variables};
 use awk_streams::Streams;
 use awk_text::Span;
 use awk_value::Value;

@@ -11,10 +11,9 @@ ghost use Rattle.awk_runtime.specs.support.Beginning.{pair_of, texts_of, start_o
 use crate::names::ProgramNames;
 use crate::runtime::Runtime;
 use awk_functions::{Formats, Patterns};
-use awk_kinds::Variables;
 use awk_record::Record;
 use awk_semantics::{Fault, Halt};
-use awk_storage::{Arrays, Frames};
+use awk_storage::{Arrays, Frames, Variables};
 use awk_streams::Streams;
 use awk_value::{Bytes, Value};
 use std::alloc::{AllocError, Global};

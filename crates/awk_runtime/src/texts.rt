@@ -14,7 +14,7 @@ ghost use Rattle.awk_functions.specs.definitions.Spelling.{spelling_of, separato
 ghost use Rattle.awk_runtime.specs.support.Naming.{ere_at};
 ghost use Rattle.awk_runtime.specs.support.Simulation.{Changes};
 ghost use Rattle.awk_runtime.specs.support.Spelled.{spelled, separator_spelled, separation, pieces_by, with_pieces};
-ghost use Rattle.awk_runtime.specs.support.Spelled.{record_tested, substitute_in_record};
+ghost use Rattle.awk_runtime.specs.support.Spelled.{record_tested, as_truth, substitute_in_record};
 
 use crate::names::ProgramNames;
 use crate::runtime::Runtime;
@@ -82,15 +82,35 @@ impl Runtime {
         concatenate_all(self.alloc, values)
     }
 
-    /// Whether the record has a match of an ERE of the program, by its number. (POSIX awk, Expressions in awk; Regular
+    /// Whether the record has a match of an ERE of the program, by its number, as a value. (POSIX awk, Expressions in awk; Regular
     /// Expressions)
     pub fn record_matches(&mut self, ere: u32) -> Result<Value, Halt>
         ensures { Changes (record_tested (ere_at self.old.names ere)) self.old self.new result }
     {
+        Ok(truth_value(self.record_has_match(ere)?))
+    }
+
+    /// Whether the record has a match of an ERE of the program, by its number. (POSIX awk, Expressions in awk; Regular
+    /// Expressions)
+    #[inline(always)]
+    pub fn record_has_match(&mut self, ere: u32) -> Result<bool, Halt>
+        ensures { Changes (record_tested (ere_at self.old.names ere)) self.old self.new (as_truth result) }
+    {
+        if let Some(text) = self.current.text_at_hand() {
+            let pattern = operand(&self.names, PatternSource::Ere(ere));
+            return self.patterns.matches_text(text.as_slice(), pattern);
+        }
+        self.made_record_has_match(ere)
+    }
+
+    // The same of a record whose text may still have to be made of its fields.
+    #[inline(never)]
+    fn made_record_has_match(&mut self, ere: u32) -> Result<bool, Halt>
+        ensures { Changes (record_tested (ere_at self.old.names ere)) self.old self.new (as_truth result) }
+    {
         let text = self.current.text()?;
         let pattern = operand(&self.names, PatternSource::Ere(ere));
-        let matches = self.patterns.matches_text(text.as_slice(), pattern)?;
-        Ok(truth_value(matches))
+        self.patterns.matches_text(text.as_slice(), pattern)
     }
 
     /// What `~` or `!~` makes of a value and an ERE of the program, by its number. (POSIX awk, Expressions in awk; Regular

@@ -1,5 +1,5 @@
 -- What printing and opening an output do, where the outputs of the code stand for those of the definitions.
-use Rattle.std.specs.Prelude.{◌≡◌, ◌≤◌, ℕ, List, Option, Some, None, Result, Ok, Err, bytes_eq, codes, if◌then◌else◌}
+use Rattle.std.specs.Prelude.{◌≡◌, ◌≤◌, ℕ, ℤ, List, [], ◌∷◌, Option, Some, None, Result, Ok, Err, bytes_eq, codes, if◌then◌else◌}
 use Rattle.awk_streams.specs.WorldState.{WorldState}
 use Rattle.awk_streams.specs.declared.streams.Target.{Target}
 use Rattle.awk_streams.specs.declared.streams.Target.TheVariants as target
@@ -7,7 +7,9 @@ use Rattle.awk_streams.specs.Streams.{opening_at}
 use Rattle.awk_semantics.specs.declared.halt.Halt.{Halt}
 use Rattle.awk_value.specs.declared.value.Value.{Value}
 use Rattle.awk_grammar.specs.declared.tree.PrintForm.{PrintForm}
-use Rattle.awk_semantics.specs.State.{Run, ◌>>=◌}
+use Rattle.awk_grammar.specs.declared.tree.PrintForm.TheVariants.{Print}
+use Rattle.awk_semantics.specs.State.{Run, ◌>>=◌, ret}
+use Rattle.awk_semantics.specs.Primitives.{read_field}
 use Rattle.awk_semantics.specs.Semantics.{Functions, print_by}
 use Rattle.awk_runtime.specs.declared.runtime.Runtime.{Runtime}
 use Rattle.awk_runtime.specs.support.Simulation.{SimulatesLogged}
@@ -22,6 +24,10 @@ standard_named name =
 -- a print to the opening that a run gives
 abbrev pub print_at : Functions → Run ℕ → PrintForm → List Value → Run (Unit {0})
 print_at functions to form vs = to >>= λ n. print_by functions form n vs
+
+-- the field of a number as a line to standard output
+abbrev pub print_field_at : Functions → ℤ → Run (Unit {0})
+print_field_at functions n = read_field n >>= λ w. print_at functions (ret 0) Print (w ∷ [])
 
 -- what is done where the target is this opening of an output
 pub record PrintsTo (is_logged : Type 0) (to : Target) (run : ℕ → Run (Unit {0})) (old : Runtime) (before : WorldState) (new : Runtime) (after : WorldState) (r : Result (Unit {0}) Halt) : Type 0 where

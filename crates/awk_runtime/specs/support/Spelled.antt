@@ -8,7 +8,7 @@ use Rattle.awk_text.specs.Fields.{pieces_of}
 use Rattle.awk_lex.specs.declared.token.Operator.TheVariants.{Matches}
 use Rattle.awk_semantics.specs.declared.halt.Halt.{Halt}
 use Rattle.awk_semantics.specs.State.{Run, ◌>>=◌, lift, ret}
-use Rattle.awk_semantics.specs.Operators.{applied, pattern_in}
+use Rattle.awk_semantics.specs.Operators.{applied, pattern_in, truth_value}
 use Rattle.awk_semantics.specs.Texts.{separator_in, ere_separator}
 use Rattle.awk_semantics.specs.Primitives.{record_text, field_separator}
 use Rattle.awk_storage.specs.declared.position.Place.TheVariants as place
@@ -43,6 +43,11 @@ with_pieces pieces (Err h) = Err h
 -- whether the record has a match of an ERE
 abbrev pub record_tested : (ere : List ℕ) → Run Value
 record_tested ere = record_text >>= λ x. lift (applied Matches x (value.Text ere))
+
+-- what a test came to, as a value
+abbrev pub as_truth : Result Bool Halt → Result Value Halt
+as_truth (Ok holds) = Ok (truth_value holds)
+as_truth (Err h) = Err h
 
 -- `sub` and `gsub` in the record; `names` are those of the program's variables by their slots
 abbrev pub substitute_in_record : (names : List (List ℕ)) (all : Bool) (pattern replacement : List ℕ) → Run Value

@@ -1,5 +1,16 @@
-use Rattle.awk_evaluator.proofs.Parts.{part_told, computes_kept}
+use Rattle.std.proofs.Common.{refl}
+use Rattle.awk_semantics.specs.Operators.{truth_value}
+use Rattle.awk_evaluator.proofs.Quickly.{truth_is}
 use Rattle.awk_evaluator.proofs.machine.Machine.match_record.Goals as goal
 
-pub returns : goal.returns
-returns c = part_told c.truth_of.ensures.told (computes_kept c.truth_of.ensures.kept c.record_matches-matches.ensures)
+pub returns-in-Ok : goal.returns-in-Ok
+returns-in-Ok c = record {
+  compares = (
+    truth_value c.in-Ok.holds,
+    truth_is c.in-Ok.holds,
+    record { operands = refl; calls = refl; changes = λ tables functions. c.in-Ok.ensures },
+  );
+}
+
+pub returns-in-Err : goal.returns-in-Err
+returns-in-Err c = record { compares = record { operands = tt; calls = tt; changes = λ tables functions. c.in-Err.ensures } }

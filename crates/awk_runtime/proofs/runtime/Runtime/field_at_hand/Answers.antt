@@ -1,16 +1,22 @@
-use Rattle.std.proofs.Common.{◌≡◌, refl, sym, ap, to_z, of_z, pos, arith}
+use Rattle.std.proofs.Common.{◌≡◌, pos, ap, ◌∙◌, to_z, of_z, arith}
 use Rattle.std.specs.Int.{w128}
 use Rattle.std.proofs.lemmas.Int.{ints}
-use Rattle.awk_semantics.specs.Faults.{of_record}
-use Rattle.awk_runtime.proofs.Words.{field_changes, record_read}
+use Rattle.awk_record.specs.Record.{RecordPair}
+use Rattle.awk_runtime.proofs.Words.{field_cut, record_read}
 use Rattle.awk_runtime.proofs.runtime.Runtime.field_at_hand.Goals as goal
-
-pub returns-in-Ok-clause-some : goal.returns-in-Ok-clause-some
-returns-in-Ok-clause-some c =
-    let number : to_z w128 (of_z w128 c.args.number) ≡ c.args.number = omega (arith, ints) in
-    field_changes _ (record { beside = record { names = refl; current = c.in-Ok.ensures.same; specials = refl; globals = refl; arrays = refl; frames = refl; next = refl; input_seen = refl; inside = refl; status = refl; steps = refl }; streams = refl }) (sym (ap of_record ((rw number at c.in-Ok.ensures.field) (λ e. (cc)))))
 
 pub returns-in-Some-clause-some : goal.returns-in-Some-clause-some
 returns-in-Some-clause-some c =
     let whole : c.args.number ≡ pos 0 = omega (arith, ints) in
     record_read c.args.number c.args.self.now c.in-Some.text.now c.input_of.result whole c.in-Some.ensures c.input_of.ensures
+
+pub returns-in-Some-text_at_hand-clause-some : goal.returns-in-Some-text_at_hand-clause-some
+returns-in-Some-text_at_hand-clause-some c =
+    let number : to_z w128 (of_z w128 c.args.number) ≡ c.args.number = omega (arith, ints) in
+    let text = c.in-Some-text_at_hand.ensures ∙ ap (λ (r : RecordPair). r.text) c.stretch.ensures.same in
+    rw c.stretch.ensures.same (field_cut c.args.number c.args.self.now _ c.input_in.result (rw number at c.in-Some-stretch.ensures.field) (rw text at c.input_in.ensures))
+
+pub returns-clause-some : goal.returns-clause-some
+returns-clause-some c =
+    let number : to_z w128 (of_z w128 c.args.number) ≡ c.args.number = omega (arith, ints) in
+    rw (number, c.stretch.ensures.same) at c.any_field.ensures.some
