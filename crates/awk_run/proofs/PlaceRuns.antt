@@ -1,5 +1,5 @@
 -- What a run from a place does, by what the evaluator says of it.
-use Rattle.std.proofs.Common.{◌≡◌, ℕ, ◌≤◌, List, [], Result, refl, sym, ap, ◌∙◌, subst, arith}
+use Rattle.std.proofs.Common.{◌≡◌, ℕ, ◌≤◌, List, [], Result, Ok, Err, refl, sym, ap, ◌∙◌, subst, arith}
 use Rattle.awk_value.specs.declared.value.Value.{Value}
 use Rattle.awk_streams.specs.WorldState.{WorldState}
 use Rattle.awk_grammar.specs.Tree.{Item}
@@ -13,9 +13,10 @@ use Rattle.awk_runtime.specs.support.Naming.{Naming}
 use Rattle.awk_runtime.specs.support.Simulation.{IsReady, Simulates}
 use Rattle.awk_evaluator.specs.declared.machine.Machine.{Machine}
 use Rattle.awk_evaluator.specs.Rest.{PlanStands, tables_in}
-use Rattle.awk_evaluator.specs.Moves.{Executes}
+use Rattle.awk_evaluator.specs.Moves.{Done, Executes}
 use Rattle.awk_run.specs.support.Follows.{FollowsPlan, IsSet}
-use Rattle.awk_run.specs.support.Planned.{IsPlanFor, place_in}
+use Rattle.awk_run.specs.support.Planned.{IsPlanFor, place_in, part_at}
+use Rattle.awk_run.proofs.ItemLemmas.{part_runs, part_halts}
 use Rattle.awk_run.proofs.PlansStand.{plans_stand}
 
 -- the tables by the names of a run are the plan's
@@ -43,3 +44,13 @@ place_set {plan = plan} {m = m} set e ready = record {
   items = set.items;
   planned = subst (λ (names : Naming). IsPlanFor set.items plan names) (sym (place_told e set.items set.planned m.runtime.steps (omega arith)).names) set.planned;
 }
+
+-- the same where the value is of no use
+
+pub set_done : {is_logged : Type 0} {plan : Plan} {place : ℕ} {m m1 : Machine} {k k1 : WorldState} (r : Result (Unit {0}) Halt) → IsSet is_logged plan m.runtime k → Done (λ q. Executes is_logged plan place m k q m1 k1) r → IsReady is_logged k1 m1.runtime.streams → IsSet is_logged plan m1.runtime k1
+set_done (Ok u) set d ready = place_set set d.done.1 ready
+set_done (Err h) set d ready = place_set set d.done ready
+
+pub part_follows : {is_logged : Type 0} {plan : Plan} {place : ℕ} {m m1 : Machine} {k k1 : WorldState} (r : Result (Unit {0}) Halt) → IsSet is_logged plan m.runtime k → Done (λ q. Executes is_logged plan place m k q m1 k1) r → FollowsPlan is_logged plan (λ at. part_at at place) m.runtime k m1.runtime k1 r
+part_follows (Ok u) set d = part_runs (place_follows set d.done.1)
+part_follows (Err h) set d = part_halts (place_follows set d.done)

@@ -3,3 +3,4 @@ pub mod Follows
 pub mod Verdict
 pub mod Assigned
 pub mod Passing
+pub mod Programs

@@ -27,8 +27,7 @@ pub(crate) fn run_part<W: World>(
     ensures follows { FollowsPlan W.is_logged plan.now (λ at. part_at at place) machine.old.runtime (W.state world.old)
         machine.new.runtime (W.state world.new) result }
 {
-    machine.execute(world, plan, place)?;
-    Ok(())
+    machine.execute(world, plan, place)
 }
 
 /// What the rules on a record came to; `next` ends them, and the run goes on.

@@ -1,4 +1,4 @@
-// A whole run of a text.
+// The program of a text, and its runs.
 
 ghost use Rattle.std.specs.Prelude.{◌≡◌, ℕ, List, IfOk, IfErr, OnErr};
 ghost use Rattle.awk_lex.specs.Refused.{IsOutOfMemory};
@@ -9,33 +9,41 @@ ghost use Rattle.awk_streams.specs.Streams.{AreSound};
 ghost use Rattle.awk_streams.specs.WorldState.{WorldState};
 ghost use Rattle.awk_run.specs.definitions.Accepted.{Accepted, RefusedFor};
 ghost use Rattle.awk_run.specs.definitions.Headline.{Executed};
-ghost use Rattle.awk_run.specs.definitions.Runs.{IsUntouched};
+ghost use Rattle.awk_run.specs.definitions.Runs.{IsUntouched, RunsFrom};
 ghost use Rattle.awk_run.specs.definitions.Start.{start_values};
-ghost use Rattle.awk_run.specs.support.Verdict.{no_streams, outcome_in};
+ghost use Rattle.awk_run.specs.support.Programs.{Holds, IsRead};
+ghost use Rattle.awk_run.specs.support.Verdict.{no_streams};
 
-use crate::run::{CountedRun, run};
+use crate::plan_run::run_plan;
 use crate::start::Start;
 use awk_grammar::tree::Tree;
 use awk_kinds::{Kinds, law_of_refusals, resolve};
 use awk_lex::lexer::tokens;
 use awk_lex::refusal::Refusal;
-use awk_resolve::lower_program;
+use awk_resolve::{Plan, lower_program};
 use awk_semantics::Outcome;
 use awk_streams::{World, some_oracle_is_consistent};
-use awk_syntax::parse::parse;
+use awk_syntax::parse;
 use std::alloc::Global;
 
-/// A program that fits, and the kinds of its names.
+/// A tree that fits, and the kinds of its names.
 #[derive(Drop)]
-pub(crate) struct Program {
-    pub(crate) tree: Tree,
-    pub(crate) kinds: Kinds,
+struct FittingTree {
+    tree: Tree,
+    kinds: Kinds,
 }
 
-/// The program of a text.
-fn read_program(alloc: Global, text: &[u8]) -> Result<Program, Refusal>
-    ensures accepted { IfOk result (λ program. Accepted text.now (tree_of program.tree)) }
-    ensures kinds { IfOk result (λ program. program.kinds ≡ kinds_of (tree_of program.tree)) }
+/// A program that was read from a text, and can be run any number of times.
+#[derive(Drop)]
+pub struct Program {
+    plan: Plan,
+    kinds: Kinds,
+}
+
+/// The tree of a text.
+fn read_tree(alloc: Global, text: &[u8]) -> Result<FittingTree, Refusal>
+    ensures accepted { IfOk result (λ read. Accepted text.now (tree_of read.tree)) }
+    ensures kinds { IfOk result (λ read. read.kinds ≡ kinds_of (tree_of read.tree)) }
     ensures only { (items : List Item) → Accepted text.now items → IfErr result IsOutOfMemory }
     ensures cause { IfErr result (λ refusal. RefusedFor refusal.code text.now) }
 {
@@ -43,7 +51,66 @@ fn read_program(alloc: Global, text: &[u8]) -> Result<Program, Refusal>
     let tokens = tokens(alloc, text)?;
     let tree = parse(alloc, &tokens)?;
     let kinds = resolve(alloc, &tree.items)?;
-    Ok(Program { tree, kinds })
+    Ok(FittingTree { tree, kinds })
+}
+
+/// The program that a text spells. (POSIX awk, the awk utility)
+///
+/// # Errors
+///
+/// A text that is no program is refused, with the first cause that holds and its line: as `execute`
+/// refuses it, which asks here. So is any text where memory is refused.
+pub fn read_program(alloc: Global, text: &[u8]) -> Result<Program, Refusal>
+    ensures cause { IfErr result (λ refusal. RefusedFor refusal.code text.now) }
+    ensures refused { IfErr result (λ refusal. (IsOutOfMemory refusal → ⊥) →
+        (items : List Item) → Accepted text.now items → ⊥) }
+    ensures program { IfOk result (λ program. (items : List Item) × Accepted text.now items × Holds items program) }
+{
+    let read = read_tree(alloc, text)?;
+    let plan = lower_program(alloc, &read.tree.items, &read.kinds)?;
+    Ok(Program {
+        plan,
+        kinds: read.kinds,
+    })
+}
+
+/// Runs a program that was read, from the start values, with at most `limit` steps, in a world whose
+/// log is in order and in which nothing stands open or is to be flushed, as it is before anything was
+/// done there. What it leaves in the world, and its outcome, are what the program's items mean.
+/// (POSIX awk, Overall Program Structure)
+pub fn run<W: World>(
+    alloc: Global,
+    program: &Program,
+    start: &Start,
+    limit: u64,
+    world: &mut W,
+) -> Outcome
+    requires program { IsRead program.now }
+    requires sound { W.is_logged → AreSound (W.state world.old) no_streams }
+    ensures { (items : List Item) → Holds items program.now →
+        RunsFrom W.is_logged items (start_values start.now) limit (W.state world.old) (W.state world.new) result }
+{
+    run_counted(alloc, program, start, limit, world).0
+}
+
+/// Does what `run` does. Behind the outcome stand how often the text of a record was begun to be split
+/// into fields, once for each whose fields or their count were asked, and how often one was made of
+/// the fields.
+///
+/// No clause speaks of the counts. (POSIX awk, Overall Program Structure)
+pub fn run_counted<W: World>(
+    alloc: Global,
+    program: &Program,
+    start: &Start,
+    limit: u64,
+    world: &mut W,
+) -> (Outcome, u64, u64)
+    requires program { IsRead program.now }
+    requires sound { W.is_logged → AreSound (W.state world.old) no_streams }
+    ensures { (items : List Item) → Holds items program.now →
+        RunsFrom W.is_logged items (start_values start.now) limit (W.state world.old) (W.state world.new) result.0 }
+{
+    run_plan(alloc, &program.plan, &program.kinds, start, limit, world)
 }
 
 /// Reads a program text and runs it from the start values, with at most `limit` steps, in a world
@@ -64,27 +131,8 @@ pub fn execute<W: World>(
         (W.state world.new) result }
     ensures untouched { OnErr result (world.new ≡ world.old) }
 {
-    Ok(execute_counted(alloc, text, start, limit, world)?.outcome)
-}
-
-/// Does what `execute` does, and counts how often the texts of records were split and made anew.
-///
-/// No clause speaks of the counts. (POSIX awk, the awk utility)
-pub fn execute_counted<W: World>(
-    alloc: Global,
-    text: &[u8],
-    start: &Start,
-    limit: u64,
-    world: &mut W,
-) -> Result<CountedRun, Refusal>
-    requires sound { W.is_logged → AreSound (W.state world.old) no_streams }
-    ensures executed { Executed W.is_logged text.now (start_values start.now) limit (W.state world.old)
-        (W.state world.new) (outcome_in result) }
-    ensures untouched { OnErr result (world.new ≡ world.old) }
-{
     let program = read_program(alloc, text)?;
-    let plan = lower_program(alloc, &program.tree.items, &program.kinds)?;
-    Ok(run(alloc, &plan, &program.kinds, start, limit, world))
+    Ok(run(alloc, &program, start, limit, world))
 }
 
 /// A text is at most one program.
@@ -92,7 +140,7 @@ pub fn one_program()
     ensures { (text : List ℕ) (xs ys : List Item) → Accepted text xs → Accepted text ys → xs ≡ ys }
 {
     awk_lex::lexer::one_lexing();
-    awk_syntax::parse::one_tree();
+    awk_syntax::one_tree();
 }
 
 /// In a world in which nothing was done a run may begin.

@@ -1,7 +1,5 @@
 -- What the parts of a whole run answer.
 use Rattle.std.specs.Prelude.{◌≡◌, ◌≤◌, ℕ, List, [], None, Result, Ok, Err}
-use Rattle.awk_lex.specs.declared.refusal.Refusal.{Refusal}
-use Rattle.awk_lex.specs.Refused.{IsOutOfMemory}
 use Rattle.awk_streams.specs.declared.fault.StreamFault.{StreamFault}
 use Rattle.awk_streams.specs.WorldState.{WorldState}
 use Rattle.awk_streams.specs.Oracle.{Oracle}
@@ -10,18 +8,12 @@ use Rattle.awk_streams.specs.Commands.{Finishes}
 use Rattle.awk_semantics.specs.declared.outcome.Outcome.{Outcome}
 use Rattle.awk_semantics.specs.declared.outcome.Outcome.TheVariants.{Fault}
 use Rattle.awk_semantics.specs.definitions.Faults.{stream_fault}
-use Rattle.awk_run.specs.declared.run.CountedRun.{CountedRun}
 
 -- a failure of the end of a run counts unless a fault came before it
 abbrev pub outcome_after : Outcome → Result (Unit {0}) StreamFault → Outcome
 outcome_after ended (Ok v) = ended
 outcome_after (Fault f) (Err e) = Fault f
 outcome_after ended (Err e) = Fault (stream_fault e)
-
--- the outcome of a run that counted
-abbrev pub outcome_in : Result CountedRun Refusal → Result Outcome Refusal
-outcome_in (Ok run) = Ok run.outcome
-outcome_in (Err refusal) = Err refusal
 
 -- the streams before a run: no input is open, no named stream, and nothing is held back
 abbrev pub no_streams : StreamsView

@@ -1,7 +1,7 @@
 use Rattle.std.proofs.lemmas.Result.{err_from_is_err_and}
 use Rattle.awk_run.proofs.Assigning.{assigned_halts, assigned_runs}
 use Rattle.awk_run.proofs.PlanParts.{set_behind}
-use Rattle.awk_run.proofs.run.assign_and_run.Goals as goal
+use Rattle.awk_run.proofs.plan_run.assign_and_run.Goals as goal
 
 pub returns-in_err-assign_all-clause-follows : goal.returns-in_err-assign_all-clause-follows
 returns-in_err-assign_all-clause-follows g c =

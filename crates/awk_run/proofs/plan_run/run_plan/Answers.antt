@@ -1,6 +1,6 @@
 use Rattle.awk_run.proofs.RunsFrom.{runs_from, runs_not}
 use Rattle.awk_run.proofs.Starting.{first_set, plan_for, begins_by, functions_for}
-use Rattle.awk_run.proofs.run.run.Goals as goal
+use Rattle.awk_run.proofs.plan_run.run_plan.Goals as goal
 
 pub assign_and_run-ended-requires : goal.assign_and_run-ended-requires
 assign_and_run-ended-requires g c = record {

@@ -1,6 +1,6 @@
 use Rattle.std.proofs.Common.{ap, refl, subst, sym, ◌∙◌}
 use Rattle.awk_run.proofs.Starting.{distinct_arrays, distinct_functions, first_starts}
-use Rattle.awk_run.proofs.run.first_machine.Goals as goal
+use Rattle.awk_run.proofs.plan_run.first_machine.Goals as goal
 
 pub program_names-requires : goal.program_names-requires
 program_names-requires c = record {

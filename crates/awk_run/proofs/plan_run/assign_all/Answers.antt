@@ -1,7 +1,7 @@
 use Rattle.std.proofs.Common.{sym, arith}
 use Rattle.std.proofs.lemmas.Result.{err_from_is_err_and}
 use Rattle.awk_run.proofs.Assigning.{assigns_end, assigns_halt, assigns_step, pair_at, pairs_over}
-use Rattle.awk_run.proofs.run.assign_all.Goals as goal
+use Rattle.awk_run.proofs.plan_run.assign_all.Goals as goal
 
 pub loop-assignment-preserved : goal.loop-assignment-preserved
 loop-assignment-preserved c = λ new r h.

@@ -2,7 +2,7 @@ use Rattle.std.proofs.Common.{sym, subst}
 use Rattle.awk_streams.specs.Streams.{StreamsView, AreSound}
 use Rattle.awk_streams.specs.Commands.{Finishes}
 use Rattle.awk_runtime.proofs.StartRelation.{start_open}
-use Rattle.awk_run.proofs.run.end_without_streams.Goals as goal
+use Rattle.awk_run.proofs.plan_run.end_without_streams.Goals as goal
 
 pub finish-requires : goal.finish-requires
 finish-requires g c = record {

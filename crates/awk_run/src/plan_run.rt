@@ -26,16 +26,6 @@ use awk_semantics::{Fault, Halt, Outcome, law_of_ends};
 use awk_streams::{StreamFault, Streams, World, some_oracle_is_consistent};
 use std::alloc::Global;
 
-/// How a run ended, and how often the texts of its records were split and made anew.
-#[derive(Clone, Copy, Debug, PartialEq, Eq)]
-pub struct CountedRun {
-    pub outcome: Outcome,
-    /// How often a text was begun to be split into fields: once for each whose fields or their count were asked.
-    pub splits: u64,
-    /// How often a text was made of the fields.
-    pub joins: u64,
-}
-
 /// How a run ended before its end, with the exit status that stands then. A `next` for which no
 /// record was at hand is a fault.
 fn outcome_of(ended: Result<(), Halt>, status: u8) -> Outcome
@@ -116,39 +106,31 @@ fn end_without_streams<W: World>(alloc: Global, world: &mut W) -> Result<(), Str
 }
 
 /// Runs a plan from the start values, with at most so many steps, where these are the kinds of its
-/// program's names: what it leaves in the world, and its outcome, are those of the program. (POSIX
-/// awk, Overall Program Structure)
-pub(crate) fn run<W: World>(
+/// program's names: what it leaves in the world, and its outcome, are those of the program. Behind the
+/// outcome stands how often the texts of records were split and made anew. (POSIX awk, Overall
+/// Program Structure)
+pub(crate) fn run_plan<W: World>(
     alloc: Global,
     plan: &Plan,
     kinds: &Kinds,
     start: &Start,
     limit: u64,
     world: &mut W,
-) -> CountedRun
+) -> (Outcome, u64, u64)
     requires program { AreOfAProgram plan.now kinds.now }
     requires sound { W.is_logged → AreSound (W.state world.old) no_streams }
     ensures { (items : List Item) → IsProgramOf items plan.now kinds.now →
-        RunsFrom W.is_logged items (start_values start.now) limit (W.state world.old) (W.state world.new) result.outcome }
+        RunsFrom W.is_logged items (start_values start.now) limit (W.state world.old) (W.state world.new) result.0 }
 {
     some_oracle_is_consistent();
     law_of_ends();
     let Ok(mut machine) = first_machine(alloc, plan, kinds, start, limit) else {
         let _ = end_without_streams(alloc, world);
-        let outcome = Outcome::Fault(Fault::OutOfMemory);
-        return CountedRun {
-            outcome,
-            splits: 0,
-            joins: 0,
-        };
+        return (Outcome::Fault(Fault::OutOfMemory), 0, 0);
     };
     let ended = assign_and_run(plan, &start.pre, &mut machine, world);
     let finished = machine.runtime.streams.finish(world);
     let outcome = outcome_after(outcome_of(ended, machine.runtime.status), finished);
     let record = &machine.runtime.current;
-    CountedRun {
-        outcome,
-        splits: record.splits(),
-        joins: record.joins(),
-    }
+    (outcome, record.splits(), record.joins())
 }

@@ -3,7 +3,7 @@ use Rattle.awk_semantics.specs.declared.halt.Halt.{Halt}
 use Rattle.awk_runtime.specs.declared.runtime.Runtime.{Runtime}
 use Rattle.awk_runtime.specs.Beginning.{pair_of}
 use Rattle.awk_run.specs.support.Assigned.{Assigns}
-use Rattle.awk_run.proofs.run.assign_all.Given as goal
+use Rattle.awk_run.proofs.plan_run.assign_all.Given as goal
 
 -- the assignments that are left
 abbrev pub invariant-loop-assignment : goal.invariant-loop-assignment
