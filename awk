@@ -20,13 +20,17 @@ folder_of() {
 }
 
 root=$(folder_of "$0")
-program=$root/out/awk
+# Under the name awk-check it runs the checker.
+case ${0##*/} in
+awk-check) built=awk_check_program program=$root/out/awk-check others=awk_system ;;
+*) built=awk program=$root/out/awk others=awk_check* ;;
+esac
 lock=$root/out/lock
 # What a build leaves: of each crate what its proof says, and its status.
 build=$root/out/build
 
 say() {
-    printf 'awk: %s\n' "$*" >&2
+    printf '%s: %s\n' "${program##*/}" "$*" >&2
 }
 
 fail() {
@@ -45,11 +49,11 @@ count_lanes() {
 }
 
 # Whether something that the program is made of is newer than it. A folder is newer where a file of
-# it was taken away. The crates of the tests are no part of the program.
+# it was taken away. The crates of the tests and of the other program are no part of it.
 is_stale() {
     [ ! -x "$program" ] || [ -n "$(find "$root/crates.txt" "$root/HANDLES" \
         "$root"/crates/*/src "$root"/crates/*/specs "$root"/crates/*/proofs \
-        -path '*/crates/awk_*tests/*' -prune -o -newer "$program" -print 2>/dev/null)" ]
+        -path '*/crates/awk_*tests/*' -prune -o -path "*/crates/$others/*" -prune -o -newer "$program" -print 2>/dev/null)" ]
 }
 
 # Whether a process goes on. A signal may not be sent to another user's.
@@ -124,7 +128,7 @@ prove() {
     crate=$1
     cd "$root/crates/$crate" || return
     set -- lib
-    [ "$crate" != awk ] || set -- run -- '{ print }'
+    [ "$crate" != "$built" ] || set -- run -- '{ print }'
     rt "$@" >"$build/$crate.log" 2>&1 </dev/null &
     proof=$!
     trap 'kill "$proof" 2>/dev/null' TERM
@@ -156,7 +160,7 @@ finish() {
 # Proves the crates that the program is made of, each behind those that it stands on.
 prove_all() {
     needed='' running='' number=0
-    need awk
+    need "$built"
     left=$needed
     count=$(printf '%s\n' $needed | wc -l)
     begun=$(date +%s)
@@ -182,7 +186,7 @@ build_program() {
     mkdir "$build" || exit 2
     : >"$build/begun"
     prove_all
-    cp "$root/crates/awk/out/awk" "$program.new"
+    cp "$root/crates/$built/out/$built" "$program.new"
     # What is edited while the build goes on is newer than the program.
     touch -r "$build/begun" "$program.new"
     mv "$program.new" "$program"

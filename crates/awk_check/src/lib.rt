@@ -1,0 +1,9 @@
+//! The check of a program: whether it is refused, where and why, and what it may not mean.
+#![tactic(auto)]
+
+mod expected;
+mod refused;
+mod verdict;
+
+pub use awk_findings::{Finding, Place, Source, assignment_finding, write_finding};
+pub use verdict::{Report, check, status};

@@ -1,0 +1,1 @@
+function head(s) { return substr(s, 0, 3) }

@@ -1,0 +1,143 @@
+// Calls and lists, token by token.
+
+use crate::finding::{Finding, Place};
+use crate::text::bytes_of;
+use awk_lex::token::{Kind, Operator, Token};
+use std::alloc::{AllocError, Global};
+
+/// A stretch of tokens, from one up to another.
+#[derive(Clone, Copy)]
+pub(crate) struct Stretch {
+    pub(crate) from: usize,
+    pub(crate) to: usize,
+}
+
+/// What a list's brackets are to it.
+#[derive(Clone, Copy)]
+enum Bracket {
+    Open,
+    Close,
+    None,
+}
+
+fn bracket_of(kind: &Kind) -> Bracket {
+    match kind {
+        Kind::OpenParenthesis | Kind::OpenBracket | Kind::OpenBrace => Bracket::Open,
+        Kind::CloseParenthesis | Kind::CloseBracket | Kind::CloseBrace => Bracket::Close,
+        _ => Bracket::None,
+    }
+}
+
+/// The place of a token.
+pub(crate) fn place_of(token: &Token) -> Place {
+    Place {
+        start: token.start,
+        end: token.end,
+    }
+}
+
+/// The token at a place as it stands in the text.
+pub(crate) fn text_of<'a>(text: &'a [u8], token: &Token) -> &'a [u8] {
+    bytes_of(text, place_of(token))
+}
+
+/// The name that a token is.
+pub(crate) fn name_of(token: &Token) -> Option<&[u8]> {
+    match &token.kind {
+        Kind::Name(name) | Kind::Called(name) => Some(name.as_slice()),
+        _ => None,
+    }
+}
+
+/// The kind of the token so many places before one.
+pub(crate) fn kind_before(tokens: &[Token], at: usize, count: usize) -> Option<&Kind> {
+    let token = tokens.get(at.checked_sub(count)?)?;
+    Some(&token.kind)
+}
+
+/// The kind of the token so many places behind one.
+pub(crate) fn kind_behind(tokens: &[Token], at: usize, count: usize) -> Option<&Kind> {
+    let token = tokens.get(at.checked_add(count)?)?;
+    Some(&token.kind)
+}
+
+/// The arguments of the call whose name stands at a place.
+pub(crate) fn arguments(
+    alloc: Global,
+    tokens: &[Token],
+    at: usize,
+) -> Result<Vec<Stretch>, AllocError> {
+    let mut found = Vec::new(alloc);
+    let open = at.saturating_add(1);
+    let mut from = open.saturating_add(1);
+    let mut depth = 0usize;
+    for (to, token) in tokens.iter().enumerate().skip(open) {
+        match bracket_of(&token.kind) {
+            Bracket::Open => depth = depth.saturating_add(1),
+            Bracket::Close => depth = depth.saturating_sub(1),
+            Bracket::None => {}
+        }
+        if depth == 0 {
+            if from < to {
+                found.push(Stretch { from, to })?;
+            }
+            break;
+        }
+        if depth == 1 && matches!(token.kind, Kind::Comma) {
+            found.push(Stretch { from, to })?;
+            from = to.saturating_add(1);
+        }
+    }
+    Ok(found)
+}
+
+/// The one token of a stretch, where it is one.
+pub(crate) fn only_token(tokens: &[Token], stretch: Stretch) -> Option<&Token> {
+    if stretch.from.saturating_add(1) != stretch.to {
+        return None;
+    }
+    tokens.get(stretch.from)
+}
+
+/// The number that a stretch of tokens is, with a minus or without.
+pub(crate) fn constant_of(tokens: &[Token], stretch: Stretch) -> Option<i128> {
+    match tokens.get(stretch.from..stretch.to)? {
+        [only] => match &only.kind {
+            Kind::Number(value) => Some(*value),
+            _ => None,
+        },
+        [sign, only] => match (&sign.kind, &only.kind) {
+            (Kind::Operator(Operator::Minus), Kind::Number(value)) => value.checked_neg(),
+            _ => None,
+        },
+        _ => None,
+    }
+}
+
+/// The bytes of the string that a stretch of tokens is.
+pub(crate) fn string_of(tokens: &[Token], stretch: Stretch) -> Option<&[u8]> {
+    match &only_token(tokens, stretch)?.kind {
+        Kind::String(bytes) => Some(bytes.as_slice()),
+        _ => None,
+    }
+}
+
+/// The place of a stretch of tokens.
+pub(crate) fn place_of_stretch(tokens: &[Token], stretch: Stretch) -> Option<Place> {
+    let first = tokens.get(stretch.from)?;
+    let last = tokens.get(stretch.to.checked_sub(1)?)?;
+    Some(Place {
+        start: first.start,
+        end: last.end,
+    })
+}
+
+/// A finding at a token.
+pub(crate) fn finding_at(
+    alloc: Global,
+    token: &Token,
+    message: &[&[u8]],
+    advice: &[u8],
+) -> Result<Finding, AllocError> {
+    Finding::new(alloc, Some(place_of(token)), message, advice)
+}

@@ -1,0 +1,78 @@
+// Which directives of a format are none here.
+
+/// A directive that is none, by its bytes in the format.
+#[derive(Clone, Copy)]
+pub(crate) struct FormatFault {
+    pub(crate) start: usize,
+    pub(crate) end: usize,
+    pub(crate) advice: &'static [u8],
+}
+
+/// What a byte of a format stands in.
+#[derive(Clone, Copy)]
+enum Part {
+    Text,
+    /// Directly behind the percent sign at this byte.
+    Percent(usize),
+    /// Behind the flags or in the width.
+    Width(usize),
+    /// Behind the point.
+    Precision(usize),
+}
+
+/// What to write instead of a directive that ends with this byte.
+fn directive_advice(byte: u8) -> &'static [u8] {
+    match byte {
+        b'e' | b'E' | b'f' | b'F' | b'g' | b'G' | b'a' | b'A' => {
+            b"no fractions here: scale, as printf \"%d.%02d\", c / 100, c % 100"
+        }
+        b'*' => b"write the number in the format's text, or join it: \"%\" n \"d\"",
+        b'l' | b'h' | b'q' | b'L' | b'j' | b'z' | b't' =>
+            b"numbers have one size: leave the letter out",
+        b'\'' => b"no thousands are set apart here: leave the flag out",
+        b'%' => b"%% alone is a percent sign",
+        _ => b"a percent sign is %%",
+    }
+}
+
+fn fault(start: usize, at: usize, byte: u8) -> Option<FormatFault> {
+    Some(FormatFault {
+        start,
+        end: at.saturating_add(1),
+        advice: directive_advice(byte),
+    })
+}
+
+/// The part behind a byte, or `None` where the directive is none.
+fn part_behind(part: Part, at: usize, byte: u8) -> Option<Part> {
+    match (part, byte) {
+        (Part::Text, b'%') => Some(Part::Percent(at)),
+        (Part::Text, _) | (Part::Percent(_), b'%') => Some(Part::Text),
+        (Part::Percent(start), b'-' | b'+' | b' ' | b'#' | b'0') => Some(Part::Percent(start)),
+        (Part::Percent(start) | Part::Width(start), b'0'..=b'9') => Some(Part::Width(start)),
+        (Part::Percent(start) | Part::Width(start), b'.') => Some(Part::Precision(start)),
+        (Part::Precision(start), b'0'..=b'9') => Some(Part::Precision(start)),
+        (_, b'd' | b'i' | b'o' | b'x' | b'X' | b'u' | b'c' | b's') => Some(Part::Text),
+        _ => None,
+    }
+}
+
+fn start_of(part: Part) -> Option<usize> {
+    match part {
+        Part::Text => None,
+        Part::Percent(start) | Part::Width(start) | Part::Precision(start) => Some(start),
+    }
+}
+
+/// The first directive of a format that is none.
+pub(crate) fn format_fault(format: &[u8]) -> Option<FormatFault> {
+    let mut part = Part::Text;
+    for (at, byte) in format.iter().enumerate() {
+        match part_behind(part, at, *byte) {
+            Some(behind) => part = behind,
+            None => return fault(start_of(part)?, at, *byte),
+        }
+    }
+    let start = start_of(part)?;
+    fault(start, format.len().saturating_sub(1), b' ')
+}

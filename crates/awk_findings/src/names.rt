@@ -1,0 +1,232 @@
+// Which name a program is refused for.
+
+use crate::calls::{arguments, finding_at, kind_before, kind_behind, name_of, place_of};
+use crate::definitions::{
+    Definition, definition_of, definitions, function_names, is_defining, name_at,
+};
+use crate::finding::Finding;
+use crate::special::{foreign_advice, is_special, left_out_advice};
+use awk_lex::refusal::RefusalCode;
+use awk_lex::token::{Kind, Token};
+use awk_lex::words::is_left_out;
+use indexmap::IndexSet;
+use std::alloc::{AllocError, Global};
+
+/// What is told of a name at its token.
+fn named_finding(
+    alloc: Global,
+    token: &Token,
+    name: &[u8],
+    fault: &[u8],
+) -> Result<Option<Finding>, AllocError> {
+    let finding = finding_at(alloc, token, &[b": ", name, fault], b"rename it")?;
+    Ok(Some(finding))
+}
+
+/// A program's tokens and its functions.
+#[derive(Drop)]
+pub(crate) struct Names<'a> {
+    pub(crate) tokens: &'a [Token],
+    pub(crate) all: Vec<Definition>,
+    pub(crate) functions: IndexSet<Vec<u8>>,
+}
+
+impl<'a> Names<'a> {
+    pub(crate) fn of(alloc: Global, tokens: &'a [Token]) -> Result<Names<'a>, AllocError> {
+        let all = definitions(alloc, tokens)?;
+        let functions = function_names(alloc, tokens, &all)?;
+        Ok(Names {
+            tokens,
+            all,
+            functions,
+        })
+    }
+
+    /// K2: a call of a name that is no function.
+    fn unknown(
+        &self,
+        alloc: Global,
+        at: usize,
+        token: &Token,
+    ) -> Result<Option<Finding>, AllocError> {
+        let Kind::Called(name) = &token.kind else {
+            return Ok(None);
+        };
+        let name = name.as_slice();
+        if self.functions.contains(name) || is_left_out(name) {
+            return Ok(None);
+        }
+        let advice = match kind_before(self.tokens, at, 1) {
+            Some(Kind::Name(word)) if word.as_slice() == b"func".as_slice() => {
+                left_out_advice(b"func")
+            }
+            _ => foreign_advice(name),
+        };
+        Ok(Some(finding_at(alloc, token, &[b": ", name], advice)?))
+    }
+
+    /// K3: the second definition of a function.
+    fn twice(
+        &self,
+        alloc: Global,
+        at: usize,
+        token: &Token,
+    ) -> Result<Option<Finding>, AllocError> {
+        if !is_defining(self.tokens, at) {
+            return Ok(None);
+        }
+        let Some(name) = name_of(token) else {
+            return Ok(None);
+        };
+        match definition_of(self.tokens, &self.all, name) {
+            Some(first) if first.name < at => {
+                let mut finding = finding_at(alloc, token, &[b": ", name], b"rename one of them")?;
+                finding.other = self.tokens.get(first.name).map(|first| place_of(first));
+                Ok(Some(finding))
+            }
+            _ => Ok(None),
+        }
+    }
+
+    /// K4: a call with too many arguments.
+    fn overfull(
+        &self,
+        alloc: Global,
+        at: usize,
+        token: &Token,
+    ) -> Result<Option<Finding>, AllocError> {
+        let Kind::Called(name) = &token.kind else {
+            return Ok(None);
+        };
+        let name = name.as_slice();
+        let Some(definition) = definition_of(self.tokens, &self.all, name) else {
+            return Ok(None);
+        };
+        let most = definition.parameters.len();
+        let given = arguments(alloc, self.tokens, at)?.len();
+        if given <= most || is_defining(self.tokens, at) {
+            return Ok(None);
+        }
+        let counts = format!(in alloc; " takes at most {most}, and is given {given}")?;
+        let message = [b": ".as_slice(), name, counts.as_bytes()];
+        Ok(Some(finding_at(alloc, token, &message, b"")?))
+    }
+
+    /// Why a parameter, with those before it, is refused.
+    fn parameter_fault(&self, name: &[u8], before: &[usize]) -> Option<&'static [u8]> {
+        if self.functions.contains(name) {
+            return Some(b" is a function's name too");
+        }
+        if is_special(name) {
+            return Some(b" is a variable of awk's own");
+        }
+        for parameter in before {
+            if name_at(self.tokens, *parameter) == name {
+                return Some(b" is a parameter twice");
+            }
+        }
+        None
+    }
+
+    /// K5: the parameter of a function that is refused.
+    fn refused_parameter(
+        &self,
+        alloc: Global,
+        definition: &Definition,
+    ) -> Result<Option<Finding>, AllocError> {
+        for (count, parameter) in definition.parameters.iter().enumerate() {
+            let name = name_at(self.tokens, *parameter);
+            let before = definition.parameters.get(..count).unwrap_or(&[]);
+            let Some(token) = self.tokens.get(*parameter) else {
+                continue;
+            };
+            if let Some(fault) = self.parameter_fault(name, before) {
+                return named_finding(alloc, token, name, fault);
+            }
+        }
+        Ok(None)
+    }
+
+    fn any_refused_parameter(&self, alloc: Global) -> Result<Option<Finding>, AllocError> {
+        for definition in self.all.as_slice() {
+            if let Some(finding) = self.refused_parameter(alloc, definition)? {
+                return Ok(Some(finding));
+            }
+        }
+        Ok(None)
+    }
+
+    /// K7: a name that is left out.
+    fn left_out(&self, alloc: Global, token: &Token) -> Result<Option<Finding>, AllocError> {
+        let Some(name) = name_of(token) else {
+            return Ok(None);
+        };
+        if !is_left_out(name) {
+            return Ok(None);
+        }
+        let advice = left_out_advice(name);
+        Ok(Some(finding_at(alloc, token, &[b": ", name], advice)?))
+    }
+
+    /// K8: a function's name that isn't called, or a function with the name of one of awk's own variables.
+    fn as_variable(
+        &self,
+        alloc: Global,
+        at: usize,
+        token: &Token,
+    ) -> Result<Option<Finding>, AllocError> {
+        let Some(name) = name_of(token) else {
+            return Ok(None);
+        };
+        let is_defining = is_defining(self.tokens, at);
+        if is_defining && is_special(name) {
+            return named_finding(alloc, token, name, b" is a variable of awk's own");
+        }
+        let is_name = matches!(token.kind, Kind::Name(_));
+        if is_defining || !is_name || !self.functions.contains(name) {
+            return Ok(None);
+        }
+        let advice = match kind_behind(self.tokens, at, 1) {
+            Some(Kind::OpenParenthesis) => {
+                b"in a call the parenthesis stands directly behind the name".as_slice()
+            }
+            _ => b"a call needs its parentheses, and a variable another name",
+        };
+        Ok(Some(finding_at(alloc, token, &[b": ", name], advice)?))
+    }
+
+    /// What a code tells of a token.
+    fn told_of(
+        &self,
+        alloc: Global,
+        code: RefusalCode,
+        at: usize,
+        token: &Token,
+    ) -> Result<Option<Finding>, AllocError> {
+        match code {
+            RefusalCode::UnknownFunction => self.unknown(alloc, at, token),
+            RefusalCode::DefinedTwice => self.twice(alloc, at, token),
+            RefusalCode::TooManyArguments => self.overfull(alloc, at, token),
+            RefusalCode::NameLeftOut => self.left_out(alloc, token),
+            RefusalCode::FunctionAsVariable => self.as_variable(alloc, at, token),
+            _ => Ok(None),
+        }
+    }
+
+    /// The first place that a code is told of, where one is found.
+    pub(crate) fn first(
+        &self,
+        alloc: Global,
+        code: RefusalCode,
+    ) -> Result<Option<Finding>, AllocError> {
+        if code == RefusalCode::ParameterRefused {
+            return self.any_refused_parameter(alloc);
+        }
+        for (at, token) in self.tokens.iter().enumerate() {
+            if let Some(finding) = self.told_of(alloc, code, at, token)? {
+                return Ok(Some(finding));
+            }
+        }
+        Ok(None)
+    }
+}

@@ -1,0 +1,218 @@
+// What to write instead of a token that can't stand where it stands.
+
+use crate::calls::{kind_before, kind_behind, place_of};
+use crate::finding::Place;
+use awk_lex::token::{AssignmentOperator, BuiltIn, Keyword, Kind, Operator, Token};
+use std::alloc::{AllocError, Global};
+
+/// What is open before a token.
+#[derive(Clone, Copy)]
+struct Opened {
+    braces: usize,
+    /// How many parentheses and brackets are open in the innermost braces.
+    lists: usize,
+    /// The token of the innermost open parenthesis.
+    parenthesis: Option<usize>,
+    /// The token behind which the statement began.
+    statement: usize,
+}
+
+/// What is open before the token at a place.
+fn opened_before(tokens: &[Token], at: usize) -> Opened {
+    let mut opened = Opened {
+        braces: 0,
+        lists: 0,
+        parenthesis: None,
+        statement: 0,
+    };
+    for (place, token) in tokens.iter().enumerate().take(at) {
+        match token.kind {
+            Kind::OpenBrace => opened.braces = opened.braces.saturating_add(1),
+            Kind::CloseBrace => opened.braces = opened.braces.saturating_sub(1),
+            Kind::OpenParenthesis | Kind::OpenBracket => {
+                opened.lists = opened.lists.saturating_add(1);
+                opened.parenthesis = Some(place);
+            }
+            Kind::CloseParenthesis | Kind::CloseBracket => {
+                opened.lists = opened.lists.saturating_sub(1);
+            }
+            _ => {}
+        }
+        let ends = matches!(
+            token.kind,
+            Kind::OpenBrace | Kind::CloseBrace | Kind::Newline | Kind::Semicolon
+        );
+        if ends && opened.lists == 0 {
+            opened.statement = place;
+        }
+    }
+    opened
+}
+
+/// Whether a print with a target stands between two tokens.
+fn has_target(tokens: &[Token], from: usize, to: usize) -> bool {
+    let mut prints = false;
+    for token in tokens.get(from..to).unwrap_or(&[]) {
+        match token.kind {
+            Kind::Keyword(Keyword::Print | Keyword::Printf) => prints = true,
+            Kind::Operator(Operator::Greater) | Kind::Append | Kind::Bar if prints => return true,
+            _ => {}
+        }
+    }
+    false
+}
+
+fn is_comparison(kind: &Kind) -> bool {
+    matches!(
+        kind,
+        Kind::Operator(
+            Operator::Less
+                | Operator::LessEqual
+                | Operator::Equal
+                | Operator::NotEqual
+                | Operator::Greater
+                | Operator::GreaterEqual
+                | Operator::Matches
+                | Operator::NotMatches
+        )
+    )
+}
+
+/// How many arguments a built-in function takes.
+fn argument_advice(function: BuiltIn) -> &'static [u8] {
+    match function {
+        BuiltIn::Length => b"length takes one argument or none",
+        BuiltIn::Substr => b"substr takes a text, a position, and perhaps a count",
+        BuiltIn::Index => b"index takes a text and what is looked for in it",
+        BuiltIn::Split => b"split takes a text, an array, and perhaps a separator",
+        BuiltIn::Sub | BuiltIn::Gsub => {
+            b"sub and gsub take a pattern, a text, and perhaps a name, an element or a field"
+        }
+        BuiltIn::Match => b"match takes a text and a pattern",
+        BuiltIn::Sprintf => b"sprintf takes a format and its values",
+        BuiltIn::Close => b"close takes the name alone",
+        _ => b"it takes one argument",
+    }
+}
+
+/// What to write where an expression ends in a list.
+fn list_advice(tokens: &[Token], opened: Opened) -> &'static [u8] {
+    let Some(open) = opened.parenthesis else {
+        return b"";
+    };
+    match kind_before(tokens, open, 1) {
+        Some(Kind::BuiltIn(function)) => argument_advice(*function),
+        _ => b"",
+    }
+}
+
+/// What to write instead of a token behind another one.
+fn pair_advice(before: &Kind, kind: &Kind) -> &'static [u8] {
+    match (before, kind) {
+        (Kind::Operator(Operator::Times), Kind::Operator(Operator::Times)) => {
+            b"a power is x ^ y"
+        }
+        (Kind::Operator(Operator::Times), Kind::Assign(AssignmentOperator::Multiply)) => {
+            b"a power is assigned by x ^= y"
+        }
+        (Kind::Keyword(Keyword::If | Keyword::While), _) => {
+            b"the condition stands in parentheses"
+        }
+        (Kind::Dollar, _) => b"behind $ more than a name or a number stands in parentheses: $(-1)",
+        (Kind::Keyword(Keyword::Begin | Keyword::End), Kind::Newline) => {
+            b"the { stands on the line of BEGIN or END"
+        }
+        (Kind::Keyword(Keyword::Begin | Keyword::End), _) => b"behind BEGIN and END stands a {",
+        (Kind::Newline | Kind::Semicolon, Kind::Keyword(Keyword::Else)) => {
+            b"before else stands one statement, or several in braces"
+        }
+        (Kind::Newline, Kind::Operator(_) | Kind::Question | Kind::Colon) => {
+            b"an operator stands at the end of the line before, behind && and || without a backslash"
+        }
+        (Kind::CloseParenthesis | Kind::Keyword(Keyword::Else | Keyword::Do), Kind::CloseBrace) => {
+            b"a statement is missing before the }: write ; for none"
+        }
+        _ => b"",
+    }
+}
+
+/// What to write instead of a token, whatever stands before it.
+fn token_advice(tokens: &[Token], at: usize, kind: &Kind, opened: Opened) -> &'static [u8] {
+    match kind {
+        Kind::CloseBrace if opened.braces == 0 => b"no { is open here",
+        Kind::Keyword(Keyword::Function | Keyword::Begin | Keyword::End) if opened.braces > 0 => {
+            b"a } is missing before it"
+        }
+        Kind::Assign(_) => {
+            b"a name, an element or a field is assigned; as an operand the assignment stands in parentheses"
+        }
+        _ if is_comparison(kind) => {
+            b"comparisons don't chain: (a < b) < c; an operand of && stands before it"
+        }
+        Kind::Comma | Kind::CloseParenthesis => list_advice(tokens, opened),
+        Kind::Newline if opened.lists > 0 => match kind_before(tokens, at, 1) {
+            Some(Kind::Semicolon) => {
+                b"the parts of a for stand on one line, or a backslash ends the line"
+            }
+            _ => b"a list goes on behind a comma, && and ||, and else behind a backslash",
+        },
+        _ => b"",
+    }
+}
+
+/// What to write instead of a word that is no keyword, or of a pattern, in a statement.
+fn word_advice(tokens: &[Token], from: usize, to: usize) -> &'static [u8] {
+    for token in tokens.get(from..to).unwrap_or(&[]) {
+        match &token.kind {
+            Kind::Name(word) | Kind::Called(word) => match word.as_slice() {
+                b"elseif" | b"elsif" | b"elif" => return b"write else if",
+                b"switch" | b"case" | b"foreach" => {
+                    return b"there is no such statement: write if and else if, or for (k in a)";
+                }
+                b"func" | b"def" | b"sub" => return b"write function",
+                _ => {}
+            },
+            Kind::Ere(_) => return b"a slash in a pattern, also in brackets, is written \\/",
+            _ => {}
+        }
+    }
+    b""
+}
+
+/// What to write instead of the token at a place, which can't stand there.
+pub fn syntax_advice(tokens: &[Token], at: usize) -> &'static [u8] {
+    let Some(kind) = kind_behind(tokens, at, 0) else {
+        return b"";
+    };
+    let opened = opened_before(tokens, at);
+    if let Some(before) = kind_before(tokens, at, 1) {
+        let advice = pair_advice(before, kind);
+        if !advice.is_empty() {
+            return advice;
+        }
+    }
+    if opened.lists == 0 && has_target(tokens, opened.statement, at) {
+        return b"a target that is joined or computed stands in parentheses: print > (a \".out\")";
+    }
+    match token_advice(tokens, at, kind, opened) {
+        [] => word_advice(tokens, opened.statement, at),
+        advice => advice,
+    }
+}
+
+/// The innermost brace, parenthesis or bracket that is open behind all tokens.
+pub fn last_open(alloc: Global, tokens: &[Token]) -> Result<Option<Place>, AllocError> {
+    let mut open = Vec::new(alloc);
+    for token in tokens {
+        match token.kind {
+            Kind::OpenBrace | Kind::OpenParenthesis | Kind::OpenBracket => {
+                open.push(place_of(token))?;
+            }
+            Kind::CloseBrace | Kind::CloseParenthesis | Kind::CloseBracket => {
+                let _ = open.pop();
+            }
+            _ => {}
+        }
+    }
+    Ok(open.pop())
+}

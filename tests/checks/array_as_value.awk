@@ -1,0 +1,4 @@
+BEGIN {
+    a[1] = 2
+    print a
+}

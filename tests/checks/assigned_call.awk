@@ -1,0 +1,2 @@
+{ f(x) = 1 }
+function f(a) { return a }

@@ -1,0 +1,4 @@
+BEGIN
+{
+    print 1
+}

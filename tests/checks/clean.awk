@@ -1,0 +1,3 @@
+# sums a column
+{ n += $1 }
+END { print n }

@@ -1,0 +1,1 @@
+{ close("sort", "to") }

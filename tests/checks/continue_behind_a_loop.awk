@@ -1,0 +1,1 @@
+BEGIN { while (n < 3) n++; continue }

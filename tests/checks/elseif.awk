@@ -1,0 +1,1 @@
+{ if (x) print 1; elseif (y) print 2 }

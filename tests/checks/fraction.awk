@@ -1,0 +1,1 @@
+BEGIN { x = 3.14; print x }

@@ -1,0 +1,2 @@
+func f(a) { return a }
+BEGIN { print f(1) }

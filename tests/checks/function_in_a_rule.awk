@@ -1,0 +1,3 @@
+BEGIN {
+    function f(a) { return a }
+}

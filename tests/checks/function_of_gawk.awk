@@ -1,0 +1,1 @@
+{ print gensub(/a/, "b", "g") }

@@ -1,0 +1,3 @@
+BEGIN {
+	print 0x10
+}

@@ -1,0 +1,2 @@
+@include "lib.awk"
+BEGIN { f() }

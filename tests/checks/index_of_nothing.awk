@@ -1,0 +1,1 @@
+{ print index($0, "") }

@@ -1,0 +1,1 @@
+BEGIN { println("a") }

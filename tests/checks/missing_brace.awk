@@ -1,0 +1,5 @@
+BEGIN {
+    if (x) {
+        print 1
+}
+END { print 2 }

@@ -1,0 +1,1 @@
+{ print substr($0 2) }

@@ -1,0 +1,3 @@
+BEGIN {
+    if (x == 1 print "a"
+}

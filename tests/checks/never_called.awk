@@ -1,0 +1,2 @@
+function max(a, b) { return a > b ? a : b }
+{ print }

@@ -1,0 +1,5 @@
+BEGIN {
+    for (i = 1;
+         i < 3;
+         i++) print i
+}

@@ -1,0 +1,1 @@
+END { next }

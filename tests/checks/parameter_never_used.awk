@@ -1,0 +1,2 @@
+function f(a, b) { return a }
+BEGIN { print f(1) }

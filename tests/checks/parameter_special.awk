@@ -1,0 +1,2 @@
+function f(NF) { return NF }
+BEGIN { print f(1) }

@@ -1,0 +1,1 @@
+BEGIN { srand(); print int(rand() * 6) }

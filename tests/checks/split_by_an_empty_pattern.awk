@@ -1,0 +1,1 @@
+{ n = split($0, a, //); print n, a[1] }

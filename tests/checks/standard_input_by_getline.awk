@@ -1,0 +1,1 @@
+BEGIN { while ((getline line < "-") > 0) print line }

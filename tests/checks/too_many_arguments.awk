@@ -1,0 +1,4 @@
+function f(a) { return a }
+BEGIN {
+    print f(1, 2)
+}

@@ -1,0 +1,2 @@
+function f(p) { p[1] = 1 }
+BEGIN { x = 1; f(x) }
