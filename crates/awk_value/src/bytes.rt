@@ -23,7 +23,7 @@ enum Form {
     Large(Rc<Vec<u8>>, usize, Global),
 }
 
-/// A text of bytes. One of up to 20 bytes may stand in the value itself, with no memory, and is
+/// A text of bytes. One of up to 16 bytes may stand in the value itself, with no memory, and is
 /// copied; the clones and cuts of another share its memory, where they don't stand in the value
 /// themselves. None of them ever sees another change.
 #[derive(Debug, Drop)]

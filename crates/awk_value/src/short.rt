@@ -5,12 +5,12 @@ ghost use Rattle.std.specs.Prelude.{◌≡◌, ℕ, ◌≤◌, ◌<◌, if◌the
 use std::marker::Model;
 
 /// The most bytes of a short text.
-pub(crate) const MOST: usize = 20;
+pub(crate) const MOST: usize = 16;
 
-/// A text of at most 20 bytes.
+/// A text of at most 16 bytes.
 #[derive(Debug, Drop)]
 pub(crate) struct ShortBytes {
-    len: u16,
+    len: u32,
     bytes: [u8; MOST],
 }
 
@@ -19,7 +19,7 @@ impl Model for ShortBytes {
 
     ghost view = { λ b. take b.len b.bytes };
 
-    ghost invariant = { λ b. b.len ≤ 20 };
+    ghost invariant = { λ b. b.len ≤ 16 };
 }
 
 impl ShortBytes {
@@ -43,7 +43,7 @@ impl ShortBytes {
         let mut room = [0; MOST];
         room[..bytes.len()].copy_from_slice(bytes);
         ShortBytes {
-            len: bytes.len() as u16,
+            len: bytes.len() as u32,
             bytes: room,
         }
     }
@@ -62,7 +62,7 @@ impl ShortBytes {
         let mut room = [0; MOST];
         room.copy_from_slice(&memory[from..from + MOST]);
         ShortBytes {
-            len: (to - from) as u16,
+            len: (to - from) as u32,
             bytes: room,
         }
     }
@@ -107,7 +107,7 @@ impl ShortBytes {
         }
         let to = from + bytes.len();
         self.bytes[from..to].copy_from_slice(bytes);
-        self.len = to as u16;
+        self.len = to as u32;
         true
     }
 }
