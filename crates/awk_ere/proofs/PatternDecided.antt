@@ -4,13 +4,15 @@ use Rattle.std.specs.Prelude.{not, nat_le, option_map}
 use Rattle.std.proofs.lemmas.List.{length-append}
 use Rattle.std.proofs.lemmas.Option.{same_Some, none-some}
 use Rattle.std.proofs.lemmas.Bool.{and_parts, and_from, not-true, not_from_false, leb-true, le-leb, cond-true}
-use Rattle.awk_ere.specs.definitions.Tree.{Tree, size}
+use Rattle.awk_ere.specs.definitions.Tree.{Tree, none, size}
 use Rattle.awk_ere.specs.definitions.Tokens.{Token, token_bytes, token_fits, text_of, tokens_fit, AreSpelt}
 use Rattle.awk_ere.specs.definitions.Written.{Pattern, tokens, Whole, nothing, whole, whole_tokens, tree_of, whole_opened}
+use Rattle.awk_ere.specs.definitions.Desugared.{IsOrdered}
 use Rattle.awk_ere.specs.definitions.Limits.{most_opened, greatest_size, any_bad, SpellsWithin}
 use Rattle.awk_ere.specs.support.Lexer.{◌>>=◌, token_at}
 use Rattle.awk_ere.specs.support.Parser.{parse}
 use Rattle.awk_ere.specs.support.PatternOf.{in_front, tokens_of, whole_of, is_within, within_limits, pattern_of}
+use Rattle.awk_ere.proofs.CountsOrdered.{ordered_pattern}
 use Rattle.awk_ere.proofs.Choices.{chosen_some, bind_some}
 use Rattle.awk_ere.proofs.ParseRoundTrip.{parse_tokens, tokens_parse}
 use Rattle.awk_ere.proofs.TokenRoundTrip.{token_takes, token_again, token_long}
@@ -100,3 +102,13 @@ pattern_complete text t h =
     ∙ ap (λ o. o >>= within_limits) (whole_complete w)
     ∙ cond-true (is_within w) (Some (tree_of w)) None (within_complete w (good.1, good.2, good.3))
     ∙ ap Some h.2
+
+whole_ordered : (w : Whole) → any_bad (whole_tokens w) ≡ false → IsOrdered (tree_of w)
+whole_ordered nothing e = tt
+whole_ordered (whole p) e = ordered_pattern p none e tt
+
+-- its counts are in order, since none of its tokens is refused
+pub pattern_ordered : (text : List ℕ) (t : Tree) → pattern_of text ≡ Some t → IsOrdered t
+pattern_ordered text t e =
+    let h = pattern_sound text t e in
+    subst IsOrdered h.2 (whole_ordered h.0 h.1.1)

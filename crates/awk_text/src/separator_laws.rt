@@ -1,10 +1,10 @@
 // Laws of separators and of the pieces that they leave.
-ghost use Rattle.std.specs.Prelude.{◌≡◌, ◌≢◌, ◌↔◌, ◌<◌, ℕ, Bool, true, List, [], ◌∷◌, ◌++◌, length};
+ghost use Rattle.std.specs.Prelude.{◌≡◌, ◌≢◌, ◌↔◌, ◌<◌, ℕ, Bool, true, List, [], ◌∷◌, ◌++◌, length, Ok};
 ghost use Rattle.awk_ere.specs.definitions.Tree.{Tree};
 ghost use Rattle.awk_ere.specs.definitions.Desugared.{IsOrdered};
 ghost use Rattle.awk_text.specs.declared.span.Span.{Span};
 ghost use Rattle.awk_text.specs.definitions.Pieces.{AreBlank, IsPiece, is_blank_or_newline};
-ghost use Rattle.awk_text.specs.definitions.Separators.{Separator, blanks, byte, AreSeparators};
+ghost use Rattle.awk_text.specs.definitions.Separators.{Separator, blanks, byte, ere, separator_of, or_newline, AreSeparators};
 ghost use Rattle.awk_text.specs.definitions.Fields.{separates, HoldsNone, pieces_of, pieces_from};
 ghost use Rattle.awk_text.specs.support.ChosenSeparators.{separators_from};
 
@@ -37,11 +37,14 @@ pub fn byte_pieces_law()
 
 /// Which stretches of a text separate, where an ERE does whose counts are in order, is decided by `separators_from`: from
 /// a place on there is one choice, each the leftmost, and of those the longest match with a byte in it that doesn't
-/// begin before the end of the one before.
+/// begin before the end of the one before. The counts of an ERE that a value of FS stands for are in order, also with a
+/// newline as one more branch.
 #[inline(always)]
 pub fn separators_law()
-    ensures { (t : Tree) (text : List ℕ) (place : ℕ) (ms : List Span) → IsOrdered t →
+    ensures decided { (t : Tree) (text : List ℕ) (place : ℕ) (ms : List Span) → IsOrdered t →
         AreSeparators t text place ms ↔ (ms ≡ separators_from t text place) }
+    ensures ordered { (text : List ℕ) (newline_too : Bool) (t : Tree) → separator_of text ≡ Ok (ere t) →
+        IsOrdered (or_newline newline_too t) }
 {}
 
 /// From the front of a text on there are all of its pieces, and none past its end.

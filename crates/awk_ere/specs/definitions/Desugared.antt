@@ -1,4 +1,5 @@
--- Patterns without counts: copies in the place of each count. These are a means of proof, and of no contract.
+-- Patterns without counts: copies in the place of each count. By these a tree stands for instructions, and whether a text
+-- has a match is decided; that they match as the tree does is what the laws on matching say.
 use Rattle.std.specs.Prelude.{◌≡◌, ◌≤◌, ℕ, zero, suc, ◌-◌, true, ◌⊎◌, List, length, Some, slice_get}
 use Rattle.awk_ere.specs.definitions.Tree.{Class, has, Count, star, some, option, exactly, at_least, between, Tree, empty, class, start, end, pieces, branches, repeat, Row, none, next, Times}
 
