@@ -4,6 +4,7 @@
 mod answer;
 mod entry;
 mod laws;
+mod lent;
 mod planned_faults;
 mod script_stream;
 mod script_world;

@@ -64,9 +64,13 @@ pub trait World {
     /// What is known of the world.
     ghost state: { Self → WorldState };
 
+    /// Which reference leads to the world, where it is lent. No call changes it.
+    ghost place: { Self → ℕ } = { λ _. 0 };
+
     /// Opens an input and answers its number; standard input has no name. `Failed`: refused.
     fn open_input(&mut self, kind: InputKind, name: &[u8]) -> Result<u64, WorldFault>
         requires { kind ≡ Standard → name.now ≡ [] }
+        ensures place { place self.new ≡ place self.old }
         ensures fresh { IfOk result (IsFresh (state self.old)) }
         ensures opens { IfOk result (Opens (state self.old) (state self.new)) }
         ensures err { OnErr result (SameOpen (state self.old) (state self.new)) }
@@ -76,6 +80,7 @@ pub trait World {
     /// with room are the end. `Failed`: the input broke.
     fn read(&mut self, id: u64, into: &mut [u8]) -> Result<usize, WorldFault>
         requires { IsTrue ((state self.old).is_open id) }
+        ensures place { place self.new ≡ place self.old }
         ensures count { IfOk result (λ n. n ≤ length into.old) }
         ensures open { SameOpen (state self.old) (state self.new) }
         ensures logs { is_logged → Logs (reading id result into.new) (state self.old) (state self.new) };
@@ -83,6 +88,7 @@ pub trait World {
     /// Opens an output and answers its number; a command's is truncated. `Failed`: refused.
     fn open_output(&mut self, kind: OutputKind, name: &[u8], mode: Mode) -> Result<u64, WorldFault>
         requires { kind ≡ OutputCommand → mode ≡ Truncate }
+        ensures place { place self.new ≡ place self.old }
         ensures fresh { IfOk result (IsFresh (state self.old)) }
         ensures opens { IfOk result (Opens (state self.old) (state self.new)) }
         ensures err { OnErr result (SameOpen (state self.old) (state self.new)) }
@@ -91,6 +97,7 @@ pub trait World {
     /// Writes a beginning of the bytes, and answers how many; none of some bytes is a failure too.
     fn write(&mut self, id: u64, bytes: &[u8]) -> Result<usize, WorldFault>
         requires { IsTrue ((state self.old).is_open id) }
+        ensures place { place self.new ≡ place self.old }
         ensures count { IfOk result (λ n. n ≤ length bytes.now) }
         ensures open { SameOpen (state self.old) (state self.new) }
         ensures logs { is_logged → Logs (writing id result bytes.now) (state self.old) (state self.new) };
@@ -106,6 +113,7 @@ pub trait World {
     /// Sees that what was written reaches its receiver.
     fn flush(&mut self, id: u64) -> Result<(), WorldFault>
         requires { IsTrue ((state self.old).is_open id) }
+        ensures place { place self.new ≡ place self.old }
         ensures open { SameOpen (state self.old) (state self.new) }
         ensures logs { is_logged → Logs (flushing id result) (state self.old) (state self.new) };
 
@@ -113,12 +121,14 @@ pub trait World {
     fn close(&mut self, id: u64) -> i128
         requires open { IsTrue ((state self.old).is_open id) }
         requires opened { 2 ≤ id }
+        ensures place { place self.new ≡ place self.old }
         ensures closes { Closes (state self.old) (state self.new) id }
         ensures logs { is_logged → Logs (Some (Closed id result)) (state self.old) (state self.new) };
 
     /// Runs a command to its end, and answers its number. Never `Failed`: a command that can't be
     /// started has a number too.
     fn run(&mut self, command: &[u8]) -> Result<i128, WorldFault>
+        ensures place { place self.new ≡ place self.old }
         ensures open { SameOpen (state self.old) (state self.new) }
         ensures never_failed { result ≡ Err WorldFault.Failed → ⊥ }
         ensures logs { is_logged → Logs (running command.now result) (state self.old) (state self.new) };
