@@ -12,11 +12,10 @@ ghost use Rattle.awk_functions.specs.support.Compiled.{MeansOf, ReadsFor};
 ghost use Rattle.awk_functions.specs.support.Written.{Writes};
 
 use crate::found::Exchanged;
-use crate::separated::split_between;
 use awk_ere::laws::read_law;
 use awk_ere::{Pattern, Scratch};
 use awk_semantics::{Halt, law_of_exchanges, law_of_matches};
-use awk_text::{Span, match_at, substitute};
+use awk_text::{Span, match_at, split_between, substitute};
 use awk_value::Bytes;
 use std::alloc::Global;
 
@@ -122,6 +121,7 @@ impl Compiled {
         ensures within { OnOk result (AreSpansOf text.now spans.new.items) }
         ensures text { self.new.text ≡ self.old.text }
     {
-        split_between(&self.pattern, &mut self.scratch, text, spans)
+        split_between(&self.pattern, &mut self.scratch, text, spans)?;
+        Ok(())
     }
 }

@@ -9,7 +9,6 @@ mod functions;
 mod line;
 mod operators;
 mod patterns;
-mod separated;
 mod short;
 
 pub use compiled::Compiled;

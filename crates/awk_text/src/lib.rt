@@ -1,7 +1,8 @@
 //! Texts: split by separators of every kind, searched, changed, and formatted.
 //!
-//! - `Separator::of` tells what a text is as a separator, `split_text` the pieces that one leaves; `FieldSeparator` is a
-//!   value of FS with the rule on newlines, and splits all at once or field by field. Faults are `TextFault`s.
+//! - `Separator::of` tells what a text is as a separator, `split_text` the pieces that one leaves, `split_between` those
+//!   between the matches of a pattern; `FieldSeparator` is a value of FS with the rule on newlines, and splits all at once
+//!   or field by field. Faults are `TextFault`s.
 //! - `substr`, `index`, `lower`, `upper`, `match_at`: the functions of the language over texts and numbers.
 //! - `substitute`, `substitute_into`, over a `Substitution`: sub and gsub.
 //! - `format`, `format_into`, and `Format::{read, write_into}` for one that is used again: the formats of printf, whose
@@ -9,6 +10,7 @@
 //! - `pieces_law`, `byte_pieces_law`, `pieces_from_law`, `separators_law`, `one_replaced`: what the definitions say in words.
 #![tactic(auto)]
 
+mod between;
 mod blanks;
 mod digits;
 mod directive;
@@ -34,6 +36,7 @@ mod substitution;
 mod whole;
 mod write;
 
+pub use between::split_between;
 pub use fault::TextFault;
 pub use field_separator::FieldSeparator;
 pub use format_fault::FormatFault;

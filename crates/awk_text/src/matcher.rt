@@ -1,11 +1,13 @@
 // A regular expression that separates, with the memory of its searches.
-ghost use Rattle.std.specs.Prelude.{◌≡◌, ◌≤◌, ◌<◌, length, IfSome, IfOk, IfErr};
+ghost use Rattle.std.specs.Prelude.{◌≡◌, IfSome, IfOk, IfErr};
 ghost use Rattle.awk_ere.specs.definitions.Means.{Means};
 ghost use Rattle.awk_ere.specs.support.Table.{IsFor};
 ghost use Rattle.awk_ere.specs.definitions.Tree.{Tree};
-ghost use Rattle.awk_text.specs.definitions.Separators.{or_newline, IsNextSeparator};
+ghost use Rattle.awk_text.specs.definitions.Fields.{ere_pieces_from, IsNextPiece, IsFurther};
+ghost use Rattle.awk_text.specs.definitions.Separators.{or_newline};
 
-use crate::{Span, TextFault};
+use crate::between::next_between;
+use crate::{FoundField, TextFault};
 use awk_ere::{Pattern, Scratch};
 use std::alloc::Global;
 
@@ -19,28 +21,6 @@ fn with_newline(alloc: Global, pattern: Pattern, newline_too: bool) -> Result<Pa
     } else {
         Ok(pattern)
     }
-}
-
-// The next match with a byte in it that begins at a place or behind it: the first one, and of those that begin there the
-// longest. Where the longest that begins at a place is empty, the search goes on behind that place.
-fn next_full(pattern: &Pattern, scratch: &mut Scratch, text: &[u8], place: usize) -> Option<Span>
-    requires same { IsFor scratch.old pattern.now }
-    requires within { place ≤ length text.now }
-    ensures lies { IfSome result (λ m. (place ≤ m.start) × (m.start < m.end) × (m.end ≤ length text.now)) }
-    ensures found { (t : Tree) → Means t pattern.now → IsNextSeparator t text.now place result }
-    ensures same { IsFor scratch.new pattern.now }
-{
-    let mut from = place;
-    while let Some((start, end)) = pattern.find_from(text, from, scratch) {
-        if start < end {
-            return Some(Span { start, end });
-        }
-        if start == text.len() {
-            return None;
-        }
-        from = start + 1;
-    }
-    None
 }
 
 /// A pattern, and the memory of its searches.
@@ -62,13 +42,14 @@ impl Matcher {
         Ok(Matcher { pattern, scratch })
     }
 
-    /// The next match with a byte in it from a place on.
-    pub fn next(&mut self, text: &[u8], place: usize) -> Option<Span>
-        requires { place ≤ length text.now }
-        ensures lies { IfSome result (λ m. (place ≤ m.start) × (m.start < m.end) × (m.end ≤ length text.now)) }
-        ensures found { (t : Tree) → Means t self.old.pattern → IsNextSeparator t text.now place result }
+    /// The next field from a place on.
+    #[inline(always)]
+    pub fn next_field(&mut self, text: &[u8], from: usize) -> Option<FoundField>
+        ensures piece { (t : Tree) → Means t self.old.pattern →
+            IsNextPiece (ere_pieces_from t text.now) text.now from result }
+        ensures further { IfSome result (IsFurther text.now from) }
         ensures same { self.new.pattern ≡ self.old.pattern }
     {
-        next_full(&self.pattern, &mut self.scratch, text, place)
+        next_between(&self.pattern, &mut self.scratch, text, from)
     }
 }

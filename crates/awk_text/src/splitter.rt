@@ -2,13 +2,11 @@
 ghost use Rattle.std.specs.Prelude.{◌≡◌, ◌≤◌, length, IfSome, IfOk, IfErr, OnOk};
 ghost use Rattle.memchr.specs.Find.{IsFirstByte};
 ghost use Rattle.awk_text.specs.support.Stretch.{IsStretchEnd};
-ghost use Rattle.awk_ere.specs.definitions.Tree.{Tree};
-ghost use Rattle.awk_ere.specs.definitions.Means.{Means};
 ghost use Rattle.awk_text.specs.definitions.Pieces.{stretches_at, AreSpansOf};
 ghost use Rattle.awk_text.specs.definitions.Separators.{Separator as SeparatorSpec, IsSeparator};
 ghost use Rattle.awk_text.specs.definitions.Separators.{byte as at_byte, each};
 ghost use Rattle.awk_text.specs.definitions.Fields.{separates, is_field as field_test, pieces_of, pieces_from};
-ghost use Rattle.awk_text.specs.definitions.Fields.{ere_pieces_from, IsNextPiece, IsFurther};
+ghost use Rattle.awk_text.specs.definitions.Fields.{IsNextPiece, IsFurther};
 
 use crate::blanks::next_between_blanks;
 use crate::matcher::Matcher;
@@ -79,35 +77,6 @@ fn next_each(text: &[u8], newline_too: bool, from: usize) -> Option<FoundField>
     None
 }
 
-// The next field between the matches of a pattern.
-#[inline(never)]
-fn next_between_matches(matcher: &mut Matcher, text: &[u8], from: usize) -> Option<FoundField>
-    ensures piece { (t : Tree) → Means t matcher.old.pattern →
-        IsNextPiece (ere_pieces_from t text.now) text.now from result }
-    ensures further { IfSome result (IsFurther text.now from) }
-    ensures same { matcher.new.pattern ≡ matcher.old.pattern }
-{
-    if text.is_empty() || from > text.len() {
-        return None;
-    }
-    match matcher.next(text, from) {
-        Some(found) => Some(FoundField {
-            span: Span {
-                start: from,
-                end: found.start,
-            },
-            rest: found.end,
-        }),
-        None => Some(FoundField {
-            span: Span {
-                start: from,
-                end: text.len(),
-            },
-            rest: text.len() + 1,
-        }),
-    }
-}
-
 /// A separator, made ready to split texts.
 #[derive(Drop)]
 pub enum Splitter {
@@ -149,7 +118,7 @@ impl Splitter {
             Splitter::Blanks => next_between_blanks(text, from),
             Splitter::Byte(byte) => next_at_byte(text, *byte, newline_too, from),
             Splitter::Each => next_each(text, newline_too, from),
-            Splitter::Ere(matcher) => next_between_matches(matcher, text, from),
+            Splitter::Ere(matcher) => matcher.next_field(text, from),
         }
     }
 

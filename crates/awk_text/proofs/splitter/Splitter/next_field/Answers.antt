@@ -15,4 +15,4 @@ returns-in-Blanks-clause-piece c = λ s stands.
 pub returns-in-Ere-clause-same : goal.returns-in-Ere-clause-same
 returns-in-Ere-clause-same c = λ s stands.
     let n = c.args.newline_too in
-    same_ere n c.in-Ere.matcher c.next_between_matches.new.matcher c.next_between_matches.ensures.same s (subst (λ (k : Splitter). Stands s n k) c.in-Ere.is stands)
+    same_ere n c.in-Ere.matcher c.next_field.new.self c.next_field.ensures.same s (subst (λ (k : Splitter). Stands s n k) c.in-Ere.is stands)

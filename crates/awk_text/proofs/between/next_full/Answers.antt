@@ -1,5 +1,5 @@
 use Rattle.std.proofs.Common.{arith}
-use Rattle.awk_functions.proofs.separated.next_full.Goals as goal
+use Rattle.awk_text.proofs.between.next_full.Goals as goal
 
 pub returns-then-start-end-clause-lies : goal.returns-then-start-end-clause-lies
 returns-then-start-end-clause-lies c =

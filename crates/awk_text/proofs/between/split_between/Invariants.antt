@@ -1,10 +1,10 @@
 use Rattle.std.proofs.Common.{◌≡◌, ◌≤◌, ◌+◌, ◌-◌, ◌++◌, length}
-use Rattle.awk_ere.specs.Means.{Means}
-use Rattle.awk_ere.specs.Table.{IsFor}
-use Rattle.awk_ere.specs.Tree.{Tree}
-use Rattle.awk_text.specs.Pieces.{stretches_at, AreSpansOf}
-use Rattle.awk_text.specs.Fields.{ere_pieces, ere_pieces_from}
-use Rattle.awk_functions.proofs.separated.split_between.Given as goal
+use Rattle.awk_ere.specs.definitions.Means.{Means}
+use Rattle.awk_ere.specs.support.Table.{IsFor}
+use Rattle.awk_ere.specs.definitions.Tree.{Tree}
+use Rattle.awk_text.specs.definitions.Pieces.{stretches_at, AreSpansOf}
+use Rattle.awk_text.specs.definitions.Fields.{ere_pieces, ere_pieces_from}
+use Rattle.awk_text.proofs.between.split_between.Given as goal
 
 -- the pieces so far and those from here on are the whole
 abbrev pub invariant-loop-found : goal.invariant-loop-found

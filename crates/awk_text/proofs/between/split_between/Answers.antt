@@ -2,9 +2,9 @@ use Rattle.std.proofs.Common.{◌≡◌, ℕ, List, [], ◌∷◌, ◌++◌, app
 use Rattle.std.proofs.lemmas.List.{map-append}
 use Rattle.std.proofs.lemmas.List.Elements.{All-push}
 use Rattle.awk_text.specs.declared.span.Span.{Span}
-use Rattle.awk_text.specs.Fields.{ere_pieces_from}
-use Rattle.awk_text.specs.Pieces.{stretch_at, stretches_at, IsSpanOf}
-use Rattle.awk_functions.proofs.separated.split_between.Goals as goal
+use Rattle.awk_text.specs.definitions.Fields.{ere_pieces_from}
+use Rattle.awk_text.specs.definitions.Pieces.{stretch_at, stretches_at, IsSpanOf}
+use Rattle.awk_text.proofs.between.split_between.Goals as goal
 
 -- the next piece goes to those so far
 pieces_more : (text : List ℕ) (spans new : List Span) (span : Span) (here rest whole : List (List ℕ)) → new ≡ spans ++ span ∷ [] → here ≡ stretch_at text span ∷ rest
@@ -21,6 +21,6 @@ loop-found-preserved c =
     record {
       bounded = further.2;
       within = rw pushed (All-push (IsSpanOf text) c.loop-found.spans.items found.span before.within further.0);
-      same = c.next_piece.ensures.same;
+      same = c.next_between.ensures.same;
       pieces = λ t means. pieces_more text c.loop-found.spans.items c.push.new.self.items found.span (ere_pieces_from t text c.loop-found.from) (ere_pieces_from t text found.rest) _ pushed (c.in-Some.ensures.piece t means) (before.pieces t means);
     }

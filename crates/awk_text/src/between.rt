@@ -1,17 +1,14 @@
 // The pieces of a text between the matches of a pattern.
-
 ghost use Rattle.std.specs.Prelude.{◌≡◌, ◌≤◌, ◌<◌, length, IfSome, IfErr, OnOk};
-ghost use Rattle.awk_ere.specs.Means.{Means};
-ghost use Rattle.awk_ere.specs.Table.{IsFor};
-ghost use Rattle.awk_ere.specs.Tree.{Tree};
-ghost use Rattle.awk_text.specs.Fields.{ere_pieces, ere_pieces_from, IsNextPiece, IsFurther};
-ghost use Rattle.awk_text.specs.Pieces.{stretches_at, AreSpansOf};
-ghost use Rattle.awk_text.specs.Separators.{IsNextSeparator};
-ghost use Rattle.awk_semantics.specs.Results.{IsWantOfMemory};
+ghost use Rattle.awk_ere.specs.definitions.Means.{Means};
+ghost use Rattle.awk_ere.specs.definitions.Tree.{Tree};
+ghost use Rattle.awk_ere.specs.support.Table.{IsFor};
+ghost use Rattle.awk_text.specs.definitions.Fields.{ere_pieces, ere_pieces_from, IsNextPiece, IsFurther};
+ghost use Rattle.awk_text.specs.definitions.Pieces.{stretches_at, AreSpansOf};
+ghost use Rattle.awk_text.specs.definitions.Separators.{IsNextSeparator};
 
+use crate::{FoundField, Span, TextFault};
 use awk_ere::{Pattern, Scratch};
-use awk_semantics::Halt;
-use awk_text::{FoundField, Span};
 
 // The next match with a byte in it that begins at a place or behind it: the first one, and of those that begin there the
 // longest. Where the longest that begins at a place is empty, the search goes on behind that place.
@@ -36,7 +33,8 @@ fn next_full(pattern: &Pattern, scratch: &mut Scratch, text: &[u8], place: usize
 }
 
 // The next piece from a place on where one may begin: the front of the text, or right behind a match or the end.
-fn next_piece(
+#[inline(never)]
+pub(crate) fn next_between(
     pattern: &Pattern,
     scratch: &mut Scratch,
     text: &[u8],
@@ -69,24 +67,25 @@ fn next_piece(
     }
 }
 
-/// Fills `spans` with the pieces of the text that stand between the matches of the pattern with a byte in them, in their
-/// order. What `spans` held before is gone. The only fault is want of memory.
-pub(crate) fn split_between(
+/// Fills `spans` with the pieces of the text that stand between the matches of a pattern with a byte in them, in their
+/// order; an empty text has no piece. What `spans` held before is gone; on an `Err` what it holds is open. The only error is
+/// `Memory`. (POSIX awk, String Functions: split)
+pub fn split_between(
     pattern: &Pattern,
     scratch: &mut Scratch,
     text: &[u8],
     spans: &mut Vec<Span>,
-) -> Result<(), Halt>
+) -> Result<(), TextFault>
     requires { IsFor scratch.old pattern.now }
     ensures pieces { (t : Tree) → Means t pattern.now →
         OnOk result (stretches_at text.now spans.new.items ≡ ere_pieces t text.now) }
     ensures within { OnOk result (AreSpansOf text.now spans.new.items) }
-    ensures fault { IfErr result IsWantOfMemory }
+    ensures memory { IfErr result (λ e. e ≡ TextFault.Memory) }
     ensures same { IsFor scratch.new pattern.now }
 {
     spans.clear();
     let mut from = 0;
-    while let Some(found) = next_piece(pattern, scratch, text, from) {
+    while let Some(found) = next_between(pattern, scratch, text, from) {
         spans.push(found.span)?;
         from = found.rest;
     }

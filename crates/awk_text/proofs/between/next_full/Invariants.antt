@@ -3,7 +3,7 @@ use Rattle.awk_ere.specs.definitions.Means.{Means}
 use Rattle.awk_ere.specs.support.Table.{IsFor}
 use Rattle.awk_ere.specs.definitions.Tree.{Tree}
 use Rattle.awk_text.specs.support.Splitters.{NoneBefore}
-use Rattle.awk_text.proofs.matcher.next_full.Given as goal
+use Rattle.awk_text.proofs.between.next_full.Given as goal
 
 abbrev pub invariant-loop-start : goal.invariant-loop-start
 invariant-loop-start l = record {

@@ -1,7 +1,7 @@
 use Rattle.std.proofs.Common.{◌<◌, length, sym, ◌∙◌, inl, inr, arith}
 use Rattle.std.proofs.lemmas.Bool.{cases_lt, eq-eqb, false≢true}
 use Rattle.awk_text.proofs.NextField.{ere_found, ere_ends}
-use Rattle.awk_functions.proofs.separated.next_piece.Goals as goal
+use Rattle.awk_text.proofs.between.next_between.Goals as goal
 
 pub returns-in-Some-clause-piece : goal.returns-in-Some-clause-piece
 returns-in-Some-clause-piece c = λ t means.
