@@ -8,9 +8,10 @@ ghost use Rattle.awk_semantics.specs.Operators.{line_of, join, join_rest};
 ghost use Rattle.awk_semantics.specs.Results.{IsWantOfMemory};
 
 use awk_semantics::Halt;
-use awk_value::{Bytes, Value, ValueFault, append_text, concatenate_in_place, text_in};
+use awk_value::{Bytes, Value, ValueFault, append_text, text_in, text_of};
 use itoa::Buffer;
 use std::alloc::Global;
+use std::mem;
 
 /// Room for the digits of most numbers.
 const NUMBER_ROOM: usize = 20;
@@ -207,14 +208,48 @@ pub fn append(alloc: Global, left: Value, right: &Value) -> Result<Value, Halt>
     }
 }
 
-// Appends the text of each value to a text that was made.
-fn append_others(alloc: Global, text: &mut Value, values: &[Value]) -> Result<(), ValueFault>
-    requires { text.old ≡ Value.Text (str_of text.old) }
-    ensures text { OnOk result (text.new ≡ Value.Text (str_of text.old ++ concat (map str_of values.now))) }
+// The text that a value is, or that is made of it.
+fn into_text(alloc: Global, value: Value) -> Result<Bytes, ValueFault>
+    ensures text { IfOk result (λ text. text ≡ str_of value) }
+    ensures fault { IfErr result (λ fault. fault ≡ ValueFault.Memory) }
+{
+    match value {
+        Value::Text(text) | Value::Input(text) => Ok(text),
+        value => text_of(alloc, &value),
+    }
+}
+
+// Appends the text that is written of a value.
+#[inline(never)]
+fn append_written(alloc: Global, text: &mut Bytes, value: &Value) -> Result<(), ValueFault>
+    ensures text { OnOk result (text.new ≡ text.old ++ str_of value.now) }
+    ensures fault { IfErr result (λ fault. fault ≡ ValueFault.Memory) }
+{
+    let mut digits = Buffer::new();
+    text.extend_from_slice(alloc, text_in(value, &mut digits))?;
+    Ok(())
+}
+
+// Appends the text of a value.
+#[inline(always)]
+fn append_value(alloc: Global, text: &mut Bytes, value: &Value) -> Result<(), ValueFault>
+    ensures text { OnOk result (text.new ≡ text.old ++ str_of value.now) }
+    ensures fault { IfErr result (λ fault. fault ≡ ValueFault.Memory) }
+{
+    match value {
+        Value::Text(more) | Value::Input(more) => text.extend_from_slice(alloc, more.as_slice())?,
+        value => append_written(alloc, text, value)?,
+    }
+    Ok(())
+}
+
+// Appends the text of each value.
+fn append_values(alloc: Global, text: &mut Bytes, values: &[Value]) -> Result<(), ValueFault>
+    ensures text { OnOk result (text.new ≡ text.old ++ concat (map str_of values.now)) }
     ensures fault { IfErr result (λ fault. fault ≡ ValueFault.Memory) }
 {
     for value in values {
-        concatenate_in_place(alloc, text, value)?;
+        append_value(alloc, text, value)?;
     }
     Ok(())
 }
@@ -226,13 +261,13 @@ pub fn append_each(alloc: Global, left: &mut Value, values: &[Value]) -> Result<
     ensures text { OnOk result (left.new ≡ Value.Text (str_of left.old ++ concat (map str_of values.now))) }
     ensures fault { IfErr result (λ fault. fault ≡ ValueFault.Memory) }
 {
-    match values {
-        [] => concatenate_in_place(alloc, left, &Value::Nothing),
-        [first, others @ ..] => {
-            concatenate_in_place(alloc, left, first)?;
-            append_others(alloc, left, others)
-        }
+    if let Value::Text(text) = left {
+        return append_values(alloc, text, values);
     }
+    let mut text = into_text(alloc, mem::replace(left, Value::Nothing))?;
+    append_values(alloc, &mut text, values)?;
+    *left = Value::Text(text);
+    Ok(())
 }
 
 // About how many bytes the texts of the values take.

@@ -1,7 +1,6 @@
 -- What the functions over texts do to the state of a run.
-use Rattle.std.proofs.Common.{◌≡◌, ◌<◌, ◌+◌, ℕ, zero, suc, pos, Bool, false, not, true≢false, List, [], ◌∷◌, ◌++◌, append-nil, take, drop, get_or, Option, Some, None, Result, Ok, Err, length, IfOk, IfErr, refl, sym, ap, ◌∙◌, subst, arith}
+use Rattle.std.proofs.Common.{◌≡◌, ◌+◌, ℕ, zero, suc, pos, Bool, false, not, true≢false, List, [], ◌++◌, append-nil, Option, Some, None, Result, Ok, Err, length, IfOk, IfErr, refl, sym, ap, ◌∙◌, subst, arith}
 use Rattle.std.specs.Global.{Vec}
-use Rattle.std.proofs.lemmas.List.{take_more, map-append}
 use Rattle.std.specs.Result.{is_err}
 use Rattle.awk_value.specs.declared.value.Value.{Value}
 use Rattle.awk_value.specs.declared.value.Value.TheVariants as value
@@ -9,10 +8,8 @@ use Rattle.awk_value.specs.Values.{str_of}
 use Rattle.awk_ere.specs.Tree.{Tree}
 use Rattle.awk_text.specs.declared.span.Span.{Span}
 use Rattle.awk_text.specs.declared.fault.TextFault.{TextFault}
-use Rattle.awk_text.specs.Pieces.{stretch_at, stretches_at, IsSpanOf}
 use Rattle.awk_text.specs.Separators.{Separator, separator_of, separator_made, separator_by}
 use Rattle.awk_text.specs.Fields.{pieces_of}
-use Rattle.awk_record.proofs.FieldOfPieces.{cut_stretch}
 use Rattle.awk_lex.specs.declared.token.Operator.TheVariants.{Matches, NotMatches}
 use Rattle.awk_kinds.specs.declared.special.Special.TheVariants.{Fs, Rstart, Rlength}
 use Rattle.awk_kinds.specs.Variables.{value_of, name_of}
@@ -66,10 +63,6 @@ lift_beside r same e = reads_changes (lift r) (λ s. r) (λ s. refl) same (λ s 
 -- want of memory where nothing changed that the definitions know
 pub memory_beside : {A : Type 0} (run : Run A) {old new : Runtime} → SameState old new → Changes run old new (Err (halt.Fault OutOfMemory))
 memory_beside run same = memory_changes run same.streams same.beside.names (omega (arith, same.beside.steps))
-
--- and where something was done before
-pub memory_behind : {A B : Type 0} (run : Run A) {before : Run B} {old new : Runtime} {c : Result B Halt} → Changes before old new c → Changes run old new (Err (halt.Fault OutOfMemory))
-memory_behind run h = memory_changes run h.streams h.names h.steps
 
 -- the room of the code, and what it keeps of patterns and formats, are nothing that the definitions know
 pub room : (m : Runtime) (patterns : Patterns) (formats : Formats) (spans : Vec Span) → SameState m (record m { patterns = patterns; formats = formats; spans = spans })
@@ -176,17 +169,6 @@ unfolding note_match
 note_gives m {new = new} p q = then_changes _ p (then_changes _ q (lift_changes _ new refl))
 
 -- pieces
-
--- a list of cuts grows by the next stretch
-pub cuts_more : (text : List ℕ) (spans : List Span) (i : ℕ) (pieces new : List (List ℕ)) (cut : List ℕ) (span : Span) → i < length spans → IsSpanOf text (get_or spans i span) →
-    pieces ≡ stretches_at text (take i spans) → new ≡ pieces ++ cut ∷ [] → cut ≡ drop (get_or spans i span).start (take (get_or spans i span).end text) →
-    new ≡ stretches_at text (take (i + 1) spans)
-cuts_more text spans i pieces new cut span lt within is added cutting =
-    let here = get_or spans i span in
-    let more : take (i + 1) spans ≡ take i spans ++ here ∷ [] = take_more spans i span lt in
-    let last : cut ≡ stretch_at text here = cutting ∙ cut_stretch text here within in
-    added ∙ (ap (λ (l : List (List ℕ)). l ++ cut ∷ []) is ∙ (ap (λ (t : List ℕ). stretches_at text (take i spans) ++ t ∷ []) last
-    ∙ (sym (map-append (stretch_at text) (take i spans) (here ∷ [])) ∙ ap (λ (l : List Span). stretches_at text l) (sym more))))
 
 pub written_yields : {A : Type 0} (r : Result (Unit {0}) Halt) (pieces : A) (q : Result A Halt) → Writes r pieces q → Yields (with_pieces pieces r) q
 written_yields (Ok u) pieces q e = e

@@ -4,6 +4,7 @@ ghost use Rattle.std.specs.Prelude.{◌≡◌, Ok, IfOk, IfErr, codes};
 ghost use Rattle.awk_runtime.specs.support.Simulation.{Changes};
 ghost use Rattle.awk_runtime.specs.support.Calling.{kept_number, listed, argument_text};
 ghost use Rattle.awk_value.specs.Values.{str_of};
+ghost use Rattle.awk_text.specs.Pieces.{stretches_at, AreSpansOf};
 ghost use Rattle.awk_semantics.specs.Primitives.{number_in, joined_key, take_argument};
 ghost use Rattle.awk_semantics.specs.Results.{IsWantOfMemory};
 ghost use Rattle.awk_storage.specs.Positions.{read_element_of, store_element_of};
@@ -93,12 +94,14 @@ impl Runtime {
         Ok(keys)
     }
 
-    /// Empties an array, and gives it the texts at the keys from 1 on.
-    pub fn fill_at(&mut self, array: Array, texts: Vec<Bytes>) -> Result<(), Halt>
-        ensures { Changes (fill_at array texts.items) self.old self.new result }
+    /// Empties an array, and gives it the stretches of a text that were found last, at the keys from 1 on.
+    pub fn fill_at(&mut self, array: Array, text: &Bytes) -> Result<(), Halt>
+        requires { AreSpansOf text.now self.old.spans.items }
+        ensures { Changes (fill_at array (stretches_at text.now self.old.spans.items)) self.old self.new result }
     {
         let number = self.number_at(array);
-        self.arrays.fill(number as usize, 1, texts)?;
+        self.arrays
+            .fill_stretches(number as usize, text, self.spans.as_slice())?;
         Ok(())
     }
 

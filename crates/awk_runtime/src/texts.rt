@@ -1,6 +1,6 @@
 // Functions over texts.
 
-ghost use Rattle.std.specs.Prelude.{◌≡◌, ◌++◌, map, Ok, IfOk, OnOk};
+ghost use Rattle.std.specs.Prelude.{◌≡◌, ◌++◌, map, Ok, OnOk};
 ghost use Rattle.std.specs.List.{concat};
 ghost use Rattle.awk_value.specs.Values.{str_of};
 ghost use Rattle.awk_value.specs.declared.value.Value.TheVariants.{Text};
@@ -28,7 +28,6 @@ use awk_semantics::Halt;
 use awk_storage::{Array, Place};
 use awk_text::Span;
 use awk_value::{Bytes, Value, text_of};
-use std::alloc::{AllocError, Global};
 
 /// What spells a pattern: an ERE of the program, by its number, or a value, by its text. (POSIX awk, Regular Expressions)
 #[derive(Clone, Copy)]
@@ -46,18 +45,6 @@ fn operand<'a>(names: &'a ProgramNames, source: PatternSource<'a>) -> PatternOpe
         PatternSource::Ere(number) => PatternOperand::Ere(number as usize, names.ere(number)),
         PatternSource::Value(value) => PatternOperand::Value(value),
     }
-}
-
-// The pieces of a text, which share its memory.
-fn cut_pieces(alloc: Global, text: &Bytes, spans: &[Span]) -> Result<Vec<Bytes>, AllocError>
-    requires { AreSpansOf text.now spans.now }
-    ensures { IfOk result (λ pieces. pieces.items ≡ stretches_at text.now spans.now) }
-{
-    let mut pieces = Vec::with_capacity(alloc, spans.len())?;
-    for span in spans {
-        pieces.push(text.cut(span.start, span.end)?)?;
-    }
-    Ok(pieces)
 }
 
 impl Runtime {
@@ -196,9 +183,8 @@ impl Runtime {
     {
         let text = text_of(self.alloc, text)?;
         self.find_pieces(text.as_slice(), separator)?;
-        let pieces = cut_pieces(self.alloc, &text, self.spans.as_slice())?;
-        let count = pieces.len();
-        self.fill_at(array, pieces)?;
+        let count = self.spans.len();
+        self.fill_at(array, &text)?;
         Ok(Value::Number(count as i128))
     }
 

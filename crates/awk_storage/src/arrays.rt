@@ -8,9 +8,11 @@ ghost use Rattle.awk_value.specs.Values.{str_of};
 ghost use Rattle.awk_value.specs.declared.value.Value.TheVariants.{Nothing};
 ghost use Rattle.awk_value.specs.declared.fault.ValueFault.TheVariants.{Memory};
 ghost use Rattle.awk_value.specs.Arrays.{value_at, with_pair, with_key, without};
+ghost use Rattle.awk_text.specs.Pieces.{stretches_at, AreSpansOf};
 ghost use Rattle.awk_semantics.specs.definitions.Primitives.{elements_from};
 
 use crate::key;
+use awk_text::Span;
 use awk_value::{Bytes, Table, Value, ValueFault};
 use std::alloc::{AllocFailed, Global};
 use std::marker::Model;
@@ -197,7 +199,7 @@ impl Arrays {
     }
 
     /// Empties an array, and gives it texts from outside at the keys from a number on. The fault is `Memory`.
-    /// (POSIX awk, String Functions: split)
+    /// (POSIX awk, Arguments: ARGV)
     pub fn fill(&mut self, number: usize, first: u32, texts: Vec<Bytes>) -> Result<(), ValueFault>
         ensures filled { OnOk result (self.new ≡ slice_set self.old number (elements_from first texts.items)) }
         ensures fault { IfErr result (λ fault. fault ≡ Memory) }
@@ -208,6 +210,27 @@ impl Arrays {
         let table = &mut self.tables[number];
         table.clear();
         key::fill(table, first, texts)?;
+        Ok(())
+    }
+
+    /// Empties an array, and gives it stretches of a text from outside at the keys from 1 on. The fault is `Memory`.
+    /// (POSIX awk, String Functions: split)
+    pub fn fill_stretches(
+        &mut self,
+        number: usize,
+        text: &Bytes,
+        spans: &[Span],
+    ) -> Result<(), ValueFault>
+        requires { AreSpansOf text.now spans.now }
+        ensures filled { OnOk result (self.new ≡ slice_set self.old number (elements_from 1 (stretches_at text.now spans.now))) }
+        ensures fault { IfErr result (λ fault. fault ≡ Memory) }
+    {
+        if number >= self.live {
+            return Ok(());
+        }
+        let table = &mut self.tables[number];
+        table.clear();
+        key::fill_stretches(table, text, spans)?;
         Ok(())
     }
 }

@@ -9,8 +9,10 @@ ghost use Rattle.awk_value.specs.declared.value.Value.TheVariants.{Nothing};
 ghost use Rattle.awk_value.specs.declared.fault.ValueFault.TheVariants.{Memory};
 ghost use Rattle.awk_value.specs.Arrays.{value_at, with_pair, with_key, without};
 ghost use Rattle.awk_value.specs.Lending.{LendsValue};
+ghost use Rattle.awk_text.specs.Pieces.{stretches_at, AreSpansOf};
 ghost use Rattle.awk_semantics.specs.definitions.Primitives.{elements_from};
 
+use awk_text::Span;
 use awk_value::{Bytes, Table, Value, ValueFault};
 use itoa::Buffer;
 use std::alloc::Global;
@@ -124,6 +126,30 @@ pub(crate) fn fill(table: &mut Table, first: u32, texts: Vec<Bytes>) -> Result<(
             return Err(ValueFault::Memory);
         };
         table.add_number(key as i64, Value::Input(text))?;
+        key = next;
+    }
+    Ok(())
+}
+
+/// Gives stretches of a text from outside to an array that is empty, at the keys from 1 on. They are cut where they are put, and long
+/// ones share the text's memory.
+pub(crate) fn fill_stretches(
+    table: &mut Table,
+    text: &Bytes,
+    spans: &[Span],
+) -> Result<(), ValueFault>
+    requires within { AreSpansOf text.now spans.now }
+    requires empty { table.old ≡ [] }
+    ensures filled { OnOk result (table.new ≡ elements_from 1 (stretches_at text.now spans.now)) }
+    ensures fault { IfErr result (λ fault. fault ≡ Memory) }
+{
+    let mut key: u32 = 1;
+    for span in spans {
+        let Some(next) = key.checked_add(1) else {
+            return Err(ValueFault::Memory);
+        };
+        let stretch = text.cut(span.start, span.end)?;
+        table.add_number(key as i64, Value::Input(stretch))?;
         key = next;
     }
     Ok(())
