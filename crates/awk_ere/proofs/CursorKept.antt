@@ -10,12 +10,13 @@ use Rattle.awk_ere.specs.definitions.Means.{Means}
 use Rattle.awk_ere.specs.support.SimulationStep.{count_of, leaves, behind, dead_positions, IsStillAt, IsStill}
 use Rattle.awk_ere.specs.support.Table.{IsKnown, state_number, IsState, IsEntry, AreTransitions, IsTable, positions_at}
 use Rattle.awk_ere.specs.support.CursorState.{Starts, Runs, Stood, Enters}
+use Rattle.awk_ere.specs.support.Failures.{NoneGoesOn}
 use Rattle.awk_ere.specs.support.Found.{between, LastEnd, EndsBetween}
 use Rattle.awk_ere.specs.declared.pattern.Pattern.{Pattern}
 use Rattle.awk_ere.specs.declared.dfa.table.Table.{Table}
 use Rattle.awk_ere.specs.declared.dfa.cursor.Cursor.{Cursor}
 use Rattle.awk_ere.proofs.StepTellsMatches.{match_le, at_start, runs_fresh, next}
-use Rattle.awk_ere.proofs.LastEnd.{last_hit, last_miss, last_idle, between_in}
+use Rattle.awk_ere.proofs.LastEnd.{last_hit, last_miss, last_idle, idle_none, between_in}
 use Rattle.awk_ere.proofs.TableKept.{state_at, state_named}
 
 -- behind the first place the text doesn't start
@@ -176,6 +177,13 @@ none_to_dead p tb table s t means low w lt h dead none i j ge below mt =
     last_idle s t p means (between low last) w.place h.positions h.runs (j + 1) None (λ n. ap (λ l. get_or l n false) idle ∙ zeros (count_of p) n)
     (λ i f. let le = leb-true i last (and_parts _ _ f).1 in omega (arith, le, lt))
     (subst (LastEnd t s (between low last) w.place) none h.last) i j (sym (between_in low last i ge (omega (arith, below)))) (omega arith) mt
+
+-- where nothing that began goes on, none ends further on
+pub stood_idle_none : (p : Pattern) (tb : Table) → IsTable p tb → (s : List ℕ) (t : Tree) → Means t p → (from : ℕ → Bool) (w : Cursor) → Stood p tb s t from w → w.state ≡ dead_state → NoneGoesOn s t from w.place
+stood_idle_none p tb table s t means from w h dead =
+    let one : state_number w.state ≡ 1 = omega (arith, dead) in
+    let idle = sym h.state.positions ∙ ap (positions_at p tb.rows.items) one ∙ table.idle in
+    idle_none s t p means from w.place h.positions h.runs (λ n. ap (λ l. get_or l n false) idle ∙ zeros (count_of p) n)
 
 -- what is known of the ends where a cursor stops
 module _ (first : Bool) (p : Pattern) (tb : Table) (s : List ℕ) (t : Tree) (means : Means t p) (low high : ℕ) (w : Cursor) (h : Stood p tb s t (between low high) w) where

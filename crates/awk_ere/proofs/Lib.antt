@@ -29,6 +29,7 @@ pub mod TokenKeepsProgram
 pub mod ClassMembership
 pub mod CursorKept
 pub mod DesugaredMatches
+pub mod FailuresKept
 pub mod InstructionRuns
 pub mod LastEnd
 pub mod LiteralOccurs

@@ -7,6 +7,7 @@ pub mod CompilerResult
 pub mod CompilerState
 pub mod RepeatInstructions
 pub mod CursorState
+pub mod Failures
 pub mod Found
 pub mod Layout
 pub mod Marked

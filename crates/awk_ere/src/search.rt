@@ -6,51 +6,111 @@ ghost use Rattle.awk_ere.specs.definitions.Tree.{Tree, NoneFrom, Finds, Occurs};
 ghost use Rattle.awk_ere.specs.definitions.Means.{Means, occurs, HasNoneUpTo};
 ghost use Rattle.awk_ere.specs.support.Table.{IsFor, Serves};
 ghost use Rattle.awk_ere.specs.support.Required.{PassesOver};
+ghost use Rattle.awk_ere.specs.support.Failures.{AreFailures};
 ghost use Rattle.awk_ere.specs.support.Found.{EndsWithin, Longest, OccursBetween, EndsAt, Begins, BeginsWithin};
 
 use crate::dfa::cursor::Cursor;
-use crate::dfa::table::DEAD;
+use crate::failures::Failures;
 use crate::pattern::Pattern;
 use crate::required::LONG;
 use crate::run::first_run;
 use crate::scratch::Scratch;
 
 impl Pattern {
-    // The end of the longest match that begins at `from`. One byte is read where a match begins, and the rest where none
-    // does.
+    // A cursor behind the longest match that begins at `from`, with the match's end. One byte is read where a match begins,
+    // and the rest where none does, up to where none goes on to a further end.
     #[inline(always)]
-    fn longest_from(&self, text: &[u8], from: usize, scratch: &mut Scratch) -> Option<usize>
+    fn longest_from(
+        &self,
+        text: &[u8],
+        from: usize,
+        scratch: &mut Scratch,
+        failures: &Failures,
+    ) -> Cursor
         requires same { Serves scratch.old self.now }
+        requires failures { AreFailures self.now text.now failures.now }
         requires within { from ≤ length text.now }
-        ensures within { EndsWithin from (length text.now) result }
-        ensures found { (t : Tree) → Means t self.now → Longest t text.now from result }
+        ensures order { from ≤ result.place }
+        ensures within { result.place ≤ length text.now }
+        ensures end { EndsWithin from result.place result.end }
+        ensures found { (t : Tree) → Means t self.now → Longest t text.now from result.end }
         ensures same { Serves scratch.new self.now }
     {
         let len = text.len();
         let mut cursor = Cursor::begin(from);
         'bytes: while cursor.place < len {
             cursor = self.advance(scratch, cursor.place == from, text, cursor);
-            cursor = self.last_loop(&scratch.table, text, cursor);
-        }
-        if from < len && cursor.state == DEAD {
-            return cursor.end;
+            let to = failures.next_place(cursor.place, len);
+            cursor = self.last_loop(&scratch.table, text, to, cursor);
+            if self.has_failed(&scratch.table, failures, cursor) {
+                return cursor;
+            }
         }
         if self.leaves_at_end(scratch, cursor.state, from == len) {
+            return Cursor {
+                end: Some(len),
+                ..cursor
+            };
+        }
+        cursor
+    }
+
+    // The end of the longest match that begins at `from`. Where much was read behind it in vain, this is kept.
+    #[inline(always)]
+    fn longest_end(
+        &self,
+        text: &[u8],
+        from: usize,
+        scratch: &mut Scratch,
+        failures: &mut Failures,
+    ) -> Option<usize>
+        requires same { Serves scratch.old self.now }
+        requires failures { AreFailures self.now text.now failures.old }
+        requires within { from ≤ length text.now }
+        ensures within { EndsWithin from (length text.now) result }
+        ensures found { (t : Tree) → Means t self.now → Longest t text.now from result }
+        ensures same { Serves scratch.new self.now }
+        ensures failures { AreFailures self.now text.now failures.new }
+    {
+        let cursor = self.longest_from(text, from, scratch, failures);
+        let end = cursor.end.unwrap_or(from);
+        if cursor.place - end > failures.spacing {
+            self.learn(text, from, from, end, scratch, failures);
+        }
+        cursor.end
+    }
+
+    // Where a match ends, wherever it begins: the first end that is met.
+    #[inline(always)]
+    fn first_end(&self, text: &[u8], scratch: &mut Scratch) -> Option<usize>
+        requires { Serves scratch.old self.now }
+        ensures found { (t : Tree) → Means t self.now → EndsAt t text.now 0 (length text.now) result }
+        ensures same { Serves scratch.new self.now }
+    {
+        let len = text.len();
+        let cursor = self.scan(scratch, true, text, len, Cursor::begin(0));
+        if cursor.end.is_some() {
+            return cursor.end;
+        }
+        if self.leaves_at_end(scratch, cursor.state, true) {
             return Some(len);
         }
         cursor.end
     }
 
     // Where a match ends that begins at a place from `low` up to `high`: the first end that is met. The text is read
-    // unanchored up to `high`, where the last match may begin, and anchored from there to its end.
+    // unanchored up to `high`, where the last match may begin, and anchored from there to its end, or to where no match that
+    // has begun goes on to an end.
     fn end_between(
         &self,
         text: &[u8],
         low: usize,
         high: usize,
         scratch: &mut Scratch,
+        failures: &Failures,
     ) -> Option<usize>
         requires same { Serves scratch.old self.now }
+        requires failures { AreFailures self.now text.now failures.now }
         requires order { low ≤ high }
         requires within { high ≤ length text.now }
         ensures found { (t : Tree) → Means t self.now → EndsAt t text.now low high result }
@@ -58,16 +118,21 @@ impl Pattern {
     {
         let len = text.len();
         let stop = len.min(high + 1);
-        let entering = high == len;
-        let cursor = self.scan(scratch, true, text, stop, Cursor::begin(low));
+        let mut cursor = self.scan(scratch, true, text, stop, Cursor::begin(low));
         if cursor.end.is_some() {
             return cursor.end;
         }
-        let cursor = self.scan(scratch, entering, text, len, cursor);
-        if cursor.end.is_some() {
-            return cursor.end;
+        'bytes: while cursor.place < len {
+            let to = failures.next_place(cursor.place + 1, len);
+            cursor = self.scan(scratch, false, text, to, cursor);
+            if cursor.end.is_some() {
+                return cursor.end;
+            }
+            if self.has_failed(&scratch.table, failures, cursor) {
+                return cursor.end;
+            }
         }
-        if self.leaves_at_end(scratch, cursor.state, entering) {
+        if self.leaves_at_end(scratch, cursor.state, high == len) {
             return Some(len);
         }
         cursor.end
@@ -106,8 +171,16 @@ impl Pattern {
     // Where the leftmost match begins, of those that begin at a place from `low` up to `high`. There is one. The places
     // that are tried first are `low` alone, and then further on by a width that doubles.
     #[inline(never)]
-    fn first_between(&self, text: &[u8], low: usize, high: usize, scratch: &mut Scratch) -> usize
+    fn first_between(
+        &self,
+        text: &[u8],
+        low: usize,
+        high: usize,
+        scratch: &mut Scratch,
+        failures: &mut Failures,
+    ) -> usize
         requires same { Serves scratch.old self.now }
+        requires failures { AreFailures self.now text.now failures.old }
         requires low { low ≤ length text.now }
         requires high { high ≤ length text.now }
         ensures order { low ≤ result }
@@ -115,6 +188,7 @@ impl Pattern {
         ensures found { (t : Tree) → Means t self.now → OccursBetween t text.now low high →
             Begins t text.now low (Some result) }
         ensures same { Serves scratch.new self.now }
+        ensures failures { AreFailures self.now text.now failures.new }
     {
         let mut first = low;
         let mut last = high;
@@ -122,9 +196,12 @@ impl Pattern {
         'halves: while first < last {
             let middle = first + width.min((last - first) / 2);
             width = width.saturating_mul(2).saturating_add(1);
-            match self.end_between(text, first, middle, scratch) {
+            match self.end_between(text, first, middle, scratch, failures) {
                 Some(end) => last = middle.min(end),
-                None => first = middle + 1,
+                None => {
+                    self.learn(text, first, middle, middle, scratch, failures);
+                    first = middle + 1;
+                }
             }
         }
         first
@@ -146,7 +223,7 @@ impl Pattern {
         if !scratch.anchored_at_start && self.lacks_required(text, 0, scratch) {
             return false;
         }
-        self.end_between(text, 0, text.len(), scratch).is_some()
+        self.first_end(text, scratch).is_some()
     }
 
     // The leftmost match at or behind a place, and of those the longest, by the table.
@@ -156,26 +233,29 @@ impl Pattern {
         text: &[u8],
         from: usize,
         scratch: &mut Scratch,
+        failures: &mut Failures,
     ) -> Option<(usize, usize)>
         requires same { Serves scratch.old self.now }
+        requires failures { AreFailures self.now text.now failures.old }
         requires within { from ≤ length text.now }
         ensures within { IfSome result (λ m. (from ≤ m.0) × ((m.0 ≤ m.1) × (m.1 ≤ length text.now))) }
         ensures found { (t : Tree) → Means t self.now → Finds t text.now from result }
         ensures same { Serves scratch.new self.now }
+        ensures failures { AreFailures self.now text.now failures.new }
     {
         if self.lacks_required(text, from, scratch) {
             return None;
         }
         let start = self.next_candidate(text, from, scratch);
-        if let Some(end) = self.longest_from(text, start, scratch) {
+        if let Some(end) = self.longest_end(text, start, scratch, failures) {
             return Some((start, end));
         }
         if start == text.len() {
             return None;
         }
         let (low, high) = self.window(text, start + 1, scratch)?;
-        let start = self.first_between(text, low, high, scratch);
-        let end = self.longest_from(text, start, scratch)?;
+        let start = self.first_between(text, low, high, scratch, failures);
+        let end = self.longest_end(text, start, scratch, failures)?;
         Some((start, end))
     }
 
@@ -208,6 +288,27 @@ impl Pattern {
         ensures found { (t : Tree) → Means t self.now → Finds t text.now from result }
         ensures same { IsFor scratch.new self.now }
     {
+        let mut failures = Failures::for_pattern(self);
+        self.find_further(text, from, scratch, &mut failures)
+    }
+
+    /// The same of a text that is searched again and again. What the searches have shown is kept, so that all of them take
+    /// a time that grows with the text and the pattern's size together.
+    pub fn find_further(
+        &self,
+        text: &[u8],
+        from: usize,
+        scratch: &mut Scratch,
+        failures: &mut Failures,
+    ) -> Option<(usize, usize)>
+        requires same { IsFor scratch.old self.now }
+        requires failures { AreFailures self.now text.now failures.old }
+        requires within { from ≤ length text.now }
+        ensures within { IfSome result (λ m. (from ≤ m.0) × ((m.0 ≤ m.1) × (m.1 ≤ length text.now))) }
+        ensures found { (t : Tree) → Means t self.now → Finds t text.now from result }
+        ensures same { IsFor scratch.new self.now }
+        ensures failures { AreFailures self.now text.now failures.new }
+    {
         if let Some(finder) = &scratch.literal {
             let start = from + finder.find(&text[from..])?;
             return Some((start, start + self.program.instructions.len()));
@@ -215,7 +316,7 @@ impl Pattern {
         if let Some(class) = self.run_class() {
             return first_run(class, text, from);
         }
-        self.find_by_table(text, from, scratch)
+        self.find_by_table(text, from, scratch, failures)
     }
 
     /// How far a text can be passed over: no part of it that ends at or before this place has a match. It is the first

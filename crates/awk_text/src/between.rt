@@ -2,25 +2,34 @@
 ghost use Rattle.std.specs.Prelude.{◌≡◌, ◌≤◌, ◌<◌, length, IfSome, IfErr, OnOk};
 ghost use Rattle.awk_ere.specs.definitions.Means.{Means};
 ghost use Rattle.awk_ere.specs.definitions.Tree.{Tree};
+ghost use Rattle.awk_ere.specs.support.Failures.{AreFailures};
 ghost use Rattle.awk_ere.specs.support.Table.{IsFor};
 ghost use Rattle.awk_text.specs.definitions.Fields.{ere_pieces, ere_pieces_from, IsNextPiece, IsFurther};
 ghost use Rattle.awk_text.specs.definitions.Pieces.{stretches_at, AreSpansOf};
 ghost use Rattle.awk_text.specs.definitions.Separators.{IsNextSeparator};
 
 use crate::{FoundField, Span, TextFault};
-use awk_ere::{Pattern, Scratch};
+use awk_ere::{Failures, Pattern, Scratch};
 
 // The next match with a byte in it that begins at a place or behind it: the first one, and of those that begin there the
 // longest. Where the longest that begins at a place is empty, the search goes on behind that place.
-fn next_full(pattern: &Pattern, scratch: &mut Scratch, text: &[u8], place: usize) -> Option<Span>
+fn next_full(
+    pattern: &Pattern,
+    scratch: &mut Scratch,
+    failures: &mut Failures,
+    text: &[u8],
+    place: usize,
+) -> Option<Span>
     requires same { IsFor scratch.old pattern.now }
+    requires failures { AreFailures pattern.now text.now failures.old }
     requires within { place ≤ length text.now }
     ensures lies { IfSome result (λ m. (place ≤ m.start) × (m.start < m.end) × (m.end ≤ length text.now)) }
     ensures found { (t : Tree) → Means t pattern.now → IsNextSeparator t text.now place result }
     ensures same { IsFor scratch.new pattern.now }
+    ensures failures { AreFailures pattern.now text.now failures.new }
 {
     let mut from = place;
-    while let Some((start, end)) = pattern.find_from(text, from, scratch) {
+    while let Some((start, end)) = pattern.find_further(text, from, scratch, failures) {
         if start < end {
             return Some(Span { start, end });
         }
@@ -37,19 +46,22 @@ fn next_full(pattern: &Pattern, scratch: &mut Scratch, text: &[u8], place: usize
 pub(crate) fn next_between(
     pattern: &Pattern,
     scratch: &mut Scratch,
+    failures: &mut Failures,
     text: &[u8],
     from: usize,
 ) -> Option<FoundField>
-    requires { IsFor scratch.old pattern.now }
+    requires same { IsFor scratch.old pattern.now }
+    requires failures { AreFailures pattern.now text.now failures.old }
     ensures piece { (t : Tree) → Means t pattern.now →
         IsNextPiece (ere_pieces_from t text.now) text.now from result }
     ensures further { IfSome result (IsFurther text.now from) }
     ensures same { IsFor scratch.new pattern.now }
+    ensures failures { AreFailures pattern.now text.now failures.new }
 {
     if text.is_empty() || from > text.len() {
         return None;
     }
-    match next_full(pattern, scratch, text, from) {
+    match next_full(pattern, scratch, failures, text, from) {
         Some(found) => Some(FoundField {
             span: Span {
                 start: from,
@@ -84,8 +96,9 @@ pub fn split_between(
     ensures same { IsFor scratch.new pattern.now }
 {
     spans.clear();
+    let mut failures = Failures::for_pattern(pattern);
     let mut from = 0;
-    while let Some(found) = next_between(pattern, scratch, text, from) {
+    while let Some(found) = next_between(pattern, scratch, &mut failures, text, from) {
         spans.push(found.span)?;
         from = found.rest;
     }

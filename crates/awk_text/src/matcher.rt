@@ -8,7 +8,7 @@ ghost use Rattle.awk_text.specs.definitions.Separators.{or_newline};
 
 use crate::between::next_between;
 use crate::{FoundField, TextFault};
-use awk_ere::{Pattern, Scratch};
+use awk_ere::{Failures, Pattern, Scratch};
 use std::alloc::Global;
 
 // The pattern, with a newline as one more branch where newlines separate too.
@@ -50,6 +50,7 @@ impl Matcher {
         ensures further { IfSome result (IsFurther text.now from) }
         ensures same { self.new.pattern ≡ self.old.pattern }
     {
-        next_between(&self.pattern, &mut self.scratch, text, from)
+        let mut failures = Failures::for_pattern(&self.pattern);
+        next_between(&self.pattern, &mut self.scratch, &mut failures, text, from)
     }
 }

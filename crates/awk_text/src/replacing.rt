@@ -9,11 +9,11 @@ ghost use Rattle.awk_text.specs.definitions.Replacement.{replacement_for};
 ghost use Rattle.awk_text.specs.support.Escapes.{IsOfShape};
 ghost use Rattle.awk_text.specs.support.Search.{LiesBehind};
 
-use crate::matching::{match_at, next_match};
+use crate::matching::{first_match, next_match};
 use crate::replacement::{Shape, add_piece, add_replacement, shape_of};
 use crate::substitution::Substitution;
 use crate::{Span, TextFault};
-use awk_ere::{Pattern, Scratch};
+use awk_ere::{Failures, Pattern, Scratch};
 use std::alloc::Global;
 
 // Adds what stands from a place up to a match, and what replaces the match.
@@ -67,7 +67,8 @@ pub fn substitute_into(
     ensures same { IsFor scratch.new pattern.now }
 {
     out.clear();
-    let Some(first) = match_at(pattern, text, scratch) else {
+    let mut failures = Failures::for_pattern(pattern);
+    let Some(first) = first_match(pattern, text, scratch, &mut failures) else {
         return Ok(None);
     };
     out.reserve(text.len().saturating_add(replacement.len()))?;
@@ -79,7 +80,7 @@ pub fn substitute_into(
     }
     let mut count = 1;
     let mut last = first;
-    while let Some(next) = next_match(pattern, text, last, scratch) {
+    while let Some(next) = next_match(pattern, text, last, scratch, &mut failures) {
         add_replaced(out, replacement, shape, text, last.end, next)?;
         count += 1;
         last = next;

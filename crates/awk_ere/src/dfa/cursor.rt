@@ -265,26 +265,28 @@ impl Pattern {
         cursor
     }
 
-    // Reads on where no match begins, past the ends of those that have begun, as long as the entries are known.
-    pub(crate) fn last_loop(&self, table: &Table, text: &[u8], cursor: Cursor) -> Cursor
+    // Reads on up to a place, where no match begins, past the ends of those that have begun, as long as the entries are known
+    // and one goes on.
+    pub(crate) fn last_loop(&self, table: &Table, text: &[u8], to: usize, cursor: Cursor) -> Cursor
         requires table { IsTable self.now table.now }
         requires known { IsKnown table.now cursor.state }
-        requires within { cursor.place ≤ length text.now }
+        requires order { cursor.place ≤ to }
+        requires within { to ≤ length text.now }
         ensures order { cursor.place ≤ result.place }
-        ensures within { result.place ≤ length text.now }
+        ensures within { result.place ≤ to }
         ensures end { (low : ℕ) → low ≤ cursor.place → EndsWithin low cursor.place cursor.end →
             EndsWithin low result.place result.end }
         ensures known { IsKnown table.now result.state }
-        ensures stood { (t : Tree) (from : ℕ → Bool) → Means t self.now → Enters from false cursor.place (length text.now) →
+        ensures stood { (t : Tree) (from : ℕ → Bool) → Means t self.now → Enters from false cursor.place to →
             Stood self.now table.now text.now t from cursor → Stood self.now table.now text.now t from result }
     {
         let transitions = table.anchored.as_slice();
         let mut state = cursor.state;
         let mut end = cursor.end;
-        for k in cursor.place..text.len() {
+        for k in cursor.place..to {
             if state == DEAD {
                 return Cursor {
-                    place: text.len(),
+                    place: k,
                     state,
                     end,
                 };
@@ -305,7 +307,7 @@ impl Pattern {
             }
         }
         Cursor {
-            place: text.len(),
+            place: to,
             state,
             end,
         }

@@ -1,5 +1,6 @@
 use Rattle.std.proofs.Common.{◌≤◌, ◌+◌, ◌-◌, length}
 use Rattle.awk_ere.specs.definitions.Means.{Means}
+use Rattle.awk_ere.specs.support.Failures.{AreFailures}
 use Rattle.awk_ere.specs.support.Table.{IsFor}
 use Rattle.awk_ere.specs.definitions.Tree.{Tree}
 use Rattle.awk_text.specs.support.Splitters.{NoneBefore}
@@ -10,6 +11,7 @@ invariant-loop-start l = record {
   behind : l.place ≤ l.from;
   within : l.from ≤ length l.text;
   same : IsFor l.scratch l.pattern;
+  failures : AreFailures l.pattern l.text l.failures;
   none : (t : Tree) → Means t l.pattern → NoneBefore t l.text l.place l.from;
 }
 

@@ -1,5 +1,6 @@
 use Rattle.std.proofs.Common.{◌≡◌, ◌≤◌, ◌+◌, ◌-◌, ◌++◌, length}
 use Rattle.awk_ere.specs.definitions.Means.{Means}
+use Rattle.awk_ere.specs.support.Failures.{AreFailures}
 use Rattle.awk_ere.specs.support.Table.{IsFor}
 use Rattle.awk_ere.specs.definitions.Tree.{Tree}
 use Rattle.awk_text.specs.definitions.Pieces.{stretches_at, AreSpansOf}
@@ -12,6 +13,7 @@ invariant-loop-found l = record {
   bounded : l.from ≤ length l.text + 1;
   within : AreSpansOf l.text l.spans.items;
   same : IsFor l.scratch l.pattern;
+  failures : AreFailures l.pattern l.text l.failures;
   pieces : (t : Tree) → Means t l.pattern → stretches_at l.text l.spans.items ++ ere_pieces_from t l.text l.from ≡ ere_pieces t l.text;
 }
 

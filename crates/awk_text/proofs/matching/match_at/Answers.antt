@@ -1,8 +1,4 @@
-use Rattle.awk_text.proofs.NextMatch.{lies_within, first_match}
 use Rattle.awk_text.proofs.matching.match_at.Goals as goal
 
-pub returns-clause-within : goal.returns-clause-within
-returns-clause-within c = lies_within _ c.args.text.now c.search_from.result c.search_from.ensures.lies
-
-pub returns-clause-found : goal.returns-clause-found
-returns-clause-found c = λ t means. first_match t c.args.text.now c.search_from.result (c.search_from.ensures.found t means)
+pub first_match-requires-clause-failures : goal.first_match-requires-clause-failures
+first_match-requires-clause-failures c = c.for_pattern-failures.ensures c.args.text.now

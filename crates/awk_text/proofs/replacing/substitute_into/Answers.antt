@@ -4,6 +4,9 @@ use Rattle.awk_text.proofs.NextMatch.{first_longest, next_longest}
 use Rattle.awk_text.proofs.ExchangedSoFar.{added, exchanged_first, exchanged_more, exchanged_end, first_exchanged}
 use Rattle.awk_text.proofs.replacing.substitute_into.Goals as goal
 
+pub first_match-requires-clause-failures : goal.first_match-requires-clause-failures
+first_match-requires-clause-failures c = c.for_pattern-failures.ensures c.args.text.now
+
 pub returns-then-not-all-clause-replaced : goal.returns-then-not-all-clause-replaced
 returns-then-not-all-clause-replaced c = λ t means.
     let r = c.args.replacement.now in
@@ -27,6 +30,7 @@ loop-next-init c =
       some = omega arith;
       few = omega arith;
       same = c.in-Some.ensures.same;
+      failures = c.in-Some.ensures.failures;
       exchanged = λ t means. exchanged_first t r s c.add_replaced.new.out.items first (c.in-Some.ensures.found t means) written;
     }
 
@@ -44,6 +48,7 @@ loop-next-preserved c =
       some = omega arith;
       few = omega arith;
       same = c.in-Some-next_match.ensures.same;
+      failures = c.in-Some-next_match.ensures.failures;
       exchanged = λ t means. exchanged_more t r s loop.out.items c.add_replaced-in-Some-next_match.new.out.items loop.count loop.last.end next
           (c.in-Some-next_match.ensures.found t means) c.in_ok-add_replaced-2.ensures.added (loop.invariant.exchanged t means);
     }

@@ -1,5 +1,6 @@
 use Rattle.std.proofs.Common.{◌≤◌, ◌<◌, ◌+◌, ◌-◌, length}
 use Rattle.awk_ere.specs.definitions.Means.{Means}
+use Rattle.awk_ere.specs.support.Failures.{AreFailures}
 use Rattle.awk_ere.specs.support.Table.{IsFor}
 use Rattle.awk_ere.specs.definitions.Tree.{Tree}
 use Rattle.awk_text.specs.support.Search.{IsLongest}
@@ -14,6 +15,7 @@ invariant-loop-next l = record {
   some : 0 < l.count;
   few : l.count ≤ l.last.end + 1;
   same : IsFor l.scratch l.pattern;
+  failures : AreFailures l.pattern l.text l.failures;
   exchanged : (t : Tree) → Means t l.pattern → Exchanged t l.replacement l.text l.out.items l.count l.last.end;
 }
 

@@ -2,11 +2,13 @@ use Rattle.std.proofs.Common.{◌≡◌, ◌+◌, subst, ⊎_elim, arith}
 use Rattle.std.proofs.lemmas.Bool.{cases_lt}
 use Rattle.awk_ere.specs.definitions.Tree.{Matches}
 use Rattle.awk_ere.proofs.StepTellsMatches.{match_le}
+use Rattle.awk_ere.proofs.FailuresKept.{none_last}
 use Rattle.awk_ere.proofs.pattern.Pattern.first_between.Goals as goal
 
 pub halves-preserved-in-Some : goal.halves-preserved-in-Some
 halves-preserved-in-Some c = record {
   same = c.end_between.ensures.same;
+  failures = c.halves.invariant.failures;
   order = c.halves.invariant.order;
   begun = c.halves.invariant.begun;
   within = omega (arith, c.min-last.ensures, c.halves-test.true, c.halves.invariant.within);
@@ -17,11 +19,17 @@ halves-preserved-in-Some c = record {
       (a.0, c.in-Some.end, a.1, omega (arith, c.min-last.ensures, up, a.2), a.3);
 }
 
+pub learn-requires-clause-none : goal.learn-requires-clause-none
+learn-requires-clause-none c = λ t means.
+    let middle = c.halves.first + c.min.result in
+    none_last t c.args.text.now c.halves.first middle middle (c.in-None.ensures.found t means)
+
 pub halves-preserved : goal.halves-preserved
 halves-preserved c =
     let middle = c.halves.first + c.min.result in
     record {
-      same = c.end_between.ensures.same;
+      same = c.learn.ensures.same;
+      failures = c.learn.ensures.failures;
       order = omega (arith, c.halves.invariant.order);
       begun = omega (arith, c.halves-test.true, c.halves.invariant.within);
       within = c.halves.invariant.within;

@@ -4,7 +4,7 @@ use Rattle.awk_ere.proofs.OccursDecided.{tells_ends}
 use Rattle.awk_ere.proofs.pattern.Pattern.is_match_by_table.Goals as goal
 
 pub returns-clause-decided : goal.returns-clause-decided
-returns-clause-decided c t means = c.is_some.ensures ∙ tells_ends t _ _ means.0 (c.end_between.ensures.found t means)
+returns-clause-decided c t means = c.is_some.ensures ∙ tells_ends t _ _ means.0 (c.first_end.ensures.found t means)
 
 pub returns-then-lacks_required-clause-decided : goal.returns-then-lacks_required-clause-decided
 returns-then-lacks_required-clause-decided c t means =

@@ -4,9 +4,8 @@ use Rattle.awk_ere.specs.support.Table.{IsKnown, IsEntry}
 use Rattle.awk_ere.specs.declared.dfa.cursor.Cursor.{Cursor}
 use Rattle.awk_ere.specs.support.Found.{EndsWithin}
 use Rattle.awk_ere.proofs.LastEnd.{ends_within}
-use Rattle.awk_ere.proofs.StepTellsMatches.{still_off}
 use Rattle.awk_ere.proofs.TableKept.{state_of}
-use Rattle.awk_ere.proofs.CursorKept.{entry_of, entry_within, known_of, stood_miss, stood_hit, stood_still}
+use Rattle.awk_ere.proofs.CursorKept.{entry_of, entry_within, known_of, stood_miss, stood_hit, stood_same}
 use Rattle.awk_ere.proofs.pattern.Pattern.last_loop.Goals as goal
 use Rattle.awk_ere.proofs.pattern.Pattern.last_loop.Goals.{then-entry-lt-MATCH_FLAG, else-entry-lt-MATCH_FLAG}
 
@@ -39,7 +38,7 @@ loop-k-preserved c =
         end = λ low le h0. subst (EndsWithin low (k + 1)) (sym b.end-is) (ends_within low k (k + 1) c.loop-k.end (omega arith) (c.loop-k.invariant.end low le h0));
         stood = λ t from means enters h0.
             let h = c.loop-k.invariant.stood t from means enters h0 in
-            stood_miss p tb tb s t means from w h false (enters k c.loop-k.auto.k c.loop-k-test.true) c.loop-k-test.true u
+            stood_miss p tb tb s t means from w h false (enters k c.loop-k.auto.k c.loop-k-test.true) (omega (arith, c.loop-k-test.true, c.requires.within)) u
             (subst (IsEntry p tb h.start false h.positions x) same (entry_of p tb false c.requires.table v h.start h.positions h.state x byte)) w' refl some b.if-entry-lt-MATCH_FLAG.true b.state-is b.end-is;
       }
       | else-entry-lt-MATCH_FLAG b ↦ record {
@@ -47,7 +46,7 @@ loop-k-preserved c =
         end = λ low le h0. subst (EndsWithin low (k + 1)) (sym b.end-is) (omega (arith, le, c.loop-k.auto.k), omega arith);
         stood = λ t from means enters h0.
             let h = c.loop-k.invariant.stood t from means enters h0 in
-            stood_hit p tb tb s t means from w h false (enters k c.loop-k.auto.k c.loop-k-test.true) c.loop-k-test.true u
+            stood_hit p tb tb s t means from w h false (enters k c.loop-k.auto.k c.loop-k-test.true) (omega (arith, c.loop-k-test.true, c.requires.within)) u
             (subst (IsEntry p tb h.start false h.positions x) same (entry_of p tb false c.requires.table v h.start h.positions h.state x byte)) w' refl b.if-entry-lt-MATCH_FLAG.false b.state-is b.end-is;
       }
     ]
@@ -56,23 +55,24 @@ pub loop-k-init : goal.loop-k-init
 loop-k-init c = record { known = c.requires.known; end = λ _ _ h. h; stood = λ _ _ _ _ h. h }
 
 pub returns-then-state-eq-DEAD-clause-stood : goal.returns-then-state-eq-DEAD-clause-stood
-returns-then-state-eq-DEAD-clause-stood c = λ t from means enters h0.
-    let p = c.args.self.now in
-    let s = c.args.text.now in
-    let k = c.loop-k.k in
-    let w : Cursor = record { place = k; state = c.loop-k.state; end = c.loop-k.end } in
-    let w' : Cursor = record { place = length s; state = c.loop-k.state; end = c.loop-k.end } in
-    stood_still p c.args.table.now c.requires.table s (λ i. omega (arith, c.type_inv.text i)) t means from false (still_off t p means)
-    (length s - k) w w' (c.loop-k.invariant.stood t from means enters h0) c.if-state-eq-DEAD.true c.if-state-eq-DEAD.true refl (omega (arith, c.loop-k-test.true)) (omega arith)
-    (λ i a b. enters i (omega (arith, a, c.loop-k.auto.k)) b)
+returns-then-state-eq-DEAD-clause-stood c = c.loop-k.invariant.stood
 
 pub returns-then-state-eq-DEAD-clause-end : goal.returns-then-state-eq-DEAD-clause-end
-returns-then-state-eq-DEAD-clause-end c = λ low le h0.
-    ends_within low c.loop-k.k (length c.args.text.now) c.loop-k.end (omega (arith, c.loop-k-test.true)) (c.loop-k.invariant.end low le h0)
+returns-then-state-eq-DEAD-clause-end c = c.loop-k.invariant.end
+
+pub returns-then-entry-eq-UNKNOWN-clause-stood : goal.returns-then-entry-eq-UNKNOWN-clause-stood
+returns-then-entry-eq-UNKNOWN-clause-stood c = c.loop-k.invariant.stood
 
 pub returns-then-entry-eq-UNKNOWN-clause-end : goal.returns-then-entry-eq-UNKNOWN-clause-end
 returns-then-entry-eq-UNKNOWN-clause-end c = c.loop-k.invariant.end
 
 pub returns-clause-end : goal.returns-clause-end
 returns-clause-end c = λ low le h0.
-    ends_within low c.loop-k.k (length c.args.text.now) c.loop-k.end (omega (arith, c.loop-k.auto.k-end, c.requires.within)) (c.loop-k.invariant.end low le h0)
+    ends_within low c.loop-k.k c.args.to c.loop-k.end (omega (arith, c.loop-k.auto.k-end, c.requires.order)) (c.loop-k.invariant.end low le h0)
+
+pub returns-clause-stood : goal.returns-clause-stood
+returns-clause-stood c = λ t from means enters h0.
+    let w : Cursor = record { place = c.loop-k.k; state = c.loop-k.state; end = c.loop-k.end } in
+    let w' : Cursor = record { place = c.args.to; state = c.loop-k.state; end = c.loop-k.end } in
+    stood_same c.args.self.now c.args.table.now c.args.text.now t from w w' (c.loop-k.invariant.stood t from means enters h0)
+    (omega (arith, c.loop-k.auto.k-end, c.requires.order)) refl refl
