@@ -12,6 +12,7 @@ use Rattle.awk_streams.specs.WorldState.{WorldState}
 use Rattle.awk_kinds.specs.Kinds.{Definition}
 use Rattle.awk_semantics.specs.declared.halt.Halt.{Halt}
 use Rattle.awk_semantics.specs.State.{Run, ◌>>=◌}
+use Rattle.awk_semantics.specs.Primitives.{is_inside}
 use Rattle.awk_semantics.specs.Operators.{operator_of}
 use Rattle.awk_semantics.specs.Semantics.{choose}
 use Rattle.awk_semantics.specs.Calls.{functions_within}
@@ -97,6 +98,20 @@ module _ {is_logged : Type 0} {plan : Plan} where
 
     pub matched_ends : {h : Halt} → Computes (v.RecordMatches ere) m (Err h) m' → Ends is_logged plan (AtNode (n.MatchRecord ere here other)) m k (Err h) m' k
     matched_ends c = tested_ends {node = n.MatchRecord ere here other} (λ p low. low) (λ tables ds b vs. refl) c
+
+  -- a test of a range, by its number
+
+  pub inside_on : {number here other i : ℕ} {m : Machine} {k : WorldState} {t : Bool} → i ≡ (if t then here else other) → Changes (is_inside number) m.runtime m.runtime (Ok t) → Moves is_logged plan (AtNode (n.TestInside number here other)) m k (move.On i) m k
+  inside_on {number = number} {here = here} {other = other} {m = m} {k = k} {t = t} at changes =
+      let left = m.operands.values in
+      subst (λ (j : ℕ). Moves is_logged plan (AtNode (n.TestInside number here other)) m k (move.On j) m k) (sym at) (record {
+        moves = record {
+          less = λ p low. chosen_below t low;
+          calls = refl;
+          leads = leads_on (λ tables functions. is_inside number) (λ tables ds b x. choose x (cont tables ds plan b here left) (cont tables ds plan b other left)) (λ tables ds b. refl)
+              (λ tables functions. change_simulates changes) (λ tables ds b. chosen_cont here other tables ds plan b t left) refl;
+        };
+      })
 
   -- a node that takes no value off the stack, and puts none on it
 

@@ -152,7 +152,6 @@ impl Machine {
             ValueNode::System => self.system(world),
             ValueNode::FlushAll => self.flush_all(world),
             ValueNode::Flush => self.flush(world),
-            ValueNode::IsInside(number) => self.is_inside(*number),
             ValueNode::Call(_, _) => unreachable!(),
         }
     }

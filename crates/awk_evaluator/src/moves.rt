@@ -99,6 +99,10 @@ impl Machine {
             Some(Node::MatchRecord(ere, here, other)) => {
                 toward(self.match_record(*ere), *here, *other)
             }
+            Some(Node::TestInside(number, here, other)) => {
+                let inside = self.runtime.is_inside(*number as usize);
+                Move::On(chosen(inside, *here, *other))
+            }
             Some(Node::Assign(operator, place, next)) => {
                 onward(self.assign_to(*operator, place), *next)
             }
@@ -153,7 +157,8 @@ impl Machine {
             Node::Exit => self.halt_by(Halt::Exit),
             Node::Value(_, _) | Node::Effect(_, _) | Node::Test(_, _) => unreachable!(),
             Node::CompareWith(_, _, _, _) | Node::Compare(_, _, _, _, _) => unreachable!(),
-            Node::MatchRecord(_, _, _) | Node::Assign(_, _, _) => unreachable!(),
+            Node::MatchRecord(_, _, _) | Node::TestInside(_, _, _) => unreachable!(),
+            Node::Assign(_, _, _) => unreachable!(),
             Node::Raise(_, _, _) | Node::Update(_, _, _, _) => unreachable!(),
             Node::Increment(_, _, _) | Node::Again(_) => unreachable!(),
             Node::Return | Node::End => unreachable!(),

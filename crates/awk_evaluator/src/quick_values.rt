@@ -6,7 +6,7 @@ ghost use Rattle.awk_value.specs.declared.value.Value.TheVariants.{Number};
 ghost use Rattle.awk_lex.specs.declared.token.BuiltIn.TheVariants.{Length};
 ghost use Rattle.awk_grammar.specs.declared.tree.BinaryOperator.TheVariants.{Infix};
 ghost use Rattle.awk_grammar.specs.declared.tree.UnaryOperator.TheVariants.{Minus as Negative};
-ghost use Rattle.awk_resolve.specs.declared.node.ValueNode.TheVariants.{Push, Read, Operate, OperateWith, OperateOn, Change, ReadField, ReadFieldAt, ReadElement, Contains, IsInside, Apply};
+ghost use Rattle.awk_resolve.specs.declared.node.ValueNode.TheVariants.{Push, Read, Operate, OperateWith, OperateOn, Change, ReadField, ReadFieldAt, ReadElement, Contains, Apply};
 ghost use Rattle.awk_evaluator.specs.Quick.{IsAtHand, Puts, Pushed};
 
 use crate::machine::Machine;
@@ -51,7 +51,6 @@ impl Machine {
             ValueNode::ReadFieldAt(number) => self.put_field_at(number),
             ValueNode::ReadElement(array) => self.put_element(*array),
             ValueNode::Contains(array) => self.put_contains(*array),
-            ValueNode::IsInside(number) => self.put_inside(*number),
             ValueNode::Apply(BuiltIn::Length, count) => self.put_length(*count),
             _ => false,
         }
@@ -302,17 +301,5 @@ impl Machine {
         };
         self.operands.replace(Value::Number(length));
         true
-    }
-
-    /// Puts whether a range is inside on the stack.
-    #[inline(always)]
-    fn put_inside(&mut self, number: u32) -> bool
-        ensures puts { result ≡ true → Puts (IsInside number) self.old self.new }
-        ensures kept { result ≡ false → self.new ≡ self.old }
-    {
-        if self.runtime.is_inside(number as usize) {
-            return self.put(1);
-        }
-        self.put(0)
     }
 }

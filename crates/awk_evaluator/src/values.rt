@@ -2,7 +2,7 @@
 
 ghost use Rattle.std.specs.Prelude.{◌≡◌, true, false, Ok, Err, IfErr};
 ghost use Rattle.awk_resolve.specs.Nodes.{operands};
-ghost use Rattle.awk_resolve.specs.declared.node.ValueNode.TheVariants.{Push, Read, RecordMatches, Operate, ConcatenateAll, MatchesEre, Change, ReadField, ReadElement, Contains, Key, FieldNumber, Assign, Append, PreIncrement, PostIncrement, Load, RecordLength, CountElements, IsInside, Apply};
+ghost use Rattle.awk_resolve.specs.declared.node.ValueNode.TheVariants.{Push, Read, RecordMatches, Operate, ConcatenateAll, MatchesEre, Change, ReadField, ReadElement, Contains, Key, FieldNumber, Assign, Append, PreIncrement, PostIncrement, Load, RecordLength, CountElements, Apply};
 ghost use Rattle.awk_evaluator.specs.Moves.{Computes, Done, came};
 ghost use Rattle.awk_evaluator.specs.Reading.{Appends};
 ghost use Rattle.awk_evaluator.specs.Quick.{Puts};
@@ -291,13 +291,6 @@ impl Machine {
         ensures { Computes (CountElements array) self.old result self.new }
     {
         Ok(self.runtime.count_elements_at(array))
-    }
-
-    /// Whether a range is inside, by the number of its item.
-    pub(crate) fn is_inside(&mut self, number: u32) -> Result<Value, Halt>
-        ensures { Computes (IsInside number) self.old result self.new }
-    {
-        Ok(truth_value(self.runtime.is_inside(number as usize)))
     }
 
     /// What a built-in function makes of so many operands.

@@ -18,7 +18,7 @@ use Rattle.awk_semantics.specs.declared.local.Local.{Local}
 use Rattle.awk_semantics.specs.declared.local.Local.TheVariants as local
 use Rattle.awk_semantics.specs.definitions.State.{Effect, State, Out, Run, go_on, ◌>>=◌, lift}
 use Rattle.awk_semantics.specs.definitions.Operators.{by_one, one, operator_of}
-use Rattle.awk_semantics.specs.definitions.Primitives.{read_element_at, store_element_at, has_element_at, delete_element_at, clear_array_at, array_length_at, keys_at, fill_array_at}
+use Rattle.awk_semantics.specs.definitions.Primitives.{read_element_at, store_element_at, has_element_at, delete_element_at, clear_array_at, array_length_at, keys_at, fill_array_at, is_inside}
 use Rattle.awk_semantics.specs.definitions.BuiltIns.{count_value}
 use Rattle.awk_semantics.specs.definitions.Streams.{Answer, ARecord, NoRecord, NotReadable}
 use Rattle.awk_semantics.specs.definitions.Semantics.{Functions}
@@ -116,6 +116,9 @@ clear_falls a = falls_at _ (λ s. (clear_array_at (number_at a s), kept_falls (k
 count_falls : (a : Array) → Falls (count_elements_at a)
 unfolding count_elements_at
 count_falls a = falls_at _ (λ s. ((array_length_at (number_at a s) >>= λ n. count_value n), then_falls _ (kept_falls (keeps_array_length_at (number_at a s))) (λ n. lift_falls _), refl))
+
+pub inside_falls : (i : ℕ) → Falls (is_inside i)
+inside_falls i = kept_falls (keeps_is_inside i)
 
 pub keys_falls : (a : Array) → Falls (keys_of_array a)
 unfolding keys_of_array
@@ -289,7 +292,6 @@ module _ (tables : Tables) where
     value_falls v.System vs = then_falls _ (kept_falls (keeps_run_command (str_of (first vs)))) (λ k. lift_falls _)
     value_falls v.FlushAll vs = kept_falls keeps_flush_outputs
     value_falls v.Flush vs = then_falls _ (kept_falls (keeps_flush_named (str_of (first vs)))) (λ k. lift_falls _)
-    value_falls (v.IsInside i) vs = then_falls _ (kept_falls (keeps_is_inside i)) (λ b. lift_falls _)
     value_falls (v.Call f fs) vs = call_falls _ fs.items _
 
     pub effect_falls : (x : EffectNode) (vs : List Value) → Falls (effect_of functions x vs)

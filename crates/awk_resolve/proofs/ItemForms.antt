@@ -1,5 +1,5 @@
 -- What is built of items does what they mean, and then what follows them.
-use Rattle.std.proofs.Common.{◌≡◌, ℕ, zero, suc, ◌<◌, Bool, true, false, not, List, [], ◌∷◌, ◌++◌, reverse, get_or, length, None, Ok, refl, sym, subst, ap, ◌∙◌, arith}
+use Rattle.std.proofs.Common.{◌≡◌, ℕ, zero, suc, ◌<◌, Bool, true, false, List, [], ◌∷◌, ◌++◌, reverse, get_or, length, None, Ok, refl, sym, subst, ap, ◌∙◌, arith}
 use Rattle.awk_value.specs.declared.value.Value.{Value}
 use Rattle.awk_value.specs.declared.value.Value.TheVariants as value
 use Rattle.awk_value.specs.Values.{truth_of}
@@ -13,17 +13,15 @@ use Rattle.awk_kinds.specs.definitions.Signatures.{ProgramKinds}
 use Rattle.awk_semantics.specs.declared.flow.Flow.{Flow}
 use Rattle.awk_semantics.specs.declared.flow.Flow.TheVariants as flow
 use Rattle.awk_semantics.specs.definitions.State.{State, Run, ◌>>=◌, ret}
-use Rattle.awk_semantics.specs.definitions.Operators.{truth_value}
 use Rattle.awk_semantics.specs.definitions.Primitives.{is_inside, set_inside}
 use Rattle.awk_semantics.specs.definitions.Semantics.{Functions, choose, tested, eval, eval_all, print as print_of, exec_simple, exec_all}
-use Rattle.awk_semantics.specs.definitions.Items.{run_action, in_range, go_through, selects, print_record, try_item, try_items, begin_item, begin_items, end_item, end_items}
+use Rattle.awk_semantics.specs.definitions.Items.{run_action, go_through, begin_range, selects, print_record, try_item, try_items, begin_item, begin_items, end_item, end_items}
 use Rattle.awk_semantics.specs.support.Keeps.{Keeps, CallsKeep}
-use Rattle.awk_semantics.proofs.KeepsForms.{keeps_is_inside, keeps_eval, law_of_keeping}
+use Rattle.awk_semantics.proofs.KeepsForms.{keeps_is_inside, keeps_set_inside, keeps_eval, law_of_keeping}
 use Rattle.awk_semantics.proofs.Keeping.{keeps_lift}
 use Rattle.awk_resolve.specs.declared.builder.Builder.{Builder}
 use Rattle.awk_resolve.specs.declared.node.Node.TheVariants as n
 use Rattle.awk_resolve.specs.declared.node.EffectNode.TheVariants as e
-use Rattle.awk_resolve.specs.declared.node.ValueNode.TheVariants as v
 use Rattle.awk_resolve.specs.definitions.Plans.{Meaning, begin_run, rules_run, end_run}
 use Rattle.awk_resolve.specs.support.Builds.{Grows, Pushes, Extends, IsIn, Program, EvaluateAll, Decide, Execute, ExecuteAll, leave_by, place_in, Places, Builds, Stands}
 use Rattle.awk_resolve.specs.support.Holding.{IsOver, IsAction, AddsPlace, Passes, Selects}
@@ -87,56 +85,48 @@ module _ {kinds : ProgramKinds} where
 
 -- patterns
 
-by_truth : (b : Bool) (here other : Run Value) (t : State) → choose (truth_of (truth_value b)) here other t ≡ choose b here other t
-by_truth true here other t = refl
-by_truth false here other t = refl
-
--- a range that is inside, or begins, is tested for its end
+-- a range that is inside is tested for its end, and another one for its beginning
 module _ (functions : Functions) (number : ℕ) (from to : Expr) (here other : Run Value) where
   abbrev chosen_by : Bool → Run Value
   chosen_by x = choose x here other
 
-  abbrev selected_by : Bool → Run Value
-  selected_by x = choose x (go_through functions number to) (ret false) >>= chosen_by
+  abbrev inside : Run Value
+  inside = go_through functions number to >>= chosen_by
 
-  through_then : (s : State) → (go_through functions number to >>= chosen_by) s ≡ (eval functions to >>= λ w. set_inside number (not (truth_of w)) >>= λ _. here) s
+  abbrev outside : Run Value
+  outside = begin_range functions number from to >>= chosen_by
+
+  ended_by : (b : Bool) (t : State) → ((choose b (set_inside number false) (ret tt) >>= λ _. ret true) >>= chosen_by) t ≡ choose b (set_inside number false >>= λ _. here) here t
+  ended_by true t = assoc_at (set_inside number false) (λ _. ret true) chosen_by t ∙ later_same (set_inside number false) _ _ t (λ _ u. given true chosen_by u)
+  ended_by false t = assoc_at (ret tt) (λ _. ret true) chosen_by t ∙ given tt (λ _. ret true >>= chosen_by) t ∙ given true chosen_by t
+
+  inside_then : (s : State) → inside s ≡ (eval functions to >>= λ w. choose (truth_of w) (set_inside number false >>= λ _. here) here) s
   unfolding go_through
-  through_then s =
-      assoc_at (tested (eval functions to)) (λ ends. set_inside number (not ends) >>= λ _. ret true) chosen_by s
-      ∙ tested_then (eval functions to) (λ ends. (set_inside number (not ends) >>= λ _. ret true) >>= chosen_by) s
-      ∙ later_same (eval functions to) _ _ s (λ w t. assoc_at (set_inside number (not (truth_of w))) (λ _. ret true) chosen_by t ∙ later_same (set_inside number (not (truth_of w))) _ _ t (λ _ u. given true chosen_by u))
+  inside_then s =
+      assoc_at (tested (eval functions to)) (λ ends. choose ends (set_inside number false) (ret tt) >>= λ _. ret true) chosen_by s
+      ∙ tested_then (eval functions to) (λ ends. (choose ends (set_inside number false) (ret tt) >>= λ _. ret true) >>= chosen_by) s
+      ∙ later_same (eval functions to) _ _ s (λ w t. ended_by (truth_of w) t)
 
-  begun : (b : Bool) (t : State) → (choose b (ret true) (tested (eval functions from)) >>= selected_by) t ≡ choose b (go_through functions number to >>= chosen_by) (eval functions from >>= λ w. selected_by (truth_of w)) t
-  begun true t = given true selected_by t
-  begun false t = tested_then (eval functions from) selected_by t
+  begun_by : (b : Bool) (t : State) → (choose b (set_inside number true >>= λ _. go_through functions number to) (ret false) >>= chosen_by) t ≡ choose b (set_inside number true >>= λ _. inside) other t
+  begun_by true t = assoc_at (set_inside number true) (λ _. go_through functions number to) chosen_by t
+  begun_by false t = given false chosen_by t
 
-  selected_then : (s : State) → (selects functions number (Range from to) >>= chosen_by) s ≡ (is_inside number >>= λ b. choose b (go_through functions number to >>= chosen_by) (eval functions from >>= λ w. selected_by (truth_of w))) s
-  unfolding selects in_range
+  outside_then : (s : State) → outside s ≡ (eval functions from >>= λ w. choose (truth_of w) (set_inside number true >>= λ _. inside) other) s
+  unfolding begin_range
+  outside_then s =
+      assoc_at (tested (eval functions from)) (λ begins. choose begins (set_inside number true >>= λ _. go_through functions number to) (ret false)) chosen_by s
+      ∙ tested_then (eval functions from) (λ begins. choose begins (set_inside number true >>= λ _. go_through functions number to) (ret false) >>= chosen_by) s
+      ∙ later_same (eval functions from) _ _ s (λ w t. begun_by (truth_of w) t)
+
+  either : (b : Bool) (t : State) → (choose b (go_through functions number to) (begin_range functions number from to) >>= chosen_by) t ≡ choose b inside outside t
+  either true t = refl
+  either false t = refl
+
+  selected_then : (s : State) → (selects functions number (Range from to) >>= chosen_by) s ≡ (is_inside number >>= λ b. choose b inside outside) s
+  unfolding selects
   selected_then s =
-      assoc_at (in_range functions number from) (λ x. choose x (go_through functions number to) (ret false)) chosen_by s
-      ∙ assoc_at (is_inside number) (λ inside. choose inside (ret true) (tested (eval functions from))) selected_by s
-      ∙ later_same (is_inside number) _ _ s begun
-
-  -- the nodes, from the last to the first
-
-  abbrev noted : (ends stays : Run Value) → Type 0
-  noted ends stays = ((t : State) → ends t ≡ (set_inside number false >>= λ _. here) t) × ((t : State) → stays t ≡ (set_inside number true >>= λ _. here) t)
-
-  noted_by : (ends stays : Run Value) → noted ends stays → (b : Bool) (t : State) → choose b ends stays t ≡ (set_inside number (not b) >>= λ _. here) t
-  noted_by ends stays h true t = h.0 t
-  noted_by ends stays h false t = h.1 t
-
-  begins_by : (through : Run Value) (b : Bool) (t : State) → through t ≡ (go_through functions number to >>= chosen_by) t → choose b through other t ≡ selected_by b t
-  begins_by through true t h = h
-  begins_by through false t h = sym (given false chosen_by t)
-
--- the node that asks whether a range is inside, and the test of what it gives
-asked : {kinds : ProgramKinds} {a b c d : Builder} {number through begins test i : ℕ} → Places kinds a b test (n.Test through begins) → Places kinds c d i (n.Value (v.IsInside number) test) → (p : Program kinds) → Grows b p.all → Grows d p.all → (m : ℕ) (vs : List Value) (s : State)
-    → place_in p m i vs s ≡ (is_inside number >>= λ b. choose b (place_in p m through vs) (place_in p m begins vs)) s
-asked {number = number} {through = through} {begins = begins} {test = test} t o p g g' m vs s =
-    at_once (o.is p g' m) vs s
-    ∙ assoc_at (is_inside number) (λ b. ret (truth_value b)) (λ w. place_in p m test (w ∷ vs)) s
-    ∙ later_same (is_inside number) _ _ s (λ b u. given (truth_value b) (λ w. place_in p m test (w ∷ vs)) u ∙ at_once (t.is p g m) (truth_value b ∷ vs) u ∙ by_truth b (place_in p m through vs) (place_in p m begins vs) u)
+      assoc_at (is_inside number) (λ b. choose b (go_through functions number to) (begin_range functions number from to)) chosen_by s
+      ∙ later_same (is_inside number) _ _ s either
 
 module _ {kinds : ProgramKinds} where
   pub single_selects : {a b : Builder} {i number here other : ℕ} {x : Expr} → Builds kinds [] a b i (Decide x here other) → Selects kinds a b i number (Single x) here other
@@ -147,32 +137,30 @@ module _ {kinds : ProgramKinds} where
     is = λ p g m vs s i. q.is p g m vs s i ∙ sym (tested_then (eval p.functions x) (λ y. choose y (place_in p m here vs) (place_in p m other vs)) s);
   }
 
-  pub range_selects : {a b c d f g h : Builder} {number ends stays through begins test i here other : ℕ} {from to : Expr} → Stands here a → Pushes a b (n.Effect (e.SetInside number false) here) ends → Pushes b c (n.Effect (e.SetInside number true) here) stays
-      → Builds kinds [] c d through (Decide to ends stays) → Builds kinds [] d f begins (Decide from through other) → Pushes f g (n.Test through begins) test → Pushes g h (n.Value (v.IsInside number) test) i
-      → Selects kinds a h i number (Range from to) here other
-  range_selects {number = number} {ends = ends} {stays = stays} {through = through} {begins = begins} {test = test} {here = here} {other = other} {from = from} {to = to} stand at_ends at_stays ending beginning at_test at_inside =
+  pub range_selects : {a b c d f g : Builder} {number ends through begins outside i here other : ℕ} {from to : Expr} → Stands here a → Pushes a b (n.Effect (e.SetInside number false) here) ends → Builds kinds [] b c through (Decide to ends here)
+      → Pushes c d (n.Effect (e.SetInside number true) through) begins → Builds kinds [] d f outside (Decide from begins other) → Pushes f g (n.TestInside number through outside) i → Selects kinds a g i number (Range from to) here other
+  range_selects {number = number} {ends = ends} {through = through} {begins = begins} {outside = at_outside} {here = here} {other = other} {from = from} {to = to} stand at_ends ending at_begins beginning at_test =
       let ends_placed = placed {kinds = kinds} at_ends stand.below in
-      let stays_placed = placed {kinds = kinds} at_stays (longer here ends_placed.extends.grows stand.below) in
-      let test_placed = placed {kinds = kinds} at_test (longer through beginning.extends.grows ending.below, beginning.below) in
-      let inside_placed = placed {kinds = kinds} at_inside test_placed.below in
-      let last : Grows _ _ = grows test_placed.extends.grows inside_placed.extends.grows in
+      let begins_placed = placed {kinds = kinds} at_begins ending.below in
+      let test_placed = placed {kinds = kinds} at_test (longer through (grows begins_placed.extends.grows beginning.extends.grows) ending.below, beginning.below) in
       record {
-        grows = grows ends_placed.extends.grows (grows stays_placed.extends.grows (grows ending.extends.grows (grows beginning.extends.grows last)));
-        stands = record { below = inside_placed.below; pos = (let k = inside_placed.fresh in let l = test_placed.below in omega (arith, k, l)) };
+        grows = grows ends_placed.extends.grows (grows ending.extends.grows (grows begins_placed.extends.grows (grows beginning.extends.grows test_placed.extends.grows)));
+        stands = record { below = test_placed.below; pos = (let k = test_placed.fresh in let l = beginning.below in omega (arith, k, l)) };
         is = λ p k m vs s i.
-            let behind_begins = grows last k in
-            let behind_through = grows beginning.extends.grows behind_begins in
-            let behind_stays = grows ending.extends.grows behind_through in
-            let behind_ends = grows stays_placed.extends.grows behind_stays in
+            let behind_outside = grows test_placed.extends.grows k in
+            let behind_begins = grows beginning.extends.grows behind_outside in
+            let behind_through = grows begins_placed.extends.grows behind_begins in
+            let behind_ends = grows ending.extends.grows behind_through in
             let h : Run Value = place_in p m here vs in
             let o : Run Value = place_in p m other vs in
-            let notes : noted p.functions number from to h o (place_in p m ends vs) (place_in p m stays vs) = (λ t. at_once (ends_placed.is p behind_ends m) vs t, λ t. at_once (stays_placed.is p behind_stays m) vs t) in
-            let goes : (t : State) → IsIn p.tables [] m t → place_in p m through vs t ≡ (go_through p.functions number to >>= chosen_by p.functions number from to h o) t =
-            λ t j. ending.is p behind_through m vs t j ∙ later_same (eval p.functions to) _ _ t (λ w u. noted_by p.functions number from to h o (place_in p m ends vs) (place_in p m stays vs) notes (truth_of w) u) ∙ sym (through_then p.functions number from to h o t) in
-            let starts : (t : State) → IsIn p.tables [] m t → place_in p m begins vs t ≡ (eval p.functions from >>= λ w. selected_by p.functions number from to h o (truth_of w)) t =
-            λ t j. beginning.is p behind_begins m vs t j ∙ later_in _ _ t m (keeps_eval p.functions p.calls.keep from) j (λ w u l. begins_by p.functions number from to h o (place_in p m through vs) (truth_of w) u (goes u l)) in
-            asked test_placed inside_placed p (grows inside_placed.extends.grows k) k m vs s
-            ∙ later_in _ _ s m (keeps_is_inside number) i (λ b t j. both b _ _ _ _ t (goes t j) (starts t j))
+            let goes : (t : State) → IsIn p.tables [] m t → place_in p m through vs t ≡ inside p.functions number from to h o t =
+            λ t j. ending.is p behind_through m vs t j ∙ later_same (eval p.functions to) _ _ t (λ w u. both (truth_of w) _ _ _ _ u (at_once (ends_placed.is p behind_ends m) vs u) refl) ∙ sym (inside_then p.functions number from to h o t) in
+            let starts : (t : State) → IsIn p.tables [] m t → place_in p m begins vs t ≡ (set_inside number true >>= λ _. inside p.functions number from to h o) t =
+            λ t j. at_once (begins_placed.is p behind_begins m) vs t ∙ later_in _ _ t m (keeps_set_inside number true) j (λ _ u l. goes u l) in
+            let begun : (t : State) → IsIn p.tables [] m t → place_in p m at_outside vs t ≡ outside p.functions number from to h o t =
+            λ t j. beginning.is p behind_outside m vs t j ∙ later_in _ _ t m (keeps_eval p.functions p.calls.keep from) j (λ w u l. both (truth_of w) _ _ _ _ u (starts u l) refl) ∙ sym (outside_then p.functions number from to h o t) in
+            at_once (test_placed.is p k m) vs s
+            ∙ later_in _ _ s m (keeps_is_inside number) i (λ b t j. both b _ _ _ _ t (goes t j) (begun t j))
             ∙ sym (selected_then p.functions number from to h o s);
       }
 

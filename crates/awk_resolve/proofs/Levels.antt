@@ -12,7 +12,7 @@ use Rattle.awk_resolve.specs.declared.node.Node.{Node}
 use Rattle.awk_resolve.specs.declared.node.Node.TheVariants as node
 use Rattle.awk_resolve.specs.definitions.Nodes.{Tables, Cont, nothing, first, second, taken, popped, dropped, walk_values, keys_left, next_key_by, made, conts, level, cont_at}
 use Rattle.awk_resolve.proofs.Calculus.{later_falls}
-use Rattle.awk_resolve.proofs.Falling.{Falls, value_falls, effect_falls, keys_falls, put_variable_falls, operated_with_falls, operated_on_falls, append_to_falls, print_field_falls, update_falls, increment_falls}
+use Rattle.awk_resolve.proofs.Falling.{Falls, value_falls, effect_falls, inside_falls, keys_falls, put_variable_falls, operated_with_falls, operated_on_falls, append_to_falls, print_field_falls, update_falls, increment_falls}
 
 abbrev Agree : ℕ → Cont → Cont → Type 0
 Agree n f g = (vs : List Value) (s : State) → s.steps ≤ n → f vs s ≡ g vs s
@@ -50,6 +50,7 @@ module _ (tables : Tables) (functions : Functions) (calls : CallsKeep functions)
     made_agrees f g e (node.CompareWith o b here other) vs s low = later_low _ _ s n (operated_with_falls tables.names o (first vs) b) low (λ x t h. chosen (truth_of x) _ _ _ _ t (e here (drop 1 vs) t h) (e other (drop 1 vs) t h))
     made_agrees f g e (node.Compare o a b here other) vs s low = later_low _ _ s n (operated_on_falls tables.names o a b) low (λ x t h. chosen (truth_of x) _ _ _ _ t (e here vs t h) (e other vs t h))
     made_agrees f g e (node.MatchRecord i here other) vs s low = later_low _ _ s n (value_falls tables functions calls (v.RecordMatches i) vs) low (λ x t h. chosen (truth_of x) _ _ _ _ t (e here vs t h) (e other vs t h))
+    made_agrees f g e (node.TestInside i here other) vs s low = later_low _ _ s n (inside_falls i) low (λ b t h. chosen b _ _ _ _ t (e here vs t h) (e other vs t h))
     made_agrees f g e (node.Assign o p k) vs s low = later_low _ _ s n (value_falls tables functions calls (v.Assign o p) vs) low (λ _ t h. e k (drop (popped (v.Assign o p)) vs) t h)
     made_agrees f g e (node.Raise o p k) vs s low = later_low _ _ s n (value_falls tables functions calls (v.PostIncrement o p) vs) low (λ _ t h. e k (drop (popped (v.PostIncrement o p)) vs) t h)
     made_agrees f g e (node.Update o x a k) vs s low = later_low _ _ s n (update_falls tables.names o x a) low (λ _ t h. e k vs t h)

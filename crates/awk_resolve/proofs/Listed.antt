@@ -3,6 +3,7 @@ use Rattle.std.proofs.Common.{◌≡◌, ℕ, zero, suc, ◌+◌, ◌-◌, ◌<�
 use Rattle.awk_value.specs.declared.value.Value.TheVariants as value
 use Rattle.awk_value.specs.Values.{truth_of}
 use Rattle.awk_semantics.specs.definitions.State.{◌>>=◌}
+use Rattle.awk_semantics.specs.definitions.Primitives.{is_inside}
 use Rattle.awk_semantics.specs.definitions.Semantics.{Functions, choose}
 use Rattle.awk_storage.specs.definitions.Positions.{put_variable}
 use Rattle.awk_storage.specs.definitions.Forms.{keys_of_array}
@@ -46,6 +47,7 @@ module _ (tables : Tables) (functions : Functions) (again : ℕ → Cont) where
   made_alike f g k same (n.CompareWith o b here other) h = λ j vs. operated_with tables.names o (first vs) b >>= λ x. choose (truth_of x) (same here h.0 j (drop 1 vs)) (same other h.1 j (drop 1 vs))
   made_alike f g k same (n.Compare o a b here other) h = λ j vs. operated_on tables.names o a b >>= λ x. choose (truth_of x) (same here h.0 j vs) (same other h.1 j vs)
   made_alike f g k same (n.MatchRecord i here other) h = λ j vs. value_of tables functions (v.RecordMatches i) vs >>= λ x. choose (truth_of x) (same here h.0 j vs) (same other h.1 j vs)
+  made_alike f g k same (n.TestInside i here other) h = λ j vs. is_inside i >>= λ inside. choose inside (same here h.0 j vs) (same other h.1 j vs)
   made_alike f g k same (n.Assign o p i) h = λ j vs. value_of tables functions (v.Assign o p) vs >>= λ _. same i h j (drop (popped (v.Assign o p)) vs)
   made_alike f g k same (n.Raise o p i) h = λ j vs. value_of tables functions (v.PostIncrement o p) vs >>= λ _. same i h j (drop (popped (v.PostIncrement o p)) vs)
   made_alike f g k same (n.Update o x a i) h = λ j vs. update tables.names o x a >>= λ _. same i h j vs

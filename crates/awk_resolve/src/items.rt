@@ -11,7 +11,7 @@ ghost use Rattle.awk_resolve.specs.support.Holding.{IsOver, IsAction, AddsPlace,
 ghost use Rattle.awk_resolve.specs.support.Scopes.{Builds};
 
 use crate::builder::{Builder, Exits, next_number};
-use crate::node::{EffectNode, Node, ValueNode};
+use crate::node::{EffectNode, Node};
 use crate::scope::Scope;
 use awk_grammar::tree::{Expr, Item, Pattern, PrintForm, Statement};
 use awk_kinds::Kinds;
@@ -81,7 +81,7 @@ impl Builder {
         self.step(print)
     }
 
-    /// A range, by the number of its item: inside it, or where it begins, its second expression tells whether it ends.
+    /// A range, by the number of its item: it is inside from where it begins, and its second expression tells where it ends.
     fn lower_range(
         &mut self,
         kinds: &Kinds,
@@ -100,11 +100,10 @@ impl Builder {
             parameters: None,
         };
         let ends = self.push(Node::Effect(EffectNode::SetInside(number, false), here))?;
-        let stays = self.push(Node::Effect(EffectNode::SetInside(number, true), here))?;
-        let through = self.lower_test(&scope, to, ends, stays)?;
-        let begins = self.lower_test(&scope, from, through, other)?;
-        let test = self.push(Node::Test(through, begins))?;
-        self.push_value(ValueNode::IsInside(number), test)
+        let through = self.lower_test(&scope, to, ends, here)?;
+        let begins = self.push(Node::Effect(EffectNode::SetInside(number, true), through))?;
+        let outside = self.lower_test(&scope, from, begins, other)?;
+        self.push(Node::TestInside(number, through, outside))
     }
 
     /// A pattern, by the number of its item: at one place it goes on where the record is selected, and at the other one where it isn't.

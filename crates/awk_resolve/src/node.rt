@@ -85,8 +85,6 @@ pub enum ValueNode {
     FlushAll,
     /// Flushes each output whose name is a value.
     Flush,
-    /// Whether a range is inside, by the number of its item.
-    IsInside(u32),
     /// A call of a function of the program, by its number.
     Call(u32, Vec<ArgumentForm>),
 }
@@ -121,6 +119,8 @@ pub enum Node {
     Compare(BinaryOperator, Operand, Operand, u32, u32),
     /// The same of whether the record has a match of an ERE of the program.
     MatchRecord(u32, u32, u32),
+    /// The same of whether a range is inside, by the number of its item.
+    TestInside(u32, u32, u32),
     /// Assigns the topmost value to a place, whose operand lies below it; both are taken off.
     Assign(AssignmentOperator, Place, u32),
     /// Raises or lowers the number of a place by 1, and takes the operand of the place off.

@@ -1,5 +1,5 @@
 -- A property that the plain runs have, and that goes on from one run to the next, is had by all that the forms make.
-use Rattle.std.proofs.Common.{◌≡◌, ℕ, zero, suc, Bool, true, false, not, List, [], ◌∷◌, ◌++◌, drop, Option, Some, None, Result, Ok, Err, refl}
+use Rattle.std.proofs.Common.{◌≡◌, ℕ, zero, suc, Bool, true, false, List, [], ◌∷◌, ◌++◌, drop, Option, Some, None, Result, Ok, Err, refl}
 use Rattle.awk_value.specs.declared.value.Value.{Value}
 use Rattle.awk_value.specs.declared.value.Value.TheVariants as value
 use Rattle.awk_value.specs.Values.{truth_of, str_of}
@@ -21,7 +21,7 @@ use Rattle.awk_semantics.specs.definitions.Primitives.{format_values}
 use Rattle.awk_semantics.specs.definitions.Places.{Place}
 use Rattle.awk_semantics.specs.definitions.BuiltIns.{Role, AsValue, AsPattern, AsArray, AsPlace, AsMeasured, Argument, roles_of, next_role, ere_or, bare_name, array_or_value, array_named_or, taken_as}
 use Rattle.awk_semantics.specs.definitions.Semantics.{Functions, right_operand, tested, choose, combined, call_with, getline_from, eval, place_of, key_of, take_arguments, optional_place, optional_value, eval_all, printed_values, target_of, print_by, print, begin_test, exit_with, returned_value, exec_simple, exec_part, goes_on, ending, turn, unless_ended, repeat_within, repeat, walk, pass_on, exec, exec_all}
-use Rattle.awk_semantics.specs.definitions.Items.{run_action, in_range, go_through, selects, print_record, try_item, try_items, begin_item, begin_items, end_item, end_items}
+use Rattle.awk_semantics.specs.definitions.Items.{run_action, go_through, begin_range, selects, print_record, try_item, try_items, begin_item, begin_items, end_item, end_items}
 use Rattle.awk_semantics.proofs.OwnValues.{Own, changed_own, applied_own, format_own}
 use Rattle.awk_semantics.proofs.PlainRuns.{Plain, lift_plain, spend_plain, number_plain, field_plain, text_plain, name_plain, put_plain, element_plain, has_plain, delete_plain, clear_plain, is_array_plain, keys_plain, key_plain, height_plain, bytes_plain, line_plain, inside_plain, set_inside_plain, status_plain, locals_plain, target_plain, close_main_plain}
 use Rattle.awk_semantics.proofs.PlainParts.{read_plain, assign_by_plain, post_plain, main_getline_plain, named_getline_plain, record_length_plain, built_in_plain}
@@ -320,18 +320,18 @@ module _ (P : (A : Type 0) → Run A → Type 0) (closed : GoesOn P) where
     unfolding run_action
     action_holds all = then_holds (exec_all_holds all) (λ f. ret_holds tt)
 
-    pub in_range_holds : (n : ℕ) (from : Expr) → P _ (in_range functions n from)
-    unfolding in_range
-    in_range_holds n from = after (inside_plain n) (λ inside. choose_holds inside (ret_holds true) (tested_holds (eval_holds from)))
-
     pub through_holds : (n : ℕ) (to : Expr) → P _ (go_through functions n to)
     unfolding go_through
-    through_holds n to = then_holds (tested_holds (eval_holds to)) (λ ends. after (set_inside_plain n (not ends)) (λ _. ret_holds true))
+    through_holds n to = then_holds (tested_holds (eval_holds to)) (λ ends. then_holds (choose_holds ends (plain_holds (set_inside_plain n false)) (ret_holds tt)) (λ _. ret_holds true))
+
+    pub begin_range_holds : (n : ℕ) (from to : Expr) → P _ (begin_range functions n from to)
+    unfolding begin_range
+    begin_range_holds n from to = then_holds (tested_holds (eval_holds from)) (λ begins. choose_holds begins (after (set_inside_plain n true) (λ _. through_holds n to)) (ret_holds false))
 
     pub selects_holds : (n : ℕ) (p : Pattern) → P _ (selects functions n p)
     unfolding selects
     selects_holds n (Single e) = tested_holds (eval_holds e)
-    selects_holds n (Range from to) = then_holds (in_range_holds n from) (λ x. choose_holds x (through_holds n to) (ret_holds false))
+    selects_holds n (Range from to) = after (inside_plain n) (λ inside. choose_holds inside (through_holds n to) (begin_range_holds n from to))
 
     pub print_record_holds : P _ (print_record functions)
     unfolding print_record

@@ -19,7 +19,7 @@ use Rattle.awk_semantics.specs.definitions.Inputs.{next_record}
 use Rattle.awk_semantics.specs.definitions.Places.{Place, read_place, store, assign, assign_by, post_increment, main_getline, named_getline}
 use Rattle.awk_semantics.specs.definitions.BuiltIns.{Role, Argument, taken_as, locals_of, note_match, separator_for, split_into, exchange, record_length, count_elements, flush_outputs, apply_built_in}
 use Rattle.awk_semantics.specs.definitions.Semantics.{Functions, right_operand, tested, choose, combined, call_with, getline_from, eval, place_of, key_of, take_arguments, optional_place, optional_value, eval_all, printed_values, target_of, print_by, print, begin_test, exit_with, returned_value, exec_simple, exec_part, goes_on, turn, unless_ended, repeat_within, repeat, walk, pass_on, exec, exec_all}
-use Rattle.awk_semantics.specs.definitions.Items.{begin_record, run_action, in_range, go_through, selects, print_record, try_item, try_items, begin_items, end_items}
+use Rattle.awk_semantics.specs.definitions.Items.{begin_record, run_action, go_through, begin_range, selects, print_record, try_item, try_items, begin_items, end_items}
 use Rattle.awk_world.specs.declared.world.InputKind.TheVariants as input
 use Rattle.awk_kinds.specs.declared.special.Special.TheVariants.{Nr, Fnr}
 use Rattle.awk_value.specs.Values.{str_of}
@@ -27,7 +27,7 @@ use Rattle.awk_semantics.specs.support.Keeps.{Keeps, CallsKeep}
 use Rattle.awk_semantics.specs.support.LawOfKeeping.{SequenceKeeps, ResultKeeps, ChoiceKeeps, LawOfKeeping}
 use Rattle.awk_semantics.proofs.PlainRuns.{spend_plain, number_plain, field_plain, text_plain, set_plain, outside_name_plain, name_plain, set_field_plain, put_outside_plain, put_plain, put_special_plain, count_in_plain, element_at_plain, store_element_at_plain, has_at_plain, delete_at_plain, clear_at_plain, length_at_plain, keys_at_plain, fill_at_plain, element_plain, store_element_plain, has_plain, delete_plain, clear_plain, length_plain, is_array_plain, keys_plain, fill_plain, key_plain, separator_plain, locals_plain, height_plain, bytes_plain, line_plain, inside_plain, set_inside_plain, status_plain, target_plain, close_main_plain, close_named_plain, run_command_plain, flush_all_plain, flush_named_plain}
 use Rattle.awk_semantics.proofs.PlainParts.{next_plain, read_plain, store_plain, assign_place_plain, assign_by_plain, post_plain, main_getline_plain, named_getline_plain, note_match_plain, separator_for_plain, split_into_plain, exchange_plain, record_length_plain, count_elements_plain, flush_outputs_plain, built_in_plain}
-use Rattle.awk_semantics.proofs.Forms.{choose_holds, eval_holds, place_of_holds, key_of_holds, take_arguments_holds, optional_place_holds, optional_value_holds, call_holds, values_holds, printed_holds, output_holds, print_by_holds, print_holds, begin_test_holds, exit_holds, returned_holds, simple_holds, part_holds, goes_on_holds, exec_holds, exec_all_holds, action_holds, in_range_holds, through_holds, selects_holds, print_record_holds, item_holds, items_holds, begin_items_holds, end_items_holds, right_holds, taken_as_holds, tested_holds, combined_holds, turn_holds, unless_ended_holds, repeat_within_holds, repeat_holds, walk_holds, pass_holds}
+use Rattle.awk_semantics.proofs.Forms.{choose_holds, eval_holds, place_of_holds, key_of_holds, take_arguments_holds, optional_place_holds, optional_value_holds, call_holds, values_holds, printed_holds, output_holds, print_by_holds, print_holds, begin_test_holds, exit_holds, returned_holds, simple_holds, part_holds, goes_on_holds, exec_holds, exec_all_holds, action_holds, through_holds, begin_range_holds, selects_holds, print_record_holds, item_holds, items_holds, begin_items_holds, end_items_holds, right_holds, taken_as_holds, tested_holds, combined_holds, turn_holds, unless_ended_holds, repeat_within_holds, repeat_holds, walk_holds, pass_holds}
 use Rattle.awk_semantics.proofs.Keeping.{keeps_bind, keeps_lift, keeps_plain, keeps_closed, keeps_call_by, keeps_call_within}
 
 abbrev Kept : (A : Type 0) → Run A → Type 0
@@ -324,11 +324,11 @@ module _ (functions : Functions) (calls : CallsKeep functions) where
   pub keeps_run_action : (all : Statements) → Keeps (run_action functions all)
   keeps_run_action all = action_holds Kept keeps_closed functions calls all
 
-  pub keeps_in_range : (n : ℕ) (from : Expr) → Keeps (in_range functions n from)
-  keeps_in_range n from = in_range_holds Kept keeps_closed functions calls n from
-
   pub keeps_go_through : (n : ℕ) (to : Expr) → Keeps (go_through functions n to)
   keeps_go_through n to = through_holds Kept keeps_closed functions calls n to
+
+  pub keeps_begin_range : (n : ℕ) (from to : Expr) → Keeps (begin_range functions n from to)
+  keeps_begin_range n from to = begin_range_holds Kept keeps_closed functions calls n from to
 
   pub keeps_selects : (n : ℕ) (p : Pattern) → Keeps (selects functions n p)
   keeps_selects n p = selects_holds Kept keeps_closed functions calls n p
@@ -457,8 +457,8 @@ law_of_keeping = record {
     exec = keeps_exec functions calls;
     exec_all = keeps_exec_all functions calls;
     run_action = keeps_run_action functions calls;
-    in_range = keeps_in_range functions calls;
     go_through = keeps_go_through functions calls;
+    begin_range = keeps_begin_range functions calls;
     selects = keeps_selects functions calls;
     print_record = keeps_print_record functions calls;
     try_item = keeps_try_item functions calls;

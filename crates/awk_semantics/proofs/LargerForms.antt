@@ -1,5 +1,5 @@
 -- The forms of the language do with more steps what they do with less.
-use Rattle.std.proofs.Common.{ℕ, zero, suc, ◌+◌, ◌≤◌, Bool, true, false, not, List, [], ◌∷◌, ◌++◌, drop, Option, Some, None, Ok, Err, arith}
+use Rattle.std.proofs.Common.{ℕ, zero, suc, ◌+◌, ◌≤◌, Bool, true, false, List, [], ◌∷◌, ◌++◌, drop, Option, Some, None, Ok, Err, arith}
 use Rattle.awk_value.specs.declared.value.Value.{Value}
 use Rattle.awk_value.specs.declared.value.Value.TheVariants as value
 use Rattle.awk_value.specs.Values.{truth_of, str_of}
@@ -22,7 +22,7 @@ use Rattle.awk_semantics.specs.definitions.Places.{Place}
 use Rattle.awk_semantics.specs.definitions.BuiltIns.{Role, AsValue, AsPattern, AsArray, AsPlace, AsMeasured, Argument, roles_of, next_role, ere_or, bare_name, array_or_value, array_named_or, taken_as}
 use Rattle.awk_semantics.specs.definitions.Semantics.{Functions, right_operand, tested, choose, combined, call_with, getline_from, eval, place_of, key_of, take_arguments, optional_place, optional_value, eval_all, printed_values, target_of, print_by, print, begin_test, exit_with, returned_value, exec_simple, exec_part, goes_on, ending, turn, unless_ended, repeat_within, repeat, walk, pass_on, exec, exec_all}
 use Rattle.awk_semantics.specs.definitions.Calls.{functions_by}
-use Rattle.awk_semantics.specs.definitions.Items.{run_action, in_range, go_through, selects, print_record, try_item, try_items, begin_item, begin_items, end_item, end_items}
+use Rattle.awk_semantics.specs.definitions.Items.{run_action, go_through, begin_range, selects, print_record, try_item, try_items, begin_item, begin_items, end_item, end_items}
 use Rattle.awk_semantics.proofs.Larger.{Larger, then_larger, steps_larger, lift_larger, spend_larger, number_larger, field_larger, text_larger, name_larger, put_larger, element_larger, has_larger, delete_larger, clear_larger, is_array_larger, keys_larger, key_larger, height_larger, bytes_larger, line_larger, inside_larger, set_inside_larger, status_larger, locals_larger, target_larger, close_main_larger}
 use Rattle.awk_semantics.proofs.LargerParts.{read_larger, assign_by_larger, post_larger, main_getline_larger, named_getline_larger, record_length_larger, built_in_larger}
 
@@ -317,18 +317,18 @@ module _ (ds : List Definition) (call call' : List ℕ → List Local → Run Va
   unfolding run_action
   action_larger all = then_larger _ _ (exec_all_larger all) (λ f. lift_larger (Ok tt))
 
-  pub in_range_larger : (n : ℕ) (from : Expr) → Larger (in_range less' n from) (in_range more' n from)
-  unfolding in_range
-  in_range_larger n from = then_larger _ _ (inside_larger n) (λ inside. choose_larger inside (lift_larger (Ok true)) (tested_larger (eval_larger ds call call' h from)))
-
   pub through_larger : (n : ℕ) (to : Expr) → Larger (go_through less' n to) (go_through more' n to)
   unfolding go_through
-  through_larger n to = then_larger _ _ (tested_larger (eval_larger ds call call' h to)) (λ ends. then_larger _ _ (set_inside_larger n (not ends)) (λ _. lift_larger (Ok true)))
+  through_larger n to = then_larger _ _ (tested_larger (eval_larger ds call call' h to)) (λ ends. then_larger _ _ (choose_larger ends (set_inside_larger n false) (lift_larger (Ok tt))) (λ _. lift_larger (Ok true)))
+
+  pub begin_range_larger : (n : ℕ) (from to : Expr) → Larger (begin_range less' n from to) (begin_range more' n from to)
+  unfolding begin_range
+  begin_range_larger n from to = then_larger _ _ (tested_larger (eval_larger ds call call' h from)) (λ begins. choose_larger begins (then_larger _ _ (set_inside_larger n true) (λ _. through_larger n to)) (lift_larger (Ok false)))
 
   pub selects_larger : (n : ℕ) (p : Pattern) → Larger (selects less' n p) (selects more' n p)
   unfolding selects
   selects_larger n (Single e) = tested_larger (eval_larger ds call call' h e)
-  selects_larger n (Range from to) = then_larger _ _ (in_range_larger n from) (λ x. choose_larger x (through_larger n to) (lift_larger (Ok false)))
+  selects_larger n (Range from to) = then_larger _ _ (inside_larger n) (λ inside. choose_larger inside (through_larger n to) (begin_range_larger n from to))
 
   pub print_record_larger : Larger (print_record less') (print_record more')
   unfolding print_record

@@ -204,7 +204,6 @@ module _ (tables : Tables) where
   value_of functions v.System vs = run_command (str_of (first vs)) >>= λ k. ret (value.Number k)
   value_of functions v.FlushAll vs = flush_outputs
   value_of functions v.Flush vs = flush_named (str_of (first vs)) >>= λ k. ret (value.Number k)
-  value_of functions (v.IsInside i) vs = is_inside i >>= λ b. ret (truth_value b)
   value_of functions (v.Call f fs) vs = call_at functions (function_at tables f) fs.items (taken (values_among fs.items) vs)
 
 -- how many values a substitution takes
@@ -257,7 +256,6 @@ popped v.Close = 1
 popped v.System = 1
 popped v.FlushAll = 0
 popped v.Flush = 1
-popped (v.IsInside i) = 0
 popped (v.Call f fs) = values_among fs.items
 
 -- the opening that a print prints to; the name of a redirection's target is the topmost value
@@ -312,6 +310,7 @@ module _ (tables : Tables) (functions : Functions) (again : ℕ → Cont) where
   made at (n.CompareWith o b here other) = λ vs. operated_with tables.names o (first vs) b >>= λ x. choose (truth_of x) (at here (drop 1 vs)) (at other (drop 1 vs))
   made at (n.Compare o a b here other) = λ vs. operated_on tables.names o a b >>= λ x. choose (truth_of x) (at here vs) (at other vs)
   made at (n.MatchRecord i here other) = λ vs. value_of tables functions (v.RecordMatches i) vs >>= λ x. choose (truth_of x) (at here vs) (at other vs)
+  made at (n.TestInside i here other) = λ vs. is_inside i >>= λ inside. choose inside (at here vs) (at other vs)
   made at (n.Assign o p k) = λ vs. value_of tables functions (v.Assign o p) vs >>= λ _. at k (drop (popped (v.Assign o p)) vs)
   made at (n.Raise o p k) = λ vs. value_of tables functions (v.PostIncrement o p) vs >>= λ _. at k (drop (popped (v.PostIncrement o p)) vs)
   made at (n.Update o x a k) = λ vs. update tables.names o x a >>= λ _. at k vs
@@ -349,6 +348,7 @@ AreBelow at (n.Test here other) = (here < at) × (other < at)
 AreBelow at (n.CompareWith o b here other) = (here < at) × (other < at)
 AreBelow at (n.Compare o a b here other) = (here < at) × (other < at)
 AreBelow at (n.MatchRecord i here other) = (here < at) × (other < at)
+AreBelow at (n.TestInside i here other) = (here < at) × (other < at)
 AreBelow at (n.Assign o p k) = k < at
 AreBelow at (n.Raise o p k) = k < at
 AreBelow at (n.Update o x a k) = k < at

@@ -1,6 +1,6 @@
 -- The semantics of items: the actions before all records, those on each record, and those behind them
 -- (POSIX awk, Overall Program Structure; Patterns).
-use Rattle.std.specs.Prelude.{ℕ, zero, suc, Bool, true, false, not, ◌||◌, List, [], ◌∷◌, Option, Some, None, Result, Ok, Err}
+use Rattle.std.specs.Prelude.{ℕ, zero, suc, Bool, true, false, ◌||◌, List, [], ◌∷◌, Option, Some, None, Result, Ok, Err}
 use Rattle.awk_grammar.specs.Tree.{Expr, Bare, Nil, Standard, Statements, Pattern, Single, Range, Item, Begin, End, Action, PatternAction, PatternOnly, Function}
 use Rattle.awk_grammar.specs.declared.tree.PrintForm.TheVariants as form
 use Rattle.awk_semantics.specs.declared.halt.Halt.{Halt}
@@ -62,18 +62,18 @@ module _ (functions : Functions) where
   unfoldable pub run_action : Statements → Run (Unit {0})
   run_action all = exec_all functions all >>= λ f. ret tt
 
-  -- whether the record is in a range: it is inside already, or begins on it
-  unfoldable pub in_range : ℕ → Expr → Run Bool
-  in_range n from = is_inside n >>= λ inside. choose inside (ret true) (tested (eval functions from))
-
-  -- whether a range that is entered on this record is inside behind it: its second expression is tested on it too
+  -- a range that is inside selects the record, and is inside behind it until its second expression holds
   unfoldable pub go_through : ℕ → Expr → Run Bool
-  go_through n to = tested (eval functions to) >>= λ ends. set_inside n (not ends) >>= λ _. ret true
+  go_through n to = tested (eval functions to) >>= λ ends. choose ends (set_inside n false) (ret tt) >>= λ _. ret true
+
+  -- a range that isn't begins where its first expression holds: it is inside from then on, and the second one is tested too
+  unfoldable pub begin_range : ℕ → (from to : Expr) → Run Bool
+  begin_range n from to = tested (eval functions from) >>= λ begins. choose begins (set_inside n true >>= λ _. go_through n to) (ret false)
 
   -- whether a pattern selects the record
   unfoldable pub selects : ℕ → Pattern → Run Bool
   selects n (Single e) = tested (eval functions e)
-  selects n (Range from to) = in_range n from >>= λ x. choose x (go_through n to) (ret false)
+  selects n (Range from to) = is_inside n >>= λ inside. choose inside (go_through n to) (begin_range n from to)
 
   -- a pattern without an action prints the record
   unfoldable pub print_record : Run (Unit {0})

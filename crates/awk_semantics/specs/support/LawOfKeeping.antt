@@ -23,7 +23,7 @@ use Rattle.awk_semantics.specs.definitions.Places.{Place, read_place, store, ass
 use Rattle.awk_semantics.specs.definitions.BuiltIns.{Role, Argument, taken_as, locals_of, note_match, separator_for, split_into, exchange, record_length, count_elements, flush_outputs, apply_built_in}
 use Rattle.awk_semantics.specs.definitions.Semantics.{Functions, right_operand, tested, choose, combined, call_with, getline_from, eval, place_of, key_of, take_arguments, optional_place, optional_value, eval_all, printed_values, target_of, print_by, print, begin_test, exit_with, returned_value, exec_simple, exec_part, goes_on, turn, unless_ended, repeat_within, repeat, walk, pass_on, exec, exec_all}
 use Rattle.awk_semantics.specs.definitions.Calls.{call_by, functions_within}
-use Rattle.awk_semantics.specs.definitions.Items.{begin_record, run_action, in_range, go_through, selects, print_record, try_item, try_items, begin_items, end_items, until_next, until_exit, run_records, run_before_end, run_items}
+use Rattle.awk_semantics.specs.definitions.Items.{begin_record, run_action, go_through, begin_range, selects, print_record, try_item, try_items, begin_items, end_items, until_next, until_exit, run_records, run_before_end, run_items}
 use Rattle.awk_semantics.specs.support.Keeps.{Keeps, CallsKeep, KeepsOutside, EndsOutside}
 
 -- the forms of the language, where the calls of functions do
@@ -49,8 +49,8 @@ pub record FormsKeep (functions : Functions) : Type 0 where
   pub exec : (s : Statement) → Keeps (exec functions s)
   pub exec_all : (all : Statements) → Keeps (exec_all functions all)
   pub run_action : (all : Statements) → Keeps (run_action functions all)
-  pub in_range : (n : ℕ) (from : Expr) → Keeps (in_range functions n from)
   pub go_through : (n : ℕ) (to : Expr) → Keeps (go_through functions n to)
+  pub begin_range : (n : ℕ) (from to : Expr) → Keeps (begin_range functions n from to)
   pub selects : (n : ℕ) (p : Pattern) → Keeps (selects functions n p)
   pub print_record : Keeps (print_record functions)
   pub try_item : (n : ℕ) (x : Item) → Keeps (try_item functions n x)

@@ -171,9 +171,3 @@ returns-in-FlushAll-clause-evaluates g c = rw c.in-FlushAll.is c.flush_all.ensur
 
 pub returns-in-Flush-clause-evaluates : goal.returns-in-Flush-clause-evaluates
 returns-in-Flush-clause-evaluates g c = rw c.in-Flush.is c.flush.ensures.evaluates
-
-pub returns-in-IsInside-clause-ready : goal.returns-in-IsInside-clause-ready
-returns-in-IsInside-clause-ready g c = computed_ready c.is_inside.ensures c.requires.ready
-
-pub returns-in-IsInside-clause-evaluates : goal.returns-in-IsInside-clause-evaluates
-returns-in-IsInside-clause-evaluates g c = rw c.in-IsInside.is (computed_evaluates c.is_inside.ensures)

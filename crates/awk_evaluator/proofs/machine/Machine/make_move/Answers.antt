@@ -1,7 +1,7 @@
 use Rattle.std.proofs.Common.{refl, sym, ap}
 use Rattle.awk_runtime.specs.declared.runtime.Runtime.{Runtime}
 use Rattle.awk_runtime.proofs.Composition.{ready_same, ready_behind}
-use Rattle.awk_evaluator.proofs.Changing.{ready_compared}
+use Rattle.awk_evaluator.proofs.Changing.{ready_compared, inside_on}
 use Rattle.awk_evaluator.proofs.Moving.{by_place, returns_value, returns_nothing, past_end}
 use Rattle.awk_evaluator.proofs.QuickMoves.{truth_on}
 use Rattle.awk_evaluator.proofs.NodeMoves.{effect_moves, update_moves, increment_moves, assign_moves, raise_moves, match_moves, compare_moves, compare_with_moves, again_moves, ready_done, ready_run, ready_given}
@@ -40,6 +40,11 @@ pub returns-in-Some-MatchRecord : goal.returns-in-Some-MatchRecord
 returns-in-Some-MatchRecord g c =
     let e = rw c.in-Some-MatchRecord.field-0-is at (c.in-Some-MatchRecord.ensures {u = tt}) in
     rw c.toward-in-Some-MatchRecord.ensures (record { ready = ready_compared c.match_record.ensures c.requires.ready; moves = by_place c.requires.sound (sym e) (match_moves c.match_record.result c.match_record.ensures) })
+
+pub returns-in-Some-TestInside : goal.returns-in-Some-TestInside
+returns-in-Some-TestInside g c =
+    let e = rw c.in-Some-TestInside.field-0-is at (c.in-Some-TestInside.ensures {u = tt}) in
+    record { ready = c.requires.ready; moves = by_place c.requires.sound (sym e) (inside_on c.chosen-in-Some-TestInside.ensures c.is_inside-inside.ensures) }
 
 pub returns-in-Some-Assign : goal.returns-in-Some-Assign
 returns-in-Some-Assign g c =
