@@ -62,11 +62,25 @@ pub fn set_value(values: &mut Vec<Value>, number: usize, value: Value) -> Result
 }
 
 /// Appends the text of a value. The only error is `Memory`.
+#[inline(always)]
 fn append_value(value: &Value, text: &mut Vec<u8>) -> Result<(), RecordFault>
     ensures text { OnOk result (text.new.items ≡ text.old.items ++ str_of value.now) }
     ensures memory { IfErr result (λ e. e ≡ RecordFault.Memory) }
 {
     append_text(value, text).map_err(|_| RecordFault::Memory)
+}
+
+/// Appends a separator, which most often is one byte. The only error is `Memory`.
+#[inline(always)]
+fn append_separator(separator: &[u8], text: &mut Vec<u8>) -> Result<(), RecordFault>
+    ensures text { OnOk result (text.new.items ≡ text.old.items ++ separator.now) }
+    ensures memory { IfErr result (λ e. e ≡ RecordFault.Memory) }
+{
+    match separator {
+        [byte] => text.push(*byte)?,
+        _ => text.extend_from_slice(separator)?,
+    }
+    Ok(())
 }
 
 /// Appends the texts of the values, each behind the separator. The only error
@@ -76,7 +90,7 @@ fn append_behind(values: &[Value], separator: &[u8], text: &mut Vec<u8>) -> Resu
     ensures memory { IfErr result (λ e. e ≡ RecordFault.Memory) }
 {
     for value in values {
-        text.extend_from_slice(separator)?;
+        append_separator(separator, text)?;
         append_value(value, text)?;
     }
     Ok(())

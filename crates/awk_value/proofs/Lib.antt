@@ -18,3 +18,4 @@ mod Places
 mod BothNumbers
 mod Calls
 mod Lent
+mod PaddedEnd

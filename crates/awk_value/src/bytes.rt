@@ -113,6 +113,19 @@ impl Bytes {
         }
     }
 
+    /// Appends the bytes to the buffer. Fails only where memory is refused, and then leaves the
+    /// buffer's bytes as they were.
+    #[inline]
+    pub(crate) fn append_to(&self, buffer: &mut Vec<u8>) -> Result<(), AllocError>
+        ensures bytes { OnOk result (buffer.new.items ≡ buffer.old.items ++ self.now) }
+        ensures unchanged { OnErr result (buffer.new.items ≡ buffer.old.items) }
+    {
+        match &self.form {
+            Form::Short(text) => text.append_to(buffer),
+            _ => append_all(self.as_slice(), buffer),
+        }
+    }
+
     /// The number of bytes.
     #[inline]
     pub fn len(&self) -> usize
@@ -287,6 +300,15 @@ fn short(bytes: &[u8]) -> Bytes
     Bytes {
         form: Form::Short(ShortBytes::new(bytes)),
     }
+}
+
+/// Appends bytes, of which there may be many.
+#[inline(never)]
+fn append_all(bytes: &[u8], buffer: &mut Vec<u8>) -> Result<(), AllocError>
+    ensures bytes { OnOk result (buffer.new.items ≡ buffer.old.items ++ bytes.now) }
+    ensures unchanged { OnErr result (buffer.new.items ≡ buffer.old.items) }
+{
+    buffer.extend_from_slice(bytes)
 }
 
 /// The text of a copy of these bytes, in memory of its own.

@@ -80,23 +80,9 @@ pub fn append_text(value: &Value, buffer: &mut Vec<u8>) -> Result<(), ValueFault
     match value {
         Value::Nothing => Ok(()),
         Value::Number(n) => append_number(*n, buffer),
-        Value::Text(text) => append_bytes(text.as_slice(), buffer),
-        Value::Input(text) => append_bytes(text.as_slice(), buffer),
+        Value::Text(text) => Ok(text.append_to(buffer)?),
+        Value::Input(text) => Ok(text.append_to(buffer)?),
     }
-}
-
-/// Appends bytes, which often are but one.
-#[inline]
-fn append_bytes(bytes: &[u8], buffer: &mut Vec<u8>) -> Result<(), ValueFault>
-    ensures bytes { OnOk result (buffer.new.items ≡ buffer.old.items ++ bytes.now) }
-    ensures unchanged { OnErr result (buffer.new.items ≡ buffer.old.items) }
-    ensures fault { IfErr result (λ fault. fault ≡ Memory) }
-{
-    match bytes {
-        [byte] => buffer.push(*byte)?,
-        bytes => buffer.extend_from_slice(bytes)?,
-    }
-    Ok(())
 }
 
 /// Appends the decimal form of a number.
@@ -108,42 +94,6 @@ fn append_number(n: i128, buffer: &mut Vec<u8>) -> Result<(), ValueFault>
 {
     let mut digits = Buffer::new();
     buffer.extend_from_slice(digits.format(n).as_bytes())?;
-    Ok(())
-}
-
-/// The texts of two values, one behind the other, as a text that was made. The fault is `Memory`.
-fn concatenate(alloc: Global, left: &Value, right: &Value) -> Result<Value, ValueFault>
-    ensures text { IfOk result (λ value. value ≡ Text (str_of left.now ++ str_of right.now)) }
-    ensures fault { IfErr result (λ fault. fault ≡ Memory) }
-{
-    let mut digits = Buffer::new();
-    let mut bytes = Vec::from_slice(alloc, text_in(left, &mut digits))?;
-    append_text(right, &mut bytes)?;
-    Ok(Value::Text(Bytes::from_vec(alloc, bytes)?))
-}
-
-/// Appends the text of the right value to that of the left one, which so becomes a text that was
-/// made. A left text that was made grows in place where `Bytes::extend_from_slice`
-/// does. The fault is `Memory`, and leaves the left value as it was. (POSIX awk, Expressions in
-/// awk: string concatenation.)
-pub fn concatenate_in_place(
-    alloc: Global,
-    left: &mut Value,
-    right: &Value,
-) -> Result<(), ValueFault>
-    ensures text { OnOk result (left.new ≡ Text (str_of left.old ++ str_of right.now)) }
-    ensures unchanged { OnErr result (left.new ≡ left.old) }
-    ensures fault { IfErr result (λ fault. fault ≡ Memory) }
-{
-    match left {
-        Value::Text(text) => {
-            let mut digits = Buffer::new();
-            text.extend_from_slice(alloc, text_in(right, &mut digits))?;
-        }
-        Value::Nothing | Value::Number(_) | Value::Input(_) => {
-            *left = concatenate(alloc, left, right)?;
-        }
-    }
     Ok(())
 }
 

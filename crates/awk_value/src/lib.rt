@@ -35,9 +35,7 @@ pub use crate::arithmetic::{
     to_number,
 };
 pub use crate::bytes::Bytes;
-pub use crate::convert::{
-    append_text, concatenate_in_place, is_true, number_of, numeric_of, text_in, text_of,
-};
+pub use crate::convert::{append_text, is_true, number_of, numeric_of, text_in, text_of};
 pub use crate::fault::ValueFault;
 pub use crate::order::compare;
 pub use crate::table::Table;

@@ -1,7 +1,8 @@
 // Texts of a few bytes, which take no memory.
 
-ghost use Rattle.std.specs.Prelude.{◌≡◌, ℕ, ◌≤◌, ◌<◌, if◌then◌else◌, List, [], ◌+◌, ◌++◌, length, take, drop};
+ghost use Rattle.std.specs.Prelude.{◌≡◌, ℕ, ◌≤◌, ◌<◌, if◌then◌else◌, List, [], ◌+◌, ◌++◌, length, take, drop, OnOk, OnErr};
 
+use std::alloc::AllocError;
 use std::marker::Model;
 
 /// The most bytes of a short text.
@@ -94,6 +95,23 @@ impl ShortBytes {
     {
         let _bytes = self.as_slice();
         self.len as usize
+    }
+
+    /// Appends the bytes to the buffer, by a copy of a fixed size where it has room for one. Fails
+    /// only where memory is refused, and then leaves the buffer's bytes as they were.
+    #[inline(always)]
+    pub(crate) fn append_to(&self, buffer: &mut Vec<u8>) -> Result<(), AllocError>
+        ensures bytes { OnOk result (buffer.new.items ≡ buffer.old.items ++ self.now) }
+        ensures unchanged { OnErr result (buffer.new.items ≡ buffer.old.items) }
+    {
+        let text = self.as_slice();
+        if buffer.capacity() - buffer.len() < MOST {
+            return buffer.extend_from_slice(text);
+        }
+        let end = buffer.len() + text.len();
+        buffer.extend_from_slice(&self.bytes)?;
+        buffer.truncate(end);
+        Ok(())
     }
 
     /// Appends a copy of these bytes where there is room for them: whether there is.
