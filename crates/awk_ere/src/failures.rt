@@ -60,6 +60,18 @@ impl Failures {
         }
     }
 
+    /// Nothing is known of a text that is searched once for this pattern, and nothing is kept. Takes no memory.
+    pub fn for_one_search(pattern: &Pattern) -> Failures
+        ensures { (s : List ℕ) → AreFailures pattern.now s result }
+    {
+        let alloc = *pattern.program.instructions.allocator();
+        Failures {
+            alloc,
+            spacing: usize::MAX,
+            rows: Vec::new(alloc),
+        }
+    }
+
     /// The next place of which something may be known, or the end where that is near.
     #[inline(always)]
     pub(crate) fn next_place(&self, place: usize, len: usize) -> usize

@@ -288,7 +288,7 @@ impl Pattern {
         ensures found { (t : Tree) → Means t self.now → Finds t text.now from result }
         ensures same { IsFor scratch.new self.now }
     {
-        let mut failures = Failures::for_pattern(self);
+        let mut failures = Failures::for_one_search(self);
         self.find_further(text, from, scratch, &mut failures)
     }
 
