@@ -7,7 +7,7 @@ use Rattle.awk_ere.specs.declared.fault.PatternFault.{PatternFault}
 use Rattle.awk_ere.specs.declared.fault.PatternFault.TheVariants.{Memory, IllFormed, BadCount, TooLarge}
 use Rattle.awk_semantics.specs.declared.halt.Halt.{Halt}
 use Rattle.awk_semantics.specs.declared.halt.Halt.TheVariants as halt
-use Rattle.awk_semantics.specs.Faults.{pattern_fault}
+use Rattle.awk_semantics.specs.PartFaults.{pattern_fault}
 use Rattle.awk_functions.specs.support.Compiled.{MeansOf, ReadsFor}
 
 pub means_of : (p : Pattern) (o : Option Tree) → ReadsAs (Ok p) o → MeansOf o p

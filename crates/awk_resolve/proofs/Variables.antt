@@ -13,7 +13,8 @@ use Rattle.awk_kinds.specs.definitions.Signatures.{ProgramKinds, place_of, param
 use Rattle.awk_semantics.specs.declared.local.Local.{Local}
 use Rattle.awk_semantics.specs.declared.local.Local.TheVariants as local
 use Rattle.awk_semantics.specs.definitions.State.{Frame, State, gives}
-use Rattle.awk_semantics.specs.definitions.Primitives.{local_in, global_value, local_value, read_outside, read_name, with_local, put_outside, put_by, put, number_in, local_number, is_local_array as kind_by, is_array}
+use Rattle.awk_semantics.specs.definitions.Primitives.{local_in, global_value, local_value, read_name, with_local, put_outside, put_by, put, number_in, local_number, is_local_array as kind_by, is_array}
+use Rattle.awk_semantics.specs.support.Outside.{read_outside}
 use Rattle.awk_storage.specs.declared.position.Variable.TheVariants as variable
 use Rattle.awk_storage.specs.declared.position.Array.TheVariants as array
 use Rattle.awk_storage.specs.definitions.Positions.{newest_locals, value_of_local, read_local, with_newest, with_local_at, put_local, read_slot, put_slot, number_of_local}

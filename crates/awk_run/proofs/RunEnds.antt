@@ -24,7 +24,7 @@ use Rattle.awk_semantics.specs.definitions.State.{Effect, Requested, Ends, Strea
 use Rattle.awk_semantics.specs.definitions.Meaning.{Asked, Meaning, closings_of, with_end, outcome_of, first_outputs, outputs_after, requests_from}
 use Rattle.awk_semantics.specs.definitions.Order.{Stage, MeetsAll, first_stage, IsInTurn}
 use Rattle.awk_semantics.specs.definitions.Failure.{AreOfTheEnd, before_end, FailsAs, FailsAt}
-use Rattle.awk_semantics.specs.definitions.Faults.{stream_fault}
+use Rattle.awk_semantics.specs.support.PartFaults.{stream_fault}
 use Rattle.awk_semantics.specs.support.Results.{Sort, WantOfMemory, FailedWrite, OfLanguage, sort_of}
 use Rattle.awk_semantics.specs.support.Unended.{AreUnended}
 use Rattle.awk_semantics.proofs.Requests.{goes-append, meets_append, requests-append}

@@ -12,7 +12,7 @@ use Rattle.awk_streams.specs.Commands.{BringsAll}
 use Rattle.awk_streams.specs.Flushes.{AreBringingTo, FlushesAll, FlushesCalled, FlushesText, is_number_of}
 use Rattle.awk_streams.proofs.FlushLemmas.{to_some_bringing}
 use Rattle.awk_semantics.specs.declared.halt.Halt.TheVariants as halt
-use Rattle.awk_semantics.specs.Faults.{stream_fault}
+use Rattle.awk_semantics.specs.PartFaults.{stream_fault}
 use Rattle.awk_semantics.specs.State.{Effect, State}
 use Rattle.awk_semantics.specs.Streams.{flush_all, flush_named}
 use Rattle.awk_semantics.specs.Meaning.{outputs_after}

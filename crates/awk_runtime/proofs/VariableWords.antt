@@ -24,9 +24,10 @@ use Rattle.awk_semantics.specs.declared.local.Local.{Local}
 use Rattle.awk_semantics.specs.declared.local.Local.TheVariants as local
 use Rattle.awk_semantics.specs.State.{State, Frame, Run, ◌>>=◌, lift, gives}
 use Rattle.awk_semantics.specs.Results.{Yields}
-use Rattle.awk_semantics.specs.Faults.{text_fault}
+use Rattle.awk_semantics.specs.PartFaults.{text_fault}
 use Rattle.awk_semantics.specs.Operators.{raised}
-use Rattle.awk_semantics.specs.Primitives.{read_outside, put_unless, put_global, put_outside, put_special, count_in, with_variable}
+use Rattle.awk_semantics.specs.Primitives.{put_unless, put_global, put_outside, put_special, count_in, with_variable}
+use Rattle.awk_semantics.specs.Outside.{read_outside}
 use Rattle.awk_storage.specs.support.Frames.{FramesView, newest_of, with_value_at}
 use Rattle.awk_storage.specs.Positions.{newest_locals, value_of_local, with_newest, with_local_at, read_local, put_local, read_slot, put_slot}
 use Rattle.awk_runtime.specs.declared.runtime.Runtime.{Runtime}

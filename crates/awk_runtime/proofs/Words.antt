@@ -18,7 +18,8 @@ use Rattle.awk_semantics.specs.declared.halt.Halt.TheVariants as halt
 use Rattle.awk_semantics.specs.State.{State, Out, Run, go_on, ◌>>=◌, lift}
 use Rattle.awk_semantics.specs.Results.{Yields}
 use Rattle.awk_semantics.specs.Faults.{of_record, record_fault, value_fault}
-use Rattle.awk_semantics.specs.Primitives.{number_of, read_field, set_current, set_count, store_field, set_field, set_record, record_text, read_outside, put_outside, count_in}
+use Rattle.awk_semantics.specs.Primitives.{number_of, read_field, set_current, set_count, store_field, set_field, set_record, record_text, put_outside, count_in}
+use Rattle.awk_semantics.specs.Outside.{read_outside}
 use Rattle.awk_semantics.specs.Items.{begin_record}
 use Rattle.awk_semantics.specs.BuiltIns.{record_length}
 use Rattle.awk_runtime.specs.declared.runtime.Runtime.{Runtime}

@@ -1,7 +1,8 @@
 // The record at hand and its fields.
 
 ghost use Rattle.awk_runtime.specs.support.Simulation.{Changes};
-ghost use Rattle.awk_semantics.specs.Primitives.{read_field, read_outside, put_outside, set_count, set_field, set_record, record_text};
+ghost use Rattle.awk_semantics.specs.Primitives.{read_field, put_outside, set_count, set_field, set_record, record_text};
+ghost use Rattle.awk_semantics.specs.Outside.{read_outside};
 ghost use Rattle.awk_semantics.specs.Items.{begin_record};
 ghost use Rattle.awk_semantics.specs.BuiltIns.{record_length};
 ghost use Rattle.std.specs.Prelude.{◌≡◌, pos, codes, true, false, Ok};

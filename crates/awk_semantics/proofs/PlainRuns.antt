@@ -27,7 +27,8 @@ use Rattle.awk_semantics.specs.declared.local.Local.TheVariants as local
 use Rattle.awk_semantics.specs.definitions.State.{Named, OpensMain, OpensInput, OpensOutput, RecordOfMain, RecordOf, Closes, Runs, Ends, Effect, Printed, Requested, Frame, Stream, State, Out, Run, go_on, ◌>>=◌, lift}
 use Rattle.awk_semantics.specs.support.Unended.{AreUnended}
 use Rattle.awk_semantics.specs.definitions.Operators.{raised}
-use Rattle.awk_semantics.specs.definitions.Primitives.{text_in, spend, spend_of, fault_if, number_of, read_field, record_text, set_record, set_current, set_count, store_field, set_field, read_outside, read_name, put_unless, put_global, put_outside, put_by, put, put_special, count_in, array_number, read_element_at, store_element_at, has_element_at, delete_element_at, clear_array_at, array_length_at, keys_at, read_element, store_element, has_element, delete_element, clear_array, array_length, is_array, keys_in, fill_array_at, fill_array, field_separator, joined_key, check_height, print_bytes, print_line, argument_if, take_argument, is_inside, set_inside, set_status}
+use Rattle.awk_semantics.specs.definitions.Primitives.{text_in, spend, spend_of, fault_if, number_of, read_field, record_text, set_record, set_current, set_count, store_field, set_field, read_name, put_unless, put_global, put_outside, put_by, put, put_special, count_in, array_number, read_element_at, store_element_at, has_element_at, delete_element_at, clear_array_at, array_length_at, keys_at, read_element, store_element, has_element, delete_element, clear_array, array_length, is_array, keys_in, fill_array_at, fill_array, field_separator, joined_key, check_height, print_bytes, print_line, argument_if, take_argument, is_inside, set_inside, set_status}
+use Rattle.awk_semantics.specs.support.Outside.{read_outside}
 use Rattle.awk_semantics.specs.definitions.Streams.{rest_in, opened, open_main, note_input, is_input_seen, begin_input, taken, taken_of, take_record, close_main, check_streams, NotReadable, input_granted, ask_input, open_input_unless, open_input, named_taken, named_taken_of, take_named, take_if, next_of, output_granted, ask_output, open_output_unless, open_output, open_file, open_target, is_command, closed_by, close_stream, named_of, streams_named, close_each, close_named, flush_all, flush_named, run_command}
 use Rattle.awk_semantics.specs.definitions.BuiltIns.{Argument, locals_of}
 use Rattle.awk_value.specs.Values.{num_of}

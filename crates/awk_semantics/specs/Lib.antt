@@ -21,3 +21,5 @@ pub use Rattle.awk_semantics.specs.support.Keeps
 pub use Rattle.awk_semantics.specs.support.LawOfKeeping
 pub use Rattle.awk_semantics.specs.support.Exchanged
 pub use Rattle.awk_semantics.specs.support.Unended
+pub use Rattle.awk_semantics.specs.support.PartFaults
+pub use Rattle.awk_semantics.specs.support.Outside

@@ -1,3 +1,5 @@
+pub mod PartFaults
+pub mod Outside
 pub mod Results
 pub mod Keeps
 pub mod LawOfKeeping

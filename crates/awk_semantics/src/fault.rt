@@ -1,7 +1,8 @@
 // The faults of a run, and those of its parts as such.
 
 ghost use Rattle.std.specs.Prelude.{◌≡◌};
-ghost use Rattle.awk_semantics.specs.definitions.Faults.{value_fault, record_fault, stream_fault, pattern_fault, format_fault, text_fault};
+ghost use Rattle.awk_semantics.specs.definitions.Faults.{value_fault, record_fault, format_fault};
+ghost use Rattle.awk_semantics.specs.support.PartFaults.{stream_fault, pattern_fault, text_fault};
 ghost use Rattle.awk_semantics.specs.definitions.Outcome.{fault_text};
 
 use awk_ere::PatternFault;

@@ -1,7 +1,8 @@
 // Why a part of a run ends early.
 
 ghost use Rattle.std.specs.Prelude.{◌≡◌};
-ghost use Rattle.awk_semantics.specs.definitions.Faults.{value_fault, record_fault, stream_fault, pattern_fault, format_fault, text_fault};
+ghost use Rattle.awk_semantics.specs.definitions.Faults.{value_fault, record_fault, format_fault};
+ghost use Rattle.awk_semantics.specs.support.PartFaults.{stream_fault, pattern_fault, text_fault};
 ghost use Rattle.awk_semantics.specs.declared.halt.Halt.TheVariants.{Fault as FaultHalt};
 ghost use Rattle.awk_semantics.specs.declared.fault.Fault.TheVariants.{OutOfMemory};
 

@@ -7,7 +7,7 @@ use Rattle.awk_streams.specs.Streams.{StreamsView}
 use Rattle.awk_streams.specs.Commands.{Finishes}
 use Rattle.awk_semantics.specs.declared.outcome.Outcome.{Outcome}
 use Rattle.awk_semantics.specs.declared.outcome.Outcome.TheVariants.{Fault}
-use Rattle.awk_semantics.specs.definitions.Faults.{stream_fault}
+use Rattle.awk_semantics.specs.support.PartFaults.{stream_fault}
 
 -- a failure of the end of a run counts unless a fault came before it
 abbrev pub outcome_after : Outcome → Result (Unit {0}) StreamFault → Outcome

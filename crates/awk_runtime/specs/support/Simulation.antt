@@ -18,7 +18,7 @@ use Rattle.awk_semantics.specs.declared.halt.Halt.TheVariants as halt
 use Rattle.awk_semantics.specs.declared.local.Local.{Local}
 use Rattle.awk_semantics.specs.State.{Effect, Frame, State, Out, Run}
 use Rattle.awk_semantics.specs.Results.{Sort, WantOfMemory, FailedWrite, OfLanguage, sort_of}
-use Rattle.awk_semantics.specs.Faults.{stream_fault}
+use Rattle.awk_semantics.specs.PartFaults.{stream_fault}
 use Rattle.awk_semantics.specs.Primitives.{spend}
 use Rattle.awk_semantics.specs.Meaning.{first_outputs, outputs_after, requests_from}
 use Rattle.awk_semantics.specs.Order.{Stage, MeetsAll, first_stage}

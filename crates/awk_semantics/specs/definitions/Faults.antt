@@ -2,16 +2,10 @@
 use Rattle.std.specs.Prelude.{Result, Ok, Err}
 use Rattle.awk_value.specs.declared.fault.ValueFault.{ValueFault}
 use Rattle.awk_value.specs.declared.fault.ValueFault.TheVariants as value
-use Rattle.awk_ere.specs.declared.fault.PatternFault.{PatternFault}
-use Rattle.awk_ere.specs.declared.fault.PatternFault.TheVariants as patterns
 use Rattle.awk_record.specs.declared.record_fault.RecordFault.{RecordFault}
 use Rattle.awk_record.specs.declared.record_fault.RecordFault.TheVariants as fields
 use Rattle.awk_text.specs.declared.format_fault.FormatFault.{FormatFault}
 use Rattle.awk_text.specs.declared.format_fault.FormatFault.TheVariants as format
-use Rattle.awk_text.specs.declared.fault.TextFault.{TextFault}
-use Rattle.awk_text.specs.declared.fault.TextFault.TheVariants as texts
-use Rattle.awk_streams.specs.declared.fault.StreamFault.{StreamFault}
-use Rattle.awk_streams.specs.declared.fault.StreamFault.TheVariants as streams
 use Rattle.awk_semantics.specs.declared.fault.Fault.{Fault}
 use Rattle.awk_semantics.specs.declared.fault.Fault.TheVariants as fault
 use Rattle.awk_semantics.specs.declared.halt.Halt.{Halt}
@@ -28,28 +22,10 @@ record_fault fields.Memory = fault.OutOfMemory
 record_fault fields.Pattern = fault.PatternRefused
 record_fault fields.FieldNumber = fault.FieldNumberOutOfRange
 
-abbrev pub stream_fault : StreamFault → Fault
-stream_fault streams.Memory = fault.OutOfMemory
-stream_fault streams.WriteFailed = fault.WriteFailed
-stream_fault streams.InputNotReadable = fault.InputNotReadable
-stream_fault streams.OutputNotOpened = fault.OutputNotOpened
-stream_fault streams.TooManyStreams = fault.TooManyStreams
-stream_fault streams.RecordTooLong = fault.RecordTooLong
-
-abbrev pub pattern_fault : PatternFault → Fault
-pattern_fault patterns.Memory = fault.OutOfMemory
-pattern_fault patterns.IllFormed = fault.PatternRefused
-pattern_fault patterns.BadCount = fault.PatternRefused
-pattern_fault patterns.TooLarge = fault.PatternRefused
-
 abbrev pub format_fault : FormatFault → Fault
 format_fault format.Memory = fault.OutOfMemory
 format_fault format.Range = fault.NumberOutOfRange
 format_fault format.Format = fault.FormatRefused
-
-abbrev pub text_fault : TextFault → Fault
-text_fault texts.Memory = fault.OutOfMemory
-text_fault texts.Pattern = fault.PatternRefused
 
 abbrev pub of_values : {A : Type 0} → Result A ValueFault → Result A Halt
 of_values (Ok a) = Ok a

@@ -90,10 +90,6 @@ local_in (frame ∷ frames) x = lookup (bytes_eq x) frame.locals
 abbrev pub global_value : State → List ℕ → Value
 global_value s x = if bytes_eq x (codes "NF") then value.Number (pos (length s.current.fields)) else s.variables x
 
--- the value of a name of the whole program, also where a parameter of a call has that name
-unfoldable pub read_outside : List ℕ → Run Value
-read_outside x s = gives (global_value s x) s
-
 abbrev pub local_value : Option Local → Value → Value
 local_value None global = global
 local_value (Some (local.Value v)) global = v

@@ -11,7 +11,8 @@ use Rattle.awk_semantics.specs.declared.local.Local.{Local}
 use Rattle.awk_semantics.specs.declared.local.Local.TheVariants as local
 use Rattle.awk_semantics.specs.definitions.State.{Frame, State, Run, ◌>>=◌, lift, ret, gives}
 use Rattle.awk_semantics.specs.definitions.Operators.{applied, by_one, one}
-use Rattle.awk_semantics.specs.definitions.Primitives.{number_of, read_field, set_field, read_outside, put_outside, read_element_at, store_element_at}
+use Rattle.awk_semantics.specs.definitions.Primitives.{number_of, read_field, set_field, put_outside, read_element_at, store_element_at}
+use Rattle.awk_semantics.specs.support.Outside.{read_outside}
 use Rattle.awk_storage.specs.declared.position.Variable.{Variable}
 use Rattle.awk_storage.specs.declared.position.Variable.TheVariants as variable
 use Rattle.awk_storage.specs.declared.position.Array.{Array}
