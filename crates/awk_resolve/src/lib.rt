@@ -26,4 +26,4 @@ mod simple_statements;
 mod statements;
 
 pub use plan::{Function, Plan};
-pub use program::lower_program;
+pub use program::resolve;

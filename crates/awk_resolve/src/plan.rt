@@ -2,6 +2,7 @@
 
 use crate::names::ScalarNames;
 use crate::node::Node;
+use awk_kinds::Kinds;
 use awk_value::Bytes;
 
 /// A function of a program.
@@ -33,6 +34,8 @@ pub struct Plan {
     pub rules: u32,
     /// The place of the actions that come behind all records.
     pub end: u32,
+    /// The kinds of the program's names.
+    pub kinds: Kinds,
     /// Whether records are read at all: not where only BEGIN and functions stand.
     pub reads_records: bool,
 }

@@ -2,11 +2,11 @@
 
 ghost use Rattle.std.specs.Prelude.{◌≡◌, Bool, true, [], map, IfOk};
 ghost use Rattle.std.specs.Global.{Vec};
-ghost use Rattle.awk_grammar.specs.View.{statements_of, items_of};
+ghost use Rattle.awk_grammar.specs.View.{statements_of, items_of, tree_of};
 ghost use Rattle.awk_kinds.specs.Placed.{are_in_place};
 ghost use Rattle.awk_kinds.specs.definitions.Kinds.{definitions_of};
 ghost use Rattle.awk_kinds.specs.definitions.Signatures.{Signature, ProgramKinds, kinds_of};
-ghost use Rattle.awk_resolve.specs.definitions.Plans.{IsPlanOf};
+ghost use Rattle.awk_resolve.specs.definitions.Plans.{IsPlanOf, ResolvesTo};
 ghost use Rattle.awk_resolve.specs.support.Builds.{arrays_among};
 ghost use Rattle.awk_resolve.specs.support.Holding.{IsOver, AddsEnd, AddsBody, AddsFunctions};
 
@@ -17,8 +17,9 @@ use crate::names::ScalarNames;
 use crate::node::Node;
 use crate::plan::{Function, Plan};
 use crate::scope::Scope;
-use awk_grammar::tree::{Item, Statement};
-use awk_kinds::{Kinds, Parameters};
+use awk_grammar::tree::{Item, Statement, Tree};
+use awk_kinds::{Kinds, Parameters, law_of_refusals};
+use awk_lex::refusal::Refusal;
 use std::alloc::{AllocError, Global};
 
 /// Whether each of these parameters is an array.
@@ -105,18 +106,15 @@ impl Builder {
     }
 }
 
-/// A program as a plan, where these are the kinds of its names, and its statements stand in place. (POSIX awk, Overall
-/// Program Structure)
-///
-/// # Errors
-///
-/// Where memory is refused, or places or numbers run out.
-pub fn lower_program(alloc: Global, items: &[Item], kinds: &Kinds) -> Result<Plan, AllocError>
-    requires kinds { kinds.now ≡ kinds_of (items_of items.now) }
+/// A program as a plan, where these are the kinds of its names, and its statements stand in place. The only error is
+/// that memory is refused.
+fn lower_program(alloc: Global, items: &[Item], kinds: Kinds) -> Result<Plan, AllocError>
+    requires kinds { kinds ≡ kinds_of (items_of items.now) }
     requires in_place { are_in_place (items_of items.now) ≡ true }
-    ensures { IfOk result (IsPlanOf (items_of items.now)) }
+    ensures plan { IfOk result (IsPlanOf (items_of items.now)) }
+    ensures kinds { IfOk result (λ plan. plan.kinds ≡ kinds_of (items_of items.now)) }
 {
-    let array_parameters = array_parameters(alloc, kinds)?;
+    let array_parameters = array_parameters(alloc, &kinds)?;
     let mut builder = Builder {
         alloc,
         nodes: Vec::new(alloc),
@@ -126,10 +124,10 @@ pub fn lower_program(alloc: Global, items: &[Item], kinds: &Kinds) -> Result<Pla
         array_parameters,
     };
     let over = builder.push_end()?;
-    let functions = builder.lower_functions(kinds, items, over)?;
-    let end = builder.lower_end(kinds, items, over)?;
-    let rules = builder.lower_rules(kinds, items, over)?;
-    let begin = builder.lower_begin(kinds, items, over)?;
+    let functions = builder.lower_functions(&kinds, items, over)?;
+    let end = builder.lower_end(&kinds, items, over)?;
+    let rules = builder.lower_rules(&kinds, items, over)?;
+    let begin = builder.lower_begin(&kinds, items, over)?;
     Ok(Plan {
         nodes: builder.nodes,
         heads: builder.heads,
@@ -139,6 +137,21 @@ pub fn lower_program(alloc: Global, items: &[Item], kinds: &Kinds) -> Result<Pla
         begin,
         rules,
         end,
+        kinds,
         reads_records: has_rule(items),
     })
+}
+
+/// The plan of a program, in which names are numbers. (POSIX awk, Overall Program Structure; Variables and Special
+/// Variables; User-Defined Functions.) The time grows as n log n with the program.
+///
+/// # Errors
+///
+/// The first of K2 to K8 and K1 that holds, told of line 1, or that memory is refused.
+pub fn resolve(alloc: Global, tree: &Tree) -> Result<Plan, Refusal>
+    ensures { ResolvesTo (tree_of tree.now) result }
+{
+    law_of_refusals();
+    let kinds = awk_kinds::resolve(alloc, &tree.items)?;
+    Ok(lower_program(alloc, &tree.items, kinds)?)
 }

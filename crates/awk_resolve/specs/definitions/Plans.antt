@@ -1,11 +1,14 @@
 -- What a plan is: from its places a run does what the items of its program mean.
-use Rattle.std.specs.Prelude.{◌≡◌, ℕ, ◌<◌, Bool, List, [], ◌∷◌, length, map}
+use Rattle.std.specs.Prelude.{◌≡◌, ◌⊎◌, ℕ, ◌<◌, Bool, List, [], ◌∷◌, length, map, Option, Some, None, Result, Ok, Err}
+use Rattle.awk_lex.specs.declared.refusal.Refusal.{Refusal}
+use Rattle.awk_lex.specs.Refused.{IsOutOfMemory}
 use Rattle.awk_value.specs.declared.value.Value.{Value}
 use Rattle.awk_value.specs.declared.value.Value.TheVariants as value
 use Rattle.awk_grammar.specs.Tree.{Statements, Item}
 use Rattle.awk_grammar.specs.Height.{height_of_block}
 use Rattle.awk_kinds.specs.Names.{AreDistinct}
 use Rattle.awk_kinds.specs.definitions.Kinds.{FormalParameter, Definition, definitions_of}
+use Rattle.awk_kinds.specs.definitions.Fits.{first_refusal}
 use Rattle.awk_kinds.specs.definitions.Signatures.{kinds_of}
 use Rattle.awk_semantics.specs.definitions.State.{State, Run, ◌>>=◌, ret}
 use Rattle.awk_semantics.specs.definitions.Semantics.{Functions, exec_all}
@@ -80,3 +83,9 @@ pub record IsPlanOf (items : List Item) (plan : Plan) : Type 0 where
   pub rules : DoesIn items plan [] plan.rules (rules_run 0 items)
   pub end : DoesIn items plan [] plan.end (end_run items)
   pub reads : plan.reads_records ≡ has_rule items
+
+-- a plan exactly where nothing is told against the names of the program and where its statements stand; else the first
+-- cause that holds, or that memory was refused
+abbrev pub ResolvesTo : List Item → Result Plan Refusal → Type 0
+ResolvesTo items (Ok plan) = (first_refusal items ≡ None) × IsPlanOf items plan × (plan.kinds ≡ kinds_of items)
+ResolvesTo items (Err refusal) = IsOutOfMemory refusal ⊎ ((first_refusal items ≡ Some refusal.code) × (refusal.line ≡ 1))

@@ -7,19 +7,19 @@ use Rattle.awk_resolve.proofs.Planning.{planned, over_later}
 use Rattle.awk_resolve.proofs.program.lower_program.Goals as goal
 
 pub lower_functions-requires-clause-over : goal.lower_functions-requires-clause-over
-lower_functions-requires-clause-over c = (c.in_ok-over.ensures {u = tt} c.args.kinds.now).over
+lower_functions-requires-clause-over c = (c.in_ok-over.ensures {u = tt} c.args.kinds).over
 
 pub lower_end-requires-clause-over : goal.lower_end-requires-clause-over
-lower_end-requires-clause-over c = over_later c.in_ok-functions.ensures.grows (c.in_ok-over.ensures {u = tt} c.args.kinds.now).over
+lower_end-requires-clause-over c = over_later c.in_ok-functions.ensures.grows (c.in_ok-over.ensures {u = tt} c.args.kinds).over
 
 pub lower_rules-requires-clause-over : goal.lower_rules-requires-clause-over
-lower_rules-requires-clause-over c = over_later (grows c.in_ok-functions.ensures.grows c.in_ok-end.ensures.grows) (c.in_ok-over.ensures {u = tt} c.args.kinds.now).over
+lower_rules-requires-clause-over c = over_later (grows c.in_ok-functions.ensures.grows c.in_ok-end.ensures.grows) (c.in_ok-over.ensures {u = tt} c.args.kinds).over
 
 pub lower_begin-requires-clause-over : goal.lower_begin-requires-clause-over
-lower_begin-requires-clause-over c = over_later (grows c.in_ok-functions.ensures.grows (grows c.in_ok-end.ensures.grows c.in_ok-rules.ensures.grows)) (c.in_ok-over.ensures {u = tt} c.args.kinds.now).over
+lower_begin-requires-clause-over c = over_later (grows c.in_ok-functions.ensures.grows (grows c.in_ok-end.ensures.grows c.in_ok-rules.ensures.grows)) (c.in_ok-over.ensures {u = tt} c.args.kinds).over
 
-pub returns : goal.returns
-returns c =
+pub returns-clause-plan : goal.returns-clause-plan
+returns-clause-plan c =
     let kinds = kinds_of (items_of c.args.items.now) in
     let functions = rw c.requires.kinds at (c.in_ok-functions.ensures {u = tt}) in
     let last = rw c.requires.kinds at (c.in_ok-end.ensures {u = tt}) in
