@@ -12,3 +12,4 @@ pub mod Starting
 pub mod Accepted
 pub mod PlaceRuns
 pub mod PlansStand
+pub mod Since

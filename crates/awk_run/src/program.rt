@@ -1,6 +1,7 @@
 // The program of a text, and its runs.
 
-ghost use Rattle.std.specs.Prelude.{◌≡◌, ℕ, List, IfOk, IfErr, OnErr};
+ghost use Rattle.std.specs.Prelude.{◌≡◌, ℕ, List, [], None, IfOk, IfErr, OnErr};
+ghost use Rattle.awk_journal.specs.Adds.{Adds};
 ghost use Rattle.awk_lex.specs.Refused.{IsOutOfMemory};
 ghost use Rattle.awk_grammar.specs.Tree.{Item};
 ghost use Rattle.awk_grammar.specs.View.{tree_of};
@@ -9,7 +10,7 @@ ghost use Rattle.awk_streams.specs.Streams.{AreSound};
 ghost use Rattle.awk_streams.specs.WorldState.{WorldState};
 ghost use Rattle.awk_run.specs.definitions.Accepted.{Accepted, RefusedFor};
 ghost use Rattle.awk_run.specs.definitions.Headline.{Executed};
-ghost use Rattle.awk_run.specs.definitions.Runs.{IsUntouched, RunsFrom};
+ghost use Rattle.awk_run.specs.definitions.Runs.{IsUntouched, RunsFrom, RunsSince};
 ghost use Rattle.awk_run.specs.definitions.Start.{start_values};
 ghost use Rattle.awk_run.specs.support.Programs.{Holds, IsRead};
 ghost use Rattle.awk_run.specs.support.Verdict.{no_streams};
@@ -17,6 +18,7 @@ ghost use Rattle.awk_run.specs.support.Verdict.{no_streams};
 use crate::plan_run::run_plan;
 use crate::start::Start;
 use awk_grammar::tree::Tree;
+use awk_journal::{Beginning, Logged};
 use awk_kinds::{Kinds, law_of_refusals, resolve};
 use awk_lex::lexer::tokens;
 use awk_lex::refusal::Refusal;
@@ -25,6 +27,7 @@ use awk_semantics::Outcome;
 use awk_streams::{World, some_oracle_is_consistent};
 use awk_syntax::parse;
 use std::alloc::Global;
+use std::marker::Brand;
 
 /// A tree that fits, and the kinds of its names.
 #[derive(Drop)]
@@ -74,10 +77,39 @@ pub fn read_program(alloc: Global, text: &[u8]) -> Result<Program, Refusal>
     })
 }
 
-/// Runs a program that was read, from the start values, with at most `limit` steps, in a world whose
-/// log is in order and in which nothing stands open or is to be flushed, as it is before anything was
-/// done there. What it leaves in the world, and its outcome, are what the program's items mean.
-/// (POSIX awk, Overall Program Structure)
+/// Runs a program in a world, over a log of its own: what the run does is all that this log holds.
+fn run_logged<W: World, B: Beginning>(
+    alloc: Global,
+    program: &Program,
+    start: &Start,
+    limit: u64,
+    world: W,
+) -> (W, (Outcome, u64, u64))
+    requires program { IsRead program.now }
+    requires placed { W.place world ≡ B.place }
+    requires tied { W.is_logged → Adds B.state [] None (W.state world) }
+    ensures placed { W.place result.0 ≡ B.place }
+    ensures since { (items : List Item) → Holds items program.now →
+        RunsSince W.is_logged items (start_values start.now) limit B.state (W.state result.0) result.1.0 }
+    ensures runs { (items : List Item) → Holds items program.now →
+        RunsFrom W.is_logged items (start_values start.now) limit B.state (W.state result.0) result.1.0 }
+{
+    law_of_untouched();
+    let mut logged = Logged::<W, B>::new(world);
+    let counted = run_plan(
+        alloc,
+        &program.plan,
+        &program.kinds,
+        start,
+        limit,
+        &mut logged,
+    );
+    (logged.into_world(), counted)
+}
+
+/// Runs a program that was read, from the start values, with at most `limit` steps, in any world,
+/// whatever was done there before. What it adds to what the world received, and its outcome, are what
+/// the program's items mean. (POSIX awk, Overall Program Structure)
 pub fn run<W: World>(
     alloc: Global,
     program: &Program,
@@ -86,8 +118,9 @@ pub fn run<W: World>(
     world: &mut W,
 ) -> Outcome
     requires program { IsRead program.now }
-    requires sound { W.is_logged → AreSound (W.state world.old) no_streams }
-    ensures { (items : List Item) → Holds items program.now →
+    ensures since { (items : List Item) → Holds items program.now →
+        RunsSince W.is_logged items (start_values start.now) limit (W.state world.old) (W.state world.new) result }
+    ensures runs { (items : List Item) → Holds items program.now →
         RunsFrom W.is_logged items (start_values start.now) limit (W.state world.old) (W.state world.new) result }
 {
     run_counted(alloc, program, start, limit, world).0
@@ -106,16 +139,17 @@ pub fn run_counted<W: World>(
     world: &mut W,
 ) -> (Outcome, u64, u64)
     requires program { IsRead program.now }
-    requires sound { W.is_logged → AreSound (W.state world.old) no_streams }
-    ensures { (items : List Item) → Holds items program.now →
+    ensures since { (items : List Item) → Holds items program.now →
+        RunsSince W.is_logged items (start_values start.now) limit (W.state world.old) (W.state world.new) result.0 }
+    ensures runs { (items : List Item) → Holds items program.now →
         RunsFrom W.is_logged items (start_values start.now) limit (W.state world.old) (W.state world.new) result.0 }
 {
-    run_plan(alloc, &program.plan, &program.kinds, start, limit, world)
+    let (_, counted) = run_logged::<&mut W, Brand>(alloc, program, start, limit, world);
+    counted
 }
 
-/// Reads a program text and runs it from the start values, with at most `limit` steps, in a world
-/// whose log is in order and in which nothing stands open or is to be flushed, as it is before
-/// anything was done there.
+/// Reads a program text and runs it from the start values, with at most `limit` steps, in any world,
+/// whatever was done there before.
 ///
 /// A text that is no program is refused, with the first cause that holds and its line, and nothing
 /// is done in the world. (POSIX awk, the awk utility)
@@ -126,7 +160,6 @@ pub fn execute<W: World>(
     limit: u64,
     world: &mut W,
 ) -> Result<Outcome, Refusal>
-    requires sound { W.is_logged → AreSound (W.state world.old) no_streams }
     ensures executed { Executed W.is_logged text.now (start_values start.now) limit (W.state world.old)
         (W.state world.new) result }
     ensures untouched { OnErr result (world.new ≡ world.old) }

@@ -1,5 +1,7 @@
 -- What a run of a program leaves in the world: what the program means.
-use Rattle.std.specs.Prelude.{◌≡◌, ◌≢◌, ℕ, List, [], None}
+use Rattle.std.specs.Prelude.{◌≡◌, ◌≢◌, ℕ, List, [], Option, None}
+use Rattle.awk_journal.specs.Adds.{Adds, with_log}
+use Rattle.awk_streams.specs.Log.{Event}
 use Rattle.awk_streams.specs.Oracle.{Oracle, IsConsistent}
 use Rattle.awk_streams.specs.Openings.{outputs_of}
 use Rattle.awk_streams.specs.Orderly.{IsOrderly}
@@ -36,3 +38,10 @@ pub record Runs (items : List Item) (start : StartValues) (limit : ℕ) (world :
 -- from a world in which nothing was done, a run leaves what the items mean
 pub record RunsFrom (is_logged : Type 0) (items : List Item) (start : StartValues) (limit : ℕ) (before after : WorldState) (result : Outcome) : Type 0 where
   pub runs : is_logged → IsUntouched before → Runs items start limit after result
+
+-- from any world, what a run adds to the log and to the failures that stood there is what the items mean
+pub record RunsSince (is_logged : Type 0) (items : List Item) (start : StartValues) (limit : ℕ) (before after : WorldState) (result : Outcome) : Type 0 where
+  pub log : List Event
+  pub first_failure : Option ℕ
+  pub adds : is_logged → Adds before log first_failure after
+  pub runs : Runs items start limit (with_log after.is_open log first_failure) result
