@@ -2,4 +2,3 @@ pub mod CommandLineLemmas
 pub mod InvocationLemmas
 pub mod ProgramTextLemmas
 pub mod ReportLemmas
-pub mod SoundLemmas

@@ -2,9 +2,7 @@
 
 ghost use Rattle.std.specs.Prelude.{◌≡◌, ◌&&◌, IfOk, map, filter};
 ghost use Rattle.std.specs.Str.{is_utf8};
-ghost use Rattle.awk_streams.specs.Streams.{AreSound};
 ghost use Rattle.awk_run.specs.Start.{pair_of};
-ghost use Rattle.awk_run.specs.support.Verdict.{no_streams};
 ghost use Rattle.awk_command.specs.CommandLine.{texts, view_of};
 ghost use Rattle.awk_command.specs.Invocation.{environ_of, RunsCommandLine, Invokes, RunsUtility};
 
@@ -43,7 +41,6 @@ fn run_command_line<W: World>(
     environ: Vec<Assignment>,
     world: &mut W,
 ) -> Result<Outcome, NotRun>
-    requires sound { W.is_logged → AreSound (W.state world.old) no_streams }
     ensures { RunsCommandLine W.is_logged (view_of line) environ.items (W.state world.old) result (W.state world.new) }
 {
     let CommandLine {
@@ -69,7 +66,6 @@ fn invoke<W: World>(
     environ: Vec<Assignment>,
     world: &mut W,
 ) -> Result<Outcome, NotRun>
-    requires sound { W.is_logged → AreSound (W.state world.old) no_streams }
     ensures { Invokes W.is_logged (texts words.now) environ.items (W.state world.old) result (W.state world.new) }
 {
     match read_command_line(alloc, words) {
@@ -79,10 +75,8 @@ fn invoke<W: World>(
     }
 }
 
-/// The program: runs what the words after its name ask for, in a world and with the entries of an
-/// environment, reports on standard error what there is to report, and answers the exit status. The
-/// log of the world is in order, and nothing stands open in it or is to be flushed, as it is before
-/// anything was done there.
+/// The program: runs what the words after its name ask for, in any world and with the entries of an
+/// environment, reports on standard error what there is to report, and answers the exit status.
 ///
 /// The words are `[-F sep] [-v name=text].. [-L n] [-f file.. | program] [operand..]`. The status is
 /// the program's own from 0 to 255, 2 for a usage fault, a program file that isn't readable, a
@@ -94,7 +88,6 @@ pub fn main_words<W: World>(
     environ: Vec<Assignment>,
     world: &mut W,
 ) -> u8
-    requires sound { W.is_logged → AreSound (W.state world.old) no_streams }
     ensures { RunsUtility W.is_logged (texts words.now) environ.items (W.state world.old) result (W.state world.new) }
 {
     match invoke(alloc, words, environ, world) {

@@ -6,7 +6,7 @@ ghost use Rattle.awk_streams.specs.Log.{logged, input_opening};
 ghost use Rattle.awk_command.specs.CommandLine.{texts, source_of};
 ghost use Rattle.awk_command.specs.ProgramText.{kind_of, opened_name, with_newline, ReadsInput, ReadsFile};
 ghost use Rattle.awk_command.specs.ProgramText.{ReadsFiles, IsNotRead, IsBroken, IsUnreadable, ProvidesText};
-ghost use Rattle.awk_command.specs.Parts.{ReadsChunk, StaysSound, reason_of};
+ghost use Rattle.awk_command.specs.Parts.{ReadsChunk, reason_of};
 
 use crate::command_line::ProgramSource;
 use crate::report::NotRun;
@@ -88,11 +88,10 @@ fn read_input<W: World>(alloc: Global, world: &mut W, id: u64) -> Result<Vec<u8>
     Ok(bytes)
 }
 
-/// Reads a file. A run may begin behind it as before.
+/// Opens a file, reads it and closes it.
 fn read_file<W: World>(alloc: Global, world: &mut W, name: &[u8]) -> Result<Vec<u8>, NotRun>
     ensures read { IfOk result
         (λ bytes. W.is_logged → ReadsFile name.now bytes.items (W.state world.old).log (W.state world.new).log) }
-    ensures sound { IfOk result (λ _. W.is_logged → StaysSound (W.state world.old) (W.state world.new)) }
     ensures err { IfErr result IsNotRead }
     ensures unreadable { result ≡ Err NotRun.NotReadable → W.is_logged → IsUnreadable (W.state world.new).log }
 {
@@ -117,7 +116,6 @@ fn append_file(text: &mut Vec<u8>, bytes: &[u8]) -> Result<(), AllocError>
 fn read_files<W: World>(alloc: Global, world: &mut W, names: &[Vec<u8>]) -> Result<Vec<u8>, NotRun>
     ensures read { IfOk result
         (λ text. W.is_logged → ReadsFiles (texts names.now) text.items (W.state world.old).log (W.state world.new).log) }
-    ensures sound { IfOk result (λ _. W.is_logged → StaysSound (W.state world.old) (W.state world.new)) }
     ensures err { IfErr result IsNotRead }
     ensures unreadable { result ≡ Err NotRun.NotReadable → W.is_logged → IsUnreadable (W.state world.new).log }
 {
@@ -129,14 +127,13 @@ fn read_files<W: World>(alloc: Global, world: &mut W, names: &[Vec<u8>]) -> Resu
     Ok(text)
 }
 
-/// The text of a program. A run may begin behind it as before. (POSIX awk, OPTIONS)
+/// The text of a program. (POSIX awk, OPTIONS)
 pub(crate) fn program_text<W: World>(
     alloc: Global,
     world: &mut W,
     source: ProgramSource,
 ) -> Result<Vec<u8>, NotRun>
     ensures text { ProvidesText W.is_logged (source_of source) (W.state world.old) result (W.state world.new) }
-    ensures sound { IfOk result (λ _. W.is_logged → StaysSound (W.state world.old) (W.state world.new)) }
 {
     match source {
         ProgramSource::Text(text) => Ok(text),

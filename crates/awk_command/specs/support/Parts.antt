@@ -1,12 +1,9 @@
--- What the parts of the code do: the options that were read, one reading of a program file, and where a run may begin.
+-- What the parts of the code do: the options that were read, and one reading of a program file.
 use Rattle.std.specs.Prelude.{◌≡◌, ℕ, Bool, true, false, List, ◌∷◌, ◌++◌, map}
 use Rattle.awk_world.specs.declared.world.WorldFault.{WorldFault}
 use Rattle.awk_world.specs.declared.world.WorldFault.TheVariants as fault
 use Rattle.awk_streams.specs.Log.{Event, Read, Ended}
-use Rattle.awk_streams.specs.Streams.{AreSound}
-use Rattle.awk_streams.specs.WorldState.{WorldState}
 use Rattle.awk_run.specs.Start.{pair_of}
-use Rattle.awk_run.specs.support.Verdict.{no_streams}
 use Rattle.awk_command.specs.declared.options.Settings.{Settings as CodeSettings}
 use Rattle.awk_command.specs.declared.report.NotRun.{NotRun}
 use Rattle.awk_command.specs.declared.report.NotRun.TheVariants.{NotReadable, Memory}
@@ -24,7 +21,3 @@ ReadsChunk id false old new log log' = (new ≡ old) × (log' ≡ Ended id ∷ l
 abbrev pub reason_of : WorldFault → NotRun
 reason_of fault.Memory = Memory
 reason_of fault.Failed = NotReadable
-
--- a run may begin in the one world if it may in the other
-abbrev pub StaysSound : WorldState → WorldState → Type 0
-StaysSound before after = AreSound before no_streams → AreSound after no_streams
