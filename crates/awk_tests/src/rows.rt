@@ -14,10 +14,10 @@
 //   > TEXT      a line that is left on standard output
 //   ! TEXT      a line that is left on standard error
 //   = N         the status, and the end of the row
-ghost use Rattle.std.specs.Prelude.{◌≡◌, [], None};
 
-use crate::worlds::{answer, call, grant, was_given};
-use awk_streams::{Answer, InputKind, OutputKind, ScriptWorld, World};
+use crate::worlds::{answer, grant, was_given};
+use awk_command::main_words;
+use awk_streams::{Answer, InputKind, OutputKind, ScriptWorld};
 use awk_world::Ending;
 use std::alloc::{AllocError, Global};
 use std::mem;
@@ -177,10 +177,7 @@ fn is_written(alloc: Global, status: u8, digits: &[u8]) -> Result<bool, AllocErr
 }
 
 // A world in which the first write fails, or none.
-fn make_world(alloc: Global, answers: Vec<Answer>, is_full: bool) -> ScriptWorld
-    ensures log { (⟦<ScriptWorld as World>⟧.state result).log ≡ [] }
-    ensures first_failure { (⟦<ScriptWorld as World>⟧.state result).first_failure ≡ None }
-{
+fn make_world(alloc: Global, answers: Vec<Answer>, is_full: bool) -> ScriptWorld {
     let mut world = ScriptWorld::new(alloc, answers);
     if is_full {
         world.fail_write(1);
@@ -192,7 +189,7 @@ fn make_world(alloc: Global, answers: Vec<Answer>, is_full: bool) -> ScriptWorld
 fn leaves(alloc: Global, row: &mut Row) -> Result<bool, AllocError> {
     let answers = mem::replace(&mut row.answers, Vec::new(alloc));
     let mut world = make_world(alloc, answers, row.is_full);
-    let status = call(alloc, &row.words, Vec::new(alloc), &mut world);
+    let status = main_words(alloc, &row.words, Vec::new(alloc), &mut world);
     Ok(
         was_given(&world, 0, &row.output)?
             && was_given(&world, 1, &row.errors)?

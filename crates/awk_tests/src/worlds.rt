@@ -1,9 +1,6 @@
-// Worlds in memory in which nothing was done, and calls of the program in them.
-ghost use Rattle.std.specs.Prelude.{◌≡◌, [], None};
+// The answers of worlds in memory, and what these received.
 
-use awk_command::main_words;
-use awk_run::{Assignment, law_of_untouched};
-use awk_streams::{Answer, Entry, InputKind, OutputKind, ScriptWorld, World};
+use awk_streams::{Answer, Entry, InputKind, OutputKind, ScriptWorld};
 use awk_world::{Ending, InputAnswer, OutputAnswer};
 use std::alloc::{AllocError, Global};
 
@@ -83,20 +80,6 @@ pub fn outputs_of(alloc: Global, world: &ScriptWorld) -> Result<Vec<Vec<u8>>, Al
         }
     }
     Ok(outputs)
-}
-
-/// Calls the program in a world in which nothing was done, and answers its status.
-pub fn call(
-    alloc: Global,
-    words: &[Vec<u8>],
-    environ: Vec<Assignment>,
-    world: &mut ScriptWorld,
-) -> u8
-    requires log { (⟦<ScriptWorld as World>⟧.state world.old).log ≡ [] }
-    requires first_failure { (⟦<ScriptWorld as World>⟧.state world.old).first_failure ≡ None }
-{
-    law_of_untouched();
-    main_words(alloc, words, environ, world)
 }
 
 /// Whether an output was given this.

@@ -1,12 +1,12 @@
 // Runs in which a call of the world fails, an input breaks or comes in pieces, writes are short or steps are few: what
 // they leave, beside what the same programs leave undisturbed.
-ghost use Rattle.std.specs.Prelude.{◌≡◌, ◌≤◌, [], None, IfOk};
+ghost use Rattle.std.specs.Prelude.{◌≤◌};
 
 use crate::rows::{Row, expect_rows, rows_of};
 use crate::worlds::{break_off, copy_of, cut_up, len_of, outputs_of};
 use awk_command::{CommandLine, ProgramSource, read_command_line};
-use awk_run::{Fault, Outcome, Start, execute, law_of_untouched};
-use awk_streams::{Answer, Entry, OUTPUT_BUFFER_SIZE, ScriptWorld, World};
+use awk_run::{Fault, Outcome, Start, execute};
+use awk_streams::{Answer, Entry, OUTPUT_BUFFER_SIZE, ScriptWorld};
 use std::alloc::{AllocError, Global};
 use std::process::Abort;
 use std::test::Fail;
@@ -234,10 +234,7 @@ impl Program {
     }
 
     // A fresh world of its answers, in which each input is given in single bytes.
-    fn world_in_pieces(&self, alloc: Global) -> Result<ScriptWorld, AllocError>
-        ensures log { IfOk result (λ world. (⟦<ScriptWorld as World>⟧.state world).log ≡ []) }
-        ensures first_failure { IfOk result (λ world. (⟦<ScriptWorld as World>⟧.state world).first_failure ≡ None) }
-    {
+    fn world_in_pieces(&self, alloc: Global) -> Result<ScriptWorld, AllocError> {
         let mut answers = self.answers_that_break(alloc, self.answers.len(), 0)?;
         for answer in &mut answers {
             cut_up(answer)?;
@@ -248,10 +245,7 @@ impl Program {
     }
 
     // A fresh world of its answers.
-    fn world(&self, alloc: Global) -> Result<ScriptWorld, AllocError>
-        ensures log { IfOk result (λ world. (⟦<ScriptWorld as World>⟧.state world).log ≡ []) }
-        ensures first_failure { IfOk result (λ world. (⟦<ScriptWorld as World>⟧.state world).first_failure ≡ None) }
-    {
+    fn world(&self, alloc: Global) -> Result<ScriptWorld, AllocError> {
         self.world_that_breaks(alloc, self.answers.len(), 0)
     }
 
@@ -261,10 +255,7 @@ impl Program {
         alloc: Global,
         place: usize,
         bytes: usize,
-    ) -> Result<ScriptWorld, AllocError>
-        ensures log { IfOk result (λ world. (⟦<ScriptWorld as World>⟧.state world).log ≡ []) }
-        ensures first_failure { IfOk result (λ world. (⟦<ScriptWorld as World>⟧.state world).first_failure ≡ None) }
-    {
+    ) -> Result<ScriptWorld, AllocError> {
         let answers = self.answers_that_break(alloc, place, bytes)?;
         let mut world = ScriptWorld::new(alloc, answers);
         world.buffer_outputs(self.buffer);
@@ -272,11 +263,7 @@ impl Program {
     }
 
     // Runs it with at most so many steps.
-    fn run(&self, alloc: Global, limit: u64, mut world: ScriptWorld) -> Result<Left, Fail>
-        requires log { (⟦<ScriptWorld as World>⟧.state world).log ≡ [] }
-        requires first_failure { (⟦<ScriptWorld as World>⟧.state world).first_failure ≡ None }
-    {
-        law_of_untouched();
+    fn run(&self, alloc: Global, limit: u64, mut world: ScriptWorld) -> Result<Left, Fail> {
         let Ok(outcome) = execute(alloc, &self.text, &self.start, limit, &mut world) else {
             return Err(Fail::new("no program"));
         };
@@ -327,7 +314,6 @@ impl Failure {
     // The k-th such call of the world is to fail.
     fn plan(self, k: u64, world: &mut ScriptWorld)
         requires { 1 ≤ k }
-        ensures { ⟦<ScriptWorld as World>⟧.state world.new ≡ ⟦<ScriptWorld as World>⟧.state world.old }
     {
         match self {
             Failure::Write => world.fail_write(k),

@@ -9,7 +9,7 @@ ghost use Rattle.awk_run.specs.Runs.{Runs};
 
 use crate::worlds::answer;
 use awk_lex::refusal::Refusal;
-use awk_run::{Outcome, Start, execute, law_of_untouched, read_program, run_counted};
+use awk_run::{Outcome, Start, execute, read_program, run_counted};
 use awk_streams::{Answer, InputKind, ScriptWorld, World};
 use std::alloc::{AllocError, Global};
 use std::process::Abort;
@@ -36,7 +36,6 @@ pub fn run_in_memory(
     ensures run { IfOk result.outcome (λ outcome. (items : List Item) × Accepted text.now items ×
         Runs items (start_values start.now) limit (⟦<ScriptWorld as World>⟧.state result.world) outcome) }
 {
-    law_of_untouched();
     let mut world = ScriptWorld::new(alloc, answers);
     let outcome = execute(alloc, text, start, limit, &mut world);
     Run { world, outcome }
@@ -57,6 +56,19 @@ fn a_run_in_memory(rt: HostRuntime) -> Result<(), Fail> {
     Ok(())
 }
 
+#[test]
+fn one_run_behind_another(rt: HostRuntime) -> Result<(), Fail> {
+    let alloc = rt.alloc();
+    let mut world = ScriptWorld::new(alloc, Vec::new(alloc));
+    let start = Start::new(alloc);
+    for text in [b"BEGIN { print 1 }".as_slice(), b"BEGIN { print 2 }"] {
+        let outcome = execute(alloc, text, &start, 1, &mut world);
+        assert!(rt; outcome == Ok(Outcome::Ended(0)));
+    }
+    assert!(rt; world.received(0)?.as_slice() == b"1\n2\n".as_slice());
+    Ok(())
+}
+
 // How often the texts of ten records `a b c` are split, and made anew, by a program.
 fn counts(alloc: Global, text: &[u8]) -> Result<Option<(u64, u64)>, AllocError> {
     let mut bytes = Vec::new(alloc);
@@ -65,7 +77,6 @@ fn counts(alloc: Global, text: &[u8]) -> Result<Option<(u64, u64)>, AllocError> 
     }
     let input = answer(alloc, InputKind::Standard, b"", bytes, false)?;
     let answers = vec![in alloc; Answer::Input(input)]?;
-    law_of_untouched();
     let mut world = ScriptWorld::new(alloc, answers);
     let Ok(program) = read_program(alloc, text) else {
         return Ok(None);
