@@ -11,17 +11,12 @@ use Rattle.awk_lex.specs.Lexes.{Lexes}
 use Rattle.awk_lex.specs.Told.{Refuses, kinds_of as token_kinds_of}
 use Rattle.awk_grammar.specs.Tree.{Item}
 use Rattle.awk_grammar.specs.Spelling.{IsProgram}
-use Rattle.awk_grammar.specs.View.{items_of, tree_of}
-use Rattle.awk_grammar.specs.declared.tree.Item.{Item as CodeItem}
+use Rattle.awk_grammar.specs.View.{tree_of}
 use Rattle.awk_grammar.specs.declared.tree.Tree.{Tree}
 use Rattle.awk_syntax.specs.Outcome.{Reads, IsProgramWithinHeight, RefusesPattern, Justifies}
 use Rattle.awk_syntax.specs.Patterns.{AreReadable}
 use Rattle.awk_kinds.specs.definitions.Fits.{holds, first_of, in_order, first_refusal, Fits, LawOfRefusals}
-use Rattle.awk_kinds.specs.definitions.Placed.{are_in_place}
-use Rattle.awk_kinds.specs.definitions.Signatures.{ProgramKinds, kinds_of, Resolves}
-use Rattle.awk_resolve.specs.declared.plan.Plan.{Plan}
-use Rattle.awk_resolve.specs.definitions.Plans.{IsPlanOf}
-use Rattle.awk_run.specs.support.Planned.{IsProgramOf}
+use Rattle.awk_kinds.specs.definitions.Signatures.{Resolves}
 use Rattle.awk_run.specs.definitions.Accepted.{longest_text, IsSpelled, HasBadEre, DoesNotFit, Accepted, RefusedFor}
 
 -- the tree of a text
@@ -55,14 +50,6 @@ same_read text tokens tree one only items a =
 none_some : {A B : Type 0} {x : A} → None ≡ Some x → B
 none_some e = absurd (cc)
 
--- what is told of the same items
-
-pub fits_same : {xs ys : List CodeItem} → xs ≡ ys → first_refusal (items_of xs) ≡ None → first_refusal (items_of ys) ≡ None
-fits_same e h = subst (λ (l : List CodeItem). first_refusal (items_of l) ≡ None) e h
-
-pub told_same : {xs ys : List CodeItem} {refusal : Refusal} → xs ≡ ys → Resolves (items_of xs) (Err refusal) → Resolves (items_of ys) (Err refusal)
-told_same {refusal = refusal} e h = subst (λ (l : List CodeItem). Resolves (items_of l) (Err refusal)) e h
-
 -- a tree of which something is told is no program
 pub none_fits : ((items : List Item) → LawOfRefusals items) → (refusal : Refusal) (text : List ℕ) (tokens : List Kind) (tree : Tree) → HasOne text tokens
     → ((items : List Item) → IsProgramWithinHeight tokens items → AreReadable tokens → Reads (Ok tree) items)
@@ -73,10 +60,6 @@ none_fits law refusal text tokens tree one only h items a = elim h [
       let same = same_read text tokens tree one only items a in
       none_some (sym ((law items).none a.fits) ∙ (ap first_refusal (sym same) ∙ told.0))
 ]
-
--- an accepted program, its plan, and the kinds of its names
-pub program_of : {text : List ℕ} {items : List Item} {plan : Plan} {kinds : ProgramKinds} → IsPlanOf items plan → Accepted text items → kinds ≡ kinds_of items → IsProgramOf items plan kinds
-program_of is a named = record { is = is; fits = a.fits; named = named }
 
 -- a text is one program at most, where it has one list of tokens and they have one tree
 pub one_program : (text : List ℕ) (xs ys : List Item) → ((ts us : List Kind) → Lexes ts text → Lexes us text → ts ≡ us)
@@ -166,11 +149,3 @@ justified code line text tokens h why = absurd why
 
 pub parsing_refused : (refusal : Refusal) (text : List ℕ) (tokens : List Token) → length text ≤ longest_text → Lexes (token_kinds_of tokens) text → Justifies refusal.code refusal.line tokens → RefusedFor refusal.code text
 parsing_refused refusal text tokens short lexes why = justified refusal.code refusal.line text tokens (short, lexes) why
-
--- where the statements of a program stand
-not_false : (b : Bool) → not b ≡ false → b ≡ true
-not_false true e = refl
-not_false false e = absurd (cc)
-
-pub in_place : {text : List ℕ} {items : List Item} → Accepted text items → are_in_place items ≡ true
-in_place {items = items} accepted = not_false (are_in_place items) (accepted.fits StatementOutOfPlace)

@@ -4,8 +4,6 @@ ghost use Rattle.std.specs.Prelude.{◌≡◌, ℕ, List, [], None, IfOk, IfErr,
 ghost use Rattle.awk_journal.specs.Adds.{Adds};
 ghost use Rattle.awk_lex.specs.Refused.{IsOutOfMemory};
 ghost use Rattle.awk_grammar.specs.Tree.{Item};
-ghost use Rattle.awk_grammar.specs.View.{tree_of};
-ghost use Rattle.awk_kinds.specs.Signatures.{kinds_of};
 ghost use Rattle.awk_streams.specs.Streams.{AreSound};
 ghost use Rattle.awk_streams.specs.WorldState.{WorldState};
 ghost use Rattle.awk_run.specs.definitions.Accepted.{Accepted, RefusedFor};
@@ -17,44 +15,21 @@ ghost use Rattle.awk_run.specs.support.Verdict.{no_streams};
 
 use crate::plan_run::run_plan;
 use crate::start::Start;
-use awk_grammar::tree::Tree;
 use awk_journal::{Beginning, Logged};
-use awk_kinds::{Kinds, law_of_refusals, resolve};
+use awk_kinds::law_of_refusals;
 use awk_lex::lexer::tokens;
 use awk_lex::refusal::Refusal;
-use awk_resolve::{Plan, lower_program};
+use awk_resolve::{Plan, resolve};
 use awk_semantics::Outcome;
 use awk_streams::{World, some_oracle_is_consistent};
 use awk_syntax::parse;
 use std::alloc::Global;
 use std::marker::Brand;
 
-/// A tree that fits, and the kinds of its names.
-#[derive(Drop)]
-struct FittingTree {
-    tree: Tree,
-    kinds: Kinds,
-}
-
 /// A program that was read from a text, and can be run any number of times.
 #[derive(Drop)]
 pub struct Program {
     plan: Plan,
-    kinds: Kinds,
-}
-
-/// The tree of a text.
-fn read_tree(alloc: Global, text: &[u8]) -> Result<FittingTree, Refusal>
-    ensures accepted { IfOk result (λ read. Accepted text.now (tree_of read.tree)) }
-    ensures kinds { IfOk result (λ read. read.kinds ≡ kinds_of (tree_of read.tree)) }
-    ensures only { (items : List Item) → Accepted text.now items → IfErr result IsOutOfMemory }
-    ensures cause { IfErr result (λ refusal. RefusedFor refusal.code text.now) }
-{
-    law_of_refusals();
-    let tokens = tokens(alloc, text)?;
-    let tree = parse(alloc, &tokens)?;
-    let kinds = resolve(alloc, &tree.items)?;
-    Ok(FittingTree { tree, kinds })
 }
 
 /// The program that a text spells. (POSIX awk, the awk utility)
@@ -69,12 +44,11 @@ pub fn read_program(alloc: Global, text: &[u8]) -> Result<Program, Refusal>
         (items : List Item) → Accepted text.now items → ⊥) }
     ensures program { IfOk result (λ program. (items : List Item) × Accepted text.now items × Holds items program) }
 {
-    let read = read_tree(alloc, text)?;
-    let plan = lower_program(alloc, &read.tree.items, &read.kinds)?;
-    Ok(Program {
-        plan,
-        kinds: read.kinds,
-    })
+    law_of_refusals();
+    let tokens = tokens(alloc, text)?;
+    let tree = parse(alloc, &tokens)?;
+    let plan = resolve(alloc, &tree)?;
+    Ok(Program { plan })
 }
 
 /// Runs a program in a world, over a log of its own: what the run does is all that this log holds.
@@ -99,7 +73,7 @@ fn run_logged<W: World, B: Beginning>(
     let counted = run_plan(
         alloc,
         &program.plan,
-        &program.kinds,
+        &program.plan.kinds,
         start,
         limit,
         &mut logged,

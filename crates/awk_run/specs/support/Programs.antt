@@ -6,7 +6,7 @@ use Rattle.awk_run.specs.support.Planned.{IsProgramOf}
 
 -- the program consists of these items
 pub record Holds (items : List Item) (program : Program) : Type 0 where
-  pub is : IsProgramOf items program.plan program.kinds
+  pub is : IsProgramOf items program.plan program.plan.kinds
 
 -- there are items that it consists of, as those of the text that it was read from
 pub record IsRead (program : Program) : Type 0 where
