@@ -1,10 +1,10 @@
 -- The fields that were found, among all those of a text.
-use Rattle.std.proofs.Common.{◌≡◌, ℕ, zero, suc, ◌<◌, ◌≤◌, ◌⊎◌, List, [], ◌∷◌, ◌++◌, length, get_or, None, Some, refl, sym, ◌∙◌, ap, subst, arith, append_assoc, append-nil, inl, inr}
+use Rattle.std.proofs.Common.{◌≡◌, ℕ, zero, suc, ◌<◌, ◌≤◌, ◌⊎◌, List, [], ◌∷◌, ◌++◌, length, get_or, None, Some, refl, sym, ◌∙◌, ap, subst, arith, append-nil, inl, inr}
 use Rattle.std.specs.Prelude.{slice_get}
 use Rattle.std.specs.Option.{option_map}
-use Rattle.std.proofs.lemmas.List.{map-append, length-map}
+use Rattle.std.proofs.lemmas.List.{length-map}
 use Rattle.std.proofs.lemmas.Bool.{cases_lt}
-use Rattle.std.proofs.lemmas.List.Elements.{All-push, All-get_or}
+use Rattle.std.proofs.lemmas.List.Elements.{All-get_or}
 use Rattle.std.proofs.lemmas.Option.{slice_get-map, slice_get-get_or, slice_get_past}
 use Rattle.awk_text.specs.Pieces.{stretch_at, stretches_at, IsSpanOf, AreSpansOf}
 use Rattle.awk_text.specs.Fields.{pieces_from_by, pieces_by}
@@ -13,20 +13,19 @@ use Rattle.awk_text.specs.declared.span.Span.{Span}
 use Rattle.awk_record.specs.declared.fields.Fields.{Fields}
 use Rattle.awk_record.specs.support.Found.{AreFieldsOf}
 
--- one field more was found
-pub pieces-found : (separator : Rule) (text : List ℕ) (old new : List Span) (span : Span) (before behind : ℕ) → new ≡ old ++ span ∷ [] →
-    pieces_from_by separator text before ≡ stretch_at text span ∷ pieces_from_by separator text behind →
-    stretches_at text old ++ pieces_from_by separator text before ≡ pieces_by separator text →
-    stretches_at text new ++ pieces_from_by separator text behind ≡ pieces_by separator text
-pieces-found separator text old new span before behind is first h =
-    let left = pieces_from_by separator text behind in
-    ap (λ spans. stretches_at text spans ++ left) is
-    ∙ (ap (λ ps. ps ++ left) (map-append (stretch_at text) old (span ∷ []))
-    ∙ (append_assoc (stretches_at text old) (stretch_at text span ∷ []) left
-    ∙ (ap (λ ps. stretches_at text old ++ ps) (sym first) ∙ h)))
+-- more fields were found, or none
+pub found-more : (text : List ℕ) (old new : Fields) → AreFieldsOf text old → new.separator ≡ old.separator → (AreSpansOf text old.spans.items → AreSpansOf text new.spans.items) →
+    stretches_at text new.spans.items ++ pieces_from_by old.separator text new.rest ≡ stretches_at text old.spans.items ++ pieces_from_by old.separator text old.rest → AreFieldsOf text new
+found-more text old new is same within pieces = record {
+  within = within is.within;
+  pieces = subst (λ (r : Rule). stretches_at text new.spans.items ++ pieces_from_by r text new.rest ≡ pieces_by r text) (sym same) (pieces ∙ is.pieces);
+}
 
-pub spans-found : (text : List ℕ) (old new : List Span) (span : Span) → new ≡ old ++ span ∷ [] → AreSpansOf text old → IsSpanOf text span → AreSpansOf text new
-spans-found text old new span is all one = subst (AreSpansOf text) (sym is) (All-push (IsSpanOf text) old span all one)
+pub found-same : (text : List ℕ) (old new : Fields) → AreFieldsOf text old → new.separator ≡ old.separator → new.spans.items ≡ old.spans.items → new.rest ≡ old.rest → AreFieldsOf text new
+found-same text old new is same spans rest =
+    let left = pieces_from_by old.separator text old.rest in
+    found-more text old new is same (λ all. subst (AreSpansOf text) (sym spans) all)
+    (ap (λ (place : ℕ). stretches_at text new.spans.items ++ pieces_from_by old.separator text place) rest ∙ ap (λ (xs : List Span). stretches_at text xs ++ left) spans)
 
 slice_get-append : {X : Type 0} (xs ys : List X) (i : ℕ) → i < length xs → slice_get (xs ++ ys) i ≡ slice_get xs i
 slice_get-append [] ys i lt = absurd (omega arith)

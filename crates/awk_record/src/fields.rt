@@ -93,6 +93,18 @@ impl Fields {
         self.rest = 0;
     }
 
+    // Counts a text that begins to be split.
+    #[inline(always)]
+    fn count_split(&mut self)
+        ensures separator { self.new.separator ≡ self.old.separator }
+        ensures spans { self.new.spans.items ≡ self.old.spans.items }
+        ensures rest { self.new.rest ≡ self.old.rest }
+    {
+        if self.rest == 0 {
+            self.splits = self.splits.saturating_add(1);
+        }
+    }
+
     // Finds on until there is one at this index, or all are found.
     #[inline(never)]
     fn find(&mut self, text: &[u8], index: usize) -> Result<(), RecordFault>
@@ -104,21 +116,9 @@ impl Fields {
         ensures memory { IfErr result (λ e. e ≡ RecordFault.Memory) }
     {
         pieces_from_law();
-        if self.rest == 0 {
-            self.splits = self.splits.saturating_add(1);
-        }
-        while self.spans.len() <= index {
-            match self.separator.next_field(text, self.rest) {
-                Some(found) => {
-                    self.spans.push(found.span)?;
-                    self.rest = found.rest;
-                }
-                None => {
-                    self.rest = text.len() + 1;
-                    return Ok(());
-                }
-            }
-        }
+        self.count_split();
+        self.separator
+            .find_fields(text, index, &mut self.spans, &mut self.rest)?;
         Ok(())
     }
 

@@ -1,5 +1,5 @@
 -- What the code keeps, and the separator for which it stands.
-use Rattle.std.proofs.Common.{◌≡◌, ◌≢◌, ℕ, ◌≤◌, Bool, true, List, [], ◌∷◌, length, Option, Some, None, Result, Ok, Err, refl, sym, ap, subst, ◌∙◌, arith}
+use Rattle.std.proofs.Common.{◌≡◌, ◌≢◌, ℕ, ◌≤◌, Bool, true, List, [], ◌∷◌, ◌++◌, length, Option, Some, None, Result, Ok, Err, refl, sym, ap, subst, ◌∙◌, arith}
 use Rattle.std.specs.Prelude.{is_ok, IfOk, IfErr, OnOk, MatchResult}
 use Rattle.std.specs.Result.{IsErrAnd}
 use Rattle.std.proofs.Math.Logic.{∥∥₁_elim, ∥∥₁_prop}
@@ -11,17 +11,15 @@ use Rattle.awk_ere.specs.declared.fault.PatternFault.{PatternFault}
 use Rattle.awk_ere.specs.declared.fault.PatternFault.TheVariants as patterns
 use Rattle.awk_text.specs.declared.fault.TextFault.{TextFault}
 use Rattle.awk_text.specs.declared.fault.TextFault.TheVariants.{Memory, Pattern as NoPattern}
-use Rattle.awk_text.specs.declared.span.FoundField.{FoundField}
 use Rattle.awk_text.specs.declared.separator.Separator.{Separator as CodeSeparator}
 use Rattle.awk_text.specs.declared.separator.Separator.TheVariants as code
-use Rattle.awk_text.specs.definitions.Pieces.{stretch_at}
 use Rattle.awk_text.specs.declared.splitter.Splitter.{Splitter}
 use Rattle.awk_text.specs.declared.splitter.Splitter.TheVariants as splitters
 use Rattle.awk_text.specs.declared.matcher.Matcher.{Matcher}
 use Rattle.awk_text.specs.definitions.Separators.{Separator, blanks, byte, each, ere, separator_of, ere_or_refused, separator_made, or_newline, IsSeparator, IsMadeFor}
 use Rattle.awk_text.specs.support.Faults.{text_fault}
 use Rattle.awk_text.specs.support.Splitters.{Stands, StandsFor}
-use Rattle.awk_text.specs.definitions.Fields.{pieces_from, pieces_of, IsNextPiece}
+use Rattle.awk_text.specs.definitions.Fields.{pieces_from, pieces_of}
 
 ere_made : (p : Pattern) (o : Option Tree) → ReadsAs (Ok p) o → IsMadeFor (ere_or_refused o) (code.Ere p)
 ere_made p None reads = reads
@@ -97,19 +95,18 @@ stands_still separator n old new still stands = ∥∥₁_elim stands ∥∥₁_
     still_for (Ok s) h = still s h
     still_for (Err fault) h = h
 
-piece_prop : (pieces : ℕ → List (List ℕ)) (text : List ℕ) (place : ℕ) (found : Option FoundField) → IsProp (IsNextPiece pieces text place found)
-piece_prop pieces text place None = Coded-set (coded_list (coded_list coded_ℕ)) (pieces place) []
-piece_prop pieces text place (Some found) = Coded-set (coded_list (coded_list coded_ℕ)) (pieces place) (stretch_at text found.span ∷ pieces found.rest)
-
--- the next piece by the separator that a value of FS stands for
-pub piece_for : (separator : Result Separator TextFault) (newline_too : Bool) (splitter : Splitter) (text : List ℕ) (place : ℕ) (found : Option FoundField) →
-    ((s : Separator) → Stands s newline_too splitter → IsNextPiece (pieces_from s newline_too text) text place found) →
-    ∥ StandsFor separator newline_too splitter ∥₁ → IsNextPiece (pieces_from (separator_made separator) newline_too text) text place found
-piece_for separator n splitter text place found piece stands =
-    ∥∥₁_elim stands (piece_prop (pieces_from (separator_made separator) n text) text place found) (λ h. by_made separator h)
+-- the pieces found and those left, by the separator that a value of FS stands for
+pub left_for : (separator : Result Separator TextFault) (newline_too : Bool) (splitter : Splitter) (text : List ℕ) (old new : List (List ℕ)) (before behind : ℕ) →
+    ((s : Separator) → Stands s newline_too splitter → new ++ pieces_from s newline_too text behind ≡ old ++ pieces_from s newline_too text before) →
+    ∥ StandsFor separator newline_too splitter ∥₁ →
+    new ++ pieces_from (separator_made separator) newline_too text behind ≡ old ++ pieces_from (separator_made separator) newline_too text before
+left_for separator n splitter text old new before behind pieces stands =
+    let made = separator_made separator in
+    ∥∥₁_elim stands (Coded-set (coded_list (coded_list coded_ℕ)) (new ++ pieces_from made n text behind) (old ++ pieces_from made n text before)) (λ h. by_made separator h)
   where
-    by_made : (separator : Result Separator TextFault) → StandsFor separator n splitter → IsNextPiece (pieces_from (separator_made separator) n text) text place found
-    by_made (Ok s) h = piece s h
+    by_made : (separator : Result Separator TextFault) → StandsFor separator n splitter →
+        new ++ pieces_from (separator_made separator) n text behind ≡ old ++ pieces_from (separator_made separator) n text before
+    by_made (Ok s) h = pieces s h
     by_made (Err fault) h = absurd h
 
 -- all pieces by the separator that a value of FS stands for

@@ -1,5 +1,5 @@
 // The pieces of a text between the matches of a pattern.
-ghost use Rattle.std.specs.Prelude.{◌≡◌, ◌≤◌, ◌<◌, length, IfSome, IfErr, OnOk};
+ghost use Rattle.std.specs.Prelude.{◌≡◌, ◌≤◌, ◌<◌, ◌⊎◌, ◌++◌, ℕ, List, length, IfSome, IfOk, IfErr, OnOk};
 ghost use Rattle.awk_ere.specs.definitions.Means.{Means};
 ghost use Rattle.awk_ere.specs.definitions.Tree.{Tree};
 ghost use Rattle.awk_ere.specs.support.Failures.{AreFailures};
@@ -101,6 +101,68 @@ pub fn split_between(
     while let Some(found) = next_between(pattern, scratch, &mut failures, text, from) {
         spans.push(found.span)?;
         from = found.rest;
+    }
+    Ok(())
+}
+
+// How many pieces are found one by one, as they are asked for.
+const FEW: usize = 16;
+
+// Up to which index pieces are found where the one at an index is asked for. Where many were found, at least as many more
+// are, so that few of the searches begin with nothing kept.
+fn last_index(index: usize, found: usize) -> usize
+    ensures { index ≤ result }
+{
+    if found < FEW {
+        index
+    } else {
+        index.max(found.saturating_mul(2))
+    }
+}
+
+// What is kept of the searches for the pieces from one index up to another: nothing of a single one.
+fn failures_for(pattern: &Pattern, first: usize, last: usize) -> Failures
+    ensures { (s : List ℕ) → AreFailures pattern.now s result }
+{
+    if first < last {
+        Failures::for_pattern(pattern)
+    } else {
+        Failures::for_one_search(pattern)
+    }
+}
+
+/// Adds to `spans` the pieces from `rest` on, where one may begin, until there is one at this index, or all are found. The
+/// pieces that aren't found yet are then those from `rest` on. The only error is `Memory`.
+pub(crate) fn find_between(
+    pattern: &Pattern,
+    scratch: &mut Scratch,
+    text: &[u8],
+    index: usize,
+    spans: &mut Vec<Span>,
+    rest: &mut usize,
+) -> Result<(), TextFault>
+    requires { IsFor scratch.old pattern.now }
+    ensures pieces { (t : Tree) → Means t pattern.now →
+        stretches_at text.now spans.new.items ++ ere_pieces_from t text.now rest.new
+        ≡ stretches_at text.now spans.old.items ++ ere_pieces_from t text.now rest.old }
+    ensures within { AreSpansOf text.now spans.old.items → AreSpansOf text.now spans.new.items }
+    ensures found { IfOk result (λ _. (index < length spans.new.items) ⊎ (length text.now < rest.new)) }
+    ensures memory { IfErr result (λ e. e ≡ TextFault.Memory) }
+    ensures same { IsFor scratch.new pattern.now }
+{
+    let last = last_index(index, spans.len());
+    let mut failures = failures_for(pattern, spans.len(), last);
+    while spans.len() <= last {
+        match next_between(pattern, scratch, &mut failures, text, *rest) {
+            Some(found) => {
+                spans.push(found.span)?;
+                *rest = found.rest;
+            }
+            None => {
+                *rest = text.len() + 1;
+                return Ok(());
+            }
+        }
     }
     Ok(())
 }

@@ -1,11 +1,11 @@
 // What separates the fields of many texts, by the value of FS.
-ghost use Rattle.std.specs.Prelude.{◌≡◌, ◌≢◌, ◌↔◌, true, Ok, Err, IfOk, IfErr, OnOk, IfSome};
+ghost use Rattle.std.specs.Prelude.{◌≡◌, ◌≢◌, ◌↔◌, ◌<◌, ◌⊎◌, ◌++◌, true, length, Ok, Err, IfOk, IfErr, OnOk};
 ghost use Rattle.awk_text.specs.definitions.Pieces.{stretches_at, AreSpansOf};
 ghost use Rattle.awk_text.specs.definitions.Separators.{separator_by, separator_of};
-ghost use Rattle.awk_text.specs.definitions.Fields.{pieces_by, pieces_from_by, IsNextPiece, IsFurther};
+ghost use Rattle.awk_text.specs.definitions.Fields.{pieces_by, pieces_from_by};
 
 use crate::splitter::Splitter;
-use crate::{FoundField, Separator, Span, TextFault};
+use crate::{Separator, Span, TextFault};
 use std::alloc::Global;
 use std::marker::Model;
 
@@ -67,16 +67,27 @@ impl FieldSeparator {
         self.newline_too == newline_too && is_same(self.text.as_slice(), text)
     }
 
-    /// The first field of the text from a place on where one may begin: its front, or the `rest` of the field before.
-    /// `None` where no field is left. It takes no memory, and no time for what stands behind the separator that ends the
-    /// field, but where that is an ERE's: it is the longest match.
+    /// Adds to `spans` the fields of the text from `rest` on, where one may begin: its front, or the `rest` of a call before.
+    /// It ends where `spans` has one at this index, or all are found. The fields that aren't found yet are then those from
+    /// `rest` on, also on an `Err`, which is `Memory` alone. No more is looked for than that, but where matches of an ERE
+    /// separate and many fields were found: at most as many more as these.
     #[inline(always)]
-    pub fn next_field(&mut self, text: &[u8], from: usize) -> Option<FoundField>
-        ensures piece { IsNextPiece (pieces_from_by self.old text.now) text.now from result }
-        ensures further { IfSome result (IsFurther text.now from) }
+    pub fn find_fields(
+        &mut self,
+        text: &[u8],
+        index: usize,
+        spans: &mut Vec<Span>,
+        rest: &mut usize,
+    ) -> Result<(), TextFault>
+        ensures pieces { stretches_at text.now spans.new.items ++ pieces_from_by self.old text.now rest.new
+            ≡ stretches_at text.now spans.old.items ++ pieces_from_by self.old text.now rest.old }
+        ensures within { AreSpansOf text.now spans.old.items → AreSpansOf text.now spans.new.items }
+        ensures found { IfOk result (λ _. (index < length spans.new.items) ⊎ (length text.now < rest.new)) }
+        ensures memory { IfErr result (λ e. e ≡ TextFault.Memory) }
         ensures same { self.new ≡ self.old }
     {
-        self.splitter.next_field(text, self.newline_too, from)
+        self.splitter
+            .find_fields(text, self.newline_too, index, spans, rest)
     }
 
     /// Fills `spans` with the fields of the text, in their order. What `spans` held before is gone, also on an `Err`. The

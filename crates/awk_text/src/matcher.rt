@@ -1,13 +1,14 @@
 // A regular expression that separates, with the memory of its searches.
-ghost use Rattle.std.specs.Prelude.{◌≡◌, IfSome, IfOk, IfErr};
+ghost use Rattle.std.specs.Prelude.{◌≡◌, ◌<◌, ◌⊎◌, ◌++◌, length, IfSome, IfOk, IfErr};
 ghost use Rattle.awk_ere.specs.definitions.Means.{Means};
 ghost use Rattle.awk_ere.specs.support.Table.{IsFor};
 ghost use Rattle.awk_ere.specs.definitions.Tree.{Tree};
 ghost use Rattle.awk_text.specs.definitions.Fields.{ere_pieces_from, IsNextPiece, IsFurther};
+ghost use Rattle.awk_text.specs.definitions.Pieces.{stretches_at, AreSpansOf};
 ghost use Rattle.awk_text.specs.definitions.Separators.{or_newline};
 
-use crate::between::next_between;
-use crate::{FoundField, TextFault};
+use crate::between::{find_between, next_between};
+use crate::{FoundField, Span, TextFault};
 use awk_ere::{Failures, Pattern, Scratch};
 use std::alloc::Global;
 
@@ -50,7 +51,26 @@ impl Matcher {
         ensures further { IfSome result (IsFurther text.now from) }
         ensures same { self.new.pattern ≡ self.old.pattern }
     {
-        let mut failures = Failures::for_pattern(&self.pattern);
+        let mut failures = Failures::for_one_search(&self.pattern);
         next_between(&self.pattern, &mut self.scratch, &mut failures, text, from)
+    }
+
+    /// Finds on until there is a field at this index, or all are found (`find_between`).
+    pub fn find_fields(
+        &mut self,
+        text: &[u8],
+        index: usize,
+        spans: &mut Vec<Span>,
+        rest: &mut usize,
+    ) -> Result<(), TextFault>
+        ensures pieces { (t : Tree) → Means t self.old.pattern →
+            stretches_at text.now spans.new.items ++ ere_pieces_from t text.now rest.new
+            ≡ stretches_at text.now spans.old.items ++ ere_pieces_from t text.now rest.old }
+        ensures within { AreSpansOf text.now spans.old.items → AreSpansOf text.now spans.new.items }
+        ensures found { IfOk result (λ _. (index < length spans.new.items) ⊎ (length text.now < rest.new)) }
+        ensures memory { IfErr result (λ e. e ≡ TextFault.Memory) }
+        ensures same { self.new.pattern ≡ self.old.pattern }
+    {
+        find_between(&self.pattern, &mut self.scratch, text, index, spans, rest)
     }
 }

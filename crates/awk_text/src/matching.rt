@@ -59,7 +59,7 @@ pub fn match_at(pattern: &Pattern, text: &[u8], scratch: &mut Scratch) -> Option
     ensures found { (t : Tree) → Means t pattern.now → IsNextMatch t text.now None result }
     ensures same { IsFor scratch.new pattern.now }
 {
-    let mut failures = Failures::for_pattern(pattern);
+    let mut failures = Failures::for_one_search(pattern);
     first_match(pattern, text, scratch, &mut failures)
 }
 

@@ -1,5 +1,5 @@
 // A separator that is ready to split texts, and the next field by it.
-ghost use Rattle.std.specs.Prelude.{◌≡◌, ◌≤◌, length, IfSome, IfOk, IfErr, OnOk};
+ghost use Rattle.std.specs.Prelude.{◌≡◌, ◌≤◌, ◌<◌, ◌⊎◌, ◌++◌, length, IfSome, IfOk, IfErr, OnOk};
 ghost use Rattle.memchr.specs.Find.{IsFirstByte};
 ghost use Rattle.awk_text.specs.support.Stretch.{IsStretchEnd};
 ghost use Rattle.awk_text.specs.definitions.Pieces.{stretches_at, AreSpansOf};
@@ -120,6 +120,43 @@ impl Splitter {
             Splitter::Each => next_each(text, newline_too, from),
             Splitter::Ere(matcher) => matcher.next_field(text, from),
         }
+    }
+
+    /// Adds to `spans` the fields from `rest` on, where one may begin, until there is one at this index, or all are found.
+    /// The fields that aren't found yet are then those from `rest` on. The only error is `Memory`.
+    #[inline(always)]
+    pub fn find_fields(
+        &mut self,
+        text: &[u8],
+        newline_too: bool,
+        index: usize,
+        spans: &mut Vec<Span>,
+        rest: &mut usize,
+    ) -> Result<(), TextFault>
+        ensures pieces { (s : SeparatorSpec) → Stands s newline_too self.old →
+            stretches_at text.now spans.new.items ++ pieces_from s newline_too text.now rest.new
+            ≡ stretches_at text.now spans.old.items ++ pieces_from s newline_too text.now rest.old }
+        ensures within { AreSpansOf text.now spans.old.items → AreSpansOf text.now spans.new.items }
+        ensures found { IfOk result (λ _. (index < length spans.new.items) ⊎ (length text.now < rest.new)) }
+        ensures memory { IfErr result (λ e. e ≡ TextFault.Memory) }
+        ensures same { (s : SeparatorSpec) → Stands s newline_too self.old → Stands s newline_too self.new }
+    {
+        if let Splitter::Ere(matcher) = self {
+            return matcher.find_fields(text, index, spans, rest);
+        }
+        while spans.len() <= index {
+            match self.next_field(text, newline_too, *rest) {
+                Some(found) => {
+                    spans.push(found.span)?;
+                    *rest = found.rest;
+                }
+                None => {
+                    *rest = text.len() + 1;
+                    return Ok(());
+                }
+            }
+        }
+        Ok(())
     }
 
     /// Fills `spans` with the fields of the text. The only error is `Memory`.

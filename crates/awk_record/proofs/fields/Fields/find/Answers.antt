@@ -1,24 +1,28 @@
-use Rattle.std.proofs.Common.{◌≡◌, ◌++◌, sym, ◌∙◌, subst}
-use Rattle.awk_text.specs.Pieces.{stretches_at}
-use Rattle.awk_text.specs.Fields.{pieces_from_by, pieces_by}
-use Rattle.awk_text.specs.Separators.{Rule}
-use Rattle.awk_record.proofs.FoundFields.{spans-found, pieces-found}
+use Rattle.std.proofs.Common.{inl, inr}
+use Rattle.awk_text.specs.Separators.{separator_by}
+use Rattle.awk_record.proofs.FoundFields.{found-more, found-same}
 use Rattle.awk_record.proofs.fields.Fields.find.Goals as goal
 
-pub loop-self-preserved : goal.loop-self-preserved
-loop-self-preserved c =
+pub returns-clause-fields : goal.returns-clause-fields
+returns-clause-fields c =
     let text = c.args.text.now in
-    let loop = c.loop-self in
-    let old = loop.self.spans.items in
-    let new = c.push.new.self.items in
-    let found = c.in-Some.found in
-    let added = c.in_ok-push-in-Some.ensures.items in
-    let same = c.next_field.ensures.same in
-    record {
-      fields = record {
-        within = spans-found text old new found.span added loop.invariant.fields.within c.in-Some.ensures.further.0;
-        pieces = subst (λ (r : Rule). stretches_at text new ++ pieces_from_by r text found.rest ≡ pieces_by r text) (sym same)
-            (pieces-found loop.self.separator text old new found.span loop.self.rest found.rest added c.in-Some.ensures.piece loop.invariant.fields.pieces);
-      };
-      separator = same ∙ loop.invariant.separator;
-    }
+    let counted = c.count_split.new.self in
+    let kept = c.count_split.ensures in
+    let found = c.find_fields.ensures in
+    found-more text counted _ (found-same text c.args.self.now counted c.requires kept.separator kept.spans kept.rest) found.same found.within found.pieces
+
+pub returns-clause-found : goal.returns-clause-found
+returns-clause-found c =
+    let rule = c.find_fields.new.self in
+    elim c.in_ok-find_fields.ensures.found [
+      | inl lt ↦ inl lt
+      | inr past ↦ inr (c.pieces_from_law.ensures.past (separator_by rule) rule.newline_too c.args.text.now c.find_fields.new.rest past)
+    ]
+
+pub returns-in_err-find_fields-clause-fields : goal.returns-in_err-find_fields-clause-fields
+returns-in_err-find_fields-clause-fields c =
+    let text = c.args.text.now in
+    let counted = c.count_split.new.self in
+    let kept = c.count_split.ensures in
+    let found = c.find_fields.ensures in
+    found-more text counted _ (found-same text c.args.self.now counted c.requires kept.separator kept.spans kept.rest) found.same found.within found.pieces
