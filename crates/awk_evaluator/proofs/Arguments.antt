@@ -1,7 +1,8 @@
 -- The arguments of a call, one after the other.
-use Rattle.std.proofs.Common.{◌≡◌, ℕ, zero, suc, ◌+◌, ◌≤◌, List, [], ◌∷◌, length, drop, slice_get, Some, None, Ok, refl, sym, ap, ◌∙◌, arith, append_assoc, append-nil}
+use Rattle.std.proofs.Common.{◌≡◌, ℕ, zero, suc, ◌+◌, ◌≤◌, List, [], ◌∷◌, length, drop, slice_get, Some, None, Result, Ok, Err, refl, sym, ap, ◌∙◌, arith, append_assoc, append-nil}
 use Rattle.std.proofs.lemmas.List.{drop-drop}
 use Rattle.awk_value.specs.declared.value.Value.{Value}
+use Rattle.awk_semantics.specs.declared.halt.Halt.{Halt}
 use Rattle.awk_semantics.specs.declared.local.Local.{Local}
 use Rattle.awk_semantics.specs.declared.local.Local.TheVariants as local
 use Rattle.awk_storage.specs.declared.position.Array.{Array}
@@ -9,9 +10,9 @@ use Rattle.awk_storage.specs.declared.position.Array.TheVariants as array
 use Rattle.awk_storage.specs.support.Frames.{FramesView, newest_of}
 use Rattle.awk_resolve.specs.declared.node.ArgumentForm.{ArgumentForm}
 use Rattle.awk_resolve.specs.declared.node.ArgumentForm.TheVariants as form
-use Rattle.awk_resolve.specs.Nodes.{behind_form, taken, values_among}
+use Rattle.awk_resolve.specs.Nodes.{first, behind_form, taken, values_among}
 use Rattle.awk_runtime.specs.declared.runtime.Runtime.{Runtime}
-use Rattle.awk_runtime.specs.Calling.{number_of_kept, kept_number, with_given}
+use Rattle.awk_runtime.specs.Calling.{number_of_kept, kept_number, with_given, Gives}
 use Rattle.awk_evaluator.specs.declared.machine.Machine.{Machine}
 use Rattle.awk_evaluator.specs.Operands.{OperandsView}
 use Rattle.awk_evaluator.specs.Calling.{kept_by, kept_all, with_all, GivesAll}
@@ -98,3 +99,23 @@ all_given {fs = fs} {m = m} count is given operands calls =
       streams = ap (λ (x : Runtime). x.streams) given;
       memory = tt;
     }
+
+-- one value is given
+
+first_taken : (vs : List Value) → first (taken 1 vs) ≡ first vs
+first_taken [] = refl
+first_taken (v ∷ vs) = refl
+
+pub top_given : {m m' : Machine} {r : Result (Unit {0}) Halt} → Gives (local.Value (first m.operands.values)) m.runtime m'.runtime r → m'.operands ≡ record m.operands { values = drop 1 m.operands.values } → m'.calls ≡ m.calls
+    → GivesAll (form.Value ∷ []) m r m'
+top_given {m = m} {m' = m'} {r = Ok u} g operands calls =
+    all_given 1 refl (g.given ∙ ap (λ v. with_given (local.Value v) m.runtime) (sym (first_taken m.operands.values))) operands calls
+top_given {m = m} {m' = m'} {r = Err h} g operands calls = record {
+  given = tt;
+  operands = tt;
+  calls = tt;
+  names = ap (λ (x : Runtime). x.names) g.unchanged;
+  steps = (let e = ap (λ (x : Runtime). x.steps) g.unchanged in omega (arith, e));
+  streams = ap (λ (x : Runtime). x.streams) g.unchanged;
+  memory = g.memory;
+}

@@ -1,5 +1,4 @@
 pub mod Stacks
-pub mod Heights
 pub mod Resting
 pub mod Moving
 pub mod Changing

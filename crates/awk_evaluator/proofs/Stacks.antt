@@ -1,12 +1,12 @@
 -- The topmost values of a stack, from its end and from its beginning.
-use Rattle.std.proofs.Common.{◌≡◌, ℕ, ◌+◌, ◌-◌, ◌≤◌, ◌<◌, max, min, [], ◌∷◌, suc, List, ◌++◌, length, take, drop, reverse, sym, ap, ◌∙◌, arith}
-use Rattle.std.proofs.lemmas.List.{take-append-drop, drop-drop, drop-take, take-take, take_min, drop_min, reverse-append, reverse-reverse, length-reverse, drop-set-add, set_split, take-set-le}
+use Rattle.std.proofs.Common.{◌≡◌, ℕ, ◌+◌, ◌-◌, ◌≤◌, ◌<◌, max, min, [], ◌∷◌, suc, List, ◌++◌, length, take, drop, reverse, refl, sym, ap, ◌∙◌, arith}
+use Rattle.std.proofs.lemmas.List.{take-append-drop, drop-append-le, drop-drop, drop-take, take-take, take_min, drop_min, reverse-append, reverse-reverse, length-reverse, drop-set-add, set_split, take-set-le}
 use Rattle.std.proofs.Math.Seq.{drop-append_seam}
 use Rattle.std.proofs.Common.{length-drop}
 use Rattle.std.proofs.lemmas.List.{length-take}
 use Rattle.std.proofs.Math.ListN.{drop_of_length-le, set}
 use Rattle.awk_value.specs.declared.value.Value.{Value}
-use Rattle.awk_resolve.specs.Nodes.{taken}
+use Rattle.awk_resolve.specs.Nodes.{first, taken}
 use Rattle.awk_evaluator.specs.support.Operands.{OperandsView}
 
 -- all but the last ones, from the end
@@ -96,3 +96,33 @@ replaced_view items base v low =
     let first : List Value → OperandsView = λ vs. record { values = vs; below = take base (set items (length items - 1) v) } in
     let second : List Value → OperandsView = λ vs. record { values = v ∷ drop 1 (reverse ys); below = vs } in
     ap first (ap reverse changed ∙ turned) ∙ ap second (take-set-le base items (length items - 1) v le)
+
+-- one value is left where it stands, for the caller
+
+one_is : (ys : List Value) → length ys ≡ 1 → ys ≡ first ys ∷ []
+one_is [] long = absurd (omega (arith, long))
+one_is (y ∷ []) long = refl
+one_is (y ∷ z ∷ more) long = absurd (omega (arith, long))
+
+pub handed_view : (items : List Value) (base to : ℕ) → length items ≡ base + 1
+    → let new : OperandsView = record { values = reverse (drop (min to base) items); below = take (min to base) items } in new ≡ record { values = first (reverse (drop base items)) ∷ reverse (drop to (take base items)); below = take to (take base items) }
+handed_view items base to long =
+    let n = min to base in
+    let xs = take base items in
+    let ys = drop base items in
+    let cut = length-take base items in
+    let behind = length-drop base items in
+    let v = first ys in
+    let xs_long : length xs ≡ base = omega (arith, cut, long) in
+    let one : ys ≡ v ∷ [] = one_is ys (omega (arith, behind, long)) in
+    let top : first (reverse ys) ≡ v = ap (λ zs. first (reverse zs)) one in
+    let n_is : n ≡ min to (length xs) = ap (min to) (sym xs_long) in
+    let le : n ≤ base = omega arith in
+    let low : n ≤ length xs = omega (arith, xs_long, le) in
+    let values : reverse (drop n items) ≡ first (reverse ys) ∷ reverse (drop to xs) =
+    ap (λ l. reverse (drop n l)) (sym (take-append-drop base items)) ∙ ap reverse (drop-append-le n xs ys low) ∙ ap (λ l. reverse (drop n xs ++ l)) one
+    ∙ reverse-append (drop n xs) (v ∷ []) ∙ ap (λ k. v ∷ reverse (drop k xs)) n_is ∙ ap (λ l. v ∷ reverse l) (drop_min to xs) ∙ ap (λ w. w ∷ reverse (drop to xs)) (sym top) in
+    let below : take n items ≡ take to xs = sym (take-take n base items le) ∙ ap (λ k. take k xs) n_is ∙ take_min to xs in
+    let first_part : List Value → OperandsView = λ vs. record { values = vs; below = take n items } in
+    let second_part : List Value → OperandsView = λ vs. record { values = first (reverse ys) ∷ reverse (drop to xs); below = vs } in
+    ap first_part values ∙ ap second_part below

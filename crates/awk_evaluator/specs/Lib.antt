@@ -1,9 +1,6 @@
-pub mod definitions
 pub mod support
-pub use Rattle.awk_evaluator.specs.definitions.Control
 pub use Rattle.awk_evaluator.specs.support.Operands
 pub use Rattle.awk_evaluator.specs.support.Rest
-pub use Rattle.awk_evaluator.specs.support.Entered
 pub use Rattle.awk_evaluator.specs.support.Moves
 pub use Rattle.awk_evaluator.specs.support.Walks
 pub use Rattle.awk_evaluator.specs.support.Calling

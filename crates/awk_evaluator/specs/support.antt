@@ -1,5 +1,4 @@
 -- What serves the proofs.
-pub mod Entered
 pub mod Operands
 pub mod Rest
 pub mod Moves

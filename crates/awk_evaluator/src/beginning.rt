@@ -1,6 +1,6 @@
 // Calls of functions.
 
-ghost use Rattle.std.specs.Prelude.{◌≡◌, ◌<◌, ◌≤◌, [], ◌∷◌, drop, slice_get};
+ghost use Rattle.std.specs.Prelude.{◌≡◌, ◌<◌, ◌≤◌, [], ◌∷◌, drop, slice_get, true};
 ghost use Rattle.awk_resolve.specs.Nodes.{taken, values_among};
 ghost use Rattle.awk_runtime.specs.Calling.{Gives};
 ghost use Rattle.awk_evaluator.specs.Calling.{kept_by, BeginsCall, GivesAll};
@@ -44,10 +44,21 @@ fn values_among(forms: &[ArgumentForm]) -> usize
     count
 }
 
+/// Whether one argument is given, which is a value.
+#[inline(always)]
+fn is_one_value(forms: &[ArgumentForm]) -> bool
+    ensures { result ≡ true → forms.now ≡ ArgumentForm.Value ∷ [] }
+{
+    match forms {
+        [ArgumentForm::Value] => true,
+        _ => false,
+    }
+}
+
 impl Machine {
     /// Begins a call of a function: its height is checked, a step is spent, and its parameters are what the topmost values and the
     /// arrays give, or new. Gives the place of its body. (POSIX awk, User-Defined Functions)
-    #[inline(never)]
+    #[inline(always)]
     pub(crate) fn call(
         &mut self,
         function: &Function,
@@ -63,12 +74,33 @@ impl Machine {
         self.runtime
             .enter_call(function.arrays.as_slice(), function.height)?;
         let base = self.operands.enter();
-        self.calls.enter(Entry { next, base }, function.height)?;
+        self.calls.enter(Entry { next, base })?;
         Ok(function.body)
     }
 
     /// Gives the call that is about to be made its arguments, and takes the values off the stack.
+    #[inline(always)]
     fn give_arguments(&mut self, forms: &[ArgumentForm]) -> Result<(), Halt>
+        ensures { GivesAll forms.now self.old result self.new }
+    {
+        if is_one_value(forms) {
+            return self.give_top();
+        }
+        self.give_each(forms)
+    }
+
+    /// Gives the call that is about to be made the topmost value, which is taken off the stack.
+    #[inline(always)]
+    fn give_top(&mut self) -> Result<(), Halt>
+        ensures { GivesAll (ArgumentForm.Value ∷ []) self.old result self.new }
+    {
+        let value = self.operands.pop();
+        self.runtime.give_value(value)
+    }
+
+    /// The same as `give_arguments`, one after the other.
+    #[inline(never)]
+    fn give_each(&mut self, forms: &[ArgumentForm]) -> Result<(), Halt>
         ensures { GivesAll forms.now self.old result self.new }
     {
         let count = values_among(forms);

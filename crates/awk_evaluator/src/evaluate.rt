@@ -5,7 +5,7 @@ ghost use Rattle.awk_lex.specs.declared.token.Operator.TheVariants.{Matches};
 ghost use Rattle.awk_grammar.specs.declared.tree.BinaryOperator.TheVariants.{Infix};
 ghost use Rattle.awk_runtime.specs.Simulation.{IsReady};
 ghost use Rattle.awk_resolve.specs.declared.node.Node.TheVariants.{Value as ValueAt};
-ghost use Rattle.awk_resolve.specs.declared.node.ValueNode.TheVariants.{Operate};
+ghost use Rattle.awk_resolve.specs.declared.node.ValueNode.TheVariants.{Operate, Call};
 ghost use Rattle.awk_resolve.specs.Nodes.{CallsFit};
 ghost use Rattle.awk_resolve.specs.Plans.{array_parameters};
 ghost use Rattle.awk_evaluator.specs.Rest.{IsSound, AtNode};
@@ -16,7 +16,7 @@ use crate::moves::function_of;
 use awk_grammar::tree::BinaryOperator;
 use awk_lex::token::Operator;
 use awk_resolve::Plan;
-use awk_resolve::node::ValueNode;
+use awk_resolve::node::{ArgumentForm, ValueNode};
 use awk_semantics::Halt;
 use awk_streams::World;
 use awk_value::Value;
@@ -39,6 +39,9 @@ impl Machine {
     {
         if self.put_quickly(node) {
             return Move::On(next);
+        }
+        if let ValueNode::Call(function, forms) = node {
+            return self.put_call(world, plan, *function, forms, next);
         }
         if let ValueNode::Operate(BinaryOperator::Infix(Operator::Matches)) = node {
             return self.put_match(world, plan, node, next);
@@ -69,6 +72,28 @@ impl Machine {
         }
     }
 
+    /// Begins a call, and goes on in the body of its function.
+    #[inline(never)]
+    fn put_call<W: World>(
+        &mut self,
+        world: &mut W,
+        plan: &Plan,
+        function: u32,
+        forms: &Vec<ArgumentForm>,
+        next: u32,
+    ) -> Move
+        requires sound { IsSound plan.now }
+        requires calls { CallsFit (array_parameters plan.now.functions.items) (ValueAt (Call function forms.now) next) }
+        requires ready { IsReady W.is_logged (W.state world.old) self.old.runtime.streams }
+        ensures ready { IsReady W.is_logged (W.state world.new) self.new.runtime.streams }
+        ensures moves { Moves W.is_logged plan.now (AtNode (ValueAt (Call function forms.now) next)) self.old (W.state world.old) result self.new (W.state world.new) }
+    {
+        match self.call(function_of(plan, function), forms.as_slice(), next) {
+            Ok(body) => Move::Up(body),
+            Err(halt) => self.halt_by(halt),
+        }
+    }
+
     /// The same of a value that isn't at hand.
     #[inline(never)]
     fn put_any_value<W: World>(
@@ -79,22 +104,14 @@ impl Machine {
         next: u32,
     ) -> Move
         requires sound { IsSound plan.now }
-        requires calls { CallsFit (array_parameters plan.now.functions.items) (ValueAt node.now next) }
+        requires strict { IsStrict node.now }
         requires ready { IsReady W.is_logged (W.state world.old) self.old.runtime.streams }
         ensures ready { IsReady W.is_logged (W.state world.new) self.new.runtime.streams }
         ensures moves { Moves W.is_logged plan.now (AtNode (ValueAt node.now next)) self.old (W.state world.old) result self.new (W.state world.new) }
     {
-        match node {
-            ValueNode::Call(function, forms) => {
-                match self.call(function_of(plan, *function), forms.as_slice(), next) {
-                    Ok(body) => Move::Up(body),
-                    Err(halt) => self.halt_by(halt),
-                }
-            }
-            node => match self.evaluate(world, node) {
-                Ok(value) => self.put_found(value, next),
-                Err(halt) => self.halt_by(halt),
-            },
+        match self.evaluate(world, node) {
+            Ok(value) => self.put_found(value, next),
+            Err(halt) => self.halt_by(halt),
         }
     }
 

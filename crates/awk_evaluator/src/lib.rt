@@ -3,7 +3,6 @@
 
 mod beginning;
 pub mod calls;
-pub mod control;
 mod effects;
 pub mod entry;
 mod evaluate;

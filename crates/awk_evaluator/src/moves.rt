@@ -174,9 +174,7 @@ impl Machine {
             return Move::Over;
         };
         self.runtime.leave_call();
-        let value = self.operands.pop();
-        self.operands.leave(entry.base);
-        match self.operands.push(value) {
+        match self.operands.hand_over(entry.base) {
             Ok(()) => Move::Back(entry.next),
             Err(refused) => self.halt_by(Halt::from(refused)),
         }

@@ -209,6 +209,7 @@ impl Operands {
     }
 
     /// A call begins, which has no operands yet. Gives how many its callers' callers have.
+    #[inline(always)]
     pub fn enter(&mut self) -> usize
         ensures base { result ≡ length self.old.below }
         ensures entered { self.new ≡ record { values = []; below = all_of self.old } }
@@ -224,6 +225,29 @@ impl Operands {
     {
         self.values.truncate(self.base);
         self.base = base.min(self.values.len());
+    }
+
+    /// The newest call is over, and its topmost value, or nothing, is that of its caller. An `Err` is want of memory.
+    #[inline(always)]
+    pub fn hand_over(&mut self, base: usize) -> Result<(), AllocError>
+        ensures { OnOk result (self.new ≡ record { values = first self.old.values ∷ reverse (drop base self.old.below); below = take base self.old.below }) }
+    {
+        if self.values.len() - self.base == 1 {
+            self.base = base.min(self.base);
+            return Ok(());
+        }
+        self.hand_over_any(base)
+    }
+
+    /// The same of any number of values.
+    #[inline(never)]
+    fn hand_over_any(&mut self, base: usize) -> Result<(), AllocError>
+        ensures { OnOk result (self.new ≡ record { values = first self.old.values ∷ reverse (drop base self.old.below); below = take base self.old.below }) }
+    {
+        let value = self.pop();
+        self.leave(base);
+        self.push(value)?;
+        Ok(())
     }
 
     /// There are none any more.

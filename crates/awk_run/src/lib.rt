@@ -15,11 +15,11 @@ mod program;
 mod records;
 mod start;
 
-pub use awk_evaluator::control::Control;
 pub use awk_functions::Patterns;
 pub use awk_semantics::{
     Fault, Outcome, fault_line, law_of_limits, law_of_outcomes, law_of_turns, status,
 };
+pub use awk_storage::Control;
 pub use program::{
     Program, execute, law_of_untouched, one_program, read_program, run, run_counted,
 };

@@ -97,6 +97,7 @@ step_taken m n is = record {
     };
   });
   falls = omega (arith, is);
+  frames = refl;
 }
 
 -- no step is left
@@ -112,4 +113,5 @@ no_step m is = record {
     holds = h;
   });
   falls = tt;
+  frames = refl;
 }

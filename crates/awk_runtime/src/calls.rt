@@ -1,10 +1,12 @@
 // Calls of functions.
 
-ghost use Rattle.std.specs.Prelude.{◌≡◌, ◌∷◌, [], true, Ok, OnOk, OnErr, IfErr};
+ghost use Rattle.std.specs.Prelude.{◌≡◌, ◌+◌, ◌<◌, ◌≤◌, ◌∷◌, [], true, Ok, OnOk, OnErr, IfErr};
 ghost use Rattle.awk_semantics.specs.Primitives.{check_height, leave};
 ghost use Rattle.awk_semantics.specs.declared.local.Local.{Local as Given};
 ghost use Rattle.awk_semantics.specs.declared.local.Local.TheVariants.{Value as GivenValue, Array as GivenArray};
 ghost use Rattle.awk_semantics.specs.Results.{IsWantOfMemory};
+ghost use Rattle.awk_storage.specs.Control.{highest_sum};
+ghost use Rattle.awk_storage.specs.support.Frames.{heights_of};
 ghost use Rattle.awk_runtime.specs.support.Simulation.{Changes};
 ghost use Rattle.awk_runtime.specs.support.Calling.{kept_number, Gives, Refused, with_missing, completed, EntersCall, EndsCalls};
 
@@ -13,18 +15,18 @@ use awk_semantics::{Fault, Halt, Local};
 use awk_storage::Array;
 use awk_value::Value;
 
-/// The bodies of the active calls are no higher together.
-const MOST_HEIGHT: u64 = 1_000_000;
-
 impl Runtime {
     /// Whether a call of a body of this height may be made; else the fault is F11. (POSIX awk, User-Defined Functions)
+    #[inline(always)]
     pub fn check_height(&mut self, height: u64) -> Result<(), Halt>
-        ensures { Changes (check_height height) self.old self.new result }
+        ensures changes { Changes (check_height height) self.old self.new result }
+        ensures same { self.new ≡ self.old }
+        ensures low { OnOk result (heights_of self.old.frames.frames + height ≤ highest_sum) }
     {
-        match self.frames.height().checked_add(height) {
-            Some(sum) if sum <= MOST_HEIGHT => Ok(()),
-            _ => Err(Halt::Fault(Fault::CallsTooDeep)),
+        if self.frames.may_enter(height) {
+            return Ok(());
         }
+        Err(Halt::Fault(Fault::CallsTooDeep))
     }
 
     /// Gives the call that is about to be made a value for its next parameter.
@@ -77,7 +79,21 @@ impl Runtime {
     }
 
     /// As many are given as there are parameters. The only fault is want of memory.
+    #[inline(always)]
     fn complete_given(&mut self, kinds: &[bool]) -> Result<(), Halt>
+        ensures given { OnOk result (self.new ≡ completed kinds.now self.old) }
+        ensures refused { OnErr result (Refused self.old self.new) }
+        ensures memory { IfErr result IsWantOfMemory }
+    {
+        if self.frames.staged_count() == kinds.len() {
+            return Ok(());
+        }
+        self.complete_any(kinds)
+    }
+
+    /// The same, however many are given.
+    #[inline(never)]
+    fn complete_any(&mut self, kinds: &[bool]) -> Result<(), Halt>
         ensures given { OnOk result (self.new ≡ completed kinds.now self.old) }
         ensures refused { OnErr result (Refused self.old self.new) }
         ensures memory { IfErr result IsWantOfMemory }
@@ -93,7 +109,10 @@ impl Runtime {
     /// A call of a body of this height is active, with all that it was given; a parameter without an argument was never
     /// assigned, or is a new empty array. `kinds` tells of each parameter whether it is an array. (POSIX awk, User-Defined
     /// Functions)
+    #[inline(always)]
     pub fn enter_call(&mut self, kinds: &[bool], height: u64) -> Result<(), Halt>
+        requires high { 0 < height }
+        requires low { heights_of self.old.frames.frames + height ≤ highest_sum }
         ensures { EntersCall kinds.now height self.old self.new result }
     {
         let arrays_before = self.arrays.len();
@@ -103,6 +122,7 @@ impl Runtime {
     }
 
     /// The newest call is over, and the arrays that it made are no more. (POSIX awk, User-Defined Functions)
+    #[inline(always)]
     pub fn leave_call(&mut self)
         ensures { Changes leave self.old self.new (Ok tt) }
     {

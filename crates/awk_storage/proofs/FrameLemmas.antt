@@ -1,12 +1,16 @@
 -- Calls, as they are kept in one list of all parameters.
 use Rattle.std.proofs.Common.{◌≡◌, ℕ, zero, suc, ◌+◌, ◌-◌, ◌<◌, ◌≤◌, List, [], ◌∷◌, ◌++◌, length, take, drop, set, refl, sym, ap, ◌∙◌, subst, arith, length-append, length-drop, length-take, length-set}
 use Rattle.std.specs.Prelude.{slice_get, Some, None}
+use Rattle.std.specs.List.{sum}
+use Rattle.std.proofs.lemmas.List.Sums.{sum_by-cons}
 use Rattle.awk_value.specs.declared.value.Value.{Value}
 use Rattle.std.proofs.lemmas.List.{take-append-le, drop-append-le, drop-drop, drop-take, take-append-drop, take_all, drop_all, drop-set-add, drop-set-lt, take-set-le}
 use Rattle.awk_semantics.specs.declared.local.Local.{Local}
-use Rattle.awk_storage.specs.declared.frames.Saved.{Saved}
+use Rattle.awk_storage.specs.declared.entry.Entry.{Entry}
+use Rattle.awk_storage.specs.Control.{but_last}
 use Rattle.awk_storage.proofs.ItemLemmas.{take-set}
-use Rattle.awk_storage.specs.support.Frames.{FrameView, FramesView, frame_of, frames_from, total_count, total_height, front_of, newest_count, AreKept, heights_of, older_of, newest_of, arrays_before_of, with_newest_of, given, with_value_at}
+use Rattle.awk_storage.proofs.Heights.{but_last_more}
+use Rattle.awk_storage.specs.support.Frames.{FrameView, FramesView, Saved, saved_of, frame_of, frames_from, total_count, front_of, newest_count, AreKept, heights_of, older_of, newest_of, arrays_before_of, with_newest_of, given, with_value_at}
 
 -- more at the end is given to the next call
 pub frames-append : (older : List FrameView) (locals more : List Local) (saved : List Saved) → total_count saved ≤ length locals → frames_from older (locals ++ more) saved ≡ record { frames = (frames_from older locals saved).frames; staged = (frames_from older locals saved).staged ++ more }
@@ -40,13 +44,23 @@ pub count-snoc : (saved : List Saved) (x : Saved) → total_count (saved ++ x �
 count-snoc [] x = omega arith
 count-snoc (y ∷ ys) x = omega (arith, count-snoc ys x)
 
-pub height-snoc : (saved : List Saved) (x : Saved) → total_height (saved ++ x ∷ []) ≡ total_height saved + x.height
-height-snoc [] x = omega arith
-height-snoc (y ∷ ys) x = omega (arith, height-snoc ys x)
+-- the entries and the heights, as they are kept together
 
-pub heights-are : (older : List FrameView) (locals : List Local) (saved : List Saved) → heights_of (frames_from older locals saved).frames ≡ total_height saved + heights_of older
-heights-are older locals [] = omega arith
-heights-are older locals (x ∷ xs) = omega (arith, heights-are (frame_of x locals ∷ older) (drop x.count locals) xs)
+pub saved-snoc : (es : List Entry) (hs : List ℕ) (e : Entry) (h : ℕ) → length es ≡ length hs → saved_of (es ++ e ∷ []) (hs ++ h ∷ []) ≡ saved_of es hs ++ record { count = e.count; height = h; arrays_before = e.arrays_before } ∷ []
+saved-snoc [] [] e h same = refl
+saved-snoc [] (y ∷ ys) e h same = absurd (omega (arith, same))
+saved-snoc (x ∷ xs) [] e h same = absurd (omega (arith, same))
+saved-snoc (x ∷ xs) (y ∷ ys) e h same = ap (λ l. record { count = x.count; height = y; arrays_before = x.arrays_before } ∷ l) (saved-snoc xs ys e h (omega (arith, same)))
+
+pub heights-are : (older : List FrameView) (locals : List Local) (es : List Entry) (hs : List ℕ) → length es ≡ length hs → heights_of (frames_from older locals (saved_of es hs)).frames ≡ sum hs + heights_of older
+heights-are older locals [] [] same = omega arith
+heights-are older locals [] (y ∷ ys) same = absurd (omega (arith, same))
+heights-are older locals (x ∷ xs) [] same = absurd (omega (arith, same))
+heights-are older locals (x ∷ xs) (y ∷ ys) same =
+    let s : Saved = record { count = x.count; height = y; arrays_before = x.arrays_before } in
+    let rest = heights-are (frame_of s locals ∷ older) (drop x.count locals) xs ys (omega (arith, same)) in
+    let all = sum_by-cons (λ n. n) y ys in
+    omega (arith, rest, all)
 
 -- the newest call
 
@@ -60,12 +74,12 @@ newest-snoc [] x = refl
 newest-snoc (y ∷ []) x = refl
 newest-snoc (y ∷ z ∷ more) x = newest-snoc (z ∷ more) x
 
-pub record Snoc (saved : List Saved) : Type 0 where
-  pub front : List Saved
-  pub last : Saved
+pub record Snoc {A : Type 0} (saved : List A) : Type 0 where
+  pub front : List A
+  pub last : A
   pub is : saved ≡ front ++ last ∷ []
 
-pub snoc_of : (x : Saved) (more : List Saved) → Snoc (x ∷ more)
+pub snoc_of : {A : Type 0} (x : A) (more : List A) → Snoc (x ∷ more)
 snoc_of x [] = record { front = []; last = x; is = refl }
 snoc_of x (y ∷ more) = let r = snoc_of y more in record { front = x ∷ r.front; last = r.last; is = ap (λ l. x ∷ l) r.is }
 
@@ -133,14 +147,14 @@ module _ (front : List Saved) (last : Saved) (locals : List Local) (i : ℕ) (l 
       ∙ ap (λ (v : FramesView). record { frames = with_newest_of (set (newest_of v.frames) i l) v.frames; staged = v.staged }) (sym old))))
 
 -- what the code reads and writes, by the places where the newest call begins and ends
-module _ (saved : List Saved) (locals : List Local) (base top height : ℕ) where
-  pub in-order : AreKept saved locals base top height → base ≤ top
+module _ (saved : List Saved) (locals : List Local) (base top : ℕ) where
+  pub in-order : AreKept saved locals base top → base ≤ top
   in-order kept = omega (arith, kept.begin, kept.end, counts saved)
 
-  pub get-newest : AreKept saved locals base top height → (i : ℕ) → i < top - base → slice_get locals (base + i) ≡ slice_get (newest_of (frames_from [] locals saved).frames) i
+  pub get-newest : AreKept saved locals base top → (i : ℕ) → i < top - base → slice_get locals (base + i) ≡ slice_get (newest_of (frames_from [] locals saved).frames) i
   get-newest kept i low = by saved kept
     where
-      by : (saved : List Saved) → AreKept saved locals base top height → slice_get locals (base + i) ≡ slice_get (newest_of (frames_from [] locals saved).frames) i
+      by : (saved : List Saved) → AreKept saved locals base top → slice_get locals (base + i) ≡ slice_get (newest_of (frames_from [] locals saved).frames) i
       by [] kept = absurd (omega (arith, kept.begin, kept.end))
       by (x ∷ more) kept =
           let s = snoc_of x more in
@@ -150,10 +164,10 @@ module _ (saved : List Saved) (locals : List Local) (base top height : ℕ) wher
           ap (λ b. slice_get locals (b + i)) begin
           ∙ (sym (newest-get s.front s.last locals i (omega arith)) ∙ ap (λ y. slice_get (newest_of (frames_from [] locals y).frames) i) (sym s.is))
 
-  pub none-newest : AreKept saved locals base top height → (i : ℕ) → top - base ≤ i → slice_get (newest_of (frames_from [] locals saved).frames) i ≡ None
+  pub none-newest : AreKept saved locals base top → (i : ℕ) → top - base ≤ i → slice_get (newest_of (frames_from [] locals saved).frames) i ≡ None
   none-newest kept i low = by saved kept
     where
-      by : (saved : List Saved) → AreKept saved locals base top height → slice_get (newest_of (frames_from [] locals saved).frames) i ≡ None
+      by : (saved : List Saved) → AreKept saved locals base top → slice_get (newest_of (frames_from [] locals saved).frames) i ≡ None
       by [] kept = refl
       by (x ∷ more) kept =
           let s = snoc_of x more in
@@ -162,12 +176,12 @@ module _ (saved : List Saved) (locals : List Local) (base top height : ℕ) wher
           let count : top ≡ total_count s.front + s.last.count = kept.end ∙ (ap total_count s.is ∙ count-snoc s.front s.last) in
           ap (λ y. slice_get (newest_of (frames_from [] locals y).frames) i) s.is ∙ newest-past s.front s.last locals i (omega arith)
 
-  pub set-newest : AreKept saved locals base top height → (i : ℕ) (old : Local) (v : Value) → i < top - base → slice_get locals (base + i) ≡ Some old
+  pub set-newest : AreKept saved locals base top → (i : ℕ) (old : Local) (v : Value) → i < top - base → slice_get locals (base + i) ≡ Some old
       → frames_from [] (set locals (base + i) (given old v)) saved
       ≡ record { frames = with_value_at (slice_get (newest_of (frames_from [] locals saved).frames) i) i v (frames_from [] locals saved).frames; staged = (frames_from [] locals saved).staged }
   set-newest kept i old v low at = by saved kept
     where
-      by : (saved : List Saved) → AreKept saved locals base top height → frames_from [] (set locals (base + i) (given old v)) saved
+      by : (saved : List Saved) → AreKept saved locals base top → frames_from [] (set locals (base + i) (given old v)) saved
           ≡ record { frames = with_value_at (slice_get (newest_of (frames_from [] locals saved).frames) i) i v (frames_from [] locals saved).frames; staged = (frames_from [] locals saved).staged }
       by [] kept = absurd (omega (arith, kept.begin, kept.end))
       by (x ∷ more) kept =
@@ -186,7 +200,7 @@ module _ (saved : List Saved) (locals : List Local) (base top height : ℕ) wher
 
 -- the calls of the methods, over what is kept
 
-module _ (saved : List Saved) (locals : List Local) (base top height : ℕ) (kept : AreKept saved locals base top height) where
+module _ (saved : List Saved) (locals : List Local) (base top : ℕ) (kept : AreKept saved locals base top) where
   pub entered : (x : Saved) → x.count ≡ length locals - top → frames_from [] locals (saved ++ x ∷ []) ≡ record { frames = record { locals = (frames_from [] locals saved).staged; height = x.height; arrays_before = x.arrays_before } ∷ (frames_from [] locals saved).frames; staged = [] }
   entered x count =
       let s = (frames_from [] locals saved).staged in
@@ -195,12 +209,11 @@ module _ (saved : List Saved) (locals : List Local) (base top height : ℕ) (kep
       ∙ (ap (λ l. record { frames = record { locals = l; height = x.height; arrays_before = x.arrays_before } ∷ (frames_from [] locals saved).frames; staged = drop x.count s }) (take_all x.count s long)
       ∙ ap (λ l. record { frames = record { locals = s; height = x.height; arrays_before = x.arrays_before } ∷ (frames_from [] locals saved).frames; staged = l }) (drop_all x.count s long))
 
-  pub kept-entered : (x : Saved) → x.count ≡ length locals - top → AreKept (saved ++ x ∷ []) locals top (length locals) (height + x.height)
+  pub kept-entered : (x : Saved) → x.count ≡ length locals - top → AreKept (saved ++ x ∷ []) locals top (length locals)
   kept-entered x count = record {
     begin = kept.end ∙ ap total_count (sym (front-snoc saved x));
     end = omega (arith, count-snoc saved x, kept.end, kept.within);
     within = omega arith;
-    high = omega (arith, height-snoc saved x, kept.high);
   }
 
   pub staged-count : length (frames_from [] locals saved).staged ≡ length locals - top
@@ -215,16 +228,13 @@ module _ (saved : List Saved) (locals : List Local) (base top height : ℕ) (kep
       ∙ ap (λ l. record { frames = (frames_from [] locals saved).frames; staged = l })
       (ap (λ k. drop all (take k locals)) n_is ∙ (drop-take all count locals ∙ ap (take count) (sym (staged-is [] locals saved))))
 
-  pub kept-cut : (n : ℕ) → top ≤ n → n ≤ length locals → AreKept saved (take n locals) base top height
-  kept-cut n low high = record { begin = kept.begin; end = kept.end; within = omega (arith, length-take n locals); high = kept.high }
+  pub kept-cut : (n : ℕ) → top ≤ n → n ≤ length locals → AreKept saved (take n locals) base top
+  kept-cut n low high = record { begin = kept.begin; end = kept.end; within = omega (arith, length-take n locals) }
 
 -- the newest call is over
-module _ (front : List Saved) (x : Saved) (locals : List Local) (base top height : ℕ) (kept : AreKept (front ++ x ∷ []) locals base top height) where
+module _ (front : List Saved) (x : Saved) (locals : List Local) (base top : ℕ) (kept : AreKept (front ++ x ∷ []) locals base top) where
   pub base-left : base ≡ total_count front
   base-left = kept.begin ∙ ap total_count (front-snoc front x)
-
-  pub lower : x.height ≤ height
-  lower = omega (arith, height-snoc front x, kept.high)
 
   pub room-left : base ≤ length locals
   room-left = omega (arith, base-left, count-snoc front x, kept.end, kept.within)
@@ -238,23 +248,22 @@ module _ (front : List Saved) (x : Saved) (locals : List Local) (base top height
   pub count-left : newest_count front ≤ base
   count-left = omega (arith, base-left, counts front)
 
-  pub kept-left : AreKept front (take base locals) (base - newest_count front) base (height - x.height)
+  pub kept-left : AreKept front (take base locals) (base - newest_count front) base
   kept-left = record {
     begin = omega (arith, base-left, counts front);
     end = base-left;
     within = omega (arith, length-take base locals, room-left);
-    high = omega (arith, height-snoc front x, kept.high);
   }
 
 -- the last of the calls that are kept is the newest one
 
-get-last : (front : List Saved) (x : Saved) (n : ℕ) → n ≡ length front → slice_get (front ++ x ∷ []) n ≡ Some x
+get-last : {A : Type 0} (front : List A) (x : A) (n : ℕ) → n ≡ length front → slice_get (front ++ x ∷ []) n ≡ Some x
 get-last [] x zero e = refl
 get-last [] x (suc n) e = absurd (omega arith)
 get-last (y ∷ front) x zero e = absurd (omega arith)
 get-last (y ∷ front) x (suc n) e = get-last front x n (omega arith)
 
-pub last_is : (saved : List Saved) (x : Saved) → Some x ≡ slice_get saved (length saved - 1) → (front : List Saved) × (saved ≡ front ++ x ∷ [])
+pub last_is : {A : Type 0} (saved : List A) (x : A) → Some x ≡ slice_get saved (length saved - 1) → (front : List A) × (saved ≡ front ++ x ∷ [])
 last_is [] x e = absurd (cc)
 last_is (y ∷ more) x e =
     let s = snoc_of y more in
@@ -263,10 +272,95 @@ last_is (y ∷ more) x e =
     let same : s.last ≡ x = cc in
     (s.front, s.is ∙ ap (λ z. s.front ++ z ∷ []) same)
 
-pub last-count : (saved : List Saved) (x : Saved) → Some x ≡ slice_get saved (length saved - 1) → x.count ≡ newest_count saved
-last-count saved x e = let s = last_is saved x e in sym (ap newest_count s.1 ∙ newest-snoc s.0 x)
+-- the newest entry, with the height of its body
 
-pub last-arrays : (saved : List Saved) (locals : List Local) (x : Saved) → Some x ≡ slice_get saved (length saved - 1) → Some x.arrays_before ≡ arrays_before_of (frames_from [] locals saved).frames
-last-arrays saved locals x e =
-    let s = last_is saved x e in
-    sym (ap (λ l. arrays_before_of (frames_from [] locals l).frames) s.1 ∙ ap (λ (v : FramesView). arrays_before_of v.frames) (frames-snoc [] locals s.0 x))
+pub record Newest (es : List Entry) (hs : List ℕ) (e : Entry) : Type 0 where
+  pub older : List Saved
+  pub height : ℕ
+  pub is : saved_of es hs ≡ older ++ record { count = e.count; height = height; arrays_before = e.arrays_before } ∷ []
+
+pub saved-left : (es : List Entry) (hs : List ℕ) (front : List Entry) (e : Entry) → length es ≡ length hs → es ≡ front ++ e ∷ []
+    → (h : ℕ) × (saved_of es hs ≡ saved_of front (but_last hs) ++ record { count = e.count; height = h; arrays_before = e.arrays_before } ∷ [])
+saved-left es [] front e same is = absurd (omega (arith, same, ap length is, length-append front (e ∷ [])))
+saved-left es (y ∷ ys) front e same is =
+    let s = snoc_of y ys in
+    let long : length front ≡ length s.front = omega (arith, same, ap length is, length-append front (e ∷ []), ap length s.is, length-append s.front (s.last ∷ [])) in
+    let cut : but_last (y ∷ ys) ≡ s.front = ap but_last s.is ∙ but_last_more s.front s.last in (
+      s.last,
+      ap (λ l. saved_of l (y ∷ ys)) is ∙ ap (λ l. saved_of (front ++ e ∷ []) l) s.is ∙ saved-snoc front s.front e s.last long
+          ∙ ap (λ l. saved_of front l ++ record { count = e.count; height = s.last; arrays_before = e.arrays_before } ∷ []) (sym cut),
+    )
+
+pub newest_saved : (es : List Entry) (hs : List ℕ) (e : Entry) → length es ≡ length hs → Some e ≡ slice_get es (length es - 1) → Newest es hs e
+newest_saved es hs e same at =
+    let s = last_is es e at in
+    let left = saved-left es hs s.0 e same s.1 in
+    record { older = saved_of s.0 (but_last hs); height = left.0; is = left.1 }
+
+pub last-count : (es : List Entry) (hs : List ℕ) (e : Entry) → length es ≡ length hs → Some e ≡ slice_get es (length es - 1) → e.count ≡ newest_count (saved_of es hs)
+last-count es hs e same at =
+    let n = newest_saved es hs e same at in
+    sym (ap newest_count n.is ∙ newest-snoc n.older (record { count = e.count; height = n.height; arrays_before = e.arrays_before }))
+
+pub last-arrays : (es : List Entry) (hs : List ℕ) (locals : List Local) (e : Entry) → length es ≡ length hs → Some e ≡ slice_get es (length es - 1) → Some e.arrays_before ≡ arrays_before_of (frames_from [] locals (saved_of es hs)).frames
+last-arrays es hs locals e same at =
+    let n = newest_saved es hs e same at in
+    let x : Saved = record { count = e.count; height = n.height; arrays_before = e.arrays_before } in
+    sym (ap (λ l. arrays_before_of (frames_from [] locals l).frames) n.is ∙ ap (λ (v : FramesView). arrays_before_of v.frames) (frames-snoc [] locals n.older x))
+
+-- where no entry stands, no call is active
+
+none-stands : (es : List Entry) → None ≡ slice_get es (length es - 1) → es ≡ []
+none-stands [] none = refl
+none-stands (e ∷ es) none =
+    let s = snoc_of e es in
+    let at : length (e ∷ es) - 1 ≡ length s.front = omega (arith, ap length s.is, length-append s.front (s.last ∷ [])) in
+    let got : None ≡ Some s.last = none ∙ (ap (λ l. slice_get l (length (e ∷ es) - 1)) s.is ∙ get-last s.front s.last (length (e ∷ es) - 1) at) in
+    absurd (cc)
+
+pub no-newest : (es : List Entry) (hs : List ℕ) → None ≡ slice_get es (length es - 1) → 0 ≡ newest_count (saved_of es hs)
+no-newest es hs none = ap (λ l. newest_count (saved_of l hs)) (sym (none-stands es none))
+
+pub no-arrays : (es : List Entry) (hs : List ℕ) (locals : List Local) → None ≡ slice_get es (length es - 1) → None ≡ arrays_before_of (frames_from [] locals (saved_of es hs)).frames
+no-arrays es hs locals none = ap (λ l. arrays_before_of (frames_from [] locals (saved_of l hs)).frames) (sym (none-stands es none))
+
+-- one call more is kept
+module _ (es : List Entry) (hs : List ℕ) (locals : List Local) (base top : ℕ) (kept : AreKept (saved_of es hs) locals base top) (same : length es ≡ length hs) (e : Entry) (height : ℕ) (count : e.count ≡ length locals - top) {es' : List Entry} {hs' : List ℕ}
+    (entries : es' ≡ es ++ e ∷ []) (heights : hs' ≡ hs ++ height ∷ []) where
+  with-entry : saved_of es' hs' ≡ saved_of es hs ++ record { count = e.count; height = height; arrays_before = e.arrays_before } ∷ []
+  with-entry = ap (λ l. saved_of l hs') entries ∙ ap (λ l. saved_of (es ++ e ∷ []) l) heights ∙ saved-snoc es hs e height same
+
+  pub entry-kept : AreKept (saved_of es' hs') locals top (length locals)
+  entry-kept = subst (λ (l : List Saved). AreKept l locals top (length locals)) (sym with-entry) (kept-entered (saved_of es hs) locals base top kept (record { count = e.count; height = height; arrays_before = e.arrays_before }) count)
+
+  pub entry-frames : frames_from [] locals (saved_of es' hs') ≡ record { frames = record { locals = (frames_from [] locals (saved_of es hs)).staged; height = height; arrays_before = e.arrays_before } ∷ (frames_from [] locals (saved_of es hs)).frames; staged = [] }
+  entry-frames = ap (λ l. frames_from [] locals l) with-entry ∙ entered (saved_of es hs) locals base top kept (record { count = e.count; height = height; arrays_before = e.arrays_before }) count
+
+-- the newest call is left
+module _ (es : List Entry) (hs : List ℕ) (front : List Entry) (e : Entry) (locals : List Local) (base top : ℕ) (kept : AreKept (saved_of es hs) locals base top) (same : length es ≡ length hs) (is : es ≡ front ++ e ∷ []) where
+  abbrev older : List Saved
+  older = saved_of front (but_last hs)
+
+  abbrev gone : Saved
+  gone = record { count = e.count; height = (saved-left es hs front e same is).0; arrays_before = e.arrays_before }
+
+  still : AreKept (older ++ gone ∷ []) locals base top
+  still = subst (λ (l : List Saved). AreKept l locals base top) (saved-left es hs front e same is).1 kept
+
+  pub left-count : e.count ≤ top
+  left-count = omega (arith, still.end, count-snoc older gone)
+
+  pub left-top : top - e.count ≡ base
+  left-top = omega (arith, still.end, count-snoc older gone, base-left older gone locals base top still)
+
+  pub left-room : base ≤ length locals
+  left-room = room-left older gone locals base top still
+
+  pub left-newest : newest_count older ≤ base
+  left-newest = count-left older gone locals base top still
+
+  pub left-kept : AreKept older (take base locals) (base - newest_count older) (top - e.count)
+  left-kept = subst (λ n. AreKept older (take base locals) (base - newest_count older) n) (sym left-top) (kept-left older gone locals base top still)
+
+  pub left-frames : frames_from [] (take base locals) older ≡ record { frames = older_of (frames_from [] locals (saved_of es hs)).frames; staged = [] }
+  left-frames = left older gone locals base top still ∙ ap (λ (l : List Saved). record { frames = older_of (frames_from [] locals l).frames; staged = [] }) (sym (saved-left es hs front e same is).1)

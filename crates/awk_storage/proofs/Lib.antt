@@ -2,6 +2,7 @@ mod Counting
 mod Digits
 mod Filling
 mod FrameLemmas
+mod Heights
 mod Lent
 pub mod ItemLemmas
 mod SpecialLemmas

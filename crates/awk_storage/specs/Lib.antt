@@ -4,3 +4,4 @@ pub mod definitions
 pub mod support
 pub use Rattle.awk_storage.specs.definitions.Positions
 pub use Rattle.awk_storage.specs.definitions.Forms
+pub use Rattle.awk_storage.specs.definitions.Control

@@ -1,4 +1,5 @@
 -- What serves the proofs: how the code keeps the special variables, the parameters of the active calls, and the arrays.
+pub mod Entered
 pub mod Frames
 pub mod SpecialValues
 pub mod Tables

@@ -1,55 +1,40 @@
 // The parameters of the active calls.
 
-ghost use Rattle.std.specs.Prelude.{◌≡◌, ℕ, ◌+◌, ◌≤◌, [], ◌∷◌, ◌++◌, length, take, slice_get, OnOk, OnErr};
+ghost use Rattle.std.specs.Prelude.{◌≡◌, ℕ, ◌+◌, ◌<◌, ◌≤◌, true, false, [], ◌∷◌, ◌++◌, length, take, slice_get, OnOk, OnErr};
 ghost use Rattle.std.specs.Option.{option_copied};
-ghost use Rattle.awk_storage.specs.support.Frames.{newest_count, given};
+ghost use Rattle.awk_storage.specs.Control.{highest_sum};
+ghost use Rattle.awk_storage.specs.support.Entered.{AreEntered};
+ghost use Rattle.awk_storage.specs.support.Frames.{saved_of, newest_count, given};
 
+use crate::control::Control;
+use crate::entry::Entry;
 use awk_semantics::Local;
 use awk_value::Value;
 use std::alloc::{AllocError, AllocFailed, Global};
 use std::marker::Model;
-
-/// What is kept of an active call besides its parameters.
-#[derive(Clone, Copy)]
-pub(crate) struct Saved {
-    /// How many parameters it has.
-    count: usize,
-    /// The height of the function's body.
-    height: u64,
-    /// How many arrays there were before the call.
-    arrays_before: usize,
-}
 
 /// The parameters of the active calls, the newest call first; and what a call that is about to be made is given, in order. A call
 /// takes memory only where there were never so many parameters before. (POSIX awk, User-Defined Functions)
 #[derive(Drop)]
 pub struct Frames {
     locals: Vec<Local>,
-    saved: Vec<Saved>,
+    control: Control,
+    /// Where the parameters of the newest call begin.
     base: usize,
+    /// Where they end.
     top: usize,
-    height: u64,
 }
 
 impl Model for Frames {
     ghost use Rattle.std.specs.Prelude.{[]};
-    ghost use Rattle.awk_storage.specs.support.Frames.{FramesView, frames_from, AreKept};
+    ghost use Rattle.awk_storage.specs.support.Entered.{AreEntered};
+    ghost use Rattle.awk_storage.specs.support.Frames.{FramesView, saved_of, frames_from, AreKept};
 
     ghost Value = { FramesView };
 
-    ghost view = { λ f. frames_from [] f.locals.items f.saved.items };
+    ghost view = { λ f. frames_from [] f.locals.items (saved_of f.control.entries f.control.heights) };
 
-    ghost invariant = { λ f. AreKept f.saved.items f.locals.items f.base f.top f.height };
-}
-
-/// How many parameters the newest call has.
-fn newest_count(saved: &[Saved]) -> usize
-    ensures { result ≡ newest_count saved.now }
-{
-    match saved.last() {
-        Some(newest) => newest.count,
-        None => 0,
-    }
+    ghost invariant = { λ f. AreKept (saved_of f.control.entries f.control.heights) f.locals.items f.base f.top × AreEntered f.control };
 }
 
 /// Gives a parameter that is no array a value.
@@ -62,6 +47,31 @@ fn give(local: &mut Local, value: Value)
     }
 }
 
+/// How many parameters the newest call has.
+#[inline(always)]
+fn newest_count(control: &Control) -> usize
+    requires { AreEntered control.now }
+    ensures { result ≡ newest_count (saved_of control.now.entries control.now.heights) }
+{
+    match control.newest() {
+        Some(newest) => newest.count,
+        None => 0,
+    }
+}
+
+/// Keeps no more than so many of the parameters.
+#[inline(always)]
+fn cut(locals: &mut Vec<Local>, count: usize)
+    requires { count ≤ length locals.old.items }
+    ensures { locals.new.items ≡ take count locals.old.items }
+{
+    if locals.len() - count == 1 {
+        locals.pop();
+        return;
+    }
+    locals.truncate(count);
+}
+
 impl Frames {
     ghost use Rattle.awk_storage.specs.support.Frames.{FrameView, newest_of, older_of, heights_of, arrays_before_of, with_value_at};
 
@@ -71,10 +81,9 @@ impl Frames {
     {
         Frames {
             locals: Vec::new(alloc),
-            saved: Vec::new(alloc),
+            control: Control::new(alloc),
             base: 0,
             top: 0,
-            height: 0,
         }
     }
 
@@ -105,42 +114,58 @@ impl Frames {
         }
     }
 
+    /// Whether a call of a body of this height may be active too: whether the bodies are then no higher together than they may be.
+    #[inline(always)]
+    pub fn may_enter(&self, height: u64) -> bool
+        ensures may { result ≡ true → heights_of self.now.frames + height ≤ highest_sum }
+        ensures may_not { result ≡ false → highest_sum < heights_of self.now.frames + height }
+    {
+        self.control.may_enter(height)
+    }
+
     /// A call of a body of this height is active: its parameters are what it was given. An `Err` changes nothing.
+    #[inline(never)]
     pub fn enter(&mut self, height: u64, arrays_before: usize) -> Result<(), AllocError>
+        requires high { 0 < height }
+        requires low { heights_of self.old.frames + height ≤ highest_sum }
         ensures entered { OnOk result (self.new ≡ record {
           frames = record { locals = self.old.staged; height = height; arrays_before = arrays_before } ∷ self.old.frames;
           staged = [];
         }) }
         ensures unchanged { OnErr result (self.new ≡ self.old) }
     {
-        let Some(sum) = self.height.checked_add(height) else {
-            return Err(AllocError);
-        };
         let end = self.locals.as_slice().len();
-        let count = end - self.top;
-        self.saved.push(Saved {
-            count,
-            height,
+        let entry = Entry {
+            count: end - self.top,
             arrays_before,
-        })?;
-        self.base = self.top;
-        self.top = end;
-        self.height = sum;
-        Ok(())
+        };
+        self.control.enter(height)?;
+        match self.control.push(entry) {
+            Ok(()) => {
+                self.base = self.top;
+                self.top = end;
+                Ok(())
+            }
+            Err(refused) => {
+                self.control.leave();
+                Err(refused)
+            }
+        }
     }
 
     /// The newest call is over, and what was given to one that was not made.
+    #[inline(always)]
     pub fn leave(&mut self)
         ensures { self.new ≡ record { frames = older_of self.old.frames; staged = [] } }
     {
-        let Some(saved) = self.saved.pop() else {
+        let Some(entry) = self.control.pop() else {
             self.locals.clear();
             return;
         };
-        self.height -= saved.height;
-        self.locals.truncate(self.base);
-        self.top = self.base;
-        self.base -= newest_count(&self.saved);
+        self.control.leave();
+        self.top -= entry.count;
+        cut(&mut self.locals, self.base);
+        self.base -= newest_count(&self.control);
     }
 
     /// All calls are over.
@@ -148,24 +173,16 @@ impl Frames {
         ensures { self.new ≡ record { frames = []; staged = [] } }
     {
         self.locals.clear();
-        self.saved.clear();
+        self.control.clear();
         self.base = 0;
         self.top = 0;
-        self.height = 0;
-    }
-
-    /// How high the bodies of the active calls are together.
-    pub fn height(&self) -> u64
-        ensures { result ≡ heights_of self.now.frames }
-    {
-        self.height
     }
 
     /// How many arrays there were before the newest call, if there is one.
     pub fn arrays_before(&self) -> Option<usize>
         ensures { result ≡ arrays_before_of self.now.frames }
     {
-        match self.saved.last() {
+        match self.control.newest() {
             Some(newest) => Some(newest.arrays_before),
             None => None,
         }
@@ -177,7 +194,7 @@ impl Frames {
         ensures { option_copied result ≡ slice_get (newest_of self.now.frames) index }
     {
         if index < self.top - self.base {
-            return self.locals.get(self.base + index);
+            return Some(&self.locals[self.base + index]);
         }
         None
     }

@@ -2,12 +2,16 @@
 #![tactic(auto)]
 
 mod arrays;
+mod control;
+mod entry;
 mod frames;
 mod key;
 mod position;
 mod variables;
 
 pub use arrays::Arrays;
+pub use control::{Control, FIRST_BOUND, HIGHEST_SUM};
+pub use entry::Entry;
 pub use frames::Frames;
 pub use position::{Array, Place, Variable};
 pub use variables::Variables;

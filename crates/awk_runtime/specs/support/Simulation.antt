@@ -132,6 +132,7 @@ pub record Follows {A : Type 0} (is_logged : Type 0) (run : Run A) (old : Runtim
 pub record Spends (old new : Runtime) (r : Result (Unit {0}) Halt) : Type 0 where
   pub changes : Changes spend old new r
   pub falls : OnOk r (new.steps < old.steps)
+  pub frames : new.frames ≡ old.frames
 
 -- nothing is changed that the definitions know, but perhaps the streams
 pub record Beside (old new : Runtime) : Type 0 where

@@ -4,7 +4,7 @@ use Rattle.std.specs.Prelude.{◌≡◌, ◌≤◌, ℕ, ◌+◌, List, [], ◌�
 use Rattle.awk_value.specs.declared.value.Value.{Value}
 use Rattle.awk_semantics.specs.declared.local.Local.{Local}
 use Rattle.awk_semantics.specs.declared.local.Local.TheVariants as local
-use Rattle.awk_storage.specs.declared.frames.Saved.{Saved}
+use Rattle.awk_storage.specs.declared.entry.Entry.{Entry}
 
 -- the parameters of an active call, by their positions
 pub record FrameView : Type 0 where
@@ -20,6 +20,18 @@ pub record FramesView : Type 0 where
   -- what a call that is about to be made is given
   pub staged : List Local
 
+-- what is kept of an active call besides its parameters
+pub record Saved : Type 0 where
+  pub count : ℕ
+  pub height : ℕ
+  pub arrays_before : ℕ
+
+-- the entries with the heights of the bodies
+abbrev pub saved_of : List Entry → List ℕ → List Saved
+saved_of [] heights = []
+saved_of (e ∷ es) [] = []
+saved_of (e ∷ es) (height ∷ heights) = record { count = e.count; height = height; arrays_before = e.arrays_before } ∷ saved_of es heights
+
 abbrev pub frame_of : Saved → List Local → FrameView
 frame_of saved locals = record { locals = take saved.count locals; height = saved.height; arrays_before = saved.arrays_before }
 
@@ -33,10 +45,6 @@ abbrev pub total_count : List Saved → ℕ
 total_count [] = 0
 total_count (saved ∷ more) = saved.count + total_count more
 
-abbrev pub total_height : List Saved → ℕ
-total_height [] = 0
-total_height (saved ∷ more) = saved.height + total_height more
-
 -- the calls but the newest one
 abbrev pub front_of : List Saved → List Saved
 front_of [] = []
@@ -48,12 +56,11 @@ newest_count [] = 0
 newest_count (x ∷ []) = x.count
 newest_count (x ∷ y ∷ more) = newest_count (y ∷ more)
 
--- where the parameters of the newest call begin, and end, in the one list of all; and how high all bodies are together
-pub record AreKept (saved : List Saved) (locals : List Local) (base top height : ℕ) : Type 0 where
+-- where the parameters of the newest call begin, and end, in the one list of all
+pub record AreKept (saved : List Saved) (locals : List Local) (base top : ℕ) : Type 0 where
   pub begin : base ≡ total_count (front_of saved)
   pub end : top ≡ total_count saved
   pub within : top ≤ length locals
-  pub high : height ≡ total_height saved
 
 -- the newest call
 
