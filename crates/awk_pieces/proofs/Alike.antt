@@ -1,0 +1,125 @@
+-- Two runs that treat a record alike: on states that differ in their input, in the steps that are left, and in the
+-- variables that aren't known to be the same.
+use Rattle.std.proofs.Common.{◌≡◌, ℕ, ◌+◌, Bool, true, false, List, [], ◌∷◌, ◌++◌, Option, Some, None, Result, Ok, Err, refl, sym, ap, ◌∙◌, zero, suc, append_assoc, append-nil, arith}
+use Rattle.awk_value.specs.declared.value.Value.{Value}
+use Rattle.awk_record.specs.definitions.Record.{RecordPair}
+use Rattle.awk_streams.specs.Oracle.{Source, Oracle}
+use Rattle.awk_semantics.specs.declared.halt.Halt.{Halt}
+use Rattle.awk_semantics.specs.declared.halt.Halt.TheVariants as halt
+use Rattle.awk_semantics.specs.definitions.State.{Request, OpensMain, OpensInput, OpensOutput, RecordOfMain, RecordOf, Closes, Runs, Ends, Effect, Printed, Requested, Frame, State, Out, Run, go_on, ◌>>=◌, lift}
+
+-- the outside of a run, what is left of its main input, and whether there was one
+pub record Outer : Type 0 where
+  pub outside : Oracle
+  pub main : Option Source
+  pub seen : Bool
+
+abbrev pub Names : Type 0
+Names = List ℕ → Bool
+
+abbrev pub Values : Type 0
+Values = List ℕ → Value
+
+-- the state with this outside, record and these variables, where no call is active, no named stream is open, and there are
+-- no operands
+abbrev pub state_on : State → Outer → RecordPair → Values → ℕ → State
+state_on base o c v k = record base { outside = o.outside; main = o.main; current = c; variables = v; frames = []; streams = []; next = 1; status = 0; input_seen = o.seen; steps = k }
+
+-- the names of the variables that no rule changes, and of those that have the same values on both sides as a record begins
+pub record Sorts : Type 0 where
+  pub kept : Names
+  pub shared : Names
+
+abbrev pub AgreeOn : Names → Values → Values → Type 0
+AgreeOn names v w = (x : List ℕ) → names x ≡ true → w x ≡ v x
+
+-- prints to standard output alone, and readings of the main input
+abbrev pub IsPlain : Effect → Type 0
+IsPlain (Printed zero bytes) = Unit {0}
+IsPlain (Printed (suc n) bytes) = ⊥
+IsPlain (Requested (OpensMain kind name)) = Unit {0}
+IsPlain (Requested (RecordOfMain separator left)) = Unit {0}
+IsPlain (Requested what) = ⊥
+
+abbrev pub ArePlain : List Effect → Type 0
+ArePlain [] = Unit {0}
+ArePlain (x ∷ xs) = IsPlain x × ArePlain xs
+
+pub plain_append : (xs ys : List Effect) → ArePlain xs → ArePlain ys → ArePlain (xs ++ ys)
+plain_append [] ys a b = b
+plain_append (x ∷ xs) ys a b = (a.0, plain_append xs ys a.1 b)
+
+abbrev pub behind : {A : Type 0} → List Effect → Out A → Out A
+behind effects x = record { result = x.result; state = x.state; effects = effects ++ x.effects }
+
+-- both give the same result, show the same, and leave states that are alike on the known names; those that are kept
+-- have their values still
+pub record Same {A : Type 0} (sorts : Sorts) (known : Names) (base : State) (o p : Outer) (v w : Values) (d : ℕ) (x y : Out A) : Type 0 where
+  pub pair : RecordPair
+  pub left : ℕ
+  pub here : Values
+  pub there : Values
+  pub agrees : AgreeOn known here there
+  pub keeps : AgreeOn sorts.kept v here
+  pub keeps_there : AgreeOn sorts.kept w there
+  pub is_here : x.state ≡ state_on base o pair here left
+  pub is_there : y ≡ record { result = x.result; state = state_on base p pair there (left + d); effects = x.effects }
+  pub plain : ArePlain x.effects
+
+abbrev pub Covers : {A : Type 0} → (sorts : Sorts) (known : Names) → State → (o p : Outer) → (v w : Values) → ℕ → Result A Halt → Out A → Out A → Type 0
+Covers sorts known base o p v w d (Ok a) x y = Same sorts known base o p v w d x y
+Covers sorts known base o p v w d (Err (halt.Fault f)) x y = Unit {0}
+Covers sorts known base o p v w d (Err halt.OutOfSteps) x y = Unit {0}
+Covers sorts known base o p v w d (Err halt.Next) x y = Same sorts sorts.shared base o p v w d x y
+Covers sorts known base o p v w d (Err halt.Exit) x y = ⊥
+
+-- from states that are alike on the names known before, to such on those known behind
+pub record Alike {A : Type 0} (sorts : Sorts) (before known : Names) (base : State) (m n : Run A) : Type 0 where
+  pub covers : (o p : Outer) (c : RecordPair) (v w : Values) (k d : ℕ) → AgreeOn before v w → Covers sorts known base o p v w d (m (state_on base o c v k)).result (m (state_on base o c v k)) (n (state_on base p c w (k + d)))
+
+pub same_behind : {A : Type 0} (sorts : Sorts) (known : Names) (base : State) (o p : Outer) (v w u z : Values) (d : ℕ) (effects : List Effect) (x y : Out A) → ArePlain effects → AgreeOn sorts.kept v u → AgreeOn sorts.kept w z → Same sorts known base o p u z d x y → Same sorts known base o p v w d (behind effects x) (behind effects y)
+same_behind sorts known base o p v w u z d effects x y plain keeps keeps_there c = record {
+  pair = c.pair;
+  left = c.left;
+  here = c.here;
+  there = c.there;
+  agrees = c.agrees;
+  keeps = λ x e. c.keeps x e ∙ keeps x e;
+  keeps_there = λ x e. c.keeps_there x e ∙ keeps_there x e;
+  is_here = c.is_here;
+  is_there = ap (behind effects) c.is_there;
+  plain = plain_append effects x.effects plain c.plain;
+}
+
+pub covers_behind : {A : Type 0} (sorts : Sorts) (known : Names) (base : State) (o p : Outer) (v w u z : Values) (d : ℕ) (effects : List Effect) (r : Result A Halt) (x y : Out A) → ArePlain effects → AgreeOn sorts.kept v u → AgreeOn sorts.kept w z → Covers sorts known base o p u z d r x y → Covers sorts known base o p v w d r (behind effects x) (behind effects y)
+covers_behind sorts known base o p v w u z d effects (Ok a) x y plain keeps keeps_there c = same_behind sorts known base o p v w u z d effects x y plain keeps keeps_there c
+covers_behind sorts known base o p v w u z d effects (Err (halt.Fault f)) x y plain keeps keeps_there c = tt
+covers_behind sorts known base o p v w u z d effects (Err halt.OutOfSteps) x y plain keeps keeps_there c = tt
+covers_behind sorts known base o p v w u z d effects (Err halt.Next) x y plain keeps keeps_there c = same_behind sorts sorts.shared base o p v w u z d effects x y plain keeps keeps_there c
+covers_behind sorts known base o p v w u z d effects (Err halt.Exit) x y plain keeps keeps_there c = absurd c
+
+go_covers : {A B : Type 0} (sorts : Sorts) (known after : Names) (base : State) (f g : A → Run B) → ((a : A) → Alike sorts known after base (f a) (g a)) → (o p : Outer) (v w : Values) (d : ℕ) (r : Result A Halt) (t : State) (effects : List Effect) (y : Out A) → Covers sorts known base o p v w d r (record { result = r; state = t; effects = effects }) y → Covers sorts after base o p v w d (go_on r t effects f).result (go_on r t effects f) (go_on y.result y.state y.effects g)
+unfolding go_on
+go_covers sorts known after base f g h o p v w d (Ok a) t effects y c =
+    rw (c.is_here, c.is_there) (covers_behind sorts after base o p v w c.here c.there d effects (f a (state_on base o c.pair c.here c.left)).result (f a (state_on base o c.pair c.here c.left)) (g a (state_on base p c.pair c.there (c.left + d))) c.plain c.keeps c.keeps_there ((h a).covers o p c.pair c.here c.there c.left d c.agrees))
+go_covers sorts known after base f g h o p v w d (Err (halt.Fault n)) t effects y c = tt
+go_covers sorts known after base f g h o p v w d (Err halt.OutOfSteps) t effects y c = tt
+go_covers sorts known after base f g h o p v w d (Err halt.Next) t effects y c = rw c.is_there (record {
+  pair = c.pair;
+  left = c.left;
+  here = c.here;
+  there = c.there;
+  agrees = c.agrees;
+  keeps = c.keeps;
+  keeps_there = c.keeps_there;
+  is_here = c.is_here;
+  is_there = refl;
+  plain = c.plain;
+})
+go_covers sorts known after base f g h o p v w d (Err halt.Exit) t effects y c = absurd c
+
+pub then_alike : {A B : Type 0} {sorts : Sorts} {before known after : Names} {base : State} {m n : Run A} (f g : A → Run B) → Alike sorts before known base m n → ((a : A) → Alike sorts known after base (f a) (g a)) → Alike sorts before after base (m >>= f) (n >>= g)
+unfolding ◌>>=◌
+then_alike {sorts = sorts} {before = before} {known = known} {after = after} {base = base} {m = m} {n = n} f g x h = record {
+  covers = λ o p c v w k d agrees. go_covers sorts known after base f g h o p v w d (m (state_on base o c v k)).result (m (state_on base o c v k)).state (m (state_on base o c v k)).effects (n (state_on base p c w (k + d))) (x.covers o p c v w k d agrees);
+}

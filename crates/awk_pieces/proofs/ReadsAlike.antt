@@ -1,0 +1,234 @@
+-- Expressions that only read, and what is made of them, do alike.
+use Rattle.std.proofs.Common.{◌≡◌, ℕ, zero, suc, ◌+◌, Bool, true, false, ◌&&◌, not, List, [], ◌∷◌, ◌++◌, Option, Some, None, Result, Ok, Err, pos, negsuc, ℤ, refl, sym, ap, ◌∙◌, arith, cond, codes, bytes_eq, drop, map, length}
+use Rattle.awk_value.specs.declared.value.Value.{Value}
+use Rattle.awk_value.specs.declared.value.Value.TheVariants as value
+use Rattle.awk_value.specs.Values.{truth_of, str_of, num_of}
+use Rattle.awk_record.specs.definitions.Record.{RecordPair, field_of}
+use Rattle.awk_lex.specs.declared.token.BuiltIn.{BuiltIn as BuiltInName}
+use Rattle.awk_lex.specs.declared.token.BuiltIn.TheVariants as built_in
+use Rattle.awk_lex.specs.declared.token.Operator.TheVariants as o
+use Rattle.awk_grammar.specs.declared.tree.BinaryOperator.{BinaryOperator}
+use Rattle.awk_grammar.specs.declared.tree.BinaryOperator.TheVariants.{Concatenate, Infix}
+use Rattle.awk_grammar.specs.Tree.{Expr, Number, String, Ere, Name, Element, Field, Group, Call, BuiltIn, Length, PreIncrement, PostIncrement, Getline, PipedGetline, Unary, Binary, Membership, ListMembership, Conditional, Assign, Exprs, Nil, Cons}
+use Rattle.awk_semantics.specs.declared.halt.Halt.{Halt}
+use Rattle.awk_semantics.specs.declared.halt.Halt.TheVariants as halt
+use Rattle.awk_kinds.specs.Names.{has_name}
+use Rattle.awk_semantics.specs.definitions.State.{Effect, Printed, State, Out, Run, lift, ret}
+use Rattle.awk_semantics.specs.definitions.Operators.{truth_value, changed, applied, takes_pattern}
+use Rattle.awk_semantics.specs.definitions.Faults.{of_values, of_record}
+use Rattle.awk_semantics.specs.definitions.Primitives.{spend, spend_of, number_of, read_field, record_text, read_name, is_array, number_in, array_in, array_length, array_length_at}
+use Rattle.awk_semantics.specs.definitions.BuiltIns.{Role, AsValue, AsPattern, AsArray, AsPlace, AsMeasured, Argument, OfValue, OfEre, OfArray, OfPlace, value_of, roles_of, bare_name, array_or_value, array_named_or, taken_as, count_value, applied_all, record_length, count_elements, apply_built_in}
+use Rattle.awk_semantics.specs.definitions.Semantics.{Functions, right_operand, tested, choose, combined, eval, take_arguments}
+use Rattle.awk_pieces.specs.definitions.Pieceable.{is_of_values, only_reads, all_only_read}
+use Rattle.awk_pieces.proofs.Alike.{Outer, Names, Sorts, Values, state_on, AgreeOn, ArePlain, Same, Covers, Alike, then_alike}
+use Rattle.awk_pieces.proofs.ValuesAndFaults.{IsValueOrFault, of_values_faults, of_record_faults, changed_faults, applied_faults, applied_all_faults}
+
+pub left_true : (a b : Bool) → (a && b) ≡ true → a ≡ true
+left_true true b e = refl
+left_true false b e = e
+
+pub right_true : (a b : Bool) → (a && b) ≡ true → b ≡ true
+right_true true b e = e
+right_true false b e = absurd (cc)
+
+module _ (sorts : Sorts) (known : Names) (base : State) where
+  -- what reads names that are known, and changes nothing
+  abbrev pub Reads : {A : Type 0} → Run A → Run A → Type 0
+  Reads m n = Alike sorts known known base m n
+
+  pub unmoved : {A : Type 0} (o p : Outer) (c : RecordPair) (v w : Values) (k d : ℕ) (effects : List Effect) (r : Result A Halt) → IsValueOrFault r → ArePlain effects → AgreeOn known v w → Covers sorts known base o p v w d r (record { result = r; state = state_on base o c v k; effects = effects }) (record { result = r; state = state_on base p c w (k + d); effects = effects })
+  unmoved o p c v w k d effects (Ok a) is plain agrees = record { pair = c; left = k; here = v; there = w; agrees = agrees; keeps = λ x e. refl; keeps_there = λ x e. refl; is_here = refl; is_there = refl; plain = plain }
+  unmoved o p c v w k d effects (Err (halt.Fault f)) is plain agrees = tt
+  unmoved o p c v w k d effects (Err halt.OutOfSteps) is plain agrees = absurd is
+  unmoved o p c v w k d effects (Err halt.Next) is plain agrees = absurd is
+  unmoved o p c v w k d effects (Err halt.Exit) is plain agrees = absurd is
+
+  pub lift_alike : {A : Type 0} (r : Result A Halt) → IsValueOrFault r → Reads (lift r) (lift r)
+  unfolding lift
+  lift_alike r is = record { covers = λ o p c v w k d agrees. unmoved o p c v w k d [] r is tt agrees }
+
+  pub ret_alike : {A : Type 0} (a : A) → Reads (ret a) (ret a)
+  ret_alike a = lift_alike (Ok a) tt
+
+  spend_covers : (o p : Outer) (c : RecordPair) (v w : Values) (k d : ℕ) → AgreeOn known v w → Covers sorts known base o p v w d (spend_of k (state_on base o c v k)).result (spend_of k (state_on base o c v k)) (spend_of (k + d) (state_on base p c w (k + d)))
+  spend_covers o p c v w zero d agrees = tt
+  spend_covers o p c v w (suc k) d agrees = let e : suc k + d ≡ suc (k + d) = omega arith in rw e (unmoved o p c v w k d [] (Ok tt) tt tt agrees)
+
+  pub spend_alike : Reads spend spend
+  unfolding spend
+  spend_alike = record { covers = λ o p c v w k d agrees. spend_covers o p c v w k d agrees }
+
+  pub text_alike : Reads record_text record_text
+  unfolding record_text
+  text_alike = record { covers = λ o p c v w k d agrees. unmoved o p c v w k d [] (Ok (value.Input c.text)) tt tt agrees }
+
+  pub name_alike : (x : List ℕ) → known x ≡ true → Reads (read_name x) (read_name x)
+  unfolding read_name
+  name_alike x is = record { covers = λ o p c v w k d agrees. rw (agrees x is) (unmoved o p c v w k d [] (Ok (cond (bytes_eq x (codes "NF")) (value.Number (pos (length c.fields))) (v x))) tt tt agrees) }
+
+  pub field_alike : (n : ℤ) → Reads (read_field n) (read_field n)
+  unfolding read_field
+  field_alike n = record { covers = λ o p c v w k d agrees. unmoved o p c v w k d [] (of_record (field_of c n)) (of_record_faults (field_of c n)) tt agrees }
+
+  pub number_alike : (v : Value) → Reads (number_of v) (number_of v)
+  number_alike v = lift_alike (of_values (num_of v)) (of_values_faults (num_of v))
+
+  is_array_alike : (x : List ℕ) → Reads (is_array x) (is_array x)
+  unfolding is_array
+  is_array_alike x = record { covers = λ o p c v w k d agrees. unmoved o p c v w k d [] (Ok (has_name base.array_names x)) tt tt agrees }
+
+  array_length_alike : (x : List ℕ) → Reads (array_length x) (array_length x)
+  unfolding array_length array_length_at
+  array_length_alike x = record { covers = λ o p c v w k d agrees. unmoved o p c v w k d [] (Ok (length (array_in base (number_in base.array_names x)))) tt tt agrees }
+
+  array_or_value_alike : (b : Bool) (x : List ℕ) {m n : Run Value} → Reads m n → Reads (array_or_value b x m) (array_or_value b x n)
+  array_or_value_alike true x h = ret_alike _
+  array_or_value_alike false x h = then_alike _ _ h (λ v. ret_alike _)
+
+  array_named_or_alike : (name : Option (List ℕ)) {m n : Run Value} → Reads m n → Reads (array_named_or name m) (array_named_or name n)
+  array_named_or_alike None h = then_alike _ _ h (λ v. ret_alike _)
+  array_named_or_alike (Some x) h = then_alike _ _ (is_array_alike x) (λ b. array_or_value_alike b x h)
+
+  pub right_alike : (takes : Bool) (e : Expr) {m n : Run Value} → Reads m n → Reads (right_operand takes e m) (right_operand takes e n)
+  right_alike true (Ere text) h = ret_alike _
+  right_alike true (Number n) h = h
+  right_alike true (String bytes) h = h
+  right_alike true (Name x) h = h
+  right_alike true (Element x es) h = h
+  right_alike true (Field a) h = h
+  right_alike true (Group a) h = h
+  right_alike true (Call f es) h = h
+  right_alike true (BuiltIn f es) h = h
+  right_alike true Length h = h
+  right_alike true (PreIncrement c p) h = h
+  right_alike true (PostIncrement c p) h = h
+  right_alike true (Getline p file) h = h
+  right_alike true (PipedGetline c p) h = h
+  right_alike true (Unary c a) h = h
+  right_alike true (Binary c a b) h = h
+  right_alike true (Membership a x) h = h
+  right_alike true (ListMembership es x) h = h
+  right_alike true (Conditional c a b) h = h
+  right_alike true (Assign c p a) h = h
+  right_alike false e h = h
+
+  pub tested_alike : {m n : Run Value} → Reads m n → Reads (tested m) (tested n)
+  unfolding tested
+  tested_alike h = then_alike _ _ h (λ v. ret_alike (truth_of v))
+
+  pub choose_alike : {A : Type 0} {before after : Names} (b : Bool) {here here' other other' : Run A} → Alike sorts before after base here here' → Alike sorts before after base other other' → Alike sorts before after base (choose b here other) (choose b here' other')
+  choose_alike true h k = h
+  choose_alike false h k = k
+
+  pub combined_alike : (c : BinaryOperator) {m n x y : Run Value} → Reads m n → Reads x y → Reads (combined c m x) (combined c n y)
+  combined_alike Concatenate h k = then_alike _ _ h (λ x. then_alike _ _ k (λ y. ret_alike _))
+  combined_alike (Infix o.And) h k = then_alike _ _ (tested_alike h) (λ x. then_alike _ _ (choose_alike x (tested_alike k) (ret_alike false)) (λ y. ret_alike (truth_value y)))
+  combined_alike (Infix o.Or) h k = then_alike _ _ (tested_alike h) (λ x. then_alike _ _ (choose_alike x (ret_alike true) (tested_alike k)) (λ y. ret_alike (truth_value y)))
+  combined_alike (Infix o.Power) h k = then_alike _ _ h (λ x. then_alike _ _ k (λ y. lift_alike (applied o.Power x y) (applied_faults o.Power x y)))
+  combined_alike (Infix o.Times) h k = then_alike _ _ h (λ x. then_alike _ _ k (λ y. lift_alike (applied o.Times x y) (applied_faults o.Times x y)))
+  combined_alike (Infix o.Divide) h k = then_alike _ _ h (λ x. then_alike _ _ k (λ y. lift_alike (applied o.Divide x y) (applied_faults o.Divide x y)))
+  combined_alike (Infix o.Remainder) h k = then_alike _ _ h (λ x. then_alike _ _ k (λ y. lift_alike (applied o.Remainder x y) (applied_faults o.Remainder x y)))
+  combined_alike (Infix o.Plus) h k = then_alike _ _ h (λ x. then_alike _ _ k (λ y. lift_alike (applied o.Plus x y) (applied_faults o.Plus x y)))
+  combined_alike (Infix o.Minus) h k = then_alike _ _ h (λ x. then_alike _ _ k (λ y. lift_alike (applied o.Minus x y) (applied_faults o.Minus x y)))
+  combined_alike (Infix o.Less) h k = then_alike _ _ h (λ x. then_alike _ _ k (λ y. lift_alike (applied o.Less x y) (applied_faults o.Less x y)))
+  combined_alike (Infix o.LessEqual) h k = then_alike _ _ h (λ x. then_alike _ _ k (λ y. lift_alike (applied o.LessEqual x y) (applied_faults o.LessEqual x y)))
+  combined_alike (Infix o.NotEqual) h k = then_alike _ _ h (λ x. then_alike _ _ k (λ y. lift_alike (applied o.NotEqual x y) (applied_faults o.NotEqual x y)))
+  combined_alike (Infix o.Equal) h k = then_alike _ _ h (λ x. then_alike _ _ k (λ y. lift_alike (applied o.Equal x y) (applied_faults o.Equal x y)))
+  combined_alike (Infix o.Greater) h k = then_alike _ _ h (λ x. then_alike _ _ k (λ y. lift_alike (applied o.Greater x y) (applied_faults o.Greater x y)))
+  combined_alike (Infix o.GreaterEqual) h k = then_alike _ _ h (λ x. then_alike _ _ k (λ y. lift_alike (applied o.GreaterEqual x y) (applied_faults o.GreaterEqual x y)))
+  combined_alike (Infix o.Matches) h k = then_alike _ _ h (λ x. then_alike _ _ k (λ y. lift_alike (applied o.Matches x y) (applied_faults o.Matches x y)))
+  combined_alike (Infix o.NotMatches) h k = then_alike _ _ h (λ x. then_alike _ _ k (λ y. lift_alike (applied o.NotMatches x y) (applied_faults o.NotMatches x y)))
+
+  record_length_alike : Reads record_length record_length
+  unfolding record_length
+  record_length_alike = then_alike _ _ text_alike (λ v. lift_alike (applied_all built_in.Length (v ∷ [])) (applied_all_faults built_in.Length (v ∷ [])))
+
+  count_alike : (x : List ℕ) → Reads (count_elements x) (count_elements x)
+  unfolding count_elements
+  count_alike x = then_alike _ _ (array_length_alike x) (λ n. ret_alike _)
+
+  -- what a built-in function of values makes of its arguments
+  applied_alike : (f : BuiltInName) (arguments : List Argument) → Reads (lift (applied_all f (map value_of arguments))) (lift (applied_all f (map value_of arguments)))
+  applied_alike f arguments = lift_alike (applied_all f (map value_of arguments)) (applied_all_faults f (map value_of arguments))
+
+  pub built_in_alike : (f : BuiltInName) (arguments : List Argument) → is_of_values f ≡ true → Reads (apply_built_in f arguments) (apply_built_in f arguments)
+  unfolding apply_built_in
+  built_in_alike built_in.Length [] is = record_length_alike
+  built_in_alike built_in.Length (OfArray x ∷ arguments) is = count_alike x
+  built_in_alike built_in.Length (OfValue v ∷ arguments) is = applied_alike built_in.Length (OfValue v ∷ arguments)
+  built_in_alike built_in.Length (OfEre text ∷ arguments) is = applied_alike built_in.Length (OfEre text ∷ arguments)
+  built_in_alike built_in.Length (OfPlace p old ∷ arguments) is = applied_alike built_in.Length (OfPlace p old ∷ arguments)
+  built_in_alike built_in.Substr arguments is = applied_alike built_in.Substr arguments
+  built_in_alike built_in.Index arguments is = applied_alike built_in.Index arguments
+  built_in_alike built_in.Sprintf arguments is = applied_alike built_in.Sprintf arguments
+  built_in_alike built_in.ToLower arguments is = applied_alike built_in.ToLower arguments
+  built_in_alike built_in.ToUpper arguments is = applied_alike built_in.ToUpper arguments
+  built_in_alike built_in.Int arguments is = applied_alike built_in.Int arguments
+  built_in_alike built_in.Split arguments is = absurd (cc)
+  built_in_alike built_in.Sub arguments is = absurd (cc)
+  built_in_alike built_in.Gsub arguments is = absurd (cc)
+  built_in_alike built_in.Match arguments is = absurd (cc)
+  built_in_alike built_in.System arguments is = absurd (cc)
+  built_in_alike built_in.Close arguments is = absurd (cc)
+  built_in_alike built_in.Fflush arguments is = absurd (cc)
+
+  -- a function of values takes values alone, but for `length`
+  abbrev TakesValues : List Role → Type 0
+  TakesValues [] = Unit {0}
+  TakesValues (AsMeasured ∷ roles) = TakesValues roles
+  TakesValues (role ∷ roles) = ⊥
+
+  takes_values : (f : BuiltInName) → is_of_values f ≡ true → TakesValues (roles_of f)
+  takes_values built_in.Length is = tt
+  takes_values built_in.Substr is = tt
+  takes_values built_in.Index is = tt
+  takes_values built_in.Sprintf is = tt
+  takes_values built_in.ToLower is = tt
+  takes_values built_in.ToUpper is = tt
+  takes_values built_in.Int is = tt
+  takes_values built_in.Split is = absurd (cc)
+  takes_values built_in.Sub is = absurd (cc)
+  takes_values built_in.Gsub is = absurd (cc)
+  takes_values built_in.Match is = absurd (cc)
+  takes_values built_in.System is = absurd (cc)
+  takes_values built_in.Close is = absurd (cc)
+  takes_values built_in.Fflush is = absurd (cc)
+
+  module _ (f g : Functions) where
+    mutual
+      unfolding eval
+
+      pub reads_alike : (e : Expr) → only_reads known e ≡ true → Reads (eval f e) (eval g e)
+      reads_alike (Number n) is = ret_alike _
+      reads_alike (String bytes) is = ret_alike _
+      reads_alike (Ere text) is = then_alike _ _ text_alike (λ v. lift_alike (applied o.Matches v (value.Text text)) (applied_faults o.Matches v (value.Text text)))
+      reads_alike (Name x) is = name_alike x is
+      reads_alike (Field e) is = then_alike _ _ (reads_alike e is) (λ v. then_alike _ _ (number_alike v) (λ n. field_alike n))
+      reads_alike (Group e) is = reads_alike e is
+      reads_alike (BuiltIn c es) is = then_alike _ _ (arguments_alike es (roles_of c) [] (takes_values c (left_true (is_of_values c) _ is)) (right_true (is_of_values c) _ is)) (λ arguments. built_in_alike c arguments (left_true (is_of_values c) _ is))
+      reads_alike Length is = record_length_alike
+      reads_alike (Unary c e) is = then_alike _ _ (reads_alike e is) (λ v. lift_alike (changed c v) (changed_faults c v))
+      reads_alike (Binary c a b) is = combined_alike c (reads_alike a (left_true (only_reads known a) _ is)) (right_alike (takes_pattern c) b (reads_alike b (right_true (only_reads known a) _ is)))
+      reads_alike (Conditional c a b) is =
+          let both = right_true (only_reads known c) _ is in
+          let here = reads_alike a (left_true (only_reads known a) _ both) in
+          let other = reads_alike b (right_true (only_reads known a) _ both) in
+          then_alike _ _ (tested_alike (reads_alike c (left_true (only_reads known c) _ is))) (λ x. choose_alike x here other)
+      reads_alike (Element x es) is = absurd (cc)
+      reads_alike (Call c es) is = absurd (cc)
+      reads_alike (PreIncrement c p) is = absurd (cc)
+      reads_alike (PostIncrement c p) is = absurd (cc)
+      reads_alike (Getline p file) is = absurd (cc)
+      reads_alike (PipedGetline c p) is = absurd (cc)
+      reads_alike (Membership a x) is = absurd (cc)
+      reads_alike (ListMembership es x) is = absurd (cc)
+      reads_alike (Assign c p a) is = absurd (cc)
+
+      pub arguments_alike : (es : Exprs) (roles : List Role) (front : List Argument) → TakesValues roles → all_only_read known es ≡ true → Reads (take_arguments f roles front es) (take_arguments g roles front es)
+      arguments_alike Nil roles front takes is = ret_alike front
+      arguments_alike (Cons e es) [] front takes is = then_alike _ _ (then_alike _ _ (reads_alike e (left_true (only_reads known e) _ is)) (λ v. ret_alike _)) (λ a. arguments_alike es [] (front ++ a ∷ []) tt (right_true (only_reads known e) _ is))
+      arguments_alike (Cons e es) (AsMeasured ∷ roles) front takes is = then_alike _ _ (array_named_or_alike (bare_name e) (reads_alike e (left_true (only_reads known e) _ is))) (λ a. arguments_alike es roles (front ++ a ∷ []) takes (right_true (only_reads known e) _ is))
+      arguments_alike (Cons e es) (AsValue ∷ roles) front takes is = absurd takes
+      arguments_alike (Cons e es) (AsPattern ∷ roles) front takes is = absurd takes
+      arguments_alike (Cons e es) (AsArray ∷ roles) front takes is = absurd takes
+      arguments_alike (Cons e es) (AsPlace ∷ roles) front takes is = absurd takes

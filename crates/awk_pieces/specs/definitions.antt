@@ -1,0 +1,2 @@
+pub mod Pieceable
+pub mod LawOfPieces

@@ -1,0 +1,92 @@
+-- Programs that may run on pieces of their input, side by side: each record is treated for itself.
+use Rattle.std.specs.Prelude.{◌≡◌, ℕ, Bool, true, false, not, ◌&&◌, ◌||◌, List, [], ◌∷◌, codes, bytes_eq}
+use Rattle.awk_lex.specs.declared.token.BuiltIn.{BuiltIn as BuiltInName}
+use Rattle.awk_lex.specs.declared.token.BuiltIn.TheVariants as builtin
+use Rattle.awk_grammar.specs.Tree.{Expr, Number, String, Ere, Name, Element, Field, Group, Call, BuiltIn, Length, PreIncrement, PostIncrement, Getline, PipedGetline, Unary, Binary, Membership, ListMembership, Conditional, Assign, Exprs, Nil, Cons, PrintList, Bare, Parenthesized, Output, Standard, Redirected, SimpleStatement, Expression, Print, Next, Statement, Empty, Simple, Block, If, IfElse, Statements, NoMore, Then, Pattern, Single, Range, Item, Begin, End, Action, PatternAction, PatternOnly, Function}
+
+-- the variables that tell where in the input a record stands
+abbrev pub is_counter : List ℕ → Bool
+is_counter x = bytes_eq x (codes "NR") || (bytes_eq x (codes "FNR") || bytes_eq x (codes "FILENAME"))
+
+-- the built-in functions that do no more than make a value of values
+abbrev pub is_of_values : BuiltInName → Bool
+is_of_values builtin.Length = true
+is_of_values builtin.Substr = true
+is_of_values builtin.Index = true
+is_of_values builtin.Sprintf = true
+is_of_values builtin.ToLower = true
+is_of_values builtin.ToUpper = true
+is_of_values builtin.Int = true
+is_of_values f = false
+
+-- what is read and done where the variables of these names may be read
+module _ (known : List ℕ → Bool) where
+  -- an expression that reads no more than the record and such variables, and changes nothing
+  abbrev mutual
+    pub only_reads : Expr → Bool
+    only_reads (Number n) = true
+    only_reads (String bytes) = true
+    only_reads (Ere text) = true
+    only_reads Length = true
+    only_reads (Name x) = known x
+    only_reads (Field e) = only_reads e
+    only_reads (Group e) = only_reads e
+    only_reads (Unary o e) = only_reads e
+    only_reads (Binary o a b) = only_reads a && only_reads b
+    only_reads (Conditional c a b) = only_reads c && (only_reads a && only_reads b)
+    only_reads (BuiltIn f es) = is_of_values f && all_only_read es
+    only_reads e = false
+
+    pub all_only_read : Exprs → Bool
+    all_only_read Nil = true
+    all_only_read (Cons e es) = only_reads e && all_only_read es
+
+  -- a statement of such expressions, which prints to standard output alone
+  abbrev pub list_only_reads : PrintList → Bool
+  list_only_reads (Bare es) = all_only_read es
+  list_only_reads (Parenthesized es) = all_only_read es
+
+  abbrev pub is_standard : Output → Bool
+  is_standard Standard = true
+  is_standard (Redirected way target) = false
+
+  abbrev pub is_simple_for_itself : SimpleStatement → Bool
+  is_simple_for_itself (Expression e) = only_reads e
+  is_simple_for_itself (Print form list output) = list_only_reads list && is_standard output
+  is_simple_for_itself Next = true
+  is_simple_for_itself simple = false
+
+  abbrev mutual
+    pub is_for_itself : Statement → Bool
+    is_for_itself Empty = true
+    is_for_itself (Simple simple) = is_simple_for_itself simple
+    is_for_itself (Block all) = are_for_themselves all
+    is_for_itself (If c s) = only_reads c && is_for_itself s
+    is_for_itself (IfElse c s other) = only_reads c && (is_for_itself s && is_for_itself other)
+    is_for_itself s = false
+
+    pub are_for_themselves : Statements → Bool
+    are_for_themselves NoMore = true
+    are_for_themselves (Then s all) = is_for_itself s && are_for_themselves all
+
+  -- a rule that treats each record for itself
+  abbrev pub pattern_only_reads : Pattern → Bool
+  pattern_only_reads (Single e) = only_reads e
+  pattern_only_reads (Range from to) = false
+
+  abbrev pub is_rule_for_itself : Item → Bool
+  is_rule_for_itself (Action block) = are_for_themselves block
+  is_rule_for_itself (PatternAction p block) = pattern_only_reads p && are_for_themselves block
+  is_rule_for_itself (PatternOnly p) = pattern_only_reads p
+  is_rule_for_itself x = false
+
+  abbrev pub are_rules_for_themselves : List Item → Bool
+  are_rules_for_themselves [] = true
+  are_rules_for_themselves (x ∷ xs) = is_rule_for_itself x && are_rules_for_themselves xs
+
+-- a program that treats each record for itself: rules that read no counter of records
+abbrev pub knows : List ℕ → Bool
+knows x = not (is_counter x)
+
+abbrev pub IsPieceable : List Item → Type 0
+IsPieceable items = are_rules_for_themselves knows items ≡ true

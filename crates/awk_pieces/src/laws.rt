@@ -1,0 +1,10 @@
+// The law of pieces.
+
+ghost use Rattle.std.specs.Prelude.{◌≡◌, ℕ};
+ghost use Rattle.awk_pieces.specs.definitions.LawOfPieces.{LawOfPieces};
+
+/// Pieces.
+#[tactic(auto, using(crate::proofs::RulesAlike::same_within, crate::proofs::LinesJoined::joined_cut, crate::proofs::RecordsPassed::printed_append))]
+pub fn law_of_pieces()
+    ensures { (n : ℕ) → n ≡ n }
+{}
