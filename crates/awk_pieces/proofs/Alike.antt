@@ -1,6 +1,6 @@
 -- Two runs that treat a record alike: on states that differ in their input, in the steps that are left, and in the
 -- variables that aren't known to be the same.
-use Rattle.std.proofs.Common.{◌≡◌, ℕ, ◌+◌, Bool, true, false, List, [], ◌∷◌, ◌++◌, Option, Some, None, Result, Ok, Err, refl, sym, ap, ◌∙◌, zero, suc, append_assoc, append-nil, arith}
+use Rattle.std.proofs.Common.{◌≡◌, ℕ, ◌+◌, Bool, true, false, List, [], ◌∷◌, ◌++◌, Option, Some, None, Result, Ok, Err, refl, sym, ap, ◌∙◌, zero, suc, ◌≤◌, le_trans, append_assoc, append-nil, arith}
 use Rattle.awk_value.specs.declared.value.Value.{Value}
 use Rattle.awk_record.specs.definitions.Record.{RecordPair}
 use Rattle.awk_streams.specs.Oracle.{Source, Oracle}
@@ -29,6 +29,8 @@ state_on base o c v k = record base { outside = o.outside; main = o.main; curren
 pub record Sorts : Type 0 where
   pub kept : Names
   pub shared : Names
+  -- whether anything is shown
+  pub shows : Bool
 
 abbrev pub AgreeOn : Names → Values → Values → Type 0
 AgreeOn names v w = (x : List ℕ) → names x ≡ true → w x ≡ v x
@@ -49,12 +51,25 @@ pub plain_append : (xs ys : List Effect) → ArePlain xs → ArePlain ys → Are
 plain_append [] ys a b = b
 plain_append (x ∷ xs) ys a b = (a.0, plain_append xs ys a.1 b)
 
+-- plain effects, or none
+abbrev pub AreShown : Bool → List Effect → Type 0
+AreShown true effects = ArePlain effects
+AreShown false effects = effects ≡ []
+
+pub shown_append : (shows : Bool) (xs ys : List Effect) → AreShown shows xs → AreShown shows ys → AreShown shows (xs ++ ys)
+shown_append true xs ys a b = plain_append xs ys a b
+shown_append false xs ys a b = rw (a, b) refl
+
+pub shown_none : (shows : Bool) → AreShown shows []
+shown_none true = tt
+shown_none false = refl
+
 abbrev pub behind : {A : Type 0} → List Effect → Out A → Out A
 behind effects x = record { result = x.result; state = x.state; effects = effects ++ x.effects }
 
 -- both give the same result, show the same, and leave states that are alike on the known names; those that are kept
 -- have their values still
-pub record Same {A : Type 0} (sorts : Sorts) (known : Names) (base : State) (o p : Outer) (v w : Values) (d : ℕ) (x y : Out A) : Type 0 where
+pub record Same {A : Type 0} (sorts : Sorts) (known : Names) (base : State) (o p : Outer) (v w : Values) (k d : ℕ) (x y : Out A) : Type 0 where
   pub pair : RecordPair
   pub left : ℕ
   pub here : Values
@@ -62,23 +77,24 @@ pub record Same {A : Type 0} (sorts : Sorts) (known : Names) (base : State) (o p
   pub agrees : AgreeOn known here there
   pub keeps : AgreeOn sorts.kept v here
   pub keeps_there : AgreeOn sorts.kept w there
+  pub falls : left ≤ k
   pub is_here : x.state ≡ state_on base o pair here left
   pub is_there : y ≡ record { result = x.result; state = state_on base p pair there (left + d); effects = x.effects }
-  pub plain : ArePlain x.effects
+  pub plain : AreShown sorts.shows x.effects
 
-abbrev pub Covers : {A : Type 0} → (sorts : Sorts) (known : Names) → State → (o p : Outer) → (v w : Values) → ℕ → Result A Halt → Out A → Out A → Type 0
-Covers sorts known base o p v w d (Ok a) x y = Same sorts known base o p v w d x y
-Covers sorts known base o p v w d (Err (halt.Fault f)) x y = Unit {0}
-Covers sorts known base o p v w d (Err halt.OutOfSteps) x y = Unit {0}
-Covers sorts known base o p v w d (Err halt.Next) x y = Same sorts sorts.shared base o p v w d x y
-Covers sorts known base o p v w d (Err halt.Exit) x y = ⊥
+abbrev pub Covers : {A : Type 0} → (sorts : Sorts) (known : Names) → State → (o p : Outer) → (v w : Values) → (k d : ℕ) → Result A Halt → Out A → Out A → Type 0
+Covers sorts known base o p v w k d (Ok a) x y = Same sorts known base o p v w k d x y
+Covers sorts known base o p v w k d (Err (halt.Fault f)) x y = Unit {0}
+Covers sorts known base o p v w k d (Err halt.OutOfSteps) x y = Unit {0}
+Covers sorts known base o p v w k d (Err halt.Next) x y = Same sorts sorts.shared base o p v w k d x y
+Covers sorts known base o p v w k d (Err halt.Exit) x y = ⊥
 
 -- from states that are alike on the names known before, to such on those known behind
 pub record Alike {A : Type 0} (sorts : Sorts) (before known : Names) (base : State) (m n : Run A) : Type 0 where
-  pub covers : (o p : Outer) (c : RecordPair) (v w : Values) (k d : ℕ) → AgreeOn before v w → Covers sorts known base o p v w d (m (state_on base o c v k)).result (m (state_on base o c v k)) (n (state_on base p c w (k + d)))
+  pub covers : (o p : Outer) (c : RecordPair) (v w : Values) (k d : ℕ) → AgreeOn before v w → Covers sorts known base o p v w k d (m (state_on base o c v k)).result (m (state_on base o c v k)) (n (state_on base p c w (k + d)))
 
-pub same_behind : {A : Type 0} (sorts : Sorts) (known : Names) (base : State) (o p : Outer) (v w u z : Values) (d : ℕ) (effects : List Effect) (x y : Out A) → ArePlain effects → AgreeOn sorts.kept v u → AgreeOn sorts.kept w z → Same sorts known base o p u z d x y → Same sorts known base o p v w d (behind effects x) (behind effects y)
-same_behind sorts known base o p v w u z d effects x y plain keeps keeps_there c = record {
+pub same_behind : {A : Type 0} (sorts : Sorts) (known : Names) (base : State) (o p : Outer) (v w u z : Values) (k l d : ℕ) (effects : List Effect) (x y : Out A) → AreShown sorts.shows effects → AgreeOn sorts.kept v u → AgreeOn sorts.kept w z → l ≤ k → Same sorts known base o p u z l d x y → Same sorts known base o p v w k d (behind effects x) (behind effects y)
+same_behind sorts known base o p v w u z k l d effects x y plain keeps keeps_there falls c = record {
   pair = c.pair;
   left = c.left;
   here = c.here;
@@ -86,25 +102,26 @@ same_behind sorts known base o p v w u z d effects x y plain keeps keeps_there c
   agrees = c.agrees;
   keeps = λ x e. c.keeps x e ∙ keeps x e;
   keeps_there = λ x e. c.keeps_there x e ∙ keeps_there x e;
+  falls = le_trans c.falls falls;
   is_here = c.is_here;
   is_there = ap (behind effects) c.is_there;
-  plain = plain_append effects x.effects plain c.plain;
+  plain = shown_append sorts.shows effects x.effects plain c.plain;
 }
 
-pub covers_behind : {A : Type 0} (sorts : Sorts) (known : Names) (base : State) (o p : Outer) (v w u z : Values) (d : ℕ) (effects : List Effect) (r : Result A Halt) (x y : Out A) → ArePlain effects → AgreeOn sorts.kept v u → AgreeOn sorts.kept w z → Covers sorts known base o p u z d r x y → Covers sorts known base o p v w d r (behind effects x) (behind effects y)
-covers_behind sorts known base o p v w u z d effects (Ok a) x y plain keeps keeps_there c = same_behind sorts known base o p v w u z d effects x y plain keeps keeps_there c
-covers_behind sorts known base o p v w u z d effects (Err (halt.Fault f)) x y plain keeps keeps_there c = tt
-covers_behind sorts known base o p v w u z d effects (Err halt.OutOfSteps) x y plain keeps keeps_there c = tt
-covers_behind sorts known base o p v w u z d effects (Err halt.Next) x y plain keeps keeps_there c = same_behind sorts sorts.shared base o p v w u z d effects x y plain keeps keeps_there c
-covers_behind sorts known base o p v w u z d effects (Err halt.Exit) x y plain keeps keeps_there c = absurd c
+pub covers_behind : {A : Type 0} (sorts : Sorts) (known : Names) (base : State) (o p : Outer) (v w u z : Values) (k l d : ℕ) (effects : List Effect) (r : Result A Halt) (x y : Out A) → AreShown sorts.shows effects → AgreeOn sorts.kept v u → AgreeOn sorts.kept w z → l ≤ k → Covers sorts known base o p u z l d r x y → Covers sorts known base o p v w k d r (behind effects x) (behind effects y)
+covers_behind sorts known base o p v w u z k l d effects (Ok a) x y plain keeps keeps_there falls c = same_behind sorts known base o p v w u z k l d effects x y plain keeps keeps_there falls c
+covers_behind sorts known base o p v w u z k l d effects (Err (halt.Fault f)) x y plain keeps keeps_there falls c = tt
+covers_behind sorts known base o p v w u z k l d effects (Err halt.OutOfSteps) x y plain keeps keeps_there falls c = tt
+covers_behind sorts known base o p v w u z k l d effects (Err halt.Next) x y plain keeps keeps_there falls c = same_behind sorts sorts.shared base o p v w u z k l d effects x y plain keeps keeps_there falls c
+covers_behind sorts known base o p v w u z k l d effects (Err halt.Exit) x y plain keeps keeps_there falls c = absurd c
 
-go_covers : {A B : Type 0} (sorts : Sorts) (known after : Names) (base : State) (f g : A → Run B) → ((a : A) → Alike sorts known after base (f a) (g a)) → (o p : Outer) (v w : Values) (d : ℕ) (r : Result A Halt) (t : State) (effects : List Effect) (y : Out A) → Covers sorts known base o p v w d r (record { result = r; state = t; effects = effects }) y → Covers sorts after base o p v w d (go_on r t effects f).result (go_on r t effects f) (go_on y.result y.state y.effects g)
+go_covers : {A B : Type 0} (sorts : Sorts) (known after : Names) (base : State) (f g : A → Run B) → ((a : A) → Alike sorts known after base (f a) (g a)) → (o p : Outer) (v w : Values) (k d : ℕ) (r : Result A Halt) (t : State) (effects : List Effect) (y : Out A) → Covers sorts known base o p v w k d r (record { result = r; state = t; effects = effects }) y → Covers sorts after base o p v w k d (go_on r t effects f).result (go_on r t effects f) (go_on y.result y.state y.effects g)
 unfolding go_on
-go_covers sorts known after base f g h o p v w d (Ok a) t effects y c =
-    rw (c.is_here, c.is_there) (covers_behind sorts after base o p v w c.here c.there d effects (f a (state_on base o c.pair c.here c.left)).result (f a (state_on base o c.pair c.here c.left)) (g a (state_on base p c.pair c.there (c.left + d))) c.plain c.keeps c.keeps_there ((h a).covers o p c.pair c.here c.there c.left d c.agrees))
-go_covers sorts known after base f g h o p v w d (Err (halt.Fault n)) t effects y c = tt
-go_covers sorts known after base f g h o p v w d (Err halt.OutOfSteps) t effects y c = tt
-go_covers sorts known after base f g h o p v w d (Err halt.Next) t effects y c = rw c.is_there (record {
+go_covers sorts known after base f g h o p v w k d (Ok a) t effects y c =
+    rw (c.is_here, c.is_there) (covers_behind sorts after base o p v w c.here c.there k c.left d effects (f a (state_on base o c.pair c.here c.left)).result (f a (state_on base o c.pair c.here c.left)) (g a (state_on base p c.pair c.there (c.left + d))) c.plain c.keeps c.keeps_there c.falls ((h a).covers o p c.pair c.here c.there c.left d c.agrees))
+go_covers sorts known after base f g h o p v w k d (Err (halt.Fault n)) t effects y c = tt
+go_covers sorts known after base f g h o p v w k d (Err halt.OutOfSteps) t effects y c = tt
+go_covers sorts known after base f g h o p v w k d (Err halt.Next) t effects y c = rw c.is_there (record {
   pair = c.pair;
   left = c.left;
   here = c.here;
@@ -112,14 +129,15 @@ go_covers sorts known after base f g h o p v w d (Err halt.Next) t effects y c =
   agrees = c.agrees;
   keeps = c.keeps;
   keeps_there = c.keeps_there;
+  falls = c.falls;
   is_here = c.is_here;
   is_there = refl;
   plain = c.plain;
 })
-go_covers sorts known after base f g h o p v w d (Err halt.Exit) t effects y c = absurd c
+go_covers sorts known after base f g h o p v w k d (Err halt.Exit) t effects y c = absurd c
 
 pub then_alike : {A B : Type 0} {sorts : Sorts} {before known after : Names} {base : State} {m n : Run A} (f g : A → Run B) → Alike sorts before known base m n → ((a : A) → Alike sorts known after base (f a) (g a)) → Alike sorts before after base (m >>= f) (n >>= g)
 unfolding ◌>>=◌
 then_alike {sorts = sorts} {before = before} {known = known} {after = after} {base = base} {m = m} {n = n} f g x h = record {
-  covers = λ o p c v w k d agrees. go_covers sorts known after base f g h o p v w d (m (state_on base o c v k)).result (m (state_on base o c v k)).state (m (state_on base o c v k)).effects (n (state_on base p c w (k + d))) (x.covers o p c v w k d agrees);
+  covers = λ o p c v w k d agrees. go_covers sorts known after base f g h o p v w k d (m (state_on base o c v k)).result (m (state_on base o c v k)).state (m (state_on base o c v k)).effects (n (state_on base p c w (k + d))) (x.covers o p c v w k d agrees);
 }

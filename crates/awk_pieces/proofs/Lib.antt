@@ -1,4 +1,6 @@
 pub mod Alike
+pub mod BeginsAlike
+pub mod FirstRecord
 pub mod LinesJoined
 pub mod ReadsAlike
 pub mod RecordsFound

@@ -1,5 +1,5 @@
 -- Expressions that only read, and what is made of them, do alike.
-use Rattle.std.proofs.Common.{◌≡◌, ℕ, zero, suc, ◌+◌, Bool, true, false, ◌&&◌, not, List, [], ◌∷◌, ◌++◌, Option, Some, None, Result, Ok, Err, pos, negsuc, ℤ, refl, sym, ap, ◌∙◌, arith, cond, codes, bytes_eq, drop, map, length}
+use Rattle.std.proofs.Common.{◌≡◌, ℕ, zero, suc, ◌+◌, Bool, true, false, ◌&&◌, not, List, [], ◌∷◌, ◌++◌, Option, Some, None, Result, Ok, Err, pos, negsuc, ℤ, refl, sym, ap, ◌∙◌, le_refl, arith, cond, codes, bytes_eq, drop, map, length}
 use Rattle.awk_value.specs.declared.value.Value.{Value}
 use Rattle.awk_value.specs.declared.value.Value.TheVariants as value
 use Rattle.awk_value.specs.Values.{truth_of, str_of, num_of}
@@ -13,14 +13,14 @@ use Rattle.awk_grammar.specs.Tree.{Expr, Number, String, Ere, Name, Element, Fie
 use Rattle.awk_semantics.specs.declared.halt.Halt.{Halt}
 use Rattle.awk_semantics.specs.declared.halt.Halt.TheVariants as halt
 use Rattle.awk_kinds.specs.Names.{has_name}
-use Rattle.awk_semantics.specs.definitions.State.{Effect, Printed, State, Out, Run, lift, ret}
+use Rattle.awk_semantics.specs.definitions.State.{Effect, Printed, State, Out, Run, lift, ret, gives}
 use Rattle.awk_semantics.specs.definitions.Operators.{truth_value, changed, applied, takes_pattern}
 use Rattle.awk_semantics.specs.definitions.Faults.{of_values, of_record}
 use Rattle.awk_semantics.specs.definitions.Primitives.{spend, spend_of, number_of, read_field, record_text, read_name, is_array, number_in, array_in, array_length, array_length_at}
 use Rattle.awk_semantics.specs.definitions.BuiltIns.{Role, AsValue, AsPattern, AsArray, AsPlace, AsMeasured, Argument, OfValue, OfEre, OfArray, OfPlace, value_of, roles_of, bare_name, array_or_value, array_named_or, taken_as, count_value, applied_all, record_length, count_elements, apply_built_in}
 use Rattle.awk_semantics.specs.definitions.Semantics.{Functions, right_operand, tested, choose, combined, eval, take_arguments}
 use Rattle.awk_pieces.specs.definitions.Pieceable.{is_of_values, only_reads, all_only_read}
-use Rattle.awk_pieces.proofs.Alike.{Outer, Names, Sorts, Values, state_on, AgreeOn, ArePlain, Same, Covers, Alike, then_alike}
+use Rattle.awk_pieces.proofs.Alike.{Outer, Names, Sorts, Values, state_on, AgreeOn, AreShown, shown_none, Same, Covers, Alike, then_alike}
 use Rattle.awk_pieces.proofs.ValuesAndFaults.{IsValueOrFault, of_values_faults, of_record_faults, changed_faults, applied_faults, applied_all_faults}
 
 pub left_true : (a b : Bool) → (a && b) ≡ true → a ≡ true
@@ -36,8 +36,8 @@ module _ (sorts : Sorts) (known : Names) (base : State) where
   abbrev pub Reads : {A : Type 0} → Run A → Run A → Type 0
   Reads m n = Alike sorts known known base m n
 
-  pub unmoved : {A : Type 0} (o p : Outer) (c : RecordPair) (v w : Values) (k d : ℕ) (effects : List Effect) (r : Result A Halt) → IsValueOrFault r → ArePlain effects → AgreeOn known v w → Covers sorts known base o p v w d r (record { result = r; state = state_on base o c v k; effects = effects }) (record { result = r; state = state_on base p c w (k + d); effects = effects })
-  unmoved o p c v w k d effects (Ok a) is plain agrees = record { pair = c; left = k; here = v; there = w; agrees = agrees; keeps = λ x e. refl; keeps_there = λ x e. refl; is_here = refl; is_there = refl; plain = plain }
+  pub unmoved : {A : Type 0} (o p : Outer) (c : RecordPair) (v w : Values) (k d : ℕ) (effects : List Effect) (r : Result A Halt) → IsValueOrFault r → AreShown sorts.shows effects → AgreeOn known v w → Covers sorts known base o p v w k d r (record { result = r; state = state_on base o c v k; effects = effects }) (record { result = r; state = state_on base p c w (k + d); effects = effects })
+  unmoved o p c v w k d effects (Ok a) is plain agrees = record { pair = c; left = k; here = v; there = w; agrees = agrees; keeps = λ x e. refl; keeps_there = λ x e. refl; falls = le_refl _; is_here = refl; is_there = refl; plain = plain }
   unmoved o p c v w k d effects (Err (halt.Fault f)) is plain agrees = tt
   unmoved o p c v w k d effects (Err halt.OutOfSteps) is plain agrees = absurd is
   unmoved o p c v w k d effects (Err halt.Next) is plain agrees = absurd is
@@ -45,14 +45,17 @@ module _ (sorts : Sorts) (known : Names) (base : State) where
 
   pub lift_alike : {A : Type 0} (r : Result A Halt) → IsValueOrFault r → Reads (lift r) (lift r)
   unfolding lift
-  lift_alike r is = record { covers = λ o p c v w k d agrees. unmoved o p c v w k d [] r is tt agrees }
+  lift_alike r is = record { covers = λ o p c v w k d agrees. unmoved o p c v w k d [] r is (shown_none sorts.shows) agrees }
 
   pub ret_alike : {A : Type 0} (a : A) → Reads (ret a) (ret a)
   ret_alike a = lift_alike (Ok a) tt
 
-  spend_covers : (o p : Outer) (c : RecordPair) (v w : Values) (k d : ℕ) → AgreeOn known v w → Covers sorts known base o p v w d (spend_of k (state_on base o c v k)).result (spend_of k (state_on base o c v k)) (spend_of (k + d) (state_on base p c w (k + d)))
+  fewer : (o p : Outer) (c : RecordPair) (v w : Values) (k d : ℕ) → AgreeOn known v w → Same {A = Unit {0}} sorts known base o p v w (suc k) d (gives (tt {0}) (state_on base o c v k)) (gives (tt {0}) (state_on base p c w (k + d)))
+  fewer o p c v w k d agrees = record { pair = c; left = k; here = v; there = w; agrees = agrees; keeps = λ x e. refl; keeps_there = λ x e. refl; falls = omega arith; is_here = refl; is_there = refl; plain = shown_none sorts.shows }
+
+  spend_covers : (o p : Outer) (c : RecordPair) (v w : Values) (k d : ℕ) → AgreeOn known v w → Covers sorts known base o p v w k d (spend_of k (state_on base o c v k)).result (spend_of k (state_on base o c v k)) (spend_of (k + d) (state_on base p c w (k + d)))
   spend_covers o p c v w zero d agrees = tt
-  spend_covers o p c v w (suc k) d agrees = let e : suc k + d ≡ suc (k + d) = omega arith in rw e (unmoved o p c v w k d [] (Ok tt) tt tt agrees)
+  spend_covers o p c v w (suc k) d agrees = let e : suc k + d ≡ suc (k + d) = omega arith in rw e (fewer o p c v w k d agrees)
 
   pub spend_alike : Reads spend spend
   unfolding spend
@@ -60,26 +63,26 @@ module _ (sorts : Sorts) (known : Names) (base : State) where
 
   pub text_alike : Reads record_text record_text
   unfolding record_text
-  text_alike = record { covers = λ o p c v w k d agrees. unmoved o p c v w k d [] (Ok (value.Input c.text)) tt tt agrees }
+  text_alike = record { covers = λ o p c v w k d agrees. unmoved o p c v w k d [] (Ok (value.Input c.text)) tt (shown_none sorts.shows) agrees }
 
   pub name_alike : (x : List ℕ) → known x ≡ true → Reads (read_name x) (read_name x)
   unfolding read_name
-  name_alike x is = record { covers = λ o p c v w k d agrees. rw (agrees x is) (unmoved o p c v w k d [] (Ok (cond (bytes_eq x (codes "NF")) (value.Number (pos (length c.fields))) (v x))) tt tt agrees) }
+  name_alike x is = record { covers = λ o p c v w k d agrees. rw (agrees x is) (unmoved o p c v w k d [] (Ok (cond (bytes_eq x (codes "NF")) (value.Number (pos (length c.fields))) (v x))) tt (shown_none sorts.shows) agrees) }
 
   pub field_alike : (n : ℤ) → Reads (read_field n) (read_field n)
   unfolding read_field
-  field_alike n = record { covers = λ o p c v w k d agrees. unmoved o p c v w k d [] (of_record (field_of c n)) (of_record_faults (field_of c n)) tt agrees }
+  field_alike n = record { covers = λ o p c v w k d agrees. unmoved o p c v w k d [] (of_record (field_of c n)) (of_record_faults (field_of c n)) (shown_none sorts.shows) agrees }
 
   pub number_alike : (v : Value) → Reads (number_of v) (number_of v)
   number_alike v = lift_alike (of_values (num_of v)) (of_values_faults (num_of v))
 
   is_array_alike : (x : List ℕ) → Reads (is_array x) (is_array x)
   unfolding is_array
-  is_array_alike x = record { covers = λ o p c v w k d agrees. unmoved o p c v w k d [] (Ok (has_name base.array_names x)) tt tt agrees }
+  is_array_alike x = record { covers = λ o p c v w k d agrees. unmoved o p c v w k d [] (Ok (has_name base.array_names x)) tt (shown_none sorts.shows) agrees }
 
   array_length_alike : (x : List ℕ) → Reads (array_length x) (array_length x)
   unfolding array_length array_length_at
-  array_length_alike x = record { covers = λ o p c v w k d agrees. unmoved o p c v w k d [] (Ok (length (array_in base (number_in base.array_names x)))) tt tt agrees }
+  array_length_alike x = record { covers = λ o p c v w k d agrees. unmoved o p c v w k d [] (Ok (length (array_in base (number_in base.array_names x)))) tt (shown_none sorts.shows) agrees }
 
   array_or_value_alike : (b : Bool) (x : List ℕ) {m n : Run Value} → Reads m n → Reads (array_or_value b x m) (array_or_value b x n)
   array_or_value_alike true x h = ret_alike _

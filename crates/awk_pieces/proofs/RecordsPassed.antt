@@ -12,7 +12,7 @@ use Rattle.awk_semantics.specs.declared.halt.Halt.TheVariants as halt
 use Rattle.awk_semantics.specs.declared.fault.Fault.TheVariants as fault
 use Rattle.awk_semantics.specs.definitions.State.{RecordOfMain, Effect, Printed, Requested, State, Out, Run, go_on, ◌>>=◌, lift}
 use Rattle.awk_semantics.specs.definitions.Items.{each_record}
-use Rattle.awk_pieces.proofs.Alike.{Outer, Names, Sorts, Values, state_on, AgreeOn, ArePlain, plain_append, behind, Same, Covers, Alike}
+use Rattle.awk_pieces.proofs.Alike.{Outer, Names, Sorts, Values, state_on, AgreeOn, ArePlain, AreShown, plain_append, behind, Same, Covers, Alike}
 use Rattle.awk_pieces.proofs.LinesJoined.{newline, Joins, JoinedCut, joined_cut, no_more}
 use Rattle.awk_pieces.proofs.RecordsFound.{reading, over, Counts, counted, rule_for, record_found, record_starved, record_over, record_broken, record_long}
 
@@ -36,6 +36,7 @@ EndsWell (Err h) = ⊥
 -- what both sides own: the rules don't change the variables that the records are found and counted by, and both sides
 -- agree on all that a record and its fields are cut by
 pub record Owns (sorts : Sorts) : Type 0 where
+  pub prints : sorts.shows ≡ true
   pub rs : sorts.kept (codes "RS") ≡ true
   pub argc : sorts.kept (codes "ARGC") ≡ true
   pub nr : sorts.kept (codes "NR") ≡ true
@@ -111,29 +112,32 @@ module _ (sorts : Sorts) (owns : Owns sorts) (base : State) (x y : Oracle) (acti
       i + length bytes < 2 ^ 127 → j + (length bytes + length more) < 2 ^ 127 → EndsWell (each_record n action (state_on base (reading x bytes) c v k)).result →
       Passed more w e d (each_record n action (state_on base (reading x bytes) c v k)) (each_record (n + e) action' (state_on base (reading y (bytes ++ more)) c' w (k + d)))
 
+  plain_of : (effects : List Effect) → AreShown sorts.shows effects → ArePlain effects
+  plain_of effects shown = subst (λ (b : Bool). AreShown b effects) owns.prints shown
+
   -- the record's action, and then the others
-  acted_on : (n e : ℕ) (left more : List ℕ) (v w : Values) (d i j : ℕ) (t : State) (effects : List Effect) (there : Out (Unit {0})) → PassesFrom n → Counts v i → Counts w j → Joins left more →
+  acted_on : (n e : ℕ) (left more : List ℕ) (v w : Values) (k d i j : ℕ) (t : State) (effects : List Effect) (there : Out (Unit {0})) → PassesFrom n → Counts v i → Counts w j → Joins left more →
       suc i + length left < 2 ^ 127 → suc j + (length left + length more) < 2 ^ 127 →
-      Same sorts sorts.shared base (reading x left) (reading y (left ++ more)) (counted v (suc i)) (counted w (suc j)) d (record { result = Ok (tt {0}); state = t; effects = effects }) there →
+      Same sorts sorts.shared base (reading x left) (reading y (left ++ more)) (counted v (suc i)) (counted w (suc j)) k d (record { result = Ok (tt {0}); state = t; effects = effects }) there →
       EndsWell (go_on (Ok (tt {0})) t effects (λ _. each_record n action)).result →
       Passed more w e d (go_on (Ok (tt {0})) t effects (λ _. each_record n action)) (go_on there.result there.state there.effects (λ _. each_record (n + e) action'))
   unfolding go_on
-  acted_on n e left more v w d i j t effects there rest counts counts' joins fits fits' c = rw (c.is_here, c.is_there) (λ well.
+  acted_on n e left more v w k d i j t effects there rest counts counts' joins fits fits' c = rw (c.is_here, c.is_there) (λ well.
       passed_behind more w c.there e d effects effects (each_record n action (state_on base (reading x left) c.pair c.here c.left)) (each_record (n + e) action' (state_on base (reading y (left ++ more)) c.pair c.there (c.left + d)))
-          (λ z is. c.keeps_there z (owns.shared_kept z is) ∙ counted_keeps w (suc j) z is) c.plain c.plain refl
+          (λ z is. c.keeps_there z (owns.shared_kept z is) ∙ counted_keeps w (suc j) z is) (plain_of effects c.plain) (plain_of effects c.plain) refl
           (rest e left more c.pair c.pair c.here c.there c.left d (suc i) (suc j) c.agrees (counts_on v c.here i counts c.keeps) (counts_on w c.there j counts' c.keeps_there) joins fits fits' well))
 
-  acted : (n e : ℕ) (left more : List ℕ) (v w : Values) (d i j : ℕ) (r : Result (Unit {0}) Halt) (t : State) (effects : List Effect) (there : Out (Unit {0})) → PassesFrom n → Counts v i → Counts w j → Joins left more →
+  acted : (n e : ℕ) (left more : List ℕ) (v w : Values) (k d i j : ℕ) (r : Result (Unit {0}) Halt) (t : State) (effects : List Effect) (there : Out (Unit {0})) → PassesFrom n → Counts v i → Counts w j → Joins left more →
       suc i + length left < 2 ^ 127 → suc j + (length left + length more) < 2 ^ 127 →
-      Covers sorts sorts.shared base (reading x left) (reading y (left ++ more)) (counted v (suc i)) (counted w (suc j)) d r (record { result = r; state = t; effects = effects }) there →
+      Covers sorts sorts.shared base (reading x left) (reading y (left ++ more)) (counted v (suc i)) (counted w (suc j)) k d r (record { result = r; state = t; effects = effects }) there →
       EndsWell (go_on r t effects (λ _. each_record n action)).result →
       Passed more w e d (go_on r t effects (λ _. each_record n action)) (go_on there.result there.state there.effects (λ _. each_record (n + e) action'))
   unfolding go_on
-  acted n e left more v w d i j (Ok u) t effects there rest counts counts' joins fits fits' c well = acted_on n e left more v w d i j t effects there rest counts counts' joins fits fits' c well
-  acted n e left more v w d i j (Err (halt.Fault f)) t effects there rest counts counts' joins fits fits' c well = absurd well
-  acted n e left more v w d i j (Err halt.OutOfSteps) t effects there rest counts counts' joins fits fits' c well = absurd well
-  acted n e left more v w d i j (Err halt.Next) t effects there rest counts counts' joins fits fits' c well = absurd well
-  acted n e left more v w d i j (Err halt.Exit) t effects there rest counts counts' joins fits fits' c well = absurd c
+  acted n e left more v w k d i j (Ok u) t effects there rest counts counts' joins fits fits' c well = acted_on n e left more v w k d i j t effects there rest counts counts' joins fits fits' c well
+  acted n e left more v w k d i j (Err (halt.Fault f)) t effects there rest counts counts' joins fits fits' c well = absurd well
+  acted n e left more v w k d i j (Err halt.OutOfSteps) t effects there rest counts counts' joins fits fits' c well = absurd well
+  acted n e left more v w k d i j (Err halt.Next) t effects there rest counts counts' joins fits fits' c well = absurd well
+  acted n e left more v w k d i j (Err halt.Exit) t effects there rest counts counts' joins fits fits' c well = absurd c
 
   rule_same : (v w : Values) → AgreeOn sorts.shared v w → str_of (v (codes "RS")) ≡ newline → str_of (w (codes "RS")) ≡ newline → rule_for w ≡ rule_for v
   rule_same v w agrees rs rs' = rw (agrees (codes "FS") owns.shared_fs, rs, rs') refl
@@ -152,7 +156,7 @@ module _ (sorts : Sorts) (owns : Owns sorts) (base : State) (x y : Oracle) (acti
               ∙ ap (λ (rule : Rule). behind (Requested (RecordOfMain newline (bytes ++ more)) ∷ []) ((action' >>= λ _. each_record (n + e) action') (state_on base (reading y (left ++ more)) (split_by rule first) (counted w (suc j)) (k + d)))) (rule_same v w agrees counts.rs counts'.rs) in
       rw (record_found base x bytes c v i counts n action k first left (omega arith) cut, found) (λ well.
           passed_behind more w w e d (Requested (RecordOfMain newline bytes) ∷ []) (Requested (RecordOfMain newline (bytes ++ more)) ∷ []) _ _ (λ z is. refl) (tt, tt) (tt, tt) refl
-              (acted n e left more v w d i j (action begun).result (action begun).state (action begun).effects (action' begun') rest counts counts' joined.joins (omega arith) (omega arith)
+              (acted n e left more v w k d i j (action begun).result (action begun).state (action begun).effects (action' begun') rest counts counts' joined.joins (omega arith) (omega arith)
                   (alike.covers (reading x left) (reading y (left ++ more)) (split_by (rule_for v) first) (counted v (suc i)) (counted w (suc j)) k d (counted_agrees v w (suc i) (suc j) agrees)) well))
 
   none_passed : (n e : ℕ) (bytes more : List ℕ) (c c' : RecordPair) (v w : Values) (k d i j : ℕ) → AgreeOn sorts.shared v w → Counts v i → Counts w j →

@@ -1,5 +1,5 @@
 -- Rules that treat each record for itself do alike on it.
-use Rattle.std.proofs.Common.{◌≡◌, ℕ, zero, suc, ◌+◌, Bool, true, false, ◌&&◌, List, [], ◌∷◌, ◌++◌, Result, Ok, Err, refl, sym, ap, ◌∙◌, codes}
+use Rattle.std.proofs.Common.{◌≡◌, ℕ, zero, suc, ◌+◌, Bool, true, false, ◌&&◌, List, [], ◌∷◌, ◌++◌, Result, Ok, Err, refl, sym, ap, ◌∙◌, le_refl, subst, codes}
 use Rattle.awk_value.specs.declared.value.Value.{Value}
 use Rattle.awk_value.specs.declared.value.Value.TheVariants as value
 use Rattle.awk_value.specs.Values.{str_of}
@@ -17,7 +17,7 @@ use Rattle.awk_semantics.specs.definitions.Primitives.{spend, record_text, print
 use Rattle.awk_semantics.specs.definitions.Semantics.{Functions, tested, choose, eval, eval_all, printed_values, target_of, print_by, print, begin_test, exec_simple, pass_on, exec, exec_all}
 use Rattle.awk_semantics.specs.definitions.Items.{run_action, selects, print_record, try_item, try_items, unless_next, until_next}
 use Rattle.awk_pieces.specs.definitions.Pieceable.{only_reads, all_only_read, list_only_reads, is_standard, is_simple_for_itself, is_for_itself, are_for_themselves, pattern_only_reads, is_rule_for_itself, are_rules_for_themselves}
-use Rattle.awk_pieces.proofs.Alike.{Outer, Names, Sorts, Values, state_on, AgreeOn, ArePlain, Same, Covers, Alike, then_alike}
+use Rattle.awk_pieces.proofs.Alike.{Outer, Names, Sorts, Values, state_on, AgreeOn, ArePlain, AreShown, shown_none, Same, Covers, Alike, then_alike}
 use Rattle.awk_pieces.proofs.ReadsAlike.{left_true, right_true, Reads, unmoved, lift_alike, ret_alike, spend_alike, text_alike, tested_alike, choose_alike, reads_alike}
 use Rattle.awk_pieces.proofs.ValuesAndFaults.{format_faults}
 
@@ -29,29 +29,32 @@ pub record OwnsPrinting (known : Names) : Type 0 where
 abbrev pub IsWithin : Names → Names → Type 0
 IsWithin kept known = (x : List ℕ) → kept x ≡ true → known x ≡ true
 
-pub same_within : {A : Type 0} {sorts : Sorts} {known : Names} {base : State} {o p : Outer} {v w : Values} {d : ℕ} {x y : Out A} → IsWithin sorts.shared known → Same sorts known base o p v w d x y → Same sorts sorts.shared base o p v w d x y
-same_within within c = record { pair = c.pair; left = c.left; here = c.here; there = c.there; agrees = λ x e. c.agrees x (within x e); keeps = c.keeps; keeps_there = c.keeps_there; is_here = c.is_here; is_there = c.is_there; plain = c.plain }
+pub same_within : {A : Type 0} {sorts : Sorts} {known : Names} {base : State} {o p : Outer} {v w : Values} {k d : ℕ} {x y : Out A} → IsWithin sorts.shared known → Same sorts known base o p v w k d x y → Same sorts sorts.shared base o p v w k d x y
+same_within within c = record { pair = c.pair; left = c.left; here = c.here; there = c.there; agrees = λ x e. c.agrees x (within x e); keeps = c.keeps; keeps_there = c.keeps_there; falls = c.falls; is_here = c.is_here; is_there = c.is_there; plain = c.plain }
 
 -- what ends a record
 abbrev as_ended : Out (Unit {0}) → Out (Unit {0})
 as_ended x = record { result = unless_next x.result; state = outside_calls x.state; effects = x.effects }
 
-ended_same : {sorts : Sorts} {base : State} {o p : Outer} {v w : Values} {d : ℕ} (x y : Out (Unit {0})) → Same sorts sorts.shared base o p v w d x y → Same sorts sorts.shared base o p v w d (as_ended x) (as_ended y)
-ended_same x y c = record { pair = c.pair; left = c.left; here = c.here; there = c.there; agrees = c.agrees; keeps = c.keeps; keeps_there = c.keeps_there; is_here = ap outside_calls c.is_here; is_there = ap as_ended c.is_there; plain = c.plain }
+ended_same : {sorts : Sorts} {base : State} {o p : Outer} {v w : Values} {k d : ℕ} (x y : Out (Unit {0})) → Same sorts sorts.shared base o p v w k d x y → Same sorts sorts.shared base o p v w k d (as_ended x) (as_ended y)
+ended_same x y c = record { pair = c.pair; left = c.left; here = c.here; there = c.there; agrees = c.agrees; keeps = c.keeps; keeps_there = c.keeps_there; falls = c.falls; is_here = ap outside_calls c.is_here; is_there = ap as_ended c.is_there; plain = c.plain }
 
-ended_covers : (sorts : Sorts) (known : Names) (base : State) (o p : Outer) (v w : Values) (d : ℕ) (r : Result (Unit {0}) Halt) (t : State) (effects : List Effect) (y : Out (Unit {0})) → IsWithin sorts.shared known → Covers sorts known base o p v w d r (record { result = r; state = t; effects = effects }) y → Covers sorts sorts.shared base o p v w d (unless_next r) (as_ended (record { result = r; state = t; effects = effects })) (as_ended y)
-ended_covers sorts known base o p v w d (Ok u) t effects y within c = ended_same _ y (same_within within c)
-ended_covers sorts known base o p v w d (Err (halt.Fault f)) t effects y within c = tt
-ended_covers sorts known base o p v w d (Err halt.OutOfSteps) t effects y within c = tt
-ended_covers sorts known base o p v w d (Err halt.Next) t effects y within c = ended_same _ y c
-ended_covers sorts known base o p v w d (Err halt.Exit) t effects y within c = absurd c
+ended_covers : (sorts : Sorts) (known : Names) (base : State) (o p : Outer) (v w : Values) (k d : ℕ) (r : Result (Unit {0}) Halt) (t : State) (effects : List Effect) (y : Out (Unit {0})) → IsWithin sorts.shared known → Covers sorts known base o p v w k d r (record { result = r; state = t; effects = effects }) y → Covers sorts sorts.shared base o p v w k d (unless_next r) (as_ended (record { result = r; state = t; effects = effects })) (as_ended y)
+ended_covers sorts known base o p v w k d (Ok u) t effects y within c = ended_same _ y (same_within within c)
+ended_covers sorts known base o p v w k d (Err (halt.Fault f)) t effects y within c = tt
+ended_covers sorts known base o p v w k d (Err halt.OutOfSteps) t effects y within c = tt
+ended_covers sorts known base o p v w k d (Err halt.Next) t effects y within c = ended_same _ y c
+ended_covers sorts known base o p v w k d (Err halt.Exit) t effects y within c = absurd c
 
-module _ (sorts : Sorts) (known : Names) (within : IsWithin sorts.shared known) (owns : OwnsPrinting known) (base : State) (f g : Functions) where
+module _ (sorts : Sorts) (known : Names) (within : IsWithin sorts.shared known) (owns : OwnsPrinting known) (prints : sorts.shows ≡ true) (base : State) (f g : Functions) where
   abbrev pub Does : {A : Type 0} → Run A → Run A → Type 0
   Does m n = Alike sorts known known base m n
 
   abbrev reads : (e : Expr) → only_reads known e ≡ true → Does (eval f e) (eval g e)
   reads e is = reads_alike sorts known base f g e is
+
+  shown : (effects : List Effect) → ArePlain effects → AreShown sorts.shows effects
+  shown effects plain = subst (λ (b : Bool). AreShown b effects) (sym prints) plain
 
   values_alike : (front : List Value) (es : Exprs) → all_only_read known es ≡ true → Does (eval_all f front es) (eval_all g front es)
   unfolding eval_all
@@ -65,11 +68,11 @@ module _ (sorts : Sorts) (known : Names) (within : IsWithin sorts.shared known) 
 
   line_alike : (vs : List Value) → Does (print_line 0 vs) (print_line 0 vs)
   unfolding print_line print_bytes
-  line_alike vs = record { covers = λ o p c v w k d agrees. rw (agrees (codes "OFS") owns.ofs, agrees (codes "ORS") owns.ors) (unmoved sorts known base o p c v w k d (Printed 0 (line_of (str_of (v (codes "OFS"))) (str_of (v (codes "ORS"))) vs) ∷ []) (Ok tt) tt (tt, tt) agrees) }
+  line_alike vs = record { covers = λ o p c v w k d agrees. rw (agrees (codes "OFS") owns.ofs, agrees (codes "ORS") owns.ors) (unmoved sorts known base o p c v w k d (Printed 0 (line_of (str_of (v (codes "OFS"))) (str_of (v (codes "ORS"))) vs) ∷ []) (Ok tt) tt (shown _ (tt, tt)) agrees) }
 
   bytes_alike : (bytes : List ℕ) → Does (print_bytes 0 bytes) (print_bytes 0 bytes)
   unfolding print_bytes
-  bytes_alike bytes = record { covers = λ o p c v w k d agrees. unmoved sorts known base o p c v w k d (Printed 0 bytes ∷ []) (Ok tt) tt (tt, tt) agrees }
+  bytes_alike bytes = record { covers = λ o p c v w k d agrees. unmoved sorts known base o p c v w k d (Printed 0 bytes ∷ []) (Ok tt) tt (shown _ (tt, tt)) agrees }
 
   print_by_alike : (form : PrintForm) (vs : List Value) → Does (print_by f form 0 vs) (print_by g form 0 vs)
   print_by_alike form.Print [] = then_alike _ _ (text_alike sorts known base) (λ v. line_alike (v ∷ []))
@@ -77,7 +80,7 @@ module _ (sorts : Sorts) (known : Names) (within : IsWithin sorts.shared known) 
   print_by_alike form.Printf vs = then_alike _ _ (lift_alike sorts known base (format_values vs) (format_faults vs)) (λ text. bytes_alike text)
 
   -- what goes on from a result that is had
-  from_result : {A B : Type 0} (a : A) (m n : A → Run B) → Does (m a) (n a) → Does (ret a >>= m) (ret a >>= n)
+  pub from_result : {A B : Type 0} (a : A) (m n : A → Run B) → Does (m a) (n a) → Does (ret a >>= m) (ret a >>= n)
   unfolding lift ◌>>=◌ go_on
   from_result a m n h = record { covers = λ o p c v w k d agrees. h.covers o p c v w k d agrees }
 
@@ -92,7 +95,7 @@ module _ (sorts : Sorts) (known : Names) (within : IsWithin sorts.shared known) 
 
   next_alike : Does {A = Flow} (lift (Err halt.Next)) (lift (Err halt.Next))
   unfolding lift
-  next_alike = record { covers = λ o p c v w k d agrees. record { pair = c; left = k; here = v; there = w; agrees = λ x e. agrees x (within x e); keeps = λ x e. refl; keeps_there = λ x e. refl; is_here = refl; is_there = refl; plain = tt } }
+  next_alike = record { covers = λ o p c v w k d agrees. record { pair = c; left = k; here = v; there = w; agrees = λ x e. agrees x (within x e); keeps = λ x e. refl; keeps_there = λ x e. refl; falls = le_refl _; is_here = refl; is_there = refl; plain = shown_none sorts.shows } }
 
   simple_alike : (simple : SimpleStatement) → is_simple_for_itself known simple ≡ true → Does (exec_simple f simple) (exec_simple g simple)
   unfolding exec_simple
@@ -159,7 +162,7 @@ module _ (sorts : Sorts) (known : Names) (within : IsWithin sorts.shared known) 
   item_alike n (Action block) is = action_alike block is
   item_alike n (PatternAction p block) is = then_alike _ _ (selects_alike n p (left_true (pattern_only_reads known p) _ is)) (λ x. choose_alike sorts known base x (action_alike block (right_true (pattern_only_reads known p) _ is)) (ret_alike sorts known base tt))
   item_alike n (PatternOnly p) is = then_alike _ _ (selects_alike n p is) (λ x. choose_alike sorts known base x print_record_alike (ret_alike sorts known base tt))
-  item_alike n (Begin block) is = absurd (cc)
+  item_alike n (Begin block) is = ret_alike sorts known base tt
   item_alike n (End block) is = absurd (cc)
   item_alike n (Function name parameters block) is = absurd (cc)
 
@@ -170,4 +173,4 @@ module _ (sorts : Sorts) (known : Names) (within : IsWithin sorts.shared known) 
 
   pub until_alike : {m n : Run (Unit {0})} → Does m n → Alike sorts known sorts.shared base (until_next m) (until_next n)
   unfolding until_next
-  until_alike {m = m} {n = n} h = record { covers = λ o p c v w k d agrees. ended_covers sorts known base o p v w d (m (state_on base o c v k)).result (m (state_on base o c v k)).state (m (state_on base o c v k)).effects (n (state_on base p c w (k + d))) within (h.covers o p c v w k d agrees) }
+  until_alike {m = m} {n = n} h = record { covers = λ o p c v w k d agrees. ended_covers sorts known base o p v w k d (m (state_on base o c v k)).result (m (state_on base o c v k)).state (m (state_on base o c v k)).effects (n (state_on base p c w (k + d))) within (h.covers o p c v w k d agrees) }

@@ -1,6 +1,6 @@
 -- The law of pieces: where a program treats each record for itself, what it prints on an input is what it prints on the
 -- pieces of the input, one behind the other.
-use Rattle.std.specs.Prelude.{◌≡◌, ◌≤◌, ◌<◌, ◌+◌, ◌^◌, ◌⊎◌, ℕ, Bool, true, false, not, ◌&&◌, ◌||◌, List, [], ◌∷◌, ◌++◌, length, Some, codes, bytes_eq}
+use Rattle.std.specs.Prelude.{◌≡◌, ◌≤◌, ◌<◌, ◌+◌, ◌^◌, ◌⊎◌, ℕ, Bool, true, false, ◌&&◌, List, [], ◌∷◌, ◌++◌, length, Some}
 use Rattle.awk_record.specs.definitions.Cut.{AtEnd}
 use Rattle.awk_world.specs.declared.world.InputKind.TheVariants as input
 use Rattle.awk_streams.specs.Oracle.{Oracle}
@@ -8,7 +8,7 @@ use Rattle.awk_streams.specs.Openings.{StandardOutput, StandardError, Opening}
 use Rattle.awk_grammar.specs.Tree.{Item}
 use Rattle.awk_semantics.specs.declared.outcome.Outcome.TheVariants.{Ended}
 use Rattle.awk_semantics.specs.definitions.Meaning.{StartValues, Meaning, meaning_of}
-use Rattle.awk_pieces.specs.definitions.Pieceable.{is_counter, IsPieceable}
+use Rattle.awk_pieces.specs.definitions.Pieceable.{leaves_records, IsPieceable}
 
 -- a text that is empty, or ends in a newline
 abbrev pub EndsLine : List ℕ → Type 0
@@ -18,10 +18,7 @@ EndsLine text = (text ≡ []) ⊎ ((front : List ℕ) × (text ≡ front ++ 10 �
 abbrev pub Gives : Oracle → List ℕ → Type 0
 Gives outside text = outside.input input.Standard [] 0 ≡ Some (record { bytes = text; ending = AtEnd })
 
--- an assignment before the run that changes neither how records are found nor their count
-abbrev pub leaves_records : List ℕ → Bool
-leaves_records x = not (is_counter x || (bytes_eq x (codes "RS") || (bytes_eq x (codes "ARGC") || bytes_eq x (codes "NF"))))
-
+-- the assignments before the run leave the records as they are
 abbrev pub all_leave_records : List (List ℕ × List ℕ) → Bool
 all_leave_records [] = true
 all_leave_records (x ∷ xs) = leaves_records x.0 && all_leave_records xs

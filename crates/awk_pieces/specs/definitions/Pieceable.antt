@@ -2,6 +2,8 @@
 use Rattle.std.specs.Prelude.{◌≡◌, ℕ, Bool, true, false, not, ◌&&◌, ◌||◌, List, [], ◌∷◌, codes, bytes_eq}
 use Rattle.awk_lex.specs.declared.token.BuiltIn.{BuiltIn as BuiltInName}
 use Rattle.awk_lex.specs.declared.token.BuiltIn.TheVariants as builtin
+use Rattle.awk_lex.specs.declared.token.AssignmentOperator.{AssignmentOperator}
+use Rattle.awk_lex.specs.declared.token.AssignmentOperator.TheVariants as assignment
 use Rattle.awk_grammar.specs.Tree.{Expr, Number, String, Ere, Name, Element, Field, Group, Call, BuiltIn, Length, PreIncrement, PostIncrement, Getline, PipedGetline, Unary, Binary, Membership, ListMembership, Conditional, Assign, Exprs, Nil, Cons, PrintList, Bare, Parenthesized, Output, Standard, Redirected, SimpleStatement, Expression, Print, Next, Statement, Empty, Simple, Block, If, IfElse, Statements, NoMore, Then, Pattern, Single, Range, Item, Begin, End, Action, PatternAction, PatternOnly, Function}
 
 -- the variables that tell where in the input a record stands
@@ -18,6 +20,10 @@ is_of_values builtin.ToLower = true
 is_of_values builtin.ToUpper = true
 is_of_values builtin.Int = true
 is_of_values f = false
+
+-- an assignment before the records that changes neither how records are found nor their count
+abbrev pub leaves_records : List ℕ → Bool
+leaves_records x = not (is_counter x || (bytes_eq x (codes "RS") || (bytes_eq x (codes "ARGC") || bytes_eq x (codes "NF"))))
 
 -- what is read and done where the variables of these names may be read
 module _ (known : List ℕ → Bool) where
@@ -69,14 +75,42 @@ module _ (known : List ℕ → Bool) where
     are_for_themselves NoMore = true
     are_for_themselves (Then s all) = is_for_itself s && are_for_themselves all
 
+-- a statement of BEGIN that sets a variable, and shows nothing
+abbrev pub is_plain : AssignmentOperator → Bool
+is_plain assignment.Plain = true
+is_plain operator = false
+
+abbrev pub may_be_set : (place : Expr) → Bool
+may_be_set (Name x) = leaves_records x
+may_be_set e = false
+
+abbrev pub is_setting : Expr → Bool
+is_setting (Assign operator place e) = is_plain operator && (may_be_set place && only_reads (λ x. true) e)
+is_setting e = false
+
+abbrev pub is_simple_setting : SimpleStatement → Bool
+is_simple_setting (Expression e) = is_setting e
+is_simple_setting simple = false
+
+abbrev pub only_sets : Statement → Bool
+only_sets Empty = true
+only_sets (Simple simple) = is_simple_setting simple
+only_sets s = false
+
+abbrev pub all_only_set : Statements → Bool
+all_only_set NoMore = true
+all_only_set (Then s all) = only_sets s && all_only_set all
+
+module _ (known : List ℕ → Bool) where
   -- a rule that treats each record for itself
   abbrev pub pattern_only_reads : Pattern → Bool
-  pattern_only_reads (Single e) = only_reads e
+  pattern_only_reads (Single e) = only_reads known e
   pattern_only_reads (Range from to) = false
 
   abbrev pub is_rule_for_itself : Item → Bool
-  is_rule_for_itself (Action block) = are_for_themselves block
-  is_rule_for_itself (PatternAction p block) = pattern_only_reads p && are_for_themselves block
+  is_rule_for_itself (Begin block) = all_only_set block
+  is_rule_for_itself (Action block) = are_for_themselves known block
+  is_rule_for_itself (PatternAction p block) = pattern_only_reads p && are_for_themselves known block
   is_rule_for_itself (PatternOnly p) = pattern_only_reads p
   is_rule_for_itself x = false
 
