@@ -41,6 +41,7 @@ IsPlain (Printed zero bytes) = Unit {0}
 IsPlain (Printed (suc n) bytes) = ⊥
 IsPlain (Requested (OpensMain kind name)) = Unit {0}
 IsPlain (Requested (RecordOfMain separator left)) = Unit {0}
+IsPlain (Requested Ends) = Unit {0}
 IsPlain (Requested what) = ⊥
 
 abbrev pub ArePlain : List Effect → Type 0

@@ -1,6 +1,7 @@
 pub mod Alike
 pub mod BeginsAlike
 pub mod FirstRecord
+pub mod LawOfPieces
 pub mod LinesJoined
 pub mod ReadsAlike
 pub mod RecordsFound
