@@ -1,5 +1,5 @@
 -- The law of pieces.
-use Rattle.std.proofs.Common.{◌≡◌, ◌⊎◌, inl, inr, ℕ, zero, suc, ◌+◌, ◌-◌, ◌<◌, ◌≤◌, ◌^◌, Bool, true, false, not, ◌&&◌, List, [], ◌∷◌, ◌++◌, length, Option, Some, None, Result, Ok, Err, pos, refl, sym, ap, ap₂, ◌∙◌, subst, codes, bytes_eq, arith, append_assoc, append-nil, length-append, le_refl, le_trans}
+use Rattle.std.proofs.Common.{◌≡◌, ◌⊎◌, inl, inr, ℕ, zero, suc, ◌+◌, ◌-◌, ◌<◌, ◌≤◌, ◌^◌, Bool, true, false, not, ◌&&◌, List, [], ◌∷◌, ◌++◌, length, Option, Some, None, Result, Ok, Err, pos, refl, sym, ap, ap₂, ◌∙◌, subst, codes, bytes_eq, arith, append_assoc, append-nil, length-append, le_refl, le_trans, cond}
 use Rattle.std.proofs.lemmas.Bool.{cases_Bool}
 use Rattle.std.proofs.lemmas.Slice.Eq.{bytes_eq-Decides}
 use Rattle.awk_value.specs.declared.value.Value.{Value}
@@ -8,6 +8,7 @@ use Rattle.awk_value.specs.Values.{str_of}
 use Rattle.awk_record.specs.definitions.Record.{RecordPair}
 use Rattle.awk_kinds.specs.Variables.{initial_value}
 use Rattle.awk_kinds.specs.definitions.Kinds.{definitions_of}
+use Rattle.awk_world.specs.declared.world.InputKind.TheVariants as input
 use Rattle.awk_streams.specs.Oracle.{Source, Oracle}
 use Rattle.awk_streams.specs.Openings.{StandardOutput, StandardError, Opening}
 use Rattle.awk_grammar.specs.Tree.{Item, Begin, End, Action, PatternAction, PatternOnly, Function}
@@ -28,7 +29,7 @@ use Rattle.awk_pieces.proofs.ReadsAlike.{left_true, right_true}
 use Rattle.awk_pieces.proofs.RulesAlike.{items_alike, until_alike}
 use Rattle.awk_pieces.proofs.BeginsAlike.{all_names, first_sorts, assign_all_alike, begin_items_alike}
 use Rattle.awk_pieces.proofs.LinesJoined.{newline}
-use Rattle.awk_pieces.proofs.RecordsFound.{reading, over, Counts, record_over}
+use Rattle.awk_pieces.proofs.RecordsFound.{reading, over, Counts, record_over, record_found}
 use Rattle.awk_pieces.proofs.FirstRecord.{unread, with_opening, opened, OpensLines, first_opens}
 use Rattle.awk_pieces.proofs.RecordsPassed.{printed, printed_append, EndsWell, Owns, Passed, passed}
 
@@ -248,3 +249,138 @@ module _ (items : List Item) (pieceable : IsPieceable items) (start : StartValue
   ends_well : (x : Oracle) (limit : ℕ) → (meaning_of items start x limit).outcome ≡ Ended 0 → EndsWell (whole x limit limit).result
   unfolding run_program
   ends_well x limit e = outcome_ends (whole x limit limit).result (whole x limit limit).state.status e
+
+  records_well : (x : Oracle) (limit : ℕ) (p : Prepared x limit limit) → EndsWell (whole x limit limit).result → EndsWell (records limit (state_on base (unread x) p.pair p.values p.left)).result
+  records_well x limit p well = exit_ends _ (ends_first _ _ _ _ (subst (λ (out : Out (Unit {0})). EndsWell out.result) (whole_is x limit limit p) well))
+
+  -- what a run starts its records with
+
+  argc_is : first_values (codes "ARGC") ≡ value.Number (pos 1)
+  argc_is = ap (λ (l : List (List ℕ)). value.Number (pos (suc (length l)))) plainly.operands
+
+  opens_lines : (values : Values) → AgreeOn first_sorts.kept first_values values → OpensLines base values
+  opens_lines values keeps = record {
+    rs = ap str_of (keeps (codes "RS") refl);
+    argc = keeps (codes "ARGC") refl ∙ argc_is;
+    first = refl;
+  }
+
+  counts_none : (values : Values) → AgreeOn first_sorts.kept first_values values → Counts (opened values) 0
+  counts_none values keeps = record {
+    rs = ap str_of (keeps (codes "RS") refl);
+    argc = keeps (codes "ARGC") refl ∙ argc_is;
+    nr = keeps (codes "NR") refl;
+    fnr = refl;
+  }
+
+  opened_agrees : (v w : Values) → AgreeOn all_names v w → AgreeOn knows (opened v) (opened w)
+  opened_agrees v w agrees z is = ap (λ (b : Value). cond (bytes_eq (codes "FNR") z) (value.Number (pos 0)) (cond (bytes_eq (codes "FILENAME") z) (value.Input []) b)) (agrees z refl)
+
+  -- the records of a run over a text
+  abbrev lines : Oracle → ℕ → List ℕ → RecordPair → Values → ℕ → ℕ → Out (Unit {0})
+  lines x limit text pair values turns left = each_record turns (action limit) (state_on (with_opening base) (reading x text) pair values left)
+
+  records_are : has_rule items ≡ true → (x : Oracle) (limit : ℕ) (text : List ℕ) → Gives x text → (pair : RecordPair) (values : Values) (left : ℕ) → AgreeOn first_sorts.kept first_values values →
+      records limit (state_on base (unread x) pair values left) ≡ behind (Requested (OpensMain input.Standard []) ∷ []) (lines x limit text pair (opened values) (suc left) left)
+  unfolding run_records
+  records_are has x limit text given pair values left keeps = rw has (first_opens base x text given pair values (opens_lines values keeps) left left (action limit))
+
+  no_records : has_rule items ≡ false → (limit : ℕ) (s : State) → records limit s ≡ gives (tt {0}) s
+  unfolding lift
+  no_records has limit s = rw has refl
+
+  -- where no records are read
+  nothing_printed : has_rule items ≡ false → (x : Oracle) (limit : ℕ) → Prepared x limit limit → Prints (meaning_of items start x limit) []
+  nothing_printed has x limit p = prints_of x limit base (unread x) p.pair p.values p.left [] tt (whole_is x limit limit p ∙ (ap (finish limit) (no_records has limit (state_on base (unread x) p.pair p.values p.left)) ∙ finish_is limit (unread x) p.pair p.values p.left []))
+
+  same_prepared : (x : Oracle) (limit steps steps' : ℕ) → steps ≡ steps' → (p : Prepared x limit steps) (q : Prepared x limit steps') → state_on base (unread x) p.pair p.values p.left ≡ state_on base (unread x) q.pair q.values q.left
+  same_prepared x limit steps steps' e p q =
+      let set : gives (tt {0}) (state_on base (unread x) p.set_pair p.set_values p.set_steps) ≡ gives (tt {0}) (state_on base (unread x) q.set_pair q.set_values q.set_steps)
+              = sym p.assigned ∙ (ap (λ (k : ℕ). assign_all start.pre (state_on base (unread x) first_pair first_values k)) e ∙ q.assigned) in
+      ap (λ (out : Out (Unit {0})). out.state) (sym p.begun ∙ (ap (λ (out : Out (Unit {0})). begin_items (functions limit) items out.state) set ∙ q.begun))
+
+  at_steps : (x : Oracle) (limit steps : ℕ) → steps ≡ limit → Prepared x limit steps → Prepared x limit limit
+  at_steps x limit steps e p = subst (λ (k : ℕ). Prepared x limit k) e p
+
+  module _ (of_a of_b of_both : Oracle) (a b : List ℕ) (ends : EndsLine a) (gives_a : Gives of_a a) (gives_b : Gives of_b b) (gives_both : Gives of_both (a ++ b)) (m n limit da db : ℕ) (to_a : m + da ≡ limit) (to_b : n + db ≡ limit) (enough : m + n ≤ limit) (fits : length a + length b < 2 ^ 127)
+      (p : BothPrepared of_a of_both m limit m da) (q : BothPrepared of_b of_both n limit n db) (has : has_rule items ≡ true) where
+    -- the first text
+    abbrev here_a : Out (Unit {0})
+    here_a = lines of_a m a p.mine.pair (opened p.mine.values) (suc p.mine.left) p.mine.left
+
+    abbrev there_a : ℕ → ℕ → Out (Unit {0})
+    there_a turns left = lines of_both limit (a ++ b) p.theirs.pair (opened p.theirs.values) turns left
+
+    abbrev PassedA : Type 0
+    PassedA = Passed rule_sorts rules_own (with_opening base) of_a of_both (action m) (action limit) (rules_alike m limit) b (opened p.theirs.values) da da here_a (there_a (suc p.mine.left + da) (p.mine.left + da))
+
+    pass_a : EndsWell here_a.result → PassedA
+    pass_a well = passed rule_sorts rules_own (with_opening base) of_a of_both (action m) (action limit) (rules_alike m limit) (suc p.mine.left) da a b p.mine.pair p.theirs.pair (opened p.mine.values) (opened p.theirs.values) p.mine.left da 0 0
+        (opened_agrees p.mine.values p.theirs.values p.agrees) (counts_none p.mine.values p.mine.keeps) (counts_none p.theirs.values p.theirs.keeps) (inl ends) (omega arith) (omega arith) well
+
+    -- the second one
+    abbrev here_b : Out (Unit {0})
+    here_b = lines of_b n b q.mine.pair (opened q.mine.values) (suc q.mine.left) q.mine.left
+
+    module _ (pa : PassedA) where
+      abbrev there_b : List ℕ → ℕ → ℕ → Out (Unit {0})
+      there_b text turns left = lines of_both limit text pa.other pa.theirs turns left
+
+      same_values : (z : List ℕ) → p.theirs.values z ≡ q.theirs.values z
+      same_values z = ap (λ (s : State). s.variables z) (same_prepared of_both limit (m + da) (n + db) (to_a ∙ sym to_b) p.theirs q.theirs)
+
+      agrees_b : AgreeOn knows (opened q.mine.values) pa.theirs
+      agrees_b z is = pa.keeps z is ∙ (opened_agrees q.theirs.values p.theirs.values (λ x e. same_values x) z is ∙ opened_agrees q.mine.values q.theirs.values q.agrees z is)
+
+      module _ (extra more : ℕ) (turns_are : suc q.mine.left + extra ≡ suc pa.turns + da) (steps_are : q.mine.left + more ≡ pa.left + da) where
+        abbrev PassedB : Type 0
+        PassedB = Passed rule_sorts rules_own (with_opening base) of_b of_both (action n) (action limit) (rules_alike n limit) [] pa.theirs extra more here_b (there_b (b ++ []) (suc q.mine.left + extra) (q.mine.left + more))
+
+        pass_b : EndsWell here_b.result → PassedB
+        pass_b well = passed rule_sorts rules_own (with_opening base) of_b of_both (action n) (action limit) (rules_alike n limit) (suc q.mine.left) extra b [] q.mine.pair pa.other (opened q.mine.values) pa.theirs q.mine.left more 0 pa.count
+            agrees_b (counts_none q.mine.values q.mine.keeps) pa.counts (inr refl) (omega arith) (omega (arith, pa.fits)) well
+
+        there_is : there_b b (suc pa.turns + da) (pa.left + da) ≡ there_b (b ++ []) (suc q.mine.left + extra) (q.mine.left + more)
+        there_is = rw (append-nil, turns_are, steps_are) refl
+
+        module _ (pb : PassedB) where
+          abbrev last : List Effect
+          last = Requested (RecordOfMain newline []) ∷ []
+
+          over_is : each_record (suc pb.turns + extra) (action limit) (state_on (with_opening base) (reading of_both []) pb.other pb.theirs (pb.left + more)) ≡ record { result = Ok (tt {0}); state = state_on (with_opening base) (over of_both) pb.other pb.theirs (pb.left + more); effects = last }
+          over_is = let e : suc pb.turns + extra ≡ suc (pb.turns + extra) = omega arith in rw e (record_over (with_opening base) of_both [] pb.other pb.theirs pb.count pb.counts (pb.turns + extra) (action limit) (pb.left + more) refl)
+
+          abbrev all_effects : List Effect
+          all_effects = Requested (OpensMain input.Standard []) ∷ (pa.effects ++ (pb.effects ++ last))
+
+          there_ends : there_a (suc p.mine.left + da) (p.mine.left + da) ≡ record { result = Ok (tt {0}); state = state_on (with_opening base) (over of_both) pb.other pb.theirs (pb.left + more); effects = pa.effects ++ (pb.effects ++ last) }
+          there_ends = pa.is_there ∙ ap (behind pa.effects) (there_is ∙ (pb.is_there ∙ ap (behind pb.effects) over_is))
+
+          records_both : records limit (state_on base (unread of_both) p.theirs.pair p.theirs.values p.theirs.left) ≡ record { result = Ok (tt {0}); state = state_on (with_opening base) (over of_both) pb.other pb.theirs (pb.left + more); effects = all_effects }
+          records_both =
+              let turns : suc p.theirs.left ≡ suc p.mine.left + da = omega (arith, p.same_left) in
+              records_are has of_both limit (a ++ b) gives_both p.theirs.pair p.theirs.values p.theirs.left p.theirs.keeps
+              ∙ ap (behind (Requested (OpensMain input.Standard []) ∷ [])) (ap₂ there_a turns p.same_left ∙ there_ends)
+
+          whole_both : whole of_both limit limit ≡ record { result = Ok (tt {0}); state = state_on (with_opening base) (over of_both) pb.other pb.theirs (pb.left + more); effects = all_effects }
+          whole_both = ap (λ (k : ℕ). whole of_both limit k) (sym to_a) ∙ (whole_is of_both limit (m + da) p.theirs ∙ (ap (finish limit) records_both ∙ finish_opened limit (over of_both) pb.other pb.theirs (pb.left + more) all_effects))
+
+          plain_all : ArePlain all_effects
+          plain_all = (tt, plain_append pa.effects (pb.effects ++ last) pa.plain (plain_append pb.effects last pb.plain (tt, tt)))
+
+          printed_all : printed all_effects ≡ printed here_a.effects ++ printed here_b.effects
+          printed_all = printed_append pa.effects (pb.effects ++ last) ∙ ap₂ (λ (k l : List ℕ). k ++ l) pa.shows (printed_append pb.effects last ∙ (append-nil (printed pb.effects) ∙ pb.shows))
+
+          both_prints : Prints (meaning_of items start of_both limit) (printed here_a.effects ++ printed here_b.effects)
+          both_prints = subst (λ (l : List ℕ). Prints (meaning_of items start of_both limit) l) printed_all (prints_of of_both limit (with_opening base) (over of_both) pb.other pb.theirs (pb.left + more) all_effects plain_all whole_both)
+
+  -- a run over a text whose records end so
+  alone_prints : has_rule items ≡ true → (x : Oracle) (limit : ℕ) (text : List ℕ) → Gives x text → (p : Prepared x limit limit) (pair : RecordPair) (values : Values) (left : ℕ) →
+      (lines x limit text p.pair (opened p.values) (suc p.left) p.left).result ≡ Ok (tt {0}) → (lines x limit text p.pair (opened p.values) (suc p.left) p.left).state ≡ state_on (with_opening base) (over x) pair values left →
+      ArePlain (lines x limit text p.pair (opened p.values) (suc p.left) p.left).effects → Prints (meaning_of items start x limit) (printed (lines x limit text p.pair (opened p.values) (suc p.left) p.left).effects)
+  alone_prints has x limit text given p pair values left ends is plain =
+      let run : Out (Unit {0}) = lines x limit text p.pair (opened p.values) (suc p.left) p.left in
+      prints_of x limit (with_opening base) (over x) pair values left (Requested (OpensMain input.Standard []) ∷ run.effects) (tt, plain)
+          (whole_is x limit limit p
+          ∙ (ap (finish limit) (records_are has x limit text given p.pair p.values p.left p.keeps ∙ ap₂ (λ (r : Result (Unit {0}) Halt) (s : State). record { result = r; state = s; effects = Requested (OpensMain input.Standard []) ∷ run.effects }) ends is)
+          ∙ finish_opened limit (over x) pair values left (Requested (OpensMain input.Standard []) ∷ run.effects)))
