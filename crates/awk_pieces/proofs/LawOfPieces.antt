@@ -384,3 +384,46 @@ module _ (items : List Item) (pieceable : IsPieceable items) (start : StartValue
           (whole_is x limit limit p
           ∙ (ap (finish limit) (records_are has x limit text given p.pair p.values p.left p.keeps ∙ ap₂ (λ (r : Result (Unit {0}) Halt) (s : State). record { result = r; state = s; effects = Requested (OpensMain input.Standard []) ∷ run.effects }) ends is)
           ∙ finish_opened limit (over x) pair values left (Requested (OpensMain input.Standard []) ∷ run.effects)))
+
+  lines_well : has_rule items ≡ true → (x : Oracle) (limit : ℕ) (text : List ℕ) → Gives x text → (p : Prepared x limit limit) → EndsWell (whole x limit limit).result → EndsWell (lines x limit text p.pair (opened p.values) (suc p.left) p.left).result
+  lines_well has x limit text given p well = subst (λ (out : Out (Unit {0})). EndsWell out.result) (records_are has x limit text given p.pair p.values p.left p.keeps) (records_well x limit p well)
+
+  -- what the law says of these
+  abbrev Joined : (of_a of_b of_both : Oracle) (m n limit : ℕ) → Type 0
+  Joined of_a of_b of_both m n limit = (x y : List ℕ) × Prints (meaning_of items start of_a m) x × Prints (meaning_of items start of_b n) y × Prints (meaning_of items start of_both limit) (x ++ y)
+
+  joined_lines : has_rule items ≡ true → (of_a of_b of_both : Oracle) (a b : List ℕ) → EndsLine a → Gives of_a a → Gives of_b b → Gives of_both (a ++ b) → (m n limit da db : ℕ) → m + da ≡ limit → n + db ≡ limit → m + n ≤ limit → length a + length b < 2 ^ 127 →
+      EndsWell (whole of_a m m).result → EndsWell (whole of_b n n).result → Joined of_a of_b of_both m n limit
+  joined_lines has of_a of_b of_both a b ends ga gb gboth m n limit da db to_a to_b enough fits well_a well_b =
+      let p = prepare of_a of_both m limit m da well_a in
+      let q = prepare of_b of_both n limit n db well_b in
+      let pa = pass_a of_a of_b of_both a b ends ga gb gboth m n limit da db to_a to_b enough fits p q has (lines_well has of_a m a ga p.mine well_a) in
+      let few : q.mine.left ≤ n = q.mine.falls in
+      let extra : ℕ = (suc pa.turns + da) - suc q.mine.left in
+      let more : ℕ = (pa.left + da) - q.mine.left in
+      let turns : suc q.mine.left + extra ≡ suc pa.turns + da = omega arith in
+      let steps : q.mine.left + more ≡ pa.left + da = omega arith in
+      let pb = pass_b of_a of_b of_both a b ends ga gb gboth m n limit da db to_a to_b enough fits p q has pa extra more turns steps (lines_well has of_b n b gb q.mine well_b) in
+      ( printed (lines of_a m a p.mine.pair (opened p.mine.values) (suc p.mine.left) p.mine.left).effects
+      , printed (lines of_b n b q.mine.pair (opened q.mine.values) (suc q.mine.left) q.mine.left).effects
+      , alone_prints has of_a m a ga p.mine pa.pair pa.mine pa.left pa.ends pa.is_here pa.plain_here
+      , alone_prints has of_b n b gb q.mine pb.pair pb.mine pb.left pb.ends pb.is_here pb.plain_here
+      , both_prints of_a of_b of_both a b ends ga gb gboth m n limit da db to_a to_b enough fits p q has pa extra more turns steps pb )
+
+  joined_nothing : has_rule items ≡ false → (of_a of_b of_both : Oracle) (m n limit da : ℕ) → m + da ≡ limit →
+      EndsWell (whole of_a m m).result → EndsWell (whole of_b n n).result → Joined of_a of_b of_both m n limit
+  joined_nothing has of_a of_b of_both m n limit da to_a well_a well_b =
+      let p = prepare of_a of_both m limit m da well_a in
+      let q = prepare of_b of_both n limit n 0 well_b in
+      ([], [], nothing_printed has of_a m p.mine, nothing_printed has of_b n q.mine, nothing_printed has of_both limit (at_steps of_both limit (m + da) to_a p.theirs))
+
+pub law_of_pieces : LawOfPieces
+law_of_pieces items pieceable start plainly a b ends fits of_a of_b of_both ga gb gboth m n limit enough ea eb =
+    let to_a : m + (limit - m) ≡ limit = omega arith in
+    let to_b : n + (limit - n) ≡ limit = omega arith in
+    let well_a = ends_well items pieceable start plainly of_both of_a m ea in
+    let well_b = ends_well items pieceable start plainly of_both of_b n eb in
+    elim (cases_Bool (has_rule items)) [
+      | inl has ↦ joined_lines items pieceable start plainly of_both has of_a of_b of_both a b ends ga gb gboth m n limit (limit - m) (limit - n) to_a to_b enough fits well_a well_b
+      | inr none ↦ joined_nothing items pieceable start plainly of_both none of_a of_b of_both m n limit (limit - m) to_a well_a well_b
+    ]
