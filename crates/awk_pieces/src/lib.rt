@@ -1,4 +1,8 @@
 //! Programs that may run on pieces of their input side by side, and the law that says so.
 #![tactic(auto)]
 
-pub mod laws;
+mod laws;
+mod pieceable;
+
+pub use laws::law_of_pieces;
+pub use pieceable::{is_pieceable, leaves_records};
