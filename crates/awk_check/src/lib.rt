@@ -2,8 +2,10 @@
 #![tactic(auto)]
 
 mod expected;
+mod pieces;
 mod refused;
 mod verdict;
 
 pub use awk_findings::{Finding, Place, Source, assignment_finding, write_finding};
+pub use pieces::may_run_on_pieces;
 pub use verdict::{Report, check, status};

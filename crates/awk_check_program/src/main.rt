@@ -1,7 +1,9 @@
 //! awk-check: whether a program of awk is refused, where and why, and what it may not mean.
 #![tactic(auto)]
 
-use awk_check::{Report, Source, assignment_finding, check, status, write_finding};
+use awk_check::{
+    Report, Source, assignment_finding, check, may_run_on_pieces, status, write_finding,
+};
 use awk_command::{CommandFault, CommandLine, ProgramSource, given_words, read_command_line};
 use awk_run::Assignment;
 use std::alloc::{AllocError, Global};
@@ -14,7 +16,15 @@ use std::process::ExitCode;
 /// The status where nothing was checked.
 const NOT_CHECKED: u8 = 2;
 
-const USAGE: &str = "awk-check: usage: awk-check [-F sep] [-v name=text].. [-f file.. | program]";
+/// The statuses where a program may run on pieces of its input, and where it isn't known to.
+const ON_PIECES: u8 = 0;
+const NOT_ON_PIECES: u8 = 1;
+
+/// The first word, where that is asked.
+const PIECES: &[u8] = b"--pieces";
+
+const USAGE: &str =
+    "awk-check: usage: awk-check [--pieces] [-F sep] [-v name=text].. [-f file.. | program]";
 
 /// A program's text and the files that it is joined of.
 #[derive(Drop)]
@@ -131,21 +141,50 @@ fn print_report<R: Print + AllocGlobal>(
     Ok(status(report))
 }
 
+/// Checks a program, and prints what is told of it.
+fn serve_check<R: Print + AllocGlobal>(
+    rt: &R,
+    line: &CommandLine,
+    program: &ProgramText,
+) -> io::Result<u8> {
+    let alloc = rt.alloc();
+    let given = assigned_names(alloc, line)?;
+    let mut report = check(alloc, &program.text, &given)?;
+    add_assignments(alloc, &line.pre, &mut report)?;
+    print_report(rt, program, &report)
+}
+
+/// Answers whether a program may run on pieces of its input, and prints no more than why it is refused.
+fn serve_pieces<R: Print + AllocGlobal>(
+    rt: &R,
+    line: &CommandLine,
+    program: &ProgramText,
+) -> io::Result<u8> {
+    match may_run_on_pieces(rt.alloc(), &program.text, &line.pre) {
+        Ok(true) if line.operands.is_empty() => Ok(ON_PIECES),
+        Ok(_) => Ok(NOT_ON_PIECES),
+        Err(_) => serve_check(rt, line, program),
+    }
+}
+
 /// Checks what the words after the program's name ask for.
 fn serve<R: Env + Files + Input + Print + Eprint + AllocGlobal>(rt: &R) -> io::Result<Option<u8>> {
     let alloc = rt.alloc();
     let words = given_words(rt, alloc)?;
-    let line = match read_command_line(alloc, &words) {
+    let asks_pieces = matches!(words.first(), Some(word) if word.as_slice() == PIECES);
+    let words = words.get(usize::from(asks_pieces)..).unwrap_or(&[]);
+    let mut line = match read_command_line(alloc, words) {
         Ok(line) => line,
         Err(CommandFault::Usage) => return Ok(None),
         Err(CommandFault::Memory) => return Err(io::Error::from(io::ErrorKind::OutOfMemory)),
     };
-    let given = assigned_names(alloc, &line)?;
-    let CommandLine { pre, source, .. } = line;
+    let source = std::mem::replace(&mut line.source, ProgramSource::Files(Vec::new(alloc)));
     let program = program_text(rt, source)?;
-    let mut report = check(alloc, &program.text, &given)?;
-    add_assignments(alloc, &pre, &mut report)?;
-    let status = print_report(rt, &program, &report)?;
+    let status = if asks_pieces {
+        serve_pieces(rt, &line, &program)?
+    } else {
+        serve_check(rt, &line, &program)?
+    };
     Ok(Some(status))
 }
 
