@@ -1,6 +1,7 @@
 // An input that comes in pieces: what is cut from it, and how often it is read.
 
-use crate::worlds::{answer, call};
+use crate::worlds::answer;
+use awk_command::main_words;
 use awk_streams::{Answer, Entry, InputKind, ScriptWorld};
 use awk_world::{Ending, InputAnswer};
 use std::alloc::{AllocError, Global};
@@ -24,7 +25,7 @@ fn in_pieces(alloc: Global, pieces: &str) -> Result<InputAnswer, AllocError> {
 fn run(alloc: Global, program: &str, input: InputAnswer) -> Result<(Vec<u8>, usize), AllocError> {
     let words = vec![in alloc; program.as_bytes().to_vec(alloc)?]?;
     let mut world = ScriptWorld::new(alloc, vec![in alloc; Answer::Input(input)]?);
-    call(alloc, &words, Vec::new(alloc), &mut world);
+    main_words(alloc, &words, Vec::new(alloc), &mut world);
     let readings = world
         .entries()
         .iter()

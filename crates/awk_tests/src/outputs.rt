@@ -1,6 +1,7 @@
 // Runs that write to files and to commands, in a world in memory that grants them and gives numbers for commands.
 
-use crate::worlds::{call, grant, was_given};
+use crate::worlds::{grant, was_given};
+use awk_command::main_words;
 use awk_streams::{Answer, Entry, OutputKind, ScriptWorld};
 use std::alloc::{AllocError, Global};
 use std::process::Abort;
@@ -46,7 +47,7 @@ fn leaves(
 ) -> Result<bool, AllocError> {
     let words = vec![in alloc; program.as_bytes().to_vec(alloc)?]?;
     let mut world = ScriptWorld::new(alloc, answers(alloc)?);
-    let ended = call(alloc, &words, Vec::new(alloc), &mut world);
+    let ended = main_words(alloc, &words, Vec::new(alloc), &mut world);
     Ok(
         ended == status
             && was_given(&world, 0, output.as_bytes())?
@@ -116,7 +117,7 @@ fn too_many_outputs(rt: HostRuntime) -> Result<(), Fail> {
     let program = "BEGIN { for (i = 1; i < 202; i++) print i > i }";
     let words = vec![in alloc; program.as_bytes().to_vec(alloc)?]?;
     let mut world = ScriptWorld::new(alloc, numbered_files(alloc, 201)?);
-    let status = call(alloc, &words, Vec::new(alloc), &mut world);
+    let status = main_words(alloc, &words, Vec::new(alloc), &mut world);
     assert!(rt; status == 2);
     assert!(rt; was_given(&world, 1, b"awk: fault 13: too many streams\n")?);
     assert!(rt; was_given(&world, 201, b"200\n")?);

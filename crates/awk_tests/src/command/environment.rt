@@ -1,6 +1,7 @@
 // The entries of the environment.
 
-use crate::worlds::{answer, call, was_given};
+use crate::worlds::{answer, was_given};
+use awk_command::main_words;
 use awk_run::Assignment;
 use awk_streams::{Answer, InputKind, ScriptWorld};
 use std::alloc::{AllocError, Global};
@@ -33,7 +34,7 @@ fn copy_line(alloc: Global) -> Result<(u8, bool), AllocError> {
     let words = vec![in alloc; b"{print}".to_vec(alloc)?]?;
     let environ = environ(alloc)?;
     let mut world = ScriptWorld::new(alloc, vec![in alloc; Answer::Input(line)]?);
-    let status = call(alloc, &words, environ, &mut world);
+    let status = main_words(alloc, &words, environ, &mut world);
     Ok((status, was_given(&world, 0, b"a\n")?))
 }
 

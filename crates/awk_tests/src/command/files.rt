@@ -1,6 +1,7 @@
 // What no row of text can say of program files: that one breaks, or is long.
 
-use crate::worlds::{answer, call, was_given};
+use crate::worlds::{answer, was_given};
+use awk_command::main_words;
 use awk_streams::{Answer, Entry, InputKind, ScriptWorld};
 use std::alloc::{AllocError, Global};
 use std::test::Fail;
@@ -10,7 +11,7 @@ fn run_file(alloc: Global, bytes: Vec<u8>) -> Result<(u8, ScriptWorld), AllocErr
     let file = answer(alloc, InputKind::File, b"p", bytes, true)?;
     let words = vec![in alloc; b"-f".to_vec(alloc)?, b"p".to_vec(alloc)?]?;
     let mut world = ScriptWorld::new(alloc, vec![in alloc; Answer::Input(file)]?);
-    let status = call(alloc, &words, Vec::new(alloc), &mut world);
+    let status = main_words(alloc, &words, Vec::new(alloc), &mut world);
     Ok((status, world))
 }
 
