@@ -18,6 +18,7 @@ const NOT_CHECKED: u8 = 2;
 
 /// The statuses where a program may run on pieces of its input, and where it isn't known to.
 const ON_PIECES: u8 = 0;
+
 const NOT_ON_PIECES: u8 = 1;
 
 /// The first word, where that is asked.

@@ -1,12 +1,12 @@
 -- Two runs that treat a record alike: on states that differ in their input, in the steps that are left, and in the
 -- variables that aren't known to be the same.
-use Rattle.std.proofs.Common.{◌≡◌, ℕ, ◌+◌, Bool, true, false, List, [], ◌∷◌, ◌++◌, Option, Some, None, Result, Ok, Err, refl, sym, ap, ◌∙◌, zero, suc, ◌≤◌, le_trans, append_assoc, append-nil, arith}
+use Rattle.std.proofs.Common.{◌≡◌, ℕ, ◌+◌, Bool, true, false, List, [], ◌∷◌, ◌++◌, Option, Result, Ok, Err, refl, ap, ◌∙◌, zero, suc, ◌≤◌, le_trans}
 use Rattle.awk_value.specs.declared.value.Value.{Value}
 use Rattle.awk_record.specs.definitions.Record.{RecordPair}
 use Rattle.awk_streams.specs.Oracle.{Source, Oracle}
 use Rattle.awk_semantics.specs.declared.halt.Halt.{Halt}
 use Rattle.awk_semantics.specs.declared.halt.Halt.TheVariants as halt
-use Rattle.awk_semantics.specs.definitions.State.{Request, OpensMain, OpensInput, OpensOutput, RecordOfMain, RecordOf, Closes, Runs, Ends, Effect, Printed, Requested, Frame, State, Out, Run, go_on, ◌>>=◌, lift}
+use Rattle.awk_semantics.specs.definitions.State.{OpensMain, RecordOfMain, Ends, Effect, Printed, Requested, State, Out, Run, go_on, ◌>>=◌}
 
 -- the outside of a run, what is left of its main input, and whether there was one
 pub record Outer : Type 0 where

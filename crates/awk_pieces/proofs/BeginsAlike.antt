@@ -1,6 +1,6 @@
 -- What comes before the records does alike, and shows nothing.
-use Rattle.std.proofs.Common.{◌≡◌, inl, inr, ℕ, zero, suc, ◌+◌, Bool, true, false, ◌&&◌, ◌||◌, not, List, [], ◌∷◌, ◌++◌, Option, Some, None, Result, Ok, Err, refl, sym, ap, ◌∙◌, le_refl, codes, bytes_eq, cond}
-use Rattle.std.proofs.lemmas.Bool.{cases_Bool, cond-true, cond-false}
+use Rattle.std.proofs.Common.{◌≡◌, inl, inr, ℕ, ◌+◌, Bool, true, false, ◌&&◌, not, List, [], ◌∷◌, Option, Some, None, refl, sym, ap, ◌∙◌, le_refl, codes, bytes_eq, cond}
+use Rattle.std.proofs.lemmas.Bool.{cases_Bool, cond-false}
 use Rattle.std.proofs.lemmas.Slice.Eq.{bytes_eq-Decides}
 use Rattle.awk_value.specs.declared.value.Value.{Value}
 use Rattle.awk_value.specs.declared.value.Value.TheVariants as value
@@ -12,19 +12,16 @@ use Rattle.awk_kinds.specs.Variables.{with_value, is_refused}
 use Rattle.awk_grammar.specs.Tree.{Expr, Number, String, Ere, Name, Element, Field, Group, Call, BuiltIn, Length, PreIncrement, PostIncrement, Getline, PipedGetline, Unary, Binary, Membership, ListMembership, Conditional, Assign, SimpleStatement, Expression, Print, Delete, DeleteAll, Next, NextFile, Break, Continue, Exit, Return, Statement, Empty, Simple, Block, If, IfElse, While, Do, ForIn, For, Statements, NoMore, Then, Item, Begin, End, Action, PatternAction, PatternOnly, Function}
 use Rattle.awk_semantics.specs.declared.flow.Flow.{Flow}
 use Rattle.awk_semantics.specs.declared.flow.Flow.TheVariants as flow
-use Rattle.awk_semantics.specs.declared.halt.Halt.{Halt}
-use Rattle.awk_semantics.specs.declared.halt.Halt.TheVariants as halt
-use Rattle.awk_semantics.specs.declared.fault.Fault.TheVariants as fault
-use Rattle.awk_semantics.specs.definitions.State.{State, Out, Run, go_on, ◌>>=◌, lift, ret}
-use Rattle.awk_semantics.specs.definitions.Primitives.{spend, put_unless, put_outside, put, read_name}
+use Rattle.awk_semantics.specs.definitions.State.{State, Run, go_on, ◌>>=◌, lift}
+use Rattle.awk_semantics.specs.definitions.Primitives.{put_unless, put_outside, put}
 use Rattle.awk_semantics.specs.definitions.Inputs.{is_unassignable, assigned_text, text_or_fault, check_assignment, assign_text}
 use Rattle.awk_semantics.specs.definitions.Places.{AName, store, read_place, assign, assign_by}
 use Rattle.awk_semantics.specs.definitions.Semantics.{Functions, eval, exec_simple, pass_on, exec, exec_all}
 use Rattle.awk_semantics.specs.definitions.Items.{run_action, begin_item, begin_items}
 use Rattle.awk_semantics.specs.definitions.Meaning.{assign_all}
-use Rattle.awk_pieces.specs.definitions.Pieceable.{is_counter, leaves_records, only_reads, is_plain, may_be_set, is_setting, is_simple_setting, only_sets, all_only_set, is_rule_for_itself, are_rules_for_themselves}
+use Rattle.awk_pieces.specs.definitions.Pieceable.{leaves_records, only_reads, is_plain, may_be_set, is_setting, is_simple_setting, only_sets, all_only_set, is_rule_for_itself, are_rules_for_themselves}
 use Rattle.awk_pieces.specs.definitions.LawOfPieces.{all_leave_records}
-use Rattle.awk_pieces.proofs.Alike.{Outer, Names, Sorts, Values, state_on, AgreeOn, Same, Covers, Alike, then_alike}
+use Rattle.awk_pieces.proofs.Alike.{Outer, Names, Sorts, Values, state_on, AgreeOn, Covers, Alike, then_alike}
 use Rattle.awk_pieces.proofs.ReadsAlike.{left_true, right_true, unmoved, ret_alike, spend_alike, name_alike, reads_alike}
 use Rattle.awk_pieces.proofs.ValuesAndFaults.{IsValueOrFault}
 

@@ -1,15 +1,14 @@
 -- The first record: standard input is opened, since there is no operand.
-use Rattle.std.proofs.Common.{◌≡◌, ℕ, zero, suc, ◌+◌, Bool, true, false, List, [], ◌∷◌, ◌++◌, Option, Some, None, Result, Ok, Err, pos, refl, sym, ap, ◌∙◌, codes, bytes_eq, append_assoc}
-use Rattle.awk_value.specs.declared.value.Value.{Value}
+use Rattle.std.proofs.Common.{◌≡◌, ℕ, suc, false, List, [], ◌∷◌, ◌++◌, None, Result, Ok, Err, pos, refl, ap, codes, append_assoc}
 use Rattle.awk_value.specs.declared.value.Value.TheVariants as value
 use Rattle.awk_value.specs.Values.{str_of}
 use Rattle.awk_record.specs.definitions.Cut.{AtEnd, Cut, Found, NoMore, BrokenOff, TooLong, cut_of}
 use Rattle.awk_record.specs.definitions.Record.{RecordPair}
 use Rattle.awk_kinds.specs.Variables.{with_value}
 use Rattle.awk_world.specs.declared.world.InputKind.TheVariants as input
-use Rattle.awk_streams.specs.Oracle.{Source, Oracle}
+use Rattle.awk_streams.specs.Oracle.{Oracle}
 use Rattle.awk_semantics.specs.declared.halt.Halt.{Halt}
-use Rattle.awk_semantics.specs.definitions.State.{OpensMain, Effect, Requested, State, Out, Run, go_on, ◌>>=◌, lift}
+use Rattle.awk_semantics.specs.definitions.State.{OpensMain, Effect, Requested, State, Run, go_on, ◌>>=◌, lift}
 use Rattle.awk_semantics.specs.definitions.Primitives.{put_special, take_argument}
 use Rattle.awk_semantics.specs.definitions.Streams.{one_more, open_main, begin_input, note_input, take_record, close_main, is_input_seen}
 use Rattle.awk_semantics.specs.definitions.Inputs.{main_record, first_record, standard_record, search_operands_within, search_operands, next_record}

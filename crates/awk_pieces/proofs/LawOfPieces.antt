@@ -1,5 +1,5 @@
 -- The law of pieces.
-use Rattle.std.proofs.Common.{◌≡◌, ◌⊎◌, inl, inr, ℕ, zero, suc, ◌+◌, ◌-◌, ◌<◌, ◌≤◌, ◌^◌, Bool, true, false, not, ◌&&◌, List, [], ◌∷◌, ◌++◌, length, Option, Some, None, Result, Ok, Err, pos, refl, sym, ap, ap₂, ◌∙◌, subst, codes, bytes_eq, arith, append_assoc, append-nil, length-append, le_refl, le_trans, cond}
+use Rattle.std.proofs.Common.{◌≡◌, inl, inr, ℕ, zero, suc, ◌+◌, ◌-◌, ◌<◌, ◌≤◌, ◌^◌, Bool, true, false, not, List, [], ◌∷◌, ◌++◌, length, Result, Ok, Err, pos, refl, sym, ap, ap₂, ◌∙◌, subst, codes, bytes_eq, arith, append_assoc, append-nil, le_trans, cond}
 use Rattle.std.proofs.lemmas.Bool.{cases_Bool}
 use Rattle.std.proofs.lemmas.Slice.Eq.{bytes_eq-Decides}
 use Rattle.awk_value.specs.declared.value.Value.{Value}
@@ -9,27 +9,26 @@ use Rattle.awk_record.specs.definitions.Record.{RecordPair}
 use Rattle.awk_kinds.specs.Variables.{initial_value}
 use Rattle.awk_kinds.specs.definitions.Kinds.{definitions_of}
 use Rattle.awk_world.specs.declared.world.InputKind.TheVariants as input
-use Rattle.awk_streams.specs.Oracle.{Source, Oracle}
+use Rattle.awk_streams.specs.Oracle.{Oracle}
 use Rattle.awk_streams.specs.Openings.{StandardOutput, StandardError, Opening}
 use Rattle.awk_grammar.specs.Tree.{Item, Begin, End, Action, PatternAction, PatternOnly, Function}
 use Rattle.awk_semantics.specs.declared.halt.Halt.{Halt}
 use Rattle.awk_semantics.specs.declared.halt.Halt.TheVariants as halt
-use Rattle.awk_semantics.specs.declared.outcome.Outcome.{Outcome}
-use Rattle.awk_semantics.specs.declared.outcome.Outcome.TheVariants.{Ended, Fault, Stopped}
-use Rattle.awk_semantics.specs.definitions.State.{Request, OpensMain, RecordOfMain, Ends, Effect, Printed, Requested, State, Out, Run, go_on, ◌>>=◌, lift, ret, gives}
+use Rattle.awk_semantics.specs.declared.outcome.Outcome.TheVariants.{Ended}
+use Rattle.awk_semantics.specs.definitions.State.{OpensMain, RecordOfMain, Ends, Effect, Printed, Requested, State, Out, Run, go_on, ◌>>=◌, lift, ret, gives}
 use Rattle.awk_semantics.specs.definitions.Primitives.{outside_calls}
 use Rattle.awk_semantics.specs.definitions.Semantics.{Functions, choose}
 use Rattle.awk_semantics.specs.definitions.Calls.{functions_within}
 use Rattle.awk_semantics.specs.definitions.Items.{try_items, until_next, unless_exit, until_exit, each_record, run_records, has_rule, begin_items, end_item, end_items, run_before_end, run_items}
-use Rattle.awk_semantics.specs.definitions.Meaning.{StartValues, start_state, assign_all, assign_and_run, with_end, run_program, outcome_of, outputs_from, first_outputs, outputs_after, Meaning, meaning_of}
-use Rattle.awk_pieces.specs.definitions.Pieceable.{is_counter, leaves_records, knows, is_rule_for_itself, are_rules_for_themselves, IsPieceable}
+use Rattle.awk_semantics.specs.definitions.Meaning.{StartValues, start_state, assign_all, assign_and_run, with_end, run_program, outcome_of, outputs_from, outputs_after, meaning_of}
+use Rattle.awk_pieces.specs.definitions.Pieceable.{is_counter, knows, is_rule_for_itself, are_rules_for_themselves, IsPieceable}
 use Rattle.awk_pieces.specs.definitions.LawOfPieces.{EndsLine, Gives, StartsPlainly, Prints, LawOfPieces}
-use Rattle.awk_pieces.proofs.Alike.{Outer, Names, Sorts, Values, state_on, AgreeOn, ArePlain, plain_append, behind, Same, Covers, Alike}
+use Rattle.awk_pieces.proofs.Alike.{Outer, Sorts, Values, state_on, AgreeOn, ArePlain, plain_append, behind, Covers, Alike}
 use Rattle.awk_pieces.proofs.ReadsAlike.{left_true, right_true}
 use Rattle.awk_pieces.proofs.RulesAlike.{items_alike, until_alike}
 use Rattle.awk_pieces.proofs.BeginsAlike.{all_names, first_sorts, assign_all_alike, begin_items_alike}
 use Rattle.awk_pieces.proofs.LinesJoined.{newline}
-use Rattle.awk_pieces.proofs.RecordsFound.{reading, over, Counts, record_over, record_found}
+use Rattle.awk_pieces.proofs.RecordsFound.{reading, over, Counts, record_over}
 use Rattle.awk_pieces.proofs.FirstRecord.{unread, with_opening, opened, OpensLines, first_opens}
 use Rattle.awk_pieces.proofs.RecordsPassed.{printed, printed_append, EndsWell, Owns, Passed, passed}
 
@@ -296,7 +295,7 @@ module _ (items : List Item) (pieceable : IsPieceable items) (start : StartValue
   same_prepared : (x : Oracle) (limit steps steps' : ℕ) → steps ≡ steps' → (p : Prepared x limit steps) (q : Prepared x limit steps') → state_on base (unread x) p.pair p.values p.left ≡ state_on base (unread x) q.pair q.values q.left
   same_prepared x limit steps steps' e p q =
       let set : gives (tt {0}) (state_on base (unread x) p.set_pair p.set_values p.set_steps) ≡ gives (tt {0}) (state_on base (unread x) q.set_pair q.set_values q.set_steps)
-              = sym p.assigned ∙ (ap (λ (k : ℕ). assign_all start.pre (state_on base (unread x) first_pair first_values k)) e ∙ q.assigned) in
+      = sym p.assigned ∙ (ap (λ (k : ℕ). assign_all start.pre (state_on base (unread x) first_pair first_values k)) e ∙ q.assigned) in
       ap (λ (out : Out (Unit {0})). out.state) (sym p.begun ∙ (ap (λ (out : Out (Unit {0})). begin_items (functions limit) items out.state) set ∙ q.begun))
 
   at_steps : (x : Oracle) (limit steps : ℕ) → steps ≡ limit → Prepared x limit steps → Prepared x limit limit
@@ -381,9 +380,9 @@ module _ (items : List Item) (pieceable : IsPieceable items) (start : StartValue
   alone_prints has x limit text given p pair values left ends is plain =
       let run : Out (Unit {0}) = lines x limit text p.pair (opened p.values) (suc p.left) p.left in
       prints_of x limit (with_opening base) (over x) pair values left (Requested (OpensMain input.Standard []) ∷ run.effects) (tt, plain)
-          (whole_is x limit limit p
-          ∙ (ap (finish limit) (records_are has x limit text given p.pair p.values p.left p.keeps ∙ ap₂ (λ (r : Result (Unit {0}) Halt) (s : State). record { result = r; state = s; effects = Requested (OpensMain input.Standard []) ∷ run.effects }) ends is)
-          ∙ finish_opened limit (over x) pair values left (Requested (OpensMain input.Standard []) ∷ run.effects)))
+      (whole_is x limit limit p
+      ∙ (ap (finish limit) (records_are has x limit text given p.pair p.values p.left p.keeps ∙ ap₂ (λ (r : Result (Unit {0}) Halt) (s : State). record { result = r; state = s; effects = Requested (OpensMain input.Standard []) ∷ run.effects }) ends is)
+      ∙ finish_opened limit (over x) pair values left (Requested (OpensMain input.Standard []) ∷ run.effects)))
 
   lines_well : has_rule items ≡ true → (x : Oracle) (limit : ℕ) (text : List ℕ) → Gives x text → (p : Prepared x limit limit) → EndsWell (whole x limit limit).result → EndsWell (lines x limit text p.pair (opened p.values) (suc p.left) p.left).result
   lines_well has x limit text given p well = subst (λ (out : Out (Unit {0})). EndsWell out.result) (records_are has x limit text given p.pair p.values p.left p.keeps) (records_well x limit p well)
@@ -403,12 +402,13 @@ module _ (items : List Item) (pieceable : IsPieceable items) (start : StartValue
       let more : ℕ = (pa.left + da) - q.mine.left in
       let turns : suc q.mine.left + extra ≡ suc pa.turns + da = omega arith in
       let steps : q.mine.left + more ≡ pa.left + da = omega arith in
-      let pb = pass_b of_a of_b of_both a b ends ga gb gboth m n limit da db to_a to_b enough fits p q has pa extra more turns steps (lines_well has of_b n b gb q.mine well_b) in
-      ( printed (lines of_a m a p.mine.pair (opened p.mine.values) (suc p.mine.left) p.mine.left).effects
-      , printed (lines of_b n b q.mine.pair (opened q.mine.values) (suc q.mine.left) q.mine.left).effects
-      , alone_prints has of_a m a ga p.mine pa.pair pa.mine pa.left pa.ends pa.is_here pa.plain_here
-      , alone_prints has of_b n b gb q.mine pb.pair pb.mine pb.left pb.ends pb.is_here pb.plain_here
-      , both_prints of_a of_b of_both a b ends ga gb gboth m n limit da db to_a to_b enough fits p q has pa extra more turns steps pb )
+      let pb = pass_b of_a of_b of_both a b ends ga gb gboth m n limit da db to_a to_b enough fits p q has pa extra more turns steps (lines_well has of_b n b gb q.mine well_b) in (
+        printed (lines of_a m a p.mine.pair (opened p.mine.values) (suc p.mine.left) p.mine.left).effects,
+        printed (lines of_b n b q.mine.pair (opened q.mine.values) (suc q.mine.left) q.mine.left).effects,
+        alone_prints has of_a m a ga p.mine pa.pair pa.mine pa.left pa.ends pa.is_here pa.plain_here,
+        alone_prints has of_b n b gb q.mine pb.pair pb.mine pb.left pb.ends pb.is_here pb.plain_here,
+        both_prints of_a of_b of_both a b ends ga gb gboth m n limit da db to_a to_b enough fits p q has pa extra more turns steps pb,
+      )
 
   joined_nothing : has_rule items ≡ false → (of_a of_b of_both : Oracle) (m n limit da : ℕ) → m + da ≡ limit →
       EndsWell (whole of_a m m).result → EndsWell (whole of_b n n).result → Joined of_a of_b of_both m n limit

@@ -1,8 +1,8 @@
 -- The first record of a text that ends in a newline is that of the text with more behind it.
-use Rattle.std.proofs.Common.{◌≡◌, ◌⊎◌, inl, inr, ℕ, zero, suc, ◌+◌, ◌-◌, ◌<◌, ◌≤◌, Bool, true, false, nat_lt, List, [], ◌∷◌, ◌++◌, length, take, drop, Option, Some, None, refl, sym, ◌∙◌, ap, subst, arith, length-append, length-drop, append-nil}
+use Rattle.std.proofs.Common.{◌≡◌, ◌⊎◌, inl, inr, ℕ, ◌+◌, ◌-◌, ◌<◌, ◌≤◌, false, nat_lt, List, [], ◌∷◌, ◌++◌, length, take, drop, Option, Some, None, refl, sym, ◌∙◌, ap, subst, arith, length-append, length-drop, append-nil}
 use Rattle.std.proofs.lemmas.Bool.{cases_Bool, cases_lt, cond-true, cond-false}
 use Rattle.std.proofs.lemmas.List.{take-append-le, drop-append-le, drop_all}
-use Rattle.awk_record.specs.definitions.Cut.{Ending, AtEnd, Cut, Found, NoMore, BrokenOff, TooLong, longest, begins_with, one_later, first_at, limited, unfinished, cut_at, cut_of}
+use Rattle.awk_record.specs.definitions.Cut.{AtEnd, Cut, Found, NoMore, TooLong, longest, begins_with, first_at, limited, cut_at, cut_of}
 use Rattle.awk_record.proofs.CutIsDecided.{first_at-fits, first_at-append, one_later-none}
 use Rattle.awk_pieces.specs.definitions.LawOfPieces.{EndsLine}
 

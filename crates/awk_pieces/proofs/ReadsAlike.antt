@@ -1,8 +1,8 @@
 -- Expressions that only read, and what is made of them, do alike.
-use Rattle.std.proofs.Common.{◌≡◌, ℕ, zero, suc, ◌+◌, Bool, true, false, ◌&&◌, not, List, [], ◌∷◌, ◌++◌, Option, Some, None, Result, Ok, Err, pos, negsuc, ℤ, refl, sym, ap, ◌∙◌, le_refl, arith, cond, codes, bytes_eq, drop, map, length}
+use Rattle.std.proofs.Common.{◌≡◌, ℕ, zero, suc, ◌+◌, Bool, true, false, ◌&&◌, List, [], ◌∷◌, ◌++◌, Option, Some, None, Result, Ok, Err, pos, ℤ, refl, le_refl, arith, cond, codes, bytes_eq, map, length}
 use Rattle.awk_value.specs.declared.value.Value.{Value}
 use Rattle.awk_value.specs.declared.value.Value.TheVariants as value
-use Rattle.awk_value.specs.Values.{truth_of, str_of, num_of}
+use Rattle.awk_value.specs.Values.{truth_of, num_of}
 use Rattle.awk_record.specs.definitions.Record.{RecordPair, field_of}
 use Rattle.awk_lex.specs.declared.token.BuiltIn.{BuiltIn as BuiltInName}
 use Rattle.awk_lex.specs.declared.token.BuiltIn.TheVariants as built_in
@@ -13,11 +13,11 @@ use Rattle.awk_grammar.specs.Tree.{Expr, Number, String, Ere, Name, Element, Fie
 use Rattle.awk_semantics.specs.declared.halt.Halt.{Halt}
 use Rattle.awk_semantics.specs.declared.halt.Halt.TheVariants as halt
 use Rattle.awk_kinds.specs.Names.{has_name}
-use Rattle.awk_semantics.specs.definitions.State.{Effect, Printed, State, Out, Run, lift, ret, gives}
+use Rattle.awk_semantics.specs.definitions.State.{Effect, State, Run, lift, ret, gives}
 use Rattle.awk_semantics.specs.definitions.Operators.{truth_value, changed, applied, takes_pattern}
 use Rattle.awk_semantics.specs.definitions.Faults.{of_values, of_record}
 use Rattle.awk_semantics.specs.definitions.Primitives.{spend, spend_of, number_of, read_field, record_text, read_name, is_array, number_in, array_in, array_length, array_length_at}
-use Rattle.awk_semantics.specs.definitions.BuiltIns.{Role, AsValue, AsPattern, AsArray, AsPlace, AsMeasured, Argument, OfValue, OfEre, OfArray, OfPlace, value_of, roles_of, bare_name, array_or_value, array_named_or, taken_as, count_value, applied_all, record_length, count_elements, apply_built_in}
+use Rattle.awk_semantics.specs.definitions.BuiltIns.{Role, AsValue, AsPattern, AsArray, AsPlace, AsMeasured, Argument, OfValue, OfEre, OfArray, OfPlace, value_of, roles_of, bare_name, array_or_value, array_named_or, applied_all, record_length, count_elements, apply_built_in}
 use Rattle.awk_semantics.specs.definitions.Semantics.{Functions, right_operand, tested, choose, combined, eval, take_arguments}
 use Rattle.awk_pieces.specs.definitions.Pieceable.{is_of_values, only_reads, all_only_read}
 use Rattle.awk_pieces.proofs.Alike.{Outer, Names, Sorts, Values, state_on, AgreeOn, AreShown, shown_none, Same, Covers, Alike, then_alike}

@@ -1,30 +1,27 @@
 -- What a run over standard input does with its next record.
-use Rattle.std.proofs.Common.{◌≡◌, ℕ, zero, suc, ◌+◌, ◌<◌, ◌^◌, ◌==◌, nat_lt, Bool, true, false, List, [], ◌∷◌, ◌++◌, length, Option, Some, None, Result, Ok, Err, pos, ℤ, ◌+ℤ◌, refl, sym, ap, ◌∙◌, codes, bytes_eq, arith, lt-ltb}
+use Rattle.std.proofs.Common.{◌≡◌, ℕ, zero, suc, ◌<◌, ◌^◌, ◌==◌, nat_lt, true, List, [], ◌∷◌, length, Some, None, Result, Ok, Err, pos, ℤ, ◌+ℤ◌, refl, ap, ◌∙◌, codes, arith, lt-ltb}
 use Rattle.std.proofs.lemmas.Bool.{cond-true}
 use Rattle.std.proofs.lemmas.Int.{ints}
-use Rattle.awk_value.specs.declared.value.Value.{Value}
 use Rattle.awk_value.specs.declared.value.Value.TheVariants as value
 use Rattle.awk_value.specs.Values.{str_of, number_value}
 use Rattle.awk_value.specs.declared.fault.ValueFault.{ValueFault}
 use Rattle.awk_value.specs.declared.fault.ValueFault.TheVariants as range
-use Rattle.awk_value.specs.Arithmetic.{is_in_range, sum_of, range_checked}
+use Rattle.awk_value.specs.Arithmetic.{is_in_range, range_checked}
 use Rattle.awk_text.specs.definitions.Separators.{Rule}
-use Rattle.awk_record.specs.definitions.Cut.{AtEnd, Cut, Found, NoMore, BrokenOff, TooLong, cut_of}
+use Rattle.awk_record.specs.definitions.Cut.{AtEnd, Found, NoMore, BrokenOff, TooLong, cut_of}
 use Rattle.awk_record.specs.definitions.Record.{RecordPair, split_by}
 use Rattle.awk_kinds.specs.Variables.{with_value}
 use Rattle.awk_kinds.specs.declared.special.Special.TheVariants.{Nr, Fnr}
-use Rattle.awk_streams.specs.Oracle.{Source, Oracle}
-use Rattle.awk_semantics.specs.declared.halt.Halt.{Halt}
+use Rattle.awk_streams.specs.Oracle.{Oracle}
 use Rattle.awk_semantics.specs.declared.halt.Halt.TheVariants as halt
-use Rattle.awk_semantics.specs.declared.fault.Fault.{Fault}
 use Rattle.awk_semantics.specs.declared.fault.Fault.TheVariants as fault
-use Rattle.awk_semantics.specs.definitions.State.{RecordOfMain, Effect, Requested, State, Out, Run, go_on, ◌>>=◌, lift, gives}
+use Rattle.awk_semantics.specs.definitions.State.{RecordOfMain, Effect, Requested, State, Run, go_on, ◌>>=◌, lift, gives}
 use Rattle.awk_semantics.specs.definitions.Faults.{of_values}
 use Rattle.awk_semantics.specs.definitions.Operators.{raised}
 use Rattle.awk_semantics.specs.definitions.Primitives.{spend, set_record, count_in, put_special, take_argument}
 use Rattle.awk_semantics.specs.definitions.Streams.{take_record, close_main, is_input_seen}
 use Rattle.awk_semantics.specs.definitions.Inputs.{main_record, standard_record, search_operands_within, search_operands, next_record}
-use Rattle.awk_semantics.specs.definitions.Items.{begin_record, on_record, each_record}
+use Rattle.awk_semantics.specs.definitions.Items.{begin_record, each_record}
 use Rattle.awk_pieces.proofs.Alike.{Outer, Values, state_on, behind}
 use Rattle.awk_pieces.proofs.LinesJoined.{newline}
 

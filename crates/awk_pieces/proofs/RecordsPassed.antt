@@ -1,18 +1,15 @@
 -- A run over a text with more behind it does with the text what a run over the text alone does, and is at the rest then.
-use Rattle.std.proofs.Common.{◌≡◌, ◌⊎◌, inl, inr, ℕ, zero, suc, ◌+◌, ◌<◌, ◌≤◌, ◌^◌, Bool, true, false, List, [], ◌∷◌, ◌++◌, length, Option, Some, None, Result, Ok, Err, pos, refl, sym, ap, ◌∙◌, subst, codes, bytes_eq, arith, append_assoc, length-append, ap₂}
-use Rattle.awk_value.specs.declared.value.Value.{Value}
-use Rattle.awk_value.specs.declared.value.Value.TheVariants as value
+use Rattle.std.proofs.Common.{◌≡◌, ℕ, zero, suc, ◌+◌, ◌<◌, ◌^◌, Bool, true, false, List, [], ◌∷◌, ◌++◌, length, Result, Ok, Err, refl, sym, ap, ◌∙◌, subst, codes, bytes_eq, arith, append_assoc, ap₂}
 use Rattle.awk_value.specs.Values.{str_of}
 use Rattle.awk_text.specs.definitions.Separators.{Rule}
 use Rattle.awk_record.specs.definitions.Cut.{AtEnd, Cut, Found, NoMore, BrokenOff, TooLong, cut_of}
 use Rattle.awk_record.specs.definitions.Record.{RecordPair, split_by}
-use Rattle.awk_streams.specs.Oracle.{Source, Oracle}
+use Rattle.awk_streams.specs.Oracle.{Oracle}
 use Rattle.awk_semantics.specs.declared.halt.Halt.{Halt}
 use Rattle.awk_semantics.specs.declared.halt.Halt.TheVariants as halt
-use Rattle.awk_semantics.specs.declared.fault.Fault.TheVariants as fault
 use Rattle.awk_semantics.specs.definitions.State.{RecordOfMain, Effect, Printed, Requested, State, Out, Run, go_on, ◌>>=◌, lift}
 use Rattle.awk_semantics.specs.definitions.Items.{each_record}
-use Rattle.awk_pieces.proofs.Alike.{Outer, Names, Sorts, Values, state_on, AgreeOn, ArePlain, AreShown, plain_append, behind, Same, Covers, Alike}
+use Rattle.awk_pieces.proofs.Alike.{Sorts, Values, state_on, AgreeOn, ArePlain, AreShown, plain_append, behind, Same, Covers, Alike}
 use Rattle.awk_pieces.proofs.LinesJoined.{newline, Joins, JoinedCut, joined_cut, no_more}
 use Rattle.awk_pieces.proofs.RecordsFound.{reading, over, Counts, counted, rule_for, record_found, record_starved, record_over, record_broken, record_long}
 
@@ -124,8 +121,8 @@ module _ (sorts : Sorts) (owns : Owns sorts) (base : State) (x y : Oracle) (acti
   unfolding go_on
   acted_on n e left more v w k d i j t effects there rest counts counts' joins fits fits' c = rw (c.is_here, c.is_there) (λ well.
       passed_behind more w c.there e d effects effects (each_record n action (state_on base (reading x left) c.pair c.here c.left)) (each_record (n + e) action' (state_on base (reading y (left ++ more)) c.pair c.there (c.left + d)))
-          (λ z is. c.keeps_there z (owns.shared_kept z is) ∙ counted_keeps w (suc j) z is) (plain_of effects c.plain) (plain_of effects c.plain) refl
-          (rest e left more c.pair c.pair c.here c.there c.left d (suc i) (suc j) c.agrees (counts_on v c.here i counts c.keeps) (counts_on w c.there j counts' c.keeps_there) joins fits fits' well))
+      (λ z is. c.keeps_there z (owns.shared_kept z is) ∙ counted_keeps w (suc j) z is) (plain_of effects c.plain) (plain_of effects c.plain) refl
+      (rest e left more c.pair c.pair c.here c.there c.left d (suc i) (suc j) c.agrees (counts_on v c.here i counts c.keeps) (counts_on w c.there j counts' c.keeps_there) joins fits fits' well))
 
   acted : (n e : ℕ) (left more : List ℕ) (v w : Values) (k d i j : ℕ) (r : Result (Unit {0}) Halt) (t : State) (effects : List Effect) (there : Out (Unit {0})) → PassesFrom n → Counts v i → Counts w j → Joins left more →
       suc i + length left < 2 ^ 127 → suc j + (length left + length more) < 2 ^ 127 →
@@ -153,11 +150,11 @@ module _ (sorts : Sorts) (owns : Owns sorts) (base : State) (x y : Oracle) (acti
       let begun : State = state_on base (reading x left) (split_by (rule_for v) first) (counted v (suc i)) k in
       let begun' : State = state_on base (reading y (left ++ more)) (split_by (rule_for v) first) (counted w (suc j)) (k + d) in
       let found = record_found base y (bytes ++ more) c' w j counts' (n + e) action' (k + d) first (left ++ more) (omega arith) joined.found
-              ∙ ap (λ (rule : Rule). behind (Requested (RecordOfMain newline (bytes ++ more)) ∷ []) ((action' >>= λ _. each_record (n + e) action') (state_on base (reading y (left ++ more)) (split_by rule first) (counted w (suc j)) (k + d)))) (rule_same v w agrees counts.rs counts'.rs) in
+      ∙ ap (λ (rule : Rule). behind (Requested (RecordOfMain newline (bytes ++ more)) ∷ []) ((action' >>= λ _. each_record (n + e) action') (state_on base (reading y (left ++ more)) (split_by rule first) (counted w (suc j)) (k + d)))) (rule_same v w agrees counts.rs counts'.rs) in
       rw (record_found base x bytes c v i counts n action k first left (omega arith) cut, found) (λ well.
-          passed_behind more w w e d (Requested (RecordOfMain newline bytes) ∷ []) (Requested (RecordOfMain newline (bytes ++ more)) ∷ []) _ _ (λ z is. refl) (tt, tt) (tt, tt) refl
-              (acted n e left more v w k d i j (action begun).result (action begun).state (action begun).effects (action' begun') rest counts counts' joined.joins (omega arith) (omega arith)
-                  (alike.covers (reading x left) (reading y (left ++ more)) (split_by (rule_for v) first) (counted v (suc i)) (counted w (suc j)) k d (counted_agrees v w (suc i) (suc j) agrees)) well))
+      passed_behind more w w e d (Requested (RecordOfMain newline bytes) ∷ []) (Requested (RecordOfMain newline (bytes ++ more)) ∷ []) _ _ (λ z is. refl) (tt, tt) (tt, tt) refl
+      (acted n e left more v w k d i j (action begun).result (action begun).state (action begun).effects (action' begun') rest counts counts' joined.joins (omega arith) (omega arith)
+      (alike.covers (reading x left) (reading y (left ++ more)) (split_by (rule_for v) first) (counted v (suc i)) (counted w (suc j)) k d (counted_agrees v w (suc i) (suc j) agrees)) well))
 
   none_passed : (n e : ℕ) (bytes more : List ℕ) (c c' : RecordPair) (v w : Values) (k d i j : ℕ) → AgreeOn sorts.shared v w → Counts v i → Counts w j →
       j + (length bytes + length more) < 2 ^ 127 → cut_of newline bytes AtEnd ≡ NoMore → bytes ≡ [] →

@@ -1,9 +1,7 @@
 -- Rules that treat each record for itself do alike on it.
-use Rattle.std.proofs.Common.{◌≡◌, ℕ, zero, suc, ◌+◌, Bool, true, false, ◌&&◌, List, [], ◌∷◌, ◌++◌, Result, Ok, Err, refl, sym, ap, ◌∙◌, le_refl, subst, codes}
+use Rattle.std.proofs.Common.{◌≡◌, ℕ, suc, ◌+◌, Bool, true, List, [], ◌∷◌, ◌++◌, Result, Ok, Err, refl, sym, ap, le_refl, subst, codes}
 use Rattle.awk_value.specs.declared.value.Value.{Value}
-use Rattle.awk_value.specs.declared.value.Value.TheVariants as value
 use Rattle.awk_value.specs.Values.{str_of}
-use Rattle.awk_record.specs.definitions.Record.{RecordPair}
 use Rattle.awk_grammar.specs.declared.tree.PrintForm.{PrintForm}
 use Rattle.awk_grammar.specs.declared.tree.PrintForm.TheVariants as form
 use Rattle.awk_grammar.specs.Tree.{Expr, Exprs, Nil, Cons, PrintList, Bare, Parenthesized, Output, Standard, Redirected, SimpleStatement, Expression, Print, Delete, DeleteAll, Next, NextFile, Break, Continue, Exit, Return, Statement, Empty, Simple, Block, If, IfElse, While, Do, ForIn, For, Statements, NoMore, Then, Pattern, Single, Range, Item, Begin, End, Action, PatternAction, PatternOnly, Function}
@@ -13,12 +11,12 @@ use Rattle.awk_semantics.specs.declared.halt.Halt.{Halt}
 use Rattle.awk_semantics.specs.declared.halt.Halt.TheVariants as halt
 use Rattle.awk_semantics.specs.definitions.State.{Effect, Printed, State, Out, Run, go_on, ◌>>=◌, lift, ret}
 use Rattle.awk_semantics.specs.definitions.Operators.{line_of}
-use Rattle.awk_semantics.specs.definitions.Primitives.{spend, record_text, print_bytes, print_line, format_values, outside_calls}
-use Rattle.awk_semantics.specs.definitions.Semantics.{Functions, tested, choose, eval, eval_all, printed_values, target_of, print_by, print, begin_test, exec_simple, pass_on, exec, exec_all}
+use Rattle.awk_semantics.specs.definitions.Primitives.{print_bytes, print_line, format_values, outside_calls}
+use Rattle.awk_semantics.specs.definitions.Semantics.{Functions, eval, eval_all, printed_values, target_of, print_by, print, begin_test, exec_simple, pass_on, exec, exec_all}
 use Rattle.awk_semantics.specs.definitions.Items.{run_action, selects, print_record, try_item, try_items, unless_next, until_next}
 use Rattle.awk_pieces.specs.definitions.Pieceable.{only_reads, all_only_read, list_only_reads, is_standard, is_simple_for_itself, is_for_itself, are_for_themselves, pattern_only_reads, is_rule_for_itself, are_rules_for_themselves}
-use Rattle.awk_pieces.proofs.Alike.{Outer, Names, Sorts, Values, state_on, AgreeOn, ArePlain, AreShown, shown_none, Same, Covers, Alike, then_alike}
-use Rattle.awk_pieces.proofs.ReadsAlike.{left_true, right_true, Reads, unmoved, lift_alike, ret_alike, spend_alike, text_alike, tested_alike, choose_alike, reads_alike}
+use Rattle.awk_pieces.proofs.Alike.{Outer, Names, Sorts, Values, state_on, ArePlain, AreShown, shown_none, Same, Covers, Alike, then_alike}
+use Rattle.awk_pieces.proofs.ReadsAlike.{left_true, right_true, unmoved, lift_alike, ret_alike, spend_alike, text_alike, tested_alike, choose_alike, reads_alike}
 use Rattle.awk_pieces.proofs.ValuesAndFaults.{format_faults}
 
 -- the variables that a print reads are known

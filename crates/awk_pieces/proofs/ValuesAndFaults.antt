@@ -1,5 +1,5 @@
 -- What operators and built-in functions make of values: a value, or a fault.
-use Rattle.std.proofs.Common.{ℕ, zero, suc, ℤ, pos, negsuc, Bool, true, false, not, List, [], ◌∷◌, Option, Some, None, Result, Ok, Err, slice_get}
+use Rattle.std.proofs.Common.{ℕ, ℤ, Bool, not, List, [], ◌∷◌, Option, Some, None, Result, Ok, Err, slice_get}
 use Rattle.std.specs.Option.{option_map}
 use Rattle.awk_value.specs.declared.value.Value.{Value}
 use Rattle.awk_value.specs.declared.fault.ValueFault.{ValueFault}

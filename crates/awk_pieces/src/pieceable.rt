@@ -5,9 +5,7 @@ ghost use Rattle.awk_grammar.specs.View as g;
 ghost use Rattle.awk_pieces.specs.definitions.Pieceable.{is_counter, is_of_values, only_reads, all_only_read, list_only_reads, is_standard, is_simple_for_itself, is_for_itself, are_for_themselves, leaves_records, is_plain, may_be_set, is_setting, is_simple_setting, only_sets, all_only_set, pattern_only_reads, is_rule_for_itself, are_rules_for_themselves, knows, IsPieceable};
 ghost use Rattle.awk_pieces.specs.support.Readable.{names_of};
 
-use awk_grammar::tree::{
-    Expr, Item, Output, Pattern, PrintList, SimpleStatement, Statement, Tree,
-};
+use awk_grammar::tree::{Expr, Item, Output, Pattern, PrintList, SimpleStatement, Statement, Tree};
 use awk_lex::token::{AssignmentOperator, BuiltIn};
 
 /// The variables that an expression may read.

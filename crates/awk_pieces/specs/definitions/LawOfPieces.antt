@@ -1,10 +1,10 @@
 -- The law of pieces: where a program treats each record for itself, what it prints on an input is what it prints on the
 -- pieces of the input, one behind the other.
-use Rattle.std.specs.Prelude.{◌≡◌, ◌≤◌, ◌<◌, ◌+◌, ◌^◌, ◌⊎◌, ℕ, Bool, true, false, ◌&&◌, List, [], ◌∷◌, ◌++◌, length, Some}
+use Rattle.std.specs.Prelude.{◌≡◌, ◌≤◌, ◌<◌, ◌+◌, ◌^◌, ◌⊎◌, ℕ, Bool, true, ◌&&◌, List, [], ◌∷◌, ◌++◌, length, Some}
 use Rattle.awk_record.specs.definitions.Cut.{AtEnd}
 use Rattle.awk_world.specs.declared.world.InputKind.TheVariants as input
 use Rattle.awk_streams.specs.Oracle.{Oracle}
-use Rattle.awk_streams.specs.Openings.{StandardOutput, StandardError, Opening}
+use Rattle.awk_streams.specs.Openings.{StandardOutput, StandardError}
 use Rattle.awk_grammar.specs.Tree.{Item}
 use Rattle.awk_semantics.specs.declared.outcome.Outcome.TheVariants.{Ended}
 use Rattle.awk_semantics.specs.definitions.Meaning.{StartValues, Meaning, meaning_of}

@@ -1,10 +1,9 @@
-use Rattle.std.proofs.Common.{◌≡◌, ◌&&◌, true, ap, sym, ◌∙◌, rules}
+use Rattle.std.proofs.Common.{◌≡◌, true, sym, ◌∙◌, rules}
 use Rattle.awk_grammar.specs.Tree as g
 use Rattle.awk_grammar.specs.View.{expr_of, exprs_of}
 use Rattle.awk_grammar.specs.declared.tree.Expr.TheViews.{the_lemmas}
 use Rattle.awk_kinds.proofs.Rows.{row_is_list}
-use Rattle.awk_pieces.specs.definitions.Pieceable.{is_of_values, all_only_read}
-use Rattle.awk_pieces.specs.support.Readable.{names_of}
+use Rattle.awk_pieces.specs.definitions.Pieceable.{is_of_values}
 use Rattle.awk_pieces.proofs.pieceable.+expressions.Goals as goal
 
 pub only_reads-returns-then-is_of_values : goal.only_reads-returns-then-is_of_values
