@@ -1,5 +1,4 @@
-//! What a run stores: where variables, arrays and places stand; the stack of the active calls and their parameters; the arrays by
-//! number.
+//! What a run stores: where variables, arrays and places stand; the parameters of the active calls; the arrays by number.
 #![tactic(auto)]
 
 mod arrays;
