@@ -9,10 +9,11 @@ ghost use Rattle.awk_run.specs.Accepted.{Accepted};
 ghost use Rattle.awk_run.specs.Start.{pair_of};
 
 use awk_grammar::tree::Tree;
-use awk_kinds::{law_of_refusals, resolve};
+use awk_kinds::law_of_refusals;
 use awk_lex::lexer::tokens;
 use awk_lex::refusal::Refusal;
 use awk_pieces::{is_pieceable, leaves_records};
+use awk_resolve::resolve;
 use awk_run::Assignment;
 use awk_syntax::parse;
 use std::alloc::Global;
@@ -24,7 +25,7 @@ fn read_tree(alloc: Global, text: &[u8]) -> Result<Tree, Refusal>
     law_of_refusals();
     let tokens = tokens(alloc, text)?;
     let tree = parse(alloc, &tokens)?;
-    let _kinds = resolve(alloc, &tree.items)?;
+    let _plan = resolve(alloc, &tree)?;
     Ok(tree)
 }
 

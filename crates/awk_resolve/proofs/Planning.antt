@@ -1,5 +1,5 @@
 -- The parts of a program, one after the other, are a plan.
-use Rattle.std.proofs.Common.{◌≡◌, ℕ, suc, ◌+◌, ◌<◌, Bool, List, [], ◌∷◌, ◌++◌, Some, Result, Ok, Err, IfOk, slice_get, get_or, length, map, take, drop, refl, sym, subst, ap, ◌∙◌, arith, append-nil}
+use Rattle.std.proofs.Common.{◌≡◌, ℕ, suc, ◌+◌, ◌<◌, Bool, not, true, false, List, [], ◌∷◌, ◌++◌, Some, None, Result, Ok, Err, IfOk, slice_get, get_or, length, map, take, drop, refl, sym, subst, ap, ◌∙◌, arith, append-nil}
 use Rattle.std.specs.Global.{Vec}
 use Rattle.awk_value.specs.declared.value.Value.{Value}
 use Rattle.awk_grammar.specs.Tree.{Statements, Item, Begin, End, Action, PatternAction, PatternOnly, Function}
@@ -9,7 +9,11 @@ use Rattle.awk_grammar.specs.View.{item_of, items_of}
 use Rattle.awk_kinds.specs.declared.variable.Variable.{Variable}
 use Rattle.awk_kinds.specs.definitions.Kinds.{FormalParameter, Definition, arrays_of, parameter_by, definitions_by, definitions_of}
 use Rattle.awk_kinds.proofs.KindsMade.{items_around}
-use Rattle.awk_kinds.specs.definitions.Signatures.{Signature, ProgramKinds, signature_by, kinds_of}
+use Rattle.awk_lex.specs.declared.refusal.Refusal.{Refusal}
+use Rattle.awk_lex.specs.declared.refusal.RefusalCode.TheVariants.{StatementOutOfPlace}
+use Rattle.awk_kinds.specs.Fits.{first_refusal, Fits}
+use Rattle.awk_kinds.specs.Placed.{are_in_place}
+use Rattle.awk_kinds.specs.definitions.Signatures.{Signature, ProgramKinds, signature_by, kinds_of, Resolves}
 use Rattle.awk_semantics.specs.declared.flow.Flow.{Flow}
 use Rattle.awk_semantics.specs.declared.flow.Flow.TheVariants as flow
 use Rattle.awk_semantics.specs.definitions.State.{State, ret}
@@ -229,6 +233,17 @@ planned {items = items} {kinds = kinds} {a = a} {f = f} {functions = functions} 
       end = done items kinds f functions begin rules last reads_records are [] last _ (holds_later (grows fourth.grows fifth.grows) third.holds);
       reads = reads;
     }
+
+-- what is told of the same items
+
+pub fits_same : {xs ys : List CodeItem} → xs ≡ ys → first_refusal (items_of xs) ≡ None → first_refusal (items_of ys) ≡ None
+fits_same e h = subst (λ (l : List CodeItem). first_refusal (items_of l) ≡ None) e h
+
+pub told_same : {xs ys : List CodeItem} {refusal : Refusal} → xs ≡ ys → Resolves (items_of xs) (Err refusal) → Resolves (items_of ys) (Err refusal)
+told_same {refusal = refusal} e h = subst (λ (l : List CodeItem). Resolves (items_of l) (Err refusal)) e h
+
+pub planned_same : {xs ys : List CodeItem} {plan : Plan} → xs ≡ ys → IsPlanOf (items_of xs) plan → IsPlanOf (items_of ys) plan
+planned_same {plan = plan} e h = subst (λ (l : List CodeItem). IsPlanOf (items_of l) plan) e h
 
 -- the statements of a program that fits stand in place
 not_false : (b : Bool) → not b ≡ false → b ≡ true
