@@ -162,8 +162,13 @@ fn serve_pieces<R: Print + AllocGlobal>(
     program: &ProgramText,
 ) -> io::Result<u8> {
     match may_run_on_pieces(rt.alloc(), &program.text, &line.pre) {
-        Ok(true) if line.operands.is_empty() => Ok(ON_PIECES),
-        Ok(_) => Ok(NOT_ON_PIECES),
+        Ok(may) => {
+            if may && line.operands.is_empty() {
+                Ok(ON_PIECES)
+            } else {
+                Ok(NOT_ON_PIECES)
+            }
+        }
         Err(_) => serve_check(rt, line, program),
     }
 }
