@@ -196,28 +196,6 @@ impl Record {
         Ok(self.text.clone()?)
     }
 
-    /// Makes the text of the fields, where they were assigned and it wasn't asked yet. The only error is `Memory`.
-    #[inline(always)]
-    pub fn make_text(&mut self) -> Result<(), RecordFault>
-        ensures same { self.new ≡ self.old }
-        ensures memory { IfErr result (λ e. e ≡ RecordFault.Memory) }
-    {
-        if let Form::Assigned = self.form {
-            return self.join_fields();
-        }
-        Ok(())
-    }
-
-    // Makes the text of fields that were assigned.
-    #[inline(never)]
-    fn join_fields(&mut self) -> Result<(), RecordFault>
-        ensures same { self.new ≡ self.old }
-        ensures memory { IfErr result (λ e. e ≡ RecordFault.Memory) }
-    {
-        self.text()?;
-        Ok(())
-    }
-
     /// The text of the record, where it needn't be made of the fields.
     #[inline(always)]
     pub fn text_at_hand(&self) -> Option<&Bytes>

@@ -226,21 +226,6 @@ impl Runtime {
         Some(updated.before)
     }
 
-    /// Spends a step, if one is left.
-    #[inline(always)]
-    pub fn take_step(&mut self) -> bool
-        ensures spends { result ≡ true → Spends self.old self.new (Ok tt) }
-        ensures left { result ≡ true → 0 < self.old.steps }
-        ensures taken { result ≡ true → self.new ≡ record self.old { steps = self.old.steps - 1 } }
-        ensures kept { result ≡ false → self.new ≡ self.old }
-    {
-        if self.steps == 0 {
-            return false;
-        }
-        self.steps -= 1;
-        true
-    }
-
     /// The number in a slot, if it holds one.
     #[inline(always)]
     pub fn number_in_slot(&self, slot: u32) -> Option<i128>
