@@ -25,5 +25,5 @@ pub mod variable;
 pub use kinds::Kinds;
 pub use laws::{law_of_array_names, law_of_kinds, law_of_refusals};
 pub use parameters::Parameters;
-pub use refusal::{first_refusal, resolve};
+pub use refusal::resolve;
 pub use special::Special;

@@ -71,13 +71,6 @@ impl Parameters {
         self.names.find(name)
     }
 
-    /// The name of the parameter at a place.
-    pub fn name(&self, place: u32) -> Option<&[u8]>
-        ensures { option_map (λ name. name.now) result ≡ option_map (λ (p : FormalParameter). p.name) (slice_get self.now place) }
-    {
-        self.names.get(place)
-    }
-
     /// Whether the parameter at a place is an array.
     pub fn is_array(&self, place: u32) -> Option<bool>
         ensures { result ≡ option_map (λ (p : FormalParameter). p.is_array) (slice_get self.now place) }

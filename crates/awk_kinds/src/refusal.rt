@@ -2,7 +2,7 @@
 
 ghost use Rattle.std.specs.Prelude.{◌≡◌, IfOk};
 ghost use Rattle.awk_grammar.specs.View.{items_of};
-ghost use Rattle.awk_kinds.specs.definitions.Fits.{holds, first_of, first_refusal};
+ghost use Rattle.awk_kinds.specs.definitions.Fits.{holds, first_of};
 ghost use Rattle.awk_kinds.specs.definitions.Signatures.{Resolves};
 ghost use Rattle.awk_kinds.specs.support.KnownNames.{IsKnown};
 
@@ -97,16 +97,6 @@ impl Known {
         }
         Ok(None)
     }
-}
-
-/// Why a program is refused, if it is: the first of K2 to K8 and K1 that holds (POSIX awk, Variables and
-/// Special Variables; User-Defined Functions; Actions). The time grows as n log n with the program, and
-/// fails only where memory is refused.
-pub fn first_refusal(alloc: Global, items: &[Item]) -> Result<Option<RefusalCode>, AllocError>
-    ensures { IfOk result (λ code. code ≡ first_refusal (items_of items.now)) }
-{
-    let known = Known::of_items(alloc, items)?;
-    known.first_of(alloc, &IN_ORDER, items)
 }
 
 /// The kinds of a program's names, or why it is refused: the first of K2 to K8 and K1 that holds, told of

@@ -61,13 +61,6 @@ impl ScalarNames {
         self.names.len()
     }
 
-    /// Whether there are no names.
-    pub fn is_empty(&self) -> bool
-        ensures { result ≡ (length self.now == 0) }
-    {
-        self.names.len() == 0
-    }
-
     /// The name of a slot.
     pub fn get(&self, slot: u32) -> Option<&[u8]>
         ensures { option_map (λ name. name.now) result ≡ slice_get self.now slot }

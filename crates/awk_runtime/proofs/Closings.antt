@@ -1,35 +1,30 @@
--- What closings, runs of commands and the end of a run do to the state of a run.
-use Rattle.std.proofs.Common.{◌≡◌, ◌+◌, ◌==◌, ℕ, suc, ℤ, pos, negsuc, Bool, true, false, List, [], ◌∷◌, ◌++◌, length, map, cond, Option, Some, None, Result, Ok, Err, if◌then◌else◌, refl, sym, ap, ◌∙◌, subst, arith, append-nil, append_assoc}
+-- What closings and runs of commands do to the state of a run.
+use Rattle.std.proofs.Common.{◌≡◌, ◌+◌, ℕ, suc, ℤ, negsuc, Bool, true, false, List, [], ◌∷◌, ◌++◌, length, map, cond, Option, Result, Ok, Err, if◌then◌else◌, refl, sym, ap, ◌∙◌, subst, arith, append-nil}
 use Rattle.std.specs.Prelude.{filter, bytes_eq}
 use Rattle.awk_world.specs.declared.world.InputKind.{InputKind}
 use Rattle.awk_world.specs.declared.world.OutputKind.{OutputKind}
 use Rattle.awk_streams.specs.declared.fault.StreamFault.{StreamFault}
 use Rattle.awk_streams.specs.declared.fault.StreamFault.TheVariants.{Memory, WriteFailed, InputNotReadable, OutputNotOpened, TooManyStreams, RecordTooLong}
-use Rattle.awk_streams.specs.declared.input.Input.{Input}
 use Rattle.awk_streams.specs.declared.named.NamedStream.{NamedStream}
 use Rattle.awk_streams.specs.declared.named.NamedStream.TheVariants as named
 use Rattle.awk_streams.specs.WorldState.{WorldState}
 use Rattle.awk_streams.specs.Log.{Event, Closed, Ran}
 use Rattle.awk_streams.specs.Oracle.{Oracle, IsConsistent, one_if, how_many, closes_command}
-use Rattle.awk_streams.specs.Openings.{Opening, AreFlushed, AreBrought, is_flushed, openings}
+use Rattle.awk_streams.specs.Openings.{Opening, AreBrought, openings}
 use Rattle.awk_streams.specs.Grows.{Grows}
 use Rattle.awk_streams.specs.Named as words
 use Rattle.awk_streams.specs.Streams.{StreamsView, StandFor, numbered, printed_openings}
-use Rattle.awk_streams.specs.MainInput.{closed_main}
-use Rattle.awk_streams.specs.Commands.{closing_answer, ClosesStream, ClosesEach, names_called, all_names, ClosesNames, ClosesText, RanCommand, RunsCommand, EndsAll, Finishes}
-use Rattle.awk_semantics.specs.State.{Closes, Runs, Ends, Effect, Requested, State, Out, ◌>>=◌, go_on, ret}
+use Rattle.awk_streams.specs.Commands.{closing_answer, ClosesStream, ClosesEach, names_called, ClosesNames, ClosesText, RanCommand, RunsCommand}
+use Rattle.awk_semantics.specs.State.{Closes, Runs, Effect, Requested, State, Out, ◌>>=◌, go_on, ret}
 use Rattle.awk_semantics.specs.Streams.{has_the_name, without_stream, closed_by, close_stream, streams_named, close_each, close_named, run_command}
-use Rattle.awk_semantics.specs.Meaning.{closings_of, outputs_from, first_outputs, outputs_after}
 use Rattle.awk_semantics.specs.Order.{ClosesAs, first_stage}
 use Rattle.awk_runtime.specs.declared.runtime.Runtime.{Runtime}
 use Rattle.awk_runtime.specs.support.Simulation.{main_number, stage_of, StreamsRelation, StateRelation, ResultRelation, SimulatesLogged, Follows, Beside, halted}
-use Rattle.awk_runtime.specs.support.Endings.{effects_to_end, IsWhole, EndsRun}
 use Rattle.awk_runtime.proofs.Composition.{then_logged}
-use Rattle.awk_runtime.proofs.Effects.{turn_requested, outputs-append}
+use Rattle.awk_runtime.proofs.Effects.{turn_requested}
 use Rattle.awk_runtime.proofs.Flushes.{all_brought, brought_stands}
 use Rattle.awk_runtime.proofs.Steps.{beside_holds}
 use Rattle.awk_runtime.proofs.Turns.{own_at, outputs_requested, goes_bringing, turn_brought, brought_as, memory_loses, write_loses, stage_same}
-use Rattle.awk_runtime.proofs.MainInput.{closes_stands}
 use Rattle.awk_runtime.proofs.NamedInputs.{between, beside_between, between_beside, ret_still}
 
 -- a run of a command
@@ -193,78 +188,3 @@ close_follows {is_logged = is_logged} name text r {old = old} {new = new} {befor
     subst (λ (l : List ℕ). Follows is_logged (close_named l) old before new after (halted r)) named (record {
       simulates = record { steps = omega (arith, beside.steps); names = beside.names; told = λ t. text_closed text r beside (told t) };
     })
-
--- the end of a run
-
-flushed_by : (b flushed : Bool) → flushed ≡ true → (if b then true else flushed) ≡ true
-flushed_by true flushed e = refl
-flushed_by false flushed e = e
-
-flushed_closed : (i : ℕ) (answer : ℤ) (os : List (ℕ × Opening)) (log : List Event) → AreFlushed os log → AreFlushed os (Closed i answer ∷ log)
-flushed_closed i answer [] log h = tt
-flushed_closed i answer (o ∷ os) log h = (flushed_by (i == o.0) (is_flushed o.0 log) h.0, flushed_closed i answer os log h.1)
-
--- a closing of the main input brings nothing more, and loses nothing
-main_brought : (main : Option Input) (answer : ℤ) (os : List Opening) (log log' : List Event) → log' ≡ closed_main main answer log → AreBrought os log → AreBrought os log'
-main_brought None answer os log log' is h = subst (λ (l : List Event). AreBrought os l) (sym is) h
-main_brought (Some v) answer os log log' is h = subst (λ (l : List Event). AreBrought os l) (sym is) (record { received = h.received; flushed = flushed_closed v.id answer (openings log) log h.flushed })
-
-ended_stands : (oracle : Oracle) (streams : StreamsView) (k : WorldState) (s : State) (past : List Effect) → AreBrought (printed_openings k streams) k.log → StreamsRelation oracle streams k s past → StreamsRelation oracle streams k s (past ++ Requested Ends ∷ [])
-ended_stands oracle streams k s past brought stands = record {
-  outside = stands.outside;
-  openings = stands.openings;
-  output_openings = stands.output_openings;
-  closings = stands.closings;
-  runs = stands.runs;
-  outputs = stands.outputs ∙ sym (ap (λ (os : List Opening). length os) (outputs_requested past Ends));
-  are = stands.are;
-  printed = stands.printed ∙ sym (outputs_requested past Ends);
-  turn = turn_requested oracle past Ends first_stage (stage_of k.log streams) (stage_of k.log streams) stands.turn (brought_as oracle streams k s past k.log stands brought, refl);
-}
-
-each_stands : (oracle : Oracle) (zs : List words.Stream) (first answer : ℤ) (old new : StreamsView) (before after : WorldState) (s : State) (past : List Effect) → AreBrought (printed_openings before old) before.log → ClosesEach (map words.named_of zs) first before old answer after new
-    → StreamsRelation oracle old before s past → (t : State) × StreamsRelation oracle new after t (past ++ closings_of zs)
-each_stands oracle [] first answer old new before after s past brought told stands =
-    (s, subst (λ (l : List Effect). StreamsRelation oracle new after s l) (sym (append-nil past)) (subst (λ (w : WorldState). StreamsRelation oracle new w s past) (sym told.1) (subst (λ (v : StreamsView). StreamsRelation oracle v before s past) (sym told.2) stands)))
-each_stands oracle (z ∷ zs) first answer old new before after s past brought told stands =
-    let x : words.Named = words.named_of z in
-    let rest = each_stands oracle zs told.0 answer told.2 new told.1 after (record (without_stream x s) { closings = one_if (words.is_command x) + s.closings }) (past ++ Requested (Closes x) ∷ []) (told.3.brought brought) told.4 (closed_stands oracle (words.is_command x) x told.0 old told.2 before told.1 s past told.3 refl brought stands) in
-    (rest.0, subst (λ (l : List Effect). StreamsRelation oracle new after rest.0 l) (append_assoc past (Requested (Closes x) ∷ []) (closings_of zs)) rest.1)
-
-all_as : (a : Oracle) (log : List Event) (xs : List NamedStream) (ys : List words.Stream) → StandFor a log xs ys → map words.named_of ys ≡ all_names xs
-all_as a log [] [] h = refl
-all_as a log [] (y ∷ ys) h = absurd h
-all_as a log (x ∷ xs) [] h = absurd h
-all_as a log (named.Input k n i ∷ xs) (words.AnInput k' n' r ∷ ys) h = ap (λ (j : InputKind). words.Input j n' ∷ map words.named_of ys) h.0.0 ∙ (ap (λ (m : List ℕ). words.Input k m ∷ map words.named_of ys) h.0.1 ∙ ap (λ (l : List words.Named). words.Input k n ∷ l) (all_as a log xs ys h.1))
-all_as a log (named.Output k n o ∷ xs) (words.AnOutput k' n' opening ∷ ys) h = ap (λ (j : OutputKind). words.Output j n' ∷ map words.named_of ys) h.0.0 ∙ (ap (λ (m : List ℕ). words.Output k m ∷ map words.named_of ys) h.0.1 ∙ ap (λ (l : List words.Named). words.Output k n ∷ l) (all_as a log xs ys h.1))
-all_as a log (named.Input k n i ∷ xs) (words.AnOutput k' n' opening ∷ ys) h = absurd h.0
-all_as a log (named.Output k n o ∷ xs) (words.AnInput k' n' r ∷ ys) h = absurd h.0
-
-outputs_closings : (os : List Opening) (zs : List words.Stream) → outputs_from os (closings_of zs) ≡ os
-outputs_closings os [] = refl
-outputs_closings os (z ∷ zs) = outputs_closings os zs
-
-ends_whole : (oracle : Oracle) (old new : StreamsView) (before after : WorldState) (s : State) (past : List Effect) → EndsAll before old after new → AreBrought (printed_openings before old) after.log → StreamsRelation oracle old before s past → IsWhole oracle (effects_to_end s past) after.log
-ends_whole oracle old new before after s past e received stands =
-    let over : List Effect = past ++ Requested Ends ∷ [] in
-    let brought : AreBrought (printed_openings e.world e.streams) e.world.log = subst (λ (os : List Opening). AreBrought os e.world.log) (sym e.brings.printed) e.brings.brings.brought in
-    let first : StreamsRelation oracle e.streams e.world s past = subst (λ (l : List Effect). StreamsRelation oracle e.streams e.world s l) (append-nil past) (brought_stands oracle old e.streams before e.world s past (all_brought e.brings) stands) in
-    let closed : StreamsRelation oracle e.streams' e.world' (record s { main = None }) over = subst (λ (l : List Effect). StreamsRelation oracle e.streams' e.world' (record s { main = None }) l) (append-nil over) (closes_stands oracle e.streams e.streams' e.world e.world' s over e.main (ended_stands oracle e.streams e.world s past brought first)) in
-    let still : AreBrought (printed_openings e.world' e.streams') e.world'.log = subst (λ (os : List Opening). AreBrought os e.world'.log) (sym e.main.printed) (main_brought e.streams.main e.main.adds.0 (printed_openings e.world e.streams) e.world.log e.world'.log e.main.adds.1 brought) in
-    let closes : ClosesEach (map words.named_of s.streams) (pos 0) e.world' e.streams' e.answer after new = subst (λ (l : List words.Named). ClosesEach l (pos 0) e.world' e.streams' e.answer after new) (sym (all_as oracle before.log old.named s.streams stands.are.named)) e.closes in
-    let rest = each_stands oracle s.streams (pos 0) e.answer e.streams' new e.world' after (record s { main = None }) over still closes closed in
-    let whole : StreamsRelation oracle new after rest.0 (effects_to_end s past) = subst (λ (l : List Effect). StreamsRelation oracle new after rest.0 l) (append_assoc past (Requested Ends ∷ []) (closings_of s.streams)) rest.1 in
-    record {
-      last = stage_of after.log new;
-      is = refl;
-      meets = whole.turn;
-      brought = subst (λ (os : List Opening). AreBrought os after.log) (stands.printed ∙ sym (outputs-append first_outputs past (Requested Ends ∷ closings_of s.streams) ∙ outputs_closings (outputs_after past) s.streams)) received;
-    }
-
-pub ends_run : (r : Result (Unit {0}) StreamFault) (m : Runtime) {before after : WorldState} {last : StreamsView} → Finishes before m.streams r after last → EndsRun m before r after
-ends_run (Ok tt) m {before = before} {after = after} {last = last} told = record {
-  last = last;
-  finishes = told;
-  whole = λ oracle s past consistent stands. ends_whole oracle m.streams last before after s past told.ends told.brought stands.streams;
-}
-ends_run (Err fault) m {last = last} told = record { last = last; finishes = told; whole = tt }

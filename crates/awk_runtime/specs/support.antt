@@ -10,5 +10,4 @@ pub mod Appends
 pub mod Operands
 pub mod Inputs
 pub mod NamedInputs
-pub mod Endings
 pub mod Passing

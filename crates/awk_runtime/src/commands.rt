@@ -1,17 +1,15 @@
-// Closings, flushes, runs of commands, and the end of a run.
+// Closings, flushes and runs of commands.
 
-ghost use Rattle.std.specs.Prelude.{Bool, IfErr, OnOk};
+ghost use Rattle.std.specs.Prelude.{Bool, OnOk};
 ghost use Rattle.awk_value.specs.Values.{str_of};
-ghost use Rattle.awk_streams.specs.Outputs.{IsOutputFault};
 ghost use Rattle.awk_streams.specs.Commands.{BringsAll};
 ghost use Rattle.awk_streams.specs.Flushes.{FlushesCalled};
 ghost use Rattle.awk_semantics.specs.Streams.{close_named, flush_all, flush_named, run_command};
 ghost use Rattle.awk_runtime.specs.support.Simulation.{IsReady, Follows};
-ghost use Rattle.awk_runtime.specs.support.Endings.{EndsRun};
 
 use crate::runtime::Runtime;
 use awk_semantics::Halt;
-use awk_streams::{StreamFault, World};
+use awk_streams::World;
 use awk_value::{Value, text_of};
 
 impl Runtime {
@@ -67,16 +65,5 @@ impl Runtime {
     {
         let command = text_of(self.alloc, command)?;
         Ok(self.streams.run(world, command.as_slice())?)
-    }
-
-    /// Ends a run: flushes all outputs, going on behind a failure, and closes all streams in the order of their openings. The
-    /// first failure is answered, F1 or F2. Takes no memory of its own. (POSIX awk, Overall Program Structure)
-    pub fn finish<W: World>(&mut self, world: &mut W) -> Result<(), StreamFault>
-        requires ready { IsReady W.is_logged (W.state world.old) self.old.streams }
-        ensures ready { IsReady W.is_logged (W.state world.new) self.new.streams }
-        ensures fault { IfErr result IsOutputFault }
-        ensures ends { W.is_logged → EndsRun self.old (W.state world.old) result (W.state world.new) }
-    {
-        self.streams.finish(world)
     }
 }
