@@ -16,12 +16,22 @@ use Rattle.awk_runtime.specs.support.Simulation.{OwnRelation, StreamsRelation, S
 use Rattle.awk_runtime.proofs.Effects.{begins-longer, begins_still, begins_same}
 
 -- what a failure left still begins with what is printed, and with more
-failure_longer : {failure : Type 0} {m : Runtime} {k : WorldState} (past xs ys : List Effect) → FailureRelation failure m k (past ++ xs) → FailureRelation failure m k (past ++ (xs ++ ys))
-failure_longer {m = m} {k = k} past xs ys h = record { begins = begins-longer (printed_openings k m.streams) past xs ys h.begins; failure = h.failure }
+failure_longer : {oracle : Oracle} {failure : Type 0} {m : Runtime} {k : WorldState} (past xs ys : List Effect) → FailureRelation oracle failure m k (past ++ xs) → FailureRelation oracle failure m k (past ++ (xs ++ ys))
+failure_longer {m = m} {k = k} past xs ys h = record {
+  done = h.done;
+  others = h.others ++ ys;
+  parts = sym (append_assoc past xs ys) ∙ (ap (λ l. l ++ ys) h.parts ∙ append_assoc h.done h.others ys);
+  last = h.last;
+  at = h.at;
+  turn = h.turn;
+  kept = h.kept;
+  begins = begins-longer (printed_openings k m.streams) past xs ys h.begins;
+  failure = h.failure;
+}
 
 -- want of memory where all is as the meaning has it
-pub unfailed : {failure : Type 0} (oracle : Oracle) (m new : Runtime) (k : WorldState) (s : State) (past more : List Effect) → new.streams ≡ m.streams → StateRelation oracle m k s past → ((k.first_failure ≡ None) → failure) → FailureRelation failure new k (past ++ more)
-unfailed oracle m new k s past more same stands failure = record { begins = begins_still (printed_openings k new.streams) past more (ap (printed_openings k) same ∙ stands.streams.printed); failure = failure stands.clear }
+pub unfailed : {failure : Type 0} (oracle : Oracle) (m new : Runtime) (k : WorldState) (s : State) (past more : List Effect) → new.streams ≡ m.streams → StateRelation oracle m k s past → ((k.first_failure ≡ None) → failure) → FailureRelation oracle failure new k (past ++ more)
+unfailed oracle m new k s past more same stands failure = cut_off oracle new.streams m k s past more stands.streams (ap (printed_openings k) same ∙ stands.streams.printed) (failure stands.clear)
 
 -- what lies outside the code's own part is the same
 pub record OwnPart (s t : State) : Type 0 where
