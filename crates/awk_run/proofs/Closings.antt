@@ -14,7 +14,7 @@ use Rattle.awk_streams.specs.Named.{Named, Stream, AnInput, AnOutput, named_of, 
 use Rattle.awk_streams.specs.Streams.{StreamsView, name_of, numbered, printed_openings, StandFor, AreAs, AreBringing}
 use Rattle.awk_streams.specs.MainInput.{EndsMain, closed_main}
 use Rattle.awk_streams.specs.Commands.{ClosesStream, ClosesEach, BringsAll, all_names, EndsAll}
-use Rattle.awk_semantics.specs.definitions.State.{Request, Effect, Requested, OpensMain, OpensInput, OpensOutput, RecordOfMain, RecordOf, Closes, Runs, Ends, Printed}
+use Rattle.awk_semantics.specs.definitions.State.{Request, Effect, Requested, OpensMain, OpensInput, OpensOutput, RecordOfMain, RecordOf, Closes, Flushes, Runs, Ends, Printed}
 use Rattle.awk_semantics.specs.definitions.Meaning.{Asked, closings_of, first_outputs, outputs_asked, outputs_from, outputs_after, requests_from, with_bytes}
 use Rattle.awk_semantics.specs.definitions.Order.{Stage, AreBetween, GoesBetween, ClosesAs, MeetsAll}
 use Rattle.awk_semantics.specs.definitions.Failure.{front_of, before_end}
@@ -42,6 +42,7 @@ before_the_end os (Requested (OpensOutput kind name mode granted) ∷ effects) e
 before_the_end os (Requested (RecordOfMain separator left) ∷ effects) end' more is h = ap (λ l. record { what = RecordOfMain separator left; outputs = os } ∷ l) (before_the_end os effects end' more is h)
 before_the_end os (Requested (RecordOf kind name separator left) ∷ effects) end' more is h = ap (λ l. record { what = RecordOf kind name separator left; outputs = os } ∷ l) (before_the_end os effects end' more is h)
 before_the_end os (Requested (Closes x) ∷ effects) end' more is h = ap (λ l. record { what = Closes x; outputs = os } ∷ l) (before_the_end os effects end' more is h)
+before_the_end os (Requested (Flushes name) ∷ effects) end' more is h = ap (λ l. record { what = Flushes name; outputs = os } ∷ l) (before_the_end os effects end' more is h)
 before_the_end os (Requested (Runs command) ∷ effects) end' more is h = ap (λ l. record { what = Runs command; outputs = os } ∷ l) (before_the_end os effects end' more is h)
 before_the_end os (Requested Ends ∷ effects) end' more is h = absurd h
 

@@ -2,7 +2,7 @@
 use Rattle.std.proofs.Common.{◌≡◌, ℕ, zero, suc, true, false, List, [], ◌∷◌, ◌++◌, refl, sym, ap, ◌∙◌, subst, append_assoc, append-nil}
 use Rattle.awk_streams.specs.Oracle.{Oracle}
 use Rattle.awk_streams.specs.Openings.{Opening, IsBeginning, Begins}
-use Rattle.awk_semantics.specs.State.{Request, Effect, Printed, Requested, OpensMain, OpensInput, OpensOutput, RecordOfMain, RecordOf, Closes, Runs, Ends}
+use Rattle.awk_semantics.specs.State.{Request, Effect, Printed, Requested, OpensMain, OpensInput, OpensOutput, RecordOfMain, RecordOf, Closes, Flushes, Runs, Ends}
 use Rattle.awk_semantics.specs.Meaning.{with_bytes, outputs_asked, outputs_from, first_outputs, outputs_after, Asked, requests_from}
 use Rattle.awk_semantics.specs.Order.{Stage, GoesBetween, Meets, MeetsAll}
 use Rattle.awk_semantics.proofs.Requests.{goes-self, meets_append, requests-append}
@@ -58,6 +58,7 @@ begins-asked (OpensOutput kind name mode false) os = begins-self os
 begins-asked (RecordOfMain separator left) os = begins-self os
 begins-asked (RecordOf kind name separator left) os = begins-self os
 begins-asked (Closes x) os = begins-self os
+begins-asked (Flushes name) os = begins-self os
 begins-asked (Runs command) os = begins-self os
 begins-asked Ends os = begins-self os
 

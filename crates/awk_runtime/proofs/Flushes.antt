@@ -1,27 +1,33 @@
--- What bringing outputs does to the state of a run, and so what flushes do: nothing that the definitions know.
-use Rattle.std.proofs.Common.{◌≡◌, ℕ, ℤ, pos, negsuc, Bool, List, [], ◌++◌, length, Option, Result, Ok, Err, if◌then◌else◌, refl, sym, ap, ◌∙◌, subst, arith, append-nil}
+-- What bringing outputs does to the state of a run: nothing that the definitions know. So flushes meet the requests for them.
+use Rattle.std.proofs.Common.{◌≡◌, ℕ, ℤ, pos, negsuc, Bool, true, false, List, [], ◌∷◌, ◌++◌, length, Option, Some, None, Result, Ok, Err, if◌then◌else◌, refl, sym, ap, ◌∙◌, subst, arith, append-nil}
+use Rattle.std.specs.Prelude.{◌&&◌, ◌||◌, ◌==◌, slice_get, bytes_eq}
 use Rattle.awk_streams.specs.declared.fault.StreamFault.{StreamFault}
 use Rattle.awk_streams.specs.declared.fault.StreamFault.TheVariants.{Memory, WriteFailed, InputNotReadable, OutputNotOpened, TooManyStreams, RecordTooLong}
 use Rattle.awk_streams.specs.declared.input.Input.{Input}
+use Rattle.awk_streams.specs.declared.named.NamedStream.{NamedStream}
+use Rattle.awk_streams.specs.declared.named.NamedStream.TheVariants as named
+use Rattle.awk_streams.specs.Log.{Event, Wrote, Flushed}
 use Rattle.awk_streams.specs.WorldState.{WorldState}
 use Rattle.awk_streams.specs.Oracle.{Oracle, Source, SameCounts}
-use Rattle.awk_streams.specs.Writes.{GoesOn}
+use Rattle.awk_streams.specs.Writes.{with_events, GoesOn}
+use Rattle.awk_streams.specs.Openings.{Opening, openings}
 use Rattle.awk_streams.specs.Named as words
-use Rattle.awk_streams.specs.Streams.{StreamsView, AreAs, AreBringing, numbered, printed_openings}
+use Rattle.awk_streams.specs.Streams.{StreamsView, AreAs, AreBringing, numbered, place_of, printed_openings}
 use Rattle.awk_streams.specs.Commands.{BringsAll}
-use Rattle.awk_streams.specs.Flushes.{AreBringingTo, FlushesAll, FlushesCalled, FlushesText, is_number_of}
+use Rattle.awk_streams.specs.Flushes.{AreBringingTo, FlushesAll, FlushesCalled, FlushesText, is_standard_number, is_number_among, is_number_of}
 use Rattle.awk_streams.proofs.FlushLemmas.{to_some_bringing}
+use Rattle.awk_streams.proofs.HeldLemmas.{place-receives}
 use Rattle.awk_semantics.specs.declared.halt.Halt.TheVariants as halt
 use Rattle.awk_semantics.specs.PartFaults.{stream_fault}
-use Rattle.awk_semantics.specs.State.{Effect, State}
+use Rattle.awk_semantics.specs.State.{Flushes, Effect, Requested, State}
 use Rattle.awk_semantics.specs.Streams.{flush_all, flush_named}
 use Rattle.awk_semantics.specs.Meaning.{outputs_after}
-use Rattle.awk_semantics.specs.Order.{AreBetween, GoesBetween, first_stage}
+use Rattle.awk_semantics.specs.Order.{AreBetween, GoesBetween, is_number_in, stands_under, AreBroughtOf, Meets, first_stage}
 use Rattle.awk_runtime.specs.declared.runtime.Runtime.{Runtime}
 use Rattle.awk_runtime.specs.support.Simulation.{main_number, stage_of, StreamsRelation, SimulatesLogged, Follows, Beside, halted}
 use Rattle.awk_runtime.proofs.Effects.{turn_between}
 use Rattle.awk_runtime.proofs.Steps.{beside_holds}
-use Rattle.awk_runtime.proofs.Turns.{goes_bringing, memory_loses, write_loses}
+use Rattle.awk_runtime.proofs.Turns.{outputs_requested, goes_bringing, turn_brought, brought_as, memory_loses, write_loses}
 
 -- outputs are brought, and the streams stand for the same
 pub record BringsOutputs (before : WorldState) (old : StreamsView) (after : WorldState) (new : StreamsView) : Type 0 where
@@ -58,6 +64,21 @@ brought_stands oracle old new before after s past told stands = record {
   turn = turn_between oracle past [] first_stage (stage_of before.log old) (stage_of after.log new) refl stands.turn (brought_goes before after old new told);
 }
 
+-- they meet the request for a flush
+flushed_stands : (oracle : Oracle) (name : Option (List ℕ)) (old new : StreamsView) (before after : WorldState) (s : State) (past : List Effect) → BringsOutputs before old after new → Meets oracle (Flushes name) (outputs_after past) (stage_of after.log new) (stage_of after.log new)
+    → StreamsRelation oracle old before s past → StreamsRelation oracle new after s (past ++ Requested (Flushes name) ∷ [])
+flushed_stands oracle name old new before after s past told meets stands = record {
+  outside = stands.outside;
+  openings = λ k n. stands.openings k n ∙ sym (told.counts.inputs k n);
+  output_openings = λ k n. stands.output_openings k n ∙ sym (told.counts.outputs k n);
+  closings = stands.closings ∙ sym told.counts.closings;
+  runs = stands.runs ∙ sym told.counts.runs;
+  outputs = stands.outputs ∙ sym (ap (λ (os : List Opening). length os) (outputs_requested past (Flushes name)));
+  are = told.same oracle s.main s.streams stands.are;
+  printed = told.printed ∙ (stands.printed ∙ sym (outputs_requested past (Flushes name)));
+  turn = turn_brought oracle past (Flushes name) first_stage (stage_of before.log old) (stage_of after.log new) (stage_of after.log new) stands.turn (brought_goes before after old new told) meets;
+}
+
 -- all outputs are flushed
 
 all_flushed : (r : Result (Unit {0}) StreamFault) {old new : Runtime} {before after : WorldState} → Beside old new → FlushesAll before old.streams r after new.streams → SimulatesLogged old before new after (halted r) flush_all
@@ -68,7 +89,7 @@ all_flushed (Ok tt) {old = old} {new = new} {before = before} {after = after} be
     refl,
     record {
       clear = told.failure ∙ stands.clear;
-      streams = brought_stands oracle old.streams new.streams before after s past (all_brought told.flushed) stands.streams;
+      streams = flushed_stands oracle None old.streams new.streams before after s past (all_brought told.flushed) (brought_as oracle old.streams before s past after.log stands.streams told.flushed.brings.brought, refl) stands.streams;
       holds = beside_holds beside stands.holds;
     },
   );
@@ -95,6 +116,34 @@ called_brought {text = text} {old = old} only told = record {
   same = told.same;
 }
 
+-- where bytes are brought, each opening keeps its place
+place_brought : (id : ℕ) (es log : List Event) → AreBringing es → place_of id (openings (with_events es log)) ≡ place_of id (openings log)
+place_brought id [] log h = refl
+place_brought id (Wrote i bytes ∷ es) log h = place_brought id es (Wrote i bytes ∷ log) h ∙ place-receives id i bytes (openings log)
+place_brought id (Flushed i ∷ es) log h = place_brought id es (Flushed i ∷ log) h
+place_brought id (e ∷ es) log h = absurd h
+
+-- the numbers under which outputs of the name stand open are those that are flushed
+numbers_in : (text : List ℕ) (xs : List NamedStream) (id : ℕ) → is_number_in text (numbered xs) id ≡ is_number_among text xs id
+numbers_in text [] id = refl
+numbers_in text (named.Input kind name input ∷ xs) id = numbers_in text xs id
+numbers_in text (named.Output kind name output ∷ xs) id = ap (λ (b : Bool). (bytes_eq name text && output.id == id) || b) (numbers_in text xs id)
+
+numbers_under : (text : List ℕ) (log : List Event) (old new : StreamsView) (id : ℕ) → numbered new.named ≡ numbered old.named → stands_under text (stage_of log new) id ≡ is_number_of text old id
+numbers_under text log old new id same = ap (λ (b : Bool). is_standard_number text id || b) (ap (λ (xs : List (words.Named × ℕ)). is_number_in text xs id) same ∙ numbers_in text old.named id)
+
+-- each of them has received what the definitions print to it
+brought_of : (oracle : Oracle) (text : List ℕ) (is_open : Bool) (old new : StreamsView) (before after : WorldState) (s : State) (past : List Effect) → GoesOn (AreBringingTo (is_number_of text old)) before.log after.log → FlushesCalled text before old is_open after new
+    → StreamsRelation oracle old before s past → AreBroughtOf text (outputs_after past) (stage_of after.log new)
+brought_of oracle text is_open old new before after s past only told stands =
+    let under : (id : ℕ) → stands_under text (stage_of after.log new) id ≡ is_number_of text old id = λ id. numbers_under text after.log old new id told.numbers in
+    let place : (id : ℕ) → place_of id (openings after.log) ≡ place_of id (openings before.log) = λ id.
+        ap (λ (log : List Event). place_of id (openings log)) only.log ∙ place_brought id only.events before.log (to_some_bringing (is_number_of text old) only.events only.each) in
+    record {
+      received = λ id opening is at. told.received id opening (sym (under id) ∙ is) (sym (place id) ∙ at) ∙ ap (λ (os : List Opening). slice_get os opening) stands.printed;
+      flushed = λ id is. told.flushed id (sym (under id) ∙ is);
+    }
+
 -- 0 where an output of the name is open, and else -1
 abbrev pub flush_answer : Bool → ℤ
 flush_answer is_open = if is_open then pos 0 else negsuc 0
@@ -107,7 +156,7 @@ text_flushed text is_open {old = old} {new = new} {before = before} {after = aft
     ap (λ (b : Bool). Ok (flush_answer b)) (told.flushed.found oracle s.streams stands.streams.are.named),
     record {
       clear = told.failure ∙ stands.clear;
-      streams = brought_stands oracle old.streams new.streams before after s past (called_brought told.only told.flushed) stands.streams;
+      streams = flushed_stands oracle (Some text) old.streams new.streams before after s past (called_brought told.only told.flushed) (brought_of oracle text is_open old.streams new.streams before after s past told.only told.flushed stands.streams, refl) stands.streams;
       holds = beside_holds beside stands.holds;
     },
   );

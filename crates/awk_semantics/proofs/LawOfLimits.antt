@@ -14,7 +14,7 @@ use Rattle.awk_semantics.specs.declared.halt.Halt.{Halt}
 use Rattle.awk_semantics.specs.declared.halt.Halt.TheVariants as halt
 use Rattle.awk_semantics.specs.definitions.Meaning.{StartValues, outcome_of}
 use Rattle.awk_kinds.specs.declared.special.Special.TheVariants.{Nr, Fnr}
-use Rattle.awk_semantics.specs.definitions.State.{Request, OpensMain, OpensInput, OpensOutput, RecordOfMain, RecordOf, Closes, Runs, Ends, Effect, Printed, Requested, Frame, Stream, State, Out, Run}
+use Rattle.awk_semantics.specs.definitions.State.{Request, OpensMain, OpensInput, OpensOutput, RecordOfMain, RecordOf, Closes, Flushes, Runs, Ends, Effect, Printed, Requested, Frame, Stream, State, Out, Run}
 use Rattle.awk_kinds.specs.definitions.Kinds.{Definition, definitions_of}
 use Rattle.awk_semantics.specs.definitions.Primitives.{without_call, without_calls, outside_calls}
 use Rattle.awk_semantics.specs.definitions.Calls.{definition_of, returned, call_by, functions_by, call_within}
@@ -144,6 +144,7 @@ asked_begins (OpensInput kind name) os = begins_refl os
 asked_begins (RecordOfMain separator left) os = begins_refl os
 asked_begins (RecordOf kind name separator left) os = begins_refl os
 asked_begins (Closes stream) os = begins_refl os
+asked_begins (Flushes name) os = begins_refl os
 asked_begins (Runs command) os = begins_refl os
 asked_begins Ends os = begins_refl os
 

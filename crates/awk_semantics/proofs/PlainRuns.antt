@@ -24,7 +24,7 @@ use Rattle.awk_kinds.specs.declared.special.Special.TheVariants.{Argc, Rs, Filen
 use Rattle.awk_kinds.specs.Variables.{name_of, is_refused}
 use Rattle.awk_semantics.specs.declared.local.Local.{Local}
 use Rattle.awk_semantics.specs.declared.local.Local.TheVariants as local
-use Rattle.awk_semantics.specs.definitions.State.{Named, OpensMain, OpensInput, OpensOutput, RecordOfMain, RecordOf, Closes, Runs, Ends, Effect, Printed, Requested, Frame, Stream, State, Out, Run, go_on, ◌>>=◌, lift}
+use Rattle.awk_semantics.specs.definitions.State.{Named, OpensMain, OpensInput, OpensOutput, RecordOfMain, RecordOf, Closes, Flushes, Runs, Ends, Effect, Printed, Requested, Frame, Stream, State, Out, Run, go_on, ◌>>=◌, lift}
 use Rattle.awk_semantics.specs.support.Unended.{AreUnended}
 use Rattle.awk_semantics.specs.definitions.Operators.{raised}
 use Rattle.awk_semantics.specs.definitions.Primitives.{text_in, spend, spend_of, fault_if, number_of, read_field, record_text, set_record, set_current, set_count, store_field, set_field, read_name, put_unless, put_global, put_outside, put_by, put, put_special, count_in, array_number, read_element_at, store_element_at, has_element_at, delete_element_at, clear_array_at, array_length_at, keys_at, read_element, store_element, has_element, delete_element, clear_array, array_length, is_array, keys_in, fill_array_at, fill_array, field_separator, joined_key, check_height, print_bytes, print_line, argument_if, take_argument, is_inside, set_inside, set_status}
@@ -58,6 +58,7 @@ unended_append (Requested (OpensOutput kind name mode is_granted) ∷ xs) ys h k
 unended_append (Requested (RecordOfMain separator left) ∷ xs) ys h k = unended_append xs ys h k
 unended_append (Requested (RecordOf kind name separator left) ∷ xs) ys h k = unended_append xs ys h k
 unended_append (Requested (Closes x) ∷ xs) ys h k = unended_append xs ys h k
+unended_append (Requested (Flushes name) ∷ xs) ys h k = unended_append xs ys h k
 unended_append (Requested (Runs command) ∷ xs) ys h k = unended_append xs ys h k
 unended_append (Requested Ends ∷ xs) ys h k = absurd h
 

@@ -1,6 +1,6 @@
 -- When a run asks the outside for something: its log meets the requests of the meaning, one after the other
 -- (POSIX awk, INPUT FILES; Variables and Special Variables: RS; Output Statements; Input/Output and General Functions).
-use Rattle.std.specs.Prelude.{◌≡◌, ◌⊎◌, ℕ, ℤ, Bool, List, [], ◌∷◌, ◌++◌, Option, Some, None, is_some}
+use Rattle.std.specs.Prelude.{◌≡◌, ◌⊎◌, ℕ, ℤ, Bool, true, false, ◌&&◌, ◌||◌, ◌==◌, List, [], ◌∷◌, ◌++◌, slice_get, Option, Some, None, is_some, bytes_eq}
 use Rattle.awk_record.specs.Cut.{Ending}
 use Rattle.awk_world.specs.declared.world.InputKind.{InputKind}
 use Rattle.awk_world.specs.declared.world.InputKind.TheVariants as input
@@ -10,10 +10,12 @@ use Rattle.awk_streams.specs.Log.{Event, OpenedInput, OpenedOutput, Wrote, Flush
 use Rattle.awk_streams.specs.Oracle.{Oracle, Source}
 use Rattle.awk_streams.specs.Orderly.{IsReadable}
 use Rattle.awk_streams.specs.Writes.{with_events, GoesOn}
-use Rattle.awk_streams.specs.Openings.{Opening, AreBrought}
+use Rattle.awk_streams.specs.Openings.{Opening, AreBrought, openings, outputs_of, is_flushed}
+use Rattle.awk_streams.specs.Streams.{place_of}
+use Rattle.awk_streams.specs.Flushes.{is_standard_number}
 use Rattle.awk_streams.specs.Inputs.{NeededReads, Rest}
 pub use Rattle.awk_streams.specs.Named.{number_among, without_number}
-use Rattle.awk_semantics.specs.definitions.State.{Named, Input, Output, Request, OpensMain, OpensInput, OpensOutput, RecordOfMain, RecordOf, Closes, Runs, Ends}
+use Rattle.awk_semantics.specs.definitions.State.{Named, Input, Output, Request, OpensMain, OpensInput, OpensOutput, RecordOfMain, RecordOf, Closes, Flushes, Runs, Ends}
 use Rattle.awk_semantics.specs.definitions.Meaning.{Asked, Meaning}
 
 -- how far a log goes, which of its inputs is the main one, and under which numbers the named streams stand open
@@ -75,6 +77,26 @@ abbrev pub ClosesAs : Named → Option ℕ → (old new : Stage) → Type 0
 ClosesAs x None old new = ⊥
 ClosesAs x (Some id) old new = (answer : ℤ) × (new ≡ record old { log = Closed id answer ∷ old.log; streams = without_number x old.streams })
 
+-- The outputs of a name: two names are those of standard output and standard error, which stand open as 0 and 1.
+
+abbrev pub is_output_of : (name : List ℕ) → Named → Bool
+is_output_of name (Input kind n) = false
+is_output_of name (Output kind n) = bytes_eq n name
+
+-- whether one of these streams is such an output, and stands open under this number
+abbrev pub is_number_in : (name : List ℕ) → List (Named × ℕ) → (id : ℕ) → Bool
+is_number_in name [] id = false
+is_number_in name (x ∷ xs) id = (is_output_of name x.0 && x.1 == id) || is_number_in name xs id
+
+-- whether such an output stands open under this number
+abbrev pub stands_under : (name : List ℕ) → Stage → (id : ℕ) → Bool
+stands_under name stage id = is_standard_number name id || is_number_in name stage.streams id
+
+-- each of them has received what was printed to it by then, to the last flush
+pub record AreBroughtOf (name : List ℕ) (outputs : List Opening) (stage : Stage) : Type 0 where
+  pub received : (id opening : ℕ) → stands_under name stage id ≡ true → place_of id (openings stage.log) ≡ Some opening → slice_get (outputs_of stage.log) opening ≡ slice_get outputs opening
+  pub flushed : (id : ℕ) → stands_under name stage id ≡ true → is_flushed id stage.log ≡ true
+
 -- the log goes on by what meets the request, where this was printed before
 abbrev pub Meets : Oracle → Request → List Opening → (old new : Stage) → Type 0
 Meets oracle (OpensMain kind name) outputs old new = (old.main ≡ None) × ((id : Option ℕ) × (new ≡ record old { log = OpenedInput kind name id ∷ old.log; main = id }))
@@ -83,6 +105,8 @@ Meets oracle (OpensOutput kind name mode is_granted) outputs old new = OutputBro
 Meets oracle (RecordOfMain separator left) outputs old new = ReadsFrom oracle separator left old.main old.log new.log × (new ≡ record old { log = new.log })
 Meets oracle (RecordOf kind name separator left) outputs old new = ReadsFrom oracle separator left (number_among old.streams (Input kind name)) old.log new.log × (new ≡ record old { log = new.log })
 Meets oracle (Closes x) outputs old new = AreBrought outputs old.log × ClosesAs x (number_among old.streams x) old new
+Meets oracle (Flushes None) outputs old new = AreBrought outputs old.log × (new ≡ old)
+Meets oracle (Flushes (Some name)) outputs old new = AreBroughtOf name outputs old × (new ≡ old)
 Meets oracle (Runs command) outputs old new = AreBrought outputs old.log × ((answer : ℤ) × (new ≡ record old { log = Ran command answer ∷ old.log }))
 Meets oracle Ends outputs old new = AreBrought outputs old.log × (new ≡ old)
 

@@ -24,6 +24,8 @@ pub data Request : Type 0 where
   -- the next record of a named input
   RecordOf : (kind : InputKind) (name separator left : List ℕ) → Request
   Closes : (stream : Named) → Request
+  -- flushes of the outputs of a name, or of all
+  Flushes : (name : Option (List ℕ)) → Request
   Runs : (command : List ℕ) → Request
   -- the run is over: what follows are the closings of the streams that are left
   Ends : Request

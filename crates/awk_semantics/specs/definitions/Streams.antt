@@ -16,7 +16,7 @@ use Rattle.awk_kinds.specs.declared.special.Special.TheVariants.{Filename, Fnr, 
 use Rattle.awk_semantics.specs.declared.fault.Fault.{Fault}
 use Rattle.awk_semantics.specs.declared.fault.Fault.TheVariants as fault
 use Rattle.awk_semantics.specs.declared.halt.Halt.TheVariants as halt
-use Rattle.awk_semantics.specs.definitions.State.{Named, Request, OpensMain, OpensInput, OpensOutput, RecordOfMain, RecordOf, Closes, Runs, Requested, Stream, AnInput, AnOutput, State, Out, Run, ◌>>=◌, ret, gives}
+use Rattle.awk_semantics.specs.definitions.State.{Named, Request, OpensMain, OpensInput, OpensOutput, RecordOfMain, RecordOf, Closes, Flushes, Runs, Requested, Stream, AnInput, AnOutput, State, Out, Run, ◌>>=◌, ret, gives}
 use Rattle.awk_semantics.specs.definitions.Primitives.{text_in, put_special, fault_if}
 
 -- Terms of a primitive's own clause: what it gives where it asks this of the outside.
@@ -199,14 +199,14 @@ close_each answer (x ∷ xs) = close_stream (named_of x) >>= λ n. close_each n 
 unfoldable pub close_named : List ℕ → Run ℤ
 close_named name = streams_named name >>= λ xs. close_each (negsuc 0) xs
 
--- flushes: what was printed is received then, which changes nothing that a program sees
+-- flushes: what was printed is received then, and nothing changes that a program sees
 
 unfoldable pub flush_all : Run (Unit {0})
-flush_all s = gives tt s
+flush_all s = asking (Flushes None) tt s
 
 -- each output of a name is flushed; -1 where there is none
 unfoldable pub flush_named : List ℕ → Run ℤ
-flush_named name s = gives (if is_output s.streams name then pos 0 else negsuc 0) s
+flush_named name s = asking (Flushes (Some name)) (if is_output s.streams name then pos 0 else negsuc 0) s
 
 -- a command is run to its end
 unfoldable pub run_command : List ℕ → Run ℤ
