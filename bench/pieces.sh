@@ -45,7 +45,7 @@ least_of_processors() {
 }
 
 take_rounds
-echo "| $(wc -c <"$work/log") bytes | user and system | elapsed |"
+echo "| $megabytes MB | user and system | elapsed |"
 echo '|---|---|---|'
 for name in $names; do
     case $name in
