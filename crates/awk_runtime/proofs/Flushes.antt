@@ -138,7 +138,7 @@ brought_of : (oracle : Oracle) (text : List ℕ) (is_open : Bool) (old new : Str
 brought_of oracle text is_open old new before after s past only told stands =
     let under : (id : ℕ) → stands_under text (stage_of after.log new) id ≡ is_number_of text old id = λ id. numbers_under text after.log old new id told.numbers in
     let place : (id : ℕ) → place_of id (openings after.log) ≡ place_of id (openings before.log) = λ id.
-        ap (λ (log : List Event). place_of id (openings log)) only.log ∙ place_brought id only.events before.log (to_some_bringing (is_number_of text old) only.events only.each) in
+    ap (λ (log : List Event). place_of id (openings log)) only.log ∙ place_brought id only.events before.log (to_some_bringing (is_number_of text old) only.events only.each) in
     record {
       received = λ id opening is at. told.received id opening (sym (under id) ∙ is) (sym (place id) ∙ at) ∙ ap (λ (os : List Opening). slice_get os opening) stands.printed;
       flushed = λ id is. told.flushed id (sym (under id) ∙ is);
