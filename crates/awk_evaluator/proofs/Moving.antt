@@ -6,7 +6,6 @@ use Rattle.awk_value.specs.declared.value.Value.{Value}
 use Rattle.awk_value.specs.declared.value.Value.TheVariants as value
 use Rattle.awk_value.specs.Values.{truth_of}
 use Rattle.awk_streams.specs.WorldState.{WorldState}
-use Rattle.awk_streams.specs.Streams.{printed_openings}
 use Rattle.awk_kinds.specs.Kinds.{Definition}
 use Rattle.awk_semantics.specs.declared.halt.Halt.{Halt}
 use Rattle.awk_semantics.specs.declared.halt.Halt.TheVariants as halt
@@ -29,8 +28,7 @@ use Rattle.awk_resolve.specs.Nodes.{Tables, Cont, first, second, value_of, poppe
 use Rattle.awk_resolve.proofs.Listed.{node_at, no_node_at}
 use Rattle.awk_runtime.specs.declared.runtime.Runtime.{Runtime}
 use Rattle.awk_runtime.specs.Simulation.{IsReady, SimulatesLogged, Simulates, Changes, Spends}
-use Rattle.awk_runtime.proofs.Composition.{ready_same, ends_simulates, change_simulates, lift_simulates}
-use Rattle.awk_runtime.proofs.Effects.{begins_same}
+use Rattle.awk_runtime.proofs.Composition.{wanted_behind, ready_same, ends_simulates, change_simulates, lift_simulates}
 use Rattle.awk_evaluator.specs.declared.machine.Machine.{Machine}
 use Rattle.awk_evaluator.specs.declared.machine.Move.{Move}
 use Rattle.awk_evaluator.specs.declared.machine.Move.TheVariants as move
@@ -47,7 +45,7 @@ memory_logged {new = new} {after = after} {run = run} x = record {
   grows = x.grows;
   means = λ oracle s past consistent stands.
       let c = x.means oracle s past consistent stands in
-      record { begins = begins_same (printed_openings after new.streams) (past ++ (run s).effects) c.1.streams.printed; failure = inl c.1.clear };
+      wanted_behind oracle new after (run s).state (past ++ (run s).effects) c.1 (inl c.1.clear);
 }
 
 pub memory_behind : {A : Type 0} {is_logged : Type 0} {old new : Runtime} {before after : WorldState} {a : A} {run : Run A} → Simulates is_logged old before new after (Ok a) run → Simulates is_logged old before new after (Err (halt.Fault OutOfMemory)) run

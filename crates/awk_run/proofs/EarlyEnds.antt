@@ -1,23 +1,21 @@
 -- What ends early ends the calls that are active.
-use Rattle.std.proofs.Common.{◌≡◌, ℕ, ◌≤◌, List, [], ◌∷◌, ◌++◌, append-nil, Result, Ok, Err, refl, sym, ap, ◌∙◌, subst, arith}
+use Rattle.std.proofs.Common.{◌≡◌, ◌≤◌, List, [], ◌∷◌, append-nil, Result, Ok, Err, refl, sym, ap, ◌∙◌, subst}
 use Rattle.awk_streams.specs.WorldState.{WorldState}
 use Rattle.awk_streams.specs.Oracle.{Oracle}
-use Rattle.awk_streams.specs.Openings.{Begins}
-use Rattle.awk_semantics.specs.definitions.Meaning.{outputs_after}
-use Rattle.awk_streams.specs.Streams.{StreamsView, printed_openings}
 use Rattle.awk_resolve.specs.declared.plan.Plan.{Plan}
 use Rattle.awk_semantics.specs.declared.halt.Halt.{Halt}
 use Rattle.awk_semantics.specs.declared.halt.Halt.TheVariants as halt
 use Rattle.awk_semantics.specs.declared.fault.Fault.TheVariants.{OutOfMemory, WriteFailed}
-use Rattle.awk_semantics.specs.definitions.State.{Effect, Frame, State, Out, Run, ◌>>=◌}
+use Rattle.awk_semantics.specs.definitions.State.{Effect, Frame, State, Out, Run}
 use Rattle.awk_semantics.specs.definitions.Primitives.{without_call, without_calls, outside_calls}
 use Rattle.awk_semantics.specs.definitions.Items.{unless_next, until_next, unless_exit, until_exit}
 use Rattle.awk_runtime.specs.declared.runtime.Runtime.{Runtime}
 use Rattle.awk_runtime.specs.support.Naming.{Naming}
-use Rattle.awk_runtime.specs.support.Simulation.{IsReady, StateRelation, StreamsRelation, FailureRelation, ResultRelation, SimulatesLogged, Simulates}
+use Rattle.awk_runtime.specs.support.Simulation.{StateRelation, StreamsRelation, ResultRelation, SimulatesLogged}
+use Rattle.awk_runtime.proofs.CallLemmas.{failed_outside}
 use Rattle.awk_runtime.proofs.Composition.{OwnPart, same_part, streams_own, ready_same}
 use Rattle.awk_run.specs.support.Planned.{IsPlanFor, part_at, run_before_end_at, run_items_at}
-use Rattle.awk_run.specs.support.Follows.{Part, FollowsPlan, IsSet}
+use Rattle.awk_run.specs.support.Follows.{FollowsPlan, IsSet}
 use Rattle.awk_runtime.specs.Calling.{EndsCalls}
 use Rattle.awk_run.proofs.PlanParts.{then_follows, ends_follows}
 
@@ -35,9 +33,6 @@ ended_stands {oracle = oracle} {new = new} {k = k} {s = s} {past = past} ends st
   holds = ends.holds s stands.holds;
 }
 
-ended_failure : {failure : Type 0} {old new : Runtime} {k : WorldState} {effects : List Effect} → EndsCalls old new → FailureRelation failure old k effects → FailureRelation failure new k effects
-ended_failure {k = k} {effects = effects} ends h = record { begins = subst (λ (v : StreamsView). Begins (printed_openings k v) (outputs_after effects)) (sym ends.streams) h.begins; failure = h.failure }
-
 abbrev past_end : (Result (Unit {0}) Halt → Result (Unit {0}) Halt) → Out (Unit {0}) → Out (Unit {0})
 past_end f o = record { result = f o.result; state = outside_calls o.state; effects = o.effects }
 
@@ -46,8 +41,8 @@ next_result oracle old new k (Ok u) o past ends c = (ap unless_next c.0, ended_s
 next_result oracle old new k (Err halt.Next) o past ends c = (ap unless_next c.0, ended_stands ends c.1)
 next_result oracle old new k (Err halt.Exit) o past ends c = (ap unless_next c.0, ended_stands ends c.1)
 next_result oracle old new k (Err halt.OutOfSteps) o past ends c = (ap unless_next c.0, ended_stands ends c.1)
-next_result oracle old new k (Err (halt.Fault OutOfMemory)) o past ends c = ended_failure ends c
-next_result oracle old new k (Err (halt.Fault WriteFailed)) o past ends c = ended_failure ends c
+next_result oracle old new k (Err (halt.Fault OutOfMemory)) o past ends c = failed_outside ends c
+next_result oracle old new k (Err (halt.Fault WriteFailed)) o past ends c = failed_outside ends c
 next_result oracle old new k (Err (halt.Fault f)) o past ends c = (ap unless_next c.0, ended_stands ends c.1)
 
 exit_result : (oracle : Oracle) (old new : Runtime) (k : WorldState) (r : Result (Unit {0}) Halt) (o : Out (Unit {0})) (past : List Effect) → EndsCalls old new → ResultRelation oracle old k r o past → ResultRelation oracle new k (unless_exit r) (past_end unless_exit o) past
@@ -55,8 +50,8 @@ exit_result oracle old new k (Ok u) o past ends c = (ap unless_exit c.0, ended_s
 exit_result oracle old new k (Err halt.Next) o past ends c = (ap unless_exit c.0, ended_stands ends c.1)
 exit_result oracle old new k (Err halt.Exit) o past ends c = (ap unless_exit c.0, ended_stands ends c.1)
 exit_result oracle old new k (Err halt.OutOfSteps) o past ends c = (ap unless_exit c.0, ended_stands ends c.1)
-exit_result oracle old new k (Err (halt.Fault OutOfMemory)) o past ends c = ended_failure ends c
-exit_result oracle old new k (Err (halt.Fault WriteFailed)) o past ends c = ended_failure ends c
+exit_result oracle old new k (Err (halt.Fault OutOfMemory)) o past ends c = failed_outside ends c
+exit_result oracle old new k (Err (halt.Fault WriteFailed)) o past ends c = failed_outside ends c
 exit_result oracle old new k (Err (halt.Fault f)) o past ends c = (ap unless_exit c.0, ended_stands ends c.1)
 
 next_logged : {old mid new : Runtime} {before after : WorldState} {r : Result (Unit {0}) Halt} {run : Run (Unit {0})} → EndsCalls mid new → SimulatesLogged old before mid after r run → SimulatesLogged old before new after (unless_next r) (until_next run)

@@ -6,6 +6,7 @@ pub mod Passing
 pub mod PlanMeans
 pub mod Closings
 pub mod RunEnds
+pub mod ShortRuns
 pub mod RunsFrom
 pub mod Assigning
 pub mod Starting

@@ -1,5 +1,5 @@
 -- What the end of a run leaves, after a body that ended well or by a failure.
-use Rattle.std.proofs.Common.{◌≡◌, ◌⊎◌, inl, inr, ℕ, zero, suc, ◌+◌, ◌-◌, ◌≤◌, List, [], ◌∷◌, ◌++◌, length, take, drop, Option, None, Some, is_some, Result, Ok, Err, true, refl, sym, ap, ◌∙◌, subst, append-nil, arith}
+use Rattle.std.proofs.Common.{◌≡◌, ◌⊎◌, inl, inr, ℕ, zero, suc, ◌+◌, ◌-◌, ◌≤◌, List, [], ◌∷◌, ◌++◌, length, take, drop, Option, None, Some, is_some, Result, Ok, Err, true, refl, sym, ap, ◌∙◌, subst, arith}
 use Rattle.std.specs.Prelude.{IfErr}
 use Rattle.std.proofs.lemmas.List.{take-append-drop, length-take-le}
 use Rattle.std.proofs.lemmas.Option.{same_Some}
@@ -12,7 +12,7 @@ use Rattle.awk_streams.specs.Outputs.{IsOutputFault}
 use Rattle.awk_streams.specs.Grows.{Grows}
 use Rattle.awk_streams.specs.WorldState.{WorldState}
 use Rattle.awk_streams.specs.Streams.{StreamsView, printed_openings, numbered, AreBringing}
-use Rattle.awk_streams.specs.Commands.{Finishes, AreOfTheEnd as AreOfTheEnding}
+use Rattle.awk_streams.specs.Commands.{Finishes, AreOfTheEnd}
 use Rattle.awk_streams.proofs.GrowsLemmas.{with_events-append}
 use Rattle.awk_semantics.specs.declared.halt.Halt.{Halt}
 use Rattle.awk_semantics.specs.declared.halt.Halt.TheVariants as halt
@@ -23,13 +23,14 @@ use Rattle.awk_semantics.specs.declared.fault.Fault.TheVariants as faults
 use Rattle.awk_semantics.specs.definitions.State.{Effect, Requested, Ends, Stream, Out}
 use Rattle.awk_semantics.specs.definitions.Meaning.{Asked, Meaning, closings_of, with_end, outcome_of, first_outputs, outputs_after, requests_from}
 use Rattle.awk_semantics.specs.definitions.Order.{Stage, MeetsAll, first_stage, IsInTurn}
-use Rattle.awk_semantics.specs.definitions.Failure.{AreOfTheEnd, before_end, FailsAs, FailsAt}
+use Rattle.awk_semantics.specs.definitions.Failure.{before_end, MeetsFirst, FailsAs, FailsAt}
 use Rattle.awk_semantics.specs.support.PartFaults.{stream_fault}
 use Rattle.awk_semantics.specs.support.Results.{Sort, WantOfMemory, FailedWrite, OfLanguage, sort_of}
 use Rattle.awk_semantics.specs.support.Unended.{AreUnended}
-use Rattle.awk_semantics.proofs.Requests.{goes-append, meets_append, requests-append}
+use Rattle.awk_semantics.proofs.Requests.{goes_last, meets_append, requests-append}
 use Rattle.awk_runtime.specs.declared.runtime.Runtime.{Runtime}
-use Rattle.awk_runtime.specs.support.Simulation.{main_number, stage_of, StreamsRelation, FailedLast, ResultRelation, ResultRelationBy}
+use Rattle.awk_runtime.specs.support.Simulation.{main_number, stage_of, StreamsRelation, FailureRelation, FailedLast, ResultRelation, ResultRelationBy}
+use Rattle.awk_runtime.proofs.Composition.{cut_behind}
 use Rattle.awk_runtime.proofs.Effects.{begins-then}
 use Rattle.awk_run.specs.support.Verdict.{outcome_after}
 use Rattle.awk_run.proofs.Closings.{end_prints, before_the_end, bringing_between, ends_met}
@@ -49,13 +50,12 @@ pub record IsMeant (oracle : Oracle) (k : WorldState) (streams : StreamsView) (o
   pub stands : StreamsRelation oracle streams k o.state o.effects
 
 -- the body was ended by want of memory or a failed write
-pub record IsCut (k : WorldState) (streams : StreamsView) (ended : Outcome) (o : Out (Unit {0})) : Type 0 where
-  pub begins : Begins (printed_openings k streams) (outputs_after o.effects)
-  pub failure : (k.first_failure ≡ None) ⊎ FailedLast k
+pub record IsCut (oracle : Oracle) (k : WorldState) (streams : StreamsView) (ended : Outcome) (o : Out (Unit {0})) : Type 0 where
+  pub fails : FailureRelation oracle ((k.first_failure ≡ None) ⊎ FailedLast k) streams k o.effects
   pub cause : (ended ≡ Fault faults.OutOfMemory) ⊎ ((ended ≡ Fault faults.WriteFailed) × FailedLast k)
 
 abbrev pub Came : Oracle → WorldState → StreamsView → Outcome → Out (Unit {0}) → Type 0
-Came oracle k streams ended o = IsMeant oracle k streams o ended ⊎ IsCut k streams ended o
+Came oracle k streams ended o = IsMeant oracle k streams o ended ⊎ IsCut oracle k streams ended o
 
 -- the outcome of a halt, by what the language knows of it
 outcome_by : (h reason : Halt) (status : ℕ) → sort_of h ≡ OfLanguage reason → outcome_of (Err reason) status ≡ outcome_of (Err h) status
@@ -86,9 +86,12 @@ write_sort halt.Exit e = absurd (cc)
 same_outcome : (o : Out (Unit {0})) (r : Result (Unit {0}) Halt) (status : ℕ) → o.result ≡ r → o.state.status ≡ status → outcome_of o.result o.state.status ≡ outcome_of r status
 same_outcome o r status e same = ap (λ (x : Result (Unit {0}) Halt). outcome_of x o.state.status) e ∙ ap (λ (n : ℕ). outcome_of r n) same
 
+failed_last : {oracle : Oracle} {k : WorldState} {streams : StreamsView} {effects : List Effect} → FailureRelation oracle (FailedLast k) streams k effects → FailureRelation oracle ((k.first_failure ≡ None) ⊎ FailedLast k) streams k effects
+failed_last h = record { done = h.done; others = h.others; parts = h.parts; last = h.last; at = h.at; turn = h.turn; kept = h.kept; begins = h.begins; failure = inr h.failure }
+
 came_by : (oracle : Oracle) (m : Runtime) (k : WorldState) (h : Halt) (s : Sort) (o : Out (Unit {0})) → sort_of h ≡ s → ResultRelationBy oracle m k s o [] → Came oracle k m.streams (outcome_of (Err h) m.status) o
-came_by oracle m k h WantOfMemory o e comes = inr record { begins = comes.begins; failure = comes.failure; cause = inl (ap (λ (x : Halt). outcome_of (Err x) m.status) (memory_sort h e)) }
-came_by oracle m k h FailedWrite o e comes = inr record { begins = comes.begins; failure = inr comes.failure; cause = inr (ap (λ (x : Halt). outcome_of (Err x) m.status) (write_sort h e), comes.failure) }
+came_by oracle m k h WantOfMemory o e comes = inr record { fails = comes; cause = inl (ap (λ (x : Halt). outcome_of (Err x) m.status) (memory_sort h e)) }
+came_by oracle m k h FailedWrite o e comes = inr record { fails = failed_last comes; cause = inr (ap (λ (x : Halt). outcome_of (Err x) m.status) (write_sort h e), comes.failure) }
 came_by oracle m k h (OfLanguage reason) o e comes = inl record { clear = comes.1.clear; outcome = same_outcome o (Err reason) m.status comes.0 comes.1.holds.status ∙ outcome_by h reason m.status e; stands = comes.1.streams }
 
 pub came : (oracle : Oracle) (m : Runtime) (k : WorldState) (r : Result (Unit {0}) Halt) (o : Out (Unit {0})) → ResultRelation oracle m k r o [] → Came oracle k m.streams (outcome_of r m.status) o
@@ -162,9 +165,10 @@ bounds k1 k2 es log n grows is early (inr last) some =
     let long : length log ≡ length es + length k1.log = ap length is ∙ with_events-length es k1.log in
     (omega (arith, at), omega (arith, at, long))
 
-stood : (oracle : Oracle) (k1 : WorldState) (streams : StreamsView) (ended : Outcome) (o : Out (Unit {0})) → Came oracle k1 streams ended o → (k1.first_failure ≡ None) ⊎ FailedLast k1
-stood oracle k1 streams ended o (inl meant) = inl meant.clear
-stood oracle k1 streams ended o (inr cut) = cut.failure
+-- a body that came to what the meaning has is one that did all
+pub body_failed : (oracle : Oracle) (k1 : WorldState) (streams : StreamsView) (ended : Outcome) (o : Out (Unit {0})) → Came oracle k1 streams ended o → FailureRelation oracle ((k1.first_failure ≡ None) ⊎ FailedLast k1) streams k1 o.effects
+body_failed oracle k1 streams ended o (inl meant) = cut_behind oracle streams k1 o.effects (stage_of k1.log streams) refl meant.stands.turn meant.stands.printed (inl meant.clear)
+body_failed oracle k1 streams ended o (inr cut) = cut.fails
 
 -- a part of what brings bytes
 
@@ -185,25 +189,40 @@ bringing_drop (Wrote id bytes ∷ es) (suc m) h = bringing_drop es m h
 bringing_drop (Flushed id ∷ es) (suc m) h = bringing_drop es m h
 bringing_drop (e ∷ es) (suc m) h = absurd h
 
-ends_append : (es fs : List Event) → AreOfTheEnd es → AreOfTheEnding fs → AreOfTheEnd (es ++ fs)
-ends_append [] [] h k = tt
-ends_append [] (Wrote id bytes ∷ fs) h k = ends_append [] fs h k
-ends_append [] (Flushed id ∷ fs) h k = ends_append [] fs h k
-ends_append [] (Closed id answer ∷ fs) h k = ends_append [] fs h k
-ends_append [] (f ∷ fs) h k = absurd k
+ends_append : (es fs : List Event) → AreOfTheEnd es → AreOfTheEnd fs → AreOfTheEnd (es ++ fs)
+ends_append [] fs h k = k
 ends_append (Wrote id bytes ∷ es) fs h k = ends_append es fs h k
 ends_append (Flushed id ∷ es) fs h k = ends_append es fs h k
 ends_append (Closed id answer ∷ es) fs h k = ends_append es fs h k
 ends_append (e ∷ es) fs h k = absurd h
+
+-- the requests before the end are those of the body
+body_asks : (o : Out (Unit {0})) → AreUnended o.effects → before_end (read_off o).requests ≡ requests_from first_outputs o.effects
+body_asks o unended =
+    ap before_end (requests-append first_outputs o.effects (end_effects o.state.streams))
+    ∙ before_the_end first_outputs o.effects (record { what = Ends; outputs = outputs_after o.effects }) (requests_from (outputs_after o.effects) (closings_of o.state.streams)) refl unended
+
+-- the log met the first of them, and some of what brings bytes stands behind that
+pub met_first : {failure : Type 0} (oracle : Oracle) (k1 : WorldState) (streams : StreamsView) (o : Out (Unit {0})) (es : List Event) → AreBringing es → AreUnended o.effects → FailureRelation oracle failure streams k1 o.effects → MeetsFirst oracle (before_end (read_off o).requests) (with_events es k1.log)
+met_first oracle k1 streams o es bringing unended fails =
+    let behind : Stage = record { log = with_events es k1.log; main = fails.last.main; streams = fails.last.streams } in
+    record {
+      met = requests_from first_outputs fails.done;
+      others = requests_from (outputs_after fails.done) fails.others;
+      parts = body_asks o unended ∙ (ap (λ l. requests_from first_outputs l) fails.parts ∙ requests-append first_outputs fails.done fails.others);
+      last = behind;
+      at = refl;
+      meets = goes_last oracle (requests_from first_outputs fails.done) first_stage fails.last behind fails.turn
+          record { events = es; log = ap (λ l. with_events es l) (sym fails.at); between = bringing_between fails.last.main es bringing; streams = refl };
+    }
 
 -- the log that was met by then, with some of what brings bytes
 settled : (oracle : Oracle) (k1 : WorldState) (streams : StreamsView) (ended : Outcome) (o : Out (Unit {0})) (es : List Event) → AreBringing es → AreUnended o.effects → IsMeant oracle k1 streams o ended → Settled oracle (read_off o) (with_events es k1.log)
 settled oracle k1 streams ended o es bringing unended meant = record {
   last = record { log = with_events es k1.log; main = main_number streams.main; streams = numbered streams.named };
   at = refl;
-  meets = subst (λ (l : List Asked). MeetsAll oracle l first_stage (record { log = with_events es k1.log; main = main_number streams.main; streams = numbered streams.named }))
-      (append-nil _ ∙ sym (ap before_end (requests-append first_outputs o.effects (end_effects o.state.streams)) ∙ before_the_end first_outputs o.effects (record { what = Ends; outputs = outputs_after o.effects }) (requests_from (outputs_after o.effects) (closings_of o.state.streams)) refl unended))
-      (meets_append oracle (requests_from first_outputs o.effects) [] first_stage (stage_of k1.log streams) (record { log = with_events es k1.log; main = main_number streams.main; streams = numbered streams.named }) meant.stands.turn
+  meets = subst (λ (l : List Asked). MeetsAll oracle l first_stage (record { log = with_events es k1.log; main = main_number streams.main; streams = numbered streams.named })) (sym (body_asks o unended))
+      (goes_last oracle (requests_from first_outputs o.effects) first_stage (stage_of k1.log streams) (record { log = with_events es k1.log; main = main_number streams.main; streams = numbered streams.named }) meant.stands.turn
       (record { events = es; log = refl; between = bringing_between (main_number streams.main) es bringing; streams = refl }));
 }
 
@@ -222,7 +241,7 @@ pub fails_at : (out_by : Oracle → Out (Unit {0})) (k1 k2 : WorldState) (stream
 fails_at out_by k1 k2 streams last ended f n told fault unended some_oracle body some =
     let first = told.first in
     let es : List Event = first.brings.events in
-    let at = bounds k1 k2 es first.log n told.grows first.brings.log (λ none e. first.failure n none e) (stood some_oracle.0 k1 streams ended (out_by some_oracle.0) (body some_oracle.0 some_oracle.1)) some in
+    let at = bounds k1 k2 es first.log n told.grows first.brings.log (λ none e. first.failure n none e) (body_failed some_oracle.0 k1 streams ended (out_by some_oracle.0) (body some_oracle.0 some_oracle.1)).failure some in
     let long : length first.log ≡ length es + length k1.log = ap length first.brings.log ∙ with_events-length es k1.log in
     let m : ℕ = n - length k1.log in
     let within : m ≤ length es = omega (arith, at.0, at.1, long) in
@@ -235,10 +254,11 @@ fails_at out_by k1 k2 streams last ended f n told fault unended some_oracle body
           let some_of : length (take m es) ≡ m = length-take-le m es within in
           let all = with_events-length (take m es) k1.log in
           omega (arith, all, some_of, at.0);
+      turn = λ oracle consistent. met_first oracle k1 streams (out_by oracle) (take m es) (bringing_take es m first.brings.each) (unended oracle) (body_failed oracle k1 streams ended (out_by oracle) (body oracle consistent));
       ends = ends_append (drop m es) first.closes.events (bringing_drop es m first.brings.each) first.closes.each;
       fails = λ oracle consistent. cause oracle k1 k2 streams last ended f (out_by oracle) n (take m es) told fault some (bringing_take es m first.brings.each) (unended oracle) (body oracle consistent);
     }
 
 pub begins_at_end : (oracle : Oracle) (k1 k2 : WorldState) (streams last : StreamsView) (ended : Outcome) (f : Result (Unit {0}) StreamFault) (o : Out (Unit {0})) → Finishes k1 streams f k2 last → Came oracle k1 streams ended o → Begins (outputs_of k2.log) (outputs_after (with_end o).effects)
 begins_at_end oracle k1 k2 streams last ended f o told (inl meant) = subst (λ (os : List Opening). Begins (outputs_of k2.log) os) (meant.stands.printed ∙ sym (end_prints o.effects o.state.streams)) told.begins
-begins_at_end oracle k1 k2 streams last ended f o told (inr cut) = subst (λ (os : List Opening). Begins (outputs_of k2.log) os) (sym (end_prints o.effects o.state.streams)) (begins-then (outputs_of k2.log) (printed_openings k1 streams) (outputs_after o.effects) told.begins cut.begins)
+begins_at_end oracle k1 k2 streams last ended f o told (inr cut) = subst (λ (os : List Opening). Begins (outputs_of k2.log) os) (sym (end_prints o.effects o.state.streams)) (begins-then (outputs_of k2.log) (printed_openings k1 streams) (outputs_after o.effects) told.begins cut.fails.begins)

@@ -1,17 +1,16 @@
 -- From the parts of a run to the whole.
-use Rattle.std.proofs.Common.{◌≡◌, ℕ, ◌≤◌, Bool, false, List, [], length, None, Some, inl, inr, Result, Ok, refl, sym, ap, ◌∙◌, subst, arith}
+use Rattle.std.proofs.Common.{◌≡◌, ◌⊎◌, ℕ, ◌≤◌, Bool, List, [], length, None, Some, inl, inr, Result, Ok, refl, sym, ap, ◌∙◌, subst, arith}
 use Rattle.std.specs.Prelude.{IfErr}
 use Rattle.awk_streams.specs.declared.fault.StreamFault.{StreamFault}
 use Rattle.awk_streams.specs.Outputs.{IsOutputFault}
 use Rattle.awk_streams.specs.Log as log
 use Rattle.awk_streams.specs.Oracle.{Oracle, IsConsistent}
 use Rattle.awk_streams.specs.Orderly.{IsOrderly, IsInOrder}
-use Rattle.awk_streams.specs.Openings.{Begins as BeginsOutputs, outputs_of, is_flushed}
-use Rattle.awk_streams.specs.Streams.{StreamsView, AreOpen, AreSound, printed_openings}
+use Rattle.awk_streams.specs.Openings.{outputs_of, is_flushed}
+use Rattle.awk_streams.specs.Streams.{StreamsView, AreSound, printed_openings}
 use Rattle.awk_streams.specs.Commands.{Finishes}
 use Rattle.awk_streams.specs.WorldState.{WorldState}
 use Rattle.awk_grammar.specs.Tree.{Item}
-use Rattle.awk_kinds.specs.definitions.Kinds.{array_names_of}
 use Rattle.awk_resolve.specs.declared.plan.Plan.{Plan}
 use Rattle.awk_resolve.specs.definitions.States.{AreFor}
 use Rattle.awk_resolve.specs.definitions.Plans.{tables_of}
@@ -21,19 +20,21 @@ use Rattle.awk_semantics.specs.declared.outcome.Outcome.TheVariants.{Fault}
 use Rattle.awk_semantics.specs.declared.fault.Fault.TheVariants as faults
 use Rattle.awk_semantics.specs.definitions.State.{State, Out}
 use Rattle.awk_semantics.specs.definitions.Meaning.{StartValues, start_state, assign_and_run, with_end, run_program, outcome_of, outputs_after, first_outputs}
-use Rattle.awk_semantics.specs.definitions.Order.{IsInTurn}
+use Rattle.awk_semantics.specs.definitions.Order.{first_stage, IsInTurn}
 use Rattle.awk_semantics.specs.definitions.Failure.{FailsAt}
-use Rattle.awk_semantics.specs.support.Unended.{AreUnended, LawOfEnds}
+use Rattle.awk_semantics.specs.support.Unended.{LawOfEnds}
+use Rattle.awk_semantics.proofs.Requests.{goes-self}
 use Rattle.awk_runtime.specs.declared.runtime.Runtime.{Runtime}
-use Rattle.awk_runtime.specs.support.Simulation.{IsReady, StateRelation, ResultRelation}
-use Rattle.awk_runtime.proofs.Effects.{begins-later}
+use Rattle.awk_runtime.specs.support.Simulation.{FailureRelation, FailedLast, ResultRelation}
+use Rattle.awk_runtime.proofs.Composition.{cut_off}
 use Rattle.awk_run.specs.definitions.Runs.{IsUntouched, IsUndisturbed, Runs, RunsFrom}
 use Rattle.awk_run.specs.support.Assigned.{Begins}
 use Rattle.awk_run.specs.support.Follows.{FollowsPlan}
-use Rattle.awk_run.specs.support.Planned.{IsPlanFor, place_in, assign_and_run_at}
+use Rattle.awk_run.specs.support.Planned.{IsPlanFor, assign_and_run_at}
 use Rattle.awk_run.specs.support.Verdict.{outcome_after, no_streams, EndsWithoutStreams}
 use Rattle.awk_run.proofs.PlanMeans.{functions_of, whole_same}
-use Rattle.awk_run.proofs.RunEnds.{read_off, IsMeant, Came, came, brought, in_turn, no_failure_before, halted_by, fails_at, begins_at_end}
+use Rattle.awk_run.proofs.RunEnds.{read_off, IsMeant, Came, came, brought, in_turn, no_failure_before, halted_by, body_failed, fails_at, begins_at_end}
+use Rattle.awk_run.proofs.ShortRuns.{short_at}
 
 -- the law that some oracle is consistent with an orderly log, as the streams give it
 abbrev pub SomeIsConsistent : Type 0
@@ -79,6 +80,7 @@ runs_by items start limit k1 k2 streams last ended f law unended orderly told fa
       turn = λ calm oracle consistent. (calm_whole oracle k1 k2 streams last ended f (out_by oracle) told is calm (body oracle consistent)).turn;
       failure = record {
         begins = λ cause oracle consistent. begins_at_end oracle k1 k2 streams last ended f (out_by oracle) told (body oracle consistent);
+        short = λ caused oracle consistent. short_at oracle k1 k2 streams last f (out_by oracle) told (unended items limit start.pre (start_state items start oracle limit)) (body_failed oracle k1 streams ended (out_by oracle) (body oracle consistent));
         at = λ n some. subst (λ x. FailsAt (λ oracle. read_off (out_by oracle)) n k2.log x) (sym is) (fails_at out_by k1 k2 streams last ended f n told fault (λ oracle. unended items limit start.pre (start_state items start oracle limit)) (law k2.log orderly) body some);
       };
     }
@@ -114,8 +116,12 @@ runs_from items plan start limit {m1 = m1} {k = k} {k1 = k1} {k2 = k2} {r = r} {
 }
 
 -- before a run nothing is printed
-none_begins : (k : WorldState) (o : Out (Unit {0})) → k.log ≡ [] → BeginsOutputs (printed_openings k no_streams) (outputs_after o.effects)
-none_begins k o empty = subst (λ (x : List log.Event). BeginsOutputs (printed_openings (record k { log = x }) no_streams) (outputs_after o.effects)) (sym empty) (begins-later first_outputs o.effects)
+none_printed : (k : WorldState) → k.log ≡ [] → printed_openings k no_streams ≡ first_outputs
+none_printed k empty = subst (λ (x : List log.Event). printed_openings (record k { log = x }) no_streams ≡ first_outputs) (sym empty) refl
+
+-- and nothing is done
+none_done : (oracle : Oracle) (k : WorldState) (o : Out (Unit {0})) → IsUntouched k → FailureRelation oracle ((k.first_failure ≡ None) ⊎ FailedLast k) no_streams k o.effects
+none_done oracle k o fresh = cut_off oracle no_streams k [] o.effects first_stage (sym fresh.log) (goes-self first_stage) (none_printed k fresh.log) (inl fresh.first_failure)
 
 -- a run that found no memory before it began, and its end
 pub runs_not : (items : List Item) (start : StartValues) (limit : ℕ) {is_logged : Type 0} {k k2 : WorldState} {f : Result (Unit {0}) StreamFault} → SomeIsConsistent → LawOfEnds → (is_logged → EndsWithoutStreams k f k2) → (is_logged → IsOrderly k2.log) → IfErr f IsOutputFault →
@@ -123,5 +129,5 @@ pub runs_not : (items : List Item) (start : StartValues) (limit : ℕ) {is_logge
 runs_not items start limit {k = k} {k2 = k2} {f = f} law unended told orderly fault = record {
   runs = λ t fresh.
       runs_by items start limit k k2 no_streams (told t).last (Fault faults.OutOfMemory) f law unended (orderly t) (told t).finishes fault (sym (halted_by faults.OutOfMemory (Fault faults.OutOfMemory) f refl))
-      (λ oracle consistent. inr record { begins = none_begins k (assign_and_run items limit start.pre (start_state items start oracle limit)) fresh.log; failure = inl fresh.first_failure; cause = inl refl });
+      (λ oracle consistent. inr record { fails = none_done oracle k (assign_and_run items limit start.pre (start_state items start oracle limit)) fresh; cause = inl refl });
 }

@@ -2,6 +2,7 @@
 use Rattle.std.proofs.Common.{◌≡◌, ◌+◌, ℕ, zero, suc, Bool, true, false, List, [], ◌∷◌, ◌++◌, Result, Ok, Err, refl, sym, ap, subst, append-nil}
 use Rattle.std.specs.Prelude.{nat_lt}
 use Rattle.awk_streams.specs.WorldState.{WorldState}
+use Rattle.awk_streams.specs.Streams.{StreamsView}
 use Rattle.awk_streams.specs.Oracle.{Oracle}
 use Rattle.awk_semantics.specs.declared.fault.Fault.TheVariants.{CallsTooDeep}
 use Rattle.awk_semantics.specs.declared.halt.Halt.{Halt}
@@ -56,8 +57,8 @@ stands_outside : {oracle : Oracle} {m new : Runtime} {k : WorldState} {s : State
 stands_outside {oracle = oracle} {m = m} {new = new} {k = k} {s = s} past ends stands = subst (λ (l : List Effect). StateRelation oracle new k (outside_calls s) l) (append-nil past)
     record { clear = stands.clear; streams = streams_own ends.streams (own_outside s.frames s) stands.streams; holds = ends.holds s stands.holds }
 
-failed_outside : {failure : Type 0} {m new : Runtime} {k : WorldState} {effects : List Effect} → EndsCalls m new → FailureRelation failure m k effects → FailureRelation failure new k effects
-failed_outside ends failed = record { begins = rw ends.streams failed.begins; failure = failed.failure }
+pub failed_outside : {oracle : Oracle} {failure : Type 0} {m new : Runtime} {k : WorldState} {effects : List Effect} → EndsCalls m new → FailureRelation oracle failure m.streams k effects → FailureRelation oracle failure new.streams k effects
+failed_outside {oracle = oracle} {failure = failure} {k = k} {effects = effects} ends failed = subst (λ (v : StreamsView). FailureRelation oracle failure v k effects) (sym ends.streams) failed
 
 ended_by : {A : Type 0} (oracle : Oracle) (m new : Runtime) (k : WorldState) (h : Sort) (o : Out A) (past : List Effect) → EndsCalls m new → ResultRelationBy oracle m k h o past → ResultRelationBy oracle new k h (record { result = o.result; state = outside_calls o.state; effects = o.effects }) past
 ended_by oracle m new k WantOfMemory o past ends c = failed_outside ends c

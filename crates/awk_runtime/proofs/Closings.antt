@@ -59,8 +59,8 @@ ran_logged command (Ok answer) {old = old} {new = new} {before = before} {after 
         holds = own_at new s s.openings s.output_openings s.outputs s.closings (suc s.runs) s.main s.streams (beside_holds beside stands.holds);
       });
 }
-ran_logged command (Err Memory) beside told = memory_loses (run_command command) told.grows told.ran.begins told.failure
-ran_logged command (Err WriteFailed) beside told = write_loses (run_command command) told.grows told.ran.begins told.failure
+ran_logged command (Err Memory) beside told = memory_loses (run_command command) told.grows told.ran told.failure
+ran_logged command (Err WriteFailed) beside told = write_loses (run_command command) told.grows told.ran told.failure
 ran_logged command (Err InputNotReadable) beside told = absurd told.ran
 ran_logged command (Err OutputNotOpened) beside told = absurd told.ran
 ran_logged command (Err TooManyStreams) beside told = absurd told.ran
@@ -176,8 +176,8 @@ text_closed text (Ok answer) {old = old} {new = new} {before = before} {after = 
   means = λ oracle s past consistent stands. subst (λ (o : Out ℤ). ResultRelation oracle new after (Ok answer) o past) (sym (close_named_as text s))
       (names_logged text (names_called text old.streams.named) answer refl beside told.grows told.closed oracle s past consistent stands);
 }
-text_closed text (Err Memory) beside told = memory_loses (close_named text) told.grows told.closed.begins told.failure
-text_closed text (Err WriteFailed) beside told = write_loses (close_named text) told.grows told.closed.begins told.failure
+text_closed text (Err Memory) beside told = memory_loses (close_named text) told.grows told.closed told.failure
+text_closed text (Err WriteFailed) beside told = write_loses (close_named text) told.grows told.closed told.failure
 text_closed text (Err InputNotReadable) beside told = absurd told.closed
 text_closed text (Err OutputNotOpened) beside told = absurd told.closed
 text_closed text (Err TooManyStreams) beside told = absurd told.closed

@@ -10,18 +10,52 @@ use Rattle.awk_semantics.specs.declared.halt.Halt.{Halt}
 use Rattle.awk_semantics.specs.declared.halt.Halt.TheVariants as halt
 use Rattle.awk_semantics.specs.declared.fault.Fault.TheVariants.{OutOfMemory}
 use Rattle.awk_semantics.specs.State.{Effect, State, Out, Run, go_on, ◌>>=◌, lift}
+use Rattle.awk_semantics.specs.Meaning.{first_outputs, outputs_after, requests_from}
+use Rattle.awk_semantics.specs.Order.{Stage, MeetsAll, first_stage}
 use Rattle.awk_semantics.specs.Results.{Sort, WantOfMemory, FailedWrite, OfLanguage, sort_of, YieldsBy, Yields}
 use Rattle.awk_runtime.specs.declared.runtime.Runtime.{Runtime}
-use Rattle.awk_runtime.specs.support.Simulation.{OwnRelation, StreamsRelation, StateRelation, IsReady, FailureRelation, ResultRelationBy, ResultRelation, SimulatesLogged, Simulates, Changes}
-use Rattle.awk_runtime.proofs.Effects.{begins-longer, begins_still, begins_same}
+use Rattle.awk_runtime.specs.support.Simulation.{stage_of, OwnRelation, StreamsRelation, StateRelation, IsReady, FailureRelation, ResultRelationBy, ResultRelation, SimulatesLogged, Simulates, Changes}
+use Rattle.awk_runtime.proofs.Effects.{begins-longer, begins_still}
+
+-- a failure behind what was done, which left nothing out
+pub cut_off : {failure : Type 0} (oracle : Oracle) (streams : StreamsView) (k : WorldState) (done others : List Effect) (last : Stage) → last.log ≡ k.log → MeetsAll oracle (requests_from first_outputs done) first_stage last → printed_openings k streams ≡ outputs_after done → failure → FailureRelation oracle failure streams k (done ++ others)
+cut_off oracle streams k done others last at turn printed failed = record {
+  done = done;
+  others = others;
+  parts = refl;
+  last = last;
+  at = at;
+  turn = turn;
+  kept = λ none. printed;
+  begins = begins_still (printed_openings k streams) done others printed;
+  failure = failed;
+}
+
+-- a failure behind all of it
+pub cut_behind : {failure : Type 0} (oracle : Oracle) (streams : StreamsView) (k : WorldState) (done : List Effect) (last : Stage) → last.log ≡ k.log → MeetsAll oracle (requests_from first_outputs done) first_stage last → printed_openings k streams ≡ outputs_after done → failure → FailureRelation oracle failure streams k done
+cut_behind {failure = failure} oracle streams k done last at turn printed failed = subst (λ (l : List Effect). FailureRelation oracle failure streams k l) (append-nil done) (cut_off oracle streams k done [] last at turn printed failed)
+
+-- want of memory behind all of it
+pub wanted_behind : {failure : Type 0} (oracle : Oracle) (m : Runtime) (k : WorldState) (s : State) (done : List Effect) → StateRelation oracle m k s done → failure → FailureRelation oracle failure m.streams k done
+wanted_behind oracle m k s done stands failed = cut_behind oracle m.streams k done (stage_of k.log m.streams) refl stands.streams.turn stands.streams.printed failed
 
 -- what a failure left still begins with what is printed, and with more
-failure_longer : {failure : Type 0} {m : Runtime} {k : WorldState} (past xs ys : List Effect) → FailureRelation failure m k (past ++ xs) → FailureRelation failure m k (past ++ (xs ++ ys))
-failure_longer {m = m} {k = k} past xs ys h = record { begins = begins-longer (printed_openings k m.streams) past xs ys h.begins; failure = h.failure }
+failure_longer : {oracle : Oracle} {failure : Type 0} {streams : StreamsView} {k : WorldState} (past xs ys : List Effect) → FailureRelation oracle failure streams k (past ++ xs) → FailureRelation oracle failure streams k (past ++ (xs ++ ys))
+failure_longer {streams = streams} {k = k} past xs ys h = record {
+  done = h.done;
+  others = h.others ++ ys;
+  parts = sym (append_assoc past xs ys) ∙ (ap (λ l. l ++ ys) h.parts ∙ append_assoc h.done h.others ys);
+  last = h.last;
+  at = h.at;
+  turn = h.turn;
+  kept = h.kept;
+  begins = begins-longer (printed_openings k streams) past xs ys h.begins;
+  failure = h.failure;
+}
 
 -- want of memory where all is as the meaning has it
-pub unfailed : {failure : Type 0} (oracle : Oracle) (m new : Runtime) (k : WorldState) (s : State) (past more : List Effect) → new.streams ≡ m.streams → StateRelation oracle m k s past → ((k.first_failure ≡ None) → failure) → FailureRelation failure new k (past ++ more)
-unfailed oracle m new k s past more same stands failure = record { begins = begins_still (printed_openings k new.streams) past more (ap (printed_openings k) same ∙ stands.streams.printed); failure = failure stands.clear }
+pub unfailed : {failure : Type 0} (oracle : Oracle) (m new : Runtime) (k : WorldState) (s : State) (past more : List Effect) → new.streams ≡ m.streams → StateRelation oracle m k s past → ((k.first_failure ≡ None) → failure) → FailureRelation oracle failure new.streams k (past ++ more)
+unfailed oracle m new k s past more same stands failure = cut_off oracle new.streams k past more (stage_of k.log m.streams) refl stands.streams.turn (ap (printed_openings k) same ∙ stands.streams.printed) (failure stands.clear)
 
 -- what lies outside the code's own part is the same
 pub record OwnPart (s t : State) : Type 0 where
@@ -173,7 +207,7 @@ stands_own : {oracle : Oracle} {old new : Runtime} {k : WorldState} {s t : State
 stands_own same own holds stands = record { clear = stands.clear; streams = streams_own same own stands.streams; holds = holds }
 
 own_by : {A : Type 0} (oracle : Oracle) (m : Runtime) (k : WorldState) (h : Sort) (r : Result A Halt) (t : State) (past : List Effect) → YieldsBy h r → StateRelation oracle m k t (past ++ []) → ResultRelationBy oracle m k h (record { result = r; state = t; effects = [] }) past
-own_by oracle m k WantOfMemory r t past e stands = record { begins = begins_same (printed_openings k m.streams) (past ++ []) stands.streams.printed; failure = inl stands.clear }
+own_by oracle m k WantOfMemory r t past e stands = wanted_behind oracle m k t (past ++ []) stands (inl stands.clear)
 own_by oracle m k FailedWrite r t past e stands = absurd e
 own_by oracle m k (OfLanguage reason) r t past e stands = (e, stands)
 

@@ -77,6 +77,3 @@ begins-longer os past xs ys h = begins-then os (outputs_after (past ++ xs)) (out
 -- outputs that have all that was printed begin with what is printed after it
 pub begins_still : (os : List Opening) (past more : List Effect) → os ≡ outputs_after past → Begins os (outputs_after (past ++ more))
 begins_still os past more is = subst (λ (xs : List Opening). Begins xs (outputs_after (past ++ more))) (sym is) (begins-more past more)
-
-pub begins_same : (os : List Opening) (past : List Effect) → os ≡ outputs_after past → Begins os (outputs_after past)
-begins_same os past is = subst (λ (l : List Effect). Begins os (outputs_after l)) (append-nil past) (begins_still os past [] is)

@@ -94,8 +94,8 @@ all_flushed (Ok tt) {old = old} {new = new} {before = before} {after = after} be
     },
   );
 }
-all_flushed (Err Memory) beside told = memory_loses flush_all told.grows told.flushed.begins told.failure
-all_flushed (Err WriteFailed) beside told = write_loses flush_all told.grows told.flushed.begins told.failure
+all_flushed (Err Memory) beside told = memory_loses flush_all told.grows told.flushed told.failure
+all_flushed (Err WriteFailed) beside told = write_loses flush_all told.grows told.flushed told.failure
 all_flushed (Err InputNotReadable) beside told = absurd told.flushed
 all_flushed (Err OutputNotOpened) beside told = absurd told.flushed
 all_flushed (Err TooManyStreams) beside told = absurd told.flushed
@@ -163,8 +163,8 @@ text_flushed text is_open {old = old} {new = new} {before = before} {after = aft
 }
 
 text_unflushed : (text : List ℕ) (fault : StreamFault) {old new : Runtime} {before after : WorldState} → FlushesText text before old.streams (Err fault) after new.streams → SimulatesLogged old before new after (Err (halt.Fault (stream_fault fault))) (flush_named text)
-text_unflushed text Memory told = memory_loses (flush_named text) told.grows told.flushed.begins told.failure
-text_unflushed text WriteFailed told = write_loses (flush_named text) told.grows told.flushed.begins told.failure
+text_unflushed text Memory told = memory_loses (flush_named text) told.grows told.flushed told.failure
+text_unflushed text WriteFailed told = write_loses (flush_named text) told.grows told.flushed told.failure
 text_unflushed text InputNotReadable told = absurd told.flushed
 text_unflushed text OutputNotOpened told = absurd told.flushed
 text_unflushed text TooManyStreams told = absurd told.flushed

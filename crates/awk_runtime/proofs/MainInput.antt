@@ -14,20 +14,21 @@ use Rattle.awk_streams.specs.Oracle.{Oracle, Source, IsConsistent, one_if, same_
 use Rattle.awk_streams.specs.Orderly.{IsReadable}
 use Rattle.awk_streams.specs.Openings.{Opening}
 use Rattle.awk_streams.specs.Inputs.{Reaches, Rest, NextTold, IsInputFault}
-use Rattle.awk_streams.specs.Streams.{StreamsView, AreOpen, AreSound, IsMainRest, IsSameMain, IsFreshMain, numbered, printed_openings}
+use Rattle.awk_streams.specs.Streams.{StreamsView, AreOpen, AreSound, IsMainRest, IsSameMain, IsFreshMain, numbered}
 use Rattle.awk_streams.specs.MainInput.{main_opening, OpensMain, ReadsMain, AsksMain, closed_main, EndsMain}
 use Rattle.awk_streams.proofs.GrowsLemmas.{Grows-self}
 use Rattle.awk_semantics.specs.declared.halt.Halt.TheVariants as halt
 use Rattle.awk_semantics.specs.declared.fault.Fault.TheVariants as faults
-use Rattle.awk_semantics.specs.State.{OpensMain as AsksForMain, RecordOfMain, Effect, Requested, State, Out, lift}
+use Rattle.awk_semantics.specs.State.{Request, OpensMain as AsksForMain, RecordOfMain, Effect, Requested, State, Out, lift}
 use Rattle.awk_semantics.specs.Streams.{counted, opened, open_main, with_rest, taken, taken_of, take_record, close_main}
 use Rattle.awk_semantics.specs.Meaning.{outputs_after}
 use Rattle.awk_semantics.specs.Order.{GoesBetween, ReadsAsRequested, ReadsFrom, Meets, first_stage}
 use Rattle.awk_kinds.specs.declared.special.Special.TheVariants.{Rs}
 use Rattle.awk_kinds.specs.Variables.{value_of, name_of}
 use Rattle.awk_runtime.specs.declared.runtime.Runtime.{Runtime}
-use Rattle.awk_runtime.specs.support.Simulation.{OwnRelation, main_number, stage_of, StreamsRelation, StateRelation, ResultRelation, SimulatesLogged, Simulates, IsReady, Follows, Beside, halted}
-use Rattle.awk_runtime.proofs.Effects.{turn_between, turn_requested, begins_still}
+use Rattle.awk_runtime.specs.support.Simulation.{OwnRelation, main_number, stage_of, StreamsRelation, StateRelation, FailureRelation, ResultRelation, SimulatesLogged, Simulates, IsReady, Follows, Beside, halted}
+use Rattle.awk_runtime.proofs.Composition.{cut_off, cut_behind}
+use Rattle.awk_runtime.proofs.Effects.{turn_between, turn_requested}
 use Rattle.awk_runtime.proofs.Steps.{beside_holds}
 use Rattle.awk_runtime.proofs.Turns.{own_at, outputs_requested, stage_same}
 
@@ -119,12 +120,10 @@ opens_logged kind path (Err InputNotReadable) {old = old} {new = new} {before = 
       subst (λ (o : Out (Unit {0})). ResultRelation oracle new after (Err (halt.Fault faults.InputNotReadable)) o past) (sym (opens_as kind path s oracle before.log None stands.streams.outside (stands.streams.openings kind path) (told.refused refl oracle consistent)))
       (refl, subst (λ rest. StateRelation oracle new after (record (counted kind path s) { main = rest }) (past ++ Requested (AsksForMain kind path) ∷ [])) (sym no_main) unopened);
 }
-opens_logged kind path (Err Memory) {new = new} {before = before} {after = after} beside none same told fault = record {
+opens_logged kind path (Err Memory) {old = old} {new = new} {before = before} {after = after} beside none same told fault = record {
   grows = told.grows;
-  means = λ oracle s past consistent stands. record {
-    begins = begins_still (printed_openings after new.streams) past (open_main kind path s).effects (told.printed ∙ stands.streams.printed);
-    failure = told.failure stands.clear;
-  };
+  means = λ oracle s past consistent stands.
+      cut_off oracle new.streams after past (open_main kind path s).effects (stage_of before.log old.streams) (sym told.adds) stands.streams.turn (told.printed ∙ stands.streams.printed) (told.failure stands.clear);
 }
 opens_logged kind path (Err WriteFailed) beside none same told fault = absurd (elim fault [ inl e ↦ (cc) | inr e ↦ (cc) ])
 opens_logged kind path (Err OutputNotOpened) beside none same told fault = absurd (elim fault [ inl e ↦ (cc) | inr e ↦ (cc) ])
@@ -261,16 +260,39 @@ asks_logged separator r {old = old} {new = new} {before = before} {after = after
       (asks_comes separator r oracle s past whole.0 beside same_main kept first_failure told consistent stands whole.1);
 }
 
+-- what is asked for where some is left
+taken_asks : (c : Cut) (separator : List ℕ) (whole : Source) (s : State) → (taken c separator whole s).effects ≡ Requested (RecordOfMain separator whole.bytes) ∷ []
+taken_asks (Found first rest) separator whole s = refl
+taken_asks NoMore separator whole s = refl
+taken_asks BrokenOff separator whole s = refl
+taken_asks TooLong separator whole s = refl
+
+take_asks : (separator : List ℕ) (m : Runtime) (s : State) (whole : Source) → separator ≡ str_of (value_of m.specials (name_of Rs)) → OwnRelation m s → s.main ≡ Some whole → (take_record s).effects ≡ Requested (RecordOfMain separator whole.bytes) ∷ []
+take_asks separator m s whole rs h is =
+    ap (λ (o : Out (Option (List ℕ))). o.effects) (takes_as m s h)
+    ∙ (ap (λ (l : List ℕ). (taken_of s.main l s).effects) (sym rs) ∙ (ap (λ (o : Option Source). (taken_of o separator s).effects) is ∙ taken_asks (cut_of separator whole.bytes whole.ending) separator whole s))
+
+-- a failure behind what was read for it
+asks_cut : {failure : Type 0} (separator : List ℕ) (r : Result (Option (List ℕ)) StreamFault) (oracle : Oracle) {old new : Runtime} {before after : WorldState} (s : State) (past : List Effect) (whole : Source) → separator ≡ str_of (value_of old.specials (name_of Rs)) → IsSameMain old.streams.main new.streams.main
+    → AsksMain separator before old.streams r after new.streams → StateRelation oracle old before s past → s.main ≡ Some whole → failure → FailureRelation oracle failure new.streams after (past ++ (take_record s).effects)
+asks_cut {failure = failure} separator r oracle {old = old} {new = new} {before = before} {after = after} s past whole rs same_main told stands is failed =
+    let what : Request = RecordOfMain separator whole.bytes in
+    let rest = subst (λ (o : Option Source). IsMainRest oracle before.log old.streams.main o) is stands.streams.are.main in
+    let meets = asking_meets oracle separator (outputs_after past) before after old.streams new.streams whole same_main told.same rest told.request in
+    subst (λ (l : List Effect). FailureRelation oracle failure new.streams after (past ++ l)) (sym (take_asks separator old s whole rs stands.holds is))
+    (cut_behind oracle new.streams after (past ++ Requested what ∷ []) (stage_of after.log new.streams) refl
+    (turn_requested oracle past what first_stage (stage_of before.log old.streams) (stage_of after.log new.streams) stands.streams.turn meets)
+    (told.printed ∙ (stands.streams.printed ∙ sym (outputs_requested past what))) failed)
+
 asks_by : (separator : List ℕ) (r : Result (Option (List ℕ)) StreamFault) {old new : Runtime} {before after : WorldState} → separator ≡ str_of (value_of old.specials (name_of Rs)) → Beside old new → is_some old.streams.main ≡ true → IsSameMain old.streams.main new.streams.main
     → AsksMain separator before old.streams r after new.streams → (r ≡ Err WriteFailed → ⊥)
     → SimulatesLogged old before new after (halted r) take_record
 asks_by separator (Ok found) rs beside there same_main told unwritten = asks_logged separator (Ok found) rs beside there same_main (λ (e : Ok found ≡ Err Memory). absurd (cc)) told.failure told
-asks_by separator (Err Memory) {new = new} {before = before} {after = after} rs beside there same_main told unwritten = record {
+asks_by separator (Err Memory) {old = old} {new = new} {before = before} {after = after} rs beside there same_main told unwritten = record {
   grows = told.grows;
-  means = λ oracle s past consistent stands. record {
-    begins = begins_still (printed_openings after new.streams) past (take_record s).effects (told.printed ∙ stands.streams.printed);
-    failure = told.failure stands.clear;
-  };
+  means = λ oracle s past consistent stands.
+      let whole = some_rest oracle before.log old.streams.main s.main there stands.streams.are.main in
+      asks_cut separator (Err Memory) oracle s past whole.0 rs same_main told stands whole.1 (told.failure stands.clear);
 }
 asks_by separator (Err WriteFailed) rs beside there same_main told unwritten = absurd (unwritten refl)
 asks_by separator (Err InputNotReadable) rs beside there same_main told unwritten = asks_logged separator (Err InputNotReadable) rs beside there same_main (λ (e : Err InputNotReadable ≡ Err Memory). absurd (cc)) told.failure told

@@ -4,6 +4,7 @@ use Rattle.std.specs.Prelude.{nat_le, bytes_eq}
 use Rattle.std.proofs.lemmas.Bool.{le-leb, lt-leb}
 use Rattle.awk_value.specs.Values.{str_of}
 use Rattle.awk_record.specs.Cut.{Cut, Found, NoMore, BrokenOff, TooLong, cut_of}
+use Rattle.awk_record.specs.Buffer.{Pending}
 use Rattle.awk_world.specs.declared.world.InputKind.{InputKind}
 use Rattle.awk_world.specs.declared.world.InputKind.TheVariants as input
 use Rattle.awk_streams.specs.declared.fault.StreamFault.{StreamFault}
@@ -18,14 +19,14 @@ use Rattle.awk_streams.specs.Openings.{Opening}
 use Rattle.awk_streams.specs.Grows.{Grows}
 use Rattle.awk_streams.specs.Named as words
 use Rattle.awk_streams.specs.MainInput.{input_answer}
-use Rattle.awk_streams.specs.Streams.{StreamsView, StandFor, HaveOtherNames, AreOnce, IsMainRest, most_streams, numbered, printed_openings, BringsIf}
-use Rattle.awk_streams.specs.NamedInputs.{FindsInput, IsFullOfInputs, GrantsInput, RefusesInput, OpensInput, NamedTold, IsNamedAnswer, AsksNamed, AsksIfOpen, AsksInput}
+use Rattle.awk_streams.specs.Streams.{StreamsView, StandFor, HaveOtherNames, AreOnce, IsMainRest, most_streams, numbered, BringsIf}
+use Rattle.awk_streams.specs.NamedInputs.{FindsInput, IsFullOfInputs, GrantsInput, RefusesInput, OpensInput, NamedTold, IsNamedRest, IsNamedAnswer, AsksNamed, AsksIfOpen, AsksInput}
 use Rattle.awk_streams.proofs.GrowsLemmas.{Grows-self}
 use Rattle.awk_streams.proofs.NamesLemmas.{input_swap}
 use Rattle.awk_streams.proofs.InputCallLemmas.{same_input}
 use Rattle.awk_semantics.specs.declared.halt.Halt.TheVariants as halt
 use Rattle.awk_semantics.specs.declared.fault.Fault.TheVariants as faults
-use Rattle.awk_semantics.specs.State.{OpensInput as AsksForInput, RecordOf, Effect, Requested, State, Out, ◌>>=◌, go_on, lift, ret, ends}
+use Rattle.awk_semantics.specs.State.{Request, OpensInput as AsksForInput, RecordOf, Effect, Requested, State, Out, ◌>>=◌, go_on, lift, ret, ends}
 use Rattle.awk_semantics.specs.Primitives.{fault_if}
 use Rattle.awk_semantics.specs.Streams.{rest_in, with_rest_of, check_streams, counted, input_granted, ask_input, open_input_unless, open_input, Answer, with_left, named_taken, named_taken_of, take_named, take_if, next_of}
 use Rattle.awk_semantics.specs.Meaning.{outputs_after}
@@ -33,10 +34,10 @@ use Rattle.awk_semantics.specs.Order.{InputBrought, ReadsFrom, Meets, first_stag
 use Rattle.awk_kinds.specs.declared.special.Special.TheVariants.{Rs}
 use Rattle.awk_kinds.specs.Variables.{value_of, name_of}
 use Rattle.awk_runtime.specs.declared.runtime.Runtime.{Runtime}
-use Rattle.awk_runtime.specs.support.Simulation.{OwnRelation, main_number, stage_of, StreamsRelation, StateRelation, ResultRelation, SimulatesLogged, Follows, IsReady, Beside, halted}
+use Rattle.awk_runtime.specs.support.Simulation.{OwnRelation, main_number, stage_of, StreamsRelation, StateRelation, FailureRelation, ResultRelation, SimulatesLogged, Follows, IsReady, Beside, halted}
 use Rattle.awk_runtime.specs.support.NamedInputs.{answers_of}
-use Rattle.awk_runtime.proofs.Composition.{then_logged, ends_logged}
-use Rattle.awk_runtime.proofs.Effects.{turn_requested, begins_still}
+use Rattle.awk_runtime.proofs.Composition.{cut_behind, then_logged, ends_logged}
+use Rattle.awk_runtime.proofs.Effects.{turn_requested}
 use Rattle.awk_runtime.proofs.Steps.{beside_holds}
 use Rattle.awk_runtime.proofs.Turns.{own_at, outputs_requested, goes_bringing_if, turn_brought, brought_as, memory_loses, write_loses, as_many, stage_same, stands_same}
 use Rattle.awk_runtime.proofs.MainInput.{reads_as_requested}
@@ -176,8 +177,8 @@ input_told : (kind : InputKind) (name : List ℕ) (r : Result Bool StreamFault) 
 input_told kind name (Ok true) beside told = elim told.opened [ inl f ↦ input_found kind name beside told.grows f | inr g ↦ input_made kind name beside told g ]
 input_told kind name (Ok false) beside told = input_refused kind name beside told told.opened
 input_told kind name (Err TooManyStreams) beside told = input_full kind name beside told.grows told.opened
-input_told kind name (Err Memory) beside told = memory_loses (open_input kind name) told.grows told.opened.begins told.failure
-input_told kind name (Err WriteFailed) beside told = write_loses (open_input kind name) told.grows told.opened.begins told.failure
+input_told kind name (Err Memory) beside told = memory_loses (open_input kind name) told.grows told.opened told.failure
+input_told kind name (Err WriteFailed) beside told = write_loses (open_input kind name) told.grows told.opened told.failure
 input_told kind name (Err InputNotReadable) beside told = absurd told.opened
 input_told kind name (Err OutputNotOpened) beside told = absurd told.opened
 input_told kind name (Err RecordTooLong) beside told = absurd told.opened
@@ -224,12 +225,16 @@ kept_rest a log kind name whole (named.Output k' n' o ∷ xs) (words.AnOutput k 
 
 -- the input is asked for a record
 
-named_meets : (oracle : Oracle) (kind : InputKind) (name separator : List ℕ) (r : Result NextNamed StreamFault) (os : List Opening) (main : Option Source) (streams : List words.Stream) (before after : WorldState) (old new : StreamsView) → (told : AsksNamed kind name separator before old r after new)
-    → (x : IsNamedAnswer kind name separator told.id told.pending oracle main streams before r after new) → Meets oracle (RecordOf kind name separator x.whole.bytes) os (stage_of before.log old) (stage_of after.log new)
-named_meets oracle kind name separator r os main streams before after old new told x = (
+named_meets : (oracle : Oracle) (kind : InputKind) (name separator : List ℕ) (r : Result NextNamed StreamFault) (os : List Opening) (streams : List words.Stream) (before after : WorldState) (old new : StreamsView) → (told : AsksNamed kind name separator before old r after new)
+    → (x : IsNamedRest kind name told.id told.pending oracle streams before.log) → Meets oracle (RecordOf kind name separator x.whole.bytes) os (stage_of before.log old) (stage_of after.log new)
+named_meets oracle kind name separator r os streams before after old new told x = (
   subst (λ (id : Option ℕ). ReadsFrom oracle separator x.whole.bytes id before.log after.log) (sym told.number) (reads_as_requested oracle separator x.whole.bytes told.id x.source told.pending told.reads.0 before.log after.log x.rest told.reads.1 told.readable),
   stage_same after.log after.log (main_number new.main) (main_number old.main) (numbered new.named) (numbered old.named) refl (ap main_number told.main) told.numbers,
 )
+
+rest_of_answer : {kind : InputKind} {name separator : List ℕ} {id : ℕ} {pending : Pending} {oracle : Oracle} {main : Option Source} {streams : List words.Stream} {before after : WorldState} {r : Result NextNamed StreamFault} {new : StreamsView} → IsNamedAnswer kind name separator id pending oracle main streams before r after new
+    → IsNamedRest kind name id pending oracle streams before.log
+rest_of_answer x = record { whole = x.whole; is = x.is; source = x.source; ending = x.ending; rest = x.rest }
 
 named_stands : (oracle : Oracle) (kind : InputKind) (name separator : List ℕ) (r : Result NextNamed StreamFault) (old new : StreamsView) (before after : WorldState) (s : State) (past : List Effect) → (told : AsksNamed kind name separator before old r after new)
     → (x : IsNamedAnswer kind name separator told.id told.pending oracle s.main s.streams before r after new) → StreamsRelation oracle old before s past
@@ -243,7 +248,7 @@ named_stands oracle kind name separator r old new before after s past told x sta
   outputs = stands.outputs ∙ sym (ap (λ (os : List Opening). length os) (outputs_requested past (RecordOf kind name separator x.whole.bytes)));
   are = x.leaves;
   printed = told.printed ∙ (stands.printed ∙ sym (outputs_requested past (RecordOf kind name separator x.whole.bytes)));
-  turn = turn_requested oracle past (RecordOf kind name separator x.whole.bytes) first_stage (stage_of before.log old) (stage_of after.log new) stands.turn (named_meets oracle kind name separator r (outputs_after past) s.main s.streams before after old new told x);
+  turn = turn_requested oracle past (RecordOf kind name separator x.whole.bytes) first_stage (stage_of before.log old) (stage_of after.log new) stands.turn (named_meets oracle kind name separator r (outputs_after past) s.streams before after old new told (rest_of_answer x));
 }
 
 -- what is taken of a rest, by its cut and what the streams told of it
@@ -286,16 +291,39 @@ named_logged kind name separator r {old = old} {new = new} {before = before} {af
       }) (λ same. kept_rest oracle after.log kind name x.whole new.streams.named s.streams once (subst (λ (l : List ℕ). StandFor oracle after.log new.streams.named (with_rest_of kind name (record { bytes = l; ending = x.whole.ending }) s.streams)) same x.leaves.named) x.is));
 }
 
+-- what is asked for where some is left
+named_taken_asks : (c : Cut) (kind : InputKind) (name separator : List ℕ) (whole : Source) (s : State) → (named_taken c kind name separator whole s).effects ≡ Requested (RecordOf kind name separator whole.bytes) ∷ []
+named_taken_asks (Found first rest) kind name separator whole s = refl
+named_taken_asks NoMore kind name separator whole s = refl
+named_taken_asks BrokenOff kind name separator whole s = refl
+named_taken_asks TooLong kind name separator whole s = refl
+
+named_asks : (kind : InputKind) (name separator : List ℕ) (m : Runtime) (s : State) (whole : Source) → separator ≡ str_of (value_of m.specials (name_of Rs)) → OwnRelation m s → rest_in s.streams kind name ≡ Some whole → (take_named kind name s).effects ≡ Requested (RecordOf kind name separator whole.bytes) ∷ []
+named_asks kind name separator m s whole rs h is =
+    ap (λ (o : Out Answer). o.effects) (named_as kind name m s whole h is)
+    ∙ (ap (λ (l : List ℕ). (named_taken_of (Some whole) kind name l s).effects) (sym rs) ∙ named_taken_asks (cut_of separator whole.bytes whole.ending) kind name separator whole s)
+
+-- a failure behind what was read for it
+named_cut : {failure : Type 0} (kind : InputKind) (name separator : List ℕ) (r : Result NextNamed StreamFault) (oracle : Oracle) {old new : Runtime} {before after : WorldState} (s : State) (past : List Effect) → separator ≡ str_of (value_of old.specials (name_of Rs))
+    → AsksNamed kind name separator before old.streams r after new.streams → StateRelation oracle old before s past → failure → FailureRelation oracle failure new.streams after (past ++ (take_named kind name s).effects)
+named_cut {failure = failure} kind name separator r oracle {old = old} {new = new} {before = before} {after = after} s past rs told stands failed =
+    let x = told.asked oracle s.streams stands.streams.are.named in
+    let what : Request = RecordOf kind name separator x.whole.bytes in
+    subst (λ (l : List Effect). FailureRelation oracle failure new.streams after (past ++ l)) (sym (named_asks kind name separator old s x.whole rs stands.holds x.is))
+    (cut_behind oracle new.streams after (past ++ Requested what ∷ []) (stage_of after.log new.streams) refl
+    (turn_requested oracle past what first_stage (stage_of before.log old.streams) (stage_of after.log new.streams) stands.streams.turn (named_meets oracle kind name separator r (outputs_after past) s.streams before after old.streams new.streams told x))
+    (told.printed ∙ (stands.streams.printed ∙ sym (outputs_requested past what))) failed)
+
 named_by : (kind : InputKind) (name separator : List ℕ) (r : Result NextNamed StreamFault) {old new : Runtime} {before after : WorldState} → separator ≡ str_of (value_of old.specials (name_of Rs)) → Beside old new → AreOnce new.streams.named
     → AsksNamed kind name separator before old.streams r after new.streams → SimulatesLogged old before new after (answers_of (halted r)) (take_named kind name)
 named_by kind name separator (Ok x) rs beside once told = named_logged kind name separator (Ok x) rs beside once (λ (e : Ok x ≡ Err Memory). absurd (cc)) told.failure told
-named_by kind name separator (Err Memory) {new = new} {before = before} {after = after} rs beside once told = record {
+named_by kind name separator (Err Memory) rs beside once told = record {
   grows = told.grows;
-  means = λ oracle s past consistent stands. record { begins = begins_still (printed_openings after new.streams) past (take_named kind name s).effects (told.printed ∙ stands.streams.printed); failure = told.failure stands.clear };
+  means = λ oracle s past consistent stands. named_cut kind name separator (Err Memory) oracle s past rs told stands (told.failure stands.clear);
 }
-named_by kind name separator (Err WriteFailed) {new = new} {before = before} {after = after} rs beside once told = record {
+named_by kind name separator (Err WriteFailed) rs beside once told = record {
   grows = told.grows;
-  means = λ oracle s past consistent stands. record { begins = begins_still (printed_openings after new.streams) past (take_named kind name s).effects (told.printed ∙ stands.streams.printed); failure = told.failure stands.clear };
+  means = λ oracle s past consistent stands. named_cut kind name separator (Err WriteFailed) oracle s past rs told stands (told.failure stands.clear);
 }
 named_by kind name separator (Err InputNotReadable) rs beside once told = named_logged kind name separator (Err InputNotReadable) rs beside once (λ (e : Err InputNotReadable ≡ Err Memory). absurd (cc)) told.failure told
 named_by kind name separator (Err OutputNotOpened) rs beside once told = named_logged kind name separator (Err OutputNotOpened) rs beside once (λ (e : Err OutputNotOpened ≡ Err Memory). absurd (cc)) told.failure told

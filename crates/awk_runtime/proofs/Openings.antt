@@ -167,8 +167,8 @@ output_told : (kind : OutputKind) (name : List ℕ) (mode : Mode) (r : Result Ta
 output_told kind name mode (Ok to) beside told = elim told.opened [ inl f ↦ output_found kind name mode to beside told.grows f | inr g ↦ output_made kind name mode to beside told g ]
 output_told kind name mode (Err OutputNotOpened) beside told = output_refused kind name mode beside told told.opened
 output_told kind name mode (Err TooManyStreams) beside told = output_full kind name mode beside told.grows told.opened
-output_told kind name mode (Err Memory) beside told = memory_loses (open_output kind name mode) told.grows told.opened.begins told.failure
-output_told kind name mode (Err WriteFailed) beside told = write_loses (open_output kind name mode) told.grows told.opened.begins told.failure
+output_told kind name mode (Err Memory) beside told = memory_loses (open_output kind name mode) told.grows told.opened told.failure
+output_told kind name mode (Err WriteFailed) beside told = write_loses (open_output kind name mode) told.grows told.opened told.failure
 output_told kind name mode (Err InputNotReadable) beside told = absurd told.opened
 output_told kind name mode (Err RecordTooLong) beside told = absurd told.opened
 

@@ -16,6 +16,7 @@ use Rattle.awk_streams.specs.Openings.{Opening, Begins}
 use Rattle.awk_streams.specs.Outputs.{IsOutputFault}
 use Rattle.awk_streams.specs.Streams.{StreamsView, AreOpen, AreSound, printed_openings, opening_at}
 use Rattle.awk_streams.specs.NamedOutputs.{Prints}
+use Rattle.awk_streams.proofs.ViewLemmas.{not_marked}
 use Rattle.awk_semantics.specs.declared.halt.Halt.{Halt}
 use Rattle.awk_semantics.specs.declared.halt.Halt.TheVariants as halt
 use Rattle.awk_semantics.specs.declared.fault.Fault.TheVariants as faults
@@ -25,8 +26,9 @@ use Rattle.awk_semantics.specs.Operators.{line_of, join}
 use Rattle.awk_semantics.specs.Primitives.{print_bytes, print_line, format_values}
 use Rattle.awk_semantics.specs.Semantics.{Functions, print_by}
 use Rattle.awk_grammar.specs.declared.tree.PrintForm.TheVariants as form
-use Rattle.awk_semantics.specs.Meaning.{with_bytes, outputs_after}
+use Rattle.awk_semantics.specs.Meaning.{with_bytes, first_outputs, outputs_after, requests_from}
 use Rattle.awk_semantics.specs.Order.{AreBetween, GoesBetween, first_stage}
+use Rattle.awk_semantics.proofs.Requests.{goes_last}
 use Rattle.awk_kinds.specs.declared.special.Special.TheVariants.{Ofs, Ors}
 use Rattle.awk_kinds.specs.Variables.{value_of, name_of}
 use Rattle.awk_runtime.specs.declared.runtime.Runtime.{Runtime}
@@ -84,9 +86,16 @@ print_comes to bytes {old = old} {new = new} {before = before} {after = after} b
 
 -- a print that a failure broke off
 print_fails : {failure : Type 0} (to : Target) (bytes : List ℕ) (fault : StreamFault) {old new : Runtime} {before after : WorldState} → (told : Prints to bytes before old.streams (Err fault) after new.streams) → failure
-    → (oracle : Oracle) (s : State) (past : List Effect) → StateRelation oracle old before s past → FailureRelation failure new after (past ++ (print_bytes told.opening bytes s).effects)
+    → (oracle : Oracle) (s : State) (past : List Effect) → StateRelation oracle old before s past → FailureRelation oracle failure new.streams after (past ++ (print_bytes told.opening bytes s).effects)
 unfolding print_bytes
 print_fails to bytes fault {old = old} {new = new} {before = before} {after = after} told failed oracle s past stands = record {
+  done = past;
+  others = Printed told.opening bytes ∷ [];
+  parts = refl;
+  last = stage_of after.log new.streams;
+  at = refl;
+  turn = goes_last oracle (requests_from first_outputs past) first_stage (stage_of before.log old.streams) (stage_of after.log new.streams) stands.streams.turn (writes_go to bytes before after old.streams new.streams (Err fault) told);
+  kept = λ none. absurd (not_marked after.first_failure told.marked none);
   begins = subst (λ (os : List Opening). Begins (printed_openings after new.streams) os) (as_printed oracle old.streams before s past told.opening bytes stands.streams) told.partly;
   failure = failed;
 }

@@ -8,20 +8,21 @@ use Rattle.awk_streams.specs.Log.{Event, OpenedInput, OpenedOutput, Read, Ended,
 use Rattle.awk_streams.specs.WorldState.{WorldState, FailsNow, MayFailNow}
 use Rattle.awk_streams.specs.Oracle.{Oracle, Source}
 use Rattle.awk_streams.specs.Writes.{GoesOn}
-use Rattle.awk_streams.specs.Openings.{Opening, Begins, AreBrought}
+use Rattle.awk_streams.specs.Openings.{Opening, AreBrought}
 use Rattle.awk_streams.specs.Grows.{Grows}
 use Rattle.awk_streams.specs.Named as words
 use Rattle.awk_streams.specs.Streams.{StreamsView, StandFor, printed_openings, AreBringing, BringsIf}
+use Rattle.awk_streams.specs.NamedOutputs.{LosesBytes}
 use Rattle.awk_functions.specs.declared.formats.Formats.{Formats}
 use Rattle.awk_semantics.specs.declared.halt.Halt.{Halt}
 use Rattle.awk_semantics.specs.declared.halt.Halt.TheVariants as halt
 use Rattle.awk_semantics.specs.declared.fault.Fault.TheVariants as faults
 use Rattle.awk_semantics.specs.State.{Request, Effect, Printed, Requested, State, Out, Run}
 use Rattle.awk_semantics.specs.Meaning.{with_bytes, outputs_asked, first_outputs, outputs_after, Asked, requests_from}
-use Rattle.awk_semantics.specs.Order.{Stage, AreBetween, GoesBetween, Meets, MeetsAll}
-use Rattle.awk_semantics.proofs.Requests.{goes-self, meets_append, requests-append}
+use Rattle.awk_semantics.specs.Order.{Stage, AreBetween, GoesBetween, Meets, MeetsAll, first_stage}
+use Rattle.awk_semantics.proofs.Requests.{goes-self, goes_last, meets_append, requests-append}
 use Rattle.awk_runtime.specs.declared.runtime.Runtime.{Runtime}
-use Rattle.awk_runtime.specs.support.Simulation.{OwnRelation, main_number, stage_of, StreamsRelation, StateRelation, ResultRelation, SimulatesLogged, Beside}
+use Rattle.awk_runtime.specs.support.Simulation.{OwnRelation, main_number, stage_of, StreamsRelation, StateRelation, FailureRelation, ResultRelation, SimulatesLogged, Beside}
 use Rattle.awk_runtime.proofs.Effects.{outputs-append, begins-then, begins_still}
 use Rattle.awk_runtime.proofs.Steps.{beside_holds}
 
@@ -99,21 +100,31 @@ turn_brought oracle past what a b c d met goes meets =
 pub brought_as : (oracle : Oracle) (streams : StreamsView) (before : WorldState) (s : State) (past : List Effect) (log : List Event) → StreamsRelation oracle streams before s past → AreBrought (printed_openings before streams) log → AreBrought (outputs_after past) log
 brought_as oracle streams before s past log stands h = subst (λ (os : List Opening). AreBrought os log) stands.printed h
 
--- a failure leaves beginnings
+-- what could not be brought is lost
 
-begins_lost : (oracle : Oracle) (old new : Runtime) (before after : WorldState) (s : State) (past more : List Effect) → Begins (printed_openings after new.streams) (printed_openings before old.streams) → StateRelation oracle old before s past → Begins (printed_openings after new.streams) (outputs_after (past ++ more))
-begins_lost oracle old new before after s past more begins stands = begins-then (printed_openings after new.streams) (printed_openings before old.streams) (outputs_after (past ++ more)) begins (begins_still (printed_openings before old.streams) past more stands.streams.printed)
-
-pub memory_loses : {A : Type 0} {old new : Runtime} {before after : WorldState} (run : Run A) → Grows before after → Begins (printed_openings after new.streams) (printed_openings before old.streams) → MayFailNow before after → SimulatesLogged old before new after (Err (halt.Fault faults.OutOfMemory)) run
-memory_loses {old = old} {new = new} {before = before} {after = after} run grows begins failure = record {
-  grows = grows;
-  means = λ oracle s past consistent stands. record { begins = begins_lost oracle old new before after s past (run s).effects begins stands; failure = failure stands.clear };
+lost : {failure : Type 0} (oracle : Oracle) (old new : Runtime) (before after : WorldState) (s : State) (past more : List Effect) → LosesBytes before old.streams after new.streams → StateRelation oracle old before s past → failure → FailureRelation oracle failure new.streams after (past ++ more)
+lost oracle old new before after s past more loses stands failed = record {
+  done = past;
+  others = more;
+  parts = refl;
+  last = stage_of after.log old.streams;
+  at = refl;
+  turn = goes_last oracle (requests_from first_outputs past) first_stage (stage_of before.log old.streams) (stage_of after.log old.streams) stands.streams.turn (goes_bringing before.log after.log old.streams loses.only);
+  kept = λ none. loses.kept none ∙ stands.streams.printed;
+  begins = begins-then (printed_openings after new.streams) (printed_openings before old.streams) (outputs_after (past ++ more)) loses.begins (begins_still (printed_openings before old.streams) past more stands.streams.printed);
+  failure = failed;
 }
 
-pub write_loses : {A : Type 0} {old new : Runtime} {before after : WorldState} (run : Run A) → Grows before after → Begins (printed_openings after new.streams) (printed_openings before old.streams) → FailsNow before after → SimulatesLogged old before new after (Err (halt.Fault faults.WriteFailed)) run
-write_loses {old = old} {new = new} {before = before} {after = after} run grows begins failure = record {
+pub memory_loses : {A : Type 0} {old new : Runtime} {before after : WorldState} (run : Run A) → Grows before after → LosesBytes before old.streams after new.streams → MayFailNow before after → SimulatesLogged old before new after (Err (halt.Fault faults.OutOfMemory)) run
+memory_loses {old = old} {new = new} {before = before} {after = after} run grows loses failure = record {
   grows = grows;
-  means = λ oracle s past consistent stands. record { begins = begins_lost oracle old new before after s past (run s).effects begins stands; failure = failure stands.clear };
+  means = λ oracle s past consistent stands. lost oracle old new before after s past (run s).effects loses stands (failure stands.clear);
+}
+
+pub write_loses : {A : Type 0} {old new : Runtime} {before after : WorldState} (run : Run A) → Grows before after → LosesBytes before old.streams after new.streams → FailsNow before after → SimulatesLogged old before new after (Err (halt.Fault faults.WriteFailed)) run
+write_loses {old = old} {new = new} {before = before} {after = after} run grows loses failure = record {
+  grows = grows;
+  means = λ oracle s past consistent stands. lost oracle old new before after s past (run s).effects loses stands (failure stands.clear);
 }
 
 -- as many streams stand open in the code as in the definitions

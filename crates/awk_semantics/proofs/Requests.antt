@@ -1,5 +1,5 @@
 -- Requests that are met one after the other.
-use Rattle.std.proofs.Common.{◌≡◌, ℕ, List, [], ◌∷◌, ◌++◌, Option, Some, None, refl, sym, ap, ◌∙◌, subst}
+use Rattle.std.proofs.Common.{◌≡◌, ℕ, List, [], ◌∷◌, ◌++◌, Option, Some, None, refl, sym, ap, ◌∙◌, subst, append-nil}
 use Rattle.awk_streams.specs.Log.{Event, OpenedInput, OpenedOutput, Read, Ended, Broke, Wrote, Flushed, Closed, Ran}
 use Rattle.awk_streams.specs.Oracle.{Oracle}
 use Rattle.awk_streams.specs.Writes.{with_events}
@@ -40,6 +40,10 @@ goes_first oracle (asked ∷ more) a b c x y = (y.0, y.1, goes-append a b y.0 x 
 pub meets_append : (oracle : Oracle) (xs ys : List Asked) (a b c : Stage) → MeetsAll oracle xs a b → MeetsAll oracle ys b c → MeetsAll oracle (xs ++ ys) a c
 meets_append oracle [] ys a b c h k = goes_first oracle ys a b c h k
 meets_append oracle (asked ∷ more) ys a b c h k = (h.0, h.1, h.2, h.3, meets_append oracle more ys h.1 b c h.4 k)
+
+-- behind the last of them the log may go on without a request
+pub goes_last : (oracle : Oracle) (xs : List Asked) (a b c : Stage) → MeetsAll oracle xs a b → GoesBetween b c → MeetsAll oracle xs a c
+goes_last oracle xs a b c h k = subst (λ (l : List Asked). MeetsAll oracle l a c) (append-nil xs) (meets_append oracle xs [] a b c h k)
 
 pub requests-append : (os : List Opening) (xs ys : List Effect) → requests_from os (xs ++ ys) ≡ requests_from os xs ++ requests_from (outputs_from os xs) ys
 requests-append os [] ys = refl

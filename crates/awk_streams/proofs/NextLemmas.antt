@@ -140,6 +140,9 @@ next_told kind name separator before after s front back k k' n n' old new step r
       id = old.id;
       number = ap (λ l. words.number_among (numbered l) (words.Input kind name)) is ∙ number_skip kind name front back k n old fails passes;
       pending = old.pending;
+      asked = λ a zs stand.
+          let found = rest_found a before.log kind name front back k n old zs fails passes (subst (λ (l : List NamedStream). StandFor a before.log l zs) is stand) in
+          record { whole = found.rest; is = found.is; source = found.stands.0; ending = found.stands.1; rest = found.stands.2 };
       reads = (pulls.seen, pulls.reads);
       readable = reaches_open old.id separator old.pending pulls.seen before.log after.log pulls.reads here.readable;
       printed = ap (λ hs. in_order (with_held ((0, s.output) ∷ (1, s.error) ∷ hs) (openings after.log))) held ∙ ap (λ os. in_order (with_held (held_of s) os)) (reaches_openings old.id separator old.pending pulls.seen before.log after.log pulls.reads);

@@ -1,5 +1,5 @@
 -- A named stream that is opened, from what goes before to what is told.
-use Rattle.std.proofs.Common.{◌≡◌, ◌+◌, ℕ, Bool, false, List, [], ◌∷◌, ◌++◌, length, Option, Some, None, Result, Ok, refl, sym, ◌∙◌, ap, subst, arith}
+use Rattle.std.proofs.Common.{◌≡◌, ◌+◌, ℕ, Bool, false, List, [], ◌∷◌, ◌++◌, length, Option, Some, None, Ok, Err, refl, sym, ◌∙◌, ap, subst, arith}
 use Rattle.std.specs.Prelude.{◌&&◌, bytes_eq, slice_get, if◌then◌else◌}
 use Rattle.std.specs.List.{position, position_from}
 use Rattle.std.proofs.lemmas.Bool.{cond-false, ne_eqb}
@@ -28,6 +28,7 @@ use Rattle.awk_streams.proofs.HeldLemmas.{with_held-append}
 use Rattle.awk_streams.proofs.PlaceLemmas.{length-in_order, length-held}
 use Rattle.awk_streams.proofs.StreamsLemmas.{main_rest_same, stand_same, same_for_all, same_for_others, same_for_main}
 use Rattle.awk_streams.proofs.NamedLemmas.{other_outputs}
+use Rattle.awk_streams.proofs.ViewLemmas.{not_marked}
 use Rattle.awk_streams.proofs.BringLemmas.{begins-self}
 use Rattle.awk_streams.proofs.OpenLemmas.{Grants, LeavesAll, fresh_others, main_other}
 
@@ -158,13 +159,15 @@ printed_count world s = length-in_order (with_held (held_of s) (openings world.l
 
 -- no memory after what went before
 
+nothing_lost : (b : Bool) (before mid after : WorldState) (old s new : StreamsView) (u : Unit {0}) → Prepares b before old (Ok u) mid s → FindsNoMemory mid s after new → printed_openings after new ≡ printed_openings before old
+nothing_lost b before mid after old s new u prepares none = ap (λ (v : StreamsView). printed_openings after v) none.same ∙ (ap (λ l. in_order (with_held (held_of s) (openings l))) none.log ∙ ap in_order prepares.printed)
+
 pub finds_nothing : (b : Bool) (before mid after : WorldState) (old s new : StreamsView) (u : Unit {0}) → Prepares b before old (Ok u) mid s → FindsNoMemory mid s after new → LosesBytes before old after new
 finds_nothing b before mid after old s new u prepares none = record {
   only = subst (λ (l : List Event). GoesOn AreBringing before.log l) (sym none.log) prepares.touches.only;
-  begins =
-      let same : printed_openings after new ≡ printed_openings before old = ap (λ (v : StreamsView). printed_openings after v) none.same ∙ (ap (λ l. in_order (with_held (held_of s) (openings l))) none.log ∙ ap in_order prepares.printed) in
-      subst (λ l. Begins l (printed_openings before old)) (sym same) (begins-self (printed_openings before old));
+  begins = subst (λ l. Begins l (printed_openings before old)) (sym (nothing_lost b before mid after old s new u prepares none)) (begins-self (printed_openings before old));
+  kept = λ clear. nothing_lost b before mid after old s new u prepares none;
 }
 
-pub loses_before : (b : Bool) (before mid : WorldState) (old s : StreamsView) (r : Result (Unit {0}) StreamFault) → Prepares b before old r mid s → LosesBytes before old mid s
-loses_before b before mid old s r prepares = record { only = prepares.touches.only; begins = prepares.begins }
+pub loses_before : (b : Bool) (before mid : WorldState) (old s : StreamsView) (e : StreamFault) → Prepares b before old (Err e) mid s → LosesBytes before old mid s
+loses_before b before mid old s e prepares = record { only = prepares.touches.only; begins = prepares.begins; kept = λ none. absurd (not_marked mid.first_failure prepares.marked none) }

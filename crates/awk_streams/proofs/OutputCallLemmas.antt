@@ -194,7 +194,7 @@ output_unprepared kind name mode b before mid old s e (inl memory) main prepares
       grows = prepares.touches.grows;
       main = main;
       main_rest = λ a rest h. keeps_main_rest a before mid old.main s.main rest prepares.touches.same main h;
-      opened = loses_before b before mid old s (Err e) prepares;
+      opened = loses_before b before mid old s e prepares;
       failure = subst (λ (f : StreamFault). FailsBy f before mid) memory prepares.failure;
     }
 output_unprepared kind name mode b before mid old s e (inr failed) main prepares =
@@ -202,7 +202,7 @@ output_unprepared kind name mode b before mid old s e (inr failed) main prepares
       grows = prepares.touches.grows;
       main = main;
       main_rest = λ a rest h. keeps_main_rest a before mid old.main s.main rest prepares.touches.same main h;
-      opened = loses_before b before mid old s (Err e) prepares;
+      opened = loses_before b before mid old s e prepares;
       failure = subst (λ (f : StreamFault). FailsBy f before mid) failed prepares.failure;
     }
 

@@ -19,6 +19,7 @@ prepares_command before after old new (Ok u) b empty flushed fails fault = recor
   printed = b.printed;
   begins = b.begins;
   brings = brings_of before after old new u b empty flushed;
+  marked = tt;
   failure = b.no_failure;
 }
 prepares_command before after old new (Err e) b empty flushed fails fault = record {
@@ -26,6 +27,7 @@ prepares_command before after old new (Err e) b empty flushed fails fault = reco
   printed = tt;
   begins = b.begins;
   brings = tt;
+  marked = b.failure;
   failure = fails_as before after e fault fails;
 }
 
@@ -35,6 +37,7 @@ prepares_file world s u = record {
   printed = refl;
   begins = begins-self (in_order (with_held (held_of s) (openings world.log)));
   brings = refl;
+  marked = tt;
   failure = refl;
 }
 

@@ -84,6 +84,7 @@ prints t id n held held' bytes before after old new result number opens still pl
       still = still;
       printed = all_of_it result id held bytes held' did.written did.more w.count (held_of old) (held_of new) (openings before.log) (openings after.log) n change place did.parts did.holds w.all gains;
       partly = part_of_it result id held bytes held' did.written did.more w.count (held_of old) (held_of new) (openings before.log) (openings after.log) n change place did.parts did.empty w.within gains;
+      marked = w.failure;
       counts = touches.counts;
       same = keeps_as before after old new touches.same main same;
       failure = printed_or_failed before after result fault w.no_failure w.fails;

@@ -62,6 +62,7 @@ ran_unasked command before mid after old s all (is, fails) = record {
     begins =
         let same : printed_openings after s ≡ printed_openings before old = ap (λ l. in_order (with_held (held_of s) (openings l))) is ∙ all.printed in
         subst (λ l. Begins l (printed_openings before old)) (sym same) (begins-self (printed_openings before old));
+    kept = λ none. ap (λ l. in_order (with_held (held_of s) (openings l))) is ∙ all.printed;
   };
   failure = λ none. inr (fails_later before mid after all.no_failure (fails_now mid after (is, fails)) none);
 }

@@ -1,6 +1,6 @@
 -- The streams as one value, where bytes were brought to outputs.
 use Rattle.std.proofs.Common.{◌≡◌, ◌≤◌, ◌<◌, inl, inr, ℕ, Bool, true, false, List, [], ◌∷◌, Option, Some, None, Result, Ok, Err, refl, sym, ◌∙◌, ap, subst, arith}
-use Rattle.std.specs.Prelude.{OnOk, ◌==◌, ◌||◌}
+use Rattle.std.specs.Prelude.{OnOk, is_some, ◌==◌, ◌||◌}
 use Rattle.std.specs.Result.{result_and}
 use Rattle.awk_world.specs.definitions.Log.{Event}
 use Rattle.awk_world.specs.definitions.Oracle.{Oracle, Source}
@@ -169,8 +169,14 @@ brings_all before after old new u main same b empty flushed = record {
   no_failure = b.no_failure;
 }
 
+-- no failure is met where one is marked
+pub not_marked : (failure : Option ℕ) → is_some failure ≡ true → failure ≡ None → ⊥
+not_marked None marked none = absurd cc
+not_marked (Some n) marked none = absurd cc
+
 pub loses_bytes : (before after : WorldState) (old new : StreamsView) (result : Result (Unit {0}) StreamFault) → BringsHeld before (held_of old) result after (held_of new) → LosesBytes before old after new
-loses_bytes before after old new result b = record { only = b.touches.only; begins = b.begins }
+loses_bytes before after old new (Ok u) b = record { only = b.touches.only; begins = b.begins; kept = λ none. ap in_order b.printed }
+loses_bytes before after old new (Err e) b = record { only = b.touches.only; begins = b.begins; kept = λ none. absurd (not_marked after.first_failure b.failure none) }
 
 pub fails_as : (before after : WorldState) (e : StreamFault) → IsOutputFault e → FailsNow before after → FailsBy e before after
 fails_as before after e (inl memory) fails = subst (λ (f : StreamFault). FailsBy f before after) (sym memory) (λ none. inr (fails none))

@@ -85,10 +85,18 @@ pub record IsReady (is_logged : Type 0) (k : WorldState) (streams : StreamsView)
   pub are_open : AreOpen k streams
   pub are_sound : is_logged → AreSound k streams
 
--- a part that a failure ended: the outputs, with what is held back, begin with what these effects print, and the world's first
--- failure stands so
-pub record FailureRelation (stands : Type 0) (m : Runtime) (k : WorldState) (effects : List Effect) : Type 0 where
-  pub begins : Begins (printed_openings k m.streams) (outputs_after effects)
+-- a part that a failure ended: of these effects some were done, whose requests the log met in turn, and where the world met no
+-- failure the outputs, with what is held back, are what those print; they always begin what all print. The world's first failure
+-- stands so
+pub record FailureRelation (oracle : Oracle) (stands : Type 0) (streams : StreamsView) (k : WorldState) (effects : List Effect) : Type 0 where
+  pub done : List Effect
+  pub others : List Effect
+  pub parts : effects ≡ done ++ others
+  pub last : Stage
+  pub at : last.log ≡ k.log
+  pub turn : MeetsAll oracle (requests_from first_outputs done) first_stage last
+  pub kept : k.first_failure ≡ None → printed_openings k streams ≡ outputs_after done
+  pub begins : Begins (printed_openings k streams) (outputs_after effects)
   pub failure : stands
 
 -- the world's first failure stands where its log ended
@@ -98,8 +106,8 @@ FailedLast k = k.first_failure ≡ Some (length k.log)
 -- what a part came to: a failed write was the world's first failure, and where memory was refused, by the world or not, it had
 -- none before; else the result is the meaning's, and the code's state stands for the meaning's
 abbrev pub ResultRelationBy : {A : Type 0} → Oracle → Runtime → WorldState → Sort → Out A → List Effect → Type 0
-ResultRelationBy oracle m k WantOfMemory o past = FailureRelation ((k.first_failure ≡ None) ⊎ FailedLast k) m k (past ++ o.effects)
-ResultRelationBy oracle m k FailedWrite o past = FailureRelation (FailedLast k) m k (past ++ o.effects)
+ResultRelationBy oracle m k WantOfMemory o past = FailureRelation oracle ((k.first_failure ≡ None) ⊎ FailedLast k) m.streams k (past ++ o.effects)
+ResultRelationBy oracle m k FailedWrite o past = FailureRelation oracle (FailedLast k) m.streams k (past ++ o.effects)
 ResultRelationBy oracle m k (OfLanguage reason) o past = (o.result ≡ Err reason) × StateRelation oracle m k o.state (past ++ o.effects)
 
 abbrev pub ResultRelation : {A : Type 0} → Oracle → Runtime → WorldState → Result A Halt → Out A → List Effect → Type 0

@@ -1,25 +1,18 @@
 -- What a failure of the outside, or want of memory, leaves of a run (POSIX awk, EXIT STATUS; CONSEQUENCES OF ERRORS).
-use Rattle.std.specs.Prelude.{◌≡◌, ◌⊎◌, ℕ, true, List, [], ◌∷◌, length, Some, is_some}
-use Rattle.awk_streams.specs.Log.{Event, Wrote, Flushed, Closed}
+use Rattle.std.specs.Prelude.{◌≡◌, ◌⊎◌, ℕ, true, List, [], ◌∷◌, ◌++◌, length, None, Some, is_some}
+use Rattle.awk_streams.specs.Log.{Event}
 use Rattle.awk_streams.specs.Oracle.{Oracle, IsConsistent}
 use Rattle.awk_streams.specs.Writes.{with_events}
-use Rattle.awk_streams.specs.Openings.{outputs_of, Begins}
+use Rattle.awk_streams.specs.Openings.{Opening, outputs_of, Begins, AreBrought}
 use Rattle.awk_streams.specs.WorldState.{WorldState}
+pub use Rattle.awk_streams.specs.Commands.{AreOfTheEnd}
 use Rattle.awk_semantics.specs.declared.fault as declared
 use Rattle.awk_semantics.specs.declared.fault.Fault.TheVariants.{OutOfMemory, WriteFailed}
 use Rattle.awk_semantics.specs.declared.outcome.Outcome.{Outcome}
 use Rattle.awk_semantics.specs.declared.outcome.Outcome.TheVariants.{Fault}
 use Rattle.awk_semantics.specs.definitions.State.{Request, Ends}
-use Rattle.awk_semantics.specs.definitions.Meaning.{Asked, Meaning}
+use Rattle.awk_semantics.specs.definitions.Meaning.{Asked, Meaning, first_outputs, outputs_asked}
 use Rattle.awk_semantics.specs.definitions.Order.{Stage, MeetsAll, first_stage}
-
--- these events belong to the end of a run
-abbrev pub AreOfTheEnd : List Event → Type 0
-AreOfTheEnd [] = Unit {0}
-AreOfTheEnd (Wrote id bytes ∷ es) = AreOfTheEnd es
-AreOfTheEnd (Flushed id ∷ es) = AreOfTheEnd es
-AreOfTheEnd (Closed id answer ∷ es) = AreOfTheEnd es
-AreOfTheEnd (e ∷ es) = ⊥
 
 -- the requests before the end
 abbrev pub front_of : Request → Asked → List Asked → List Asked
@@ -29,6 +22,31 @@ front_of what asked more = asked ∷ more
 abbrev pub before_end : List Asked → List Asked
 before_end [] = []
 before_end (asked ∷ more) = front_of asked.what asked (before_end more)
+
+-- a log that met the first of the requests, in turn, and did nothing else
+pub record MeetsFirst (oracle : Oracle) (requests : List Asked) (log : List Event) : Type 0 where
+  pub met : List Asked
+  pub others : List Asked
+  pub parts : requests ≡ met ++ others
+  pub last : Stage
+  pub at : last.log ≡ log
+  pub meets : MeetsAll oracle met first_stage last
+
+-- what was printed when the last of these was asked
+abbrev pub outputs_at : List Opening → List Asked → List Opening
+outputs_at os [] = os
+outputs_at os (asked ∷ more) = outputs_at (outputs_asked asked.what asked.outputs) more
+
+-- a run that was cut short: its log met the first of the meaning's requests before the end, and then is of the end alone. Where
+-- the world met no failure, what was printed up to the last of those requests is received, and all is flushed
+pub record IsCutShort (oracle : Oracle) (meaning : Meaning) (world : WorldState) : Type 0 where
+  pub earlier : List Event
+  pub later : List Event
+  pub parts : world.log ≡ with_events later earlier
+  pub turn : MeetsFirst oracle (before_end meaning.requests) earlier
+  pub ends : AreOfTheEnd later
+  pub kept : world.first_failure ≡ None → Begins (outputs_at first_outputs turn.met) (outputs_of world.log)
+  pub brought : world.first_failure ≡ None → AreBrought (outputs_of world.log) world.log
 
 -- a fault that the meaning had settled before: this log meets all its requests before the end
 pub record IsSettled (oracle : Oracle) (meaning : Meaning) (log : List Event) (result : Outcome) : Type 0 where
@@ -43,16 +61,20 @@ pub record IsSettled (oracle : Oracle) (meaning : Meaning) (log : List Event) (r
 abbrev pub FailsAs : Oracle → Meaning → List Event → Outcome → Type 0
 FailsAs oracle meaning log result = (result ≡ Fault OutOfMemory) ⊎ ((result ≡ Fault WriteFailed) ⊎ IsSettled oracle meaning log result)
 
--- a log that held so many events at the first failure; after it the run only ended, by the later events, the oldest first
+-- A log that held so many events at the first failure, and had met the first of the requests then; after it the run only ended,
+-- by the later events, the oldest first.
 pub record FailsAt (meaning_by : Oracle → Meaning) (n : ℕ) (log : List Event) (result : Outcome) : Type 0 where
   pub earlier : List Event
   pub later : List Event
   pub parts : log ≡ with_events later earlier
   pub count : length earlier ≡ n
+  pub turn : (oracle : Oracle) → IsConsistent oracle log → MeetsFirst oracle (before_end (meaning_by oracle).requests) earlier
   pub ends : AreOfTheEnd later
   pub fails : (oracle : Oracle) → IsConsistent oracle log → FailsAs oracle (meaning_by oracle) earlier result
 
--- a run that met a failure of the world, or found no memory: its outputs are beginnings of the meaning's
+-- a run that met a failure of the world, or found no memory: its outputs are beginnings of the meaning's, and it asked the world
+-- for nothing but what the meaning asks, in turn, before it ended
 pub record Fails (meaning_by : Oracle → Meaning) (world : WorldState) (result : Outcome) : Type 0 where
   pub begins : (is_some world.first_failure ≡ true) ⊎ (result ≡ Fault OutOfMemory) → (oracle : Oracle) → IsConsistent oracle world.log → Begins (outputs_of world.log) (meaning_by oracle).outputs
+  pub short : (is_some world.first_failure ≡ true) ⊎ (result ≡ Fault OutOfMemory) → (oracle : Oracle) → IsConsistent oracle world.log → IsCutShort oracle (meaning_by oracle) world
   pub at : (n : ℕ) → world.first_failure ≡ Some n → FailsAt meaning_by n world.log result

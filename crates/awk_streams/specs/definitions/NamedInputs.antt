@@ -83,6 +83,14 @@ NamedTold NoMore result whole left = (result ≡ Ok End) × (left ≡ [])
 NamedTold BrokenOff result whole left = (result ≡ Ok NotReadable) × (left ≡ [])
 NamedTold TooLong result whole left = (result ≡ Err RecordTooLong) × (left ≡ whole)
 
+-- what is left of a named input for an oracle, of which this was read and isn't yet taken
+pub record IsNamedRest (kind : InputKind) (name : List ℕ) (id : ℕ) (pending : Pending) (a : Oracle) (open_streams : List Stream) (log : List Event) : Type 0 where
+  pub whole : Source
+  pub is : rest_in open_streams kind name ≡ Some whole
+  pub source : Source
+  pub ending : source.ending ≡ whole.ending
+  pub rest : Rest a id log source whole.bytes pending.bytes pending.ending
+
 -- what an asking answers for an oracle: the first record of what is left of the input; what is left then
 pub record IsNamedAnswer (kind : InputKind) (name separator : List ℕ) (id : ℕ) (pending : Pending) (a : Oracle) (main : Option Source) (open_streams : List Stream) (before : WorldState) (result : Result NextNamed StreamFault) (after : WorldState) (new : StreamsView) : Type 0 where
   pub whole : Source
@@ -103,6 +111,7 @@ pub record AsksNamed (kind : InputKind) (name separator : List ℕ) (before : Wo
   pub id : ℕ
   pub number : number_among (numbered old.named) (Input kind name) ≡ Some id
   pub pending : Pending
+  pub asked : (a : Oracle) (open_streams : List Stream) → StandFor a before.log old.named open_streams → IsNamedRest kind name id pending a open_streams before.log
   pub reads : ReadsAsNeeded id separator pending before.log after.log
   pub readable : (after.log ≡ before.log) ⊎ IsReadable id before.log
   pub printed : printed_openings after new ≡ printed_openings before old

@@ -1,5 +1,5 @@
 -- What opening a named output and printing do (POSIX awk, Output Statements; STDOUT; STDERR; OUTPUT FILES).
-use Rattle.std.specs.Prelude.{◌≡◌, ◌⊎◌, ◌≤◌, ◌<◌, ◌+◌, ℕ, ◌&&◌, true, false, List, [], ◌∷◌, ◌++◌, length, Option, Some, None, Result, Ok, Err, OnOk, OnErr, bytes_eq}
+use Rattle.std.specs.Prelude.{◌≡◌, ◌⊎◌, ◌≤◌, ◌<◌, ◌+◌, ℕ, ◌&&◌, true, false, List, [], ◌∷◌, ◌++◌, length, Option, Some, None, is_some, Result, Ok, Err, OnOk, OnErr, bytes_eq}
 use Rattle.awk_world.specs.declared.world.InputKind.{InputKind}
 use Rattle.awk_world.specs.declared.world.OutputKind.{OutputKind}
 use Rattle.awk_world.specs.declared.world.Mode.{Mode}
@@ -68,10 +68,11 @@ pub record RefusesOutput (kind : OutputKind) (name : List ℕ) (mode : Mode) (be
   pub printed : printed_openings after new ≡ printed_openings before old
   pub named : (a : Oracle) (open_streams : List Stream) → StandFor a before.log old.named open_streams → StandFor a after.log new.named open_streams
 
--- what is held back could not be brought, or there was no memory: beginnings are received
+-- what is held back could not be brought, or there was no memory: beginnings are received, and all where the world met no failure
 pub record LosesBytes (before : WorldState) (old : StreamsView) (after : WorldState) (new : StreamsView) : Type 0 where
   pub only : GoesOn AreBringing before.log after.log
   pub begins : Begins (printed_openings after new) (printed_openings before old)
+  pub kept : after.first_failure ≡ None → printed_openings after new ≡ printed_openings before old
 
 abbrev pub OutputOpened : OutputKind → List ℕ → Mode → WorldState → StreamsView → Result Target StreamFault → WorldState → StreamsView → Type 0
 OutputOpened kind name mode before old (Ok target) after new = FindsOutput kind name before old target after new ⊎ GrantsOutput kind name mode before old target after new
@@ -102,6 +103,7 @@ pub record Prints (target : Target) (bytes : List ℕ) (before : WorldState) (ol
   pub still : opening_at target new after.log ≡ Some opening
   pub printed : OnOk result (printed_openings after new ≡ with_bytes opening bytes (printed_openings before old))
   pub partly : OnErr result (Begins (printed_openings after new) (with_bytes opening bytes (printed_openings before old)))
+  pub marked : OnErr result (is_some after.first_failure ≡ true)
   pub counts : SameCounts before.log after.log
   pub same : (a : Oracle) (main : Option Source) (open_streams : List Stream) → AreAs a before old main open_streams → AreAs a after new main open_streams
   pub failure : FailsAs result before after

@@ -1,5 +1,5 @@
 -- What the parts of the calls come to: asking the world for a stream, and an input for a record.
-use Rattle.std.specs.Prelude.{◌≡◌, ◌≢◌, ℕ, Bool, true, false, List, [], ◌∷◌, ◌++◌, length, Some, None, is_some, Result, Ok, Err, OnOk}
+use Rattle.std.specs.Prelude.{◌≡◌, ◌≢◌, ℕ, Bool, true, false, List, [], ◌∷◌, ◌++◌, length, Some, None, is_some, Result, Ok, Err, OnOk, OnErr}
 use Rattle.std.specs.List.{position}
 use Rattle.awk_record.specs.declared.buffer.Step.{Step}
 use Rattle.awk_record.specs.declared.buffer.Step.TheVariants.{Record, NeedMore, End, Broken}
@@ -33,6 +33,7 @@ pub record Prepares (is_command : Bool) (before : WorldState) (old : StreamsView
   pub printed : OnOk result (with_held (held_of new) (openings after.log) ≡ with_held (held_of old) (openings before.log))
   pub begins : Begins (in_order (with_held (held_of new) (openings after.log))) (in_order (with_held (held_of old) (openings before.log)))
   pub brings : OnOk result (BringsIf is_command before old after.log)
+  pub marked : OnErr result (is_some after.first_failure ≡ true)
   pub failure : FailsAs result before after
 
 -- there was no memory, and nothing was done
