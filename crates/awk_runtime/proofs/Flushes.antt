@@ -1,5 +1,5 @@
 -- What bringing outputs does to the state of a run: nothing that the definitions know. So flushes meet the requests for them.
-use Rattle.std.proofs.Common.{◌≡◌, ℕ, ℤ, pos, negsuc, Bool, true, false, List, [], ◌∷◌, ◌++◌, length, Option, Some, None, Result, Ok, Err, if◌then◌else◌, refl, sym, ap, ◌∙◌, subst, arith, append-nil}
+use Rattle.std.proofs.Common.{◌≡◌, ℕ, ℤ, pos, negsuc, Bool, List, [], ◌∷◌, ◌++◌, length, Option, Some, None, Result, Ok, Err, if◌then◌else◌, refl, sym, ap, ◌∙◌, subst, arith, append-nil}
 use Rattle.std.specs.Prelude.{◌&&◌, ◌||◌, ◌==◌, slice_get, bytes_eq}
 use Rattle.awk_streams.specs.declared.fault.StreamFault.{StreamFault}
 use Rattle.awk_streams.specs.declared.fault.StreamFault.TheVariants.{Memory, WriteFailed, InputNotReadable, OutputNotOpened, TooManyStreams, RecordTooLong}
@@ -137,8 +137,7 @@ brought_of : (oracle : Oracle) (text : List ℕ) (is_open : Bool) (old new : Str
     → StreamsRelation oracle old before s past → AreBroughtOf text (outputs_after past) (stage_of after.log new)
 brought_of oracle text is_open old new before after s past only told stands =
     let under : (id : ℕ) → stands_under text (stage_of after.log new) id ≡ is_number_of text old id = λ id. numbers_under text after.log old new id told.numbers in
-    let place : (id : ℕ) → place_of id (openings after.log) ≡ place_of id (openings before.log) = λ id.
-        ap (λ (log : List Event). place_of id (openings log)) only.log ∙ place_brought id only.events before.log (to_some_bringing (is_number_of text old) only.events only.each) in
+    let place : (id : ℕ) → place_of id (openings after.log) ≡ place_of id (openings before.log) = λ id. ap (λ (log : List Event). place_of id (openings log)) only.log ∙ place_brought id only.events before.log (to_some_bringing (is_number_of text old) only.events only.each) in
     record {
       received = λ id opening is at. told.received id opening (sym (under id) ∙ is) (sym (place id) ∙ at) ∙ ap (λ (os : List Opening). slice_get os opening) stands.printed;
       flushed = λ id is. told.flushed id (sym (under id) ∙ is);
