@@ -181,11 +181,11 @@ pub lift_changes : {A : Type 0} {c : Result A Halt} (r : Result A Halt) (m : Run
 lift_changes r m e = record { steps = omega arith; names = refl; streams = refl; means = λ k. lift_logged r m k e }
 
 pub memory_changes : {A : Type 0} (run : Run A) {old new : Runtime} → new.streams ≡ old.streams → new.names ≡ old.names → new.steps ≤ old.steps → Changes run old new (Err (halt.Fault OutOfMemory))
-memory_changes run same names low = record {
+memory_changes run {old = old} {new = new} same names low = record {
   steps = low;
   names = names;
   streams = same;
-  means = λ k. record { grows = Grows-self k; means = λ oracle s past consistent stands. unfailed oracle _ _ k s past (run s).effects same stands (λ none. inl none) };
+  means = λ k. record { grows = Grows-self k; means = λ oracle s past consistent stands. unfailed oracle old new k s past (run s).effects same stands (λ none. inl none) };
 }
 
 -- the streams stand for those of a state that differs in the code's own part alone

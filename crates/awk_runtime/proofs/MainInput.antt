@@ -273,9 +273,9 @@ take_asks separator m s whole rs h is =
     ∙ (ap (λ (l : List ℕ). (taken_of s.main l s).effects) (sym rs) ∙ (ap (λ (o : Option Source). (taken_of o separator s).effects) is ∙ taken_asks (cut_of separator whole.bytes whole.ending) separator whole s))
 
 -- a failure behind what was read for it
-asks_cut : {failure : Type 0} (separator : List ℕ) (r : Result (Option (List ℕ)) StreamFault) (oracle : Oracle) {old new : Runtime} {before after : WorldState} (s : State) (past : List Effect) (whole : Source) → separator ≡ str_of (value_of old.specials (name_of Rs)) → IsSameMain old.streams.main new.streams.main
+asks_cut : {failure : Type 0} (separator : List ℕ) (r : Result (Option (List ℕ)) StreamFault) (oracle : Oracle) (old new : Runtime) {before after : WorldState} (s : State) (past : List Effect) (whole : Source) → separator ≡ str_of (value_of old.specials (name_of Rs)) → IsSameMain old.streams.main new.streams.main
     → AsksMain separator before old.streams r after new.streams → StateRelation oracle old before s past → s.main ≡ Some whole → failure → FailureRelation oracle failure new.streams after (past ++ (take_record s).effects)
-asks_cut {failure = failure} separator r oracle {old = old} {new = new} {before = before} {after = after} s past whole rs same_main told stands is failed =
+asks_cut {failure = failure} separator r oracle old new {before = before} {after = after} s past whole rs same_main told stands is failed =
     let what : Request = RecordOfMain separator whole.bytes in
     let rest = subst (λ (o : Option Source). IsMainRest oracle before.log old.streams.main o) is stands.streams.are.main in
     let meets = asking_meets oracle separator (outputs_after past) before after old.streams new.streams whole same_main told.same rest told.request in
@@ -292,7 +292,7 @@ asks_by separator (Err Memory) {old = old} {new = new} {before = before} {after 
   grows = told.grows;
   means = λ oracle s past consistent stands.
       let whole = some_rest oracle before.log old.streams.main s.main there stands.streams.are.main in
-      asks_cut separator (Err Memory) oracle s past whole.0 rs same_main told stands whole.1 (told.failure stands.clear);
+      asks_cut separator (Err Memory) oracle old new s past whole.0 rs same_main told stands whole.1 (told.failure stands.clear);
 }
 asks_by separator (Err WriteFailed) rs beside there same_main told unwritten = absurd (unwritten refl)
 asks_by separator (Err InputNotReadable) rs beside there same_main told unwritten = asks_logged separator (Err InputNotReadable) rs beside there same_main (λ (e : Err InputNotReadable ≡ Err Memory). absurd (cc)) told.failure told

@@ -232,7 +232,7 @@ named_meets oracle kind name separator r os streams before after old new told x 
   stage_same after.log after.log (main_number new.main) (main_number old.main) (numbered new.named) (numbered old.named) refl (ap main_number told.main) told.numbers,
 )
 
-rest_of_answer : {kind : InputKind} {name separator : List ℕ} {id : ℕ} {pending : Pending} {oracle : Oracle} {main : Option Source} {streams : List words.Stream} {before after : WorldState} {r : Result NextNamed StreamFault} {new : StreamsView} → IsNamedAnswer kind name separator id pending oracle main streams before r after new
+abbrev rest_of_answer : {kind : InputKind} {name separator : List ℕ} {id : ℕ} {pending : Pending} {oracle : Oracle} {main : Option Source} {streams : List words.Stream} {before after : WorldState} {r : Result NextNamed StreamFault} {new : StreamsView} → IsNamedAnswer kind name separator id pending oracle main streams before r after new
     → IsNamedRest kind name id pending oracle streams before.log
 rest_of_answer x = record { whole = x.whole; is = x.is; source = x.source; ending = x.ending; rest = x.rest }
 
@@ -304,9 +304,9 @@ named_asks kind name separator m s whole rs h is =
     ∙ (ap (λ (l : List ℕ). (named_taken_of (Some whole) kind name l s).effects) (sym rs) ∙ named_taken_asks (cut_of separator whole.bytes whole.ending) kind name separator whole s)
 
 -- a failure behind what was read for it
-named_cut : {failure : Type 0} (kind : InputKind) (name separator : List ℕ) (r : Result NextNamed StreamFault) (oracle : Oracle) {old new : Runtime} {before after : WorldState} (s : State) (past : List Effect) → separator ≡ str_of (value_of old.specials (name_of Rs))
+named_cut : {failure : Type 0} (kind : InputKind) (name separator : List ℕ) (r : Result NextNamed StreamFault) (oracle : Oracle) (old new : Runtime) {before after : WorldState} (s : State) (past : List Effect) → separator ≡ str_of (value_of old.specials (name_of Rs))
     → AsksNamed kind name separator before old.streams r after new.streams → StateRelation oracle old before s past → failure → FailureRelation oracle failure new.streams after (past ++ (take_named kind name s).effects)
-named_cut {failure = failure} kind name separator r oracle {old = old} {new = new} {before = before} {after = after} s past rs told stands failed =
+named_cut {failure = failure} kind name separator r oracle old new {before = before} {after = after} s past rs told stands failed =
     let x = told.asked oracle s.streams stands.streams.are.named in
     let what : Request = RecordOf kind name separator x.whole.bytes in
     subst (λ (l : List Effect). FailureRelation oracle failure new.streams after (past ++ l)) (sym (named_asks kind name separator old s x.whole rs stands.holds x.is))
@@ -317,13 +317,13 @@ named_cut {failure = failure} kind name separator r oracle {old = old} {new = ne
 named_by : (kind : InputKind) (name separator : List ℕ) (r : Result NextNamed StreamFault) {old new : Runtime} {before after : WorldState} → separator ≡ str_of (value_of old.specials (name_of Rs)) → Beside old new → AreOnce new.streams.named
     → AsksNamed kind name separator before old.streams r after new.streams → SimulatesLogged old before new after (answers_of (halted r)) (take_named kind name)
 named_by kind name separator (Ok x) rs beside once told = named_logged kind name separator (Ok x) rs beside once (λ (e : Ok x ≡ Err Memory). absurd (cc)) told.failure told
-named_by kind name separator (Err Memory) rs beside once told = record {
+named_by kind name separator (Err Memory) {old = old} {new = new} rs beside once told = record {
   grows = told.grows;
-  means = λ oracle s past consistent stands. named_cut kind name separator (Err Memory) oracle s past rs told stands (told.failure stands.clear);
+  means = λ oracle s past consistent stands. named_cut kind name separator (Err Memory) oracle old new s past rs told stands (told.failure stands.clear);
 }
-named_by kind name separator (Err WriteFailed) rs beside once told = record {
+named_by kind name separator (Err WriteFailed) {old = old} {new = new} rs beside once told = record {
   grows = told.grows;
-  means = λ oracle s past consistent stands. named_cut kind name separator (Err WriteFailed) oracle s past rs told stands (told.failure stands.clear);
+  means = λ oracle s past consistent stands. named_cut kind name separator (Err WriteFailed) oracle old new s past rs told stands (told.failure stands.clear);
 }
 named_by kind name separator (Err InputNotReadable) rs beside once told = named_logged kind name separator (Err InputNotReadable) rs beside once (λ (e : Err InputNotReadable ≡ Err Memory). absurd (cc)) told.failure told
 named_by kind name separator (Err OutputNotOpened) rs beside once told = named_logged kind name separator (Err OutputNotOpened) rs beside once (λ (e : Err OutputNotOpened ≡ Err Memory). absurd (cc)) told.failure told

@@ -85,10 +85,10 @@ print_comes to bytes {old = old} {new = new} {before = before} {after = after} b
 )
 
 -- a print that a failure broke off
-print_fails : {failure : Type 0} (to : Target) (bytes : List ℕ) (fault : StreamFault) {old new : Runtime} {before after : WorldState} → (told : Prints to bytes before old.streams (Err fault) after new.streams) → failure
+print_fails : {failure : Type 0} (to : Target) (bytes : List ℕ) (fault : StreamFault) (old new : Runtime) {before after : WorldState} → (told : Prints to bytes before old.streams (Err fault) after new.streams) → failure
     → (oracle : Oracle) (s : State) (past : List Effect) → StateRelation oracle old before s past → FailureRelation oracle failure new.streams after (past ++ (print_bytes told.opening bytes s).effects)
 unfolding print_bytes
-print_fails to bytes fault {old = old} {new = new} {before = before} {after = after} told failed oracle s past stands = record {
+print_fails to bytes fault old new {before = before} {after = after} told failed oracle s past stands = record {
   done = past;
   others = Printed told.opening bytes ∷ [];
   parts = refl;
@@ -103,8 +103,8 @@ print_fails to bytes fault {old = old} {new = new} {before = before} {after = af
 print_told : (r : Result (Unit {0}) StreamFault) (to : Target) (bytes : List ℕ) {old new : Runtime} {before after : WorldState} → Beside old new → (told : Prints to bytes before old.streams r after new.streams)
     → IfErr r IsOutputFault → SimulatesLogged old before new after (halted r) (print_bytes told.opening bytes)
 print_told (Ok tt) to bytes beside told fault = record { grows = told.grows; means = λ oracle s past consistent stands. print_comes to bytes beside told oracle s past stands }
-print_told (Err Memory) to bytes beside told fault = record { grows = told.grows; means = λ oracle s past consistent stands. print_fails to bytes Memory told (told.failure stands.clear) oracle s past stands }
-print_told (Err WriteFailed) to bytes beside told fault = record { grows = told.grows; means = λ oracle s past consistent stands. print_fails to bytes WriteFailed told (told.failure stands.clear) oracle s past stands }
+print_told (Err Memory) to bytes {old = old} {new = new} beside told fault = record { grows = told.grows; means = λ oracle s past consistent stands. print_fails to bytes Memory old new told (told.failure stands.clear) oracle s past stands }
+print_told (Err WriteFailed) to bytes {old = old} {new = new} beside told fault = record { grows = told.grows; means = λ oracle s past consistent stands. print_fails to bytes WriteFailed old new told (told.failure stands.clear) oracle s past stands }
 print_told (Err InputNotReadable) to bytes beside told fault = absurd (elim fault [ inl e ↦ (cc) | inr e ↦ (cc) ])
 print_told (Err OutputNotOpened) to bytes beside told fault = absurd (elim fault [ inl e ↦ (cc) | inr e ↦ (cc) ])
 print_told (Err TooManyStreams) to bytes beside told fault = absurd (elim fault [ inl e ↦ (cc) | inr e ↦ (cc) ])
