@@ -1,25 +1,23 @@
 -- The end of a run: what was printed is brought, and the streams that are open are closed in turn.
-use Rattle.std.proofs.Common.{◌≡◌, ℕ, ℤ, pos, Bool, true, false, if◌then◌else◌, List, [], ◌∷◌, ◌++◌, map, Option, Some, None, Result, Ok, Err, refl, sym, ap, ◌∙◌, subst}
-use Rattle.awk_world.specs.declared.world.InputKind.{InputKind}
-use Rattle.awk_world.specs.declared.world.OutputKind.{OutputKind}
+use Rattle.std.proofs.Common.{◌≡◌, ℕ, ℤ, pos, Bool, true, false, if◌then◌else◌, List, [], ◌∷◌, ◌++◌, map, Option, Some, None, refl, sym, ap, ◌∙◌, subst}
 use Rattle.awk_streams.specs.declared.input.Input.{Input}
 use Rattle.awk_streams.specs.declared.named.NamedStream.{NamedStream}
 use Rattle.awk_streams.specs.declared.named.NamedStream.TheVariants as named
-use Rattle.awk_streams.specs.Log.{Event, OpenedInput, OpenedOutput, Read, Ended, Broke, Wrote, Flushed, Closed, Ran}
+use Rattle.awk_streams.specs.Log.{Event, Wrote, Flushed, Closed}
 use Rattle.awk_streams.specs.WorldState.{WorldState}
-use Rattle.awk_streams.specs.Oracle.{Oracle, Source}
+use Rattle.awk_streams.specs.Oracle.{Oracle}
 use Rattle.awk_streams.specs.Writes.{with_events}
-use Rattle.awk_streams.specs.Openings.{Opening, openings, in_order, outputs_of, is_flushed, AreFlushed, AreBrought}
+use Rattle.awk_streams.specs.Openings.{Opening, openings, is_flushed, AreFlushed, AreBrought}
 use Rattle.awk_streams.specs.Named.{Named, Stream, AnInput, AnOutput, named_of, number_among, without_number}
-use Rattle.awk_streams.specs.Streams.{StreamsView, name_of, numbered, printed_openings, StandFor, AreAs, AreBringing}
+use Rattle.awk_streams.specs.Streams.{StreamsView, name_of, numbered, printed_openings, StandFor, AreBringing}
 use Rattle.awk_streams.specs.MainInput.{EndsMain, closed_main}
-use Rattle.awk_streams.specs.Commands.{ClosesStream, ClosesEach, BringsAll, all_names, EndsAll}
+use Rattle.awk_streams.specs.Commands.{ClosesStream, ClosesEach, all_names, EndsAll}
 use Rattle.awk_semantics.specs.definitions.State.{Request, Effect, Requested, OpensMain, OpensInput, OpensOutput, RecordOfMain, RecordOf, Closes, Flushes, Runs, Ends, Printed}
 use Rattle.awk_semantics.specs.definitions.Meaning.{Asked, closings_of, first_outputs, outputs_asked, outputs_from, outputs_after, requests_from, with_bytes}
 use Rattle.awk_semantics.specs.definitions.Order.{Stage, AreBetween, GoesBetween, ClosesAs, MeetsAll}
 use Rattle.awk_semantics.specs.definitions.Failure.{front_of, before_end}
 use Rattle.awk_semantics.specs.support.Unended.{AreUnended}
-use Rattle.awk_semantics.proofs.Requests.{goes-self, goes_first, meets_append, requests-append}
+use Rattle.awk_semantics.proofs.Requests.{goes-self, goes_first}
 use Rattle.awk_runtime.specs.support.Simulation.{main_number, stage_of}
 use Rattle.awk_runtime.proofs.Effects.{outputs-append}
 

@@ -1,5 +1,5 @@
 -- A run over a plan means what the items of its program do, where no call is active.
-use Rattle.std.proofs.Common.{◌≡◌, ℕ, zero, suc, ◌≤◌, Bool, true, false, List, [], ◌∷◌, ◌++◌, append_assoc, append-nil, map, Option, Some, None, Result, Ok, Err, refl, sym, ap, ◌∙◌, subst, arith}
+use Rattle.std.proofs.Common.{◌≡◌, ℕ, zero, suc, ◌≤◌, Bool, true, false, List, [], ◌∷◌, ◌++◌, append-nil, map, Option, Some, None, Result, Ok, Err, refl, ap, ◌∙◌, arith}
 use Rattle.awk_value.specs.declared.value.Value.TheVariants as value
 use Rattle.awk_grammar.specs.Tree.{Item}
 use Rattle.awk_kinds.specs.definitions.Kinds.{definitions_of, array_names_of}
@@ -9,12 +9,12 @@ use Rattle.awk_resolve.specs.definitions.Plans.{tables_of, DoesIn, IsPlanOf}
 use Rattle.awk_semantics.specs.declared.halt.Halt.{Halt}
 use Rattle.awk_semantics.specs.definitions.State.{Effect, Frame, State, Out, Run, go_on, ◌>>=◌, lift, ret}
 use Rattle.awk_semantics.specs.definitions.Primitives.{spend, outside_calls}
-use Rattle.awk_semantics.specs.definitions.Inputs.{next_record, assign_text}
+use Rattle.awk_semantics.specs.definitions.Inputs.{next_record}
 use Rattle.awk_semantics.specs.definitions.Semantics.{Functions, choose}
 use Rattle.awk_semantics.specs.definitions.Calls.{functions_within}
 use Rattle.awk_semantics.specs.definitions.Items.{unless_next, until_next, unless_exit, until_exit, begin_record, on_record, each_record, run_records, has_rule, try_items, begin_items, end_items, run_before_end, run_items}
 use Rattle.awk_semantics.specs.definitions.Meaning.{assign_all, assign_and_run}
-use Rattle.awk_semantics.specs.support.Keeps.{FrameScope, Scope, frame_scope, scope_of, outside_of, Keeps, CallsKeep, KeepsOutside, EndsOutside}
+use Rattle.awk_semantics.specs.support.Keeps.{Scope, frame_scope, Keeps, CallsKeep, EndsOutside}
 use Rattle.awk_semantics.proofs.PlainParts.{assign_plain}
 use Rattle.awk_semantics.proofs.Keeping.{keeps_plain, keeps_bind, keeps_lift}
 use Rattle.awk_semantics.proofs.KeepsForms.{law_of_keeping}

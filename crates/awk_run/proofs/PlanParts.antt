@@ -1,5 +1,5 @@
 -- Parts of a run over a plan, one after the other.
-use Rattle.std.proofs.Common.{◌≡◌, ℕ, ◌≤◌, Result, Ok, Err, arith, refl, sym, subst, ◌∙◌}
+use Rattle.std.proofs.Common.{ℕ, Result, Ok, Err, arith, refl, sym, subst, ◌∙◌}
 use Rattle.awk_streams.specs.WorldState.{WorldState}
 use Rattle.awk_resolve.specs.declared.plan.Plan.{Plan}
 use Rattle.awk_semantics.specs.declared.halt.Halt.{Halt}

@@ -197,13 +197,13 @@ ends_append (Closed id answer ∷ es) fs h k = ends_append es fs h k
 ends_append (e ∷ es) fs h k = absurd h
 
 -- the requests before the end are those of the body
-body_asks : (o : Out (Unit {0})) → AreUnended o.effects → before_end (read_off o).requests ≡ requests_from first_outputs o.effects
+pub body_asks : (o : Out (Unit {0})) → AreUnended o.effects → before_end (read_off o).requests ≡ requests_from first_outputs o.effects
 body_asks o unended =
     ap before_end (requests-append first_outputs o.effects (end_effects o.state.streams))
     ∙ before_the_end first_outputs o.effects (record { what = Ends; outputs = outputs_after o.effects }) (requests_from (outputs_after o.effects) (closings_of o.state.streams)) refl unended
 
 -- the log met the first of them, and some of what brings bytes stands behind that
-pub met_first : {failure : Type 0} (oracle : Oracle) (k1 : WorldState) (streams : StreamsView) (o : Out (Unit {0})) (es : List Event) → AreBringing es → AreUnended o.effects → FailureRelation oracle failure streams k1 o.effects → MeetsFirst oracle (before_end (read_off o).requests) (with_events es k1.log)
+unfoldable pub met_first : {failure : Type 0} (oracle : Oracle) (k1 : WorldState) (streams : StreamsView) (o : Out (Unit {0})) (es : List Event) → AreBringing es → AreUnended o.effects → FailureRelation oracle failure streams k1 o.effects → MeetsFirst oracle (before_end (read_off o).requests) (with_events es k1.log)
 met_first oracle k1 streams o es bringing unended fails =
     let behind : Stage = record { log = with_events es k1.log; main = fails.last.main; streams = fails.last.streams } in
     record {

@@ -34,6 +34,7 @@ all_received oracle k1 k2 streams last f o told fails none = (subst (λ x. Finis
 
 -- a body that was cut off, and its end
 pub short_at : {failure : Type 0} (oracle : Oracle) (k1 k2 : WorldState) (streams last : StreamsView) (f : Result (Unit {0}) StreamFault) (o : Out (Unit {0})) → Finishes k1 streams f k2 last → AreUnended o.effects → FailureRelation oracle failure streams k1 o.effects → IsCutShort oracle (read_off o) k2
+unfolding met_first
 short_at oracle k1 k2 streams last f o told unended fails = record {
   earlier = k1.log;
   later = told.only.events;
