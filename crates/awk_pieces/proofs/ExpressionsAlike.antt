@@ -1,8 +1,6 @@
 -- Expressions that keep to the record do alike.
 use Rattle.std.proofs.Common.{◌≡◌, true, List, [], ◌∷◌, ◌++◌, Some}
 use Rattle.awk_value.specs.declared.value.Value.TheVariants as value
-use Rattle.awk_lex.specs.declared.token.BuiltIn.{BuiltIn as BuiltInName}
-use Rattle.awk_lex.specs.declared.token.BuiltIn.TheVariants as built_in
 use Rattle.awk_lex.specs.declared.token.Operator.TheVariants as o
 use Rattle.awk_grammar.specs.Tree.{Expr, Number, String, Ere, Name, Element, Field, Group, Call, BuiltIn, Length, PreIncrement, PostIncrement, Getline, PipedGetline, Unary, Binary, Membership, ListMembership, Conditional, Assign, Exprs, Nil, Cons}
 use Rattle.awk_semantics.specs.definitions.State.{State, Run}
@@ -10,10 +8,11 @@ use Rattle.awk_semantics.specs.definitions.Operators.{changed, applied, by_one, 
 use Rattle.awk_semantics.specs.definitions.Places.{AName, AField}
 use Rattle.awk_semantics.specs.definitions.BuiltIns.{Role, AsValue, AsPattern, AsArray, AsPlace, AsMeasured, Argument, roles_of, bare_name}
 use Rattle.awk_semantics.specs.definitions.Semantics.{Functions, eval, place_of, take_arguments}
-use Rattle.awk_pieces.specs.definitions.Pieceable.{is_of_values, is_of_record, keeps_to_record, all_keep_to_record}
+use Rattle.awk_pieces.specs.definitions.Pieceable.{is_of_record, may_be_called, keeps_to_record, all_keep_to_record}
 use Rattle.awk_pieces.proofs.Alike.{Names, OwnsSeparators, Sorts, AlikeWith, then_alike, then_where, then_with, with_any}
-use Rattle.awk_pieces.proofs.ReadsAlike.{Reads, left_true, right_true, lift_alike, ret_alike, ret_with, text_alike, name_alike, field_alike, number_alike, array_named_or_alike, right_alike, tested_alike, choose_alike, combined_alike, record_length_alike, built_in_alike}
+use Rattle.awk_pieces.proofs.ReadsAlike.{Reads, left_true, right_true, lift_alike, ret_alike, ret_with, text_alike, name_alike, field_alike, number_alike, right_alike, tested_alike, choose_alike, combined_alike, record_length_alike}
 use Rattle.awk_pieces.proofs.PlacesAlike.{IsOfRecord, assign_by_alike, post_increment_alike}
+use Rattle.awk_pieces.proofs.CallsAlike.{AreKept, kept_append, MayBeTaken, values_taken, may_be_taken, value_taken, ere_taken, measured, place_taken, built_in_alike}
 use Rattle.awk_pieces.proofs.ValuesAndFaults.{changed_faults, applied_faults}
 
 module _ (sorts : Sorts) (known : Names) (base : State) (owns : OwnsSeparators known) where
@@ -22,28 +21,6 @@ module _ (sorts : Sorts) (known : Names) (base : State) (owns : OwnsSeparators k
 
   abbrev KeepsWith : {A : Type 0} → (A → Type 0) → Run A → Run A → Type 0
   KeepsWith P m n = AlikeWith P sorts known known base m n
-
-  -- a function of values takes values alone, but for `length`
-  abbrev TakesValues : List Role → Type 0
-  TakesValues [] = Unit {0}
-  TakesValues (AsMeasured ∷ roles) = TakesValues roles
-  TakesValues (role ∷ roles) = ⊥
-
-  takes_values : (f : BuiltInName) → is_of_values f ≡ true → TakesValues (roles_of f)
-  takes_values built_in.Length is = tt
-  takes_values built_in.Substr is = tt
-  takes_values built_in.Index is = tt
-  takes_values built_in.Sprintf is = tt
-  takes_values built_in.ToLower is = tt
-  takes_values built_in.ToUpper is = tt
-  takes_values built_in.Int is = tt
-  takes_values built_in.Split is = absurd (cc)
-  takes_values built_in.Sub is = absurd (cc)
-  takes_values built_in.Gsub is = absurd (cc)
-  takes_values built_in.Match is = absurd (cc)
-  takes_values built_in.System is = absurd (cc)
-  takes_values built_in.Close is = absurd (cc)
-  takes_values built_in.Fflush is = absurd (cc)
 
   module _ (f g : Functions) where
     mutual
@@ -56,7 +33,9 @@ module _ (sorts : Sorts) (known : Names) (base : State) (owns : OwnsSeparators k
       expression_alike (Name x) is = name_alike sorts known base x is
       expression_alike (Field e) is = then_alike _ _ (expression_alike e is) (λ v. then_alike _ _ (number_alike sorts known base v) (λ n. field_alike sorts known base n))
       expression_alike (Group e) is = expression_alike e is
-      expression_alike (BuiltIn c es) is = then_alike _ _ (arguments_alike es (roles_of c) [] (takes_values c (left_true (is_of_values c) _ is)) (right_true (is_of_values c) _ is)) (λ arguments. built_in_alike sorts known base c arguments (left_true (is_of_values c) _ is))
+      expression_alike (BuiltIn c es) is =
+          let may = left_true (may_be_called c es) _ is in
+          then_where _ _ (arguments_alike es (roles_of c) [] (may_be_taken c es may) (right_true (may_be_called c es) _ is) tt) (λ xs are. built_in_alike sorts known base owns c es xs may are)
       expression_alike Length is = record_length_alike sorts known base
       expression_alike (Unary c e) is = then_alike _ _ (expression_alike e is) (λ v. lift_alike sorts known base (changed c v) (changed_faults c v))
       expression_alike (Binary c a b) is = combined_alike sorts known base c (expression_alike a (left_true (keeps_to_record known a) _ is)) (right_alike sorts known base (takes_pattern c) b (expression_alike b (right_true (keeps_to_record known a) _ is)))
@@ -100,11 +79,21 @@ module _ (sorts : Sorts) (known : Names) (base : State) (owns : OwnsSeparators k
       place_alike (Conditional c a b) of is = absurd (cc)
       place_alike (Assign c p a) of is = absurd (cc)
 
-      pub arguments_alike : (es : Exprs) (roles : List Role) (front : List Argument) → TakesValues roles → all_keep_to_record known es ≡ true → Keeps (take_arguments f roles front es) (take_arguments g roles front es)
-      arguments_alike Nil roles front takes is = ret_alike sorts known base front
-      arguments_alike (Cons e es) [] front takes is = then_alike _ _ (then_alike _ _ (expression_alike e (left_true (keeps_to_record known e) _ is)) (λ v. ret_alike sorts known base _)) (λ a. arguments_alike es [] (front ++ a ∷ []) tt (right_true (keeps_to_record known e) _ is))
-      arguments_alike (Cons e es) (AsMeasured ∷ roles) front takes is = then_alike _ _ (array_named_or_alike sorts known base (bare_name e) (expression_alike e (left_true (keeps_to_record known e) _ is))) (λ a. arguments_alike es roles (front ++ a ∷ []) takes (right_true (keeps_to_record known e) _ is))
-      arguments_alike (Cons e es) (AsValue ∷ roles) front takes is = absurd takes
-      arguments_alike (Cons e es) (AsPattern ∷ roles) front takes is = absurd takes
-      arguments_alike (Cons e es) (AsArray ∷ roles) front takes is = absurd takes
-      arguments_alike (Cons e es) (AsPlace ∷ roles) front takes is = absurd takes
+      arguments_alike : (es : Exprs) (roles : List Role) (front : List Argument) → MayBeTaken roles es → all_keep_to_record known es ≡ true → AreKept known front → KeepsWith (AreKept known) (take_arguments f roles front es) (take_arguments g roles front es)
+      arguments_alike Nil roles front may is are = ret_with sorts known base front are
+      arguments_alike (Cons e es) [] front may is are =
+          let rest = right_true (keeps_to_record known e) _ is in
+          then_with _ _ (value_taken sorts known base owns (expression_alike e (left_true (keeps_to_record known e) _ is))) (λ a kept. arguments_alike es [] (front ++ a ∷ []) (values_taken es) rest (kept_append known front (a ∷ []) are (kept, tt)))
+      arguments_alike (Cons e es) (AsValue ∷ roles) front may is are =
+          let rest = right_true (keeps_to_record known e) _ is in
+          then_with _ _ (value_taken sorts known base owns (expression_alike e (left_true (keeps_to_record known e) _ is))) (λ a kept. arguments_alike es roles (front ++ a ∷ []) may rest (kept_append known front (a ∷ []) are (kept, tt)))
+      arguments_alike (Cons e es) (AsPattern ∷ roles) front may is are =
+          let rest = right_true (keeps_to_record known e) _ is in
+          then_with _ _ (ere_taken sorts known base owns e (expression_alike e (left_true (keeps_to_record known e) _ is))) (λ a kept. arguments_alike es roles (front ++ a ∷ []) may rest (kept_append known front (a ∷ []) are (kept, tt)))
+      arguments_alike (Cons e es) (AsMeasured ∷ roles) front may is are =
+          let rest = right_true (keeps_to_record known e) _ is in
+          then_with _ _ (measured sorts known base owns (bare_name e) (expression_alike e (left_true (keeps_to_record known e) _ is))) (λ a kept. arguments_alike es roles (front ++ a ∷ []) may rest (kept_append known front (a ∷ []) are (kept, tt)))
+      arguments_alike (Cons e es) (AsPlace ∷ roles) front may is are =
+          let rest = right_true (keeps_to_record known e) _ is in
+          then_with _ _ (place_taken sorts known base owns (place_alike e may.0 (left_true (keeps_to_record known e) _ is))) (λ a kept. arguments_alike es roles (front ++ a ∷ []) may.1 rest (kept_append known front (a ∷ []) are (kept, tt)))
+      arguments_alike (Cons e es) (AsArray ∷ roles) front may is are = absurd may

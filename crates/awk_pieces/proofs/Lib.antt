@@ -1,5 +1,6 @@
 pub mod Alike
 pub mod BeginsAlike
+pub mod CallsAlike
 pub mod ExpressionsAlike
 pub mod FirstRecord
 pub mod LawOfPieces

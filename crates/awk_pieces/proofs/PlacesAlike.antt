@@ -57,7 +57,7 @@ module _ (sorts : Sorts) (known : Names) (base : State) (owns : OwnsSeparators k
   unfolding put
   put_count_alike x a is = record { covers = λ o p c v w k d agrees. (put_count_outside x a is).covers o p c v w k d agrees }
 
-  store_alike : (q : Place) (a : Value) → IsOfRecord known q → Stores (store q a) (store q a)
+  pub store_alike : (q : Place) (a : Value) → IsOfRecord known q → Stores (store q a) (store q a)
   unfolding store
   store_alike (AField n) a is = set_field_alike n a
   store_alike (AName x) a is = put_count_alike x a is.0

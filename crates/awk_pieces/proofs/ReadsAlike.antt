@@ -1,10 +1,9 @@
 -- What only reads, and what is made of it, does alike.
-use Rattle.std.proofs.Common.{◌≡◌, ℕ, zero, suc, ◌+◌, Bool, true, false, ◌&&◌, List, [], ◌∷◌, Option, Some, None, Result, Ok, Err, pos, ℤ, refl, le_refl, arith, cond, codes, bytes_eq, map, length}
+use Rattle.std.proofs.Common.{◌≡◌, ℕ, zero, suc, ◌+◌, Bool, true, false, ◌&&◌, List, [], ◌∷◌, Result, Ok, Err, pos, ℤ, refl, le_refl, arith, cond, codes, bytes_eq, length}
 use Rattle.awk_value.specs.declared.value.Value.{Value}
 use Rattle.awk_value.specs.declared.value.Value.TheVariants as value
 use Rattle.awk_value.specs.Values.{truth_of, num_of}
 use Rattle.awk_record.specs.definitions.Record.{RecordPair, field_of}
-use Rattle.awk_lex.specs.declared.token.BuiltIn.{BuiltIn as BuiltInName}
 use Rattle.awk_lex.specs.declared.token.BuiltIn.TheVariants as built_in
 use Rattle.awk_lex.specs.declared.token.Operator.TheVariants as o
 use Rattle.awk_grammar.specs.declared.tree.BinaryOperator.{BinaryOperator}
@@ -17,9 +16,8 @@ use Rattle.awk_semantics.specs.definitions.State.{Effect, State, Run, lift, ret,
 use Rattle.awk_semantics.specs.definitions.Operators.{truth_value, applied}
 use Rattle.awk_semantics.specs.definitions.Faults.{of_values, of_record}
 use Rattle.awk_semantics.specs.definitions.Primitives.{spend, spend_of, number_of, read_field, record_text, read_name, is_array, number_in, array_in, array_length, array_length_at}
-use Rattle.awk_semantics.specs.definitions.BuiltIns.{Argument, OfValue, OfEre, OfArray, OfPlace, value_of, array_or_value, array_named_or, applied_all, record_length, count_elements, apply_built_in}
+use Rattle.awk_semantics.specs.definitions.BuiltIns.{applied_all, record_length}
 use Rattle.awk_semantics.specs.definitions.Semantics.{right_operand, tested, choose, combined}
-use Rattle.awk_pieces.specs.definitions.Pieceable.{is_of_values}
 use Rattle.awk_pieces.proofs.Alike.{Outer, Names, Sorts, Values, state_on, AgreeOn, AreShown, shown_none, Same, Covers, Alike, AlikeWith, then_alike}
 use Rattle.awk_pieces.proofs.ValuesAndFaults.{IsValueOrFault, of_values_faults, of_record_faults, applied_faults, applied_all_faults}
 
@@ -32,7 +30,7 @@ right_true true b e = e
 right_true false b e = absurd (cc)
 
 module _ (sorts : Sorts) (known : Names) (base : State) where
-  -- what reads names that are known, and changes nothing
+  -- what reads names that are known, and leaves them alike
   abbrev pub Reads : {A : Type 0} → Run A → Run A → Type 0
   Reads m n = Alike sorts known known base m n
 
@@ -80,21 +78,13 @@ module _ (sorts : Sorts) (known : Names) (base : State) where
   pub number_alike : (v : Value) → Reads (number_of v) (number_of v)
   number_alike v = lift_alike (of_values (num_of v)) (of_values_faults (num_of v))
 
-  is_array_alike : (x : List ℕ) → Reads (is_array x) (is_array x)
+  pub is_array_alike : (x : List ℕ) → Reads (is_array x) (is_array x)
   unfolding is_array
   is_array_alike x = record { covers = λ o p c v w k d agrees. unmoved o p c v w k d [] (Ok (has_name base.array_names x)) tt (shown_none sorts.shows) agrees }
 
-  array_length_alike : (x : List ℕ) → Reads (array_length x) (array_length x)
+  pub array_length_alike : (x : List ℕ) → Reads (array_length x) (array_length x)
   unfolding array_length array_length_at
   array_length_alike x = record { covers = λ o p c v w k d agrees. unmoved o p c v w k d [] (Ok (length (array_in base (number_in base.array_names x)))) tt (shown_none sorts.shows) agrees }
-
-  array_or_value_alike : (b : Bool) (x : List ℕ) {m n : Run Value} → Reads m n → Reads (array_or_value b x m) (array_or_value b x n)
-  array_or_value_alike true x h = ret_alike _
-  array_or_value_alike false x h = then_alike _ _ h (λ v. ret_alike _)
-
-  pub array_named_or_alike : (name : Option (List ℕ)) {m n : Run Value} → Reads m n → Reads (array_named_or name m) (array_named_or name n)
-  array_named_or_alike None h = then_alike _ _ h (λ v. ret_alike _)
-  array_named_or_alike (Some x) h = then_alike _ _ (is_array_alike x) (λ b. array_or_value_alike b x h)
 
   pub right_alike : (takes : Bool) (e : Expr) {m n : Run Value} → Reads m n → Reads (right_operand takes e m) (right_operand takes e n)
   right_alike true (Ere text) h = ret_alike _
@@ -149,32 +139,3 @@ module _ (sorts : Sorts) (known : Names) (base : State) where
   pub record_length_alike : Reads record_length record_length
   unfolding record_length
   record_length_alike = then_alike _ _ text_alike (λ v. lift_alike (applied_all built_in.Length (v ∷ [])) (applied_all_faults built_in.Length (v ∷ [])))
-
-  count_alike : (x : List ℕ) → Reads (count_elements x) (count_elements x)
-  unfolding count_elements
-  count_alike x = then_alike _ _ (array_length_alike x) (λ n. ret_alike _)
-
-  -- what a built-in function of values makes of its arguments
-  applied_alike : (f : BuiltInName) (arguments : List Argument) → Reads (lift (applied_all f (map value_of arguments))) (lift (applied_all f (map value_of arguments)))
-  applied_alike f arguments = lift_alike (applied_all f (map value_of arguments)) (applied_all_faults f (map value_of arguments))
-
-  pub built_in_alike : (f : BuiltInName) (arguments : List Argument) → is_of_values f ≡ true → Reads (apply_built_in f arguments) (apply_built_in f arguments)
-  unfolding apply_built_in
-  built_in_alike built_in.Length [] is = record_length_alike
-  built_in_alike built_in.Length (OfArray x ∷ arguments) is = count_alike x
-  built_in_alike built_in.Length (OfValue v ∷ arguments) is = applied_alike built_in.Length (OfValue v ∷ arguments)
-  built_in_alike built_in.Length (OfEre text ∷ arguments) is = applied_alike built_in.Length (OfEre text ∷ arguments)
-  built_in_alike built_in.Length (OfPlace p old ∷ arguments) is = applied_alike built_in.Length (OfPlace p old ∷ arguments)
-  built_in_alike built_in.Substr arguments is = applied_alike built_in.Substr arguments
-  built_in_alike built_in.Index arguments is = applied_alike built_in.Index arguments
-  built_in_alike built_in.Sprintf arguments is = applied_alike built_in.Sprintf arguments
-  built_in_alike built_in.ToLower arguments is = applied_alike built_in.ToLower arguments
-  built_in_alike built_in.ToUpper arguments is = applied_alike built_in.ToUpper arguments
-  built_in_alike built_in.Int arguments is = applied_alike built_in.Int arguments
-  built_in_alike built_in.Split arguments is = absurd (cc)
-  built_in_alike built_in.Sub arguments is = absurd (cc)
-  built_in_alike built_in.Gsub arguments is = absurd (cc)
-  built_in_alike built_in.Match arguments is = absurd (cc)
-  built_in_alike built_in.System arguments is = absurd (cc)
-  built_in_alike built_in.Close arguments is = absurd (cc)
-  built_in_alike built_in.Fflush arguments is = absurd (cc)

@@ -2,7 +2,7 @@
 
 ghost use Rattle.std.specs.Prelude.{◌≡◌, ◌↔◌, true};
 ghost use Rattle.awk_grammar.specs.View as g;
-ghost use Rattle.awk_pieces.specs.definitions.Pieceable.{is_counter, is_of_values, is_of_record, keeps_to_record, all_keep_to_record, list_keeps_to_record, is_standard, is_simple_for_itself, is_for_itself, are_for_themselves, leaves_records, is_plain, may_be_set, is_setting, is_simple_setting, only_sets, all_only_set, pattern_keeps_to_record, is_rule_for_itself, are_rules_for_themselves, knows, IsPieceable};
+ghost use Rattle.awk_pieces.specs.definitions.Pieceable.{is_counter, is_of_record, third_is_of_record, may_be_called, keeps_to_record, all_keep_to_record, list_keeps_to_record, is_standard, is_simple_for_itself, is_for_itself, are_for_themselves, leaves_records, is_plain, may_be_set, is_setting, is_simple_setting, only_sets, all_only_set, pattern_keeps_to_record, is_rule_for_itself, are_rules_for_themselves, knows, IsPieceable};
 ghost use Rattle.awk_pieces.specs.support.Readable.{names_of};
 
 use awk_grammar::tree::{Expr, Item, Output, Pattern, PrintList, SimpleStatement, Statement, Tree};
@@ -42,22 +42,6 @@ fn is_readable(readable: Readable, name: &[u8]) -> bool
     }
 }
 
-/// Whether the built-in function does no more than make a value of values.
-fn is_of_values(function: BuiltIn) -> bool
-    ensures { result ≡ is_of_values function }
-{
-    match function {
-        BuiltIn::Length
-        | BuiltIn::Substr
-        | BuiltIn::Index
-        | BuiltIn::Sprintf
-        | BuiltIn::ToLower
-        | BuiltIn::ToUpper
-        | BuiltIn::Int => true,
-        _ => false,
-    }
-}
-
 /// Whether the expression is a place in the record: a field, or NF.
 fn is_of_record(place: &Expr) -> bool
     ensures { result ≡ is_of_record (g.expr_of place.now) }
@@ -69,6 +53,35 @@ fn is_of_record(place: &Expr) -> bool
     }
 }
 
+/// Whether what `sub` and `gsub` exchange in is in the record, where it isn't left out.
+fn third_is_of_record(arguments: &[Expr]) -> bool
+    ensures { result ≡ third_is_of_record (g.exprs_of arguments.now) }
+{
+    match arguments.get(2) {
+        Some(place) => is_of_record(place),
+        None => true,
+    }
+}
+
+/// Whether the built-in function does no more than make a value of values, or exchange in the record.
+fn may_be_called(function: BuiltIn, arguments: &[Expr]) -> bool
+    ensures { result ≡ may_be_called function (g.exprs_of arguments.now) }
+{
+    match function {
+        BuiltIn::Length
+        | BuiltIn::Substr
+        | BuiltIn::Index
+        | BuiltIn::Sprintf
+        | BuiltIn::ToLower
+        | BuiltIn::ToUpper
+        | BuiltIn::Int => true,
+        BuiltIn::Sub | BuiltIn::Gsub => third_is_of_record(arguments),
+        _ => false,
+    }
+}
+
+/// Whether the expression reads no more than the record and such variables, and changes no more than
+/// the record.
 #[cycle(expressions)]
 fn keeps_to_record(readable: Readable, e: &Expr) -> bool
     ensures { result ≡ keeps_to_record (names_of readable) (g.expr_of e.now) }
@@ -84,7 +97,7 @@ fn keeps_to_record(readable: Readable, e: &Expr) -> bool
                 && keeps_to_record(readable, b)
         }
         Expr::BuiltIn(function, arguments) => {
-            is_of_values(*function) && all_keep_to_record(readable, arguments)
+            may_be_called(*function, arguments) && all_keep_to_record(readable, arguments)
         }
         Expr::PreIncrement(_, place) | Expr::PostIncrement(_, place) => {
             is_of_record(place) && keeps_to_record(readable, place)

@@ -10,17 +10,6 @@ use Rattle.awk_grammar.specs.Tree.{Expr, Number, String, Ere, Name, Field, Group
 abbrev pub is_counter : List ℕ → Bool
 is_counter x = bytes_eq x (codes "NR") || (bytes_eq x (codes "FNR") || bytes_eq x (codes "FILENAME"))
 
--- the built-in functions that do no more than make a value of values
-abbrev pub is_of_values : BuiltInName → Bool
-is_of_values builtin.Length = true
-is_of_values builtin.Substr = true
-is_of_values builtin.Index = true
-is_of_values builtin.Sprintf = true
-is_of_values builtin.ToLower = true
-is_of_values builtin.ToUpper = true
-is_of_values builtin.Int = true
-is_of_values f = false
-
 -- an assignment before the records that changes neither how records are found nor their count
 abbrev pub leaves_records : List ℕ → Bool
 leaves_records x = not (is_counter x || (bytes_eq x (codes "RS") || (bytes_eq x (codes "ARGC") || bytes_eq x (codes "NF"))))
@@ -30,6 +19,24 @@ abbrev pub is_of_record : (place : Expr) → Bool
 is_of_record (Field e) = true
 is_of_record (Name x) = bytes_eq x (codes "NF")
 is_of_record e = false
+
+-- what `sub` and `gsub` exchange in, where it isn't left out
+abbrev pub third_is_of_record : Exprs → Bool
+third_is_of_record (Cons a (Cons b (Cons place es))) = is_of_record place
+third_is_of_record es = true
+
+-- the built-in functions that do no more than make a value of values, or exchange in the record
+abbrev pub may_be_called : BuiltInName → Exprs → Bool
+may_be_called builtin.Length es = true
+may_be_called builtin.Substr es = true
+may_be_called builtin.Index es = true
+may_be_called builtin.Sprintf es = true
+may_be_called builtin.ToLower es = true
+may_be_called builtin.ToUpper es = true
+may_be_called builtin.Int es = true
+may_be_called builtin.Sub es = third_is_of_record es
+may_be_called builtin.Gsub es = third_is_of_record es
+may_be_called f es = false
 
 -- what is read and done where the variables of these names may be read
 module _ (known : List ℕ → Bool) where
@@ -46,7 +53,7 @@ module _ (known : List ℕ → Bool) where
     keeps_to_record (Unary o e) = keeps_to_record e
     keeps_to_record (Binary o a b) = keeps_to_record a && keeps_to_record b
     keeps_to_record (Conditional c a b) = keeps_to_record c && (keeps_to_record a && keeps_to_record b)
-    keeps_to_record (BuiltIn f es) = is_of_values f && all_keep_to_record es
+    keeps_to_record (BuiltIn f es) = may_be_called f es && all_keep_to_record es
     keeps_to_record (PreIncrement o place) = is_of_record place && keeps_to_record place
     keeps_to_record (PostIncrement o place) = is_of_record place && keeps_to_record place
     keeps_to_record (Assign o place e) = is_of_record place && (keeps_to_record place && keeps_to_record e)
